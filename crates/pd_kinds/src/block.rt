@@ -1,0 +1,6 @@
+/// The size of a block in bytes, as in "drivers/md/persistent-data", whose block size is 4 KiB here.
+pub const BLOCK_SIZE: usize = 4096;
+
+/// The bytes of one metadata block.
+#[derive(Clone, Copy, Debug, PartialEq, Eq)]
+pub struct Block(pub [u8; 4096]);

@@ -1,0 +1,21 @@
+use crate::rule::Rule;
+
+/// Whose block a fault names: the metadata device's, or the data device's.
+#[derive(Clone, Copy, Debug, PartialEq, Eq)]
+pub enum Space {
+    Meta,
+    DataBlock,
+}
+
+/// One block that breaks one rule.
+#[derive(Clone, Copy, Debug, PartialEq, Eq)]
+pub struct Fault {
+    pub space: Space,
+    /// The number of the block.
+    pub block: u64,
+    pub rule: Rule,
+    /// The stored count, for `Leak` and `Short`; else 0.
+    pub stored: u64,
+    /// The number of references, for `Leak` and `Short`; else 0.
+    pub refs: u64,
+}

@@ -1,0 +1,22 @@
+//! The words that every crate of the tools shares: blocks and their fields, rules, faults, reports.
+//!
+//! The definitions of what an image, a report or an answer is stand in this crate's `specs/`, over
+//! plain lists and numbers, so that a crate can speak of a definition without standing on the code
+//! that computes it.
+#![tactic(auto)]
+
+mod block;
+mod fault;
+mod fields;
+mod kind;
+mod report;
+mod rule;
+mod rules;
+
+pub use block::{BLOCK_SIZE, Block};
+pub use fault::{Fault, Space};
+pub use fields::{put_u32, put_u64, u32_at, u64_at};
+pub use kind::{Kind, Stage};
+pub use report::{KEPT_FAULTS, Report};
+pub use rule::Rule;
+pub use rules::Rules;

@@ -1,0 +1,96 @@
+ghost use Rattle.std.specs.Prelude.{◌≡◌, ℕ, ◌==◌, ◌-◌, ◌^◌, ◌<◌, ◌++◌, ◌∷◌, [], List, length, take, slice_get, min};
+
+use crate::fault::{Fault, Space};
+use crate::rule::Rule;
+use std::marker::Model;
+
+/// How many faults a report keeps.
+pub const KEPT_FAULTS: usize = 1000;
+
+/// The first thousand of the faults that were added, and the number of all.
+///
+/// The places for them are in the report itself, so that it takes no memory.
+#[derive(Drop)]
+pub struct Report {
+    faults: [Fault; 1000],
+    kept: usize,
+    total: u64,
+}
+
+impl Model for Report {
+    ghost use Rattle.std.specs.Prelude.{◌≡◌, length, take, min};
+    ghost use Rattle.pd_kinds.specs.Report.{Reported};
+
+    ghost Value = { Reported };
+
+    ghost view = { λ r. record { faults = take r.kept r.faults; total = r.total } };
+
+    ghost invariant = { λ r. (r.kept ≡ min 1000 r.total) × (length r.faults ≡ 1000) };
+}
+
+impl Report {
+    ghost use Rattle.pd_kinds.specs.Report.{Reported, report_of, with_fault};
+    ghost use Rattle.pd_kinds.specs.declared.fault.Fault.{Fault};
+
+    /// A report without faults.
+    pub fn new() -> Report
+        ensures { result ≡ report_of [] }
+    {
+        let unused = Fault {
+            space: Space::Meta,
+            block: 0,
+            rule: Rule::Checksum,
+            stored: 0,
+            refs: 0,
+        };
+        Report {
+            faults: [unused; 1000],
+            kept: 0,
+            total: 0,
+        }
+    }
+
+    /// Counts the fault, and keeps it if fewer than a thousand are kept.
+    pub fn add(&mut self, fault: Fault)
+        requires { self.old.total < 2 ^ 64 - 1 }
+        ensures kept { self.new ≡ with_fault self.old fault }
+        // So a report has the first thousand of the faults that were added, and their number.
+        ensures first { (before : List Fault) → self.old ≡ report_of before → self.new ≡ report_of (before ++ (fault ∷ [])) }
+    {
+        if self.kept < KEPT_FAULTS {
+            self.faults[self.kept] = fault;
+            self.kept += 1;
+        }
+        self.total += 1;
+    }
+
+    /// How many faults were added.
+    pub fn total(&self) -> u64
+        ensures { result ≡ self.now.total }
+    {
+        self.total
+    }
+
+    /// How many faults are kept: at most a thousand.
+    pub fn len(&self) -> usize
+        ensures { result ≡ length self.now.faults }
+    {
+        self.kept
+    }
+
+    /// Whether no fault was added.
+    pub fn is_empty(&self) -> bool
+        ensures { result ≡ (self.now.total == 0) }
+    {
+        self.total == 0
+    }
+
+    /// The kept fault with this number, from 0.
+    pub fn get(&self, i: usize) -> Fault
+        requires { i < length self.now.faults }
+        ensures { slice_get self.now.faults i ≡ Some result }
+    {
+        let faults = &self.faults;
+        faults[i]
+    }
+}

@@ -1,0 +1,50 @@
+/// The rules that a block of an image can break, in the order in which they are printed.
+///
+/// Each is printed by its name in lower case.
+#[derive(Clone, Copy, Debug, PartialEq, Eq)]
+pub enum Rule {
+    /// The checksum isn't that of the bytes.
+    Checksum,
+    /// The block's own number in it is another one.
+    Place,
+    /// The magic number is another one.
+    Magic,
+    /// The version isn't one that is known.
+    Version,
+    /// An incompatible feature is set.
+    Features,
+    /// A number of blocks, or a size, is out of its range.
+    Size,
+    /// A node is neither a leaf nor an inner node.
+    Flags,
+    /// The sizes in a header don't fit the kind of block.
+    Shape,
+    /// The keys of a node don't strictly ascend.
+    Order,
+    /// A block that is pointed to lies outside the metadata.
+    Pointer,
+    /// A data block, or a key, lies outside its range.
+    Beyond,
+    /// A block is reached in two roles or more.
+    Role,
+    /// A tree is too deep.
+    Level,
+    /// A key lies outside the range that its parents give.
+    Range,
+    /// The keys of an index don't count from 0, or a bitmap is named twice.
+    Index,
+    /// The devices of the two trees of a pool differ.
+    Device,
+    /// The number of mapped blocks isn't the one that is stored.
+    Mapped,
+    /// An array hasn't the length that it must have.
+    Length,
+    /// Two entries of a cache have one origin.
+    Origin,
+    /// A stored count is in the overflow tree, and isn't there.
+    Overflow,
+    /// A stored count is above the references.
+    Leak,
+    /// A stored count is below the references.
+    Short,
+}
