@@ -1,1 +1,2 @@
 pub mod RuleBits
+pub mod ReportLemmas

@@ -1,5 +1,5 @@
 -- The checksum of a block: CRC-32C without its final inversion, bit by bit.
-use Rattle.std.specs.Prelude.{ℕ, ◌+◌, ◌-◌, ◌/◌, ◌%◌, ◌^◌, Bool, ◌==◌, if◌then◌else◌, List, drop, fold, bit_xor}
+use Rattle.std.specs.Prelude.{ℕ, ◌-◌, ◌/◌, ◌%◌, ◌^◌, Bool, ◌==◌, if◌then◌else◌, List, drop, fold, bit_xor}
 use Rattle.pd_kinds.specs.Field.{le, put}
 
 -- one bit: half the number, rounded down, and the reflected polynomial XORed to an odd one

@@ -4,3 +4,4 @@ pub mod Super
 pub mod Rule
 pub mod RuleSet
 pub mod Report
+pub mod Objects

@@ -1,0 +1,9 @@
+-- What a call that takes bytes of a source gives.
+use Rattle.std.specs.Prelude.{◌≡◌, ℕ, ◌≤◌, List, [], length, take, drop, Option, Some}
+
+-- n bytes moved from the front of what was left to the front of the room, and 0 is the end
+pub record Takes (n : ℕ) (room : List ℕ) (after : Option (List ℕ)) (left : List ℕ) : Type 0 where
+  pub within : n ≤ length left
+  pub moved : take n room ≡ take n left
+  pub rest : after ≡ Some (drop n left)
+  pub only_at_end : n ≡ 0 → left ≡ []

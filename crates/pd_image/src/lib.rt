@@ -1,0 +1,17 @@
+//! The objects outside: a device of blocks, a source of text, a sink for bytes.
+//!
+//! Code over them is generic and proved once, from what these traits say. The objects in memory tell
+//! what they hold. The adapters over real files tell nothing: they are the trusted edge.
+#![tactic(auto)]
+
+mod device;
+mod sink;
+mod source;
+
+pub use device::Device;
+pub use sink::Sink;
+pub use source::Source;
+
+/// A call of an object outside has failed, and the object has counted it.
+#[derive(Clone, Copy, Debug, PartialEq, Eq)]
+pub struct Failed;

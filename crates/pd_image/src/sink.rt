@@ -1,0 +1,29 @@
+ghost use Rattle.std.specs.Prelude.{◌≡◌, ℕ, List, [], length, is_ok, OnOk, OnErr, IfSome, unwrap_or, if◌then◌else◌};
+ghost use Rattle.std.specs.Option.{option_copied};
+ghost use Rattle.pd_kinds.specs.Objects.{SinkState, CountsFault, Appends, AppendsFront};
+
+use crate::Failed;
+
+/// A sink for bytes.
+pub trait Sink {
+    /// What the sink means.
+    ghost state: { Self → SinkState };
+
+    /// Opens the sink at the path, or as the standard stream that it was made for. It is called once,
+    /// before all other calls.
+    fn attach(&mut self, path: Option<&str>) -> Result<(), Failed>
+        requires { (state self.old).access ≡ 0 }
+        ensures access { (state self.new).access ≡ (if is_ok result then 1 else 3) }
+        ensures path { IfSome (state self.new).path (λ told. told ≡ unwrap_or (option_copied path.entry) []) }
+        ensures written { (state self.new).written ≡ (state self.old).written }
+        ensures faults { CountsFault result (state self.old).faults (state self.new).faults };
+
+    /// Appends all of the bytes. After `Failed` a front of them was appended.
+    fn put(&mut self, bytes: &[u8]) -> Result<(), Failed>
+        requires { (state self.old).access ≡ 1 }
+        ensures whole { OnOk result (Appends bytes.now (state self.old).written (state self.new).written) }
+        ensures front { AppendsFront bytes.now (state self.old).written (state self.new).written }
+        ensures access { (state self.new).access ≡ (state self.old).access }
+        ensures path { (state self.new).path ≡ (state self.old).path }
+        ensures faults { CountsFault result (state self.old).faults (state self.new).faults };
+}

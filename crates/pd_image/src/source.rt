@@ -1,0 +1,31 @@
+ghost use Rattle.std.specs.Prelude.{◌≡◌, ℕ, ◌<◌, ◌≤◌, List, length, take, drop, is_ok, OnOk, OnErr, IfOk, IfSome, Some, if◌then◌else◌};
+ghost use Rattle.pd_kinds.specs.Objects.{SourceState, CountsFault};
+ghost use Rattle.pd_image.specs.Source.{Takes};
+
+use crate::Failed;
+
+/// A source of a text.
+pub trait Source {
+    /// What the source means.
+    ghost state: { Self → SourceState };
+
+    /// Opens the source at the path. It is called once, before all other calls.
+    fn attach(&mut self, path: &str) -> Result<(), Failed>
+        requires { (state self.old).access ≡ 0 }
+        ensures access { (state self.new).access ≡ (if is_ok result then 1 else 3) }
+        ensures path { IfSome (state self.new).path (λ told. told ≡ path.now) }
+        ensures left { (state self.new).left ≡ (state self.old).left }
+        ensures faults { CountsFault result (state self.old).faults (state self.new).faults };
+
+    /// Moves bytes from the front of what is left to the front of `into`, and answers how many: 0 is the
+    /// end of the input. After `Failed` the bytes in `into` are any, and nothing was taken.
+    fn take(&mut self, into: &mut [u8]) -> Result<usize, Failed>
+        requires attached { (state self.old).access ≡ 1 }
+        requires room { 0 < length into.old }
+        ensures taken { IfOk result (λ n. n ≤ length into.new) }
+        ensures content { IfOk result (λ n. IfSome (state self.old).left (Takes n into.new (state self.new).left)) }
+        ensures failed { OnErr result ((state self.new).left ≡ (state self.old).left) }
+        ensures access { (state self.new).access ≡ (state self.old).access }
+        ensures path { (state self.new).path ≡ (state self.old).path }
+        ensures faults { CountsFault result (state self.old).faults (state self.new).faults };
+}
