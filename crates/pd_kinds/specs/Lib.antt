@@ -5,3 +5,6 @@ pub mod Rule
 pub mod RuleSet
 pub mod Report
 pub mod Objects
+pub mod ThinSuper
+pub mod Faults
+pub mod Lines

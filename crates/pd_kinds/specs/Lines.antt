@@ -1,0 +1,52 @@
+-- The bytes of the lines that the tools print.
+use Rattle.std.specs.Prelude.{ℕ, zero, suc, List, [], ◌∷◌, ◌++◌, codes, decimal}
+use Rattle.std.specs.List.{flat_map}
+use Rattle.pd_kinds.specs.declared.rule.Rule.{Rule}
+use Rattle.pd_kinds.specs.declared.rule.Rule.TheVariants as r
+use Rattle.pd_kinds.specs.declared.fault.Fault.{Fault}
+use Rattle.pd_kinds.specs.declared.fault.Space.{Space}
+use Rattle.pd_kinds.specs.declared.fault.Space.TheVariants.{Meta, DataBlock}
+use Rattle.pd_kinds.specs.Rule.{rule_name}
+use Rattle.pd_kinds.specs.Report.{report_of}
+
+-- the word for a space
+abbrev pub space_name : Space → List ℕ
+space_name Meta = codes "meta"
+space_name DataBlock = codes "data"
+
+-- the two numbers of a fault, which only Leak and Short have
+unfoldable pub counts_text : Rule → ℕ → ℕ → List ℕ
+counts_text r.Leak stored refs = codes " stored " ++ (decimal stored ++ (codes " references " ++ decimal refs))
+counts_text r.Short stored refs = codes " stored " ++ (decimal stored ++ (codes " references " ++ decimal refs))
+counts_text _ stored refs = []
+
+-- the line of a fault, with its line feed
+unfoldable pub fault_line : Fault → List ℕ
+fault_line fault =
+    codes "fault " ++ (space_name fault.space ++ (codes " " ++ (decimal fault.block ++ (codes " "
+    ++ (rule_name fault.rule ++ (counts_text fault.rule fault.stored fault.refs ++ (10 ∷ [])))))))
+
+-- the lines of a report: its kept faults and their number, or `clean`
+unfoldable pub lines_of : List Fault → ℕ → List ℕ
+lines_of faults zero = codes "clean" ++ (10 ∷ [])
+lines_of faults (suc n) = flat_map fault_line faults ++ (codes "faults " ++ (decimal (suc n) ++ (10 ∷ [])))
+
+-- the report of a list of faults: the first thousand, and the number of all
+unfoldable pub report_lines : List Fault → List ℕ
+report_lines faults = lines_of (report_of faults).faults (report_of faults).total
+
+-- the line of status 2
+abbrev pub usage_line : List ℕ
+usage_line = codes "pdata_tools: the words spell no request" ++ (10 ∷ [])
+
+-- the line of status 5
+abbrev pub device_line : List ℕ
+device_line = codes "pdata_tools: device fault" ++ (10 ∷ [])
+
+-- the line of status 6
+abbrev pub sink_line : List ℕ
+sink_line = codes "pdata_tools: source or sink fault" ++ (10 ∷ [])
+
+-- the line of status 7
+abbrev pub memory_line : List ℕ
+memory_line = codes "pdata_tools: out of memory" ++ (10 ∷ [])

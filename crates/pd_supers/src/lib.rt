@@ -1,0 +1,23 @@
+//! The superblocks: their fields read and written, and the rules that they break.
+#![tactic(auto)]
+
+mod map_root;
+mod thin;
+
+pub use map_root::SmRoot;
+pub use thin::{ThinSuper, read_thin_super, thin_super_rules, write_thin_super};
+
+ghost use Rattle.std.specs.Prelude.{◌≡◌};
+ghost use Rattle.pd_kinds.specs.Rule.{same_rule};
+ghost use Rattle.pd_kinds.specs.RuleSet.{has_rule};
+ghost use Rattle.pd_kinds.specs.declared.rule.Rule.{Rule as BrokenRule};
+ghost use Rattle.pd_kinds.specs.declared.rule.Rule.TheVariants.{Size};
+
+use pd_kinds::{Rule, Rules};
+
+/// The rules of a device that has no block 0: Size alone.
+pub fn missing_super() -> Rules
+    ensures { (rule : BrokenRule) → has_rule result rule ≡ same_rule Size rule }
+{
+    Rules::none().with(Rule::Size)
+}
