@@ -8,3 +8,7 @@ pub mod Objects
 pub mod ThinSuper
 pub mod Faults
 pub mod Lines
+pub mod Value
+pub mod Node
+pub mod Array
+pub mod Bitmap
