@@ -1,2 +1,3 @@
 pub mod RuleBits
 pub mod ReportLemmas
+pub mod FieldLemmas
