@@ -1,10 +1,11 @@
 -- Laws of written blocks: what is read of a block that a table, bytes or a checksum were written into.
-use Rattle.std.proofs.Common.{◌≡◌, ◌⊎◌, inl, inr, ℕ, ◌+◌, ◌-◌, ◌%◌, ◌^◌, ◌<◌, ◌≤◌, Bool, true, false, ◌&&◌, ◌||◌, ◌==◌, nat_le, cond, List, [], ◌∷◌, ◌++◌, length, take, drop, get_or, refl, ap, sym, ◌∙◌, arith, eq-eqb, nat_eq}
+use Rattle.std.proofs.Common.{◌≡◌, ◌⊎◌, inl, inr, ℕ, zero, suc, ◌+◌, ◌-◌, ◌%◌, ◌^◌, ◌<◌, ◌≤◌, Bool, true, false, ◌&&◌, ◌||◌, ◌==◌, nat_le, cond, List, [], ◌∷◌, ◌++◌, length, take, drop, get_or, replicate, refl, ap, sym, ◌∙◌, arith, eq-eqb, nat_eq}
 use Rattle.std.proofs.Math.Seq.{take-append_seam, drop-append_seam}
-use Rattle.std.proofs.lemmas.List.{length-append, length-take-le, length-drop, get_or_append_left, get_or-append_right, get_or-take, get_or-drop}
+use Rattle.std.proofs.lemmas.List.{length-append, length-replicate, get_or-replicate, get_or_past, length-take-le, length-drop, get_or_append_left, get_or-append_right, get_or-take, get_or-drop}
 use Rattle.std.proofs.lemmas.Bool.Decides.{nat_tests}
+use Rattle.std.proofs.lemmas.Bool.{cases_lt}
 use Rattle.std.specs.Int.Bits.{bit_xor}
-use Rattle.pd_kinds.specs.Field.{Row, le, put, put_bytes, written}
+use Rattle.pd_kinds.specs.Field.{Row, le, put, put_bytes, written, zeros}
 use Rattle.pd_kinds.specs.Checksum.{crc32c, checksum, has_checksum, sealed}
 use Rattle.pd_kinds.proofs.FieldLemmas.{le_same, length-put, le-put, le-put_same, le-put_other, drop-put}
 
@@ -125,3 +126,28 @@ unfolding has_checksum sealed
 has_checksum-sealed b salt within fits =
     eq-eqb (le (sealed b salt) 0 4) (checksum (sealed b salt) salt)
     (le-put b 0 4 (checksum b salt) within fits ∙ sym (checksum-sealed b salt salt))
+
+-- each byte of a list of zeros is 0, and so is what lies past it
+get_or-replicate_zero : (n i : ℕ) → get_or (replicate {A = ℕ} n 0) i 0 ≡ 0
+get_or-replicate_zero n i = elim (cases_lt i n) [
+    inl inside ↦ get_or-replicate {A = ℕ} n i 0 0 inside
+  | inr past ↦ get_or_past (replicate {A = ℕ} n 0) i 0 (rw (length-replicate {A = ℕ} n 0) past) ]
+
+-- a list of zeros has only the number 0
+le-replicate_zero : (m p n : ℕ) → le (replicate {A = ℕ} m 0) p n ≡ 0
+unfolding le
+le-replicate_zero m p zero = refl
+le-replicate_zero m p (suc n) =
+    let before = le-replicate_zero m p n in
+    let last = get_or-replicate_zero m (p + n) in
+    rw (before, last) (omega arith)
+
+-- each field of a block of zeros is 0
+pub le-zeros : (p n : ℕ) → le zeros p n ≡ 0
+unfolding zeros
+le-zeros p n = le-replicate_zero 4096 p n
+
+-- a block of zeros has the size of a block
+pub length-zeros : length zeros ≡ 4096
+unfolding zeros
+length-zeros = length-replicate {A = ℕ} 4096 0
