@@ -5,6 +5,9 @@ mod map_root;
 mod thin;
 mod thin_rules;
 
+#[cfg(test)]
+mod tests;
+
 ghost use Rattle.std.specs.Prelude.{◌≡◌};
 ghost use Rattle.pd_kinds.specs.Rule.{same_rule};
 ghost use Rattle.pd_kinds.specs.RuleSet.{has_rule};
