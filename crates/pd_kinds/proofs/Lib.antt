@@ -1,3 +1,5 @@
 pub mod RuleBits
 pub mod ReportLemmas
 pub mod AppendLemmas
+pub mod FieldLemmas
+pub mod WrittenLemmas

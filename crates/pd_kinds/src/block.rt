@@ -1,6 +1,19 @@
+ghost use Rattle.std.specs.Prelude.{◌≡◌};
+ghost use Rattle.pd_kinds.specs.Field.{zeros};
+
 /// The size of a block in bytes, as in "drivers/md/persistent-data", whose block size is 4 KiB here.
 pub const BLOCK_SIZE: usize = 4096;
 
 /// The bytes of one metadata block.
 #[derive(Clone, Copy, Debug, PartialEq, Eq)]
 pub struct Block(pub [u8; 4096]);
+
+impl Block {
+    /// A block of zeros.
+    #[tactic(auto, unfolding(crate::specs::Field::zeros))]
+    pub fn zeros() -> Block
+        ensures { result.0 ≡ zeros }
+    {
+        Block([0; 4096])
+    }
+}

@@ -3,9 +3,10 @@
 
 mod map_root;
 mod thin;
+mod thin_rules;
 
-pub use map_root::SmRoot;
-pub use thin::{ThinSuper, read_thin_super, thin_super_rules, write_thin_super};
+#[cfg(test)]
+mod tests;
 
 ghost use Rattle.std.specs.Prelude.{◌≡◌};
 ghost use Rattle.pd_kinds.specs.Rule.{same_rule};
@@ -13,7 +14,10 @@ ghost use Rattle.pd_kinds.specs.RuleSet.{has_rule};
 ghost use Rattle.pd_kinds.specs.declared.rule.Rule.{Rule as BrokenRule};
 ghost use Rattle.pd_kinds.specs.declared.rule.Rule.TheVariants.{Size};
 
+pub use map_root::SmRoot;
 use pd_kinds::{Rule, Rules};
+pub use thin::{ThinSuper, read_thin_super, write_thin_super};
+pub use thin_rules::thin_super_rules;
 
 /// The rules of a device that has no block 0: Size alone.
 pub fn missing_super() -> Rules

@@ -1,12 +1,12 @@
-ghost use Rattle.std.specs.Prelude.{◌≡◌, ℕ, false};
-ghost use Rattle.pd_kinds.specs.declared.rule.Rule.{Rule as BrokenRule};
+ghost use Rattle.std.specs.Prelude.{◌≡◌, ℕ, false, take, drop};
 ghost use Rattle.pd_kinds.specs.declared.rule.Rule.TheVariants.{Checksum, Place, Magic};
-ghost use Rattle.pd_kinds.specs.RuleSet.{has_rule};
-ghost use Rattle.pd_kinds.specs.ThinSuper.{thin_fields, thin_super_bad, thin_super_block};
-ghost use Rattle.pd_supers.specs.ThinSuper.{fields_of};
+ghost use Rattle.pd_kinds.specs.Field.{put_bytes, written};
+ghost use Rattle.pd_kinds.specs.ThinSuper.{thin_fields, thin_rows, thin_super_bad, thin_super_block};
+ghost use Rattle.pd_supers.specs.ThinSuper.{DoHeadFieldsFit, DoTailFieldsFit, DoThinFieldsFit, fields_of, head_rows, tail_rows};
 
-use crate::map_root::SmRoot;
-use pd_kinds::{Block, Rules};
+use crate::map_root::{SmRoot, put_map_root, read_map_root};
+use pd_crc::seal;
+use pd_kinds::{Block, Kind, put_u32, put_u64, u32_at, u64_at};
 
 /// The superblock of a thin pool, as struct thin_disk_superblock of "drivers/md/dm-thin-metadata.c",
 /// but for the checksum, the place and the magic.
@@ -35,17 +35,37 @@ pub struct ThinSuper {
     pub incompat: u32,
 }
 
-/// The rules that block 0 of a thin pool breaks, on a metadata device of so many blocks.
-pub fn thin_super_rules(block: &Block, device_blocks: u64) -> Rules
-    ensures { (rule : BrokenRule) → has_rule result rule ≡ thin_super_bad device_blocks block.now.0 rule }
-{
-    Rules::none()
-}
-
 /// The fields of a thin superblock, whatever rules it breaks.
 pub fn read_thin_super(block: &Block) -> ThinSuper
     ensures { fields_of result ≡ thin_fields block.now.0 }
 {
+    ThinSuper {
+        flags: u32_at(&block.0, 4),
+        uuid: read_uuid(block),
+        version: u32_at(&block.0, 40),
+        time: u32_at(&block.0, 44),
+        transaction: u64_at(&block.0, 48),
+        held_root: u64_at(&block.0, 56),
+        data_map: read_map_root(block, 64),
+        meta_map: read_map_root(block, 192),
+        mapping_root: u64_at(&block.0, 320),
+        details_root: u64_at(&block.0, 328),
+        block_size: u32_at(&block.0, 336),
+        meta_block_size: u32_at(&block.0, 340),
+        meta_blocks: u64_at(&block.0, 344),
+        compat: u32_at(&block.0, 352),
+        compat_ro: u32_at(&block.0, 356),
+        incompat: u32_at(&block.0, 360),
+    }
+}
+
+/// The sixteen bytes of the uuid.
+fn read_uuid(block: &Block) -> [u8; 16]
+    ensures { result ≡ take 16 (drop 16 block.now.0) }
+{
+    let mut uuid = [0; 16];
+    uuid.copy_from_slice(&block.0[16..32]);
+    uuid
 }
 
 /// The superblock with these fields, sealed for block 0. Every other byte is 0.
@@ -57,4 +77,81 @@ pub fn write_thin_super(s: &ThinSuper) -> Block
     ensures place { (n : ℕ) → thin_super_bad n result.0 Place ≡ false }
     ensures magic { (n : ℕ) → thin_super_bad n result.0 Magic ≡ false }
 {
+    let mut block = Block::zeros();
+    put_fields(&mut block, s);
+    put_uuid(&mut block, &s.uuid);
+    seal(&mut block, Kind::Thin.salt());
+    block
+}
+
+/// Writes the sixteen bytes of the uuid, and changes nothing else.
+#[tactic(auto, unfolding(pd_kinds::specs::Field::put_bytes))]
+fn put_uuid(block: &mut Block, uuid: &[u8; 16])
+    ensures { block.new.0 ≡ put_bytes block.old.0 16 uuid.now }
+{
+    block.0[16..32].copy_from_slice(uuid);
+}
+
+/// Writes the rows of the table, and changes nothing else.
+#[tactic(auto, unfolding(pd_kinds::specs::Field::written))]
+fn put_fields(block: &mut Block, s: &ThinSuper)
+    ensures rows { block.new.0 ≡ written block.old.0 (thin_rows (fields_of s.now)) }
+    ensures fit { DoThinFieldsFit (fields_of s.now) }
+{
+    put_head(block, s);
+    put_map_root(block, 64, &s.data_map);
+    put_map_root(block, 192, &s.meta_map);
+    put_tail(block, s);
+}
+
+/// Writes the rows before the space map roots, and changes nothing else.
+#[tactic(auto, unfolding(pd_kinds::specs::Field::written))]
+fn put_head(block: &mut Block, s: &ThinSuper)
+    ensures rows { block.new.0 ≡ written block.old.0 (head_rows (fields_of s.now)) }
+    ensures fit { DoHeadFieldsFit (fields_of s.now) }
+{
+    let ThinSuper {
+        flags,
+        version,
+        time,
+        transaction,
+        held_root,
+        ..
+    } = *s;
+    put_u32(&mut block.0, 4, flags);
+    put_u64(&mut block.0, 32, Kind::Thin.magic());
+    put_u32(&mut block.0, 40, version);
+    put_u32(&mut block.0, 44, time);
+    put_u64(&mut block.0, 48, transaction);
+    put_u64(&mut block.0, 56, held_root);
+}
+
+/// Writes the rows behind the space map roots, and changes nothing else.
+#[tactic(auto, unfolding(pd_kinds::specs::Field::written))]
+fn put_tail(block: &mut Block, s: &ThinSuper)
+    ensures rows { block.new.0 ≡ written block.old.0 (tail_rows (fields_of s.now)) }
+    ensures fit { DoTailFieldsFit (fields_of s.now) }
+{
+    let ThinSuper {
+        mapping_root,
+        details_root,
+        block_size,
+        meta_block_size,
+        ..
+    } = *s;
+    let ThinSuper {
+        meta_blocks,
+        compat,
+        compat_ro,
+        incompat,
+        ..
+    } = *s;
+    put_u64(&mut block.0, 320, mapping_root);
+    put_u64(&mut block.0, 328, details_root);
+    put_u32(&mut block.0, 336, block_size);
+    put_u32(&mut block.0, 340, meta_block_size);
+    put_u64(&mut block.0, 344, meta_blocks);
+    put_u32(&mut block.0, 352, compat);
+    put_u32(&mut block.0, 356, compat_ro);
+    put_u32(&mut block.0, 360, incompat);
 }
