@@ -1,0 +1,6 @@
+pub mod Linear
+pub mod Entries
+pub mod LookUps
+pub mod Words
+pub mod Supers
+pub mod Sealed
