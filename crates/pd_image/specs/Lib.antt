@@ -1,2 +1,7 @@
+pub mod Access
+pub mod Calls
 pub mod Device
+pub mod MemDevice
+pub mod MemSink
+pub mod MemSource
 pub mod Source

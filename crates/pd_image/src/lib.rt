@@ -4,11 +4,19 @@
 //! what they hold. The adapters over real files tell nothing: they are the trusted edge.
 #![tactic(auto)]
 
+mod access;
+mod calls;
 mod device;
+mod mem_device;
+mod mem_sink;
+mod mem_source;
 mod sink;
 mod source;
 
 pub use device::Device;
+pub use mem_device::MemDevice;
+pub use mem_sink::MemSink;
+pub use mem_source::MemSource;
 pub use sink::Sink;
 pub use source::Source;
 
