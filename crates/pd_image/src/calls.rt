@@ -5,6 +5,7 @@ ghost use Rattle.pd_kinds.specs.Objects.{CountsFault, Rose};
 ghost use Rattle.pd_image.specs.Calls.{counted, calls_made, calls_failed, calls_set, next_fails, CountsCall, SetsToFail, KeepsCalls};
 
 use crate::Failed;
+use crate::faults::fault;
 use std::alloc::{AllocError, Global};
 
 /// How many calls were made, which are set to fail, and how many have failed.
@@ -63,7 +64,6 @@ impl Calls {
         ensures failed { calls_failed self.new ≡ counted (calls_failed self.old) }
         ensures faults { Rose (calls_failed self.old) (calls_failed self.new) × (calls_failed self.old ≤ calls_failed self.new) }
     {
-        self.faults = self.faults.saturating_add(1);
-        Failed
+        fault(&mut self.faults)
     }
 }

@@ -7,6 +7,8 @@
 mod access;
 mod calls;
 mod device;
+mod faults;
+mod file_device;
 mod mem_device;
 mod mem_sink;
 mod mem_source;
@@ -14,6 +16,7 @@ mod sink;
 mod source;
 
 pub use device::Device;
+pub use file_device::FileDevice;
 pub use mem_device::MemDevice;
 pub use mem_sink::MemSink;
 pub use mem_source::MemSource;
