@@ -6,3 +6,5 @@ pub mod MemDevice
 pub mod MemSink
 pub mod MemSource
 pub mod Source
+pub mod StdSink
+pub mod StdSource

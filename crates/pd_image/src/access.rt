@@ -1,5 +1,5 @@
 /// How far an object outside has been attached.
-#[derive(Clone, Copy, Debug, PartialEq, Eq)]
+#[derive(Clone, Copy)]
 pub(crate) enum Access {
     /// `attach` wasn't called yet.
     Unattached,

@@ -1,6 +1,6 @@
 //! The count of the calls of an object that have failed.
 
-ghost use Rattle.std.specs.Prelude.{◌≡◌, ◌≤◌, is_ok, if◌then◌else◌};
+ghost use Rattle.std.specs.Prelude.{◌≡◌, ◌≤◌, is_ok, Ok, IsErr, MatchResult, if◌then◌else◌};
 ghost use Rattle.pd_kinds.specs.Objects.{CountsFault, Rose};
 ghost use Rattle.pd_image.specs.Calls.{counted};
 
@@ -18,7 +18,7 @@ pub(crate) fn fault(faults: &mut u64) -> Failed
 
 /// Counts what failed.
 pub(crate) fn settled<T: Drop>(outcome: io::Result<T>, faults: &mut u64) -> Result<T, Failed>
-    ensures answer { is_ok result ≡ is_ok outcome }
+    ensures answer { MatchResult result (λ value. outcome ≡ Ok value) (λ _. IsErr outcome) }
     ensures count { faults.new ≡ (if is_ok result then faults.old else counted faults.old) }
     ensures faults { CountsFault result faults.old faults.new }
 {

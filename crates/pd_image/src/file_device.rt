@@ -146,12 +146,7 @@ fn read_block<F: Read + Seek>(
 }
 
 /// Writes the whole block; the file stands there already, where that is `known`.
-fn write_block<F: Write + Seek>(
-    file: &mut F,
-    b: u64,
-    known: bool,
-    from: &[u8],
-) -> io::Result<()> {
+fn write_block<F: Write + Seek>(file: &mut F, b: u64, known: bool, from: &[u8]) -> io::Result<()> {
     if !known {
         seek_block(file, b)?;
     }

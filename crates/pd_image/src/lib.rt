@@ -14,6 +14,8 @@ mod mem_sink;
 mod mem_source;
 mod sink;
 mod source;
+mod std_sink;
+mod std_source;
 
 pub use device::Device;
 pub use file_device::FileDevice;
@@ -22,6 +24,8 @@ pub use mem_sink::MemSink;
 pub use mem_source::MemSource;
 pub use sink::Sink;
 pub use source::Source;
+pub use std_sink::StdSink;
+pub use std_source::StdSource;
 
 /// A call of an object outside has failed, and the object has counted it.
 #[derive(Clone, Copy, Debug, PartialEq, Eq)]

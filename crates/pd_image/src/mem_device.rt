@@ -105,7 +105,10 @@ impl Device for MemDevice {
         ensures faults { CountsFault result (mem_device_state self.old).faults (mem_device_state self.new).faults }
         ensures set { IsTrue (next_fails (mem_device_calls self.old)) → IsErr result }
         ensures calls { CountsCall (mem_device_calls self.old) (mem_device_calls self.new) }
-        ensures failed { (mem_device_state self.new).faults ≡ (if is_ok result then (mem_device_state self.old).faults else counted (mem_device_state self.old).faults) }
+        ensures state { mem_device_state self.new ≡ record (with_answer (is_ok result) (mem_device_state self.old)) {
+          access = if is_ok result then (if write then 2 else 1) else 3;
+          path = (mem_device_state self.new).path;
+        } }
     {
         self.access = Access::Refused;
         self.path = Vec::from_slice(*self.blocks.allocator(), path.as_bytes()).ok();
