@@ -16,6 +16,8 @@ mod sink;
 mod source;
 mod std_sink;
 mod std_source;
+#[cfg(test)]
+mod tests;
 
 pub use device::Device;
 pub use file_device::FileDevice;
