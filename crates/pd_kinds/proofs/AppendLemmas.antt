@@ -21,8 +21,10 @@ front_from_whole bytes old new all =
 -- a front of the bytes is one of more bytes
 pub front_of_more : (bytes more : List ℕ) (old new : Option (List ℕ)) → AppendsFront bytes old new → AppendsFront (bytes ++ more) old new
 front_of_more bytes more old new front =
-    record { told = λ before e.
-        let given = front.told before e in
-        let same : take (min given.0 (length bytes)) (bytes ++ more) ≡ take given.0 bytes =
-            take-append-le (min given.0 (length bytes)) bytes more (min-le_right given.0 (length bytes)) ∙ take_min given.0 bytes in
-        (min given.0 (length bytes), rw same given.1) }
+    record {
+      told = λ before e.
+          let given = front.told before e in
+          let same : take (min given.0 (length bytes)) (bytes ++ more) ≡ take given.0 bytes =
+          take-append-le (min given.0 (length bytes)) bytes more (min-le_right given.0 (length bytes)) ∙ take_min given.0 bytes in
+          (min given.0 (length bytes), rw same given.1);
+    }

@@ -130,8 +130,9 @@ has_checksum-sealed b salt within fits =
 -- each byte of a list of zeros is 0, and so is what lies past it
 get_or-replicate_zero : (n i : ℕ) → get_or (replicate {A = ℕ} n 0) i 0 ≡ 0
 get_or-replicate_zero n i = elim (cases_lt i n) [
-    inl inside ↦ get_or-replicate {A = ℕ} n i 0 0 inside
-  | inr past ↦ get_or_past (replicate {A = ℕ} n 0) i 0 (rw (length-replicate {A = ℕ} n 0) past) ]
+  | inl inside ↦ get_or-replicate {A = ℕ} n i 0 0 inside
+  | inr past ↦ get_or_past (replicate {A = ℕ} n 0) i 0 (rw (length-replicate {A = ℕ} n 0) past)
+]
 
 -- a list of zeros has only the number 0
 le-replicate_zero : (m p n : ℕ) → le (replicate {A = ℕ} m 0) p n ≡ 0

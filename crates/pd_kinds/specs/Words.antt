@@ -60,10 +60,10 @@ unfoldable pub thin_check_request : List Item → Option Request
 thin_check_request items =
     if list_all has_value items
     then option_and_then (λ (stage : List ℕ).
-        option_and_then (λ (image : List ℕ).
-            if bytes_eq stage (codes "super") then Some (check_super image) else None)
-        (sole (filter_map operand_of items)))
-        (sole (filter_map (value_of until_word) items))
+    option_and_then (λ (image : List ℕ).
+    if bytes_eq stage (codes "super") then Some (check_super image) else None)
+    (sole (filter_map operand_of items)))
+    (sole (filter_map (value_of until_word) items))
     else None
 
 -- the request of the program's words, without the program's own name

@@ -53,6 +53,32 @@ pub enum Rule {
 }
 
 impl Rule {
+    /// All rules, in their order.
+    pub const ALL: [Rule; 22] = [
+        Rule::Checksum,
+        Rule::Place,
+        Rule::Magic,
+        Rule::Version,
+        Rule::Features,
+        Rule::Size,
+        Rule::Flags,
+        Rule::Shape,
+        Rule::Order,
+        Rule::Pointer,
+        Rule::Beyond,
+        Rule::Role,
+        Rule::Level,
+        Rule::Range,
+        Rule::Index,
+        Rule::Device,
+        Rule::Mapped,
+        Rule::Length,
+        Rule::Origin,
+        Rule::Overflow,
+        Rule::Leak,
+        Rule::Short,
+    ];
+
     /// The rule's printed name.
     pub fn name(self) -> &'static str
         ensures name { result.now ≡ rule_name self }

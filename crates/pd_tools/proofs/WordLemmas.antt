@@ -17,45 +17,54 @@ value_from_eq word other b e same =
 -- the stage and the image, where the option comes first
 pub until_first : (a b c : List ℕ) → bytes_eq a until_word ≡ true
     → option_and_then thin_check_request (items_of (until_word ∷ []) (a ∷ b ∷ c ∷ []))
-      ≡ (if is_value c && bytes_eq b (codes "super") then Some (check_super c) else None)
+    ≡ (if is_value c && bytes_eq b (codes "super") then Some (check_super c) else None)
 unfolding items_of thin_check_request
 until_first a b c e = elim (cases_Bool (bytes_eq c until_word)) [
-    inl option ↦ let no = value_from_eq c until_word false refl option in simp (e, option, no)
+  | inl option ↦ let no = value_from_eq c until_word false refl option in simp (e, option, no)
   | inr operand ↦ elim (cases_Bool (bytes_eq b (codes "super"))) [
-        inl stage ↦ let yes = value_from_eq b (codes "super") true refl stage in
-          elim (cases_Bool (is_value c)) [
-              inl image ↦ simp (e, operand, stage, yes, image)
-            | inr none ↦ simp (e, operand, stage, yes, none) ]
-      | inr other ↦
-          elim (cases_Bool (is_value c)) [
-              inl image ↦ elim (cases_Bool (is_value b)) [ inl v ↦ simp (e, operand, other, image, v) | inr v ↦ simp (e, operand, other, image, v) ]
-            | inr none ↦ elim (cases_Bool (is_value b)) [ inl v ↦ simp (e, operand, other, none, v) | inr v ↦ simp (e, operand, other, none, v) ] ] ] ]
+    | inl stage ↦ let yes = value_from_eq b (codes "super") true refl stage in
+        elim (cases_Bool (is_value c)) [
+          | inl image ↦ simp (e, operand, stage, yes, image)
+          | inr none ↦ simp (e, operand, stage, yes, none)
+        ]
+    | inr other ↦
+        elim (cases_Bool (is_value c)) [
+          | inl image ↦ elim (cases_Bool (is_value b)) [ inl v ↦ simp (e, operand, other, image, v) | inr v ↦ simp (e, operand, other, image, v) ]
+          | inr none ↦ elim (cases_Bool (is_value b)) [ inl v ↦ simp (e, operand, other, none, v) | inr v ↦ simp (e, operand, other, none, v) ]
+        ]
+  ]
+]
 
 -- the same, where the image comes first
 pub until_second : (a b c : List ℕ) → bytes_eq a until_word ≡ false → bytes_eq b until_word ≡ true
     → option_and_then thin_check_request (items_of (until_word ∷ []) (a ∷ b ∷ c ∷ []))
-      ≡ (if is_value a && bytes_eq c (codes "super") then Some (check_super a) else None)
+    ≡ (if is_value a && bytes_eq c (codes "super") then Some (check_super a) else None)
 unfolding items_of thin_check_request
 until_second a b c operand e = elim (cases_Bool (bytes_eq c (codes "super"))) [
-    inl stage ↦ let yes = value_from_eq c (codes "super") true refl stage in
+  | inl stage ↦ let yes = value_from_eq c (codes "super") true refl stage in
       elim (cases_Bool (is_value a)) [
-          inl image ↦ simp (e, operand, stage, yes, image)
-        | inr none ↦ simp (e, operand, stage, yes, none) ]
+        | inl image ↦ simp (e, operand, stage, yes, image)
+        | inr none ↦ simp (e, operand, stage, yes, none)
+      ]
   | inr other ↦
       elim (cases_Bool (is_value a)) [
-          inl image ↦ elim (cases_Bool (is_value c)) [ inl v ↦ simp (e, operand, other, image, v) | inr v ↦ simp (e, operand, other, image, v) ]
-        | inr none ↦ elim (cases_Bool (is_value c)) [ inl v ↦ simp (e, operand, other, none, v) | inr v ↦ simp (e, operand, other, none, v) ] ] ]
+        | inl image ↦ elim (cases_Bool (is_value c)) [ inl v ↦ simp (e, operand, other, image, v) | inr v ↦ simp (e, operand, other, image, v) ]
+        | inr none ↦ elim (cases_Bool (is_value c)) [ inl v ↦ simp (e, operand, other, none, v) | inr v ↦ simp (e, operand, other, none, v) ]
+      ]
+]
 
 -- without the option in one of the first two places there is no request of three words
 pub until_nowhere : (a b c : List ℕ) → bytes_eq a until_word ≡ false → bytes_eq b until_word ≡ false
     → option_and_then thin_check_request (items_of (until_word ∷ []) (a ∷ b ∷ c ∷ [])) ≡ None
 unfolding items_of thin_check_request
 until_nowhere a b c first second = elim (cases_Bool (bytes_eq c until_word)) [
-    inl option ↦ simp (first, second, option)
+  | inl option ↦ simp (first, second, option)
   | inr operand ↦
       elim (cases_Bool (is_value a && (is_value b && (is_value c && true)))) [
-          inl v ↦ simp (first, second, operand, v)
-        | inr v ↦ simp (first, second, operand, v) ] ]
+        | inl v ↦ simp (first, second, operand, v)
+        | inr v ↦ simp (first, second, operand, v)
+      ]
+]
 
 -- how many words the items are
 abbrev width_of : List Item → ℕ
@@ -82,16 +91,17 @@ unfolding items_of
 items_of-width [] = refl
 items_of-width (a ∷ []) = elim (cases_Bool (bytes_eq a until_word)) [ inl e ↦ simp e tt | inr e ↦ simp e ]
 items_of-width (a ∷ b ∷ words) = elim (cases_Bool (bytes_eq a until_word)) [
-    inl e ↦ simp e (add_option (items_of (until_word ∷ []) words) (length words) a b e (items_of-width words))
-  | inr e ↦ simp e (add_operand (items_of (until_word ∷ []) (b ∷ words)) (suc (length words)) a (items_of-width (b ∷ words))) ]
+  | inl e ↦ simp e (add_option (items_of (until_word ∷ []) words) (length words) a b e (items_of-width words))
+  | inr e ↦ simp e (add_operand (items_of (until_word ∷ []) (b ∷ words)) (suc (length words)) a (items_of-width (b ∷ words)))
+]
 
 -- a request has one value of the option, and one operand
 one_of_each : (valid : Bool) (values operands : List (List ℕ)) → length operands + 2 * length values ≢ 3
     → (if valid
-       then option_and_then (λ (stage : List ℕ).
-         option_and_then (λ (image : List ℕ). if bytes_eq stage (codes "super") then Some (check_super image) else None) (sole operands))
-         (sole values)
-       else None) ≡ None
+    then option_and_then (λ (stage : List ℕ).
+    option_and_then (λ (image : List ℕ). if bytes_eq stage (codes "super") then Some (check_super image) else None) (sole operands))
+    (sole values)
+    else None) ≡ None
 one_of_each false values operands other = refl
 one_of_each true [] operands other = refl
 one_of_each true (x ∷ y ∷ values) operands other = refl

@@ -10,5 +10,5 @@ returns-then-words-ne3 c =
 pub returns : goal.returns
 returns c =
     let list = three c.args.words.now c.index-words-0.result c.index-words-1.result c.index-words-2.result
-        c.if-words-ne3.false c.index-words-0.is c.index-words-1.is c.index-words-2.is in
+    c.if-words-ne3.false c.index-words-0.is c.index-words-1.is c.index-words-2.is in
     rw (← list, ← c.as_str.ensures.value, ← c.as_str-2.ensures.value, ← c.as_str-3.ensures.value) c.check_image.ensures
