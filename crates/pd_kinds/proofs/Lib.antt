@@ -1,3 +1,4 @@
 pub mod RuleBits
 pub mod ReportLemmas
 pub mod FieldLemmas
+pub mod PutsLemmas
