@@ -103,10 +103,11 @@ get_or-put_same b o zero v i within h = absurd (omega arith)
 get_or-put_same b o (suc k) v i within h =
     let len = length-put b o k v in
     elim (cases_eq i k) [
-      inl same ↦ rw same (get_or-set_same (put b o k v) (o + k) (v / 256 ^ k % 256) 0 (omega arith))
-    | inr other ↦
-        get_or-set_other (put b o k v) (o + k) (o + i) (v / 256 ^ k % 256) 0 (omega arith)
-        ∙ get_or-put_same b o k v i (omega arith) (omega arith) ]
+      | inl same ↦ rw same (get_or-set_same (put b o k v) (o + k) (v / 256 ^ k % 256) 0 (omega arith))
+      | inr other ↦
+          get_or-set_other (put b o k v) (o + k) (o + i) (v / 256 ^ k % 256) 0 (omega arith)
+          ∙ get_or-put_same b o k v i (omega arith) (omega arith)
+    ]
 
 -- reading what was written, of any number
 pub le-put_same : (b : List ℕ) (o k v : ℕ) → o + k ≤ length b → le (put b o k v) o k ≡ v % 256 ^ k
@@ -153,9 +154,9 @@ put-le b o (suc k) bytes =
     let below = le-lt b o k bytes in
     let rest : (low + 256 ^ k * top) % 256 ^ k ≡ low = add-mul-mod_self_left low (256 ^ k) top ∙ mod-eq_of_lt below in
     let written : put b o k (low + 256 ^ k * top) ≡ b =
-        sym (put_low b o k (low + 256 ^ k * top) k (omega arith)) ∙ (ap (λ (v : ℕ). put b o k v) rest ∙ put-le b o k bytes) in
+    sym (put_low b o k (low + 256 ^ k * top) k (omega arith)) ∙ (ap (λ (v : ℕ). put b o k v) rest ∙ put-le b o k bytes) in
     let digit : (low + 256 ^ k * top) / 256 ^ k % 256 ≡ top =
-        ap (λ (v : ℕ). v % 256) (add-mul-div_left low top (places_pos k) ∙ (ap (λ (v : ℕ). v + top) (div-eq_of_lt below) ∙ zero-add top)) ∙ mod-eq_of_lt (bytes (o + k)) in
+    ap (λ (v : ℕ). v % 256) (add-mul-div_left low top (places_pos k) ∙ (ap (λ (v : ℕ). v + top) (div-eq_of_lt below) ∙ zero-add top)) ∙ mod-eq_of_lt (bytes (o + k)) in
     rw (written, digit) (set-get_or b (o + k) 0)
 
 -- what stands behind a write stays

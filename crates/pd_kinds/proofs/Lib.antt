@@ -1,4 +1,5 @@
 pub mod RuleBits
 pub mod ReportLemmas
 pub mod FieldLemmas
+pub mod WrittenLemmas
 pub mod PutsLemmas

@@ -1,4 +1,4 @@
-ghost use Rattle.std.specs.Prelude.{◌≡◌, ◌^◌, ◌<◌, ◌||◌, ◌↔◌, false, IsTrue};
+ghost use Rattle.std.specs.Prelude.{◌≡◌, ◌^◌, ◌<◌, ◌||◌, ◌&&◌, ◌↔◌, false, IsTrue};
 
 use crate::rule::Rule;
 
@@ -35,6 +35,13 @@ impl Rules {
         Rules {
             bits: self.bits | (1 << (rule as u32)),
         }
+    }
+
+    /// The set with this rule besides where it fails, and else the set as it is: one line of a table.
+    pub fn with_if(&self, rule: Rule, fails: bool) -> Rules
+        ensures { (other : Rule) → has_rule result other ≡ ((fails && same_rule rule other) || has_rule self.now other) }
+    {
+        if fails { self.with(rule) } else { *self }
     }
 
     /// Whether no rule is in the set.

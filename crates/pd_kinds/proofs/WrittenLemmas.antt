@@ -1,0 +1,127 @@
+-- Laws of written blocks: what is read of a block that a table, bytes or a checksum were written into.
+use Rattle.std.proofs.Common.{◌≡◌, ◌⊎◌, inl, inr, ℕ, ◌+◌, ◌-◌, ◌%◌, ◌^◌, ◌<◌, ◌≤◌, Bool, true, false, ◌&&◌, ◌||◌, ◌==◌, nat_le, cond, List, [], ◌∷◌, ◌++◌, length, take, drop, get_or, refl, ap, sym, ◌∙◌, arith, eq-eqb, nat_eq}
+use Rattle.std.proofs.Math.Seq.{take-append_seam, drop-append_seam}
+use Rattle.std.proofs.lemmas.List.{length-append, length-take-le, length-drop, get_or_append_left, get_or-append_right, get_or-take, get_or-drop}
+use Rattle.std.proofs.lemmas.Bool.Decides.{nat_tests}
+use Rattle.std.specs.Int.Bits.{bit_xor}
+use Rattle.pd_kinds.specs.Field.{Row, le, put, put_bytes, written}
+use Rattle.pd_kinds.specs.Checksum.{crc32c, checksum, has_checksum, sealed}
+use Rattle.pd_kinds.proofs.FieldLemmas.{le_same, length-put, le-put, le-put_same, le-put_other, drop-put}
+
+-- the row is the field of n bytes at offset p
+abbrev pub is_row : ℕ → ℕ → Row → Bool
+is_row p n row = (row.offset == p) && (row.size == n)
+
+-- the row lies outside that field
+abbrev pub is_beside : ℕ → ℕ → Row → Bool
+is_beside p n row = nat_le (p + n) row.offset || nat_le (row.offset + row.size) p
+
+-- in a block of this length each row is the field or lies beside it, so the field can be looked up
+abbrev pub is_looked_up : ℕ → ℕ → ℕ → List Row → Bool
+is_looked_up len p n [] = true
+is_looked_up len p n (row ∷ rows) = cond (is_row p n row) (nat_le (p + n) len) (is_beside p n row) && is_looked_up len p n rows
+
+-- the number of the field after the table is written, over the one before
+abbrev pub looked_up : ℕ → ℕ → List Row → ℕ → ℕ
+looked_up p n [] before = before
+looked_up p n (row ∷ rows) before = looked_up p n rows (cond (is_row p n row) (row.value % 256 ^ n) before)
+
+both_true : (a b : Bool) → (a && b) ≡ true → (a ≡ true) × (b ≡ true)
+both_true true b both = (refl, both)
+both_true false b both = absurd (cc)
+
+-- writing a table keeps the length
+pub length-written : (b : List ℕ) (rows : List Row) → length (written b rows) ≡ length b
+unfolding written
+length-written b [] = refl
+length-written b (row ∷ rows) =
+    length-written (put b row.offset row.size row.value) rows ∙ length-put b row.offset row.size row.value
+
+-- a row that is the field, and one that isn't
+le-row_same : (b : List ℕ) (p n o k v : ℕ) → o ≡ p → k ≡ n → p + n ≤ length b → le (put b o k v) p n ≡ v % 256 ^ n
+le-row_same b p n o k v at size within = rw (at, size) (le-put_same b p n v within)
+
+le-row_other : (b : List ℕ) (p n o k v : ℕ) → ((p + n ≤ o) ⊎ (o + k ≤ p)) → le (put b o k v) p n ≡ le b p n
+le-row_other b p n o k v apart = le-put_other b o k v p n apart
+
+-- one row of a table
+le-row : (b : List ℕ) (p n o k v : ℕ)
+    → cond (nat_eq o p && nat_eq k n) (nat_le (p + n) (length b)) (nat_le (p + n) o || nat_le (o + k) p) ≡ true
+    → le (put b o k v) p n ≡ cond (nat_eq o p && nat_eq k n) (v % 256 ^ n) (le b p n)
+le-row b p n o k v fits = grind (arith, nat_tests, le-row_same, le-row_other)
+
+-- reading a field of a written table
+pub le-written : (b : List ℕ) (rows : List Row) (p n : ℕ) → is_looked_up (length b) p n rows ≡ true → le (written b rows) p n ≡ looked_up p n rows (le b p n)
+unfolding written
+le-written b [] p n fits = refl
+le-written b (row ∷ rows) p n fits =
+    let split = both_true (cond (is_row p n row) (nat_le (p + n) (length b)) (is_beside p n row)) (is_looked_up (length b) p n rows) fits in
+    let here = le-row b p n row.offset row.size row.value split.0 in
+    let len = length-put b row.offset row.size row.value in
+    let later = le-written (put b row.offset row.size row.value) rows p n (rw len split.1) in
+    rw (later, here) refl
+
+-- writing bytes keeps the length
+pub length-put_bytes : (b : List ℕ) (o : ℕ) (bytes : List ℕ) → o + length bytes ≤ length b → length (put_bytes b o bytes) ≡ length b
+unfolding put_bytes
+length-put_bytes b o bytes within =
+    let front = length-take-le o b (omega arith) in
+    let all = length-append (take o b) (bytes ++ drop (o + length bytes) b) in
+    let rest = length-append bytes (drop (o + length bytes) b) in
+    let behind = length-drop (o + length bytes) b in
+    omega arith
+
+-- a byte outside the written ones stays
+pub get_or-put_bytes_other : (b : List ℕ) (o : ℕ) (bytes : List ℕ) (j : ℕ) → o + length bytes ≤ length b → ((j < o) ⊎ (o + length bytes ≤ j)) → get_or (put_bytes b o bytes) j 0 ≡ get_or b j 0
+unfolding put_bytes
+get_or-put_bytes_other b o bytes j within apart =
+    let front = length-take-le o b (omega arith) in
+    elim apart [
+      | inl before ↦ get_or_append_left (take o b) (bytes ++ drop (o + length bytes) b) 0 j (omega arith) ∙ get_or-take o b j 0 before
+      | inr after ↦
+          let place : o + length bytes + (j - o - length bytes) ≡ j = omega arith in
+          get_or-append_right (take o b) (bytes ++ drop (o + length bytes) b) o j 0 front (omega arith)
+          ∙ (get_or-append_right bytes (drop (o + length bytes) b) (length bytes) (j - o) 0 refl (omega arith)
+          ∙ (get_or-drop (o + length bytes) b (j - o - length bytes) 0 ∙ ap (λ (i : ℕ). get_or b i 0) place))
+    ]
+
+-- the written bytes are read back
+pub put_bytes_read : (b : List ℕ) (o : ℕ) (bytes : List ℕ) → o ≤ length b → take (length bytes) (drop o (put_bytes b o bytes)) ≡ bytes
+unfolding put_bytes
+put_bytes_read b o bytes within =
+    let front = length-take-le o b within in
+    let behind : drop o (take o b ++ (bytes ++ drop (o + length bytes) b)) ≡ bytes ++ drop (o + length bytes) b =
+    ap (λ (n : ℕ). drop n (take o b ++ (bytes ++ drop (o + length bytes) b))) (sym front) ∙ drop-append_seam (take o b) (bytes ++ drop (o + length bytes) b) in
+    rw behind (take-append_seam bytes (drop (o + length bytes) b))
+
+-- reading a field beside written bytes
+pub le-put_bytes_other : (b : List ℕ) (o : ℕ) (bytes : List ℕ) (p n : ℕ) → o + length bytes ≤ length b → ((p + n ≤ o) ⊎ (o + length bytes ≤ p)) → le (put_bytes b o bytes) p n ≡ le b p n
+le-put_bytes_other b o bytes p n within apart = le_same (put_bytes b o bytes) b p p n
+    (λ i h. get_or-put_bytes_other b o bytes (p + i) within (elim apart [ inl before ↦ inl (omega arith) | inr after ↦ inr (omega arith) ]))
+
+-- a checksum keeps the length
+pub length-sealed : (b : List ℕ) (salt : ℕ) → length (sealed b salt) ≡ length b
+unfolding sealed
+length-sealed b salt = length-put b 0 4 (checksum b salt)
+
+-- a checksum changes nothing behind it
+pub drop-sealed : (b : List ℕ) (salt n : ℕ) → 4 ≤ n → drop n (sealed b salt) ≡ drop n b
+unfolding sealed
+drop-sealed b salt n behind = drop-put b 0 4 (checksum b salt) n behind
+
+-- reading a field of a sealed block
+pub le-sealed_other : (b : List ℕ) (salt p n : ℕ) → 4 ≤ p → le (sealed b salt) p n ≡ le b p n
+unfolding sealed
+le-sealed_other b salt p n behind = le-put_other b 0 4 (checksum b salt) p n (inr behind)
+
+-- a block's checksum doesn't look at the checksum in it
+pub checksum-sealed : (b : List ℕ) (salt other : ℕ) → checksum (sealed b salt) other ≡ checksum b other
+unfolding checksum
+checksum-sealed b salt other = ap (λ (xs : List ℕ). bit_xor (crc32c xs) other) (drop-sealed b salt 4 (omega arith))
+
+-- a sealed block has its checksum, where that is a number of four bytes
+pub has_checksum-sealed : (b : List ℕ) (salt : ℕ) → 4 ≤ length b → checksum b salt < 2 ^ 32 → has_checksum (sealed b salt) salt ≡ true
+unfolding has_checksum sealed
+has_checksum-sealed b salt within fits =
+    eq-eqb (le (sealed b salt) 0 4) (checksum (sealed b salt) salt)
+    (le-put b 0 4 (checksum b salt) within fits ∙ sym (checksum-sealed b salt salt))
