@@ -3,3 +3,4 @@ pub mod ReportLemmas
 pub mod AppendLemmas
 pub mod FieldLemmas
 pub mod WrittenLemmas
+pub mod PutsLemmas
