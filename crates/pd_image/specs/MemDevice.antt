@@ -1,5 +1,5 @@
 -- What a device in memory means.
-use Rattle.std.specs.Prelude.{◌≡◌, ℕ, Bool, if◌then◌else◌, List, length, map, Option, Some, None}
+use Rattle.std.specs.Prelude.{ℕ, Bool, if◌then◌else◌, List, length, map, Some, None}
 use Rattle.std.specs.Option.{option_map}
 use Rattle.pd_kinds.specs.declared.block.Block.{Block}
 use Rattle.pd_kinds.specs.Objects.{DeviceState}

@@ -1,4 +1,3 @@
-use Rattle.std.proofs.Common.{ap, Some, List, ℕ}
 use Rattle.pd_image.specs.MemDevice.{block_bytes}
 use Rattle.pd_image.proofs.BlockLemmas.{block_bytes-set, changes_one}
 use Rattle.pd_image.proofs.mem_device.MemDeviceDevice.write.Goals as goal
