@@ -45,6 +45,12 @@ le-row_same b p n o k v at size within = rw (at, size) (le-put_same b p n v with
 le-row_other : (b : List ℕ) (p n o k v : ℕ) → ((p + n ≤ o) ⊎ (o + k ≤ p)) → le (put b o k v) p n ≡ le b p n
 le-row_other b p n o k v apart = le-put_other b o k v p n apart
 
+-- a table in two parts, the first one written first
+pub written-append : (b : List ℕ) (rows more : List Row) → written b (rows ++ more) ≡ written (written b rows) more
+unfolding written
+written-append b [] more = refl
+written-append b (row ∷ rows) more = written-append (put b row.offset row.size row.value) rows more
+
 -- one row of a table
 le-row : (b : List ℕ) (p n o k v : ℕ)
     → cond (nat_eq o p && nat_eq k n) (nat_le (p + n) (length b)) (nat_le (p + n) o || nat_le (o + k) p) ≡ true
@@ -130,8 +136,9 @@ has_checksum-sealed b salt within fits =
 -- each byte of a list of zeros is 0, and so is what lies past it
 get_or-replicate_zero : (n i : ℕ) → get_or (replicate {A = ℕ} n 0) i 0 ≡ 0
 get_or-replicate_zero n i = elim (cases_lt i n) [
-    inl inside ↦ get_or-replicate {A = ℕ} n i 0 0 inside
-  | inr past ↦ get_or_past (replicate {A = ℕ} n 0) i 0 (rw (length-replicate {A = ℕ} n 0) past) ]
+  | inl inside ↦ get_or-replicate {A = ℕ} n i 0 0 inside
+  | inr past ↦ get_or_past (replicate {A = ℕ} n 0) i 0 (rw (length-replicate {A = ℕ} n 0) past)
+]
 
 -- a list of zeros has only the number 0
 le-replicate_zero : (m p n : ℕ) → le (replicate {A = ℕ} m 0) p n ≡ 0
