@@ -10,7 +10,6 @@ use crate::raw::crc32c_raw;
 use pd_kinds::{Block, Kind, put_u32, u32_at, u64_at};
 
 /// The checksum of a block: that of its bytes 4 to 4095, XORed with the salt of its kind.
-#[tactic(auto, unfolding(pd_kinds::specs::Checksum::checksum))]
 pub fn salted(block: &Block, salt: u32) -> u32
     ensures { result ≡ checksum block.now.0 salt }
 {
@@ -38,7 +37,6 @@ pub fn seal(block: &mut Block, salt: u32)
 /// Whether the block has the checksum, the magic and place 0 of one of the three kinds of superblock.
 ///
 /// The three kinds have magic numbers of their own, so the checksum is computed at most once.
-#[tactic(auto, unfolding(pd_kinds::specs::Super::is_valid_super))]
 pub fn any_valid(block: &Block) -> bool
     ensures { result ≡ is_valid_super block.now.0 }
 {

@@ -1,2 +1,10 @@
+pub mod Access
+pub mod Calls
 pub mod Device
+pub mod FileDevice
+pub mod MemDevice
+pub mod MemSink
+pub mod MemSource
 pub mod Source
+pub mod StdSink
+pub mod StdSource

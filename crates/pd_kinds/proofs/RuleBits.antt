@@ -26,9 +26,10 @@ tag_is _ = refl
 -- each number below 22 is a rule's
 pub rule_numbered : (k : ℕ) → k < 22 → (rule : Rule) × (number_of rule ≡ k)
 unfolding all_rules
-rule_numbered k h =
-    (get_or all_rules k r.Checksum,
-     sym (get_or-map number_of all_rules k r.Checksum 0 h) ∙ get_or-range_with_len 0 22 k 0 h ∙ zero-add k)
+rule_numbered k h = (
+  get_or all_rules k r.Checksum,
+  sym (get_or-map number_of all_rules k r.Checksum 0 h) ∙ get_or-range_with_len 0 22 k 0 h ∙ zero-add k,
+)
 
 -- a set with one bit more is within its width
 pub with_bit_below : (bits n : ℕ) → bits < 2 ^ 22 → n < 22 → bit_or bits (1 * 2 ^ n % 2 ^ 32) < 2 ^ 22
@@ -48,17 +49,18 @@ or_false false = refl
 pub bit_of_with : (bits n k : ℕ) → n < 22 → k < 22
     → nat_eq (bit_at (bit_or bits (1 * 2 ^ n % 2 ^ 32)) k) 1 ≡ (nat_eq (bit_at bits k) 1 || nat_eq n k)
 bit_of_with bits n k within small = elim (cases_eq k n) [
-    inl same ↦
+  | inl same ↦
       rw same (rw (bit_at_set_same w32 bits n (omega arith), eq-eqb n n refl) (or_true (nat_eq (bit_at bits n) 1)))
   | inr other ↦
       let e : nat_eq n k ≡ false = grind (arith, other) in
-      rw (bit_at_set_other w32 bits n (omega arith) k other, e) (sym (or_false (nat_eq (bit_at bits k) 1))) ]
+      rw (bit_at_set_other w32 bits n (omega arith) k other, e) (sym (or_false (nat_eq (bit_at bits k) 1)))
+]
 
 -- a set of no bits is 0
 pub empty_from_bits : (bits : ℕ) → bits < 2 ^ 22 → ((k : ℕ) → k < 22 → nat_eq (bit_at bits k) 1 ≡ false) → bits ≡ 0
 empty_from_bits bits small none =
     same_from_bits_below 22 bits 0 small (lit< tt)
     (λ k h. let low = bit_at-lt bits k in
-        let not_one : bit_at bits k ≢ 1 = λ one. let e : true ≡ false = sym (eq-eqb (bit_at bits k) 1 one) ∙ none k h in cc in
-        let none_of_zero = bit_at-zero k in
-        omega arith)
+    let not_one : bit_at bits k ≢ 1 = λ one. let e : true ≡ false = sym (eq-eqb (bit_at bits k) 1 one) ∙ none k h in cc in
+    let none_of_zero = bit_at-zero k in
+    omega arith)

@@ -12,3 +12,5 @@ pub mod Value
 pub mod Node
 pub mod Array
 pub mod Bitmap
+pub mod Words
+pub mod Answer

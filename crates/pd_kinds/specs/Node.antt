@@ -114,8 +114,8 @@ unfoldable pub node_block : ℕ → ℕ → ℕ → List Entry → List ℕ
 node_block flags size place entries =
     sealed
     (puts
-      (puts (written zeros (node_rows flags size place (length entries))) 32 8 (map (λ (e : Entry). e.key) entries))
-      (32 + 8 * max_entries size) size (map (λ (e : Entry). e.value) entries))
+    (puts (written zeros (node_rows flags size place (length entries))) 32 8 (map (λ (e : Entry). e.key) entries))
+    (32 + 8 * max_entries size) size (map (λ (e : Entry). e.value) entries))
     node_salt
 
 -- a leaf, and an inner node

@@ -43,7 +43,7 @@ map_fields block o = record {
   blocks = le block o 8;
   allocated = le block (o + 8) 8;
   bitmap_root = le block (o + 16) 8;
-  overflow_root = le block (o + 24) 8
+  overflow_root = le block (o + 24) 8;
 }
 
 -- the fields that stand in a block
@@ -64,7 +64,7 @@ thin_fields block = record {
   meta_blocks = le block 344 8;
   compat = le block 352 4;
   compat_ro = le block 356 4;
-  incompat = le block 360 4
+  incompat = le block 360 4;
 }
 
 -- an edge: the role in which a block is named, and the block

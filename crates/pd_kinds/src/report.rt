@@ -1,7 +1,8 @@
-ghost use Rattle.std.specs.Prelude.{◌≡◌, ℕ, ◌==◌, ◌-◌, ◌^◌, ◌<◌, ◌++◌, ◌∷◌, [], List, length, take, slice_get, min};
+ghost use Rattle.std.specs.Prelude.{◌≡◌, ℕ, ◌==◌, ◌-◌, ◌^◌, ◌<◌, ◌≤◌, ◌+◌, ◌++◌, ◌∷◌, [], List, length, take, map, filter, slice_get, if◌then◌else◌};
 
 use crate::fault::{Fault, Space};
 use crate::rule::Rule;
+use crate::rules::Rules;
 use std::marker::Model;
 
 /// How many faults a report keeps.
@@ -30,6 +31,8 @@ impl Model for Report {
 
 impl Report {
     ghost use Rattle.pd_kinds.specs.Report.{Reported, report_of, with_fault};
+    ghost use Rattle.pd_kinds.specs.RuleSet.{has_rule};
+    ghost use Rattle.pd_kinds.specs.Faults.{meta_fault, faults_at};
     ghost use Rattle.pd_kinds.specs.declared.fault.Fault.{Fault};
 
     /// A report without faults.
@@ -62,6 +65,46 @@ impl Report {
             self.kept += 1;
         }
         self.total += 1;
+    }
+
+    #[tactic(auto, unfolding(crate::specs::Faults::faults_at, crate::specs::Rule::all_rules))]
+    /// Adds a fault for each rule of the set, in the order of the rules, each of this metadata block.
+    pub fn add_rules(&mut self, block: u64, rules: &Rules)
+        requires { self.old.total < 2 ^ 64 - 22 }
+        ensures faults { (before : List Fault) → self.old ≡ report_of before → self.new ≡ report_of (before ++ faults_at block (has_rule rules.now)) }
+        ensures total { self.new.total ≤ self.old.total + 22 }
+    {
+        self.add_broken(block, rules, &Rule::ALL);
+    }
+
+    /// Adds a fault for each of these rules that is in the set.
+    fn add_broken(&mut self, block: u64, rules: &Rules, all: &[Rule])
+        requires { self.old.total + length all.now < 2 ^ 64 }
+        ensures faults { (before : List Fault) → self.old ≡ report_of before
+            → self.new ≡ report_of (before ++ map (meta_fault block) (filter (has_rule rules.now) all.now)) }
+        ensures total { self.new.total ≤ self.old.total + length all.now }
+    {
+        for rule in all {
+            self.add_rule(block, *rule, rules.has(*rule));
+        }
+    }
+
+    /// Adds a fault of the metadata block, where it breaks the rule.
+    fn add_rule(&mut self, block: u64, rule: Rule, fails: bool)
+        requires { self.old.total < 2 ^ 64 - 1 }
+        ensures faults { (before : List Fault) → self.old ≡ report_of before
+            → self.new ≡ report_of (before ++ (if fails then meta_fault block rule ∷ [] else [])) }
+        ensures total { self.new.total ≤ self.old.total + 1 }
+    {
+        if fails {
+            self.add(Fault {
+                space: Space::Meta,
+                block,
+                rule,
+                stored: 0,
+                refs: 0,
+            });
+        }
     }
 
     /// How many faults were added.

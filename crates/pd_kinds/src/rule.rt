@@ -1,3 +1,6 @@
+ghost use Rattle.std.specs.Prelude.{◌≡◌, ◌≤◌, length};
+ghost use Rattle.pd_kinds.specs.Rule.{rule_name};
+
 /// The rules that a block of an image can break, in the order in which they are printed.
 ///
 /// Each is printed by its name in lower case.
@@ -47,4 +50,63 @@ pub enum Rule {
     Leak,
     /// A stored count is below the references.
     Short,
+}
+
+impl Rule {
+    /// All rules, in their order.
+    pub const ALL: [Rule; 22] = [
+        Rule::Checksum,
+        Rule::Place,
+        Rule::Magic,
+        Rule::Version,
+        Rule::Features,
+        Rule::Size,
+        Rule::Flags,
+        Rule::Shape,
+        Rule::Order,
+        Rule::Pointer,
+        Rule::Beyond,
+        Rule::Role,
+        Rule::Level,
+        Rule::Range,
+        Rule::Index,
+        Rule::Device,
+        Rule::Mapped,
+        Rule::Length,
+        Rule::Origin,
+        Rule::Overflow,
+        Rule::Leak,
+        Rule::Short,
+    ];
+
+    /// The rule's printed name.
+    pub fn name(self) -> &'static str
+        ensures name { result.now ≡ rule_name self }
+        ensures short { length result.now ≤ 8 }
+    {
+        match self {
+            Rule::Checksum => "checksum",
+            Rule::Place => "place",
+            Rule::Magic => "magic",
+            Rule::Version => "version",
+            Rule::Features => "features",
+            Rule::Size => "size",
+            Rule::Flags => "flags",
+            Rule::Shape => "shape",
+            Rule::Order => "order",
+            Rule::Pointer => "pointer",
+            Rule::Beyond => "beyond",
+            Rule::Role => "role",
+            Rule::Level => "level",
+            Rule::Range => "range",
+            Rule::Index => "index",
+            Rule::Device => "device",
+            Rule::Mapped => "mapped",
+            Rule::Length => "length",
+            Rule::Origin => "origin",
+            Rule::Overflow => "overflow",
+            Rule::Leak => "leak",
+            Rule::Short => "short",
+        }
+    }
 }

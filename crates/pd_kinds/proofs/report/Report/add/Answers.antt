@@ -12,12 +12,13 @@ counted faults total = record { faults = faults; total = total }
 pub returns-clause-kept : goal.returns-clause-kept
 returns-clause-kept c =
     rw (← c.self.view_is) (elim c.if-self-lt-KEPT_FAULTS.branch [
-        then-self-lt-KEPT_FAULTS w ↦
+      | then-self-lt-KEPT_FAULTS w ↦
           let e = kept_below 1000 c.self.inside.kept c.self.inside.faults c.args.fault c.self.invariant.1 w.if-self-lt-KEPT_FAULTS.true in
           rw (w.self-inside-is, e) refl
       | else-self-lt-KEPT_FAULTS w ↦
           let e = kept_full 1000 c.self.inside.kept c.self.inside.faults c.args.fault c.self.invariant.1 (omega arith) in
-          rw w.self-inside-is (ap (λ (kept : List Fault). counted kept (c.self.inside.total + 1)) e) ])
+          rw w.self-inside-is (ap (λ (kept : List Fault). counted kept (c.self.inside.total + 1)) e)
+    ])
 
 -- what a report keeps of the faults before and one more
 report_of-append : (before : List Fault) (fault : Fault) → with_fault (report_of before) fault ≡ report_of (before ++ fault ∷ [])

@@ -1,0 +1,44 @@
+-- The numbered calls of an object in memory, and which of them are set to fail.
+use Rattle.std.specs.Prelude.{◌≡◌, ℕ, ◌+◌, ◌-◌, ◌^◌, ◌==◌, ◌||◌, min, Bool, List, [], ◌∷◌, ◌++◌}
+use Rattle.std.specs.List.{list_any}
+use Rattle.pd_image.specs.declared.calls.Calls.{Calls}
+
+-- one more, up to the end of a `u64`
+abbrev pub counted : ℕ → ℕ
+counted n = min (n + 1) (2 ^ 64 - 1)
+
+-- how many calls were made, which is the number of the next one
+abbrev pub calls_made : Calls → ℕ
+calls_made calls = calls.made
+
+-- how many of them have failed
+abbrev pub calls_failed : Calls → ℕ
+calls_failed calls = calls.faults
+
+-- the numbers of the calls that are set to fail
+abbrev pub calls_set : Calls → List ℕ
+calls_set calls = calls.failing.items
+
+-- whether the call with this number is set to fail
+abbrev pub is_set_to_fail : Calls → ℕ → Bool
+is_set_to_fail calls call = list_any (λ set. set == call) (calls_set calls)
+
+-- whether the next call is set to fail
+abbrev pub next_fails : Calls → Bool
+next_fails calls = is_set_to_fail calls (calls_made calls)
+
+-- one call was made, and the same calls are set to fail
+pub record CountsCall (old new : Calls) : Type 0 where
+  pub made : calls_made new ≡ counted (calls_made old)
+  pub set : calls_set new ≡ calls_set old
+
+-- no call was made, and just this one more is set to fail
+pub record SetsToFail (call : ℕ) (old new : Calls) : Type 0 where
+  pub made : calls_made new ≡ calls_made old
+  pub set : calls_set new ≡ calls_set old ++ (call ∷ [])
+  pub fails : (other : ℕ) → is_set_to_fail new other ≡ (is_set_to_fail old other || (call == other))
+
+-- no call was made, and the same calls are set to fail
+pub record KeepsCalls (old new : Calls) : Type 0 where
+  pub made : calls_made new ≡ calls_made old
+  pub set : calls_set new ≡ calls_set old

@@ -1,0 +1,12 @@
+/// How far an object outside has been attached.
+#[derive(Clone, Copy)]
+pub(crate) enum Access {
+    /// `attach` wasn't called yet.
+    Unattached,
+    /// `attach` answered Ok; a device may only be read.
+    Attached,
+    /// `attach` answered Ok, and the device may be written too.
+    Writable,
+    /// `attach` failed.
+    Refused,
+}

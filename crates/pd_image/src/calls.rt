@@ -1,0 +1,69 @@
+//! The numbered calls of an object in memory, of which any can be set to fail.
+
+ghost use Rattle.std.specs.Prelude.{◌≡◌, ◌≤◌, [], is_ok, not, OnOk, OnErr, if◌then◌else◌};
+ghost use Rattle.pd_kinds.specs.Objects.{CountsFault, Rose};
+ghost use Rattle.pd_image.specs.Calls.{counted, calls_made, calls_failed, calls_set, next_fails, CountsCall, SetsToFail, KeepsCalls};
+
+use crate::Failed;
+use crate::faults::fault;
+use std::alloc::{AllocError, Global};
+
+/// How many calls were made, which are set to fail, and how many have failed.
+#[derive(Drop)]
+pub(crate) struct Calls {
+    /// Up to the end of its type.
+    made: u64,
+    /// The numbers of the calls that are set to fail, counted from 0.
+    failing: Vec<u64>,
+    /// Up to the end of its type.
+    faults: u64,
+}
+
+impl Calls {
+    /// No call was made, and none is set to fail.
+    pub(crate) fn new(alloc: Global) -> Calls
+        ensures made { calls_made result ≡ 0 }
+        ensures set { calls_set result ≡ [] }
+        ensures failed { calls_failed result ≡ 0 }
+    {
+        Calls {
+            made: 0,
+            failing: Vec::new(alloc),
+            faults: 0,
+        }
+    }
+
+    /// Sets the call with this number to fail, besides those that are set already.
+    pub(crate) fn fail_at(&mut self, call: u64) -> Result<(), AllocError>
+        ensures ok { OnOk result (SetsToFail call self.old self.new) }
+        ensures err { OnErr result (KeepsCalls self.old self.new) }
+        ensures failed { calls_failed self.new ≡ calls_failed self.old }
+    {
+        self.failing.push(call)?;
+        Ok(())
+    }
+
+    /// Counts a call, which fails if it is set to.
+    pub(crate) fn begin(&mut self) -> Result<(), Failed>
+        ensures exact { is_ok result ≡ not (next_fails self.old) }
+        ensures counted { CountsCall self.old self.new }
+        ensures failed { calls_failed self.new ≡ (if is_ok result then calls_failed self.old else counted (calls_failed self.old)) }
+        ensures faults { CountsFault result (calls_failed self.old) (calls_failed self.new) }
+    {
+        let fails = self.failing.contains(&self.made);
+        self.made = self.made.saturating_add(1);
+        if fails {
+            return Err(self.fail());
+        }
+        Ok(())
+    }
+
+    /// Counts a failure of the call that has begun.
+    pub(crate) fn fail(&mut self) -> Failed
+        ensures kept { KeepsCalls self.old self.new }
+        ensures failed { calls_failed self.new ≡ counted (calls_failed self.old) }
+        ensures faults { Rose (calls_failed self.old) (calls_failed self.new) × (calls_failed self.old ≤ calls_failed self.new) }
+    {
+        fault(&mut self.faults)
+    }
+}

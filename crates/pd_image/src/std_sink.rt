@@ -1,0 +1,99 @@
+//! A sink over a real file or a standard stream: a thin layer over their own calls, of which nothing
+//! is assumed.
+
+ghost use Rattle.std.specs.Prelude.{◌≡◌};
+ghost use Rattle.pd_image.specs.StdSink.{std_sink_state, unattached_stream};
+
+use crate::access::Access;
+use crate::faults::settled;
+use crate::{Failed, Sink};
+use std::io::{ErrorKind, Write};
+use std::rt::Files;
+use std::{fs, io, str};
+
+/// One of the two standard streams that are written.
+#[derive(Clone, Copy)]
+enum Stream {
+    Out,
+    Err,
+}
+
+/// A sink that writes to a file, or to the standard stream that it was made for. It tells neither what
+/// was written nor its path.
+///
+/// It keeps no bytes of its own, so its caller puts them in large pieces.
+#[derive(Drop)]
+pub struct StdSink<'a, R: Files> {
+    rt: &'a R,
+    stream: Stream,
+    /// The file, where `attach` had a path.
+    file: Option<R::File>,
+    access: Access,
+    /// Up to the end of its type.
+    faults: u64,
+}
+
+impl<'a, R: Files + Print + Eprint> StdSink<'a, R> {
+    /// A sink that isn't attached yet, which without a path is the standard output.
+    pub fn out(rt: &'a R) -> StdSink<'a, R>
+        ensures { std_sink_state result ≡ unattached_stream }
+    {
+        StdSink::of(rt, Stream::Out)
+    }
+
+    /// A sink that isn't attached yet, which without a path is the standard error. There bytes that
+    /// aren't UTF-8 are a fault.
+    pub fn err(rt: &'a R) -> StdSink<'a, R>
+        ensures { std_sink_state result ≡ unattached_stream }
+    {
+        StdSink::of(rt, Stream::Err)
+    }
+
+    fn of(rt: &'a R, stream: Stream) -> StdSink<'a, R>
+        ensures { std_sink_state result ≡ unattached_stream }
+    {
+        StdSink {
+            rt,
+            stream,
+            file: None,
+            access: Access::Unattached,
+            faults: 0,
+        }
+    }
+}
+
+impl<'a, R: Files + Print + Eprint> Sink for StdSink<'a, R> {
+    ghost state = { std_sink_state };
+
+    fn attach(&mut self, path: Option<&str>) -> Result<(), Failed> {
+        self.access = Access::Refused;
+        if let Some(path) = path {
+            let file = settled(fs::create(self.rt, path), &mut self.faults)?;
+            self.file = Some(file);
+        }
+        self.access = Access::Attached;
+        Ok(())
+    }
+
+    fn put(&mut self, bytes: &[u8]) -> Result<(), Failed> {
+        let done = match (&mut self.file, self.stream) {
+            (Some(file), _) => file.write_all(bytes),
+            (None, Stream::Out) => put_out(self.rt, bytes),
+            (None, Stream::Err) => put_err(self.rt, bytes),
+        };
+        settled(done, &mut self.faults)
+    }
+}
+
+/// Writes all of the bytes to the standard output.
+fn put_out<P: Print>(rt: &P, bytes: &[u8]) -> io::Result<()> {
+    let mut out = io::writer(rt);
+    out.write_all(bytes)?;
+    out.flush()
+}
+
+/// Prints the bytes as text to the standard error.
+fn put_err<P: Eprint>(rt: &P, bytes: &[u8]) -> io::Result<()> {
+    let text = str::from_utf8(bytes).map_err(|_| ErrorKind::InvalidData)?;
+    rt.eprint(text)
+}

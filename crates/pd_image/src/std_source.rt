@@ -1,0 +1,70 @@
+//! A source over a real file: a thin layer over the file's own calls, of which nothing is assumed.
+
+ghost use Rattle.std.specs.Prelude.{◌≡◌, ◌≤◌, length, IfOk};
+ghost use Rattle.pd_image.specs.StdSource.{std_source_state, unattached_text};
+
+use crate::access::Access;
+use crate::faults::settled;
+use crate::{Failed, Source};
+use std::io::{ErrorKind, Read};
+use std::rt::Files;
+use std::{fs, io};
+
+/// A source whose text is a file's. It tells neither its bytes nor its path.
+///
+/// It keeps no bytes of its own, so its caller takes them in large pieces.
+#[derive(Drop)]
+pub struct StdSource<'a, R: Files> {
+    rt: &'a R,
+    file: Option<R::File>,
+    access: Access,
+    /// Up to the end of its type.
+    faults: u64,
+}
+
+impl<'a, R: Files> StdSource<'a, R> {
+    /// A source over the files of this runtime, which isn't attached yet.
+    pub fn new(rt: &'a R) -> StdSource<'a, R>
+        ensures { std_source_state result ≡ unattached_text }
+    {
+        StdSource {
+            rt,
+            file: None,
+            access: Access::Unattached,
+            faults: 0,
+        }
+    }
+}
+
+impl<'a, R: Files> Source for StdSource<'a, R> {
+    ghost state = { std_source_state };
+
+    fn attach(&mut self, path: &str) -> Result<(), Failed> {
+        self.access = Access::Refused;
+        let file = settled(fs::open(self.rt, path), &mut self.faults)?;
+        self.file = Some(file);
+        self.access = Access::Attached;
+        Ok(())
+    }
+
+    fn take(&mut self, into: &mut [u8]) -> Result<usize, Failed> {
+        let taken = match &mut self.file {
+            Some(file) => read_some(file, into),
+            None => Err(ErrorKind::NotFound.into()),
+        };
+        settled(taken, &mut self.faults)
+    }
+}
+
+/// Reads once, and again where a signal cut in. 0 is the end of the file.
+fn read_some<F: Read>(file: &mut F, into: &mut [u8]) -> io::Result<usize>
+    ensures { IfOk result (λ n. n ≤ length into.new) }
+{
+    for _ in 0..u64::MAX {
+        match file.read(into) {
+            Err(error) if error.kind() == ErrorKind::Interrupted => {}
+            answer => return answer,
+        }
+    }
+    Err(ErrorKind::Interrupted.into())
+}

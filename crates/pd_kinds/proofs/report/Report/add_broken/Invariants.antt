@@ -1,0 +1,12 @@
+use Rattle.std.proofs.Common.{◌≡◌, ◌+◌, ◌≤◌, List, ◌++◌, take, map, filter}
+use Rattle.pd_kinds.specs.declared.fault.Fault.{Fault}
+use Rattle.pd_kinds.specs.RuleSet.{has_rule}
+use Rattle.pd_kinds.specs.Report.{report_of}
+use Rattle.pd_kinds.specs.Faults.{meta_fault}
+use Rattle.pd_kinds.proofs.report.Report.add_broken.Given as goal
+
+abbrev pub invariant-loop-rule : goal.invariant-loop-rule
+invariant-loop-rule l =
+    (l.self.total ≤ l.fn.self.total + l.rule-index)
+    × ((before : List Fault) → l.fn.self ≡ report_of before
+    → l.self ≡ report_of (before ++ map (meta_fault l.block) (filter (has_rule l.rules) (take l.rule-index l.all))))

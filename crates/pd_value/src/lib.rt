@@ -1,0 +1,15 @@
+//! The values that leaves of B-trees hold, as "drivers/md/persistent-data" and the three targets
+//! store them: little-endian, of a fixed size each.
+#![tactic(auto)]
+
+mod era;
+mod space_map;
+#[cfg(test)]
+mod tests;
+mod thin;
+mod value;
+
+pub use era::Writeset;
+pub use space_map::{Count, IndexEntry};
+pub use thin::{BlockTime, Details, Root};
+pub use value::{Value, reads_back, writes_back};
