@@ -10,4 +10,4 @@ mod write;
 pub use header::{entries, is_inner};
 pub use read::{child, key, value};
 pub use rules::{keys_ascend, node_rules};
-pub use write::max_entries_of;
+pub use write::{max_entries_of, write_inner, write_leaf};

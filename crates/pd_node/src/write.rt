@@ -1,11 +1,12 @@
 //! Leaves and inner nodes, written.
 
 ghost use Rattle.std.specs.Prelude.{◌≡◌, ℕ, ◌+◌, ◌*◌, ◌<◌, ◌≤◌, ◌^◌, Bool, false, true, List, length, map, slice_index};
-ghost use Rattle.std.specs.List.{All, range_with_len};
+ghost use Rattle.std.specs.List.{All};
 ghost use Rattle.pd_kinds.specs.declared.rule.Rule.{Rule as BrokenRule};
 ghost use Rattle.pd_kinds.specs.Field.{written, zeros};
-ghost use Rattle.pd_kinds.specs.Node.{child_at, entry_count, inner_block, is_ascending, key_at, leaf_block, max_entries, node_bad, node_rows, puts, value_at};
+ghost use Rattle.pd_kinds.specs.Node.{entry_count, inner_block, is_ascending, is_inner_node, leaf_block, max_entries, node_bad, node_keys, node_rows, puts};
 ghost use Rattle.pd_node.specs.Items.{entries_of, keys_of, values_of};
+ghost use Rattle.pd_node.specs.Read.{node_children, node_values};
 
 use crate::header::{HEADER_SIZE, KEY_SIZE};
 use crate::rules::NODE_SALT;
@@ -24,6 +25,48 @@ pub fn max_entries_of(size: usize) -> usize
     ensures { result ≡ max_entries size }
 {
     (BLOCK_SIZE - HEADER_SIZE) / (KEY_SIZE + size) / 3 * 3
+}
+
+/// The leaf of these keys and values in its place.
+///
+/// Every byte but those of the header, the keys and the values is 0.
+pub fn write_leaf<V: Value>(place: u64, items: &[(u64, V)]) -> Block
+    requires ascend { is_ascending (keys_of items.now) ≡ true }
+    requires room { length items.now ≤ max_entries V.SIZE }
+    requires fit { All (λ item. V.fitting item.1 ≡ true) items.now }
+    ensures block { result.0 ≡ leaf_block V.SIZE place (entries_of V.code items.now) }
+    ensures sound { (rule : BrokenRule) → node_bad V.SIZE place result.0 rule ≡ false }
+    ensures leaf { is_inner_node result.0 ≡ false }
+    ensures count { entry_count V.SIZE result.0 ≡ length items.now }
+    ensures keys { node_keys V.SIZE result.0 ≡ keys_of items.now }
+    ensures values { node_values V.SIZE V.decoded result.0 ≡ values_of items.now }
+{
+    let mut block = header_of(2, V::SIZE, place, items.len());
+    put_keys(&mut block, items);
+    put_values(&mut block, HEADER_SIZE + KEY_SIZE * max_entries_of(V::SIZE), items);
+    seal(&mut block, NODE_SALT);
+    block
+}
+
+/// The inner node of these keys and children in its place, whatever values the leaves below it have.
+///
+/// Every byte but those of the header, the keys and the children is 0.
+pub fn write_inner(place: u64, items: &[(u64, u64)]) -> Block
+    requires ascend { is_ascending (keys_of items.now) ≡ true }
+    requires some { 1 ≤ length items.now }
+    requires room { length items.now ≤ max_entries 8 }
+    ensures block { result.0 ≡ inner_block place (entries_of (λ child. child) items.now) }
+    ensures sound { (size : ℕ) (rule : BrokenRule) → node_bad size place result.0 rule ≡ false }
+    ensures inner { is_inner_node result.0 ≡ true }
+    ensures count { (size : ℕ) → entry_count size result.0 ≡ length items.now }
+    ensures keys { (size : ℕ) → node_keys size result.0 ≡ keys_of items.now }
+    ensures children { (size : ℕ) → node_children size result.0 ≡ values_of items.now }
+{
+    let mut block = header_of(1, KEY_SIZE, place, items.len());
+    put_keys(&mut block, items);
+    put_children(&mut block, items);
+    seal(&mut block, NODE_SALT);
+    block
 }
 
 /// A node of zeros but for the header: the flags, the size of a value, the place, the number of entries.
