@@ -1,9 +1,8 @@
 -- What is read of a node that was written.
-use Rattle.std.proofs.Common.{subst, ◌≡◌, ◌⊎◌, inl, inr, ℕ, zero, suc, ◌+◌, ◌-◌, ◌*◌, ◌/◌, ◌%◌, ◌^◌, ◌<◌, ◌≤◌, Bool, true, false, List, [], ◌∷◌, length, map, get_or, replicate, refl, ap, sym, ◌∙◌, arith, lit≤}
-use Rattle.std.specs.List.{range_with_len}
+use Rattle.std.proofs.Common.{subst, ◌≡◌, inl, ℕ, ◌+◌, ◌*◌, ◌/◌, ◌^◌, ◌<◌, ◌≤◌, true, List, length, map, get_or, refl, ap, sym, ◌∙◌, arith, lit≤}
 use Rattle.std.proofs.Math.Nat.{mod-eq_of_lt, mul-add, mul-le-mul_left, mul-le-mul_right, mul_comm, div-mul-le_self}
 use Rattle.std.proofs.lemmas.List.{length-map, length-replicate}
-use Rattle.pd_kinds.specs.Field.{le, put, written, zeros}
+use Rattle.pd_kinds.specs.Field.{le, written, zeros}
 use Rattle.pd_kinds.specs.Checksum.{sealed}
 use Rattle.pd_kinds.specs.Node.{Entry, puts, node_rows, node_block, node_salt, max_entries, node_flags, node_place, node_entries, node_max, node_value_size, key_at, value_at}
 use Rattle.pd_kinds.proofs.WrittenLemmas.{is_looked_up, looked_up, le-written, length-written, le-sealed_other}

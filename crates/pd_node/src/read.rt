@@ -36,7 +36,10 @@ pub fn value<V: Value>(block: &Block, i: usize) -> V
     ensures { result ≡ V.decoded (value_at V.SIZE block.now.0 i) }
 {
     lies_within::<V>(block, i);
-    value_at(&block.0, HEADER_SIZE + KEY_SIZE * max_of(block) + V::SIZE * i)
+    value_at(
+        &block.0,
+        HEADER_SIZE + KEY_SIZE * max_of(block) + V::SIZE * i,
+    )
 }
 
 /// The key and the value of entry `i` lie within the block.

@@ -14,9 +14,6 @@ use pd_crc::seal;
 use pd_kinds::{BLOCK_SIZE, Block, put_u32, put_u64};
 use pd_value::{Value, put_value};
 
-/// Where the children of an inner node stand that has room for the greatest number of entries: 32 + 8 * 252.
-const CHILDREN: usize = 2048;
-
 /// The number of entries for which a node with values of so many bytes is given room: the greatest
 /// multiple of 3 that fits the block, as calc_max_entries of
 /// "drivers/md/persistent-data/dm-btree.c" has it.
@@ -43,7 +40,8 @@ pub fn write_leaf<V: Value>(place: u64, items: &[(u64, V)]) -> Block
 {
     let mut block = header_of(2, V::SIZE, place, items.len());
     put_keys(&mut block, items);
-    put_values(&mut block, HEADER_SIZE + KEY_SIZE * max_entries_of(V::SIZE), items);
+    let values_at = HEADER_SIZE + KEY_SIZE * max_entries_of(V::SIZE);
+    put_values(&mut block, values_at, items);
     seal(&mut block, NODE_SALT);
     block
 }
@@ -64,7 +62,11 @@ pub fn write_inner(place: u64, items: &[(u64, u64)]) -> Block
 {
     let mut block = header_of(1, KEY_SIZE, place, items.len());
     put_keys(&mut block, items);
-    put_children(&mut block, items);
+    put_children(
+        &mut block,
+        HEADER_SIZE + KEY_SIZE * max_entries_of(KEY_SIZE),
+        items,
+    );
     seal(&mut block, NODE_SALT);
     block
 }
@@ -97,15 +99,15 @@ fn put_keys<T: Copy>(block: &mut Block, items: &[(u64, T)])
     }
 }
 
-/// Writes the numbers of the children in a row behind the room for the keys.
-fn put_children(block: &mut Block, items: &[(u64, u64)])
-    requires { length items.now ≤ 252 }
-    ensures row { block.new.0 ≡ puts block.old.0 2048 8 (values_of items.now) }
+/// Writes the numbers of the children in a row from `at` on.
+fn put_children(block: &mut Block, at: usize, items: &[(u64, u64)])
+    requires { at + 8 * length items.now ≤ 4096 }
+    ensures row { block.new.0 ≡ puts block.old.0 at 8 (values_of items.now) }
     ensures below { (i : ℕ) → i < length items.now → slice_index (values_of items.now) i < 2 ^ 64 }
 {
     for i in 0..items.len() {
         let (_, child) = items[i];
-        put_u64(&mut block.0, CHILDREN + KEY_SIZE * i, child);
+        put_u64(&mut block.0, at + KEY_SIZE * i, child);
     }
 }
 
