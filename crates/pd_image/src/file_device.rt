@@ -1,6 +1,6 @@
 //! A device over a real file: a thin layer over the file's own calls, of which nothing is assumed.
 
-ghost use Rattle.std.specs.Prelude.{◌≡◌, ◌+◌, ◌<◌, ◌≤◌, slice_get, Some, OnOk, IfSome};
+ghost use Rattle.std.specs.Prelude.{refl, ◌≡◌, ◌+◌, ◌<◌, ◌≤◌, slice_get, Some, OnOk, IfSome};
 ghost use Rattle.pd_kinds.specs.Objects.{CountsFault};
 ghost use Rattle.pd_image.specs.Calls.{counted};
 ghost use Rattle.pd_image.specs.Device.{IsAttached, KeepsObject};
@@ -70,6 +70,8 @@ impl<'a, R: Files> FileDevice<'a, R> {
 /// Every fault of the file is a fault of the device; a file that ends too early is one too.
 impl<'a, R: Files> Device for FileDevice<'a, R> {
     ghost state = { file_device_state };
+
+    ghost unnamed = { λ _ _. refl };
 
     fn attach(&mut self, path: &str, write: bool) -> Result<(), Failed> {
         let opened = settled(self.open(path, write), &mut self.faults);
