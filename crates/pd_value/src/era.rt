@@ -26,6 +26,7 @@ impl Value for Writeset {
     ghost decoded = { λ number. record { bits = number % 2 ^ 32; root = number / 2 ^ 32 } };
 
     fn fits(&self) -> bool {
+        // Each number of these types has its place: reading it shows its range.
         let _bits = self.bits;
         let _root = self.root;
         true

@@ -21,6 +21,7 @@ impl Value for Count {
     ghost decoded = { λ number. record { 0 = number } };
 
     fn fits(&self) -> bool {
+        // Each number of these types has its place: reading it shows its range.
         let _count = self.0;
         true
     }
@@ -74,6 +75,7 @@ impl Value for IndexEntry {
     } };
 
     fn fits(&self) -> bool {
+        // Each number of these types has its place: reading it shows its range.
         let _block = self.block;
         let _free = self.free;
         let _none_before = self.none_before;

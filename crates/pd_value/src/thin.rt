@@ -21,6 +21,7 @@ impl Value for Root {
     ghost decoded = { λ number. record { 0 = number } };
 
     fn fits(&self) -> bool {
+        // Each number of these types has its place: reading it shows its range.
         let _block = self.0;
         true
     }
@@ -125,6 +126,7 @@ impl Value for Details {
     } };
 
     fn fits(&self) -> bool {
+        // Each number of these types has its place: reading it shows its range.
         let _mapped = self.mapped;
         let _transaction = self.transaction;
         let _created = self.created;
