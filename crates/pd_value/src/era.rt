@@ -10,7 +10,7 @@ use pd_kinds::{put_u32, put_u64, u32_at, u64_at};
 pub struct Writeset {
     /// The number of bits of the bitset.
     pub bits: u32,
-    /// The root of the bitset.
+    /// The metadata block of the bitset's root.
     pub root: u64,
 }
 

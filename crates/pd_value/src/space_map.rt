@@ -51,7 +51,7 @@ impl Value for Count {
 /// "drivers/md/persistent-data/dm-space-map-common.h".
 #[derive(Clone, Copy, Debug, PartialEq, Eq)]
 pub struct IndexEntry {
-    /// The bitmap's block.
+    /// The metadata block of the bitmap.
     pub block: u64,
     /// How many of the bitmap's blocks are free.
     pub free: u32,
