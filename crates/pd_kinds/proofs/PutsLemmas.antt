@@ -1,8 +1,10 @@
--- Fields put together from parts, and rows of numbers.
-use Rattle.std.proofs.Common.{◌≡◌, ℕ, ◌+◌, ◌*◌, ◌/◌, ◌%◌, ◌^◌, ◌<◌, List, refl, ap, sym, ◌∙◌, arith, zero-add}
-use Rattle.std.proofs.Math.Nat.{mod-eq_of_lt, add-mul-mod_self_left, add-mul-div_left, div-eq_of_lt}
-use Rattle.pd_kinds.specs.Field.{put}
-use Rattle.pd_kinds.proofs.FieldLemmas.{put_low, put_join}
+-- Fields put together from parts, fields of a part, and rows of numbers.
+use Rattle.std.proofs.Common.{◌≡◌, ◌⊎◌, inl, inr, ℕ, zero, suc, ◌+◌, ◌*◌, ◌/◌, ◌%◌, ◌^◌, ◌<◌, ◌≤◌, List, [], ◌∷◌, ◌++◌, length, take, drop, get_or, refl, ap, sym, ◌∙◌, arith, zero-add}
+use Rattle.std.proofs.Math.Nat.{mod-eq_of_lt, add-mul-mod_self_left, add-mul-div_left, div-eq_of_lt, mul-suc}
+use Rattle.std.proofs.lemmas.List.{take-append-drop, length-take-le, length-drop}
+use Rattle.pd_kinds.specs.Field.{le, put}
+use Rattle.pd_kinds.specs.Node.{puts}
+use Rattle.pd_kinds.proofs.FieldLemmas.{length-put, le-put, le-put_other, put_low, put_join, put-append_left, put-append_right}
 
 -- what stands above a low part
 pub above_low : (v r limit : ℕ) → v < limit → (v + limit * r) / limit ≡ r
@@ -16,3 +18,60 @@ put_parts b o j k v r small =
     let lows : put b o j (v + 256 ^ j * r) ≡ put b o j v =
     sym (put_low b o j (v + 256 ^ j * r) j (omega arith)) ∙ ap (λ (n : ℕ). put b o j n) low in
     rw (put_join b o j k (v + 256 ^ j * r), high, lows) refl
+
+-- a field written into a part of a block is written into the block
+pub put_part : (b : List ℕ) (at n k v : ℕ) → at + n ≤ length b → k ≤ n
+    → take at b ++ (put (take n (drop at b)) 0 k v ++ drop n (drop at b)) ≡ put b at k v
+put_part b at n k v within small =
+    let front = take at b in
+    let mid = take n (drop at b) in
+    let tail = drop n (drop at b) in
+    let rest_len = length-drop at b in
+    let mid_len : length mid ≡ n = length-take-le n (drop at b) (omega arith) in
+    let front_len : length front ≡ at = length-take-le at b (omega arith) in
+    let whole : front ++ (mid ++ tail) ≡ b = ap (λ (rest : List ℕ). front ++ rest) (take-append-drop n (drop at b)) ∙ take-append-drop at b in
+    let place : at + 0 ≡ at = omega arith in
+    ap (λ (rest : List ℕ). front ++ rest) (sym (put-append_left mid tail 0 k v (omega arith)))
+    ∙ (sym (put-append_right front (mid ++ tail) at 0 k v front_len)
+    ∙ (ap (λ (xs : List ℕ). put xs (at + 0) k v) whole ∙ ap (λ (p : ℕ). put b p k v) place))
+
+-- a row of numbers keeps the length
+pub length-puts : (b : List ℕ) (o width : ℕ) (xs : List ℕ) → length (puts b o width xs) ≡ length b
+unfolding puts
+length-puts b o width [] = refl
+length-puts b o width (x ∷ xs) = length-puts (put b o width x) (o + width) width xs ∙ length-put b o width x
+
+-- a row with one number more
+pub puts_more : (b : List ℕ) (o width : ℕ) (xs : List ℕ) (x : ℕ)
+    → puts b o width (xs ++ x ∷ []) ≡ put (puts b o width xs) (o + width * length xs) width x
+unfolding puts
+puts_more b o width [] x =
+    let place : o + width * 0 ≡ o = omega arith in
+    rw place refl
+puts_more b o width (y ∷ xs) x =
+    let place : o + width + width * length xs ≡ o + width * suc (length xs) = omega (arith, mul-suc width (length xs)) in
+    puts_more (put b o width y) (o + width) width xs x ∙ ap (λ (at : ℕ). put (puts (put b o width y) (o + width) width xs) at width x) place
+
+-- a field before a row or behind it stays
+pub le-puts_other : (b : List ℕ) (o width : ℕ) (xs : List ℕ) (p n : ℕ) → ((p + n ≤ o) ⊎ (o + width * length xs ≤ p)) → le (puts b o width xs) p n ≡ le b p n
+unfolding puts
+le-puts_other b o width [] p n apart = refl
+le-puts_other b o width (x ∷ xs) p n apart =
+    let ends = mul-suc width (length xs) in
+    le-puts_other (put b o width x) (o + width) width xs p n (elim apart [ inl before ↦ inl (omega arith) | inr after ↦ inr (omega arith) ])
+    ∙ le-put_other b o width x p n (elim apart [ inl before ↦ inl before | inr after ↦ inr (omega arith) ])
+
+-- a number of a row is read back
+pub le-puts : (b : List ℕ) (o width : ℕ) (xs : List ℕ) (i : ℕ) → o + width * length xs ≤ length b → i < length xs → get_or xs i 0 < 256 ^ width
+    → le (puts b o width xs) (o + width * i) width ≡ get_or xs i 0
+unfolding puts
+le-puts b o width [] i within h small = absurd (omega arith)
+le-puts b o width (x ∷ xs) zero within h small =
+    let ends = mul-suc width (length xs) in
+    let place : o + width * 0 ≡ o = omega arith in
+    rw place (le-puts_other (put b o width x) (o + width) width xs o width (inl (omega arith)) ∙ le-put b o width x (omega arith) small)
+le-puts b o width (x ∷ xs) (suc i) within h small =
+    let ends = mul-suc width (length xs) in
+    let len = length-put b o width x in
+    let place : o + width * suc i ≡ o + width + width * i = omega (arith, mul-suc width i) in
+    rw place (le-puts (put b o width x) (o + width) width xs i (omega arith) (omega arith) small)

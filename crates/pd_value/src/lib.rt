@@ -12,4 +12,4 @@ mod value;
 pub use era::Writeset;
 pub use space_map::{Count, IndexEntry};
 pub use thin::{BlockTime, Details, Root};
-pub use value::{Value, reads_back, writes_back};
+pub use value::{Value, put_value, reads_back, value_at, writes_back};

@@ -1,4 +1,4 @@
-ghost use Rattle.std.specs.Prelude.{◌≡◌, ℕ, ◌^◌, ◌<◌, ◌≤◌, Bool, true, List, length};
+ghost use Rattle.std.specs.Prelude.{◌≡◌, ℕ, ◌+◌, ◌^◌, ◌<◌, ◌≤◌, Bool, true, List, length};
 ghost use Rattle.pd_kinds.specs.Field.{le, put};
 
 /// A value of a leaf.
@@ -46,6 +46,23 @@ pub trait Value: Copy {
     ghost read_fits: { (number : ℕ) → number < 256 ^ SIZE → fitting (decoded number) ≡ true };
 
     ghost writes_back: { (number : ℕ) → number < 256 ^ SIZE → code (decoded number) ≡ number };
+}
+
+/// The value that is stored from `at` on.
+pub fn value_at<V: Value>(bytes: &[u8], at: usize) -> V
+    requires { at + V.SIZE ≤ length bytes.now }
+    ensures { result ≡ V.decoded (le bytes.now at V.SIZE) }
+{
+    V::read(&bytes[at..at + V::SIZE])
+}
+
+/// Stores the value from `at` on, and changes no other byte.
+pub fn put_value<V: Value>(bytes: &mut [u8], at: usize, value: &V)
+    requires fits { V.fitting value.now ≡ true }
+    requires size { at + V.SIZE ≤ length bytes.old }
+    ensures { bytes.new ≡ put bytes.old at V.SIZE (V.code value.now) }
+{
+    value.write(&mut bytes[at..at + V::SIZE]);
 }
 
 /// What was written reads as the same value.

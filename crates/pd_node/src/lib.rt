@@ -1,0 +1,11 @@
+//! The nodes of B-trees, as struct btree_node of "drivers/md/persistent-data/dm-btree-internal.h":
+//! the rules that a block breaks as a node, its entries, and the writing of leaves and inner nodes.
+#![tactic(auto)]
+
+mod header;
+mod read;
+mod rules;
+
+pub use header::{entries, is_inner};
+pub use read::{child, key, value};
+pub use rules::{keys_ascend, node_rules};
