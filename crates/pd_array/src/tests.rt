@@ -1,11 +1,26 @@
+ghost use Rattle.std.specs.Prelude.{◌≡◌, ◌<◌, EachIndex, slice_index};
+
 use crate::{Word, array_len, array_rules, array_word, write_array};
 use pd_kinds::{Rule, Rules};
 
+/// Sets each word to 0.
+fn fill_with_zeros(words: &mut [u64])
+    ensures { EachIndex words.new (λ i. slice_index words.new i ≡ 0) }
+{
+    for word in words.iter_mut() {
+        *word = 0;
+    }
+}
+
 #[test]
 fn a_full_block_has_as_many_words_as_there_is_room_for(rt: HostRuntime) {
-    let eights = write_array(3, Word::Eight, &[0u64; 509]);
+    let mut words = [7; 509];
+    fill_with_zeros(&mut words);
+    let eights = write_array(3, Word::Eight, &words);
     assert_eq!(rt; array_len(&eights, Word::Eight), 509);
-    let fours = write_array(3, Word::Four, &[0u64; 1018]);
+    let mut words = [7; 1018];
+    fill_with_zeros(&mut words);
+    let fours = write_array(3, Word::Four, &words);
     assert_eq!(rt; array_len(&fours, Word::Four), 1018);
     assert_eq!(rt; array_len(&fours, Word::Eight), 0);
 }
