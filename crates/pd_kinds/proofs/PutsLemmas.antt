@@ -1,7 +1,8 @@
 -- Fields put together from parts, fields of a part, and rows of numbers.
-use Rattle.std.proofs.Common.{◌≡◌, ◌⊎◌, inl, inr, ℕ, zero, suc, ◌+◌, ◌*◌, ◌/◌, ◌%◌, ◌^◌, ◌<◌, ◌≤◌, List, [], ◌∷◌, ◌++◌, length, take, drop, get_or, refl, ap, sym, ◌∙◌, arith, zero-add}
+use Rattle.std.proofs.Common.{◌≡◌, ◌⊎◌, inl, inr, ℕ, zero, suc, ◌+◌, ◌*◌, ◌/◌, ◌%◌, ◌^◌, ◌<◌, ◌≤◌, List, [], ◌∷◌, ◌++◌, length, map, take, drop, get_or, refl, ap, sym, ◌∙◌, arith, zero-add}
 use Rattle.std.proofs.Math.Nat.{mod-eq_of_lt, add-mul-mod_self_left, add-mul-div_left, div-eq_of_lt, mul-suc}
-use Rattle.std.proofs.lemmas.List.{take-append-drop, length-take-le, length-drop}
+use Rattle.std.proofs.lemmas.List.{take-append-drop, length-take-le, length-drop, take_more, take_all, map-append, length-map, get_or-map}
+use borrow.Author.Count.{below_more}
 use Rattle.pd_kinds.specs.Field.{le, put}
 use Rattle.pd_kinds.specs.Node.{puts}
 use Rattle.pd_kinds.proofs.FieldLemmas.{length-put, le-put, le-put_other, put_low, put_join, put-append_left, put-append_right}
@@ -75,3 +76,24 @@ le-puts b o width (x ∷ xs) (suc i) within h small =
     let len = length-put b o width x in
     let place : o + width * suc i ≡ o + width + width * i = omega (arith, mul-suc width i) in
     rw place (le-puts (put b o width x) (o + width) width xs i (omega arith) (omega arith) small)
+
+-- a loop's step: a row of one number for each element so far
+pub row_more : {X : Type 0} → (f : X → ℕ) (b : List ℕ) (o width : ℕ) (xs : List X) (i : ℕ) (d : X) → i < length xs
+    → puts b o width (map f (take (i + 1) xs)) ≡ put (puts b o width (map f (take i xs))) (o + width * i) width (f (get_or xs i d))
+row_more {X} f b o width xs i d within =
+    let x = get_or xs i d in
+    let count : length (map f (take i xs)) ≡ i = length-map (take i xs) f ∙ length-take-le i xs (omega arith) in
+    rw (take_more xs i d within, map-append f (take i xs) (x ∷ []))
+    (puts_more b o width (map f (take i xs)) (f x) ∙ ap (λ (n : ℕ). put (puts b o width (map f (take i xs))) (o + width * n) width (f x)) count)
+
+-- a loop's end: a row of one number for each element
+pub row_all : {X : Type 0} → (f : X → ℕ) (b : List ℕ) (o width : ℕ) (xs : List X) (i : ℕ) → length xs ≤ i
+    → puts b o width (map f (take i xs)) ≡ puts b o width (map f xs)
+row_all {X} f b o width xs i all = ap (λ (ys : List X). puts b o width (map f ys)) (take_all i xs all)
+
+-- a loop's step: each number so far is below a limit
+pub row_below_more : {X : Type 0} → (f : X → ℕ) (limit : ℕ) (xs : List X) (i : ℕ) (d : X) → i < length xs → f (get_or xs i d) < limit
+    → ((k : ℕ) → k < i → get_or (map f xs) k 0 < limit) → (k : ℕ) → k < i + 1 → get_or (map f xs) k 0 < limit
+row_below_more {X} f limit xs i d within small below =
+    let next : get_or (map f xs) i 0 < limit = rw (get_or-map f xs i d 0 within) small in
+    below_more (λ k. get_or (map f xs) k 0 < limit) i below next

@@ -1,2 +1,5 @@
 pub mod Ascending
 pub mod Shape
+pub mod Written
+pub mod Sound
+pub mod FromItems

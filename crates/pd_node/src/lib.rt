@@ -5,7 +5,9 @@
 mod header;
 mod read;
 mod rules;
+mod write;
 
 pub use header::{entries, is_inner};
 pub use read::{child, key, value};
 pub use rules::{keys_ascend, node_rules};
+pub use write::{max_entries_of, write_inner, write_leaf};

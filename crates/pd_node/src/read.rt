@@ -1,7 +1,7 @@
 //! The entries of a node, read where they lie.
 
 ghost use Rattle.std.specs.Prelude.{◌≡◌, ◌+◌, ◌*◌, ◌<◌, ◌≤◌, Bool, false, true};
-ghost use Rattle.pd_kinds.specs.Node.{child_at, entry_count, is_inner_node, key_at, node_max, value_at as value_number_at};
+ghost use Rattle.pd_kinds.specs.Node.{child_at, entry_count, is_inner_node, key_at, node_max, value_at};
 
 use crate::header::{HEADER_SIZE, KEY_SIZE, max_of};
 use pd_kinds::{Block, u64_at};
@@ -33,7 +33,7 @@ pub fn child<V: Value>(block: &Block, i: usize) -> u64
 pub fn value<V: Value>(block: &Block, i: usize) -> V
     requires entry { i < entry_count V.SIZE block.now.0 }
     requires leaf { is_inner_node block.now.0 ≡ false }
-    ensures { result ≡ V.decoded (value_number_at V.SIZE block.now.0 i) }
+    ensures { result ≡ V.decoded (value_at V.SIZE block.now.0 i) }
 {
     lies_within::<V>(block, i);
     value_at(&block.0, HEADER_SIZE + KEY_SIZE * max_of(block) + V::SIZE * i)
