@@ -1,5 +1,5 @@
 -- The entries of an index block: the row that is written, and the blocks that are looked at.
-use Rattle.std.proofs.Common.{◌≡◌, inl, inr, ℕ, zero, suc, ◌+◌, ◌*◌, ◌/◌, ◌%◌, ◌^◌, ◌<◌, ◌≤◌, Bool, ◌||◌, List, ◌∷◌, [], ◌++◌, map, take, length, get_or, Some, refl, ap, sym, ◌∙◌, arith}
+use Rattle.std.proofs.Common.{◌≡◌, inl, inr, ℕ, ◌+◌, ◌*◌, ◌/◌, ◌%◌, ◌^◌, ◌<◌, ◌≤◌, Bool, ◌||◌, List, ◌∷◌, [], map, take, length, get_or, Some, refl, sym, ◌∙◌, arith}
 use Rattle.std.proofs.Math.Bool.{or-false}
 use Rattle.std.specs.List.{All, slice_get, list_any, range_with_len}
 use Rattle.std.proofs.lemmas.List.Folds.{list_any-append}

@@ -1,10 +1,10 @@
 -- What is read of a bitmap or an index block that was sealed in its place.
-use Rattle.std.proofs.Common.{◌≡◌, inl, inr, ℕ, ◌+◌, ◌*◌, ◌/◌, ◌^◌, ◌<◌, ◌≤◌, true, false, List, [], ◌∷◌, map, length, get_or, refl, ap, sym, ◌∙◌, arith, eq-eqb}
+use Rattle.std.proofs.Common.{◌≡◌, inr, ℕ, ◌+◌, ◌*◌, ◌/◌, ◌^◌, ◌<◌, ◌≤◌, true, false, List, [], ◌∷◌, map, length, get_or, refl, ◌∙◌, arith, eq-eqb}
 use Rattle.std.proofs.Math.Bool.{and-false, and-true, or-false}
 use Rattle.std.specs.List.{list_any, range_with_len}
 use Rattle.pd_kinds.specs.declared.rule.Rule.{Rule}
 use Rattle.pd_kinds.specs.declared.rule.Rule.TheVariants as r
-use Rattle.pd_kinds.specs.Field.{le, put, zeros}
+use Rattle.pd_kinds.specs.Field.{le, put}
 use Rattle.pd_kinds.specs.Checksum.{checksum, has_checksum, sealed}
 use Rattle.pd_kinds.specs.RuleSet.{alone, failing}
 use Rattle.pd_kinds.specs.ThinSuper.{is_outside}

@@ -4,6 +4,7 @@ ghost use Rattle.std.specs.Prelude.{◌≡◌, ◌≢◌, ℕ, ◌+◌, ◌*◌,
 ghost use Rattle.pd_bitmap.specs.Counts.{count_at};
 
 /// The count at a place, from 0, of the byte.
+#[tactic(auto, using(crate::proofs::CountBits::count_read))]
 pub(crate) fn count_of(byte: u8, place: u32) -> u8
     requires { place < 4 }
     ensures { result ≡ count_at byte place }
@@ -12,6 +13,7 @@ pub(crate) fn count_of(byte: u8, place: u32) -> u8
 }
 
 /// The byte with this count at a place, from 0, and its other counts as they are.
+#[tactic(auto, using(crate::proofs::CountBits::count_written, crate::proofs::CountBits::count_kept))]
 pub(crate) fn with_count(byte: u8, place: u32, count: u8) -> u8
     requires place { place < 4 }
     requires count { count ≤ 3 }

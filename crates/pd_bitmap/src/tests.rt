@@ -26,6 +26,15 @@ fn the_high_bit_of_a_count_comes_first(rt: HostRuntime) {
 }
 
 #[test]
+fn setting_a_count_changes_one_byte(rt: HostRuntime) {
+    let mut block = new_bitmap();
+    set_two_bits(&mut block, 1, 2);
+    let mut expected = new_bitmap();
+    expected.0[16] = 0x04;
+    assert_eq!(rt; block, expected);
+}
+
+#[test]
 fn a_sealed_bitmap_has_its_counts_and_breaks_no_rule(rt: HostRuntime) {
     let mut block = new_bitmap();
     set_two_bits(&mut block, 1, 2);
