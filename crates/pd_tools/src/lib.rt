@@ -5,6 +5,8 @@ mod check;
 mod notes;
 mod run;
 mod super_check;
+#[cfg(test)]
+mod tests;
 mod words;
 
 pub use run::run_tool;
