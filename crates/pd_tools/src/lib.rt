@@ -7,6 +7,5 @@ mod run;
 mod super_check;
 #[cfg(test)]
 mod tests;
-mod words;
 
 pub use run::run_tool;

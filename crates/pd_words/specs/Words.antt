@@ -1,6 +1,6 @@
 -- What a request that was read means.
 use Rattle.std.specs.Prelude.{Option, Some, None}
-use Rattle.pd_tools.specs.declared.words.Request.{Request}
+use Rattle.pd_words.specs.declared.words.Request.{Request}
 use Rattle.pd_kinds.specs.Words as words
 
 -- the request as the definitions speak of it

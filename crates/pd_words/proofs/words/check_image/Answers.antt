@@ -1,6 +1,6 @@
 use Rattle.std.proofs.Common.{◌∙◌, sym}
-use Rattle.pd_tools.proofs.WordLemmas.{until_first, until_second, until_nowhere}
-use Rattle.pd_tools.proofs.words.check_image.Goals as goal
+use Rattle.pd_words.proofs.WordLemmas.{until_first, until_second, until_nowhere}
+use Rattle.pd_words.proofs.words.check_image.Goals as goal
 
 pub returns-then-eq : goal.returns-then-eq
 returns-then-eq c =

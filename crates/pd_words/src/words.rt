@@ -3,7 +3,7 @@ ghost use Rattle.std.specs.Option.{option_and_then};
 ghost use Rattle.std.specs.Str.{bytes_eq};
 ghost use Rattle.pd_kinds.specs.Words.{asked, is_value, items_of, thin_check_request, until_word};
 ghost use Rattle.pd_kinds.specs.Words as request;
-ghost use Rattle.pd_tools.specs.Words.{spelled};
+ghost use Rattle.pd_words.specs.Words.{spelled};
 
 /// What the words of a command line ask for: the check of the thin superblock of an image. It is the
 /// only request that is built.

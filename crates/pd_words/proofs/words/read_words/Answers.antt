@@ -1,7 +1,7 @@
 use Rattle.std.proofs.Common.{◌<◌, length, map, string_bytes, sym}
 use Rattle.std.proofs.lemmas.List.{length-map}
-use Rattle.pd_tools.proofs.WordLemmas.{map-first, asked-none}
-use Rattle.pd_tools.proofs.words.read_words.Goals as goal
+use Rattle.pd_words.proofs.WordLemmas.{map-first, asked-none}
+use Rattle.pd_words.proofs.words.read_words.Goals as goal
 
 pub returns-in-empty : goal.returns-in-empty
 returns-in-empty c =

@@ -1,7 +1,7 @@
 use Rattle.std.proofs.Common.{map, string_bytes, sym, ◌∙◌}
 use Rattle.std.proofs.lemmas.List.{length-map}
-use Rattle.pd_tools.proofs.WordLemmas.{other_words, three}
-use Rattle.pd_tools.proofs.words.read_thin_check.Goals as goal
+use Rattle.pd_words.proofs.WordLemmas.{other_words, three}
+use Rattle.pd_words.proofs.words.read_thin_check.Goals as goal
 
 pub returns-then-words-ne3 : goal.returns-then-words-ne3
 returns-then-words-ne3 c =
