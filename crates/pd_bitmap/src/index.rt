@@ -1,12 +1,13 @@
 //! The index block of the metadata's space map: an entry for each bitmap.
 
-ghost use Rattle.std.specs.Prelude.{◌≡◌, ℕ, ◌+◌, ◌*◌, ◌/◌, ◌<◌, ◌≤◌, All, EachIndex, Some, false, length, map, slice_get};
+ghost use Rattle.std.specs.Prelude.{◌≡◌, ℕ, ◌+◌, ◌*◌, ◌/◌, ◌<◌, ◌≤◌, ◌&&◌, All, EachIndex, Some, false, length, map, slice_get};
 ghost use Rattle.std.specs.List.{list_any, range_with_len};
 ghost use Rattle.pd_kinds.specs.declared.rule.Rule.{Rule as BrokenRule};
 ghost use Rattle.pd_kinds.specs.declared.rule.Rule.TheVariants.{Checksum, Place, Pointer};
 ghost use Rattle.pd_kinds.specs.Bitmap.{bitmaps_for, index_bad, index_block_at, index_blocks, index_code_at, index_salt, index_tests, placed_block, unsealed_index};
 ghost use Rattle.pd_kinds.specs.Field.{le, put};
 ghost use Rattle.pd_kinds.specs.Node.{puts};
+ghost use Rattle.pd_kinds.specs.Rule.{same_rule};
 ghost use Rattle.pd_kinds.specs.RuleSet.{failing, has_rule};
 ghost use Rattle.pd_kinds.specs.ThinSuper.{is_outside};
 ghost use Rattle.pd_bitmap.specs.Index.{DoFieldsFit};
@@ -131,7 +132,9 @@ pub fn seal_index(block: &mut Block, place: u64)
     ensures sealed { block.new.0 ≡ placed_block index_salt place block.old.0 }
     ensures checksum { (nr : ℕ) → index_bad nr place block.new.0 Checksum ≡ false }
     ensures place { (nr : ℕ) → index_bad nr place block.new.0 Place ≡ false }
-    ensures pointer { (nr : ℕ) → index_bad nr place block.new.0 Pointer ≡ list_any (λ (b : ℕ). is_outside nr b) (index_blocks nr block.old.0) }
+    // Only a bitmap outside the metadata is a broken rule then.
+    ensures rules { (nr : ℕ) (rule : BrokenRule) → index_bad nr place block.new.0 rule
+        ≡ (list_any (λ (b : ℕ). is_outside nr b) (index_blocks nr block.old.0) && same_rule Pointer rule) }
     ensures entries { (i : ℕ) → index_code_at block.new.0 i ≡ index_code_at block.old.0 i }
 {
     put_u64(&mut block.0, 8, place);
