@@ -1,10 +1,10 @@
 -- The bytes of blocks that are written, and of those that are made alike.
-use Rattle.std.proofs.Common.{◌≡◌, ℕ, zero, suc, ◌<◌, List, [], ◌∷◌, length, set, replicate, map, refl, ap, sym, ◌∙◌}
+use Rattle.std.proofs.Common.{◌≡◌, ℕ, zero, suc, List, [], ◌∷◌, set, replicate, refl, ap}
 use Rattle.std.specs.Prelude.{slice_get}
-use Rattle.std.proofs.lemmas.List.{map-set, length-set, length-map}
+use Rattle.std.proofs.lemmas.List.{map-set, length-set}
 use Rattle.pd_kinds.specs.declared.block.Block.{Block}
 use Rattle.pd_image.specs.Device.{MayChange}
-use Rattle.pd_image.specs.MemDevice.{block_bytes}
+use Rattle.pd_image.specs.Blocks.{block_bytes}
 
 -- the bytes of the blocks, where one was written
 pub block_bytes-set : (blocks : List Block) (b : ℕ) (block : Block)

@@ -1,11 +1,11 @@
 -- What a sink in memory means.
-use Rattle.std.specs.Prelude.{ℕ, List, [], Some, None}
+use Rattle.std.specs.Prelude.{[], Some, None}
 use Rattle.std.specs.Option.{option_map}
 use Rattle.pd_kinds.specs.Objects.{SinkState}
 use Rattle.pd_image.specs.declared.calls.Calls.{Calls}
 use Rattle.pd_image.specs.declared.mem_sink.MemSink.{MemSink}
 use Rattle.pd_image.specs.Access.{access_number}
-use Rattle.pd_image.specs.Calls.{counted, calls_failed}
+use Rattle.pd_image.specs.Calls.{calls_failed}
 
 -- what the sink means to code over any sink
 abbrev pub mem_sink_state : MemSink → SinkState

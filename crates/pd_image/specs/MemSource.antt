@@ -1,11 +1,11 @@
 -- What a source in memory means.
-use Rattle.std.specs.Prelude.{ℕ, Bool, if◌then◌else◌, List, drop, Some, None}
+use Rattle.std.specs.Prelude.{ℕ, List, drop, Some, None}
 use Rattle.std.specs.Option.{option_map}
 use Rattle.pd_kinds.specs.Objects.{SourceState}
 use Rattle.pd_image.specs.declared.calls.Calls.{Calls}
 use Rattle.pd_image.specs.declared.mem_source.MemSource.{MemSource}
 use Rattle.pd_image.specs.Access.{access_number}
-use Rattle.pd_image.specs.Calls.{counted, calls_failed}
+use Rattle.pd_image.specs.Calls.{calls_failed}
 
 -- what the source means to code over any source
 abbrev pub mem_source_state : MemSource → SourceState

@@ -4,7 +4,7 @@ use Rattle.std.proofs.Math.Nat.{pow-suc, pow-succ', div-div-eq-div-mul, mod-eq_o
 use Rattle.std.proofs.Math.Arith.{mod-mul}
 use Rattle.std.proofs.lemmas.Bool.{cases_eq}
 use Rattle.std.proofs.lemmas.Nat.{pow-add, mod_below, div-mul-add}
-use Rattle.std.proofs.lemmas.List.{length-set, get_or-set_same, get_or-set_other, set-get_or, drop-set-lt, take-set-le, get_or-take, get_or-drop, set-append_left, set-append_right}
+use Rattle.std.proofs.lemmas.List.{length-set, get_or-set_same, get_or-set_other, set-get_or, drop-set-lt, take-set-le, get_or-take, get_or-drop, set-append_left, set-append_right, take-append-drop, drop-drop, length-take-le, length-drop}
 use Rattle.pd_kinds.specs.Field.{le, put}
 
 -- the number of values of k bytes isn't 0
@@ -190,3 +190,18 @@ put-append_right b c n o (suc k) v len =
     let before = put-append_right b c n o k v len in
     let place : n + o + k - n ≡ o + k = omega arith in
     rw before (set-append_right b (put c o k v) n (n + o + k) (v / 256 ^ k % 256) len (omega arith) ∙ ap (λ (i : ℕ). b ++ set (put c o k v) i (v / 256 ^ k % 256)) place)
+
+-- a write into a part of a block, put back into its place
+pub put_part : (b : List ℕ) (at n o k v : ℕ) → at + n ≤ length b → o + k ≤ n
+    → take at b ++ (put (take n (drop at b)) o k v ++ drop (at + n) b) ≡ put b (at + o) k v
+put_part b at n o k v within inside =
+    let front = length-take-le at b (omega arith) in
+    let behind = length-drop at b in
+    let part : length (take n (drop at b)) ≡ n = length-take-le n (drop at b) (omega arith) in
+    let rest : take n (drop at b) ++ drop (at + n) b ≡ drop at b =
+    ap (λ (xs : List ℕ). take n (drop at b) ++ xs) (sym (drop-drop n at b)) ∙ take-append-drop n (drop at b) in
+    let whole : take at b ++ (take n (drop at b) ++ drop (at + n) b) ≡ b =
+    ap (λ (xs : List ℕ). take at b ++ xs) rest ∙ take-append-drop at b in
+    let second = put-append_right (take at b) (take n (drop at b) ++ drop (at + n) b) at o k v front in
+    let first = put-append_left (take n (drop at b)) (drop (at + n) b) o k v (omega arith) in
+    ap (λ (xs : List ℕ). take at b ++ xs) (sym first) ∙ (sym second ∙ ap (λ (xs : List ℕ). put xs (at + o) k v) whole)

@@ -45,6 +45,12 @@ le-row_same b p n o k v at size within = rw (at, size) (le-put_same b p n v with
 le-row_other : (b : List ℕ) (p n o k v : ℕ) → ((p + n ≤ o) ⊎ (o + k ≤ p)) → le (put b o k v) p n ≡ le b p n
 le-row_other b p n o k v apart = le-put_other b o k v p n apart
 
+-- a table in two parts, the first one written first
+pub written-append : (b : List ℕ) (rows more : List Row) → written b (rows ++ more) ≡ written (written b rows) more
+unfolding written
+written-append b [] more = refl
+written-append b (row ∷ rows) more = written-append (put b row.offset row.size row.value) rows more
+
 -- one row of a table
 le-row : (b : List ℕ) (p n o k v : ℕ)
     → cond (nat_eq o p && nat_eq k n) (nat_le (p + n) (length b)) (nat_le (p + n) o || nat_le (o + k) p) ≡ true

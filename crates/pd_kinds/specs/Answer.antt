@@ -19,6 +19,10 @@ pub record Objects : Type 0 where
   pub output : DeviceState
   pub third : DeviceState
 
+abbrev pub objects : SourceState → SinkState → SinkState → DeviceState → DeviceState → DeviceState → Objects
+objects source out notes input output third =
+    record { source = source; out = out; notes = notes; input = input; output = output; third = third }
+
 -- none is attached, and none has failed
 pub record AreFresh (objects : Objects) : Type 0 where
   pub source : (objects.source.access ≡ 0) × (objects.source.faults ≡ 0)

@@ -14,3 +14,16 @@ pub mod Array
 pub mod Bitmap
 pub mod Words
 pub mod Answer
+pub mod Graph
+pub mod Order
+pub mod Layout
+pub mod ThinFormat
+pub mod CacheFormat
+pub mod EraFormat
+pub mod Trees
+pub mod Whole
+pub mod Stages
+pub mod Meaning
+pub mod Lawful
+pub mod Paths
+pub mod FaultOrder

@@ -1,10 +1,10 @@
 -- The entries that items become.
-use Rattle.std.proofs.Common.{◌≡◌, ℕ, ◌+◌, ◌*◌, ◌<◌, ◌≤◌, ◌^◌, subst, List, [], ◌∷◌, length, map, get_or, refl, ap, sym, ◌∙◌, arith}
-use Rattle.std.specs.List.{All, range_with_len}
+use Rattle.std.proofs.Common.{◌≡◌, ℕ, ◌+◌, ◌*◌, ◌<◌, ◌≤◌, ◌^◌, List, [], ◌∷◌, length, map, get_or, refl, ap, sym, ◌∙◌}
+use Rattle.std.specs.List.{All}
 use Rattle.std.proofs.lemmas.List.{length-map, get_or-map}
 use Rattle.pd_kinds.specs.Field.{written, zeros}
 use Rattle.pd_kinds.specs.Checksum.{sealed}
-use Rattle.pd_kinds.specs.Node.{Entry, max_entries, node_block, node_rows, node_salt, puts, value_at, entry_count}
+use Rattle.pd_kinds.specs.Node.{max_entries, node_block, node_rows, node_salt, puts, value_at, entry_count}
 use Rattle.pd_node.specs.Items.{entries_of, keys_of, values_of}
 use Rattle.pd_node.specs.Read.{node_values}
 use Rattle.pd_node.proofs.Written.{CanWrite, entry_keys, entry_values, value_written}
@@ -48,7 +48,7 @@ can_write {X} code items flags size place flags_fit size_fits place_fits room ke
       place_fits = place_fits;
       room = rw count room;
       keys_fit = λ i h. let within = rw count at h in rw (keys_kept code items) (keys i within);
-      values_fit = λ i h. let within = rw count at h in rw (codes_kept code items) (values i within)
+      values_fit = λ i h. let within = rw count at h in rw (codes_kept code items) (values i within);
     }
 
 -- what holds of each item's value's number
@@ -68,8 +68,8 @@ values_kept {X} code decoded items flags size place can count each =
     let entries = count_kept code items in
     rw count
     (read_back (λ i. decoded (value_at size block i)) (values_of items) (length items) (decoded 0) (length-map items (λ (item : ℕ × X). item.1))
-      (λ i h. let within = rw (sym entries) at h in
-          let number : value_at size block i ≡ code (get_or items i unused).1 =
-              value_written flags size place (entries_of code items) can i within
-              ∙ (ap (λ (codes : List ℕ). get_or codes i 0) (codes_kept code items) ∙ get_or-map (λ (item : ℕ × X). code item.1) items i unused 0 h) in
-          ap decoded number ∙ (each i unused h ∙ sym (get_or-map (λ (item : ℕ × X). item.1) items i unused (decoded 0) h))))
+    (λ i h. let within = rw (sym entries) at h in
+    let number : value_at size block i ≡ code (get_or items i unused).1 =
+    value_written flags size place (entries_of code items) can i within
+    ∙ (ap (λ (codes : List ℕ). get_or codes i 0) (codes_kept code items) ∙ get_or-map (λ (item : ℕ × X). code item.1) items i unused 0 h) in
+    ap decoded number ∙ (each i unused h ∙ sym (get_or-map (λ (item : ℕ × X). item.1) items i unused (decoded 0) h))))

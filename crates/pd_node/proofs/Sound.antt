@@ -1,14 +1,13 @@
 -- A written node breaks no rule, and has just the entries that it was written from.
 use Rattle.std.proofs.Common.{◌≡◌, ◌⊎◌, inl, inr, ℕ, ◌+◌, ◌*◌, ◌<◌, ◌≤◌, Bool, true, false, ◌&&◌, ◌||◌, not, nat_eq, ltb, cond, List, length, map, get_or, refl, ap, sym, ◌∙◌, arith, eq-eqb}
 use Rattle.std.specs.List.{range_with_len}
-use Rattle.std.proofs.lemmas.List.{length-map, get_or-map}
+use Rattle.std.proofs.lemmas.List.{length-map}
 use Rattle.std.proofs.lemmas.List.FromFn.{fill_by_all}
 use Rattle.std.proofs.lemmas.Bool.Decides.{nat_tests}
 use Rattle.pd_kinds.specs.declared.rule.Rule.{Rule}
 use Rattle.pd_kinds.specs.Checksum.{has_checksum}
 use Rattle.pd_kinds.specs.RuleSet.{alone, failing}
-use Rattle.pd_kinds.specs.Node.{Entry, are_flags_bad, entry_count, is_ascending, is_inner_node, is_shape_bad, key_at, max_entries, node_bad, node_block, node_entries, node_keys, node_max, node_place, node_salt, node_tests, node_value_size, value_at}
-use Rattle.pd_node.specs.Read.{node_children, node_values}
+use Rattle.pd_kinds.specs.Node.{Entry, are_flags_bad, entry_count, is_ascending, is_inner_node, is_shape_bad, key_at, max_entries, node_bad, node_block, node_keys, node_place, node_salt, node_tests, value_at}
 use Rattle.pd_node.proofs.Written.{CanWrite, entry_keys, entry_values, flags_written, place_written, entries_written, max_written, value_size_written, key_written, value_written, max_room}
 
 -- a leaf has values of the wanted size, an inner node block numbers, and at least one
@@ -49,7 +48,7 @@ shape_sound flags size place leaf_size entries can kind =
     let room : 32 + max_entries size * (8 + size) ≤ 4096 = omega (arith, max_room size) in
     rw (f, e, m, v)
     (shape_plain size (cond (nat_eq flags 1) 8 leaf_size) (length entries) (max_entries size) (nat_eq flags 1 && nat_eq (length entries) 0)
-      kind.size_known can.room room (some_plain flags (length entries) kind.flags_known kind.some))
+    kind.size_known can.room room (some_plain flags (length entries) kind.flags_known kind.some))
 
 -- the number of entries
 pub count_written : (flags size place leaf_size : ℕ) (entries : List Entry) → CanWrite flags size place entries → IsKind flags size leaf_size (length entries)

@@ -5,6 +5,8 @@
 mod header;
 mod read;
 mod rules;
+#[cfg(test)]
+mod tests;
 mod write;
 
 pub use header::{entries, is_inner};

@@ -8,14 +8,14 @@ ghost use Rattle.pd_kinds.specs.Node.{entry_count, inner_block, is_ascending, is
 ghost use Rattle.pd_node.specs.Items.{entries_of, keys_of, values_of};
 ghost use Rattle.pd_node.specs.Read.{node_children, node_values};
 
-use crate::header::{HEADER_SIZE, KEY_SIZE};
+use crate::header::{
+    ENTRIES_AT, FLAGS_AT, HEADER_SIZE, INNER_FLAGS, KEY_SIZE, LEAF_FLAGS, MAX_AT, PLACE_AT,
+    VALUE_SIZE_AT,
+};
 use crate::rules::NODE_SALT;
 use pd_crc::seal;
 use pd_kinds::{BLOCK_SIZE, Block, put_u32, put_u64};
 use pd_value::{Value, put_value};
-
-/// Where the children of an inner node stand that has room for the greatest number of entries: 32 + 8 * 252.
-const CHILDREN: usize = 2048;
 
 /// The number of entries for which a node with values of so many bytes is given room: the greatest
 /// multiple of 3 that fits the block, as calc_max_entries of
@@ -41,9 +41,10 @@ pub fn write_leaf<V: Value>(place: u64, items: &[(u64, V)]) -> Block
     ensures keys { node_keys V.SIZE result.0 ≡ keys_of items.now }
     ensures values { node_values V.SIZE V.decoded result.0 ≡ values_of items.now }
 {
-    let mut block = header_of(2, V::SIZE, place, items.len());
+    let mut block = header_of(LEAF_FLAGS, V::SIZE, place, items.len());
     put_keys(&mut block, items);
-    put_values(&mut block, HEADER_SIZE + KEY_SIZE * max_entries_of(V::SIZE), items);
+    let values_at = HEADER_SIZE + KEY_SIZE * max_entries_of(V::SIZE);
+    put_values(&mut block, values_at, items);
     seal(&mut block, NODE_SALT);
     block
 }
@@ -62,9 +63,13 @@ pub fn write_inner(place: u64, items: &[(u64, u64)]) -> Block
     ensures keys { (size : ℕ) → node_keys size result.0 ≡ keys_of items.now }
     ensures children { (size : ℕ) → node_children size result.0 ≡ values_of items.now }
 {
-    let mut block = header_of(1, KEY_SIZE, place, items.len());
+    let mut block = header_of(INNER_FLAGS, KEY_SIZE, place, items.len());
     put_keys(&mut block, items);
-    put_children(&mut block, items);
+    put_children(
+        &mut block,
+        HEADER_SIZE + KEY_SIZE * max_entries_of(KEY_SIZE),
+        items,
+    );
     seal(&mut block, NODE_SALT);
     block
 }
@@ -77,11 +82,11 @@ fn header_of(flags: u32, size: usize, place: u64, count: usize) -> Block
     ensures { result.0 ≡ written zeros (node_rows flags size place count) }
 {
     let mut block = Block([0; 4096]);
-    put_u32(&mut block.0, 4, flags);
-    put_u64(&mut block.0, 8, place);
-    put_u32(&mut block.0, 16, count as u32);
-    put_u32(&mut block.0, 20, max_entries_of(size) as u32);
-    put_u32(&mut block.0, 24, size as u32);
+    put_u32(&mut block.0, FLAGS_AT, flags);
+    put_u64(&mut block.0, PLACE_AT, place);
+    put_u32(&mut block.0, ENTRIES_AT, count as u32);
+    put_u32(&mut block.0, MAX_AT, max_entries_of(size) as u32);
+    put_u32(&mut block.0, VALUE_SIZE_AT, size as u32);
     block
 }
 
@@ -97,15 +102,15 @@ fn put_keys<T: Copy>(block: &mut Block, items: &[(u64, T)])
     }
 }
 
-/// Writes the numbers of the children in a row behind the room for the keys.
-fn put_children(block: &mut Block, items: &[(u64, u64)])
-    requires { length items.now ≤ 252 }
-    ensures row { block.new.0 ≡ puts block.old.0 2048 8 (values_of items.now) }
+/// Writes the numbers of the children in a row from `at` on.
+fn put_children(block: &mut Block, at: usize, items: &[(u64, u64)])
+    requires { at + 8 * length items.now ≤ 4096 }
+    ensures row { block.new.0 ≡ puts block.old.0 at 8 (values_of items.now) }
     ensures below { (i : ℕ) → i < length items.now → slice_index (values_of items.now) i < 2 ^ 64 }
 {
     for i in 0..items.len() {
         let (_, child) = items[i];
-        put_u64(&mut block.0, CHILDREN + KEY_SIZE * i, child);
+        put_u64(&mut block.0, at + KEY_SIZE * i, child);
     }
 }
 

@@ -2,11 +2,10 @@
 #![tactic(auto)]
 
 mod map_root;
-mod thin;
-mod thin_rules;
-
 #[cfg(test)]
 mod tests;
+mod thin;
+mod thin_rules;
 
 ghost use Rattle.std.specs.Prelude.{◌≡◌};
 ghost use Rattle.pd_kinds.specs.Rule.{same_rule};

@@ -1,6 +1,8 @@
 ghost use Rattle.std.specs.Prelude.{◌+◌, ◌≤◌};
 
-use crate::{SmRoot, ThinSuper, missing_super, read_thin_super, thin_super_rules, write_thin_super};
+use crate::{
+    SmRoot, ThinSuper, missing_super, read_thin_super, thin_super_rules, write_thin_super,
+};
 use pd_crc::seal;
 use pd_kinds::{Kind, Rule, Rules, put_u64};
 
@@ -13,8 +15,18 @@ fn empty_pool() -> ThinSuper {
         time: 0,
         transaction: 0,
         held_root: 0,
-        data_map: SmRoot { blocks: 0, allocated: 0, bitmap_root: 3, overflow_root: 4 },
-        meta_map: SmRoot { blocks: 8, allocated: 8, bitmap_root: 5, overflow_root: 7 },
+        data_map: SmRoot {
+            blocks: 0,
+            allocated: 0,
+            bitmap_root: 3,
+            overflow_root: 4,
+        },
+        meta_map: SmRoot {
+            blocks: 8,
+            allocated: 8,
+            bitmap_root: 5,
+            overflow_root: 7,
+        },
         mapping_root: 1,
         details_root: 2,
         block_size: 128,
@@ -43,7 +55,10 @@ fn gives_the_rules_of_changed_superblocks(rt: HostRuntime) {
     let none = Rules::none();
     assert_eq!(rt; rules_after(320, 1, 328, 2), none);
     assert_eq!(rt; rules_after(320, 8, 328, 2), none.with(Rule::Pointer));
-    assert_eq!(rt; rules_after(40, 1, 360, 1), none.with(Rule::Version).with(Rule::Features));
+    assert_eq!(rt;
+        rules_after(40, 1, 360, 1),
+        none.with(Rule::Version).with(Rule::Features)
+    );
     assert_eq!(rt; rules_after(192, 9, 320, 1), none.with(Rule::Size));
     assert_eq!(rt; rules_after(8, 3, 320, 1), none.with(Rule::Place));
     assert_eq!(rt; rules_after(32, 5, 40, 7), none.with(Rule::Magic));
@@ -55,7 +70,10 @@ fn gives_a_wrong_checksum_alone(rt: HostRuntime) {
     let mut block = write_thin_super(&empty_pool());
     assert_eq!(rt; thin_super_rules(&block, 8), Rules::none());
     block.0[100] = 1;
-    assert_eq!(rt; thin_super_rules(&block, 8), Rules::none().with(Rule::Checksum));
+    assert_eq!(rt;
+        thin_super_rules(&block, 8),
+        Rules::none().with(Rule::Checksum)
+    );
 }
 
 #[test]

@@ -110,6 +110,7 @@ fn put_head(block: &mut Block, s: &ThinSuper)
     ensures rows { block.new.0 ≡ written block.old.0 (head_rows (fields_of s.now)) }
     ensures fit { DoHeadFieldsFit (fields_of s.now) }
 {
+    // Each number is taken out first, so that its range is known.
     let ThinSuper {
         flags,
         version,
@@ -132,6 +133,7 @@ fn put_tail(block: &mut Block, s: &ThinSuper)
     ensures rows { block.new.0 ≡ written block.old.0 (tail_rows (fields_of s.now)) }
     ensures fit { DoTailFieldsFit (fields_of s.now) }
 {
+    // Each number is taken out first, so that its range is known.
     let ThinSuper {
         mapping_root,
         details_root,

@@ -1,1 +1,3 @@
 pub mod WordLemmas
+pub mod SuperFaults
+pub mod Answered

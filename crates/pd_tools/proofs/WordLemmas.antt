@@ -1,12 +1,12 @@
 -- What the words after `thin_check` spell, by how many they are.
-use Rattle.std.proofs.Common.{◌≡◌, ◌≢◌, ◌⊎◌, inl, inr, ℕ, zero, suc, ◌+◌, ◌*◌, Bool, true, false, ◌&&◌, ◌||◌, List, [], ◌∷◌, length, get_or, map, take, drop, ◌-◌, ◌≤◌, ◌<◌, Option, Some, None, codes, refl, ap, sym, subst, ◌∙◌, arith, if◌then◌else◌}
-use Rattle.std.specs.List.{list_any, list_all, filter_map}
+use Rattle.std.proofs.Common.{◌≡◌, ◌≢◌, inl, inr, ℕ, suc, ◌+◌, ◌*◌, Bool, true, false, ◌&&◌, List, [], ◌∷◌, length, get_or, map, take, drop, ◌-◌, ◌≤◌, ◌<◌, Option, Some, None, codes, refl, ap, sym, subst, ◌∙◌, arith, if◌then◌else◌}
+use Rattle.std.specs.List.{list_all, filter_map}
 use Rattle.std.specs.Option.{option_map, option_and_then}
 use Rattle.std.specs.Str.{bytes_eq}
 use Rattle.std.proofs.lemmas.Bool.{cases_Bool}
 use Rattle.std.proofs.lemmas.List.{take_all}
 use Rattle.std.proofs.lemmas.Slice.Eq.{bytes_eq-Decides}
-use Rattle.pd_kinds.specs.Words.{Request, check_super, Item, option_item, operand_item, is_value, items_of, has_value, value_of, operand_of, sole, until_word, thin_check_request, asked}
+use Rattle.pd_kinds.specs.Words.{check_super, Item, option_item, operand_item, is_value, items_of, has_value, value_of, operand_of, sole, until_word, thin_check_request, asked}
 
 -- a word that is another one can be a value where that one can
 value_from_eq : (word other : List ℕ) (b : Bool) → is_value other ≡ b → bytes_eq word other ≡ true → is_value word ≡ b

@@ -1,4 +1,12 @@
 //! The top call of the tools: from the words of a command line to the status.
 #![tactic(auto)]
 
+mod check;
+mod notes;
+mod run;
+mod super_check;
+#[cfg(test)]
+mod tests;
 mod words;
+
+pub use run::run_tool;

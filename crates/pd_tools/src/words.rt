@@ -5,11 +5,12 @@ ghost use Rattle.pd_kinds.specs.Words.{asked, is_value, items_of, thin_check_req
 ghost use Rattle.pd_kinds.specs.Words as request;
 ghost use Rattle.pd_tools.specs.Words.{spelled};
 
-/// What the words of a command line ask for. The texts are words of the command line.
+/// What the words of a command line ask for: the check of the thin superblock of an image. It is the
+/// only request that is built.
 #[derive(Clone, Copy)]
-pub enum Request<'a> {
-    /// The check of the thin superblock of the image at this path.
-    CheckSuper { image: &'a str },
+pub struct Request<'a> {
+    /// The path of the image, a word of the command line.
+    pub image: &'a str,
 }
 
 /// The request that the words spell, without the program's own name; none where they spell none.
@@ -66,7 +67,7 @@ fn check_super<'a>(stage: &str, image: &'a str) -> Option<Request<'a>>
     ensures { spelled result ≡ (if is_value image.now && bytes_eq stage.now (codes "super") then Some (request.check_super image.now) else None) }
 {
     if is_operand(image) && stage == "super" {
-        Some(Request::CheckSuper { image })
+        Some(Request { image })
     } else {
         None
     }

@@ -1,5 +1,5 @@
 use Rattle.std.specs.List.{flat_map}
-use Rattle.std.proofs.Common.{◌++◌, take, drop, length, ◌≡◌, arith, ◌∙◌}
+use Rattle.std.proofs.Common.{◌++◌, take, drop, ◌≡◌, ◌∙◌}
 use Rattle.pd_kinds.specs.Lines.{fault_line}
 use Rattle.pd_kinds.proofs.AppendLemmas.{front_of_more}
 use Rattle.pd_lines.proofs.Gathering.{gathers_front}

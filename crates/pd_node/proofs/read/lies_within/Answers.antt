@@ -1,5 +1,5 @@
-use Rattle.std.proofs.Common.{◌≡◌, ◌<◌, arith, cond, sym, ap, ◌∙◌, Bool}
-use Rattle.pd_kinds.specs.Node.{is_inner_node, node_max, node_value_size}
+use Rattle.std.proofs.Common.{◌<◌, arith}
+use Rattle.pd_kinds.specs.Node.{node_max, node_value_size}
 use Rattle.pd_node.proofs.Shape.{entry_says, shape_says, value_room}
 use Rattle.pd_node.proofs.read.lies_within.Goals as goal
 

@@ -1,4 +1,4 @@
-use Rattle.std.proofs.Common.{◌≡◌, ◌≤◌, refl, arith, inl, inr}
+use Rattle.std.proofs.Common.{◌≡◌, refl, arith, inl, inr}
 use Rattle.std.proofs.lemmas.Bool.{cases_lt}
 use Rattle.pd_kinds.specs.Node.{is_ascending, key_at}
 use Rattle.pd_node.proofs.Ascending.{ascending_more}

@@ -6,5 +6,5 @@ use Rattle.pd_node.proofs.write.put_keys.Given as goal
 abbrev pub invariant-loop-i : goal.invariant-loop-i
 invariant-loop-i g l = record {
   row : l.block.0 ≡ puts l.initial.block.0 32 8 (keys_of (take l.i l.items));
-  below : (k : ℕ) → k < l.i → slice_index (keys_of l.items) k < 2 ^ 64
+  below : (k : ℕ) → k < l.i → slice_index (keys_of l.items) k < 2 ^ 64;
 }

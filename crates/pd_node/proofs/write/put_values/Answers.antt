@@ -1,5 +1,4 @@
-use Rattle.std.proofs.Common.{◌≡◌, ℕ, ◌+◌, ◌*◌, ◌≤◌, ◌<◌, suc, sym, refl, arith, get_or}
-use Rattle.std.proofs.Math.Nat.{mul-le-mul_left, mul-suc}
+use Rattle.std.proofs.Common.{ℕ, sym, refl}
 use Rattle.pd_kinds.specs.Node.{puts}
 use Rattle.pd_kinds.proofs.PutsLemmas.{row_more}
 use Rattle.pd_node.proofs.write.put_values.Goals as goal

@@ -1,4 +1,4 @@
-use Rattle.std.proofs.Common.{◌≡◌, ℕ, map, take}
+use Rattle.std.proofs.Common.{◌≡◌, map, take}
 use Rattle.pd_kinds.specs.Node.{puts}
 use Rattle.pd_node.proofs.write.put_values.Given as goal
 

@@ -1,5 +1,4 @@
-use Rattle.std.proofs.Common.{◌≡◌, ℕ, ◌<◌, ◌≤◌, inl, lit<, lit≤, refl, sym, ◌∙◌, arith, length}
-use Rattle.pd_kinds.specs.Node.{inner_block}
+use Rattle.std.proofs.Common.{ℕ, inl, lit<, lit≤, refl, sym, ◌∙◌, arith, length}
 use Rattle.pd_node.specs.Items.{entries_of}
 use Rattle.pd_node.specs.Read.{node_children}
 use Rattle.pd_node.proofs.Written.{CanWrite}
@@ -12,7 +11,7 @@ child number = number
 
 pub returns-clause-block : goal.returns-clause-block
 returns-clause-block c =
-    rw (c.seal.ensures.sealed, c.put_children.ensures.row, c.put_keys.ensures.row, c.header_of-block.ensures) (node_is child c.args.items.now 1 8 c.args.place)
+    rw (c.seal.ensures.sealed, c.put_children.ensures.row, c.max_entries_of.ensures, c.put_keys.ensures.row, c.header_of-block.ensures) (node_is child c.args.items.now 1 8 c.args.place)
 
 can : (c : goal.After-seal) → CanWrite 1 8 c.args.place (entries_of child c.args.items.now)
 can c = can_write child c.args.items.now 1 8 c.args.place (lit< tt) (lit≤ tt) (omega arith) c.requires.room c.put_keys.ensures.below c.put_children.ensures.below
@@ -21,7 +20,7 @@ kind : (c : goal.After-seal) (size : ℕ) → IsKind 1 8 size (length (entries_o
 kind c size = record {
   flags_known = inl refl;
   size_known = refl;
-  some = λ _. rw (count_kept child c.args.items.now) c.requires.some
+  some = λ _. rw (count_kept child c.args.items.now) c.requires.some;
 }
 
 pub returns-clause-sound : goal.returns-clause-sound

@@ -1,4 +1,4 @@
-use Rattle.std.proofs.Common.{◌≡◌, ℕ, ◌<◌, ◌≤◌, ◌^◌, inr, lit<, refl, sym, ◌∙◌, arith, length, slice_index_or}
+use Rattle.std.proofs.Common.{◌≡◌, ◌<◌, ◌^◌, inr, lit<, refl, sym, ◌∙◌, arith, length, slice_index_or}
 use Rattle.std.specs.List.{All}
 use Rattle.pd_kinds.specs.Node.{entry_count, leaf_block}
 use Rattle.pd_node.specs.Items.{entries_of}
@@ -24,7 +24,7 @@ kind : (g : given.Over) (c : goal.After-seal g) → IsKind 2 g.V.Value.SIZE g.V.
 kind g c = record {
   flags_known = inr refl;
   size_known = refl;
-  some = λ inner. absurd (omega arith)
+  some = λ inner. absurd (omega arith);
 }
 
 counted : (g : given.Over) (c : goal.After-seal g) → entry_count g.V.Value.SIZE (leaf_block g.V.Value.SIZE c.args.place (entries_of g.V.Value.code c.args.items.now)) ≡ length c.args.items.now

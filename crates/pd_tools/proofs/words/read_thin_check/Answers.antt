@@ -1,4 +1,4 @@
-use Rattle.std.proofs.Common.{◌≡◌, ℕ, length, map, string_bytes, String, Global, List, sym, ◌∙◌, ap, [], ◌∷◌}
+use Rattle.std.proofs.Common.{map, string_bytes, sym, ◌∙◌}
 use Rattle.std.proofs.lemmas.List.{length-map}
 use Rattle.pd_tools.proofs.WordLemmas.{other_words, three}
 use Rattle.pd_tools.proofs.words.read_thin_check.Goals as goal

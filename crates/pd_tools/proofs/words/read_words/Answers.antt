@@ -1,4 +1,4 @@
-use Rattle.std.proofs.Common.{◌<◌, length, map, string_bytes, sym, arith}
+use Rattle.std.proofs.Common.{◌<◌, length, map, string_bytes, sym}
 use Rattle.std.proofs.lemmas.List.{length-map}
 use Rattle.pd_tools.proofs.WordLemmas.{map-first, asked-none}
 use Rattle.pd_tools.proofs.words.read_words.Goals as goal

@@ -1,4 +1,3 @@
-use Rattle.pd_kinds.proofs.AppendLemmas.{front_from_whole}
 use Rattle.pd_lines.proofs.Gathering.{gathers_more, gathers_none, gathers_front}
 use Rattle.pd_lines.proofs.pieces.Pieces.add.Goals as goal
 use Rattle.pd_lines.proofs.pieces.Pieces.add.Goals.{then-self-line+in_ok-put, else-self-line}

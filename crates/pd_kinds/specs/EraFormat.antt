@@ -1,0 +1,132 @@
+-- An era target's metadata, version 1 (struct superblock_disk of "drivers/md/dm-era-target.c"): the
+-- superblock's fields and rules, and the roles. These are 0 superblock, 1 metadata snapshot, 2 tree of
+-- the archived writesets, by era, 3 tree of a writeset's bits, 4 its blocks, 5 tree of the era array,
+-- 6 its blocks, 7 index block of the metadata bitmaps, 8 metadata bitmap, 9 metadata overflow tree.
+use Rattle.std.specs.Prelude.{ℕ, ◌/◌, ◌%◌, ◌^◌, Bool, ◌==◌, ◌&&◌, not, nat_lt, List, [], ◌∷◌, ◌++◌, take, drop}
+use Rattle.pd_kinds.specs.declared.kind.Kind.TheVariants.{Era}
+use Rattle.pd_kinds.specs.declared.rule.Rule.{Rule}
+use Rattle.pd_kinds.specs.declared.rule.Rule.TheVariants as r
+use Rattle.pd_kinds.specs.Field.{le}
+use Rattle.pd_kinds.specs.Checksum.{has_checksum}
+use Rattle.pd_kinds.specs.RuleSet.{Test, failing, alone}
+use Rattle.pd_kinds.specs.Super.{magic_of, salt_of}
+use Rattle.pd_kinds.specs.ThinSuper.{MapFields, map_fields, Edge, optional_edge, has_edge_outside}
+use Rattle.pd_kinds.specs.CacheFormat.{is_meta_size_bad}
+use Rattle.pd_kinds.specs.Graph.{Graph}
+use Rattle.pd_kinds.specs.Layout.{Layout, copy, tree, bitmap, index, array, plain_tree, tree_to, layouts, graph_of}
+
+-- the fields of an era superblock, but for the checksum, the place and the magic
+pub record EraFields : Type 0 where
+  pub flags : ℕ
+  pub uuid : List ℕ
+  pub version : ℕ
+  pub meta_map : MapFields
+  pub block_size : ℕ
+  pub meta_block_size : ℕ
+  pub blocks : ℕ
+  pub era : ℕ
+  pub current_bits : ℕ
+  pub current_root : ℕ
+  pub writesets_root : ℕ
+  pub array_root : ℕ
+  pub snap_root : ℕ
+
+abbrev pub era_fields : List ℕ → EraFields
+era_fields block = record {
+  flags = le block 4 4;
+  uuid = take 16 (drop 16 block);
+  version = le block 40 4;
+  meta_map = map_fields block 44;
+  block_size = le block 172 4;
+  meta_block_size = le block 176 4;
+  blocks = le block 180 4;
+  era = le block 184 4;
+  current_bits = le block 188 4;
+  current_root = le block 192 8;
+  writesets_root = le block 200 8;
+  array_root = le block 208 8;
+  snap_root = le block 216 8;
+}
+
+-- the blocks that an era superblock names, with their roles
+abbrev pub era_super_edges : EraFields → List Edge
+era_super_edges fields =
+    optional_edge 1 fields.snap_root
+    ++ (record { role = 2; block = fields.writesets_root }
+    ∷ (optional_edge 3 fields.current_root
+    ++ (record { role = 5; block = fields.array_root }
+    ∷ record { role = 7; block = fields.meta_map.bitmap_root }
+    ∷ record { role = 9; block = fields.meta_map.overflow_root }
+    ∷ [])))
+
+-- of a metadata snapshot only the archived writesets and the era array count
+abbrev pub snap_edges : List ℕ → List Edge
+snap_edges block =
+    record { role = 2; block = (era_fields block).writesets_root }
+    ∷ record { role = 5; block = (era_fields block).array_root }
+    ∷ []
+
+-- the rules of an era superblock that are looked at each by itself; pointers only where the size holds
+unfoldable pub era_super_tests : ℕ → List ℕ → List Test
+era_super_tests device_blocks block =
+    let fields = era_fields block in
+    let size_bad = is_meta_size_bad device_blocks fields.meta_map.blocks in
+    record { rule = r.Pointer; fails = not size_bad && has_edge_outside fields.meta_map.blocks (era_super_edges fields) }
+    ∷ record { rule = r.Size; fails = size_bad }
+    ∷ record { rule = r.Version; fails = not (fields.version == 1) }
+    ∷ record { rule = r.Place; fails = not (le block 8 8 == 0) }
+    ∷ []
+
+-- the rules that the era superblock of a device of so many blocks breaks: a wrong checksum comes alone,
+-- and so does a wrong magic
+unfoldable pub era_super_bad : ℕ → List ℕ → Rule → Bool
+era_super_bad device_blocks block =
+    alone r.Checksum (not (has_checksum block (salt_of Era)))
+    (alone r.Magic (not (le block 32 8 == magic_of Era))
+    (failing (era_super_tests device_blocks block)))
+
+-- the rules of a metadata snapshot in its place, in the same way
+unfoldable pub era_snap_bad : ℕ → ℕ → List ℕ → Rule → Bool
+era_snap_bad nr place block =
+    alone r.Checksum (not (has_checksum block (salt_of Era)))
+    (alone r.Magic (not (le block 32 8 == magic_of Era))
+    (failing (
+    record { rule = r.Pointer; fails = has_edge_outside nr (snap_edges block) }
+    ∷ record { rule = r.Place; fails = not (le block 8 8 == place) }
+    ∷ [])))
+
+-- a writeset's number of bits, and the root of its bits
+abbrev pub writeset_bits : ℕ → ℕ
+writeset_bits value = value % 2 ^ 32
+
+abbrev pub writeset_root : ℕ → ℕ
+writeset_root value = value / 2 ^ 32
+
+-- the tree of the archived writesets, whose keys are eras
+abbrev pub writesets_tree : Layout
+writesets_tree = tree (record {
+  size = 12;
+  leaf_edges = λ e. record { role = 3; block = writeset_root e.value } ∷ [];
+  leaf_data = λ e. [];
+  is_beyond = λ e. not (nat_lt e.key (2 ^ 32));
+})
+
+-- the layout of each role, of so many metadata blocks
+unfoldable pub era_layout : ℕ → ℕ → Layout
+era_layout nr role =
+    layouts role (
+    copy (λ place block. era_super_bad nr block) (λ block. era_super_edges (era_fields block))
+    ∷ copy (era_snap_bad nr) snap_edges
+    ∷ writesets_tree
+    ∷ tree_to 8 4 (λ v. v)
+    ∷ array 8
+    ∷ tree_to 8 6 (λ v. v)
+    ∷ array 4
+    ∷ index 8
+    ∷ bitmap
+    ∷ plain_tree 4
+    ∷ [])
+
+-- an era target's format, by its superblock
+unfoldable pub era_graph : List ℕ → Graph
+era_graph super = graph_of 10 (era_fields super).meta_map.blocks 0 (era_layout (era_fields super).meta_map.blocks)

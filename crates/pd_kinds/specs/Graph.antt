@@ -1,0 +1,85 @@
+-- What a walk sees of a format: a block is looked at in a role, and names other blocks, each with a
+-- role. All that is said of walks, of order and of references is said over any such record.
+use Rattle.std.specs.Prelude.{ℕ, zero, suc, ◌+◌, ◌*◌, ◌/◌, ◌%◌, Bool, ◌==◌, ◌&&◌, ◌||◌, List, [], ◌∷◌, map, filter, count_by}
+use Rattle.std.specs.List.{list_any, range_with_len, flat_map, slice_get}
+use Rattle.std.specs.Option.{unwrap_or}
+use Rattle.pd_kinds.specs.declared.rule.Rule.{Rule}
+use Rattle.pd_kinds.specs.ThinSuper.{Edge}
+
+-- a format as it is walked: each function takes a role, the place of a block, and its bytes
+pub record Graph : Type 0 where
+  -- the number of roles
+  pub roles : ℕ
+  -- the number of metadata blocks, and of data blocks
+  pub nr : ℕ
+  pub data_blocks : ℕ
+  -- whether the block breaks the rule
+  pub bad : ℕ → ℕ → List ℕ → Rule → Bool
+  -- whether the role is that of a tree's nodes
+  pub is_tree : ℕ → Bool
+  -- whether the block is an inner node of a tree
+  pub is_inner : ℕ → ℕ → List ℕ → Bool
+  -- the blocks that it names, with their roles
+  pub edges : ℕ → ℕ → List ℕ → List Edge
+  -- the keys of a node of a tree
+  pub keys : ℕ → ℕ → List ℕ → List ℕ
+  -- the data blocks that it names
+  pub data_refs : ℕ → ℕ → List ℕ → List ℕ
+
+-- an image is a list of blocks
+abbrev pub block_at : List (List ℕ) → ℕ → List ℕ
+block_at image b = unwrap_or (slice_get image b) []
+
+-- a block in a role is one number, so that numbers ascend by block and then by role
+abbrev pub pair : ℕ → ℕ → ℕ
+pair block role = 16 * block + role
+
+abbrev pub block_of : ℕ → ℕ
+block_of p = p / 16
+
+abbrev pub role_of : ℕ → ℕ
+role_of p = p % 16
+
+-- the edges, the data blocks, the own keys of a pair, and whether it is an inner node
+abbrev pub edges_of : Graph → List (List ℕ) → ℕ → List Edge
+edges_of graph image p = graph.edges (role_of p) (block_of p) (block_at image (block_of p))
+
+abbrev pub data_refs_of : Graph → List (List ℕ) → ℕ → List ℕ
+data_refs_of graph image p = graph.data_refs (role_of p) (block_of p) (block_at image (block_of p))
+
+abbrev pub own_keys : Graph → List (List ℕ) → ℕ → List ℕ
+own_keys graph image p = graph.keys (role_of p) (block_of p) (block_at image (block_of p))
+
+abbrev pub is_inner_pair : Graph → List (List ℕ) → ℕ → Bool
+is_inner_pair graph image p = graph.is_inner (role_of p) (block_of p) (block_at image (block_of p))
+
+-- the pairs that a pair leads to
+unfoldable pub next : Graph → List (List ℕ) → ℕ → List ℕ
+next graph image p = map (λ (edge : Edge). pair edge.block edge.role) (edges_of graph image p)
+
+-- whether at most k steps lead from pair 0, the superblock, to the pair; there are n pairs
+unfoldable pub reached : ℕ → (ℕ → List ℕ) → ℕ → ℕ → Bool
+reached n step zero p = p == 0
+reached n step (suc k) p =
+    reached n step k p || list_any (λ q. reached n step k q && list_any (λ t. t == p) (step q)) (range_with_len 0 n)
+
+-- whether the pair is reached: no path needs more steps than there are pairs
+unfoldable pub is_reached : Graph → List (List ℕ) → ℕ → Bool
+is_reached graph image p = reached (16 * graph.nr) (next graph image) (16 * graph.nr) p
+
+-- the reachable pairs, ascending
+unfoldable pub nodes : Graph → List (List ℕ) → List ℕ
+nodes graph image = filter (is_reached graph image) (range_with_len 0 (16 * graph.nr))
+
+-- the references: block 0, and the blocks of all edges of the reachable pairs
+unfoldable pub references : Graph → List (List ℕ) → List ℕ
+references graph image =
+    0 ∷ flat_map (λ p. map (λ (edge : Edge). edge.block) (edges_of graph image p)) (nodes graph image)
+
+-- how often a metadata block is referred to
+unfoldable pub meta_count : Graph → List (List ℕ) → ℕ → ℕ
+meta_count graph image b = count_by (λ r. r == b) (references graph image)
+
+-- how often a data block is referred to
+unfoldable pub data_count : Graph → List (List ℕ) → ℕ → ℕ
+data_count graph image d = count_by (λ r. r == d) (flat_map (data_refs_of graph image) (nodes graph image))

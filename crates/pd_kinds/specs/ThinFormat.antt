@@ -1,0 +1,71 @@
+-- The roles of a thin pool's metadata ("drivers/md/dm-thin-metadata.c"): 0 superblock, 1 held superblock
+-- copy, 2 mapping tree, by device, 3 a device's mappings, by virtual block, 4 details, by device,
+-- 5 index of the data bitmaps, 6 data bitmap, 7 data overflow tree, 8 index block of the metadata
+-- bitmaps, 9 metadata bitmap, 10 metadata overflow tree.
+use Rattle.std.specs.Prelude.{ℕ, ◌/◌, ◌%◌, ◌^◌, Bool, ◌==◌, not, nat_lt, List, [], ◌∷◌}
+use Rattle.pd_kinds.specs.declared.kind.Kind.TheVariants.{Thin}
+use Rattle.pd_kinds.specs.declared.rule.Rule.{Rule}
+use Rattle.pd_kinds.specs.declared.rule.Rule.TheVariants as r
+use Rattle.pd_kinds.specs.Field.{le}
+use Rattle.pd_kinds.specs.Checksum.{has_checksum}
+use Rattle.pd_kinds.specs.RuleSet.{failing, alone}
+use Rattle.pd_kinds.specs.Super.{magic_of, salt_of}
+use Rattle.pd_kinds.specs.ThinSuper.{Edge, thin_fields, thin_super_bad, thin_super_edges, has_edge_outside}
+use Rattle.pd_kinds.specs.Graph.{Graph}
+use Rattle.pd_kinds.specs.Layout.{Layout, copy, tree, bitmap, index, plain_tree, tree_to, layouts, graph_of}
+
+-- of a held superblock copy only the two roots of trees count
+abbrev pub held_edges : List ℕ → List Edge
+held_edges block =
+    record { role = 2; block = (thin_fields block).mapping_root }
+    ∷ record { role = 4; block = (thin_fields block).details_root }
+    ∷ []
+
+-- the rules of a held superblock copy in its place: a wrong checksum comes alone, and so does a wrong magic
+unfoldable pub thin_held_bad : ℕ → ℕ → List ℕ → Rule → Bool
+thin_held_bad nr place block =
+    alone r.Checksum (not (has_checksum block (salt_of Thin)))
+    (alone r.Magic (not (le block 32 8 == magic_of Thin))
+    (failing (
+    record { rule = r.Pointer; fails = has_edge_outside nr (held_edges block) }
+    ∷ record { rule = r.Place; fails = not (le block 8 8 == place) }
+    ∷ [])))
+
+-- a mapping's data block, which lies below the pool's number of data blocks
+abbrev pub mapped_block : ℕ → ℕ
+mapped_block value = value / 2 ^ 24
+
+-- the time of a mapping
+abbrev pub mapped_time : ℕ → ℕ
+mapped_time value = value % 2 ^ 24
+
+abbrev pub mappings_tree : ℕ → Layout
+mappings_tree data_blocks = tree (record {
+  size = 8;
+  leaf_edges = λ e. [];
+  leaf_data = λ e. mapped_block e.value ∷ [];
+  is_beyond = λ e. not (nat_lt (mapped_block e.value) data_blocks);
+})
+
+-- the layout of each role, in a pool of so many metadata and data blocks
+unfoldable pub thin_layout : ℕ → ℕ → ℕ → Layout
+thin_layout nr data_blocks role =
+    layouts role (
+    copy (λ place block. thin_super_bad nr block) (λ block. thin_super_edges (thin_fields block))
+    ∷ copy (thin_held_bad nr) held_edges
+    ∷ tree_to 8 3 (λ v. v)
+    ∷ mappings_tree data_blocks
+    ∷ plain_tree 24
+    ∷ tree_to 16 6 (λ v. v % 2 ^ 64)
+    ∷ bitmap
+    ∷ plain_tree 4
+    ∷ index 9
+    ∷ bitmap
+    ∷ plain_tree 4
+    ∷ [])
+
+-- a pool's format, by its superblock
+unfoldable pub thin_graph : List ℕ → Graph
+thin_graph super =
+    graph_of 11 (thin_fields super).meta_map.blocks (thin_fields super).data_map.blocks
+    (thin_layout (thin_fields super).meta_map.blocks (thin_fields super).data_map.blocks)

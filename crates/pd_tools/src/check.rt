@@ -1,0 +1,96 @@
+//! A check, from the path of the image to the report and the status.
+
+ghost use Rattle.std.specs.Prelude.{◌≡◌, ◌≢◌, [], OnOk, IfOk, IfSome};
+ghost use Rattle.pd_kinds.specs.Objects.{CountsFault, Appends, AppendsFront};
+ghost use Rattle.pd_kinds.specs.Report.{report_of};
+ghost use Rattle.pd_kinds.specs.Faults.{thin_super_faults};
+ghost use Rattle.pd_kinds.specs.Lines.{lines_of};
+ghost use Rattle.pd_kinds.specs.Answer.{IsAccess, reading};
+ghost use Rattle.pd_tools.specs.Check.{Checks, Ends, stop_line, stop_status};
+ghost use Rattle.pd_tools.specs.Notes.{PutsLine};
+
+use crate::notes::{DEVICE_LINE, SINK_LINE, put_line};
+use crate::super_check::report_thin_super;
+use pd_image::{Device, Failed, Sink};
+use pd_kinds::Report;
+use pd_lines::print_report;
+
+/// What kept a check from its report.
+#[derive(Clone, Copy, Debug, PartialEq, Eq)]
+pub enum Stop {
+    /// The device failed.
+    Device,
+    /// The sink of the report failed.
+    Sink,
+}
+
+/// Checks the thin superblock of the image at the path, and puts the report: whether it is clean.
+pub fn check_super<K: Sink, A: Device>(
+    image: &str,
+    out: &mut K,
+    input: &mut A,
+) -> Result<bool, Stop>
+    requires out { (K.state out.old).access ≡ 0 }
+    requires input { (A.state input.old).access ≡ 0 }
+    ensures { Checks image.now result (K.state out.old) (K.state out.new) (A.state input.old) (A.state input.new) }
+{
+    let report = match read_report(image, input) {
+        Ok(report) => report,
+        Err(_) => return Err(Stop::Device),
+    };
+    match put_report(&report, out) {
+        Ok(()) => Ok(report.is_empty()),
+        Err(_) => Err(Stop::Sink),
+    }
+}
+
+/// Attaches the device for reading, and reads its report.
+fn read_report<A: Device>(image: &str, input: &mut A) -> Result<Report, Failed>
+    requires { (A.state input.old).access ≡ 0 }
+    ensures report { IfOk result (λ report. IfSome (A.state input.old).held (λ image. report ≡ report_of (thin_super_faults image))) }
+    ensures access { OnOk result ((A.state input.new).access ≡ 1) }
+    ensures used { IsAccess (reading image.now) (A.state input.new).access }
+    ensures path { IfSome (A.state input.new).path (λ told. told ≡ image.now) }
+    ensures held { (A.state input.new).held ≡ (A.state input.old).held }
+    ensures faults { CountsFault result (A.state input.old).faults (A.state input.new).faults }
+{
+    input.attach(image, false)?;
+    report_thin_super(input)
+}
+
+/// Attaches the standard output, and puts the report to it.
+fn put_report<K: Sink>(report: &Report, out: &mut K) -> Result<(), Failed>
+    requires { (K.state out.old).access ≡ 0 }
+    ensures whole { OnOk result (Appends (lines_of report.now.faults report.now.total) (K.state out.old).written (K.state out.new).written) }
+    ensures front { AppendsFront (lines_of report.now.faults report.now.total) (K.state out.old).written (K.state out.new).written }
+    ensures access { OnOk result ((K.state out.new).access ≡ 1) }
+    ensures used { IsAccess (reading []) (K.state out.new).access }
+    ensures path { IfSome (K.state out.new).path (λ told. told ≡ []) }
+    ensures faults { CountsFault result (K.state out.old).faults (K.state out.new).faults }
+{
+    out.attach(None)?;
+    print_report(report, out)
+}
+
+/// The status of a check: 0 where it is clean, 1 where it has faults; else `notes` gets a line, and the
+/// status is 5 where the device failed and 6 where a sink did.
+pub fn status_of<E: Sink>(outcome: Result<bool, Stop>, notes: &mut E) -> u8
+    requires { (E.state notes.old).access ≡ 1 }
+    ensures { Ends outcome result (E.state notes.old) (E.state notes.new) }
+{
+    match outcome {
+        Ok(clean) => { if clean { 0 } else { 1 } }
+        Err(stop) => put_stop(stop, notes),
+    }
+}
+
+/// Puts the line that says what stopped a check, and answers its status.
+fn put_stop<E: Sink>(stop: Stop, notes: &mut E) -> u8
+    requires { (E.state notes.old).access ≡ 1 }
+    ensures { PutsLine (stop_line stop) (stop_status stop) result (E.state notes.old) (E.state notes.new) }
+{
+    match stop {
+        Stop::Device => put_line(notes, DEVICE_LINE, 5),
+        Stop::Sink => put_line(notes, SINK_LINE, 6),
+    }
+}
