@@ -1,10 +1,10 @@
 //! The index block of the metadata's space map: an entry for each bitmap.
 
 ghost use Rattle.std.specs.Prelude.{◌≡◌, ℕ, ◌+◌, ◌*◌, ◌/◌, ◌<◌, ◌≤◌, ◌&&◌, All, EachIndex, Some, false, length, map, slice_get};
-ghost use Rattle.std.specs.List.{list_any, range_with_len};
+ghost use Rattle.std.specs.List.{list_any};
 ghost use Rattle.pd_kinds.specs.declared.rule.Rule.{Rule as BrokenRule};
 ghost use Rattle.pd_kinds.specs.declared.rule.Rule.TheVariants.{Checksum, Place, Pointer};
-ghost use Rattle.pd_kinds.specs.Bitmap.{bitmaps_for, index_bad, index_block_at, index_blocks, index_code_at, index_salt, index_tests, placed_block, unsealed_index};
+ghost use Rattle.pd_kinds.specs.Bitmap.{index_bad, index_block_at, index_blocks, index_code_at, index_salt, index_tests, placed_block, unsealed_index};
 ghost use Rattle.pd_kinds.specs.Field.{le, put};
 ghost use Rattle.pd_kinds.specs.Node.{puts};
 ghost use Rattle.pd_kinds.specs.Rule.{same_rule};
