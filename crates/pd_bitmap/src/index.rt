@@ -1,6 +1,6 @@
 //! The index block of the metadata's space map: an entry for each bitmap.
 
-ghost use Rattle.std.specs.Prelude.{◌≡◌, ℕ, ◌+◌, ◌*◌, ◌/◌, ◌<◌, ◌≤◌, ◌&&◌, All, EachIndex, Some, false, length, map, slice_get};
+ghost use Rattle.std.specs.Prelude.{◌≡◌, ℕ, ◌+◌, ◌*◌, ◌/◌, ◌<◌, ◌≤◌, ◌&&◌, All, EachIndex, Some, false, true, length, map, slice_get};
 ghost use Rattle.std.specs.List.{list_any};
 ghost use Rattle.pd_kinds.specs.declared.rule.Rule.{Rule as BrokenRule};
 ghost use Rattle.pd_kinds.specs.declared.rule.Rule.TheVariants.{Checksum, Place, Pointer};
@@ -82,6 +82,7 @@ pub fn index_entry(block: &Block, i: usize) -> IndexEntry
     requires { i < 255 }
     ensures entry { result ≡ ⟦<IndexEntry as Value>⟧.decoded (index_code_at block.now.0 i) }
     ensures block { result.block ≡ index_block_at block.now.0 i }
+    ensures fits { ⟦<IndexEntry as Value>⟧.fitting result ≡ true }
 {
     entry_at(&block.0, HEADER_SIZE + ENTRY_SIZE * i)
 }
@@ -91,6 +92,7 @@ fn entry_at(bytes: &[u8], at: usize) -> IndexEntry
     requires { at + 16 ≤ length bytes.now }
     ensures entry { result ≡ ⟦<IndexEntry as Value>⟧.decoded (le bytes.now at 16) }
     ensures block { result.block ≡ le bytes.now at 8 }
+    ensures fits { ⟦<IndexEntry as Value>⟧.fitting result ≡ true }
 {
     value_at(bytes, at)
 }
