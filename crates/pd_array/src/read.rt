@@ -1,6 +1,6 @@
 //! The words of an array block, read where they lie.
 
-ghost use Rattle.std.specs.Prelude.{◌≡◌, ◌+◌, ◌*◌, ◌<◌, ◌≤◌};
+ghost use Rattle.std.specs.Prelude.{◌≡◌, ◌+◌, ◌*◌, ◌^◌, ◌<◌, ◌≤◌};
 ghost use Rattle.pd_kinds.specs.Array.{word_at, word_count};
 ghost use Rattle.pd_array.specs.Word.{size_of};
 
@@ -23,7 +23,8 @@ pub fn array_len(block: &Block, word: Word) -> usize
 /// Word `i`, from 0.
 pub fn array_word(block: &Block, word: Word, i: usize) -> u64
     requires { i < word_count (size_of word) block.now.0 }
-    ensures { result ≡ word_at (size_of word) block.now.0 i }
+    ensures value { result ≡ word_at (size_of word) block.now.0 i }
+    ensures fits { result < 256 ^ size_of word }
 {
     lies_within(block, word, i);
     match word {

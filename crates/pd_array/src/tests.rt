@@ -1,4 +1,4 @@
-ghost use Rattle.std.specs.Prelude.{◌≡◌, ◌<◌, EachIndex, slice_index};
+ghost use Rattle.std.specs.Prelude.{◌≡◌, EachIndex, slice_index};
 
 use crate::{Word, array_len, array_rules, array_word, write_array};
 use pd_kinds::{Rule, Rules};

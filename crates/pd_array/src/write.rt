@@ -1,6 +1,6 @@
 //! An array block, written.
 
-ghost use Rattle.std.specs.Prelude.{◌≡◌, ℕ, ◌+◌, ◌*◌, ◌^◌, ◌<◌, ◌≤◌, EachIndex, false, length, slice_index};
+ghost use Rattle.std.specs.Prelude.{◌≡◌, ◌+◌, ◌*◌, ◌^◌, ◌<◌, ◌≤◌, EachIndex, false, length, slice_index};
 ghost use Rattle.pd_kinds.specs.declared.rule.Rule.{Rule as BrokenRule};
 ghost use Rattle.pd_kinds.specs.Array.{array_bad, array_block, array_rows, max_words, word_at, word_count};
 ghost use Rattle.pd_kinds.specs.Field.{put, written, zeros};

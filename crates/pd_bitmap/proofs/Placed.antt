@@ -1,11 +1,12 @@
 -- What is read of a bitmap or an index block that was sealed in its place.
-use Rattle.std.proofs.Common.{◌≡◌, inr, ℕ, ◌+◌, ◌*◌, ◌/◌, ◌^◌, ◌<◌, ◌≤◌, true, false, List, [], ◌∷◌, map, length, get_or, refl, ◌∙◌, arith, eq-eqb}
-use Rattle.std.proofs.Math.Bool.{and-false, and-true, or-false}
+use Rattle.std.proofs.Common.{◌≡◌, inr, ℕ, ◌+◌, ◌*◌, ◌/◌, ◌^◌, ◌<◌, ◌≤◌, true, false, ◌&&◌, List, [], ◌∷◌, map, length, get_or, refl, ◌∙◌, arith, eq-eqb}
+use Rattle.std.proofs.Math.Bool.{and-false, or-false}
 use Rattle.std.specs.List.{list_any, range_with_len}
 use Rattle.pd_kinds.specs.declared.rule.Rule.{Rule}
 use Rattle.pd_kinds.specs.declared.rule.Rule.TheVariants as r
 use Rattle.pd_kinds.specs.Field.{le, put}
 use Rattle.pd_kinds.specs.Checksum.{checksum, has_checksum, sealed}
+use Rattle.pd_kinds.specs.Rule.{same_rule}
 use Rattle.pd_kinds.specs.RuleSet.{alone, failing}
 use Rattle.pd_kinds.specs.ThinSuper.{is_outside}
 use Rattle.pd_kinds.specs.Bitmap.{bitmap_bad, bitmaps_for, index_bad, index_block_at, index_blocks, index_tests, map_place, placed_block, two_bits_of}
@@ -69,8 +70,11 @@ unfolding index_blocks
 blocks-placed salt place nr b =
     same_map (index_block_at (placed_block salt place b)) (index_block_at b) (block-placed salt place b) (range_with_len 0 (bitmaps_for nr))
 
-pub index_pointer_met : (nr place : ℕ) (b c : List ℕ) → has_checksum c 160478 ≡ true → c ≡ placed_block 160478 place b
-    → index_bad nr place c r.Pointer ≡ list_any (λ (block : ℕ). is_outside nr block) (index_blocks nr b)
+-- with the checksum and the place an index block breaks at most Pointer
+pub index_met : (nr place : ℕ) (b c : List ℕ) (asked : Rule) → has_checksum c 160478 ≡ true → map_place c ≡ place → c ≡ placed_block 160478 place b
+    → index_bad nr place c asked ≡ (list_any (λ (block : ℕ). is_outside nr block) (index_blocks nr b) && same_rule r.Pointer asked)
 unfolding failing index_tests
-index_pointer_met nr place b c valid written =
-    rw (index_decided nr place c r.Pointer valid, written, blocks-placed 160478 place nr b) (simp (and-false, and-true, or-false))
+index_met nr place b c asked valid at written =
+    let blocks : index_blocks nr c ≡ index_blocks nr b = rw written (blocks-placed 160478 place nr b) in
+    rw (index_decided nr place c asked valid, eq-eqb (map_place c) place at, blocks)
+    (or-false (list_any (λ (block : ℕ). is_outside nr block) (index_blocks nr b) && same_rule r.Pointer asked))

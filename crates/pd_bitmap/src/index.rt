@@ -1,12 +1,13 @@
 //! The index block of the metadata's space map: an entry for each bitmap.
 
-ghost use Rattle.std.specs.Prelude.{◌≡◌, ℕ, ◌+◌, ◌*◌, ◌/◌, ◌<◌, ◌≤◌, All, EachIndex, Some, false, length, map, slice_get};
-ghost use Rattle.std.specs.List.{list_any, range_with_len};
+ghost use Rattle.std.specs.Prelude.{◌≡◌, ℕ, ◌+◌, ◌*◌, ◌/◌, ◌<◌, ◌≤◌, ◌&&◌, All, EachIndex, Some, false, true, length, map, slice_get};
+ghost use Rattle.std.specs.List.{list_any};
 ghost use Rattle.pd_kinds.specs.declared.rule.Rule.{Rule as BrokenRule};
 ghost use Rattle.pd_kinds.specs.declared.rule.Rule.TheVariants.{Checksum, Place, Pointer};
-ghost use Rattle.pd_kinds.specs.Bitmap.{bitmaps_for, index_bad, index_block_at, index_blocks, index_code_at, index_salt, index_tests, placed_block, unsealed_index};
+ghost use Rattle.pd_kinds.specs.Bitmap.{index_bad, index_block_at, index_blocks, index_code_at, index_salt, index_tests, placed_block, unsealed_index};
 ghost use Rattle.pd_kinds.specs.Field.{le, put};
 ghost use Rattle.pd_kinds.specs.Node.{puts};
+ghost use Rattle.pd_kinds.specs.Rule.{same_rule};
 ghost use Rattle.pd_kinds.specs.RuleSet.{failing, has_rule};
 ghost use Rattle.pd_kinds.specs.ThinSuper.{is_outside};
 ghost use Rattle.pd_bitmap.specs.Index.{DoFieldsFit};
@@ -81,6 +82,7 @@ pub fn index_entry(block: &Block, i: usize) -> IndexEntry
     requires { i < 255 }
     ensures entry { result ≡ ⟦<IndexEntry as Value>⟧.decoded (index_code_at block.now.0 i) }
     ensures block { result.block ≡ index_block_at block.now.0 i }
+    ensures fits { ⟦<IndexEntry as Value>⟧.fitting result ≡ true }
 {
     entry_at(&block.0, HEADER_SIZE + ENTRY_SIZE * i)
 }
@@ -90,6 +92,7 @@ fn entry_at(bytes: &[u8], at: usize) -> IndexEntry
     requires { at + 16 ≤ length bytes.now }
     ensures entry { result ≡ ⟦<IndexEntry as Value>⟧.decoded (le bytes.now at 16) }
     ensures block { result.block ≡ le bytes.now at 8 }
+    ensures fits { ⟦<IndexEntry as Value>⟧.fitting result ≡ true }
 {
     value_at(bytes, at)
 }
@@ -131,7 +134,9 @@ pub fn seal_index(block: &mut Block, place: u64)
     ensures sealed { block.new.0 ≡ placed_block index_salt place block.old.0 }
     ensures checksum { (nr : ℕ) → index_bad nr place block.new.0 Checksum ≡ false }
     ensures place { (nr : ℕ) → index_bad nr place block.new.0 Place ≡ false }
-    ensures pointer { (nr : ℕ) → index_bad nr place block.new.0 Pointer ≡ list_any (λ (b : ℕ). is_outside nr b) (index_blocks nr block.old.0) }
+    // Only a bitmap outside the metadata is a broken rule then.
+    ensures rules { (nr : ℕ) (rule : BrokenRule) → index_bad nr place block.new.0 rule
+        ≡ (list_any (λ (b : ℕ). is_outside nr b) (index_blocks nr block.old.0) && same_rule Pointer rule) }
     ensures entries { (i : ℕ) → index_code_at block.new.0 i ≡ index_code_at block.old.0 i }
 {
     put_u64(&mut block.0, 8, place);
