@@ -1,0 +1,366 @@
+-- No faults, stage by stage, against what a clean image is.
+use Rattle.std.proofs.Common.{◌≡◌, ℕ, zero, suc, ◌+◌, ◌<◌, ◌≤◌, Bool, true, false, ◌&&◌, cond, nat_lt, List, [], ◌∷◌, ◌++◌, length, map, filter, get_or, Option, refl, ap, arith, inl, inr}
+use Rattle.std.specs.List.{AllByRecursion, list_any, flat_map, range_with_len}
+use Rattle.std.proofs.lemmas.Bool.{cases_Bool, cases_lt, cases_order, both_ways, cond_both, false_from_ne_true, true_from_ne_false, or_parts, or_from, and_left, ltb-false, lt-ltb, le-ltb}
+use Rattle.std.proofs.lemmas.List.Elements.{All-from_recursion}
+use Rattle.std.proofs.lemmas.List.{nil_from_length}
+use Rattle.std.specs.declared.option.Option.TheVariants.{Some, None}
+use Rattle.pd_kinds.specs.declared.kind.Stage.{Stage}
+use Rattle.pd_kinds.specs.declared.kind.Stage.TheVariants as stages
+use Rattle.pd_kinds.specs.declared.rule.Rule.{Rule}
+use Rattle.pd_kinds.specs.declared.rule.Rule.TheVariants as r
+use Rattle.pd_kinds.specs.declared.fault.Space.{Space}
+use Rattle.pd_kinds.specs.declared.fault.Space.TheVariants.{Meta, DataBlock}
+use Rattle.pd_kinds.specs.Rule.{number_of, all_rules, same_rule}
+use Rattle.pd_kinds.specs.Faults.{meta_fault, faults_at}
+use Rattle.pd_kinds.specs.Graph.{Graph, block_at, pair, is_reached, is_inner_pair, meta_count, data_count}
+use Rattle.pd_kinds.specs.Order.{is_deep, is_in_range}
+use Rattle.pd_kinds.specs.Stages.{Checked, super_faults, roles_of, walk_bad, is_out_of_range, order_bad, block_faults, count_fault, count_faults, stage_faults, stages_to, first_failing, HasCleanSuper, IsReached, AreClean}
+use Rattle.pd_kinds.specs.Whole.{whole_bad}
+use Rattle.pd_kinds.proofs.RuleBits.{number_below}
+
+module _ {X : Type 0} where
+  cons_isnt_nil : {x : X} {xs : List X} → x ∷ xs ≡ [] → ⊥
+  cons_isnt_nil e = cc
+
+  nil_from_append : (xs ys : List X) → xs ++ ys ≡ [] → (xs ≡ []) × (ys ≡ [])
+  nil_from_append [] ys e = (refl, e)
+  nil_from_append (x ∷ xs) ys e = absurd (cc)
+
+  append_nil : (xs ys : List X) → xs ≡ [] → ys ≡ [] → xs ++ ys ≡ []
+  append_nil xs ys none also = rw none also
+
+  nil_from_first : (xs ys : List X) → cond (nat_lt 0 (length xs)) xs ys ≡ [] → (xs ≡ []) × (ys ≡ [])
+  nil_from_first [] ys e = (refl, e)
+  nil_from_first (x ∷ xs) ys e =
+      let some : x ∷ xs ≡ [] = rw (lt-ltb 0 (suc (length xs)) (omega arith)) at e in
+      absurd (cc)
+
+  first_nil : (xs ys : List X) → xs ≡ [] → ys ≡ [] → cond (nat_lt 0 (length xs)) xs ys ≡ []
+  first_nil xs ys none later = rw none later
+
+  all_from : (P : X → Type 0) (xs : List X) → ((x : X) → P x) → AllByRecursion P xs
+  all_from P [] holds = tt
+  all_from P (x ∷ xs) holds = (holds x, all_from P xs holds)
+
+  -- a filter finds nothing where each element fails its test
+  none_filtered : (p : X → Bool) (xs : List X) → filter p xs ≡ [] → AllByRecursion (λ x. p x ≡ false) xs
+  none_filtered p [] e = tt
+  none_filtered p (x ∷ xs) e = elim (cases_Bool (p x)) [
+    | inl found ↦ let some : x ∷ filter p xs ≡ [] = rw found at e in absurd (cc)
+    | inr missed ↦ (missed, none_filtered p xs (rw missed at e))
+  ]
+
+  filtered_none : (p : X → Bool) (xs : List X) → AllByRecursion (λ x. p x ≡ false) xs → filter p xs ≡ []
+  filtered_none p [] fails = refl
+  filtered_none p (x ∷ xs) fails = rw fails.0 (filtered_none p xs fails.1)
+
+  -- none of those that a filter q finds passes p
+  none_passes : (p q : X → Bool) (xs : List X) → list_any p (filter q xs) ≡ false → AllByRecursion (λ x. q x ≡ true → p x ≡ false) xs
+  none_passes p q [] e = tt
+  none_passes p q (x ∷ xs) e = elim (cases_Bool (q x)) [
+    | inl found ↦
+        let parts = or_parts (p x) (list_any p (filter q xs)) (rw found at e) in
+        ((λ _. parts.0), none_passes p q xs parts.1)
+    | inr missed ↦ ((λ found. absurd (both_ways (q x) missed found)), none_passes p q xs (rw missed at e))
+  ]
+
+  passes_none : (p q : X → Bool) (xs : List X) → AllByRecursion (λ x. q x ≡ true → p x ≡ false) xs → list_any p (filter q xs) ≡ false
+  passes_none p q [] fails = refl
+  passes_none p q (x ∷ xs) fails = elim (cases_Bool (q x)) [
+    | inl found ↦ rw found (or_from (p x) (list_any p (filter q xs)) (fails.0 found) (passes_none p q xs fails.1))
+    | inr missed ↦ rw missed (passes_none p q xs fails.1)
+  ]
+
+module _ {X Y : Type 0} where
+  nil_from_map : (f : X → Y) (xs : List X) → map f xs ≡ [] → xs ≡ []
+  nil_from_map f [] e = refl
+  nil_from_map f (x ∷ xs) e = absurd (cc)
+
+  none_mapped : (f : X → List Y) (xs : List X) → flat_map f xs ≡ [] → AllByRecursion (λ x. f x ≡ []) xs
+  none_mapped f [] e = tt
+  none_mapped f (x ∷ xs) e =
+      let parts = nil_from_append (f x) (flat_map f xs) e in
+      (parts.0, none_mapped f xs parts.1)
+
+  mapped_none : (f : X → List Y) (xs : List X) → AllByRecursion (λ x. f x ≡ []) xs → flat_map f xs ≡ []
+  mapped_none f [] none = refl
+  mapped_none f (x ∷ xs) none = rw none.0 (mapped_none f xs none.1)
+
+-- the numbers of a range, one after another
+all_of_range : (P : ℕ → Type 0) (a n : ℕ) → ((k : ℕ) → a ≤ k → k < a + n → P k) → AllByRecursion P (range_with_len a n)
+all_of_range P a zero holds = tt
+all_of_range P a (suc n) holds =
+    (holds a (omega arith) (omega arith), all_of_range P (a + 1) n (λ k from below. holds k (omega arith) (omega arith)))
+
+at_of_range : (P : ℕ → Type 0) (a n k : ℕ) → a ≤ k → k < a + n → AllByRecursion P (range_with_len a n) → P k
+at_of_range P a zero k from below all = absurd (omega arith)
+at_of_range P a (suc n) k from below all = elim (cases_lt a k) [
+  | inl later ↦ at_of_range P (a + 1) n k (omega arith) (omega arith) all.1
+  | inr here ↦ let e : a ≡ k = omega arith in rw e at all.0
+]
+
+-- a number that passes is found, and two that pass are two
+one_found : (q : ℕ → Bool) (a n x : ℕ) → a ≤ x → x < a + n → q x ≡ true → 0 < length (filter q (range_with_len a n))
+one_found q a n x from below found = elim (cases_lt 0 (length (filter q (range_with_len a n)))) [
+  | inl some ↦ some
+  | inr none ↦
+      let empty = nil_from_length (filter q (range_with_len a n)) (omega arith) in
+      absurd (both_ways (q x) (at_of_range (λ k. q k ≡ false) a n x from below (none_filtered q (range_with_len a n) empty)) found)
+]
+
+two_found : (q : ℕ → Bool) (a n x y : ℕ) → a ≤ x → x < y → y < a + n → q x ≡ true → q y ≡ true → 1 < length (filter q (range_with_len a n))
+two_found q a zero x y from apart below first second = absurd (omega arith)
+two_found q a (suc n) x y from apart below first second = elim (cases_lt a x) [
+  | inl later ↦
+      let rest = two_found q (a + 1) n x y (omega arith) apart (omega arith) first second in
+      cond_both (q a) (a ∷ filter q (range_with_len (a + 1) n)) (filter q (range_with_len (a + 1) n)) (λ xs. 1 < length xs) (λ found. omega arith) (λ missed. rest)
+  | inr here ↦
+      let e : x ≡ a = omega arith in
+      let rest = one_found q (a + 1) n y (omega arith) (omega arith) second in
+      rw (rw e at first) (omega arith)
+]
+
+-- a filter finds at most one number where any two that pass are equal
+only_one : (q : ℕ → Bool) (a n x y : ℕ) → length (filter q (range_with_len a n)) ≤ 1
+    → a ≤ x → x < a + n → a ≤ y → y < a + n → q x ≡ true → q y ≡ true → x ≡ y
+only_one q a n x y few x_from x_below y_from y_below x_found y_found = elim (cases_order x y) [
+  | inl same ↦ same
+  | inr other ↦ elim other [
+    | inl less ↦ absurd (omega (arith, two_found q a n x y x_from less y_below x_found y_found))
+    | inr more ↦ absurd (omega (arith, two_found q a n y x y_from more x_below y_found x_found))
+  ]
+]
+
+one_at_most : (q : ℕ → Bool) (a n : ℕ) → ((x y : ℕ) → a ≤ x → x < a + n → a ≤ y → y < a + n → q x ≡ true → q y ≡ true → x ≡ y)
+    → length (filter q (range_with_len a n)) ≤ 1
+one_at_most q a zero same = omega arith
+one_at_most q a (suc n) same = elim (cases_Bool (q a)) [
+  | inl found ↦
+      let fails = all_of_range (λ k. q k ≡ false) (a + 1) n (λ k from below. false_from_ne_true (q k) (λ also.
+      let e = same a k (omega arith) (omega arith) (omega arith) (omega arith) found also in omega arith)) in
+      rw (found, filtered_none q (range_with_len (a + 1) n) fails) (omega arith)
+  | inr missed ↦ rw missed (one_at_most q (a + 1) n (λ x y x_from x_below y_from y_below. same x y (omega arith) (omega arith) (omega arith) (omega arith)))
+]
+
+-- all rules are among all rules
+rule_at : (rule : Rule) → get_or all_rules (number_of rule) r.Checksum ≡ rule
+unfolding all_rules
+rule_at r.Checksum = refl
+rule_at _ = refl
+
+length-all_rules : length all_rules ≡ 22
+unfolding all_rules
+length-all_rules = refl
+
+each_rule : (P : Rule → Type 0) → AllByRecursion P all_rules → (rule : Rule) → P rule
+each_rule P all rule =
+    rw (rule_at rule) at (All-from_recursion P all_rules all (number_of rule) r.Checksum (rw length-all_rules (number_below rule)))
+
+-- blocks have no faults where they break no rule
+no_rule_broken : (b : ℕ) (bad : Rule → Bool) → faults_at b bad ≡ [] → (broken : Rule) → bad broken ≡ false
+unfolding faults_at
+no_rule_broken b bad none =
+    each_rule (λ rule. bad rule ≡ false) (none_filtered bad all_rules (nil_from_map (meta_fault b) (filter bad all_rules) none))
+
+no_faults_at : (b : ℕ) (bad : Rule → Bool) → ((broken : Rule) → bad broken ≡ false) → faults_at b bad ≡ []
+unfolding faults_at
+no_faults_at b bad clean = ap (map (meta_fault b)) (filtered_none bad all_rules (all_from (λ rule. bad rule ≡ false) all_rules clean))
+
+no_block_broken : (nr : ℕ) (bad : ℕ → Rule → Bool) → block_faults nr bad ≡ [] → (b : ℕ) → b < nr → (broken : Rule) → bad b broken ≡ false
+unfolding block_faults
+no_block_broken nr bad none b within =
+    no_rule_broken b (bad b)
+    (at_of_range (λ k. faults_at k (bad k) ≡ []) 0 nr b (omega arith) (omega arith) (none_mapped (λ k. faults_at k (bad k)) (range_with_len 0 nr) none))
+
+no_block_faults : (nr : ℕ) (bad : ℕ → Rule → Bool) → ((b : ℕ) → b < nr → (broken : Rule) → bad b broken ≡ false) → block_faults nr bad ≡ []
+unfolding block_faults
+no_block_faults nr bad clean =
+    mapped_none (λ k. faults_at k (bad k)) (range_with_len 0 nr)
+    (all_of_range (λ k. faults_at k (bad k) ≡ []) 0 nr (λ k from below. no_faults_at k (bad k) (clean k (omega arith))))
+
+-- a count has no fault where the stored one is that of the references
+stored_is : (space : Space) (b refs : ℕ) (stored : Option ℕ) → count_fault space b refs stored ≡ [] → stored ≡ Some refs
+stored_is space b refs None none = absurd (cc)
+stored_is space b refs (Some stored) none = elim (cases_order stored refs) [
+  | inl same ↦ ap (λ (n : ℕ). Some n) same
+  | inr other ↦ elim other [
+    | inl less ↦ absurd (cons_isnt_nil (rw (le-ltb refs stored (omega arith), lt-ltb stored refs less) at none))
+    | inr more ↦ absurd (cons_isnt_nil (rw (lt-ltb refs stored more) at none))
+  ]
+]
+
+no_count_fault : (space : Space) (b refs : ℕ) (stored : Option ℕ) → stored ≡ Some refs → count_fault space b refs stored ≡ []
+no_count_fault space b refs stored same = rw (same, le-ltb refs refs (omega arith))
+
+module _ (space : Space) (refs : ℕ → ℕ) (stored : ℕ → Option ℕ) (n : ℕ) where
+  all_stored : flat_map (λ b. count_fault space b (refs b) (stored b)) (range_with_len 0 n) ≡ [] → (b : ℕ) → b < n → stored b ≡ Some (refs b)
+  all_stored none b within =
+      stored_is space b (refs b) (stored b)
+      (at_of_range (λ k. count_fault space k (refs k) (stored k) ≡ []) 0 n b (omega arith) (omega arith) (none_mapped (λ k. count_fault space k (refs k) (stored k)) (range_with_len 0 n) none))
+
+  none_miscounted : ((b : ℕ) → b < n → stored b ≡ Some (refs b)) → flat_map (λ b. count_fault space b (refs b) (stored b)) (range_with_len 0 n) ≡ []
+  none_miscounted same =
+      mapped_none (λ k. count_fault space k (refs k) (stored k)) (range_with_len 0 n)
+      (all_of_range (λ k. count_fault space k (refs k) (stored k) ≡ []) 0 n (λ k from below. no_count_fault space k (refs k) (stored k) (same k (omega arith))))
+
+left_false : (b : Bool) → (b && true) ≡ false → b ≡ false
+left_false true e = e
+left_false false e = refl
+
+-- the stages Walk and Order: what holds of each role in which a block is reached
+module _ (graph : Graph) (image : List (List ℕ)) where
+  each_reached : (p : ℕ → ℕ → Bool) → ((b : ℕ) → b < graph.nr → list_any (p b) (roles_of graph image b) ≡ false)
+      → (b role : ℕ) → IsReached graph image b role → p b role ≡ false
+  unfolding roles_of
+  each_reached p none b role at =
+      at_of_range (λ k. is_reached graph image (pair b k) ≡ true → p b k ≡ false) 0 16 role (omega arith) (at.within)
+      (none_passes (p b) (λ k. is_reached graph image (pair b k)) (range_with_len 0 16) (none b at.block)) at.found
+
+  none_reached : (p : ℕ → ℕ → Bool) → ((b role : ℕ) → IsReached graph image b role → p b role ≡ false)
+      → (b : ℕ) → b < graph.nr → list_any (p b) (roles_of graph image b) ≡ false
+  unfolding roles_of
+  none_reached p fails b within =
+      passes_none (p b) (λ k. is_reached graph image (pair b k)) (range_with_len 0 16)
+      (all_of_range (λ k. is_reached graph image (pair b k) ≡ true → p b k ≡ false) 0 16
+      (λ k from below found. fails b k (record { block = within; within = below; found = found })))
+
+  walk_rules : ((b : ℕ) → b < graph.nr → (broken : Rule) → walk_bad graph image b broken ≡ false)
+      → (b role : ℕ) → IsReached graph image b role → (broken : Rule) → graph.bad role b (block_at image b) broken ≡ false
+  unfolding walk_bad
+  walk_rules none b role at broken =
+      each_reached (λ b role. graph.bad role b (block_at image b) broken)
+      (λ b within. (or_parts (list_any (λ role. graph.bad role b (block_at image b) broken) (roles_of graph image b)) (nat_lt 1 (length (roles_of graph image b)) && same_rule r.Role broken) (none b within broken)).0)
+      b role at
+
+  walk_one_role : ((b : ℕ) → b < graph.nr → (broken : Rule) → walk_bad graph image b broken ≡ false)
+      → (b role other : ℕ) → IsReached graph image b role → IsReached graph image b other → role ≡ other
+  unfolding walk_bad roles_of
+  walk_one_role none b role other at also =
+      let parts = or_parts (list_any (λ role. graph.bad role b (block_at image b) r.Role) (roles_of graph image b)) (nat_lt 1 (length (roles_of graph image b)) && true) (none b at.block r.Role) in
+      let few = ltb-false 1 (length (roles_of graph image b)) (left_false (nat_lt 1 (length (roles_of graph image b))) parts.1) in
+      only_one (λ k. is_reached graph image (pair b k)) 0 16 role other few (omega arith) at.within (omega arith) also.within at.found also.found
+
+  no_walk_rules : ((b role : ℕ) → IsReached graph image b role → (broken : Rule) → graph.bad role b (block_at image b) broken ≡ false)
+      → ((b role other : ℕ) → IsReached graph image b role → IsReached graph image b other → role ≡ other)
+      → (b : ℕ) → b < graph.nr → (broken : Rule) → walk_bad graph image b broken ≡ false
+  unfolding walk_bad roles_of
+  no_walk_rules clean one b within broken =
+      let few = one_at_most (λ k. is_reached graph image (pair b k)) 0 16
+      (λ x y x_from x_below y_from y_below x_found y_found. one b x y
+      (record { block = within; within = x_below; found = x_found }) (record { block = within; within = y_below; found = y_found })) in
+      or_from (list_any (λ role. graph.bad role b (block_at image b) broken) (roles_of graph image b)) (nat_lt 1 (length (roles_of graph image b)) && same_rule r.Role broken)
+      (none_reached (λ b role. graph.bad role b (block_at image b) broken) (λ b role at. clean b role at broken) b within)
+      (and_left (nat_lt 1 (length (roles_of graph image b))) (same_rule r.Role broken) (le-ltb 1 (length (roles_of graph image b)) few))
+
+  order_depths : ((b : ℕ) → b < graph.nr → (broken : Rule) → order_bad graph image b broken ≡ false)
+      → (b role : ℕ) → IsReached graph image b role → is_deep graph image (pair b role) ≡ false
+  unfolding order_bad
+  order_depths none = each_reached (λ b role. is_deep graph image (pair b role))
+      (λ b within. left_false (list_any (λ role. is_deep graph image (pair b role)) (roles_of graph image b))
+      (or_parts (list_any (λ role. is_deep graph image (pair b role)) (roles_of graph image b) && true) (list_any (λ role. is_out_of_range graph image (pair b role)) (roles_of graph image b) && false) (none b within r.Level)).0)
+
+  order_ranges : ((b : ℕ) → b < graph.nr → (broken : Rule) → order_bad graph image b broken ≡ false)
+      → (b role : ℕ) → IsReached graph image b role → is_out_of_range graph image (pair b role) ≡ false
+  unfolding order_bad
+  order_ranges none = each_reached (λ b role. is_out_of_range graph image (pair b role))
+      (λ b within. left_false (list_any (λ role. is_out_of_range graph image (pair b role)) (roles_of graph image b))
+      (or_parts (list_any (λ role. is_deep graph image (pair b role)) (roles_of graph image b) && false) (list_any (λ role. is_out_of_range graph image (pair b role)) (roles_of graph image b) && true) (none b within r.Range)).1)
+
+  in_range : (p : ℕ) → is_out_of_range graph image p ≡ false → is_deep graph image p ≡ false → is_inner_pair graph image p ≡ true → is_in_range graph image p ≡ true
+  unfolding is_out_of_range
+  in_range p fits shallow inner =
+      true_from_ne_false (is_in_range graph image p)
+      (λ out. let e : true ≡ false = rw (inner, shallow, out) at fits in cc)
+
+  not_out_of_range : (p : ℕ) → (is_inner_pair graph image p ≡ true → is_in_range graph image p ≡ true) → is_out_of_range graph image p ≡ false
+  unfolding is_out_of_range
+  not_out_of_range p fits = elim (cases_Bool (is_inner_pair graph image p)) [
+    | inl inner ↦ rw (inner, fits inner) (elim (cases_Bool (is_deep graph image p)) [
+      | inl deep ↦ rw deep
+      | inr shallow ↦ rw shallow
+    ])
+    | inr leaf ↦ rw leaf
+  ]
+
+  no_order_rules : ((b role : ℕ) → IsReached graph image b role → is_deep graph image (pair b role) ≡ false)
+      → ((b role : ℕ) → IsReached graph image b role → is_inner_pair graph image (pair b role) ≡ true → is_in_range graph image (pair b role) ≡ true)
+      → (b : ℕ) → b < graph.nr → (broken : Rule) → order_bad graph image b broken ≡ false
+  unfolding order_bad
+  no_order_rules shallow fits b within broken =
+      or_from (list_any (λ role. is_deep graph image (pair b role)) (roles_of graph image b) && same_rule r.Level broken) (list_any (λ role. is_out_of_range graph image (pair b role)) (roles_of graph image b) && same_rule r.Range broken)
+      (and_left (list_any (λ role. is_deep graph image (pair b role)) (roles_of graph image b)) (same_rule r.Level broken)
+      (none_reached (λ b role. is_deep graph image (pair b role)) shallow b within))
+      (and_left (list_any (λ role. is_out_of_range graph image (pair b role)) (roles_of graph image b)) (same_rule r.Range broken)
+      (none_reached (λ b role. is_out_of_range graph image (pair b role)) (λ b role at. not_out_of_range (pair b role) (fits b role at)) b within))
+
+-- the stage Super
+clean_super : (checked : Checked) (image : List (List ℕ)) → super_faults checked image ≡ [] → HasCleanSuper checked image
+unfolding super_faults
+clean_super checked [] none = cons_isnt_nil none
+clean_super checked (block ∷ blocks) none = no_rule_broken 0 (checked.super_bad (length (block ∷ blocks)) block) none
+
+no_super_faults : (checked : Checked) (image : List (List ℕ)) → HasCleanSuper checked image → super_faults checked image ≡ []
+unfolding super_faults
+no_super_faults checked [] clean = absurd clean
+no_super_faults checked (block ∷ blocks) clean = no_faults_at 0 (checked.super_bad (length (block ∷ blocks)) block) clean
+
+-- all stages of a check
+module _ (checked : Checked) (image : List (List ℕ)) where
+  no_stage_fails : (list : List Stage) → first_failing checked image list ≡ [] → AllByRecursion (λ stage. stage_faults checked image stage ≡ []) list
+  unfolding first_failing
+  no_stage_fails [] none = tt
+  no_stage_fails (stage ∷ list) none =
+      let parts = nil_from_first (stage_faults checked image stage) (first_failing checked image list) none in
+      (parts.0, no_stage_fails list parts.1)
+
+  none_failing : (list : List Stage) → AllByRecursion (λ stage. stage_faults checked image stage ≡ []) list → first_failing checked image list ≡ []
+  unfolding first_failing
+  none_failing [] all = refl
+  none_failing (stage ∷ list) all = first_nil (stage_faults checked image stage) (first_failing checked image list) all.0 (none_failing list all.1)
+
+  pub clean_where_none : first_failing checked image (stages_to stages.Counts) ≡ [] → AreClean checked image
+  unfolding count_faults
+  clean_where_none none =
+      let all = no_stage_fails (stages_to stages.Counts) none in
+      let walk = no_block_broken checked.graph.nr (walk_bad checked.graph image) all.1.0 in
+      let order = no_block_broken checked.graph.nr (order_bad checked.graph image) all.1.1.0 in
+      let counts = nil_from_append
+      (flat_map (λ b. count_fault Meta b (meta_count checked.graph image b) (checked.stored_meta b)) (range_with_len 0 checked.graph.nr))
+      (flat_map (λ d. count_fault DataBlock d (data_count checked.graph image d) (checked.stored_data d)) (range_with_len 0 checked.graph.data_blocks))
+      all.1.1.1.1.0 in
+      record {
+        super_block = clean_super checked image all.0;
+        well_formed = walk_rules checked.graph image walk;
+        one_role = walk_one_role checked.graph image walk;
+        not_deep = order_depths checked.graph image order;
+        in_range = λ b role at. in_range checked.graph image (pair b role) (order_ranges checked.graph image order b role at) (order_depths checked.graph image order b role at);
+        whole = λ b broken within. no_block_broken checked.graph.nr (whole_bad checked.whole) all.1.1.1.0 b within broken;
+        meta_counts = all_stored Meta (meta_count checked.graph image) checked.stored_meta checked.graph.nr counts.0;
+        data_counts = all_stored DataBlock (data_count checked.graph image) checked.stored_data checked.graph.data_blocks counts.1;
+      }
+
+  no_counts : AreClean checked image → count_faults checked image ≡ []
+  unfolding count_faults
+  no_counts clean =
+      append_nil
+      (flat_map (λ b. count_fault Meta b (meta_count checked.graph image b) (checked.stored_meta b)) (range_with_len 0 checked.graph.nr))
+      (flat_map (λ d. count_fault DataBlock d (data_count checked.graph image d) (checked.stored_data d)) (range_with_len 0 checked.graph.data_blocks))
+      (none_miscounted Meta (meta_count checked.graph image) checked.stored_meta checked.graph.nr clean.meta_counts)
+      (none_miscounted DataBlock (data_count checked.graph image) checked.stored_data checked.graph.data_blocks clean.data_counts)
+
+  pub none_where_clean : AreClean checked image → first_failing checked image (stages_to stages.Counts) ≡ []
+  none_where_clean clean =
+      none_failing (stages_to stages.Counts) (
+        no_super_faults checked image clean.super_block,
+        (
+          no_block_faults checked.graph.nr (walk_bad checked.graph image) (no_walk_rules checked.graph image clean.well_formed clean.one_role),
+          (
+            no_block_faults checked.graph.nr (order_bad checked.graph image) (no_order_rules checked.graph image clean.not_deep clean.in_range),
+            (
+              no_block_faults checked.graph.nr (whole_bad checked.whole) (λ b within broken. clean.whole b broken within),
+              (no_counts clean, tt),
+            ),
+          ),
+        ),
+      )
