@@ -1,7 +1,7 @@
 -- No faults, stage by stage, against what a clean image is.
 use Rattle.std.proofs.Common.{◌≡◌, ℕ, zero, suc, ◌+◌, ◌<◌, ◌≤◌, Bool, true, false, ◌&&◌, cond, nat_lt, List, [], ◌∷◌, ◌++◌, length, map, filter, get_or, Option, refl, ap, arith, inl, inr}
 use Rattle.std.specs.List.{AllByRecursion, list_any, flat_map, range_with_len}
-use Rattle.std.proofs.lemmas.Bool.{cases_Bool, cases_lt, cases_order, both_ways, cond_both, false_from_ne_true, true_from_ne_false, or_parts, or_from, and_left, ltb-false, lt-ltb, le-ltb}
+use Rattle.std.proofs.lemmas.Bool.{cases_Bool, cases_lt, cases_order, both_ways, cond_both, false_from_ne_true, true_from_ne_false, or_parts, or_from, and_left, and_right, ltb-false, lt-ltb, le-ltb}
 use Rattle.std.proofs.lemmas.List.Elements.{All-from_recursion}
 use Rattle.std.proofs.lemmas.List.{nil_from_length}
 use Rattle.std.specs.declared.option.Option.TheVariants.{Some, None}
@@ -208,16 +208,23 @@ left_false : (b : Bool) → (b && true) ≡ false → b ≡ false
 left_false true e = e
 left_false false e = refl
 
+-- each block keeps each rule
+abbrev NoneBroken : ℕ → (ℕ → Rule → Bool) → Type 0
+NoneBroken nr bad = (b : ℕ) → b < nr → (broken : Rule) → bad b broken ≡ false
+
 -- the stages Walk and Order: what holds of each role in which a block is reached
 module _ (graph : Graph) (image : List (List ℕ)) where
+  abbrev EachReached : (ℕ → ℕ → Type 0) → Type 0
+  EachReached P = (b role : ℕ) → IsReached graph image b role → P b role
+
   each_reached : (p : ℕ → ℕ → Bool) → ((b : ℕ) → b < graph.nr → list_any (p b) (roles_of graph image b) ≡ false)
-      → (b role : ℕ) → IsReached graph image b role → p b role ≡ false
+      → EachReached (λ b role. p b role ≡ false)
   unfolding roles_of
   each_reached p none b role at =
-      at_of_range (λ k. is_reached graph image (pair b k) ≡ true → p b k ≡ false) 0 16 role (omega arith) (at.within)
+      at_of_range (λ k. is_reached graph image (pair b k) ≡ true → p b k ≡ false) 0 16 role (omega arith) at.within
       (none_passes (p b) (λ k. is_reached graph image (pair b k)) (range_with_len 0 16) (none b at.block)) at.found
 
-  none_reached : (p : ℕ → ℕ → Bool) → ((b role : ℕ) → IsReached graph image b role → p b role ≡ false)
+  none_reached : (p : ℕ → ℕ → Bool) → EachReached (λ b role. p b role ≡ false)
       → (b : ℕ) → b < graph.nr → list_any (p b) (roles_of graph image b) ≡ false
   unfolding roles_of
   none_reached p fails b within =
@@ -225,47 +232,39 @@ module _ (graph : Graph) (image : List (List ℕ)) where
       (all_of_range (λ k. is_reached graph image (pair b k) ≡ true → p b k ≡ false) 0 16
       (λ k from below found. fails b k (record { block = within; within = below; found = found })))
 
-  walk_rules : ((b : ℕ) → b < graph.nr → (broken : Rule) → walk_bad graph image b broken ≡ false)
-      → (b role : ℕ) → IsReached graph image b role → (broken : Rule) → graph.bad role b (block_at image b) broken ≡ false
+  walk_rules : NoneBroken graph.nr (walk_bad graph image) → EachReached (λ b role. (broken : Rule) → graph.bad role b (block_at image b) broken ≡ false)
   unfolding walk_bad
   walk_rules none b role at broken =
-      each_reached (λ b role. graph.bad role b (block_at image b) broken)
-      (λ b within. (or_parts (list_any (λ role. graph.bad role b (block_at image b) broken) (roles_of graph image b)) (nat_lt 1 (length (roles_of graph image b)) && same_rule r.Role broken) (none b within broken)).0)
-      b role at
+      each_reached (λ b role. graph.bad role b (block_at image b) broken) (λ b within. (or_parts _ _ (none b within broken)).0) b role at
 
-  walk_one_role : ((b : ℕ) → b < graph.nr → (broken : Rule) → walk_bad graph image b broken ≡ false)
+  walk_one_role : NoneBroken graph.nr (walk_bad graph image)
       → (b role other : ℕ) → IsReached graph image b role → IsReached graph image b other → role ≡ other
   unfolding walk_bad roles_of
   walk_one_role none b role other at also =
-      let parts = or_parts (list_any (λ role. graph.bad role b (block_at image b) r.Role) (roles_of graph image b)) (nat_lt 1 (length (roles_of graph image b)) && true) (none b at.block r.Role) in
-      let few = ltb-false 1 (length (roles_of graph image b)) (left_false (nat_lt 1 (length (roles_of graph image b))) parts.1) in
+      let few = ltb-false 1 (length (roles_of graph image b)) (left_false _ (or_parts _ _ (none b at.block r.Role)).1) in
       only_one (λ k. is_reached graph image (pair b k)) 0 16 role other few (omega arith) at.within (omega arith) also.within at.found also.found
 
-  no_walk_rules : ((b role : ℕ) → IsReached graph image b role → (broken : Rule) → graph.bad role b (block_at image b) broken ≡ false)
+  no_walk_rules : EachReached (λ b role. (broken : Rule) → graph.bad role b (block_at image b) broken ≡ false)
       → ((b role other : ℕ) → IsReached graph image b role → IsReached graph image b other → role ≡ other)
-      → (b : ℕ) → b < graph.nr → (broken : Rule) → walk_bad graph image b broken ≡ false
+      → NoneBroken graph.nr (walk_bad graph image)
   unfolding walk_bad roles_of
   no_walk_rules clean one b within broken =
       let few = one_at_most (λ k. is_reached graph image (pair b k)) 0 16
       (λ x y x_from x_below y_from y_below x_found y_found. one b x y
       (record { block = within; within = x_below; found = x_found }) (record { block = within; within = y_below; found = y_found })) in
-      or_from (list_any (λ role. graph.bad role b (block_at image b) broken) (roles_of graph image b)) (nat_lt 1 (length (roles_of graph image b)) && same_rule r.Role broken)
+      or_from _ _
       (none_reached (λ b role. graph.bad role b (block_at image b) broken) (λ b role at. clean b role at broken) b within)
-      (and_left (nat_lt 1 (length (roles_of graph image b))) (same_rule r.Role broken) (le-ltb 1 (length (roles_of graph image b)) few))
+      (and_left _ _ (le-ltb 1 (length (roles_of graph image b)) few))
 
-  order_depths : ((b : ℕ) → b < graph.nr → (broken : Rule) → order_bad graph image b broken ≡ false)
-      → (b role : ℕ) → IsReached graph image b role → is_deep graph image (pair b role) ≡ false
+  order_depths : NoneBroken graph.nr (order_bad graph image) → EachReached (λ b role. is_deep graph image (pair b role) ≡ false)
   unfolding order_bad
   order_depths none = each_reached (λ b role. is_deep graph image (pair b role))
-      (λ b within. left_false (list_any (λ role. is_deep graph image (pair b role)) (roles_of graph image b))
-      (or_parts (list_any (λ role. is_deep graph image (pair b role)) (roles_of graph image b) && true) (list_any (λ role. is_out_of_range graph image (pair b role)) (roles_of graph image b) && false) (none b within r.Level)).0)
+      (λ b within. left_false _ (or_parts _ _ (none b within r.Level)).0)
 
-  order_ranges : ((b : ℕ) → b < graph.nr → (broken : Rule) → order_bad graph image b broken ≡ false)
-      → (b role : ℕ) → IsReached graph image b role → is_out_of_range graph image (pair b role) ≡ false
+  order_ranges : NoneBroken graph.nr (order_bad graph image) → EachReached (λ b role. is_out_of_range graph image (pair b role) ≡ false)
   unfolding order_bad
   order_ranges none = each_reached (λ b role. is_out_of_range graph image (pair b role))
-      (λ b within. left_false (list_any (λ role. is_out_of_range graph image (pair b role)) (roles_of graph image b))
-      (or_parts (list_any (λ role. is_deep graph image (pair b role)) (roles_of graph image b) && false) (list_any (λ role. is_out_of_range graph image (pair b role)) (roles_of graph image b) && true) (none b within r.Range)).1)
+      (λ b within. left_false _ (or_parts _ _ (none b within r.Range)).1)
 
   in_range : (p : ℕ) → is_out_of_range graph image p ≡ false → is_deep graph image p ≡ false → is_inner_pair graph image p ≡ true → is_in_range graph image p ≡ true
   unfolding is_out_of_range
@@ -276,23 +275,18 @@ module _ (graph : Graph) (image : List (List ℕ)) where
   not_out_of_range : (p : ℕ) → (is_inner_pair graph image p ≡ true → is_in_range graph image p ≡ true) → is_out_of_range graph image p ≡ false
   unfolding is_out_of_range
   not_out_of_range p fits = elim (cases_Bool (is_inner_pair graph image p)) [
-    | inl inner ↦ rw (inner, fits inner) (elim (cases_Bool (is_deep graph image p)) [
-      | inl deep ↦ rw deep
-      | inr shallow ↦ rw shallow
-    ])
+    | inl inner ↦ rw (inner, fits inner) (and_right _ _ refl)
     | inr leaf ↦ rw leaf
   ]
 
-  no_order_rules : ((b role : ℕ) → IsReached graph image b role → is_deep graph image (pair b role) ≡ false)
-      → ((b role : ℕ) → IsReached graph image b role → is_inner_pair graph image (pair b role) ≡ true → is_in_range graph image (pair b role) ≡ true)
-      → (b : ℕ) → b < graph.nr → (broken : Rule) → order_bad graph image b broken ≡ false
+  no_order_rules : EachReached (λ b role. is_deep graph image (pair b role) ≡ false)
+      → EachReached (λ b role. is_inner_pair graph image (pair b role) ≡ true → is_in_range graph image (pair b role) ≡ true)
+      → NoneBroken graph.nr (order_bad graph image)
   unfolding order_bad
   no_order_rules shallow fits b within broken =
-      or_from (list_any (λ role. is_deep graph image (pair b role)) (roles_of graph image b) && same_rule r.Level broken) (list_any (λ role. is_out_of_range graph image (pair b role)) (roles_of graph image b) && same_rule r.Range broken)
-      (and_left (list_any (λ role. is_deep graph image (pair b role)) (roles_of graph image b)) (same_rule r.Level broken)
-      (none_reached (λ b role. is_deep graph image (pair b role)) shallow b within))
-      (and_left (list_any (λ role. is_out_of_range graph image (pair b role)) (roles_of graph image b)) (same_rule r.Range broken)
-      (none_reached (λ b role. is_out_of_range graph image (pair b role)) (λ b role at. not_out_of_range (pair b role) (fits b role at)) b within))
+      or_from _ _
+      (and_left _ _ (none_reached (λ b role. is_deep graph image (pair b role)) shallow b within))
+      (and_left _ _ (none_reached (λ b role. is_out_of_range graph image (pair b role)) (λ b role at. not_out_of_range (pair b role) (fits b role at)) b within))
 
 -- the stage Super
 clean_super : (checked : Checked) (image : List (List ℕ)) → super_faults checked image ≡ [] → HasCleanSuper checked image
