@@ -1,7 +1,8 @@
 -- No faults, stage by stage, against what a clean image is.
-use Rattle.std.proofs.Common.{◌≡◌, ℕ, zero, suc, ◌+◌, ◌<◌, ◌≤◌, Bool, true, false, ◌&&◌, cond, nat_lt, List, [], ◌∷◌, ◌++◌, length, map, filter, get_or, Option, refl, ap, arith, inl, inr}
+use Rattle.std.proofs.Common.{◌≡◌, ℕ, zero, suc, ◌+◌, ◌<◌, ◌≤◌, Bool, true, false, ◌&&◌, cond, nat_lt, List, [], ◌∷◌, ◌++◌, length, map, filter, get_or, Option, refl, ap, arith, inl, inr, zero-le}
 use Rattle.std.specs.List.{AllByRecursion, list_any, flat_map, range_with_len}
 use Rattle.std.proofs.lemmas.Bool.{cases_Bool, cases_lt, cases_order, both_ways, cond_both, false_from_ne_true, true_from_ne_false, or_parts, or_from, and_left, and_right, ltb-false, lt-ltb, le-ltb}
+use Rattle.std.proofs.lemmas.Bool.Decides.{nat_tests}
 use Rattle.std.proofs.lemmas.List.Elements.{All-from_recursion}
 use Rattle.std.proofs.lemmas.List.{nil_from_length}
 use Rattle.std.specs.declared.option.Option.TheVariants.{Some, None}
@@ -9,9 +10,10 @@ use Rattle.pd_kinds.specs.declared.kind.Stage.{Stage}
 use Rattle.pd_kinds.specs.declared.kind.Stage.TheVariants as stages
 use Rattle.pd_kinds.specs.declared.rule.Rule.{Rule}
 use Rattle.pd_kinds.specs.declared.rule.Rule.TheVariants as r
+use Rattle.pd_kinds.specs.declared.fault.Fault.{Fault}
 use Rattle.pd_kinds.specs.declared.fault.Space.{Space}
 use Rattle.pd_kinds.specs.declared.fault.Space.TheVariants.{Meta, DataBlock}
-use Rattle.pd_kinds.specs.Rule.{number_of, all_rules, same_rule}
+use Rattle.pd_kinds.specs.Rule.{number_of, all_rules}
 use Rattle.pd_kinds.specs.Faults.{meta_fault, faults_at}
 use Rattle.pd_kinds.specs.Graph.{Graph, block_at, pair, is_reached, is_inner_pair, meta_count, data_count}
 use Rattle.pd_kinds.specs.Order.{is_deep, is_in_range}
@@ -33,8 +35,7 @@ module _ {X : Type 0} where
   nil_from_first : (xs ys : List X) → cond (nat_lt 0 (length xs)) xs ys ≡ [] → (xs ≡ []) × (ys ≡ [])
   nil_from_first [] ys e = (refl, e)
   nil_from_first (x ∷ xs) ys e =
-      let some : x ∷ xs ≡ [] = rw (lt-ltb 0 (suc (length xs)) (omega arith)) at e in
-      absurd (cc)
+      absurd (cons_isnt_nil (rw (lt-ltb 0 (suc (length xs)) (omega arith)) at e))
 
   first_nil : (xs ys : List X) → xs ≡ [] → ys ≡ [] → cond (nat_lt 0 (length xs)) xs ys ≡ []
   first_nil xs ys none later = rw none later
@@ -47,7 +48,7 @@ module _ {X : Type 0} where
   none_filtered : (p : X → Bool) (xs : List X) → filter p xs ≡ [] → AllByRecursion (λ x. p x ≡ false) xs
   none_filtered p [] e = tt
   none_filtered p (x ∷ xs) e = elim (cases_Bool (p x)) [
-    | inl found ↦ let some : x ∷ filter p xs ≡ [] = rw found at e in absurd (cc)
+    | inl found ↦ absurd (cons_isnt_nil (rw found at e))
     | inr missed ↦ (missed, none_filtered p xs (rw missed at e))
   ]
 
@@ -143,6 +144,13 @@ one_at_most q a (suc n) same = elim (cases_Bool (q a)) [
   | inr missed ↦ rw missed (one_at_most q (a + 1) n (λ x y x_from x_below y_from y_below. same x y (omega arith) (omega arith) (omega arith) (omega arith)))
 ]
 
+-- lists that are joined along a range
+none_at : {X : Type 0} (f : ℕ → List X) (n : ℕ) → flat_map f (range_with_len 0 n) ≡ [] → (k : ℕ) → k < n → f k ≡ []
+none_at f n none k within = at_of_range (λ j. f j ≡ []) 0 n k (omega arith) (omega arith) (none_mapped f (range_with_len 0 n) none)
+
+none_in_range : {X : Type 0} (f : ℕ → List X) (n : ℕ) → ((k : ℕ) → k < n → f k ≡ []) → flat_map f (range_with_len 0 n) ≡ []
+none_in_range f n none = mapped_none f (range_with_len 0 n) (all_of_range (λ j. f j ≡ []) 0 n (λ k from below. none k (omega arith)))
+
 -- all rules are among all rules
 rule_at : (rule : Rule) → get_or all_rules (number_of rule) r.Checksum ≡ rule
 unfolding all_rules
@@ -160,57 +168,38 @@ each_rule P all rule =
 -- blocks have no faults where they break no rule
 no_rule_broken : (b : ℕ) (bad : Rule → Bool) → faults_at b bad ≡ [] → (broken : Rule) → bad broken ≡ false
 unfolding faults_at
-no_rule_broken b bad none =
-    each_rule (λ rule. bad rule ≡ false) (none_filtered bad all_rules (nil_from_map (meta_fault b) (filter bad all_rules) none))
+no_rule_broken b bad none = each_rule (λ rule. bad rule ≡ false) (none_filtered _ _ (nil_from_map _ _ none))
 
 no_faults_at : (b : ℕ) (bad : Rule → Bool) → ((broken : Rule) → bad broken ≡ false) → faults_at b bad ≡ []
 unfolding faults_at
 no_faults_at b bad clean = ap (map (meta_fault b)) (filtered_none bad all_rules (all_from (λ rule. bad rule ≡ false) all_rules clean))
 
-no_block_broken : (nr : ℕ) (bad : ℕ → Rule → Bool) → block_faults nr bad ≡ [] → (b : ℕ) → b < nr → (broken : Rule) → bad b broken ≡ false
-unfolding block_faults
-no_block_broken nr bad none b within =
-    no_rule_broken b (bad b)
-    (at_of_range (λ k. faults_at k (bad k) ≡ []) 0 nr b (omega arith) (omega arith) (none_mapped (λ k. faults_at k (bad k)) (range_with_len 0 nr) none))
+-- each block keeps each rule
+abbrev NoneBroken : ℕ → (ℕ → Rule → Bool) → Type 0
+NoneBroken nr bad = (b : ℕ) → b < nr → (broken : Rule) → bad b broken ≡ false
 
-no_block_faults : (nr : ℕ) (bad : ℕ → Rule → Bool) → ((b : ℕ) → b < nr → (broken : Rule) → bad b broken ≡ false) → block_faults nr bad ≡ []
+no_block_broken : (nr : ℕ) (bad : ℕ → Rule → Bool) → block_faults nr bad ≡ [] → NoneBroken nr bad
 unfolding block_faults
-no_block_faults nr bad clean =
-    mapped_none (λ k. faults_at k (bad k)) (range_with_len 0 nr)
-    (all_of_range (λ k. faults_at k (bad k) ≡ []) 0 nr (λ k from below. no_faults_at k (bad k) (clean k (omega arith))))
+no_block_broken nr bad none b within = no_rule_broken b (bad b) (none_at _ nr none b within)
+
+no_block_faults : (nr : ℕ) (bad : ℕ → Rule → Bool) → NoneBroken nr bad → block_faults nr bad ≡ []
+unfolding block_faults
+no_block_faults nr bad clean = none_in_range _ nr (λ b within. no_faults_at b (bad b) (clean b within))
 
 -- a count has no fault where the stored one is that of the references
+same_counts : {X : Type 0} (x y : X) (refs stored : ℕ) → cond (nat_lt refs stored) (x ∷ []) (cond (nat_lt stored refs) (y ∷ []) []) ≡ [] → stored ≡ refs
+same_counts x y refs stored none = grind (arith, nat_tests)
+
 stored_is : (space : Space) (b refs : ℕ) (stored : Option ℕ) → count_fault space b refs stored ≡ [] → stored ≡ Some refs
 stored_is space b refs None none = absurd (cc)
-stored_is space b refs (Some stored) none = elim (cases_order stored refs) [
-  | inl same ↦ ap (λ (n : ℕ). Some n) same
-  | inr other ↦ elim other [
-    | inl less ↦ absurd (cons_isnt_nil (rw (le-ltb refs stored (omega arith), lt-ltb stored refs less) at none))
-    | inr more ↦ absurd (cons_isnt_nil (rw (lt-ltb refs stored more) at none))
-  ]
-]
+stored_is space b refs (Some stored) none = ap (λ (n : ℕ). Some n) (same_counts _ _ refs stored none)
 
 no_count_fault : (space : Space) (b refs : ℕ) (stored : Option ℕ) → stored ≡ Some refs → count_fault space b refs stored ≡ []
 no_count_fault space b refs stored same = rw (same, le-ltb refs refs (omega arith))
 
-module _ (space : Space) (refs : ℕ → ℕ) (stored : ℕ → Option ℕ) (n : ℕ) where
-  all_stored : flat_map (λ b. count_fault space b (refs b) (stored b)) (range_with_len 0 n) ≡ [] → (b : ℕ) → b < n → stored b ≡ Some (refs b)
-  all_stored none b within =
-      stored_is space b (refs b) (stored b)
-      (at_of_range (λ k. count_fault space k (refs k) (stored k) ≡ []) 0 n b (omega arith) (omega arith) (none_mapped (λ k. count_fault space k (refs k) (stored k)) (range_with_len 0 n) none))
-
-  none_miscounted : ((b : ℕ) → b < n → stored b ≡ Some (refs b)) → flat_map (λ b. count_fault space b (refs b) (stored b)) (range_with_len 0 n) ≡ []
-  none_miscounted same =
-      mapped_none (λ k. count_fault space k (refs k) (stored k)) (range_with_len 0 n)
-      (all_of_range (λ k. count_fault space k (refs k) (stored k) ≡ []) 0 n (λ k from below. no_count_fault space k (refs k) (stored k) (same k (omega arith))))
-
 left_false : (b : Bool) → (b && true) ≡ false → b ≡ false
 left_false true e = e
 left_false false e = refl
-
--- each block keeps each rule
-abbrev NoneBroken : ℕ → (ℕ → Rule → Bool) → Type 0
-NoneBroken nr bad = (b : ℕ) → b < nr → (broken : Rule) → bad b broken ≡ false
 
 -- the stages Walk and Order: what holds of each role in which a block is reached
 module _ (graph : Graph) (image : List (List ℕ)) where
@@ -241,8 +230,8 @@ module _ (graph : Graph) (image : List (List ℕ)) where
       → (b role other : ℕ) → IsReached graph image b role → IsReached graph image b other → role ≡ other
   unfolding walk_bad roles_of
   walk_one_role none b role other at also =
-      let few = ltb-false 1 (length (roles_of graph image b)) (left_false _ (or_parts _ _ (none b at.block r.Role)).1) in
-      only_one (λ k. is_reached graph image (pair b k)) 0 16 role other few (omega arith) at.within (omega arith) also.within at.found also.found
+      let few = ltb-false 1 (length (roles_of graph image b)) (left_false (nat_lt 1 (length (roles_of graph image b))) (or_parts _ _ (none b at.block r.Role)).1) in
+      only_one (λ k. is_reached graph image (pair b k)) 0 16 role other few zero-le at.within zero-le also.within at.found also.found
 
   no_walk_rules : EachReached (λ b role. (broken : Rule) → graph.bad role b (block_at image b) broken ≡ false)
       → ((b role other : ℕ) → IsReached graph image b role → IsReached graph image b other → role ≡ other)
@@ -305,13 +294,20 @@ module _ (checked : Checked) (image : List (List ℕ)) where
   unfolding first_failing
   no_stage_fails [] none = tt
   no_stage_fails (stage ∷ list) none =
-      let parts = nil_from_first (stage_faults checked image stage) (first_failing checked image list) none in
+      let parts = nil_from_first _ _ none in
       (parts.0, no_stage_fails list parts.1)
 
   none_failing : (list : List Stage) → AllByRecursion (λ stage. stage_faults checked image stage ≡ []) list → first_failing checked image list ≡ []
   unfolding first_failing
   none_failing [] all = refl
-  none_failing (stage ∷ list) all = first_nil (stage_faults checked image stage) (first_failing checked image list) all.0 (none_failing list all.1)
+  none_failing (stage ∷ list) all = first_nil _ _ all.0 (none_failing list all.1)
+
+  -- the faults of the counts of one block
+  abbrev meta_at : ℕ → List Fault
+  meta_at b = count_fault Meta b (meta_count checked.graph image b) (checked.stored_meta b)
+
+  abbrev data_at : ℕ → List Fault
+  data_at d = count_fault DataBlock d (data_count checked.graph image d) (checked.stored_data d)
 
   pub clean_where_none : first_failing checked image (stages_to stages.Counts) ≡ [] → AreClean checked image
   unfolding count_faults
@@ -319,42 +315,28 @@ module _ (checked : Checked) (image : List (List ℕ)) where
       let all = no_stage_fails (stages_to stages.Counts) none in
       let walk = no_block_broken checked.graph.nr (walk_bad checked.graph image) all.1.0 in
       let order = no_block_broken checked.graph.nr (order_bad checked.graph image) all.1.1.0 in
-      let counts = nil_from_append
-      (flat_map (λ b. count_fault Meta b (meta_count checked.graph image b) (checked.stored_meta b)) (range_with_len 0 checked.graph.nr))
-      (flat_map (λ d. count_fault DataBlock d (data_count checked.graph image d) (checked.stored_data d)) (range_with_len 0 checked.graph.data_blocks))
-      all.1.1.1.1.0 in
+      let shallow = order_depths checked.graph image order in
+      let counts = nil_from_append (flat_map meta_at (range_with_len 0 checked.graph.nr)) (flat_map data_at (range_with_len 0 checked.graph.data_blocks)) all.1.1.1.1.0 in
       record {
         super_block = clean_super checked image all.0;
         well_formed = walk_rules checked.graph image walk;
         one_role = walk_one_role checked.graph image walk;
-        not_deep = order_depths checked.graph image order;
-        in_range = λ b role at. in_range checked.graph image (pair b role) (order_ranges checked.graph image order b role at) (order_depths checked.graph image order b role at);
+        not_deep = shallow;
+        in_range = λ b role at. in_range checked.graph image (pair b role) (order_ranges checked.graph image order b role at) (shallow b role at);
         whole = λ b broken within. no_block_broken checked.graph.nr (whole_bad checked.whole) all.1.1.1.0 b within broken;
-        meta_counts = all_stored Meta (meta_count checked.graph image) checked.stored_meta checked.graph.nr counts.0;
-        data_counts = all_stored DataBlock (data_count checked.graph image) checked.stored_data checked.graph.data_blocks counts.1;
+        meta_counts = λ b within. stored_is Meta b (meta_count checked.graph image b) (checked.stored_meta b) (none_at meta_at _ counts.0 b within);
+        data_counts = λ d within. stored_is DataBlock d (data_count checked.graph image d) (checked.stored_data d) (none_at data_at _ counts.1 d within);
       }
 
   no_counts : AreClean checked image → count_faults checked image ≡ []
   unfolding count_faults
-  no_counts clean =
-      append_nil
-      (flat_map (λ b. count_fault Meta b (meta_count checked.graph image b) (checked.stored_meta b)) (range_with_len 0 checked.graph.nr))
-      (flat_map (λ d. count_fault DataBlock d (data_count checked.graph image d) (checked.stored_data d)) (range_with_len 0 checked.graph.data_blocks))
-      (none_miscounted Meta (meta_count checked.graph image) checked.stored_meta checked.graph.nr clean.meta_counts)
-      (none_miscounted DataBlock (data_count checked.graph image) checked.stored_data checked.graph.data_blocks clean.data_counts)
+  no_counts clean = append_nil _ _
+      (none_in_range meta_at _ (λ b within. no_count_fault Meta b (meta_count checked.graph image b) (checked.stored_meta b) (clean.meta_counts b within)))
+      (none_in_range data_at _ (λ d within. no_count_fault DataBlock d (data_count checked.graph image d) (checked.stored_data d) (clean.data_counts d within)))
 
   pub none_where_clean : AreClean checked image → first_failing checked image (stages_to stages.Counts) ≡ []
   none_where_clean clean =
-      none_failing (stages_to stages.Counts) (
-        no_super_faults checked image clean.super_block,
-        (
-          no_block_faults checked.graph.nr (walk_bad checked.graph image) (no_walk_rules checked.graph image clean.well_formed clean.one_role),
-          (
-            no_block_faults checked.graph.nr (order_bad checked.graph image) (no_order_rules checked.graph image clean.not_deep clean.in_range),
-            (
-              no_block_faults checked.graph.nr (whole_bad checked.whole) (λ b within broken. clean.whole b broken within),
-              (no_counts clean, tt),
-            ),
-          ),
-        ),
-      )
+      let walk = no_block_faults checked.graph.nr (walk_bad checked.graph image) (no_walk_rules checked.graph image clean.well_formed clean.one_role) in
+      let order = no_block_faults checked.graph.nr (order_bad checked.graph image) (no_order_rules checked.graph image clean.not_deep clean.in_range) in
+      let whole = no_block_faults checked.graph.nr (whole_bad checked.whole) (λ b within broken. clean.whole b broken within) in
+      none_failing (stages_to stages.Counts) (no_super_faults checked image clean.super_block, (walk, (order, (whole, (no_counts clean, tt)))))
