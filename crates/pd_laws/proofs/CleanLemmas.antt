@@ -1,7 +1,7 @@
 -- No faults, stage by stage, against what a clean image is.
 use Rattle.std.proofs.Common.{◌≡◌, ℕ, zero, suc, ◌+◌, ◌<◌, ◌≤◌, Bool, true, false, ◌&&◌, cond, nat_lt, List, [], ◌∷◌, ◌++◌, length, map, filter, get_or, Option, refl, ap, arith, inl, inr, zero-le}
 use Rattle.std.specs.List.{AllByRecursion, list_any, flat_map, range_with_len}
-use Rattle.std.proofs.lemmas.Bool.{cases_Bool, cases_lt, cases_order, both_ways, cond_both, false_from_ne_true, true_from_ne_false, or_parts, or_from, and_left, and_right, ltb-false, lt-ltb, le-ltb}
+use Rattle.std.proofs.lemmas.Bool.{cases_Bool, cases_eq, cases_lt, cases_order, both_ways, false_from_ne_true, true_from_ne_false, or_parts, or_from, and_left, and_right, ltb-false, lt-ltb, le-ltb}
 use Rattle.std.proofs.lemmas.Bool.Decides.{nat_tests}
 use Rattle.std.proofs.lemmas.List.Elements.{All-from_recursion}
 use Rattle.std.proofs.lemmas.List.{nil_from_length}
@@ -101,35 +101,27 @@ at_of_range P a (suc n) k from below all = elim (cases_lt a k) [
   | inr here ↦ let e : a ≡ k = omega arith in rw e at all.0
 ]
 
--- a number that passes is found, and two that pass are two
-one_found : (q : ℕ → Bool) (a n x : ℕ) → a ≤ x → x < a + n → q x ≡ true → 0 < length (filter q (range_with_len a n))
-one_found q a n x from below found = elim (cases_lt 0 (length (filter q (range_with_len a n)))) [
-  | inl some ↦ some
-  | inr none ↦
-      let empty = nil_from_length (filter q (range_with_len a n)) (omega arith) in
-      absurd (both_ways (q x) (at_of_range (λ k. q k ≡ false) a n x from below (none_filtered q (range_with_len a n) empty)) found)
-]
-
-two_found : (q : ℕ → Bool) (a n x y : ℕ) → a ≤ x → x < y → y < a + n → q x ≡ true → q y ≡ true → 1 < length (filter q (range_with_len a n))
-two_found q a zero x y from apart below first second = absurd (omega arith)
-two_found q a (suc n) x y from apart below first second = elim (cases_lt a x) [
-  | inl later ↦
-      let rest = two_found q (a + 1) n x y (omega arith) apart (omega arith) first second in
-      cond_both (q a) (a ∷ filter q (range_with_len (a + 1) n)) (filter q (range_with_len (a + 1) n)) (λ xs. 1 < length xs) (λ found. omega arith) (λ missed. rest)
-  | inr here ↦
-      let e : x ≡ a = omega arith in
-      let rest = one_found q (a + 1) n y (omega arith) (omega arith) second in
-      rw (rw e at first) (omega arith)
-]
-
 -- a filter finds at most one number where any two that pass are equal
+none_later : (q : ℕ → Bool) (a n x y : ℕ) → length (filter q (range_with_len a n)) ≤ 1 → a ≤ x → x < y → y < a + n → q x ≡ true → q y ≡ false
+none_later q a zero x y few from apart below found = absurd (omega arith)
+none_later q a (suc n) x y few from apart below found = elim (cases_Bool (q a)) [
+  | inl first ↦
+      let rest : length (a ∷ filter q (range_with_len (a + 1) n)) ≤ 1 = rw first at few in
+      let none = nil_from_length (filter q (range_with_len (a + 1) n)) (omega arith) in
+      at_of_range (λ k. q k ≡ false) (a + 1) n y (omega arith) (omega arith) (none_filtered _ _ none)
+  | inr other ↦ elim (cases_eq x a) [
+    | inl same ↦ absurd (both_ways (q a) other (rw same at found))
+    | inr later ↦ none_later q (a + 1) n x y (rw other at few) (omega arith) apart (omega arith) found
+  ]
+]
+
 only_one : (q : ℕ → Bool) (a n x y : ℕ) → length (filter q (range_with_len a n)) ≤ 1
     → a ≤ x → x < a + n → a ≤ y → y < a + n → q x ≡ true → q y ≡ true → x ≡ y
 only_one q a n x y few x_from x_below y_from y_below x_found y_found = elim (cases_order x y) [
   | inl same ↦ same
   | inr other ↦ elim other [
-    | inl less ↦ absurd (omega (arith, two_found q a n x y x_from less y_below x_found y_found))
-    | inr more ↦ absurd (omega (arith, two_found q a n y x y_from more x_below y_found x_found))
+    | inl less ↦ absurd (both_ways (q y) (none_later q a n x y few x_from less y_below x_found) y_found)
+    | inr more ↦ absurd (both_ways (q x) (none_later q a n y x few y_from more x_below y_found) x_found)
   ]
 ]
 
