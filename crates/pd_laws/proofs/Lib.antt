@@ -1,2 +1,3 @@
--- Lemmas that several proofs share.
 pub mod PathLemmas
+pub mod CleanLemmas
+pub mod OrderLemmas
