@@ -1,5 +1,6 @@
 ghost use Rattle.std.specs.Prelude.{◌≡◌, ◌+◌, ◌≤◌, IfOk, Some};
-ghost use Rattle.pd_image.specs.MemDevice.{block_bytes, mem_device_state, unattached_device};
+ghost use Rattle.pd_image.specs.Blocks.{block_bytes};
+ghost use Rattle.pd_image.specs.MemDevice.{mem_device_state, unattached_device};
 ghost use Rattle.pd_image.specs.MemSink.{mem_sink_state, unattached_sink};
 
 use crate::run_tool;
