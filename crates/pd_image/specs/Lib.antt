@@ -8,3 +8,4 @@ pub mod MemSource
 pub mod Source
 pub mod StdSink
 pub mod StdSource
+pub mod Blocks

@@ -1,16 +1,12 @@
 -- What a device in memory means.
-use Rattle.std.specs.Prelude.{ℕ, Bool, if◌then◌else◌, List, length, map, Some, None}
+use Rattle.std.specs.Prelude.{ℕ, Bool, if◌then◌else◌, List, length, Some, None}
 use Rattle.std.specs.Option.{option_map}
-use Rattle.pd_kinds.specs.declared.block.Block.{Block}
 use Rattle.pd_kinds.specs.Objects.{DeviceState}
 use Rattle.pd_image.specs.declared.calls.Calls.{Calls}
 use Rattle.pd_image.specs.declared.mem_device.MemDevice.{MemDevice}
 use Rattle.pd_image.specs.Access.{access_number}
+use Rattle.pd_image.specs.Blocks.{block_bytes}
 use Rattle.pd_image.specs.Calls.{counted, calls_failed}
-
--- the bytes of each block
-abbrev pub block_bytes : List Block → List (List ℕ)
-block_bytes blocks = map (λ block. block.0) blocks
 
 -- what the device means to code over any device
 abbrev pub mem_device_state : MemDevice → DeviceState

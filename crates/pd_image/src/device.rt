@@ -1,4 +1,4 @@
-ghost use Rattle.std.specs.Prelude.{◌≡◌, ℕ, ◌+◌, ◌<◌, ◌≤◌, List, length, slice_get, slice_set, is_ok, OnOk, IfSome, IsSome, Some, if◌then◌else◌};
+ghost use Rattle.std.specs.Prelude.{None, ◌≡◌, ℕ, ◌+◌, ◌<◌, ◌≤◌, List, length, slice_get, slice_set, is_ok, OnOk, IfSome, IsSome, Some, if◌then◌else◌};
 ghost use Rattle.pd_kinds.specs.Objects.{DeviceState, CountsFault};
 ghost use Rattle.pd_image.specs.Device.{IsAttached, IsWritable, KeepsObject, MayChange};
 
@@ -54,4 +54,7 @@ pub trait Device {
         ensures kept { KeepsObject (state self.old) (state self.new) }
         ensures reads { (state self.new).reads ≡ (state self.old).reads }
         ensures faults { CountsFault result (state self.old).faults (state self.new).faults };
+
+    /// The path isn't told before `attach`.
+    ghost unnamed: { (object : Self) → (state object).access ≡ 0 → (state object).path ≡ None };
 }

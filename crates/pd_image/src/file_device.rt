@@ -1,9 +1,9 @@
 //! A device over a real file: a thin layer over the file's own calls, of which nothing is assumed.
 
-ghost use Rattle.std.specs.Prelude.{◌≡◌, ◌+◌, ◌<◌, is_ok, if◌then◌else◌};
+ghost use Rattle.std.specs.Prelude.{refl, ◌≡◌, ◌+◌, ◌<◌, ◌≤◌, slice_get, Some, OnOk, IfSome};
 ghost use Rattle.pd_kinds.specs.Objects.{CountsFault};
 ghost use Rattle.pd_image.specs.Calls.{counted};
-ghost use Rattle.pd_image.specs.Device.{IsAttached, IsWritable, KeepsObject};
+ghost use Rattle.pd_image.specs.Device.{IsAttached, KeepsObject};
 ghost use Rattle.pd_image.specs.FileDevice.{file_device_state, unattached_file};
 
 use crate::access::Access;
@@ -71,6 +71,8 @@ impl<'a, R: Files> FileDevice<'a, R> {
 impl<'a, R: Files> Device for FileDevice<'a, R> {
     ghost state = { file_device_state };
 
+    ghost unnamed = { λ _ _. refl };
+
     fn attach(&mut self, path: &str, write: bool) -> Result<(), Failed> {
         let opened = settled(self.open(path, write), &mut self.faults);
         self.access = if opened.is_err() {
@@ -87,7 +89,16 @@ impl<'a, R: Files> Device for FileDevice<'a, R> {
         self.blocks
     }
 
-    fn read(&mut self, b: u64, into: &mut Block) -> Result<(), Failed> {
+    fn read(&mut self, b: u64, into: &mut Block) -> Result<(), Failed>
+        requires attached { IsAttached (file_device_state self.old) }
+        requires within { b < (file_device_state self.old).blocks }
+        ensures content { OnOk result (IfSome (file_device_state self.old).held (λ image. slice_get image b ≡ Some into.new.0)) }
+        ensures held { (file_device_state self.new).held ≡ (file_device_state self.old).held }
+        ensures kept { KeepsObject (file_device_state self.old) (file_device_state self.new) }
+        ensures reads { (file_device_state self.new).reads ≤ (file_device_state self.old).reads + 1 }
+        ensures faults { CountsFault result (file_device_state self.old).faults (file_device_state self.new).faults }
+        ensures counted { (file_device_state self.new).reads ≡ counted (file_device_state self.old).reads }
+    {
         self.reads = self.reads.saturating_add(1);
         let known = self.position == Some(b);
         self.position = None;

@@ -1,12 +1,13 @@
 //! A device in memory, which tells what it holds.
 
-ghost use Rattle.std.specs.Prelude.{◌≡◌, ℕ, ◌+◌, ◌<◌, ◌≤◌, [], List, length, map, replicate, slice_get, slice_set, is_ok, not, Some, None, IsTrue, IsErr, IsSome, IfOk, OnOk, OnErr, IfSome, if◌then◌else◌, false};
+ghost use Rattle.std.specs.Prelude.{is_none, true, ◌≡◌, ℕ, ◌+◌, ◌<◌, ◌≤◌, [], List, length, map, replicate, slice_get, slice_set, is_ok, not, Some, None, IsTrue, IsErr, IsSome, IfOk, OnOk, OnErr, IfSome, if◌then◌else◌, false};
 ghost use Rattle.std.specs.Option.{option_copied};
 ghost use Rattle.pd_kinds.specs.Field.{zeros};
 ghost use Rattle.pd_kinds.specs.Objects.{DeviceState, CountsFault};
+ghost use Rattle.pd_image.specs.Blocks.{block_bytes};
+ghost use Rattle.pd_image.specs.Access.{access_number, untold};
 ghost use Rattle.pd_image.specs.Calls.{counted, next_fails, calls_made, calls_set, CountsCall, SetsToFail, KeepsCalls};
 ghost use Rattle.pd_image.specs.Device.{IsAttached, IsWritable, KeepsObject, MayChange};
-ghost use Rattle.pd_image.specs.MemDevice.{block_bytes, mem_device_state, mem_device_calls, unattached_device, with_answer};
 
 use crate::access::Access;
 use crate::calls::Calls;
@@ -26,9 +27,12 @@ pub struct MemDevice {
     calls: Calls,
     /// Up to the end of its type.
     reads: u64,
+    ghost unnamed: { access_number access ≡ 0 → is_none path ≡ true },
 }
 
 impl MemDevice {
+    ghost use Rattle.pd_image.specs.MemDevice.{mem_device_state, mem_device_calls, unattached_device, with_answer};
+
     /// A device of so many zero blocks.
     pub fn new(alloc: Global, blocks: u64) -> Result<MemDevice, AllocError>
         ensures state { IfOk result (λ device. mem_device_state device ≡ unattached_device (replicate blocks zeros)) }
@@ -93,7 +97,11 @@ impl MemDevice {
 /// A call fails exactly where it is set to, and then does nothing but to count. `attach` keeps its path
 /// first, and fails for want of memory too.
 impl Device for MemDevice {
+    ghost use Rattle.pd_image.specs.MemDevice.{mem_device_state, mem_device_calls, unattached_device, with_answer};
+
     ghost state = { mem_device_state };
+
+    ghost unnamed = { λ object fresh. untold object.path (object.unnamed fresh) };
 
     fn attach(&mut self, path: &str, write: bool) -> Result<(), Failed>
         requires { (mem_device_state self.old).access ≡ 0 }

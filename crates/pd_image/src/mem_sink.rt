@@ -1,10 +1,10 @@
 //! A sink in memory, which tells what was written.
 
-ghost use Rattle.std.specs.Prelude.{◌≡◌, ◌++◌, [], take, is_ok, not, Some, IsTrue, IsErr, IsSome, OnOk, OnErr, IfSome, unwrap_or, if◌then◌else◌};
+ghost use Rattle.std.specs.Prelude.{is_none, true, ◌≡◌, ◌++◌, [], take, is_ok, not, Some, IsTrue, IsErr, IsSome, OnOk, OnErr, IfSome, unwrap_or, if◌then◌else◌};
 ghost use Rattle.std.specs.Option.{option_copied};
 ghost use Rattle.pd_kinds.specs.Objects.{CountsFault, Appends, AppendsFront};
+ghost use Rattle.pd_image.specs.Access.{access_number, untold};
 ghost use Rattle.pd_image.specs.Calls.{counted, next_fails, calls_made, calls_set, CountsCall, SetsToFail, KeepsCalls};
-ghost use Rattle.pd_image.specs.MemSink.{mem_sink_state, mem_sink_calls, unattached_sink};
 
 use crate::access::Access;
 use crate::calls::Calls;
@@ -21,9 +21,12 @@ pub struct MemSink {
     /// The path that `attach` was called with, empty for the standard stream.
     path: Option<Vec<u8>>,
     calls: Calls,
+    ghost unnamed: { access_number access ≡ 0 → is_none path ≡ true },
 }
 
 impl MemSink {
+    ghost use Rattle.pd_image.specs.MemSink.{mem_sink_state, mem_sink_calls, unattached_sink};
+
     /// A sink to which nothing was written.
     pub fn new(alloc: Global) -> MemSink
         ensures state { mem_sink_state result ≡ unattached_sink }
@@ -69,7 +72,11 @@ impl MemSink {
 /// A call fails where it is set to and for want of memory, and then does nothing but to count. `attach`
 /// keeps its path first.
 impl Sink for MemSink {
+    ghost use Rattle.pd_image.specs.MemSink.{mem_sink_state, mem_sink_calls, unattached_sink};
+
     ghost state = { mem_sink_state };
+
+    ghost unnamed = { λ object fresh. untold object.path (object.unnamed fresh) };
 
     fn attach(&mut self, path: Option<&str>) -> Result<(), Failed>
         requires { (mem_sink_state self.old).access ≡ 0 }

@@ -1,8 +1,9 @@
 //! A source of text in memory, which tells what is left of it.
 
-ghost use Rattle.std.specs.Prelude.{◌≡◌, ℕ, ◌<◌, ◌≤◌, [], List, length, take, drop, min, is_ok, not, Some, IsTrue, IsErr, IsSome, IfOk, OnOk, OnErr, IfSome, if◌then◌else◌};
+ghost use Rattle.std.specs.Prelude.{is_none, true, ◌≡◌, ℕ, ◌<◌, ◌≤◌, [], List, length, take, drop, min, is_ok, not, Some, IsTrue, IsErr, IsSome, IfOk, OnOk, OnErr, IfSome, if◌then◌else◌};
 ghost use Rattle.std.specs.Option.{option_copied};
 ghost use Rattle.pd_kinds.specs.Objects.{CountsFault};
+ghost use Rattle.pd_image.specs.Access.{access_number, untold};
 ghost use Rattle.pd_image.specs.Calls.{counted, next_fails, calls_made, calls_set, CountsCall, SetsToFail, KeepsCalls};
 ghost use Rattle.pd_image.specs.Source.{Takes};
 
@@ -26,6 +27,7 @@ pub struct MemSource {
     /// The path that `attach` was called with.
     path: Option<Vec<u8>>,
     calls: Calls,
+    ghost unnamed: { access_number access ≡ 0 → is_none path ≡ true },
     ghost within: { taken ≤ length bytes.items },
     ghost some: { 1 ≤ piece },
 }
@@ -78,6 +80,8 @@ impl Source for MemSource {
     ghost use Rattle.pd_image.specs.MemSource.{mem_source_state, mem_source_calls, mem_source_piece};
 
     ghost state = { mem_source_state };
+
+    ghost unnamed = { λ object fresh. untold object.path (object.unnamed fresh) };
 
     fn attach(&mut self, path: &str) -> Result<(), Failed>
         requires { (mem_source_state self.old).access ≡ 0 }

@@ -1,4 +1,4 @@
-ghost use Rattle.std.specs.Prelude.{◌≡◌, ℕ, List, [], length, is_ok, OnOk, OnErr, IfSome, unwrap_or, if◌then◌else◌};
+ghost use Rattle.std.specs.Prelude.{None, ◌≡◌, ℕ, List, [], length, is_ok, OnOk, OnErr, IfSome, unwrap_or, if◌then◌else◌};
 ghost use Rattle.std.specs.Option.{option_copied};
 ghost use Rattle.pd_kinds.specs.Objects.{SinkState, CountsFault, Appends, AppendsFront};
 
@@ -26,4 +26,7 @@ pub trait Sink {
         ensures access { (state self.new).access ≡ (state self.old).access }
         ensures path { (state self.new).path ≡ (state self.old).path }
         ensures faults { CountsFault result (state self.old).faults (state self.new).faults };
+
+    /// The path isn't told before `attach`.
+    ghost unnamed: { (object : Self) → (state object).access ≡ 0 → (state object).path ≡ None };
 }

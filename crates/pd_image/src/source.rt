@@ -1,4 +1,4 @@
-ghost use Rattle.std.specs.Prelude.{◌≡◌, ℕ, ◌<◌, ◌≤◌, List, length, take, drop, is_ok, OnOk, OnErr, IfOk, IfSome, Some, if◌then◌else◌};
+ghost use Rattle.std.specs.Prelude.{None, ◌≡◌, ℕ, ◌<◌, ◌≤◌, List, length, take, drop, is_ok, OnOk, OnErr, IfOk, IfSome, Some, if◌then◌else◌};
 ghost use Rattle.pd_kinds.specs.Objects.{SourceState, CountsFault};
 ghost use Rattle.pd_image.specs.Source.{Takes};
 
@@ -28,4 +28,7 @@ pub trait Source {
         ensures access { (state self.new).access ≡ (state self.old).access }
         ensures path { (state self.new).path ≡ (state self.old).path }
         ensures faults { CountsFault result (state self.old).faults (state self.new).faults };
+
+    /// The path isn't told before `attach`.
+    ghost unnamed: { (object : Self) → (state object).access ≡ 0 → (state object).path ≡ None };
 }

@@ -1,7 +1,7 @@
 //! A sink over a real file or a standard stream: a thin layer over their own calls, of which nothing
 //! is assumed.
 
-ghost use Rattle.std.specs.Prelude.{◌≡◌};
+ghost use Rattle.std.specs.Prelude.{refl, ◌≡◌};
 ghost use Rattle.pd_image.specs.StdSink.{std_sink_state, unattached_stream};
 
 use crate::access::Access;
@@ -64,6 +64,8 @@ impl<'a, R: Files + Print + Eprint> StdSink<'a, R> {
 
 impl<'a, R: Files + Print + Eprint> Sink for StdSink<'a, R> {
     ghost state = { std_sink_state };
+
+    ghost unnamed = { λ _ _. refl };
 
     fn attach(&mut self, path: Option<&str>) -> Result<(), Failed> {
         self.access = Access::Refused;

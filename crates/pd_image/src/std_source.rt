@@ -1,6 +1,6 @@
 //! A source over a real file: a thin layer over the file's own calls, of which nothing is assumed.
 
-ghost use Rattle.std.specs.Prelude.{◌≡◌, ◌≤◌, length, IfOk};
+ghost use Rattle.std.specs.Prelude.{refl, ◌≡◌, ◌≤◌, length, IfOk};
 ghost use Rattle.pd_image.specs.StdSource.{std_source_state, unattached_text};
 
 use crate::access::Access;
@@ -38,6 +38,8 @@ impl<'a, R: Files> StdSource<'a, R> {
 
 impl<'a, R: Files> Source for StdSource<'a, R> {
     ghost state = { std_source_state };
+
+    ghost unnamed = { λ _ _. refl };
 
     fn attach(&mut self, path: &str) -> Result<(), Failed> {
         self.access = Access::Refused;

@@ -71,9 +71,9 @@ fn memory_sink_fails_where_it_is_set_to(rt: HostRuntime) -> Result<(), Fail> {
 #[test]
 fn file_device_reads_and_writes_whole_blocks(rt: HostRuntime) -> Result<(), Fail> {
     let mut image = vec![in rt.alloc(); 1; 2 * BLOCK_SIZE + 100]?;
-    fs::write(&rt, "thin.img", image.as_slice())?;
+    fs::write(&rt, "whole_blocks.img", image.as_slice())?;
     let mut device = FileDevice::new(&rt);
-    device.attach("thin.img", true)?;
+    device.attach("whole_blocks.img", true)?;
     assert_eq!(rt; device.blocks(), 2);
     device.write(1, &TWOS)?;
     let mut block = TWOS;
@@ -81,7 +81,8 @@ fn file_device_reads_and_writes_whole_blocks(rt: HostRuntime) -> Result<(), Fail
     device.sync()?;
     assert!(rt; block == ONES);
     image[BLOCK_SIZE..2 * BLOCK_SIZE].fill(2);
-    assert!(rt; fs::read(&rt, "thin.img")? == image);
+    assert!(rt; fs::read(&rt, "whole_blocks.img")? == image);
+    fs::remove_file(&rt, "whole_blocks.img")?;
     Ok(())
 }
 
@@ -91,14 +92,12 @@ fn can_attach(rt: &HostRuntime, path: &str, write: bool) -> bool {
 }
 
 #[test]
-fn file_device_needs_a_file_that_is_there(rt: HostRuntime) -> Result<(), Fail> {
-    fs::create_dir(&rt, "folder")?;
-    for path in ["missing.img", "folder"] {
+fn file_device_needs_a_file_that_is_there(rt: HostRuntime) {
+    for path in ["missing.img", "."] {
         assert!(rt; !can_attach(&rt, path, false));
         assert!(rt; !can_attach(&rt, path, true));
     }
     assert!(rt; fs::read(&rt, "missing.img").is_err());
-    Ok(())
 }
 
 /// A running program can't be opened for writing, not even by root.
@@ -111,28 +110,30 @@ fn file_device_needs_a_file_that_it_may_write(rt: HostRuntime) {
 #[test]
 fn file_device_fails_past_the_end_of_a_file_cut_short(rt: HostRuntime) -> Result<(), Fail> {
     let image = [1; 2 * 4096];
-    fs::write(&rt, "thin.img", &image)?;
+    fs::write(&rt, "cut_short.img", &image)?;
     let mut device = FileDevice::new(&rt);
-    device.attach("thin.img", false)?;
+    device.attach("cut_short.img", false)?;
     assert_eq!(rt; device.blocks(), 2);
-    fs::write(&rt, "thin.img", &image[..4097])?;
+    fs::write(&rt, "cut_short.img", &image[..4097])?;
     let mut block = TWOS;
     device.read(0, &mut block)?;
     assert!(rt; block == ONES);
     assert!(rt; device.read(1, &mut block).is_err());
+    fs::remove_file(&rt, "cut_short.img")?;
     Ok(())
 }
 
 #[test]
 fn std_source_gives_a_file(rt: HostRuntime) -> Result<(), Fail> {
-    fs::write(&rt, "text", "abc")?;
+    fs::write(&rt, "source.txt", "abc")?;
     let mut source = StdSource::new(&rt);
-    source.attach("text")?;
+    source.attach("source.txt")?;
     let mut room = [0; 2];
     assert!(rt; source.take(&mut room) == Ok(2));
     assert!(rt; source.take(&mut room) == Ok(1));
     assert!(rt; source.take(&mut room) == Ok(0));
     assert!(rt; room == *b"cb");
+    fs::remove_file(&rt, "source.txt")?;
     Ok(())
 }
 
@@ -143,13 +144,14 @@ fn std_source_needs_a_file_that_is_there(rt: HostRuntime) {
 
 #[test]
 fn std_sink_makes_and_cuts_its_file(rt: HostRuntime) -> Result<(), Fail> {
-    fs::write(&rt, "text", "what was there")?;
+    fs::write(&rt, "sink.txt", "what was there")?;
     let mut sink = StdSink::out(&rt);
-    sink.attach(Some("text"))?;
+    sink.attach(Some("sink.txt"))?;
     sink.put(b"ab")?;
     sink.put(b"\xff")?;
-    assert!(rt; fs::read(&rt, "text")?.as_slice() == b"ab\xff".as_slice());
-    assert!(rt; StdSink::out(&rt).attach(Some("missing/text")).is_err());
+    assert!(rt; fs::read(&rt, "sink.txt")?.as_slice() == b"ab\xff".as_slice());
+    assert!(rt; StdSink::out(&rt).attach(Some("missing/sink.txt")).is_err());
+    fs::remove_file(&rt, "sink.txt")?;
     Ok(())
 }
 

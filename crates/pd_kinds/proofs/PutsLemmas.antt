@@ -1,11 +1,11 @@
--- Fields put together from parts, fields of a part, and rows of numbers.
-use Rattle.std.proofs.Common.{◌≡◌, ◌⊎◌, inl, inr, ℕ, zero, suc, ◌+◌, ◌*◌, ◌/◌, ◌%◌, ◌^◌, ◌<◌, ◌≤◌, List, [], ◌∷◌, ◌++◌, length, map, take, drop, get_or, refl, ap, sym, ◌∙◌, arith, zero-add}
+-- Fields put together from parts, and rows of numbers.
+use Rattle.std.proofs.Common.{◌≡◌, ◌⊎◌, inl, inr, ℕ, zero, suc, ◌+◌, ◌*◌, ◌/◌, ◌%◌, ◌^◌, ◌<◌, ◌≤◌, List, [], ◌∷◌, ◌++◌, length, map, take, get_or, refl, ap, sym, ◌∙◌, arith, zero-add}
 use Rattle.std.proofs.Math.Nat.{mod-eq_of_lt, add-mul-mod_self_left, add-mul-div_left, div-eq_of_lt, mul-suc}
-use Rattle.std.proofs.lemmas.List.{take-append-drop, length-take-le, length-drop, take_more, take_all, map-append, length-map, get_or-map}
+use Rattle.std.proofs.lemmas.List.{length-take-le, take_more, take_all, map-append, length-map, get_or-map}
 use borrow.Author.Count.{below_more}
 use Rattle.pd_kinds.specs.Field.{le, put}
 use Rattle.pd_kinds.specs.Node.{puts}
-use Rattle.pd_kinds.proofs.FieldLemmas.{length-put, le-put, le-put_other, put_low, put_join, put-append_left, put-append_right}
+use Rattle.pd_kinds.proofs.FieldLemmas.{length-put, le-put, le-put_other, put_low, put_join}
 
 -- what stands above a low part
 pub above_low : (v r limit : ℕ) → v < limit → (v + limit * r) / limit ≡ r
@@ -19,22 +19,6 @@ put_parts b o j k v r small =
     let lows : put b o j (v + 256 ^ j * r) ≡ put b o j v =
     sym (put_low b o j (v + 256 ^ j * r) j (omega arith)) ∙ ap (λ (n : ℕ). put b o j n) low in
     rw (put_join b o j k (v + 256 ^ j * r), high, lows) refl
-
--- a field written into a part of a block is written into the block
-pub put_part : (b : List ℕ) (at n k v : ℕ) → at + n ≤ length b → k ≤ n
-    → take at b ++ (put (take n (drop at b)) 0 k v ++ drop n (drop at b)) ≡ put b at k v
-put_part b at n k v within small =
-    let front = take at b in
-    let mid = take n (drop at b) in
-    let tail = drop n (drop at b) in
-    let rest_len = length-drop at b in
-    let mid_len : length mid ≡ n = length-take-le n (drop at b) (omega arith) in
-    let front_len : length front ≡ at = length-take-le at b (omega arith) in
-    let whole : front ++ (mid ++ tail) ≡ b = ap (λ (rest : List ℕ). front ++ rest) (take-append-drop n (drop at b)) ∙ take-append-drop at b in
-    let place : at + 0 ≡ at = omega arith in
-    ap (λ (rest : List ℕ). front ++ rest) (sym (put-append_left mid tail 0 k v (omega arith)))
-    ∙ (sym (put-append_right front (mid ++ tail) at 0 k v front_len)
-    ∙ (ap (λ (xs : List ℕ). put xs (at + 0) k v) whole ∙ ap (λ (p : ℕ). put b p k v) place))
 
 -- a row of numbers keeps the length
 pub length-puts : (b : List ℕ) (o width : ℕ) (xs : List ℕ) → length (puts b o width xs) ≡ length b

@@ -1,5 +1,6 @@
--- Lemmas that several proofs share.
 pub mod PathLemmas
+pub mod CleanLemmas
+pub mod OrderLemmas
 pub mod AllLemmas
 pub mod SoundLemmas
 pub mod LayoutLemmas

@@ -1,11 +1,11 @@
 -- What is read of a node that was written.
 use Rattle.std.proofs.Common.{subst, ◌≡◌, inl, ℕ, ◌+◌, ◌*◌, ◌/◌, ◌^◌, ◌<◌, ◌≤◌, true, List, length, map, get_or, refl, ap, sym, ◌∙◌, arith, lit≤}
 use Rattle.std.proofs.Math.Nat.{mod-eq_of_lt, mul-add, mul-le-mul_left, mul-le-mul_right, mul_comm, div-mul-le_self}
-use Rattle.std.proofs.lemmas.List.{length-map, length-replicate}
+use Rattle.std.proofs.lemmas.List.{length-map}
 use Rattle.pd_kinds.specs.Field.{le, written, zeros}
 use Rattle.pd_kinds.specs.Checksum.{sealed}
 use Rattle.pd_kinds.specs.Node.{Entry, puts, node_rows, node_block, node_salt, max_entries, node_flags, node_place, node_entries, node_max, node_value_size, key_at, value_at}
-use Rattle.pd_kinds.proofs.WrittenLemmas.{is_looked_up, looked_up, le-written, length-written, le-sealed_other}
+use Rattle.pd_kinds.proofs.WrittenLemmas.{is_looked_up, looked_up, le-written, length-written, length-zeros, le-sealed_other}
 use Rattle.pd_kinds.proofs.PutsLemmas.{length-puts, le-puts, le-puts_other}
 
 -- the numbers of the entries
@@ -42,10 +42,6 @@ count_room size count within =
     let swap = mul_comm (max_entries size) size in
     (omega arith, omega arith)
 
-length_zeros : length zeros ≡ 4096
-unfolding zeros
-length_zeros = length-replicate {A = ℕ} 4096 0
-
 -- a field of the header stays when the keys, the values and the checksum are written
 header_stays : (header keys values : List ℕ) (at size salt p n : ℕ) → 32 ≤ at → 4 ≤ p → p + n ≤ 32
     → le (sealed (puts (puts header 32 8 keys) at size values) salt) p n ≡ le header p n
@@ -62,7 +58,7 @@ header_says flags size place entries p n behind within found =
     let rows = node_rows flags size place (length entries) in
     let P : ℕ → Type 0 = λ len. is_looked_up len p n rows ≡ true in
     header_stays (written zeros rows) (entry_keys entries) (entry_values entries) (32 + 8 * max_entries size) size node_salt p n (omega arith) behind within
-    ∙ le-written zeros rows p n (subst P (sym length_zeros) found)
+    ∙ le-written zeros rows p n (subst P (sym length-zeros) found)
 
 pub flags_written : (flags size place : ℕ) (entries : List Entry) → CanWrite flags size place entries → node_flags (node_block flags size place entries) ≡ flags
 flags_written flags size place entries can = header_says flags size place entries 4 4 (lit≤ tt) (lit≤ tt) refl ∙ mod-eq_of_lt can.flags_fit
@@ -103,7 +99,7 @@ value_stays header keys values at size salt i within room h small =
     ∙ le-puts (puts header 32 8 keys) at size values i (omega arith) h small
 
 header_len : (flags size place count : ℕ) → length (written zeros (node_rows flags size place count)) ≡ 4096
-header_len flags size place count = length-written zeros (node_rows flags size place count) ∙ length_zeros
+header_len flags size place count = length-written zeros (node_rows flags size place count) ∙ length-zeros
 
 pub key_written : (flags size place : ℕ) (entries : List Entry) → CanWrite flags size place entries → (i : ℕ) → i < length entries
     → key_at (node_block flags size place entries) i ≡ get_or (entry_keys entries) i 0

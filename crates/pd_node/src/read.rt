@@ -23,23 +23,20 @@ pub fn child<V: Value>(block: &Block, i: usize) -> u64
     ensures { result ≡ child_at block.now.0 i }
 {
     lies_within::<V>(block, i);
-    u64_at(
-        &block.0,
-        HEADER_SIZE + KEY_SIZE * max_of(block) + KEY_SIZE * i,
-    )
+    let at = HEADER_SIZE + KEY_SIZE * max_of(block) + KEY_SIZE * i;
+    u64_at(&block.0, at)
 }
 
 /// The value of entry `i`, from 0, of a leaf.
 pub fn value<V: Value>(block: &Block, i: usize) -> V
     requires entry { i < entry_count V.SIZE block.now.0 }
     requires leaf { is_inner_node block.now.0 ≡ false }
-    ensures { result ≡ V.decoded (value_at V.SIZE block.now.0 i) }
+    ensures value { result ≡ V.decoded (value_at V.SIZE block.now.0 i) }
+    ensures fits { V.fitting result ≡ true }
 {
     lies_within::<V>(block, i);
-    value_at(
-        &block.0,
-        HEADER_SIZE + KEY_SIZE * max_of(block) + V::SIZE * i,
-    )
+    let at = HEADER_SIZE + KEY_SIZE * max_of(block) + V::SIZE * i;
+    value_at(&block.0, at)
 }
 
 /// The key and the value of entry `i` lie within the block.

@@ -6,7 +6,7 @@ ghost use Rattle.pd_kinds.specs.declared.rule.Rule.{Rule as BrokenRule};
 ghost use Rattle.pd_kinds.specs.Node.{entry_count, is_ascending, key_at, node_bad, node_keys, node_tests};
 ghost use Rattle.pd_kinds.specs.RuleSet.{failing, has_rule};
 
-use crate::header::{HEADER_SIZE, KEY_SIZE, entries, has_bad_flags, has_bad_shape};
+use crate::header::{HEADER_SIZE, KEY_SIZE, PLACE_AT, entries, has_bad_flags, has_bad_shape};
 use pd_crc::is_sealed;
 use pd_kinds::{Block, Rule, Rules, u64_at};
 use pd_value::Value;
@@ -33,7 +33,7 @@ pub fn node_rules<V: Value>(block: &Block, place: u64) -> Rules
 fn table_rules<V: Value>(block: &Block, place: u64) -> Rules
     ensures { (rule : BrokenRule) → has_rule result rule ≡ failing (node_tests V.SIZE place block.now.0) rule }
 {
-    let elsewhere = u64_at(&block.0, 8) != place;
+    let elsewhere = u64_at(&block.0, PLACE_AT) != place;
     let flags_bad = has_bad_flags(block);
     let shape_bad = has_bad_shape::<V>(block);
     let ascending = do_keys_ascend::<V>(block);

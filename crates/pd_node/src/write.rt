@@ -8,7 +8,10 @@ ghost use Rattle.pd_kinds.specs.Node.{entry_count, inner_block, is_ascending, is
 ghost use Rattle.pd_node.specs.Items.{entries_of, keys_of, values_of};
 ghost use Rattle.pd_node.specs.Read.{node_children, node_values};
 
-use crate::header::{HEADER_SIZE, KEY_SIZE};
+use crate::header::{
+    ENTRIES_AT, FLAGS_AT, HEADER_SIZE, INNER_FLAGS, KEY_SIZE, LEAF_FLAGS, MAX_AT, PLACE_AT,
+    VALUE_SIZE_AT,
+};
 use crate::rules::NODE_SALT;
 use pd_crc::seal;
 use pd_kinds::{BLOCK_SIZE, Block, put_u32, put_u64};
@@ -38,7 +41,7 @@ pub fn write_leaf<V: Value>(place: u64, items: &[(u64, V)]) -> Block
     ensures keys { node_keys V.SIZE result.0 ≡ keys_of items.now }
     ensures values { node_values V.SIZE V.decoded result.0 ≡ values_of items.now }
 {
-    let mut block = header_of(2, V::SIZE, place, items.len());
+    let mut block = header_of(LEAF_FLAGS, V::SIZE, place, items.len());
     put_keys(&mut block, items);
     let values_at = HEADER_SIZE + KEY_SIZE * max_entries_of(V::SIZE);
     put_values(&mut block, values_at, items);
@@ -60,7 +63,7 @@ pub fn write_inner(place: u64, items: &[(u64, u64)]) -> Block
     ensures keys { (size : ℕ) → node_keys size result.0 ≡ keys_of items.now }
     ensures children { (size : ℕ) → node_children size result.0 ≡ values_of items.now }
 {
-    let mut block = header_of(1, KEY_SIZE, place, items.len());
+    let mut block = header_of(INNER_FLAGS, KEY_SIZE, place, items.len());
     put_keys(&mut block, items);
     put_children(
         &mut block,
@@ -79,11 +82,11 @@ fn header_of(flags: u32, size: usize, place: u64, count: usize) -> Block
     ensures { result.0 ≡ written zeros (node_rows flags size place count) }
 {
     let mut block = Block([0; 4096]);
-    put_u32(&mut block.0, 4, flags);
-    put_u64(&mut block.0, 8, place);
-    put_u32(&mut block.0, 16, count as u32);
-    put_u32(&mut block.0, 20, max_entries_of(size) as u32);
-    put_u32(&mut block.0, 24, size as u32);
+    put_u32(&mut block.0, FLAGS_AT, flags);
+    put_u64(&mut block.0, PLACE_AT, place);
+    put_u32(&mut block.0, ENTRIES_AT, count as u32);
+    put_u32(&mut block.0, MAX_AT, max_entries_of(size) as u32);
+    put_u32(&mut block.0, VALUE_SIZE_AT, size as u32);
     block
 }
 

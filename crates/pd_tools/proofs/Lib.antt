@@ -1,3 +1,2 @@
-pub mod WordLemmas
 pub mod SuperFaults
 pub mod Answered

@@ -5,6 +5,7 @@ mod check;
 mod notes;
 mod run;
 mod super_check;
-mod words;
+#[cfg(test)]
+mod tests;
 
 pub use run::run_tool;

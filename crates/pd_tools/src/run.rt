@@ -5,12 +5,12 @@ ghost use Rattle.pd_kinds.specs.Objects.{DeviceState, SourceState, SinkState};
 ghost use Rattle.pd_kinds.specs.Words.{asked};
 ghost use Rattle.pd_kinds.specs.Answer.{objects, AreFresh, IsAnswered};
 ghost use Rattle.pd_tools.specs.Notes.{IsAttachedNotes};
-ghost use Rattle.pd_tools.specs.Words.{request_of};
+ghost use Rattle.pd_words.specs.Words.{request_of};
 
 use crate::check::{check_super, status_of};
 use crate::notes::{USAGE_LINE, put_line};
-use crate::words::{Request, read_words};
 use pd_image::{Device, Sink, Source};
+use pd_words::{Request, read_words};
 use std::alloc::Global;
 
 /// Does what the words ask, and answers the status of the program.

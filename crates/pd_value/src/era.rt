@@ -10,7 +10,7 @@ use pd_kinds::{put_u32, put_u64, u32_at, u64_at};
 pub struct Writeset {
     /// The number of bits of the bitset.
     pub bits: u32,
-    /// The root of the bitset.
+    /// The metadata block of the bitset's root.
     pub root: u64,
 }
 
@@ -26,6 +26,7 @@ impl Value for Writeset {
     ghost decoded = { λ number. record { bits = number % 2 ^ 32; root = number / 2 ^ 32 } };
 
     fn fits(&self) -> bool {
+        // Each number of these types has its place: reading it shows its range.
         let _bits = self.bits;
         let _root = self.root;
         true

@@ -21,6 +21,7 @@ impl Value for Count {
     ghost decoded = { λ number. record { 0 = number } };
 
     fn fits(&self) -> bool {
+        // Each number of these types has its place: reading it shows its range.
         let _count = self.0;
         true
     }
@@ -50,7 +51,7 @@ impl Value for Count {
 /// "drivers/md/persistent-data/dm-space-map-common.h".
 #[derive(Clone, Copy, Debug, PartialEq, Eq)]
 pub struct IndexEntry {
-    /// The bitmap's block.
+    /// The metadata block of the bitmap.
     pub block: u64,
     /// How many of the bitmap's blocks are free.
     pub free: u32,
@@ -74,6 +75,7 @@ impl Value for IndexEntry {
     } };
 
     fn fits(&self) -> bool {
+        // Each number of these types has its place: reading it shows its range.
         let _block = self.block;
         let _free = self.free;
         let _none_before = self.none_before;

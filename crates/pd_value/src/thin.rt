@@ -21,6 +21,7 @@ impl Value for Root {
     ghost decoded = { λ number. record { 0 = number } };
 
     fn fits(&self) -> bool {
+        // Each number of these types has its place: reading it shows its range.
         let _block = self.0;
         true
     }
@@ -51,7 +52,7 @@ impl Value for Root {
 pub struct BlockTime {
     /// The data block, below 2^40.
     pub block: u64,
-    /// The time of the mapping, below 2^24.
+    /// The pool's time when the block was mapped, below 2^24.
     pub time: u32,
 }
 
@@ -102,9 +103,9 @@ pub struct Details {
     pub mapped: u64,
     /// The transaction in which the device was made.
     pub transaction: u64,
-    /// The time at which it was made.
+    /// The pool's time when it was made.
     pub created: u32,
-    /// The time of its last snapshot.
+    /// The pool's time of its last snapshot.
     pub snapped: u32,
 }
 
@@ -125,6 +126,7 @@ impl Value for Details {
     } };
 
     fn fits(&self) -> bool {
+        // Each number of these types has its place: reading it shows its range.
         let _mapped = self.mapped;
         let _transaction = self.transaction;
         let _created = self.created;

@@ -35,23 +35,29 @@ pub trait Value: Copy {
         requires size { length bytes.old ≡ SIZE }
         ensures { bytes.new ≡ put bytes.old 0 SIZE (code self.now) };
 
+    // a value has from 4 to 24 bytes
     ghost size_least: { 4 ≤ SIZE };
 
     ghost size_most: { SIZE ≤ 24 };
 
+    // the number of a value that fits has no more bytes
     ghost code_below: { (value : Self) → fitting value ≡ true → code value < 256 ^ SIZE };
 
+    // what was written reads as the same value
     ghost reads_back: { (value : Self) → fitting value ≡ true → decoded (code value) ≡ value };
 
+    // what was read fits
     ghost read_fits: { (number : ℕ) → number < 256 ^ SIZE → fitting (decoded number) ≡ true };
 
+    // writing what was read gives the same number
     ghost writes_back: { (number : ℕ) → number < 256 ^ SIZE → code (decoded number) ≡ number };
 }
 
 /// The value that is stored from `at` on.
 pub fn value_at<V: Value>(bytes: &[u8], at: usize) -> V
     requires { at + V.SIZE ≤ length bytes.now }
-    ensures { result ≡ V.decoded (le bytes.now at V.SIZE) }
+    ensures value { result ≡ V.decoded (le bytes.now at V.SIZE) }
+    ensures fits { V.fitting result ≡ true }
 {
     V::read(&bytes[at..at + V::SIZE])
 }

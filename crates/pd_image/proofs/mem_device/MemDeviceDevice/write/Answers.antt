@@ -1,4 +1,4 @@
-use Rattle.pd_image.specs.MemDevice.{block_bytes}
+use Rattle.pd_image.specs.Blocks.{block_bytes}
 use Rattle.pd_image.proofs.BlockLemmas.{block_bytes-set, changes_one}
 use Rattle.pd_image.proofs.mem_device.MemDeviceDevice.write.Goals as goal
 

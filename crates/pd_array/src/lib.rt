@@ -1,0 +1,15 @@
+//! Blocks of an array: their rules, and their words read and written, as
+//! "drivers/md/persistent-data/dm-array.c" stores them.
+#![tactic(auto)]
+
+mod read;
+mod rules;
+#[cfg(test)]
+mod tests;
+mod word;
+mod write;
+
+pub use read::{array_len, array_word};
+pub use rules::array_rules;
+pub use word::Word;
+pub use write::write_array;

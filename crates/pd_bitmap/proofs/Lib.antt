@@ -1,0 +1,3 @@
+pub mod CountBits
+pub mod Placed
+pub mod IndexRow

@@ -1,0 +1,71 @@
+//! A bitmap: 16320 reference counts of two bits each.
+
+ghost use Rattle.std.specs.Prelude.{◌≡◌, ◌≢◌, ℕ, ◌+◌, ◌/◌, ◌<◌, ◌≤◌, false, slice_index};
+ghost use Rattle.pd_kinds.specs.declared.rule.Rule.{Rule as BrokenRule};
+ghost use Rattle.pd_kinds.specs.Bitmap.{bitmap_bad, bitmap_salt, placed_block, two_bits_of};
+ghost use Rattle.pd_kinds.specs.Field.{zeros};
+ghost use Rattle.pd_kinds.specs.RuleSet.{has_rule};
+
+use crate::HEADER_SIZE;
+use crate::counts::{count_of, with_count};
+use pd_crc::{is_sealed, seal};
+use pd_kinds::{Block, Rule, Rules, put_u64, u64_at};
+
+/// What the checksum of a bitmap is XORed with, as BITMAP_CSUM_XOR of
+/// "drivers/md/persistent-data/dm-space-map-common.c".
+const BITMAP_SALT: u32 = 240779;
+
+/// The rules that the block breaks as the bitmap in this place.
+///
+/// A bitmap whose checksum is wrong breaks Checksum alone.
+#[tactic(auto, unfolding(pd_kinds::specs::Bitmap::bitmap_bad, pd_kinds::specs::RuleSet::alone, pd_kinds::specs::RuleSet::failing))]
+pub fn bitmap_rules(block: &Block, place: u64) -> Rules
+    ensures { (rule : BrokenRule) → has_rule result rule ≡ bitmap_bad place block.now.0 rule }
+{
+    if !is_sealed(block, BITMAP_SALT) {
+        return Rules::none().with(Rule::Checksum);
+    }
+    let elsewhere = u64_at(&block.0, 8) != place;
+    Rules::none().with_if(Rule::Place, elsewhere)
+}
+
+/// The two bits of entry `i`, from 0: a count, or 3 where the overflow tree has the count.
+#[tactic(auto, unfolding(pd_kinds::specs::Bitmap::two_bits_of))]
+pub fn two_bits(block: &Block, i: usize) -> u8
+    requires { i < 16320 }
+    ensures count { result ≡ two_bits_of block.now.0 i }
+    ensures most { result ≤ 3 }
+{
+    count_of(block.0[HEADER_SIZE + i / 4], (i % 4) as u32)
+}
+
+/// Sets the two bits of entry `i`, from 0, and changes nothing else.
+#[tactic(auto, unfolding(pd_kinds::specs::Bitmap::two_bits_of))]
+pub fn set_two_bits(block: &mut Block, i: usize, count: u8)
+    requires entry { i < 16320 }
+    requires count { count ≤ 3 }
+    ensures set { two_bits_of block.new.0 i ≡ count }
+    ensures others { (j : ℕ) → j ≢ i → two_bits_of block.new.0 j ≡ two_bits_of block.old.0 j }
+    ensures bytes { (k : ℕ) → k ≢ 16 + i / 4 → slice_index block.new.0 k ≡ slice_index block.old.0 k }
+{
+    let at = HEADER_SIZE + i / 4;
+    block.0[at] = with_count(block.0[at], (i % 4) as u32, count);
+}
+
+/// A bitmap of zeros, which isn't sealed yet.
+pub fn new_bitmap() -> Block
+    ensures block { result.0 ≡ zeros }
+    ensures counts { (i : ℕ) → two_bits_of result.0 i ≡ 0 }
+{
+    Block::zeros()
+}
+
+/// Writes the place and the checksum of a bitmap, and changes nothing else.
+pub fn seal_bitmap(block: &mut Block, place: u64)
+    ensures sealed { block.new.0 ≡ placed_block bitmap_salt place block.old.0 }
+    ensures rules { (rule : BrokenRule) → bitmap_bad place block.new.0 rule ≡ false }
+    ensures counts { (i : ℕ) → two_bits_of block.new.0 i ≡ two_bits_of block.old.0 i }
+{
+    put_u64(&mut block.0, 8, place);
+    seal(block, BITMAP_SALT);
+}

@@ -1,0 +1,13 @@
+-- What a request that was read means.
+use Rattle.std.specs.Prelude.{Option, Some, None}
+use Rattle.pd_words.specs.declared.words.Request.{Request}
+use Rattle.pd_kinds.specs.Words as words
+
+-- the request as the definitions speak of it
+abbrev pub request_of : Request → words.Request
+request_of request = words.check_super request.image.now
+
+-- the request that was read, if one was
+abbrev pub spelled : Option Request → Option words.Request
+spelled None = None
+spelled (Some request) = Some (request_of request)

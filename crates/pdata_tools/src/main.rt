@@ -1,0 +1,58 @@
+//! The program: it gives the words of its command line, files and the standard streams to the tools.
+#![tactic(auto)]
+
+ghost use Rattle.std.specs.Prelude.{◌≡◌, ◌≢◌, ◌==◌, IsTrue, map, string_bytes};
+ghost use Rattle.std.specs.List.{list_any};
+ghost use Rattle.std.specs.declared.io.ErrorKind.TheVariants.{OutOfMemory};
+ghost use Rattle.pd_kinds.specs.Words.{asked};
+ghost use Rattle.pd_kinds.specs.Answer.{statuses_of};
+
+use pd_image::{FileDevice, StdSink, StdSource};
+use pd_tools::run_tool;
+use std::io::ErrorKind;
+use std::process::ExitCode;
+use std::{env, io};
+
+/// Runs the tool that the words ask for. Its status is the exit code.
+fn main(rt: HostRuntime) -> ExitCode {
+    let status = match tool_words(&rt) {
+        Ok(words) => run(&rt, words.as_slice()),
+        Err(error) => wordless_status(error.kind()),
+    };
+    ExitCode::from(status)
+}
+
+/// The words without the first one, which is the program's own name.
+fn tool_words(rt: &HostRuntime) -> io::Result<Vec<String>> {
+    let words = env::args(rt)?.skip(1).collect(rt.alloc())?;
+    Ok(words)
+}
+
+/// Runs the tool over real files and the standard streams.
+fn run(rt: &HostRuntime, words: &[String]) -> u8
+    ensures { IsTrue (list_any (λ status. result == status) (statuses_of (asked (map string_bytes words.now)))) }
+{
+    run_tool(
+        rt.alloc(),
+        words,
+        &mut StdSource::new(rt),
+        &mut StdSink::out(rt),
+        &mut StdSink::err(rt),
+        &mut FileDevice::new(rt),
+        &mut FileDevice::new(rt),
+        &mut FileDevice::new(rt),
+    )
+}
+
+/// The status where the words couldn't be taken: 7 for want of memory, and 2 for another cause, as a
+/// word that isn't UTF-8.
+fn wordless_status(cause: ErrorKind) -> u8
+    ensures memory { cause ≡ OutOfMemory → result ≡ 7 }
+    ensures other { cause ≢ OutOfMemory → result ≡ 2 }
+{
+    if cause == ErrorKind::OutOfMemory {
+        7
+    } else {
+        2
+    }
+}
