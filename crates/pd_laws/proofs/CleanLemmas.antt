@@ -1,11 +1,12 @@
 -- No faults, stage by stage, against what a clean image is.
-use Rattle.std.proofs.Common.{◌≡◌, ℕ, zero, suc, ◌+◌, ◌<◌, ◌≤◌, Bool, true, false, ◌&&◌, cond, nat_lt, List, [], ◌∷◌, ◌++◌, length, map, filter, get_or, Option, refl, ap, arith, inl, inr, zero-le}
+use Rattle.std.proofs.Common.{◌≡◌, ℕ, zero, suc, ◌+◌, ◌<◌, ◌≤◌, Bool, true, false, ◌&&◌, cond, nat_lt, List, [], ◌∷◌, ◌++◌, length, map, filter, Option, refl, ap, arith, inl, inr, zero-le}
 use Rattle.std.specs.List.{AllByRecursion, list_any, flat_map, range_with_len}
 use Rattle.std.proofs.lemmas.Bool.{cases_Bool, cases_eq, cases_lt, cases_order, both_ways, false_from_ne_true, true_from_ne_false, or_parts, or_from, and_left, and_right, ltb-false, lt-ltb, le-ltb}
 use Rattle.std.proofs.lemmas.Bool.Decides.{nat_tests}
 use Rattle.std.proofs.lemmas.List.Elements.{All-from_recursion}
 use Rattle.std.proofs.lemmas.List.{nil_from_length}
 use Rattle.std.specs.declared.option.Option.TheVariants.{Some, None}
+use Rattle.pd_laws.proofs.SoundLemmas.{rule_at}
 use Rattle.pd_kinds.specs.declared.kind.Stage.{Stage}
 use Rattle.pd_kinds.specs.declared.kind.Stage.TheVariants as stages
 use Rattle.pd_kinds.specs.declared.rule.Rule.{Rule}
@@ -144,11 +145,6 @@ none_in_range : {X : Type 0} (f : ℕ → List X) (n : ℕ) → ((k : ℕ) → k
 none_in_range f n none = mapped_none f (range_with_len 0 n) (all_of_range (λ j. f j ≡ []) 0 n (λ k from below. none k (omega arith)))
 
 -- all rules are among all rules
-rule_at : (rule : Rule) → get_or all_rules (number_of rule) r.Checksum ≡ rule
-unfolding all_rules
-rule_at r.Checksum = refl
-rule_at _ = refl
-
 length-all_rules : length all_rules ≡ 22
 unfolding all_rules
 length-all_rules = refl

@@ -3,6 +3,7 @@ use Rattle.std.proofs.Common.{◌≡◌, ℕ, zero, suc, ◌+◌, ◌≤◌, Boo
 use Rattle.std.specs.List.{AllByRecursion, flat_map, range_with_len}
 use Rattle.std.proofs.lemmas.Bool.{cond_both}
 use Rattle.std.specs.declared.option.Option.TheVariants.{Some, None}
+use Rattle.pd_laws.proofs.AllLemmas.{all_append, all_from}
 use Rattle.pd_kinds.specs.declared.kind.Stage.{Stage}
 use Rattle.pd_kinds.specs.declared.kind.Stage.TheVariants as stages
 use Rattle.pd_kinds.specs.declared.rule.Rule.{Rule}
@@ -15,14 +16,6 @@ use Rattle.pd_kinds.specs.FaultOrder.{space_number, IsBefore, AreAscending}
 use Rattle.pd_kinds.specs.Graph.{meta_count, data_count}
 use Rattle.pd_kinds.specs.Stages.{Checked, super_faults, walk_bad, order_bad, block_faults, count_fault, count_faults, stage_faults, first_failing}
 use Rattle.pd_kinds.specs.Whole.{whole_bad}
-
-all_append : {X : Type 0} (P : X → Type 0) (xs ys : List X) → AllByRecursion P xs → AllByRecursion P ys → AllByRecursion P (xs ++ ys)
-all_append P [] ys first later = later
-all_append P (x ∷ xs) ys first later = (first.0, all_append P xs ys first.1 later)
-
-all_weaker : {X : Type 0} (P Q : X → Type 0) → ((x : X) → P x → Q x) → (xs : List X) → AllByRecursion P xs → AllByRecursion Q xs
-all_weaker P Q weaker [] all = tt
-all_weaker P Q weaker (x ∷ xs) all = (weaker x all.0, all_weaker P Q weaker xs all.1)
 
 -- faults that ascend, and P holds of each
 record Ascends (P : Fault → Type 0) (list : List Fault) : Type 0 where
@@ -38,12 +31,12 @@ single holds = record { in_order = (tt, tt); each = (holds, tt) }
 -- two such lists, each fault of the first before each of the second, ascend together, and R holds of each
 module _ (P Q R : Fault → Type 0) (before : (f g : Fault) → P f → Q g → IsBefore f g) (first : (f : Fault) → P f → R f) (second : (g : Fault) → Q g → R g) where
   joined : (fs gs : List Fault) → Ascends P fs → Ascends Q gs → Ascends R (fs ++ gs)
-  joined [] gs low high = record { in_order = high.in_order; each = all_weaker Q R second gs high.each }
+  joined [] gs low high = record { in_order = high.in_order; each = all_from Q R second gs high.each }
   joined (f ∷ fs) gs low high =
       let rest = joined fs gs (record { in_order = low.in_order.1; each = low.each.1 }) high in
       record {
         in_order = (
-          all_append (IsBefore f) fs gs low.in_order.0 (all_weaker Q (IsBefore f) (λ g. before f g low.each.0) gs high.each),
+          all_append (IsBefore f) fs gs low.in_order.0 (all_from Q (IsBefore f) (λ g. before f g low.each.0) gs high.each),
           rest.in_order,
         );
         each = (first f low.each.0, rest.each);
@@ -80,9 +73,9 @@ ascending_rules b bad [] k count = nothing
 ascending_rules b bad (rule ∷ rules) k count =
     let head : number_of rule ≡ k = cc in
     let rest = ascending_rules b bad rules (k + 1) (cc) in
-    let weaker = all_weaker (IsByRule b (k + 1)) (IsByRule b k) (λ f by. record { at = by.at; from_rule = omega (arith, by.from_rule) })
+    let weaker = all_from (IsByRule b (k + 1)) (IsByRule b k) (λ f by. record { at = by.at; from_rule = omega (arith, by.from_rule) })
     (map (meta_fault b) (filter bad rules)) rest.each in
-    let later = all_weaker (IsByRule b (k + 1)) (IsBefore (meta_fault b rule))
+    let later = all_from (IsByRule b (k + 1)) (IsBefore (meta_fault b rule))
     (λ f by. inr (sym by.at.in_space, inr (sym by.at.at_block, omega (arith, by.from_rule, head))))
     (map (meta_fault b) (filter bad rules)) rest.each in
     cond_both (bad rule) (rule ∷ filter bad rules) (filter bad rules) (λ list. Ascends (IsByRule b k) (map (meta_fault b) list))
@@ -100,7 +93,7 @@ ascending_at : (b : ℕ) (bad : Rule → Bool) → Ascends (IsAt Meta b) (faults
 unfolding faults_at
 ascending_at b bad =
     let rules = ascending_rules b bad all_rules 0 all_rules_count in
-    record { in_order = rules.in_order; each = all_weaker (IsByRule b 0) (IsAt Meta b) (λ f by. by.at) (map (meta_fault b) (filter bad all_rules)) rules.each }
+    record { in_order = rules.in_order; each = all_from (IsByRule b 0) (IsAt Meta b) (λ f by. by.at) (map (meta_fault b) (filter bad all_rules)) rules.each }
 
 ascending_block_faults : (nr : ℕ) (bad : ℕ → Rule → Bool) → AreAscending (block_faults nr bad)
 unfolding block_faults

@@ -17,7 +17,7 @@ abbrev pub IsSound : (Rule → Bool) → Type 0
 IsSound bad = (rule : Rule) → bad rule ≡ false
 
 -- each rule stands at its number
-rule_at : (rule : Rule) → get_or all_rules (number_of rule) r.Checksum ≡ rule
+pub rule_at : (rule : Rule) → get_or all_rules (number_of rule) r.Checksum ≡ rule
 unfolding all_rules
 rule_at r.Checksum = refl
 rule_at _ = refl
