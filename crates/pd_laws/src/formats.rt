@@ -1,15 +1,18 @@
-ghost use Rattle.std.specs.Prelude.{◌≡◌, ℕ, false, List};
+ghost use Rattle.std.specs.Prelude.{◌≡◌, ◌≤◌, ℕ, false, List};
 ghost use Rattle.pd_kinds.specs.declared.rule.Rule.{Rule};
 ghost use Rattle.pd_kinds.specs.ThinSuper.{thin_super_bad};
-ghost use Rattle.pd_kinds.specs.ThinFormat.{thin_graph};
+ghost use Rattle.pd_kinds.specs.ThinFormat.{thin_graph, thin_layout};
 ghost use Rattle.pd_kinds.specs.CacheFormat.{cache_super_bad, cache_graph};
 ghost use Rattle.pd_kinds.specs.EraFormat.{era_super_bad, era_graph};
+ghost use Rattle.pd_kinds.specs.Layout.{graph_of};
 ghost use Rattle.pd_kinds.specs.Lawful.{IsLawful};
 
-/// The format of a thin pool keeps the laws, where its superblock breaks no rule.
+/// The format of a thin pool keeps the laws, where its superblock breaks no rule, and so for every number
+/// of metadata blocks that a superblock may name.
 pub fn thin_format_is_lawful()
-    ensures { (blocks : ℕ) (super_block : List ℕ) → ((rule : Rule) → thin_super_bad blocks super_block rule ≡ false)
+    ensures super_block { (blocks : ℕ) (super_block : List ℕ) → ((rule : Rule) → thin_super_bad blocks super_block rule ≡ false)
         → IsLawful (thin_graph super_block) }
+    ensures table { (nr data_blocks : ℕ) → 1 ≤ nr → nr ≤ 4161600 → IsLawful (graph_of 11 nr data_blocks (thin_layout nr data_blocks)) }
 {}
 
 /// The format of a cache keeps the laws, where its superblock breaks no rule.

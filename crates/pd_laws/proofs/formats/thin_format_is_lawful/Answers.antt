@@ -2,7 +2,8 @@ use Rattle.std.proofs.Common.{inl, inr, ℕ, ◌%◌, ◌^◌, ◌<◌, ◌≤�
 use Rattle.std.proofs.lemmas.Bool.{or_parts, or_from, not-false, ltb-true}
 use Rattle.pd_kinds.specs.ThinSuper.{Edge, thin_fields, thin_super_edges, thin_super_tests, thin_super_bad, are_thin_sizes_bad}
 use Rattle.pd_kinds.specs.ThinFormat.{held_edges, thin_held_bad, mapped_block, mappings_tree, thin_layout, thin_graph}
-use Rattle.pd_kinds.specs.Layout.{copy}
+use Rattle.pd_kinds.specs.Lawful.{IsLawful}
+use Rattle.pd_kinds.specs.Layout.{copy, graph_of}
 use Rattle.pd_laws.proofs.SoundLemmas.{IsSound, IsSoundSuper, tests_after_two, edges_inside, super_holds}
 use Rattle.pd_laws.proofs.LayoutLemmas.{IsLater, IsKeptBy, table_lawful, at_each, bitmap_kept, index_kept, copy_kept, all_optional, length-optional}
 use Rattle.pd_laws.proofs.TreeLemmas.{tree_kept, plain_kept, naming_kept}
@@ -73,9 +74,15 @@ kept nr data_blocks small role h =
     (superblock, (held, (devices, (mappings, (details, (index, (counts, (overflow, (own_index, (own_counts, (own_overflow, tt)))))))))))
     role h
 
-pub returns : goal.returns
+thin_table : (nr data_blocks : ℕ) → 1 ≤ nr → nr ≤ 4161600 → IsLawful (graph_of 11 nr data_blocks (thin_layout nr data_blocks))
+thin_table nr data_blocks some few =
+    table_lawful 11 nr data_blocks _ (omega arith) (omega arith) some few (kept nr data_blocks few)
+
+pub returns-clause-super_block : goal.returns-clause-super_block
 unfolding thin_graph
-returns c = λ blocks super sound.
+returns-clause-super_block c = λ blocks super sound.
     let found = super_sound blocks super sound in
-    table_lawful 11 (thin_fields super).meta_map.blocks (thin_fields super).data_map.blocks _
-    (omega arith) (omega arith) found.some_block found.few_blocks (kept (thin_fields super).meta_map.blocks (thin_fields super).data_map.blocks found.few_blocks)
+    thin_table (thin_fields super).meta_map.blocks (thin_fields super).data_map.blocks found.some_block found.few_blocks
+
+pub returns-clause-table : goal.returns-clause-table
+returns-clause-table c = thin_table
