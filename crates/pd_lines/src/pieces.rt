@@ -1,4 +1,4 @@
-ghost use Rattle.std.specs.Prelude.{◌≡◌, ℕ, ◌+◌, ◌≤◌, ◌++◌, List, [], length, take, Option, MatchResult, OnOk};
+ghost use Rattle.std.specs.Prelude.{◌≡◌, ℕ, ◌+◌, ◌≤◌, ◌++◌, List, [], length, take, Option, MatchResult, OnOk, OnErr};
 ghost use Rattle.pd_kinds.specs.Objects.{CountsFault, Appends, AppendsFront};
 ghost use Rattle.pd_lines.specs.Pieces.{Gathers};
 
@@ -35,7 +35,7 @@ impl Pieces {
     }
 
     /// Gathers the bytes of a line, after it has put what is gathered where there is no room for them.
-    /// After an error what was gathered is lost.
+    /// After an error what was gathered is as it was, without the line, and the sink may have a front of it.
     pub fn add<K: Sink>(&mut self, line: &[u8], out: &mut K) -> Result<(), Failed>
         requires attached { (K.state out.old).access ≡ 1 }
         requires short { length line.now ≤ 16384 }
@@ -46,6 +46,7 @@ impl Pieces {
         ensures access { (K.state out.new).access ≡ (K.state out.old).access }
         ensures path { (K.state out.new).path ≡ (K.state out.old).path }
         ensures faults { CountsFault result (K.state out.old).faults (K.state out.new).faults }
+        ensures failed { OnErr result (self.new ≡ self.old) }
     {
         if PIECE_ROOM - self.len < line.len() {
             self.put(out)?;
@@ -54,7 +55,7 @@ impl Pieces {
         Ok(())
     }
 
-    /// Puts what is gathered.
+    /// Puts what is gathered. After an error it is as it was, and the sink may have a front of it.
     pub fn put<K: Sink>(&mut self, out: &mut K) -> Result<(), Failed>
         requires { (K.state out.old).access ≡ 1 }
         ensures empty { OnOk result (self.new ≡ []) }
@@ -65,6 +66,7 @@ impl Pieces {
         ensures access { (K.state out.new).access ≡ (K.state out.old).access }
         ensures path { (K.state out.new).path ≡ (K.state out.old).path }
         ensures faults { CountsFault result (K.state out.old).faults (K.state out.new).faults }
+        ensures failed { OnErr result (self.new ≡ self.old) }
     {
         out.put(&self.bytes[..self.len])?;
         self.len = 0;
