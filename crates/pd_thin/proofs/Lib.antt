@@ -1,0 +1,3 @@
+pub mod NodeRules
+pub mod Rows
+pub mod Sound

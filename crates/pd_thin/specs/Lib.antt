@@ -1,0 +1,3 @@
+pub mod BlockKind
+pub mod Leaf
+pub mod SuperEdges
