@@ -1,3 +1,4 @@
 pub mod BlockKind
+pub mod Laws
 pub mod Leaf
 pub mod SuperEdges

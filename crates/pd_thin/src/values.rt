@@ -47,8 +47,13 @@ impl ThinFormat {
         ensures { result ≡ length (layout_data (layout_of self.now.nr self.now.data_blocks kind) b.now.0) }
     {
         match kind {
+            BlockKind::Devices => data_count::<Root>(b),
             BlockKind::Mappings => data_count::<BlockTime>(b),
-            _ => 0,
+            BlockKind::Details => data_count::<Details>(b),
+            BlockKind::DataIndex => data_count::<IndexEntry>(b),
+            BlockKind::Overflow => data_count::<Count>(b),
+            // Only the leaves of trees name data blocks.
+            BlockKind::Super | BlockKind::Held | BlockKind::Bitmap | BlockKind::MetaIndex => 0,
         }
     }
 
@@ -58,9 +63,13 @@ impl ThinFormat {
         ensures { slice_get (layout_data (layout_of self.now.nr self.now.data_blocks kind) b.now.0) i ≡ Some result }
     {
         match kind {
+            BlockKind::Devices => data_of_node::<Root>(b, i),
             BlockKind::Mappings => data_of_node::<BlockTime>(b, i),
-            // Only mappings name data blocks.
-            _ => 0,
+            BlockKind::Details => data_of_node::<Details>(b, i),
+            BlockKind::DataIndex => data_of_node::<IndexEntry>(b, i),
+            BlockKind::Overflow => data_of_node::<Count>(b, i),
+            // Only the leaves of trees name data blocks.
+            BlockKind::Super | BlockKind::Held | BlockKind::Bitmap | BlockKind::MetaIndex => 0,
         }
     }
 }
