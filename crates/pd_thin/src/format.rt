@@ -43,19 +43,23 @@ impl Format for ThinFormat {
 
     ghost graph = { λ format. graph_of 11 format.nr format.data_blocks (thin_layout format.nr format.data_blocks) };
 
+    #[tactic(auto, unfolding(pd_kinds::specs::Layout::graph_of))]
     fn nr(&self) -> u64 {
         self.nr
     }
 
+    #[tactic(auto, unfolding(pd_kinds::specs::Layout::graph_of))]
     fn data_blocks(&self) -> u64 {
         self.data_blocks
     }
 
+    #[tactic(auto, unfolding(pd_kinds::specs::Layout::graph_of))]
     fn rules(&self, role: u8, place: u64, b: &Block) -> Rules {
         let kind = BlockKind::of_role(role);
         self.rules_in(kind, role, place, b)
     }
 
+    #[tactic(auto, unfolding(pd_kinds::specs::Layout::graph_of))]
     fn is_tree(&self, role: u8) -> bool {
         let kind = BlockKind::of_role(role);
         kind.is_tree()
