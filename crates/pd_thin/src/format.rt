@@ -1,6 +1,8 @@
-ghost use Rattle.std.specs.Prelude.{◌≡◌, ◌≤◌};
+ghost use Rattle.std.specs.Prelude.{◌≡◌, ℕ, ◌≤◌, false, List};
 ghost use Rattle.pd_kinds.specs.Layout.{graph_of};
-ghost use Rattle.pd_kinds.specs.ThinFormat.{thin_layout};
+ghost use Rattle.pd_kinds.specs.ThinFormat.{thin_graph, thin_layout};
+ghost use Rattle.pd_kinds.specs.ThinSuper.{thin_fields, thin_super_bad};
+ghost use Rattle.pd_supers.specs.ThinSuper.{fields_of};
 
 use crate::block_kind::BlockKind;
 use pd_graph::Format;
@@ -20,12 +22,15 @@ pub struct ThinFormat {
 }
 
 impl ThinFormat {
-    /// The format of the pool with this superblock.
+    /// The format of the pool with this superblock, whose number of metadata blocks is from 1 to 4161600.
+    #[tactic(auto, unfolding(pd_kinds::specs::ThinFormat::thin_graph))]
     pub fn of(s: &ThinSuper) -> ThinFormat
         requires some { 1 ≤ s.now.meta_map.blocks }
         requires few { s.now.meta_map.blocks ≤ 4161600 }
-        ensures nr { result.nr ≡ s.now.meta_map.blocks }
-        ensures data_blocks { result.data_blocks ≡ s.now.data_map.blocks }
+        ensures graph { ⟦<ThinFormat as Format>⟧.graph result
+            ≡ graph_of 11 s.now.meta_map.blocks s.now.data_map.blocks (thin_layout s.now.meta_map.blocks s.now.data_map.blocks) }
+        // It is the format that the definitions give the pool by its superblock.
+        ensures super_block { (super_block : List ℕ) → thin_fields super_block ≡ fields_of s.now → ⟦<ThinFormat as Format>⟧.graph result ≡ thin_graph super_block }
     {
         ThinFormat {
             nr: s.meta_map.blocks,

@@ -6,7 +6,9 @@ mod edges;
 mod format;
 mod leaf;
 mod rules;
+mod sizes;
 mod tree;
 mod values;
 
 pub use format::ThinFormat;
+pub use sizes::sound_super_has_blocks;

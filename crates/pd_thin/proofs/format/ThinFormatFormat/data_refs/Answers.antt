@@ -13,7 +13,7 @@ returns-then-not-is_sound c =
     let nr = c.args.self.now.nr in
     let table = thin_layout nr c.args.self.now.data_blocks c.args.role in
     let bad = is_bad nr c.args.role table c.args.place c.args.b.now.0 in
-    rw (bad_from c.is_sound.result bad c.is_sound.ensures ?) refl
+    rw (bad_from c.is_sound.result bad c.is_sound.ensures c.if-not-is_sound.true) refl
 
 pub returns : goal.returns
 unfolding graph_of
@@ -23,5 +23,5 @@ returns c =
     let layout = layout_of nr c.args.self.now.data_blocks c.of_role-kind.result in
     let same : table ≡ layout = c.of_role-kind.ensures nr c.args.self.now.data_blocks in
     let bad = is_bad nr c.args.role table c.args.place c.args.b.now.0 in
-    let good : bad ≡ false = good_from c.is_sound.result bad c.is_sound.ensures ? in
+    let good : bad ≡ false = good_from c.is_sound.result bad c.is_sound.ensures c.if-not-is_sound.false in
     rw (listed_good bad (λ (l : Layout). layout_data l c.args.b.now.0) table layout good same) c.data_refs_in.ensures
