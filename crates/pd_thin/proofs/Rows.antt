@@ -29,9 +29,11 @@ pub below_row : {X : Type 0} → (f : ℕ → X) (n i : ℕ) → i < length (map
 below_row f n i within = omega (arith, length-map-range_with_len f 0 n)
 
 -- a loop's step: one element more of a row is tested
-pub any_more : {X : Type 0} → (p : X → Bool) (f : ℕ → X) (i : ℕ)
-    → list_any p (map f (range_with_len 0 (i + 1))) ≡ (list_any p (map f (range_with_len 0 i)) || p (f i))
-any_more p f i = rw (map-range_with_len_more f 0 i i (omega arith), list_any-append p (map f (range_with_len 0 i)) (f i ∷ []), or-false (p (f i))) refl
+pub any_more : {X : Type 0} → (p : X → Bool) (f : ℕ → X) (i : ℕ) (before here : Bool)
+    → before ≡ list_any p (map f (range_with_len 0 i)) → here ≡ p (f i)
+    → (before || here) ≡ list_any p (map f (range_with_len 0 (i + 1)))
+any_more p f i before here so_far last =
+    rw (map-range_with_len_more f 0 i i (omega arith), list_any-append p (map f (range_with_len 0 i)) (f i ∷ []), or-false (p (f i)), so_far, last) refl
 
 -- nothing for each element is nothing
 flat_map_none : {X Y : Type 0} → (xs : List X) → flat_map {X = X} {A = Y} (λ x. []) xs ≡ []

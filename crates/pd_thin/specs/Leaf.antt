@@ -1,11 +1,11 @@
 -- What the values of a tree's leaves name.
-use Rattle.std.specs.Prelude.{ℕ, Bool, true, false, not, nat_lt, if◌then◌else◌, List, [], ◌∷◌}
+use Rattle.std.specs.Prelude.{ℕ, Bool, false, not, nat_lt, if◌then◌else◌, List, [], ◌∷◌}
 use Rattle.pd_kinds.specs.ThinSuper.{Edge}
 use Rattle.pd_kinds.specs.Node.{child_at, entry_count, is_inner_node, value_at}
 use Rattle.pd_kinds.specs.Layout.{Tree}
 use Rattle.pd_graph.specs.Format.{edge_of}
 use Rattle.pd_thin.specs.declared.leaf.Names.{Names}
-use Rattle.pd_thin.specs.declared.leaf.Names.TheVariants.{Nothing, Metadata, Data}
+use Rattle.pd_thin.specs.declared.leaf.Names.TheVariants.{Metadata, Data}
 
 -- the metadata block that a value names
 abbrev pub edges_named : Names → ℕ → List Edge

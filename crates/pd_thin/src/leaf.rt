@@ -93,7 +93,8 @@ impl Leaf for BlockTime {
     }
 
     fn named(&self) -> u64 {
-        self.block
+        let BlockTime { block, .. } = *self;
+        block
     }
 }
 

@@ -1,4 +1,4 @@
-use Rattle.std.proofs.Common.{◌≡◌, ℕ, ◌<◌, arith, rules, refl, sym, ◌∙◌, length}
+use Rattle.std.proofs.Common.{rules}
 use Rattle.pd_thin.proofs.Rows.{data_found}
 use Rattle.pd_thin.proofs.tree.data_of_node.Goals as goal
 

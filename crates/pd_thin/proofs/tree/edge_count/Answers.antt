@@ -1,4 +1,4 @@
-use Rattle.std.proofs.Common.{◌≡◌, ℕ, ◌<◌, arith, rules, refl, sym, ◌∙◌, length}
+use Rattle.std.proofs.Common.{rules, ◌∙◌}
 use Rattle.pd_thin.proofs.Rows.{edge_number_is}
 use Rattle.pd_thin.proofs.tree.edge_count.Goals as goal
 

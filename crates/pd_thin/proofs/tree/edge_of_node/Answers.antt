@@ -1,4 +1,4 @@
-use Rattle.std.proofs.Common.{◌≡◌, ℕ, ◌<◌, arith, rules, refl, sym, ◌∙◌, length}
+use Rattle.std.proofs.Common.{rules}
 use Rattle.pd_thin.proofs.Rows.{edge_found}
 use Rattle.pd_thin.proofs.tree.edge_of_node.Goals as goal
 

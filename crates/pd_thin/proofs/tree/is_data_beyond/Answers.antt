@@ -1,15 +1,19 @@
-use Rattle.std.proofs.Common.{◌≡◌, ℕ, ◌<◌, arith, rules, refl, sym, ◌∙◌, length, map, not, nat_lt}
+use Rattle.std.proofs.Common.{◌≡◌, ℕ, arith, ◌∙◌, ap, not, nat_lt}
+use lib.Dec.{leb}
 use Rattle.std.proofs.lemmas.Bool.Decides.{nat_tests}
-use Rattle.std.specs.List.{list_any, range_with_len}
 use Rattle.pd_kinds.specs.Layout.{leaf_entries}
-use Rattle.pd_thin.specs.Leaf.{data_at, data_number}
+use Rattle.pd_thin.specs.Leaf.{data_number}
 use Rattle.pd_thin.proofs.Rows.{any_more, data_row, beyond_row}
 use Rattle.pd_thin.proofs.tree.is_data_beyond.Goals as goal
 
+-- the test that the code makes
+test_is : (d data_blocks : ℕ) → leb data_blocks d ≡ not (nat_lt d data_blocks)
+test_is d data_blocks = grind (arith, nat_tests)
+
 pub loop-i-preserved : goal.loop-i-preserved
 loop-i-preserved g c =
-    let number = data_at g.V.Value.SIZE (λ n. g.V.Leaf.target (g.V.Value.decoded n)) c.args.b.now.0 in
-    rw (any_more (λ d. not (nat_lt d c.args.data_blocks)) number c.loop-i.i, ← c.loop-i.invariant, ← c.data_of_node.ensures.row) (grind (arith, nat_tests))
+    any_more (λ d. not (nat_lt d c.args.data_blocks)) _ c.loop-i.i c.loop-i.beyond _ c.loop-i.invariant
+    (test_is c.data_of_node.result c.args.data_blocks ∙ ap (λ (d : ℕ). not (nat_lt d c.args.data_blocks)) c.data_of_node.ensures.row)
 
 pub returns : goal.returns
 returns g c =

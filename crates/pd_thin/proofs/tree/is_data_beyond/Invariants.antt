@@ -1,4 +1,4 @@
-use Rattle.std.proofs.Common.{◌≡◌, ℕ, map, not, nat_lt}
+use Rattle.std.proofs.Common.{◌≡◌, map, not, nat_lt}
 use Rattle.std.specs.List.{list_any, range_with_len}
 use Rattle.pd_thin.specs.Leaf.{data_at}
 use Rattle.pd_thin.proofs.tree.is_data_beyond.Given as goal

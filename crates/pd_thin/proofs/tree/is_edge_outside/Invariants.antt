@@ -1,4 +1,4 @@
-use Rattle.std.proofs.Common.{◌≡◌, ℕ, map}
+use Rattle.std.proofs.Common.{◌≡◌, map}
 use Rattle.std.specs.List.{list_any, range_with_len}
 use Rattle.pd_kinds.specs.ThinSuper.{Edge, is_outside}
 use Rattle.pd_thin.specs.Leaf.{edge_at}

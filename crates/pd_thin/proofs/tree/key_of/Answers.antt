@@ -1,4 +1,3 @@
-use Rattle.std.proofs.Common.{sym, ◌∙◌}
 use Rattle.pd_kinds.specs.Node.{entry_count, key_at, node_keys}
 use Rattle.pd_thin.proofs.Rows.{below_row, slice_get-row}
 use Rattle.pd_thin.proofs.tree.key_of.Goals as goal

@@ -1,4 +1,4 @@
-use Rattle.std.proofs.Common.{ℕ, ◌%◌, ◌^◌, ◌<◌, length}
+use Rattle.std.proofs.Common.{◌%◌, ◌^◌}
 use Rattle.pd_kinds.specs.ThinFormat.{mapped_block}
 use Rattle.pd_thin.specs.declared.leaf.Names.TheVariants.{Data, Metadata, Nothing}
 use Rattle.pd_thin.proofs.Rows.{below_edges, below_index, index_found}

@@ -1,8 +1,3 @@
-use Rattle.std.proofs.Common.{◌≡◌, refl, sym, arith, length}
-use Rattle.std.proofs.lemmas.List.{length-map}
-use Rattle.std.proofs.lemmas.List.FromFn.{length-map-range_with_len}
-use Rattle.pd_kinds.specs.Bitmap.{bitmaps_for, index_block_at, index_blocks}
-use Rattle.pd_graph.specs.Format.{edge_of}
 use Rattle.pd_thin.proofs.Rows.{index_number_is}
 use Rattle.pd_thin.proofs.format.ThinFormat.edges_in.Goals as goal
 

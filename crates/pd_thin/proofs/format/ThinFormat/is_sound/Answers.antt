@@ -1,7 +1,5 @@
-use Rattle.std.proofs.Common.{◌≡◌}
-use Rattle.pd_kinds.specs.Layout.{is_bad, layout_bad}
+use Rattle.pd_kinds.specs.Layout.{is_bad}
 use Rattle.pd_kinds.specs.RuleSet.{has_rule}
-use Rattle.pd_thin.specs.BlockKind.{layout_of}
 use Rattle.pd_thin.proofs.Sound.{sound_test}
 use Rattle.pd_thin.proofs.format.ThinFormat.is_sound.Goals as goal
 

@@ -1,10 +1,8 @@
-use Rattle.std.proofs.Common.{◌≡◌, ℕ, ◌<◌, Bool, true, false, not, List, length, refl}
-use Rattle.std.specs.List.{slice_get}
-use Rattle.pd_kinds.specs.Layout.{Layout, graph_of, is_bad, layout_edges, layout_keys, layout_data}
+use Rattle.std.proofs.Common.{◌≡◌}
+use Rattle.pd_kinds.specs.Layout.{Layout, graph_of, is_bad, layout_data}
 use Rattle.pd_kinds.specs.ThinFormat.{thin_layout}
-use Rattle.pd_graph.specs.Format.{IsSound}
 use Rattle.pd_thin.specs.BlockKind.{layout_of}
-use Rattle.pd_thin.proofs.Listed.{bad_from, good_from, listed_good, listed_within, good_all}
+use Rattle.pd_thin.proofs.Listed.{listed_within}
 use Rattle.pd_thin.proofs.format.ThinFormatFormat.data_ref.Goals as goal
 
 pub data_ref_in-requires : goal.data_ref_in-requires

@@ -1,9 +1,6 @@
-use Rattle.std.proofs.Common.{◌≡◌, ℕ, Bool, true, false, not, ◌&&◌, refl}
+use Rattle.std.proofs.Common.{◌≡◌, Bool, true, false, ◌&&◌, refl}
 use Rattle.std.proofs.lemmas.Bool.{both_ways}
-use Rattle.pd_kinds.specs.Node.{is_inner_node}
-use Rattle.pd_kinds.specs.Layout.{Layout, graph_of, is_bad, is_tree_layout}
-use Rattle.pd_kinds.specs.ThinFormat.{thin_layout}
-use Rattle.pd_thin.specs.BlockKind.{layout_of}
+use Rattle.pd_kinds.specs.Layout.{graph_of}
 use Rattle.pd_thin.proofs.format.ThinFormatFormat.inner.Goals as goal
 
 -- a node of a tree, and any other block
