@@ -5,3 +5,4 @@ pub mod AllLemmas
 pub mod SoundLemmas
 pub mod LayoutLemmas
 pub mod TreeLemmas
+pub mod ThinTable

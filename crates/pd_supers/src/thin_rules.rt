@@ -77,7 +77,7 @@ fn is_edge_outside(fields: &ThinSuper) -> bool
 }
 
 /// Whether the block isn't from 1 to `nr - 1`.
-fn is_beyond(nr: u64, block: u64) -> bool
+pub(crate) fn is_beyond(nr: u64, block: u64) -> bool
     ensures { result ≡ is_outside nr block }
 {
     (block == 0) | (block >= nr)

@@ -1,0 +1,98 @@
+ghost use Rattle.std.specs.Prelude.{◌≡◌, ℕ, ◌<◌, Some, false, length, slice_get};
+ghost use Rattle.pd_kinds.specs.declared.rule.Rule.{Rule};
+ghost use Rattle.pd_kinds.specs.RuleSet.{has_rule};
+ghost use Rattle.pd_kinds.specs.ThinSuper.{Edge};
+ghost use Rattle.pd_kinds.specs.Graph.{Graph};
+ghost use Rattle.pd_kinds.specs.Lawful.{IsLawful};
+ghost use Rattle.pd_graph.specs.Format.{edge_of, IsSound};
+
+use pd_kinds::{Block, Rules};
+
+/// A format of metadata: what a block is in a role, and what it names.
+///
+/// Roles are numbered from 0, the superblock's. The calls take a role, the place of a block, and the
+/// block. Those whose names end in `_of_sound` are for callers that have just found no bad rule.
+pub trait Format {
+    /// The number of roles, from 1 to 16.
+    const ROLES: u8;
+
+    ghost ROLES: { ℕ };
+
+    /// The functions that the calls compute.
+    ghost graph: { Self → Graph };
+
+    /// The number of metadata blocks, from 1 to 4161600.
+    fn nr(&self) -> u64
+        ensures { result ≡ (graph self.now).nr };
+
+    /// The number of data blocks.
+    fn data_blocks(&self) -> u64
+        ensures { result ≡ (graph self.now).data_blocks };
+
+    /// The rules that the block breaks.
+    fn rules(&self, role: u8, place: u64, b: &Block) -> Rules
+        requires { role < ROLES }
+        ensures { (rule : Rule) → has_rule result rule ≡ (graph self.now).bad role place b.now.0 rule };
+
+    /// Whether the role is that of the nodes of a tree.
+    fn is_tree(&self, role: u8) -> bool
+        requires { role < ROLES }
+        ensures { result ≡ (graph self.now).is_tree role };
+
+    /// Whether the block is an inner node of a tree without a bad rule.
+    fn inner(&self, role: u8, place: u64, b: &Block) -> bool
+        requires { role < ROLES }
+        ensures { result ≡ (graph self.now).is_inner role place b.now.0 };
+
+    /// How many blocks the block names: none where it has a bad rule.
+    fn edges(&self, role: u8, place: u64, b: &Block) -> usize
+        requires { role < ROLES }
+        ensures { result ≡ length ((graph self.now).edges role place b.now.0) };
+
+    /// The role and the number of a block that the block names.
+    fn edge(&self, role: u8, place: u64, b: &Block, i: usize) -> (u8, u64)
+        requires role { role < ROLES }
+        requires within { i < length ((graph self.now).edges role place b.now.0) }
+        ensures { slice_get ((graph self.now).edges role place b.now.0) i ≡ Some (edge_of result.0 result.1) };
+
+    /// How many blocks a block without a bad rule names.
+    fn edges_of_sound(&self, role: u8, place: u64, b: &Block) -> usize
+        requires role { role < ROLES }
+        requires sound { IsSound (graph self.now) role place b.now.0 }
+        ensures { result ≡ length ((graph self.now).edges role place b.now.0) };
+
+    /// The role and the number of a block that a block without a bad rule names.
+    fn edge_of_sound(&self, role: u8, place: u64, b: &Block, i: usize) -> (u8, u64)
+        requires role { role < ROLES }
+        requires sound { IsSound (graph self.now) role place b.now.0 }
+        requires within { i < length ((graph self.now).edges role place b.now.0) }
+        ensures { slice_get ((graph self.now).edges role place b.now.0) i ≡ Some (edge_of result.0 result.1) };
+
+    /// How many keys the block has: none outside a tree, or where it has a bad rule.
+    fn keys(&self, role: u8, place: u64, b: &Block) -> usize
+        requires { role < ROLES }
+        ensures { result ≡ length ((graph self.now).keys role place b.now.0) };
+
+    /// A key of the block.
+    fn key(&self, role: u8, place: u64, b: &Block, i: usize) -> u64
+        requires role { role < ROLES }
+        requires within { i < length ((graph self.now).keys role place b.now.0) }
+        ensures { slice_get ((graph self.now).keys role place b.now.0) i ≡ Some result };
+
+    /// How many data blocks the block names.
+    fn data_refs(&self, role: u8, place: u64, b: &Block) -> usize
+        requires { role < ROLES }
+        ensures { result ≡ length ((graph self.now).data_refs role place b.now.0) };
+
+    /// A data block that the block names.
+    fn data_ref(&self, role: u8, place: u64, b: &Block, i: usize) -> u64
+        requires role { role < ROLES }
+        requires within { i < length ((graph self.now).data_refs role place b.now.0) }
+        ensures { slice_get ((graph self.now).data_refs role place b.now.0) i ≡ Some result };
+
+    /// The roles are those of the functions.
+    ghost roles: { (format : Self) → (graph format).roles ≡ ROLES };
+
+    /// The format keeps the laws.
+    ghost lawful: { (format : Self) → IsLawful (graph format) };
+}

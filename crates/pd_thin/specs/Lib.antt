@@ -1,0 +1,4 @@
+pub mod BlockKind
+pub mod Laws
+pub mod Leaf
+pub mod SuperEdges
