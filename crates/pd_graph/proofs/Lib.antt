@@ -1,0 +1,4 @@
+pub mod BitLemmas
+pub mod TableLemmas
+pub mod Weights
+pub mod PathLemmas

@@ -1,1 +1,5 @@
 pub mod Format
+pub mod Roles
+pub mod Notes
+pub mod Marks
+pub mod Audit

@@ -1,6 +1,13 @@
 //! The walk over the metadata of any format: every reachable block, once in each of its roles.
 #![tactic(auto)]
 
+mod audit;
 mod format;
+mod marks;
+mod notes;
+mod roles;
+mod stack;
 
+pub use audit::Audit;
 pub use format::Format;
+pub use notes::Note;
