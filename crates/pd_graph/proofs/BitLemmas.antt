@@ -3,9 +3,10 @@ use Rattle.std.proofs.Common.{◌≡◌, ◌≢◌, ℕ, zero, suc, ◌+◌, ◌
 use Rattle.std.specs.Int.{bit_at, w16}
 use Rattle.std.proofs.lemmas.Nat.Bits.{bit_at_set_same, bit_at_set_other, bit_at-zero}
 use Rattle.std.specs.List.{range_with_len}
-use Rattle.std.proofs.lemmas.Bool.{cases_eq}
+use Rattle.std.proofs.lemmas.Bool.{cases_eq, cases_lt, both_ways}
+use Rattle.std.proofs.lemmas.List.{get_or_past}
 use Rattle.std.proofs.lemmas.List.Elements.{filter-append}
-use Rattle.pd_graph.specs.Roles.{has_bit, has_several, is_in}
+use Rattle.pd_graph.specs.Roles.{has_bit, has_several, is_in, IsAllRead}
 
 or_true : (b : Bool) → true ≡ (b || true)
 or_true true = refl
@@ -94,3 +95,39 @@ counts_one b e = rw e refl
 
 pub counts_none : (b : Bool) → b ≡ false → ◌≡◌ {A = ℕ} (cond b 1 0) 0
 counts_none b e = rw e refl
+
+-- whether a table has a pair
+pub is_in-pair : (table : List ℕ) (b role : ℕ) → role < 16 → is_in table (16 * b + role) ≡ has_bit (get_or table b 0) role
+unfolding is_in
+is_in-pair table b role within =
+    ap (λ (q : ℕ). has_bit (get_or table q 0) ((16 * b + role) % 16)) (pair_block b role within)
+    ∙ ap (λ (r : ℕ). has_bit (get_or table b 0) r) (pair_role b role within)
+
+-- a pair as the block and the role that it is made of
+pub is_in-parts : (table : List ℕ) (p : ℕ) → is_in table p ≡ has_bit (get_or table (p / 16) 0) (p % 16)
+unfolding is_in
+is_in-parts table p = refl
+
+-- a table has no pair of a block that it has no place for
+pub past_end : (table : List ℕ) (p : ℕ) → length table ≤ p / 16 → is_in table p ≡ false
+unfolding is_in
+past_end table p past = rw (get_or_past table (p / 16) 0 past, bit_at-zero (p % 16)) refl
+
+-- where each role of each block that the first table has is in the second, so is each pair
+pub all_read : (seen read : List ℕ) → ((b role : ℕ) → b < length seen → role < 16 → has_bit (get_or seen b 0) role ≡ true → has_bit (get_or read b 0) role ≡ true)
+    → IsAllRead seen read
+all_read seen read each = record {
+  pairs = λ p met. elim (cases_lt (p / 16) (length seen)) [
+    | inl small ↦
+        let role : p % 16 < 16 = omega arith in
+        is_in-parts read p ∙ each (p / 16) (p % 16) small role (sym (is_in-parts seen p) ∙ met)
+    | inr past ↦ absurd (both_ways (is_in seen p) (past_end seen p past) met)
+  ];
+}
+
+-- the sides of a test of numbers
+pub eq_flip : (a b : ℕ) → nat_eq a b ≡ nat_eq b a
+eq_flip a b = elim (cases_eq a b) [
+  | inl e ↦ eq-eqb a b e ∙ sym (eq-eqb b a (sym e))
+  | inr ne ↦ differ a b ne ∙ sym (differ b a (λ e. ne (sym e)))
+]

@@ -7,7 +7,7 @@ use Rattle.pd_kinds.specs.RuleSet.{has_rule}
 use Rattle.pd_kinds.specs.ThinSuper.{Edge}
 use Rattle.pd_kinds.specs.Graph.{pair}
 use Rattle.pd_graph.specs.declared.marks.Marks.{Marks}
-use Rattle.pd_graph.specs.Roles.{is_in}
+use Rattle.pd_graph.specs.Roles.{is_in, IsUnreadAt}
 
 -- whether a table of sets of rules has the rule at this place
 unfoldable pub has_rule_in : List Rules → ℕ → Rule → Bool
@@ -50,3 +50,25 @@ pub record IsUnmarked (marks : Marks) : Type 0 where
   pub read : (b : ℕ) → slice_index (read_of marks) b ≡ 0
   pub counts : (b : ℕ) → slice_index (counts_of marks) b ≡ 0
   pub rules : (b : ℕ) (rule : Rule) → has_rule_in (rules_of marks) b rule ≡ false
+
+-- the tables stay
+pub record KeepsTables (old new : Marks) : Type 0 where
+  pub seen : seen_of new ≡ seen_of old
+  pub read : read_of new ≡ read_of old
+  pub counts : counts_of new ≡ counts_of old
+  pub rules : rules_of new ≡ rules_of old
+
+-- an unread pair was taken: now it is read
+pub record Takes (b role : ℕ) (old new : Marks) : Type 0 where
+  pub places : (nr : ℕ) → HasPlaces nr old → HasPlaces nr new
+  pub found : IsUnreadAt (seen_of old) (read_of old) b role
+  pub read : (p : ℕ) → is_in (read_of new) p ≡ (is_in (read_of old) p || (p == pair b role))
+  pub seen : seen_of new ≡ seen_of old
+  pub counts : counts_of new ≡ counts_of old
+  pub rules : rules_of new ≡ rules_of old
+
+-- a pair was looked at: its edges were followed, and its block has the rules that it breaks in this role
+pub record Looks (edges : List Edge) (b : ℕ) (bad : Rule → Bool) (old new : Marks) : Type 0 where
+  pub follows : Follows edges old new
+  pub rules : (c : ℕ) (wanted : Rule) → has_rule_in (rules_of new) c wanted
+      ≡ (has_rule_in (rules_of old) c wanted || ((c == b) && bad wanted))
