@@ -4,3 +4,6 @@ pub mod Weights
 pub mod PathLemmas
 pub mod EdgeLemmas
 pub mod RuleLemmas
+pub mod AnyLemmas
+pub mod WalkLemmas
+pub mod StartLemmas

@@ -1,18 +1,10 @@
 -- The sum of the weights of the numbers that pass a test, below a bound.
-use Rattle.std.proofs.Common.{◌≡◌, ◌≢◌, ℕ, zero, suc, ◌+◌, ◌*◌, ◌<◌, ◌≤◌, Bool, true, false, ◌||◌, cond, nat_eq, List, [], ◌∷◌, ◌++◌, length, filter, refl, ap, sym, ◌∙◌, zero-add, add-one, arith, eq-eqb, inl, inr}
-use Rattle.std.specs.List.{sum_by, count_by, flat_map, range_with_len}
+use Rattle.std.proofs.Common.{◌≡◌, ◌≢◌, ℕ, zero, suc, ◌+◌, ◌<◌, ◌≤◌, Bool, true, false, ◌||◌, cond, nat_eq, List, [], ◌∷◌, length, filter, refl, ap, sym, ◌∙◌, zero-add, arith, eq-eqb, inl, inr}
+use Rattle.std.specs.List.{count_by, flat_map, range_with_len}
 use Rattle.std.proofs.lemmas.Bool.{cases_eq}
-use Rattle.std.proofs.lemmas.List.Sums.{sum_by-cons, sum_by-append, length-filter}
+use Rattle.std.proofs.lemmas.List.Sums.{sum_by-append}
+use Rattle.pd_graph.specs.Weight.{weigh_list, weigh}
 use Rattle.pd_graph.proofs.BitLemmas.{differ}
-
--- the sum of the weights of the elements that pass the test
-abbrev pub weigh_list : (ℕ → Bool) → (ℕ → ℕ) → List ℕ → ℕ
-weigh_list f w [] = 0
-weigh_list f w (x ∷ xs) = cond (f x) (w x) 0 + weigh_list f w xs
-
--- and of the numbers below n
-unfoldable pub weigh : (ℕ → Bool) → (ℕ → ℕ) → ℕ → ℕ
-weigh f w n = weigh_list f w (range_with_len 0 n)
 
 -- tests that agree from a on weigh the same
 same_weight_from : (f g : ℕ → Bool) (w : ℕ → ℕ) (a n : ℕ) → ((q : ℕ) → a ≤ q → q < a + n → g q ≡ f q)

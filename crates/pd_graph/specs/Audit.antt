@@ -1,5 +1,5 @@
 -- What an audit tells of each block.
-use Rattle.std.specs.Prelude.{◌≡◌, ℕ, Bool, false, ◌==◌, ◌||◌, ◌&&◌, slice_index, slice_index_or}
+use Rattle.std.specs.Prelude.{◌≡◌, ℕ, Bool, false, ◌||◌, ◌&&◌, slice_index, slice_index_or}
 use Rattle.pd_kinds.specs.declared.rule.Rule.{Rule}
 use Rattle.pd_kinds.specs.declared.rule.Rule.TheVariants as r
 use Rattle.pd_kinds.specs.Rule.{same_rule}
@@ -7,7 +7,7 @@ use Rattle.pd_graph.specs.declared.audit.Audit.{Audit}
 use Rattle.pd_graph.specs.declared.notes.Note.{Note}
 use Rattle.pd_graph.specs.Roles.{has_several}
 use Rattle.pd_graph.specs.Notes.{note_of, no_note, no_kept_note}
-use Rattle.pd_graph.specs.Marks.{has_rule_in, seen_of, read_of, counts_of, rules_of, IsUnmarked}
+use Rattle.pd_graph.specs.Marks.{has_rule_in, seen_of, counts_of, rules_of, IsUnmarked}
 
 -- the number of blocks
 abbrev pub blocks_of : Audit → ℕ

@@ -3,3 +3,5 @@ pub mod Roles
 pub mod Notes
 pub mod Marks
 pub mod Audit
+pub mod Weight
+pub mod Walk

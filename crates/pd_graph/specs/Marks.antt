@@ -1,6 +1,6 @@
 -- What the tables of the walk hold.
-use Rattle.std.specs.Prelude.{◌≡◌, ℕ, zero, suc, ◌+◌, ◌<◌, Bool, false, ◌==◌, ◌||◌, nat_lt, ◌&&◌, List, [], ◌∷◌, length, filter, map, if◌then◌else◌, slice_index}
-use Rattle.std.specs.List.{list_any, count_by, range_with_len}
+use Rattle.std.specs.Prelude.{◌≡◌, ℕ, zero, suc, ◌+◌, Bool, false, ◌==◌, ◌||◌, ◌&&◌, List, [], ◌∷◌, length, map, slice_index}
+use Rattle.std.specs.List.{list_any, count_by}
 use Rattle.pd_kinds.specs.declared.rule.Rule.{Rule}
 use Rattle.pd_kinds.specs.declared.rules.Rules.{Rules}
 use Rattle.pd_kinds.specs.RuleSet.{has_rule}
@@ -34,7 +34,7 @@ pub record HasPlaces (nr : ℕ) (marks : Marks) : Type 0 where
   pub read : length (read_of marks) ≡ nr
   pub counts : length (counts_of marks) ≡ nr
   pub rules : length (rules_of marks) ≡ nr
-  
+
 -- the edges of a block were followed: what they lead to is seen, and counted once for each
 pub record Follows (edges : List Edge) (old new : Marks) : Type 0 where
   pub places : (nr : ℕ) → HasPlaces nr old → HasPlaces nr new

@@ -15,8 +15,8 @@ use std::alloc::{AllocError, Global};
 #[derive(Drop)]
 pub struct Audit {
     nr: u64,
-    walked: bool,
-    marks: Marks,
+    pub(crate) walked: bool,
+    pub(crate) marks: Marks,
     notes: Vec<KeptNote>,
     ghost places: { HasPlaces nr marks },
     ghost note_places: { length notes.items ≡ nr },

@@ -7,7 +7,9 @@ mod marks;
 mod notes;
 mod roles;
 mod stack;
+mod walking;
 
 pub use audit::Audit;
 pub use format::Format;
 pub use notes::Note;
+pub use walking::walk;

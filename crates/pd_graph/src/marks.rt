@@ -106,7 +106,7 @@ impl Marks {
     }
 
     /// Follows an edge to block b in this role.
-    fn meet(&mut self, role: u8, b: usize)
+    pub(crate) fn meet(&mut self, role: u8, b: usize)
         requires role { role < 16 }
         requires seen { b < length (seen_of self.old) }
         requires read { b < length (read_of self.old) }

@@ -1,4 +1,4 @@
-use Rattle.std.proofs.Common.{◌≡◌, cond, sym, ◌∙◌, arith}
+use Rattle.std.proofs.Common.{sym, ◌∙◌, arith}
 use Rattle.pd_graph.specs.Roles.{has_bit}
 use Rattle.pd_graph.proofs.BitLemmas.{bits_below_more, counts_one, counts_none, several_from_count}
 use Rattle.pd_graph.proofs.roles.are_several.Goals as goal

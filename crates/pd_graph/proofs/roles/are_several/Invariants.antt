@@ -1,4 +1,4 @@
-use Rattle.std.proofs.Common.{◌≡◌, ℕ, ◌≤◌, length, filter}
+use Rattle.std.proofs.Common.{◌≡◌, ◌≤◌, length, filter}
 use Rattle.std.specs.List.{range_with_len}
 use Rattle.pd_graph.specs.Roles.{has_bit}
 use Rattle.pd_graph.proofs.roles.are_several.Given as goal

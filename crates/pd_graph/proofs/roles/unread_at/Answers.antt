@@ -1,5 +1,4 @@
-use Rattle.std.proofs.Common.{sym, ◌∙◌, ◌<◌, length, get_or, arith}
-use Rattle.std.proofs.lemmas.List.{get_or_default}
+use Rattle.std.proofs.Common.{◌∙◌, arith}
 use Rattle.pd_graph.proofs.BitLemmas.{is_in-pair}
 use Rattle.pd_graph.proofs.roles.unread_at.Goals as goal
 

@@ -3,7 +3,6 @@ use Rattle.pd_kinds.specs.Rule.{same_rule}
 use Rattle.pd_kinds.specs.declared.rule.Rule.TheVariants.{Role}
 use Rattle.pd_graph.specs.Roles.{has_several}
 use Rattle.pd_graph.specs.Marks.{has_rule_in, rules_of, seen_of}
-use Rattle.pd_graph.specs.Audit.{roles_at}
 use Rattle.pd_graph.proofs.audit.Audit.mark.Goals as goal
 
 or_between : (kept new role : Bool) → ((kept || new) || role) ≡ ((kept || role) || new)

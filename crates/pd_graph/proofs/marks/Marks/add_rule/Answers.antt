@@ -1,5 +1,4 @@
-use Rattle.std.proofs.Common.{get_or, arith, ◌∙◌, ap, ◌||◌}
-use Rattle.std.specs.Prelude.{◌≡◌}
+use Rattle.std.proofs.Common.{◌∙◌, ap, ◌||◌}
 use Rattle.pd_kinds.specs.declared.rules.Rules.{Rules}
 use Rattle.pd_kinds.specs.Rule.{same_rule}
 use Rattle.pd_kinds.specs.RuleSet.{has_rule}

@@ -11,6 +11,6 @@ loop-i-preserved g c =
     let edge = edge_of c.edge_of_sound-met_role.result.0 c.edge_of_sound-met_role.result.1 in
     record {
       follows = subst (λ (met : List Edge). Follows met c.args.self.now c.meet.new.self) (sym (one_edge_more edges c.loop-i.i edge c.edge_of_sound-met_role.ensures))
-        (follows_both (take c.loop-i.i edges) (edge ∷ []) c.args.self.now c.loop-i.self c.meet.new.self c.loop-i.invariant.follows c.meet.ensures.follows);
+          (follows_both (take c.loop-i.i edges) (edge ∷ []) c.args.self.now c.loop-i.self c.meet.new.self c.loop-i.invariant.follows c.meet.ensures.follows);
       rules = c.meet.ensures.rules ∙ c.loop-i.invariant.rules;
     }

@@ -1,5 +1,4 @@
 use Rattle.std.proofs.Common.{ℕ, ap, List, get_or, ◌∙◌}
-use Rattle.pd_kinds.specs.declared.rule.Rule.{Rule}
 use Rattle.pd_kinds.specs.declared.rules.Rules.{Rules}
 use Rattle.pd_graph.specs.Marks.{has_rule_in}
 use Rattle.pd_graph.proofs.TableLemmas.{same_everywhere, no_rule_in}
