@@ -1,0 +1,9 @@
+pub mod BitLemmas
+pub mod TableLemmas
+pub mod Weights
+pub mod PathLemmas
+pub mod EdgeLemmas
+pub mod RuleLemmas
+pub mod AnyLemmas
+pub mod WalkLemmas
+pub mod StartLemmas

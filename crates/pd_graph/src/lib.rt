@@ -1,6 +1,15 @@
 //! The walk over the metadata of any format: every reachable block, once in each of its roles.
 #![tactic(auto)]
 
+mod audit;
 mod format;
+mod marks;
+mod notes;
+mod roles;
+mod stack;
+mod walking;
 
+pub use audit::Audit;
 pub use format::Format;
+pub use notes::Note;
+pub use walking::walk;

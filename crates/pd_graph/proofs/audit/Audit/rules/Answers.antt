@@ -1,0 +1,30 @@
+use Rattle.std.proofs.Common.{◌≡◌, Bool, true, false, ◌||◌, ◌&&◌, refl, sym, ◌∙◌, ap, arith, ◌<◌, length}
+use Rattle.std.proofs.lemmas.List.{get_or_default}
+use Rattle.pd_kinds.specs.declared.rules.Rules.{Rules}
+use Rattle.pd_kinds.specs.RuleSet.{has_rule}
+use Rattle.pd_kinds.specs.Rule.{same_rule}
+use Rattle.pd_kinds.specs.declared.rule.Rule.TheVariants.{Role}
+use Rattle.pd_graph.specs.Roles.{has_several}
+use Rattle.pd_graph.proofs.TableLemmas.{has_rule_in-get_or}
+use Rattle.pd_graph.proofs.audit.Audit.rules.Goals as goal
+
+or_swap : (a b : Bool) → (a || b) ≡ (b || a)
+or_swap true true = refl
+or_swap true false = refl
+or_swap false true = refl
+or_swap false false = refl
+
+-- what the call of `with_if` gives, in the order of the definition
+in_order : (given kept read role : Bool) (several several' : Bool) → given ≡ ((several && role) || kept) → kept ≡ read → several ≡ several'
+    → given ≡ (read || (several' && role))
+in_order given kept read role several several' e same seen = e ∙ rw (same, seen) (or_swap (several' && role) read)
+
+pub returns : goal.returns
+returns c = λ rule.
+    let small : c.args.b < length c.args.self.now.marks.rules.items = let h = c.args.self.now.places.rules in let k = c.requires in omega arith in
+    let seen : c.args.b < length c.args.self.now.marks.seen.items = let h = c.args.self.now.places.seen in let k = c.requires in omega arith in
+    let kept = has_rule_in-get_or c.args.self.now.marks.rules.items c.args.b c.index.result.now rule small in
+    let same = ap (λ (set : Rules). has_rule set rule) c.index.ensures in
+    let value = c.with_if.ensures rule in
+    in_order (has_rule c.with_if.result rule) (has_rule c.index.result.now rule) _ (same_rule Role rule) c.are_several.result _
+    value (same ∙ sym kept) (c.are_several.ensures ∙ ap has_several (c.index-2.ensures ∙ get_or_default c.args.self.now.marks.seen.items c.args.b c.index-2.result.now 0 seen))

@@ -1,0 +1,17 @@
+use Rattle.std.proofs.Common.{◌≡◌, ◌+◌, ◌-◌, ◌*◌, ◌≤◌, IfSome}
+use Rattle.pd_image.specs.Device.{KeepsObject}
+use Rattle.pd_graph.specs.Walk.{IsSafe, IsTold, read_number}
+use Rattle.pd_graph.proofs.walking.read_all.Given as goal
+
+abbrev pub invariant-loop-b : goal.invariant-loop-b
+invariant-loop-b g l = record {
+  safe : IsSafe (g.F.Format.graph l.format) l.marks;
+  told : IfSome (g.D.Device.state l.initial.dev).held (λ image. IsTold (g.F.Format.graph l.format) image l.marks);
+  reads : (g.D.Device.state l.dev).reads ≤ (g.D.Device.state l.initial.dev).reads + read_number (g.F.Format.graph l.format).nr l.marks;
+  held : (g.D.Device.state l.dev).held ≡ (g.D.Device.state l.initial.dev).held;
+  kept : KeepsObject (g.D.Device.state l.initial.dev) (g.D.Device.state l.dev);
+  faults : (g.D.Device.state l.dev).faults ≡ (g.D.Device.state l.initial.dev).faults;
+}
+
+abbrev pub decreases-loop-b : goal.decreases-loop-b
+decreases-loop-b g l = 16 * (g.F.Format.graph l.format).nr - read_number (g.F.Format.graph l.format).nr l.marks

@@ -1,0 +1,30 @@
+use Rattle.std.proofs.Common.{ℕ, subst}
+use Rattle.std.proofs.lemmas.Option.{IfSome_then}
+use Rattle.pd_graph.specs.Marks.{HasPlaces}
+use Rattle.pd_graph.proofs.AnyLemmas.{if_any}
+use Rattle.pd_graph.proofs.StartLemmas.{start_number, start_safe, start_told, end_roles, end_rules, end_counts}
+use Rattle.pd_graph.proofs.walking.walk.Goals as goal
+
+pub read_all-requires-clause-safe : goal.read_all-requires-clause-safe
+read_all-requires-clause-safe g c =
+    start_safe (g.F.Format.graph c.args.format.now) c.args.audit.now.marks c.meet.new.self (g.met.F.Format.lawful c.args.format.now)
+    (subst (λ (nr : ℕ). HasPlaces nr c.args.audit.now.marks) c.requires.fresh.number c.args.audit.now.places)
+    c.requires.fresh.unmarked c.meet.ensures.follows
+
+pub read_all-requires-clause-told : goal.read_all-requires-clause-told
+read_all-requires-clause-told g c =
+    if_any (g.D.Device.state c.args.dev.now).held
+    (λ image. start_told (g.F.Format.graph c.args.format.now) image c.args.audit.now.marks c.meet.new.self c.requires.fresh.unmarked c.meet.ensures.follows c.meet.ensures.rules)
+
+pub read_all-requires-clause-fresh : goal.read_all-requires-clause-fresh
+read_all-requires-clause-fresh g c =
+    start_number (g.F.Format.graph c.args.format.now).nr c.args.audit.now.marks c.meet.new.self c.requires.fresh.unmarked c.meet.ensures.follows
+
+pub returns-clause-marks : goal.returns-clause-marks
+returns-clause-marks g c =
+    let graph = g.F.Format.graph c.args.format.now in
+    IfSome_then (g.D.Device.state c.args.dev.now).held c.in_ok-read_all.ensures.done (λ image done. record {
+      roles = λ b role small within. end_roles graph image c.read_all.new.marks done b role within;
+      rules = λ b wanted small. end_rules graph image c.read_all.new.marks done b wanted;
+      counts = λ b small. end_counts graph image c.read_all.new.marks done b;
+    })

@@ -1,0 +1,74 @@
+-- What the tables of the walk hold.
+use Rattle.std.specs.Prelude.{◌≡◌, ℕ, zero, suc, ◌+◌, Bool, false, ◌==◌, ◌||◌, ◌&&◌, List, [], ◌∷◌, length, map, slice_index}
+use Rattle.std.specs.List.{list_any, count_by}
+use Rattle.pd_kinds.specs.declared.rule.Rule.{Rule}
+use Rattle.pd_kinds.specs.declared.rules.Rules.{Rules}
+use Rattle.pd_kinds.specs.RuleSet.{has_rule}
+use Rattle.pd_kinds.specs.ThinSuper.{Edge}
+use Rattle.pd_kinds.specs.Graph.{pair}
+use Rattle.pd_graph.specs.declared.marks.Marks.{Marks}
+use Rattle.pd_graph.specs.Roles.{is_in, IsUnreadAt}
+
+-- whether a table of sets of rules has the rule at this place
+unfoldable pub has_rule_in : List Rules → ℕ → Rule → Bool
+has_rule_in [] b wanted = false
+has_rule_in (rules ∷ rest) zero wanted = has_rule rules wanted
+has_rule_in (rules ∷ rest) (suc b) wanted = has_rule_in rest b wanted
+
+-- the tables
+abbrev pub seen_of : Marks → List ℕ
+seen_of marks = marks.seen.items
+
+abbrev pub read_of : Marks → List ℕ
+read_of marks = marks.read.items
+
+abbrev pub counts_of : Marks → List ℕ
+counts_of marks = marks.counts.items
+
+abbrev pub rules_of : Marks → List Rules
+rules_of marks = marks.rules.items
+
+-- each table has a place for each of so many blocks
+pub record HasPlaces (nr : ℕ) (marks : Marks) : Type 0 where
+  pub seen : length (seen_of marks) ≡ nr
+  pub read : length (read_of marks) ≡ nr
+  pub counts : length (counts_of marks) ≡ nr
+  pub rules : length (rules_of marks) ≡ nr
+
+-- the edges of a block were followed: what they lead to is seen, and counted once for each
+pub record Follows (edges : List Edge) (old new : Marks) : Type 0 where
+  pub places : (nr : ℕ) → HasPlaces nr old → HasPlaces nr new
+  pub seen : (p : ℕ) → is_in (seen_of new) p
+      ≡ (is_in (seen_of old) p || list_any (λ t. t == p) (map (λ (edge : Edge). pair edge.block edge.role) edges))
+  pub read : read_of new ≡ read_of old
+  pub counts : (b : ℕ) → slice_index (counts_of new) b
+      ≡ slice_index (counts_of old) b + count_by (λ r. r == b) (map (λ (edge : Edge). edge.block) edges)
+
+-- nothing is marked
+pub record IsUnmarked (marks : Marks) : Type 0 where
+  pub seen : (b : ℕ) → slice_index (seen_of marks) b ≡ 0
+  pub read : (b : ℕ) → slice_index (read_of marks) b ≡ 0
+  pub counts : (b : ℕ) → slice_index (counts_of marks) b ≡ 0
+  pub rules : (b : ℕ) (rule : Rule) → has_rule_in (rules_of marks) b rule ≡ false
+
+-- the tables stay
+pub record KeepsTables (old new : Marks) : Type 0 where
+  pub seen : seen_of new ≡ seen_of old
+  pub read : read_of new ≡ read_of old
+  pub counts : counts_of new ≡ counts_of old
+  pub rules : rules_of new ≡ rules_of old
+
+-- an unread pair was taken: now it is read
+pub record Takes (b role : ℕ) (old new : Marks) : Type 0 where
+  pub places : (nr : ℕ) → HasPlaces nr old → HasPlaces nr new
+  pub found : IsUnreadAt (seen_of old) (read_of old) b role
+  pub read : (p : ℕ) → is_in (read_of new) p ≡ (is_in (read_of old) p || (p == pair b role))
+  pub seen : seen_of new ≡ seen_of old
+  pub counts : counts_of new ≡ counts_of old
+  pub rules : rules_of new ≡ rules_of old
+
+-- a pair was looked at: its edges were followed, and its block has the rules that it breaks in this role
+pub record Looks (edges : List Edge) (b : ℕ) (bad : Rule → Bool) (old new : Marks) : Type 0 where
+  pub follows : Follows edges old new
+  pub rules : (c : ℕ) (wanted : Rule) → has_rule_in (rules_of new) c wanted
+      ≡ (has_rule_in (rules_of old) c wanted || ((c == b) && bad wanted))

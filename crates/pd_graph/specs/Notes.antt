@@ -1,0 +1,21 @@
+-- The notes of settling, and how they are kept.
+use Rattle.std.specs.Prelude.{false, Some, None, if◌then◌else◌}
+use Rattle.pd_graph.specs.declared.notes.Note.{Note}
+use Rattle.pd_graph.specs.declared.notes.KeptNote.{KeptNote}
+
+-- the note that is kept
+abbrev pub note_of : KeptNote → Note
+note_of kept = record {
+  least = if kept.has_least then Some kept.least else None;
+  greatest = if kept.has_greatest then Some kept.greatest else None;
+  below = kept.below;
+  height = kept.height;
+}
+
+-- the note of a block that nothing is known of
+abbrev pub no_note : Note
+no_note = record { least = None; greatest = None; below = 0; height = 0 }
+
+-- and as it is kept
+abbrev pub no_kept_note : KeptNote
+no_kept_note = record { least = 0; greatest = 0; below = 0; height = 0; has_least = false; has_greatest = false }

@@ -1,0 +1,59 @@
+-- What a walk leaves: the reachable pairs, the rules that their blocks break, and the references.
+use Rattle.std.specs.Prelude.{◌≡◌, ℕ, ◌+◌, ◌*◌, ◌%◌, ◌<◌, ◌≤◌, true, ◌==◌, ◌&&◌, if◌then◌else◌, List, map, slice_index}
+use Rattle.std.specs.List.{list_any, count_by, range_with_len}
+use Rattle.pd_kinds.specs.declared.rule.Rule.{Rule}
+use Rattle.pd_kinds.specs.ThinSuper.{Edge}
+use Rattle.pd_kinds.specs.Graph.{Graph, block_at, pair, edges_of, next, is_reached, meta_count}
+use Rattle.pd_kinds.specs.Stages.{walk_bad}
+use Rattle.pd_kinds.specs.Paths.{IsOnPath}
+use Rattle.pd_graph.specs.declared.audit.Audit.{Audit}
+use Rattle.pd_graph.specs.declared.marks.Marks.{Marks}
+use Rattle.pd_graph.specs.Roles.{has_bit, is_in, IsAllRead}
+use Rattle.pd_graph.specs.Weight.{weigh}
+use Rattle.pd_graph.specs.Marks.{HasPlaces, has_rule_in, seen_of, read_of, counts_of, rules_of}
+use Rattle.pd_graph.specs.Audit.{roles_at, has_rule_at, count_at}
+
+-- the audit has the marks of the walk of this image
+pub record IsWalked (graph : Graph) (image : List (List ℕ)) (audit : Audit) : Type 0 where
+  pub roles : (b role : ℕ) → b < graph.nr → role < 16 → has_bit (roles_at audit b) role ≡ is_reached graph image (pair b role)
+  pub rules : (b : ℕ) (wanted : Rule) → b < graph.nr → has_rule_at audit b wanted ≡ walk_bad graph image b wanted
+  pub counts : (b : ℕ) → b < graph.nr → count_at audit b ≡ meta_count graph image b
+
+-- how many pairs were read
+unfoldable pub read_number : ℕ → Marks → ℕ
+read_number nr marks = weigh (is_in (read_of marks)) (λ p. 1) (16 * nr)
+
+-- how many edges of a pair lead to a block
+unfoldable pub edges_to : Graph → List (List ℕ) → ℕ → ℕ → ℕ
+edges_to graph image b p = count_by (λ r. r == b) (map (λ (edge : Edge). edge.block) (edges_of graph image p))
+
+-- what holds on the way over any device
+pub record IsSafe (graph : Graph) (marks : Marks) : Type 0 where
+  pub places : HasPlaces graph.nr marks
+  -- only roles that there are were met
+  pub known : (p : ℕ) → is_in (seen_of marks) p ≡ true → p % 16 < graph.roles
+  -- only what was met was read
+  pub met : (p : ℕ) → is_in (read_of marks) p ≡ true → is_in (seen_of marks) p ≡ true
+  -- each pair that was read has at most 255 edges
+  pub room : (b : ℕ) → slice_index (counts_of marks) b ≤ 1 + 255 * read_number graph.nr marks
+
+-- what holds on the way over a device that tells what it holds
+pub record IsTold (graph : Graph) (image : List (List ℕ)) (marks : Marks) : Type 0 where
+  -- the superblock was met
+  pub start : is_in (seen_of marks) 0 ≡ true
+  -- only pairs at the end of a path were met
+  pub sound : (p : ℕ) → is_in (seen_of marks) p ≡ true → IsOnPath (16 * graph.nr) (next graph image) p
+  -- what the pairs that were read lead to was met
+  pub closed : (p t : ℕ) → is_in (read_of marks) p ≡ true → list_any (λ s. s == t) (next graph image p) ≡ true → is_in (seen_of marks) t ≡ true
+  -- the references are those of the pairs that were read, and the one to the superblock
+  pub counts : (b : ℕ) → slice_index (counts_of marks) b
+      ≡ (if 0 == b then 1 else 0) + weigh (is_in (read_of marks)) (edges_to graph image b) (16 * graph.nr)
+  -- the rules are those that a block breaks in the roles in which it was read
+  pub rules : (b : ℕ) (wanted : Rule) → has_rule_in (rules_of marks) b wanted
+      ≡ list_any (λ role. is_in (read_of marks) (pair b role) && graph.bad role b (block_at image b) wanted) (range_with_len 0 16)
+
+-- and in the end all that was met was read
+pub record IsDone (graph : Graph) (image : List (List ℕ)) (marks : Marks) : Type 0 where
+  pub safe : IsSafe graph marks
+  pub told : IsTold graph image marks
+  pub all : IsAllRead (seen_of marks) (read_of marks)

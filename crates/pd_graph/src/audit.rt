@@ -1,0 +1,119 @@
+ghost use Rattle.std.specs.Prelude.{◌≡◌, ℕ, ◌<◌, ◌≤◌, ◌==◌, ◌||◌, ◌&&◌, length, IfOk, if◌then◌else◌};
+ghost use Rattle.pd_kinds.specs.declared.rule.Rule.{Rule};
+ghost use Rattle.pd_kinds.specs.RuleSet.{has_rule};
+ghost use Rattle.pd_kinds.specs.Rule.{same_rule};
+ghost use Rattle.pd_graph.specs.Marks.{HasPlaces};
+
+use crate::marks::{Marks, table};
+use crate::notes::{KeptNote, Note};
+use crate::roles::are_several;
+use pd_kinds::{Rule, Rules};
+use std::alloc::{AllocError, Global};
+
+/// What is known of each metadata block: the roles and the references that the walk met, the rules that
+/// it breaks, and the notes of settling. It takes about 60 bytes a block, all of them in `new`.
+#[derive(Drop)]
+pub struct Audit {
+    nr: u64,
+    pub(crate) walked: bool,
+    pub(crate) marks: Marks,
+    notes: Vec<KeptNote>,
+    ghost places: { HasPlaces nr marks },
+    ghost note_places: { length notes.items ≡ nr },
+    ghost some: { 1 ≤ nr },
+    ghost few: { nr ≤ 4161600 },
+}
+
+impl Audit {
+    ghost use Rattle.pd_graph.specs.Audit.{blocks_of, has_walked, roles_at, has_rule_at, count_at, note_at, IsNew, KeepsButRules, KeepsButNotes};
+
+    /// An audit of so many blocks, from 1 to 4161600, that knows nothing of them. It takes all the memory
+    /// of the walk and of settling; want of it is the only error.
+    pub fn new(alloc: Global, nr: u64) -> Result<Audit, AllocError>
+        requires some { 1 ≤ nr }
+        requires few { nr ≤ 4161600 }
+        ensures { IfOk result (IsNew nr) }
+    {
+        let unknown = KeptNote::of(Note {
+            least: None,
+            greatest: None,
+            below: 0,
+            height: 0,
+        });
+        let marks = Marks::new(alloc, nr as usize)?;
+        let notes = table(alloc, nr as usize, unknown)?;
+        Ok(Audit {
+            nr,
+            walked: false,
+            marks,
+            notes,
+        })
+    }
+
+    /// The number of blocks.
+    pub fn nr(&self) -> u64
+        ensures { result ≡ blocks_of self.now }
+    {
+        self.nr
+    }
+
+    /// Whether `walk` answered Ok: only then may the audit be used further.
+    pub fn is_walked(&self) -> bool
+        ensures { result ≡ has_walked self.now }
+    {
+        self.walked
+    }
+
+    /// The rules that block b breaks, Role among them where it was met in two roles or more.
+    pub fn rules(&self, b: u64) -> Rules
+        requires { b < blocks_of self.now }
+        ensures { (rule : Rule) → has_rule result rule ≡ has_rule_at self.now b rule }
+    {
+        let b = b as usize;
+        self.marks.rules[b].with_if(Rule::Role, are_several(self.marks.seen[b]))
+    }
+
+    /// The roles in which block b was met: bit r for role r.
+    pub fn roles(&self, b: u64) -> u16
+        requires { b < blocks_of self.now }
+        ensures { result ≡ roles_at self.now b }
+    {
+        self.marks.seen[b as usize]
+    }
+
+    /// How many references to metadata block b were met.
+    pub fn meta_count(&self, b: u64) -> u64
+        requires { b < blocks_of self.now }
+        ensures { result ≡ count_at self.now b }
+    {
+        self.marks.counts[b as usize]
+    }
+
+    /// Adds a rule to those of block b.
+    pub fn mark(&mut self, b: u64, rule: Rule)
+        requires { b < blocks_of self.old }
+        ensures rules { (c : ℕ) (other : Rule) → has_rule_at self.new c other
+            ≡ (has_rule_at self.old c other || ((c == b) && same_rule rule other)) }
+        ensures others { KeepsButRules self.old self.new }
+    {
+        let b = b as usize;
+        self.marks.add_rule(b, rule);
+    }
+
+    /// What settling noted of block b.
+    pub fn note(&self, b: u64) -> Note
+        requires { b < blocks_of self.now }
+        ensures { result ≡ note_at self.now b }
+    {
+        self.notes[b as usize].note()
+    }
+
+    /// Replaces the note of block b.
+    pub fn set_note(&mut self, b: u64, note: Note)
+        requires { b < blocks_of self.old }
+        ensures notes { (c : ℕ) → note_at self.new c ≡ (if c == b then note else note_at self.old c) }
+        ensures others { KeepsButNotes self.old self.new }
+    {
+        self.notes[b as usize] = KeptNote::of(note);
+    }
+}

@@ -1,0 +1,182 @@
+ghost use Rattle.std.specs.Prelude.{◌≡◌, ℕ, ◌<◌, ◌==◌, ◌||◌, ◌&&◌, ◌+◌, ◌^◌, ◌≤◌, [], ◌∷◌, length, replicate, slice_index, IfOk, IfSome, IfNone};
+ghost use Rattle.std.specs.List.{list_any};
+ghost use Rattle.pd_kinds.specs.declared.rule.Rule.{Rule as BrokenRule};
+ghost use Rattle.pd_kinds.specs.Rule.{same_rule};
+ghost use Rattle.pd_kinds.specs.RuleSet.{has_rule};
+ghost use Rattle.pd_kinds.specs.Graph.{Graph};
+ghost use Rattle.pd_graph.specs.Roles.{IsUnreadAt, IsAllRead};
+ghost use Rattle.pd_graph.specs.Format.{edge_of, IsSound};
+
+use crate::format::Format;
+use crate::roles::{add_role, any_unread, unread_at};
+use crate::stack::Stack;
+use pd_kinds::{Block, Rule, Rules};
+use std::alloc::{AllocError, Global};
+
+/// What the walk keeps of each block, in tables by block number.
+#[derive(Drop)]
+pub(crate) struct Marks {
+    /// The roles in which the block was met.
+    pub(crate) seen: Vec<u16>,
+    /// The roles in which it was read.
+    pub(crate) read: Vec<u16>,
+    /// How many references to it were met.
+    pub(crate) counts: Vec<u64>,
+    /// The rules that it breaks in the roles in which it was read.
+    pub(crate) rules: Vec<Rules>,
+    /// Blocks that have an unread role.
+    pub(crate) unread: Stack,
+}
+
+/// A table with this value at each place.
+pub(crate) fn table<T: Copy>(alloc: Global, places: usize, value: T) -> Result<Vec<T>, AllocError>
+    ensures { IfOk result (λ table. table.items ≡ replicate places value) }
+{
+    let mut table = Vec::new(alloc);
+    table.resize(places, value)?;
+    Ok(table)
+}
+
+impl Marks {
+    ghost use Rattle.pd_graph.specs.Marks.{seen_of, read_of, counts_of, rules_of, has_rule_in, HasPlaces, IsUnmarked, KeepsTables, Takes, Follows, Looks};
+
+    /// Tables for so many blocks, without a mark.
+    pub(crate) fn new(alloc: Global, nr: usize) -> Result<Marks, AllocError>
+        ensures places { IfOk result (HasPlaces nr) }
+        ensures unmarked { IfOk result IsUnmarked }
+    {
+        let seen = table(alloc, nr, 0)?;
+        let read = table(alloc, nr, 0)?;
+        let counts = table(alloc, nr, 0)?;
+        let rules = table(alloc, nr, Rules::none())?;
+        let unread = Stack::new(alloc, nr)?;
+        Ok(Marks {
+            seen,
+            read,
+            counts,
+            rules,
+            unread,
+        })
+    }
+
+    /// Adds a rule to those of block b.
+    pub(crate) fn add_rule(&mut self, b: usize, rule: Rule)
+        requires { b < length (rules_of self.old) }
+        ensures places { (nr : ℕ) → HasPlaces nr self.old → HasPlaces nr self.new }
+        ensures rules { (c : ℕ) (other : BrokenRule) → has_rule_in (rules_of self.new) c other
+            ≡ (has_rule_in (rules_of self.old) c other || ((c == b) && same_rule rule other)) }
+        ensures seen { seen_of self.new ≡ seen_of self.old }
+        ensures read { read_of self.new ≡ read_of self.old }
+        ensures counts { counts_of self.new ≡ counts_of self.old }
+    {
+        self.rules[b] = self.rules[b].with(rule);
+    }
+
+    /// Takes a role in which a block was met and not yet read; from now on it counts as read. There is
+    /// none where all that was met was read.
+    pub(crate) fn take(&mut self) -> Option<(u64, u8)>
+        requires same { length (read_of self.old) ≡ length (seen_of self.old) }
+        requires few { length (seen_of self.old) ≤ 4161600 }
+        ensures some { IfSome result (λ taken. Takes taken.0 taken.1 self.old self.new) }
+        ensures none { IfNone result (IsAllRead (seen_of self.old) (read_of self.old)) }
+        ensures kept { IfNone result (KeepsTables self.old self.new) }
+    {
+        let (b, role) = self.next_unread()?;
+        add_role(&mut self.read, b, role);
+        if self.seen[b] != self.read[b] {
+            self.unread.push(b as u32);
+        }
+        Some((b as u64, role))
+    }
+
+    /// A block with a role in which it was met and not yet read: the block on top of the stack, and any
+    /// other where there is none.
+    fn next_unread(&mut self) -> Option<(usize, u8)>
+        requires { length (read_of self.old) ≡ length (seen_of self.old) }
+        ensures some { IfSome result (λ found. IsUnreadAt (seen_of self.old) (read_of self.old) found.0 found.1) }
+        ensures none { IfNone result (IsAllRead (seen_of self.old) (read_of self.old)) }
+        ensures kept { KeepsTables self.old self.new }
+    {
+        if let Some(top) = self.unread.pop() {
+            if let Some(found) = unread_at(&self.seen, &self.read, top as usize) {
+                return Some(found);
+            }
+        }
+        any_unread(&self.seen, &self.read)
+    }
+
+    /// Follows an edge to block b in this role.
+    pub(crate) fn meet(&mut self, role: u8, b: usize)
+        requires role { role < 16 }
+        requires seen { b < length (seen_of self.old) }
+        requires read { b < length (read_of self.old) }
+        requires counts { b < length (counts_of self.old) }
+        requires few { length (seen_of self.old) ≤ 4161600 }
+        requires room { slice_index (counts_of self.old) b + 1 < 2 ^ 64 }
+        ensures follows { Follows (edge_of role b ∷ []) self.old self.new }
+        ensures rules { rules_of self.new ≡ rules_of self.old }
+    {
+        self.counts[b] += 1;
+        let had_unread = self.seen[b] != self.read[b];
+        add_role(&mut self.seen, b, role);
+        if self.seen[b] != self.read[b] && !had_unread {
+            self.unread.push(b as u32);
+        }
+    }
+
+    /// Follows the edges of a block without a bad rule.
+    fn follow<F: Format>(&mut self, format: &F, role: u8, place: u64, block: &Block)
+        requires role { role < F.ROLES }
+        requires sound { IsSound (F.graph format.now) role place block.now.0 }
+        requires places { HasPlaces (F.graph format.now).nr self.old }
+        requires room { (b : ℕ) → slice_index (counts_of self.old) b + 256 ≤ 2 ^ 64 }
+        ensures follows { Follows ((F.graph format.now).edges role place block.now.0) self.old self.new }
+        ensures rules { rules_of self.new ≡ rules_of self.old }
+    {
+        for i in 0..format.edges_of_sound(role, place, block) {
+            let (met_role, b) = format.edge_of_sound(role, place, block, i);
+            self.meet(met_role, b as usize);
+        }
+    }
+
+    /// Adds the rules to those of block b.
+    fn add_rules(&mut self, b: usize, broken: &Rules)
+        requires { b < length (rules_of self.old) }
+        ensures rules { (c : ℕ) (wanted : BrokenRule) → has_rule_in (rules_of self.new) c wanted
+            ≡ (has_rule_in (rules_of self.old) c wanted || ((c == b) && has_rule broken.now wanted)) }
+        ensures seen { seen_of self.new ≡ seen_of self.old }
+        ensures read { read_of self.new ≡ read_of self.old }
+        ensures counts { counts_of self.new ≡ counts_of self.old }
+        ensures places { length (rules_of self.new) ≡ length (rules_of self.old) }
+    {
+        self.rules[b] = union(self.rules[b], broken, &Rule::ALL);
+    }
+
+    /// Looks at a block in a role: keeps the rules that it breaks, and follows its edges if it breaks none.
+    pub(crate) fn look<F: Format>(&mut self, format: &F, role: u8, b: u64, block: &Block)
+        requires role { role < F.ROLES }
+        requires within { b < (F.graph format.now).nr }
+        requires places { HasPlaces (F.graph format.now).nr self.old }
+        requires room { (c : ℕ) → slice_index (counts_of self.old) c + 256 ≤ 2 ^ 64 }
+        ensures { Looks ((F.graph format.now).edges role b block.now.0) b ((F.graph format.now).bad role b block.now.0) self.old self.new }
+    {
+        let broken = format.rules(role, b, block);
+        if broken.is_empty() {
+            self.follow(format, role, b, block);
+        } else {
+            self.add_rules(b as usize, &broken);
+        }
+    }
+}
+
+/// The rules of the first set, and of these the ones that the second has.
+fn union(rules: Rules, others: &Rules, all: &[Rule]) -> Rules
+    ensures { (wanted : BrokenRule) → has_rule result wanted
+        ≡ (has_rule rules wanted || (list_any (λ rule. same_rule rule wanted) all.now && has_rule others.now wanted)) }
+{
+    let mut both = rules;
+    for rule in all {
+        both = both.with_if(*rule, others.has(*rule));
+    }
+    both
+}

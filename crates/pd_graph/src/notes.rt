@@ -1,0 +1,51 @@
+ghost use Rattle.std.specs.Prelude.{◌≡◌};
+ghost use Rattle.pd_graph.specs.Notes.{note_of};
+
+/// What settling keeps of a block: the least and the greatest key below it, the number of entries below
+/// it, and its height over the leaves.
+#[derive(Clone, Copy, Debug, PartialEq, Eq)]
+pub struct Note {
+    pub least: Option<u64>,
+    pub greatest: Option<u64>,
+    pub below: u64,
+    pub height: u64,
+}
+
+/// A note as it is kept, in 40 bytes: a key that there isn't is 0.
+#[derive(Clone, Copy)]
+pub(crate) struct KeptNote {
+    least: u64,
+    greatest: u64,
+    below: u64,
+    height: u64,
+    has_least: bool,
+    has_greatest: bool,
+}
+
+impl KeptNote {
+    /// The note as it is kept.
+    pub(crate) fn of(note: Note) -> KeptNote
+        ensures { note_of result ≡ note }
+    {
+        KeptNote {
+            least: note.least.unwrap_or(0),
+            greatest: note.greatest.unwrap_or(0),
+            below: note.below,
+            height: note.height,
+            has_least: note.least.is_some(),
+            has_greatest: note.greatest.is_some(),
+        }
+    }
+
+    /// The note that is kept.
+    pub(crate) fn note(self) -> Note
+        ensures { result ≡ note_of self }
+    {
+        Note {
+            least: self.has_least.then_some(self.least),
+            greatest: self.has_greatest.then_some(self.greatest),
+            below: self.below,
+            height: self.height,
+        }
+    }
+}

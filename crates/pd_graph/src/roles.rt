@@ -1,0 +1,86 @@
+//! Sets of roles as the bits of a number: bit r stands for role r, below 16.
+
+ghost use Rattle.std.specs.Prelude.{◌≡◌, ℕ, ◌<◌, ◌==◌, ◌||◌, true, false, length, slice_index, IfSome, IfNone};
+ghost use Rattle.pd_kinds.specs.Graph.{pair};
+ghost use Rattle.pd_graph.specs.Roles.{has_bit, has_several, is_in, IsUnread, IsUnreadAt, IsAllRead};
+
+/// Whether the role is in the set.
+pub(crate) fn has_role(roles: u16, role: u8) -> bool
+    requires { role < 16 }
+    ensures { result ≡ has_bit roles role }
+{
+    (roles >> role) & 1 == 1
+}
+
+/// The set with this role besides.
+pub(crate) fn with_role(roles: u16, role: u8) -> u16
+    requires { role < 16 }
+    ensures { (other : ℕ) → other < 16 → has_bit result other ≡ (has_bit roles other || other == role) }
+{
+    roles | (1 << role)
+}
+
+/// The lowest role that was met and not yet read.
+pub(crate) fn first_unread(seen: u16, read: u16) -> Option<u8>
+    ensures some { IfSome result (IsUnread seen read) }
+    ensures none { IfNone result ((role : ℕ) → role < 16 → has_bit seen role ≡ true → has_bit read role ≡ true) }
+{
+    if seen == read {
+        return None;
+    }
+    for role in 0..16 {
+        if has_role(seen, role) && !has_role(read, role) {
+            return Some(role);
+        }
+    }
+    None
+}
+
+/// Whether two roles or more are in the set.
+pub(crate) fn are_several(roles: u16) -> bool
+    ensures { result ≡ has_several roles }
+{
+    let mut count = 0u32;
+    for role in 0..16 {
+        if has_role(roles, role) {
+            count += 1;
+        }
+    }
+    1 < count
+}
+
+/// Adds a role to the set of block b.
+pub(crate) fn add_role(table: &mut [u16], b: usize, role: u8)
+    requires within { b < length table.old }
+    requires role { role < 16 }
+    ensures { (p : ℕ) → is_in table.new p ≡ (is_in table.old p || (p == pair b role)) }
+{
+    table[b] = with_role(table[b], role);
+}
+
+/// Block b with the lowest role in which it was met and not yet read.
+pub(crate) fn unread_at(seen: &[u16], read: &[u16], b: usize) -> Option<(usize, u8)>
+    requires { length read.now ≡ length seen.now }
+    ensures some { IfSome result (λ found. IsUnreadAt seen.now read.now found.0 found.1) }
+    ensures none { IfNone result ((role : ℕ) → role < 16 → has_bit (slice_index seen.now b) role ≡ true → has_bit (slice_index read.now b) role ≡ true) }
+{
+    if seen.len() <= b {
+        return None;
+    }
+    let role = first_unread(seen[b], read[b])?;
+    Some((b, role))
+}
+
+/// The first block that was met in a role and not yet read in it.
+pub(crate) fn any_unread(seen: &[u16], read: &[u16]) -> Option<(usize, u8)>
+    requires { length read.now ≡ length seen.now }
+    ensures some { IfSome result (λ found. IsUnreadAt seen.now read.now found.0 found.1) }
+    ensures none { IfNone result (IsAllRead seen.now read.now) }
+{
+    for b in 0..seen.len() {
+        if let Some(found) = unread_at(seen, read, b) {
+            return Some(found);
+        }
+    }
+    None
+}

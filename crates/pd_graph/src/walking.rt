@@ -1,0 +1,61 @@
+ghost use Rattle.std.specs.Prelude.{◌≡◌, ℕ, ◌+◌, ◌<◌, ◌≤◌, length, is_ok, OnOk, IfSome};
+ghost use Rattle.pd_kinds.specs.Objects.{DeviceState, CountsFault};
+ghost use Rattle.pd_kinds.specs.Graph.{Graph, nodes};
+ghost use Rattle.pd_image.specs.Device.{IsAttached, KeepsObject};
+ghost use Rattle.pd_graph.specs.Marks.{HasPlaces};
+ghost use Rattle.pd_graph.specs.Notes.{no_note};
+ghost use Rattle.pd_graph.specs.Audit.{blocks_of, has_walked, note_at, IsNew};
+ghost use Rattle.pd_graph.specs.Walk.{IsWalked, IsSafe, IsTold, IsDone, read_number};
+
+use crate::audit::Audit;
+use crate::format::Format;
+use crate::marks::Marks;
+use pd_image::{Device, Failed};
+use pd_kinds::Block;
+
+/// Reads every reachable block once in each of its roles, and marks in the audit the roles in which it
+/// was met, the rules that it breaks, and the references to it. It takes no memory.
+///
+/// After `Failed` the audit may not be used again.
+pub fn walk<F: Format, D: Device>(audit: &mut Audit, format: &F, dev: &mut D) -> Result<(), Failed>
+    requires fresh { IsNew (F.graph format.now).nr audit.old }
+    requires attached { IsAttached (D.state dev.old) }
+    requires within { (F.graph format.now).nr ≤ (D.state dev.old).blocks }
+    ensures walked { has_walked audit.new ≡ is_ok result }
+    ensures marks { OnOk result (IfSome (D.state dev.old).held (λ image. IsWalked (F.graph format.now) image audit.new)) }
+    ensures number { blocks_of audit.new ≡ blocks_of audit.old }
+    ensures notes { (b : ℕ) → note_at audit.new b ≡ no_note }
+
+    // At most one read for each reachable pair, also where one failed.
+    ensures reads { IfSome (D.state dev.old).held (λ image. (D.state dev.new).reads ≤ (D.state dev.old).reads + length (nodes (F.graph format.now) image)) }
+    ensures held { (D.state dev.new).held ≡ (D.state dev.old).held }
+    ensures kept { KeepsObject (D.state dev.old) (D.state dev.new) }
+    ensures faults { CountsFault result (D.state dev.old).faults (D.state dev.new).faults }
+{
+    audit.marks.meet(0, 0);
+    read_all(&mut audit.marks, format, dev)?;
+    audit.walked = true;
+    Ok(())
+}
+
+/// Reads each pair that was met and not yet read, and follows its edges, until there is none.
+fn read_all<F: Format, D: Device>(marks: &mut Marks, format: &F, dev: &mut D) -> Result<(), Failed>
+    requires safe { IsSafe (F.graph format.now) marks.old }
+    requires told { IfSome (D.state dev.old).held (λ image. IsTold (F.graph format.now) image marks.old) }
+    requires fresh { read_number (F.graph format.now).nr marks.old ≡ 0 }
+    requires attached { IsAttached (D.state dev.old) }
+    requires within { (F.graph format.now).nr ≤ (D.state dev.old).blocks }
+    ensures places { HasPlaces (F.graph format.now).nr marks.new }
+    ensures done { OnOk result (IfSome (D.state dev.old).held (λ image. IsDone (F.graph format.now) image marks.new)) }
+    ensures reads { IfSome (D.state dev.old).held (λ image. (D.state dev.new).reads ≤ (D.state dev.old).reads + length (nodes (F.graph format.now) image)) }
+    ensures held { (D.state dev.new).held ≡ (D.state dev.old).held }
+    ensures kept { KeepsObject (D.state dev.old) (D.state dev.new) }
+    ensures faults { CountsFault result (D.state dev.old).faults (D.state dev.new).faults }
+{
+    let mut block = Block::zeros();
+    while let Some((b, role)) = marks.take() {
+        dev.read(b, &mut block)?;
+        marks.look(format, role, b, &block);
+    }
+    Ok(())
+}
