@@ -1,7 +1,8 @@
 ghost use Rattle.std.specs.Prelude.{◌+◌, ◌≤◌};
 
 use crate::{
-    SmRoot, ThinSuper, missing_super, read_thin_super, thin_super_rules, write_thin_super,
+    SmRoot, ThinSuper, missing_super, read_thin_super, thin_held_rules, thin_super_rules,
+    write_thin_super,
 };
 use pd_crc::seal;
 use pd_kinds::{Kind, Rule, Rules, put_u64};
@@ -73,6 +74,16 @@ fn gives_a_wrong_checksum_alone(rt: HostRuntime) {
     assert_eq!(rt;
         thin_super_rules(&block, 8),
         Rules::none().with(Rule::Checksum)
+    );
+}
+
+#[test]
+fn wants_a_held_copy_in_its_place(rt: HostRuntime) {
+    let block = write_thin_super(&empty_pool());
+    assert_eq!(rt; thin_held_rules(&block, 0, 8), Rules::none());
+    assert_eq!(rt;
+        thin_held_rules(&block, 6, 8),
+        Rules::none().with(Rule::Place)
     );
 }
 

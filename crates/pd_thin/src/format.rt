@@ -1,7 +1,7 @@
-ghost use Rattle.std.specs.Prelude.{◌≡◌, ℕ, ◌≤◌, false, List};
+ghost use Rattle.std.specs.Prelude.{◌≡◌, ℕ, ◌≤◌, List};
 ghost use Rattle.pd_kinds.specs.Layout.{graph_of};
 ghost use Rattle.pd_kinds.specs.ThinFormat.{thin_graph, thin_layout};
-ghost use Rattle.pd_kinds.specs.ThinSuper.{thin_fields, thin_super_bad};
+ghost use Rattle.pd_kinds.specs.ThinSuper.{thin_fields};
 ghost use Rattle.pd_supers.specs.ThinSuper.{fields_of};
 
 use crate::block_kind::BlockKind;

@@ -1,10 +1,11 @@
-ghost use Rattle.std.specs.Prelude.{◌≡◌, ℕ, ◌/◌, ◌%◌, ◌^◌};
+ghost use Rattle.std.specs.Prelude.{◌≡◌, ℕ};
 
 use pd_value::{BlockTime, Count, Details, IndexEntry, Root, Value};
 
 /// What each value of a tree's leaves names, as "drivers/md/dm-thin-metadata.c" uses the tree.
 #[derive(Clone, Copy, Debug, PartialEq, Eq)]
 pub(crate) enum Names {
+    /// No block.
     Nothing,
     /// A metadata block, in this role.
     Metadata(u8),

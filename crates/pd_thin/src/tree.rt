@@ -1,9 +1,9 @@
 //! The nodes of a thin pool's trees, whatever the values of their leaves are.
 
-ghost use Rattle.std.specs.Prelude.{◌≡◌, ℕ, ◌<◌, Bool, false, true, not, nat_lt, Some, length, map, slice_get};
-ghost use Rattle.std.specs.List.{list_any, range_with_len};
+ghost use Rattle.std.specs.Prelude.{◌≡◌, ℕ, ◌<◌, Some, length, slice_get};
+ghost use Rattle.std.specs.List.{list_any};
 ghost use Rattle.pd_kinds.specs.declared.rule.Rule.{Rule as BrokenRule};
-ghost use Rattle.pd_kinds.specs.Node.{child_at, entry_count, is_inner_node, node_keys, value_at};
+ghost use Rattle.pd_kinds.specs.Node.{node_keys};
 ghost use Rattle.pd_kinds.specs.Layout.{layout_data, leaf_entries, tree, tree_bad, tree_edges};
 ghost use Rattle.pd_kinds.specs.RuleSet.{has_rule};
 ghost use Rattle.pd_kinds.specs.ThinSuper.{has_edge_outside, is_outside};

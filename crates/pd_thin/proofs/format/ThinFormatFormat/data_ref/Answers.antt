@@ -1,26 +1,12 @@
-use Rattle.std.proofs.Common.{◌≡◌}
-use Rattle.pd_kinds.specs.Layout.{Layout, graph_of, is_bad, layout_data}
-use Rattle.pd_kinds.specs.ThinFormat.{thin_layout}
-use Rattle.pd_thin.specs.BlockKind.{layout_of}
-use Rattle.pd_thin.proofs.Listed.{listed_within}
+use Rattle.pd_thin.proofs.Listed.{listed_data_ref}
 use Rattle.pd_thin.proofs.format.ThinFormatFormat.data_ref.Goals as goal
 
 pub data_ref_in-requires : goal.data_ref_in-requires
-unfolding graph_of
 data_ref_in-requires c =
-    let nr = c.args.self.now.nr in
-    let table = thin_layout nr c.args.self.now.data_blocks c.args.role in
-    let layout = layout_of nr c.args.self.now.data_blocks c.of_role-kind.result in
-    let same : table ≡ layout = c.of_role-kind.ensures nr c.args.self.now.data_blocks in
-    let bad = is_bad nr c.args.role table c.args.place c.args.b.now.0 in
-    rw (listed_within bad (λ (l : Layout). layout_data l c.args.b.now.0) table layout c.args.i c.requires.within same) at c.requires.within
+    let lists = listed_data_ref c.args.self.now.nr c.args.self.now.data_blocks c.args.role c.args.place c.args.b.now.0 c.of_role-kind.result c.args.i c.of_role-kind.ensures c.requires.within in
+    rw lists.data_refs at c.requires.within
 
 pub returns : goal.returns
-unfolding graph_of
 returns c =
-    let nr = c.args.self.now.nr in
-    let table = thin_layout nr c.args.self.now.data_blocks c.args.role in
-    let layout = layout_of nr c.args.self.now.data_blocks c.of_role-kind.result in
-    let same : table ≡ layout = c.of_role-kind.ensures nr c.args.self.now.data_blocks in
-    let bad = is_bad nr c.args.role table c.args.place c.args.b.now.0 in
-    rw (listed_within bad (λ (l : Layout). layout_data l c.args.b.now.0) table layout c.args.i c.requires.within same) c.data_ref_in.ensures
+    let lists = listed_data_ref c.args.self.now.nr c.args.self.now.data_blocks c.args.role c.args.place c.args.b.now.0 c.of_role-kind.result c.args.i c.of_role-kind.ensures c.requires.within in
+    rw lists.data_refs c.data_ref_in.ensures

@@ -1,17 +1,7 @@
-use Rattle.std.proofs.Common.{◌≡◌, false}
-use Rattle.pd_kinds.specs.Layout.{Layout, graph_of, is_bad, layout_edges}
-use Rattle.pd_kinds.specs.ThinFormat.{thin_layout}
-use Rattle.pd_thin.specs.BlockKind.{layout_of}
-use Rattle.pd_thin.proofs.Listed.{listed_good, good_all}
+use Rattle.pd_thin.proofs.Listed.{listed_sound}
 use Rattle.pd_thin.proofs.format.ThinFormatFormat.edges_of_sound.Goals as goal
 
 pub returns : goal.returns
-unfolding graph_of
 returns c =
-    let nr = c.args.self.now.nr in
-    let table = thin_layout nr c.args.self.now.data_blocks c.args.role in
-    let layout = layout_of nr c.args.self.now.data_blocks c.of_role-kind.result in
-    let same : table ≡ layout = c.of_role-kind.ensures nr c.args.self.now.data_blocks in
-    let bad = is_bad nr c.args.role table c.args.place c.args.b.now.0 in
-    let good : bad ≡ false = good_all nr c.args.role table c.args.place c.args.b.now.0 c.requires.sound in
-    rw (listed_good bad (λ (l : Layout). layout_edges c.args.self.now.nr c.args.role l c.args.b.now.0) table layout good same) c.edges_in.ensures
+    let lists = listed_sound c.args.self.now.nr c.args.self.now.data_blocks c.args.role c.args.place c.args.b.now.0 c.of_role-kind.result c.of_role-kind.ensures c.requires.sound in
+    rw lists.edges c.edges_in.ensures
