@@ -52,7 +52,9 @@ impl Audit {
 
     /// The number of blocks.
     pub fn nr(&self) -> u64
-        ensures { result ≡ blocks_of self.now }
+        ensures number { result ≡ blocks_of self.now }
+        ensures some { 1 ≤ result }
+        ensures few { result ≤ 4161600 }
     {
         self.nr
     }

@@ -7,6 +7,8 @@ mod marks;
 mod notes;
 mod roles;
 mod stack;
+#[cfg(test)]
+mod tests;
 mod walking;
 
 pub use audit::Audit;
