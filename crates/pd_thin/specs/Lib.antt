@@ -1,4 +1,5 @@
 pub mod BlockKind
+pub mod Check
 pub mod Laws
 pub mod Leaf
 pub mod SuperEdges
