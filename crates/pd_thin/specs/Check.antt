@@ -66,7 +66,7 @@ abbrev pub StopsEarly : {R : Type 0} → Result R CheckFault → ℕ → ℕ →
 StopsEarly (Err Memory) most reads = reads ≤ most
 StopsEarly _ most reads = Unit {0}
 
--- a check reads each node of the graph that a superblock gives at most once, and none where the
+-- a check makes no more reads than the graph that a superblock gives has nodes, and none where the
 -- superblock has faults
 pub record ReadsFew (image : List (List ℕ)) (old new : ℕ) : Type 0 where
   pub nodes : new ≤ old + length (nodes (thin_graph (block_at image 0)) image)

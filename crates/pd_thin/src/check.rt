@@ -32,7 +32,7 @@ pub enum CheckFault {
 
 /// What stands in block 0 of a device.
 #[derive(Clone, Copy)]
-pub enum Found {
+enum Found {
     /// The superblock breaks these rules, of which there are some.
     Broken(Rules),
     /// A superblock that breaks no rule, and the format that it gives the pool.
@@ -43,7 +43,11 @@ pub enum Found {
 /// `Walk`.
 ///
 /// A check up to `Super` takes no memory, and one up to `Walk` takes none before block 0 was found sound,
-/// and all of it before it reads another block.
+/// and all of it before it reads another block: about 60 bytes a metadata block. It reads block 0, and then
+/// each block at most once for each role in which it is reached.
+///
+/// Fails with `CheckFault::Memory` where that memory wasn't found, and with `CheckFault::Device` where a
+/// read failed.
 pub fn check_thin<D: Device>(alloc: Global, dev: &mut D, until: Stage) -> Result<Report, CheckFault>
     requires attached { IsAttached (D.state dev.old) }
     requires built { IsBuilt until }
