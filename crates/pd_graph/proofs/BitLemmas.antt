@@ -1,5 +1,6 @@
 -- Sets of roles: what one role more changes.
 use Rattle.std.proofs.Common.{◌≡◌, ◌≢◌, ℕ, zero, suc, ◌+◌, ◌*◌, ◌/◌, ◌%◌, ◌<◌, ◌≤◌, ◌^◌, Bool, true, false, ◌||◌, nat_eq, get_or, set, length, refl, sym, ◌∙◌, ap, arith, bit_or, eq-eqb, cond, nat_lt, filter, List, [], ◌∷◌, ◌++◌, add-one, length-append, inl, inr, get_or-set_same, get_or-set_other}
+use Rattle.std.proofs.Math.Bool.{or-false}
 use Rattle.std.specs.Int.{bit_at, w16}
 use Rattle.std.proofs.lemmas.Nat.Bits.{bit_at_set_same, bit_at_set_other, bit_at-zero}
 use Rattle.std.specs.List.{range_with_len}
@@ -12,10 +13,6 @@ or_true : (b : Bool) → true ≡ (b || true)
 or_true true = refl
 or_true false = refl
 
-or_false : (b : Bool) → b ≡ (b || false)
-or_false true = refl
-or_false false = refl
-
 -- numbers that differ fail the test
 pub differ : (a b : ℕ) → a ≢ b → nat_eq a b ≡ false
 differ a b h = grind (arith, h)
@@ -27,7 +24,7 @@ has_bit_more roles role other within = elim (cases_eq other role) [
   | inl same ↦
       rw (same, bit_at_set_same w16 roles role within, eq-eqb role role refl) (or_true (nat_eq (bit_at roles role) 1))
   | inr ne ↦
-      rw (bit_at_set_other w16 roles role within other ne, differ other role ne) (or_false (nat_eq (bit_at roles other) 1))
+      rw (bit_at_set_other w16 roles role within other ne, differ other role ne) (sym (or-false (nat_eq (bit_at roles other) 1)))
 ]
 
 -- the parts of a pair
@@ -51,7 +48,7 @@ is_in_more table b role v small within more p = elim (cases_eq (p / 16) b) [
       ] in
       rw (same, get_or-set_same table b v 0 small, more (p % 16) low, test) refl
   | inr ne ↦
-      rw (get_or-set_other table b (p / 16) v 0 ne, differ p (16 * b + role) (λ e. ne (omega arith))) (or_false (nat_eq (bit_at (get_or table (p / 16) 0) (p % 16)) 1))
+      rw (get_or-set_other table b (p / 16) v 0 ne, differ p (16 * b + role) (λ e. ne (omega arith))) (sym (or-false (nat_eq (bit_at (get_or table (p / 16) 0) (p % 16)) 1)))
 ]
 
 -- a table of empty sets has no pair

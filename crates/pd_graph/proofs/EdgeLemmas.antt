@@ -1,5 +1,6 @@
 -- The edges of a block, one after another.
 use Rattle.std.proofs.Common.{◌≡◌, ℕ, zero, suc, ◌+◌, ◌<◌, Bool, true, false, ◌||◌, cond, nat_eq, get_or, take, map, List, [], ◌∷◌, ◌++◌, length, Some, refl, ap, sym, ◌∙◌, arith}
+use Rattle.std.proofs.Math.Bool.{or-false}
 use Rattle.std.specs.List.{AllByRecursion, list_any, count_by, slice_get}
 use Rattle.std.proofs.lemmas.List.{take_more, map-append}
 use Rattle.std.proofs.lemmas.List.Folds.{list_any-append}
@@ -23,10 +24,6 @@ pub one_edge_more : (edges : List Edge) (i : ℕ) (e : Edge) → slice_get edges
 one_edge_more edges i e found =
     take_more edges i e (slice_get_within edges i e found) ∙ ap (λ (x : Edge). take i edges ++ (x ∷ [])) (get_or_from_slice_get edges i e e found)
 
-or_false : (b : Bool) → b ≡ (b || false)
-or_false true = refl
-or_false false = refl
-
 or_assoc : (a b c : Bool) → ((a || b) || c) ≡ (a || (b || c))
 or_assoc true b c = refl
 or_assoc false b c = refl
@@ -35,7 +32,7 @@ or_assoc false b c = refl
 pub follows_none : (old : Marks) → Follows [] old old
 follows_none old = record {
   places = λ nr places. places;
-  seen = λ p. or_false (is_in (seen_of old) p);
+  seen = λ p. sym (or-false (is_in (seen_of old) p));
   read = refl;
   counts = λ b. omega arith;
 }

@@ -1,7 +1,6 @@
 pub mod BitLemmas
 pub mod TableLemmas
 pub mod Weights
-pub mod PathLemmas
 pub mod EdgeLemmas
 pub mod RuleLemmas
 pub mod AnyLemmas

@@ -18,7 +18,7 @@ use Rattle.pd_graph.specs.Marks.{HasPlaces, IsUnmarked, has_rule_in, seen_of, re
 use Rattle.pd_graph.specs.Walk.{IsSafe, IsTold, IsDone, read_number, edges_to}
 use Rattle.pd_graph.proofs.BitLemmas.{is_in_none, is_in-pair}
 use Rattle.pd_graph.proofs.Weights.{none_weigh, same_weight, count_weighs}
-use Rattle.pd_graph.proofs.PathLemmas.{path_from_reached, reached_from_path}
+use Rattle.pd_laws.proofs.PathLemmas.{path_from_reached, reached_from_path}
 use Rattle.pd_graph.proofs.AnyLemmas.{same_test, any_same, same_kept, any_kept, none_passes}
 
 -- at the start only the superblock was met

@@ -1,5 +1,6 @@
 -- A pair more is taken and looked at: what holds on the way still holds.
 use Rattle.std.proofs.Common.{◌≡◌, ◌≢◌, inl, inr, ℕ, ◌+◌, ◌*◌, ◌/◌, ◌%◌, ◌^◌, ◌<◌, ◌≤◌, Bool, true, false, ◌&&◌, ◌||◌, cond, nat_eq, get_or, List, [], ◌∷◌, map, length, Some, refl, sym, ◌∙◌, ap, subst, eq-eqb, arith}
+use Rattle.std.proofs.Math.Bool.{or-false}
 use Rattle.std.specs.List.{list_any, count_by, AllByRecursion, range_with_len, slice_get}
 use Rattle.std.specs.Option.{unwrap_or}
 use Rattle.std.proofs.lemmas.Bool.{or_cases, or_left, or_right, eqb-true, cases_eq, both_ways}
@@ -19,7 +20,7 @@ use Rattle.pd_graph.specs.Marks.{HasPlaces, has_rule_in, seen_of, read_of, count
 use Rattle.pd_graph.specs.Walk.{IsSafe, IsTold, read_number, edges_to}
 use Rattle.pd_graph.proofs.BitLemmas.{differ, pair_block, pair_role}
 use Rattle.pd_graph.proofs.Weights.{more_weight, wider_weight, ones_below, length_weighs}
-use Rattle.pd_graph.proofs.PathLemmas.{reached_from_path}
+use Rattle.pd_laws.proofs.PathLemmas.{reached_from_path}
 use Rattle.pd_graph.proofs.AnyLemmas.{any_same, any_more}
 
 -- a pair was taken, and its block looked at
@@ -151,10 +152,6 @@ same_pair b r role small within = elim (cases_eq r role) [
   | inr ne ↦ differ (pair b r) (pair b role) (λ e. ne (omega arith)) ∙ sym (differ r role ne)
 ]
 
-or_false : (b : Bool) → (b || false) ≡ b
-or_false true = refl
-or_false false = refl
-
 -- the rules of a block in the roles below n after a step: of the block that was looked at, and of another
 own_rules_step : (graph : Graph) (image : List (List ℕ)) (b role : ℕ) (block : List ℕ) (old new : Marks) → slice_get image b ≡ Some block
     → Steps b role (graph.edges role b block) (graph.bad role b block) old new → (n : ℕ) (wanted : Rule) → n ≤ 16 → role < n
@@ -175,7 +172,7 @@ other_rules_step graph image b role block old new step c n wanted ne few =
     any_same _ _ n (λ r small.
     let within = step.within in
     let same = step.read (pair c r)
-    ∙ (ap (λ (x : Bool). is_in (read_of old) (pair c r) || x) (differ (pair c r) (pair b role) (λ e. ne (omega arith))) ∙ or_false (is_in (read_of old) (pair c r))) in
+    ∙ (ap (λ (x : Bool). is_in (read_of old) (pair c r) || x) (differ (pair c r) (pair b role) (λ e. ne (omega arith))) ∙ or-false (is_in (read_of old) (pair c r))) in
     ap (λ (x : Bool). x && graph.bad r c (block_at image c) wanted) same)
 
 rules_step : (graph : Graph) (image : List (List ℕ)) (b role : ℕ) (block : List ℕ) (old new : Marks) → slice_get image b ≡ Some block
@@ -193,7 +190,7 @@ rules_step graph image b role block old new found step c n wanted few within = e
   | inr ne ↦
       let before = list_any (λ (r : ℕ). is_in (read_of old) (pair c r) && graph.bad r c (block_at image c) wanted) (range_with_len 0 n) in
       other_rules_step graph image b role block old new step c n wanted ne few
-      ∙ (sym (or_false before) ∙ ap (λ (x : Bool). before || (x && graph.bad role b block wanted)) (sym (differ c b ne)))
+      ∙ (sym (or-false before) ∙ ap (λ (x : Bool). before || (x && graph.bad role b block wanted)) (sym (differ c b ne)))
 ]
 
 -- a step is told

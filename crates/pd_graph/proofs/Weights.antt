@@ -1,5 +1,6 @@
 -- The sum of the weights of the numbers that pass a test, below a bound.
 use Rattle.std.proofs.Common.{◌≡◌, ◌≢◌, ℕ, zero, suc, ◌+◌, ◌<◌, ◌≤◌, Bool, true, false, ◌||◌, cond, nat_eq, List, [], ◌∷◌, length, filter, refl, ap, sym, ◌∙◌, zero-add, arith, eq-eqb, inl, inr}
+use Rattle.std.proofs.Math.Bool.{or-false}
 use Rattle.std.specs.List.{count_by, flat_map, range_with_len}
 use Rattle.std.proofs.lemmas.Bool.{cases_eq}
 use Rattle.std.proofs.lemmas.List.Sums.{sum_by-append}
@@ -16,12 +17,8 @@ same_weight_from f g w a (suc n) same =
     rw (first, rest) refl
 
 -- the gain, where the number is another and where it is this one
-or_false : (b : Bool) → (b || false) ≡ b
-or_false true = refl
-or_false false = refl
-
 other : (f : ℕ → Bool) (p q : ℕ) → q ≢ p → (f q || nat_eq q p) ≡ f q
-other f p q ne = rw (differ q p ne) (or_false (f q))
+other f p q ne = rw (differ q p ne) (or-false (f q))
 
 found : (f : ℕ → Bool) (p q : ℕ) → q ≡ p → f q ≡ false → (f q || nat_eq q p) ≡ true
 found f p q e old = rw (old, eq-eqb q p e) refl

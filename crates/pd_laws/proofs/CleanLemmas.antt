@@ -154,11 +154,11 @@ each_rule P all rule =
     rw (rule_at rule) at (All-from_recursion P all_rules all (number_of rule) r.Checksum (rw length-all_rules (number_below rule)))
 
 -- blocks have no faults where they break no rule
-no_rule_broken : (b : ℕ) (bad : Rule → Bool) → faults_at b bad ≡ [] → (broken : Rule) → bad broken ≡ false
+pub no_rule_broken : (b : ℕ) (bad : Rule → Bool) → faults_at b bad ≡ [] → (broken : Rule) → bad broken ≡ false
 unfolding faults_at
 no_rule_broken b bad none = each_rule (λ rule. bad rule ≡ false) (none_filtered _ _ (nil_from_map _ _ none))
 
-no_faults_at : (b : ℕ) (bad : Rule → Bool) → ((broken : Rule) → bad broken ≡ false) → faults_at b bad ≡ []
+pub no_faults_at : (b : ℕ) (bad : Rule → Bool) → ((broken : Rule) → bad broken ≡ false) → faults_at b bad ≡ []
 unfolding faults_at
 no_faults_at b bad clean = ap (map (meta_fault b)) (filtered_none bad all_rules (all_from (λ rule. bad rule ≡ false) all_rules clean))
 

@@ -6,3 +6,4 @@ pub mod SoundLemmas
 pub mod LayoutLemmas
 pub mod TreeLemmas
 pub mod ThinTable
+pub mod SuperStage

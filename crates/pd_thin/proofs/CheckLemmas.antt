@@ -1,9 +1,8 @@
 -- The faults of the stages Super and Walk of a thin pool's check.
-use Rattle.std.proofs.Common.{◌≡◌, ◌≢◌, ℕ, zero, suc, ◌+◌, ◌<◌, ◌≤◌, Bool, false, cond, nat_lt, List, [], ◌∷◌, ◌++◌, length, map, filter, Option, Some, None, IfSome, refl, ap, sym, ◌∙◌, arith, inl, inr, append-nil, Result, Ok, Err, IfOk}
-use Rattle.std.specs.List.{AllByRecursion, flat_map, range_with_len, slice_get}
-use Rattle.std.proofs.lemmas.Bool.{cases_Bool, lt-ltb}
+use Rattle.std.proofs.Common.{◌≡◌, ◌≢◌, ℕ, zero, suc, ◌+◌, ◌<◌, ◌≤◌, Bool, cond, nat_lt, List, [], ◌∷◌, ◌++◌, length, map, filter, Option, Some, None, IfSome, refl, ap, sym, ◌∙◌, arith, append-nil, Result, Ok, Err, IfOk}
+use Rattle.std.specs.List.{flat_map, range_with_len, slice_get}
+use Rattle.std.proofs.lemmas.Bool.{lt-ltb}
 use Rattle.std.proofs.lemmas.Grind.{flat_map-append}
-use Rattle.std.proofs.lemmas.List.Elements.{All-from_recursion}
 use Rattle.pd_kinds.specs.declared.kind.Kind.TheVariants.{Thin}
 use Rattle.pd_kinds.specs.declared.kind.Stage.{Stage}
 use Rattle.pd_kinds.specs.declared.kind.Stage.TheVariants as stages
@@ -12,7 +11,7 @@ use Rattle.pd_kinds.specs.declared.rule.Rule.TheVariants as r
 use Rattle.pd_kinds.specs.declared.rules.Rules.{Rules}
 use Rattle.pd_kinds.specs.declared.fault.Fault.{Fault}
 use Rattle.pd_kinds.specs.declared.report.Report.{Report}
-use Rattle.pd_kinds.specs.Rule.{number_of, same_rule, all_rules}
+use Rattle.pd_kinds.specs.Rule.{same_rule, all_rules}
 use Rattle.pd_kinds.specs.RuleSet.{has_rule}
 use Rattle.pd_kinds.specs.Report.{Reported, report_of}
 use Rattle.pd_kinds.specs.Faults.{meta_fault, faults_at, thin_super_faults}
@@ -20,9 +19,9 @@ use Rattle.pd_kinds.specs.Graph.{Graph, block_at, nodes}
 use Rattle.pd_kinds.specs.Layout.{graph_of}
 use Rattle.pd_kinds.specs.ThinSuper.{thin_fields, thin_super_bad}
 use Rattle.pd_kinds.specs.ThinFormat.{thin_graph}
-use Rattle.pd_kinds.specs.Stages.{faults, first_failing, super_faults, block_faults, walk_bad, thin_checked}
-use Rattle.pd_kinds.proofs.RuleBits.{number_below}
-use Rattle.pd_laws.proofs.SoundLemmas.{rule_at}
+use Rattle.pd_kinds.specs.Stages.{faults, first_failing, block_faults, walk_bad, thin_checked}
+use Rattle.pd_laws.proofs.CleanLemmas.{no_rule_broken, no_faults_at}
+use Rattle.pd_laws.proofs.SuperStage.{chosen, same_stage, first_stage}
 use Rattle.pd_graph.specs.declared.audit.Audit.{Audit}
 use Rattle.pd_graph.specs.Audit.{has_rule_at}
 use Rattle.pd_graph.specs.Walk.{IsWalked}
@@ -43,37 +42,6 @@ filter-same p q same (rule ∷ rules) = rw (same rule, filter-same p q same rule
 pub faults_at-same : (block : ℕ) (p q : Rule → Bool) → ((rule : Rule) → p rule ≡ q rule) → faults_at block p ≡ faults_at block q
 unfolding faults_at
 faults_at-same block p q same = ap (λ (rules : List Rule). map (meta_fault block) rules) (filter-same p q same all_rules)
-
--- a block without faults breaks no rule
-none_filtered : (p : Rule → Bool) (xs : List Rule) → filter p xs ≡ [] → AllByRecursion (λ x. p x ≡ false) xs
-none_filtered p [] e = tt
-none_filtered p (x ∷ xs) e = elim (cases_Bool (p x)) [
-  | inl found ↦ absurd (let cons : x ∷ filter p xs ≡ [] = rw found at e in cc)
-  | inr missed ↦ (missed, none_filtered p xs (rw missed at e))
-]
-
-nil_from_map : (f : Rule → Fault) (xs : List Rule) → map f xs ≡ [] → xs ≡ []
-nil_from_map f [] e = refl
-nil_from_map f (x ∷ xs) e = absurd (cc)
-
-length-all_rules : length all_rules ≡ 22
-unfolding all_rules
-length-all_rules = refl
-
-no_rule_broken : (b : ℕ) (bad : Rule → Bool) → faults_at b bad ≡ [] → (broken : Rule) → bad broken ≡ false
-unfolding faults_at
-no_rule_broken b bad none broken =
-    let all = none_filtered _ _ (nil_from_map _ _ none) in
-    rw (rule_at broken) at (All-from_recursion (λ rule. bad rule ≡ false) all_rules all (number_of broken) r.Checksum (rw length-all_rules (number_below broken)))
-
--- and the other way around
-filtered_none : (p : Rule → Bool) (xs : List Rule) → ((x : Rule) → p x ≡ false) → filter p xs ≡ []
-filtered_none p [] fails = refl
-filtered_none p (x ∷ xs) fails = rw (fails x) (filtered_none p xs fails)
-
-no_faults_at : (b : ℕ) (bad : Rule → Bool) → ((broken : Rule) → bad broken ≡ false) → faults_at b bad ≡ []
-unfolding faults_at
-no_faults_at b bad clean = ap (map (meta_fault b)) (filtered_none bad all_rules clean)
 
 -- a device without blocks
 only_size : faults_at 0 (same_rule r.Size) ≡ thin_super_faults []
@@ -108,20 +76,10 @@ block_found (Some (first ∷ blocks)) n block found honest content holds =
     let e : block ≡ first = cc in
     found_at first blocks found (rw (e, honest) at holds)
 
--- a list that is chosen where it isn't empty
-chosen : (list : List Fault) → cond (nat_lt 0 (length list)) list [] ≡ list
-chosen [] = refl
-chosen (fault ∷ rest) = rw (lt-ltb 0 (suc (length rest)) (omega arith)) refl
-
+-- a list that isn't empty is chosen
 chosen_first : (list rest : List Fault) → (list ≢ []) → cond (nat_lt 0 (length list)) list rest ≡ list
 chosen_first [] rest some = absurd (some refl)
 chosen_first (fault ∷ faults) rest some = rw (lt-ltb 0 (suc (length faults)) (omega arith)) refl
-
--- the two definitions of the stage Super
-same_stage : (image : List (List ℕ)) → super_faults (thin_checked image) image ≡ thin_super_faults image
-unfolding super_faults thin_super_faults thin_checked
-same_stage [] = refl
-same_stage (block ∷ blocks) = refl
 
 -- what a check finds where block 0 has faults
 broken_faults : (until : Stage) (image : List (List ℕ)) → IsBuilt until → (thin_super_faults image ≢ []) → faults Thin until image ≡ thin_super_faults image
@@ -134,8 +92,7 @@ broken_faults stages.Counts image built some = absurd built
 
 -- and where it has none
 sound_faults : (image : List (List ℕ)) → thin_super_faults image ≡ [] → faults Thin stages.Super image ≡ []
-unfolding faults first_failing
-sound_faults image none = rw (same_stage image, none) refl
+sound_faults image none = first_stage image ∙ (same_stage image ∙ none)
 
 walked_faults : (image : List (List ℕ)) (format : ThinFormat) → thin_super_faults image ≡ [] → graph_of_format format ≡ thin_graph (block_at image 0)
     → faults Thin stages.Walk image ≡ block_faults format.nr (walk_bad (graph_of_format format) image)
