@@ -5,9 +5,13 @@ ghost use Rattle.pd_graph.specs.Notes.{note_of};
 /// it, and its height over the leaves.
 #[derive(Clone, Copy, Debug, PartialEq, Eq)]
 pub struct Note {
+    /// The least key, where there is one.
     pub least: Option<u64>,
+    /// The greatest key, where there is one.
     pub greatest: Option<u64>,
+    /// The number of entries of the leaves below.
     pub below: u64,
+    /// The number of nodes on the way to the leaves: 0 for a leaf.
     pub height: u64,
 }
 

@@ -1,5 +1,5 @@
 -- The faults of the stages Super and Walk of a thin pool's check.
-use Rattle.std.proofs.Common.{◌≡◌, ◌≢◌, ℕ, zero, suc, ◌+◌, ◌<◌, ◌≤◌, Bool, cond, nat_lt, List, [], ◌∷◌, ◌++◌, length, map, filter, Option, Some, None, IfSome, refl, ap, sym, ◌∙◌, arith, append-nil, Result, Ok, Err, IfOk}
+use Rattle.std.proofs.Common.{◌≡◌, ◌≢◌, ℕ, zero, suc, ◌+◌, ◌<◌, ◌≤◌, Bool, cond, nat_lt, List, [], ◌∷◌, ◌++◌, length, Option, Some, None, IfSome, refl, ap, sym, ◌∙◌, arith, append-nil, Result, Ok, Err, IfOk}
 use Rattle.std.specs.List.{flat_map, range_with_len, slice_get}
 use Rattle.std.proofs.lemmas.Bool.{lt-ltb}
 use Rattle.std.proofs.lemmas.Grind.{flat_map-append}
@@ -11,17 +11,17 @@ use Rattle.pd_kinds.specs.declared.rule.Rule.TheVariants as r
 use Rattle.pd_kinds.specs.declared.rules.Rules.{Rules}
 use Rattle.pd_kinds.specs.declared.fault.Fault.{Fault}
 use Rattle.pd_kinds.specs.declared.report.Report.{Report}
-use Rattle.pd_kinds.specs.Rule.{same_rule, all_rules}
+use Rattle.pd_kinds.specs.Rule.{same_rule}
 use Rattle.pd_kinds.specs.RuleSet.{has_rule}
 use Rattle.pd_kinds.specs.Report.{Reported, report_of}
-use Rattle.pd_kinds.specs.Faults.{meta_fault, faults_at, thin_super_faults}
+use Rattle.pd_kinds.specs.Faults.{faults_at, thin_super_faults}
 use Rattle.pd_kinds.specs.Graph.{Graph, block_at, nodes}
 use Rattle.pd_kinds.specs.Layout.{graph_of}
 use Rattle.pd_kinds.specs.ThinSuper.{thin_fields, thin_super_bad}
 use Rattle.pd_kinds.specs.ThinFormat.{thin_graph}
 use Rattle.pd_kinds.specs.Stages.{faults, first_failing, block_faults, walk_bad, thin_checked}
 use Rattle.pd_laws.proofs.CleanLemmas.{no_rule_broken, no_faults_at}
-use Rattle.pd_laws.proofs.SuperStage.{chosen, same_stage, first_stage}
+use Rattle.pd_laws.proofs.SuperStage.{chosen, same_stage, first_stage, faults_at-same, only_size}
 use Rattle.pd_graph.specs.declared.audit.Audit.{Audit}
 use Rattle.pd_graph.specs.Audit.{has_rule_at}
 use Rattle.pd_graph.specs.Walk.{IsWalked}
@@ -33,21 +33,7 @@ use Rattle.pd_thin.specs.declared.check.Found.TheVariants.{Broken, Sound}
 use Rattle.pd_thin.specs.declared.format.ThinFormat.{ThinFormat}
 use Rattle.pd_thin.specs.Check.{IsBuilt, IsFoundIn, IsBlockFound, MayWantMemory, ReadsFew, graph_of_format}
 
--- a list filtered by two tests that agree
-filter-same : (p q : Rule → Bool) → ((rule : Rule) → p rule ≡ q rule) → (rules : List Rule) → filter p rules ≡ filter q rules
-filter-same p q same [] = refl
-filter-same p q same (rule ∷ rules) = rw (same rule, filter-same p q same rules) refl
-
--- the faults of two sets that agree
-pub faults_at-same : (block : ℕ) (p q : Rule → Bool) → ((rule : Rule) → p rule ≡ q rule) → faults_at block p ≡ faults_at block q
-unfolding faults_at
-faults_at-same block p q same = ap (λ (rules : List Rule). map (meta_fault block) rules) (filter-same p q same all_rules)
-
 -- a device without blocks
-only_size : faults_at 0 (same_rule r.Size) ≡ thin_super_faults []
-unfolding faults_at all_rules thin_super_faults
-only_size = refl
-
 size_is_one : thin_super_faults [] ≢ []
 unfolding thin_super_faults
 size_is_one e = cc

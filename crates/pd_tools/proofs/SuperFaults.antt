@@ -1,32 +1,19 @@
 -- The rules of block 0 are the faults of the stage Super.
-use Rattle.std.proofs.Common.{◌≡◌, ℕ, Bool, ◌==◌, List, [], ◌∷◌, length, map, filter, Option, Some, None, IfSome, refl, ap, sym, ◌∙◌, arith}
+use Rattle.std.proofs.Common.{◌≡◌, ℕ, Bool, ◌==◌, List, [], ◌∷◌, length, Option, Some, None, IfSome, ap, sym, ◌∙◌, arith}
 use Rattle.std.specs.List.{slice_get}
 use Rattle.pd_kinds.specs.declared.rule.Rule.{Rule}
 use Rattle.pd_kinds.specs.declared.rule.Rule.TheVariants as r
 use Rattle.pd_kinds.specs.declared.rules.Rules.{Rules}
 use Rattle.pd_kinds.specs.declared.fault.Fault.{Fault}
-use Rattle.pd_kinds.specs.Rule.{same_rule, all_rules}
+use Rattle.pd_kinds.specs.Rule.{same_rule}
 use Rattle.pd_kinds.specs.RuleSet.{has_rule}
 use Rattle.pd_kinds.specs.Report.{Reported, report_of}
 use Rattle.pd_kinds.specs.Lines.{lines_of, report_lines}
 use Rattle.pd_kinds.specs.Objects.{SinkState, Appends, AppendsFront}
 use Rattle.pd_kinds.specs.ThinSuper.{thin_super_bad}
+use Rattle.pd_laws.proofs.SuperStage.{faults_at-same, only_size}
 use Rattle.pd_tools.specs.Check.{Reports}
-use Rattle.pd_kinds.specs.Faults.{faults_at, meta_fault, thin_super_faults}
-
--- a list filtered by two tests that agree
-filter-same : (p q : Rule → Bool) → ((rule : Rule) → p rule ≡ q rule) → (rules : List Rule) → filter p rules ≡ filter q rules
-filter-same p q same [] = refl
-filter-same p q same (rule ∷ rules) = rw (same rule, filter-same p q same rules) refl
-
--- the faults of two sets that agree
-faults_at-same : (block : ℕ) (p q : Rule → Bool) → ((rule : Rule) → p rule ≡ q rule) → faults_at block p ≡ faults_at block q
-unfolding faults_at
-faults_at-same block p q same = ap (λ (rules : List Rule). map (meta_fault block) rules) (filter-same p q same all_rules)
-
-only_size : faults_at 0 (same_rule r.Size) ≡ thin_super_faults []
-unfolding faults_at all_rules thin_super_faults
-only_size = refl
+use Rattle.pd_kinds.specs.Faults.{faults_at, thin_super_faults}
 
 -- a device without blocks
 pub missing_faults : (held : Option (List (List ℕ))) (n : ℕ) (rules : Rules) → n ≡ 0 → IfSome held (λ image. n ≡ length image)

@@ -39,7 +39,7 @@ fn broken_rules<D: Device>(device: &mut D) -> Result<Rules, Failed>
     if blocks == 0 {
         return Ok(missing_super());
     }
-    let mut block = Block([0; 4096]);
+    let mut block = Block::zeros();
     device.read(0, &mut block)?;
     Ok(thin_super_rules(&block, blocks))
 }
