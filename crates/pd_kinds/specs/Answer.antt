@@ -6,8 +6,12 @@ use Rattle.std.specs.List.{list_any}
 use Rattle.std.specs.Option.{option_map}
 use Rattle.pd_kinds.specs.declared.fault.Fault.{Fault}
 use Rattle.pd_kinds.specs.Objects.{DeviceState, SourceState, SinkState, Rose, Appends, AppendsFront}
-use Rattle.pd_kinds.specs.Words.{Request, check_super}
+use Rattle.pd_kinds.specs.declared.kind.Kind.TheVariants.{Thin}
+use Rattle.pd_kinds.specs.declared.kind.Stage.{Stage}
+use Rattle.pd_kinds.specs.declared.kind.Stage.TheVariants.{Super}
+use Rattle.pd_kinds.specs.Words.{Request, thin_check}
 use Rattle.pd_kinds.specs.Faults.{thin_super_faults}
+use Rattle.pd_kinds.specs.Stages.{faults}
 use Rattle.pd_kinds.specs.Lines.{report_lines, usage_line, device_line, sink_line, memory_line}
 
 -- the six objects of a call
@@ -46,14 +50,22 @@ check_answer (fault ∷ faults) = record { status = 1; out = report_lines (fault
 -- the answer, where the objects that decide it tell what they hold
 unfoldable pub answer : Option Request → Objects → Option Answer
 answer None objects = Some (record { status = 2; out = []; notes = usage_line })
-answer (Some (check_super path)) objects =
-    option_map (λ image. check_answer (thin_super_faults image)) objects.input.held
+answer (Some (thin_check until path)) objects =
+    option_map (λ image. check_answer (faults Thin until image)) objects.input.held
 
 -- the statuses that can come of a request: its answers, 5 where a device can fail, 6 where a source or
 -- a sink can, and 7 where memory is wanted
 abbrev pub statuses_of : Option Request → List ℕ
 statuses_of None = 2 ∷ 6 ∷ []
-statuses_of (Some (check_super path)) = 0 ∷ 1 ∷ 5 ∷ 6 ∷ []
+statuses_of (Some (thin_check Super path)) = 0 ∷ 1 ∷ 5 ∷ 6 ∷ []
+statuses_of (Some (thin_check until path)) = 0 ∷ 1 ∷ 5 ∷ 6 ∷ 7 ∷ []
+
+-- memory can be wanting: never for words that spell no request, never up to the stage Super, and never
+-- where the image is told and its superblock has a fault
+abbrev pub MayWantMemory : Option Request → Objects → Type 0
+MayWantMemory None objects = ⊥
+MayWantMemory (Some (thin_check until path)) objects =
+    (until ≢ Super) × IfSome objects.input.held (λ image. thin_super_faults image ≡ [])
 
 -- how a request names an object: not at all, or by a path, for reading or for writing
 pub data Use : Type 0 where
@@ -63,24 +75,24 @@ pub data Use : Type 0 where
 
 abbrev pub source_use : Option Request → Use
 source_use None = unused
-source_use (Some (check_super path)) = unused
+source_use (Some (thin_check until path)) = unused
 
 abbrev pub input_use : Option Request → Use
 input_use None = unused
-input_use (Some (check_super path)) = reading path
+input_use (Some (thin_check until path)) = reading path
 
 abbrev pub output_use : Option Request → Use
 output_use None = unused
-output_use (Some (check_super path)) = unused
+output_use (Some (thin_check until path)) = unused
 
 abbrev pub third_use : Option Request → Use
 third_use None = unused
-third_use (Some (check_super path)) = unused
+third_use (Some (thin_check until path)) = unused
 
 -- how `out` is named: the empty path is the standard stream
 abbrev pub out_use : Option Request → Use
 out_use None = unused
-out_use (Some (check_super path)) = reading []
+out_use (Some (thin_check until path)) = reading []
 
 -- an object that isn't named isn't attached; one that is may have failed to be
 abbrev pub IsAccess : Use → ℕ → Type 0
@@ -155,8 +167,10 @@ pub record AreKept (before after : Objects) : Type 0 where
 pub record IsAnswered (request : Option Request) (before after : Objects) (status : ℕ) : Type 0 where
   -- whatever failed on the way, a status from 0 to 4 is the answer's, and so are the bytes
   pub sound : status ≤ 4 → IfSome (answer request before) (IsGiven before after status)
-  -- where nothing failed, the status is the answer's
-  pub complete : NoFaults before after → IfSome (answer request before) (λ a. status ≡ a.status)
+  -- where nothing failed, the status is the answer's, or memory was wanting
+  pub complete : NoFaults before after → IfSome (answer request before) (λ a. (status ≡ a.status) ⊎ (status ≡ 7))
+  -- 7 comes only where memory can be wanting
+  pub memory_wanting : status ≡ 7 → MayWantMemory request before
   -- under every status the bytes of `out` are a front of the answer's
   pub front : IfSome (answer request before) (λ a. AppendsFront a.out before.out.written after.out.written)
   -- a status from 5 to 7 has just its line on `notes`, if `notes` didn't fail

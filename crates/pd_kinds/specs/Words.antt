@@ -3,11 +3,13 @@ use Rattle.std.specs.Prelude.{ℕ, Bool, false, ◌==◌, not, if◌then◌else�
 use Rattle.std.specs.List.{list_any, list_all, filter_map}
 use Rattle.std.specs.Option.{option_map, option_and_then}
 use Rattle.std.specs.Str.{bytes_eq}
+use Rattle.pd_kinds.specs.declared.kind.Stage.{Stage}
+use Rattle.pd_kinds.specs.declared.kind.Stage.TheVariants.{Super, Walk, Order, Whole, Counts}
 
 -- a request, with the words that name its objects
 pub data Request : Type 0 where
-  -- the check of the thin superblock of the image at this path
-  check_super : List ℕ → Request
+  -- the check of a thin pool's metadata up to a stage, of the image at this path
+  thin_check : Stage → List ℕ → Request
 
 -- what follows the name of a tool: an option's word with its value, or an operand
 pub data Item : Type 0 where
@@ -54,14 +56,29 @@ sole (x ∷ y ∷ rest) = None
 abbrev pub until_word : List ℕ
 until_word = codes "--until"
 
--- what the items ask of thin_check: one operand, the image, and one stage. Only `super` is built, and
--- without the option the stage would be `counts`
+-- the stages that are built
+abbrev pub IsBuilt : Stage → Type 0
+IsBuilt Super = Unit {0}
+IsBuilt Walk = Unit {0}
+IsBuilt Order = ⊥
+IsBuilt Whole = ⊥
+IsBuilt Counts = ⊥
+
+-- the stage that a word names, if it is one that is built
+unfoldable pub stage_of : List ℕ → Option Stage
+stage_of word =
+    if bytes_eq word (codes "super") then Some Super
+    else if bytes_eq word (codes "walk") then Some Walk
+    else None
+
+-- what the items ask of thin_check: one operand, the image, and one stage. Without the option the stage
+-- would be `counts`
 unfoldable pub thin_check_request : List Item → Option Request
 thin_check_request items =
     if list_all has_value items
-    then option_and_then (λ (stage : List ℕ).
+    then option_and_then (λ (word : List ℕ).
     option_and_then (λ (image : List ℕ).
-    if bytes_eq stage (codes "super") then Some (check_super image) else None)
+    option_map (λ (until : Stage). thin_check until image) (stage_of word))
     (sole (filter_map operand_of items)))
     (sole (filter_map (value_of until_word) items))
     else None
