@@ -11,6 +11,7 @@ use Rattle.pd_kinds.specs.declared.rule.Rule.TheVariants as r
 use Rattle.pd_kinds.specs.declared.rules.Rules.{Rules}
 use Rattle.pd_kinds.specs.declared.fault.Fault.{Fault}
 use Rattle.pd_kinds.specs.declared.report.Report.{Report}
+use Rattle.pd_kinds.specs.Words.{IsBuilt}
 use Rattle.pd_kinds.specs.Rule.{same_rule}
 use Rattle.pd_kinds.specs.RuleSet.{has_rule}
 use Rattle.pd_kinds.specs.Report.{Reported, report_of}
@@ -31,7 +32,7 @@ use Rattle.pd_thin.specs.declared.check.CheckFault.TheVariants.{Memory, Device}
 use Rattle.pd_thin.specs.declared.check.Found.{Found}
 use Rattle.pd_thin.specs.declared.check.Found.TheVariants.{Broken, Sound}
 use Rattle.pd_thin.specs.declared.format.ThinFormat.{ThinFormat}
-use Rattle.pd_thin.specs.Check.{IsBuilt, IsFoundIn, IsBlockFound, MayWantMemory, ReadsFew, graph_of_format}
+use Rattle.pd_thin.specs.Check.{IsFoundIn, IsBlockFound, MayWantMemory, ReadsFew, graph_of_format}
 
 -- a device without blocks
 size_is_one : thin_super_faults [] ≢ []

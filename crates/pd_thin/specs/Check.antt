@@ -16,14 +16,6 @@ use Rattle.pd_thin.specs.declared.check.CheckFault.{CheckFault}
 use Rattle.pd_thin.specs.declared.check.CheckFault.TheVariants.{Memory, Device}
 use Rattle.pd_thin.specs.declared.format.ThinFormat.{ThinFormat}
 
--- the stages that are built
-abbrev pub IsBuilt : Stage → Type 0
-IsBuilt stages.Super = Unit {0}
-IsBuilt stages.Walk = Unit {0}
-IsBuilt stages.Order = ⊥
-IsBuilt stages.Whole = ⊥
-IsBuilt stages.Counts = ⊥
-
 -- a format's graph
 abbrev pub graph_of_format : ThinFormat → Graph
 graph_of_format format = graph_of 11 format.nr format.data_blocks (thin_layout format.nr format.data_blocks)
