@@ -10,8 +10,7 @@ use Rattle.pd_kinds.specs.declared.kind.Kind.TheVariants.{Thin}
 use Rattle.pd_kinds.specs.declared.kind.Stage.{Stage}
 use Rattle.pd_kinds.specs.declared.kind.Stage.TheVariants.{Super}
 use Rattle.pd_kinds.specs.Words.{Request, thin_check}
-use Rattle.pd_kinds.specs.Faults.{thin_super_faults}
-use Rattle.pd_kinds.specs.Stages.{faults}
+use Rattle.pd_kinds.specs.Stages.{faults, CanWantMemory}
 use Rattle.pd_kinds.specs.Lines.{report_lines, usage_line, device_line, sink_line, memory_line}
 
 -- the six objects of a call
@@ -60,12 +59,10 @@ statuses_of None = 2 ∷ 6 ∷ []
 statuses_of (Some (thin_check Super path)) = 0 ∷ 1 ∷ 5 ∷ 6 ∷ []
 statuses_of (Some (thin_check until path)) = 0 ∷ 1 ∷ 5 ∷ 6 ∷ 7 ∷ []
 
--- memory can be wanting: never for words that spell no request, never up to the stage Super, and never
--- where the image is told and its superblock has a fault
+-- memory can be wanting: never for words that spell no request
 abbrev pub MayWantMemory : Option Request → Objects → Type 0
 MayWantMemory None objects = ⊥
-MayWantMemory (Some (thin_check until path)) objects =
-    (until ≢ Super) × IfSome objects.input.held (λ image. thin_super_faults image ≡ [])
+MayWantMemory (Some (thin_check until path)) objects = CanWantMemory Thin until objects.input.held
 
 -- how a request names an object: not at all, or by a path, for reading or for writing
 pub data Use : Type 0 where

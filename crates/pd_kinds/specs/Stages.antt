@@ -1,5 +1,5 @@
 -- The faults of each stage, the first failing stage, and what a clean image is.
-use Rattle.std.specs.Prelude.{◌≡◌, ℕ, ◌<◌, Bool, true, false, ◌&&◌, ◌||◌, not, nat_lt, if◌then◌else◌, List, [], ◌∷◌, ◌++◌, filter, length, Option, Some, None}
+use Rattle.std.specs.Prelude.{◌≡◌, ◌≢◌, ℕ, ◌<◌, Bool, true, false, ◌&&◌, ◌||◌, not, nat_lt, if◌then◌else◌, List, [], ◌∷◌, ◌++◌, filter, length, Option, Some, None, IfSome}
 use Rattle.std.specs.List.{list_any, flat_map, range_with_len}
 use Rattle.pd_kinds.specs.declared.kind.Kind.{Kind}
 use Rattle.pd_kinds.specs.declared.kind.Kind.TheVariants.{Thin, Cache, Era}
@@ -145,6 +145,12 @@ first_failing checked image (stage ∷ rest) =
 -- the faults of an image of a kind up to a stage
 unfoldable pub faults : Kind → Stage → List (List ℕ) → List Fault
 faults kind until image = first_failing (checked_of kind image) image (stages_to until)
+
+-- a check up to a stage can want memory: not up to the superblock's own stage, and not where the image
+-- is told and its superblock has a fault
+pub record CanWantMemory (kind : Kind) (until : Stage) (held : Option (List (List ℕ))) : Type 0 where
+  pub past_super : until ≢ stages.Super
+  pub sound : IfSome held (λ image. faults kind stages.Super image ≡ [])
 
 -- block 0 exists, and breaks no rule
 abbrev pub HasCleanSuper : Checked → List (List ℕ) → Type 0

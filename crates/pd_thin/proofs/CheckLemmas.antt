@@ -155,16 +155,16 @@ module _ (held : Option (List (List ℕ))) (format : ThinFormat) (found : IfSome
   default_report stages.Whole (Ok report) built past walked = absurd built
   default_report stages.Counts (Ok report) built past walked = absurd built
 
+none_in_super : (held : Option (List (List ℕ))) (format : ThinFormat) → IfSome held (IsFoundIn (Sound format))
+    → IfSome held (λ image. faults Thin stages.Super image ≡ [])
+none_in_super None format found = tt
+none_in_super (Some image) format found = sound_faults image found.0
+
 pub default_memory : (held : Option (List (List ℕ))) (format : ThinFormat) → IfSome held (IsFoundIn (Sound format))
-    → (until : Stage) (result : Result Report CheckFault) → IsBuilt until → (until ≡ stages.Super → ⊥) → MayWantMemory until held result
-default_memory held format found stages.Super result built past = absurd (past refl)
-default_memory None format found stages.Walk result built past = tt
-default_memory (Some image) format found stages.Walk (Err Memory) built past = found.0
-default_memory (Some image) format found stages.Walk (Err Device) built past = tt
-default_memory (Some image) format found stages.Walk (Ok report) built past = tt
-default_memory held format found stages.Order result built past = absurd built
-default_memory held format found stages.Whole result built past = absurd built
-default_memory held format found stages.Counts result built past = absurd built
+    → (until : Stage) (result : Result Report CheckFault) → (until ≡ stages.Super → ⊥) → MayWantMemory until held result
+default_memory held format found until (Ok report) past = tt
+default_memory held format found until (Err Memory) past = record { past_super = past; sound = none_in_super held format found }
+default_memory held format found until (Err Device) past = tt
 
 -- the reads of a check
 pub none_read : (held : Option (List (List ℕ))) (old new : ℕ) → new ≤ old → IfSome held (λ image. ReadsFew image old new)

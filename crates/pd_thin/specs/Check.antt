@@ -1,12 +1,13 @@
 -- What a check of a thin pool's metadata finds in block 0, and how it ends.
-use Rattle.std.specs.Prelude.{◌≡◌, ◌≢◌, ℕ, ◌≤◌, ◌+◌, false, List, [], length, Option, Some, Result, Ok, Err}
+use Rattle.std.specs.Prelude.{◌≡◌, ◌≢◌, ℕ, ◌≤◌, ◌+◌, false, List, [], length, Option, Result, Ok, Err}
+use Rattle.pd_kinds.specs.declared.kind.Kind.TheVariants.{Thin}
 use Rattle.pd_kinds.specs.declared.kind.Stage.{Stage}
-use Rattle.pd_kinds.specs.declared.kind.Stage.TheVariants as stages
 use Rattle.pd_kinds.specs.declared.rule.Rule.{Rule}
 use Rattle.pd_kinds.specs.Objects.{Rose}
 use Rattle.pd_kinds.specs.RuleSet.{has_rule}
 use Rattle.pd_kinds.specs.Faults.{faults_at, thin_super_faults}
 use Rattle.pd_kinds.specs.Graph.{Graph, block_at, nodes}
+use Rattle.pd_kinds.specs.Stages.{CanWantMemory}
 use Rattle.pd_kinds.specs.Layout.{graph_of}
 use Rattle.pd_kinds.specs.ThinSuper.{thin_super_bad}
 use Rattle.pd_kinds.specs.ThinFormat.{thin_graph, thin_layout}
@@ -46,12 +47,11 @@ CountsCheckFault (Ok report) old new = new ≡ old
 CountsCheckFault (Err Memory) old new = new ≡ old
 CountsCheckFault (Err Device) old new = Rose old new × (old ≤ new)
 
--- memory is wanted only past a superblock that has no fault, where the device tells it, and never up to
--- the stage Super
+-- memory is wanted only where a check up to the stage can want it
 abbrev pub MayWantMemory : {R : Type 0} → Stage → Option (List (List ℕ)) → Result R CheckFault → Type 0
-MayWantMemory stages.Super held (Err Memory) = ⊥
-MayWantMemory stages.Walk (Some image) (Err Memory) = thin_super_faults image ≡ []
-MayWantMemory until held result = Unit {0}
+MayWantMemory until held (Ok report) = Unit {0}
+MayWantMemory until held (Err Memory) = CanWantMemory Thin until held
+MayWantMemory until held (Err Device) = Unit {0}
 
 -- where memory is wanting, no more than so many blocks were read
 abbrev pub StopsEarly : {R : Type 0} → Result R CheckFault → ℕ → ℕ → Type 0

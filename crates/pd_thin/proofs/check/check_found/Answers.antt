@@ -17,7 +17,7 @@ returns-in_default-clause-report g c =
 
 pub returns-in_default-clause-memory : goal.returns-in_default-clause-memory
 returns-in_default-clause-memory g c =
-    default_memory _ c.in-Sound.format (rw c.in-Sound.is at c.requires.found) c.args.until c.check_walk.result c.requires.built c.in_default.not-Super
+    default_memory _ c.in-Sound.format (rw c.in-Sound.is at c.requires.found) c.args.until c.check_walk.result c.in_default.not-Super
 
 pub returns-in-Broken-clause-reads : goal.returns-in-Broken-clause-reads
 returns-in-Broken-clause-reads g c = none_read _ _ _ (omega arith)
