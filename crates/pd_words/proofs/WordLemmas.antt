@@ -3,10 +3,11 @@ use Rattle.std.proofs.Common.{◌≡◌, ◌≢◌, inl, inr, ℕ, suc, ◌+◌,
 use Rattle.std.specs.List.{list_all, filter_map}
 use Rattle.std.specs.Option.{option_map, option_and_then}
 use Rattle.std.specs.Str.{bytes_eq}
-use Rattle.std.proofs.lemmas.Bool.{cases_Bool}
+use Rattle.std.proofs.lemmas.Bool.{cases_Bool, true≢false}
 use Rattle.std.proofs.lemmas.List.{take_all}
 use Rattle.std.proofs.lemmas.Slice.Eq.{bytes_eq-Decides}
-use Rattle.pd_kinds.specs.Words.{check_super, Item, option_item, operand_item, is_value, items_of, has_value, value_of, operand_of, sole, until_word, thin_check_request, asked}
+use Rattle.pd_kinds.specs.declared.kind.Stage.{Stage}
+use Rattle.pd_kinds.specs.Words.{thin_check, Item, option_item, operand_item, is_value, items_of, has_value, value_of, operand_of, sole, until_word, stage_of, thin_check_request, asked}
 
 -- a word that is another one can be a value where that one can
 value_from_eq : (word other : List ℕ) (b : Bool) → is_value other ≡ b → bytes_eq word other ≡ true → is_value word ≡ b
@@ -14,43 +15,42 @@ value_from_eq word other b e same =
     let P : List ℕ → Type 0 = λ w. is_value w ≡ b in
     subst P (sym ((bytes_eq-Decides word other).0 same)) e
 
+-- a word that can't be a value isn't one that can
+not_a_value : (word other : List ℕ) → is_value word ≡ false → is_value other ≡ true → bytes_eq word other ≡ false
+not_a_value word other dash value = elim (cases_Bool (bytes_eq word other)) [
+  | inl same ↦ absurd (true≢false (sym (value_from_eq word other true value same) ∙ dash))
+  | inr differ ↦ differ
+]
+
+-- a word that can't be a value names no stage
+no_stage : (word : List ℕ) → is_value word ≡ false → stage_of word ≡ None
+unfolding stage_of
+no_stage word dash = simp (
+  not_a_value word (codes "super") dash refl,
+  not_a_value word (codes "walk") dash refl,
+)
+
 -- the stage and the image, where the option comes first
 pub until_first : (a b c : List ℕ) → bytes_eq a until_word ≡ true
     → option_and_then thin_check_request (items_of (until_word ∷ []) (a ∷ b ∷ c ∷ []))
-    ≡ (if is_value c && bytes_eq b (codes "super") then Some (check_super c) else None)
+    ≡ (if is_value c then option_map (λ (until : Stage). thin_check until c) (stage_of b) else None)
 unfolding items_of thin_check_request
 until_first a b c e = elim (cases_Bool (bytes_eq c until_word)) [
-  | inl option ↦ let no = value_from_eq c until_word false refl option in simp (e, option, no)
-  | inr operand ↦ elim (cases_Bool (bytes_eq b (codes "super"))) [
-    | inl stage ↦ let yes = value_from_eq b (codes "super") true refl stage in
-        elim (cases_Bool (is_value c)) [
-          | inl image ↦ simp (e, operand, stage, yes, image)
-          | inr none ↦ simp (e, operand, stage, yes, none)
-        ]
-    | inr other ↦
-        elim (cases_Bool (is_value c)) [
-          | inl image ↦ elim (cases_Bool (is_value b)) [ inl v ↦ simp (e, operand, other, image, v) | inr v ↦ simp (e, operand, other, image, v) ]
-          | inr none ↦ elim (cases_Bool (is_value b)) [ inl v ↦ simp (e, operand, other, none, v) | inr v ↦ simp (e, operand, other, none, v) ]
-        ]
+  | inl option ↦ let none = value_from_eq c until_word false refl option in simp (e, option, none)
+  | inr operand ↦ elim (cases_Bool (is_value b)) [
+    | inl v ↦ elim (cases_Bool (is_value c)) [ inl image ↦ simp (e, operand, v, image) | inr none ↦ simp (e, operand, v, none) ]
+    | inr v ↦ elim (cases_Bool (is_value c)) [ inl image ↦ simp (e, operand, v, image, no_stage b v) | inr none ↦ simp (e, operand, v, none) ]
   ]
 ]
 
 -- the same, where the image comes first
 pub until_second : (a b c : List ℕ) → bytes_eq a until_word ≡ false → bytes_eq b until_word ≡ true
     → option_and_then thin_check_request (items_of (until_word ∷ []) (a ∷ b ∷ c ∷ []))
-    ≡ (if is_value a && bytes_eq c (codes "super") then Some (check_super a) else None)
+    ≡ (if is_value a then option_map (λ (until : Stage). thin_check until a) (stage_of c) else None)
 unfolding items_of thin_check_request
-until_second a b c operand e = elim (cases_Bool (bytes_eq c (codes "super"))) [
-  | inl stage ↦ let yes = value_from_eq c (codes "super") true refl stage in
-      elim (cases_Bool (is_value a)) [
-        | inl image ↦ simp (e, operand, stage, yes, image)
-        | inr none ↦ simp (e, operand, stage, yes, none)
-      ]
-  | inr other ↦
-      elim (cases_Bool (is_value a)) [
-        | inl image ↦ elim (cases_Bool (is_value c)) [ inl v ↦ simp (e, operand, other, image, v) | inr v ↦ simp (e, operand, other, image, v) ]
-        | inr none ↦ elim (cases_Bool (is_value c)) [ inl v ↦ simp (e, operand, other, none, v) | inr v ↦ simp (e, operand, other, none, v) ]
-      ]
+until_second a b c operand e = elim (cases_Bool (is_value c)) [
+  | inl v ↦ elim (cases_Bool (is_value a)) [ inl image ↦ simp (e, operand, v, image) | inr none ↦ simp (e, operand, v, none) ]
+  | inr v ↦ elim (cases_Bool (is_value a)) [ inl image ↦ simp (e, operand, v, image, no_stage c v) | inr none ↦ simp (e, operand, v, none) ]
 ]
 
 -- without the option in one of the first two places there is no request of three words
@@ -98,8 +98,10 @@ items_of-width (a ∷ b ∷ words) = elim (cases_Bool (bytes_eq a until_word)) [
 -- a request has one value of the option, and one operand
 one_of_each : (valid : Bool) (values operands : List (List ℕ)) → length operands + 2 * length values ≢ 3
     → (if valid
-    then option_and_then (λ (stage : List ℕ).
-    option_and_then (λ (image : List ℕ). if bytes_eq stage (codes "super") then Some (check_super image) else None) (sole operands))
+    then option_and_then (λ (word : List ℕ).
+    option_and_then (λ (image : List ℕ).
+    option_map (λ (until : Stage). thin_check until image) (stage_of word))
+    (sole operands))
     (sole values)
     else None) ≡ None
 one_of_each false values operands other = refl

@@ -5,7 +5,7 @@ use Rattle.pd_kinds.specs.Words as words
 
 -- the request as the definitions speak of it
 abbrev pub request_of : Request → words.Request
-request_of request = words.check_super request.image.now
+request_of request = words.thin_check request.until request.image.now
 
 -- the request that was read, if one was
 abbrev pub spelled : Option Request → Option words.Request

@@ -1,14 +1,17 @@
-ghost use Rattle.std.specs.Prelude.{◌≡◌, ◌∷◌, ◌&&◌, [], map, string_bytes, codes, if◌then◌else◌};
-ghost use Rattle.std.specs.Option.{option_and_then};
-ghost use Rattle.std.specs.Str.{bytes_eq};
-ghost use Rattle.pd_kinds.specs.Words.{asked, is_value, items_of, thin_check_request, until_word};
+ghost use Rattle.std.specs.Prelude.{◌≡◌, ◌∷◌, [], map, string_bytes, None, IfSome, if◌then◌else◌};
+ghost use Rattle.std.specs.Option.{option_and_then, option_map};
+ghost use Rattle.pd_kinds.specs.Words.{asked, is_value, items_of, stage_of, thin_check_request, until_word, IsBuilt};
 ghost use Rattle.pd_kinds.specs.Words as request;
 ghost use Rattle.pd_words.specs.Words.{spelled};
 
-/// What the words of a command line ask for: the check of the thin superblock of an image. It is the
-/// only request that is built.
+use pd_kinds::Stage;
+
+/// What the words of a command line ask for: the check of the metadata of a thin pool up to a stage. It is
+/// the only request that is built.
 #[derive(Clone, Copy)]
 pub struct Request<'a> {
+    /// The last stage that is looked at.
+    pub until: Stage,
     /// The path of the image, a word of the command line.
     pub image: &'a str,
 }
@@ -17,9 +20,10 @@ pub struct Request<'a> {
 ///
 /// After the name of the tool come, in any order, an option's word followed by its value, and the one
 /// operand. Each option comes at most once. A value or an operand isn't empty and doesn't begin with
-/// `-`.
+/// `-`. The stage of a check is one that is built.
 pub fn read_words(words: &[String]) -> Option<Request<'_>>
-    ensures { spelled result ≡ asked (map string_bytes words.now) }
+    ensures asked { spelled result ≡ asked (map string_bytes words.now) }
+    ensures built { IfSome result (λ request. IsBuilt request.until) }
 {
     match words {
         [] => None,
@@ -30,7 +34,8 @@ pub fn read_words(words: &[String]) -> Option<Request<'_>>
 /// The request of the words after the name of a tool.
 #[tactic(auto, unfolding(pd_kinds::specs::Words::asked))]
 fn read_tool<'a>(tool: &str, words: &'a [String]) -> Option<Request<'a>>
-    ensures { spelled result ≡ asked (tool.now ∷ map string_bytes words.now) }
+    ensures asked { spelled result ≡ asked (tool.now ∷ map string_bytes words.now) }
+    ensures built { IfSome result (λ request. IsBuilt request.until) }
 {
     if tool == "thin_check" {
         read_thin_check(words)
@@ -41,7 +46,8 @@ fn read_tool<'a>(tool: &str, words: &'a [String]) -> Option<Request<'a>>
 
 /// The request of the words after `thin_check`.
 fn read_thin_check(words: &[String]) -> Option<Request<'_>>
-    ensures { spelled result ≡ option_and_then thin_check_request (items_of (until_word ∷ []) (map string_bytes words.now)) }
+    ensures asked { spelled result ≡ option_and_then thin_check_request (items_of (until_word ∷ []) (map string_bytes words.now)) }
+    ensures built { IfSome result (λ request. IsBuilt request.until) }
 {
     if words.len() != 3 {
         return None;
@@ -51,25 +57,43 @@ fn read_thin_check(words: &[String]) -> Option<Request<'_>>
 
 /// The request of the three words after `thin_check`, of which one names the image.
 fn check_image<'a>(first: &'a str, second: &'a str, third: &'a str) -> Option<Request<'a>>
-    ensures { spelled result ≡ option_and_then thin_check_request (items_of (until_word ∷ []) (first.now ∷ second.now ∷ third.now ∷ [])) }
+    ensures asked { spelled result ≡ option_and_then thin_check_request (items_of (until_word ∷ []) (first.now ∷ second.now ∷ third.now ∷ [])) }
+    ensures built { IfSome result (λ request. IsBuilt request.until) }
 {
     if first == "--until" {
-        check_super(second, third)
+        check_until(second, third)
     } else if second == "--until" {
-        check_super(third, first)
+        check_until(third, first)
     } else {
         None
     }
 }
 
-/// The check up to a stage of an image, where both words can be values and the stage is built.
-fn check_super<'a>(stage: &str, image: &'a str) -> Option<Request<'a>>
-    ensures { spelled result ≡ (if is_value image.now && bytes_eq stage.now (codes "super") then Some (request.check_super image.now) else None) }
+/// The check of an image up to a stage, where one word names a stage that is built and the other can be
+/// an operand.
+fn check_until<'a>(stage: &str, image: &'a str) -> Option<Request<'a>>
+    ensures asked { spelled result ≡ (if is_value image.now then option_map (λ until. request.thin_check until image.now) (stage_of stage.now) else None) }
+    ensures built { IfSome result (λ request. IsBuilt request.until) }
 {
-    if is_operand(image) && stage == "super" {
-        Some(Request { image })
-    } else {
-        None
+    if !is_operand(image) {
+        return None;
+    }
+    match stage_named(stage) {
+        Some(until) => Some(Request { until, image }),
+        None => None,
+    }
+}
+
+/// The stage that a word names, if it is one that is built.
+#[tactic(auto, unfolding(pd_kinds::specs::Words::stage_of))]
+fn stage_named(word: &str) -> Option<Stage>
+    ensures named { result ≡ stage_of word.now }
+    ensures built { IfSome result IsBuilt }
+{
+    match word {
+        "super" => Some(Stage::Super),
+        "walk" => Some(Stage::Walk),
+        _ => None,
     }
 }
 
