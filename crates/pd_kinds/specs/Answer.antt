@@ -8,7 +8,7 @@ use Rattle.pd_kinds.specs.declared.fault.Fault.{Fault}
 use Rattle.pd_kinds.specs.Objects.{DeviceState, SourceState, SinkState, Rose, Appends, AppendsFront}
 use Rattle.pd_kinds.specs.declared.kind.Kind.TheVariants.{Thin}
 use Rattle.pd_kinds.specs.declared.kind.Stage.{Stage}
-use Rattle.pd_kinds.specs.declared.kind.Stage.TheVariants.{Super}
+use Rattle.pd_kinds.specs.declared.kind.Stage.TheVariants.{Super, Walk, Order, Whole, Counts}
 use Rattle.pd_kinds.specs.Words.{Request, thin_check}
 use Rattle.pd_kinds.specs.Stages.{faults, CanWantMemory}
 use Rattle.pd_kinds.specs.Lines.{report_lines, usage_line, device_line, sink_line, memory_line}
@@ -52,12 +52,19 @@ answer None objects = Some (record { status = 2; out = []; notes = usage_line })
 answer (Some (thin_check until path)) objects =
     option_map (λ image. check_answer (faults Thin until image)) objects.input.held
 
+-- the status of want of memory, if a check up to the stage can have it
+abbrev pub wanting_of : Stage → List ℕ
+wanting_of Super = []
+wanting_of Walk = 7 ∷ []
+wanting_of Order = 7 ∷ []
+wanting_of Whole = 7 ∷ []
+wanting_of Counts = 7 ∷ []
+
 -- the statuses that can come of a request: its answers, 5 where a device can fail, 6 where a source or
 -- a sink can, and 7 where memory is wanted
 abbrev pub statuses_of : Option Request → List ℕ
 statuses_of None = 2 ∷ 6 ∷ []
-statuses_of (Some (thin_check Super path)) = 0 ∷ 1 ∷ 5 ∷ 6 ∷ []
-statuses_of (Some (thin_check until path)) = 0 ∷ 1 ∷ 5 ∷ 6 ∷ 7 ∷ []
+statuses_of (Some (thin_check until path)) = 0 ∷ 1 ∷ 5 ∷ 6 ∷ wanting_of until
 
 -- memory can be wanting: never for words that spell no request
 abbrev pub MayWantMemory : Option Request → Objects → Type 0

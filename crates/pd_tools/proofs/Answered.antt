@@ -3,16 +3,22 @@ use Rattle.std.proofs.Common.{◌≡◌, ◌≢◌, inl, inr, ℕ, ◌≤◌, Bo
 use Rattle.std.specs.Option.{option_map}
 use Rattle.std.specs.List.{list_any}
 use Rattle.std.proofs.Math.Dec.{eqb-suc-zero}
+use Rattle.std.proofs.lemmas.Bool.{cases_Bool}
 use Rattle.pd_kinds.specs.declared.fault.Fault.{Fault}
 use Rattle.pd_kinds.specs.Objects.{DeviceState, SourceState, SinkState, Rose, AppendsFront}
-use Rattle.pd_kinds.specs.Words.{Request, check_super}
-use Rattle.pd_kinds.specs.Faults.{thin_super_faults}
+use Rattle.pd_kinds.specs.declared.kind.Kind.TheVariants.{Thin}
+use Rattle.pd_kinds.specs.declared.kind.Stage.{Stage}
+use Rattle.pd_kinds.specs.declared.kind.Stage.TheVariants.{Super, Walk, Order, Whole, Counts}
+use Rattle.pd_kinds.specs.Words.{Request, thin_check}
+use Rattle.pd_kinds.specs.Stages.{faults, CanWantMemory}
 use Rattle.pd_kinds.specs.Lines.{report_lines, usage_line, device_line, sink_line, memory_line}
-use Rattle.pd_kinds.specs.Answer.{objects, AreFresh, check_answer, answer, Use, unused, reading, writing, IsUsed, AreUsed, AppendsFrontOfOne, IsAnswered, IsGiven, IsAccess, statuses_of}
+use Rattle.pd_kinds.specs.Answer.{Objects, objects, AreFresh, NoFaults, check_answer, answer, failure_line, MayWantMemory, Use, unused, reading, writing, IsUsed, AreUsed, AppendsFrontOfOne, IsAnswered, IsGiven, IsAccess, statuses_of}
 use Rattle.pd_kinds.proofs.AppendLemmas.{appends_none, front_none, front_from_whole}
 use Rattle.pd_tools.specs.declared.check.Stop.{Stop}
-use Rattle.pd_tools.specs.declared.check.Stop.TheVariants.{Device, Sink}
-use Rattle.pd_tools.specs.Check.{Checks, Ends, IsReported, Reports, StopsAtSink}
+use Rattle.pd_tools.specs.declared.check.Stop.TheVariants.{Unread, Unwritten}
+use Rattle.pd_thin.specs.declared.check.CheckFault.{CheckFault}
+use Rattle.pd_thin.specs.declared.check.CheckFault.TheVariants.{Memory, Device}
+use Rattle.pd_tools.specs.Check.{Checks, Ends, IsReported, Reports, IsUnread, stop_line, stop_status}
 use Rattle.pd_tools.specs.Notes.{PutsLine, IsAttachedNotes}
 
 -- what holds of every value holds of the one that there is
@@ -55,7 +61,11 @@ check_answer-status (fault ∷ faults) clean e = rw (e, eqb-suc-zero (length fau
 -- 6 can come of every request
 six_possible : (request : Option Request) → IsTrue (list_any (λ s. 6 == s) (statuses_of request))
 six_possible None = refl
-six_possible (Some (check_super path)) = refl
+six_possible (Some (thin_check Super path)) = refl
+six_possible (Some (thin_check Walk path)) = refl
+six_possible (Some (thin_check Order path)) = refl
+six_possible (Some (thin_check Whole path)) = refl
+six_possible (Some (thin_check Counts path)) = refl
 
 -- `notes` failed
 pub answered_lost : (request : Option Request) (source : SourceState) (out out' notes notes' : SinkState) (input input' output third : DeviceState)
@@ -74,6 +84,7 @@ answered_lost request source out out' notes notes' input input' output third fre
   own_line = λ _ same. absurd (not_risen notes.faults notes'.faults fresh.notes.1 same rose);
   notes_front = notes_front;
   possible = six_possible request;
+  memory_wanting = λ e. absurd (omega arith);
   device_failed = λ e. absurd (omega arith);
   sink_failed = λ _. inr (inr rose);
   notes_failed = λ _. refl;
@@ -114,7 +125,8 @@ answered_refused source out notes attached notes' input output third status fres
           let faults : notes'.faults ≡ notes.faults = put.faults ∙ was.faults in
           rw put.status (record {
             sound = λ _. record { status = refl; out = appends_none out.written; notes = rw was.written at put.whole };
-            complete = λ _. refl;
+            complete = λ _. inl refl;
+            memory_wanting = λ e. absurd (omega arith);
             front = front_none [] out.written;
             own_line = λ h. absurd (omega arith);
             notes_front = inl front;
@@ -134,26 +146,87 @@ answered_refused source out notes attached notes' input output third status fres
           (answered_lost None source out out notes notes' input input output third fresh (front_none [] out.written) (inl front) rose used refl)
     ]
 
+-- why a call ends with a status from 5 to 7
+record HasCause (request : Option Request) (before after : Objects) (status : ℕ) : Type 0 where
+  high : 5 ≤ status
+  possible : IsTrue (list_any (λ s. status == s) (statuses_of request))
+  nothing_failed : NoFaults before after → status ≡ 7
+  memory : status ≡ 7 → MayWantMemory request before
+  device : status ≡ 5 → Rose before.input.faults after.input.faults
+  sink : status ≡ 6 → Rose before.out.faults after.out.faults
+
+-- the line of a failure is one of three
+one_of_three : (status : ℕ) (first : List ℕ) (old new : Option (List ℕ)) → AppendsFront (failure_line status) old new
+    → AppendsFrontOfOne (first ∷ device_line ∷ sink_line ∷ memory_line ∷ []) old new
+one_of_three status first old new front = elim (cases_Bool (status == 5)) [
+  | inl device ↦ inr (inl (rw device at front))
+  | inr other ↦ elim (cases_Bool (status == 6)) [
+    | inl sink ↦ inr (inr (inl (rw (other, sink) at front)))
+    | inr memory ↦ inr (inr (inr (inl (rw (other, memory) at front))))
+  ]
+]
+
+-- a call that something stopped
+answered_stopped : (request : Option Request) (source : SourceState) (out out' notes attached notes' : SinkState) (input input' output third : DeviceState)
+    (wanted status : ℕ)
+    → AreFresh (objects source out notes input output third)
+    → IsAttachedNotes notes attached
+    → HasCause request (objects source out notes input output third) (objects source out' notes' input' output third) wanted
+    → IfSome (answer request (objects source out notes input output third)) (λ a. AppendsFront a.out out.written out'.written)
+    → AreUsed request (objects source out' notes' input' output third)
+    → input'.held ≡ input.held
+    → PutsLine (failure_line wanted) wanted status attached notes'
+    → IsAnswered request (objects source out notes input output third) (objects source out' notes' input' output third) status
+answered_stopped request source out out' notes attached notes' input input' output third wanted status fresh was cause front used held puts =
+    let line : AppendsFront (failure_line wanted) notes.written notes'.written = rw was.written at puts.front in
+    let notes_front = if_some_all (answer request (objects source out notes input output third))
+    (λ a. AppendsFrontOfOne (a.notes ∷ device_line ∷ sink_line ∷ memory_line ∷ []) notes.written notes'.written)
+    (λ a. one_of_three wanted a.notes notes.written notes'.written line) in
+    elim puts.outcome [
+      | inl put ↦
+          let faults : notes'.faults ≡ notes.faults = put.faults ∙ was.faults in
+          rw put.status (record {
+            sound = λ low. absurd (omega (arith, cause.high));
+            complete = λ none. if_some_all _ _ (λ a. inr (cause.nothing_failed none));
+            memory_wanting = cause.memory;
+            front = front;
+            own_line = λ _ _. rw was.written at put.whole;
+            notes_front = notes_front;
+            possible = cause.possible;
+            device_failed = λ e. inl (cause.device e);
+            sink_failed = λ e. inr (inl (cause.sink e));
+            notes_failed = λ rose. absurd (not_risen notes.faults notes'.faults fresh.notes.1 faults rose);
+            used = used;
+            open_devices = λ low. absurd (omega (arith, cause.high));
+            open_notes = λ _. puts.access ∙ was.access;
+            open_out = λ zero. absurd (omega (arith, cause.high));
+            kept = record { input = held; output = refl; third = refl };
+          })
+      | inr lost ↦
+          rw lost.status
+          (answered_lost request source out out' notes notes' input input' output third fresh front notes_front (rw was.faults at lost.faults) used held)
+    ]
+
 -- the faults of an image, as the answer has them
-front_of_answer : (held : Option (List (List ℕ))) (old new : Option (List ℕ))
-    → IfSome held (λ image. AppendsFront (report_lines (thin_super_faults image)) old new)
-    → IfSome (option_map (λ image. check_answer (thin_super_faults image)) held) (λ a. AppendsFront a.out old new)
-front_of_answer held old new front =
-    if_some_map held (λ image. check_answer (thin_super_faults image)) (λ a. AppendsFront a.out old new)
-    (if_some_weaker held (λ image. AppendsFront (report_lines (thin_super_faults image)) old new)
-    (λ image. AppendsFront (check_answer (thin_super_faults image)).out old new)
-    (λ image h. rw (check_answer-out (thin_super_faults image)) h) front)
+front_of_answer : (until : Stage) (held : Option (List (List ℕ))) (old new : Option (List ℕ))
+    → IfSome held (λ image. AppendsFront (report_lines (faults Thin until image)) old new)
+    → IfSome (option_map (λ image. check_answer (faults Thin until image)) held) (λ a. AppendsFront a.out old new)
+front_of_answer until held old new front =
+    if_some_map held (λ image. check_answer (faults Thin until image)) (λ a. AppendsFront a.out old new)
+    (if_some_weaker held (λ image. AppendsFront (report_lines (faults Thin until image)) old new)
+    (λ image. AppendsFront (check_answer (faults Thin until image)).out old new)
+    (λ image h. rw (check_answer-out (faults Thin until image)) h) front)
 
 -- how the objects of a check are used
-check_used : (path : List ℕ) (source : SourceState) (out out' notes attached notes' : SinkState) (input input' output third : DeviceState)
+check_used : (until : Stage) (path : List ℕ) (source : SourceState) (out out' notes attached notes' : SinkState) (input input' output third : DeviceState)
     → AreFresh (objects source out notes input output third)
     → IsAccess (reading []) out'.access
     → (out'.access ≢ 0 → IfSome out'.path (λ told. told ≡ []))
     → IsUsed (reading []) notes'.access notes'.path
     → IsAccess (reading path) input'.access
     → IfSome input'.path (λ told. told ≡ path)
-    → AreUsed (Some (check_super path)) (objects source out' notes' input' output third)
-check_used path source out out' notes attached notes' input input' output third fresh out_access out_path notes_use input_access input_path = record {
+    → AreUsed (Some (thin_check until path)) (objects source out' notes' input' output third)
+check_used until path source out out' notes attached notes' input input' output third fresh out_access out_path notes_use input_access input_path = record {
   source = not_attached unused _ _ fresh.source.0;
   out = record { allowed = out_access; named = out_path };
   notes = notes_use;
@@ -166,41 +239,42 @@ report_status : (clean : Bool) → (if clean then 0 else 1) ≤ 1
 report_status true = lit≤ tt
 report_status false = lit≤ tt
 
-report_possible : (clean : Bool) → IsTrue (list_any (λ s. (if clean then 0 else 1) == s) (0 ∷ 1 ∷ 5 ∷ 6 ∷ []))
-report_possible true = refl
-report_possible false = refl
+report_possible : (until : Stage) (path : List ℕ) (clean : Bool) → IsTrue (list_any (λ s. (if clean then 0 else 1) == s) (statuses_of (Some (thin_check until path))))
+report_possible until path true = refl
+report_possible until path false = refl
 
 -- the report was put
-answered_reported : (path : List ℕ) (source : SourceState) (out out' notes attached : SinkState) (input input' output third : DeviceState)
+answered_reported : (until : Stage) (path : List ℕ) (source : SourceState) (out out' notes attached : SinkState) (input input' output third : DeviceState)
     (clean : Bool)
     → AreFresh (objects source out notes input output third)
     → IsAttachedNotes notes attached
-    → IsReported out out' input input' clean
+    → IsReported Thin until out out' input input' clean
     → input'.held ≡ input.held
-    → AreUsed (Some (check_super path)) (objects source out' attached input' output third)
-    → IsAnswered (Some (check_super path)) (objects source out notes input output third) (objects source out' attached input' output third)
+    → AreUsed (Some (thin_check until path)) (objects source out' attached input' output third)
+    → IsAnswered (Some (thin_check until path)) (objects source out notes input output third) (objects source out' attached input' output third)
     (if clean then 0 else 1)
 unfolding answer
-answered_reported path source out out' notes attached input input' output third clean fresh was reported held used =
+answered_reported until path source out out' notes attached input input' output third clean fresh was reported held used =
     let low = report_status clean in
     let status : ℕ = if clean then 0 else 1 in
-    let given = if_some_weaker input.held (Reports clean out out')
+    let given = if_some_weaker input.held (Reports Thin until clean out out')
     (λ image. IsGiven (objects source out notes input output third) (objects source out' attached input' output third) status
-    (check_answer (thin_super_faults image)))
+    (check_answer (faults Thin until image)))
     (λ image report. record {
-      status = check_answer-status (thin_super_faults image) clean report.clean_if_none;
-      out = rw (check_answer-out (thin_super_faults image)) report.lines;
-      notes = rw (check_answer-notes (thin_super_faults image), was.written) (appends_none notes.written);
+      status = check_answer-status (faults Thin until image) clean report.clean_if_none;
+      out = rw (check_answer-out (faults Thin until image)) report.lines;
+      notes = rw (check_answer-notes (faults Thin until image), was.written) (appends_none notes.written);
     }) reported.report in
     record {
-      sound = λ _. if_some_map input.held (λ image. check_answer (thin_super_faults image)) _ given;
-      complete = λ _. if_some_map input.held (λ image. check_answer (thin_super_faults image)) _
-          (if_some_weaker input.held _ _ (λ image report. report.status) given);
-      front = front_of_answer input.held out.written out'.written
+      sound = λ _. if_some_map input.held (λ image. check_answer (faults Thin until image)) _ given;
+      complete = λ _. if_some_map input.held (λ image. check_answer (faults Thin until image)) _
+          (if_some_weaker input.held _ _ (λ image report. inl report.status) given);
+      memory_wanting = λ e. absurd (omega arith);
+      front = front_of_answer until input.held out.written out'.written
           (if_some_weaker input.held _ _ (λ image report. front_from_whole _ _ _ report.lines) reported.report);
       own_line = λ h. absurd (omega arith);
       notes_front = if_some_all _ _ (λ a. inl (rw was.written (front_none a.notes notes.written)));
-      possible = report_possible clean;
+      possible = report_possible until path clean;
       device_failed = λ e. absurd (omega arith);
       sink_failed = λ e. absurd (omega arith);
       notes_failed = λ rose. absurd (not_risen notes.faults attached.faults fresh.notes.1 was.faults rose);
@@ -211,109 +285,89 @@ answered_reported path source out out' notes attached input input' output third 
       kept = record { input = held; output = refl; third = refl };
     }
 
--- the device failed
-answered_device : (path : List ℕ) (source : SourceState) (out notes attached notes' : SinkState) (input input' output third : DeviceState)
-    (status : ℕ)
-    → AreFresh (objects source out notes input output third)
-    → IsAttachedNotes notes attached
-    → Rose input.faults input'.faults
-    → input'.held ≡ input.held
-    → AreUsed (Some (check_super path)) (objects source out notes' input' output third)
-    → PutsLine device_line 5 status attached notes'
-    → IsAnswered (Some (check_super path)) (objects source out notes input output third) (objects source out notes' input' output third) status
-answered_device path source out notes attached notes' input input' output third status fresh was failed held used puts =
-    let line : AppendsFront device_line notes.written notes'.written = rw was.written at puts.front in
-    let front = if_some_all (answer (Some (check_super path)) (objects source out notes input output third))
-    (λ a. AppendsFront a.out out.written out.written) (λ a. front_none a.out out.written) in
-    let notes_front = if_some_all (answer (Some (check_super path)) (objects source out notes input output third))
-    (λ a. AppendsFrontOfOne (a.notes ∷ device_line ∷ sink_line ∷ memory_line ∷ []) notes.written notes'.written) (λ a. inr (inl line)) in
-    elim puts.outcome [
-      | inl put ↦
-          let faults : notes'.faults ≡ notes.faults = put.faults ∙ was.faults in
-          rw put.status (record {
-            sound = λ h. absurd (omega arith);
-            complete = λ none. absurd (not_risen input.faults input'.faults fresh.input.1 none.input failed);
-            front = front;
-            own_line = λ _ _. rw was.written at put.whole;
-            notes_front = notes_front;
-            possible = refl;
-            device_failed = λ _. inl failed;
-            sink_failed = λ e. absurd (omega arith);
-            notes_failed = λ rose. absurd (not_risen notes.faults notes'.faults fresh.notes.1 faults rose);
-            used = used;
-            open_devices = λ h. absurd (omega arith);
-            open_notes = λ _. puts.access ∙ was.access;
-            open_out = λ e. absurd (omega arith);
-            kept = record { input = held; output = refl; third = refl };
-          })
-      | inr lost ↦
-          let rose : Rose notes.faults notes'.faults = rw was.faults at lost.faults in
-          rw lost.status
-          (answered_lost (Some (check_super path)) source out out notes notes' input input' output third fresh front notes_front rose used held)
-    ]
+-- the causes of the statuses of a check
+device_cause : (until : Stage) (path : List ℕ) (before after : Objects) → AreFresh before → Rose before.input.faults after.input.faults
+    → HasCause (Some (thin_check until path)) before after 5
+device_cause until path before after fresh failed = record {
+  high = lit≤ tt;
+  possible = refl;
+  nothing_failed = λ none. absurd (not_risen before.input.faults after.input.faults fresh.input.1 none.input failed);
+  memory = λ e. absurd (omega arith);
+  device = λ _. failed;
+  sink = λ e. absurd (omega arith);
+}
 
--- the sink of the report failed
-answered_sink : (path : List ℕ) (source : SourceState) (out out' notes attached notes' : SinkState) (input input' output third : DeviceState)
-    (status : ℕ)
+sink_cause : (until : Stage) (path : List ℕ) (before after : Objects) → AreFresh before → Rose before.out.faults after.out.faults
+    → HasCause (Some (thin_check until path)) before after 6
+sink_cause until path before after fresh failed = record {
+  high = lit≤ tt;
+  possible = refl;
+  nothing_failed = λ none. absurd (not_risen before.out.faults after.out.faults fresh.out.1 none.out failed);
+  memory = λ e. absurd (omega arith);
+  device = λ e. absurd (omega arith);
+  sink = λ _. failed;
+}
+
+wanting_possible : (until : Stage) (path : List ℕ) → until ≢ Super → IsTrue (list_any (λ s. 7 == s) (statuses_of (Some (thin_check until path))))
+wanting_possible Super path past = absurd (past refl)
+wanting_possible Walk path past = refl
+wanting_possible Order path past = refl
+wanting_possible Whole path past = refl
+wanting_possible Counts path past = refl
+
+memory_cause : (until : Stage) (path : List ℕ) (before after : Objects) → CanWantMemory Thin until before.input.held
+    → HasCause (Some (thin_check until path)) before after 7
+memory_cause until path before after wanted = record {
+  high = lit≤ tt;
+  possible = wanting_possible until path wanted.past_super;
+  nothing_failed = λ _. refl;
+  memory = λ _. wanted;
+  device = λ e. absurd (omega arith);
+  sink = λ e. absurd (omega arith);
+}
+
+-- the device was not read to a report
+answered_unread : (until : Stage) (path : List ℕ) (source : SourceState) (out notes attached notes' : SinkState) (input input' output third : DeviceState)
+    (fault : CheckFault) (status : ℕ)
     → AreFresh (objects source out notes input output third)
     → IsAttachedNotes notes attached
-    → StopsAtSink out out' input input'
+    → IsUnread Thin until path input input' fault
     → input'.held ≡ input.held
-    → AreUsed (Some (check_super path)) (objects source out' notes' input' output third)
-    → PutsLine sink_line 6 status attached notes'
-    → IsAnswered (Some (check_super path)) (objects source out notes input output third) (objects source out' notes' input' output third) status
-unfolding answer
-answered_sink path source out out' notes attached notes' input input' output third status fresh was stop held used puts =
-    let line : AppendsFront sink_line notes.written notes'.written = rw was.written at puts.front in
-    let front = front_of_answer input.held out.written out'.written stop.front in
-    let notes_front = if_some_all (option_map (λ image. check_answer (thin_super_faults image)) input.held)
-    (λ a. AppendsFrontOfOne (a.notes ∷ device_line ∷ sink_line ∷ memory_line ∷ []) notes.written notes'.written) (λ a. inr (inr (inl line))) in
-    elim puts.outcome [
-      | inl put ↦
-          rw put.status (record {
-            sound = λ h. absurd (omega arith);
-            complete = λ none. absurd (not_risen out.faults out'.faults fresh.out.1 none.out stop.out_faults);
-            front = front;
-            own_line = λ _ _. rw was.written at put.whole;
-            notes_front = notes_front;
-            possible = refl;
-            device_failed = λ e. absurd (omega arith);
-            sink_failed = λ _. inr (inl stop.out_faults);
-            notes_failed = λ _. refl;
-            used = used;
-            open_devices = λ h. absurd (omega arith);
-            open_notes = λ ne. absurd (ne refl);
-            open_out = λ e. absurd (omega arith);
-            kept = record { input = held; output = refl; third = refl };
-          })
-      | inr lost ↦
-          let rose : Rose notes.faults notes'.faults = rw was.faults at lost.faults in
-          rw lost.status
-          (answered_lost (Some (check_super path)) source out out' notes notes' input input' output third fresh front notes_front rose used held)
-    ]
+    → IfSome input'.path (λ told. told ≡ path)
+    → PutsLine (stop_line (Unread fault)) (stop_status (Unread fault)) status attached notes'
+    → IsAnswered (Some (thin_check until path)) (objects source out notes input output third) (objects source out notes' input' output third) status
+answered_unread until path source out notes attached notes' input input' output third Memory status fresh was unread held told puts =
+    let used = check_used until path source out out notes attached notes' input input' output third fresh (inl fresh.out.0)
+    (λ ne. absurd (ne fresh.out.0)) (notes_used notes attached notes' was puts.access puts.path) (inr (inl unread.access)) told in
+    answered_stopped (Some (thin_check until path)) source out out notes attached notes' input input' output third 7 status fresh was
+    (memory_cause until path _ _ unread.wanted) (if_some_all _ _ (λ a. front_none a.out out.written)) used held puts
+answered_unread until path source out notes attached notes' input input' output third Device status fresh was unread held told puts =
+    let used = check_used until path source out out notes attached notes' input input' output third fresh (inl fresh.out.0)
+    (λ ne. absurd (ne fresh.out.0)) (notes_used notes attached notes' was puts.access puts.path) unread.access told in
+    answered_stopped (Some (thin_check until path)) source out out notes attached notes' input input' output third 5 status fresh was
+    (device_cause until path _ _ fresh unread.faults) (if_some_all _ _ (λ a. front_none a.out out.written)) used held puts
 
 -- a check that began with `notes` attached
-pub answered_checked : (path : List ℕ) (source : SourceState) (out out' notes attached notes' : SinkState) (input input' output third : DeviceState)
+pub answered_checked : (until : Stage) (path : List ℕ) (source : SourceState) (out out' notes attached notes' : SinkState) (input input' output third : DeviceState)
     (outcome : Result Bool Stop) (status : ℕ)
     → AreFresh (objects source out notes input output third)
     → IsAttachedNotes notes attached
-    → Checks path outcome out out' input input'
+    → Checks Thin until path outcome out out' input input'
     → Ends outcome status attached notes'
-    → IsAnswered (Some (check_super path)) (objects source out notes input output third) (objects source out' notes' input' output third) status
-answered_checked path source out out' notes attached notes' input input' output third (Ok clean) status fresh was checks ends =
+    → IsAnswered (Some (thin_check until path)) (objects source out notes input output third) (objects source out' notes' input' output third) status
+unfolding answer
+answered_checked until path source out out' notes attached notes' input input' output third (Ok clean) status fresh was checks ends =
     let reported = checks.outcome in
-    let used = check_used path source out out' notes attached notes' input input' output third fresh (inr (inl reported.out_access)) checks.out_path
+    let used = check_used until path source out out' notes attached notes' input input' output third fresh (inr (inl reported.out_access)) checks.out_path
     (rw ends.kept (notes_used notes attached attached was refl refl)) (inr (inl reported.input_access)) checks.input_path in
     rw (ends.kept, ends.given)
-    (answered_reported path source out out' notes attached input input' output third clean fresh was reported checks.held (rw ends.kept at used))
-answered_checked path source out out' notes attached notes' input input' output third (Err Device) status fresh was checks ends =
+    (answered_reported until path source out out' notes attached input input' output third clean fresh was reported checks.held (rw ends.kept at used))
+answered_checked until path source out out' notes attached notes' input input' output third (Err (Unread fault)) status fresh was checks ends =
+    rw checks.outcome.0
+    (answered_unread until path source out notes attached notes' input input' output third fault status fresh was checks.outcome.1 checks.held checks.input_path ends)
+answered_checked until path source out out' notes attached notes' input input' output third (Err Unwritten) status fresh was checks ends =
     let stop = checks.outcome in
-    let used = check_used path source out out notes attached notes' input input' output third fresh (inl fresh.out.0)
-    (λ ne. absurd (ne fresh.out.0)) (notes_used notes attached notes' was ends.access ends.path) stop.input_access checks.input_path in
-    rw stop.out_kept
-    (answered_device path source out notes attached notes' input input' output third status fresh was stop.input_faults checks.held used ends)
-answered_checked path source out out' notes attached notes' input input' output third (Err Sink) status fresh was checks ends =
-    let stop = checks.outcome in
-    let used = check_used path source out out' notes attached notes' input input' output third fresh stop.out_access checks.out_path
+    let used = check_used until path source out out' notes attached notes' input input' output third fresh stop.out_access checks.out_path
     (notes_used notes attached notes' was ends.access ends.path) (inr (inl stop.input_access)) checks.input_path in
-    answered_sink path source out out' notes attached notes' input input' output third status fresh was stop checks.held used ends
+    answered_stopped (Some (thin_check until path)) source out out' notes attached notes' input input' output third 6 status fresh was
+    (sink_cause until path _ _ fresh stop.out_faults) (front_of_answer until input.held out.written out'.written stop.front) used checks.held ends

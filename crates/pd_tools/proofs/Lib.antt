@@ -1,2 +1,2 @@
-pub mod SuperFaults
+pub mod PutReport
 pub mod Answered

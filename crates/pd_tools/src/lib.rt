@@ -4,7 +4,6 @@
 mod check;
 mod notes;
 mod run;
-mod super_check;
 #[cfg(test)]
 mod tests;
 

@@ -2,12 +2,12 @@
 
 ghost use Rattle.std.specs.Prelude.{◌≡◌, map, string_bytes};
 ghost use Rattle.pd_kinds.specs.Objects.{DeviceState, SourceState, SinkState};
-ghost use Rattle.pd_kinds.specs.Words.{asked};
+ghost use Rattle.pd_kinds.specs.Words.{asked, IsBuilt};
 ghost use Rattle.pd_kinds.specs.Answer.{objects, AreFresh, IsAnswered};
 ghost use Rattle.pd_tools.specs.Notes.{IsAttachedNotes};
 ghost use Rattle.pd_words.specs.Words.{request_of};
 
-use crate::check::{check_super, status_of};
+use crate::check::{check_image, status_of};
 use crate::notes::{USAGE_LINE, put_line};
 use pd_image::{Device, Sink, Source};
 use pd_words::{Request, read_words};
@@ -25,8 +25,9 @@ use std::alloc::Global;
 /// | 2 | the words spell no request |
 /// | 5 | a device failed in this call |
 /// | 6 | the source, `out` or `notes` failed in this call |
+/// | 7 | memory wasn't found; only in a check past the superblock, and only where that is sound |
 pub fn run_tool<S: Source, K: Sink, E: Sink, A: Device, B: Device, C: Device>(
-    _alloc: Global,
+    alloc: Global,
     words: &[String],
     source: &mut S,
     out: &mut K,
@@ -43,7 +44,7 @@ pub fn run_tool<S: Source, K: Sink, E: Sink, A: Device, B: Device, C: Device>(
     match notes.attach(None) {
         Ok(()) => match read_words(words) {
             None => put_line(notes, USAGE_LINE, 2),
-            Some(request) => run_request(request, out, notes, input),
+            Some(request) => run_request(alloc, request, out, notes, input),
         },
         Err(_) => 6,
     }
@@ -52,11 +53,13 @@ pub fn run_tool<S: Source, K: Sink, E: Sink, A: Device, B: Device, C: Device>(
 /// Does a request, with `notes` attached: its clause is that of the top call, whatever the other objects
 /// are.
 fn run_request<K: Sink, E: Sink, A: Device>(
+    alloc: Global,
     request: Request<'_>,
     out: &mut K,
     notes: &mut E,
     input: &mut A,
 ) -> u8
+    requires built { IsBuilt request.until }
     requires out { (K.state out.old).access ≡ 0 }
     requires notes { (E.state notes.old).access ≡ 1 }
     requires input { (A.state input.old).access ≡ 0 }
@@ -67,6 +70,6 @@ fn run_request<K: Sink, E: Sink, A: Device>(
         (objects source (K.state out.old) unattached (A.state input.old) output third)
         (objects source (K.state out.new) (E.state notes.new) (A.state input.new) output third) result }
 {
-    let outcome = check_super(request.image, out, input);
+    let outcome = check_image(alloc, request.image, request.until, out, input);
     status_of(outcome, notes)
 }

@@ -11,7 +11,7 @@ returns-in-None g c =
       written = c.in-Ok.ensures.written;
       faults = c.in-Ok.ensures.faults;
     } in
-    rw (sym c.in-None.ensures) (answered_refused _ _ _ _ _ _ _ _ _ c.requires was c.put_line.ensures)
+    rw (sym c.in-None.ensures.asked) (answered_refused _ _ _ _ _ _ _ _ _ c.requires was c.put_line.ensures)
 
 pub returns-in-Some : goal.returns-in-Some
 returns-in-Some g c =
@@ -21,4 +21,4 @@ returns-in-Some g c =
       written = c.in-Ok.ensures.written;
       faults = c.in-Ok.ensures.faults;
     } in
-    rw (sym c.in-Some.ensures) (c.run_request.ensures _ _ _ _ c.requires was)
+    rw (sym c.in-Some.ensures.asked) (c.run_request.ensures _ _ _ _ c.requires was)
