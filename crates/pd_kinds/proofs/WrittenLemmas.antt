@@ -1,9 +1,10 @@
 -- Laws of written blocks: what is read of a block that a table, bytes or a checksum were written into.
-use Rattle.std.proofs.Common.{◌≡◌, ◌⊎◌, inl, inr, ℕ, zero, suc, ◌+◌, ◌-◌, ◌%◌, ◌^◌, ◌<◌, ◌≤◌, Bool, true, false, ◌&&◌, ◌||◌, ◌==◌, nat_le, cond, List, [], ◌∷◌, ◌++◌, length, take, drop, get_or, replicate, refl, ap, sym, ◌∙◌, arith, eq-eqb, nat_eq}
+use Rattle.std.proofs.Common.{◌≡◌, ◌⊎◌, inl, inr, ℕ, zero, suc, ◌+◌, ◌-◌, ◌%◌, ◌^◌, ◌<◌, ◌≤◌, Bool, true, ◌&&◌, ◌||◌, ◌==◌, nat_le, cond, List, [], ◌∷◌, ◌++◌, length, take, drop, get_or, replicate, refl, ap, sym, ◌∙◌, arith, eq-eqb, nat_eq}
+use Rattle.std.proofs.Math.Nat.{mod-eq_of_lt}
 use Rattle.std.proofs.Math.Seq.{take-append_seam, drop-append_seam}
 use Rattle.std.proofs.lemmas.List.{length-append, length-replicate, get_or-replicate, get_or_past, length-take-le, length-drop, get_or_append_left, get_or-append_right, get_or-take, get_or-drop}
 use Rattle.std.proofs.lemmas.Bool.Decides.{nat_tests}
-use Rattle.std.proofs.lemmas.Bool.{cases_lt}
+use Rattle.std.proofs.lemmas.Bool.{cases_lt, and_parts}
 use Rattle.std.specs.Int.Bits.{bit_xor}
 use Rattle.pd_kinds.specs.Field.{Row, le, put, put_bytes, written, zeros}
 use Rattle.pd_kinds.specs.Checksum.{crc32c, checksum, has_checksum, sealed}
@@ -26,10 +27,6 @@ is_looked_up len p n (row ∷ rows) = cond (is_row p n row) (nat_le (p + n) len)
 abbrev pub looked_up : ℕ → ℕ → List Row → ℕ → ℕ
 looked_up p n [] before = before
 looked_up p n (row ∷ rows) before = looked_up p n rows (cond (is_row p n row) (row.value % 256 ^ n) before)
-
-both_true : (a b : Bool) → (a && b) ≡ true → (a ≡ true) × (b ≡ true)
-both_true true b both = (refl, both)
-both_true false b both = absurd (cc)
 
 -- writing a table keeps the length
 pub length-written : (b : List ℕ) (rows : List Row) → length (written b rows) ≡ length b
@@ -62,7 +59,7 @@ pub le-written : (b : List ℕ) (rows : List Row) (p n : ℕ) → is_looked_up (
 unfolding written
 le-written b [] p n fits = refl
 le-written b (row ∷ rows) p n fits =
-    let split = both_true (cond (is_row p n row) (nat_le (p + n) (length b)) (is_beside p n row)) (is_looked_up (length b) p n rows) fits in
+    let split = and_parts (cond (is_row p n row) (nat_le (p + n) (length b)) (is_beside p n row)) (is_looked_up (length b) p n rows) fits in
     let here = le-row b p n row.offset row.size row.value split.0 in
     let len = length-put b row.offset row.size row.value in
     let later = le-written (put b row.offset row.size row.value) rows p n (rw len split.1) in
@@ -133,28 +130,39 @@ has_checksum-sealed b salt within fits =
     eq-eqb (le (sealed b salt) 0 4) (checksum (sealed b salt) salt)
     (le-put b 0 4 (checksum b salt) within fits ∙ sym (checksum-sealed b salt salt))
 
--- each byte of a list of zeros is 0, and so is what lies past it
-get_or-replicate_zero : (n i : ℕ) → get_or (replicate {A = ℕ} n 0) i 0 ≡ 0
-get_or-replicate_zero n i = elim (cases_lt i n) [
-  | inl inside ↦ get_or-replicate {A = ℕ} n i 0 0 inside
-  | inr past ↦ get_or_past (replicate {A = ℕ} n 0) i 0 (rw (length-replicate {A = ℕ} n 0) past)
+-- each byte of a block of zeros is 0, and so is what lies past it
+pub get_or-zeros : (i : ℕ) → get_or zeros i 0 ≡ 0
+unfolding zeros
+get_or-zeros i = elim (cases_lt i 4096) [
+  | inl inside ↦ get_or-replicate {A = ℕ} 4096 i 0 0 inside
+  | inr past ↦ get_or_past (replicate {A = ℕ} 4096 0) i 0 (rw (length-replicate {A = ℕ} 4096 0) past)
 ]
-
--- a list of zeros has only the number 0
-le-replicate_zero : (m p n : ℕ) → le (replicate {A = ℕ} m 0) p n ≡ 0
-unfolding le
-le-replicate_zero m p zero = refl
-le-replicate_zero m p (suc n) =
-    let before = le-replicate_zero m p n in
-    let last = get_or-replicate_zero m (p + n) in
-    rw (before, last) (omega arith)
 
 -- each field of a block of zeros is 0
 pub le-zeros : (p n : ℕ) → le zeros p n ≡ 0
-unfolding zeros
-le-zeros p n = le-replicate_zero 4096 p n
+unfolding le
+le-zeros p zero = refl
+le-zeros p (suc n) =
+    let before = le-zeros p n in
+    let last = get_or-zeros (p + n) in
+    rw (before, last) (omega arith)
 
 -- a block of zeros has the size of a block
 pub length-zeros : length zeros ≡ 4096
 unfolding zeros
 length-zeros = length-replicate {A = ℕ} 4096 0
+
+-- and so has one that a table was written into
+pub length-written_zeros : (rows : List Row) → length (written zeros rows) ≡ 4096
+length-written_zeros rows = length-written zeros rows ∙ length-zeros
+
+-- reading a field of a table that was written over zeros
+pub le-written_zeros : (rows : List Row) (p n : ℕ) → is_looked_up 4096 p n rows ≡ true → le (written zeros rows) p n ≡ looked_up p n rows 0
+le-written_zeros rows p n found =
+    let stored : is_looked_up (length zeros) p n rows ≡ true = rw length-zeros found in
+    le-written zeros rows p n stored ∙ ap (λ (before : ℕ). looked_up p n rows before) (le-zeros p n)
+
+-- so a number of the table reads back where it fits
+pub row_read : (rows : List Row) (p n v : ℕ) → is_looked_up 4096 p n rows ≡ true → looked_up p n rows 0 ≡ v % 256 ^ n → v < 256 ^ n
+    → le (written zeros rows) p n ≡ v
+row_read rows p n v found row fits = le-written_zeros rows p n found ∙ (row ∙ mod-eq_of_lt fits)
