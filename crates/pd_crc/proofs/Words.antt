@@ -11,10 +11,6 @@ use Rattle.pd_kinds.proofs.FieldLemmas.{le-lt}
 use Rattle.pd_crc.specs.Steps.{byte_step, byte_steps}
 use Rattle.pd_crc.proofs.Linear.{byte_steps-xor, byte_steps-shift, xor_above}
 
-crc_byte-step : (crc byte : ℕ) → crc_byte crc byte ≡ byte_step (bit_xor crc byte)
-unfolding crc_byte byte_step
-crc_byte-step crc byte = refl
-
 pub byte_taken : (crc byte : ℕ) → byte_steps 1 (bit_xor crc byte) ≡ crc_byte crc byte
 unfolding byte_steps crc_byte byte_step
 byte_taken crc byte = refl
@@ -27,7 +23,7 @@ byte_step-above count low byte below crc =
     let joined : bit_xor (bit_xor crc low) (byte * 256 ^ count) ≡ bit_xor crc (low + 256 ^ count * byte) =
     xor_assoc crc low (byte * 256 ^ count)
     ∙ ap (λ (x : ℕ). bit_xor crc x) (xor_above count low byte below ∙ ap (λ (x : ℕ). low + x) (sym high)) in
-    crc_byte-step (byte_steps count (bit_xor crc low)) byte
+    sym (byte_taken (byte_steps count (bit_xor crc low)) byte)
     ∙ ap (λ (x : ℕ). byte_step (bit_xor (byte_steps count (bit_xor crc low)) x)) (sym (byte_steps-shift count byte))
     ∙ ap byte_step (sym (byte_steps-xor count (bit_xor crc low) (byte * 256 ^ count)) ∙ ap (byte_steps count) joined)
 

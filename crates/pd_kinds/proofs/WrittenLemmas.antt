@@ -2,7 +2,7 @@
 use Rattle.std.proofs.Common.{◌≡◌, ◌⊎◌, inl, inr, ℕ, zero, suc, ◌+◌, ◌-◌, ◌%◌, ◌^◌, ◌<◌, ◌≤◌, Bool, true, ◌&&◌, ◌||◌, ◌==◌, nat_le, cond, List, [], ◌∷◌, ◌++◌, length, take, drop, get_or, replicate, refl, ap, sym, ◌∙◌, arith, eq-eqb, nat_eq}
 use Rattle.std.proofs.Math.Nat.{mod-eq_of_lt}
 use Rattle.std.proofs.Math.Seq.{take-append_seam, drop-append_seam}
-use Rattle.std.proofs.lemmas.List.{length-append, length-replicate, get_or-replicate, get_or_past, length-take-le, length-drop, get_or_append_left, get_or-append_right, get_or-take, get_or-drop}
+use Rattle.std.proofs.lemmas.List.{length-replicate, get_or-replicate, get_or_past, length-take-le, get_or_append_left, get_or-append_right, get_or-take, get_or-drop}
 use Rattle.std.proofs.lemmas.Bool.Decides.{nat_tests}
 use Rattle.std.proofs.lemmas.Bool.{cases_lt, and_parts}
 use Rattle.std.specs.Int.Bits.{bit_xor}
@@ -35,13 +35,6 @@ length-written b [] = refl
 length-written b (row ∷ rows) =
     length-written (put b row.offset row.size row.value) rows ∙ length-put b row.offset row.size row.value
 
--- a row that is the field, and one that isn't
-le-row_same : (b : List ℕ) (p n o k v : ℕ) → o ≡ p → k ≡ n → p + n ≤ length b → le (put b o k v) p n ≡ v % 256 ^ n
-le-row_same b p n o k v at size within = rw (at, size) (le-put_same b p n v within)
-
-le-row_other : (b : List ℕ) (p n o k v : ℕ) → ((p + n ≤ o) ⊎ (o + k ≤ p)) → le (put b o k v) p n ≡ le b p n
-le-row_other b p n o k v apart = le-put_other b o k v p n apart
-
 -- a table in two parts, the first one written first
 pub written-append : (b : List ℕ) (rows more : List Row) → written b (rows ++ more) ≡ written (written b rows) more
 unfolding written
@@ -52,7 +45,7 @@ written-append b (row ∷ rows) more = written-append (put b row.offset row.size
 le-row : (b : List ℕ) (p n o k v : ℕ)
     → cond (nat_eq o p && nat_eq k n) (nat_le (p + n) (length b)) (nat_le (p + n) o || nat_le (o + k) p) ≡ true
     → le (put b o k v) p n ≡ cond (nat_eq o p && nat_eq k n) (v % 256 ^ n) (le b p n)
-le-row b p n o k v fits = grind (arith, nat_tests, le-row_same, le-row_other)
+le-row b p n o k v fits = grind (arith, nat_tests, le-put_same, le-put_other)
 
 -- reading a field of a written table
 pub le-written : (b : List ℕ) (rows : List Row) (p n : ℕ) → is_looked_up (length b) p n rows ≡ true → le (written b rows) p n ≡ looked_up p n rows (le b p n)
@@ -64,16 +57,6 @@ le-written b (row ∷ rows) p n fits =
     let len = length-put b row.offset row.size row.value in
     let later = le-written (put b row.offset row.size row.value) rows p n (rw len split.1) in
     rw (later, here) refl
-
--- writing bytes keeps the length
-pub length-put_bytes : (b : List ℕ) (o : ℕ) (bytes : List ℕ) → o + length bytes ≤ length b → length (put_bytes b o bytes) ≡ length b
-unfolding put_bytes
-length-put_bytes b o bytes within =
-    let front = length-take-le o b (omega arith) in
-    let all = length-append (take o b) (bytes ++ drop (o + length bytes) b) in
-    let rest = length-append bytes (drop (o + length bytes) b) in
-    let behind = length-drop (o + length bytes) b in
-    omega arith
 
 -- a byte outside the written ones stays
 pub get_or-put_bytes_other : (b : List ℕ) (o : ℕ) (bytes : List ℕ) (j : ℕ) → o + length bytes ≤ length b → ((j < o) ⊎ (o + length bytes ≤ j)) → get_or (put_bytes b o bytes) j 0 ≡ get_or b j 0
@@ -102,11 +85,6 @@ put_bytes_read b o bytes within =
 pub le-put_bytes_other : (b : List ℕ) (o : ℕ) (bytes : List ℕ) (p n : ℕ) → o + length bytes ≤ length b → ((p + n ≤ o) ⊎ (o + length bytes ≤ p)) → le (put_bytes b o bytes) p n ≡ le b p n
 le-put_bytes_other b o bytes p n within apart = le_same (put_bytes b o bytes) b p p n
     (λ i h. get_or-put_bytes_other b o bytes (p + i) within (elim apart [ inl before ↦ inl (omega arith) | inr after ↦ inr (omega arith) ]))
-
--- a checksum keeps the length
-pub length-sealed : (b : List ℕ) (salt : ℕ) → length (sealed b salt) ≡ length b
-unfolding sealed
-length-sealed b salt = length-put b 0 4 (checksum b salt)
 
 -- a checksum changes nothing behind it
 pub drop-sealed : (b : List ℕ) (salt n : ℕ) → 4 ≤ n → drop n (sealed b salt) ≡ drop n b
