@@ -1,23 +1,18 @@
 -- What stands in the block that is written for an array's words.
-use Rattle.std.proofs.Common.{◌≡◌, inl, ℕ, suc, cond, ◌+◌, ◌*◌, ◌%◌, ◌^◌, ◌<◌, ◌≤◌, Bool, true, false, List, length, take, get_or, refl, ap, ◌∙◌, arith, eq-eqb}
-use Rattle.std.proofs.Math.Nat.{mod-eq_of_lt, mul-le-mul_left, mul-suc}
+use Rattle.std.proofs.Common.{◌≡◌, inl, ℕ, suc, ◌+◌, ◌*◌, ◌%◌, ◌^◌, ◌<◌, ◌≤◌, true, false, List, length, get_or, refl, ◌∙◌, arith, eq-eqb}
+use Rattle.std.proofs.Math.Nat.{mul-le-mul_left, mul-suc}
 use Rattle.std.proofs.lemmas.Bool.Decides.{nat_tests}
 use Rattle.pd_kinds.specs.declared.rule.Rule.{Rule}
-use Rattle.std.proofs.lemmas.List.{take_more, length-take-le}
-use Rattle.pd_kinds.specs.Field.{le, put, written, zeros}
+use Rattle.pd_kinds.specs.Field.{le, written, zeros}
 use Rattle.pd_kinds.specs.Checksum.{has_checksum}
 use Rattle.pd_kinds.specs.RuleSet.{alone, failing}
 use Rattle.pd_kinds.specs.Node.{puts}
 use Rattle.pd_kinds.specs.Array.{array_bad, array_block, array_entries, array_max, array_place, array_rows, array_tests, array_value_size, is_array_shape_bad, max_words, word_at, word_count}
-use Rattle.pd_kinds.proofs.WrittenLemmas.{is_looked_up, looked_up, le-written, length-written, le-sealed_other, le-zeros, length-zeros}
-use Rattle.pd_kinds.proofs.PutsLemmas.{le-puts, le-puts_other, puts_more}
+use Rattle.pd_kinds.proofs.WrittenLemmas.{is_looked_up, looked_up, length-written_zeros, row_read, le-sealed_other}
+use Rattle.pd_kinds.proofs.PutsLemmas.{le-puts, le-puts_other}
 use Rattle.pd_array.specs.declared.word.Word.{Word}
 use Rattle.pd_array.specs.declared.word.Word.TheVariants.{Four, Eight}
 use Rattle.pd_array.specs.Word.{size_of}
-
--- the length of the block before the words and the checksum are written
-length-rows : (size place n : ℕ) → length (written zeros (array_rows size place n)) ≡ 4096
-length-rows size place n = length-written zeros (array_rows size place n) ∙ length-zeros
 
 -- a number of the header reads back
 header_read : (size place : ℕ) (words : List ℕ) (p n v : ℕ) → 4 ≤ p → p + n ≤ 24
@@ -27,12 +22,8 @@ header_read : (size place : ℕ) (words : List ℕ) (p n v : ℕ) → 4 ≤ p �
 unfolding array_block
 header_read size place words p n v behind before found row fits =
     let rows = array_rows size place (length words) in
-    let stored : is_looked_up (length zeros) p n rows ≡ true = rw length-zeros found in
     le-sealed_other (puts (written zeros rows) 24 size words) 595846735 p n behind
-    ∙ (le-puts_other (written zeros rows) 24 size words p n (inl before)
-    ∙ (le-written zeros rows p n stored
-    ∙ (ap (λ (old : ℕ). looked_up p n rows old) (le-zeros p n)
-    ∙ (row ∙ mod-eq_of_lt fits))))
+    ∙ (le-puts_other (written zeros rows) 24 size words p n (inl before) ∙ row_read rows p n v found row fits)
 
 pub max_read : (size place : ℕ) (words : List ℕ) → max_words size < 256 ^ 4 → array_max (array_block size place words) ≡ max_words size
 max_read size place words fits = header_read size place words 4 4 (max_words size) (omega arith) (omega arith) refl refl fits
@@ -52,7 +43,7 @@ pub word_read : (size place : ℕ) (words : List ℕ) (i : ℕ) → 24 + size * 
 unfolding array_block
 word_read size place words i room within small =
     let rows = array_rows size place (length words) in
-    let len = length-rows size place (length words) in
+    let whole = length-written_zeros rows in
     le-sealed_other (puts (written zeros rows) 24 size words) 595846735 (24 + size * i) size (omega arith)
     ∙ le-puts (written zeros rows) 24 size words i (omega arith) within small
 
@@ -81,15 +72,9 @@ word_room size i n max within most room =
     omega arith
 
 -- the words that are counted are at most those that have room
-counted : (bad : Bool) (n i : ℕ) → i < cond bad 0 n → (bad ≡ false) × (i < n)
-counted true n i within = absurd (omega arith)
-counted false n i within = (refl, within)
-
 pub counted_below : (size : ℕ) (b : List ℕ) (i : ℕ) → i < word_count size b → (array_max b ≡ max_words size) × (i < array_max b)
 unfolding word_count is_array_shape_bad
-counted_below size b i within =
-    let says = counted (is_array_shape_bad size b) (array_entries b) i within in
-    grind (arith, nat_tests, says.0, says.1)
+counted_below size b i within = (grind (arith, nat_tests), grind (arith, nat_tests))
 
 -- each size of a word leaves room in the block
 pub word_within : (word : Word) (b : List ℕ) (i : ℕ) → i < word_count (size_of word) b → 24 + size_of word * i + size_of word ≤ 4096
@@ -99,14 +84,6 @@ word_within Four b i within =
 word_within Eight b i within =
     let below = counted_below 8 b i within in
     word_room 8 i (array_max b) 509 below.1 (omega (arith, below.0)) (omega arith)
-
--- a row of words with one word more
-pub words_more : (b : List ℕ) (width : ℕ) (words : List ℕ) (i : ℕ) → i < length words
-    → puts b 24 width (take (i + 1) words) ≡ put (puts b 24 width (take i words)) (24 + width * i) width (get_or words i 0)
-words_more b width words i within =
-    let count : length (take i words) ≡ i = length-take-le i words (omega arith) in
-    let at : 24 + width * length (take i words) ≡ 24 + width * i = ap (λ (n : ℕ). 24 + width * n) count in
-    rw (take_more words i 0 within, puts_more b 24 width (take i words) (get_or words i 0), at) refl
 
 -- how much fits a block and its header
 pub record HasRoom (size : ℕ) : Type 0 where

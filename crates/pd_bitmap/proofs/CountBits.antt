@@ -1,27 +1,19 @@
 -- Reading and writing the count at a place of a byte, over all bytes, places and counts.
-use Rattle.std.proofs.Common.{◌≡◌, ◌≢◌, ℕ, zero, suc, ◌+◌, ◌-◌, ◌*◌, ◌/◌, ◌%◌, ◌^◌, ◌<◌, Bool, true, false, ◌&&◌, nat_eq, eq-eqb, cond, get_or, replicate, bit_or, refl, arith, inl, inr}
+use Rattle.std.proofs.Common.{◌≡◌, ◌≢◌, ℕ, ◌+◌, ◌-◌, ◌*◌, ◌/◌, ◌%◌, ◌^◌, ◌<◌, Bool, true, nat_eq, eq-eqb, cond, get_or, bit_or, refl}
 use Rattle.std.specs.Int.Bits.{bit_and}
-use Rattle.std.proofs.lemmas.Bool.{cases_eq, cases_lt, eqb-true, ne_eqb}
-use Rattle.std.proofs.lemmas.List.{get_or-replicate, get_or_past, length-replicate}
+use Rattle.std.proofs.lemmas.Bool.{agree_below, agree_below_at, eqb-true, ne_eqb}
 use Rattle.std.proofs.lemmas.Nat.Bits.{bit_at-zero}
 use Rattle.pd_kinds.specs.Field.{zeros}
 use Rattle.pd_kinds.specs.Bitmap.{two_bits_of}
+use Rattle.pd_kinds.proofs.WrittenLemmas.{get_or-zeros}
 use Rattle.pd_bitmap.specs.Counts.{count_at}
 
 -- a test that holds of each number below n
-abbrev pub all_below : ℕ → (ℕ → Bool) → Bool
-all_below zero p = true
-all_below (suc n) p = p n && all_below n p
-
-both_true : (a b : Bool) → (a && b) ≡ true → (a ≡ true) × (b ≡ true)
-both_true true b both = (refl, both)
-both_true false b both = absurd (cc)
+abbrev all_below : ℕ → (ℕ → Bool) → Bool
+all_below n p = agree_below p (λ _. true) n
 
 below_all : (n : ℕ) (p : ℕ → Bool) (i : ℕ) → all_below n p ≡ true → i < n → p i ≡ true
-below_all zero p i all within = absurd (omega arith)
-below_all (suc n) p i all within =
-    let both = both_true (p n) (all_below n p) all in
-    elim (cases_eq i n) [ inl last ↦ rw last both.0 | inr other ↦ below_all n p i both.1 (omega arith) ]
+below_all n p i all within = agree_below_at p (λ _. true) n i all within
 
 -- what the code computes: two bits in the other order, the count that it reads, the byte that it writes
 abbrev pub swapped : ℕ → ℕ
@@ -78,14 +70,6 @@ count_kept byte place count other small within few within_other apart =
     let all = counts_written byte place count other small within few within_other in
     let differ = ne_eqb other place apart in
     rw differ at all
-
--- each byte of a block of zeros is 0, and so is what lies past it
-get_or-zeros : (i : ℕ) → get_or zeros i 0 ≡ 0
-unfolding zeros
-get_or-zeros i = elim (cases_lt i 4096) [
-  | inl inside ↦ get_or-replicate {A = ℕ} 4096 i 0 0 inside
-  | inr past ↦ get_or_past (replicate {A = ℕ} 4096 0) i 0 (rw (length-replicate {A = ℕ} 4096 0) past)
-]
 
 -- each count of a block of zeros is 0
 pub two_bits-zeros : (i : ℕ) → two_bits_of zeros i ≡ 0

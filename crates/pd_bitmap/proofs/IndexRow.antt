@@ -1,5 +1,5 @@
 -- The entries of an index block: the row that is written, and the blocks that are looked at.
-use Rattle.std.proofs.Common.{◌≡◌, inl, inr, ℕ, ◌+◌, ◌*◌, ◌/◌, ◌%◌, ◌^◌, ◌<◌, ◌≤◌, Bool, ◌||◌, List, ◌∷◌, [], map, take, length, get_or, Some, refl, sym, ◌∙◌, arith}
+use Rattle.std.proofs.Common.{◌≡◌, ℕ, ◌+◌, ◌*◌, ◌/◌, ◌%◌, ◌^◌, ◌<◌, ◌≤◌, Bool, ◌||◌, List, ◌∷◌, [], map, take, length, get_or, Some, refl, sym, ◌∙◌, arith}
 use Rattle.std.proofs.Math.Bool.{or-false}
 use Rattle.std.specs.List.{All, slice_get, list_any, range_with_len}
 use Rattle.std.proofs.lemmas.List.Folds.{list_any-append}
@@ -9,7 +9,7 @@ use Rattle.pd_kinds.specs.Value.{index_code}
 use Rattle.pd_kinds.specs.Bitmap.{index_code_at, unsealed_index}
 use Rattle.pd_kinds.proofs.WrittenLemmas.{length-zeros}
 use Rattle.pd_kinds.proofs.PutsLemmas.{le-puts, row_more}
-use Rattle.std.proofs.lemmas.Bool.{cases_eq}
+use borrow.Author.Count.{below_more}
 use Rattle.std.proofs.Math.Nat.{add-mul-mod_self_left, mod-eq_of_lt}
 use Rattle.pd_kinds.proofs.FieldLemmas.{le_join, le-lt}
 use Rattle.std.proofs.lemmas.Option.{slice_get-get_or}
@@ -69,10 +69,9 @@ entry_more b old new entries i d within before written = rw (written, before) (s
 pub fit_more : (entries : List IndexEntry) (i : ℕ) (d : IndexEntry) → i < length entries
     → ((k : ℕ) (e : IndexEntry) → k < i → DoFieldsFit (get_or entries k e)) → DoFieldsFit (get_or entries i d)
     → (k : ℕ) (e : IndexEntry) → k < i + 1 → DoFieldsFit (get_or entries k e)
-fit_more entries i d within before fit k e below = elim (cases_eq k i) [
-  | inl last ↦ rw (last, get_or_default entries i e d within) fit
-  | inr other ↦ before k e (omega arith)
-]
+fit_more entries i d within before fit k e below =
+    let here : DoFieldsFit (get_or entries i e) = rw (get_or_default entries i e d within) fit in
+    below_more (λ n. DoFieldsFit (get_or entries n e)) i (λ n h. before n e h) here k below
 
 -- the block of an entry is the field at its front
 pub block_of_code : (b : List ℕ) (o : ℕ) → ((k : ℕ) → get_or b k 0 < 256) → le b o 16 % 2 ^ 64 ≡ le b o 8

@@ -1,6 +1,7 @@
 -- What is read of a bitmap or an index block that was sealed in its place.
-use Rattle.std.proofs.Common.{◌≡◌, inr, ℕ, ◌+◌, ◌*◌, ◌/◌, ◌^◌, ◌<◌, ◌≤◌, true, false, ◌&&◌, List, [], ◌∷◌, map, length, get_or, refl, ◌∙◌, arith, eq-eqb}
+use Rattle.std.proofs.Common.{◌≡◌, inr, ℕ, ◌+◌, ◌*◌, ◌/◌, ◌^◌, ◌<◌, ◌≤◌, true, false, ◌&&◌, List, map, length, get_or, refl, ap, ◌∙◌, arith, eq-eqb}
 use Rattle.std.proofs.Math.Bool.{and-false, or-false}
+use Rattle.std.proofs.Math.Path.{fun_ext}
 use Rattle.std.specs.List.{list_any, range_with_len}
 use Rattle.pd_kinds.specs.declared.rule.Rule.{Rule}
 use Rattle.pd_kinds.specs.declared.rule.Rule.TheVariants as r
@@ -9,7 +10,7 @@ use Rattle.pd_kinds.specs.Checksum.{checksum, has_checksum, sealed}
 use Rattle.pd_kinds.specs.Rule.{same_rule}
 use Rattle.pd_kinds.specs.RuleSet.{alone, failing}
 use Rattle.pd_kinds.specs.ThinSuper.{is_outside}
-use Rattle.pd_kinds.specs.Bitmap.{bitmap_bad, bitmaps_for, index_bad, index_block_at, index_blocks, index_tests, map_place, placed_block, two_bits_of}
+use Rattle.pd_kinds.specs.Bitmap.{bitmap_bad, bitmaps_for, index_bad, index_blocks, index_tests, map_place, placed_block, two_bits_of}
 use Rattle.pd_kinds.proofs.FieldLemmas.{get_or-put_other, le-put, le-put_other}
 use Rattle.pd_kinds.proofs.WrittenLemmas.{le-sealed_other}
 
@@ -58,17 +59,10 @@ unfolding failing index_tests
 index_place_met nr place b valid at = rw (index_decided nr place b r.Place valid) (simp (and-false, eq-eqb (map_place b) place at))
 
 -- each named block stays
-block-placed : (salt place : ℕ) (b : List ℕ) (i : ℕ) → index_block_at (placed_block salt place b) i ≡ index_block_at b i
-block-placed salt place b i = le-placed salt place b (16 + 16 * i) 8 (omega arith)
-
-same_map : (f g : ℕ → ℕ) → ((i : ℕ) → f i ≡ g i) → (xs : List ℕ) → map f xs ≡ map g xs
-same_map f g same [] = refl
-same_map f g same (x ∷ xs) = rw (same x, same_map f g same xs) refl
-
 blocks-placed : (salt place nr : ℕ) (b : List ℕ) → index_blocks nr (placed_block salt place b) ≡ index_blocks nr b
 unfolding index_blocks
 blocks-placed salt place nr b =
-    same_map (index_block_at (placed_block salt place b)) (index_block_at b) (block-placed salt place b) (range_with_len 0 (bitmaps_for nr))
+    ap (λ (f : ℕ → ℕ). map f (range_with_len 0 (bitmaps_for nr))) (fun_ext (λ i. le-placed salt place b (16 + 16 * i) 8 (omega arith)))
 
 -- with the checksum and the place an index block breaks at most Pointer
 pub index_met : (nr place : ℕ) (b c : List ℕ) (asked : Rule) → has_checksum c 160478 ≡ true → map_place c ≡ place → c ≡ placed_block 160478 place b

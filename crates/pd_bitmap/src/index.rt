@@ -14,7 +14,7 @@ ghost use Rattle.pd_bitmap.specs.Index.{DoFieldsFit};
 
 use crate::HEADER_SIZE;
 use pd_crc::{is_sealed, seal};
-use pd_kinds::{Block, Rule, Rules, put_u64, u64_at};
+use pd_kinds::{Block, Rule, Rules, is_outside, put_u64, u64_at};
 use pd_value::{IndexEntry, Value, put_value, value_at};
 
 /// What the checksum of an index block is XORed with, as INDEX_CSUM_XOR of
@@ -65,16 +65,9 @@ fn is_bitmap_outside(block: &Block, nr: u64) -> bool
     let mut outside = false;
     for i in 0..count {
         let bitmap = u64_at(&block.0, HEADER_SIZE + ENTRY_SIZE * i);
-        outside |= is_beyond(nr, bitmap);
+        outside |= is_outside(nr, bitmap);
     }
     outside
-}
-
-/// Whether the block isn't from 1 to `nr - 1`.
-fn is_beyond(nr: u64, block: u64) -> bool
-    ensures { result ≡ is_outside nr block }
-{
-    (block == 0) | (block >= nr)
 }
 
 /// Entry `i`, from 0.

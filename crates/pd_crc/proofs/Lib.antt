@@ -3,5 +3,4 @@ pub mod Entries
 pub mod LookUps
 pub mod Words
 pub mod Supers
-pub mod Fields
 pub mod Sealed

@@ -78,7 +78,7 @@ byte_steps-shift (suc count) x =
     let grouped : x * 256 ^ suc count ≡ x * 256 ^ count * 256 = ap (λ (y : ℕ). x * y) (pow-suc 256 count) ∙ omega arith in
     ap (byte_steps (suc count)) grouped ∙ byte_steps-shift_one count (x * 256 ^ count) ∙ byte_steps-shift count x
 
-pub power_of_bytes : (count : ℕ) → 256 ^ count ≡ 2 ^ (count * 8)
+power_of_bytes : (count : ℕ) → 256 ^ count ≡ 2 ^ (count * 8)
 power_of_bytes zero = refl
 power_of_bytes (suc count) =
     let more : suc count * 8 ≡ 8 + count * 8 = omega arith in

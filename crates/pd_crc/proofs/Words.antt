@@ -2,28 +2,14 @@
 use Rattle.std.proofs.Common.{◌≡◌, ℕ, zero, suc, ◌+◌, ◌*◌, ◌^◌, ◌-◌, ◌<◌, ◌≤◌, List, length, take, drop, get_or, refl, ap, ap₂, sym, ◌∙◌, arith, add-one, length-drop}
 use Rattle.std.specs.List.{fold}
 use Rattle.std.specs.Int.Bits.{bit_xor, xor_zero_r, xor_assoc}
-use Rattle.std.proofs.Math.Nat.{pow-suc, mul-le-mul_left}
 use Rattle.std.proofs.Math.Seq.{take-add}
 use Rattle.std.proofs.lemmas.List.{get_or-drop, take-append-drop, take_rest}
 use Rattle.std.proofs.lemmas.List.Sums.{fold_more, fold-append}
 use Rattle.pd_kinds.specs.Field.{le}
 use Rattle.pd_kinds.specs.Checksum.{crc_byte}
+use Rattle.pd_kinds.proofs.FieldLemmas.{le-lt}
 use Rattle.pd_crc.specs.Steps.{byte_step, byte_steps}
 use Rattle.pd_crc.proofs.Linear.{byte_steps-xor, byte_steps-shift, xor_above}
-
-le_below : (bytes : List ℕ) → ((i : ℕ) → get_or bytes i 0 < 256) → (at count : ℕ) → le bytes at count < 256 ^ count
-unfolding le
-le_below bytes below at zero = omega arith
-le_below bytes below at (suc count) =
-    let more = pow-suc 256 count in
-    let one = below (at + count) in
-    let before = le_below bytes below at count in
-    let high : 256 ^ count * get_or bytes (at + count) 0 ≤ 256 ^ count * 255 = mul-le-mul_left (256 ^ count) (omega arith) in
-    omega arith
-
-crc_byte-step : (crc byte : ℕ) → crc_byte crc byte ≡ byte_step (bit_xor crc byte)
-unfolding crc_byte byte_step
-crc_byte-step crc byte = refl
 
 pub byte_taken : (crc byte : ℕ) → byte_steps 1 (bit_xor crc byte) ≡ crc_byte crc byte
 unfolding byte_steps crc_byte byte_step
@@ -37,7 +23,7 @@ byte_step-above count low byte below crc =
     let joined : bit_xor (bit_xor crc low) (byte * 256 ^ count) ≡ bit_xor crc (low + 256 ^ count * byte) =
     xor_assoc crc low (byte * 256 ^ count)
     ∙ ap (λ (x : ℕ). bit_xor crc x) (xor_above count low byte below ∙ ap (λ (x : ℕ). low + x) (sym high)) in
-    crc_byte-step (byte_steps count (bit_xor crc low)) byte
+    sym (byte_taken (byte_steps count (bit_xor crc low)) byte)
     ∙ ap (λ (x : ℕ). byte_step (bit_xor (byte_steps count (bit_xor crc low)) x)) (sym (byte_steps-shift count byte))
     ∙ ap byte_step (sym (byte_steps-xor count (bit_xor crc low) (byte * 256 ^ count)) ∙ ap (byte_steps count) joined)
 
@@ -51,7 +37,7 @@ fold-le bytes below at (suc count) h crc =
     let more = fold_more crc_byte crc (drop at bytes) count 0 inside in
     rw (← add-one count) more
     ∙ ap₂ crc_byte before byte
-    ∙ byte_step-above count (le bytes at count) (get_or bytes (at + count) 0) (le_below bytes below at count) crc
+    ∙ byte_step-above count (le bytes at count) (get_or bytes (at + count) 0) (le-lt bytes at count below) crc
 
 -- the checksum over eight bytes more
 pub fold-eight_more : (bytes : List ℕ) → ((i : ℕ) → get_or bytes i 0 < 256) → (at start crc : ℕ) → at + 8 ≤ length bytes → crc ≡ fold crc_byte start (take at bytes) → byte_steps 8 (bit_xor crc (le bytes at 8)) ≡ fold crc_byte start (take (at + 8) bytes)

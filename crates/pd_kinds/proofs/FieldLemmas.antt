@@ -61,15 +61,6 @@ pub le_part : (b : List ℕ) (o n p k : ℕ) → p + k ≤ n → le (take n (dro
 le_part b o n p k within = le_same (take n (drop o b)) b p (o + p) k
     (λ i h. get_or-take n (drop o b) (p + i) 0 (omega arith) ∙ (get_or-drop o b (p + i) 0 ∙ ap (λ (at : ℕ). get_or b at 0) (sym (add_assoc o p i))))
 
--- a field of what stands behind the first n bytes
-pub le_behind : (b : List ℕ) (n p k : ℕ) → le (drop n b) p k ≡ le b (n + p) k
-le_behind b n p k = le_same (drop n b) b p (n + p) k
-    (λ i h. get_or-drop n b (p + i) 0 ∙ ap (λ (at : ℕ). get_or b at 0) (sym (add_assoc n p i)))
-
--- a field of the first n bytes
-pub le_before : (b : List ℕ) (n p k : ℕ) → p + k ≤ n → le (take n b) p k ≡ le b p k
-le_before b n p k within = le_same (take n b) b p p k (λ i h. get_or-take n b (p + i) 0 (omega arith))
-
 -- a field whose bytes are a number's digits has that number
 pub le_digits : (b : List ℕ) (o k v : ℕ) → ((i : ℕ) → i < k → get_or b (o + i) 0 ≡ v / 256 ^ i % 256) → le b o k ≡ v % 256 ^ k
 unfolding le

@@ -1,7 +1,7 @@
 -- Fields put together from parts, and rows of numbers.
 use Rattle.std.proofs.Common.{◌≡◌, ◌⊎◌, inl, inr, ℕ, zero, suc, ◌+◌, ◌*◌, ◌/◌, ◌%◌, ◌^◌, ◌<◌, ◌≤◌, List, [], ◌∷◌, ◌++◌, length, map, take, get_or, refl, ap, sym, ◌∙◌, arith, zero-add}
 use Rattle.std.proofs.Math.Nat.{mod-eq_of_lt, add-mul-mod_self_left, add-mul-div_left, div-eq_of_lt, mul-suc}
-use Rattle.std.proofs.lemmas.List.{length-take-le, take_more, take_all, map-append, length-map, get_or-map}
+use Rattle.std.proofs.lemmas.List.{length-take-le, take_more, take_all, take-map, length-map, get_or-map}
 use borrow.Author.Count.{below_more}
 use Rattle.pd_kinds.specs.Field.{le, put}
 use Rattle.pd_kinds.specs.Node.{puts}
@@ -61,14 +61,20 @@ le-puts b o width (x ∷ xs) (suc i) within h small =
     let place : o + width * suc i ≡ o + width + width * i = omega (arith, mul-suc width i) in
     rw place (le-puts (put b o width x) (o + width) width xs i (omega arith) (omega arith) small)
 
--- a loop's step: a row of one number for each element so far
+-- a loop's step: a row of the numbers so far
+pub puts_step : (b : List ℕ) (o width : ℕ) (xs : List ℕ) (i : ℕ) → i < length xs
+    → puts b o width (take (i + 1) xs) ≡ put (puts b o width (take i xs)) (o + width * i) width (get_or xs i 0)
+puts_step b o width xs i within =
+    let count : length (take i xs) ≡ i = length-take-le i xs (omega arith) in
+    let row = puts_more b o width (take i xs) (get_or xs i 0) in
+    rw (take_more xs i 0 within) (rw count at row)
+
+-- the same, of one number for each element
 pub row_more : {X : Type 0} → (f : X → ℕ) (b : List ℕ) (o width : ℕ) (xs : List X) (i : ℕ) (d : X) → i < length xs
     → puts b o width (map f (take (i + 1) xs)) ≡ put (puts b o width (map f (take i xs))) (o + width * i) width (f (get_or xs i d))
 row_more {X} f b o width xs i d within =
-    let x = get_or xs i d in
-    let count : length (map f (take i xs)) ≡ i = length-map (take i xs) f ∙ length-take-le i xs (omega arith) in
-    rw (take_more xs i d within, map-append f (take i xs) (x ∷ []))
-    (puts_more b o width (map f (take i xs)) (f x) ∙ ap (λ (n : ℕ). put (puts b o width (map f (take i xs))) (o + width * n) width (f x)) count)
+    let inside : i < length (map f xs) = rw (length-map xs f) within in
+    rw (← take-map f (i + 1) xs, ← take-map f i xs, ← get_or-map f xs i d 0 within) (puts_step b o width (map f xs) i inside)
 
 -- a loop's end: a row of one number for each element
 pub row_all : {X : Type 0} → (f : X → ℕ) (b : List ℕ) (o width : ℕ) (xs : List X) (i : ℕ) → length xs ≤ i

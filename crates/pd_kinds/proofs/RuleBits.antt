@@ -1,11 +1,12 @@
 -- The bits of a set of rules, one by one.
-use Rattle.std.proofs.Common.{◌≡◌, ◌≢◌, ℕ, ◌<◌, ◌^◌, ◌*◌, ◌%◌, Bool, true, false, ◌||◌, get_or, nat_eq, refl, sym, ◌∙◌, arith, lit<, bit_or, zero-add, eq-eqb, inl, inr}
+use Rattle.std.proofs.Common.{◌≡◌, ◌≢◌, ℕ, ◌<◌, ◌^◌, ◌*◌, ◌%◌, true, false, ◌||◌, get_or, nat_eq, refl, sym, ◌∙◌, arith, lit<, bit_or, zero-add, eq-eqb, inl, inr}
 use Rattle.std.specs.Int.{bit_at, w32}
 use Rattle.std.proofs.lemmas.Nat.{one_shl, or_lt}
 use Rattle.std.proofs.lemmas.Nat.Bits.{bit_at_set_same, bit_at_set_other, same_from_bits_below, bit_at-zero, bit_at-lt}
 use Rattle.std.proofs.lemmas.List.{get_or-map}
 use Rattle.std.proofs.lemmas.List.FromFn.{get_or-range_with_len}
 use Rattle.std.proofs.lemmas.Bool.{cases_eq}
+use Rattle.std.proofs.Math.Bool.{or-true, or-false}
 use Rattle.std.proofs.Math.Pow.{pow-lt}
 use Rattle.pd_kinds.specs.declared.rule.Rule.{Rule}
 use Rattle.pd_kinds.specs.declared.rule.Rule.TheVariants as r
@@ -37,23 +38,15 @@ with_bit_below bits n small within =
     let e = one_shl n 32 (omega arith) in
     rw e (or_lt 22 bits (2 ^ n) small (pow-lt within))
 
-or_true : (b : Bool) → true ≡ (b || true)
-or_true true = refl
-or_true false = refl
-
-or_false : (b : Bool) → (b || false) ≡ b
-or_false true = refl
-or_false false = refl
-
 -- its bits are the old ones and the new one
 pub bit_of_with : (bits n k : ℕ) → n < 22 → k < 22
     → nat_eq (bit_at (bit_or bits (1 * 2 ^ n % 2 ^ 32)) k) 1 ≡ (nat_eq (bit_at bits k) 1 || nat_eq n k)
 bit_of_with bits n k within small = elim (cases_eq k n) [
   | inl same ↦
-      rw same (rw (bit_at_set_same w32 bits n (omega arith), eq-eqb n n refl) (or_true (nat_eq (bit_at bits n) 1)))
+      rw same (rw (bit_at_set_same w32 bits n (omega arith), eq-eqb n n refl) (sym (or-true (nat_eq (bit_at bits n) 1))))
   | inr other ↦
       let e : nat_eq n k ≡ false = grind (arith, other) in
-      rw (bit_at_set_other w32 bits n (omega arith) k other, e) (sym (or_false (nat_eq (bit_at bits k) 1)))
+      rw (bit_at_set_other w32 bits n (omega arith) k other, e) (sym (or-false (nat_eq (bit_at bits k) 1)))
 ]
 
 -- a set of no bits is 0

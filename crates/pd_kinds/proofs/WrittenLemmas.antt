@@ -1,9 +1,10 @@
 -- Laws of written blocks: what is read of a block that a table, bytes or a checksum were written into.
-use Rattle.std.proofs.Common.{◌≡◌, ◌⊎◌, inl, inr, ℕ, zero, suc, ◌+◌, ◌-◌, ◌%◌, ◌^◌, ◌<◌, ◌≤◌, Bool, true, false, ◌&&◌, ◌||◌, ◌==◌, nat_le, cond, List, [], ◌∷◌, ◌++◌, length, take, drop, get_or, replicate, refl, ap, sym, ◌∙◌, arith, eq-eqb, nat_eq}
+use Rattle.std.proofs.Common.{◌≡◌, ◌⊎◌, inl, inr, ℕ, zero, suc, ◌+◌, ◌-◌, ◌%◌, ◌^◌, ◌<◌, ◌≤◌, Bool, true, ◌&&◌, ◌||◌, ◌==◌, nat_le, cond, List, [], ◌∷◌, ◌++◌, length, take, drop, get_or, replicate, refl, ap, sym, ◌∙◌, arith, eq-eqb, nat_eq}
+use Rattle.std.proofs.Math.Nat.{mod-eq_of_lt}
 use Rattle.std.proofs.Math.Seq.{take-append_seam, drop-append_seam}
-use Rattle.std.proofs.lemmas.List.{length-append, length-replicate, get_or-replicate, get_or_past, length-take-le, length-drop, get_or_append_left, get_or-append_right, get_or-take, get_or-drop}
+use Rattle.std.proofs.lemmas.List.{length-replicate, get_or-replicate, get_or_past, length-take-le, get_or_append_left, get_or-append_right, get_or-take, get_or-drop}
 use Rattle.std.proofs.lemmas.Bool.Decides.{nat_tests}
-use Rattle.std.proofs.lemmas.Bool.{cases_lt}
+use Rattle.std.proofs.lemmas.Bool.{cases_lt, and_parts}
 use Rattle.std.specs.Int.Bits.{bit_xor}
 use Rattle.pd_kinds.specs.Field.{Row, le, put, put_bytes, written, zeros}
 use Rattle.pd_kinds.specs.Checksum.{crc32c, checksum, has_checksum, sealed}
@@ -27,23 +28,12 @@ abbrev pub looked_up : ℕ → ℕ → List Row → ℕ → ℕ
 looked_up p n [] before = before
 looked_up p n (row ∷ rows) before = looked_up p n rows (cond (is_row p n row) (row.value % 256 ^ n) before)
 
-both_true : (a b : Bool) → (a && b) ≡ true → (a ≡ true) × (b ≡ true)
-both_true true b both = (refl, both)
-both_true false b both = absurd (cc)
-
 -- writing a table keeps the length
 pub length-written : (b : List ℕ) (rows : List Row) → length (written b rows) ≡ length b
 unfolding written
 length-written b [] = refl
 length-written b (row ∷ rows) =
     length-written (put b row.offset row.size row.value) rows ∙ length-put b row.offset row.size row.value
-
--- a row that is the field, and one that isn't
-le-row_same : (b : List ℕ) (p n o k v : ℕ) → o ≡ p → k ≡ n → p + n ≤ length b → le (put b o k v) p n ≡ v % 256 ^ n
-le-row_same b p n o k v at size within = rw (at, size) (le-put_same b p n v within)
-
-le-row_other : (b : List ℕ) (p n o k v : ℕ) → ((p + n ≤ o) ⊎ (o + k ≤ p)) → le (put b o k v) p n ≡ le b p n
-le-row_other b p n o k v apart = le-put_other b o k v p n apart
 
 -- a table in two parts, the first one written first
 pub written-append : (b : List ℕ) (rows more : List Row) → written b (rows ++ more) ≡ written (written b rows) more
@@ -55,28 +45,18 @@ written-append b (row ∷ rows) more = written-append (put b row.offset row.size
 le-row : (b : List ℕ) (p n o k v : ℕ)
     → cond (nat_eq o p && nat_eq k n) (nat_le (p + n) (length b)) (nat_le (p + n) o || nat_le (o + k) p) ≡ true
     → le (put b o k v) p n ≡ cond (nat_eq o p && nat_eq k n) (v % 256 ^ n) (le b p n)
-le-row b p n o k v fits = grind (arith, nat_tests, le-row_same, le-row_other)
+le-row b p n o k v fits = grind (arith, nat_tests, le-put_same, le-put_other)
 
 -- reading a field of a written table
 pub le-written : (b : List ℕ) (rows : List Row) (p n : ℕ) → is_looked_up (length b) p n rows ≡ true → le (written b rows) p n ≡ looked_up p n rows (le b p n)
 unfolding written
 le-written b [] p n fits = refl
 le-written b (row ∷ rows) p n fits =
-    let split = both_true (cond (is_row p n row) (nat_le (p + n) (length b)) (is_beside p n row)) (is_looked_up (length b) p n rows) fits in
+    let split = and_parts (cond (is_row p n row) (nat_le (p + n) (length b)) (is_beside p n row)) (is_looked_up (length b) p n rows) fits in
     let here = le-row b p n row.offset row.size row.value split.0 in
     let len = length-put b row.offset row.size row.value in
     let later = le-written (put b row.offset row.size row.value) rows p n (rw len split.1) in
     rw (later, here) refl
-
--- writing bytes keeps the length
-pub length-put_bytes : (b : List ℕ) (o : ℕ) (bytes : List ℕ) → o + length bytes ≤ length b → length (put_bytes b o bytes) ≡ length b
-unfolding put_bytes
-length-put_bytes b o bytes within =
-    let front = length-take-le o b (omega arith) in
-    let all = length-append (take o b) (bytes ++ drop (o + length bytes) b) in
-    let rest = length-append bytes (drop (o + length bytes) b) in
-    let behind = length-drop (o + length bytes) b in
-    omega arith
 
 -- a byte outside the written ones stays
 pub get_or-put_bytes_other : (b : List ℕ) (o : ℕ) (bytes : List ℕ) (j : ℕ) → o + length bytes ≤ length b → ((j < o) ⊎ (o + length bytes ≤ j)) → get_or (put_bytes b o bytes) j 0 ≡ get_or b j 0
@@ -106,11 +86,6 @@ pub le-put_bytes_other : (b : List ℕ) (o : ℕ) (bytes : List ℕ) (p n : ℕ)
 le-put_bytes_other b o bytes p n within apart = le_same (put_bytes b o bytes) b p p n
     (λ i h. get_or-put_bytes_other b o bytes (p + i) within (elim apart [ inl before ↦ inl (omega arith) | inr after ↦ inr (omega arith) ]))
 
--- a checksum keeps the length
-pub length-sealed : (b : List ℕ) (salt : ℕ) → length (sealed b salt) ≡ length b
-unfolding sealed
-length-sealed b salt = length-put b 0 4 (checksum b salt)
-
 -- a checksum changes nothing behind it
 pub drop-sealed : (b : List ℕ) (salt n : ℕ) → 4 ≤ n → drop n (sealed b salt) ≡ drop n b
 unfolding sealed
@@ -133,28 +108,39 @@ has_checksum-sealed b salt within fits =
     eq-eqb (le (sealed b salt) 0 4) (checksum (sealed b salt) salt)
     (le-put b 0 4 (checksum b salt) within fits ∙ sym (checksum-sealed b salt salt))
 
--- each byte of a list of zeros is 0, and so is what lies past it
-get_or-replicate_zero : (n i : ℕ) → get_or (replicate {A = ℕ} n 0) i 0 ≡ 0
-get_or-replicate_zero n i = elim (cases_lt i n) [
-  | inl inside ↦ get_or-replicate {A = ℕ} n i 0 0 inside
-  | inr past ↦ get_or_past (replicate {A = ℕ} n 0) i 0 (rw (length-replicate {A = ℕ} n 0) past)
+-- each byte of a block of zeros is 0, and so is what lies past it
+pub get_or-zeros : (i : ℕ) → get_or zeros i 0 ≡ 0
+unfolding zeros
+get_or-zeros i = elim (cases_lt i 4096) [
+  | inl inside ↦ get_or-replicate {A = ℕ} 4096 i 0 0 inside
+  | inr past ↦ get_or_past (replicate {A = ℕ} 4096 0) i 0 (rw (length-replicate {A = ℕ} 4096 0) past)
 ]
-
--- a list of zeros has only the number 0
-le-replicate_zero : (m p n : ℕ) → le (replicate {A = ℕ} m 0) p n ≡ 0
-unfolding le
-le-replicate_zero m p zero = refl
-le-replicate_zero m p (suc n) =
-    let before = le-replicate_zero m p n in
-    let last = get_or-replicate_zero m (p + n) in
-    rw (before, last) (omega arith)
 
 -- each field of a block of zeros is 0
 pub le-zeros : (p n : ℕ) → le zeros p n ≡ 0
-unfolding zeros
-le-zeros p n = le-replicate_zero 4096 p n
+unfolding le
+le-zeros p zero = refl
+le-zeros p (suc n) =
+    let before = le-zeros p n in
+    let last = get_or-zeros (p + n) in
+    rw (before, last) (omega arith)
 
 -- a block of zeros has the size of a block
 pub length-zeros : length zeros ≡ 4096
 unfolding zeros
 length-zeros = length-replicate {A = ℕ} 4096 0
+
+-- and so has one that a table was written into
+pub length-written_zeros : (rows : List Row) → length (written zeros rows) ≡ 4096
+length-written_zeros rows = length-written zeros rows ∙ length-zeros
+
+-- reading a field of a table that was written over zeros
+pub le-written_zeros : (rows : List Row) (p n : ℕ) → is_looked_up 4096 p n rows ≡ true → le (written zeros rows) p n ≡ looked_up p n rows 0
+le-written_zeros rows p n found =
+    let stored : is_looked_up (length zeros) p n rows ≡ true = rw length-zeros found in
+    le-written zeros rows p n stored ∙ ap (λ (before : ℕ). looked_up p n rows before) (le-zeros p n)
+
+-- so a number of the table reads back where it fits
+pub row_read : (rows : List Row) (p n v : ℕ) → is_looked_up 4096 p n rows ≡ true → looked_up p n rows 0 ≡ v % 256 ^ n → v < 256 ^ n
+    → le (written zeros rows) p n ≡ v
+row_read rows p n v found row fits = le-written_zeros rows p n found ∙ (row ∙ mod-eq_of_lt fits)

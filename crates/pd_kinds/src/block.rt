@@ -1,5 +1,6 @@
 ghost use Rattle.std.specs.Prelude.{◌≡◌};
 ghost use Rattle.pd_kinds.specs.Field.{zeros};
+ghost use Rattle.pd_kinds.specs.ThinSuper.{is_outside};
 
 /// The size of a block in bytes, as in "drivers/md/persistent-data", whose block size is 4 KiB here.
 pub const BLOCK_SIZE: usize = 4096;
@@ -16,4 +17,13 @@ impl Block {
     {
         Block([0; 4096])
     }
+}
+
+/// Whether a pointer to this block leads outside the metadata of a device of `nr` blocks.
+///
+/// It must name one of the device's blocks, and not block 0, where the superblock is.
+pub fn is_outside(nr: u64, block: u64) -> bool
+    ensures { result ≡ is_outside nr block }
+{
+    (block == 0) | (block >= nr)
 }

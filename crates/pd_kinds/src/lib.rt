@@ -13,7 +13,7 @@ mod report;
 mod rule;
 mod rules;
 
-pub use block::{BLOCK_SIZE, Block};
+pub use block::{BLOCK_SIZE, Block, is_outside};
 pub use fault::{Fault, Space};
 pub use fields::{put_u32, put_u64, u32_at, u64_at};
 pub use kind::{Kind, Stage};

@@ -1,13 +1,9 @@
 -- Keys that ascend: the loop over neighbours, and each key against all later ones.
-use Rattle.std.proofs.Common.{◌≡◌, inl, inr, ℕ, zero, suc, ◌+◌, ◌-◌, ◌<◌, ◌≤◌, Bool, true, false, ◌&&◌, ltb, List, [], ◌∷◌, length, map, get_or, refl, ap, sym, ◌∙◌, arith}
+use Rattle.std.proofs.Common.{◌≡◌, inl, inr, ℕ, zero, suc, ◌+◌, ◌-◌, ◌<◌, ◌≤◌, Bool, true, ◌&&◌, ltb, List, [], ◌∷◌, length, map, get_or, refl, ap, sym, ◌∙◌, arith}
 use Rattle.std.specs.List.{range_with_len}
-use Rattle.std.proofs.lemmas.Bool.{cases_eq, ltb-true, lt-ltb}
+use Rattle.std.proofs.lemmas.Bool.{and_parts, cases_eq, ltb-true, lt-ltb}
 use Rattle.std.proofs.Math.Bool.{and_assoc, and-true}
 use Rattle.pd_kinds.specs.Node.{is_ascending}
-
-both_true : (a b : Bool) → (a && b) ≡ true → (a ≡ true) × (b ≡ true)
-both_true true b both = (refl, both)
-both_true false b both = absurd (cc)
 
 -- one number more of a row ascends if the row does and its last number is below it
 ascending_row : (f : ℕ → ℕ) (a n : ℕ)
@@ -40,8 +36,8 @@ ascending_next : (xs : List ℕ) (i : ℕ) → is_ascending xs ≡ true → suc 
 unfolding is_ascending
 ascending_next [] i ascend within = absurd (omega arith)
 ascending_next (x ∷ []) i ascend within = absurd (omega arith)
-ascending_next (x ∷ y ∷ rest) zero ascend within = ltb-true x y (both_true (ltb x y) (is_ascending (y ∷ rest)) ascend).0
-ascending_next (x ∷ y ∷ rest) (suc i) ascend within = ascending_next (y ∷ rest) i (both_true (ltb x y) (is_ascending (y ∷ rest)) ascend).1 (omega arith)
+ascending_next (x ∷ y ∷ rest) zero ascend within = ltb-true x y (and_parts (ltb x y) (is_ascending (y ∷ rest)) ascend).0
+ascending_next (x ∷ y ∷ rest) (suc i) ascend within = ascending_next (y ∷ rest) i (and_parts (ltb x y) (is_ascending (y ∷ rest)) ascend).1 (omega arith)
 
 -- each is below all later ones
 pub ascending_pairs : (xs : List ℕ) (i j : ℕ) → is_ascending xs ≡ true → i < j → j < length xs → get_or xs i 0 < get_or xs j 0

@@ -1,9 +1,9 @@
 -- What the shape of a node says of where its entries lie.
-use Rattle.std.proofs.Common.{◌≡◌, ℕ, suc, ◌+◌, ◌-◌, ◌*◌, ◌<◌, ◌≤◌, Bool, true, false, ◌||◌, cond, List, refl, arith, inl, inr}
+use Rattle.std.proofs.Common.{◌≡◌, ℕ, suc, ◌+◌, ◌-◌, ◌*◌, ◌<◌, ◌≤◌, false, cond, List, arith, inl, inr}
 use Rattle.std.proofs.Math.Nat.{mul-add, mul-le-mul_left, mul_comm, mul-suc}
 use Rattle.std.proofs.lemmas.Bool.Decides.{nat_tests}
 use Rattle.std.proofs.lemmas.Bool.{cases_lt}
-use Rattle.pd_kinds.specs.Node.{entry_count, is_shape_bad, are_flags_bad, is_inner_node, node_entries, node_max, node_value_size}
+use Rattle.pd_kinds.specs.Node.{entry_count, is_shape_bad, is_inner_node, node_entries, node_max, node_value_size}
 
 -- what a shape that isn't bad says of the header
 pub record IsShaped (size : ℕ) (block : List ℕ) : Type 0 where
@@ -19,11 +19,6 @@ shape_says size block good = record {
   room = grind (arith, nat_tests);
 }
 
-entry_in : (flags_bad shape_bad : Bool) (n i : ℕ) → i < cond (flags_bad || shape_bad) 0 n → (shape_bad ≡ false) × (i < n)
-entry_in true shape_bad n i within = absurd (omega arith)
-entry_in false true n i within = absurd (omega arith)
-entry_in false false n i within = (refl, within)
-
 -- an entry's value ends within the block
 pub value_room : (max size i : ℕ) → 32 + max * (8 + size) ≤ 4096 → i < max → 32 + 8 * max + size * i + size ≤ 4096
 value_room max size i room within =
@@ -36,7 +31,7 @@ value_room max size i room within =
 -- an entry of a node is one of those that have room
 pub entry_says : (size : ℕ) (block : List ℕ) (i : ℕ) → i < entry_count size block → (is_shape_bad size block ≡ false) × (i < node_entries block)
 unfolding entry_count
-entry_says size block i within = entry_in (are_flags_bad block) (is_shape_bad size block) (node_entries block) i within
+entry_says size block i within = (grind arith, grind arith)
 
 -- the keys of the entries lie within the block
 pub keys_room : (size : ℕ) (block : List ℕ) → 32 + 8 * entry_count size block ≤ 4096

@@ -1,42 +1,29 @@
 -- What stands in the block that is written for a thin superblock's fields.
 use Rattle.std.proofs.Common.{◌≡◌, ◌⊎◌, inl, inr, ℕ, ◌+◌, ◌%◌, ◌^◌, ◌<◌, ◌≤◌, true, false, List, length, take, drop, refl, ap, sym, ◌∙◌, arith, lit<}
 use Rattle.std.proofs.Math.Bool.{and-false}
-use Rattle.std.proofs.Math.Nat.{mod-eq_of_lt}
 use Rattle.pd_kinds.specs.Field.{le, put_bytes, written, zeros}
 use Rattle.pd_kinds.specs.Checksum.{has_checksum}
 use Rattle.pd_kinds.specs.RuleSet.{alone, failing}
 use Rattle.pd_kinds.specs.declared.rule.Rule.{Rule}
 use Rattle.pd_kinds.specs.declared.rule.Rule.TheVariants as r
 use Rattle.pd_kinds.specs.ThinSuper.{ThinFields, thin_fields, thin_rows, thin_super_bad, thin_super_block, thin_super_tests}
-use Rattle.pd_kinds.proofs.WrittenLemmas.{is_looked_up, looked_up, le-written, length-written, le-put_bytes_other, put_bytes_read, drop-sealed, le-sealed_other, le-zeros, length-zeros}
+use Rattle.pd_kinds.proofs.WrittenLemmas.{is_looked_up, looked_up, length-written_zeros, row_read, le-put_bytes_other, put_bytes_read, drop-sealed, le-sealed_other}
 use Rattle.pd_supers.specs.ThinSuper.{DoThinFieldsFit}
 
--- the length of the block before the uuid and the checksum are written
-length-rows : (f : ThinFields) → length (written zeros (thin_rows f)) ≡ 4096
-length-rows f = length-written zeros (thin_rows f) ∙ length-zeros
-
--- a field of the table, beside the checksum and the uuid
-looked-up_field : (f : ThinFields) (p n : ℕ) → length f.uuid ≡ 16 → 4 ≤ p → ((p + n ≤ 16) ⊎ (32 ≤ p))
-    → is_looked_up 4096 p n (thin_rows f) ≡ true → le (thin_super_block f) p n ≡ looked_up p n (thin_rows f) 0
-unfolding thin_super_block
-looked-up_field f p n len behind apart found =
-    let rows = length-rows f in
-    let within : 16 + length f.uuid ≤ length (written zeros (thin_rows f)) = omega arith in
-    let beside : ((p + n ≤ 16) ⊎ (16 + length f.uuid ≤ p)) = elim apart [ inl before ↦ inl before | inr after ↦ inr (omega arith) ] in
-    let stored : is_looked_up (length zeros) p n (thin_rows f) ≡ true = rw length-zeros found in
-    le-sealed_other (put_bytes (written zeros (thin_rows f)) 16 f.uuid) 160774 p n behind
-    ∙ (le-put_bytes_other (written zeros (thin_rows f)) 16 f.uuid p n within beside
-    ∙ (le-written zeros (thin_rows f) p n stored
-    ∙ ap (λ (before : ℕ). looked_up p n (thin_rows f) before) (le-zeros p n)))
-
--- a number of the table reads back
+-- a number of the table, beside the checksum and the uuid, reads back
 number_read : (f : ThinFields) (p n v : ℕ) → length f.uuid ≡ 16 → 4 ≤ p → ((p + n ≤ 16) ⊎ (32 ≤ p))
     → is_looked_up 4096 p n (thin_rows f) ≡ true → looked_up p n (thin_rows f) 0 ≡ v % 256 ^ n → v < 256 ^ n → le (thin_super_block f) p n ≡ v
-number_read f p n v len behind apart found row fits = looked-up_field f p n len behind apart found ∙ (row ∙ mod-eq_of_lt fits)
+unfolding thin_super_block
+number_read f p n v len behind apart found row fits =
+    let rows = thin_rows f in
+    let whole = length-written_zeros rows in
+    let beside : ((p + n ≤ 16) ⊎ (16 + length f.uuid ≤ p)) = elim apart [ inl before ↦ inl before | inr after ↦ inr (omega arith) ] in
+    le-sealed_other (put_bytes (written zeros rows) 16 f.uuid) 160774 p n behind
+    ∙ (le-put_bytes_other (written zeros rows) 16 f.uuid p n (omega arith) beside ∙ row_read rows p n v found row fits)
 
 -- the place is 0, and the magic is there
 pub place_read : (f : ThinFields) → length f.uuid ≡ 16 → le (thin_super_block f) 8 8 ≡ 0
-place_read f len = looked-up_field f 8 8 len (omega arith) (inl (omega arith)) refl
+place_read f len = number_read f 8 8 0 len (omega arith) (inl (omega arith)) refl refl (lit< tt)
 
 pub magic_read : (f : ThinFields) → length f.uuid ≡ 16 → le (thin_super_block f) 32 8 ≡ 27022010
 magic_read f len = number_read f 32 8 27022010 len (omega arith) (inr (omega arith)) refl refl (lit< tt)
@@ -46,7 +33,7 @@ uuid_read : (f : ThinFields) → length f.uuid ≡ 16 → take 16 (drop 16 (thin
 unfolding thin_super_block
 uuid_read f len =
     let behind = drop-sealed (put_bytes (written zeros (thin_rows f)) 16 f.uuid) 160774 16 (omega arith) in
-    let rows = length-rows f in
+    let whole = length-written_zeros (thin_rows f) in
     let read = put_bytes_read (written zeros (thin_rows f)) 16 f.uuid (omega arith) in
     rw behind (ap (λ (n : ℕ). take n (drop 16 (put_bytes (written zeros (thin_rows f)) 16 f.uuid))) (sym len) ∙ read)
 

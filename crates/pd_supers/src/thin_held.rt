@@ -7,9 +7,8 @@ ghost use Rattle.pd_kinds.specs.ThinFormat.{held_edges, thin_held_bad};
 ghost use Rattle.pd_kinds.specs.ThinSuper.{has_edge_outside};
 
 use crate::thin::read_thin_super;
-use crate::thin_rules::is_beyond;
 use pd_crc::is_sealed;
-use pd_kinds::{Block, Kind, Rule, Rules, u64_at};
+use pd_kinds::{Block, Kind, Rule, Rules, is_outside, u64_at};
 
 /// The rules that the block breaks as the held copy of a superblock in this place, for so many metadata
 /// blocks.
@@ -38,5 +37,5 @@ fn is_root_outside(block: &Block, nr: u64) -> bool
     ensures { result ≡ has_edge_outside nr (held_edges block.now.0) }
 {
     let fields = read_thin_super(block);
-    is_beyond(nr, fields.mapping_root) | is_beyond(nr, fields.details_root)
+    is_outside(nr, fields.mapping_root) | is_outside(nr, fields.details_root)
 }

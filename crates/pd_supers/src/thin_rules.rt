@@ -3,12 +3,12 @@
 ghost use Rattle.std.specs.Prelude.{◌≡◌};
 ghost use Rattle.pd_kinds.specs.declared.rule.Rule.{Rule as BrokenRule};
 ghost use Rattle.pd_kinds.specs.RuleSet.{has_rule, failing};
-ghost use Rattle.pd_kinds.specs.ThinSuper.{are_thin_sizes_bad, has_edge_outside, is_outside, thin_super_bad, thin_super_edges, thin_super_tests};
+ghost use Rattle.pd_kinds.specs.ThinSuper.{are_thin_sizes_bad, has_edge_outside, thin_super_bad, thin_super_edges, thin_super_tests};
 ghost use Rattle.pd_supers.specs.ThinSuper.{fields_of};
 
 use crate::thin::{ThinSuper, read_thin_super};
 use pd_crc::is_sealed;
-use pd_kinds::{Block, Kind, Rule, Rules, u64_at};
+use pd_kinds::{Block, Kind, Rule, Rules, is_outside, u64_at};
 
 /// The greatest number of metadata blocks: 255 bitmaps of 16320 counts each, as
 /// "drivers/md/persistent-data/dm-space-map-metadata.h" has them.
@@ -66,19 +66,12 @@ fn is_edge_outside(fields: &ThinSuper) -> bool
     ensures { result ≡ has_edge_outside fields.now.meta_map.blocks (thin_super_edges (fields_of fields.now)) }
 {
     let nr = fields.meta_map.blocks;
-    let held_outside = (fields.held_root != 0) & is_beyond(nr, fields.held_root);
+    let held_outside = (fields.held_root != 0) & is_outside(nr, fields.held_root);
     held_outside
-        | is_beyond(nr, fields.mapping_root)
-        | is_beyond(nr, fields.details_root)
-        | is_beyond(nr, fields.data_map.bitmap_root)
-        | is_beyond(nr, fields.data_map.overflow_root)
-        | is_beyond(nr, fields.meta_map.bitmap_root)
-        | is_beyond(nr, fields.meta_map.overflow_root)
-}
-
-/// Whether the block isn't from 1 to `nr - 1`.
-pub(crate) fn is_beyond(nr: u64, block: u64) -> bool
-    ensures { result ≡ is_outside nr block }
-{
-    (block == 0) | (block >= nr)
+        | is_outside(nr, fields.mapping_root)
+        | is_outside(nr, fields.details_root)
+        | is_outside(nr, fields.data_map.bitmap_root)
+        | is_outside(nr, fields.data_map.overflow_root)
+        | is_outside(nr, fields.meta_map.bitmap_root)
+        | is_outside(nr, fields.meta_map.overflow_root)
 }

@@ -1,6 +1,6 @@
 use Rattle.std.proofs.Common.{rules, ◌≡◌, ◌<◌, ◌^◌, length, arith}
 use Rattle.pd_kinds.specs.Checksum.{checksum, sealed}
-use Rattle.pd_crc.proofs.Sealed.{has_checksum-sealed}
+use Rattle.pd_kinds.proofs.WrittenLemmas.{has_checksum-sealed}
 use Rattle.pd_crc.proofs.sealing.seal.Goals as goal
 
 pub returns-clause-valid : goal.returns-clause-valid
