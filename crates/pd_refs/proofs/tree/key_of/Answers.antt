@@ -1,6 +1,6 @@
 use Rattle.pd_kinds.specs.Node.{entry_count, key_at, node_keys}
-use Rattle.pd_thin.proofs.Rows.{below_row, slice_get-row}
-use Rattle.pd_thin.proofs.tree.key_of.Goals as goal
+use Rattle.pd_refs.proofs.Rows.{below_row, slice_get-row}
+use Rattle.pd_refs.proofs.tree.key_of.Goals as goal
 
 pub key-requires : goal.key-requires
 unfolding node_keys
