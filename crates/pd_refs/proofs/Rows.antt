@@ -175,7 +175,7 @@ edge_entry role size names target block i within =
 -- of a leaf, where it names data
 below_leaf : (inner : Bool) (count i : ℕ) (names : Names) → i < cond inner 0 (if_data names count) → (i < count) × (inner ≡ false)
 below_leaf true count i names within = absurd (omega arith)
-below_leaf false count i (Data limit) within = (within , refl)
+below_leaf false count i (Data limit) within = (within, refl)
 below_leaf false count i _ within = absurd (omega arith)
 
 pub data_entry : (size : ℕ) (names : Names) (target : ℕ → ℕ) (block : List ℕ) (i : ℕ)
