@@ -1,5 +1,4 @@
 pub mod BlockKind
 pub mod Check
 pub mod Laws
-pub mod Leaf
 pub mod SuperEdges

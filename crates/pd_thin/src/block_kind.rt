@@ -2,6 +2,8 @@ ghost use Rattle.std.specs.Prelude.{◌≡◌, ℕ, ◌<◌};
 ghost use Rattle.pd_kinds.specs.Layout.{is_tree_layout};
 ghost use Rattle.pd_kinds.specs.ThinFormat.{thin_layout};
 
+use pd_refs::Names;
+
 /// What a block of a thin pool's metadata is, as "drivers/md/dm-thin-metadata.c" and
 /// "drivers/md/persistent-data/dm-space-map-common.c" use it.
 #[derive(Clone, Copy, Debug, PartialEq, Eq)]
@@ -27,7 +29,7 @@ pub(crate) enum BlockKind {
 }
 
 impl BlockKind {
-    ghost use Rattle.pd_thin.specs.BlockKind.{layout_of};
+    ghost use Rattle.pd_thin.specs.BlockKind.{layout_of, names_of};
 
     /// What a block is in this role, from 0 to 10.
     #[tactic(auto, unfolding(pd_kinds::specs::ThinFormat::thin_layout))]
@@ -61,6 +63,23 @@ impl BlockKind {
             | BlockKind::Details
             | BlockKind::DataIndex
             | BlockKind::Overflow => true,
+        }
+    }
+
+    /// What the entries of a tree's leaves name, in a pool of so many data blocks.
+    pub(crate) fn names(self, data_blocks: u64) -> Names
+        ensures { result ≡ names_of data_blocks self }
+    {
+        match self {
+            BlockKind::Devices => Names::Metadata(3),
+            BlockKind::Mappings => Names::Data(data_blocks),
+            BlockKind::DataIndex => Names::Metadata(6),
+            BlockKind::Super
+            | BlockKind::Held
+            | BlockKind::Details
+            | BlockKind::Bitmap
+            | BlockKind::Overflow
+            | BlockKind::MetaIndex => Names::Nothing,
         }
     }
 }

@@ -12,9 +12,9 @@ ghost use Rattle.pd_thin.specs.SuperEdges.{thin_root_edges};
 
 use crate::block_kind::BlockKind;
 use crate::format::ThinFormat;
-use crate::tree::{edge_count, edge_of_node};
 use pd_bitmap::index_entry;
 use pd_kinds::Block;
+use pd_refs::{edge_count, edge_of_node};
 use pd_supers::{ThinSuper, read_thin_super};
 use pd_value::{BlockTime, Count, Details, IndexEntry, Root};
 
@@ -26,15 +26,16 @@ impl ThinFormat {
     pub(crate) fn edges_in(&self, kind: BlockKind, role: u8, b: &Block) -> usize
         ensures { result ≡ length (layout_edges self.now.nr role (layout_of self.now.nr self.now.data_blocks kind) b.now.0) }
     {
+        let names = kind.names(self.data_blocks);
         match kind {
             BlockKind::Super => super_edges(b),
             BlockKind::Held => 2,
-            BlockKind::Devices => edge_count::<Root>(b),
-            BlockKind::Mappings => edge_count::<BlockTime>(b),
-            BlockKind::Details => edge_count::<Details>(b),
-            BlockKind::DataIndex => edge_count::<IndexEntry>(b),
+            BlockKind::Devices => edge_count::<Root>(b, names),
+            BlockKind::Mappings => edge_count::<BlockTime>(b, names),
+            BlockKind::Details => edge_count::<Details>(b, names),
+            BlockKind::DataIndex => edge_count::<IndexEntry>(b, names),
             BlockKind::Bitmap => 0,
-            BlockKind::Overflow => edge_count::<Count>(b),
+            BlockKind::Overflow => edge_count::<Count>(b, names),
             BlockKind::MetaIndex => index_edges(self.nr),
         }
     }
@@ -44,16 +45,17 @@ impl ThinFormat {
         requires { i < length (layout_edges self.now.nr role (layout_of self.now.nr self.now.data_blocks kind) b.now.0) }
         ensures { slice_get (layout_edges self.now.nr role (layout_of self.now.nr self.now.data_blocks kind) b.now.0) i ≡ Some (edge_of result.0 result.1) }
     {
+        let names = kind.names(self.data_blocks);
         match kind {
             BlockKind::Super => super_edge(b, i),
             BlockKind::Held => held_edge(b, i),
-            BlockKind::Devices => edge_of_node::<Root>(role, b, i),
-            BlockKind::Mappings => edge_of_node::<BlockTime>(role, b, i),
-            BlockKind::Details => edge_of_node::<Details>(role, b, i),
-            BlockKind::DataIndex => edge_of_node::<IndexEntry>(role, b, i),
+            BlockKind::Devices => edge_of_node::<Root>(b, names, role, i),
+            BlockKind::Mappings => edge_of_node::<BlockTime>(b, names, role, i),
+            BlockKind::Details => edge_of_node::<Details>(b, names, role, i),
+            BlockKind::DataIndex => edge_of_node::<IndexEntry>(b, names, role, i),
             // A bitmap names nothing.
             BlockKind::Bitmap => (role, 0),
-            BlockKind::Overflow => edge_of_node::<Count>(role, b, i),
+            BlockKind::Overflow => edge_of_node::<Count>(b, names, role, i),
             BlockKind::MetaIndex => index_edge(b, self.nr, i),
         }
     }

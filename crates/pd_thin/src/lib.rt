@@ -5,12 +5,10 @@ mod block_kind;
 mod check;
 mod edges;
 mod format;
-mod leaf;
 mod rules;
 mod sizes;
 #[cfg(test)]
 mod tests;
-mod tree;
 mod values;
 
 pub use check::{CheckFault, check_thin};

@@ -9,9 +9,9 @@ ghost use Rattle.pd_thin.specs.BlockKind.{layout_of};
 
 use crate::block_kind::BlockKind;
 use crate::format::ThinFormat;
-use crate::tree::tree_rules;
 use pd_bitmap::{bitmap_rules, index_rules};
 use pd_kinds::{Block, Rules};
+use pd_refs::tree_rules;
 use pd_supers::{thin_held_rules, thin_super_rules};
 use pd_value::{BlockTime, Count, Details, IndexEntry, Root};
 
@@ -21,16 +21,16 @@ impl ThinFormat {
         ensures { (rule : BrokenRule) → has_rule result rule ≡ layout_bad self.now.nr role (layout_of self.now.nr self.now.data_blocks kind) place b.now.0 rule }
     {
         let nr = self.nr;
-        let data_blocks = self.data_blocks;
+        let names = kind.names(self.data_blocks);
         match kind {
             BlockKind::Super => thin_super_rules(b, nr),
             BlockKind::Held => thin_held_rules(b, place, nr),
-            BlockKind::Devices => tree_rules::<Root>(b, role, place, nr, data_blocks),
-            BlockKind::Mappings => tree_rules::<BlockTime>(b, role, place, nr, data_blocks),
-            BlockKind::Details => tree_rules::<Details>(b, role, place, nr, data_blocks),
-            BlockKind::DataIndex => tree_rules::<IndexEntry>(b, role, place, nr, data_blocks),
+            BlockKind::Devices => tree_rules::<Root>(b, names, role, place, nr),
+            BlockKind::Mappings => tree_rules::<BlockTime>(b, names, role, place, nr),
+            BlockKind::Details => tree_rules::<Details>(b, names, role, place, nr),
+            BlockKind::DataIndex => tree_rules::<IndexEntry>(b, names, role, place, nr),
             BlockKind::Bitmap => bitmap_rules(b, place),
-            BlockKind::Overflow => tree_rules::<Count>(b, role, place, nr, data_blocks),
+            BlockKind::Overflow => tree_rules::<Count>(b, names, role, place, nr),
             BlockKind::MetaIndex => index_rules(b, place, nr),
         }
     }

@@ -6,8 +6,8 @@ ghost use Rattle.pd_thin.specs.BlockKind.{layout_of};
 
 use crate::block_kind::BlockKind;
 use crate::format::ThinFormat;
-use crate::tree::{data_count, data_of_node, key_count, key_of};
 use pd_kinds::Block;
+use pd_refs::{data_count, data_of_node, key_count, key_of};
 use pd_value::{BlockTime, Count, Details, IndexEntry, Root};
 
 impl ThinFormat {
@@ -46,12 +46,13 @@ impl ThinFormat {
     pub(crate) fn data_refs_in(&self, kind: BlockKind, b: &Block) -> usize
         ensures { result ≡ length (layout_data (layout_of self.now.nr self.now.data_blocks kind) b.now.0) }
     {
+        let names = kind.names(self.data_blocks);
         match kind {
-            BlockKind::Devices => data_count::<Root>(b),
-            BlockKind::Mappings => data_count::<BlockTime>(b),
-            BlockKind::Details => data_count::<Details>(b),
-            BlockKind::DataIndex => data_count::<IndexEntry>(b),
-            BlockKind::Overflow => data_count::<Count>(b),
+            BlockKind::Devices => data_count::<Root>(b, names),
+            BlockKind::Mappings => data_count::<BlockTime>(b, names),
+            BlockKind::Details => data_count::<Details>(b, names),
+            BlockKind::DataIndex => data_count::<IndexEntry>(b, names),
+            BlockKind::Overflow => data_count::<Count>(b, names),
             // Only the leaves of trees name data blocks.
             BlockKind::Super | BlockKind::Held | BlockKind::Bitmap | BlockKind::MetaIndex => 0,
         }
@@ -62,12 +63,13 @@ impl ThinFormat {
         requires { i < length (layout_data (layout_of self.now.nr self.now.data_blocks kind) b.now.0) }
         ensures { slice_get (layout_data (layout_of self.now.nr self.now.data_blocks kind) b.now.0) i ≡ Some result }
     {
+        let names = kind.names(self.data_blocks);
         match kind {
-            BlockKind::Devices => data_of_node::<Root>(b, i),
-            BlockKind::Mappings => data_of_node::<BlockTime>(b, i),
-            BlockKind::Details => data_of_node::<Details>(b, i),
-            BlockKind::DataIndex => data_of_node::<IndexEntry>(b, i),
-            BlockKind::Overflow => data_of_node::<Count>(b, i),
+            BlockKind::Devices => data_of_node::<Root>(b, names, i),
+            BlockKind::Mappings => data_of_node::<BlockTime>(b, names, i),
+            BlockKind::Details => data_of_node::<Details>(b, names, i),
+            BlockKind::DataIndex => data_of_node::<IndexEntry>(b, names, i),
+            BlockKind::Overflow => data_of_node::<Count>(b, names, i),
             // Only the leaves of trees name data blocks.
             BlockKind::Super | BlockKind::Held | BlockKind::Bitmap | BlockKind::MetaIndex => 0,
         }

@@ -1,6 +1,6 @@
 use Rattle.pd_kinds.specs.Layout.{is_bad}
 use Rattle.pd_kinds.specs.RuleSet.{has_rule}
-use Rattle.pd_thin.proofs.Sound.{sound_test}
+use Rattle.pd_refs.proofs.Sound.{sound_test}
 use Rattle.pd_thin.proofs.format.ThinFormat.is_sound.Goals as goal
 
 pub returns : goal.returns

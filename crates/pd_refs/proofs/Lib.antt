@@ -1,0 +1,4 @@
+pub mod Listed
+pub mod NodeRules
+pub mod Rows
+pub mod Sound

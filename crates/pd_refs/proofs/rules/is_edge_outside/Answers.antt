@@ -1,0 +1,18 @@
+use Rattle.std.proofs.Common.{arith}
+use Rattle.std.proofs.lemmas.List.{take_all}
+use Rattle.pd_kinds.specs.ThinSuper.{Edge, is_outside, has_edge_outside}
+use Rattle.pd_kinds.specs.Layout.{tree_edges}
+use Rattle.pd_refs.specs.Names.{leaf_tree}
+use Rattle.pd_refs.proofs.Rows.{any_more}
+use Rattle.pd_refs.proofs.rules.is_edge_outside.Goals as goal
+
+pub loop-i-preserved : goal.loop-i-preserved
+loop-i-preserved g c =
+    any_more (λ (e : Edge). is_outside c.args.nr e.block) _ c.loop-i.i _ c.loop-i.outside c.is_beyond-outside.result
+    c.edge_of_node-block.ensures c.loop-i.invariant c.is_beyond-outside.ensures
+
+pub returns : goal.returns
+unfolding has_edge_outside
+returns g c =
+    let edges = tree_edges c.args.role (leaf_tree g.V.Value.SIZE c.args.names (λ n. g.V.Leaf.target (g.V.Value.decoded n))) c.args.b.now.0 in
+    rw (take_all c.loop-i.i edges (omega (arith, c.edge_count-count.ensures c.args.role, c.loop-i-test.false))) at c.loop-i.invariant
