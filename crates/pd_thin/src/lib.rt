@@ -6,16 +6,12 @@ mod check;
 mod edges;
 mod format;
 mod leaf;
-#[cfg(test)]
-mod pool;
 mod rules;
 mod sizes;
 #[cfg(test)]
 mod tests;
 mod tree;
 mod values;
-#[cfg(test)]
-mod walk_tests;
 
 pub use check::{CheckFault, check_thin};
 pub use format::ThinFormat;

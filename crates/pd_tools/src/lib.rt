@@ -3,9 +3,13 @@
 
 mod check;
 mod notes;
+#[cfg(test)]
+mod pool;
 mod run;
 mod super_check;
 #[cfg(test)]
 mod tests;
+#[cfg(test)]
+mod walk_tests;
 
 pub use run::run_tool;
