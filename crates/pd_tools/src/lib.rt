@@ -3,8 +3,12 @@
 
 mod check;
 mod notes;
+#[cfg(test)]
+mod pool;
 mod run;
 #[cfg(test)]
 mod tests;
+#[cfg(test)]
+mod walk_tests;
 
 pub use run::run_tool;

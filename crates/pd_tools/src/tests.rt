@@ -3,11 +3,10 @@ ghost use Rattle.pd_image.specs.Blocks.{block_bytes};
 ghost use Rattle.pd_image.specs.MemDevice.{mem_device_state, unattached_device};
 ghost use Rattle.pd_image.specs.MemSink.{mem_sink_state, unattached_sink};
 
+use crate::pool::{damaged, empty_super, resealed, zeros_behind};
 use crate::run_tool;
-use pd_crc::seal;
 use pd_image::{MemDevice, MemSink, MemSource};
-use pd_kinds::{Block, Kind, put_u64};
-use pd_supers::{SmRoot, ThinSuper, write_thin_super};
+use pd_kinds::{Block, Kind};
 use std::alloc::{AllocError, Global};
 use std::process::Abort;
 use std::test::Fail;
@@ -23,25 +22,25 @@ const SINK: &str = "pdata_tools: source or sink fault\n";
 
 /// The status of a call, and its objects after it.
 #[derive(Drop)]
-struct Ran {
-    status: u8,
-    source: MemSource,
-    out: MemSink,
-    notes: MemSink,
-    input: MemDevice,
-    output: MemDevice,
-    third: MemDevice,
+pub(crate) struct Ran {
+    pub(crate) status: u8,
+    pub(crate) source: MemSource,
+    pub(crate) out: MemSink,
+    pub(crate) notes: MemSink,
+    pub(crate) input: MemDevice,
+    pub(crate) output: MemDevice,
+    pub(crate) third: MemDevice,
 }
 
 /// The number of the call that fails, of each of these objects.
 #[derive(Clone, Copy)]
-struct Failing {
-    input: Option<u64>,
-    out: Option<u64>,
-    notes: Option<u64>,
+pub(crate) struct Failing {
+    pub(crate) input: Option<u64>,
+    pub(crate) out: Option<u64>,
+    pub(crate) notes: Option<u64>,
 }
 
-const NOTHING_FAILS: Failing = Failing {
+pub(crate) const NOTHING_FAILS: Failing = Failing {
     input: None,
     out: None,
     notes: None,
@@ -70,7 +69,12 @@ fn device(alloc: Global, image: &[Block], failing: Option<u64>) -> Result<MemDev
 }
 
 /// Runs the tool over an image in memory.
-fn run(alloc: Global, words: &[&str], image: &[Block], failing: Failing) -> Result<Ran, AllocError>
+pub(crate) fn run(
+    alloc: Global,
+    words: &[&str],
+    image: &[Block],
+    failing: Failing,
+) -> Result<Ran, AllocError>
     ensures { IfOk result (λ ran. (mem_device_state ran.input).held ≡ Some (block_bytes image.now)) }
 {
     let mut texts = Vec::new(alloc);
@@ -105,7 +109,7 @@ fn run(alloc: Global, words: &[&str], image: &[Block], failing: Failing) -> Resu
 }
 
 /// Whether the device holds these blocks, in the order of their numbers.
-fn holds(input: &MemDevice, image: &[Block]) -> bool
+pub(crate) fn holds(input: &MemDevice, image: &[Block]) -> bool
     requires { (mem_device_state input.now).held ≡ Some (block_bytes image.now) }
 {
     for i in 0..image.len() {
@@ -116,43 +120,9 @@ fn holds(input: &MemDevice, image: &[Block]) -> bool
     true
 }
 
-/// The superblock of an empty pool on eight metadata blocks.
-fn empty_pool() -> ThinSuper {
-    ThinSuper {
-        flags: 0,
-        uuid: [0; 16],
-        version: 2,
-        time: 0,
-        transaction: 0,
-        held_root: 0,
-        data_map: SmRoot {
-            blocks: 0,
-            allocated: 0,
-            bitmap_root: 3,
-            overflow_root: 4,
-        },
-        meta_map: SmRoot {
-            blocks: 8,
-            allocated: 8,
-            bitmap_root: 5,
-            overflow_root: 7,
-        },
-        mapping_root: 1,
-        details_root: 2,
-        block_size: 128,
-        meta_block_size: 8,
-        meta_blocks: 8,
-        compat: 0,
-        compat_ro: 0,
-        incompat: 0,
-    }
-}
-
-/// The eight blocks of an empty pool.
+/// An empty pool's superblock with zeros behind it.
 fn pool() -> [Block; 8] {
-    let mut image = [Block::zeros(); 8];
-    image[0] = write_thin_super(&empty_pool());
-    image
+    zeros_behind(&empty_super())
 }
 
 /// The pool with eight bytes of its superblock changed at two places, and sealed again.
@@ -161,18 +131,15 @@ fn changed(at: usize, value: u64, then_at: usize, then_value: u64) -> [Block; 8]
     requires second { then_at + 8 ≤ 4096 }
 {
     let mut image = pool();
-    let mut block = image[0];
-    put_u64(&mut block.0, at, value);
-    put_u64(&mut block.0, then_at, then_value);
-    seal(&mut block, Kind::Thin.salt());
-    image[0] = block;
+    let first = resealed(image[0], Kind::Thin.salt(), at, value);
+    image[0] = resealed(first, Kind::Thin.salt(), then_at, then_value);
     image
 }
 
 /// The pool with one bit of its superblock changed, and not sealed.
-fn damaged() -> [Block; 8] {
+fn unsealed() -> [Block; 8] {
     let mut image = pool();
-    image[0].0[100] ^= 1;
+    image[0] = damaged(image[0], 100);
     image
 }
 
@@ -208,7 +175,7 @@ fn expect_report(
 fn reports_what_the_superblock_breaks(rt: HostRuntime) -> Result<(), Fail> {
     let cases = [
         (pool(), "clean\n", 0),
-        (damaged(), "fault meta 0 checksum\nfaults 1\n", 1),
+        (unsealed(), "fault meta 0 checksum\nfaults 1\n", 1),
         (
             changed(320, 8, 328, 2),
             "fault meta 0 pointer\nfaults 1\n",

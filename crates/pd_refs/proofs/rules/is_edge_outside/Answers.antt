@@ -8,8 +8,8 @@ use Rattle.pd_refs.proofs.rules.is_edge_outside.Goals as goal
 
 pub loop-i-preserved : goal.loop-i-preserved
 loop-i-preserved g c =
-    any_more (λ (e : Edge). is_outside c.args.nr e.block) _ c.loop-i.i _ c.loop-i.outside c.is_beyond-outside.result
-    c.edge_of_node-block.ensures c.loop-i.invariant c.is_beyond-outside.ensures
+    any_more (λ (e : Edge). is_outside c.args.nr e.block) _ c.loop-i.i _ c.loop-i.outside c.is_outside-outside.result
+    c.edge_of_node-block.ensures c.loop-i.invariant c.is_outside-outside.ensures
 
 pub returns : goal.returns
 unfolding has_edge_outside
