@@ -7,8 +7,6 @@ mod edges;
 mod format;
 mod rules;
 mod sizes;
-#[cfg(test)]
-mod tests;
 mod values;
 
 pub use check::{CheckFault, check_thin};
