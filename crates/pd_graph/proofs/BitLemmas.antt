@@ -1,6 +1,6 @@
 -- Sets of roles: what one role more changes.
 use Rattle.std.proofs.Common.{◌≡◌, ◌≢◌, ℕ, zero, suc, ◌+◌, ◌*◌, ◌/◌, ◌%◌, ◌<◌, ◌≤◌, ◌^◌, Bool, true, false, ◌||◌, nat_eq, get_or, set, length, refl, sym, ◌∙◌, ap, arith, bit_or, eq-eqb, cond, nat_lt, filter, List, [], ◌∷◌, ◌++◌, add-one, length-append, inl, inr, get_or-set_same, get_or-set_other}
-use Rattle.std.proofs.Math.Bool.{or-false}
+use Rattle.std.proofs.Math.Bool.{or-false, or-true}
 use Rattle.std.specs.Int.{bit_at, w16}
 use Rattle.std.proofs.lemmas.Nat.Bits.{bit_at_set_same, bit_at_set_other, bit_at-zero}
 use Rattle.std.specs.List.{range_with_len}
@@ -8,10 +8,6 @@ use Rattle.std.proofs.lemmas.Bool.{cases_eq, cases_lt, both_ways}
 use Rattle.std.proofs.lemmas.List.{get_or_past}
 use Rattle.std.proofs.lemmas.List.Elements.{filter-append}
 use Rattle.pd_graph.specs.Roles.{has_bit, has_several, is_in, IsAllRead}
-
-or_true : (b : Bool) → true ≡ (b || true)
-or_true true = refl
-or_true false = refl
 
 -- numbers that differ fail the test
 pub differ : (a b : ℕ) → a ≢ b → nat_eq a b ≡ false
@@ -22,7 +18,7 @@ pub has_bit_more : (roles role other : ℕ) → role < 16
     → has_bit (bit_or roles (1 * 2 ^ role % 2 ^ 16)) other ≡ (has_bit roles other || nat_eq other role)
 has_bit_more roles role other within = elim (cases_eq other role) [
   | inl same ↦
-      rw (same, bit_at_set_same w16 roles role within, eq-eqb role role refl) (or_true (nat_eq (bit_at roles role) 1))
+      rw (same, bit_at_set_same w16 roles role within, eq-eqb role role refl) (sym (or-true (nat_eq (bit_at roles role) 1)))
   | inr ne ↦
       rw (bit_at_set_other w16 roles role within other ne, differ other role ne) (sym (or-false (nat_eq (bit_at roles other) 1)))
 ]
