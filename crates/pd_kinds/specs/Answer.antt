@@ -167,6 +167,11 @@ pub record AreKept (before after : Objects) : Type 0 where
   pub output : after.output.held ≡ before.output.held
   pub third : after.third.held ≡ before.third.held
 
+-- what a failing device, or want of memory, leaves of `out`: a check has its whole report before it prints
+abbrev pub PrintsNothing : Option Request → Objects → Objects → Type 0
+PrintsNothing None before after = Unit {0}
+PrintsNothing (Some (thin_check until path)) before after = after.out ≡ before.out
+
 -- the headline: what the status, the bytes and the objects are after a call that was asked this
 pub record IsAnswered (request : Option Request) (before after : Objects) (status : ℕ) : Type 0 where
   -- whatever failed on the way, a status from 0 to 4 is the answer's, and so are the bytes
@@ -177,6 +182,8 @@ pub record IsAnswered (request : Option Request) (before after : Objects) (statu
   pub memory_wanting : status ≡ 7 → MayWantMemory request before
   -- under every status the bytes of `out` are a front of the answer's
   pub front : IfSome (answer request before) (λ a. AppendsFront a.out before.out.written after.out.written)
+  -- where a device failed or memory was wanting, a check left `out` as it was
+  pub unprinted : (status ≡ 5) ⊎ (status ≡ 7) → PrintsNothing request before after
   -- a status from 5 to 7 has just its line on `notes`, if `notes` didn't fail
   pub own_line : 5 ≤ status → after.notes.faults ≡ before.notes.faults
       → Appends (failure_line status) before.notes.written after.notes.written

@@ -19,9 +19,8 @@ impl Block {
     }
 }
 
-/// Whether a pointer to this block leads outside the metadata of a device of `nr` blocks.
-///
-/// It must name one of the device's blocks, and not block 0, where the superblock is.
+/// Whether a pointer to this block leads outside metadata of `nr` blocks: past the last one, or to block 0,
+/// where the superblock stands.
 pub fn is_outside(nr: u64, block: u64) -> bool
     ensures { result ≡ is_outside nr block }
 {

@@ -4,8 +4,11 @@ ghost use Rattle.pd_kinds.specs.Super.{magic_of, salt_of};
 /// The three targets of device-mapper whose metadata the tools know.
 #[derive(Clone, Copy, Debug, PartialEq, Eq)]
 pub enum Kind {
+    /// A pool of thin volumes, "thin-pool" in the kernel.
     Thin,
+    /// A fast device that caches a slow one, "cache".
     Cache,
+    /// A device that records in which era each of its blocks was written, "era".
     Era,
 }
 

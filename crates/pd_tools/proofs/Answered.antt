@@ -1,5 +1,5 @@
 -- The headline, put together from what the parts of a call ensure.
-use Rattle.std.proofs.Common.{◌≡◌, ◌≢◌, inl, inr, ℕ, ◌≤◌, Bool, true, false, ◌==◌, IsTrue, List, [], ◌∷◌, length, Option, Some, None, IfSome, Result, Ok, Err, refl, ◌∙◌, arith, lit≤, if◌then◌else◌}
+use Rattle.std.proofs.Common.{◌≡◌, ◌≢◌, ◌⊎◌, inl, inr, ℕ, ◌≤◌, Bool, true, false, ◌==◌, IsTrue, List, [], ◌∷◌, length, Option, Some, None, IfSome, Result, Ok, Err, refl, ◌∙◌, arith, lit≤, if◌then◌else◌}
 use Rattle.std.specs.Option.{option_map}
 use Rattle.std.specs.List.{list_any}
 use Rattle.std.proofs.Math.Dec.{eqb-suc-zero}
@@ -12,7 +12,7 @@ use Rattle.pd_kinds.specs.declared.kind.Stage.TheVariants.{Super, Walk, Order, W
 use Rattle.pd_kinds.specs.Words.{Request, thin_check}
 use Rattle.pd_kinds.specs.Stages.{faults, CanWantMemory}
 use Rattle.pd_kinds.specs.Lines.{report_lines, usage_line, device_line, sink_line, memory_line}
-use Rattle.pd_kinds.specs.Answer.{Objects, objects, AreFresh, NoFaults, check_answer, answer, failure_line, MayWantMemory, Use, unused, reading, writing, IsUsed, AreUsed, AppendsFrontOfOne, IsAnswered, IsGiven, IsAccess, statuses_of}
+use Rattle.pd_kinds.specs.Answer.{Objects, objects, AreFresh, NoFaults, check_answer, answer, failure_line, MayWantMemory, PrintsNothing, Use, unused, reading, writing, IsUsed, AreUsed, AppendsFrontOfOne, IsAnswered, IsGiven, IsAccess, statuses_of}
 use Rattle.pd_kinds.proofs.AppendLemmas.{appends_none, front_none, front_from_whole}
 use Rattle.pd_tools.specs.declared.check.Stop.{Stop}
 use Rattle.pd_tools.specs.declared.check.Stop.TheVariants.{Unread, Unwritten}
@@ -81,6 +81,7 @@ answered_lost request source out out' notes notes' input input' output third fre
   sound = λ h. absurd (omega arith);
   complete = λ none. absurd (not_risen notes.faults notes'.faults fresh.notes.1 none.notes rose);
   front = front;
+  unprinted = λ either. elim either [ inl e ↦ absurd (omega arith) | inr e ↦ absurd (omega arith) ];
   own_line = λ _ same. absurd (not_risen notes.faults notes'.faults fresh.notes.1 same rose);
   notes_front = notes_front;
   possible = six_possible request;
@@ -128,6 +129,7 @@ answered_refused source out notes attached notes' input output third status fres
             complete = λ _. inl refl;
             memory_wanting = λ e. absurd (omega arith);
             front = front_none [] out.written;
+            unprinted = λ _. tt;
             own_line = λ h. absurd (omega arith);
             notes_front = inl front;
             possible = refl;
@@ -152,6 +154,7 @@ record HasCause (request : Option Request) (before after : Objects) (status : �
   possible : IsTrue (list_any (λ s. status == s) (statuses_of request))
   nothing_failed : NoFaults before after → status ≡ 7
   memory : status ≡ 7 → MayWantMemory request before
+  unprinted : (status ≡ 5) ⊎ (status ≡ 7) → PrintsNothing request before after
   device : status ≡ 5 → Rose before.input.faults after.input.faults
   sink : status ≡ 6 → Rose before.out.faults after.out.faults
 
@@ -190,6 +193,7 @@ answered_stopped request source out out' notes attached notes' input input' outp
             complete = λ none. if_some_all _ _ (λ a. inr (cause.nothing_failed none));
             memory_wanting = cause.memory;
             front = front;
+            unprinted = cause.unprinted;
             own_line = λ _ _. rw was.written at put.whole;
             notes_front = notes_front;
             possible = cause.possible;
@@ -272,6 +276,7 @@ answered_reported until path source out out' notes attached input input' output 
       memory_wanting = λ e. absurd (omega arith);
       front = front_of_answer until input.held out.written out'.written
           (if_some_weaker input.held _ _ (λ image report. front_from_whole _ _ _ report.lines) reported.report);
+      unprinted = λ either. elim either [ inl e ↦ absurd (omega (arith, low)) | inr e ↦ absurd (omega (arith, low)) ];
       own_line = λ h. absurd (omega arith);
       notes_front = if_some_all _ _ (λ a. inl (rw was.written (front_none a.notes notes.written)));
       possible = report_possible until path clean;
@@ -287,12 +292,13 @@ answered_reported until path source out out' notes attached input input' output 
 
 -- the causes of the statuses of a check
 device_cause : (until : Stage) (path : List ℕ) (before after : Objects) → AreFresh before → Rose before.input.faults after.input.faults
-    → HasCause (Some (thin_check until path)) before after 5
-device_cause until path before after fresh failed = record {
+    → after.out ≡ before.out → HasCause (Some (thin_check until path)) before after 5
+device_cause until path before after fresh failed unprinted = record {
   high = lit≤ tt;
   possible = refl;
   nothing_failed = λ none. absurd (not_risen before.input.faults after.input.faults fresh.input.1 none.input failed);
   memory = λ e. absurd (omega arith);
+  unprinted = λ _. unprinted;
   device = λ _. failed;
   sink = λ e. absurd (omega arith);
 }
@@ -304,6 +310,7 @@ sink_cause until path before after fresh failed = record {
   possible = refl;
   nothing_failed = λ none. absurd (not_risen before.out.faults after.out.faults fresh.out.1 none.out failed);
   memory = λ e. absurd (omega arith);
+  unprinted = λ either. elim either [ inl e ↦ absurd (omega arith) | inr e ↦ absurd (omega arith) ];
   device = λ e. absurd (omega arith);
   sink = λ _. failed;
 }
@@ -316,12 +323,13 @@ wanting_possible Whole path past = refl
 wanting_possible Counts path past = refl
 
 memory_cause : (until : Stage) (path : List ℕ) (before after : Objects) → CanWantMemory Thin until before.input.held
-    → HasCause (Some (thin_check until path)) before after 7
-memory_cause until path before after wanted = record {
+    → after.out ≡ before.out → HasCause (Some (thin_check until path)) before after 7
+memory_cause until path before after wanted unprinted = record {
   high = lit≤ tt;
   possible = wanting_possible until path wanted.past_super;
   nothing_failed = λ _. refl;
   memory = λ _. wanted;
+  unprinted = λ _. unprinted;
   device = λ e. absurd (omega arith);
   sink = λ e. absurd (omega arith);
 }
@@ -340,12 +348,12 @@ answered_unread until path source out notes attached notes' input input' output 
     let used = check_used until path source out out notes attached notes' input input' output third fresh (inl fresh.out.0)
     (λ ne. absurd (ne fresh.out.0)) (notes_used notes attached notes' was puts.access puts.path) (inr (inl unread.access)) told in
     answered_stopped (Some (thin_check until path)) source out out notes attached notes' input input' output third 7 status fresh was
-    (memory_cause until path _ _ unread.wanted) (if_some_all _ _ (λ a. front_none a.out out.written)) used held puts
+    (memory_cause until path _ _ unread.wanted refl) (if_some_all _ _ (λ a. front_none a.out out.written)) used held puts
 answered_unread until path source out notes attached notes' input input' output third Device status fresh was unread held told puts =
     let used = check_used until path source out out notes attached notes' input input' output third fresh (inl fresh.out.0)
     (λ ne. absurd (ne fresh.out.0)) (notes_used notes attached notes' was puts.access puts.path) unread.access told in
     answered_stopped (Some (thin_check until path)) source out out notes attached notes' input input' output third 5 status fresh was
-    (device_cause until path _ _ fresh unread.faults) (if_some_all _ _ (λ a. front_none a.out out.written)) used held puts
+    (device_cause until path _ _ fresh unread.faults refl) (if_some_all _ _ (λ a. front_none a.out out.written)) used held puts
 
 -- a check that began with `notes` attached
 pub answered_checked : (until : Stage) (path : List ℕ) (source : SourceState) (out out' notes attached notes' : SinkState) (input input' output third : DeviceState)

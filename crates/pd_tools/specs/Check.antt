@@ -26,20 +26,20 @@ pub record IsReported (kind : Kind) (until : Stage) (out out' : SinkState) (inpu
   pub input_faults : input'.faults ≡ input.faults
 
 -- the device failed
-pub record IsBroken (path : List ℕ) (input input' : DeviceState) : Type 0 where
+pub record DeviceFailed (path : List ℕ) (input input' : DeviceState) : Type 0 where
   pub access : IsAccess (reading path) input'.access
   pub faults : Rose input.faults input'.faults
 
 -- memory wasn't found
-pub record IsShort (kind : Kind) (until : Stage) (input input' : DeviceState) : Type 0 where
+pub record MemoryMissing (kind : Kind) (until : Stage) (input input' : DeviceState) : Type 0 where
   pub access : input'.access ≡ 1
   pub faults : input'.faults ≡ input.faults
   pub wanted : CanWantMemory kind until input.held
 
 -- why the device was not read to a report
 abbrev pub IsUnread : Kind → Stage → List ℕ → DeviceState → DeviceState → CheckFault → Type 0
-IsUnread kind until path input input' Memory = IsShort kind until input input'
-IsUnread kind until path input input' Device = IsBroken path input input'
+IsUnread kind until path input input' Memory = MemoryMissing kind until input input'
+IsUnread kind until path input input' Device = DeviceFailed path input input'
 
 -- the sink failed, with a front of the report on it
 pub record IsUnwritten (kind : Kind) (until : Stage) (out out' : SinkState) (input input' : DeviceState) : Type 0 where
