@@ -117,10 +117,3 @@ all_read seen read each = record {
     | inr past ↦ absurd (both_ways (is_in seen p) (past_end seen p past) met)
   ];
 }
-
--- the sides of a test of numbers
-pub eq_flip : (a b : ℕ) → nat_eq a b ≡ nat_eq b a
-eq_flip a b = elim (cases_eq a b) [
-  | inl e ↦ eq-eqb a b e ∙ sym (eq-eqb b a (sym e))
-  | inr ne ↦ differ a b ne ∙ sym (differ b a (λ e. ne (sym e)))
-]

@@ -1,6 +1,6 @@
 -- The edges of a block, one after another.
-use Rattle.std.proofs.Common.{◌≡◌, ℕ, zero, suc, ◌+◌, ◌<◌, Bool, true, false, ◌||◌, cond, nat_eq, get_or, take, map, List, [], ◌∷◌, ◌++◌, length, Some, refl, ap, sym, ◌∙◌, arith}
-use Rattle.std.proofs.Math.Bool.{or-false}
+use Rattle.std.proofs.Common.{◌≡◌, ℕ, zero, suc, ◌+◌, ◌<◌, Bool, ◌||◌, cond, nat_eq, get_or, take, map, List, [], ◌∷◌, ◌++◌, length, Some, ap, sym, ◌∙◌, arith}
+use Rattle.std.proofs.Math.Bool.{or_assoc}
 use Rattle.std.specs.List.{AllByRecursion, list_any, count_by, slice_get}
 use Rattle.std.proofs.lemmas.List.{take_more, map-append}
 use Rattle.std.proofs.lemmas.List.Folds.{list_any-append}
@@ -23,19 +23,6 @@ edge_within graph (x ∷ xs) (suc i) d all small = edge_within graph xs i d all.
 pub one_edge_more : (edges : List Edge) (i : ℕ) (e : Edge) → slice_get edges i ≡ Some e → take (i + 1) edges ≡ take i edges ++ (e ∷ [])
 one_edge_more edges i e found =
     take_more edges i e (slice_get_within edges i e found) ∙ ap (λ (x : Edge). take i edges ++ (x ∷ [])) (get_or_from_slice_get edges i e e found)
-
-or_assoc : (a b c : Bool) → ((a || b) || c) ≡ (a || (b || c))
-or_assoc true b c = refl
-or_assoc false b c = refl
-
--- no edge changes nothing
-pub follows_none : (old : Marks) → Follows [] old old
-follows_none old = record {
-  places = λ nr places. places;
-  seen = λ p. sym (or-false (is_in (seen_of old) p));
-  read = refl;
-  counts = λ b. omega arith;
-}
 
 -- edges after edges
 pub follows_both : (xs ys : List Edge) (a b c : Marks) → Follows xs a b → Follows ys b c → Follows (xs ++ ys) a c

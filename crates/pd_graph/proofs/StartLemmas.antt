@@ -12,7 +12,7 @@ use Rattle.pd_kinds.specs.Stages.{roles_of, walk_bad}
 use Rattle.pd_kinds.specs.Lawful.{IsLawful}
 use Rattle.pd_kinds.specs.Paths.{IsOnPath, start, edge}
 use Rattle.pd_graph.specs.declared.marks.Marks.{Marks}
-use Rattle.pd_graph.specs.Format.{edge_of}
+use Rattle.pd_kinds.specs.ThinSuper.{edge_of}
 use Rattle.pd_graph.specs.Roles.{is_in, has_bit, has_several}
 use Rattle.pd_graph.specs.Marks.{HasPlaces, IsUnmarked, has_rule_in, seen_of, read_of, counts_of, rules_of, Follows}
 use Rattle.pd_graph.specs.Walk.{IsSafe, IsTold, IsDone, read_number, edges_to}

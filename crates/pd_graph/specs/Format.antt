@@ -1,12 +1,7 @@
 -- What the calls of a format speak of.
 use Rattle.std.specs.Prelude.{◌≡◌, ℕ, false, List}
 use Rattle.pd_kinds.specs.declared.rule.Rule.{Rule}
-use Rattle.pd_kinds.specs.ThinSuper.{Edge}
 use Rattle.pd_kinds.specs.Graph.{Graph}
-
--- an edge by its role and its block
-abbrev pub edge_of : ℕ → ℕ → Edge
-edge_of role block = record { role = role; block = block }
 
 -- a block without a bad rule in this role
 abbrev pub IsSound : Graph → ℕ → ℕ → List ℕ → Type 0

@@ -5,7 +5,8 @@ ghost use Rattle.pd_kinds.specs.Rule.{same_rule};
 ghost use Rattle.pd_kinds.specs.RuleSet.{has_rule};
 ghost use Rattle.pd_kinds.specs.Graph.{Graph};
 ghost use Rattle.pd_graph.specs.Roles.{IsUnreadAt, IsAllRead};
-ghost use Rattle.pd_graph.specs.Format.{edge_of, IsSound};
+ghost use Rattle.pd_kinds.specs.ThinSuper.{edge_of};
+ghost use Rattle.pd_graph.specs.Format.{IsSound};
 
 use crate::format::Format;
 use crate::roles::{add_role, any_unread, unread_at};

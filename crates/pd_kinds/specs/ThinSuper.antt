@@ -72,9 +72,12 @@ pub record Edge : Type 0 where
   pub role : ℕ
   pub block : ℕ
 
+abbrev pub edge_of : ℕ → ℕ → Edge
+edge_of role block = record { role = role; block = block }
+
 -- an edge that 0 leaves out
 abbrev pub optional_edge : ℕ → ℕ → List Edge
-optional_edge role block = if block == 0 then [] else record { role = role; block = block } ∷ []
+optional_edge role block = if block == 0 then [] else edge_of role block ∷ []
 
 -- the blocks that a thin superblock names, with their roles: 1 held superblock, 2 mapping tree,
 -- 4 details tree, 5 data index tree, 7 data overflow tree, 8 metadata index block, 10 metadata

@@ -15,16 +15,6 @@ gathers_more total pending line start now so_far = record {
       (given.0, (given.1.0, sym (append_assoc given.0 pending line) ∙ ap (λ (xs : List ℕ). xs ++ line) given.1.1));
 }
 
--- all that is pending is put
-pub put_whole : (total pending : List ℕ) (start now new : Option (List ℕ))
-    → Gathers total pending start now → Appends pending now new → Appends total start new
-put_whole total pending start now new so_far all = record {
-  told = λ before e.
-      let given = so_far.told before e in
-      all.told (before ++ given.0) given.1.0
-      ∙ ap (λ (xs : List ℕ). Some xs) (append_assoc before given.0 pending ∙ ap (λ (xs : List ℕ). before ++ xs) given.1.1);
-}
-
 -- a front of what is pending is put
 pub put_front : (total pending : List ℕ) (start now new : Option (List ℕ))
     → Gathers total pending start now → AppendsFront pending now new → AppendsFront total start new

@@ -8,17 +8,13 @@ use Rattle.std.proofs.lemmas.Option.{slice_get-get_or, slice_get_within, get_or_
 use Rattle.std.proofs.lemmas.List.Folds.{list_any-append}
 use Rattle.std.proofs.Math.Bool.{or-false}
 use Rattle.std.proofs.lemmas.Simd.{map-map}
-use Rattle.pd_kinds.specs.ThinSuper.{Edge}
+use Rattle.pd_kinds.specs.ThinSuper.{Edge, edge_of}
 use Rattle.pd_kinds.specs.Bitmap.{bitmaps_for, index_block_at, index_blocks}
 use Rattle.pd_kinds.specs.Node.{Entry, child_at, entry_count, is_inner_node, key_at, value_at}
 use Rattle.pd_kinds.specs.Layout.{tree, layout_data, node_entries_of, leaf_entries, tree_edges}
 use Rattle.pd_refs.specs.declared.names.Names.{Names}
 use Rattle.pd_refs.specs.declared.names.Names.TheVariants.{Nothing, Metadata, MetadataByEra, Data}
 use Rattle.pd_refs.specs.Names.{edges_named, data_named, leaf_tree, if_metadata, if_data, role_named}
-
--- an edge by its role and its block
-abbrev edge_of : ℕ → ℕ → Edge
-edge_of role block = record { role = role; block = block }
 
 -- how many metadata blocks a node names, and the one that entry i names
 abbrev pub edge_number : ℕ → Names → List ℕ → ℕ
@@ -81,10 +77,6 @@ pub entry_found : (size : ℕ) (block : List ℕ) (i : ℕ) → i < entry_count 
     → slice_get (node_entries_of size block) i ≡ Some (record { key = key_at block i; value = value_at size block i })
 unfolding node_entries_of
 entry_found size block i within = slice_get-row (entry_at size block) (entry_count size block) i within
-
-pub entries_length : (size : ℕ) (block : List ℕ) → length (node_entries_of size block) ≡ entry_count size block
-unfolding node_entries_of
-entries_length size block = length-map-range_with_len (entry_at size block) 0 (entry_count size block)
 
 -- the blocks that a leaf names
 leaf_edges_row : (size : ℕ) (names : Names) (target : ℕ → ℕ) (block : List ℕ)

@@ -1,14 +1,14 @@
 -- What the entries of a tree's leaves name, and the range in which they lie.
 use Rattle.std.specs.Prelude.{ℕ, ◌^◌, Bool, false, not, nat_lt, List, [], ◌∷◌}
-use Rattle.pd_kinds.specs.ThinSuper.{Edge}
+use Rattle.pd_kinds.specs.ThinSuper.{Edge, edge_of}
 use Rattle.pd_kinds.specs.Layout.{Tree}
 use Rattle.pd_refs.specs.declared.names.Names.{Names}
 use Rattle.pd_refs.specs.declared.names.Names.TheVariants.{Metadata, MetadataByEra, Data}
 
 -- the metadata block that an entry names, whose value names this number
 abbrev pub edges_named : Names → ℕ → List Edge
-edges_named (Metadata role) number = record { role = role; block = number } ∷ []
-edges_named (MetadataByEra role) number = record { role = role; block = number } ∷ []
+edges_named (Metadata role) number = edge_of role number ∷ []
+edges_named (MetadataByEra role) number = edge_of role number ∷ []
 edges_named _ number = []
 
 -- the data block that it names

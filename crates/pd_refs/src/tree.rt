@@ -5,6 +5,7 @@
 ghost use Rattle.std.specs.Prelude.{◌≡◌, ℕ, ◌<◌, Some, length, slice_get};
 ghost use Rattle.pd_kinds.specs.Node.{node_keys};
 ghost use Rattle.pd_kinds.specs.Layout.{layout_data, tree, tree_edges};
+ghost use Rattle.pd_kinds.specs.ThinSuper.{edge_of};
 ghost use Rattle.pd_refs.specs.Names.{leaf_tree};
 
 use crate::leaf::Leaf;
@@ -46,8 +47,7 @@ pub fn edge_count<V: Leaf>(b: &Block, names: Names) -> usize
 /// An inner node in a role names nodes in the same role.
 pub fn edge_of_node<V: Leaf>(b: &Block, names: Names, role: u8, i: usize) -> (u8, u64)
     requires { i < length (tree_edges role (leaf_tree V.SIZE names (λ n. V.target (V.decoded n))) b.now.0) }
-    ensures { slice_get (tree_edges role (leaf_tree V.SIZE names (λ n. V.target (V.decoded n))) b.now.0) i
-        ≡ Some (record { role = result.0; block = result.1 }) }
+    ensures { slice_get (tree_edges role (leaf_tree V.SIZE names (λ n. V.target (V.decoded n))) b.now.0) i ≡ Some (edge_of result.0 result.1) }
 {
     if is_inner(b) {
         (role, child::<V>(b, i))

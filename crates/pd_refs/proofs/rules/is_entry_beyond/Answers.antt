@@ -1,8 +1,9 @@
 use Rattle.std.proofs.Common.{arith, rules, refl, sym, ◌∙◌}
 use Rattle.std.proofs.lemmas.List.{take_all}
 use Rattle.pd_kinds.specs.Layout.{leaf_entries, node_entries_of}
+use Rattle.pd_laws.proofs.TreeLemmas.{length-entries}
 use Rattle.pd_refs.specs.Names.{leaf_tree}
-use Rattle.pd_refs.proofs.Rows.{any_more, entry_found, entries_length}
+use Rattle.pd_refs.proofs.Rows.{any_more, entry_found}
 use Rattle.pd_refs.proofs.rules.is_entry_beyond.Goals as goal
 
 pub returns-then-is_inner : goal.returns-then-is_inner
@@ -19,5 +20,5 @@ pub returns : goal.returns
 unfolding leaf_entries
 returns g c =
     let entries = node_entries_of g.V.Value.SIZE c.args.b.now.0 in
-    let all = take_all c.loop-i.i entries (omega (arith, entries_length g.V.Value.SIZE c.args.b.now.0, c.entries-count.ensures, c.loop-i-test.false)) in
+    let all = take_all c.loop-i.i entries (omega (arith, length-entries g.V.Value.SIZE c.args.b.now.0, c.entries-count.ensures, c.loop-i-test.false)) in
     rw (sym c.is_inner.ensures ∙ c.if-is_inner.false) (rw all at c.loop-i.invariant)
