@@ -9,7 +9,7 @@ use Rattle.pd_kinds.specs.Field.{le, put}
 use Rattle.pd_kinds.specs.Checksum.{checksum, has_checksum, sealed}
 use Rattle.pd_kinds.specs.Rule.{same_rule}
 use Rattle.pd_kinds.specs.RuleSet.{alone, failing}
-use Rattle.pd_kinds.specs.ThinSuper.{is_outside}
+use Rattle.pd_kinds.specs.Edge.{is_outside}
 use Rattle.pd_kinds.specs.Bitmap.{bitmap_bad, bitmaps_for, index_bad, index_blocks, index_tests, map_place, placed_block, two_bits_of}
 use Rattle.pd_kinds.proofs.FieldLemmas.{get_or-put_other, le-put, le-put_other}
 use Rattle.pd_kinds.proofs.WrittenLemmas.{le-sealed_other}

@@ -9,7 +9,7 @@ ghost use Rattle.pd_kinds.specs.Field.{le, put};
 ghost use Rattle.pd_kinds.specs.Node.{puts};
 ghost use Rattle.pd_kinds.specs.Rule.{same_rule};
 ghost use Rattle.pd_kinds.specs.RuleSet.{failing, has_rule};
-ghost use Rattle.pd_kinds.specs.ThinSuper.{is_outside};
+ghost use Rattle.pd_kinds.specs.Edge.{is_outside};
 ghost use Rattle.pd_bitmap.specs.Index.{DoFieldsFit};
 
 use crate::HEADER_SIZE;

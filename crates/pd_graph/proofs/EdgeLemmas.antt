@@ -6,7 +6,7 @@ use Rattle.std.proofs.lemmas.List.{take_more, map-append}
 use Rattle.std.proofs.lemmas.List.Folds.{list_any-append}
 use Rattle.std.proofs.lemmas.List.Sums.{sum_by-append}
 use Rattle.std.proofs.lemmas.Option.{get_or_from_slice_get, slice_get_within}
-use Rattle.pd_kinds.specs.ThinSuper.{Edge}
+use Rattle.pd_kinds.specs.Edge.{Edge}
 use Rattle.pd_kinds.specs.Graph.{Graph, pair}
 use Rattle.pd_kinds.specs.Lawful.{IsWithin}
 use Rattle.pd_graph.specs.Roles.{is_in}

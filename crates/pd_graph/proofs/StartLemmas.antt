@@ -6,13 +6,12 @@ use Rattle.std.proofs.lemmas.List.Sums.{sum_by-cons}
 use Rattle.pd_kinds.specs.declared.rule.Rule.{Rule}
 use Rattle.pd_kinds.specs.declared.rule.Rule.TheVariants as r
 use Rattle.pd_kinds.specs.Rule.{same_rule}
-use Rattle.pd_kinds.specs.ThinSuper.{Edge}
+use Rattle.pd_kinds.specs.Edge.{Edge, edge_of}
 use Rattle.pd_kinds.specs.Graph.{Graph, block_at, pair, edges_of, next, is_reached, nodes, references, meta_count}
 use Rattle.pd_kinds.specs.Stages.{roles_of, walk_bad}
 use Rattle.pd_kinds.specs.Lawful.{IsLawful}
 use Rattle.pd_kinds.specs.Paths.{IsOnPath, start, edge}
 use Rattle.pd_graph.specs.declared.marks.Marks.{Marks}
-use Rattle.pd_kinds.specs.ThinSuper.{edge_of}
 use Rattle.pd_graph.specs.Roles.{is_in, has_bit, has_several}
 use Rattle.pd_graph.specs.Marks.{HasPlaces, IsUnmarked, has_rule_in, seen_of, read_of, counts_of, rules_of, Follows}
 use Rattle.pd_graph.specs.Walk.{IsSafe, IsTold, IsDone, read_number, edges_to}

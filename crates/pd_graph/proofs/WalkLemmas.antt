@@ -7,7 +7,7 @@ use Rattle.std.proofs.lemmas.Bool.{or_cases, or_left, or_right, eqb-true, cases_
 use Rattle.std.proofs.lemmas.List.Sums.{count_by-le-length}
 use Rattle.std.proofs.lemmas.List.{length-map}
 use Rattle.pd_kinds.specs.declared.rule.Rule.{Rule}
-use Rattle.pd_kinds.specs.ThinSuper.{Edge}
+use Rattle.pd_kinds.specs.Edge.{Edge}
 use Rattle.pd_kinds.specs.Graph.{Graph, block_at, pair, edges_of, next, is_reached, nodes}
 use Rattle.pd_kinds.specs.Objects.{DeviceState}
 use Rattle.pd_image.specs.Device.{KeepsObject}
@@ -302,4 +302,5 @@ keeps_both first second = record {
   access = second.access ∙ first.access;
   path = second.path ∙ first.path;
   blocks = second.blocks ∙ first.blocks;
+  history = second.history ∙ first.history;
 }

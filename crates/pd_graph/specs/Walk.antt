@@ -2,7 +2,7 @@
 use Rattle.std.specs.Prelude.{◌≡◌, ℕ, ◌+◌, ◌*◌, ◌%◌, ◌<◌, ◌≤◌, true, ◌==◌, ◌&&◌, if◌then◌else◌, List, map, slice_index}
 use Rattle.std.specs.List.{list_any, count_by, range_with_len}
 use Rattle.pd_kinds.specs.declared.rule.Rule.{Rule}
-use Rattle.pd_kinds.specs.ThinSuper.{Edge}
+use Rattle.pd_kinds.specs.Edge.{Edge}
 use Rattle.pd_kinds.specs.Graph.{Graph, block_at, pair, edges_of, next, is_reached, meta_count}
 use Rattle.pd_kinds.specs.Stages.{walk_bad}
 use Rattle.pd_kinds.specs.Paths.{IsOnPath}

@@ -5,7 +5,7 @@ ghost use Rattle.pd_kinds.specs.Rule.{same_rule};
 ghost use Rattle.pd_kinds.specs.RuleSet.{has_rule};
 ghost use Rattle.pd_kinds.specs.Graph.{Graph};
 ghost use Rattle.pd_graph.specs.Roles.{IsUnreadAt, IsAllRead};
-ghost use Rattle.pd_kinds.specs.ThinSuper.{edge_of};
+ghost use Rattle.pd_kinds.specs.Edge.{edge_of};
 ghost use Rattle.pd_graph.specs.Format.{IsSound};
 
 use crate::format::Format;

@@ -9,7 +9,7 @@ use Rattle.pd_kinds.specs.declared.rule.Rule.TheVariants as r
 use Rattle.pd_kinds.specs.Field.{le, put, zeros}
 use Rattle.pd_kinds.specs.Checksum.{has_checksum, sealed}
 use Rattle.pd_kinds.specs.RuleSet.{Test, failing, alone}
-use Rattle.pd_kinds.specs.ThinSuper.{is_outside}
+use Rattle.pd_kinds.specs.Edge.{is_outside}
 use Rattle.pd_kinds.specs.Node.{puts}
 
 -- the salts of the two checksums

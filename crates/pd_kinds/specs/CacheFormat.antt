@@ -10,7 +10,9 @@ use Rattle.pd_kinds.specs.Field.{le}
 use Rattle.pd_kinds.specs.Checksum.{has_checksum}
 use Rattle.pd_kinds.specs.RuleSet.{Test, failing, alone}
 use Rattle.pd_kinds.specs.Super.{magic_of, salt_of}
-use Rattle.pd_kinds.specs.ThinSuper.{MapFields, map_fields, Edge, optional_edge, has_edge_outside}
+use Rattle.pd_kinds.specs.SpaceMap.{MapFields, map_fields}
+use Rattle.pd_kinds.specs.Edge.{Edge, optional_edge, has_edge_outside}
+use Rattle.pd_kinds.specs.Limits.{is_meta_size_bad}
 use Rattle.pd_kinds.specs.Graph.{Graph}
 use Rattle.pd_kinds.specs.Layout.{Layout, copy, bitmap, index, array, plain_tree, tree_to, layouts, graph_of}
 
@@ -74,11 +76,6 @@ cache_super_edges fields =
     ++ (record { role = 7; block = fields.meta_map.bitmap_root }
     ∷ record { role = 9; block = fields.meta_map.overflow_root }
     ∷ [])))
-
--- whether a number of metadata blocks is out of range: none, more than the device has, or more than 255
--- bitmaps cover
-abbrev pub is_meta_size_bad : ℕ → ℕ → Bool
-is_meta_size_bad device_blocks nr = (nr == 0) || (nat_lt device_blocks nr || nat_lt 4161600 nr)
 
 -- whether a cache's sizes are out of range: those of the metadata, or a hint size that is neither 0 nor 4
 unfoldable pub are_cache_sizes_bad : ℕ → CacheFields → Bool

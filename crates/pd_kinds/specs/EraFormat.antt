@@ -10,8 +10,9 @@ use Rattle.pd_kinds.specs.Field.{le}
 use Rattle.pd_kinds.specs.Checksum.{has_checksum}
 use Rattle.pd_kinds.specs.RuleSet.{Test, failing, alone}
 use Rattle.pd_kinds.specs.Super.{magic_of, salt_of}
-use Rattle.pd_kinds.specs.ThinSuper.{MapFields, map_fields, Edge, optional_edge, has_edge_outside}
-use Rattle.pd_kinds.specs.CacheFormat.{is_meta_size_bad}
+use Rattle.pd_kinds.specs.SpaceMap.{MapFields, map_fields}
+use Rattle.pd_kinds.specs.Edge.{Edge, optional_edge, has_edge_outside}
+use Rattle.pd_kinds.specs.Limits.{is_meta_size_bad}
 use Rattle.pd_kinds.specs.Graph.{Graph}
 use Rattle.pd_kinds.specs.Layout.{Layout, copy, tree, bitmap, index, array, plain_tree, tree_to, layouts, graph_of}
 

@@ -4,7 +4,7 @@ use Rattle.std.specs.Prelude.{ℕ, zero, suc, ◌+◌, ◌*◌, ◌/◌, ◌%◌
 use Rattle.std.specs.List.{list_any, range_with_len, flat_map, slice_get}
 use Rattle.std.specs.Option.{unwrap_or}
 use Rattle.pd_kinds.specs.declared.rule.Rule.{Rule}
-use Rattle.pd_kinds.specs.ThinSuper.{Edge}
+use Rattle.pd_kinds.specs.Edge.{Edge}
 
 -- a format as it is walked: each function takes a role, the place of a block, and its bytes
 pub record Graph : Type 0 where

@@ -2,7 +2,7 @@
 use Rattle.std.specs.Prelude.{◌≡◌, ℕ, ◌<◌, ◌≤◌, true, false, List, [], length}
 use Rattle.std.specs.List.{AllByRecursion}
 use Rattle.pd_kinds.specs.declared.rule.Rule.{Rule}
-use Rattle.pd_kinds.specs.ThinSuper.{Edge}
+use Rattle.pd_kinds.specs.Edge.{Edge}
 use Rattle.pd_kinds.specs.Node.{is_ascending}
 use Rattle.pd_kinds.specs.Graph.{Graph}
 

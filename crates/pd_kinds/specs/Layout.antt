@@ -6,7 +6,7 @@ use Rattle.pd_kinds.specs.declared.rule.Rule.TheVariants as r
 use Rattle.pd_kinds.specs.Rule.{all_rules}
 use Rattle.pd_kinds.specs.RuleSet.{Test, failing, alone}
 use Rattle.pd_kinds.specs.Checksum.{has_checksum}
-use Rattle.pd_kinds.specs.ThinSuper.{Edge, has_edge_outside}
+use Rattle.pd_kinds.specs.Edge.{Edge, has_edge_outside}
 use Rattle.pd_kinds.specs.Node.{Entry, node_salt, node_tests, entry_count, key_at, value_at, child_at, is_inner_node, node_keys}
 use Rattle.pd_kinds.specs.Array.{array_bad}
 use Rattle.pd_kinds.specs.Bitmap.{bitmap_bad, index_bad, index_blocks}

@@ -10,7 +10,8 @@ use Rattle.pd_kinds.specs.Field.{le}
 use Rattle.pd_kinds.specs.Checksum.{has_checksum}
 use Rattle.pd_kinds.specs.RuleSet.{failing, alone}
 use Rattle.pd_kinds.specs.Super.{magic_of, salt_of}
-use Rattle.pd_kinds.specs.ThinSuper.{Edge, thin_fields, thin_super_bad, thin_super_edges, has_edge_outside}
+use Rattle.pd_kinds.specs.Edge.{Edge, has_edge_outside}
+use Rattle.pd_kinds.specs.ThinSuper.{thin_fields, thin_super_bad, thin_super_edges}
 use Rattle.pd_kinds.specs.Graph.{Graph}
 use Rattle.pd_kinds.specs.Layout.{Layout, copy, tree, bitmap, index, plain_tree, tree_to, layouts, graph_of}
 

@@ -1,8 +1,10 @@
 -- The thin superblock: its fields, its local rules, and the block that is written for given fields.
 -- Offsets and sizes are those of struct thin_disk_superblock of "drivers/md/dm-thin-metadata.c" and of
 -- struct disk_sm_root of "drivers/md/persistent-data/dm-space-map-common.h".
-use Rattle.std.specs.Prelude.{ℕ, ◌+◌, ◌^◌, Bool, ◌==◌, ◌&&◌, ◌||◌, not, nat_lt, if◌then◌else◌, List, [], ◌∷◌, ◌++◌, take, drop}
-use Rattle.std.specs.List.{list_any}
+use Rattle.std.specs.Prelude.{ℕ, ◌^◌, Bool, ◌==◌, ◌&&◌, ◌||◌, not, nat_lt, List, [], ◌∷◌, ◌++◌, take, drop}
+use Rattle.pd_kinds.specs.Edge.{Edge, optional_edge, has_edge_outside}
+use Rattle.pd_kinds.specs.SpaceMap.{MapFields, map_fields, map_rows}
+use Rattle.pd_kinds.specs.Limits.{is_meta_size_bad}
 use Rattle.pd_kinds.specs.declared.kind.Kind.TheVariants.{Thin}
 use Rattle.pd_kinds.specs.declared.rule.Rule.{Rule}
 use Rattle.pd_kinds.specs.declared.rule.Rule.TheVariants as r
@@ -10,13 +12,6 @@ use Rattle.pd_kinds.specs.Field.{Row, le, put_bytes, written, zeros}
 use Rattle.pd_kinds.specs.Checksum.{has_checksum, sealed}
 use Rattle.pd_kinds.specs.Super.{magic_of, salt_of}
 use Rattle.pd_kinds.specs.RuleSet.{Test, failing, alone}
-
--- a space map's root
-pub record MapFields : Type 0 where
-  pub blocks : ℕ
-  pub allocated : ℕ
-  pub bitmap_root : ℕ
-  pub overflow_root : ℕ
 
 -- the fields of a thin superblock, but for the checksum, the place and the magic
 pub record ThinFields : Type 0 where
@@ -36,15 +31,6 @@ pub record ThinFields : Type 0 where
   pub compat : ℕ
   pub compat_ro : ℕ
   pub incompat : ℕ
-
--- the space map root at offset o: four numbers of eight bytes
-abbrev pub map_fields : List ℕ → ℕ → MapFields
-map_fields block o = record {
-  blocks = le block o 8;
-  allocated = le block (o + 8) 8;
-  bitmap_root = le block (o + 16) 8;
-  overflow_root = le block (o + 24) 8;
-}
 
 -- the fields that stand in a block
 abbrev pub thin_fields : List ℕ → ThinFields
@@ -67,18 +53,6 @@ thin_fields block = record {
   incompat = le block 360 4;
 }
 
--- an edge: the role in which a block is named, and the block
-pub record Edge : Type 0 where
-  pub role : ℕ
-  pub block : ℕ
-
-abbrev pub edge_of : ℕ → ℕ → Edge
-edge_of role block = record { role = role; block = block }
-
--- an edge that 0 leaves out
-abbrev pub optional_edge : ℕ → ℕ → List Edge
-optional_edge role block = if block == 0 then [] else edge_of role block ∷ []
-
 -- the blocks that a thin superblock names, with their roles: 1 held superblock, 2 mapping tree,
 -- 4 details tree, 5 data index tree, 7 data overflow tree, 8 metadata index block, 10 metadata
 -- overflow tree
@@ -92,14 +66,6 @@ thin_super_edges fields =
     ∷ record { role = 8; block = fields.meta_map.bitmap_root }
     ∷ record { role = 10; block = fields.meta_map.overflow_root }
     ∷ [])
-
--- whether a block lies outside the metadata: it isn't from 1 to nr - 1
-abbrev pub is_outside : ℕ → ℕ → Bool
-is_outside nr block = (block == 0) || not (nat_lt block nr)
-
--- whether an edge names a block outside the metadata
-unfoldable pub has_edge_outside : ℕ → List Edge → Bool
-has_edge_outside nr edges = list_any (λ (edge : Edge). is_outside nr edge.block) edges
 
 -- whether a thin pool's sizes are out of range: no metadata blocks, more than the device has or than
 -- 255 bitmaps of 16320 counts cover, or more than 2 ^ 40 data blocks
@@ -129,15 +95,6 @@ thin_super_bad device_blocks block =
     alone r.Checksum (not (has_checksum block (salt_of Thin)))
     (alone r.Magic (not (le block 32 8 == magic_of Thin))
     (failing (thin_super_tests device_blocks block)))
-
--- the rows of a space map root at offset o
-abbrev pub map_rows : ℕ → MapFields → List Row
-map_rows o map =
-    record { offset = o; size = 8; value = map.blocks }
-    ∷ record { offset = o + 8; size = 8; value = map.allocated }
-    ∷ record { offset = o + 16; size = 8; value = map.bitmap_root }
-    ∷ record { offset = o + 24; size = 8; value = map.overflow_root }
-    ∷ []
 
 -- the table of a thin superblock, but for the checksum, the place 0 and the uuid
 abbrev pub thin_rows : ThinFields → List Row

@@ -1,6 +1,6 @@
 ghost use Rattle.std.specs.Prelude.{◌≡◌};
 ghost use Rattle.pd_kinds.specs.Field.{zeros};
-ghost use Rattle.pd_kinds.specs.ThinSuper.{is_outside};
+ghost use Rattle.pd_kinds.specs.Edge.{is_outside};
 
 /// The size of a block in bytes, as in "drivers/md/persistent-data", whose block size is 4 KiB here.
 pub const BLOCK_SIZE: usize = 4096;

@@ -5,7 +5,7 @@ use Rattle.std.proofs.lemmas.Bool.{both_ways, cond-true, and_parts, and_cases, c
 use Rattle.std.proofs.lemmas.List.{length-map}
 use Rattle.std.proofs.lemmas.List.FromFn.{length-map-range_with_len}
 use Rattle.pd_kinds.specs.declared.rule.Rule.{Rule}
-use Rattle.pd_kinds.specs.ThinSuper.{Edge, is_outside, optional_edge}
+use Rattle.pd_kinds.specs.Edge.{Edge, is_outside, optional_edge}
 use Rattle.pd_kinds.specs.Node.{is_inner_node, is_ascending}
 use Rattle.pd_kinds.specs.Bitmap.{index_block_at, index_blocks, index_tests, index_bad, bitmaps_for}
 use Rattle.pd_kinds.specs.Layout.{Layout, copy, tree, bitmap, index, array, layout_bad, is_bad, layout_edges, layout_keys, layout_data, is_tree_layout, graph_of}

@@ -7,8 +7,8 @@ use Rattle.pd_kinds.specs.declared.rule.Rule.{Rule}
 use Rattle.pd_kinds.specs.declared.rule.Rule.TheVariants as r
 use Rattle.pd_kinds.specs.Rule.{number_of, same_rule, all_rules}
 use Rattle.pd_kinds.specs.RuleSet.{Test, failing, alone}
-use Rattle.pd_kinds.specs.ThinSuper.{Edge, is_outside, has_edge_outside}
-use Rattle.pd_kinds.specs.CacheFormat.{is_meta_size_bad}
+use Rattle.pd_kinds.specs.Edge.{Edge, is_outside, has_edge_outside}
+use Rattle.pd_kinds.specs.Limits.{is_meta_size_bad}
 use Rattle.pd_kinds.proofs.RuleBits.{number_below}
 use Rattle.pd_laws.proofs.AllLemmas.{all_from, none_passes}
 

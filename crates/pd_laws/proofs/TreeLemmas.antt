@@ -4,7 +4,7 @@ use Rattle.std.specs.List.{AllByRecursion, range_with_len, flat_map}
 use Rattle.std.proofs.Math.Nat.{mul-le-mul_left, mul-le-mul_right}
 use Rattle.std.proofs.lemmas.Bool.{both_ways, cond_both, and_cases, or_parts, not-false, eqb-true, eqb-false, ltb-false}
 use Rattle.std.proofs.lemmas.List.FromFn.{length-map-range_with_len}
-use Rattle.pd_kinds.specs.ThinSuper.{Edge}
+use Rattle.pd_kinds.specs.Edge.{Edge}
 use Rattle.pd_kinds.specs.Node.{Entry, node_tests, entry_count, node_keys, node_entries, node_max, node_value_size, child_at, key_at, value_at, is_inner_node, are_flags_bad, is_shape_bad, is_ascending}
 use Rattle.pd_kinds.specs.Layout.{Tree, tree, node_entries_of, leaf_entries, tree_edges, tree_tests, tree_bad, plain_tree}
 use Rattle.pd_laws.proofs.AllLemmas.{all_from, all_map, all_flat_map, all_of, none_passes, length-flat_map}

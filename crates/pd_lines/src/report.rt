@@ -1,7 +1,7 @@
 ghost use Rattle.std.specs.Prelude.{◌≡◌, ◌==◌, false, ℕ, ◌+◌, ◌≤◌, ◌++◌, ◌∷◌, [], List, Option, OnOk, MatchResult, length, codes, decimal};
 ghost use Rattle.std.specs.List.{flat_map};
 ghost use Rattle.pd_kinds.specs.Objects.{CountsFault, Appends, AppendsFront};
-ghost use Rattle.pd_kinds.specs.Lines.{fault_line, space_name, counts_text, lines_of};
+ghost use Rattle.pd_answers.specs.Lines.{fault_line, space_name, counts_text, lines_of};
 ghost use Rattle.pd_lines.specs.Pieces.{Gathers};
 
 use crate::line::LineBuffer;

@@ -8,7 +8,7 @@ use Rattle.std.proofs.lemmas.Option.{slice_get-get_or, slice_get_within, get_or_
 use Rattle.std.proofs.lemmas.List.Folds.{list_any-append}
 use Rattle.std.proofs.Math.Bool.{or-false}
 use Rattle.std.proofs.lemmas.Simd.{map-map}
-use Rattle.pd_kinds.specs.ThinSuper.{Edge, edge_of}
+use Rattle.pd_kinds.specs.Edge.{Edge, edge_of}
 use Rattle.pd_kinds.specs.Bitmap.{bitmaps_for, index_block_at, index_blocks}
 use Rattle.pd_kinds.specs.Node.{Entry, child_at, entry_count, is_inner_node, key_at, value_at}
 use Rattle.pd_kinds.specs.Layout.{tree, layout_data, node_entries_of, leaf_entries, tree_edges}

@@ -1,6 +1,6 @@
 -- What the entries of a tree's leaves name, and the range in which they lie.
 use Rattle.std.specs.Prelude.{ℕ, ◌^◌, Bool, false, not, nat_lt, List, [], ◌∷◌}
-use Rattle.pd_kinds.specs.ThinSuper.{Edge, edge_of}
+use Rattle.pd_kinds.specs.Edge.{Edge, edge_of}
 use Rattle.pd_kinds.specs.Layout.{Tree}
 use Rattle.pd_refs.specs.declared.names.Names.{Names}
 use Rattle.pd_refs.specs.declared.names.Names.TheVariants.{Metadata, MetadataByEra, Data}

@@ -5,7 +5,7 @@ ghost use Rattle.std.specs.List.{list_any};
 ghost use Rattle.pd_kinds.specs.declared.rule.Rule.{Rule as BrokenRule};
 ghost use Rattle.pd_kinds.specs.Layout.{leaf_entries, tree_bad, tree_edges};
 ghost use Rattle.pd_kinds.specs.RuleSet.{has_rule};
-ghost use Rattle.pd_kinds.specs.ThinSuper.{has_edge_outside};
+ghost use Rattle.pd_kinds.specs.Edge.{has_edge_outside};
 ghost use Rattle.pd_refs.specs.Names.{leaf_tree};
 
 use crate::leaf::Leaf;

@@ -5,7 +5,7 @@
 ghost use Rattle.std.specs.Prelude.{◌≡◌, ℕ, ◌<◌, Some, length, slice_get};
 ghost use Rattle.pd_kinds.specs.Node.{node_keys};
 ghost use Rattle.pd_kinds.specs.Layout.{layout_data, tree, tree_edges};
-ghost use Rattle.pd_kinds.specs.ThinSuper.{edge_of};
+ghost use Rattle.pd_kinds.specs.Edge.{edge_of};
 ghost use Rattle.pd_refs.specs.Names.{leaf_tree};
 
 use crate::leaf::Leaf;

@@ -1,7 +1,8 @@
 -- The fields of the structs, as the definitions speak of them.
 use Rattle.std.specs.Prelude.{◌<◌, ◌^◌, List, take, drop}
 use Rattle.pd_kinds.specs.Field.{Row}
-use Rattle.pd_kinds.specs.ThinSuper.{MapFields, ThinFields, thin_rows}
+use Rattle.pd_kinds.specs.SpaceMap.{MapFields}
+use Rattle.pd_kinds.specs.ThinSuper.{ThinFields, thin_rows}
 use Rattle.pd_supers.specs.declared.map_root.SmRoot.{SmRoot}
 use Rattle.pd_supers.specs.declared.thin.ThinSuper.{ThinSuper}
 

@@ -1,6 +1,6 @@
 ghost use Rattle.std.specs.Prelude.{◌≡◌, ◌+◌, ◌≤◌};
 ghost use Rattle.pd_kinds.specs.Field.{written};
-ghost use Rattle.pd_kinds.specs.ThinSuper.{map_fields, map_rows};
+ghost use Rattle.pd_kinds.specs.SpaceMap.{map_fields, map_rows};
 ghost use Rattle.pd_supers.specs.ThinSuper.{DoMapFieldsFit, map_of};
 
 use pd_kinds::{Block, put_u64, u64_at};

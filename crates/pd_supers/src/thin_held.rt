@@ -4,7 +4,7 @@ ghost use Rattle.std.specs.Prelude.{◌≡◌};
 ghost use Rattle.pd_kinds.specs.declared.rule.Rule.{Rule as BrokenRule};
 ghost use Rattle.pd_kinds.specs.RuleSet.{has_rule};
 ghost use Rattle.pd_kinds.specs.ThinFormat.{held_edges, thin_held_bad};
-ghost use Rattle.pd_kinds.specs.ThinSuper.{has_edge_outside};
+ghost use Rattle.pd_kinds.specs.Edge.{has_edge_outside};
 
 use crate::thin::read_thin_super;
 use pd_crc::is_sealed;
@@ -32,7 +32,7 @@ pub fn thin_held_rules(block: &Block, place: u64, nr: u64) -> Rules
 }
 
 /// Whether one of the two roots of a held copy isn't from 1 to `nr - 1`.
-#[tactic(auto, unfolding(pd_kinds::specs::ThinSuper::has_edge_outside))]
+#[tactic(auto, unfolding(pd_kinds::specs::Edge::has_edge_outside))]
 fn is_root_outside(block: &Block, nr: u64) -> bool
     ensures { result ≡ has_edge_outside nr (held_edges block.now.0) }
 {

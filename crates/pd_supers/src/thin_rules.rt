@@ -3,7 +3,8 @@
 ghost use Rattle.std.specs.Prelude.{◌≡◌};
 ghost use Rattle.pd_kinds.specs.declared.rule.Rule.{Rule as BrokenRule};
 ghost use Rattle.pd_kinds.specs.RuleSet.{has_rule, failing};
-ghost use Rattle.pd_kinds.specs.ThinSuper.{are_thin_sizes_bad, has_edge_outside, thin_super_bad, thin_super_edges, thin_super_tests};
+ghost use Rattle.pd_kinds.specs.ThinSuper.{are_thin_sizes_bad, thin_super_bad, thin_super_edges, thin_super_tests};
+ghost use Rattle.pd_kinds.specs.Edge.{has_edge_outside};
 ghost use Rattle.pd_supers.specs.ThinSuper.{fields_of};
 
 use crate::thin::{ThinSuper, read_thin_super};
@@ -61,7 +62,7 @@ fn are_sizes_bad(fields: &ThinSuper, device_blocks: u64) -> bool
 }
 
 /// Whether one of the blocks that the superblock names isn't from 1 to the last metadata block.
-#[tactic(auto, unfolding(pd_kinds::specs::ThinSuper::has_edge_outside))]
+#[tactic(auto, unfolding(pd_kinds::specs::Edge::has_edge_outside))]
 fn is_edge_outside(fields: &ThinSuper) -> bool
     ensures { result ≡ has_edge_outside fields.now.meta_map.blocks (thin_super_edges (fields_of fields.now)) }
 {

@@ -11,7 +11,7 @@ use Rattle.pd_kinds.specs.declared.rule.Rule.TheVariants as r
 use Rattle.pd_kinds.specs.declared.rules.Rules.{Rules}
 use Rattle.pd_kinds.specs.declared.fault.Fault.{Fault}
 use Rattle.pd_kinds.specs.declared.report.Report.{Report}
-use Rattle.pd_kinds.specs.Words.{IsBuilt}
+use Rattle.pd_kinds.specs.Stages.{IsBuilt, faults, first_failing, block_faults, walk_bad, thin_checked}
 use Rattle.pd_kinds.specs.Rule.{same_rule}
 use Rattle.pd_kinds.specs.RuleSet.{has_rule}
 use Rattle.pd_kinds.specs.Report.{Reported, report_of}
@@ -20,7 +20,6 @@ use Rattle.pd_kinds.specs.Graph.{Graph, block_at, nodes}
 use Rattle.pd_kinds.specs.Layout.{graph_of}
 use Rattle.pd_kinds.specs.ThinSuper.{thin_fields, thin_super_bad}
 use Rattle.pd_kinds.specs.ThinFormat.{thin_graph}
-use Rattle.pd_kinds.specs.Stages.{faults, first_failing, block_faults, walk_bad, thin_checked}
 use Rattle.pd_laws.proofs.CleanLemmas.{no_rule_broken, no_faults_at}
 use Rattle.pd_laws.proofs.SuperStage.{chosen, same_stage, first_stage, faults_at-same, only_size}
 use Rattle.pd_graph.specs.declared.audit.Audit.{Audit}

@@ -4,12 +4,11 @@ ghost use Rattle.std.specs.Prelude.{◌≡◌, ◌+◌, ◌≤◌, length, IfOk,
 ghost use Rattle.std.specs.List.{flat_map, range_with_len};
 ghost use Rattle.pd_kinds.specs.declared.kind.Kind.TheVariants.{Thin};
 ghost use Rattle.pd_kinds.specs.Objects.{CountsFault};
-ghost use Rattle.pd_kinds.specs.Words.{IsBuilt};
+ghost use Rattle.pd_kinds.specs.Stages.{IsBuilt, faults, block_faults, walk_bad};
 ghost use Rattle.pd_kinds.specs.Report.{report_of};
 ghost use Rattle.pd_kinds.specs.RuleSet.{has_rule};
 ghost use Rattle.pd_kinds.specs.Faults.{faults_at};
 ghost use Rattle.pd_kinds.specs.Graph.{nodes};
-ghost use Rattle.pd_kinds.specs.Stages.{faults, block_faults, walk_bad};
 ghost use Rattle.pd_image.specs.Device.{IsAttached, KeepsObject};
 ghost use Rattle.pd_graph.specs.Audit.{blocks_of, has_rule_at};
 ghost use Rattle.pd_thin.specs.Check.{IsFoundIn, FitsDevice, IsBlockFound, CountsCheckFault, MayWantMemory, StopsEarly, ReadsFew};

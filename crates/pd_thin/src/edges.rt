@@ -4,7 +4,8 @@ ghost use Rattle.std.specs.Prelude.{◌≡◌, ◌<◌, ◌≤◌, Some, length,
 ghost use Rattle.pd_kinds.specs.Bitmap.{bitmaps_for, index_block_at};
 ghost use Rattle.pd_kinds.specs.ThinFormat.{held_edges};
 ghost use Rattle.pd_kinds.specs.Layout.{layout_edges};
-ghost use Rattle.pd_kinds.specs.ThinSuper.{edge_of, thin_fields, thin_super_edges};
+ghost use Rattle.pd_kinds.specs.Edge.{edge_of};
+ghost use Rattle.pd_kinds.specs.ThinSuper.{thin_fields, thin_super_edges};
 ghost use Rattle.pd_supers.specs.ThinSuper.{fields_of};
 ghost use Rattle.pd_thin.specs.BlockKind.{layout_of};
 ghost use Rattle.pd_thin.specs.SuperEdges.{thin_root_edges};

@@ -9,10 +9,11 @@ use Rattle.pd_kinds.specs.Objects.{DeviceState, SourceState, SinkState, Rose, Ap
 use Rattle.pd_kinds.specs.declared.kind.Kind.TheVariants.{Thin}
 use Rattle.pd_kinds.specs.declared.kind.Stage.{Stage}
 use Rattle.pd_kinds.specs.declared.kind.Stage.TheVariants.{Super, Walk, Order, Whole, Counts}
-use Rattle.pd_kinds.specs.Words.{Request, thin_check}
+use Rattle.pd_answers.specs.Words.{Request, thin_check}
 use Rattle.pd_kinds.specs.Stages.{faults, CanWantMemory}
-use Rattle.pd_kinds.specs.Lines.{report_lines, usage_line, device_line, sink_line, memory_line}
-use Rattle.pd_kinds.specs.Answer.{Objects, objects, AreFresh, NoFaults, check_answer, answer, failure_line, MayWantMemory, PrintsNothing, Use, unused, reading, writing, IsUsed, AreUsed, AppendsFrontOfOne, IsAnswered, IsGiven, IsAccess, statuses_of}
+use Rattle.pd_answers.specs.Lines.{report_lines, usage_line, device_line, sink_line, memory_line}
+use Rattle.pd_kinds.specs.Crash.{IsUntouched}
+use Rattle.pd_answers.specs.Answer.{AreKept, LeavesDevices, Objects, objects, AreFresh, NoFaults, check_answer, answer, failure_line, MayWantMemory, PrintsNothing, Use, unused, reading, writing, IsUsed, AreUsed, AppendsFrontOfOne, IsAnswered, IsGiven, IsAccess, statuses_of}
 use Rattle.pd_kinds.proofs.AppendLemmas.{appends_none, front_none, front_from_whole}
 use Rattle.pd_tools.specs.declared.check.Stop.{Stop}
 use Rattle.pd_tools.specs.declared.check.Stop.TheVariants.{Unread, Unwritten}
@@ -67,6 +68,15 @@ six_possible (Some (thin_check Order path)) = refl
 six_possible (Some (thin_check Whole path)) = refl
 six_possible (Some (thin_check Counts path)) = refl
 
+-- a device on which nothing was called
+untouched : (device : DeviceState) → IsUntouched device device
+untouched device = record { held = refl; history = refl }
+
+-- no request that is built writes a device
+untouched_devices : (request : Option Request) (before after : Objects) (status : ℕ) → AreKept before after → LeavesDevices request before after status
+untouched_devices None before after status kept = kept
+untouched_devices (Some (thin_check until path)) before after status kept = kept
+
 -- `notes` failed
 pub answered_lost : (request : Option Request) (source : SourceState) (out out' notes notes' : SinkState) (input input' output third : DeviceState)
     → AreFresh (objects source out notes input output third)
@@ -75,7 +85,7 @@ pub answered_lost : (request : Option Request) (source : SourceState) (out out' 
     AppendsFrontOfOne (a.notes ∷ device_line ∷ sink_line ∷ memory_line ∷ []) notes.written notes'.written)
     → Rose notes.faults notes'.faults
     → AreUsed request (objects source out' notes' input' output third)
-    → input'.held ≡ input.held
+    → IsUntouched input input'
     → IsAnswered request (objects source out notes input output third) (objects source out' notes' input' output third) 6
 answered_lost request source out out' notes notes' input input' output third fresh front notes_front rose used held = record {
   sound = λ h. absurd (omega arith);
@@ -93,7 +103,7 @@ answered_lost request source out out' notes notes' input input' output third fre
   open_devices = λ h. absurd (omega arith);
   open_notes = λ ne. absurd (ne refl);
   open_out = λ e. absurd (omega arith);
-  kept = record { input = held; output = refl; third = refl };
+  devices = untouched_devices request _ _ _ (record { input = held; output = untouched output; third = untouched third });
 }
 
 -- how `notes` is used once it was attached
@@ -140,12 +150,12 @@ answered_refused source out notes attached notes' input output third status fres
             open_devices = λ _. record { source = tt; input = tt; output = tt; third = tt };
             open_notes = λ _. puts.access ∙ was.access;
             open_out = λ e. absurd (omega arith);
-            kept = record { input = refl; output = refl; third = refl };
+            devices = record { input = untouched input; output = untouched output; third = untouched third };
           })
       | inr lost ↦
           let rose : Rose notes.faults notes'.faults = rw was.faults at lost.faults in
           rw lost.status
-          (answered_lost None source out out notes notes' input input output third fresh (front_none [] out.written) (inl front) rose used refl)
+          (answered_lost None source out out notes notes' input input output third fresh (front_none [] out.written) (inl front) rose used (untouched input))
     ]
 
 -- why a call ends with a status from 5 to 7
@@ -177,7 +187,7 @@ answered_stopped : (request : Option Request) (source : SourceState) (out out' n
     → HasCause request (objects source out notes input output third) (objects source out' notes' input' output third) wanted
     → IfSome (answer request (objects source out notes input output third)) (λ a. AppendsFront a.out out.written out'.written)
     → AreUsed request (objects source out' notes' input' output third)
-    → input'.held ≡ input.held
+    → IsUntouched input input'
     → PutsLine (failure_line wanted) wanted status attached notes'
     → IsAnswered request (objects source out notes input output third) (objects source out' notes' input' output third) status
 answered_stopped request source out out' notes attached notes' input input' output third wanted status fresh was cause front used held puts =
@@ -204,7 +214,7 @@ answered_stopped request source out out' notes attached notes' input input' outp
             open_devices = λ low. absurd (omega (arith, cause.high));
             open_notes = λ _. puts.access ∙ was.access;
             open_out = λ zero. absurd (omega (arith, cause.high));
-            kept = record { input = held; output = refl; third = refl };
+            devices = untouched_devices request _ _ _ (record { input = held; output = untouched output; third = untouched third });
           })
       | inr lost ↦
           rw lost.status
@@ -253,7 +263,7 @@ answered_reported : (until : Stage) (path : List ℕ) (source : SourceState) (ou
     → AreFresh (objects source out notes input output third)
     → IsAttachedNotes notes attached
     → IsReported Thin until out out' input input' clean
-    → input'.held ≡ input.held
+    → IsUntouched input input'
     → AreUsed (Some (thin_check until path)) (objects source out' attached input' output third)
     → IsAnswered (Some (thin_check until path)) (objects source out notes input output third) (objects source out' attached input' output third)
     (if clean then 0 else 1)
@@ -287,7 +297,7 @@ answered_reported until path source out out' notes attached input input' output 
       open_devices = λ _. record { source = tt; input = reported.input_access; output = tt; third = tt };
       open_notes = λ _. was.access;
       open_out = λ _. reported.out_access;
-      kept = record { input = held; output = refl; third = refl };
+      devices = record { input = held; output = untouched output; third = untouched third };
     }
 
 -- the causes of the statuses of a check
@@ -340,7 +350,7 @@ answered_unread : (until : Stage) (path : List ℕ) (source : SourceState) (out 
     → AreFresh (objects source out notes input output third)
     → IsAttachedNotes notes attached
     → IsUnread Thin until path input input' fault
-    → input'.held ≡ input.held
+    → IsUntouched input input'
     → IfSome input'.path (λ told. told ≡ path)
     → PutsLine (stop_line (Unread fault)) (stop_status (Unread fault)) status attached notes'
     → IsAnswered (Some (thin_check until path)) (objects source out notes input output third) (objects source out notes' input' output third) status
@@ -369,13 +379,13 @@ answered_checked until path source out out' notes attached notes' input input' o
     let used = check_used until path source out out' notes attached notes' input input' output third fresh (inr (inl reported.out_access)) checks.out_path
     (rw ends.kept (notes_used notes attached attached was refl refl)) (inr (inl reported.input_access)) checks.input_path in
     rw (ends.kept, ends.given)
-    (answered_reported until path source out out' notes attached input input' output third clean fresh was reported checks.held (rw ends.kept at used))
+    (answered_reported until path source out out' notes attached input input' output third clean fresh was reported checks.untouched (rw ends.kept at used))
 answered_checked until path source out out' notes attached notes' input input' output third (Err (Unread fault)) status fresh was checks ends =
     rw checks.outcome.0
-    (answered_unread until path source out notes attached notes' input input' output third fault status fresh was checks.outcome.1 checks.held checks.input_path ends)
+    (answered_unread until path source out notes attached notes' input input' output third fault status fresh was checks.outcome.1 checks.untouched checks.input_path ends)
 answered_checked until path source out out' notes attached notes' input input' output third (Err Unwritten) status fresh was checks ends =
     let stop = checks.outcome in
     let used = check_used until path source out out' notes attached notes' input input' output third fresh stop.out_access checks.out_path
     (notes_used notes attached notes' was ends.access ends.path) (inr (inl stop.input_access)) checks.input_path in
     answered_stopped (Some (thin_check until path)) source out out' notes attached notes' input input' output third 6 status fresh was
-    (sink_cause until path _ _ fresh stop.out_faults) (front_of_answer until input.held out.written out'.written stop.front) used checks.held ends
+    (sink_cause until path _ _ fresh stop.out_faults) (front_of_answer until input.held out.written out'.written stop.front) used checks.untouched ends

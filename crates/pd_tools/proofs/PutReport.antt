@@ -4,7 +4,7 @@ use Rattle.pd_kinds.specs.declared.kind.Kind.{Kind}
 use Rattle.pd_kinds.specs.declared.kind.Stage.{Stage}
 use Rattle.pd_kinds.specs.Report.{Reported, report_of}
 use Rattle.pd_kinds.specs.Stages.{faults}
-use Rattle.pd_kinds.specs.Lines.{lines_of, report_lines}
+use Rattle.pd_answers.specs.Lines.{lines_of, report_lines}
 use Rattle.pd_kinds.specs.Objects.{SinkState, Appends, AppendsFront}
 use Rattle.pd_tools.specs.Check.{Reports}
 

@@ -3,9 +3,10 @@ use Rattle.std.specs.Prelude.{◌≡◌, ◌≢◌, ℕ, Bool, ◌==◌, if◌th
 use Rattle.pd_kinds.specs.declared.kind.Kind.{Kind}
 use Rattle.pd_kinds.specs.declared.kind.Stage.{Stage}
 use Rattle.pd_kinds.specs.Objects.{DeviceState, SinkState, Rose, Appends, AppendsFront}
+use Rattle.pd_kinds.specs.Crash.{IsUntouched}
 use Rattle.pd_kinds.specs.Stages.{faults, CanWantMemory}
-use Rattle.pd_kinds.specs.Lines.{report_lines, device_line, sink_line, memory_line}
-use Rattle.pd_kinds.specs.Answer.{IsAccess, reading}
+use Rattle.pd_answers.specs.Lines.{report_lines, device_line, sink_line, memory_line}
+use Rattle.pd_answers.specs.Answer.{IsAccess, reading}
 use Rattle.pd_thin.specs.declared.check.CheckFault.{CheckFault}
 use Rattle.pd_thin.specs.declared.check.CheckFault.TheVariants.{Memory, Device}
 use Rattle.pd_tools.specs.declared.check.Stop.{Stop}
@@ -57,7 +58,7 @@ IsStopped kind until path out out' input input' Unwritten = IsUnwritten kind unt
 -- the check of the image at the path up to a stage, with its report
 pub record Checks (kind : Kind) (until : Stage) (path : List ℕ) (result : Result Bool Stop) (out out' : SinkState) (input input' : DeviceState) : Type 0 where
   pub outcome : MatchResult result (IsReported kind until out out' input input') (IsStopped kind until path out out' input input')
-  pub held : input'.held ≡ input.held
+  pub untouched : IsUntouched input input'
   pub input_path : IfSome input'.path (λ told. told ≡ path)
   pub out_path : out'.access ≢ 0 → IfSome out'.path (λ told. told ≡ [])
 

@@ -3,11 +3,11 @@
 ghost use Rattle.std.specs.Prelude.{◌≡◌, ◌≢◌, [], OnOk, IfOk, IfErr, IfSome};
 ghost use Rattle.pd_kinds.specs.declared.kind.Kind.TheVariants.{Thin};
 ghost use Rattle.pd_kinds.specs.Objects.{CountsFault, Appends, AppendsFront};
-ghost use Rattle.pd_kinds.specs.Words.{IsBuilt};
+ghost use Rattle.pd_kinds.specs.Stages.{IsBuilt, faults};
 ghost use Rattle.pd_kinds.specs.Report.{report_of};
-ghost use Rattle.pd_kinds.specs.Stages.{faults};
-ghost use Rattle.pd_kinds.specs.Lines.{lines_of};
-ghost use Rattle.pd_kinds.specs.Answer.{IsAccess, reading};
+ghost use Rattle.pd_answers.specs.Lines.{lines_of};
+ghost use Rattle.pd_kinds.specs.Crash.{IsUntouched};
+ghost use Rattle.pd_answers.specs.Answer.{IsAccess, reading};
 ghost use Rattle.pd_tools.specs.Check.{Checks, Ends, IsUnread, stop_line, stop_status};
 ghost use Rattle.pd_tools.specs.Notes.{PutsLine};
 
@@ -63,7 +63,7 @@ fn read_report<A: Device>(
     ensures report { IfOk result (λ report. IfSome (A.state input.old).held (λ image. report ≡ report_of (faults Thin until image))) }
     ensures access { OnOk result ((A.state input.new).access ≡ 1) }
     ensures path { IfSome (A.state input.new).path (λ told. told ≡ image.now) }
-    ensures held { (A.state input.new).held ≡ (A.state input.old).held }
+    ensures untouched { IsUntouched (A.state input.old) (A.state input.new) }
     ensures kept { OnOk result ((A.state input.new).faults ≡ (A.state input.old).faults) }
     ensures stopped { IfErr result (IsUnread Thin until image.now (A.state input.old) (A.state input.new)) }
 {

@@ -2,8 +2,9 @@
 
 ghost use Rattle.std.specs.Prelude.{◌≡◌, map, string_bytes};
 ghost use Rattle.pd_kinds.specs.Objects.{DeviceState, SourceState, SinkState};
-ghost use Rattle.pd_kinds.specs.Words.{asked, IsBuilt};
-ghost use Rattle.pd_kinds.specs.Answer.{objects, AreFresh, IsAnswered};
+ghost use Rattle.pd_answers.specs.Words.{asked};
+ghost use Rattle.pd_kinds.specs.Stages.{IsBuilt};
+ghost use Rattle.pd_answers.specs.Answer.{objects, AreFresh, IsAnswered};
 ghost use Rattle.pd_tools.specs.Notes.{IsAttachedNotes};
 ghost use Rattle.pd_words.specs.Words.{request_of};
 

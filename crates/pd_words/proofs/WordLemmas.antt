@@ -7,7 +7,7 @@ use Rattle.std.proofs.lemmas.Bool.{cases_Bool, true≢false}
 use Rattle.std.proofs.lemmas.List.{take_all}
 use Rattle.std.proofs.lemmas.Slice.Eq.{bytes_eq-Decides}
 use Rattle.pd_kinds.specs.declared.kind.Stage.{Stage}
-use Rattle.pd_kinds.specs.Words.{thin_check, Item, option_item, operand_item, is_value, items_of, has_value, value_of, operand_of, sole, until_word, stage_of, thin_check_request, asked}
+use Rattle.pd_answers.specs.Words.{thin_check, Item, option_item, operand_item, is_value, items_of, has_value, value_of, operand_of, sole, until_word, stage_of, thin_check_request, asked}
 
 -- a word that is another one can be a value where that one can
 value_from_eq : (word other : List ℕ) (b : Bool) → is_value other ≡ b → bytes_eq word other ≡ true → is_value word ≡ b

@@ -1,7 +1,7 @@
 -- What a request that was read means.
 use Rattle.std.specs.Prelude.{Option, Some, None}
 use Rattle.pd_words.specs.declared.words.Request.{Request}
-use Rattle.pd_kinds.specs.Words as words
+use Rattle.pd_answers.specs.Words as words
 
 -- the request as the definitions speak of it
 abbrev pub request_of : Request → words.Request

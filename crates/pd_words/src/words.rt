@@ -1,7 +1,8 @@
 ghost use Rattle.std.specs.Prelude.{◌≡◌, ◌∷◌, [], map, string_bytes, None, IfSome, if◌then◌else◌};
 ghost use Rattle.std.specs.Option.{option_and_then, option_map};
-ghost use Rattle.pd_kinds.specs.Words.{asked, is_value, items_of, stage_of, thin_check_request, until_word, IsBuilt};
-ghost use Rattle.pd_kinds.specs.Words as request;
+ghost use Rattle.pd_answers.specs.Words.{asked, is_value, items_of, stage_of, thin_check_request, until_word};
+ghost use Rattle.pd_kinds.specs.Stages.{IsBuilt};
+ghost use Rattle.pd_answers.specs.Words as request;
 ghost use Rattle.pd_words.specs.Words.{spelled};
 
 use pd_kinds::Stage;
@@ -32,7 +33,7 @@ pub fn read_words(words: &[String]) -> Option<Request<'_>>
 }
 
 /// The request of the words after the name of a tool.
-#[tactic(auto, unfolding(pd_kinds::specs::Words::asked))]
+#[tactic(auto, unfolding(pd_answers::specs::Words::asked))]
 fn read_tool<'a>(tool: &str, words: &'a [String]) -> Option<Request<'a>>
     ensures asked { spelled result ≡ asked (tool.now ∷ map string_bytes words.now) }
     ensures built { IfSome result (λ request. IsBuilt request.until) }
@@ -85,7 +86,7 @@ fn check_until<'a>(stage: &str, image: &'a str) -> Option<Request<'a>>
 }
 
 /// The stage that a word names, if it is one that is built.
-#[tactic(auto, unfolding(pd_kinds::specs::Words::stage_of))]
+#[tactic(auto, unfolding(pd_answers::specs::Words::stage_of))]
 fn stage_named(word: &str) -> Option<Stage>
     ensures named { result ≡ stage_of word.now }
     ensures built { IfSome result IsBuilt }

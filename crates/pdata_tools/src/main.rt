@@ -4,8 +4,8 @@
 ghost use Rattle.std.specs.Prelude.{◌≡◌, ◌≢◌, ◌==◌, IsTrue, map, string_bytes};
 ghost use Rattle.std.specs.List.{list_any};
 ghost use Rattle.std.specs.declared.io.ErrorKind.TheVariants.{OutOfMemory};
-ghost use Rattle.pd_kinds.specs.Words.{asked};
-ghost use Rattle.pd_kinds.specs.Answer.{statuses_of};
+ghost use Rattle.pd_answers.specs.Words.{asked};
+ghost use Rattle.pd_answers.specs.Answer.{statuses_of};
 
 use pd_image::{FileDevice, StdSink, StdSource};
 use pd_tools::run_tool;

@@ -1,6 +1,6 @@
 use Rattle.std.proofs.Common.{refl, ℕ}
 use Rattle.pd_kinds.specs.Bitmap.{index_block_at}
-use Rattle.pd_kinds.specs.ThinSuper.{is_outside}
+use Rattle.pd_kinds.specs.Edge.{is_outside}
 use Rattle.pd_bitmap.proofs.IndexRow.{any_more}
 use Rattle.pd_bitmap.proofs.index.is_bitmap_outside.Goals as goal
 

@@ -1,7 +1,8 @@
 use Rattle.std.proofs.Common.{ℕ, ◌<◌, ◌≤◌, false, List, [], ◌∷◌, ◌++◌, arith}
 use Rattle.std.proofs.lemmas.Bool.{or_parts}
-use Rattle.pd_kinds.specs.ThinSuper.{Edge, optional_edge}
-use Rattle.pd_kinds.specs.CacheFormat.{CacheFields, cache_fields, cache_super_edges, cache_super_tests, cache_super_bad, is_meta_size_bad, are_cache_sizes_bad, cache_layout, cache_graph}
+use Rattle.pd_kinds.specs.Edge.{Edge, optional_edge}
+use Rattle.pd_kinds.specs.CacheFormat.{CacheFields, cache_fields, cache_super_edges, cache_super_tests, cache_super_bad, are_cache_sizes_bad, cache_layout, cache_graph}
+use Rattle.pd_kinds.specs.Limits.{is_meta_size_bad}
 use Rattle.pd_kinds.specs.Layout.{copy}
 use Rattle.pd_laws.proofs.SoundLemmas.{IsSound, IsSoundSuper, tests_after_two, super_holds}
 use Rattle.pd_laws.proofs.LayoutLemmas.{IsLater, IsKeptBy, table_lawful, at_each, bitmap_kept, array_kept, index_kept, copy_kept, all_optional, length-optional}

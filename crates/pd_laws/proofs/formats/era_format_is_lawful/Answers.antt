@@ -1,5 +1,5 @@
 use Rattle.std.proofs.Common.{ℕ, ◌<◌, ◌≤◌, ◌^◌, false, not, nat_lt, List, [], ◌∷◌, ◌++◌, arith}
-use Rattle.pd_kinds.specs.ThinSuper.{Edge, optional_edge}
+use Rattle.pd_kinds.specs.Edge.{Edge, optional_edge}
 use Rattle.pd_kinds.specs.EraFormat.{EraFields, era_fields, era_super_edges, snap_edges, era_super_tests, era_super_bad, era_snap_bad, writeset_root, era_layout, era_graph}
 use Rattle.pd_kinds.specs.Layout.{copy}
 use Rattle.pd_laws.proofs.SoundLemmas.{IsSound, IsSoundSuper, tests_after_two, edges_inside, super_holds}

@@ -1,6 +1,6 @@
 use Rattle.std.proofs.Common.{arith}
 use Rattle.std.proofs.lemmas.List.{take_all}
-use Rattle.pd_kinds.specs.ThinSuper.{Edge, is_outside, has_edge_outside}
+use Rattle.pd_kinds.specs.Edge.{Edge, is_outside, has_edge_outside}
 use Rattle.pd_kinds.specs.Layout.{tree_edges}
 use Rattle.pd_refs.specs.Names.{leaf_tree}
 use Rattle.pd_refs.proofs.Rows.{any_more}

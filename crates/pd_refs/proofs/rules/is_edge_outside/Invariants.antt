@@ -1,7 +1,7 @@
 use Rattle.std.proofs.Common.{◌≡◌, take}
 use Rattle.std.specs.List.{list_any}
 use Rattle.pd_kinds.specs.Layout.{tree_edges}
-use Rattle.pd_kinds.specs.ThinSuper.{Edge, is_outside}
+use Rattle.pd_kinds.specs.Edge.{Edge, is_outside}
 use Rattle.pd_refs.specs.Names.{leaf_tree}
 use Rattle.pd_refs.proofs.rules.is_edge_outside.Given as goal
 

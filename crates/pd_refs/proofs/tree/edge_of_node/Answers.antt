@@ -1,5 +1,5 @@
 use Rattle.std.proofs.Common.{rules}
-use Rattle.pd_kinds.specs.ThinSuper.{edge_of}
+use Rattle.pd_kinds.specs.Edge.{edge_of}
 use Rattle.pd_refs.proofs.Rows.{edge_entry, edge_found}
 use Rattle.pd_refs.proofs.tree.edge_of_node.Goals as goal
 

@@ -1,6 +1,5 @@
 use Rattle.std.proofs.Common.{List, subst, sym, ◌∙◌, ◌∷◌, [], take}
-use Rattle.pd_kinds.specs.ThinSuper.{Edge}
-use Rattle.pd_kinds.specs.ThinSuper.{edge_of}
+use Rattle.pd_kinds.specs.Edge.{Edge, edge_of}
 use Rattle.pd_graph.specs.Marks.{Follows}
 use Rattle.pd_graph.proofs.EdgeLemmas.{one_edge_more, follows_both}
 use Rattle.pd_graph.proofs.marks.Marks.follow.Goals as goal

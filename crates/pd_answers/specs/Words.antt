@@ -56,14 +56,6 @@ sole (x ∷ y ∷ rest) = None
 abbrev pub until_word : List ℕ
 until_word = codes "--until"
 
--- the stages that are built
-abbrev pub IsBuilt : Stage → Type 0
-IsBuilt Super = Unit {0}
-IsBuilt Walk = Unit {0}
-IsBuilt Order = ⊥
-IsBuilt Whole = ⊥
-IsBuilt Counts = ⊥
-
 -- the stage that a word names, if it is one that is built
 unfoldable pub stage_of : List ℕ → Option Stage
 stage_of word =

@@ -6,12 +6,13 @@ use Rattle.std.specs.List.{list_any}
 use Rattle.std.specs.Option.{option_map}
 use Rattle.pd_kinds.specs.declared.fault.Fault.{Fault}
 use Rattle.pd_kinds.specs.Objects.{DeviceState, SourceState, SinkState, Rose, Appends, AppendsFront}
+use Rattle.pd_kinds.specs.Crash.{IsSynced, IsUntouched}
 use Rattle.pd_kinds.specs.declared.kind.Kind.TheVariants.{Thin}
 use Rattle.pd_kinds.specs.declared.kind.Stage.{Stage}
 use Rattle.pd_kinds.specs.declared.kind.Stage.TheVariants.{Super, Walk, Order, Whole, Counts}
-use Rattle.pd_kinds.specs.Words.{Request, thin_check}
+use Rattle.pd_answers.specs.Words.{Request, thin_check}
 use Rattle.pd_kinds.specs.Stages.{faults, CanWantMemory}
-use Rattle.pd_kinds.specs.Lines.{report_lines, usage_line, device_line, sink_line, memory_line}
+use Rattle.pd_answers.specs.Lines.{report_lines, usage_line, device_line, sink_line, memory_line}
 
 -- the six objects of a call
 pub record Objects : Type 0 where
@@ -26,14 +27,14 @@ abbrev pub objects : SourceState → SinkState → SinkState → DeviceState →
 objects source out notes input output third =
     record { source = source; out = out; notes = notes; input = input; output = output; third = third }
 
--- none is attached, and none has failed
+-- none is attached, none has failed, and nothing is unsynced
 pub record AreFresh (objects : Objects) : Type 0 where
   pub source : (objects.source.access ≡ 0) × (objects.source.faults ≡ 0)
   pub out : (objects.out.access ≡ 0) × (objects.out.faults ≡ 0)
   pub notes : (objects.notes.access ≡ 0) × (objects.notes.faults ≡ 0)
-  pub input : (objects.input.access ≡ 0) × (objects.input.faults ≡ 0)
-  pub output : (objects.output.access ≡ 0) × (objects.output.faults ≡ 0)
-  pub third : (objects.third.access ≡ 0) × (objects.third.faults ≡ 0)
+  pub input : (objects.input.access ≡ 0) × (objects.input.faults ≡ 0) × IsSynced objects.input
+  pub output : (objects.output.access ≡ 0) × (objects.output.faults ≡ 0) × IsSynced objects.output
+  pub third : (objects.third.access ≡ 0) × (objects.third.faults ≡ 0) × IsSynced objects.third
 
 -- the answer to a request where no object fails: its status, and the bytes that are put
 pub record Answer : Type 0 where
@@ -161,11 +162,16 @@ pub record NoFaults (before after : Objects) : Type 0 where
   pub output : after.output.faults ≡ before.output.faults
   pub third : after.third.faults ≡ before.third.faults
 
--- the devices hold what they held: no request that is built writes one
+-- no device was written
 pub record AreKept (before after : Objects) : Type 0 where
-  pub input : after.input.held ≡ before.input.held
-  pub output : after.output.held ≡ before.output.held
-  pub third : after.third.held ≡ before.third.held
+  pub input : IsUntouched before.input after.input
+  pub output : IsUntouched before.output after.output
+  pub third : IsUntouched before.third after.third
+
+-- what the devices hold, and what a crash at any moment of the call leaves of them
+abbrev pub LeavesDevices : Option Request → Objects → Objects → ℕ → Type 0
+LeavesDevices None before after status = AreKept before after
+LeavesDevices (Some (thin_check until path)) before after status = AreKept before after
 
 -- what a failing device, or want of memory, leaves of `out`: a check has its whole report before it prints
 abbrev pub PrintsNothing : Option Request → Objects → Objects → Type 0
@@ -204,5 +210,5 @@ pub record IsAnswered (request : Option Request) (before after : Objects) (statu
   pub open_devices : status ≤ 4 → AreOpen request after
   pub open_notes : status ≢ 6 → after.notes.access ≡ 1
   pub open_out : status ≡ 0 → IsOpen (out_use request) after.out.access
-  -- what the devices hold
-  pub kept : AreKept before after
+  -- what the devices hold, and what a crash leaves
+  pub devices : LeavesDevices request before after status

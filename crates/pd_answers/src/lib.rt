@@ -1,0 +1,2 @@
+//! What the tools answer, in definitions: the words of a command line, the printed lines, the answer to a request.
+#![tactic(auto)]
