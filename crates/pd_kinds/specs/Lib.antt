@@ -8,6 +8,7 @@ pub mod Moments
 pub mod Objects
 pub mod Crash
 pub mod Edge
+pub mod Edges
 pub mod SpaceMap
 pub mod Limits
 pub mod ThinSuper

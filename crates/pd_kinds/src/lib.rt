@@ -6,6 +6,7 @@
 #![tactic(auto)]
 
 mod block;
+mod edges;
 mod fault;
 mod fields;
 mod kind;
@@ -14,6 +15,7 @@ mod rule;
 mod rules;
 
 pub use block::{BLOCK_SIZE, Block, is_outside};
+pub use edges::Edges;
 pub use fault::{Fault, Space};
 pub use fields::{put_u32, put_u64, u32_at, u64_at};
 pub use kind::{Kind, Stage};
