@@ -11,16 +11,19 @@ use Rattle.pd_kinds.specs.Checksum.{has_checksum}
 use Rattle.pd_kinds.specs.RuleSet.{failing, alone}
 use Rattle.pd_kinds.specs.Super.{magic_of, salt_of}
 use Rattle.pd_kinds.specs.Edge.{Edge, has_edge_outside}
-use Rattle.pd_kinds.specs.ThinSuper.{thin_fields, thin_super_bad, thin_super_edges}
+use Rattle.pd_kinds.specs.ThinSuper.{ThinFields, thin_fields, thin_super_bad, thin_super_edges}
 use Rattle.pd_kinds.specs.Graph.{Graph}
 use Rattle.pd_kinds.specs.Layout.{Layout, copy, tree, bitmap, index, plain_tree, tree_to, layouts, graph_of}
 
 -- of a held superblock copy only the two roots of trees count
-abbrev pub held_edges : List ℕ → List Edge
-held_edges block =
-    record { role = 2; block = (thin_fields block).mapping_root }
-    ∷ record { role = 4; block = (thin_fields block).details_root }
+abbrev pub thin_held_edges : ThinFields → List Edge
+thin_held_edges fields =
+    record { role = 2; block = fields.mapping_root }
+    ∷ record { role = 4; block = fields.details_root }
     ∷ []
+
+abbrev pub held_edges : List ℕ → List Edge
+held_edges block = thin_held_edges (thin_fields block)
 
 -- the rules of a held superblock copy in its place: a wrong checksum comes alone, and so does a wrong magic
 unfoldable pub thin_held_bad : ℕ → ℕ → List ℕ → Rule → Bool

@@ -3,12 +3,12 @@
 ghost use Rattle.std.specs.Prelude.{◌≡◌};
 ghost use Rattle.pd_kinds.specs.declared.rule.Rule.{Rule as BrokenRule};
 ghost use Rattle.pd_kinds.specs.RuleSet.{has_rule};
-ghost use Rattle.pd_kinds.specs.ThinFormat.{held_edges, thin_held_bad};
-ghost use Rattle.pd_kinds.specs.Edge.{has_edge_outside};
+ghost use Rattle.pd_kinds.specs.ThinFormat.{thin_held_bad};
 
 use crate::thin::read_thin_super;
+use crate::thin_edges::thin_held_edges;
 use pd_crc::is_sealed;
-use pd_kinds::{Block, Kind, Rule, Rules, is_outside, u64_at};
+use pd_kinds::{Block, Kind, Rule, Rules, u64_at};
 
 /// The rules that the block breaks as the held copy of a superblock in this place, for so many metadata
 /// blocks.
@@ -25,17 +25,8 @@ pub fn thin_held_rules(block: &Block, place: u64, nr: u64) -> Rules
         return Rules::none().with(Rule::Magic);
     }
     let elsewhere = u64_at(&block.0, 8) != place;
-    let outside = is_root_outside(block, nr);
+    let outside = thin_held_edges(&read_thin_super(block)).any_outside(nr);
     Rules::none()
         .with_if(Rule::Place, elsewhere)
         .with_if(Rule::Pointer, outside)
-}
-
-/// Whether one of the two roots of a held copy isn't from 1 to `nr - 1`.
-#[tactic(auto, unfolding(pd_kinds::specs::Edge::has_edge_outside))]
-fn is_root_outside(block: &Block, nr: u64) -> bool
-    ensures { result ≡ has_edge_outside nr (held_edges block.now.0) }
-{
-    let fields = read_thin_super(block);
-    is_outside(nr, fields.mapping_root) | is_outside(nr, fields.details_root)
 }

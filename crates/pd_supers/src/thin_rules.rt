@@ -3,13 +3,13 @@
 ghost use Rattle.std.specs.Prelude.{◌≡◌};
 ghost use Rattle.pd_kinds.specs.declared.rule.Rule.{Rule as BrokenRule};
 ghost use Rattle.pd_kinds.specs.RuleSet.{has_rule, failing};
-ghost use Rattle.pd_kinds.specs.ThinSuper.{are_thin_sizes_bad, thin_super_bad, thin_super_edges, thin_super_tests};
-ghost use Rattle.pd_kinds.specs.Edge.{has_edge_outside};
+ghost use Rattle.pd_kinds.specs.ThinSuper.{are_thin_sizes_bad, thin_super_bad, thin_super_tests};
 ghost use Rattle.pd_supers.specs.ThinSuper.{fields_of};
 
 use crate::thin::{ThinSuper, read_thin_super};
+use crate::thin_edges::thin_super_edges;
 use pd_crc::is_sealed;
-use pd_kinds::{Block, Kind, Rule, Rules, is_outside, u64_at};
+use pd_kinds::{Block, Kind, Rule, Rules, u64_at};
 
 /// The greatest number of metadata blocks: 255 bitmaps of 16320 counts each, as
 /// "drivers/md/persistent-data/dm-space-map-metadata.h" has them.
@@ -40,7 +40,7 @@ fn table_rules(block: &Block, device_blocks: u64) -> Rules
     let fields = read_thin_super(block);
     let place = u64_at(&block.0, 8);
     let sizes_bad = are_sizes_bad(&fields, device_blocks);
-    let edge_outside = is_edge_outside(&fields);
+    let edge_outside = thin_super_edges(&fields).any_outside(fields.meta_map.blocks);
     Rules::none()
         .with_if(Rule::Place, place != 0)
         .with_if(Rule::Version, fields.version != 2)
@@ -59,20 +59,4 @@ fn are_sizes_bad(fields: &ThinSuper, device_blocks: u64) -> bool
         | (blocks > device_blocks)
         | (blocks > MAX_META_BLOCKS)
         | (fields.data_map.blocks > MAX_DATA_BLOCKS)
-}
-
-/// Whether one of the blocks that the superblock names isn't from 1 to the last metadata block.
-#[tactic(auto, unfolding(pd_kinds::specs::Edge::has_edge_outside))]
-fn is_edge_outside(fields: &ThinSuper) -> bool
-    ensures { result ≡ has_edge_outside fields.now.meta_map.blocks (thin_super_edges (fields_of fields.now)) }
-{
-    let nr = fields.meta_map.blocks;
-    let held_outside = (fields.held_root != 0) & is_outside(nr, fields.held_root);
-    held_outside
-        | is_outside(nr, fields.mapping_root)
-        | is_outside(nr, fields.details_root)
-        | is_outside(nr, fields.data_map.bitmap_root)
-        | is_outside(nr, fields.data_map.overflow_root)
-        | is_outside(nr, fields.meta_map.bitmap_root)
-        | is_outside(nr, fields.meta_map.overflow_root)
 }
