@@ -39,14 +39,16 @@ pub trait Format {
         requires { role < ROLES }
         ensures { result ≡ (graph self.now).is_tree role };
 
-    /// Whether the block is an inner node of a tree without a bad rule.
-    fn inner(&self, role: u8, place: u64, b: &Block) -> bool
-        requires { role < ROLES }
+    /// Whether a block without a bad rule is an inner node of a tree.
+    fn inner_of_sound(&self, role: u8, place: u64, b: &Block) -> bool
+        requires role { role < ROLES }
+        requires sound { IsSound (graph self.now) role place b.now.0 }
         ensures { result ≡ (graph self.now).is_inner role place b.now.0 };
 
-    /// How many blocks the block names: none where it has a bad rule.
-    fn edges(&self, role: u8, place: u64, b: &Block) -> usize
-        requires { role < ROLES }
+    /// How many blocks a block without a bad rule names.
+    fn edges_of_sound(&self, role: u8, place: u64, b: &Block) -> usize
+        requires role { role < ROLES }
+        requires sound { IsSound (graph self.now) role place b.now.0 }
         ensures { result ≡ length ((graph self.now).edges role place b.now.0) };
 
     /// The role and the number of a block that the block names.
@@ -55,22 +57,10 @@ pub trait Format {
         requires within { i < length ((graph self.now).edges role place b.now.0) }
         ensures { slice_get ((graph self.now).edges role place b.now.0) i ≡ Some (edge_of result.0 result.1) };
 
-    /// How many blocks a block without a bad rule names.
-    fn edges_of_sound(&self, role: u8, place: u64, b: &Block) -> usize
+    /// How many keys a block without a bad rule has: none outside a tree.
+    fn keys_of_sound(&self, role: u8, place: u64, b: &Block) -> usize
         requires role { role < ROLES }
         requires sound { IsSound (graph self.now) role place b.now.0 }
-        ensures { result ≡ length ((graph self.now).edges role place b.now.0) };
-
-    /// The role and the number of a block that a block without a bad rule names.
-    fn edge_of_sound(&self, role: u8, place: u64, b: &Block, i: usize) -> (u8, u64)
-        requires role { role < ROLES }
-        requires sound { IsSound (graph self.now) role place b.now.0 }
-        requires within { i < length ((graph self.now).edges role place b.now.0) }
-        ensures { slice_get ((graph self.now).edges role place b.now.0) i ≡ Some (edge_of result.0 result.1) };
-
-    /// How many keys the block has: none outside a tree, or where it has a bad rule.
-    fn keys(&self, role: u8, place: u64, b: &Block) -> usize
-        requires { role < ROLES }
         ensures { result ≡ length ((graph self.now).keys role place b.now.0) };
 
     /// A key of the block.
@@ -79,9 +69,10 @@ pub trait Format {
         requires within { i < length ((graph self.now).keys role place b.now.0) }
         ensures { slice_get ((graph self.now).keys role place b.now.0) i ≡ Some result };
 
-    /// How many data blocks the block names.
-    fn data_refs(&self, role: u8, place: u64, b: &Block) -> usize
-        requires { role < ROLES }
+    /// How many data blocks a block without a bad rule names.
+    fn data_refs_of_sound(&self, role: u8, place: u64, b: &Block) -> usize
+        requires role { role < ROLES }
+        requires sound { IsSound (graph self.now) role place b.now.0 }
         ensures { result ≡ length ((graph self.now).data_refs role place b.now.0) };
 
     /// A data block that the block names.
@@ -89,6 +80,58 @@ pub trait Format {
         requires role { role < ROLES }
         requires within { i < length ((graph self.now).data_refs role place b.now.0) }
         ensures { slice_get ((graph self.now).data_refs role place b.now.0) i ≡ Some result };
+
+    /// Whether the block is an inner node of a tree without a bad rule.
+    final fn inner(&self, role: u8, place: u64, b: &Block) -> bool
+        requires { role < ROLES }
+        ensures { result ≡ (graph self.now).is_inner role place b.now.0 }
+    {
+        let broken = self.rules(role, place, b);
+        if broken.is_empty() {
+            self.inner_of_sound(role, place, b)
+        } else {
+            false
+        }
+    }
+
+    /// How many blocks the block names: none where it has a bad rule.
+    final fn edges(&self, role: u8, place: u64, b: &Block) -> usize
+        requires { role < ROLES }
+        ensures { result ≡ length ((graph self.now).edges role place b.now.0) }
+    {
+        let broken = self.rules(role, place, b);
+        if broken.is_empty() {
+            self.edges_of_sound(role, place, b)
+        } else {
+            0
+        }
+    }
+
+    /// How many keys the block has: none outside a tree, or where it has a bad rule.
+    final fn keys(&self, role: u8, place: u64, b: &Block) -> usize
+        requires { role < ROLES }
+        ensures { result ≡ length ((graph self.now).keys role place b.now.0) }
+    {
+        let broken = self.rules(role, place, b);
+        if broken.is_empty() {
+            self.keys_of_sound(role, place, b)
+        } else {
+            0
+        }
+    }
+
+    /// How many data blocks the block names: none where it has a bad rule.
+    final fn data_refs(&self, role: u8, place: u64, b: &Block) -> usize
+        requires { role < ROLES }
+        ensures { result ≡ length ((graph self.now).data_refs role place b.now.0) }
+    {
+        let broken = self.rules(role, place, b);
+        if broken.is_empty() {
+            self.data_refs_of_sound(role, place, b)
+        } else {
+            0
+        }
+    }
 
     /// The roles are those of the functions.
     ghost roles: { (format : Self) → (graph format).roles ≡ ROLES };

@@ -135,7 +135,7 @@ impl Marks {
         ensures rules { rules_of self.new ≡ rules_of self.old }
     {
         for i in 0..format.edges_of_sound(role, place, block) {
-            let (met_role, b) = format.edge_of_sound(role, place, block, i);
+            let (met_role, b) = format.edge(role, place, block, i);
             self.meet(met_role, b as usize);
         }
     }

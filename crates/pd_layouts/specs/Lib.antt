@@ -1,0 +1,4 @@
+pub mod Layout
+pub mod LeafValue
+pub mod Names
+pub mod Roles
