@@ -134,8 +134,8 @@ impl Marks {
         ensures follows { Follows ((F.graph format.now).edges role place block.now.0) self.old self.new }
         ensures rules { rules_of self.new ≡ rules_of self.old }
     {
-        for i in 0..format.edges_of_sound(role, place, block) {
-            let (met_role, b) = format.edge_of_sound(role, place, block, i);
+        for i in 0..format.edges_of_any(role, block) {
+            let (met_role, b) = format.edge(role, place, block, i);
             self.meet(met_role, b as usize);
         }
     }
