@@ -4,14 +4,17 @@ ghost use Rattle.pd_kinds.specs.RuleSet.{has_rule};
 ghost use Rattle.pd_kinds.specs.Edge.{Edge, edge_of};
 ghost use Rattle.pd_kinds.specs.Graph.{Graph};
 ghost use Rattle.pd_kinds.specs.Lawful.{IsLawful};
-ghost use Rattle.pd_graph.specs.Format.{IsSound};
+ghost use Rattle.pd_graph.specs.Format.{Contents, AreContents, IsSound};
 
 use pd_kinds::{Block, Rules};
 
 /// A format of metadata: what a block is in a role, and what it names.
 ///
-/// Roles are numbered from 0, the superblock's. The calls take a role, the place of a block, and the
-/// block. Those whose names end in `_of_sound` are for callers that have just found no bad rule.
+/// Roles are numbered from 0, the superblock's. A block with a bad rule names nothing, and has no keys.
+///
+/// The calls whose names end in `_of_any` read what the bytes of a block say, whatever rules it breaks, and
+/// compute no checksum. They are for callers that know by other means that a block was sound: whatever a
+/// device gives them, they stay safe.
 pub trait Format {
     /// The number of roles, from 1 to 16.
     const ROLES: u8;
@@ -20,6 +23,9 @@ pub trait Format {
 
     /// The functions that the calls compute.
     ghost graph: { Self → Graph };
+
+    /// What the bytes of a block say in a role.
+    ghost contents: { Self → Contents };
 
     /// The number of metadata blocks, from 1 to 4161600.
     fn nr(&self) -> u64
@@ -39,47 +45,43 @@ pub trait Format {
         requires { role < ROLES }
         ensures { result ≡ (graph self.now).is_tree role };
 
-    /// Whether a block without a bad rule is an inner node of a tree.
-    fn inner_of_sound(&self, role: u8, place: u64, b: &Block) -> bool
-        requires role { role < ROLES }
-        requires sound { IsSound (graph self.now) role place b.now.0 }
-        ensures { result ≡ (graph self.now).is_inner role place b.now.0 };
+    /// Whether a block's bytes are those of an inner node of a tree.
+    fn inner_of_any(&self, role: u8, b: &Block) -> bool
+        requires { role < ROLES }
+        ensures { result ≡ (contents self.now).is_inner role b.now.0 };
 
-    /// How many blocks a block without a bad rule names.
-    fn edges_of_sound(&self, role: u8, place: u64, b: &Block) -> usize
-        requires role { role < ROLES }
-        requires sound { IsSound (graph self.now) role place b.now.0 }
-        ensures { result ≡ length ((graph self.now).edges role place b.now.0) };
+    /// How many blocks a block's bytes name.
+    fn edges_of_any(&self, role: u8, b: &Block) -> usize
+        requires { role < ROLES }
+        ensures { result ≡ length ((contents self.now).edges role b.now.0) };
 
-    /// The role and the number of a block that the block names.
-    fn edge(&self, role: u8, place: u64, b: &Block, i: usize) -> (u8, u64)
+    /// The role and the number of a block that a block's bytes name.
+    fn edge_of_any(&self, role: u8, b: &Block, i: usize) -> (u8, u64)
         requires role { role < ROLES }
-        requires within { i < length ((graph self.now).edges role place b.now.0) }
-        ensures { slice_get ((graph self.now).edges role place b.now.0) i ≡ Some (edge_of result.0 result.1) };
+        requires within { i < length ((contents self.now).edges role b.now.0) }
+        ensures { slice_get ((contents self.now).edges role b.now.0) i ≡ Some (edge_of result.0 result.1) };
 
-    /// How many keys a block without a bad rule has: none outside a tree.
-    fn keys_of_sound(&self, role: u8, place: u64, b: &Block) -> usize
-        requires role { role < ROLES }
-        requires sound { IsSound (graph self.now) role place b.now.0 }
-        ensures { result ≡ length ((graph self.now).keys role place b.now.0) };
+    /// How many keys a block's bytes have: none outside a tree.
+    fn keys_of_any(&self, role: u8, b: &Block) -> usize
+        requires { role < ROLES }
+        ensures { result ≡ length ((contents self.now).keys role b.now.0) };
 
-    /// A key of the block.
-    fn key(&self, role: u8, place: u64, b: &Block, i: usize) -> u64
+    /// A key of a block's bytes.
+    fn key_of_any(&self, role: u8, b: &Block, i: usize) -> u64
         requires role { role < ROLES }
-        requires within { i < length ((graph self.now).keys role place b.now.0) }
-        ensures { slice_get ((graph self.now).keys role place b.now.0) i ≡ Some result };
+        requires within { i < length ((contents self.now).keys role b.now.0) }
+        ensures { slice_get ((contents self.now).keys role b.now.0) i ≡ Some result };
 
-    /// How many data blocks a block without a bad rule names.
-    fn data_refs_of_sound(&self, role: u8, place: u64, b: &Block) -> usize
-        requires role { role < ROLES }
-        requires sound { IsSound (graph self.now) role place b.now.0 }
-        ensures { result ≡ length ((graph self.now).data_refs role place b.now.0) };
+    /// How many data blocks a block's bytes name.
+    fn data_refs_of_any(&self, role: u8, b: &Block) -> usize
+        requires { role < ROLES }
+        ensures { result ≡ length ((contents self.now).data_refs role b.now.0) };
 
-    /// A data block that the block names.
-    fn data_ref(&self, role: u8, place: u64, b: &Block, i: usize) -> u64
+    /// A data block that a block's bytes name.
+    fn data_ref_of_any(&self, role: u8, b: &Block, i: usize) -> u64
         requires role { role < ROLES }
-        requires within { i < length ((graph self.now).data_refs role place b.now.0) }
-        ensures { slice_get ((graph self.now).data_refs role place b.now.0) i ≡ Some result };
+        requires within { i < length ((contents self.now).data_refs role b.now.0) }
+        ensures { slice_get ((contents self.now).data_refs role b.now.0) i ≡ Some result };
 
     /// Whether the block is an inner node of a tree without a bad rule.
     final fn inner(&self, role: u8, place: u64, b: &Block) -> bool
@@ -88,7 +90,7 @@ pub trait Format {
     {
         let broken = self.rules(role, place, b);
         if broken.is_empty() {
-            self.inner_of_sound(role, place, b)
+            self.inner_of_any(role, b)
         } else {
             false
         }
@@ -101,10 +103,19 @@ pub trait Format {
     {
         let broken = self.rules(role, place, b);
         if broken.is_empty() {
-            self.edges_of_sound(role, place, b)
+            self.edges_of_any(role, b)
         } else {
             0
         }
+    }
+
+    /// The role and the number of a block that the block names.
+    final fn edge(&self, role: u8, place: u64, b: &Block, i: usize) -> (u8, u64)
+        requires role { role < ROLES }
+        requires within { i < length ((graph self.now).edges role place b.now.0) }
+        ensures { slice_get ((graph self.now).edges role place b.now.0) i ≡ Some (edge_of result.0 result.1) }
+    {
+        self.edge_of_any(role, b, i)
     }
 
     /// How many keys the block has: none outside a tree, or where it has a bad rule.
@@ -114,10 +125,19 @@ pub trait Format {
     {
         let broken = self.rules(role, place, b);
         if broken.is_empty() {
-            self.keys_of_sound(role, place, b)
+            self.keys_of_any(role, b)
         } else {
             0
         }
+    }
+
+    /// A key of the block.
+    final fn key(&self, role: u8, place: u64, b: &Block, i: usize) -> u64
+        requires role { role < ROLES }
+        requires within { i < length ((graph self.now).keys role place b.now.0) }
+        ensures { slice_get ((graph self.now).keys role place b.now.0) i ≡ Some result }
+    {
+        self.key_of_any(role, b, i)
     }
 
     /// How many data blocks the block names: none where it has a bad rule.
@@ -127,10 +147,19 @@ pub trait Format {
     {
         let broken = self.rules(role, place, b);
         if broken.is_empty() {
-            self.data_refs_of_sound(role, place, b)
+            self.data_refs_of_any(role, b)
         } else {
             0
         }
+    }
+
+    /// A data block that the block names.
+    final fn data_ref(&self, role: u8, place: u64, b: &Block, i: usize) -> u64
+        requires role { role < ROLES }
+        requires within { i < length ((graph self.now).data_refs role place b.now.0) }
+        ensures { slice_get ((graph self.now).data_refs role place b.now.0) i ≡ Some result }
+    {
+        self.data_ref_of_any(role, b, i)
     }
 
     /// The roles are those of the functions.
@@ -138,4 +167,7 @@ pub trait Format {
 
     /// The format keeps the laws.
     ghost lawful: { (format : Self) → IsLawful (graph format) };
+
+    /// The contents of a block without a bad rule are those of the functions.
+    ghost told: { (format : Self) → AreContents (graph format) (contents format) };
 }

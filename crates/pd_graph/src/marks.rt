@@ -134,7 +134,7 @@ impl Marks {
         ensures follows { Follows ((F.graph format.now).edges role place block.now.0) self.old self.new }
         ensures rules { rules_of self.new ≡ rules_of self.old }
     {
-        for i in 0..format.edges_of_sound(role, place, block) {
+        for i in 0..format.edges_of_any(role, block) {
             let (met_role, b) = format.edge(role, place, block, i);
             self.meet(met_role, b as usize);
         }

@@ -1,3 +1,3 @@
-pub mod Listed
+pub mod Treeless
 pub mod NodeRules
 pub mod Rows

@@ -1,3 +1,4 @@
+pub mod Contents
 pub mod Layout
 pub mod LeafValue
 pub mod Names

@@ -59,12 +59,15 @@ impl<T: Table> Tabled<T> {
 
 impl<T: Table> Format for Tabled<T> {
     ghost use Rattle.pd_layouts.specs.Roles.{roles_of_graph};
+    ghost use Rattle.pd_layouts.specs.Contents.{contents_of, contents_told};
 
     const ROLES: u8 = T::ROLES;
 
     ghost ROLES = { T.ROLES };
 
     ghost graph = { λ format. graph_of T.ROLES format.nr format.data_blocks (T.layout format.nr format.data_blocks) };
+
+    ghost contents = { λ format. contents_of format.nr (T.layout format.nr format.data_blocks) };
 
     #[tactic(auto, unfolding(pd_kinds::specs::Layout::graph_of))]
     fn nr(&self) -> u64 {
@@ -90,45 +93,45 @@ impl<T: Table> Format for Tabled<T> {
         }
     }
 
-    fn inner_of_sound(&self, role: u8, _place: u64, b: &Block) -> bool {
+    fn inner_of_any(&self, role: u8, b: &Block) -> bool {
         match tree_in::<T>(role, self.data_blocks) {
             Some(_) => is_inner(b),
             None => false,
         }
     }
 
-    fn edges_of_sound(&self, role: u8, _place: u64, b: &Block) -> usize {
+    fn edges_of_any(&self, role: u8, b: &Block) -> usize {
         let layout = T::layout(role, self.data_blocks);
         edges_in::<T>(self.nr, layout, role, b)
     }
 
-    fn edge(&self, role: u8, _place: u64, b: &Block, i: usize) -> (u8, u64) {
+    fn edge_of_any(&self, role: u8, b: &Block, i: usize) -> (u8, u64) {
         let layout = T::layout(role, self.data_blocks);
         edge_in::<T>(self.nr, layout, role, b, i)
     }
 
-    fn keys_of_sound(&self, role: u8, _place: u64, b: &Block) -> usize {
+    fn keys_of_any(&self, role: u8, b: &Block) -> usize {
         match tree_in::<T>(role, self.data_blocks) {
             Some((value, names)) => key_count(b, value, names),
             None => 0,
         }
     }
 
-    fn key(&self, role: u8, _place: u64, b: &Block, i: usize) -> u64 {
+    fn key_of_any(&self, role: u8, b: &Block, i: usize) -> u64 {
         match tree_in::<T>(role, self.data_blocks) {
             Some((value, names)) => key_of(b, value, names, i),
             None => 0,
         }
     }
 
-    fn data_refs_of_sound(&self, role: u8, _place: u64, b: &Block) -> usize {
+    fn data_refs_of_any(&self, role: u8, b: &Block) -> usize {
         match tree_in::<T>(role, self.data_blocks) {
             Some((value, names)) => data_count(b, value, names),
             None => 0,
         }
     }
 
-    fn data_ref(&self, role: u8, _place: u64, b: &Block, i: usize) -> u64 {
+    fn data_ref_of_any(&self, role: u8, b: &Block, i: usize) -> u64 {
         match tree_in::<T>(role, self.data_blocks) {
             Some((value, names)) => data_of_node(b, value, names, i),
             None => 0,
@@ -138,6 +141,8 @@ impl<T: Table> Format for Tabled<T> {
     ghost roles = { λ format. roles_of_graph T.ROLES format.nr format.data_blocks (T.layout format.nr format.data_blocks) };
 
     ghost lawful = { λ format. T.lawful format.nr format.data_blocks format.some format.few };
+
+    ghost told = { λ format. contents_told T.ROLES format.nr format.data_blocks (T.layout format.nr format.data_blocks) };
 }
 
 /// The rules that the block breaks with this layout, in its role and place.
