@@ -21,7 +21,7 @@ pub trait Format {
     /// The functions that the calls compute.
     ghost graph: { Self → Graph };
 
-    /// The number of metadata blocks, from 1 to 4161600.
+    /// The number of metadata blocks, from 1 to `MAX_META_BLOCKS`.
     fn nr(&self) -> u64
         ensures { result ≡ (graph self.now).nr };
 
