@@ -2,6 +2,7 @@
 -- Offsets and sizes are those of struct thin_disk_superblock of "drivers/md/dm-thin-metadata.c" and of
 -- struct disk_sm_root of "drivers/md/persistent-data/dm-space-map-common.h".
 use Rattle.std.specs.Prelude.{ℕ, ◌^◌, Bool, ◌==◌, ◌&&◌, ◌||◌, not, nat_lt, List, [], ◌∷◌, ◌++◌, take, drop}
+use Rattle.pd_kinds.specs.declared.limits.TheConstants.{MAX_META_BLOCKS}
 use Rattle.pd_kinds.specs.Edge.{Edge, optional_edge, has_edge_outside}
 use Rattle.pd_kinds.specs.SpaceMap.{MapFields, map_fields, map_rows}
 use Rattle.pd_kinds.specs.Limits.{is_meta_size_bad}
@@ -73,7 +74,7 @@ unfoldable pub are_thin_sizes_bad : ℕ → ThinFields → Bool
 are_thin_sizes_bad device_blocks fields =
     (fields.meta_map.blocks == 0)
     || (nat_lt device_blocks fields.meta_map.blocks
-    || (nat_lt 4161600 fields.meta_map.blocks
+    || (nat_lt MAX_META_BLOCKS fields.meta_map.blocks
     || nat_lt (2 ^ 40) fields.data_map.blocks))
 
 -- the rules of a thin superblock that are looked at each by itself; pointers only where the sizes hold

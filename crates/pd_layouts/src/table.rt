@@ -1,3 +1,4 @@
+ghost use Rattle.pd_kinds.specs.declared.limits.TheConstants.{MAX_META_BLOCKS};
 ghost use Rattle.std.specs.Prelude.{◌≡◌, ℕ, ◌<◌, ◌≤◌, Bool, List};
 ghost use Rattle.pd_kinds.specs.declared.rule.Rule.{Rule};
 ghost use Rattle.pd_kinds.specs.RuleSet.{has_rule};
@@ -58,5 +59,5 @@ pub trait Table {
         ensures { result ≡ copy_edges role b.now.0 };
 
     /// The format keeps the laws.
-    ghost lawful: { (nr data_blocks : ℕ) → 1 ≤ nr → nr ≤ 4161600 → IsLawful (graph_of ROLES nr data_blocks (layout nr data_blocks)) };
+    ghost lawful: { (nr data_blocks : ℕ) → 1 ≤ nr → nr ≤ MAX_META_BLOCKS → IsLawful (graph_of ROLES nr data_blocks (layout nr data_blocks)) };
 }

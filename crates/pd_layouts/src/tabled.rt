@@ -1,3 +1,4 @@
+ghost use Rattle.pd_kinds.specs.declared.limits.TheConstants.{MAX_META_BLOCKS};
 ghost use Rattle.std.specs.Prelude.{◌≡◌, ℕ, ◌<◌, ◌≤◌, IfNone, IfSome, Some, false, length, slice_get};
 ghost use Rattle.pd_kinds.specs.declared.rule.Rule.{Rule as BrokenRule};
 ghost use Rattle.pd_kinds.specs.RuleSet.{has_rule};
@@ -30,7 +31,7 @@ pub struct Tabled<T> {
     data_blocks: u64,
     table: PhantomData<T>,
     ghost some: { 1 ≤ nr },
-    ghost few: { nr ≤ 4161600 },
+    ghost few: { nr ≤ MAX_META_BLOCKS },
 }
 
 impl<T: Copy> Clone for Tabled<T> {
@@ -42,10 +43,10 @@ impl<T: Copy> Clone for Tabled<T> {
 impl<T: Copy> Copy for Tabled<T> {}
 
 impl<T: Table> Tabled<T> {
-    /// The format by this superblock, whose number of metadata blocks is from 1 to 4161600.
+    /// The format by this superblock, whose number of metadata blocks is from 1 to `MAX_META_BLOCKS`.
     pub fn of(s: &T::Super) -> Self
         requires some { 1 ≤ T.meta_blocks_of s.now }
-        requires few { T.meta_blocks_of s.now ≤ 4161600 }
+        requires few { T.meta_blocks_of s.now ≤ MAX_META_BLOCKS }
         ensures { ⟦<Tabled<T> as Format>⟧.graph result
             ≡ graph_of T.ROLES (T.meta_blocks_of s.now) (T.data_blocks_of s.now) (T.layout (T.meta_blocks_of s.now) (T.data_blocks_of s.now)) }
     {
@@ -147,7 +148,7 @@ impl<T: Table> Format for Tabled<T> {
 
 /// The rules that the block breaks with this layout, in its role and place.
 fn layout_rules<T: Table>(nr: u64, layout: Layout, role: u8, place: u64, b: &Block) -> Rules
-    requires { nr ≤ 4161600 }
+    requires { nr ≤ MAX_META_BLOCKS }
     ensures { (rule : BrokenRule) → has_rule result rule
         ≡ layout_bad nr role (layout_of (T.copy_bad nr role) (T.copy_edges role) layout) place b.now.0 rule }
 {
@@ -162,7 +163,7 @@ fn layout_rules<T: Table>(nr: u64, layout: Layout, role: u8, place: u64, b: &Blo
 
 /// How many blocks a block with this layout names.
 fn edges_in<T: Table>(nr: u64, layout: Layout, role: u8, b: &Block) -> usize
-    requires { nr ≤ 4161600 }
+    requires { nr ≤ MAX_META_BLOCKS }
     ensures { result
         ≡ length (layout_edges nr role (layout_of (T.copy_bad nr role) (T.copy_edges role) layout) b.now.0) }
 {
@@ -176,7 +177,7 @@ fn edges_in<T: Table>(nr: u64, layout: Layout, role: u8, b: &Block) -> usize
 
 /// The role and the number of block `i`, from 0, that a block with this layout names.
 fn edge_in<T: Table>(nr: u64, layout: Layout, role: u8, b: &Block, i: usize) -> (u8, u64)
-    requires few { nr ≤ 4161600 }
+    requires few { nr ≤ MAX_META_BLOCKS }
     requires within { i < length (layout_edges nr role (layout_of (T.copy_bad nr role) (T.copy_edges role) layout) b.now.0) }
     ensures { slice_get (layout_edges nr role (layout_of (T.copy_bad nr role) (T.copy_edges role) layout) b.now.0) i
         ≡ Some (edge_of result.0 result.1) }
@@ -192,7 +193,7 @@ fn edge_in<T: Table>(nr: u64, layout: Layout, role: u8, b: &Block, i: usize) -> 
 
 /// How many bitmaps the index block of so many metadata blocks names.
 fn bitmaps(nr: u64) -> usize
-    requires { nr ≤ 4161600 }
+    requires { nr ≤ MAX_META_BLOCKS }
     ensures { result ≡ bitmaps_for nr }
 {
     (nr as usize).div_ceil(BITMAP_COUNTS)
@@ -200,7 +201,7 @@ fn bitmaps(nr: u64) -> usize
 
 /// The number of bitmap `i`, from 0, that the index block of so many metadata blocks names.
 fn bitmap_named(b: &Block, nr: u64, i: usize) -> u64
-    requires few { nr ≤ 4161600 }
+    requires few { nr ≤ MAX_META_BLOCKS }
     requires within { i < bitmaps_for nr }
     ensures { result ≡ index_block_at b.now.0 i }
 {

@@ -9,11 +9,7 @@ ghost use Rattle.pd_supers.specs.ThinSuper.{fields_of};
 use crate::thin::{ThinSuper, read_thin_super};
 use crate::thin_edges::thin_super_edges;
 use pd_crc::is_sealed;
-use pd_kinds::{Block, Kind, Rule, Rules, u64_at};
-
-/// The greatest number of metadata blocks: 255 bitmaps of 16320 counts each, as
-/// "drivers/md/persistent-data/dm-space-map-metadata.h" has them.
-const MAX_META_BLOCKS: u64 = 4161600;
+use pd_kinds::{Block, Kind, MAX_META_BLOCKS, Rule, Rules, u64_at};
 
 /// The greatest number of data blocks that the tools take.
 const MAX_DATA_BLOCKS: u64 = 1 << 40;
