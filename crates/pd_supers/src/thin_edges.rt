@@ -5,8 +5,7 @@ ghost use Rattle.pd_kinds.specs.ThinSuper.{thin_super_edges};
 ghost use Rattle.pd_kinds.specs.ThinFormat.{thin_held_edges};
 ghost use Rattle.pd_supers.specs.ThinSuper.{fields_of};
 
-use crate::thin::ThinSuper;
-use pd_kinds::Edges;
+use pd_kinds::{Edges, ThinSuper};
 
 /// The blocks that the superblock names.
 pub fn thin_super_edges(s: &ThinSuper) -> Edges

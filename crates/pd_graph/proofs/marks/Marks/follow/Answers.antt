@@ -21,7 +21,7 @@ loop-i-init g c =
     let edges = (g.F.Format.graph c.args.format.now).edges c.args.role c.args.place c.args.block.now.0 in
     record {
       follows = subst (λ (met : List Edge). Follows met c.args.self.now c.args.self.now)
-          (sym (drop_all c.edges_of_sound-i.result edges (omega (arith, c.edges_of_sound-i.ensures))))
+          (sym (drop_all c.edges_of_any-i.result edges (omega (arith, c.edges_of_any-i.ensures))))
           (follows_none c.args.self.now);
       rules = refl;
     }
