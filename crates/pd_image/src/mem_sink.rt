@@ -5,7 +5,7 @@ ghost use Rattle.std.specs.Option.{option_copied};
 ghost use Rattle.pd_kinds.specs.Objects.{CountsFault, Appends, AppendsFront};
 ghost use Rattle.pd_image.specs.Sink.{KeepsSink};
 ghost use Rattle.pd_image.specs.Access.{access_number, untold};
-ghost use Rattle.pd_image.specs.Calls.{counted, next_fails, calls_made, calls_set, CountsCall, SetsToFail, KeepsCalls};
+ghost use Rattle.pd_image.specs.Calls.{counted, next_fails, IsUncalled, CountsCall, SetsToFail, KeepsCalls};
 
 use crate::access::Access;
 use crate::calls::Calls;
@@ -31,8 +31,7 @@ impl MemSink {
     /// A sink to which nothing was written.
     pub fn new(alloc: Global) -> MemSink
         ensures state { mem_sink_state result ≡ unattached_sink }
-        ensures made { calls_made (mem_sink_calls result) ≡ 0 }
-        ensures set { calls_set (mem_sink_calls result) ≡ [] }
+        ensures calls { IsUncalled (mem_sink_calls result) }
     {
         MemSink {
             written: Vec::new(alloc),

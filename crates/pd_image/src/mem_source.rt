@@ -4,7 +4,7 @@ ghost use Rattle.std.specs.Prelude.{is_none, true, false, None, ◌≡◌, ℕ, 
 ghost use Rattle.std.specs.Option.{option_copied};
 ghost use Rattle.pd_kinds.specs.Objects.{CountsFault};
 ghost use Rattle.pd_image.specs.Access.{access_number, untold};
-ghost use Rattle.pd_image.specs.Calls.{counted, next_fails, calls_made, calls_set, CountsCall, SetsToFail, KeepsCalls};
+ghost use Rattle.pd_image.specs.Calls.{counted, next_fails, IsUncalled, CountsCall, SetsToFail, KeepsCalls};
 ghost use Rattle.pd_image.specs.Source.{KeepsSource, Takes};
 
 use crate::access::Access;
@@ -40,8 +40,7 @@ impl MemSource {
         requires { 1 ≤ piece }
         ensures state { IfOk result (λ source. mem_source_state source ≡ unattached_source bytes.now) }
         ensures piece { IfOk result (λ source. mem_source_piece source ≡ piece) }
-        ensures made { IfOk result (λ source. calls_made (mem_source_calls source) ≡ 0) }
-        ensures set { IfOk result (λ source. calls_set (mem_source_calls source) ≡ []) }
+        ensures calls { IfOk result (λ source. IsUncalled (mem_source_calls source)) }
     {
         Ok(MemSource {
             bytes: Vec::from_slice(alloc, bytes)?,
