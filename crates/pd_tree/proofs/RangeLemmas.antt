@@ -1,9 +1,9 @@
 -- In a sound tree keys ascend in each node, and those below each child are in its range.
-use Rattle.std.proofs.Common.{◌≡◌, ℕ, zero, suc, ◌+◌, ◌<◌, ◌≤◌, Bool, true, false, cond, not, ◌&&◌, ◌||◌, nat_eq, nat_lt, List, [], ◌∷◌, ◌++◌, length, map, refl, ap, arith}
+use Rattle.std.proofs.Common.{◌≡◌, ℕ, zero, suc, ◌+◌, ◌<◌, ◌≤◌, Bool, true, false, cond, not, ◌&&◌, ◌||◌, nat_eq, nat_lt, List, [], ◌∷◌, ◌++◌, length, map, refl, arith}
 use Rattle.std.specs.List.{list_any, list_all, flat_map, range_with_len, AllByRecursion}
 use Rattle.std.proofs.lemmas.Bool.{and_parts}
 use Rattle.std.proofs.lemmas.Bool.Decides.{nat_tests}
-use Rattle.std.proofs.lemmas.List.FromFn.{get_or-map-range_with_len}
+use Rattle.std.proofs.lemmas.List.FromFn.{get_or-map-range_with_len, length-map-range_with_len}
 use Rattle.pd_kinds.specs.declared.rule.Rule.{Rule}
 use Rattle.pd_kinds.specs.declared.rule.Rule.TheVariants as r
 use Rattle.pd_kinds.specs.RuleSet.{failing, alone}
@@ -15,6 +15,7 @@ use Rattle.pd_kinds.specs.Checksum.{has_checksum}
 use Rattle.pd_kinds.specs.Order.{are_children_in_range}
 use Rattle.pd_tree.specs.Below.{gather, items_from, kids_from, items_below}
 use Rattle.pd_tree.specs.Search.{AreFrom, AreBelow, KeysAscend}
+use Rattle.pd_laws.proofs.AllLemmas.{all_append}
 use Rattle.pd_node.proofs.Ascending.{ascending_pairs}
 
 -- the rule Order of a node whose checksum is right
@@ -46,12 +47,8 @@ keys_say size block ascend i k before within =
     let keys = map (key_at block) (range_with_len 0 count) in
     let first = get_or-map-range_with_len (key_at block) 0 count i i 0 (omega arith) (omega arith) in
     let last = get_or-map-range_with_len (key_at block) 0 count k k 0 within (omega arith) in
-    let number : length keys ≡ count = length-map-range (key_at block) 0 count in
+    let number : length keys ≡ count = length-map-range_with_len (key_at block) 0 count in
     rw (first, last) at (ascending_pairs keys i k ascend before (rw number within))
-  where
-    length-map-range : (f : ℕ → ℕ) (a n : ℕ) → length (map f (range_with_len a n)) ≡ n
-    length-map-range f a zero = refl
-    length-map-range f a (suc n) = ap suc (length-map-range f (a + 1) n)
 
 -- the range of child i
 pub child_range : (low : ℕ → ℕ) (keys : ℕ → List ℕ) (d n a : ℕ) → d < n → are_children_in_range (map low (range_with_len a n)) (map keys (range_with_len a n)) ≡ true
@@ -110,14 +107,10 @@ all_last : {X : Type 0} → (P : X → Type 0) (xs ys : List X) → AllByRecursi
 all_last P [] ys all = all
 all_last P (x ∷ xs) ys all = all_last P xs ys all.1
 
-all_both : {X : Type 0} → (P : X → Type 0) (xs ys : List X) → AllByRecursion P xs → AllByRecursion P ys → AllByRecursion P (xs ++ ys)
-all_both P [] ys first last = last
-all_both P (x ∷ xs) ys first last = (first.0, all_both P xs ys first.1 last)
-
 all_flat : {X : Type 0} → (P : X → Type 0) (f g : ℕ → List X) (bs : List ℕ) → ((b : ℕ) → AllByRecursion P (f b) → AllByRecursion P (g b)) → AllByRecursion P (flat_map f bs) → AllByRecursion P (flat_map g bs)
 all_flat P f g [] each all = tt
 all_flat P f g (b ∷ bs) each all =
-    all_both P (g b) (flat_map g bs) (each b (all_first P (f b) (flat_map f bs) all)) (all_flat P f g bs each (all_last P (f b) (flat_map f bs) all))
+    all_append P (g b) (flat_map g bs) (each b (all_first P (f b) (flat_map f bs) all)) (all_flat P f g bs each (all_last P (f b) (flat_map f bs) all))
 
 all_less : {X : Type 0} → (P : X → Type 0) (here : ℕ → List X) (down : ℕ → List ℕ) (i j b : ℕ) → i ≤ j → AllByRecursion P (gather here down j b) → AllByRecursion P (gather here down i b)
 unfolding gather
@@ -125,7 +118,7 @@ all_less P here down zero zero b less all = all
 all_less P here down zero (suc j) b less all = all_first P (here b) (flat_map (gather here down j) (down b)) all
 all_less P here down (suc i) zero b less all = absurd (omega arith)
 all_less P here down (suc i) (suc j) b less all =
-    all_both P (here b) (flat_map (gather here down i) (down b)) (all_first P (here b) (flat_map (gather here down j) (down b)) all)
+    all_append P (here b) (flat_map (gather here down i) (down b)) (all_first P (here b) (flat_map (gather here down j) (down b)) all)
     (all_flat P (gather here down j) (gather here down i) (down b) (λ c. all_less P here down i j c (omega arith)) (all_last P (here b) (flat_map (gather here down j) (down b)) all))
 
 pub all_less_items : {X : Type 0} → (P : ℕ × X → Type 0) (size : ℕ) (decoded : ℕ → X) (image : List (List ℕ)) (i j b : ℕ) → i ≤ j

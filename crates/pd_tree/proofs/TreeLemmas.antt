@@ -1,8 +1,9 @@
 -- A sound tree of a format, over the bytes of its nodes.
-use Rattle.std.proofs.Common.{◌≡◌, ℕ, zero, suc, ◌+◌, ◌-◌, ◌*◌, ◌<◌, Bool, true, false, not, ◌&&◌, ◌||◌, nat_eq, List, [], ◌∷◌, ◌++◌, map, refl, sym, ◌∙◌, arith, eq-eqb}
+use Rattle.std.proofs.Common.{◌≡◌, ℕ, zero, suc, ◌+◌, ◌-◌, ◌*◌, ◌<◌, Bool, true, false, not, ◌&&◌, ◌||◌, nat_eq, List, [], ◌∷◌, map, refl, sym, ◌∙◌, arith, eq-eqb}
 use Rattle.std.specs.List.{list_any, flat_map, range_with_len, AllByRecursion}
-use Rattle.std.proofs.lemmas.List.{append-nil}
-use Rattle.std.proofs.lemmas.Bool.{eqb-true}
+use Rattle.std.proofs.lemmas.List.{append-nil, map-append}
+use Rattle.std.proofs.lemmas.Simd.{map-map}
+use Rattle.std.proofs.lemmas.Bool.{eqb-true, or_right}
 use Rattle.pd_tree.proofs.StackLemmas.{kids_leaf}
 use Rattle.pd_kinds.specs.Rule.{all_rules}
 use Rattle.pd_kinds.specs.Edge.{Edge}
@@ -12,30 +13,19 @@ use Rattle.pd_kinds.specs.Layout.{Layout, Tree, graph_of, is_bad, layout_bad, is
 use Rattle.pd_kinds.specs.Layout.Layout.{tree}
 use Rattle.pd_kinds.specs.Order.{children, gathered}
 use Rattle.pd_tree.specs.Below.{gather, items_from, kids_from, items_below}
-use Rattle.pd_tree.specs.Sound.{IsUnder, IsCleanPair, item_of}
+use Rattle.pd_tree.specs.Sound.{IsUnder, IsCleanPair}
+use Rattle.pd_tree.specs.Items.{item_of}
 use Rattle.pd_tree.specs.Sound.IsUnder.{itself, below}
 
--- lists
-pub map-map : {X Y Z : Type 0} → (f : Y → Z) (g : X → Y) (xs : List X) → map f (map g xs) ≡ map (λ x. f (g x)) xs
-map-map f g [] = refl
-map-map f g (x ∷ xs) = rw (map-map f g xs) refl
-
-pub map-append : {X Y : Type 0} → (f : X → Y) (xs ys : List X) → map f (xs ++ ys) ≡ map f xs ++ map f ys
-map-append f [] ys = refl
-map-append f (x ∷ xs) ys = rw (map-append f xs ys) refl
-
+-- no element passes a test that nothing passes
 none_passes : {X : Type 0} → (f : X → Bool) (xs : List X) → ((x : X) → f x ≡ false) → list_any f xs ≡ false
 none_passes f [] none = refl
 none_passes f (x ∷ xs) none = rw (none x, none_passes f xs none) refl
 
-pub or_more : (a b : Bool) → b ≡ true → (a || b) ≡ true
-or_more true b is = refl
-or_more false b is = is
-
 members : (P : ℕ → Type 0) (xs : List ℕ) → ((x : ℕ) → list_any (λ t. nat_eq t x) xs ≡ true → P x) → AllByRecursion P xs
 members P [] all = tt
 members P (x ∷ xs) all =
-    (all x (rw (eq-eqb x x refl) refl), members P xs (λ y is. all y (or_more (nat_eq x y) (list_any (λ t. nat_eq t y) xs) is)))
+    (all x (rw (eq-eqb x x refl) refl), members P xs (λ y is. all y (or_right (nat_eq x y) (list_any (λ t. nat_eq t y) xs) is)))
 
 pub role_pair : (b role : ℕ) → role < 16 → role_of (pair b role) ≡ role
 role_pair b role few = omega arith
@@ -50,7 +40,7 @@ member_by : (same : Bool) (x c : ℕ) (rest others : Bool) (role : ℕ) → nat_
 member_by true x c rest others role is any more =
     let equal = eqb-true x c is in
     rw equal (rw (eq-eqb (16 * c + role) (16 * c + role) refl) refl)
-member_by false x c rest others role is any more = or_more (nat_eq (16 * x + role) (16 * c + role)) others (more any)
+member_by false x c rest others role is any more = or_right (nat_eq (16 * x + role) (16 * c + role)) others (more any)
 
 member_pair : (role c : ℕ) (cs : List ℕ) → list_any (λ t. nat_eq t c) cs ≡ true → list_any (λ t. nat_eq t (pair c role)) (map (λ c. pair c role) cs) ≡ true
 member_pair role c [] any = any
@@ -92,9 +82,16 @@ module _ (roles nr data_blocks : ℕ) (layout : ℕ → Layout) (t : Tree) (role
   abbrev pub IsClean : ℕ → Type 0
   IsClean b = (q : ℕ) → IsUnder (graph_of roles nr data_blocks layout) image (pair b role) q → IsCleanPair (graph_of roles nr data_blocks layout) image q
 
+  -- what holds of each child, and of the nodes below it
+  pub each_kid : (P : ℕ → Type 0) (b : ℕ) → IsClean b
+      → ((c : ℕ) → list_any (λ t. nat_eq t (pair c role)) (children (graph_of roles nr data_blocks layout) image (pair b role)) ≡ true → IsClean c → P c)
+      → AllByRecursion P (kids_from t.size (block_at image b) 0)
+  each_kid P b clean each = members P (kids_from t.size (block_at image b) 0) (λ c is_kid.
+      let is_child : list_any (λ t. nat_eq t (pair c role)) (children (graph_of roles nr data_blocks layout) image (pair b role)) ≡ true = rw (children_is b (clean (pair b role) (itself (pair b role)))) (member_pair role c (kids_from t.size (block_at image b) 0) is_kid) in
+      each c is_child (λ q under. clean q (below (pair b role) (pair c role) q is_child under)))
+
   pub clean_kids : (b : ℕ) → IsClean b → AllByRecursion IsClean (kids_from t.size (block_at image b) 0)
-  clean_kids b clean = members IsClean (kids_from t.size (block_at image b) 0) (λ c is_kid q under.
-      clean q (below (pair b role) (pair c role) q (rw (children_is b (clean (pair b role) (itself (pair b role)))) (member_pair role c (kids_from t.size (block_at image b) 0) is_kid)) under))
+  clean_kids b clean = each_kid IsClean b clean (λ c is_child kid_clean. kid_clean)
 
   module _ {X Y : Type 0} (f : X → Y) (own : ℕ → List X) (here : ℕ → List Y)
       (leaves : (b : ℕ) → is_inner_node (block_at image b) ≡ false → IsCleanPair (graph_of roles nr data_blocks layout) image (pair b role) → map f (own (pair b role)) ≡ here b)
