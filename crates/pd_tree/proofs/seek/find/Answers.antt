@@ -4,12 +4,14 @@ use Rattle.std.proofs.lemmas.Option.{IfSome_then}
 use Rattle.pd_kinds.specs.Node.{is_inner_node}
 use Rattle.pd_tree.proofs.BelowLemmas.{block_found}
 use Rattle.pd_tree.proofs.NextLemmas.{if_any, if_both, keeps_both}
+use Rattle.pd_tree.proofs.LevelLemmas.{root_level, next_level}
 use Rattle.pd_tree.proofs.SeekLemmas.{seeks_root, seeks_none, seeks_outside, seeks_child, seeks_leaf, seeks_nothing}
 use Rattle.pd_tree.proofs.seek.find.Goals as goal
 
 pub loop-level-init : goal.loop-level-init
 loop-level-init g c = record {
   seeks = if_any (g.D.Device.state c.args.dev.now).held (λ image. seeks_root g.V.Value.SIZE g.V.Value.decoded image c.args.wanted c.args.root);
+  level = if_any (g.D.Device.state c.args.dev.now).held (λ image. root_level g.V.Value.SIZE image c.args.root);
   reads = omega arith;
   held = refl;
   kept = record { access = refl; path = refl; blocks = refl; history = refl };
@@ -56,6 +58,12 @@ loop-level-preserved g c =
           (seeks_child g.V.Value.SIZE g.V.Value.decoded image c.args.wanted c.args.root (64 - c.loop-level._level) (64 - (c.loop-level._level + 1)) c.loop-level.b c.split-count.result c.read.new.into.0
           levels seeks (block_found image c.loop-level.b c.read.new.into.0 content) c.split-count.ensures inner (omega arith)))
           c.loop-level.invariant.seeks
+          (subst (λ o. IfSome o (λ image. slice_get image c.loop-level.b ≡ Some c.read.new.into.0)) c.loop-level.invariant.held c.in_ok-read.ensures.content);
+      level = if_both (g.D.Device.state c.args.dev.now).held (λ image held level content.
+          rw c.child-b.ensures
+          (next_level g.V.Value.SIZE image c.args.root c.loop-level._level c.loop-level.b c.args.wanted c.split-count.result c.read.new.into.0
+          level (block_found image c.loop-level.b c.read.new.into.0 content) inner c.split-count.ensures (omega arith)))
+          c.loop-level.invariant.level
           (subst (λ o. IfSome o (λ image. slice_get image c.loop-level.b ≡ Some c.read.new.into.0)) c.loop-level.invariant.held c.in_ok-read.ensures.content);
       reads = omega arith;
       held = c.in_ok-read.ensures.held ∙ c.loop-level.invariant.held;
