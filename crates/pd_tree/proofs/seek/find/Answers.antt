@@ -40,9 +40,9 @@ returns-then-not-is_inner-clause-found g c =
     let levels : 64 - c.loop-level._level ≡ suc (64 - (c.loop-level._level + 1)) = omega arith in
     let leaf : is_inner_node c.read.new.into.0 ≡ false = sym c.is_inner.ensures ∙ c.if-not-is_inner.true in
     if_both (g.D.Device.state c.args.dev.now).held (λ image held seeks content s.
-    c.value_if.ensures
-    ∙ seeks_leaf g.V.Value.SIZE g.V.Value.decoded image c.args.wanted c.args.root (64 - c.loop-level._level) (64 - (c.loop-level._level + 1)) c.loop-level.b c.split-count.result c.read.new.into.0
-    levels seeks (block_found image c.loop-level.b c.read.new.into.0 content) c.split-count.ensures leaf (omega arith) s)
+    rw c.value_if.ensures
+    (seeks_leaf g.V.Value.SIZE g.V.Value.decoded image c.args.wanted c.args.root (64 - c.loop-level._level) (64 - (c.loop-level._level + 1)) c.loop-level.b c.split-count.result c.read.new.into.0
+    levels seeks (block_found image c.loop-level.b c.read.new.into.0 content) c.split-count.ensures leaf (omega arith) s))
     c.loop-level.invariant.seeks
     (subst (λ o. IfSome o (λ image. slice_get image c.loop-level.b ≡ Some c.read.new.into.0)) c.loop-level.invariant.held c.in_ok-read.ensures.content)
 
