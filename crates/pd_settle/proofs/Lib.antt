@@ -10,5 +10,7 @@ pub mod DescentLemmas
 pub mod StepLemmas
 pub mod ReachLemmas
 pub mod ExactLemmas
+pub mod CleanLemmas
+pub mod EntryLemmas
 pub mod SettledLemmas
 pub mod BestLemmas

@@ -47,7 +47,7 @@ module _ (graph : Graph) (image : List (List ℕ)) (lawful : IsLawful graph) whe
   unfolding children
   child_of p q among = child_cases p q (is_inner_pair graph image p) refl among
 
-  child_role : (p q : ℕ) → is_reached graph image p ≡ true → is_inner_pair graph image p ≡ true → is_among q (next graph image p) ≡ true → role_of q ≡ role_of p
+  pub child_role : (p q : ℕ) → is_reached graph image p ≡ true → is_inner_pair graph image p ≡ true → is_among q (next graph image p) ≡ true → role_of q ≡ role_of p
   unfolding next
   child_role p q reached e leads =
       let within = (reached_within graph image p lawful reached).0 in

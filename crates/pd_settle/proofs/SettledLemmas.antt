@@ -1,14 +1,14 @@
 -- In the end each node is settled, so the marks are those of the stage Order.
-use Rattle.std.proofs.Common.{◌≡◌, inl, inr, ℕ, zero, suc, ◌+◌, ◌-◌, ◌*◌, ◌<◌, ◌≤◌, Bool, true, false, ◌&&◌, ◌||◌, not, cond, nat_eq, nat_lt, List, [], ◌∷◌, length, filter, refl, sym, ◌∙◌, ap, subst, arith, zero-add}
+use Rattle.std.proofs.Common.{◌≡◌, inl, inr, ℕ, zero, suc, ◌+◌, ◌-◌, ◌*◌, ◌<◌, ◌≤◌, Bool, true, false, ◌&&◌, ◌||◌, not, cond, nat_eq, nat_lt, List, [], length, refl, sym, ◌∙◌, ap, subst, arith, zero-add}
 use Rattle.std.specs.List.{list_any, range_with_len}
-use Rattle.std.proofs.lemmas.Bool.{cases_Bool, cases_eq, cases_lt, ne_eqb, both_ways, and_parts, and_from, and_right, or_left, or_right, lt-ltb, le-ltb, ltb-true, eqb-false, not-true, not-false}
+use Rattle.std.proofs.lemmas.Bool.{cases_Bool, cases_eq, cases_lt, ne_eqb, both_ways, and_parts, and_from, and_right, lt-ltb, le-ltb, ltb-true, eqb-false, not-true, not-false}
 use Rattle.pd_kinds.specs.declared.rule.Rule.{Rule}
 use Rattle.pd_kinds.specs.declared.rule.Rule.TheVariants as r
 use Rattle.pd_kinds.specs.Rule.{same_rule}
 use Rattle.pd_kinds.specs.Graph.{Graph, block_at, pair, block_of, role_of, own_keys, is_inner_pair, next, is_reached, nodes}
 use Rattle.pd_kinds.specs.Lawful.{IsLawful}
 use Rattle.pd_kinds.specs.Order.{children, has_chain, is_deep, is_in_range, keys_below}
-use Rattle.pd_kinds.specs.Stages.{roles_of, walk_bad, order_bad, is_out_of_range}
+use Rattle.pd_kinds.specs.Stages.{roles_of, order_bad, is_out_of_range}
 use Rattle.pd_laws.proofs.PathLemmas.{passing_below, passes_below}
 use Rattle.pd_graph.specs.declared.audit.Audit.{Audit}
 use Rattle.pd_graph.specs.declared.notes.Note.{Note}
@@ -27,84 +27,6 @@ use Rattle.pd_settle.specs.Stepping.{KeepsWalk}
 use Rattle.pd_settle.specs.Settled.{IsSettled}
 use Rattle.pd_settle.proofs.ChainLemmas.{is_among, longer_chain, chain_by}
 use Rattle.pd_settle.proofs.NotedLemmas.{noted_shallow}
-
--- two numbers of a range that pass
-keeps_one : (b : Bool) (x : ℕ) (kept : List ℕ) → length kept ≤ length (cond b (x ∷ kept) kept)
-keeps_one true x kept = omega arith
-keeps_one false x kept = omega arith
-
-takes_one : (b : Bool) (x : ℕ) (kept : List ℕ) → b ≡ true → length (cond b (x ∷ kept) kept) ≡ suc (length kept)
-takes_one b x kept e = ap (λ (c : Bool). length (cond c (x ∷ kept) kept)) e
-
-one_passes_from : (f : ℕ → Bool) (a n x : ℕ) → a ≤ x → x < a + n → f x ≡ true → 1 ≤ length (filter f (range_with_len a n))
-one_passes_from f a zero x low high passes = absurd (omega arith)
-one_passes_from f a (suc n) x low high passes =
-    let rest = filter f (range_with_len (a + 1) n) in
-    elim (cases_eq a x) [
-      | inl same ↦ let more = takes_one (f a) a rest (ap f same ∙ passes) in omega arith
-      | inr ne ↦
-          let later = one_passes_from f (a + 1) n x (omega arith) (omega arith) passes in
-          let more = keeps_one (f a) a rest in
-          omega arith
-    ]
-
-two_pass_from : (f : ℕ → Bool) (a n x y : ℕ) → a ≤ x → x < y → y < a + n → f x ≡ true → f y ≡ true → 2 ≤ length (filter f (range_with_len a n))
-two_pass_from f a zero x y low order high first second = absurd (omega arith)
-two_pass_from f a (suc n) x y low order high first second =
-    let rest = filter f (range_with_len (a + 1) n) in
-    elim (cases_eq a x) [
-      | inl same ↦
-          let more = takes_one (f a) a rest (ap f same ∙ first) in
-          let later = one_passes_from f (a + 1) n y (omega arith) (omega arith) second in
-          omega arith
-      | inr ne ↦
-          let later = two_pass_from f (a + 1) n x y (omega arith) order (omega arith) first second in
-          let more = keeps_one (f a) a rest in
-          omega arith
-    ]
-
--- so a block that is reached in two roles has the rule Role
-several_bad : (graph : Graph) (image : List (List ℕ)) (b x y : ℕ) → x < y → y < 16 → is_reached graph image (pair b x) ≡ true → is_reached graph image (pair b y) ≡ true
-    → walk_bad graph image b r.Role ≡ true
-unfolding walk_bad roles_of
-several_bad graph image b x y order within first second =
-    let test = λ (role : ℕ). is_reached graph image (pair b role) in
-    let two = two_pass_from test 0 16 x y (omega arith) order (omega arith) first second in
-    or_right (list_any (λ role. graph.bad role b (block_at image b) r.Role) (filter test (range_with_len 0 16))) _
-    (ap (λ (x : Bool). x && true) (lt-ltb 1 (length (filter test (range_with_len 0 16))) two))
-
--- nor a bad rule in a role in which it is reached
-role_bad : (graph : Graph) (image : List (List ℕ)) (b role : ℕ) (broken : Rule) → role < 16 → is_reached graph image (pair b role) ≡ true
-    → graph.bad role b (block_at image b) broken ≡ true → walk_bad graph image b broken ≡ true
-unfolding walk_bad roles_of
-role_bad graph image b role broken within reached e =
-    let bad = λ (s : ℕ). graph.bad s b (block_at image b) broken in
-    let test = λ (s : ℕ). is_reached graph image (pair b s) in
-    or_left (list_any bad (filter test (range_with_len 0 16))) _
-    (any_kept bad test (range_with_len 0 16) ∙ passes_below (λ s. test s && bad s) 16 role within (and_from _ _ reached e))
-
-pub clean_of : (graph : Graph) (image : List (List ℕ)) (audit : Audit) → IsWalked graph image audit
-    → ((b : ℕ) (rule : Rule) → b < graph.nr → has_rule_at audit b rule ≡ false) → IsClean graph image
-clean_of graph image audit walked sound = record {
-  alone = λ p q small first second same.
-      let b = block_of q in
-      let first' : is_reached graph image (pair b (role_of p)) ≡ true = ap (is_reached graph image) (let e : pair b (role_of p) ≡ p = omega arith in e) ∙ first in
-      let second' : is_reached graph image (pair b (role_of q)) ≡ true = ap (is_reached graph image) (let e : pair b (role_of q) ≡ q = omega arith in e) ∙ second in
-      let none : walk_bad graph image b r.Role ≡ false = sym (walked.rules b r.Role small) ∙ sound b r.Role small in
-      elim (cases_eq (role_of p) (role_of q)) [
-        | inl e ↦ omega arith
-        | inr ne ↦ elim (cases_lt (role_of p) (role_of q)) [
-          | inl less ↦ absurd (both_ways _ none (several_bad graph image b (role_of p) (role_of q) less (omega arith) first' second'))
-          | inr more ↦ absurd (both_ways _ none (several_bad graph image b (role_of q) (role_of p) (omega arith) (omega arith) second' first'))
-        ]
-      ];
-  sound = λ b role small within reached broken.
-      let none : walk_bad graph image b broken ≡ false = sym (walked.rules b broken small) ∙ sound b broken small in
-      elim (cases_Bool (graph.bad role b (block_at image b) broken)) [
-        | inl e ↦ absurd (both_ways _ none (role_bad graph image b role broken within reached e))
-        | inr e ↦ e
-      ];
-}
 
 -- a block that is no node of a tree has none of the rules
 module _ (graph : Graph) (image : List (List ℕ)) (lawful : IsLawful graph) where

@@ -14,6 +14,9 @@ mod stepping;
 mod summary;
 mod telling;
 
-pub use laws::{greatest_is_the_greatest_key, least_is_the_least_key};
+pub use laws::{
+    below_is_the_number_of_entries, greatest_is_the_greatest_key, keys_are_those_of_entries,
+    least_is_the_least_key,
+};
 pub use settling::settle;
 pub use telling::{below, deep, greatest, least};

@@ -4,7 +4,8 @@ use Rattle.pd_graph.proofs.AnyLemmas.{if_both}
 use Rattle.std.proofs.lemmas.Option.{IfSome_then}
 use Rattle.pd_settle.specs.Ordering.{IsClean, IsOrdering, HasRoles}
 use Rattle.pd_settle.proofs.DescentLemmas.{kept_both}
-use Rattle.pd_settle.proofs.SettledLemmas.{clean_of, settled_of, steps_reached, done_from, done_more, roles_kept}
+use Rattle.pd_settle.proofs.CleanLemmas.{clean_of}
+use Rattle.pd_settle.proofs.SettledLemmas.{settled_of, steps_reached, done_from, done_more, roles_kept}
 use Rattle.pd_settle.proofs.settling.settle_each.Goals as goal
 
 pub returns-in_err-visit-clause-reads : goal.returns-in_err-visit-clause-reads
