@@ -44,6 +44,17 @@ fn child_at<F: Format>(format: &F, role: u8, block: &Block, i: usize) -> u64
     format.edge_of_any(role, block, i).1
 }
 
+/// The block of child i of a node all of whose children are blocks of the audit.
+fn block_at<F: Format>(audit: &Audit, format: &F, role: u8, block: &Block, i: usize) -> u64
+    requires role { role < F.ROLES }
+    requires child { i < length ((F.contents format.now).edges role block.now.0) }
+    requires within { list_all (λ c. nat_lt c (blocks_of audit.now)) (blocks_of_edges ((F.contents format.now).edges role block.now.0)) ≡ true }
+    ensures child { slice_get (blocks_of_edges ((F.contents format.now).edges role block.now.0)) i ≡ Some result }
+    ensures within { result < blocks_of audit.now }
+{
+    child_at(format, role, block, i)
+}
+
 /// Key i, where there is one, of so many.
 fn key_at<F: Format>(format: &F, role: u8, block: &Block, number: usize, i: usize) -> Option<u64>
     requires role { role < F.ROLES }
@@ -70,7 +81,7 @@ fn sum_up<F: Format>(audit: &Audit, format: &F, role: u8, block: &Block) -> (Not
     let mut in_range = true;
     let number = format.edges_of_any(role, block);
     for i in 0..number {
-        let child = child_at(format, role, block, i);
+        let child = block_at(audit, format, role, block, i);
         let note = audit.note(child);
         let low = format.key_of_any(role, block, i);
         let high = key_at(format, role, block, number, i + 1);
@@ -102,7 +113,8 @@ pub(crate) fn look<F: Format>(audit: &Audit, format: &F, role: u8, block: &Block
             return Seen::Outside;
         }
         let height = audit.note(child).height;
-        if height == 0 {
+        let is_unknown = height == 0;
+        if is_unknown {
             return Seen::Down(child);
         }
         if 64 <= height {

@@ -15,8 +15,8 @@ returns-then-nr-child g c =
     let past = c.if-nr-child.true in
     record { outside = one_of (λ d. not (nat_lt d nr)) cs c.loop-i.i child c.child_at-child.ensures (ap not (le-ltb child nr (omega arith))) }
 
-pub returns-then-height-eq0 : goal.returns-then-height-eq0
-returns-then-height-eq0 g c =
+pub returns-then-is_unknown : goal.returns-then-is_unknown
+returns-then-is_unknown g c =
     let child = c.child_at-child.result in
     let cs = blocks_of_edges ((g.F.Format.contents c.args.format.now).edges c.args.role c.args.block.now.0) in
     let number = c.nr.ensures.number in
@@ -24,7 +24,7 @@ returns-then-height-eq0 g c =
     record {
       child = one_of (λ d. nat_eq d child) cs c.loop-i.i child c.child_at-child.ensures (eq-eqb child child refl);
       within = omega arith;
-      height = sym (ap (λ (n : Note). n.height) c.note-height.ensures) ∙ c.if-height-eq0.true;
+      height = sym (ap (λ (n : Note). n.height) c.note-height.ensures) ∙ c.if-is_unknown.true;
     }
 
 pub returns-then-height-ge64 : goal.returns-then-height-ge64
@@ -50,5 +50,5 @@ loop-i-preserved g c =
       within = all_more (λ d. nat_lt d nr) cs c.loop-i.i child c.loop-i.invariant.within c.child_at-child.ensures (lt-ltb child nr (omega arith));
       low =
           all_more (λ d. is_low (notes d)) cs c.loop-i.i child c.loop-i.invariant.low c.child_at-child.ensures
-          (ap is_low (sym c.note-height.ensures) ∙ low_by c.note-height.result c.if-height-eq0.false c.if-height-ge64.false);
+          (ap is_low (sym c.note-height.ensures) ∙ low_by c.note-height.result c.if-is_unknown.false c.if-height-ge64.false);
     }

@@ -1,8 +1,6 @@
-use Rattle.std.proofs.Common.{nat_lt}
-use Rattle.std.proofs.lemmas.Bool.{ltb-true}
-use Rattle.pd_graph.specs.Audit.{blocks_of, note_at}
+use Rattle.pd_graph.specs.Audit.{note_at}
 use Rattle.pd_settle.specs.Looking.{blocks_of_edges}
-use Rattle.pd_settle.proofs.LookLemmas.{place_passes, summing_read}
+use Rattle.pd_settle.proofs.LookLemmas.{summing_read}
 use Rattle.pd_settle.proofs.looking.sum_up.Goals as goal
 
 pub loop-i-preserved : goal.loop-i-preserved
@@ -12,13 +10,7 @@ loop-i-preserved g c =
       sums =
           summing_read (note_at c.args.audit.now) (contents.keys c.args.role c.args.block.now.0)
           (blocks_of_edges (contents.edges c.args.role c.args.block.now.0))
-          c.loop-i.i c.key_of_any-low.result c.child_at-child.result c.key_at-high.result c.loop-i.sum c.note-note.result c.join-sum.result c.loop-i.in_range c.is_in_range-fits.result
-          c.loop-i.invariant.sums c.requires.low c.key_of_any-low.ensures c.child_at-child.ensures c.note-note.ensures
+          c.loop-i.i c.key_of_any-low.result c.block_at-child.result c.key_at-high.result c.loop-i.sum c.note-note.result c.join-sum.result c.loop-i.in_range c.is_in_range-fits.result
+          c.loop-i.invariant.sums c.requires.low c.key_of_any-low.ensures c.block_at-child.ensures.child c.note-note.ensures
           c.key_at-high.ensures c.join-sum.ensures c.is_in_range-fits.ensures;
     }
-
-pub note-note-requires : goal.note-note-requires
-note-note-requires g c =
-    let cs = blocks_of_edges ((g.F.Format.contents c.args.format.now).edges c.args.role c.args.block.now.0) in
-    let nr = blocks_of c.args.audit.now in
-    ltb-true c.child_at-child.result nr (place_passes (λ d. nat_lt d nr) cs c.loop-i.i c.child_at-child.result c.requires.within c.child_at-child.ensures)
