@@ -1,5 +1,6 @@
 //! The index block of the metadata's space map: an entry for each bitmap.
 
+ghost use Rattle.pd_kinds.specs.declared.limits.TheConstants.{MAX_META_BLOCKS};
 ghost use Rattle.std.specs.Prelude.{◌≡◌, ℕ, ◌+◌, ◌*◌, ◌/◌, ◌<◌, ◌≤◌, ◌&&◌, All, EachIndex, Some, false, true, length, map, slice_get};
 ghost use Rattle.std.specs.List.{list_any};
 ghost use Rattle.pd_kinds.specs.declared.rule.Rule.{Rule as BrokenRule};
@@ -33,7 +34,7 @@ const BITMAP_COUNTS: usize = 16320;
 /// many blocks need are looked at.
 #[tactic(auto, unfolding(pd_kinds::specs::Bitmap::index_bad, pd_kinds::specs::RuleSet::alone))]
 pub fn index_rules(block: &Block, place: u64, nr: u64) -> Rules
-    requires { nr ≤ 4161600 }
+    requires { nr ≤ MAX_META_BLOCKS }
     ensures { (rule : BrokenRule) → has_rule result rule ≡ index_bad nr place block.now.0 rule }
 {
     if !is_sealed(block, INDEX_SALT) {
@@ -45,7 +46,7 @@ pub fn index_rules(block: &Block, place: u64, nr: u64) -> Rules
 /// The rules that are looked at each by itself.
 #[tactic(auto, unfolding(pd_kinds::specs::Bitmap::index_tests, pd_kinds::specs::RuleSet::failing))]
 fn table_rules(block: &Block, place: u64, nr: u64) -> Rules
-    requires { nr ≤ 4161600 }
+    requires { nr ≤ MAX_META_BLOCKS }
     ensures { (rule : BrokenRule) → has_rule result rule ≡ failing (index_tests nr place block.now.0) rule }
 {
     let elsewhere = u64_at(&block.0, 8) != place;
@@ -58,7 +59,7 @@ fn table_rules(block: &Block, place: u64, nr: u64) -> Rules
 /// Whether a bitmap that so many blocks need isn't from 1 to `nr - 1`.
 #[tactic(auto, unfolding(pd_kinds::specs::Bitmap::index_blocks))]
 fn is_bitmap_outside(block: &Block, nr: u64) -> bool
-    requires { nr ≤ 4161600 }
+    requires { nr ≤ MAX_META_BLOCKS }
     ensures { result ≡ list_any (λ (b : ℕ). is_outside nr b) (index_blocks nr block.now.0) }
 {
     let count = (nr as usize).div_ceil(BITMAP_COUNTS);

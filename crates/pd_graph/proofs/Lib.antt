@@ -2,7 +2,6 @@ pub mod BitLemmas
 pub mod TableLemmas
 pub mod Weights
 pub mod EdgeLemmas
-pub mod RuleLemmas
 pub mod AnyLemmas
 pub mod WalkLemmas
 pub mod StartLemmas

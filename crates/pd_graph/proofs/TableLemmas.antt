@@ -1,6 +1,7 @@
 -- Tables by block number: what a write changes, and what a new one holds.
-use Rattle.std.proofs.Common.{◌≡◌, ℕ, zero, suc, ◌<◌, Bool, true, false, ◌||◌, ◌&&◌, nat_eq, get_or, set, replicate, List, [], ◌∷◌, length, refl, ap, sym, ◌∙◌, arith, eq-eqb, inl, inr}
+use Rattle.std.proofs.Common.{◌≡◌, ℕ, zero, suc, ◌<◌, Bool, false, ◌||◌, ◌&&◌, nat_eq, get_or, set, replicate, List, [], ◌∷◌, length, refl, ap, sym, ◌∙◌, arith, eq-eqb, inl, inr}
 use Rattle.std.proofs.lemmas.Bool.{cases_eq}
+use Rattle.std.proofs.Math.Bool.{or-false}
 use Rattle.pd_kinds.specs.declared.rule.Rule.{Rule}
 use Rattle.pd_kinds.specs.declared.rules.Rules.{Rules}
 use Rattle.pd_kinds.specs.RuleSet.{has_rule}
@@ -22,10 +23,6 @@ no_rule_in zero b rules wanted none = refl
 no_rule_in (suc n) zero rules wanted none = none wanted
 no_rule_in (suc n) (suc b) rules wanted none = no_rule_in n b rules wanted none
 
-or_none : (b : Bool) → b ≡ (b || false)
-or_none true = refl
-or_none false = refl
-
 same_test : (c b : ℕ) → nat_eq (suc c) (suc b) ≡ nat_eq c b
 same_test c b = elim (cases_eq c b) [
   | inl e ↦ eq-eqb (suc c) (suc b) (omega arith) ∙ sym (eq-eqb c b e)
@@ -40,9 +37,9 @@ unfolding has_rule_in
 has_rule_in_more [] b d v test small more c wanted = absurd (omega arith)
 has_rule_in_more (rules ∷ rest) zero d v test small more zero wanted = more wanted
 has_rule_in_more (rules ∷ rest) zero d v test small more (suc c) wanted =
-    rw (differ (suc c) 0 (λ e. absurd (omega arith))) (or_none (has_rule_in rest c wanted))
+    rw (differ (suc c) 0 (λ e. absurd (omega arith))) (sym (or-false (has_rule_in rest c wanted)))
 has_rule_in_more (rules ∷ rest) (suc b) d v test small more zero wanted =
-    rw (differ 0 (suc b) (λ e. absurd (omega arith))) (or_none (has_rule rules wanted))
+    rw (differ 0 (suc b) (λ e. absurd (omega arith))) (sym (or-false (has_rule rules wanted)))
 has_rule_in_more (rules ∷ rest) (suc b) d v test small more (suc c) wanted =
     has_rule_in_more rest b d v test (omega arith) more c wanted
     ∙ ap (λ (x : Bool). has_rule_in rest c wanted || (x && test wanted)) (sym (same_test c b))

@@ -1,4 +1,5 @@
 -- A pair more is taken and looked at: what holds on the way still holds.
+use Rattle.pd_kinds.specs.declared.limits.TheConstants.{MAX_META_BLOCKS}
 use Rattle.std.proofs.Common.{◌≡◌, ◌≢◌, inl, inr, ℕ, ◌+◌, ◌*◌, ◌/◌, ◌%◌, ◌^◌, ◌<◌, ◌≤◌, Bool, true, false, ◌&&◌, ◌||◌, cond, nat_eq, get_or, List, [], ◌∷◌, map, length, Some, refl, sym, ◌∙◌, ap, subst, eq-eqb, arith}
 use Rattle.std.proofs.Math.Bool.{or-false}
 use Rattle.std.specs.List.{list_any, count_by, AllByRecursion, range_with_len, slice_get}
@@ -245,7 +246,7 @@ taken_reached graph image b role old new safe told takes =
     ])
 
 -- there is room for the edges of the pair that was taken
-pub room_taken : (graph : Graph) (b role : ℕ) (old new : Marks) → graph.nr ≤ 4161600 → IsSafe graph old → Takes b role old new
+pub room_taken : (graph : Graph) (b role : ℕ) (old new : Marks) → graph.nr ≤ MAX_META_BLOCKS → IsSafe graph old → Takes b role old new
     → (c : ℕ) → get_or (counts_of new) c 0 + 256 ≤ 2 ^ 64
 room_taken graph b role old new few safe takes c =
     let same = ap (λ (table : List ℕ). get_or table c 0) takes.counts in

@@ -1,3 +1,4 @@
+ghost use Rattle.pd_kinds.specs.declared.limits.TheConstants.{MAX_META_BLOCKS};
 ghost use Rattle.std.specs.Prelude.{◌≡◌, ℕ, ◌<◌, ◌≤◌, ◌==◌, ◌||◌, ◌&&◌, false, length, IfOk, if◌then◌else◌};
 ghost use Rattle.pd_kinds.specs.declared.rule.Rule.{Rule};
 ghost use Rattle.pd_kinds.specs.RuleSet.{has_rule};
@@ -21,17 +22,17 @@ pub struct Audit {
     ghost places: { HasPlaces nr marks },
     ghost note_places: { length notes.items ≡ nr },
     ghost some: { 1 ≤ nr },
-    ghost few: { nr ≤ 4161600 },
+    ghost few: { nr ≤ MAX_META_BLOCKS },
 }
 
 impl Audit {
     ghost use Rattle.pd_graph.specs.Audit.{blocks_of, has_walked, roles_at, has_rule_at, count_at, note_at, IsNew, KeepsButRules, KeepsButNotes, KeepsMarks};
 
-    /// An audit of so many blocks, from 1 to 4161600, that knows nothing of them. It takes all the memory
+    /// An audit of so many blocks, from 1 to `MAX_META_BLOCKS`, that knows nothing of them. It takes all the memory
     /// of the walk and of settling; want of it is the only error.
     pub fn new(alloc: Global, nr: u64) -> Result<Audit, AllocError>
         requires some { 1 ≤ nr }
-        requires few { nr ≤ 4161600 }
+        requires few { nr ≤ MAX_META_BLOCKS }
         ensures { IfOk result (IsNew nr) }
     {
         let unknown = KeptNote::of(Note {
@@ -54,7 +55,7 @@ impl Audit {
     pub fn nr(&self) -> u64
         ensures number { result ≡ blocks_of self.now }
         ensures some { 1 ≤ result }
-        ensures few { result ≤ 4161600 }
+        ensures few { result ≤ MAX_META_BLOCKS }
     {
         self.nr
     }

@@ -27,7 +27,7 @@ pub trait Format {
     /// What the bytes of a block say in a role.
     ghost contents: { Self → Contents };
 
-    /// The number of metadata blocks, from 1 to 4161600.
+    /// The number of metadata blocks, from 1 to `MAX_META_BLOCKS`.
     fn nr(&self) -> u64
         ensures { result ≡ (graph self.now).nr };
 

@@ -1,5 +1,5 @@
+ghost use Rattle.pd_kinds.specs.declared.limits.TheConstants.{MAX_META_BLOCKS};
 ghost use Rattle.std.specs.Prelude.{◌≡◌, ℕ, ◌<◌, ◌==◌, ◌||◌, ◌&&◌, ◌+◌, ◌^◌, ◌≤◌, [], ◌∷◌, length, replicate, slice_index, IfOk, IfSome, IfNone};
-ghost use Rattle.std.specs.List.{list_any};
 ghost use Rattle.pd_kinds.specs.declared.rule.Rule.{Rule as BrokenRule};
 ghost use Rattle.pd_kinds.specs.Rule.{same_rule};
 ghost use Rattle.pd_kinds.specs.RuleSet.{has_rule};
@@ -77,7 +77,7 @@ impl Marks {
     /// none where all that was met was read.
     pub(crate) fn take(&mut self) -> Option<(u64, u8)>
         requires same { length (read_of self.old) ≡ length (seen_of self.old) }
-        requires few { length (seen_of self.old) ≤ 4161600 }
+        requires few { length (seen_of self.old) ≤ MAX_META_BLOCKS }
         ensures some { IfSome result (λ taken. Takes taken.0 taken.1 self.old self.new) }
         ensures none { IfNone result (IsAllRead (seen_of self.old) (read_of self.old)) }
         ensures kept { IfNone result (KeepsTables self.old self.new) }
@@ -112,7 +112,7 @@ impl Marks {
         requires seen { b < length (seen_of self.old) }
         requires read { b < length (read_of self.old) }
         requires counts { b < length (counts_of self.old) }
-        requires few { length (seen_of self.old) ≤ 4161600 }
+        requires few { length (seen_of self.old) ≤ MAX_META_BLOCKS }
         requires room { slice_index (counts_of self.old) b + 1 < 2 ^ 64 }
         ensures follows { Follows (edge_of role b ∷ []) self.old self.new }
         ensures rules { rules_of self.new ≡ rules_of self.old }
@@ -125,7 +125,8 @@ impl Marks {
         }
     }
 
-    /// Follows the edges of a block without a bad rule.
+    /// Follows the edges of a block without a bad rule, from the last to the first: so the first of them is on
+    /// top of the stack, and blocks are read in the order in which the nodes above name them.
     fn follow<F: Format>(&mut self, format: &F, role: u8, place: u64, block: &Block)
         requires role { role < F.ROLES }
         requires sound { IsSound (F.graph format.now) role place block.now.0 }
@@ -134,7 +135,7 @@ impl Marks {
         ensures follows { Follows ((F.graph format.now).edges role place block.now.0) self.old self.new }
         ensures rules { rules_of self.new ≡ rules_of self.old }
     {
-        for i in 0..format.edges_of_any(role, block) {
+        for i in (0..format.edges_of_any(role, block)).rev() {
             let (met_role, b) = format.edge(role, place, block, i);
             self.meet(met_role, b as usize);
         }
@@ -150,7 +151,7 @@ impl Marks {
         ensures counts { counts_of self.new ≡ counts_of self.old }
         ensures places { length (rules_of self.new) ≡ length (rules_of self.old) }
     {
-        self.rules[b] = union(self.rules[b], broken, &Rule::ALL);
+        self.rules[b] = self.rules[b].union(broken);
     }
 
     /// Looks at a block in a role: keeps the rules that it breaks, and follows its edges if it breaks none.
@@ -168,16 +169,4 @@ impl Marks {
             self.add_rules(b as usize, &broken);
         }
     }
-}
-
-/// The rules of the first set, and of these the ones that the second has.
-fn union(rules: Rules, others: &Rules, all: &[Rule]) -> Rules
-    ensures { (wanted : BrokenRule) → has_rule result wanted
-        ≡ (has_rule rules wanted || (list_any (λ rule. same_rule rule wanted) all.now && has_rule others.now wanted)) }
-{
-    let mut both = rules;
-    for rule in all {
-        both = both.with_if(*rule, others.has(*rule));
-    }
-    both
 }

@@ -1,8 +1,8 @@
 ghost use Rattle.std.specs.Prelude.{◌≡◌};
 ghost use Rattle.pd_graph.specs.Notes.{note_of};
 
-/// What settling keeps of a block: the least and the greatest key below it, the number of entries below
-/// it, and its height over the leaves.
+/// What settling keeps of a node: the least and the greatest key below it, the number of entries below it,
+/// and its height.
 #[derive(Clone, Copy, Debug, PartialEq, Eq)]
 pub struct Note {
     /// The least key, where there is one.
@@ -11,7 +11,8 @@ pub struct Note {
     pub greatest: Option<u64>,
     /// The number of entries of the leaves below.
     pub below: u64,
-    /// The number of nodes on the way to the leaves: 0 for a leaf.
+    /// How many nodes the longest way down to a leaf has: from 1, for a leaf itself, to 64 for a settled node.
+    /// It is 0 where nothing is known of the node, and greater where it is too deep.
     pub height: u64,
 }
 

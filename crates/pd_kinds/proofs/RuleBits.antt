@@ -1,8 +1,8 @@
 -- The bits of a set of rules, one by one.
-use Rattle.std.proofs.Common.{◌≡◌, ◌≢◌, ℕ, ◌<◌, ◌^◌, ◌*◌, ◌%◌, true, false, ◌||◌, get_or, nat_eq, refl, sym, ◌∙◌, arith, lit<, bit_or, zero-add, eq-eqb, inl, inr}
+use Rattle.std.proofs.Common.{◌≡◌, ◌≢◌, ℕ, ◌<◌, ◌^◌, ◌*◌, ◌%◌, zero, suc, max, true, false, ◌||◌, get_or, nat_eq, refl, sym, ◌∙◌, arith, lit<, bit_or, zero-add, eq-eqb, inl, inr}
 use Rattle.std.specs.Int.{bit_at, w32}
 use Rattle.std.proofs.lemmas.Nat.{one_shl, or_lt}
-use Rattle.std.proofs.lemmas.Nat.Bits.{bit_at_set_same, bit_at_set_other, same_from_bits_below, bit_at-zero, bit_at-lt}
+use Rattle.std.proofs.lemmas.Nat.Bits.{bit_at_set_same, bit_at_set_other, same_from_bits_below, bit_at-zero, bit_at-lt, bit_at_or}
 use Rattle.std.proofs.lemmas.List.{get_or-map}
 use Rattle.std.proofs.lemmas.List.FromFn.{get_or-range_with_len}
 use Rattle.std.proofs.lemmas.Bool.{cases_eq}
@@ -48,6 +48,20 @@ bit_of_with bits n k within small = elim (cases_eq k n) [
       let e : nat_eq n k ≡ false = grind (arith, other) in
       rw (bit_at_set_other w32 bits n (omega arith) k other, e) (sym (or-false (nat_eq (bit_at bits k) 1)))
 ]
+
+-- of two bits one is set where the greater is
+greater_bit : (a b : ℕ) → a < 2 → b < 2 → nat_eq (max a b) 1 ≡ (nat_eq a 1 || nat_eq b 1)
+greater_bit zero zero small within = refl
+greater_bit zero (suc zero) small within = refl
+greater_bit (suc zero) zero small within = refl
+greater_bit (suc zero) (suc zero) small within = refl
+greater_bit (suc (suc a)) b small within = absurd (omega arith)
+greater_bit zero (suc (suc b)) small within = absurd (omega arith)
+greater_bit (suc zero) (suc (suc b)) small within = absurd (omega arith)
+
+-- the bits of two sets
+pub bit_of_both : (a b k : ℕ) → nat_eq (bit_at (bit_or a b) k) 1 ≡ (nat_eq (bit_at a k) 1 || nat_eq (bit_at b k) 1)
+bit_of_both a b k = rw (bit_at_or a b k) (greater_bit (bit_at a k) (bit_at b k) (bit_at-lt a k) (bit_at-lt b k))
 
 -- a set of no bits is 0
 pub empty_from_bits : (bits : ℕ) → bits < 2 ^ 22 → ((k : ℕ) → k < 22 → nat_eq (bit_at bits k) 1 ≡ false) → bits ≡ 0

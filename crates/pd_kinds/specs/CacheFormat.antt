@@ -2,15 +2,15 @@
 -- superblock's fields and rules, and the roles. These are 0 superblock, 1 tree of the mapping array,
 -- 2 its blocks, 3 tree of the hint array, 4 its blocks, 5 tree of the discard bitset, 6 its blocks,
 -- 7 index block of the metadata bitmaps, 8 metadata bitmap, 9 metadata overflow tree.
-use Rattle.std.specs.Prelude.{ℕ, Bool, ◌==◌, ◌&&◌, ◌||◌, not, nat_lt, List, [], ◌∷◌, ◌++◌, take, drop}
+use Rattle.std.specs.Prelude.{ℕ, Bool, ◌==◌, ◌&&◌, ◌||◌, not, List, [], ◌∷◌, ◌++◌, take, drop}
 use Rattle.pd_kinds.specs.declared.kind.Kind.TheVariants.{Cache}
+use Rattle.pd_kinds.specs.declared.map_root.SmRoot.{SmRoot}
 use Rattle.pd_kinds.specs.declared.rule.Rule.{Rule}
 use Rattle.pd_kinds.specs.declared.rule.Rule.TheVariants as r
 use Rattle.pd_kinds.specs.Field.{le}
-use Rattle.pd_kinds.specs.Checksum.{has_checksum}
-use Rattle.pd_kinds.specs.RuleSet.{Test, failing, alone}
-use Rattle.pd_kinds.specs.Super.{magic_of, salt_of}
-use Rattle.pd_kinds.specs.SpaceMap.{MapFields, map_fields}
+use Rattle.pd_kinds.specs.RuleSet.{Test}
+use Rattle.pd_kinds.specs.Super.{super_rules}
+use Rattle.pd_kinds.specs.SpaceMap.{map_fields}
 use Rattle.pd_kinds.specs.Edge.{Edge, optional_edge, has_edge_outside}
 use Rattle.pd_kinds.specs.Limits.{is_meta_size_bad}
 use Rattle.pd_kinds.specs.Graph.{Graph}
@@ -23,7 +23,7 @@ pub record CacheFields : Type 0 where
   pub version : ℕ
   pub policy : List ℕ
   pub hint_size : ℕ
-  pub meta_map : MapFields
+  pub meta_map : SmRoot
   pub mapping_root : ℕ
   pub hint_root : ℕ
   pub discard_root : ℕ
@@ -94,13 +94,9 @@ cache_super_tests device_blocks block =
     ∷ record { rule = r.Place; fails = not (le block 8 8 == 0) }
     ∷ []
 
--- the rules that the cache superblock of a device of so many blocks breaks: a wrong checksum comes alone,
--- and so does a wrong magic
+-- the rules that the cache superblock of a device of so many blocks breaks
 unfoldable pub cache_super_bad : ℕ → List ℕ → Rule → Bool
-cache_super_bad device_blocks block =
-    alone r.Checksum (not (has_checksum block (salt_of Cache)))
-    (alone r.Magic (not (le block 32 8 == magic_of Cache))
-    (failing (cache_super_tests device_blocks block)))
+cache_super_bad device_blocks block = super_rules Cache block (cache_super_tests device_blocks block)
 
 -- the layout of each role, of so many metadata blocks
 unfoldable pub cache_layout : ℕ → ℕ → Layout

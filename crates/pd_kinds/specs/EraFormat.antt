@@ -4,13 +4,13 @@
 -- 6 its blocks, 7 index block of the metadata bitmaps, 8 metadata bitmap, 9 metadata overflow tree.
 use Rattle.std.specs.Prelude.{ℕ, ◌/◌, ◌%◌, ◌^◌, Bool, ◌==◌, ◌&&◌, not, nat_lt, List, [], ◌∷◌, ◌++◌, take, drop}
 use Rattle.pd_kinds.specs.declared.kind.Kind.TheVariants.{Era}
+use Rattle.pd_kinds.specs.declared.map_root.SmRoot.{SmRoot}
 use Rattle.pd_kinds.specs.declared.rule.Rule.{Rule}
 use Rattle.pd_kinds.specs.declared.rule.Rule.TheVariants as r
 use Rattle.pd_kinds.specs.Field.{le}
-use Rattle.pd_kinds.specs.Checksum.{has_checksum}
-use Rattle.pd_kinds.specs.RuleSet.{Test, failing, alone}
-use Rattle.pd_kinds.specs.Super.{magic_of, salt_of}
-use Rattle.pd_kinds.specs.SpaceMap.{MapFields, map_fields}
+use Rattle.pd_kinds.specs.RuleSet.{Test}
+use Rattle.pd_kinds.specs.Super.{super_rules}
+use Rattle.pd_kinds.specs.SpaceMap.{map_fields}
 use Rattle.pd_kinds.specs.Edge.{Edge, optional_edge, has_edge_outside}
 use Rattle.pd_kinds.specs.Limits.{is_meta_size_bad}
 use Rattle.pd_kinds.specs.Graph.{Graph}
@@ -21,7 +21,7 @@ pub record EraFields : Type 0 where
   pub flags : ℕ
   pub uuid : List ℕ
   pub version : ℕ
-  pub meta_map : MapFields
+  pub meta_map : SmRoot
   pub block_size : ℕ
   pub meta_block_size : ℕ
   pub blocks : ℕ
@@ -78,23 +78,20 @@ era_super_tests device_blocks block =
     ∷ record { rule = r.Place; fails = not (le block 8 8 == 0) }
     ∷ []
 
--- the rules that the era superblock of a device of so many blocks breaks: a wrong checksum comes alone,
--- and so does a wrong magic
+-- the rules that the era superblock of a device of so many blocks breaks
 unfoldable pub era_super_bad : ℕ → List ℕ → Rule → Bool
-era_super_bad device_blocks block =
-    alone r.Checksum (not (has_checksum block (salt_of Era)))
-    (alone r.Magic (not (le block 32 8 == magic_of Era))
-    (failing (era_super_tests device_blocks block)))
+era_super_bad device_blocks block = super_rules Era block (era_super_tests device_blocks block)
 
--- the rules of a metadata snapshot in its place, in the same way
-unfoldable pub era_snap_bad : ℕ → ℕ → List ℕ → Rule → Bool
-era_snap_bad nr place block =
-    alone r.Checksum (not (has_checksum block (salt_of Era)))
-    (alone r.Magic (not (le block 32 8 == magic_of Era))
-    (failing (
+-- the rules of a metadata snapshot that are looked at each by itself
+abbrev pub era_snap_tests : ℕ → ℕ → List ℕ → List Test
+era_snap_tests nr place block =
     record { rule = r.Pointer; fails = has_edge_outside nr (snap_edges block) }
     ∷ record { rule = r.Place; fails = not (le block 8 8 == place) }
-    ∷ [])))
+    ∷ []
+
+-- the rules that a metadata snapshot in its place breaks
+unfoldable pub era_snap_bad : ℕ → ℕ → List ℕ → Rule → Bool
+era_snap_bad nr place block = super_rules Era block (era_snap_tests nr place block)
 
 -- a writeset's number of bits, and the root of its bits
 abbrev pub writeset_bits : ℕ → ℕ

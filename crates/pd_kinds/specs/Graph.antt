@@ -57,15 +57,24 @@ is_inner_pair graph image p = graph.is_inner (role_of p) (block_of p) (block_at 
 unfoldable pub next : Graph → List (List ℕ) → ℕ → List ℕ
 next graph image p = map (λ (edge : Edge). pair edge.block edge.role) (edges_of graph image p)
 
--- whether at most k steps lead from pair 0, the superblock, to the pair; there are n pairs
-unfoldable pub reached : ℕ → (ℕ → List ℕ) → ℕ → ℕ → Bool
-reached n step zero p = p == 0
-reached n step (suc k) p =
-    reached n step k p || list_any (λ q. reached n step k q && list_any (λ t. t == p) (step q)) (range_with_len 0 n)
+-- whether at most k steps lead from the first pair to the pair; there are n pairs
+unfoldable pub reached_from : ℕ → (ℕ → List ℕ) → ℕ → ℕ → ℕ → Bool
+reached_from n step first zero p = p == first
+reached_from n step first (suc k) p =
+    reached_from n step first k p
+    || list_any (λ q. reached_from n step first k q && list_any (λ t. t == p) (step q)) (range_with_len 0 n)
 
--- whether the pair is reached: no path needs more steps than there are pairs
+-- whether the pair is reached from the first pair: no path needs more steps than there are pairs
+abbrev pub is_reached_from : Graph → List (List ℕ) → ℕ → ℕ → Bool
+is_reached_from graph image first p = reached_from (16 * graph.nr) (next graph image) first (16 * graph.nr) p
+
+-- the pairs that are reached from the first pair, ascending
+abbrev pub nodes_from : Graph → List (List ℕ) → ℕ → List ℕ
+nodes_from graph image first = filter (is_reached_from graph image first) (range_with_len 0 (16 * graph.nr))
+
+-- whether the pair is reached: from pair 0, the superblock
 unfoldable pub is_reached : Graph → List (List ℕ) → ℕ → Bool
-is_reached graph image p = reached (16 * graph.nr) (next graph image) (16 * graph.nr) p
+is_reached graph image p = is_reached_from graph image 0 p
 
 -- the reachable pairs, ascending
 unfoldable pub nodes : Graph → List (List ℕ) → List ℕ

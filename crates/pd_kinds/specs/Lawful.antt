@@ -1,6 +1,7 @@
 -- The laws that a format keeps, over all blocks. The walk and the settling rest on these alone.
 use Rattle.std.specs.Prelude.{◌≡◌, ℕ, ◌<◌, ◌≤◌, true, false, List, [], length}
 use Rattle.std.specs.List.{AllByRecursion}
+use Rattle.pd_kinds.specs.declared.limits.TheConstants.{MAX_META_BLOCKS}
 use Rattle.pd_kinds.specs.declared.rule.Rule.{Rule}
 use Rattle.pd_kinds.specs.Edge.{Edge}
 use Rattle.pd_kinds.specs.Node.{is_ascending}
@@ -41,5 +42,5 @@ pub record IsLawful (graph : Graph) : Type 0 where
   pub some_role : 1 ≤ graph.roles
   pub few_roles : graph.roles ≤ 16
   pub some_block : 1 ≤ graph.nr
-  pub few_blocks : graph.nr ≤ 4161600
+  pub few_blocks : graph.nr ≤ MAX_META_BLOCKS
   pub each : (role place : ℕ) (block : List ℕ) → role < graph.roles → KeepsLaws graph role place block

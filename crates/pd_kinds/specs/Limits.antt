@@ -1,12 +1,8 @@
 -- How many blocks the tools take.
 use Rattle.std.specs.Prelude.{ℕ, Bool, ◌==◌, ◌||◌, nat_lt}
-
--- as many metadata blocks as the 255 bitmaps of one index block cover, of 16320 counts each
--- ("drivers/md/persistent-data/dm-space-map-metadata.h")
-abbrev pub max_meta_blocks : ℕ
-max_meta_blocks = 4161600
+use Rattle.pd_kinds.specs.declared.limits.TheConstants.{MAX_META_BLOCKS}
 
 -- whether a number of metadata blocks is out of range: none, more than the device has, or more than 255
 -- bitmaps cover
 abbrev pub is_meta_size_bad : ℕ → ℕ → Bool
-is_meta_size_bad device_blocks nr = (nr == 0) || (nat_lt device_blocks nr || nat_lt max_meta_blocks nr)
+is_meta_size_bad device_blocks nr = (nr == 0) || (nat_lt device_blocks nr || nat_lt MAX_META_BLOCKS nr)

@@ -1,9 +1,12 @@
 -- What makes a block the superblock of one of the three kinds.
-use Rattle.std.specs.Prelude.{ℕ, Bool, ◌==◌, ◌&&◌, ◌||◌, List}
+use Rattle.std.specs.Prelude.{ℕ, Bool, ◌==◌, ◌&&◌, ◌||◌, not, List, [], ◌∷◌}
 use Rattle.pd_kinds.specs.declared.kind.Kind.{Kind}
 use Rattle.pd_kinds.specs.declared.kind.Kind.TheVariants.{Thin, Cache, Era}
-use Rattle.pd_kinds.specs.Field.{le}
-use Rattle.pd_kinds.specs.Checksum.{has_checksum}
+use Rattle.pd_kinds.specs.declared.rule.Rule.{Rule}
+use Rattle.pd_kinds.specs.declared.rule.Rule.TheVariants as r
+use Rattle.pd_kinds.specs.RuleSet.{Test, failing, alone}
+use Rattle.pd_kinds.specs.Field.{Row, le, put_bytes, written}
+use Rattle.pd_kinds.specs.Checksum.{has_checksum, sealed}
 
 -- the magic number, which stands in the eight bytes at offset 32
 abbrev pub magic_of : Kind → ℕ
@@ -21,6 +24,23 @@ salt_of Era = 146538381
 unfoldable pub is_super_of : Kind → List ℕ → Bool
 is_super_of kind block = has_checksum block (salt_of kind) && ((le block 32 8 == magic_of kind) && (le block 8 8 == 0))
 
+-- the rules of a superblock of a kind, or of a copy of it: a wrong checksum comes alone, and so does a
+-- wrong magic; else each test is looked at by itself
+abbrev pub super_rules : Kind → List ℕ → List Test → Rule → Bool
+super_rules kind block tests =
+    alone r.Checksum (not (has_checksum block (salt_of kind)))
+    (alone r.Magic (not (le block 32 8 == magic_of kind))
+    (failing tests))
+
 -- a valid superblock, of any kind
 unfoldable pub is_valid_super : List ℕ → Bool
 is_valid_super block = is_super_of Thin block || (is_super_of Cache block || is_super_of Era block)
+
+-- the numbers that the superblock of a kind begins with, for block 0: its place and its magic
+abbrev pub head_rows : Kind → List Row
+head_rows kind =
+    record { offset = 8; size = 8; value = 0 } ∷ record { offset = 32; size = 8; value = magic_of kind } ∷ []
+
+-- the superblock of a kind, for block 0, over a block with its other fields
+unfoldable pub super_block : Kind → List ℕ → List ℕ → List ℕ
+super_block kind uuid block = sealed (put_bytes (written block (head_rows kind)) 16 uuid) (salt_of kind)

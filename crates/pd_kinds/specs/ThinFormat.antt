@@ -7,30 +7,33 @@ use Rattle.pd_kinds.specs.declared.kind.Kind.TheVariants.{Thin}
 use Rattle.pd_kinds.specs.declared.rule.Rule.{Rule}
 use Rattle.pd_kinds.specs.declared.rule.Rule.TheVariants as r
 use Rattle.pd_kinds.specs.Field.{le}
-use Rattle.pd_kinds.specs.Checksum.{has_checksum}
-use Rattle.pd_kinds.specs.RuleSet.{failing, alone}
-use Rattle.pd_kinds.specs.Super.{magic_of, salt_of}
+use Rattle.pd_kinds.specs.RuleSet.{Test}
+use Rattle.pd_kinds.specs.Super.{super_rules}
 use Rattle.pd_kinds.specs.Edge.{Edge, has_edge_outside}
-use Rattle.pd_kinds.specs.ThinSuper.{thin_fields, thin_super_bad, thin_super_edges}
+use Rattle.pd_kinds.specs.ThinSuper.{ThinFields, thin_fields, thin_super_bad, thin_super_edges}
 use Rattle.pd_kinds.specs.Graph.{Graph}
 use Rattle.pd_kinds.specs.Layout.{Layout, copy, tree, bitmap, index, plain_tree, tree_to, layouts, graph_of}
 
 -- of a held superblock copy only the two roots of trees count
-abbrev pub held_edges : List ℕ → List Edge
-held_edges block =
-    record { role = 2; block = (thin_fields block).mapping_root }
-    ∷ record { role = 4; block = (thin_fields block).details_root }
+abbrev pub thin_held_edges : ThinFields → List Edge
+thin_held_edges fields =
+    record { role = 2; block = fields.mapping_root }
+    ∷ record { role = 4; block = fields.details_root }
     ∷ []
 
--- the rules of a held superblock copy in its place: a wrong checksum comes alone, and so does a wrong magic
-unfoldable pub thin_held_bad : ℕ → ℕ → List ℕ → Rule → Bool
-thin_held_bad nr place block =
-    alone r.Checksum (not (has_checksum block (salt_of Thin)))
-    (alone r.Magic (not (le block 32 8 == magic_of Thin))
-    (failing (
+abbrev pub held_edges : List ℕ → List Edge
+held_edges block = thin_held_edges (thin_fields block)
+
+-- the rules of a held superblock copy that are looked at each by itself
+abbrev pub thin_held_tests : ℕ → ℕ → List ℕ → List Test
+thin_held_tests nr place block =
     record { rule = r.Pointer; fails = has_edge_outside nr (held_edges block) }
     ∷ record { rule = r.Place; fails = not (le block 8 8 == place) }
-    ∷ [])))
+    ∷ []
+
+-- the rules that a held superblock copy in its place breaks
+unfoldable pub thin_held_bad : ℕ → ℕ → List ℕ → Rule → Bool
+thin_held_bad nr place block = super_rules Thin block (thin_held_tests nr place block)
 
 -- a mapping's data block, which lies below the pool's number of data blocks
 abbrev pub mapped_block : ℕ → ℕ

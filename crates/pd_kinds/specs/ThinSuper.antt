@@ -1,57 +1,55 @@
 -- The thin superblock: its fields, its local rules, and the block that is written for given fields.
 -- Offsets and sizes are those of struct thin_disk_superblock of "drivers/md/dm-thin-metadata.c" and of
 -- struct disk_sm_root of "drivers/md/persistent-data/dm-space-map-common.h".
-use Rattle.std.specs.Prelude.{ℕ, ◌^◌, Bool, ◌==◌, ◌&&◌, ◌||◌, not, nat_lt, List, [], ◌∷◌, ◌++◌, take, drop}
+use Rattle.std.specs.Prelude.{ℕ, ◌^◌, Bool, ◌==◌, ◌&&◌, ◌||◌, not, nat_lt, List, [], ◌∷◌, ◌++◌}
 use Rattle.pd_kinds.specs.Edge.{Edge, optional_edge, has_edge_outside}
-use Rattle.pd_kinds.specs.SpaceMap.{MapFields, map_fields, map_rows}
 use Rattle.pd_kinds.specs.Limits.{is_meta_size_bad}
+use Rattle.pd_kinds.specs.SpaceMap.{map_table, map_numbers}
 use Rattle.pd_kinds.specs.declared.kind.Kind.TheVariants.{Thin}
+use Rattle.pd_kinds.specs.declared.thin_super.ThinSuper.{ThinSuper}
 use Rattle.pd_kinds.specs.declared.rule.Rule.{Rule}
 use Rattle.pd_kinds.specs.declared.rule.Rule.TheVariants as r
-use Rattle.pd_kinds.specs.Field.{Row, le, put_bytes, written, zeros}
-use Rattle.pd_kinds.specs.Checksum.{has_checksum, sealed}
-use Rattle.pd_kinds.specs.Super.{magic_of, salt_of}
-use Rattle.pd_kinds.specs.RuleSet.{Test, failing, alone}
+use Rattle.pd_kinds.specs.Field.{Row, bytes_at, le, rows_at, written, zeros}
+use Rattle.pd_kinds.specs.Super.{super_block, super_rules}
+use Rattle.pd_kinds.specs.RuleSet.{Test}
 
 -- the fields of a thin superblock, but for the checksum, the place and the magic
-pub record ThinFields : Type 0 where
-  pub flags : ℕ
-  pub uuid : List ℕ
-  pub version : ℕ
-  pub time : ℕ
-  pub transaction : ℕ
-  pub held_root : ℕ
-  pub data_map : MapFields
-  pub meta_map : MapFields
-  pub mapping_root : ℕ
-  pub details_root : ℕ
-  pub block_size : ℕ
-  pub meta_block_size : ℕ
-  pub meta_blocks : ℕ
-  pub compat : ℕ
-  pub compat_ro : ℕ
-  pub incompat : ℕ
+abbrev pub ThinFields : Type 0
+ThinFields = ThinSuper
+
+-- the table of the superblock: each field by what is had of a number, or of bytes, at an offset and of a size
+abbrev pub thin_table : (ℕ → ℕ → ℕ) → (ℕ → ℕ → List ℕ) → ThinFields
+thin_table number bytes = record {
+  flags = number 4 4;
+  uuid = bytes 16 16;
+  version = number 40 4;
+  time = number 44 4;
+  transaction = number 48 8;
+  held_root = number 56 8;
+  data_map = map_table number 64;
+  meta_map = map_table number 192;
+  mapping_root = number 320 8;
+  details_root = number 328 8;
+  block_size = number 336 4;
+  meta_block_size = number 340 4;
+  meta_blocks = number 344 8;
+  compat = number 352 4;
+  compat_ro = number 356 4;
+  incompat = number 360 4;
+}
 
 -- the fields that stand in a block
 abbrev pub thin_fields : List ℕ → ThinFields
-thin_fields block = record {
-  flags = le block 4 4;
-  uuid = take 16 (drop 16 block);
-  version = le block 40 4;
-  time = le block 44 4;
-  transaction = le block 48 8;
-  held_root = le block 56 8;
-  data_map = map_fields block 64;
-  meta_map = map_fields block 192;
-  mapping_root = le block 320 8;
-  details_root = le block 328 8;
-  block_size = le block 336 4;
-  meta_block_size = le block 340 4;
-  meta_blocks = le block 344 8;
-  compat = le block 352 4;
-  compat_ro = le block 356 4;
-  incompat = le block 360 4;
-}
+thin_fields block = thin_table (le block) (bytes_at block)
+
+-- the numbers among the fields, in a row
+abbrev pub thin_numbers : ThinFields → List ℕ
+thin_numbers f =
+    f.flags ∷ f.version ∷ f.time ∷ f.transaction ∷ f.held_root
+    ∷ (map_numbers f.data_map
+    ++ (map_numbers f.meta_map
+    ++ (f.mapping_root ∷ f.details_root ∷ f.block_size ∷ f.meta_block_size ∷ f.meta_blocks
+    ∷ f.compat ∷ f.compat_ro ∷ f.incompat ∷ [])))
 
 -- the blocks that a thin superblock names, with their roles: 1 held superblock, 2 mapping tree,
 -- 4 details tree, 5 data index tree, 7 data overflow tree, 8 metadata index block, 10 metadata
@@ -67,14 +65,10 @@ thin_super_edges fields =
     ∷ record { role = 10; block = fields.meta_map.overflow_root }
     ∷ [])
 
--- whether a thin pool's sizes are out of range: no metadata blocks, more than the device has or than
--- 255 bitmaps of 16320 counts cover, or more than 2 ^ 40 data blocks
+-- whether a thin pool's sizes are out of range: those of the metadata, or more than 2 ^ 40 data blocks
 unfoldable pub are_thin_sizes_bad : ℕ → ThinFields → Bool
 are_thin_sizes_bad device_blocks fields =
-    (fields.meta_map.blocks == 0)
-    || (nat_lt device_blocks fields.meta_map.blocks
-    || (nat_lt 4161600 fields.meta_map.blocks
-    || nat_lt (2 ^ 40) fields.data_map.blocks))
+    is_meta_size_bad device_blocks fields.meta_map.blocks || nat_lt (2 ^ 40) fields.data_map.blocks
 
 -- the rules of a thin superblock that are looked at each by itself; pointers only where the sizes hold
 unfoldable pub thin_super_tests : ℕ → List ℕ → List Test
@@ -88,35 +82,16 @@ thin_super_tests device_blocks block =
     ∷ record { rule = r.Place; fails = not (le block 8 8 == 0) }
     ∷ []
 
--- the rules that the thin superblock of a device of so many blocks breaks: a wrong checksum comes
--- alone, and so does a wrong magic
+-- the rules that the thin superblock of a device of so many blocks breaks
 unfoldable pub thin_super_bad : ℕ → List ℕ → Rule → Bool
-thin_super_bad device_blocks block =
-    alone r.Checksum (not (has_checksum block (salt_of Thin)))
-    (alone r.Magic (not (le block 32 8 == magic_of Thin))
-    (failing (thin_super_tests device_blocks block)))
+thin_super_bad device_blocks block = super_rules Thin block (thin_super_tests device_blocks block)
 
--- the table of a thin superblock, but for the checksum, the place 0 and the uuid
+-- the rows of the numbers
 abbrev pub thin_rows : ThinFields → List Row
 thin_rows fields =
-    record { offset = 4; size = 4; value = fields.flags }
-    ∷ record { offset = 32; size = 8; value = magic_of Thin }
-    ∷ record { offset = 40; size = 4; value = fields.version }
-    ∷ record { offset = 44; size = 4; value = fields.time }
-    ∷ record { offset = 48; size = 8; value = fields.transaction }
-    ∷ record { offset = 56; size = 8; value = fields.held_root }
-    ∷ (map_rows 64 fields.data_map
-    ++ (map_rows 192 fields.meta_map
-    ++ (record { offset = 320; size = 8; value = fields.mapping_root }
-    ∷ record { offset = 328; size = 8; value = fields.details_root }
-    ∷ record { offset = 336; size = 4; value = fields.block_size }
-    ∷ record { offset = 340; size = 4; value = fields.meta_block_size }
-    ∷ record { offset = 344; size = 8; value = fields.meta_blocks }
-    ∷ record { offset = 352; size = 4; value = fields.compat }
-    ∷ record { offset = 356; size = 4; value = fields.compat_ro }
-    ∷ record { offset = 360; size = 4; value = fields.incompat }
-    ∷ [])))
+    rows_at (thin_numbers (thin_table (λ offset size. offset) (λ offset size. [])))
+    (thin_numbers (thin_table (λ offset size. size) (λ offset size. []))) (thin_numbers fields)
 
 -- the thin superblock of these fields, for block 0: every other byte is 0
 unfoldable pub thin_super_block : ThinFields → List ℕ
-thin_super_block fields = sealed (put_bytes (written zeros (thin_rows fields)) 16 fields.uuid) (salt_of Thin)
+thin_super_block fields = super_block Thin fields.uuid (written zeros (thin_rows fields))

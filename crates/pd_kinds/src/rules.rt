@@ -44,6 +44,15 @@ impl Rules {
         if fails { self.with(rule) } else { *self }
     }
 
+    /// The rules of both sets.
+    pub fn union(&self, other: &Rules) -> Rules
+        ensures { (rule : Rule) → has_rule result rule ≡ (has_rule self.now rule || has_rule other.now rule) }
+    {
+        Rules {
+            bits: self.bits | other.bits,
+        }
+    }
+
     /// Whether no rule is in the set.
     pub fn is_empty(&self) -> bool
         ensures { IsTrue result ↔ ((rule : Rule) → has_rule self.now rule ≡ false) }

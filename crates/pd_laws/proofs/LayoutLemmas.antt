@@ -1,4 +1,5 @@
 -- A format keeps the laws where each of its layouts does.
+use Rattle.pd_kinds.specs.declared.limits.TheConstants.{MAX_META_BLOCKS}
 use Rattle.std.proofs.Common.{◌≡◌, ◌⊎◌, inl, inr, ℕ, zero, suc, ◌+◌, ◌<◌, ◌≤◌, Bool, true, false, not, ◌&&◌, nat_eq, List, [], ◌∷◌, ◌++◌, length, refl, arith}
 use Rattle.std.specs.List.{AllByRecursion}
 use Rattle.std.proofs.lemmas.Bool.{both_ways, cond-true, and_parts, and_cases, cond_both, not-true, not_from_false}
@@ -88,7 +89,7 @@ block_lawful roles nr data_blocks table role place block layout_kept =
     }
 
 -- a format is lawful where its table is
-pub table_lawful : (roles nr data_blocks : ℕ) (table : ℕ → Layout) → 1 ≤ roles → roles ≤ 16 → 1 ≤ nr → nr ≤ 4161600
+pub table_lawful : (roles nr data_blocks : ℕ) (table : ℕ → Layout) → 1 ≤ roles → roles ≤ 16 → 1 ≤ nr → nr ≤ MAX_META_BLOCKS
     → ((role : ℕ) → role < roles → IsKeptBy roles nr data_blocks role (table role)) → IsLawful (graph_of roles nr data_blocks table)
 unfolding graph_of
 table_lawful roles nr data_blocks table some few from_one small kept = record {
@@ -145,7 +146,7 @@ array_kept roles nr data_blocks role size =
     record { at = λ place block sound. untreed roles nr data_blocks role (array size) block refl (omega arith) tt tt }
 
 -- an index block names one bitmap for 16320 blocks
-pub index_kept : (roles nr data_blocks role target : ℕ) → nr ≤ 4161600 → role < target → target < roles
+pub index_kept : (roles nr data_blocks role target : ℕ) → nr ≤ MAX_META_BLOCKS → role < target → target < roles
     → IsKeptBy roles nr data_blocks role (index target)
 unfolding index_bad index_tests index_blocks
 index_kept roles nr data_blocks role target small later known = record {

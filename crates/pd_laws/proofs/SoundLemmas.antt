@@ -1,4 +1,5 @@
 -- What a block without a bad rule is known by: each test of its rules holds.
+use Rattle.pd_kinds.specs.declared.limits.TheConstants.{MAX_META_BLOCKS}
 use Rattle.std.proofs.Common.{◌≡◌, inl, inr, ℕ, ◌<◌, ◌≤◌, Bool, true, false, not, ◌&&◌, ◌||◌, nat_eq, nat_lt, get_or, List, [], ◌∷◌, refl, arith, eq-eqb}
 use Rattle.std.specs.List.{AllByRecursion, list_any}
 use Rattle.std.proofs.lemmas.Bool.{cases_Bool, both_ways, and_cases, or_parts, not-false, eqb-false, ltb-true, ltb-false}
@@ -97,17 +98,19 @@ second_holds false second before holds = holds
 -- what is known of a superblock that breaks no rule of a device of so many blocks
 pub record IsSoundSuper (device_blocks nr : ℕ) (edges : List Edge) : Type 0 where
   pub some_block : 1 ≤ nr
-  pub few_blocks : nr ≤ 4161600
+  pub few_blocks : nr ≤ MAX_META_BLOCKS
+  pub within : nr ≤ device_blocks
   pub inside : AllByRecursion (λ (edge : Edge). IsInside device_blocks edge.block) edges
 
 -- its edges are looked at where the sizes hold
 pub super_holds : (device_blocks nr : ℕ) (edges : List Edge) (sizes_bad : Bool) → is_meta_size_bad device_blocks nr ≡ false → sizes_bad ≡ false
     → (not sizes_bad && has_edge_outside nr edges) ≡ false → IsSoundSuper device_blocks nr edges
 super_holds device_blocks nr edges sizes_bad holds sizes pointers =
-    let first = or_parts (nat_eq nr 0) (nat_lt device_blocks nr || nat_lt 4161600 nr) holds in
-    let rest = or_parts (nat_lt device_blocks nr) (nat_lt 4161600 nr) first.1 in
+    let first = or_parts (nat_eq nr 0) (nat_lt device_blocks nr || nat_lt MAX_META_BLOCKS nr) holds in
+    let rest = or_parts (nat_lt device_blocks nr) (nat_lt MAX_META_BLOCKS nr) first.1 in
     record {
       some_block = omega (arith, eqb-false nr 0 first.0);
-      few_blocks = ltb-false 4161600 nr rest.1;
+      few_blocks = ltb-false MAX_META_BLOCKS nr rest.1;
+      within = ltb-false device_blocks nr rest.0;
       inside = edges_inside nr device_blocks edges (ltb-false device_blocks nr rest.0) (second_holds sizes_bad _ sizes pointers);
     }

@@ -1,9 +1,11 @@
 -- The table of a thin pool's roles keeps the laws.
+use Rattle.pd_kinds.specs.declared.limits.TheConstants.{MAX_META_BLOCKS}
 use Rattle.std.proofs.Common.{inl, inr, ℕ, ◌%◌, ◌^◌, ◌<◌, ◌≤◌, false, nat_eq, nat_lt, List, refl, arith}
 use Rattle.std.proofs.lemmas.Bool.{or_parts, or_from, not-false, ltb-true}
 use Rattle.pd_kinds.specs.Edge.{Edge}
 use Rattle.pd_kinds.specs.ThinSuper.{thin_fields, thin_super_edges, thin_super_tests, thin_super_bad, are_thin_sizes_bad}
 use Rattle.pd_kinds.specs.ThinFormat.{held_edges, thin_held_bad, mapped_block, mappings_tree, thin_layout}
+use Rattle.pd_kinds.specs.Limits.{is_meta_size_bad}
 use Rattle.pd_kinds.specs.Lawful.{IsLawful}
 use Rattle.pd_kinds.specs.Layout.{copy, graph_of}
 use Rattle.pd_laws.proofs.SoundLemmas.{IsSound, IsSoundSuper, tests_after_two, edges_inside, super_holds}
@@ -16,11 +18,7 @@ pub super_sound : (blocks : ℕ) (block : List ℕ) → IsSound (thin_super_bad 
 unfolding thin_super_bad thin_super_tests are_thin_sizes_bad
 super_sound blocks block sound =
     let tests = tests_after_two _ _ _ _ (thin_super_tests blocks block) sound in
-    let nr = (thin_fields block).meta_map.blocks in
-    let none = or_parts (nat_eq nr 0) _ tests.1.0 in
-    let more = or_parts (nat_lt blocks nr) _ none.1 in
-    let most = or_parts (nat_lt 4161600 nr) _ more.1 in
-    super_holds blocks nr _ _ (or_from (nat_eq nr 0) _ none.0 (or_from (nat_lt blocks nr) _ more.0 most.0)) tests.1.0 tests.0
+    super_holds blocks (thin_fields block).meta_map.blocks _ _ (or_parts (is_meta_size_bad blocks (thin_fields block).meta_map.blocks) _ tests.1.0).0 tests.1.0 tests.0
 
 -- the edges behind that to the held copy
 abbrev behind_held : List ℕ → List Edge
@@ -57,7 +55,7 @@ mappings_kept nr data_blocks = tree_kept 11 nr data_blocks 3 0 1 _ (record {
 })
 
 -- each role's layout is kept
-kept : (nr data_blocks : ℕ) → nr ≤ 4161600 → (role : ℕ) → role < 11 → IsKeptBy 11 nr data_blocks role (thin_layout nr data_blocks role)
+kept : (nr data_blocks : ℕ) → nr ≤ MAX_META_BLOCKS → (role : ℕ) → role < 11 → IsKeptBy 11 nr data_blocks role (thin_layout nr data_blocks role)
 unfolding thin_layout
 kept nr data_blocks small role h =
     let superblock = super_kept nr data_blocks in
@@ -76,6 +74,6 @@ kept nr data_blocks small role h =
     role h
 
 -- so the format keeps the laws for any number of blocks
-pub thin_table : (nr data_blocks : ℕ) → 1 ≤ nr → nr ≤ 4161600 → IsLawful (graph_of 11 nr data_blocks (thin_layout nr data_blocks))
+pub thin_table : (nr data_blocks : ℕ) → 1 ≤ nr → nr ≤ MAX_META_BLOCKS → IsLawful (graph_of 11 nr data_blocks (thin_layout nr data_blocks))
 thin_table nr data_blocks some few =
     table_lawful 11 nr data_blocks _ (omega arith) (omega arith) some few (kept nr data_blocks few)

@@ -1,3 +1,4 @@
+ghost use Rattle.pd_kinds.specs.declared.limits.TheConstants.{MAX_META_BLOCKS};
 ghost use Rattle.std.specs.Prelude.{◌≡◌, ◌≤◌, ℕ, false, List};
 ghost use Rattle.pd_kinds.specs.declared.rule.Rule.{Rule};
 ghost use Rattle.pd_kinds.specs.ThinSuper.{thin_super_bad};
@@ -12,7 +13,7 @@ ghost use Rattle.pd_kinds.specs.Lawful.{IsLawful};
 pub fn thin_format_is_lawful()
     ensures super_block { (blocks : ℕ) (super_block : List ℕ) → ((rule : Rule) → thin_super_bad blocks super_block rule ≡ false)
         → IsLawful (thin_graph super_block) }
-    ensures table { (nr data_blocks : ℕ) → 1 ≤ nr → nr ≤ 4161600 → IsLawful (graph_of 11 nr data_blocks (thin_layout nr data_blocks)) }
+    ensures table { (nr data_blocks : ℕ) → 1 ≤ nr → nr ≤ MAX_META_BLOCKS → IsLawful (graph_of 11 nr data_blocks (thin_layout nr data_blocks)) }
 {}
 
 /// The format of a cache keeps the laws, where its superblock breaks no rule.

@@ -1,1 +1,1 @@
-pub mod ThinWritten
+mod ThinWritten

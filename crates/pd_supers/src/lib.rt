@@ -2,9 +2,12 @@
 #![tactic(auto)]
 
 mod map_root;
+mod super_block;
+mod table;
 #[cfg(test)]
 mod tests;
 mod thin;
+mod thin_edges;
 mod thin_held;
 mod thin_rules;
 
@@ -14,9 +17,10 @@ ghost use Rattle.pd_kinds.specs.RuleSet.{has_rule};
 ghost use Rattle.pd_kinds.specs.declared.rule.Rule.{Rule as BrokenRule};
 ghost use Rattle.pd_kinds.specs.declared.rule.Rule.TheVariants.{Size};
 
-pub use map_root::SmRoot;
 use pd_kinds::{Rule, Rules};
-pub use thin::{ThinSuper, read_thin_super, write_thin_super};
+pub use pd_kinds::{SmRoot, ThinSuper};
+pub use thin::{read_thin_super, write_thin_super};
+pub use thin_edges::{thin_held_edges, thin_super_edges};
 pub use thin_held::thin_held_rules;
 pub use thin_rules::thin_super_rules;
 

@@ -3,33 +3,23 @@
 ghost use Rattle.std.specs.Prelude.{◌≡◌};
 ghost use Rattle.pd_kinds.specs.declared.rule.Rule.{Rule as BrokenRule};
 ghost use Rattle.pd_kinds.specs.RuleSet.{has_rule, failing};
-ghost use Rattle.pd_kinds.specs.ThinSuper.{are_thin_sizes_bad, thin_super_bad, thin_super_edges, thin_super_tests};
-ghost use Rattle.pd_kinds.specs.Edge.{has_edge_outside};
+ghost use Rattle.pd_kinds.specs.ThinSuper.{are_thin_sizes_bad, thin_super_bad, thin_super_tests};
 ghost use Rattle.pd_supers.specs.ThinSuper.{fields_of};
 
-use crate::thin::{ThinSuper, read_thin_super};
-use pd_crc::is_sealed;
-use pd_kinds::{Block, Kind, Rule, Rules, is_outside, u64_at};
-
-/// The greatest number of metadata blocks: 255 bitmaps of 16320 counts each, as
-/// "drivers/md/persistent-data/dm-space-map-metadata.h" has them.
-const MAX_META_BLOCKS: u64 = 4161600;
+use crate::super_block::super_rules;
+use crate::thin::read_thin_super;
+use crate::thin_edges::thin_super_edges;
+use pd_kinds::{Block, Kind, Rule, Rules, ThinSuper, is_meta_size_bad, u64_at};
 
 /// The greatest number of data blocks that the tools take.
 const MAX_DATA_BLOCKS: u64 = 1 << 40;
 
 /// The rules that block 0 of a thin pool breaks, on a metadata device of so many blocks.
-#[tactic(auto, unfolding(pd_kinds::specs::ThinSuper::thin_super_bad, pd_kinds::specs::RuleSet::alone))]
+#[tactic(auto, unfolding(pd_kinds::specs::ThinSuper::thin_super_bad))]
 pub fn thin_super_rules(block: &Block, device_blocks: u64) -> Rules
     ensures { (rule : BrokenRule) → has_rule result rule ≡ thin_super_bad device_blocks block.now.0 rule }
 {
-    if !is_sealed(block, Kind::Thin.salt()) {
-        return Rules::none().with(Rule::Checksum);
-    }
-    if u64_at(&block.0, 32) != Kind::Thin.magic() {
-        return Rules::none().with(Rule::Magic);
-    }
-    table_rules(block, device_blocks)
+    super_rules(Kind::Thin, block, table_rules(block, device_blocks))
 }
 
 /// The rules that are looked at each by itself.
@@ -40,7 +30,7 @@ fn table_rules(block: &Block, device_blocks: u64) -> Rules
     let fields = read_thin_super(block);
     let place = u64_at(&block.0, 8);
     let sizes_bad = are_sizes_bad(&fields, device_blocks);
-    let edge_outside = is_edge_outside(&fields);
+    let edge_outside = thin_super_edges(&fields).any_outside(fields.meta_map.blocks);
     Rules::none()
         .with_if(Rule::Place, place != 0)
         .with_if(Rule::Version, fields.version != 2)
@@ -54,25 +44,6 @@ fn table_rules(block: &Block, device_blocks: u64) -> Rules
 fn are_sizes_bad(fields: &ThinSuper, device_blocks: u64) -> bool
     ensures { result ≡ are_thin_sizes_bad device_blocks (fields_of fields.now) }
 {
-    let blocks = fields.meta_map.blocks;
-    (blocks == 0)
-        | (blocks > device_blocks)
-        | (blocks > MAX_META_BLOCKS)
-        | (fields.data_map.blocks > MAX_DATA_BLOCKS)
-}
-
-/// Whether one of the blocks that the superblock names isn't from 1 to the last metadata block.
-#[tactic(auto, unfolding(pd_kinds::specs::Edge::has_edge_outside))]
-fn is_edge_outside(fields: &ThinSuper) -> bool
-    ensures { result ≡ has_edge_outside fields.now.meta_map.blocks (thin_super_edges (fields_of fields.now)) }
-{
-    let nr = fields.meta_map.blocks;
-    let held_outside = (fields.held_root != 0) & is_outside(nr, fields.held_root);
-    held_outside
-        | is_outside(nr, fields.mapping_root)
-        | is_outside(nr, fields.details_root)
-        | is_outside(nr, fields.data_map.bitmap_root)
-        | is_outside(nr, fields.data_map.overflow_root)
-        | is_outside(nr, fields.meta_map.bitmap_root)
-        | is_outside(nr, fields.meta_map.overflow_root)
+    let meta_bad = is_meta_size_bad(device_blocks, fields.meta_map.blocks);
+    meta_bad | (fields.data_map.blocks > MAX_DATA_BLOCKS)
 }

@@ -18,8 +18,8 @@ use Rattle.pd_kinds.specs.Report.{Reported, report_of}
 use Rattle.pd_kinds.specs.Faults.{faults_at, thin_super_faults}
 use Rattle.pd_kinds.specs.Graph.{Graph, block_at, nodes}
 use Rattle.pd_kinds.specs.Layout.{graph_of}
-use Rattle.pd_kinds.specs.ThinSuper.{thin_fields, thin_super_bad}
-use Rattle.pd_kinds.specs.ThinFormat.{thin_graph}
+use Rattle.pd_kinds.specs.ThinSuper.{ThinFields, thin_fields, thin_super_bad}
+use Rattle.pd_kinds.specs.ThinFormat.{thin_graph, thin_layout}
 use Rattle.pd_laws.proofs.CleanLemmas.{no_rule_broken, no_faults_at}
 use Rattle.pd_laws.proofs.SuperStage.{chosen, same_stage, first_stage, faults_at-same, only_size}
 use Rattle.pd_graph.specs.declared.audit.Audit.{Audit}
@@ -30,7 +30,10 @@ use Rattle.pd_thin.specs.declared.check.CheckFault.{CheckFault}
 use Rattle.pd_thin.specs.declared.check.CheckFault.TheVariants.{Memory, Device}
 use Rattle.pd_thin.specs.declared.check.Found.{Found}
 use Rattle.pd_thin.specs.declared.check.Found.TheVariants.{Broken, Sound}
-use Rattle.pd_thin.specs.declared.format.ThinFormat.{ThinFormat}
+use Rattle.pd_layouts.specs.declared.tabled.Tabled.{Tabled}
+use Rattle.pd_thin.specs.declared.format.ThinTable.{ThinTable}
+use Rattle.pd_supers.specs.ThinSuper.{fields_of}
+use Rattle.pd_supers.specs.declared.thin.ThinSuper.{ThinSuper}
 use Rattle.pd_thin.specs.Check.{IsFoundIn, IsBlockFound, MayWantMemory, ReadsFew, graph_of_format}
 
 -- a device without blocks
@@ -80,7 +83,7 @@ broken_faults stages.Counts image built some = absurd built
 sound_faults : (image : List (List ℕ)) → thin_super_faults image ≡ [] → faults Thin stages.Super image ≡ []
 sound_faults image none = first_stage image ∙ (same_stage image ∙ none)
 
-walked_faults : (image : List (List ℕ)) (format : ThinFormat) → thin_super_faults image ≡ [] → graph_of_format format ≡ thin_graph (block_at image 0)
+walked_faults : (image : List (List ℕ)) (format : Tabled ThinTable) → thin_super_faults image ≡ [] → graph_of_format format ≡ thin_graph (block_at image 0)
     → faults Thin stages.Walk image ≡ block_faults format.nr (walk_bad (graph_of_format format) image)
 unfolding faults first_failing thin_checked graph_of
 walked_faults image format none same =
@@ -94,12 +97,12 @@ broken_report None until rules report built found same = tt
 broken_report (Some image) until rules report built found same =
     same ∙ ap (λ (list : List Fault). report_of list) (found.0 ∙ sym (broken_faults until image built found.1))
 
-pub sound_report : (held : Option (List (List ℕ))) (format : ThinFormat) (report : Reported) → IfSome held (IsFoundIn (Sound format)) → report ≡ report_of []
+pub sound_report : (held : Option (List (List ℕ))) (format : Tabled ThinTable) (report : Reported) → IfSome held (IsFoundIn (Sound format)) → report ≡ report_of []
     → IfSome held (λ image. report ≡ report_of (faults Thin stages.Super image))
 sound_report None format report found same = tt
 sound_report (Some image) format report found same = same ∙ ap (λ (list : List Fault). report_of list) (sym (sound_faults image found.0))
 
-pub walked_report : (held : Option (List (List ℕ))) (format : ThinFormat) (report : Reported) → IfSome held (IsFoundIn (Sound format))
+pub walked_report : (held : Option (List (List ℕ))) (format : Tabled ThinTable) (report : Reported) → IfSome held (IsFoundIn (Sound format))
     → IfSome held (λ image. report ≡ report_of (block_faults format.nr (walk_bad (graph_of_format format) image)))
     → IfSome held (λ image. report ≡ report_of (faults Thin stages.Walk image))
 walked_report None format report found same = tt
@@ -134,8 +137,17 @@ audit_report (Some image) graph nr count audit report size number walked same =
     (rw number at same) ∙ ap (λ (list : List Fault). report_of list)
     (walked_blocks nr (has_rule_at audit) (walk_bad graph image) (λ b wanted within. walked.rules b wanted (rw size within)))
 
+-- the format of a superblock is that of the block that it was read from
+pub graph_by_fields : (s : ThinSuper) (block : List ℕ) (graph : Graph) → fields_of s ≡ thin_fields block
+    → graph ≡ graph_of 11 s.meta_map.blocks s.data_map.blocks (thin_layout s.meta_map.blocks s.data_map.blocks)
+    → graph ≡ thin_graph block
+unfolding thin_graph
+graph_by_fields s block graph read is =
+    is ∙ ap (λ (fields : ThinFields).
+    graph_of 11 fields.meta_map.blocks fields.data_map.blocks (thin_layout fields.meta_map.blocks fields.data_map.blocks)) read
+
 -- a sound format is within the device
-pub fits_device : (blocks : ℕ) (block : List ℕ) (format : ThinFormat) → graph_of_format format ≡ thin_graph block → (thin_fields block).meta_map.blocks ≤ blocks
+pub fits_device : (blocks : ℕ) (block : List ℕ) (format : Tabled ThinTable) → graph_of_format format ≡ thin_graph block → (thin_fields block).meta_map.blocks ≤ blocks
     → format.nr ≤ blocks
 unfolding graph_of thin_graph
 fits_device blocks block format same within =
@@ -143,7 +155,7 @@ fits_device blocks block format same within =
     rw e within
 
 -- past the stage Super, the one that is built is Walk
-module _ (held : Option (List (List ℕ))) (format : ThinFormat) (found : IfSome held (IsFoundIn (Sound format))) where
+module _ (held : Option (List (List ℕ))) (format : Tabled ThinTable) (found : IfSome held (IsFoundIn (Sound format))) where
   pub default_report : (until : Stage) (result : Result Report CheckFault) → IsBuilt until → (until ≡ stages.Super → ⊥)
       → IfOk result (λ report. IfSome held (λ image. report ≡ report_of (block_faults format.nr (walk_bad (graph_of_format format) image))))
       → IfOk result (λ report. IfSome held (λ image. report ≡ report_of (faults Thin until image)))
@@ -154,12 +166,12 @@ module _ (held : Option (List (List ℕ))) (format : ThinFormat) (found : IfSome
   default_report stages.Whole (Ok report) built past walked = absurd built
   default_report stages.Counts (Ok report) built past walked = absurd built
 
-none_in_super : (held : Option (List (List ℕ))) (format : ThinFormat) → IfSome held (IsFoundIn (Sound format))
+none_in_super : (held : Option (List (List ℕ))) (format : Tabled ThinTable) → IfSome held (IsFoundIn (Sound format))
     → IfSome held (λ image. faults Thin stages.Super image ≡ [])
 none_in_super None format found = tt
 none_in_super (Some image) format found = sound_faults image found.0
 
-pub default_memory : (held : Option (List (List ℕ))) (format : ThinFormat) → IfSome held (IsFoundIn (Sound format))
+pub default_memory : (held : Option (List (List ℕ))) (format : Tabled ThinTable) → IfSome held (IsFoundIn (Sound format))
     → (until : Stage) (result : Result Report CheckFault) → (until ≡ stages.Super → ⊥) → MayWantMemory until held result
 default_memory held format found until (Ok report) past = tt
 default_memory held format found until (Err Memory) past = record { past_super = past; sound = none_in_super held format found }
@@ -170,7 +182,7 @@ pub none_read : (held : Option (List (List ℕ))) (old new : ℕ) → new ≤ ol
 none_read None old new few = tt
 none_read (Some image) old new few = record { nodes = omega (arith, few); none = λ some. few }
 
-pub walk_read : (held : Option (List (List ℕ))) (format : ThinFormat) (old new : ℕ) → IfSome held (IsFoundIn (Sound format))
+pub walk_read : (held : Option (List (List ℕ))) (format : Tabled ThinTable) (old new : ℕ) → IfSome held (IsFoundIn (Sound format))
     → IfSome held (λ image. new ≤ old + length (nodes (graph_of_format format) image)) → IfSome held (λ image. ReadsFew image old new)
 walk_read None format old new found few = tt
 walk_read (Some image) format old new found few = record { nodes = rw found.1 at few; none = λ some. absurd (some found.0) }

@@ -15,10 +15,11 @@ use Rattle.pd_thin.specs.declared.check.Found.{Found}
 use Rattle.pd_thin.specs.declared.check.Found.TheVariants.{Broken, Sound}
 use Rattle.pd_thin.specs.declared.check.CheckFault.{CheckFault}
 use Rattle.pd_thin.specs.declared.check.CheckFault.TheVariants.{Memory, Device}
-use Rattle.pd_thin.specs.declared.format.ThinFormat.{ThinFormat}
+use Rattle.pd_layouts.specs.declared.tabled.Tabled.{Tabled}
+use Rattle.pd_thin.specs.declared.format.ThinTable.{ThinTable}
 
 -- a format's graph
-abbrev pub graph_of_format : ThinFormat → Graph
+abbrev pub graph_of_format : Tabled ThinTable → Graph
 graph_of_format format = graph_of 11 format.nr format.data_blocks (thin_layout format.nr format.data_blocks)
 
 -- what was found in block 0 of an image: its faults, of which there are some, or the format of a sound one

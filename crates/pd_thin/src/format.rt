@@ -1,137 +1,105 @@
-ghost use Rattle.std.specs.Prelude.{◌≡◌, ℕ, ◌≤◌, List};
-ghost use Rattle.pd_kinds.specs.Layout.{graph_of};
-ghost use Rattle.pd_kinds.specs.ThinFormat.{thin_graph, thin_layout};
-ghost use Rattle.pd_kinds.specs.ThinSuper.{thin_fields};
+ghost use Rattle.std.specs.Prelude.{◌≡◌, ◌∷◌, []};
+ghost use Rattle.pd_kinds.specs.Edge.{edge_of};
+ghost use Rattle.pd_kinds.specs.ThinSuper.{thin_super_edges as edges_of_super};
 ghost use Rattle.pd_supers.specs.ThinSuper.{fields_of};
 
-use crate::block_kind::BlockKind;
-use pd_graph::Format;
-use pd_kinds::{Block, Rules};
-use pd_node::is_inner;
-use pd_supers::ThinSuper;
+use pd_kinds::{Block, Edges, Rules};
+use pd_layouts::{Layout, LeafValue, Names, Table, Tabled};
+use pd_supers::{ThinSuper, read_thin_super, thin_held_rules, thin_super_rules};
 
-/// The format of a thin pool's metadata, in a pool of so many metadata and data blocks.
-#[derive(Clone, Copy, Debug, PartialEq, Eq)]
-pub struct ThinFormat {
-    /// The number of metadata blocks.
-    pub(crate) nr: u64,
-    /// The number of data blocks.
-    pub(crate) data_blocks: u64,
-    ghost some: { 1 ≤ nr },
-    ghost few: { nr ≤ 4161600 },
-}
+/// The table of a thin pool's metadata, as "drivers/md/dm-thin-metadata.c" and
+/// "drivers/md/persistent-data/dm-space-map-common.c" use it.
+#[derive(Clone, Copy)]
+pub struct ThinTable;
 
-impl ThinFormat {
-    /// The format of the pool with this superblock, whose number of metadata blocks is from 1 to 4161600.
-    #[tactic(auto, unfolding(pd_kinds::specs::ThinFormat::thin_graph))]
-    pub fn of(s: &ThinSuper) -> ThinFormat
-        requires some { 1 ≤ s.now.meta_map.blocks }
-        requires few { s.now.meta_map.blocks ≤ 4161600 }
-        ensures graph { ⟦<ThinFormat as Format>⟧.graph result
-            ≡ graph_of 11 s.now.meta_map.blocks s.now.data_map.blocks (thin_layout s.now.meta_map.blocks s.now.data_map.blocks) }
-        // It is the format that the definitions give the pool by its superblock.
-        ensures super_block { (super_block : List ℕ) → thin_fields super_block ≡ fields_of s.now → ⟦<ThinFormat as Format>⟧.graph result ≡ thin_graph super_block }
-    {
-        ThinFormat {
-            nr: s.meta_map.blocks,
-            data_blocks: s.data_map.blocks,
-        }
-    }
-}
+/// The format of a thin pool's metadata.
+pub type ThinFormat = Tabled<ThinTable>;
 
-impl Format for ThinFormat {
-    ghost use Rattle.pd_thin.specs.Laws.{thin_roles, thin_lawful};
+impl Table for ThinTable {
+    ghost use Rattle.pd_kinds.specs.ThinFormat.{thin_layout};
+    ghost use Rattle.pd_laws.proofs.ThinTable.{thin_table};
+    ghost use Rattle.pd_thin.specs.Copies.{copy_edges, copy_rules};
 
     const ROLES: u8 = 11;
 
+    type Super = ThinSuper;
+
     ghost ROLES = { 11 };
 
-    ghost graph = { λ format. graph_of 11 format.nr format.data_blocks (thin_layout format.nr format.data_blocks) };
+    ghost meta_blocks_of = { λ s. s.meta_map.blocks };
 
-    #[tactic(auto, unfolding(pd_kinds::specs::Layout::graph_of))]
-    fn nr(&self) -> u64 {
-        self.nr
+    ghost data_blocks_of = { λ s. s.data_map.blocks };
+
+    ghost layout = { thin_layout };
+
+    ghost copy_bad = { copy_rules };
+
+    ghost copy_edges = { copy_edges };
+
+    fn meta_blocks_of(s: &ThinSuper) -> u64 {
+        s.meta_map.blocks
     }
 
-    #[tactic(auto, unfolding(pd_kinds::specs::Layout::graph_of))]
-    fn data_blocks(&self) -> u64 {
-        self.data_blocks
+    fn data_blocks_of(s: &ThinSuper) -> u64 {
+        s.data_map.blocks
     }
 
-    #[tactic(auto, unfolding(pd_kinds::specs::Layout::graph_of))]
-    fn rules(&self, role: u8, place: u64, b: &Block) -> Rules {
-        let kind = BlockKind::of_role(role);
-        self.rules_in(kind, role, place, b)
+    #[tactic(auto, unfolding(pd_kinds::specs::ThinFormat::thin_layout))]
+    fn layout(role: u8, data_blocks: u64) -> Layout {
+        match role {
+            0 => Layout::Copy,
+            1 => Layout::Copy,
+            2 => Layout::Tree(LeafValue::Root, Names::Metadata(3)),
+            3 => Layout::Tree(LeafValue::BlockTime, Names::Data(data_blocks)),
+            4 => Layout::Tree(LeafValue::Details, Names::Nothing),
+            5 => Layout::Tree(LeafValue::IndexEntry, Names::Metadata(6)),
+            6 => Layout::Bitmap,
+            7 => Layout::Tree(LeafValue::Count, Names::Nothing),
+            8 => Layout::Index(9),
+            9 => Layout::Bitmap,
+            _ => Layout::Tree(LeafValue::Count, Names::Nothing),
+        }
     }
 
-    #[tactic(auto, unfolding(pd_kinds::specs::Layout::graph_of))]
-    fn is_tree(&self, role: u8) -> bool {
-        let kind = BlockKind::of_role(role);
-        kind.is_tree()
-    }
-
-    fn inner(&self, role: u8, place: u64, b: &Block) -> bool {
-        let kind = BlockKind::of_role(role);
-        let tree = kind.is_tree();
-        // The flags are looked at first, since they cost less than a checksum.
-        if tree & is_inner(b) {
-            self.is_sound(role, place, b)
+    fn copy_rules(role: u8, place: u64, b: &Block, nr: u64) -> Rules {
+        if role == 0 {
+            thin_super_rules(b, nr)
         } else {
-            false
+            thin_held_rules(b, place, nr)
         }
     }
 
-    fn edges(&self, role: u8, place: u64, b: &Block) -> usize {
-        if !self.is_sound(role, place, b) {
-            return 0;
+    fn copy_edges(role: u8, b: &Block) -> Edges {
+        let fields = read_thin_super(b);
+        if role == 0 {
+            thin_super_edges(&fields)
+        } else {
+            thin_held_edges(&fields)
         }
-        let kind = BlockKind::of_role(role);
-        self.edges_in(kind, role, b)
     }
 
-    fn edge(&self, role: u8, place: u64, b: &Block, i: usize) -> (u8, u64) {
-        // A block that names anything has no bad rule.
-        let kind = BlockKind::of_role(role);
-        self.edge_in(kind, role, b, i)
-    }
+    ghost lawful = { thin_table };
+}
 
-    fn edges_of_sound(&self, role: u8, place: u64, b: &Block) -> usize {
-        let kind = BlockKind::of_role(role);
-        self.edges_in(kind, role, b)
-    }
+/// The blocks that a superblock with these fields names.
+fn thin_super_edges(s: &ThinSuper) -> Edges
+    ensures { result ≡ edges_of_super (fields_of s.now) }
+{
+    Edges::none()
+        .with(10, s.meta_map.overflow_root)
+        .with(8, s.meta_map.bitmap_root)
+        .with(7, s.data_map.overflow_root)
+        .with(5, s.data_map.bitmap_root)
+        .with(4, s.details_root)
+        .with(2, s.mapping_root)
+        .with_optional(1, s.held_root)
+}
 
-    fn edge_of_sound(&self, role: u8, place: u64, b: &Block, i: usize) -> (u8, u64) {
-        let kind = BlockKind::of_role(role);
-        self.edge_in(kind, role, b, i)
-    }
-
-    fn keys(&self, role: u8, place: u64, b: &Block) -> usize {
-        if !self.is_sound(role, place, b) {
-            return 0;
-        }
-        let kind = BlockKind::of_role(role);
-        self.keys_in(kind, b)
-    }
-
-    fn key(&self, role: u8, place: u64, b: &Block, i: usize) -> u64 {
-        let kind = BlockKind::of_role(role);
-        self.key_in(kind, b, i)
-    }
-
-    fn data_refs(&self, role: u8, place: u64, b: &Block) -> usize {
-        if !self.is_sound(role, place, b) {
-            return 0;
-        }
-        let kind = BlockKind::of_role(role);
-        self.data_refs_in(kind, b)
-    }
-
-    fn data_ref(&self, role: u8, place: u64, b: &Block, i: usize) -> u64 {
-        let kind = BlockKind::of_role(role);
-        self.data_ref_in(kind, b, i)
-    }
-
-    ghost roles = { λ format. thin_roles format.nr format.data_blocks };
-
-    ghost lawful = { λ format. thin_lawful format.nr format.data_blocks format.some format.few };
+/// The blocks that the held copy of a superblock with these fields names.
+fn thin_held_edges(s: &ThinSuper) -> Edges
+    ensures { result ≡ edge_of 2 s.now.mapping_root ∷ edge_of 4 s.now.details_root ∷ [] }
+{
+    Edges::none()
+        .with(4, s.details_root)
+        .with(2, s.mapping_root)
 }

@@ -1,3 +1,4 @@
+use Rattle.pd_kinds.specs.declared.limits.TheConstants.{MAX_META_BLOCKS}
 use Rattle.std.proofs.Common.{ℕ, ◌<◌, ◌≤◌, false, List, [], ◌∷◌, ◌++◌, arith}
 use Rattle.std.proofs.lemmas.Bool.{or_parts}
 use Rattle.pd_kinds.specs.Edge.{Edge, optional_edge}
@@ -40,7 +41,7 @@ super_kept nr =
     ))
 
 -- each role's layout is kept
-kept : (nr : ℕ) → nr ≤ 4161600 → (role : ℕ) → role < 10 → IsKeptBy 10 nr 0 role (cache_layout nr role)
+kept : (nr : ℕ) → nr ≤ MAX_META_BLOCKS → (role : ℕ) → role < 10 → IsKeptBy 10 nr 0 role (cache_layout nr role)
 unfolding cache_layout
 kept nr small role h =
     let superblock = super_kept nr in

@@ -1,3 +1,4 @@
+use Rattle.pd_kinds.specs.declared.limits.TheConstants.{MAX_META_BLOCKS}
 use Rattle.std.proofs.Common.{ℕ, ◌<◌, ◌≤◌, ◌^◌, false, not, nat_lt, List, [], ◌∷◌, ◌++◌, arith}
 use Rattle.pd_kinds.specs.Edge.{Edge, optional_edge}
 use Rattle.pd_kinds.specs.EraFormat.{EraFields, era_fields, era_super_edges, snap_edges, era_super_tests, era_super_bad, era_snap_bad, writeset_root, era_layout, era_graph}
@@ -50,7 +51,7 @@ snap_kept nr =
     (λ block. search arith)
 
 -- each role's layout is kept
-kept : (nr : ℕ) → nr ≤ 4161600 → (role : ℕ) → role < 10 → IsKeptBy 10 nr 0 role (era_layout nr role)
+kept : (nr : ℕ) → nr ≤ MAX_META_BLOCKS → (role : ℕ) → role < 10 → IsKeptBy 10 nr 0 role (era_layout nr role)
 unfolding era_layout
 kept nr small role h =
     let superblock = super_kept nr in

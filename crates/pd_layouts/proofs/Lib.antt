@@ -1,0 +1,3 @@
+pub mod Treeless
+pub mod NodeRules
+pub mod Rows

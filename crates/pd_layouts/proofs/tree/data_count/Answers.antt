@@ -1,0 +1,14 @@
+use Rattle.std.proofs.Common.{◌≡◌, rules, ◌∙◌}
+use Rattle.pd_layouts.specs.LeafValue.{value_size, value_target}
+use Rattle.pd_layouts.proofs.Rows.{data_number, data_number_is}
+use Rattle.pd_layouts.proofs.tree.data_count.Goals as goal
+
+pub returns-then-is_inner : goal.returns-then-is_inner
+returns-then-is_inner c =
+    let count : 0 ≡ data_number (value_size c.args.value) c.args.names c.args.b.now.0 = search rules in
+    count ∙ data_number_is (value_size c.args.value) c.args.names (value_target c.args.value) c.args.b.now.0
+
+pub returns-else-is_inner : goal.returns-else-is_inner
+returns-else-is_inner c =
+    let count : c.data_of.result ≡ data_number (value_size c.args.value) c.args.names c.args.b.now.0 = search rules in
+    count ∙ data_number_is (value_size c.args.value) c.args.names (value_target c.args.value) c.args.b.now.0

@@ -1,0 +1,68 @@
+//! The rules that a block breaks as a node of a tree.
+
+ghost use Rattle.std.specs.Prelude.{◌≡◌};
+ghost use Rattle.std.specs.List.{list_any};
+ghost use Rattle.pd_kinds.specs.declared.rule.Rule.{Rule as BrokenRule};
+ghost use Rattle.pd_kinds.specs.Layout.{leaf_entries, tree_bad, tree_edges};
+ghost use Rattle.pd_kinds.specs.RuleSet.{has_rule};
+ghost use Rattle.pd_kinds.specs.Edge.{has_edge_outside};
+ghost use Rattle.pd_layouts.specs.LeafValue.{value_size, tree_of};
+
+use crate::leaf_value::LeafValue;
+use crate::names::Names;
+use crate::tree::{edge_count, edge_of_node};
+use pd_kinds::{Block, Rule, Rules, is_outside};
+use pd_node::is_inner;
+
+/// The rules that the block breaks as the node in this role and place of a tree, for so many metadata
+/// blocks.
+///
+/// A node whose checksum is wrong breaks Checksum alone.
+pub(crate) fn tree_rules(
+    b: &Block,
+    value: LeafValue,
+    names: Names,
+    role: u8,
+    place: u64,
+    nr: u64,
+) -> Rules
+    ensures { (rule : BrokenRule) → has_rule result rule ≡ tree_bad nr role (tree_of value names) place b.now.0 rule }
+{
+    let rules = value.node_rules(b, place);
+    if rules.has(Rule::Checksum) {
+        return rules;
+    }
+    let outside = is_edge_outside(b, value, names, role, nr);
+    let beyond = is_entry_beyond(b, value, names);
+    rules
+        .with_if(Rule::Pointer, outside)
+        .with_if(Rule::Beyond, beyond)
+}
+
+/// Whether the node in this role names a metadata block that isn't from 1 to `nr - 1`.
+fn is_edge_outside(b: &Block, value: LeafValue, names: Names, role: u8, nr: u64) -> bool
+    ensures { result ≡ has_edge_outside nr (tree_edges role (tree_of value names) b.now.0) }
+{
+    let mut outside = false;
+    let count = edge_count(b, value, names);
+    for i in 0..count {
+        let (_, block) = edge_of_node(b, value, names, role, i);
+        outside |= is_outside(nr, block);
+    }
+    outside
+}
+
+/// Whether an entry of the node, where it is a leaf, lies outside its range.
+fn is_entry_beyond(b: &Block, value: LeafValue, names: Names) -> bool
+    ensures { result ≡ list_any (tree_of value names).is_beyond (leaf_entries (value_size value) b.now.0) }
+{
+    if is_inner(b) {
+        return false;
+    }
+    let mut beyond = false;
+    let count = value.entries(b);
+    for i in 0..count {
+        beyond |= names.is_beyond(value.key(b, i), value.named(b, i));
+    }
+    beyond
+}

@@ -1,4 +1,0 @@
-pub mod Listed
-pub mod NodeRules
-pub mod Rows
-pub mod Sound
