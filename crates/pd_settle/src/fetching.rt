@@ -1,5 +1,6 @@
 //! Reads of the nodes on the stack.
 
+ghost use Rattle.pd_kinds.specs.declared.limits.TheConstants.{MAX_META_BLOCKS};
 ghost use Rattle.std.specs.Prelude.{◌≡◌, ◌+◌, ◌<◌, ◌≤◌, Some, OnOk, IfSome, slice_get, List, ℕ};
 ghost use Rattle.pd_kinds.specs.Objects.{DeviceState, CountsFault};
 ghost use Rattle.pd_image.specs.Device.{IsAttached, KeepsObject};
@@ -26,7 +27,7 @@ pub(crate) fn fetch<D: Device>(
 ) -> Result<(), Failed>
     requires attached { IsAttached (D.state dev.old) }
     requires within { b < (D.state dev.old).blocks }
-    requires few { b < 4161600 }
+    requires few { b < MAX_META_BLOCKS }
     ensures content { OnOk result (IfSome (D.state dev.old).held (λ image. IsKept image kept.now → slice_get image b ≡ Some into.new.0)) }
     ensures reads { (D.state dev.new).reads ≤ (D.state dev.old).reads + 1 }
     ensures held { (D.state dev.new).held ≡ (D.state dev.old).held }
@@ -43,7 +44,7 @@ pub(crate) fn fetch<D: Device>(
 /// Keeps block b, where it is an inner node.
 pub(crate) fn keep<F: Format>(kept: &mut Kept, format: &F, role: u8, b: u64, block: &Block)
     requires role { role < F.ROLES }
-    requires few { b < 4161600 }
+    requires few { b < MAX_META_BLOCKS }
     ensures { (image : List (List ℕ)) → slice_get image b ≡ Some block.now.0 → IsKept image kept.old → IsKept image kept.new }
 {
     if kept.at != b + 1 && format.inner_of_any(role, block) {
