@@ -60,3 +60,11 @@ pub record KeepsButNotes (old new : Audit) : Type 0 where
   pub roles : (b : ℕ) → roles_at new b ≡ roles_at old b
   pub rules : (b : ℕ) (rule : Rule) → has_rule_at new b rule ≡ has_rule_at old b rule
   pub counts : (b : ℕ) → count_at new b ≡ count_at old b
+
+-- all but whether the walk has ended stays
+pub record KeepsMarks (old new : Audit) : Type 0 where
+  pub number : blocks_of new ≡ blocks_of old
+  pub roles : (b : ℕ) → roles_at new b ≡ roles_at old b
+  pub rules : (b : ℕ) (rule : Rule) → has_rule_at new b rule ≡ has_rule_at old b rule
+  pub counts : (b : ℕ) → count_at new b ≡ count_at old b
+  pub notes : (b : ℕ) → note_at new b ≡ note_at old b

@@ -1,5 +1,5 @@
 ghost use Rattle.pd_kinds.specs.declared.limits.TheConstants.{MAX_META_BLOCKS};
-ghost use Rattle.std.specs.Prelude.{◌≡◌, ℕ, ◌<◌, ◌≤◌, ◌==◌, ◌||◌, ◌&&◌, length, IfOk, if◌then◌else◌};
+ghost use Rattle.std.specs.Prelude.{◌≡◌, ℕ, ◌<◌, ◌≤◌, ◌==◌, ◌||◌, ◌&&◌, false, length, IfOk, if◌then◌else◌};
 ghost use Rattle.pd_kinds.specs.declared.rule.Rule.{Rule};
 ghost use Rattle.pd_kinds.specs.RuleSet.{has_rule};
 ghost use Rattle.pd_kinds.specs.Rule.{same_rule};
@@ -26,7 +26,7 @@ pub struct Audit {
 }
 
 impl Audit {
-    ghost use Rattle.pd_graph.specs.Audit.{blocks_of, has_walked, roles_at, has_rule_at, count_at, note_at, IsNew, KeepsButRules, KeepsButNotes};
+    ghost use Rattle.pd_graph.specs.Audit.{blocks_of, has_walked, roles_at, has_rule_at, count_at, note_at, IsNew, KeepsButRules, KeepsButNotes, KeepsMarks};
 
     /// An audit of so many blocks, from 1 to `MAX_META_BLOCKS`, that knows nothing of them. It takes all the memory
     /// of the walk and of settling; want of it is the only error.
@@ -60,11 +60,20 @@ impl Audit {
         self.nr
     }
 
-    /// Whether `walk` answered Ok: only then may the audit be used further.
+    /// Whether `walk` answered Ok, and nothing that works on the audit failed since: only then may it be used
+    /// further.
     pub fn is_walked(&self) -> bool
         ensures { result ≡ has_walked self.now }
     {
         self.walked
+    }
+
+    /// Says that the audit may not be used further, as after a failure of what works on it.
+    pub fn give_up(&mut self)
+        ensures walked { has_walked self.new ≡ false }
+        ensures kept { KeepsMarks self.old self.new }
+    {
+        self.walked = false;
     }
 
     /// The rules that block b breaks, Role among them where it was met in two roles or more.

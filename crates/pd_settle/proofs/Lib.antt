@@ -1,0 +1,16 @@
+pub mod ChainLemmas
+pub mod KeyLemmas
+pub mod NotedLemmas
+pub mod LookLemmas
+pub mod LeafLemmas
+pub mod StackLemmas
+pub mod NodeLemmas
+pub mod VerdictLemmas
+pub mod DescentLemmas
+pub mod StepLemmas
+pub mod ReachLemmas
+pub mod ExactLemmas
+pub mod CleanLemmas
+pub mod EntryLemmas
+pub mod SettledLemmas
+pub mod BestLemmas

@@ -1,0 +1,181 @@
+-- A node of a tree and its children, as its block shows them.
+use Rattle.std.proofs.Common.{◌≡◌, inl, inr, ℕ, ◌*◌, ◌/◌, ◌%◌, ◌<◌, Bool, true, false, ◌&&◌, ◌||◌, cond, nat_eq, List, [], ◌∷◌, map, Some, refl, sym, ◌∙◌, ap, arith, eq-eqb}
+use Rattle.std.specs.List.{list_any, AllByRecursion, slice_get, range_with_len}
+use Rattle.std.specs.Option.{unwrap_or}
+use Rattle.std.proofs.lemmas.Bool.{or_cases, or_left, or_right, and_parts, and_from, eqb-true, both_ways}
+use Rattle.pd_kinds.specs.declared.rule.Rule.{Rule}
+use Rattle.pd_kinds.specs.declared.rule.Rule.TheVariants as r
+use Rattle.pd_kinds.specs.Rule.{same_rule}
+use Rattle.pd_kinds.specs.Edge.{Edge}
+use Rattle.pd_kinds.specs.Graph.{Graph, block_at, pair, own_keys, is_inner_pair, next, is_reached}
+use Rattle.pd_kinds.specs.Lawful.{KeepsLaws}
+use Rattle.pd_kinds.specs.Order.{children, has_chain, is_deep}
+use Rattle.pd_kinds.specs.Paths.{edge}
+use Rattle.pd_kinds.specs.Stages.{roles_of, order_bad, is_out_of_range}
+use Rattle.pd_laws.proofs.PathLemmas.{path_from_reached, reached_from_path, passing_below, passes_below}
+use Rattle.pd_graph.specs.declared.notes.Note.{Note}
+use Rattle.pd_graph.proofs.BitLemmas.{pair_block, pair_role}
+use Rattle.pd_graph.proofs.AnyLemmas.{same_test, any_kept}
+use Rattle.pd_settle.specs.Notes.{join, joined, are_notes_in_range}
+use Rattle.pd_settle.specs.Looking.{blocks_of_edges}
+use Rattle.pd_settle.specs.Ordering.{is_node, IsClean}
+use Rattle.pd_settle.proofs.ChainLemmas.{is_among, never_ends}
+
+-- what leads on from a pair that is reached is reached
+pub reached_next : (graph : Graph) (image : List (List ℕ)) (p q : ℕ) → p < 16 * graph.nr → is_reached graph image p ≡ true → is_among q (next graph image p) ≡ true
+    → is_reached graph image q ≡ true
+unfolding is_reached
+reached_next graph image p q small reached leads =
+    reached_from_path (16 * graph.nr) (next graph image) q
+    (edge p q small (path_from_reached (16 * graph.nr) (next graph image) (16 * graph.nr) p reached) leads)
+
+-- a number of a list, in the list of what each becomes
+pub among_map : (f : ℕ → ℕ) (c : ℕ) (cs : List ℕ) → is_among c cs ≡ true → is_among (f c) (map f cs) ≡ true
+among_map f c [] among = among
+among_map f c (x ∷ xs) among = elim (or_cases (nat_eq x c) (is_among c xs) among) [
+  | inl same ↦ or_left (nat_eq (f x) (f c)) _ (eq-eqb (f x) (f c) (ap f (eqb-true x c same)))
+  | inr later ↦ or_right (nat_eq (f x) (f c)) _ (among_map f c xs later)
+]
+
+pub from_map : (f : ℕ → ℕ) (q : ℕ) (cs : List ℕ) → is_among q (map f cs) ≡ true → (c : ℕ) × (is_among c cs ≡ true) × (q ≡ f c)
+from_map f q [] among = absurd (both_ways _ refl among)
+from_map f q (x ∷ xs) among = elim (or_cases (nat_eq (f x) q) (is_among q (map f xs)) among) [
+  | inl same ↦ (x, or_left (nat_eq x x) _ (eq-eqb x x refl), sym (eqb-true (f x) q same))
+  | inr later ↦ let rest = from_map f q xs later in (rest.0, or_right (nat_eq x rest.0) _ rest.1, rest.2)
+]
+
+-- the edges of an inner node keep its role
+edges_in_role : (role : ℕ) (edges : List Edge) → AllByRecursion (λ (e : Edge). e.role ≡ role) edges
+    → map (λ (e : Edge). pair e.block e.role) edges ≡ map (λ c. pair c role) (blocks_of_edges edges)
+edges_in_role role [] all = refl
+edges_in_role role (x ∷ xs) all = rw (all.0, edges_in_role role xs all.1) refl
+
+-- notes by pair and by block
+pub joined_map : (f : ℕ → ℕ) (by_pair by_block : ℕ → Note) (cs : List ℕ) (sum : Note) → ((c : ℕ) → by_pair (f c) ≡ by_block c)
+    → joined by_pair sum (map f cs) ≡ joined by_block sum cs
+joined_map f by_pair by_block [] sum same = refl
+joined_map f by_pair by_block (c ∷ cs) sum same =
+    ap (λ (n : Note). joined by_pair (join sum n) (map f cs)) (same c) ∙ joined_map f by_pair by_block cs (join sum (by_block c)) same
+
+pub ranges_map : (f : ℕ → ℕ) (by_pair by_block : ℕ → Note) (lows cs : List ℕ) → ((c : ℕ) → by_pair (f c) ≡ by_block c)
+    → are_notes_in_range by_pair lows (map f cs) ≡ are_notes_in_range by_block lows cs
+ranges_map f by_pair by_block [] cs same = refl
+ranges_map f by_pair by_block (low ∷ []) [] same = refl
+ranges_map f by_pair by_block (low ∷ high ∷ lows) [] same = refl
+ranges_map f by_pair by_block (low ∷ []) (c ∷ cs) same = rw (same c) refl
+ranges_map f by_pair by_block (low ∷ high ∷ lows) (c ∷ cs) same = rw (same c, ranges_map f by_pair by_block (high ∷ lows) cs same) refl
+
+-- a node, its block and its role
+module _ (graph : Graph) (image : List (List ℕ)) (b role : ℕ) (block : List ℕ) (within : role < 16) (found : slice_get image b ≡ Some block) where
+  at_pair : {X : Type 0} → (F : ℕ → ℕ → List ℕ → X) → F (pair b role % 16) (pair b role / 16) (block_at image (pair b role / 16)) ≡ F role b block
+  at_pair F =
+      ap (λ (s : ℕ). F s (pair b role / 16) (block_at image (pair b role / 16))) (pair_role b role within)
+      ∙ (ap (λ (place : ℕ). F role place (block_at image place)) (pair_block b role within)
+      ∙ ap (λ o. F role b (unwrap_or o [])) found)
+
+  pub inner_at : is_inner_pair graph image (pair b role) ≡ graph.is_inner role b block
+  inner_at = at_pair graph.is_inner
+
+  pub keys_at : own_keys graph image (pair b role) ≡ graph.keys role b block
+  keys_at = at_pair graph.keys
+
+  pub children_none : graph.is_inner role b block ≡ false → children graph image (pair b role) ≡ []
+  unfolding children
+  children_none leaf = ap (λ (x : Bool). cond x (next graph image (pair b role)) []) (inner_at ∙ leaf)
+
+  pub children_next : graph.is_inner role b block ≡ true → children graph image (pair b role) ≡ next graph image (pair b role)
+  unfolding children
+  children_next is_inner = ap (λ (x : Bool). cond x (next graph image (pair b role)) []) (inner_at ∙ is_inner)
+
+  pub children_at : KeepsLaws graph role b block → graph.is_inner role b block ≡ true
+      → children graph image (pair b role) ≡ map (λ c. pair c role) (blocks_of_edges (graph.edges role b block))
+  unfolding next
+  children_at laws is_inner =
+      children_next is_inner
+      ∙ (ap (map (λ (e : Edge). pair e.block e.role)) (at_pair graph.edges) ∙ edges_in_role role (graph.edges role b block) (laws.inner_edges is_inner))
+
+  pub child_at : KeepsLaws graph role b block → graph.is_inner role b block ≡ true → (c : ℕ) → is_among c (blocks_of_edges (graph.edges role b block)) ≡ true
+      → is_among (pair c role) (children graph image (pair b role)) ≡ true
+  child_at laws is_inner c among =
+      ap (is_among (pair c role)) (children_at laws is_inner) ∙ among_map (λ d. pair d role) c (blocks_of_edges (graph.edges role b block)) among
+
+  -- a child of a node is a node
+  pub child_node : KeepsLaws graph role b block → graph.is_inner role b block ≡ true → b < graph.nr → is_node graph image (pair b role) ≡ true
+      → (c : ℕ) → is_among c (blocks_of_edges (graph.edges role b block)) ≡ true → is_node graph image (pair c role) ≡ true
+  child_node laws is_inner small node c among =
+      let parts = and_parts _ _ node in
+      let tree : graph.is_tree role ≡ true = ap graph.is_tree (sym (pair_role b role within)) ∙ parts.1 in
+      and_from _ _
+      (reached_next graph image (pair b role) (pair c role) (omega arith) parts.0
+      (ap (is_among (pair c role)) (sym (children_next is_inner)) ∙ child_at laws is_inner c among))
+      (ap graph.is_tree (pair_role c role within) ∙ tree)
+
+-- what holds in some role in which a block is reached holds in its only one
+pub in_only_role : (graph : Graph) (image : List (List ℕ)) (b role : ℕ) (f : ℕ → Bool) → b < graph.nr → role < 16 → IsClean graph image → is_reached graph image (pair b role) ≡ true
+    → list_any f (roles_of graph image b) ≡ f role
+unfolding roles_of
+in_only_role graph image b role f below within clean reached =
+    let test = λ (s : ℕ). is_reached graph image (pair b s) && f s in
+    any_kept f (λ s. is_reached graph image (pair b s)) (range_with_len 0 16)
+    ∙ same_test (list_any test (range_with_len 0 16)) (f role)
+    (λ some.
+    let one = passing_below test 16 some in
+    let small = one.1 in
+    let parts = and_parts _ (f one.0) one.2 in
+    let block = pair_block b role within in
+    let alone = clean.alone (pair b one.0) (pair b role) (omega arith) parts.0 reached (pair_block b one.0 small ∙ sym (pair_block b role within)) in
+    let e : role ≡ one.0 = omega arith in
+    ap f e ∙ parts.1)
+    (λ passes. passes_below test 16 role within (and_from _ (f role) reached passes))
+
+pub order_bad_at : (graph : Graph) (image : List (List ℕ)) (b role : ℕ) (wanted : Rule) → b < graph.nr → role < 16 → IsClean graph image → is_reached graph image (pair b role) ≡ true
+    → order_bad graph image b wanted
+    ≡ ((is_deep graph image (pair b role) && same_rule r.Level wanted) || (is_out_of_range graph image (pair b role) && same_rule r.Range wanted))
+unfolding order_bad
+order_bad_at graph image b role wanted below within clean reached =
+    ap (λ (x : Bool). (x && same_rule r.Level wanted) || (list_any (λ s. is_out_of_range graph image (pair b s)) (roles_of graph image b) && same_rule r.Range wanted))
+    (in_only_role graph image b role (λ s. is_deep graph image (pair b s)) below within clean reached)
+    ∙ ap (λ (x : Bool). (is_deep graph image (pair b role) && same_rule r.Level wanted) || (x && same_rule r.Range wanted))
+    (in_only_role graph image b role (λ s. is_out_of_range graph image (pair b s)) below within clean reached)
+
+-- the blocks on the stack are nodes, each a child of the one below it
+abbrev pub IsUnder : Graph → List (List ℕ) → ℕ → ℕ → List ℕ → Type 0
+IsUnder graph image role b [] = Unit {0}
+IsUnder graph image role b (c ∷ rest) = is_among (pair b role) (children graph image (pair c role)) ≡ true
+
+abbrev pub IsTrail : Graph → List (List ℕ) → ℕ → List ℕ → Type 0
+IsTrail graph image role [] = Unit {0}
+IsTrail graph image role (b ∷ rest) = (is_node graph image (pair b role) ≡ true) × IsUnder graph image role b rest × IsTrail graph image role rest
+
+-- each but the top has a child on the stack
+trail_child : (graph : Graph) (image : List (List ℕ)) (role b x : ℕ) (rest : List ℕ) → IsTrail graph image role (b ∷ rest) → is_among x rest ≡ true
+    → (y : ℕ) × (is_among y (b ∷ rest) ≡ true) × (is_among (pair y role) (children graph image (pair x role)) ≡ true)
+trail_child graph image role b x [] trail among = absurd (both_ways _ refl among)
+trail_child graph image role b x (c ∷ more) trail among = elim (or_cases (nat_eq c x) (is_among x more) among) [
+  | inl same ↦ (
+    b,
+    or_left (nat_eq b b) _ (eq-eqb b b refl),
+    ap (λ (d : ℕ). is_among (pair b role) (children graph image (pair d role))) (sym (eqb-true c x same)) ∙ trail.1,
+  )
+  | inr later ↦
+      let above = trail_child graph image role c x more trail.2 later in
+      (above.0, or_right (nat_eq b above.0) _ above.1, above.2)
+]
+
+-- so where the top has one too, all are deep
+pub trail_is_deep : (graph : Graph) (image : List (List ℕ)) (role b c j : ℕ) (rest : List ℕ) → IsTrail graph image role (b ∷ rest)
+    → is_among c (b ∷ rest) ≡ true → is_among (pair c role) (children graph image (pair b role)) ≡ true
+    → has_chain (children graph image) j (pair c role) ≡ true
+trail_is_deep graph image role b c j rest trail among leads =
+    let S : ℕ → Type 0 = λ q. (x : ℕ) × (is_among x (b ∷ rest) ≡ true) × (q ≡ pair x role) in
+    never_ends (children graph image) S
+    (λ p within. elim (or_cases (nat_eq b within.0) (is_among within.0 rest) within.1) [
+      | inl same ↦ (
+        pair c role,
+        (c, among, refl),
+        ap (λ (q : ℕ). is_among (pair c role) (children graph image q)) (within.2 ∙ ap (λ (x : ℕ). pair x role) (sym (eqb-true b within.0 same))) ∙ leads,
+      )
+      | inr later ↦
+          let above = trail_child graph image role b within.0 rest trail later in
+          (pair above.0 role, (above.0, above.1, refl), ap (λ (q : ℕ). is_among (pair above.0 role) (children graph image q)) within.2 ∙ above.2)
+    ]) j (pair c role) (c, among, refl)

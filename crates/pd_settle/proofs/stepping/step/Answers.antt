@@ -1,0 +1,13 @@
+use Rattle.std.proofs.Common.{inr, ap, rules}
+use Rattle.pd_graph.specs.declared.notes.Note.{Note}
+use Rattle.pd_settle.specs.Stepping.{shallow}
+use Rattle.pd_settle.proofs.stepping.step.Goals as goal
+
+pub returns-in-Shallow : goal.returns-in-Shallow
+returns-in-Shallow g c = inr (record {
+  note = c.in-Shallow.note;
+  broken = c.range_rule.result;
+  verdict = shallow c.in-Shallow.in_range (search rules) c.in-Shallow.ensures c.range_rule.ensures;
+  closes = c.close-in-Shallow.ensures;
+  below = ap (λ (n : Note). n.below) c.note-below.ensures;
+})

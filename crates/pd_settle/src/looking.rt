@@ -1,0 +1,143 @@
+//! A look at a node: its own keys, or what the notes of its children say.
+
+ghost use Rattle.std.specs.Prelude.{◌≡◌, ℕ, ◌+◌, ◌<◌, ◌≤◌, true, length, nat_lt, slice_get, Some, None};
+ghost use Rattle.std.specs.List.{list_all};
+ghost use Rattle.pd_graph.specs.Audit.{blocks_of, note_at};
+ghost use Rattle.pd_settle.specs.Looking.{blocks_of_edges, is_low, IsFound, IsShallow};
+ghost use Rattle.pd_settle.specs.Notes.{ends_note, keyless_note};
+
+use crate::summary::{is_in_range, join};
+use pd_graph::{Audit, Format, Note};
+use pd_kinds::Block;
+
+/// What a look at the children of an inner node finds.
+#[derive(Drop)]
+pub(crate) enum Seen {
+    /// A child that is still unknown.
+    Down(u64),
+    /// A child outside the device's blocks, as no sound node has one.
+    Outside,
+    /// A child that shows that the node is deep.
+    Deep,
+    /// The note of the node, and whether it is in range.
+    Shallow(Note, bool),
+}
+
+/// A note without keys.
+pub(crate) fn keyless(below: u64, height: u64) -> Note
+    ensures { result ≡ keyless_note below height }
+{
+    Note {
+        least: None,
+        greatest: None,
+        below,
+        height,
+    }
+}
+
+/// The block of child i.
+fn child_at<F: Format>(format: &F, role: u8, block: &Block, i: usize) -> u64
+    requires role { role < F.ROLES }
+    requires within { i < length ((F.contents format.now).edges role block.now.0) }
+    ensures { slice_get (blocks_of_edges ((F.contents format.now).edges role block.now.0)) i ≡ Some result }
+{
+    format.edge_of_any(role, block, i).1
+}
+
+/// The block of child i of a node all of whose children are blocks of the audit.
+fn block_at<F: Format>(audit: &Audit, format: &F, role: u8, block: &Block, i: usize) -> u64
+    requires role { role < F.ROLES }
+    requires child { i < length ((F.contents format.now).edges role block.now.0) }
+    requires within { list_all (λ c. nat_lt c (blocks_of audit.now)) (blocks_of_edges ((F.contents format.now).edges role block.now.0)) ≡ true }
+    ensures child { slice_get (blocks_of_edges ((F.contents format.now).edges role block.now.0)) i ≡ Some result }
+    ensures within { result < blocks_of audit.now }
+{
+    child_at(format, role, block, i)
+}
+
+/// Key i, where there is one, of so many.
+fn key_at<F: Format>(format: &F, role: u8, block: &Block, number: usize, i: usize) -> Option<u64>
+    requires role { role < F.ROLES }
+    requires number { number ≡ length ((F.contents format.now).keys role block.now.0) }
+    ensures { result ≡ slice_get ((F.contents format.now).keys role block.now.0) i }
+{
+    if i < number {
+        Some(format.key_of_any(role, block, i))
+    } else {
+        None
+    }
+}
+
+/// The notes of the children of an inner node as that of the node, and whether each child is in range.
+fn sum_up<F: Format>(audit: &Audit, format: &F, role: u8, block: &Block) -> (Note, bool)
+    requires role { role < F.ROLES }
+    requires keys { length ((F.contents format.now).keys role block.now.0) ≡ length ((F.contents format.now).edges role block.now.0) }
+    requires within { list_all (λ c. nat_lt c (blocks_of audit.now)) (blocks_of_edges ((F.contents format.now).edges role block.now.0)) ≡ true }
+    requires low { list_all (λ c. is_low (note_at audit.now c)) (blocks_of_edges ((F.contents format.now).edges role block.now.0)) ≡ true }
+    ensures { IsShallow (note_at audit.now) ((F.contents format.now).keys role block.now.0)
+        (blocks_of_edges ((F.contents format.now).edges role block.now.0)) result.0 result.1 }
+{
+    let mut sum = keyless(0, 0);
+    let mut in_range = true;
+    let number = format.edges_of_any(role, block);
+    for i in 0..number {
+        let child = block_at(audit, format, role, block, i);
+        let note = audit.note(child);
+        let low = format.key_of_any(role, block, i);
+        let high = key_at(format, role, block, number, i + 1);
+        let fits = is_in_range(low, high, note);
+        in_range = in_range & fits;
+        sum = join(sum, note);
+    }
+    (
+        Note {
+            least: sum.least,
+            greatest: sum.greatest,
+            below: sum.below,
+            height: sum.height + 1,
+        },
+        in_range,
+    )
+}
+
+/// Looks at the children of an inner node, one after another.
+pub(crate) fn look<F: Format>(audit: &Audit, format: &F, role: u8, block: &Block) -> Seen
+    requires role { role < F.ROLES }
+    requires keys { length ((F.contents format.now).keys role block.now.0) ≡ length ((F.contents format.now).edges role block.now.0) }
+    ensures { IsFound (blocks_of audit.now) (note_at audit.now) ((F.contents format.now).keys role block.now.0)
+        (blocks_of_edges ((F.contents format.now).edges role block.now.0)) result }
+{
+    for i in 0..format.edges_of_any(role, block) {
+        let child = child_at(format, role, block, i);
+        if audit.nr() <= child {
+            return Seen::Outside;
+        }
+        let height = audit.note(child).height;
+        let is_unknown = height == 0;
+        if is_unknown {
+            return Seen::Down(child);
+        }
+        if 64 <= height {
+            return Seen::Deep;
+        }
+    }
+    let (note, in_range) = sum_up(audit, format, role, block);
+    Seen::Shallow(note, in_range)
+}
+
+/// The note of a node without children: its own keys, of which a sound node has the least first and the
+/// greatest last.
+pub(crate) fn leaf_note<F: Format>(format: &F, role: u8, block: &Block) -> Note
+    requires role { role < F.ROLES }
+    ensures { result ≡ ends_note ((F.contents format.now).keys role block.now.0) }
+{
+    let number = format.keys_of_any(role, block);
+    let least = key_at(format, role, block, number, 0);
+    let greatest = key_at(format, role, block, number, number.saturating_sub(1));
+    Note {
+        least,
+        greatest,
+        below: number as u64,
+        height: 1,
+    }
+}

@@ -1,0 +1,148 @@
+//! The settling of all nodes, block after block.
+
+ghost use Rattle.std.specs.Prelude.{◌≡◌, ℕ, ◌+◌, ◌*◌, ◌<◌, ◌≤◌, true, false, length, is_ok, OnOk, IfSome, IfNone};
+ghost use Rattle.pd_kinds.specs.declared.rule.Rule.{Rule};
+ghost use Rattle.pd_kinds.specs.Objects.{DeviceState, CountsFault};
+ghost use Rattle.pd_kinds.specs.Graph.{Graph, nodes};
+ghost use Rattle.pd_image.specs.Device.{IsAttached, KeepsObject};
+ghost use Rattle.pd_graph.specs.Roles.{has_bit};
+ghost use Rattle.pd_graph.specs.Notes.{no_note};
+ghost use Rattle.pd_graph.specs.Walk.{IsWalked};
+ghost use Rattle.pd_graph.specs.Audit.{blocks_of, has_walked, roles_at, has_rule_at, note_at, KeepsButNotes};
+ghost use Rattle.pd_settle.specs.Stepping.{KeepsWalk};
+ghost use Rattle.pd_settle.specs.Ordering.{IsClean, IsOrdering, IsClosed, Knows, HasRoles, steps};
+ghost use Rattle.pd_settle.specs.Settled.{IsSettled, KeepsMet};
+
+use crate::descending::descend;
+use crate::looking::keyless;
+use pd_graph::{Audit, Format};
+use pd_image::{Device, Failed};
+
+/// Forgets what was noted of each block.
+fn clear(audit: &mut Audit)
+    ensures notes { (b : ℕ) → note_at audit.new b ≡ no_note }
+    ensures kept { KeepsButNotes audit.old audit.new }
+{
+    let unknown = keyless(0, 0);
+    for b in 0..audit.nr() {
+        audit.set_note(b, unknown);
+    }
+}
+
+/// Whether the role is in the set.
+fn has_role(roles: u16, role: u8) -> bool
+    requires { role < 16 }
+    ensures { result ≡ has_bit roles role }
+{
+    (roles >> role) & 1 == 1
+}
+
+/// The role in which block b is a node of a tree.
+fn tree_role<F: Format>(audit: &Audit, format: &F, b: u64) -> Option<u8>
+    requires { b < blocks_of audit.now }
+    ensures some { IfSome result (λ role. (role < F.ROLES) × (has_bit (roles_at audit.now b) role ≡ true) × ((F.graph format.now).is_tree role ≡ true)) }
+    ensures none { IfNone result ((role : ℕ) → role < F.ROLES → has_bit (roles_at audit.now b) role ≡ true → (F.graph format.now).is_tree role ≡ false) }
+{
+    let roles = audit.roles(b);
+    for role in 0..F::ROLES {
+        if has_role(roles, role) && format.is_tree(role) {
+            return Some(role);
+        }
+    }
+    None
+}
+
+/// Settles block b and all below it, where it is a node of a tree that nothing is known of.
+fn visit<F: Format, D: Device>(
+    audit: &mut Audit,
+    format: &F,
+    dev: &mut D,
+    b: u64,
+) -> Result<(), Failed>
+    requires number { blocks_of audit.old ≡ (F.graph format.now).nr }
+    requires block { b < (F.graph format.now).nr }
+    requires closed { IsClosed audit.old }
+    requires attached { IsAttached (D.state dev.old) }
+    requires within { (F.graph format.now).nr ≤ (D.state dev.old).blocks }
+    ensures ended { OnOk result (IsClosed audit.new) }
+    ensures walk { KeepsWalk audit.old audit.new }
+    ensures knows { Knows audit.old audit.new }
+    ensures done { OnOk result ((role : ℕ) → role < F.ROLES → has_bit (roles_at audit.old b) role ≡ true → (F.graph format.now).is_tree role ≡ true
+        → 1 ≤ (note_at audit.new b).height) }
+    ensures told { IfSome (D.state dev.old).held (λ image. IsClean (F.graph format.now) image → IsOrdering (F.graph format.now) image audit.old
+        → HasRoles (F.graph format.now) image audit.old → IsOrdering (F.graph format.now) image audit.new) }
+    ensures reads { (D.state dev.new).reads + steps (F.graph format.now).nr audit.old ≤ (D.state dev.old).reads + steps (F.graph format.now).nr audit.new }
+    ensures held { (D.state dev.new).held ≡ (D.state dev.old).held }
+    ensures kept { KeepsObject (D.state dev.old) (D.state dev.new) }
+    ensures faults { CountsFault result (D.state dev.old).faults (D.state dev.new).faults }
+{
+    if audit.note(b).height != 0 {
+        return Ok(());
+    }
+    match tree_role(audit, format, b) {
+        Some(role) => descend(audit, format, dev, role, b),
+        None => Ok(()),
+    }
+}
+
+/// Forgets all notes, and settles each node of a tree.
+fn settle_each<F: Format, D: Device>(
+    audit: &mut Audit,
+    format: &F,
+    dev: &mut D,
+) -> Result<(), Failed>
+    requires number { blocks_of audit.old ≡ (F.graph format.now).nr }
+    requires sound { (b : ℕ) (rule : Rule) → b < (F.graph format.now).nr → has_rule_at audit.old b rule ≡ false }
+    requires attached { IsAttached (D.state dev.old) }
+    requires within { (F.graph format.now).nr ≤ (D.state dev.old).blocks }
+    ensures settled { OnOk result (IfSome (D.state dev.old).held (λ image. IsWalked (F.graph format.now) image audit.old
+        → IsSettled (F.graph format.now) image audit.new)) }
+    ensures walk { KeepsWalk audit.old audit.new }
+    ensures reads { IfSome (D.state dev.old).held (λ image. IsWalked (F.graph format.now) image audit.old
+        → (D.state dev.new).reads ≤ (D.state dev.old).reads + 2 * length (nodes (F.graph format.now) image)) }
+    ensures held { (D.state dev.new).held ≡ (D.state dev.old).held }
+    ensures kept { KeepsObject (D.state dev.old) (D.state dev.new) }
+    ensures faults { CountsFault result (D.state dev.old).faults (D.state dev.new).faults }
+{
+    clear(audit);
+    for b in 0..audit.nr() {
+        visit(audit, format, dev, b)?;
+    }
+    Ok(())
+}
+
+/// Marks the blocks of a walked audit with Level and Range, and notes what stands below each node of a
+/// tree. It takes no memory.
+///
+/// What it says of content holds where the audit has the marks of the walk of what the device holds; over
+/// any other device or audit it is safe. After `Failed` the audit may not be used again.
+pub fn settle<F: Format, D: Device>(
+    audit: &mut Audit,
+    format: &F,
+    dev: &mut D,
+) -> Result<(), Failed>
+    requires walked { has_walked audit.old ≡ true }
+    requires number { blocks_of audit.old ≡ (F.graph format.now).nr }
+    requires sound { (b : ℕ) (rule : Rule) → b < (F.graph format.now).nr → has_rule_at audit.old b rule ≡ false }
+    requires attached { IsAttached (D.state dev.old) }
+    requires within { (F.graph format.now).nr ≤ (D.state dev.old).blocks }
+    ensures walked { has_walked audit.new ≡ is_ok result }
+    ensures settled { OnOk result (IfSome (D.state dev.old).held (λ image. IsWalked (F.graph format.now) image audit.old
+        → IsSettled (F.graph format.now) image audit.new)) }
+    ensures met { KeepsMet audit.old audit.new }
+
+    // At most two reads for each reachable pair, also where one failed.
+    ensures reads { IfSome (D.state dev.old).held (λ image. IsWalked (F.graph format.now) image audit.old
+        → (D.state dev.new).reads ≤ (D.state dev.old).reads + 2 * length (nodes (F.graph format.now) image)) }
+    ensures held { (D.state dev.new).held ≡ (D.state dev.old).held }
+    ensures kept { KeepsObject (D.state dev.old) (D.state dev.new) }
+    ensures faults { CountsFault result (D.state dev.old).faults (D.state dev.new).faults }
+{
+    match settle_each(audit, format, dev) {
+        Ok(()) => Ok(()),
+        Err(failed) => {
+            audit.give_up();
+            Err(failed)
+        }
+    }
+}
