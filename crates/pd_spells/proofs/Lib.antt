@@ -1,0 +1,4 @@
+pub mod ThinRead
+pub mod ThinMeaning
+pub mod ThinLaws
+pub mod ThinJoin

@@ -1,0 +1,39 @@
+-- The meanings that a text can spell, one record a kind.
+use Rattle.std.specs.Prelude.{◌≡◌, ℕ, ◌+◌, ◌^◌, ◌<◌, ◌≤◌, List, [], ◌∷◌, length, All}
+use Rattle.pd_kinds.specs.Meaning.{ThinPool, ThinDevice, Mapping}
+
+-- a mapping that may come where the next virtual block is at least this
+pub record IsMapping (blocks least : ℕ) (m : Mapping) : Type 0 where
+  pub above : least ≤ m.virtual_block
+  pub virtual_fits : m.virtual_block < 2 ^ 64
+  pub within : m.data_block < blocks
+  pub time_fits : m.time < 2 ^ 24
+
+abbrev pub AreMappings : ℕ → ℕ → List Mapping → Type 0
+AreMappings blocks least [] = Unit {0}
+AreMappings blocks least (m ∷ ms) = IsMapping blocks least m × AreMappings blocks (m.virtual_block + 1) ms
+
+-- a device that may come where the next id is at least this
+pub record IsDevice (blocks least : ℕ) (d : ThinDevice) : Type 0 where
+  pub above : least ≤ d.id
+  pub id_fits : d.id < 2 ^ 64
+  pub mapped : d.mapped ≡ length d.mappings
+  pub mapped_fits : d.mapped < 2 ^ 64
+  pub transaction_fits : d.transaction < 2 ^ 64
+  pub created_fits : d.created < 2 ^ 32
+  pub snapped_fits : d.snapped < 2 ^ 32
+  pub mappings : AreMappings blocks 0 d.mappings
+
+abbrev pub AreDevices : ℕ → ℕ → List ThinDevice → Type 0
+AreDevices blocks least [] = Unit {0}
+AreDevices blocks least (d ∷ ds) = IsDevice blocks least d × AreDevices blocks (d.id + 1) ds
+
+-- a pool that a text can spell
+pub record IsLawfulPool (m : ThinPool) : Type 0 where
+  pub uuid_len : length m.uuid ≡ 16
+  pub uuid_bytes : All (λ b. b < 256) m.uuid
+  pub time_fits : m.time < 2 ^ 32
+  pub transaction_fits : m.transaction < 2 ^ 64
+  pub block_size_fits : m.block_size < 2 ^ 32
+  pub data_blocks_fit : m.data_blocks ≤ 2 ^ 40
+  pub devices : AreDevices m.data_blocks 0 m.devices
