@@ -1,6 +1,7 @@
 -- The meanings that a text can spell, one record a kind.
-use Rattle.std.specs.Prelude.{◌≡◌, ℕ, ◌+◌, ◌^◌, ◌<◌, ◌≤◌, List, [], ◌∷◌, length, All}
-use Rattle.pd_kinds.specs.Meaning.{ThinPool, ThinDevice, Mapping}
+use Rattle.std.specs.Prelude.{◌≡◌, ◌⊎◌, ℕ, ◌+◌, ◌^◌, ◌<◌, ◌≤◌, ◌==◌, Bool, false, List, [], ◌∷◌, length, All}
+use Rattle.std.specs.List.{list_any, AllByRecursion}
+use Rattle.pd_kinds.specs.Meaning.{ThinPool, ThinDevice, Mapping, CacheMeaning, CacheEntry, EraMeaning}
 
 -- a mapping that may come where the next virtual block is at least this
 pub record IsMapping (blocks least : ℕ) (m : Mapping) : Type 0 where
@@ -37,3 +38,41 @@ pub record IsLawfulPool (m : ThinPool) : Type 0 where
   pub block_size_fits : m.block_size < 2 ^ 32
   pub data_blocks_fit : m.data_blocks ≤ 2 ^ 40
   pub devices : AreDevices m.data_blocks 0 m.devices
+
+-- an entry of a cache that may come where the next cache block is at least this, and these are the origins of the
+-- entries before it
+pub record IsEntry (blocks hint_size least : ℕ) (earlier : List ℕ) (e : CacheEntry) : Type 0 where
+  pub above : least ≤ e.block
+  pub within : e.block < blocks
+  pub origin_fits : e.origin < 2 ^ 48
+  pub hint_fits : e.hint < 2 ^ 32
+  pub no_hint : hint_size ≡ 0 → e.hint ≡ 0
+  pub new : list_any (λ origin. origin == e.origin) earlier ≡ false
+
+abbrev pub AreEntries : ℕ → ℕ → ℕ → List ℕ → List CacheEntry → Type 0
+AreEntries blocks hint_size least earlier [] = Unit {0}
+AreEntries blocks hint_size least earlier (e ∷ es) =
+    IsEntry blocks hint_size least earlier e × AreEntries blocks hint_size (e.block + 1) (e.origin ∷ earlier) es
+
+-- a cache that a text can spell
+pub record IsLawfulCache (m : CacheMeaning) : Type 0 where
+  pub uuid_len : length m.uuid ≡ 16
+  pub uuid_bytes : All (λ b. b < 256) m.uuid
+  pub block_size_fits : m.block_size < 2 ^ 32
+  pub blocks_fit : m.blocks < 2 ^ 32
+  pub policy_len : length m.policy ≡ 16
+  pub policy_bytes : All (λ b. b < 256) m.policy
+  pub three_versions : length m.versions ≡ 3
+  pub versions_fit : AllByRecursion (λ v. v < 2 ^ 32) m.versions
+  pub hint_size_is : (m.hint_size ≡ 0) ⊎ (m.hint_size ≡ 4)
+  pub entries : AreEntries m.blocks m.hint_size 0 [] m.entries
+
+-- an era target that a text can spell: one era for each block
+pub record IsLawfulEra (m : EraMeaning) : Type 0 where
+  pub uuid_len : length m.uuid ≡ 16
+  pub uuid_bytes : All (λ b. b < 256) m.uuid
+  pub block_size_fits : m.block_size < 2 ^ 32
+  pub blocks_fit : m.blocks < 2 ^ 32
+  pub era_fits : m.era < 2 ^ 32
+  pub one_each : m.blocks ≡ length m.eras
+  pub eras_fit : AllByRecursion (λ e. e < 2 ^ 32) m.eras
