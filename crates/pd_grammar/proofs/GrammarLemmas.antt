@@ -1,22 +1,43 @@
 -- Lines that are read are those that are written, in their place, and pass the tests.
-use Rattle.std.proofs.Common.{◌≡◌, inl, inr, ℕ, suc, ◌≤◌, true, false, List, [], ◌∷◌, length, refl, ap, sym, ◌∙◌, arith, eqb, Option, Some, None, Result, Ok, Err, if◌then◌else◌}
+use Rattle.std.proofs.Common.{◌≡◌, inl, inr, ℕ, suc, ◌≤◌, true, false, List, [], ◌∷◌, ◌++◌, length, map, decimal, refl, ap, sym, subst, ◌∙◌, arith, eqb, Option, Some, None, Result, Ok, Err, if◌then◌else◌}
 use Rattle.std.proofs.lemmas.Bool.Decides.{nat_tests}
 use Rattle.std.specs.List.{AllByRecursion, join_with_byte, list_all}
 use Rattle.pd_grammar.specs.declared.cause.TextCause.{TextCause}
 use Rattle.pd_grammar.specs.declared.cause.TextCause.TheVariants.{Header, Word}
-use Rattle.pd_grammar.specs.Words.{split, is_printable, or_cause, result_and_then}
+use Rattle.pd_grammar.specs.Words.{split, is_printable, of_numbers, or_cause, result_and_then}
 use Rattle.pd_grammar.specs.Texts.{TextFormat, Test, has_ended, written, tested, read}
 use Rattle.pd_grammar.proofs.SplitLemmas.{join_split, split_join}
-use Rattle.pd_grammar.proofs.NumberLemmas.{ok-err, same_Ok, chosen}
+use Rattle.pd_grammar.proofs.NumberLemmas.{ok-err, same_Ok, chosen, Fit, of_numbers_are}
 use Rattle.pd_grammar.proofs.PlainLemmas.{Plain, Printable, words_lack, printable_join, printable_lacks}
 use Rattle.pd_grammar.proofs.LineLemmas.{IsReader, AreRead}
+
+-- words are those of a line whose values fit, in its place
+pub record AreWords {L : Type 0} (words_of : L → List (List ℕ)) (Fits : L → Type 0) (Placed : List L → L → Type 0) (before : List L) (words : List (List ℕ)) (line : L) : Type 0 where
+  pub words_are : words_of line ≡ words
+  pub fits : Fits line
+  pub placed : Placed before line
+
+-- a keyword and so many number words
+pub number_words : {L : Type 0} → (words_of : L → List (List ℕ)) (Fits : L → Type 0) (Placed : List L → L → Type 0) (before : List L) (front words : List (List ℕ))
+    (k : ℕ) (make : List ℕ → L) (line : L)
+    → ((ns : List ℕ) → length ns ≡ k → Fit ns → (words_of (make ns) ≡ front ++ map decimal ns) × (Fits (make ns) × Placed before (make ns)))
+    → of_numbers k make words ≡ Ok line → AreWords words_of Fits Placed before (front ++ words) line
+number_words {L} words_of Fits Placed before front words k make line made e =
+    let ns = of_numbers_are k make words line e in
+    let is = made ns.0 ns.3 ns.2 in
+    let after : L → Type 0 = Placed before in
+    record {
+      words_are = ap words_of (sym ns.4) ∙ is.0 ∙ ap (λ (ws : List (List ℕ)). front ++ ws) ns.1;
+      fits = subst Fits ns.4 is.1.0;
+      placed = subst after ns.4 is.1.1;
+    }
 
 -- a format reads what it writes: of lines whose values fit, in their place
 pub record IsGrammar {L : Type 0} (format : TextFormat L) (Fits : L → Type 0) (Placed : List L → L → Type 0) : Type 0 where
   pub first_is : (bytes : List ℕ) (line : L) → format.first bytes ≡ Some line → (written format line ≡ bytes) × (Fits line × (Placed [] line × Printable bytes))
   pub first_again : (line : L) → Fits line → Placed [] line → format.first (written format line) ≡ Some line
   pub words_are : (before : List L) (words : List (List ℕ)) (line : L) → 1 ≤ length before → format.parsed before words ≡ Ok line
-      → (format.words line ≡ words) × (Fits line × Placed before line)
+      → AreWords format.words Fits Placed before words line
   pub words_again : (before : List L) (line : L) → Fits line → Placed before line → 1 ≤ length before → format.parsed before (format.words line) ≡ Ok line
   pub plain : (line : L) → Fits line → (1 ≤ length (format.words line)) × AllByRecursion Plain (format.words line)
   pub short : (line : L) → Fits line → length (written format line) ≤ 160
@@ -79,7 +100,7 @@ module _ {L : Type 0} (format : TextFormat L) (Fits : L → Type 0) (Placed : Li
         | inl (test, e) ↦
             let parsed = parsed_line format.tests (newest ∷ before) (format.parsed (newest ∷ before) (split 32 bytes)) line e in
             let is = grammar.words_are (newest ∷ before) (split 32 bytes) line (omega arith) parsed.0 in
-            record { bytes_are = ap (join_with_byte 32) is.0 ∙ join_split 32 bytes; fits = is.1.0; placed = is.1.1; passes = parsed.1; printable = test }
+            record { bytes_are = ap (join_with_byte 32) is.words_are ∙ join_split 32 bytes; fits = is.fits; placed = is.placed; passes = parsed.1; printable = test }
         | inr (other, e) ↦ absurd (ok-err line Word (sym e))
       ]
 

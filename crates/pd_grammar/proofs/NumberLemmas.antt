@@ -135,3 +135,16 @@ pub of_numbers_again : {L : Type 0} → (k : ℕ) (make : List ℕ → L) (ns : 
 unfolding of_numbers
 of_numbers_again k make ns len fit =
     rw (length-map ns decimal, (Decides-eqb (length ns) k).1 len, numbers_again ns fit) refl
+
+-- the values of a function at 0, 1 and so on
+abbrev pub values : (ℕ → ℕ) → ℕ → List ℕ
+values f zero = []
+values f (suc k) = f 0 ∷ values (λ i. f (suc i)) k
+
+values_all : (ns : List ℕ) → values (λ i. get_or ns i 0) (length ns) ≡ ns
+values_all [] = refl
+values_all (n ∷ ns) = ap (λ (xs : List ℕ). n ∷ xs) (values_all ns)
+
+-- a list of so many numbers is that of its elements
+pub values_are : (k : ℕ) (ns : List ℕ) → length ns ≡ k → values (λ i. get_or ns i 0) k ≡ ns
+values_are k ns len = ap (values (λ i. get_or ns i 0)) (sym len) ∙ values_all ns

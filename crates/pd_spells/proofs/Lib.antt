@@ -2,3 +2,5 @@ pub mod ThinRead
 pub mod ThinMeaning
 pub mod ThinLaws
 pub mod ThinJoin
+pub mod EraRead
+pub mod EraLaws

@@ -1,5 +1,5 @@
 -- Lines of thin texts: what is read is what is written, in its place.
-use Rattle.std.proofs.Common.{◌≡◌, inl, inr, ℕ, suc, ◌+◌, ◌*◌, ◌^◌, ◌≤◌, ◌<◌, true, false, List, [], ◌∷◌, length, length-append, map, All, refl, ap, sym, arith, eqb, decimal, Option, Some, None, Ok, codes}
+use Rattle.std.proofs.Common.{◌≡◌, inl, inr, ℕ, suc, ◌+◌, ◌*◌, ◌^◌, ◌≤◌, ◌<◌, true, false, List, [], ◌∷◌, length, length-append, map, All, refl, ap, sym, subst, arith, eqb, decimal, Option, Some, None, Ok, codes}
 use Rattle.std.proofs.lemmas.Bool.Decides.{Decides-eqb, nat_tests}
 use Rattle.std.proofs.lemmas.Option.{cond_some}
 use Rattle.std.proofs.lemmas.Slice.Eq.{bytes_eq-Decides}
@@ -12,8 +12,9 @@ use Rattle.pd_grammar.specs.declared.cause.TextCause.TheVariants.{Word}
 use Rattle.pd_grammar.specs.Words.{uuid_of, of_numbers, or_cause, result_and_then}
 use Rattle.pd_grammar.specs.Texts.{written}
 use Rattle.pd_spells.specs.ThinText.{Line, first_line, pool_line, device_line, map_line, end_line, thin, words_of_line, has_device, first_of, pool_of, device_of, map_of, pool_read, words_read}
-use Rattle.pd_grammar.proofs.GrammarLemmas.{IsGrammar}
-use Rattle.pd_grammar.proofs.NumberLemmas.{ok-err, chosen, Fit, of_numbers_are, of_numbers_again}
+use Rattle.pd_grammar.proofs.GrammarLemmas.{IsGrammar, AreWords, number_words}
+use Rattle.pd_grammar.proofs.ShortLemmas.{room_of, joined_short, numbers_short}
+use Rattle.pd_grammar.proofs.NumberLemmas.{ok-err, chosen, Fit, values, values_are, of_numbers_again}
 use Rattle.pd_grammar.proofs.PlainLemmas.{plain_word, Plain, Printable, decimals_plain, uuid_plain, uuid_again, uuid_is, AreBytes}
 
 -- the numbers and the uuid of a line can be written
@@ -32,66 +33,53 @@ Placed before (device_line d) = 2 ≤ length before
 Placed before (map_line r) = (2 ≤ length before) × (has_device before ≡ true)
 Placed before end_line = 2 ≤ length before
 
--- the words of a line
-pub record AreWords (before : List Line) (words : List (List ℕ)) (line : Line) : Type 0 where
-  pub words_are : words_of_line line ≡ words
-  pub fits : FitsLine line
-  pub placed : Placed before line
+-- a line's words in its place
+abbrev Reads : List Line → List (List ℕ) → Line → Type 0
+Reads before words line = AreWords words_of_line FitsLine Placed before words line
 
 -- the lines of so many numbers
-map_words : (ns : List ℕ) → length ns ≡ 4 → Fit ns → (words_of_line (map_of ns) ≡ codes "map" ∷ map decimal ns) × FitsLine (map_of ns)
-map_words [] len fit = absurd (omega arith)
-map_words (a ∷ []) len fit = absurd (omega arith)
-map_words (a ∷ b ∷ []) len fit = absurd (omega arith)
-map_words (a ∷ b ∷ c ∷ []) len fit = absurd (omega arith)
-map_words (a ∷ b ∷ c ∷ d ∷ []) len fit = (refl, fit)
-map_words (a ∷ b ∷ c ∷ d ∷ e ∷ ns) len fit = absurd (omega arith)
+map_words : (before : List Line) (words : List (List ℕ)) (line : Line) → 2 ≤ length before → has_device before ≡ true → of_numbers 4 map_of words ≡ Ok line
+    → Reads before (codes "map" ∷ words) line
+map_words before words line some opened e =
+    number_words words_of_line FitsLine Placed before (codes "map" ∷ []) words 4 map_of line
+    (λ ns len fit. let are = values_are 4 ns len in let P : List ℕ → Type 0 = Fit in
+    (ap (λ (xs : List ℕ). codes "map" ∷ map decimal xs) are, (subst P (sym are) fit, (some, opened)))) e
 
-device_words : (ns : List ℕ) → length ns ≡ 5 → Fit ns → (words_of_line (device_of ns) ≡ codes "device" ∷ map decimal ns) × FitsLine (device_of ns)
-device_words [] len fit = absurd (omega arith)
-device_words (a ∷ []) len fit = absurd (omega arith)
-device_words (a ∷ b ∷ []) len fit = absurd (omega arith)
-device_words (a ∷ b ∷ c ∷ []) len fit = absurd (omega arith)
-device_words (a ∷ b ∷ c ∷ d ∷ []) len fit = absurd (omega arith)
-device_words (a ∷ b ∷ c ∷ d ∷ e ∷ []) len fit = (refl, fit)
-device_words (a ∷ b ∷ c ∷ d ∷ e ∷ f ∷ ns) len fit = absurd (omega arith)
+device_words : (before : List Line) (words : List (List ℕ)) (line : Line) → 2 ≤ length before → of_numbers 5 device_of words ≡ Ok line
+    → Reads before (codes "device" ∷ words) line
+device_words before words line some e =
+    number_words words_of_line FitsLine Placed before (codes "device" ∷ []) words 5 device_of line
+    (λ ns len fit. let are = values_are 5 ns len in let P : List ℕ → Type 0 = Fit in
+    (ap (λ (xs : List ℕ). codes "device" ∷ map decimal xs) are, (subst P (sym are) fit, some))) e
 
-pool_words : (word uuid ns : List ℕ) → AreBytes (hyphenated_text lower) word uuid → length ns ≡ 4 → Fit ns
-    → (words_of_line (pool_of uuid ns) ≡ codes "pool" ∷ word ∷ map decimal ns) × FitsLine (pool_of uuid ns)
-pool_words word uuid [] is len fit = absurd (omega arith)
-pool_words word uuid (a ∷ []) is len fit = absurd (omega arith)
-pool_words word uuid (a ∷ b ∷ []) is len fit = absurd (omega arith)
-pool_words word uuid (a ∷ b ∷ c ∷ []) is len fit = absurd (omega arith)
-pool_words word uuid (a ∷ b ∷ c ∷ d ∷ []) is len fit = (ap (λ (w : List ℕ). codes "pool" ∷ w ∷ map decimal (a ∷ b ∷ c ∷ d ∷ [])) is.text, (is.len, (is.small, fit)))
-pool_words word uuid (a ∷ b ∷ c ∷ d ∷ e ∷ ns) is len fit = absurd (omega arith)
+pool_words : (before : List Line) (word uuid : List ℕ) (words : List (List ℕ)) (line : Line) → length before ≡ 1 → AreBytes (hyphenated_text lower) word uuid
+    → of_numbers 4 (pool_of uuid) words ≡ Ok line → Reads before (codes "pool" ∷ word ∷ words) line
+pool_words before word uuid words line second is e =
+    number_words words_of_line FitsLine Placed before (codes "pool" ∷ word ∷ []) words 4 (pool_of uuid) line
+    (λ ns len fit. let are = values_are 4 ns len in let P : List ℕ → Type 0 = Fit in
+    (rw is.text (ap (λ (xs : List ℕ). codes "pool" ∷ word ∷ map decimal xs) are), ((is.len, (is.small, subst P (sym are) fit)), second))) e
 
-end_words : (ns : List ℕ) → length ns ≡ 0 → words_of_line end_line ≡ codes "end" ∷ map decimal ns
-end_words [] len = refl
-end_words (a ∷ ns) len = absurd (omega arith)
-
-made_words : (before : List Line) (keyword : List ℕ) (words : List (List ℕ)) (ns : List (List ℕ)) (made line : Line)
-    → words_of_line made ≡ keyword ∷ ns → FitsLine made → Placed before made → made ≡ line → ns ≡ words
-    → AreWords before (keyword ∷ words) line
-made_words before keyword words ns made line are fits placed is same = rw (← is, ← same) (record { words_are = are; fits = fits; placed = placed })
+end_words : (before : List Line) (words : List (List ℕ)) (line : Line) → 2 ≤ length before → of_numbers 0 (λ (ns : List ℕ). end_line) words ≡ Ok line
+    → Reads before (codes "end" ∷ words) line
+end_words before words line some e =
+    number_words words_of_line FitsLine Placed before (codes "end" ∷ []) words 0 (λ (ns : List ℕ). end_line) line
+    (λ ns len fit. (ap (λ (xs : List ℕ). codes "end" ∷ map decimal xs) (values_are 0 ns len), (tt, some))) e
 
 same_word : (keyword word : List ℕ) → bytes_eq keyword word ≡ true → keyword ≡ word
 same_word keyword word e = (bytes_eq-Decides keyword word).0 e
 
 pool_is : (before : List Line) (uuid : Option (List ℕ)) (word : List ℕ) (words : List (List ℕ)) (line : Line) → uuid_of word ≡ uuid → length before ≡ 1
     → result_and_then (λ (bytes : List ℕ). of_numbers 4 (pool_of bytes) words) (or_cause uuid Word) ≡ Ok line
-    → AreWords before (codes "pool" ∷ word ∷ words) line
+    → Reads before (codes "pool" ∷ word ∷ words) line
 pool_is before None word words line is second e = absurd (ok-err line Word (sym e))
-pool_is before (Some uuid) word words line is second e =
-    let ns = of_numbers_are 4 (pool_of uuid) words line e in
-    let made = pool_words word uuid ns.0 (uuid_is word uuid is) ns.3 ns.2 in
-    made_words before (codes "pool") (word ∷ words) (word ∷ map decimal ns.0) (pool_of uuid ns.0) line made.0 made.1 second ns.4 (ap (λ (xs : List (List ℕ)). word ∷ xs) ns.1)
+pool_is before (Some uuid) word words line is second e = pool_words before word uuid words line second (uuid_is word uuid is) e
 
-pool_reads : (before : List Line) (words : List (List ℕ)) (line : Line) → length before ≡ 1 → pool_read words ≡ Ok line → AreWords before (codes "pool" ∷ words) line
+pool_reads : (before : List Line) (words : List (List ℕ)) (line : Line) → length before ≡ 1 → pool_read words ≡ Ok line → Reads before (codes "pool" ∷ words) line
 unfolding pool_read
 pool_reads before [] line second e = absurd (ok-err line Word (sym e))
 pool_reads before (word ∷ words) line second e = pool_is before (uuid_of word) word words line refl second e
 
-pub words_are : (before : List Line) (words : List (List ℕ)) (line : Line) → 1 ≤ length before → words_read before words ≡ Ok line → AreWords before words line
+words_are : (before : List Line) (words : List (List ℕ)) (line : Line) → 1 ≤ length before → words_read before words ≡ Ok line → Reads before words line
 unfolding words_read
 words_are before [] line some e = absurd (ok-err line Word (sym e))
 words_are before (keyword ∷ words) line some e =
@@ -104,21 +92,13 @@ words_are before (keyword ∷ words) line some e =
           let place : 2 ≤ length before = grind (arith, nat_tests) in
           elim (chosen (bytes_eq keyword (codes "map")) _ _ (Ok line) e) [
             | inl (is, e) ↦ elim (chosen (has_device before) _ _ (Ok line) e) [
-              | inl (opened, e) ↦
-                  let ns = of_numbers_are 4 map_of words line e in
-                  let made = map_words ns.0 ns.3 ns.2 in
-                  rw (same_word keyword (codes "map") is) (made_words before (codes "map") words (map decimal ns.0) (map_of ns.0) line made.0 made.1 (place, opened) ns.4 ns.1)
+              | inl (opened, e) ↦ rw (same_word keyword (codes "map") is) (map_words before words line place opened e)
               | inr (other, e) ↦ absurd (ok-err line Word (sym e))
             ]
             | inr (other, e) ↦ elim (chosen (bytes_eq keyword (codes "device")) _ _ (Ok line) e) [
-              | inl (is, e) ↦
-                  let ns = of_numbers_are 5 device_of words line e in
-                  let made = device_words ns.0 ns.3 ns.2 in
-                  rw (same_word keyword (codes "device") is) (made_words before (codes "device") words (map decimal ns.0) (device_of ns.0) line made.0 made.1 place ns.4 ns.1)
+              | inl (is, e) ↦ rw (same_word keyword (codes "device") is) (device_words before words line place e)
               | inr (other, e) ↦ elim (chosen (bytes_eq keyword (codes "end")) _ _ (Ok line) e) [
-                | inl (is, e) ↦
-                    let ns = of_numbers_are 0 (λ (xs : List ℕ). end_line) words line e in
-                    rw (same_word keyword (codes "end") is) (made_words before (codes "end") words (map decimal ns.0) end_line line (end_words ns.0 ns.3) tt place ns.4 ns.1)
+                | inl (is, e) ↦ rw (same_word keyword (codes "end") is) (end_words before words line place e)
                 | inr (other, e) ↦ absurd (ok-err line Word (sym e))
               ]
             ]
@@ -156,22 +136,6 @@ words_plain (map_line r) fits =
 words_plain end_line fits = (plain_word (codes "end") refl, tt)
 
 -- no line is longer than 160 bytes
-decimal_short : (n : ℕ) → n < 2 ^ 64 → length (decimal n) ≤ 20
-decimal_short n fits = length-decimal-le 20 n (omega arith) (omega arith) fits
-
-abbrev room_of : List (List ℕ) → ℕ
-room_of [] = 0
-room_of (w ∷ words) = suc (length w) + room_of words
-
-joined_short : (words : List (List ℕ)) → length (join_with_byte 32 words) ≤ room_of words
-joined_short [] = omega arith
-joined_short (w ∷ []) = omega arith
-joined_short (w ∷ v ∷ words) = omega (arith, length-append w (32 ∷ join_with_byte 32 (v ∷ words)), joined_short (v ∷ words))
-
-numbers_short : (ns : List ℕ) → Fit ns → room_of (map decimal ns) ≤ 21 * length ns
-numbers_short [] fit = omega arith
-numbers_short (n ∷ ns) fit = omega (arith, decimal_short n fit.0, numbers_short ns fit.1)
-
 short_line : (line : Line) → FitsLine line → length (written thin line) ≤ 160
 short_line first_line fits = omega arith
 short_line (pool_line p) fits =
@@ -210,7 +174,7 @@ pub thin_grammar : IsGrammar thin FitsLine Placed
 thin_grammar = record {
   first_is = first_is;
   first_again = first_again;
-  words_are = λ before words line some e. let are = words_are before words line some e in (are.words_are, (are.fits, are.placed));
+  words_are = words_are;
   words_again = read_words_again;
   plain = λ line fits. (words_some line, words_plain line fits);
   short = short_line;

@@ -128,8 +128,8 @@ pub record Stretch : Type 0 where
 
 -- the eras of a stretch, one by one
 abbrev pub eras_from : ℕ → ℕ → List ℕ
-eras_from era zero = []
-eras_from era (suc n) = era ∷ eras_from era n
+eras_from e zero = []
+eras_from e (suc n) = e ∷ eras_from e n
 
 abbrev pub eras_of : Stretch → List ℕ
 eras_of s = eras_from s.era s.length
