@@ -32,6 +32,11 @@ number_words {L} words_of Fits Placed before front words k make line made e =
       placed = subst after ns.4 is.1.1;
     }
 
+-- a line passes the tests after these lines; the first line has none
+abbrev pub Passes : {L : Type 0} → List (Test L) → List L → L → Type 0
+Passes tests [] line = Unit {0}
+Passes {L} tests (newest ∷ before) line = AllByRecursion (λ (test : Test L). test.fails (newest ∷ before) line ≡ false) tests
+
 -- a format reads what it writes: of lines whose values fit, in their place
 pub record IsGrammar {L : Type 0} (format : TextFormat L) (Fits : L → Type 0) (Placed : List L → L → Type 0) : Type 0 where
   pub first_is : (bytes : List ℕ) (line : L) → format.first bytes ≡ Some line → (written format line ≡ bytes) × (Fits line × (Placed [] line × Printable bytes))
@@ -40,12 +45,7 @@ pub record IsGrammar {L : Type 0} (format : TextFormat L) (Fits : L → Type 0) 
       → AreWords format.words Fits Placed before words line
   pub words_again : (before : List L) (line : L) → Fits line → Placed before line → 1 ≤ length before → format.parsed before (format.words line) ≡ Ok line
   pub plain : (line : L) → Fits line → (1 ≤ length (format.words line)) × AllByRecursion Plain (format.words line)
-  pub short : (line : L) → Fits line → length (written format line) ≤ 160
-
--- a line passes the tests after these lines; the first line has none
-abbrev pub Passes : {L : Type 0} → List (Test L) → List L → L → Type 0
-Passes tests [] line = Unit {0}
-Passes {L} tests (newest ∷ before) line = AllByRecursion (λ (test : Test L). test.fails (newest ∷ before) line ≡ false) tests
+  pub short : (before : List L) (line : L) → Fits line → Placed before line → Passes format.tests before line → length (written format line) ≤ 160
 
 -- the lines fit, in their places, and pass, one after the other up to the last one
 abbrev pub AreLines : {L : Type 0} → TextFormat L → (L → Type 0) → (List L → L → Type 0) → List L → List L → Type 0
@@ -140,7 +140,7 @@ module _ {L : Type 0} (format : TextFormat L) (Fits : L → Type 0) (Placed : Li
   pub read_if_lines : (before lines : List L) → AreLines format Fits Placed before lines → AreRead format before lines
   read_if_lines before [] ended = ended
   read_if_lines before (line ∷ lines) are =
-      (are.0, (grammar.short line are.1.0, (read_again before line are.1.0 are.1.1.0 are.1.1.1.0, read_if_lines (line ∷ before) lines are.1.1.1.1)))
+      (are.0, (grammar.short before line are.1.0 are.1.1.0 are.1.1.1.0, (read_again before line are.1.0 are.1.1.0 are.1.1.1.0, read_if_lines (line ∷ before) lines are.1.1.1.1)))
 
   -- and lines that are read fit
   pub lines_if_read : (before lines : List L) → AreRead format before lines → AreLines format Fits Placed before lines

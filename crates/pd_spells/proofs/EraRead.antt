@@ -150,5 +150,5 @@ era_grammar = record {
   words_are = words_are;
   words_again = read_words_again;
   plain = λ line fits. (words_some line, words_plain line fits);
-  short = short_line;
+  short = λ before line fits placed passes. short_line line fits;
 }
