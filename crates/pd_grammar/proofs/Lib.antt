@@ -5,4 +5,5 @@ pub mod ShortLemmas
 pub mod LineLemmas
 pub mod GrammarLemmas
 pub mod SpellingLemmas
+pub mod VerdictLemmas
 pub mod TestLemmas

@@ -6,3 +6,7 @@ pub mod CacheRead
 pub mod CacheLaws
 pub mod EraRead
 pub mod EraLaws
+pub mod NeedLemmas
+pub mod ThinVerdict
+pub mod CacheVerdict
+pub mod EraVerdict

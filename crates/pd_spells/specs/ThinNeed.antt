@@ -1,5 +1,5 @@
 -- How many blocks a thin pool needs, and the verdict on its text.
-use Rattle.std.specs.Prelude.{ℕ, zero, suc, ◌+◌, ◌==◌, nat_le, List, [], ◌∷◌, ◌++◌, length, map, count_by, sum}
+use Rattle.std.specs.Prelude.{ℕ, zero, suc, ◌+◌, ◌==◌, nat_le, List, [], ◌∷◌, ◌++◌, length, map, count_by, sum_by}
 use Rattle.std.specs.List.{range_with_len, flat_map}
 use Rattle.pd_kinds.specs.Bitmap.{bitmaps_for}
 use Rattle.pd_kinds.specs.Meaning.{ThinPool, ThinDevice, Mapping}
@@ -17,7 +17,7 @@ overflows_in blocks data_blocks =
 -- the data bitmaps, their index tree, and the data overflow tree; the metadata map
 unfoldable pub need_of_devices : List ℕ → ℕ → ℕ → ℕ → ℕ
 need_of_devices mapped data_blocks overflows room =
-    1 + (sum (map (need_tree 8) mapped) + (need_tree 8 (length mapped) + (need_tree 24 (length mapped)
+    1 + (sum_by (need_tree 8) mapped + (need_tree 8 (length mapped) + (need_tree 24 (length mapped)
     + (bitmaps_for data_blocks + (need_tree 16 (bitmaps_for data_blocks) + (need_tree 4 overflows + need_meta_map room))))))
 
 -- the data blocks of a pool's mappings
