@@ -1,2 +1,4 @@
 pub mod LaidLemmas
 pub mod ShapeLemmas
+pub mod NodeFacts
+pub mod GatherLemmas

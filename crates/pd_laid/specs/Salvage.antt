@@ -1,6 +1,6 @@
 -- What can be saved of a damaged thin pool: the entries that a path of sound nodes leads to from the roots of a
 -- superblock, where they lie in every range on that path.
-use Rattle.std.specs.Prelude.{ℕ, zero, suc, ◌/◌, ◌%◌, ◌^◌, max, min, ◌&&◌, ◌||◌, ◌==◌, Bool, not, nat_lt, if◌then◌else◌, List, [], length, map, filter}
+use Rattle.std.specs.Prelude.{ℕ, zero, suc, ◌+◌, ◌/◌, ◌%◌, ◌^◌, max, min, ◌&&◌, ◌||◌, ◌==◌, Bool, not, nat_lt, if◌then◌else◌, List, [], length, map, filter}
 use Rattle.std.specs.List.{list_any, flat_map, range_with_len}
 use Rattle.std.specs.Option.{unwrap_or}
 use Rattle.pd_kinds.specs.Rule.{all_rules}
@@ -24,7 +24,7 @@ child_low block low i = max (key_at block i) low
 
 -- they end before the next key, and no higher than the node's range; those of the last child end with that
 abbrev pub child_high : ℕ → List ℕ → ℕ → ℕ → ℕ
-child_high size block high i = if suc i == entry_count size block then high else min (key_at block (suc i)) high
+child_high size block high i = if i + 1 == entry_count size block then high else min (key_at block (i + 1)) high
 
 -- the entries that a path of at most so many nodes leads to from the node at a place, with keys from low up to
 -- and without high: nothing from a place outside the metadata, and nothing from a damaged node
