@@ -1,28 +1,30 @@
 -- What is known of a reached node of a tree where no reached pair breaks a rule: it isn't damaged, and its children
 -- are reached nodes of the tree.
-use Rattle.std.proofs.Common.{◌≡◌, inl, inr, ℕ, zero, suc, ◌+◌, ◌*◌, ◌<◌, ◌≤◌, Bool, true, false, cond, not, ◌&&◌, ◌||◌, nat_eq, nat_lt, List, [], ◌∷◌, map, refl, sym, ◌∙◌, ap, eq-eqb, zero-add, max, min, arith}
+use Rattle.std.proofs.Common.{◌≡◌, inl, inr, ℕ, zero, suc, ◌+◌, ◌*◌, ◌<◌, ◌≤◌, Bool, true, false, not, ◌&&◌, ◌||◌, nat_eq, List, [], ◌∷◌, map, refl, sym, ◌∙◌, ap, eq-eqb, zero-add, zero-le, max, min, ◌^◌, arith}
 use Rattle.std.specs.List.{AllByRecursion, list_any, flat_map, range_with_len}
 use Rattle.std.proofs.lemmas.List.Folds.{flat_map-map}
 use Rattle.std.proofs.lemmas.Bool.{cases_Bool, cases_lt, eqb-false, or_parts, or_left, or_right}
 use Rattle.pd_kinds.specs.declared.rule.Rule.{Rule}
 use Rattle.pd_kinds.specs.declared.rule.Rule.TheVariants as r
-use Rattle.pd_kinds.specs.Rule.{all_rules, same_rule}
+use Rattle.pd_kinds.specs.Rule.{all_rules}
 use Rattle.pd_kinds.specs.RuleSet.{Test, failing, alone}
 use Rattle.pd_kinds.specs.Checksum.{has_checksum}
 use Rattle.pd_kinds.specs.Edge.{Edge, is_outside, has_edge_outside}
 use Rattle.pd_kinds.specs.Node.{Entry, node_salt, node_tests, node_bad, node_keys, entry_count, key_at, value_at, child_at, is_inner_node}
-use Rattle.pd_kinds.specs.Graph.{Graph, block_at, pair, block_of, role_of, edges_of, next, own_keys, is_inner_pair, is_reached}
-use Rattle.pd_kinds.specs.Layout.{Layout, Tree, graph_of, is_bad, layout_bad, layout_keys, is_tree_layout, tree_edges, tree_tests, tree_bad, node_entries_of, leaf_entries}
+use Rattle.pd_kinds.specs.Graph.{Graph, block_at, pair, block_of, role_of, next, own_keys, is_inner_pair, is_reached}
+use Rattle.pd_kinds.specs.Layout.{Layout, Tree, graph_of, is_bad, layout_bad, is_tree_layout, tree_edges, tree_tests, tree_bad, node_entries_of, leaf_entries}
 use Rattle.pd_kinds.specs.Layout.Layout.{tree}
-use Rattle.pd_kinds.specs.Order.{children, has_chain, gathered, keys_below, are_children_in_range, is_in_range}
+use Rattle.pd_kinds.specs.Order.{children, has_chain, gathered, keys_below, are_children_in_range, is_in_range, is_deep}
 use Rattle.pd_kinds.specs.Paths.{edge}
 use Rattle.pd_kinds.specs.Stages.{IsReached}
 use Rattle.pd_laws.specs.InOrder.{AreInOrder}
-use Rattle.pd_laws.proofs.AllLemmas.{all_from_two}
+use Rattle.pd_laws.proofs.AllLemmas.{all_from, all_from_two, all_map, all_of, none_passes}
 use Rattle.pd_laws.proofs.SoundLemmas.{IsSound, tests_after_one, inside_from}
 use Rattle.pd_laws.proofs.PathLemmas.{path_from_reached, reached_from_path, passes_below}
-use Rattle.pd_laid.specs.Salvage.{is_damaged, child_low, child_high, give}
-use Rattle.pd_laid.proofs.GatherLemmas.{AreFrom, AreBelow, from_test, below_test, kept_in_range, all_at, same_joined, gathered_leaf, gathered_inner, stable, child_range}
+use Rattle.pd_kinds.specs.Trees.{entries_below}
+use Rattle.pd_kinds.proofs.FieldLemmas.{le-lt}
+use Rattle.pd_laid.specs.Salvage.{HasBytes, is_damaged, child_low, child_high, give, given}
+use Rattle.pd_laid.proofs.GatherLemmas.{AreFrom, AreBelow, from_test, below_test, kept_in_range, all_first, all_last, all_at, all_joined, same_joined, gathered_leaf, gathered_inner, stable, child_range}
 
 -- no element passes
 pub none_pass : {X : Type 0} → (p : X → Bool) (xs : List X) → ((x : X) → p x ≡ false) → list_any p xs ≡ false
@@ -61,6 +63,20 @@ unfolding tree_bad tree_tests node_bad is_damaged
 undamaged nr role t place block sound =
     none_pass (alone r.Checksum (not (has_checksum block node_salt)) (failing (node_tests t.size place block))) all_rules (λ rule.
     fewer_tests (not (has_checksum block node_salt)) _ _ (node_tests t.size place block) rule (sound rule))
+
+-- each element is among those that a list has, mapped
+pub among_mapped : {X : Type 0} (f : X → ℕ) (xs : List X) → AllByRecursion (λ x. list_any (λ q. nat_eq q (f x)) (map f xs) ≡ true) xs
+among_mapped f [] = tt
+among_mapped f (x ∷ xs) = (
+  or_left (nat_eq (f x) (f x)) _ (eq-eqb (f x) (f x) refl),
+  all_from (λ y. list_any (λ q. nat_eq q (f y)) (map f xs) ≡ true) (λ y. list_any (λ q. nat_eq q (f y)) (f x ∷ map f xs) ≡ true)
+      (λ y among. or_right (nat_eq (f x) (f y)) _ among) xs (among_mapped f xs),
+)
+
+-- lists that are joined, one for each element
+pub all_parts : {X Y : Type 0} (P : Y → Type 0) (f : X → List Y) (xs : List X) → AllByRecursion P (flat_map f xs) → AllByRecursion (λ x. AllByRecursion P (f x)) xs
+all_parts P f [] all = tt
+all_parts P f (x ∷ xs) all = (all_first P (f x) (flat_map f xs) all, all_parts P f xs (all_last P (f x) (flat_map f xs) all))
 
 -- keys from two numbers on, and below two
 from_both : (low other : ℕ) (keys : List ℕ) → AreFrom low keys → AreFrom other keys → AreFrom (max low other) keys
@@ -198,7 +214,7 @@ module _ (roles nr data_blocks : ℕ) (layout : ℕ → Layout) (image : List (L
     under_inner : {X : Type 0} (own : ℕ → List X) (j b : ℕ) → Reached b → is_inner_node (block_at image b) ≡ true
         → gathered (is_inner_pair graph image) (children graph image) own (suc j) (pair b role)
         ≡ flat_map (λ i. gathered (is_inner_pair graph image) (children graph image) own j (pair (child_at (block_at image b) i) role))
-            (range_with_len 0 (entry_count t.size (block_at image b)))
+        (range_with_len 0 (entry_count t.size (block_at image b)))
     under_inner own j b reached inner =
         let below = gathered (is_inner_pair graph image) (children graph image) own j in
         gathered_inner (is_inner_pair graph image) (children graph image) own j (pair b role) (inner_is b reached ∙ inner)
@@ -255,7 +271,7 @@ module _ (roles nr data_blocks : ℕ) (layout : ℕ → Layout) (image : List (L
       given_inner : (j : ℕ) → is_inner_node (block_at image b) ≡ true
           → give t.size nr image (suc j) b low high
           ≡ flat_map (λ i. give t.size nr image j (child_at (block_at image b) i) (child_low (block_at image b) low i) (child_high t.size (block_at image b) high i))
-              (range_with_len 0 (entry_count t.size (block_at image b)))
+          (range_with_len 0 (entry_count t.size (block_at image b)))
       unfolding give
       given_inner j inner =
           let sound = undamaged nr role t b (block_at image b) (sound_at b reached) in
@@ -309,3 +325,53 @@ module _ (roles nr data_blocks : ℕ) (layout : ℕ → Layout) (image : List (L
           ∙ sym (under_inner (λ p. leaf_entries t.size (block_at image (block_of p))) j b reached inner))
       | inr leaf ↦ given_leaf b low high reached inside (suc j) leaf from below
     ]
+
+    -- what each leaf has holds of all that stands below a node
+    pub under_all : {X : Type 0} (P : X → Type 0) (own : ℕ → List X)
+        → ((c : ℕ) → Reached c → is_inner_node (block_at image c) ≡ false → AllByRecursion P (own (pair c role)))
+        → (j b : ℕ) → Reached b → AllByRecursion P (gathered (is_inner_pair graph image) (children graph image) own j (pair b role))
+    unfolding gathered
+    under_all P own leaves zero b reached = elim (cases_Bool (is_inner_node (block_at image b))) [
+      | inl inner ↦ rw (inner_is b reached ∙ inner) tt
+      | inr leaf ↦ rw (inner_is b reached ∙ leaf) (leaves b reached leaf)
+    ]
+    under_all P own leaves (suc j) b reached = elim (cases_Bool (is_inner_node (block_at image b))) [
+      | inl inner ↦
+          rw (under_inner own j b reached inner)
+          (all_joined P (λ i. gathered (is_inner_pair graph image) (children graph image) own j (pair (child_at (block_at image b) i) role)) 0 (entry_count t.size (block_at image b))
+          (λ i start small. under_all P own leaves j (child_at (block_at image b) i) (child_reached b reached inner i (omega arith))))
+      | inr leaf ↦ rw (inner_is b reached ∙ leaf) (leaves b reached leaf)
+    ]
+
+    -- all entries below a reached root are given
+    pub given_root : HasBytes image → (b : ℕ) → Reached b → is_outside nr b ≡ false → given t.size nr image b ≡ entries_below graph image t.size role b
+    unfolding is_deep given entries_below node_keys
+    given_root bytes b reached inside =
+        given_under 63 b 0 (2 ^ 64) (omega arith) reached inside (ordered.not_deep b role reached)
+        (all_of (λ k. 0 ≤ k) (λ k. zero-le) (keys_under 63 b))
+        (under_all (λ k. k < 2 ^ 64) (own_keys graph image) (λ c found leaf.
+        rw (keys_are c found) (all_map (key_at (block_at image c)) (λ k. k < 2 ^ 64) (λ i. le-lt (block_at image c) (32 + 8 * i) 8 (bytes c)) (range_with_len 0 (entry_count t.size (block_at image c)))))
+        63 b reached)
+
+    -- a block that a node names is inside, and is reached in its role
+    abbrev pub IsNamed : Edge → Type 0
+    IsNamed e = (is_outside nr e.block ≡ false) × (e.role < 16 → IsReached graph image e.block e.role)
+
+    pub named_reached : (b : ℕ) → Reached b → AllByRecursion IsNamed (tree_edges role t (block_at image b))
+    unfolding has_edge_outside graph_of
+    named_reached b reached =
+        let edges = tree_edges role t (block_at image b) in
+        all_from_two (λ (e : Edge). is_outside nr e.block ≡ false) (λ (e : Edge). list_any (λ q. nat_eq q (pair e.block e.role)) (map (λ (e : Edge). pair e.block e.role) edges) ≡ true) IsNamed
+        (λ e inside among. (
+          inside,
+          λ known.
+              reached_next b role e.block e.role reached.block few (inside_from nr e.block inside).1 known reached.found
+              (ap (list_any (λ q. nat_eq q (pair e.block e.role))) (next_is b reached) ∙ among),
+        ))
+        edges (none_passes (λ (e : Edge). is_outside nr e.block) edges (inside_at b reached)) (among_mapped (λ (e : Edge). pair e.block e.role) edges)
+
+    -- of a leaf, what its entries name
+    pub leaf_named : (b : ℕ) → Reached b → is_inner_node (block_at image b) ≡ false
+        → AllByRecursion (λ (e : Entry). AllByRecursion IsNamed (t.leaf_edges e)) (leaf_entries t.size (block_at image b))
+    unfolding tree_edges leaf_entries
+    leaf_named b reached leaf = rw leaf (all_parts IsNamed t.leaf_edges (node_entries_of t.size (block_at image b)) (rw leaf at (named_reached b reached)))

@@ -6,9 +6,11 @@
 #![tactic(auto)]
 
 mod images;
+mod salvages;
 mod shapes;
 mod trees;
 
 pub use images::one_image_is_laid;
+pub use salvages::sound_pool_is_saved;
 pub use shapes::shape_of_keeps_meaning;
 pub use trees::laid_tree_is_written;
