@@ -311,6 +311,13 @@ module _ (checked : Checked) (image : List (List ℕ)) where
         in_range = λ b role at. in_range checked.graph image (pair b role) (order_ranges checked.graph image order b role at) (shallow b role at);
       }
 
+  -- no faults up to Whole, or up to a later stage
+  pub whole_where_none : (later : List Stage) → first_failing checked image (stages.Super ∷ stages.Walk ∷ stages.Order ∷ stages.Whole ∷ later) ≡ []
+      → (b : ℕ) (broken : Rule) → b < checked.graph.nr → whole_bad checked.whole b broken ≡ false
+  whole_where_none later none b broken within =
+      let all = no_stage_fails (stages.Super ∷ stages.Walk ∷ stages.Order ∷ stages.Whole ∷ later) none in
+      no_block_broken checked.graph.nr (whole_bad checked.whole) all.1.1.1.0 b within broken
+
   -- no faults up to any stage
   pub clean_super_where_none : (later : List Stage) → first_failing checked image (stages.Super ∷ later) ≡ [] → HasCleanSuper checked image
   clean_super_where_none later none = clean_super checked image (no_stage_fails (stages.Super ∷ later) none).0
@@ -328,7 +335,7 @@ module _ (checked : Checked) (image : List (List ℕ)) where
         one_role = walk_one_role checked.graph image walk;
         not_deep = order.not_deep;
         in_range = order.in_range;
-        whole = λ b broken within. no_block_broken checked.graph.nr (whole_bad checked.whole) all.1.1.1.0 b within broken;
+        whole = whole_where_none (stages.Counts ∷ []) none;
         meta_counts = λ b within. stored_is Meta b (meta_count checked.graph image b) (checked.stored_meta b) (none_at meta_at _ counts.0 b within);
         data_counts = λ d within. stored_is DataBlock d (data_count checked.graph image d) (checked.stored_data d) (none_at data_at _ counts.1 d within);
       }
