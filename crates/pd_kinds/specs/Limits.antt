@@ -1,10 +1,14 @@
 -- How many blocks the tools take.
-use Rattle.std.specs.Prelude.{ℕ, Bool, ◌==◌, ◌||◌, nat_lt}
+use Rattle.std.specs.Prelude.{ℕ, ◌^◌, Bool, ◌==◌, ◌||◌, nat_lt}
 
 -- as many metadata blocks as the 255 bitmaps of one index block cover, of 16320 counts each
 -- ("drivers/md/persistent-data/dm-space-map-metadata.h")
 abbrev pub max_meta_blocks : ℕ
 max_meta_blocks = 4161600
+
+-- as many data blocks of a thin pool as the tools take
+abbrev pub max_data_blocks : ℕ
+max_data_blocks = 2 ^ 40
 
 -- whether a number of metadata blocks is out of range: none, more than the device has, or more than 255
 -- bitmaps cover

@@ -4,16 +4,12 @@ ghost use Rattle.std.specs.Prelude.{◌≡◌};
 ghost use Rattle.pd_kinds.specs.declared.rule.Rule.{Rule as BrokenRule};
 ghost use Rattle.pd_kinds.specs.RuleSet.{has_rule, failing};
 ghost use Rattle.pd_kinds.specs.ThinSuper.{are_thin_sizes_bad, thin_super_bad, thin_super_tests};
-ghost use Rattle.pd_supers.specs.ThinSuper.{fields_of};
 
+use crate::sizes::is_meta_size_bad;
 use crate::super_block::super_rules;
 use crate::thin::read_thin_super;
 use crate::thin_edges::thin_super_edges;
 use pd_kinds::{Block, Kind, Rule, Rules, ThinSuper, u64_at};
-
-/// The greatest number of metadata blocks: 255 bitmaps of 16320 counts each, as
-/// "drivers/md/persistent-data/dm-space-map-metadata.h" has them.
-const MAX_META_BLOCKS: u64 = 4161600;
 
 /// The greatest number of data blocks that the tools take.
 const MAX_DATA_BLOCKS: u64 = 1 << 40;
@@ -46,11 +42,8 @@ fn table_rules(block: &Block, device_blocks: u64) -> Rules
 /// Whether a number of blocks is out of its range, on a metadata device of so many blocks.
 #[tactic(auto, unfolding(pd_kinds::specs::ThinSuper::are_thin_sizes_bad))]
 fn are_sizes_bad(fields: &ThinSuper, device_blocks: u64) -> bool
-    ensures { result ≡ are_thin_sizes_bad device_blocks (fields_of fields.now) }
+    ensures { result ≡ are_thin_sizes_bad device_blocks fields.now }
 {
-    let blocks = fields.meta_map.blocks;
-    (blocks == 0)
-        | (blocks > device_blocks)
-        | (blocks > MAX_META_BLOCKS)
+    is_meta_size_bad(device_blocks, fields.meta_map.blocks)
         | (fields.data_map.blocks > MAX_DATA_BLOCKS)
 }
