@@ -1,6 +1,5 @@
 -- How many blocks a tree, an array and a metadata map take.
-use Rattle.std.specs.Prelude.{ℕ, zero, suc, ◌+◌, ◌-◌, ◌/◌, ◌==◌, max, nat_le, nat_lt, if◌then◌else◌, List, count_by}
-use Rattle.std.specs.List.{range_with_len}
+use Rattle.std.specs.Prelude.{ℕ, zero, suc, ◌+◌, ◌-◌, ◌/◌, max, nat_lt, if◌then◌else◌}
 use Rattle.pd_kinds.specs.Node.{max_entries}
 use Rattle.pd_kinds.specs.Array.{max_words}
 use Rattle.pd_kinds.specs.Bitmap.{bitmaps_for}
