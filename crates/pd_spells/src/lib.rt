@@ -3,6 +3,7 @@
 
 mod cache;
 mod era;
+mod need;
 mod thin;
 
 pub use cache::{
@@ -14,6 +15,7 @@ pub use era::{
     era_text_has_one_meaning, era_text_has_one_verdict, era_text_is_accepted_where_there_is_room,
     era_text_spells, era_text_unless_refused, era_text_with_runs_apart,
 };
+pub use need::ten_levels_are_enough;
 pub use thin::{
     thin_text_has_one_meaning, thin_text_has_one_verdict,
     thin_text_is_accepted_where_there_is_room, thin_text_spells, thin_text_unless_refused,
