@@ -8,8 +8,8 @@ pub record Spells {L M : Type 0} (format : TextFormat L) (Means : List L → M �
   pub bytes : text ≡ text_of_lines format lines
   pub means : Means lines m
 
--- the need after the first line, from line 2 on, after which it is above the room; these lines are before them, the
--- newest first
+-- The need of the lines up to the first one, from line 2 on, after which it is above the room; none where there is no
+-- such line. The last two lists are the lines before, the newest first, and those that follow
 abbrev pub need_above_room : {L : Type 0} → (List L → ℕ) → ℕ → List L → List L → Option ℕ
 need_above_room need room before [] = None
 need_above_room need room before (line ∷ lines) =
@@ -22,7 +22,7 @@ pub data Verdict (M : Type 0) : Type 0 where
   accepted : M → Verdict M
   -- a line is refused, and there was room up to it
   refused : Refusal → Verdict M
-  -- the blocks that are needed, and those that are there
+  -- up to some line more blocks are needed than there are: these are needed, and these are there
   no_room : ℕ → ℕ → Verdict M
 
 -- The verdict on a text and a room: that of the least line that is refused, or after which the need so far is above

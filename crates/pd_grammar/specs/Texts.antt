@@ -68,6 +68,7 @@ refused before cause = record { lines = []; refusal = Some (record { line = numb
 abbrev pub whole : {L : Type 0} → List L → Reading L
 whole lines = record { lines = lines; refusal = None }
 
+-- a line before those of a reading
 abbrev pub with_line : {L : Type 0} → L → Reading L → Reading L
 with_line line reading = record { lines = line ∷ reading.lines; refusal = reading.refusal }
 

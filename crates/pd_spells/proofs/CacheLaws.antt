@@ -1,16 +1,15 @@
 -- Cache texts and what they mean.
-use Rattle.std.proofs.Common.{◌≡◌, ◌⊎◌, inl, inr, ℕ, zero, suc, ◌+◌, ◌^◌, ◌≤◌, ◌<◌, Bool, true, false, not, ◌&&◌, ◌||◌, List, [], ◌∷◌, ◌++◌, length, map, get_or, All, refl, ap, sym, ◌∙◌, arith, eqb, ltb, leb, if◌then◌else◌}
+use Rattle.std.proofs.Common.{◌≡◌, ◌⊎◌, inl, inr, ℕ, zero, suc, ◌^◌, ◌≤◌, ◌<◌, Bool, true, false, not, ◌&&◌, ◌||◌, List, [], ◌∷◌, ◌++◌, length, map, get_or, refl, ap, sym, ◌∙◌, arith, eqb, ltb}
 use Rattle.std.proofs.lemmas.Bool.{cases_Bool, true≢false}
 use Rattle.std.proofs.lemmas.Bool.Decides.{Decides-eqb, nat_tests}
-use Rattle.std.specs.List.{AllByRecursion, list_any}
+use Rattle.std.specs.List.{AllByRecursion}
 use Rattle.pd_kinds.specs.Meaning.{CacheMeaning, CacheEntry}
 use Rattle.pd_grammar.specs.Texts.{has_ended, text_of_lines}
-use Rattle.pd_grammar.specs.Spelling.{Spells}
 use Rattle.pd_grammar.proofs.GrammarLemmas.{AreLines, Passes}
 use Rattle.pd_grammar.proofs.NumberLemmas.{values_are}
 use Rattle.pd_grammar.proofs.SpellingLemmas.{IsLanguage}
-use Rattle.pd_spells.specs.Lawful.{IsEntry, AreEntries, IsLawfulCache}
-use Rattle.pd_spells.specs.CacheText.{Line, first_line, cache_line, map_line, end_line, Head, Row, cache, blocks_of, hint_size_of, least_block, origins_of, is_no_flag, has_number_out_of_range, is_out_of_order, is_repeated, flag_number, head_of, row_of, lines_of_cache, MeansCache, SpellsCache, text_of_cache}
+use Rattle.pd_spells.specs.Lawful.{AreEntries, IsLawfulCache}
+use Rattle.pd_spells.specs.CacheText.{Line, first_line, cache_line, map_line, end_line, Head, Row, cache, blocks_of, hint_size_of, least_block, origins_of, flag_number, head_of, row_of, lines_of_cache, MeansCache, SpellsCache, text_of_cache}
 use Rattle.pd_spells.proofs.CacheRead.{FitsLine, Placed, LinePasses, line_passes, head_tells, cache_grammar}
 
 -- the entry of a row, and the entries of the map lines that come first
@@ -72,18 +71,20 @@ entries_if_read (cache_line h ∷ lines) before some reads going = absurd (omega
 entries_if_read (map_line r ∷ lines) before some reads going =
     let passes = line_passes before (map_line r) (omega (arith, some)) reads.1.1.1.0 in
     let tells = row_tells r.block (blocks_of before) r.origin r.hint r.dirty (hint_size_of before) (least_block before) passes.range passes.order in
-    let rest = entries_if_read lines (map_line r ∷ before) (omega arith) reads.1.1.1.1 refl in
-    (with_row r lines (map row_of (entries_of lines) ++ (end_line ∷ [])) tells.1.1.1.0 rest.0, (
-      record {
-        above = tells.1.1.1.1.1;
-        within = tells.0;
-        origin_fits = tells.1.0;
-        hint_fits = tells.1.1.0;
-        no_hint = tells.1.1.1.1.0;
-        new = passes.repeated;
-      },
-      rest.1,
-    ))
+    let rest = entries_if_read lines (map_line r ∷ before) (omega arith) reads.1.1.1.1 refl in (
+      with_row r lines (map row_of (entries_of lines) ++ (end_line ∷ [])) tells.1.1.1.0 rest.0,
+      (
+        record {
+          above = tells.1.1.1.1.1;
+          within = tells.0;
+          origin_fits = tells.1.0;
+          hint_fits = tells.1.1.0;
+          no_hint = tells.1.1.1.1.0;
+          new = passes.repeated;
+        },
+        rest.1,
+      ),
+    )
 entries_if_read (end_line ∷ lines) before some reads going = rw (end_is_last before lines reads.1.1.1.1) (refl, tt)
 
 -- and the lines of such entries are read
@@ -202,9 +203,28 @@ cache_read m lawful =
     let size : m.hint_size ≤ 4 = elim lawful.hint_size_is [ inl none ↦ omega (arith, none) | inr four ↦ omega (arith, four) ] in
     let tail = map row_of m.entries ++ (end_line ∷ []) in
     read_line [] first_line (cache_line head ∷ tail) refl tt refl (record { range = refl; order = refl; repeated = refl })
-    (read_line (first_line ∷ []) (cache_line head) tail refl
-    (lawful.uuid_len, (lawful.uuid_bytes, (lawful.policy_len, (lawful.policy_bytes, (omega (arith, lawful.block_size_fits), (omega (arith, lawful.blocks_fit), (omega (arith, small),
-    (omega (arith, three.first), (omega (arith, three.second), (omega (arith, three.third), (omega (arith, size), tt)))))))))))
+    (read_line (first_line ∷ []) (cache_line head) tail refl (
+      lawful.uuid_len,
+      (
+        lawful.uuid_bytes,
+        (
+          lawful.policy_len,
+          (
+            lawful.policy_bytes,
+            (
+              omega (arith, lawful.block_size_fits),
+              (
+                omega (arith, lawful.blocks_fit),
+                (
+                  omega (arith, small),
+                  (omega (arith, three.first), (omega (arith, three.second), (omega (arith, three.third), (omega (arith, size), tt)))),
+                ),
+              ),
+            ),
+          ),
+        ),
+      ),
+    )
     refl (record { range = range; order = refl; repeated = refl })
     (read_entries m.entries (cache_line head ∷ first_line ∷ []) (omega arith) refl lawful.blocks_fit lawful.entries))
 

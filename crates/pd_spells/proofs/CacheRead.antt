@@ -1,10 +1,10 @@
 -- Lines of cache texts: what is read is what is written, in its place.
-use Rattle.std.proofs.Common.{◌≡◌, inl, inr, ℕ, suc, ◌+◌, ◌*◌, ◌^◌, ◌≤◌, ◌<◌, true, false, List, [], ◌∷◌, length, length-append, map, get_or, ◌∙◌, All, refl, ap, sym, subst, arith, eqb, ltb, not, ◌&&◌, ◌||◌, decimal, Option, Some, None, Ok, codes}
+use Rattle.std.proofs.Common.{◌≡◌, inl, inr, ℕ, ◌^◌, ◌≤◌, ◌<◌, true, false, List, [], ◌∷◌, length, map, get_or, ◌∙◌, All, refl, ap, sym, subst, arith, eqb, ltb, not, ◌&&◌, ◌||◌, decimal, Option, Some, None, Ok, codes}
 use Rattle.std.proofs.lemmas.Bool.Decides.{Decides-eqb, nat_tests}
 use Rattle.std.proofs.lemmas.Option.{cond_some}
 use Rattle.std.proofs.lemmas.Slice.Eq.{bytes_eq-Decides}
 use Rattle.std.specs.Str.{bytes_eq}
-use Rattle.std.specs.List.{AllByRecursion, join_with_byte}
+use Rattle.std.specs.List.{AllByRecursion}
 use Rattle.uuid.specs.Text.{hyphenated_text, simple_text, lower}
 use Rattle.uuid.proofs.TextLemmas.{by_index_length}
 use Rattle.pd_grammar.specs.declared.cause.TextCause.TheVariants.{Word}

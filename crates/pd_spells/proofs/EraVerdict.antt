@@ -1,5 +1,5 @@
 -- The need of an era text stands from its second line on.
-use Rattle.std.proofs.Common.{◌≡◌, ℕ, suc, ◌+◌, ◌≤◌, ◌<◌, List, [], ◌∷◌, ◌++◌, length, refl, arith}
+use Rattle.std.proofs.Common.{ℕ, ◌+◌, ◌≤◌, ◌<◌, List, [], ◌∷◌, ◌++◌, arith}
 use Rattle.pd_kinds.specs.Meaning.{EraMeaning}
 use Rattle.pd_grammar.specs.Spelling.{accepted, no_room}
 use Rattle.pd_grammar.proofs.VerdictLemmas.{AreWithin, accepted_if_room, no_room_at_second}

@@ -6,6 +6,7 @@ pub mod CacheRead
 pub mod CacheLaws
 pub mod EraRead
 pub mod EraLaws
+pub mod LevelLemmas
 pub mod NeedLemmas
 pub mod ThinVerdict
 pub mod CacheVerdict

@@ -1,13 +1,13 @@
 -- Needs grow with what is needed for.
-use Rattle.std.proofs.Common.{◌≡◌, ◌⊎◌, inl, inr, ℕ, zero, suc, ◌+◌, ◌-◌, ◌*◌, ◌/◌, ◌≤◌, ◌<◌, Bool, true, false, max, List, [], ◌∷◌, ◌++◌, length, refl, ap, sym, ◌∙◌, arith, eqb, ltb, leb, if◌then◌else◌}
+use Rattle.std.proofs.Common.{◌≡◌, inl, inr, ℕ, zero, suc, ◌+◌, ◌-◌, ◌/◌, ◌≤◌, ◌<◌, Bool, true, max, List, [], ◌∷◌, length, refl, arith, eqb, ltb, leb, if◌then◌else◌}
 use Rattle.std.proofs.lemmas.Bool.{cases_Bool}
-use Rattle.std.proofs.lemmas.Bool.Decides.{Decides-ltb, nat_tests}
+use Rattle.std.proofs.lemmas.Bool.Decides.{nat_tests}
 use Rattle.std.proofs.lemmas.Nat.{le-div}
 use Rattle.std.proofs.Math.Nat.{div-mul-le_self}
-use Rattle.std.proofs.lemmas.List.Sums.{sum_by-cons, sum_by-append}
+use Rattle.std.proofs.lemmas.List.Sums.{sum_by-cons}
 use Rattle.std.specs.List.{count_by, sum_by, range_with_len}
 use Rattle.pd_kinds.specs.Node.{max_entries}
-use Rattle.pd_spells.specs.Need.{nodes_for, need_above, need_tree}
+use Rattle.pd_spells.specs.Need.{nodes_for, need_above, nodes_of_tree, need_tree}
 use Rattle.pd_spells.specs.ThinNeed.{overflows_in, need_of_devices}
 
 div-le : (a b k : ℕ) → 0 < k → a ≤ b → a / k ≤ b / k
@@ -29,12 +29,15 @@ need_above-le (suc levels) a b at_most = elim (cases_Bool (ltb 1 a)) [
   | inr none ↦ rw none (omega arith)
 ]
 
+nodes_of_tree-le : (most a b : ℕ) → 0 < most → a ≤ b → nodes_of_tree most a ≤ nodes_of_tree most b
+unfolding nodes_of_tree
+nodes_of_tree-le most a b some at_most =
+    let nodes = nodes_for-le most a b some at_most in
+    let leaves : max 1 (nodes_for most a) ≤ max 1 (nodes_for most b) = omega (arith, nodes) in
+    omega (arith, leaves, need_above-le 10 (max 1 (nodes_for most a)) (max 1 (nodes_for most b)) leaves)
+
 pub need_tree-le : (size a b : ℕ) → 0 < max_entries size → a ≤ b → need_tree size a ≤ need_tree size b
-unfolding need_tree
-need_tree-le size a b some at_most =
-    let nodes = nodes_for-le (max_entries size) a b some at_most in
-    let leaves : max 1 (nodes_for (max_entries size) a) ≤ max 1 (nodes_for (max_entries size) b) = omega (arith, nodes) in
-    omega (arith, leaves, need_above-le 10 (max 1 (nodes_for (max_entries size) a)) (max 1 (nodes_for (max_entries size) b)) leaves)
+need_tree-le size a b some at_most = nodes_of_tree-le (max_entries size) a b some at_most
 
 -- a count of fewer
 pub count_by-weaker : {X : Type 0} → (p q : X → Bool) → ((x : X) → p x ≡ true → q x ≡ true) → (xs : List X) → count_by p xs ≤ count_by q xs

@@ -1,11 +1,10 @@
 -- Lines of thin texts: what is read is what is written, in its place.
-use Rattle.std.proofs.Common.{◌≡◌, inl, inr, ℕ, suc, ◌+◌, ◌*◌, ◌^◌, ◌≤◌, ◌<◌, true, false, List, [], ◌∷◌, length, length-append, map, All, refl, ap, sym, subst, arith, eqb, decimal, Option, Some, None, Ok, codes}
+use Rattle.std.proofs.Common.{◌≡◌, inl, inr, ℕ, ◌≤◌, ◌<◌, true, false, List, [], ◌∷◌, length, map, All, refl, ap, sym, subst, arith, eqb, decimal, Option, Some, None, Ok, codes}
 use Rattle.std.proofs.lemmas.Bool.Decides.{Decides-eqb, nat_tests}
 use Rattle.std.proofs.lemmas.Option.{cond_some}
 use Rattle.std.proofs.lemmas.Slice.Eq.{bytes_eq-Decides}
-use Rattle.std.proofs.lemmas.Fmt.{length-decimal-le}
 use Rattle.std.specs.Str.{bytes_eq}
-use Rattle.std.specs.List.{AllByRecursion, join_with_byte}
+use Rattle.std.specs.List.{AllByRecursion}
 use Rattle.uuid.specs.Text.{hyphenated_text, lower}
 use Rattle.uuid.proofs.TextLemmas.{by_index_length}
 use Rattle.pd_grammar.specs.declared.cause.TextCause.TheVariants.{Word}
@@ -13,8 +12,8 @@ use Rattle.pd_grammar.specs.Words.{uuid_of, of_numbers, or_cause, result_and_the
 use Rattle.pd_grammar.specs.Texts.{written}
 use Rattle.pd_spells.specs.ThinText.{Line, first_line, pool_line, device_line, map_line, end_line, thin, words_of_line, has_device, first_of, pool_of, device_of, map_of, pool_read, words_read}
 use Rattle.pd_grammar.proofs.GrammarLemmas.{IsGrammar, AreWords, number_words}
-use Rattle.pd_grammar.proofs.ShortLemmas.{room_of, joined_short, numbers_short}
-use Rattle.pd_grammar.proofs.NumberLemmas.{ok-err, chosen, Fit, values, values_are, of_numbers_again}
+use Rattle.pd_grammar.proofs.ShortLemmas.{joined_short, numbers_short}
+use Rattle.pd_grammar.proofs.NumberLemmas.{ok-err, chosen, Fit, values_are, of_numbers_again}
 use Rattle.pd_grammar.proofs.PlainLemmas.{plain_word, Plain, Printable, decimals_plain, uuid_plain, uuid_again, uuid_is, AreBytes}
 
 -- the numbers and the uuid of a line can be written

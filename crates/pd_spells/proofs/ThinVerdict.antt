@@ -1,15 +1,14 @@
 -- The need of a thin text grows from line to line up to that of the pool.
-use Rattle.std.proofs.Common.{◌≡◌, ℕ, zero, suc, ◌+◌, ◌≤◌, ◌<◌, List, [], ◌∷◌, ◌++◌, length, length-append, map, append_assoc, refl, ap, sym, subst, ◌∙◌, arith, eqb, if◌then◌else◌}
+use Rattle.std.proofs.Common.{◌≡◌, ℕ, ◌+◌, ◌≤◌, ◌<◌, List, [], ◌∷◌, ◌++◌, length, length-append, map, append_assoc, refl, ap, sym, subst, ◌∙◌, arith, eqb, if◌then◌else◌}
 use Rattle.std.proofs.lemmas.List.{map-append}
-use Rattle.std.proofs.lemmas.Grind.{flat_map-append}
 use Rattle.std.proofs.lemmas.List.Sums.{sum_by-append}
-use Rattle.std.specs.List.{AllByRecursion, flat_map, sum_by, count_by}
+use Rattle.std.specs.List.{AllByRecursion, flat_map}
 use Rattle.pd_kinds.specs.Meaning.{ThinPool, ThinDevice, Mapping}
-use Rattle.pd_grammar.specs.Spelling.{Verdict, accepted, no_room}
+use Rattle.pd_grammar.specs.Spelling.{accepted, no_room}
 use Rattle.pd_grammar.proofs.VerdictLemmas.{AreWithin, need_after, accepted_if_room, no_room_above}
 use Rattle.pd_spells.specs.Need.{need_tree}
-use Rattle.pd_spells.specs.ThinText.{Line, first_line, pool_line, device_line, map_line, end_line, Head, Details, Run, Part, thin, data_blocks_of, mappings_of, device_of_part, head_of, lines_of_part, lines_of_parts, MeansPool, SpellsPool}
-use Rattle.pd_spells.specs.ThinNeed.{need_of_devices, overflows_in, mapped_data, thin_need, mapped_of_line, data_of_line, thin_need_so_far, IsThinVerdict}
+use Rattle.pd_spells.specs.ThinText.{Line, first_line, pool_line, device_line, map_line, end_line, Run, Part, thin, data_blocks_of, mappings_of, device_of_part, head_of, lines_of_part, lines_of_parts, MeansPool, SpellsPool}
+use Rattle.pd_spells.specs.ThinNeed.{overflows_in, mapped_data, thin_need, mapped_of_line, data_of_line, thin_need_so_far, IsThinVerdict}
 use Rattle.pd_spells.proofs.NeedLemmas.{count_of, trees_of, overflows-le, overflows-same, devices-le, devices-same}
 use Rattle.pd_spells.proofs.ThinRead.{FitsLine, Placed}
 use Rattle.pd_spells.proofs.ThinLaws.{thin_language}

@@ -1,5 +1,5 @@
 -- The text of a cache, and what it means. One text serves caches of both versions.
-use Rattle.std.specs.Prelude.{◌≡◌, ℕ, ◌+◌, ◌^◌, ◌==◌, ◌&&◌, ◌||◌, Bool, true, false, not, nat_lt, if◌then◌else◌, List, [], ◌∷◌, ◌++◌, length, slice_index, map, Option, Some, None, Result, Ok, Err, codes, decimal}
+use Rattle.std.specs.Prelude.{◌≡◌, ℕ, ◌+◌, ◌^◌, ◌==◌, ◌&&◌, ◌||◌, Bool, true, false, not, nat_lt, if◌then◌else◌, List, [], ◌∷◌, ◌++◌, length, slice_index, map, Option, Some, None, Result, Err, codes, decimal}
 use Rattle.std.specs.List.{list_any}
 use Rattle.std.specs.Str.{bytes_eq}
 use Rattle.uuid.specs.Text.{hyphenated_text, simple_text, lower}
@@ -165,6 +165,7 @@ words_read before (keyword ∷ words) =
 abbrev pub first_of : List ℕ → Option Line
 first_of bytes = if bytes_eq bytes (codes "cache 1") then Some first_line else None
 
+-- whether it is the last line
 abbrev pub is_end : Line → Bool
 is_end first_line = false
 is_end (cache_line h) = false
@@ -183,7 +184,7 @@ cache = with_test repeated_test cache_single
 abbrev pub flag_number : Bool → ℕ
 flag_number flag = if flag then 1 else 0
 
--- the head of a cache, and the row of an entry
+-- the words of a cache's line
 abbrev pub head_of : CacheMeaning → Head
 head_of m = record {
   uuid = m.uuid;
@@ -197,6 +198,7 @@ head_of m = record {
   hint_size = m.hint_size;
 }
 
+-- the line of an entry
 abbrev pub row_of : CacheEntry → Line
 row_of e = map_line (record { block = e.block; origin = e.origin; dirty = flag_number e.dirty; hint = e.hint })
 

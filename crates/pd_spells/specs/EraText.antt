@@ -1,5 +1,5 @@
 -- The text of an era target, and what it means.
-use Rattle.std.specs.Prelude.{◌≡◌, ℕ, zero, suc, ◌+◌, ◌^◌, ◌≤◌, ◌==◌, ◌&&◌, Bool, true, false, not, nat_lt, nat_le, if◌then◌else◌, List, [], ◌∷◌, ◌++◌, length, slice_index, map, Option, Some, None, Result, Ok, Err, codes, decimal}
+use Rattle.std.specs.Prelude.{◌≡◌, ℕ, zero, suc, ◌+◌, ◌^◌, ◌≤◌, ◌==◌, ◌&&◌, Bool, true, false, not, nat_lt, nat_le, if◌then◌else◌, List, [], ◌∷◌, ◌++◌, length, slice_index, Option, Some, None, Result, Err, codes, decimal}
 use Rattle.std.specs.List.{flat_map, AllByRecursion}
 use Rattle.std.specs.Str.{bytes_eq}
 use Rattle.uuid.specs.Text.{hyphenated_text, lower}
@@ -111,6 +111,7 @@ words_read before (keyword ∷ words) =
 abbrev pub first_of : List ℕ → Option Line
 first_of bytes = if bytes_eq bytes (codes "era 1") then Some first_line else None
 
+-- whether it is the last line
 abbrev pub is_end : Line → Bool
 is_end first_line = false
 is_end (era_line h) = false
@@ -140,6 +141,7 @@ run_lines first [] = []
 run_lines first (s ∷ stretches) =
     run_line (record { first = first; length = s.length; era = s.era }) ∷ run_lines (first + s.length) stretches
 
+-- the words of an era target's line
 abbrev pub head_of : EraMeaning → Head
 head_of m = record { uuid = m.uuid; block_size = m.block_size; blocks = m.blocks; era = m.era }
 

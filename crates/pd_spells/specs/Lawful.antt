@@ -1,5 +1,5 @@
 -- The meanings that a text can spell, one record a kind.
-use Rattle.std.specs.Prelude.{◌≡◌, ◌⊎◌, ℕ, ◌+◌, ◌^◌, ◌<◌, ◌≤◌, ◌==◌, Bool, false, List, [], ◌∷◌, length, All}
+use Rattle.std.specs.Prelude.{◌≡◌, ◌⊎◌, ℕ, ◌+◌, ◌^◌, ◌<◌, ◌≤◌, ◌==◌, false, List, [], ◌∷◌, length, All}
 use Rattle.std.specs.List.{list_any, AllByRecursion}
 use Rattle.pd_kinds.specs.Meaning.{ThinPool, ThinDevice, Mapping, CacheMeaning, CacheEntry, EraMeaning}
 

@@ -1,6 +1,5 @@
 -- How many blocks a tree, an array and a metadata map take.
-use Rattle.std.specs.Prelude.{ℕ, zero, suc, ◌+◌, ◌-◌, ◌/◌, ◌==◌, max, nat_le, nat_lt, if◌then◌else◌, List, count_by}
-use Rattle.std.specs.List.{range_with_len}
+use Rattle.std.specs.Prelude.{ℕ, zero, suc, ◌+◌, ◌-◌, ◌/◌, max, nat_lt, if◌then◌else◌}
 use Rattle.pd_kinds.specs.Node.{max_entries}
 use Rattle.pd_kinds.specs.Array.{max_words}
 use Rattle.pd_kinds.specs.Bitmap.{bitmaps_for}
@@ -15,12 +14,16 @@ unfoldable pub need_above : ℕ → ℕ → ℕ
 need_above zero nodes = 0
 need_above (suc levels) nodes = if nat_lt 1 nodes then nodes_for 252 nodes + need_above levels (nodes_for 252 nodes) else 0
 
--- how many nodes a tree of so many entries of this size has: its leaves, one at least, and the levels above. Ten levels
--- are more than 2 ^ 64 entries need
-unfoldable pub need_tree : ℕ → ℕ → ℕ
-need_tree size count =
-    let leaves = max 1 (nodes_for (max_entries size) count) in
+-- how many nodes a tree of so many entries has, where a leaf has at most so many: its leaves, one at least, and the
+-- levels above. Ten levels are more than 2 ^ 64 entries need
+unfoldable pub nodes_of_tree : ℕ → ℕ → ℕ
+nodes_of_tree most count =
+    let leaves = max 1 (nodes_for most count) in
     leaves + need_above 10 leaves
+
+-- how many nodes a tree of so many entries of this size has
+abbrev pub need_tree : ℕ → ℕ → ℕ
+need_tree size count = nodes_of_tree (max_entries size) count
 
 -- how many blocks an array of so many words of this size has: those of the words, and its tree
 unfoldable pub need_array : ℕ → ℕ → ℕ

@@ -1,11 +1,11 @@
 -- How many blocks a thin pool needs, and the verdict on its text.
-use Rattle.std.specs.Prelude.{ℕ, zero, suc, ◌+◌, ◌==◌, nat_le, List, [], ◌∷◌, ◌++◌, length, map, count_by, sum_by}
+use Rattle.std.specs.Prelude.{ℕ, ◌+◌, ◌==◌, nat_le, List, [], ◌∷◌, length, map, count_by, sum_by}
 use Rattle.std.specs.List.{range_with_len, flat_map}
 use Rattle.pd_kinds.specs.Bitmap.{bitmaps_for}
 use Rattle.pd_kinds.specs.Meaning.{ThinPool, ThinDevice, Mapping}
 use Rattle.pd_grammar.specs.Spelling.{Verdict, IsVerdict}
 use Rattle.pd_spells.specs.Need.{need_tree, need_meta_map}
-use Rattle.pd_spells.specs.ThinText.{Line, first_line, pool_line, device_line, map_line, end_line, Run, mappings_of, data_blocks_of, thin, MeansPool}
+use Rattle.pd_spells.specs.ThinText.{Line, first_line, pool_line, device_line, map_line, end_line, mappings_of, data_blocks_of, thin, MeansPool}
 
 -- how many data blocks below this number stand three times or more in a list: their counts don't fit two bits
 unfoldable pub overflows_in : List ℕ → ℕ → ℕ

@@ -133,7 +133,7 @@ thin_tests =
     ∷ record { cause = MappedDiffers; fails = is_mapped_otherwise }
     ∷ []
 
--- the line of these numbers
+-- the lines of these numbers
 abbrev pub pool_of : List ℕ → List ℕ → Line
 pool_of uuid ns = pool_line (record {
   uuid = uuid;
@@ -179,6 +179,7 @@ words_read before (keyword ∷ words) =
 abbrev pub first_of : List ℕ → Option Line
 first_of bytes = if bytes_eq bytes (codes "thin 1") then Some first_line else None
 
+-- whether it is the last line
 abbrev pub is_end : Line → Bool
 is_end first_line = false
 is_end (pool_line p) = false
@@ -216,13 +217,15 @@ device_of_part p = record {
   mappings = flat_map mappings_of p.runs;
 }
 
+-- the words of a pool's line
 abbrev pub head_of : ThinPool → Head
 head_of m = record { uuid = m.uuid; time = m.time; transaction = m.transaction; block_size = m.block_size; data_blocks = m.data_blocks }
 
--- the lines of a device, and those of a text
+-- the lines of a device
 abbrev pub lines_of_part : Part → List Line
 lines_of_part p = device_line p.details ∷ map map_line p.runs
 
+-- the lines of a text
 abbrev pub lines_of_parts : Head → List Part → List Line
 lines_of_parts head parts = first_line ∷ pool_line head ∷ (flat_map lines_of_part parts ++ (end_line ∷ []))
 
@@ -243,10 +246,11 @@ pub record MeansPool (lines : List Line) (m : ThinPool) : Type 0 where
 abbrev pub SpellsPool : List ℕ → ThinPool → Type 0
 SpellsPool text m = Spells thin MeansPool text m
 
--- a mapping before runs: a longer run where it joins the first one
+-- whether a mapping and the run after it are one run
 abbrev pub follows : Mapping → Run → Bool
 follows m r = (m.virtual_block + 1 == r.virtual_block) && ((m.data_block + 1 == r.data_block) && (m.time == r.time))
 
+-- a mapping before runs: a longer run where it joins the first one
 abbrev pub with_mapping : Mapping → List Run → List Run
 with_mapping m [] = record { virtual_block = m.virtual_block; data_block = m.data_block; length = 1; time = m.time } ∷ []
 with_mapping m (r ∷ rs) =
@@ -259,6 +263,7 @@ abbrev pub joined_runs : List Mapping → List Run
 joined_runs [] = []
 joined_runs (m ∷ ms) = with_mapping m (joined_runs ms)
 
+-- a device with the runs of its mappings, as long as can be
 abbrev pub joined_part : ThinDevice → Part
 joined_part d = record {
   details = record { id = d.id; mapped = d.mapped; transaction = d.transaction; created = d.created; snapped = d.snapped };
