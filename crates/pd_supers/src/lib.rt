@@ -11,8 +11,6 @@ mod table;
 #[cfg(test)]
 mod tests;
 mod thin;
-mod thin_edges;
-mod thin_held;
 mod thin_rules;
 
 ghost use Rattle.std.specs.Prelude.{◌≡◌};
@@ -28,9 +26,7 @@ pub use era_rules::{era_snap_edges, era_snap_rules, era_super_edges, era_super_r
 use pd_kinds::{Rule, Rules};
 pub use pd_kinds::{CacheSuper, EraSuper, SmRoot, ThinSuper};
 pub use thin::{read_thin_super, write_thin_super};
-pub use thin_edges::{thin_held_edges, thin_super_edges};
-pub use thin_held::thin_held_rules;
-pub use thin_rules::thin_super_rules;
+pub use thin_rules::{thin_held_edges, thin_held_rules, thin_super_edges, thin_super_rules};
 
 /// The rules of a device that has no block 0: Size alone.
 pub fn missing_super() -> Rules
