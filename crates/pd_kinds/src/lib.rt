@@ -6,6 +6,7 @@
 #![tactic(auto)]
 
 mod block;
+mod check_fault;
 mod edges;
 mod fault;
 mod fields;
@@ -16,6 +17,7 @@ mod rule;
 mod rules;
 
 pub use block::{BLOCK_SIZE, Block, is_outside};
+pub use check_fault::CheckFault;
 pub use edges::Edges;
 pub use fault::{Fault, Space};
 pub use fields::{put_u32, put_u64, u32_at, u64_at};

@@ -99,6 +99,7 @@ second_holds false second before holds = holds
 pub record IsSoundSuper (device_blocks nr : ℕ) (edges : List Edge) : Type 0 where
   pub some_block : 1 ≤ nr
   pub few_blocks : nr ≤ MAX_META_BLOCKS
+  pub within : nr ≤ device_blocks
   pub inside : AllByRecursion (λ (edge : Edge). IsInside device_blocks edge.block) edges
 
 -- its edges are looked at where the sizes hold
@@ -110,5 +111,6 @@ super_holds device_blocks nr edges sizes_bad holds sizes pointers =
     record {
       some_block = omega (arith, eqb-false nr 0 first.0);
       few_blocks = ltb-false MAX_META_BLOCKS nr rest.1;
+      within = ltb-false device_blocks nr rest.0;
       inside = edges_inside nr device_blocks edges (ltb-false device_blocks nr rest.0) (second_holds sizes_bad _ sizes pointers);
     }

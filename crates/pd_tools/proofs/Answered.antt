@@ -17,8 +17,8 @@ use Rattle.pd_answers.specs.Answer.{AreKept, LeavesDevices, Objects, objects, Ar
 use Rattle.pd_kinds.proofs.AppendLemmas.{appends_none, front_none, front_from_whole}
 use Rattle.pd_tools.specs.declared.check.Stop.{Stop}
 use Rattle.pd_tools.specs.declared.check.Stop.TheVariants.{Unread, Unwritten}
-use Rattle.pd_thin.specs.declared.check.CheckFault.{CheckFault}
-use Rattle.pd_thin.specs.declared.check.CheckFault.TheVariants.{Memory, Device}
+use Rattle.pd_kinds.specs.declared.check_fault.CheckFault.{CheckFault}
+use Rattle.pd_kinds.specs.declared.check_fault.CheckFault.TheVariants.{Memory, Device}
 use Rattle.pd_tools.specs.Check.{Checks, Ends, IsReported, Reports, IsUnread, stop_line, stop_status}
 use Rattle.pd_tools.specs.Notes.{PutsLine, IsAttachedNotes}
 

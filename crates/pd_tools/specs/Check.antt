@@ -7,8 +7,8 @@ use Rattle.pd_kinds.specs.Crash.{IsUntouched}
 use Rattle.pd_kinds.specs.Stages.{faults, CanWantMemory}
 use Rattle.pd_answers.specs.Lines.{report_lines, device_line, sink_line, memory_line}
 use Rattle.pd_answers.specs.Answer.{IsAccess, reading}
-use Rattle.pd_thin.specs.declared.check.CheckFault.{CheckFault}
-use Rattle.pd_thin.specs.declared.check.CheckFault.TheVariants.{Memory, Device}
+use Rattle.pd_kinds.specs.declared.check_fault.CheckFault.{CheckFault}
+use Rattle.pd_kinds.specs.declared.check_fault.CheckFault.TheVariants.{Memory, Device}
 use Rattle.pd_tools.specs.declared.check.Stop.{Stop}
 use Rattle.pd_tools.specs.declared.check.Stop.TheVariants.{Unread, Unwritten}
 use Rattle.pd_tools.specs.Notes.{PutsLine}
