@@ -2,7 +2,7 @@
 -- superblock's fields and rules, and the roles. These are 0 superblock, 1 tree of the mapping array,
 -- 2 its blocks, 3 tree of the hint array, 4 its blocks, 5 tree of the discard bitset, 6 its blocks,
 -- 7 index block of the metadata bitmaps, 8 metadata bitmap, 9 metadata overflow tree.
-use Rattle.std.specs.Prelude.{ℕ, Bool, ◌==◌, ◌&&◌, ◌||◌, not, List, [], ◌∷◌, ◌++◌, take, drop}
+use Rattle.std.specs.Prelude.{ℕ, Bool, ◌==◌, ◌&&◌, ◌||◌, not, nat_lt, List, [], ◌∷◌, ◌++◌, take, drop}
 use Rattle.pd_kinds.specs.declared.kind.Kind.TheVariants.{Cache}
 use Rattle.pd_kinds.specs.declared.rule.Rule.{Rule}
 use Rattle.pd_kinds.specs.declared.rule.Rule.TheVariants as r

@@ -4,6 +4,7 @@
 use Rattle.std.specs.Prelude.{ℕ, ◌^◌, Bool, ◌==◌, ◌&&◌, ◌||◌, not, nat_lt, List, [], ◌∷◌, ◌++◌, take, drop}
 use Rattle.pd_kinds.specs.Edge.{Edge, optional_edge, has_edge_outside}
 use Rattle.pd_kinds.specs.SpaceMap.{MapFields, map_fields, map_rows}
+use Rattle.pd_kinds.specs.Limits.{is_meta_size_bad}
 use Rattle.pd_kinds.specs.declared.kind.Kind.TheVariants.{Thin}
 use Rattle.pd_kinds.specs.declared.rule.Rule.{Rule}
 use Rattle.pd_kinds.specs.declared.rule.Rule.TheVariants as r
