@@ -1,11 +1,11 @@
 -- The three outcomes of a crash, from what is left at each moment.
 use Rattle.std.proofs.Common.{◌≡◌, inl, inr, ⊎_elim, ℕ, zero, suc, ◌<◌, ◌≤◌, Bool, true, false, List, [], ◌∷◌, length, take, get_or, set, refl, sym, ◌∙◌, ap, subst, arith, Option, Some, Result, Ok, Err, cond}
-use Rattle.std.specs.Prelude.{nat_eq, IfSome, ◌||◌, is_ok, OnOk}
+use Rattle.std.specs.Prelude.{nat_eq, IfSome, ◌||◌, OnOk}
 use Rattle.std.specs.List.{list_any, slice_get}
 use Rattle.std.specs.Option.{is_some, unwrap_or}
 use Rattle.std.proofs.lemmas.Bool.{cases_lt, eqb-true, eqb-false}
 use Rattle.std.proofs.lemmas.List.{ext_get_or, get_or-set_same, length-set}
-use Rattle.std.proofs.lemmas.Option.{slice_get-get_or, get_or_from_slice_get, unwrap_or-slice_get, slice_get_within, slice_get_past, same_Some}
+use Rattle.std.proofs.lemmas.Option.{slice_get-get_or, get_or_from_slice_get, unwrap_or-slice_get, slice_get_past, same_Some}
 use Rattle.pd_kinds.specs.Field.{zeros}
 use Rattle.pd_image.proofs.BlockLemmas.{slice_get-set_other}
 use Rattle.pd_kinds.specs.Graph.{block_at}
@@ -15,7 +15,7 @@ use Rattle.pd_kinds.specs.Objects.{DeviceState}
 use Rattle.pd_kinds.specs.Crash.{LeavesNow, LeavesOnly, HoldsSynced, HasNoSuper, IsAmong, IsOldOrNone, IsNoneOrNew}
 use Rattle.pd_kinds.proofs.CrashLemmas.{left_synced, left_now, left_is, left_held, zeros_no_super, untold, and_then}
 use Rattle.pd_image.specs.Device.{MayChange, MayWrite}
-use Rattle.pd_image.proofs.CrashLemmas.{told_or_not, at_some, writes, syncs, synced_now}
+use Rattle.pd_image.proofs.CrashLemmas.{told_or_not, is_none_too, at_some, writes, syncs}
 use Rattle.pd_draft.specs.Closed.{HasZeros, IsClosed}
 use Rattle.pd_draft.specs.Replaced.{IsReplaced}
 
@@ -58,36 +58,6 @@ among_first : (image : Image) (block : List ℕ) → IsAmong (take 1 image) bloc
 among_first [] block among = absurd among
 among_first (first ∷ image) block among = ⊎_elim (λ is. is) (λ none. absurd none) among
 
--- block 0 of an image that holds nothing unsynced was being zeroed
-pub torn_clear : (image left : Image) (h : History) → h.unsynced ≡ [] → h.firsts ≡ take 1 image → IsLeft (now image (after_write 0 zeros image h)) left
-    → IsOldOrNone image left (zeros ∷ h.firsts)
-torn_clear image left h none firsts l chance =
-    let others = others_left image left (now image (after_write 0 zeros image h)) refl (ap (λ (us : List ℕ). 0 ∷ us) none) l in
-    ⊎_elim
-    (λ among. ⊎_elim
-    (λ zeroed. inr (ap is_valid_super zeroed ∙ zeros_no_super))
-    (λ was. inl (same_image left image others.0 others.1 (among_first image (block_at left 0) (subst (λ (f : Image). IsAmong f (block_at left 0)) firsts was))))
-    among)
-    (λ no_super. inr no_super)
-    chance
-
--- block 0 of an image that is synced and has zeros there was being written
-pub torn_finish : (image left : Image) (bytes : List ℕ) (h : History) → h.unsynced ≡ [] → h.firsts ≡ take 1 image → slice_get image 0 ≡ Some zeros
-    → IsLeft (now image (after_write 0 bytes image h)) left → IsNoneOrNew (set image 0 bytes) left (bytes ∷ h.firsts)
-torn_finish image left bytes h none firsts zeroed l chance =
-    let others = others_left image left (now image (after_write 0 bytes image h)) refl (ap (λ (us : List ℕ). 0 ∷ us) none) l in
-    let within : 0 < length image = slice_get_within image 0 zeros zeroed in
-    ⊎_elim
-    (λ among. ⊎_elim
-    (λ new. inr (same_image left (set image 0 bytes) (others.0 ∙ sym (length-set image 0 bytes))
-    (λ b past. others.1 b past ∙ sym (slice_get-set_other image 0 b bytes past))
-    (new ∙ sym (unwrap_or-slice_get (set image 0 bytes) 0 [] ∙ get_or-set_same image 0 bytes [] within))))
-    (λ was. inl (ap is_valid_super (among_first image (block_at left 0) (subst (λ (f : Image). IsAmong f (block_at left 0)) firsts was)
-    ∙ ap (λ (b : Option (List ℕ)). unwrap_or b []) zeroed) ∙ zeros_no_super))
-    among)
-    (λ no_super. inl no_super)
-    chance
-
 -- a block put back
 same_at : (left image : Image) (b : ℕ) → length left ≡ length image → slice_get (set left b (get_or image b [])) b ≡ slice_get image b
 same_at left image b number = elim (cases_lt b (length image)) [
@@ -122,96 +92,72 @@ torn_place device image left b bytes past closed held l =
     let leaves = left_is device image back held (put_back image left b device.history.unsynced _ _ l) in
     sym (slice_get-set_other left b 0 (get_or image b []) (λ same. absurd (omega arith))) ∙ closed back device.history.firsts leaves
 
-pub set_zeros : (image i : Image) → 1 ≤ length image → i ≡ set image 0 zeros → slice_get i 0 ≡ Some zeros
-set_zeros [] i some is = absurd (omega arith)
-set_zeros (first ∷ image) i some is = ap (λ (j : Image). slice_get j 0) is
+-- zeros in place of block 0
+set_zeros : (image : Image) → 1 ≤ length image → slice_get (set image 0 zeros) 0 ≡ Some zeros
+set_zeros [] some = absurd (omega arith)
+set_zeros (first ∷ image) some = refl
 
--- the calls of `clear`
-pub clear_here : (image : Image) (old : DeviceState) → HoldsSynced image old → LeavesNow (IsOldOrNone image) old
-clear_here image old synced left firsts leaves chance =
-    inl (left_synced image left (now image old.history) refl synced.unsynced (left_now old image left firsts synced.held leaves).0)
+-- the blocks of a device that tells what it holds
+pub has_first : (image : Image) (device : DeviceState) → device.held ≡ Some image → 1 ≤ device.blocks → IfSome device.held (λ i. length i ≡ device.blocks) → 1 ≤ length image
+has_first image device held some measured =
+    let number : length image ≡ device.blocks = at_some device.held (λ (i : Image). length i ≡ device.blocks) image held measured in
+    omega arith
 
-pub clear_write : (image : Image) (bytes : List ℕ) {old new : DeviceState} → bytes ≡ zeros → HoldsSynced image old → IfSome old.held (λ i. MayWrite 0 bytes i old new)
-    → is_some new.held ≡ is_some old.held → IfSome old.held (λ i. IfSome new.held (MayChange 0 i)) → LeavesOnly (IsOldOrNone image) old new
-clear_write image bytes {old} {new} are_zeros synced crash told others =
-    writes 0 bytes crash told others (clear_here image old synced) (λ i held left l.
-    let same : i ≡ image = same_Some i image (sym held ∙ synced.held) in
-    subst (λ (j : Image). IsLeft (now j (after_write 0 bytes j old.history)) left → IsOldOrNone image left (bytes ∷ old.history.firsts)) (sym same)
-    (subst (λ (z : List ℕ). IsLeft (now image (after_write 0 z image old.history)) left → IsOldOrNone image left (z ∷ old.history.firsts)) (sym are_zeros)
-    (λ l'. torn_clear image left old.history synced.unsynced synced.firsts l')) l)
-
--- what the write of zeros leaves in block 0
-pub zeroed_by : (old mid : DeviceState) (bytes : List ℕ) → bytes ≡ zeros → IfSome old.held (λ i. mid.held ≡ Some (set i 0 bytes)) → is_some mid.held ≡ is_some old.held
-    → 1 ≤ old.blocks → IfSome old.held (λ i. length i ≡ old.blocks) → (i : Image) → mid.held ≡ Some i → slice_get i 0 ≡ Some zeros
-zeroed_by old mid bytes are_zeros content told some measured i held =
+-- zeros were written and synced
+closed_now : (old new : DeviceState) → IfSome old.held (λ image. HoldsSynced (set image 0 zeros) new) → is_some new.held ≡ is_some old.held
+    → 1 ≤ old.blocks → IfSome old.held (λ i. length i ≡ old.blocks) → IsClosed new
+closed_now old new done told some measured left firsts leaves =
     ⊎_elim
-    (λ none. absurd (not_both (is_some old.held) (sym told ∙ ap is_some held) (ap is_some none)))
+    (λ none. (untold {P = HasZeros} {old = old} {new = new} (is_none_too new.held (told ∙ ap is_some none))).now left firsts leaves)
     (λ was.
     let image = was.0 in
-    let number : length image ≡ old.blocks = at_some old.held (λ (j : Image). length j ≡ old.blocks) image was.1 measured in
-    let written : mid.held ≡ Some (set image 0 bytes) = at_some old.held (λ (j : Image). mid.held ≡ Some (set j 0 bytes)) image was.1 content in
-    set_zeros image i (omega arith) (same_Some i (set image 0 bytes) (sym held ∙ written) ∙ ap (λ (z : List ℕ). set image 0 z) are_zeros))
-    (told_or_not old.held)
-  where
-    not_both : (t : Bool) → t ≡ true → t ≡ false → ⊥
-    not_both t is isnt = cc
-
--- the sync of `clear`, after the write
-pub clear_sync : (image : Image) {old mid new : DeviceState} (ok : Bool) → LeavesOnly (IsOldOrNone image) old mid
-    → ((i : Image) → mid.held ≡ Some i → slice_get i 0 ≡ Some zeros)
-    → IfSome mid.held (λ i. new.history ≡ cond ok (after_sync i mid.history) mid.history) → new.held ≡ mid.held → LeavesOnly (IsOldOrNone image) old new
-clear_sync image {old} {mid} {new} ok so_far zeroed crash same =
-    and_then so_far (syncs ok crash same so_far.now (λ i is chance. inr (zeros_none i (take 1 i) (zeroed i is))))
-
--- a device that holds zeros in block 0 is closed by a sync
-pub closed_by_sync : (old new : DeviceState) (ok : Bool) → ok ≡ true → IfSome old.held (λ i. new.history ≡ cond ok (after_sync i old.history) old.history) → new.held ≡ old.held
-    → ((i : Image) → old.held ≡ Some i → slice_get i 0 ≡ Some zeros) → IsClosed new
-closed_by_sync old new ok is_fine crash same zeroed left firsts leaves =
-    ⊎_elim
-    (λ none. (untold {P = HasZeros} {old = old} {new = new} (same ∙ none)).now left firsts leaves)
-    (λ held.
-    let synced = synced_now old new held.0 held.1 (subst (λ t. IfSome old.held (λ (i : Image). new.history ≡ cond t (after_sync i old.history) old.history)) is_fine crash) same in
-    let is : left ≡ held.0 = left_synced held.0 left (now held.0 new.history) refl synced.unsynced (left_now new held.0 left firsts synced.held leaves).0 in
-    ap (λ (i : Image). slice_get i 0) is ∙ zeroed held.0 held.1)
+    let made = set image 0 zeros in
+    let synced : HoldsSynced made new = at_some old.held (λ (i : Image). HoldsSynced (set i 0 zeros) new) image was.1 done in
+    let is : left ≡ made = left_synced made left (now made new.history) refl synced.unsynced (left_now new made left firsts synced.held leaves).0 in
+    ap (λ (i : Image). slice_get i 0) is ∙ set_zeros image (has_first image old was.1 some measured))
     (told_or_not old.held)
 
--- the calls of `finish`
-pub finish_here : (new_image : Image) (old : DeviceState) → IsClosed old → LeavesNow (IsNoneOrNew new_image) old
-finish_here new_image old closed left firsts leaves chance = inl (zeros_none left firsts (closed left firsts leaves))
+-- the same, of a call that may have failed
+pub closed_by : {T E : Type 0} (result : Result T E) (old new : DeviceState) (bytes : List ℕ) → bytes ≡ zeros → OnOk result (IfSome old.held (λ image. HoldsSynced (set image 0 bytes) new))
+    → is_some new.held ≡ is_some old.held → 1 ≤ old.blocks → IfSome old.held (λ i. length i ≡ old.blocks) → OnOk result (IsClosed new)
+closed_by (Ok x) old new bytes are_zeros done told some measured =
+    closed_now old new (subst (λ (z : List ℕ). IfSome old.held (λ image. HoldsSynced (set image 0 z) new)) are_zeros done) told some measured
+closed_by (Err e) old new bytes are_zeros done told some measured = tt
 
+-- where block 0 was replaced by zeros, a crash left the old image or no valid superblock
+pub cleared : (image : Image) (bytes : List ℕ) → bytes ≡ zeros → 1 ≤ length image → (left firsts : Image)
+    → IsReplaced image (set image 0 bytes) left firsts → IsOldOrNone image left firsts
+cleared image bytes are_zeros some left firsts outcome chance =
+    ⊎_elim (λ old. inl old)
+    (λ rest. inr (⊎_elim
+    (λ new. zeros_none left firsts (ap (λ (i : Image). slice_get i 0) (new ∙ ap (λ (z : List ℕ). set image 0 z) are_zeros) ∙ set_zeros image some))
+    (λ torn. torn.0)
+    rest))
+    (outcome chance)
+
+-- where zeros in block 0 were replaced, a crash left no valid superblock or the new image
+pub finished : (image made : Image) → slice_get image 0 ≡ Some zeros → (left firsts : Image) → IsReplaced image made left firsts → IsNoneOrNew made left firsts
+finished image made zeroed left firsts outcome chance =
+    ⊎_elim (λ old. inl (zeros_none left firsts (ap (λ (i : Image). slice_get i 0) old ∙ zeroed)))
+    (λ rest. ⊎_elim (λ new. inr new) (λ torn. inl torn.0) rest)
+    (outcome chance)
+
+-- what a device holds whose block 0 is closed
 pub closed_held : (image : Image) (device : DeviceState) → IsClosed device → device.held ≡ Some image → slice_get image 0 ≡ Some zeros
 closed_held image device closed held = closed image device.history.firsts (left_held device image held)
 
-pub finish_sync : (image new_image : Image) {old new : DeviceState} (ok : Bool) → IsClosed old → old.held ≡ Some image
-    → IfSome old.held (λ i. new.history ≡ cond ok (after_sync i old.history) old.history) → new.held ≡ old.held → LeavesOnly (IsNoneOrNew new_image) old new
-finish_sync image new_image {old} {new} ok closed held crash same =
-    syncs ok crash same (finish_here new_image old closed) (λ i is chance. inl (zeros_none i (take 1 i) (closed_held i old closed is)))
-
-pub finish_write : (image : Image) (bytes : List ℕ) {old mid new : DeviceState} → LeavesOnly (IsNoneOrNew (set image 0 bytes)) old mid → HoldsSynced image mid
-    → slice_get image 0 ≡ Some zeros → IfSome mid.held (λ i. MayWrite 0 bytes i mid new) → is_some new.held ≡ is_some mid.held
-    → IfSome mid.held (λ i. IfSome new.held (MayChange 0 i)) → LeavesOnly (IsNoneOrNew (set image 0 bytes)) old new
-finish_write image bytes {old} {mid} {new} so_far synced zeroed crash told others =
-    and_then so_far (writes 0 bytes crash told others so_far.now (λ i held left l.
-    let same : i ≡ image = same_Some i image (sym held ∙ synced.held) in
-    subst (λ (j : Image). IsLeft (now j (after_write 0 bytes j mid.history)) left → IsNoneOrNew (set image 0 bytes) left (bytes ∷ mid.history.firsts)) (sym same)
-    (λ l'. torn_finish image left bytes mid.history synced.unsynced synced.firsts zeroed l') l))
-
-pub finish_last : (image : Image) (bytes : List ℕ) {old mid new : DeviceState} (ok : Bool) → LeavesOnly (IsNoneOrNew (set image 0 bytes)) old mid
-    → mid.held ≡ Some (set image 0 bytes)
-    → IfSome mid.held (λ i. new.history ≡ cond ok (after_sync i mid.history) mid.history) → new.held ≡ mid.held → LeavesOnly (IsNoneOrNew (set image 0 bytes)) old new
-finish_last image bytes {old} {mid} {new} ok so_far held crash same =
-    and_then so_far (syncs ok crash same so_far.now (λ i is chance. inr (same_Some i (set image 0 bytes) (sym is ∙ held))))
+-- the first sync of `finish`
+pub finish_sync : (image made : Image) {old new : DeviceState} (ok : Bool) → IsClosed old → old.held ≡ Some image
+    → IfSome old.held (λ i. new.history ≡ cond ok (after_sync i old.history) old.history) → new.held ≡ old.held → LeavesOnly (IsNoneOrNew made) old new
+finish_sync image made {old} {new} ok closed held crash same =
+    syncs ok crash same (λ left firsts leaves chance. inl (zeros_none left firsts (closed left firsts leaves)))
+    (λ i is chance. inl (zeros_none i (take 1 i) (closed_held i old closed is)))
 
 -- the write of `place`
 pub place_write : {old new : DeviceState} (b : ℕ) (bytes : List ℕ) → 1 ≤ b → IsClosed old → IfSome old.held (λ i. MayWrite b bytes i old new)
     → is_some new.held ≡ is_some old.held → IfSome old.held (λ i. IfSome new.held (MayChange b i)) → LeavesOnly HasZeros old new
 place_write {old} {new} b bytes past closed crash told others =
     writes b bytes crash told others closed (λ i held left l. torn_place old i left b bytes past closed held l)
-
--- a fact at Ok
-pub at_ok : {T E : Type 0} (r : Result T E) {Q : Type 0} → (is_ok r ≡ true → Q) → OnOk r Q
-at_ok (Ok x) f = f refl
-at_ok (Err e) f = tt
 
 -- block 0 of a synced image was being replaced
 pub torn_replaced : (image left : Image) (bytes : List ℕ) (h : History) → h.unsynced ≡ [] → h.firsts ≡ take 1 image → 1 ≤ length image

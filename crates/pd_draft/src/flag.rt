@@ -1,6 +1,6 @@
 //! The rewriting of block 0 alone, as the needs-check flag wants it.
 
-ghost use Rattle.std.specs.Prelude.{◌≡◌, ◌≤◌, List, ℕ, OnOk, IfSome, slice_set};
+ghost use Rattle.std.specs.Prelude.{◌≡◌, ◌≤◌, List, ℕ, OnOk, IfSome, is_some, slice_set};
 ghost use Rattle.pd_kinds.specs.Objects.{CountsFault};
 ghost use Rattle.pd_kinds.specs.Crash.{LeavesOnly, HoldsSynced};
 ghost use Rattle.pd_image.specs.Device.{IsWritable, KeepsPlace};
@@ -18,6 +18,7 @@ pub fn rewrite_super<D: Device>(dev: &mut D, super_block: &Block) -> Result<(), 
     // Where nothing was unsynced, a crash leaves the old image, the new one, or the old one with no valid superblock.
     ensures crash { (image : List (List ℕ)) → HoldsSynced image (D.state dev.old)
         → LeavesOnly (IsReplaced image (slice_set image 0 super_block.now.0)) (D.state dev.old) (D.state dev.new) }
+    ensures told { is_some (D.state dev.new).held ≡ is_some (D.state dev.old).held }
     ensures kept { KeepsPlace (D.state dev.old) (D.state dev.new) }
     ensures reads { (D.state dev.new).reads ≡ (D.state dev.old).reads }
     ensures faults { CountsFault result (D.state dev.old).faults (D.state dev.new).faults }

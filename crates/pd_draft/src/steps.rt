@@ -7,6 +7,7 @@ ghost use Rattle.pd_kinds.specs.Crash.{LeavesOnly, HoldsSynced, IsOldOrNone, IsN
 ghost use Rattle.pd_image.specs.Device.{IsWritable, KeepsPlace};
 ghost use Rattle.pd_draft.specs.Closed.{HasZeros, IsClosed};
 
+use crate::flag::rewrite_super;
 use pd_image::{Device, Failed};
 use pd_kinds::Block;
 
@@ -26,8 +27,7 @@ pub fn clear<D: Device>(dev: &mut D) -> Result<(), Failed>
     ensures reads { (D.state dev.new).reads ≡ (D.state dev.old).reads }
     ensures faults { CountsFault result (D.state dev.old).faults (D.state dev.new).faults }
 {
-    dev.write(0, &Block::zeros())?;
-    dev.sync()
+    rewrite_super(dev, &Block::zeros())
 }
 
 /// Writes a block past block 0.
@@ -61,6 +61,5 @@ pub(crate) fn finish<D: Device>(dev: &mut D, super_block: &Block) -> Result<(), 
     ensures faults { CountsFault result (D.state dev.old).faults (D.state dev.new).faults }
 {
     dev.sync()?;
-    dev.write(0, super_block)?;
-    dev.sync()
+    rewrite_super(dev, super_block)
 }

@@ -1,0 +1,104 @@
+//! An open file that keeps a record of its calls, so that it is proved which were made, and in which order.
+
+ghost use Rattle.std.specs.Prelude.{◌≡◌, ◌∷◌, List, is_ok};
+ghost use Rattle.pd_image.specs.FileCall.{FileCall, sought, gave, wrote, synced};
+
+use crate::record::Record;
+use std::fs::OpenFile;
+use std::io;
+use std::io::{ErrorKind, Read, Seek, SeekFrom, Write};
+
+const SOUGHT: u64 = 0;
+
+const GAVE: u64 = 1;
+
+const WROTE: u64 = 2;
+
+const SYNCED: u64 = 3;
+
+/// What is asked of an open file: that each call is in its record, whatever it answers.
+pub(crate) trait FileCalls {
+    /// The calls so far, the newest first.
+    ghost calls: { Self → List FileCall };
+
+    /// Moves to this byte.
+    fn move_to(&mut self, at: u64) -> io::Result<()>
+        ensures { calls self.new ≡ sought at (is_ok result) ∷ calls self.old };
+
+    /// Reads until `into` is full.
+    fn fill(&mut self, into: &mut [u8]) -> io::Result<()>
+        ensures { calls self.new ≡ gave into.new (is_ok result) ∷ calls self.old };
+
+    /// Writes all of the bytes.
+    fn put(&mut self, from: &[u8]) -> io::Result<()>
+        ensures { calls self.new ≡ wrote from.now (is_ok result) ∷ calls self.old };
+
+    /// Waits until all that was written is on the disk.
+    fn sync(&mut self) -> io::Result<()>
+        ensures { calls self.new ≡ synced (is_ok result) ∷ calls self.old };
+}
+
+/// An open file with its record. Each method makes the one call of the file that it notes.
+#[derive(Drop)]
+pub(crate) struct RecordedFile<F> {
+    file: F,
+    log: Record,
+}
+
+impl<F> RecordedFile<F> {
+    /// A file of which no call was made.
+    pub(crate) fn new(file: F) -> RecordedFile<F> {
+        RecordedFile {
+            file,
+            log: Record::new(),
+        }
+    }
+}
+
+impl<F: Read + Write + Seek + OpenFile> FileCalls for RecordedFile<F> {
+    ghost calls = { λ file. file.log.calls };
+
+    fn move_to(&mut self, at: u64) -> io::Result<()> {
+        let answer = seek(&mut self.file, at);
+        match answer {
+            Ok(()) => self.log.note(&[SOUGHT, 1, at], &[]),
+            Err(_) => self.log.note(&[SOUGHT, 0, at], &[]),
+        }
+        answer
+    }
+
+    fn fill(&mut self, into: &mut [u8]) -> io::Result<()> {
+        let answer = self.file.read_exact(into);
+        match answer {
+            Ok(()) => self.log.note(&[GAVE, 1], into),
+            Err(_) => self.log.note(&[GAVE, 0], into),
+        }
+        answer
+    }
+
+    fn put(&mut self, from: &[u8]) -> io::Result<()> {
+        let answer = self.file.write_all(from);
+        match answer {
+            Ok(()) => self.log.note(&[WROTE, 1], from),
+            Err(_) => self.log.note(&[WROTE, 0], from),
+        }
+        answer
+    }
+
+    fn sync(&mut self) -> io::Result<()> {
+        let answer = self.file.sync_all();
+        match answer {
+            Ok(()) => self.log.note(&[SYNCED, 1], &[]),
+            Err(_) => self.log.note(&[SYNCED, 0], &[]),
+        }
+        answer
+    }
+}
+
+/// Moves to this byte, and nowhere else.
+fn seek<F: Seek>(file: &mut F, at: u64) -> io::Result<()> {
+    if file.seek(SeekFrom::Start(at))? != at {
+        return Err(ErrorKind::Other.into());
+    }
+    Ok(())
+}
