@@ -1,4 +1,5 @@
 pub mod LaidLemmas
+pub mod SpreadLemmas
 pub mod ShapeLemmas
 pub mod NodeFacts
 pub mod GatherLemmas

@@ -13,4 +13,6 @@ mod trees;
 pub use images::one_image_is_laid;
 pub use salvages::sound_pool_is_saved;
 pub use shapes::shape_of_keeps_meaning;
-pub use trees::laid_tree_is_written;
+pub use trees::{
+    laid_array_is_written, laid_device_is_written, laid_tree_is_written, spread_is_even,
+};
