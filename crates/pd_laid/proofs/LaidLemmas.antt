@@ -3,9 +3,14 @@ use Rattle.std.proofs.Common.{◌≡◌, ◌≤◌, ℕ, suc, ◌+◌, List, [],
 use Rattle.std.proofs.Math.Seq.{take-append_seam, drop-append_seam}
 use Rattle.std.proofs.lemmas.List.{length-append, length-drop, length-map, take-append-drop}
 use Rattle.pd_kinds.specs.Layout.{Tree}
-use Rattle.pd_kinds.specs.Node.{Entry}
+use Rattle.pd_kinds.specs.Node.{Entry, leaf_block, inner_block}
+use Rattle.pd_kinds.specs.Array.{array_block}
+use Rattle.pd_kinds.specs.Layout.{tree_to}
+use Rattle.pd_laid.specs.Array.{array_pieces, array_items, laid_words, laid_array}
+use Rattle.pd_laid.specs.LaidThin.{device_leaves, device_inners, laid_device}
+use Rattle.pd_laid.specs.Shape.{ShapeDevice}
 use Rattle.pd_laid.specs.Tree.{blocks_from, tree_blocks, tree_leaves, tree_inners}
-use Rattle.pd_laid.specs.Laid.{LaidBlock, Laid, IsLaid, laid_blocks, laid_number, laid_leaf, laid_inner, laid_tree}
+use Rattle.pd_laid.specs.Laid.{LaidBlock, Laid, IsLaid, written_from, tree_of, laid_blocks, laid_number, laid_leaf, laid_inner, laid_tree}
 
 -- each of them takes one block
 pub length-blocks_from : {X : Type 0} (write : ℕ → X → List ℕ) (place : ℕ) (xs : List X) → length (blocks_from write place xs) ≡ length xs
@@ -31,19 +36,46 @@ unfolding blocks_from
 blocks_from-map write f place [] = refl
 blocks_from-map write f place (x ∷ xs) = ap (λ (blocks : List (List ℕ)). write place (f x) ∷ blocks) (blocks_from-map write f (place + 1) xs)
 
--- a laid tree is written as the tree's blocks
-pub tree_written : (role : ℕ) (t : Tree) (place : ℕ) (items : List Entry)
-    → blocks_from (λ at (b : LaidBlock). b.written at) place (laid_tree role t place items) ≡ tree_blocks t.size place items
-unfolding laid_tree tree_blocks
-tree_written role t place items =
+-- those of mapped elements, and of others behind them
+written_both : {X Y : Type 0} (f : X → LaidBlock) (g : Y → LaidBlock) (place : ℕ) (xs : List X) (ys : List Y)
+    → written_from place (map f xs ++ map g ys)
+    ≡ blocks_from (λ at x. (f x).written at) place xs ++ blocks_from (λ at y. (g y).written at) (place + length xs) ys
+written_both f g place xs ys =
     let write = λ (at : ℕ) (b : LaidBlock). b.written at in
-    let leaves = tree_leaves t.size items in
-    let inners = tree_inners t.size place items in
-    let split = blocks_from-append write place (map (laid_leaf role t) leaves) (map (laid_inner role) inners) in
-    let below = blocks_from-map write (laid_leaf role t) place leaves in
-    let above = blocks_from-map write (laid_inner role) (place + length (map (laid_leaf role t) leaves)) inners in
-    let number = length-map leaves (laid_leaf role t) in
+    let split = blocks_from-append write place (map f xs) (map g ys) in
+    let below = blocks_from-map write f place xs in
+    let above = blocks_from-map write g (place + length (map f xs)) ys in
+    let number = length-map xs f in
     split ∙ rw (below, above, number) refl
+
+-- a laid tree is written as the tree's blocks
+pub tree_written : (role : ℕ) (t : Tree) (place : ℕ) (items : List Entry) → written_from place (laid_tree role t place items) ≡ tree_blocks t.size place items
+unfolding laid_tree tree_blocks
+tree_written role t place items = written_both (laid_leaf role t) (laid_inner role) place (tree_leaves t.size items) (tree_inners t.size place items)
+
+-- a laid array as its words and the tree's blocks
+pub array_written : (role size place : ℕ) (words : List ℕ)
+    → written_from place (laid_array role size place words)
+    ≡ blocks_from (array_block size) place (array_pieces size words)
+    ++ tree_blocks 8 (place + length (array_pieces size words)) (array_items place (length (array_pieces size words)))
+unfolding laid_array
+array_written role size place words =
+    let write = λ (at : ℕ) (b : LaidBlock). b.written at in
+    let pieces = array_pieces size words in
+    let behind = place + length pieces in
+    let t = tree_of (tree_to 8 (role + 1) (λ v. v)) in
+    let above = laid_tree role t behind (array_items place (length pieces)) in
+    let split = blocks_from-append write place (map (laid_words (role + 1) size) pieces) above in
+    let below = blocks_from-map write (laid_words (role + 1) size) place pieces in
+    let number = length-map pieces (laid_words (role + 1) size) in
+    split ∙ rw (below, number, tree_written role t behind (array_items place (length pieces))) refl
+
+-- a laid device as its leaves and the inner nodes
+pub device_written : (t : Tree) (leaves : List (List Entry)) (place : ℕ) (d : ShapeDevice)
+    → written_from place (laid_device t leaves place d)
+    ≡ blocks_from (leaf_block t.size) place (device_leaves d) ++ blocks_from inner_block (place + length (device_leaves d)) (device_inners leaves place d)
+unfolding laid_device
+device_written t leaves place d = written_both (laid_leaf 3 t) (laid_inner 3) place (device_leaves d) (device_inners leaves place d)
 
 -- the blocks that are laid are as many as are counted
 pub length-laid_blocks : (laid : Laid) → length (laid_blocks laid) ≡ laid_number laid

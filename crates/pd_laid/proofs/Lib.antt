@@ -1,4 +1,8 @@
 pub mod LaidLemmas
+pub mod SpreadLemmas
+pub mod NeedLemmas
+pub mod CacheNeed
+pub mod PoolNeed
 pub mod ShapeLemmas
 pub mod NodeFacts
 pub mod GatherLemmas

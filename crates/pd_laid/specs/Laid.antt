@@ -62,9 +62,13 @@ pub record Laid : Type 0 where
 abbrev pub laid_number : Laid → ℕ
 laid_number laid = 1 + length laid.blocks
 
--- its blocks as they are written
+-- laid blocks as they are written from a place on
+abbrev pub written_from : ℕ → List LaidBlock → List (List ℕ)
+written_from place blocks = blocks_from (λ at (b : LaidBlock). b.written at) place blocks
+
+-- what is written of it
 unfoldable pub laid_blocks : Laid → List (List ℕ)
-laid_blocks laid = laid.super_block ∷ blocks_from (λ place (b : LaidBlock). b.written place) 1 laid.blocks
+laid_blocks laid = laid.super_block ∷ written_from 1 laid.blocks
 
 -- the image that has it laid over a base: as long as the base, first the laid blocks, and behind them what
 -- the base has there

@@ -1,4 +1,5 @@
 pub mod Tree
+pub mod Need
 pub mod Laid
 pub mod Array
 pub mod Map

@@ -6,11 +6,15 @@
 #![tactic(auto)]
 
 mod images;
+mod needs;
 mod salvages;
 mod shapes;
 mod trees;
 
 pub use images::one_image_is_laid;
+pub use needs::{images_take_their_need, parts_take_their_need};
 pub use salvages::sound_pool_is_saved;
 pub use shapes::shape_of_keeps_meaning;
-pub use trees::laid_tree_is_written;
+pub use trees::{
+    laid_array_is_written, laid_device_is_written, laid_tree_is_written, spread_is_even,
+};
