@@ -32,7 +32,7 @@ module _ (graph : Graph) (image : List (List ℕ)) (lawful : IsLawful graph) whe
   child_next true xs c any = any
   child_next false xs c any = absurd (cc)
 
-  met_child : (p c : ℕ) → IsMet p → list_any (λ t. nat_eq t c) (children graph image p) ≡ true → IsMet c
+  pub met_child : (p c : ℕ) → IsMet p → list_any (λ t. nat_eq t c) (children graph image p) ≡ true → IsMet c
   unfolding children next
   met_child p c met any =
       let leads = child_next (is_inner_pair graph image p) (next graph image p) c any in
