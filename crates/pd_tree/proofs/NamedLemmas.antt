@@ -1,5 +1,5 @@
 -- The blocks that the entries of a reached tree name are reached.
-use Rattle.std.proofs.Common.{◌≡◌, ℕ, zero, suc, ◌*◌, ◌<◌, Bool, true, false, List, [], ◌∷◌, refl, arith}
+use Rattle.std.proofs.Common.{◌≡◌, ◌↔◌, ℕ, zero, suc, ◌*◌, Bool, true, false, List, [], ◌∷◌, refl}
 use Rattle.std.specs.List.{flat_map, AllByRecursion}
 use Rattle.pd_kinds.specs.Edge.{Edge}
 use Rattle.pd_kinds.specs.Node.{Entry, is_inner_node}
@@ -13,8 +13,8 @@ use Rattle.pd_tree.specs.Levels.{node_kids}
 use Rattle.pd_tree.specs.Sound.IsUnder.{itself}
 use Rattle.pd_tree.specs.TreeRoles.{IsTreeTo}
 use Rattle.pd_laws.proofs.AllLemmas.{all_flat_map, all_mapped}
-use Rattle.pd_tree.proofs.ReachLemmas.{edges_reached}
-use Rattle.pd_tree.proofs.SoundLemmas.{IsMet, met_child}
+use Rattle.pd_tree.proofs.ReachLemmas.{IsMet, edges_reached}
+use Rattle.pd_tree.proofs.SoundLemmas.{met_child}
 use Rattle.pd_tree.proofs.TableLemmas.{IsTreeAt, tree_at, leaf_edges_at, block_pair}
 use Rattle.pd_tree.proofs.TreeLemmas.{IsClean, each_kid}
 
@@ -24,7 +24,7 @@ singles f Q [] all = tt
 singles f Q (x ∷ xs) all = (all.0, singles f Q xs all.1)
 
 module _ (graph : Graph) (image : List (List ℕ)) (role size next : ℕ) (named : ℕ → ℕ) (to : IsTreeTo graph role size next named)
-    (lawful : IsLawful graph) (known : role < graph.roles) (paths : (q : ℕ) → IsOnPath (16 * graph.nr) (next_of graph image) q → is_reached graph image q ≡ true) where
+    (lawful : IsLawful graph) (paths : (q : ℕ) → (is_reached graph image q ≡ true) ↔ IsOnPath (16 * graph.nr) (next_of graph image) q) where
   -- the entry names a reached block
   abbrev Leads : Entry → Type 0
   Leads e = IsReached graph image (named e.value) next
@@ -39,9 +39,7 @@ module _ (graph : Graph) (image : List (List ℕ)) (role size next : ℕ) (named
       → AllByRecursion Leads (leaf_entries size (block_at image b))
   unfolding leaf_entries
   leaf_leads b leaf clean met =
-      let few = lawful.few_roles in
-      let in_block = met.block in
-      let edges = edges_reached graph image lawful paths b role known (omega arith) met.path in
+      let edges = edges_reached graph image lawful paths b role at.few met in
       rw leaf (singles (λ (e : Entry). record { role = next; block = named e.value }) (λ (e : Edge). IsReached graph image e.block e.role) _
       (rw (leaf_edges_at graph image role size next named b to leaf (clean (pair b role) (itself (pair b role)))) at edges))
 

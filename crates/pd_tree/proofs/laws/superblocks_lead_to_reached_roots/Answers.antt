@@ -1,4 +1,4 @@
-use Rattle.std.proofs.Common.{◌≡◌, ℕ, false, List, [], ◌∷◌, ◌++◌, refl, arith}
+use Rattle.std.proofs.Common.{◌≡◌, ℕ, false, List, [], ◌∷◌, ◌++◌, refl}
 use Rattle.pd_kinds.specs.declared.kind.Kind.TheVariants.{Thin, Cache, Era}
 use Rattle.pd_kinds.specs.declared.rule.Rule.{Rule}
 use Rattle.pd_kinds.specs.Edge.{Edge, optional_edge}
@@ -35,8 +35,7 @@ returns-clause-thin c = λ until image looks none.
     let lawful = c.trees_are_in_order.ensures.lawful Thin until image none in
     let ordered = c.trees_are_in_order.ensures.in_order Thin until image looks none in
     let start = c.edges_lead_to_reached_pairs.ensures.start graph image lawful in
-    let some = lawful.some_role in
-    let all = rw (thin_edges block (ordered.well_formed 0 0 start)) at (c.edges_lead_to_reached_pairs.ensures.edges graph image 0 0 lawful (omega arith) start) in
+    let all = rw (thin_edges block (ordered.well_formed 0 0 start)) at (c.edges_lead_to_reached_pairs.ensures.edges graph image 0 0 lawful start) in
     let roots = behind_optional (To graph image) 1 fields.held_root
     (record { role = 2; block = fields.mapping_root } ∷ record { role = 4; block = fields.details_root } ∷ record { role = 5; block = fields.data_map.bitmap_root } ∷ record { role = 7; block = fields.data_map.overflow_root } ∷ record { role = 8; block = fields.meta_map.bitmap_root } ∷ record { role = 10; block = fields.meta_map.overflow_root } ∷ [])
     all in
@@ -50,8 +49,7 @@ returns-clause-cache c = λ until image looks none.
     let lawful = c.trees_are_in_order.ensures.lawful Cache until image none in
     let ordered = c.trees_are_in_order.ensures.in_order Cache until image looks none in
     let start = c.edges_lead_to_reached_pairs.ensures.start graph image lawful in
-    let some = lawful.some_role in
-    let all = rw (cache_edges block (ordered.well_formed 0 0 start)) at (c.edges_lead_to_reached_pairs.ensures.edges graph image 0 0 lawful (omega arith) start) in
+    let all = rw (cache_edges block (ordered.well_formed 0 0 start)) at (c.edges_lead_to_reached_pairs.ensures.edges graph image 0 0 lawful start) in
     let maps : List Edge = record { role = 7; block = fields.meta_map.bitmap_root } ∷ record { role = 9; block = fields.meta_map.overflow_root } ∷ [] in
     let behind_hints = behind_optional (To graph image) 3 fields.hint_root (optional_edge 5 fields.discard_root ++ maps) all.1 in
     let behind_discards = behind_optional (To graph image) 5 fields.discard_root maps behind_hints in
@@ -71,8 +69,7 @@ returns-clause-era c = λ until image looks none.
     let lawful = c.trees_are_in_order.ensures.lawful Era until image none in
     let ordered = c.trees_are_in_order.ensures.in_order Era until image looks none in
     let start = c.edges_lead_to_reached_pairs.ensures.start graph image lawful in
-    let some = lawful.some_role in
-    let all = rw (era_edges block (ordered.well_formed 0 0 start)) at (c.edges_lead_to_reached_pairs.ensures.edges graph image 0 0 lawful (omega arith) start) in
+    let all = rw (era_edges block (ordered.well_formed 0 0 start)) at (c.edges_lead_to_reached_pairs.ensures.edges graph image 0 0 lawful start) in
     let maps : List Edge = record { role = 5; block = fields.array_root } ∷ record { role = 7; block = fields.meta_map.bitmap_root } ∷ record { role = 9; block = fields.meta_map.overflow_root } ∷ [] in
     let behind_snap = behind_optional (To graph image) 1 fields.snap_root (record { role = 2; block = fields.writesets_root } ∷ (optional_edge 3 fields.current_root ++ maps)) all in
     let behind_current = behind_optional (To graph image) 3 fields.current_root maps behind_snap.1 in
