@@ -51,11 +51,11 @@ below_all {X} high (item ∷ items) all =
     (ltb-true item.0 high parts.0, below_all high items parts.1)
 
 -- what holds of all that stands below a node to a depth, holds to a smaller one
-all_first : {X : Type 0} → (P : X → Type 0) (xs ys : List X) → AllByRecursion P (xs ++ ys) → AllByRecursion P xs
+pub all_first : {X : Type 0} → (P : X → Type 0) (xs ys : List X) → AllByRecursion P (xs ++ ys) → AllByRecursion P xs
 all_first P [] ys all = tt
 all_first P (x ∷ xs) ys all = (all.0, all_first P xs ys all.1)
 
-all_last : {X : Type 0} → (P : X → Type 0) (xs ys : List X) → AllByRecursion P (xs ++ ys) → AllByRecursion P ys
+pub all_last : {X : Type 0} → (P : X → Type 0) (xs ys : List X) → AllByRecursion P (xs ++ ys) → AllByRecursion P ys
 all_last P [] ys all = all
 all_last P (x ∷ xs) ys all = all_last P xs ys all.1
 

@@ -1,24 +1,24 @@
 -- What a role of a tree in a table of layouts comes to, over the bytes of its nodes.
 use Rattle.std.proofs.Common.{◌≡◌, ℕ, ◌-◌, ◌<◌, Bool, true, false, not, ◌&&◌, List, [], ◌∷◌, map, refl, sym, ◌∙◌, arith}
-use Rattle.std.specs.List.{list_any, range_with_len}
+use Rattle.std.specs.List.{list_any, flat_map, range_with_len}
 use Rattle.std.proofs.lemmas.Simd.{map-map}
 use Rattle.pd_kinds.specs.declared.rule.Rule.{Rule}
 use Rattle.pd_kinds.specs.Rule.{all_rules}
 use Rattle.pd_kinds.specs.Edge.{Edge}
-use Rattle.pd_kinds.specs.Node.{entry_count, is_inner_node, child_at, node_keys}
+use Rattle.pd_kinds.specs.Node.{Entry, entry_count, is_inner_node, child_at, node_keys}
 use Rattle.pd_kinds.specs.Graph.{Graph, block_at, pair, block_of, role_of, is_inner_pair, own_keys, next}
-use Rattle.pd_kinds.specs.Layout.{Layout, Tree, graph_of, is_bad, layout_bad, is_tree_layout, tree_bad, tree_edges}
+use Rattle.pd_kinds.specs.Layout.{Layout, Tree, graph_of, is_bad, layout_bad, is_tree_layout, tree_bad, tree_edges, node_entries_of}
 use Rattle.pd_kinds.specs.Layout.Layout.{tree}
 use Rattle.pd_kinds.specs.Order.{children}
 use Rattle.pd_tree.specs.Below.{kids_from}
 use Rattle.pd_tree.specs.Levels.{node_kids}
 use Rattle.pd_tree.specs.Search.{KeysAscend}
 use Rattle.pd_tree.specs.Sound.{IsCleanPair}
-use Rattle.pd_tree.specs.TreeRoles.{IsTreeRole}
+use Rattle.pd_tree.specs.TreeRoles.{IsTreeRole, IsTreeTo}
 use Rattle.pd_tree.proofs.OrderLemmas.{order_says, keys_say}
 
 -- no element passes a test that nothing passes
-none_passes : {X : Type 0} → (f : X → Bool) (xs : List X) → ((x : X) → f x ≡ false) → list_any f xs ≡ false
+pub none_passes : {X : Type 0} → (f : X → Bool) (xs : List X) → ((x : X) → f x ≡ false) → list_any f xs ≡ false
 none_passes f [] none = refl
 none_passes f (x ∷ xs) none = rw (none x, none_passes f xs none) refl
 
@@ -80,6 +80,11 @@ module _ (roles nr data_blocks : ℕ) (layout : ℕ → Layout) (t : Tree) (role
   unfolding graph_of
   clean_bytes b clean rule = rw (role_pair b role few, block_pair b role few, is) at (clean rule)
 
+  leaf_edges_are : (b : ℕ) → is_inner_node (block_at image b) ≡ false → IsCleanPair (graph_of roles nr data_blocks layout) image (pair b role)
+      → (graph_of roles nr data_blocks layout).edges role b (block_at image b) ≡ flat_map t.leaf_edges (node_entries_of t.size (block_at image b))
+  unfolding graph_of tree_edges
+  leaf_edges_are b leaf clean = rw (clean_block b clean, is, leaf) refl
+
   table_tree : IsTreeAt (graph_of roles nr data_blocks layout) image role t.size
   table_tree = record {
     few = few;
@@ -92,3 +97,10 @@ module _ (roles nr data_blocks : ℕ) (layout : ℕ → Layout) (t : Tree) (role
 pub tree_at : (graph : Graph) (image : List (List ℕ)) (role size : ℕ) → IsTreeRole graph role size → IsTreeAt graph image role size
 tree_at graph image role size is =
     rw (is.is, ← is.value_size) (table_tree is.roles is.nr is.data_blocks is.layout is.nodes role image is.few is.at)
+
+-- the blocks that a leaf names where each entry names one
+pub leaf_edges_at : (graph : Graph) (image : List (List ℕ)) (role size next : ℕ) (named : ℕ → ℕ) (b : ℕ) → IsTreeTo graph role size next named → is_inner_node (block_at image b) ≡ false
+    → IsCleanPair graph image (pair b role) → graph.edges role b (block_at image b) ≡ flat_map (λ (e : Entry). record { role = next; block = named e.value } ∷ []) (node_entries_of size (block_at image b))
+leaf_edges_at graph image role size next named b to leaf clean =
+    let is = to.is_role in
+    rw (is.is, ← is.value_size, ← to.leads) (leaf_edges_are is.roles is.nr is.data_blocks is.layout is.nodes role image is.few is.at b leaf (rw is.is at clean))

@@ -77,5 +77,5 @@ loop-level-preserved g c =
 pub returns-clause-found : goal.returns-clause-found
 returns-clause-found g c =
     let over : 64 - c.loop-level._level ≡ 0 = omega arith in
-    IfSome_then (g.D.Device.state c.args.dev.now).held c.loop-level.invariant.seeks (λ image seeks.
+    IfSome_then (g.D.Device.state c.args.dev.now).held {P = λ image. Seeks g.V.Value.SIZE g.V.Value.decoded image c.args.wanted c.args.root (64 - c.loop-level._level) c.loop-level.b} c.loop-level.invariant.seeks (λ image seeks.
     seeks_none g.V.Value.SIZE g.V.Value.decoded image c.args.wanted c.args.root (64 - c.loop-level._level) c.loop-level.b over seeks)
