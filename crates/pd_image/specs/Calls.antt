@@ -1,5 +1,5 @@
 -- The numbered calls of an object in memory, and which of them are set to fail.
-use Rattle.std.specs.Prelude.{◌≡◌, ℕ, ◌+◌, ◌-◌, ◌^◌, ◌==◌, ◌||◌, min, Bool, List, [], ◌∷◌, ◌++◌}
+use Rattle.std.specs.Prelude.{◌≡◌, ℕ, ◌+◌, ◌-◌, ◌^◌, ◌==◌, ◌||◌, min, nat_le, Bool, false, List, [], ◌∷◌, ◌++◌, Option, Some, None}
 use Rattle.std.specs.List.{list_any}
 use Rattle.pd_image.specs.declared.calls.Calls.{Calls}
 
@@ -19,26 +19,55 @@ calls_failed calls = calls.faults
 abbrev pub calls_set : Calls → List ℕ
 calls_set calls = calls.failing.items
 
+-- the number from which on each call fails, where there is one
+abbrev pub calls_stop : Calls → Option ℕ
+calls_stop calls = calls.stop
+
 -- whether the call with this number is set to fail
 abbrev pub is_set_to_fail : Calls → ℕ → Bool
 is_set_to_fail calls call = list_any (λ set. set == call) (calls_set calls)
 
--- whether the next call is set to fail
+-- whether a call comes after the stop
+abbrev pub is_stopped : Option ℕ → ℕ → Bool
+is_stopped None call = false
+is_stopped (Some stop) call = nat_le stop call
+
+-- the earlier of two stops
+abbrev pub first_stop : Option ℕ → ℕ → ℕ
+first_stop None call = call
+first_stop (Some stop) call = min stop call
+
+-- whether the next call fails: it is set to, or comes after the stop
 abbrev pub next_fails : Calls → Bool
-next_fails calls = is_set_to_fail calls (calls_made calls)
+next_fails calls = is_set_to_fail calls (calls_made calls) || is_stopped (calls_stop calls) (calls_made calls)
+
+-- no call was made, and none is set to fail
+pub record IsUncalled (calls : Calls) : Type 0 where
+  pub made : calls_made calls ≡ 0
+  pub set : calls_set calls ≡ []
+  pub stop : calls_stop calls ≡ None
 
 -- one call was made, and the same calls are set to fail
 pub record CountsCall (old new : Calls) : Type 0 where
   pub made : calls_made new ≡ counted (calls_made old)
   pub set : calls_set new ≡ calls_set old
+  pub stop : calls_stop new ≡ calls_stop old
 
 -- no call was made, and just this one more is set to fail
 pub record SetsToFail (call : ℕ) (old new : Calls) : Type 0 where
   pub made : calls_made new ≡ calls_made old
   pub set : calls_set new ≡ calls_set old ++ (call ∷ [])
   pub fails : (other : ℕ) → is_set_to_fail new other ≡ (is_set_to_fail old other || (call == other))
+  pub stop : calls_stop new ≡ calls_stop old
+
+-- no call was made, and each call from this number on fails besides
+pub record Stops (call : ℕ) (old new : Calls) : Type 0 where
+  pub made : calls_made new ≡ calls_made old
+  pub set : calls_set new ≡ calls_set old
+  pub stop : calls_stop new ≡ Some (first_stop (calls_stop old) call)
 
 -- no call was made, and the same calls are set to fail
 pub record KeepsCalls (old new : Calls) : Type 0 where
   pub made : calls_made new ≡ calls_made old
   pub set : calls_set new ≡ calls_set old
+  pub stop : calls_stop new ≡ calls_stop old

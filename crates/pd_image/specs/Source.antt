@@ -1,5 +1,11 @@
--- What a call that takes bytes of a source gives.
+-- What the calls of a source leave and give.
 use Rattle.std.specs.Prelude.{◌≡◌, ℕ, ◌≤◌, List, [], length, take, drop, Option, Some}
+use Rattle.pd_kinds.specs.Objects.{SourceState}
+
+-- what only `attach` sets stays
+pub record KeepsSource (old new : SourceState) : Type 0 where
+  pub access : new.access ≡ old.access
+  pub path : new.path ≡ old.path
 
 -- n bytes moved from the front of what was left to the front of the room, and 0 is the end
 pub record Takes (n : ℕ) (room : List ℕ) (after : Option (List ℕ)) (left : List ℕ) : Type 0 where

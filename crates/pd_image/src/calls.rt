@@ -2,7 +2,7 @@
 
 ghost use Rattle.std.specs.Prelude.{◌≡◌, ◌≤◌, [], is_ok, not, OnOk, OnErr, if◌then◌else◌};
 ghost use Rattle.pd_kinds.specs.Objects.{CountsFault, Rose};
-ghost use Rattle.pd_image.specs.Calls.{counted, calls_made, calls_failed, calls_set, next_fails, CountsCall, SetsToFail, KeepsCalls};
+ghost use Rattle.pd_image.specs.Calls.{counted, calls_made, calls_failed, calls_stop, is_stopped, next_fails, IsUncalled, CountsCall, SetsToFail, Stops, KeepsCalls};
 
 use crate::Failed;
 use crate::faults::fault;
@@ -15,6 +15,8 @@ pub(crate) struct Calls {
     made: u64,
     /// The numbers of the calls that are set to fail, counted from 0.
     failing: Vec<u64>,
+    /// The number from which on each call fails, where there is one.
+    stop: Option<u64>,
     /// Up to the end of its type.
     faults: u64,
 }
@@ -22,13 +24,13 @@ pub(crate) struct Calls {
 impl Calls {
     /// No call was made, and none is set to fail.
     pub(crate) fn new(alloc: Global) -> Calls
-        ensures made { calls_made result ≡ 0 }
-        ensures set { calls_set result ≡ [] }
+        ensures calls { IsUncalled result }
         ensures failed { calls_failed result ≡ 0 }
     {
         Calls {
             made: 0,
             failing: Vec::new(alloc),
+            stop: None,
             faults: 0,
         }
     }
@@ -43,14 +45,36 @@ impl Calls {
         Ok(())
     }
 
-    /// Counts a call, which fails if it is set to.
+    /// Lets each call from this number on fail. An earlier stop stays.
+    pub(crate) fn stop_after(&mut self, calls: u64)
+        ensures stops { Stops calls self.old self.new }
+        ensures failed { calls_failed self.new ≡ calls_failed self.old }
+    {
+        let first = match self.stop {
+            Some(stop) => stop.min(calls),
+            None => calls,
+        };
+        self.stop = Some(first);
+    }
+
+    /// Whether each call fails from now on.
+    fn is_stopped(&self) -> bool
+        ensures { result ≡ is_stopped (calls_stop self.now) (calls_made self.now) }
+    {
+        match self.stop {
+            Some(stop) => stop <= self.made,
+            None => false,
+        }
+    }
+
+    /// Counts a call, which fails if it is set to, or comes after the stop.
     pub(crate) fn begin(&mut self) -> Result<(), Failed>
         ensures exact { is_ok result ≡ not (next_fails self.old) }
         ensures counted { CountsCall self.old self.new }
         ensures failed { calls_failed self.new ≡ (if is_ok result then calls_failed self.old else counted (calls_failed self.old)) }
         ensures faults { CountsFault result (calls_failed self.old) (calls_failed self.new) }
     {
-        let fails = self.failing.contains(&self.made);
+        let fails = self.failing.contains(&self.made) | self.is_stopped();
         self.made = self.made.saturating_add(1);
         if fails {
             return Err(self.fail());

@@ -17,7 +17,10 @@ pub(crate) fn fault(faults: &mut u64) -> Failed
 }
 
 /// Counts what failed.
-pub(crate) fn settled<T: Drop>(outcome: io::Result<T>, faults: &mut u64) -> Result<T, Failed>
+pub(crate) fn counted_outcome<T: Drop>(
+    outcome: io::Result<T>,
+    faults: &mut u64,
+) -> Result<T, Failed>
     ensures answer { MatchResult result (λ value. outcome ≡ Ok value) (λ _. IsErr outcome) }
     ensures count { faults.new ≡ (if is_ok result then faults.old else counted faults.old) }
     ensures faults { CountsFault result faults.old faults.new }

@@ -1,10 +1,11 @@
 //! A sink in memory, which tells what was written.
 
-ghost use Rattle.std.specs.Prelude.{is_none, true, ◌≡◌, ◌++◌, [], take, is_ok, not, Some, IsTrue, IsErr, IsSome, OnOk, OnErr, IfSome, unwrap_or, if◌then◌else◌};
+ghost use Rattle.std.specs.Prelude.{is_none, true, false, None, ◌≡◌, ◌++◌, [], take, is_ok, not, Some, IsTrue, IsErr, IsSome, OnOk, OnErr, IfSome, unwrap_or, if◌then◌else◌};
 ghost use Rattle.std.specs.Option.{option_copied};
 ghost use Rattle.pd_kinds.specs.Objects.{CountsFault, Appends, AppendsFront};
+ghost use Rattle.pd_image.specs.Sink.{KeepsSink};
 ghost use Rattle.pd_image.specs.Access.{access_number, untold};
-ghost use Rattle.pd_image.specs.Calls.{counted, next_fails, calls_made, calls_set, CountsCall, SetsToFail, KeepsCalls};
+ghost use Rattle.pd_image.specs.Calls.{counted, next_fails, IsUncalled, CountsCall, SetsToFail, KeepsCalls};
 
 use crate::access::Access;
 use crate::calls::Calls;
@@ -30,8 +31,7 @@ impl MemSink {
     /// A sink to which nothing was written.
     pub fn new(alloc: Global) -> MemSink
         ensures state { mem_sink_state result ≡ unattached_sink }
-        ensures made { calls_made (mem_sink_calls result) ≡ 0 }
-        ensures set { calls_set (mem_sink_calls result) ≡ [] }
+        ensures calls { IsUncalled (mem_sink_calls result) }
     {
         MemSink {
             written: Vec::new(alloc),
@@ -82,10 +82,11 @@ impl Sink for MemSink {
         requires { (mem_sink_state self.old).access ≡ 0 }
         ensures access { (mem_sink_state self.new).access ≡ (if is_ok result then 1 else 3) }
         ensures path { IfSome (mem_sink_state self.new).path (λ told. told ≡ unwrap_or (option_copied path.entry) []) }
-        ensures told { OnOk result (IsSome (mem_sink_state self.new).path) }
         ensures written { (mem_sink_state self.new).written ≡ (mem_sink_state self.old).written }
+        ensures told { OnOk result (IsSome (mem_sink_state self.new).path) }
         ensures faults { CountsFault result (mem_sink_state self.old).faults (mem_sink_state self.new).faults }
         ensures set { IsTrue (next_fails (mem_sink_calls self.old)) → IsErr result }
+        ensures unset { OnErr result (next_fails (mem_sink_calls self.old) ≡ false → (mem_sink_state self.new).path ≡ None) }
         ensures calls { CountsCall (mem_sink_calls self.old) (mem_sink_calls self.new) }
         ensures failed { (mem_sink_state self.new).faults ≡ (if is_ok result then (mem_sink_state self.old).faults else counted (mem_sink_state self.old).faults) }
     {
@@ -104,8 +105,7 @@ impl Sink for MemSink {
         requires { (mem_sink_state self.old).access ≡ 1 }
         ensures whole { OnOk result (Appends bytes.now (mem_sink_state self.old).written (mem_sink_state self.new).written) }
         ensures front { AppendsFront bytes.now (mem_sink_state self.old).written (mem_sink_state self.new).written }
-        ensures access { (mem_sink_state self.new).access ≡ (mem_sink_state self.old).access }
-        ensures path { (mem_sink_state self.new).path ≡ (mem_sink_state self.old).path }
+        ensures kept { KeepsSink (mem_sink_state self.old) (mem_sink_state self.new) }
         ensures faults { CountsFault result (mem_sink_state self.old).faults (mem_sink_state self.new).faults }
         ensures nothing { OnErr result ((mem_sink_state self.new).written ≡ (mem_sink_state self.old).written) }
         ensures set { IsTrue (next_fails (mem_sink_calls self.old)) → IsErr result }

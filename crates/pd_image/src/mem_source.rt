@@ -1,11 +1,11 @@
 //! A source of text in memory, which tells what is left of it.
 
-ghost use Rattle.std.specs.Prelude.{is_none, true, ◌≡◌, ℕ, ◌<◌, ◌≤◌, [], List, length, take, drop, min, is_ok, not, Some, IsTrue, IsErr, IsSome, IfOk, OnOk, OnErr, IfSome, if◌then◌else◌};
+ghost use Rattle.std.specs.Prelude.{is_none, true, false, None, ◌≡◌, ℕ, ◌<◌, ◌≤◌, [], List, length, take, drop, min, is_ok, not, Some, IsTrue, IsErr, IsSome, IfOk, OnOk, OnErr, IfSome, if◌then◌else◌};
 ghost use Rattle.std.specs.Option.{option_copied};
 ghost use Rattle.pd_kinds.specs.Objects.{CountsFault};
 ghost use Rattle.pd_image.specs.Access.{access_number, untold};
-ghost use Rattle.pd_image.specs.Calls.{counted, next_fails, calls_made, calls_set, CountsCall, SetsToFail, KeepsCalls};
-ghost use Rattle.pd_image.specs.Source.{Takes};
+ghost use Rattle.pd_image.specs.Calls.{counted, next_fails, IsUncalled, CountsCall, SetsToFail, KeepsCalls};
+ghost use Rattle.pd_image.specs.Source.{KeepsSource, Takes};
 
 use crate::access::Access;
 use crate::calls::Calls;
@@ -40,8 +40,7 @@ impl MemSource {
         requires { 1 ≤ piece }
         ensures state { IfOk result (λ source. mem_source_state source ≡ unattached_source bytes.now) }
         ensures piece { IfOk result (λ source. mem_source_piece source ≡ piece) }
-        ensures made { IfOk result (λ source. calls_made (mem_source_calls source) ≡ 0) }
-        ensures set { IfOk result (λ source. calls_set (mem_source_calls source) ≡ []) }
+        ensures calls { IfOk result (λ source. IsUncalled (mem_source_calls source)) }
     {
         Ok(MemSource {
             bytes: Vec::from_slice(alloc, bytes)?,
@@ -87,10 +86,11 @@ impl Source for MemSource {
         requires { (mem_source_state self.old).access ≡ 0 }
         ensures access { (mem_source_state self.new).access ≡ (if is_ok result then 1 else 3) }
         ensures path { IfSome (mem_source_state self.new).path (λ told. told ≡ path.now) }
-        ensures told { OnOk result (IsSome (mem_source_state self.new).path) }
         ensures left { (mem_source_state self.new).left ≡ (mem_source_state self.old).left }
+        ensures told { OnOk result (IsSome (mem_source_state self.new).path) }
         ensures faults { CountsFault result (mem_source_state self.old).faults (mem_source_state self.new).faults }
         ensures set { IsTrue (next_fails (mem_source_calls self.old)) → IsErr result }
+        ensures unset { OnErr result (next_fails (mem_source_calls self.old) ≡ false → (mem_source_state self.new).path ≡ None) }
         ensures calls { CountsCall (mem_source_calls self.old) (mem_source_calls self.new) }
         ensures failed { (mem_source_state self.new).faults ≡ (if is_ok result then (mem_source_state self.old).faults else counted (mem_source_state self.old).faults) }
         ensures piece { mem_source_piece self.new ≡ mem_source_piece self.old }
@@ -111,8 +111,7 @@ impl Source for MemSource {
         ensures taken { IfOk result (λ n. n ≤ length into.new) }
         ensures content { IfOk result (λ n. IfSome (mem_source_state self.old).left (Takes n into.new (mem_source_state self.new).left)) }
         ensures failed { OnErr result ((mem_source_state self.new).left ≡ (mem_source_state self.old).left) }
-        ensures access { (mem_source_state self.new).access ≡ (mem_source_state self.old).access }
-        ensures path { (mem_source_state self.new).path ≡ (mem_source_state self.old).path }
+        ensures kept { KeepsSource (mem_source_state self.old) (mem_source_state self.new) }
         ensures faults { CountsFault result (mem_source_state self.old).faults (mem_source_state self.new).faults }
         ensures exact { IfOk result (λ n. IfSome (mem_source_state self.old).left (λ left. n ≡ min (min (mem_source_piece self.old) (length into.old)) (length left))) }
         ensures rest { IfOk result (λ n. drop n into.new ≡ drop n into.old) }

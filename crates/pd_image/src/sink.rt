@@ -1,6 +1,7 @@
 ghost use Rattle.std.specs.Prelude.{None, ◌≡◌, ℕ, List, [], length, is_ok, OnOk, OnErr, IfSome, unwrap_or, if◌then◌else◌};
 ghost use Rattle.std.specs.Option.{option_copied};
 ghost use Rattle.pd_kinds.specs.Objects.{SinkState, CountsFault, Appends, AppendsFront};
+ghost use Rattle.pd_image.specs.Sink.{KeepsSink};
 
 use crate::Failed;
 
@@ -23,8 +24,7 @@ pub trait Sink {
         requires { (state self.old).access ≡ 1 }
         ensures whole { OnOk result (Appends bytes.now (state self.old).written (state self.new).written) }
         ensures front { AppendsFront bytes.now (state self.old).written (state self.new).written }
-        ensures access { (state self.new).access ≡ (state self.old).access }
-        ensures path { (state self.new).path ≡ (state self.old).path }
+        ensures kept { KeepsSink (state self.old) (state self.new) }
         ensures faults { CountsFault result (state self.old).faults (state self.new).faults };
 
     /// The path isn't told before `attach`.

@@ -1,6 +1,6 @@
 ghost use Rattle.std.specs.Prelude.{None, ◌≡◌, ℕ, ◌<◌, ◌≤◌, List, length, take, drop, is_ok, OnOk, OnErr, IfOk, IfSome, Some, if◌then◌else◌};
 ghost use Rattle.pd_kinds.specs.Objects.{SourceState, CountsFault};
-ghost use Rattle.pd_image.specs.Source.{Takes};
+ghost use Rattle.pd_image.specs.Source.{KeepsSource, Takes};
 
 use crate::Failed;
 
@@ -25,8 +25,7 @@ pub trait Source {
         ensures taken { IfOk result (λ n. n ≤ length into.new) }
         ensures content { IfOk result (λ n. IfSome (state self.old).left (Takes n into.new (state self.new).left)) }
         ensures failed { OnErr result ((state self.new).left ≡ (state self.old).left) }
-        ensures access { (state self.new).access ≡ (state self.old).access }
-        ensures path { (state self.new).path ≡ (state self.old).path }
+        ensures kept { KeepsSource (state self.old) (state self.new) }
         ensures faults { CountsFault result (state self.old).faults (state self.new).faults };
 
     /// The path isn't told before `attach`.

@@ -5,7 +5,7 @@ ghost use Rattle.std.specs.Prelude.{refl, ◌≡◌};
 ghost use Rattle.pd_image.specs.StdSink.{std_sink_state, unattached_stream};
 
 use crate::access::Access;
-use crate::faults::settled;
+use crate::faults::counted_outcome;
 use crate::{Failed, Sink};
 use std::io::{ErrorKind, Write};
 use std::rt::Files;
@@ -70,7 +70,7 @@ impl<'a, R: Files + Print + Eprint> Sink for StdSink<'a, R> {
     fn attach(&mut self, path: Option<&str>) -> Result<(), Failed> {
         self.access = Access::Refused;
         if let Some(path) = path {
-            let file = settled(fs::create(self.rt, path), &mut self.faults)?;
+            let file = counted_outcome(fs::create(self.rt, path), &mut self.faults)?;
             self.file = Some(file);
         }
         self.access = Access::Attached;
@@ -83,7 +83,7 @@ impl<'a, R: Files + Print + Eprint> Sink for StdSink<'a, R> {
             (None, Stream::Out) => put_out(self.rt, bytes),
             (None, Stream::Err) => put_err(self.rt, bytes),
         };
-        settled(done, &mut self.faults)
+        counted_outcome(done, &mut self.faults)
     }
 }
 

@@ -4,7 +4,7 @@ ghost use Rattle.std.specs.Prelude.{refl, ◌≡◌, ◌≤◌, length, IfOk};
 ghost use Rattle.pd_image.specs.StdSource.{std_source_state, unattached_text};
 
 use crate::access::Access;
-use crate::faults::settled;
+use crate::faults::counted_outcome;
 use crate::{Failed, Source};
 use std::io::{ErrorKind, Read};
 use std::rt::Files;
@@ -43,7 +43,7 @@ impl<'a, R: Files> Source for StdSource<'a, R> {
 
     fn attach(&mut self, path: &str) -> Result<(), Failed> {
         self.access = Access::Refused;
-        let file = settled(fs::open(self.rt, path), &mut self.faults)?;
+        let file = counted_outcome(fs::open(self.rt, path), &mut self.faults)?;
         self.file = Some(file);
         self.access = Access::Attached;
         Ok(())
@@ -54,7 +54,7 @@ impl<'a, R: Files> Source for StdSource<'a, R> {
             Some(file) => read_some(file, into),
             None => Err(ErrorKind::NotFound.into()),
         };
-        settled(taken, &mut self.faults)
+        counted_outcome(taken, &mut self.faults)
     }
 }
 

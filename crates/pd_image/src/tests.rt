@@ -1,4 +1,6 @@
-use crate::{Device, FileDevice, MemDevice, MemSink, MemSource, Sink, Source, StdSink, StdSource};
+use crate::{
+    Device, FileDevice, MemDevice, MemSink, MemSource, Pick, Sink, Source, StdSink, StdSource,
+};
 use pd_kinds::{BLOCK_SIZE, Block};
 use std::fs;
 use std::test::Fail;
@@ -6,6 +8,8 @@ use std::test::Fail;
 const ONES: Block = Block([1; BLOCK_SIZE]);
 
 const TWOS: Block = Block([2; BLOCK_SIZE]);
+
+const THREES: Block = Block([3; BLOCK_SIZE]);
 
 #[test]
 fn memory_device_keeps_what_is_written(rt: HostRuntime) -> Result<(), Fail> {
@@ -38,6 +42,41 @@ fn memory_device_fails_where_it_is_set_to(rt: HostRuntime) -> Result<(), Fail> {
     assert!(rt; device.write(0, &TWOS).is_err());
     assert!(rt; device.block(0) == ONES);
     assert!(rt; device.write(0, &TWOS).is_ok());
+    Ok(())
+}
+
+#[test]
+fn memory_device_leaves_what_is_picked_at_a_crash(rt: HostRuntime) -> Result<(), Fail> {
+    let mut device = MemDevice::of(rt.alloc(), &[ONES, ONES, ONES])?;
+    device.attach("thin.img", true)?;
+    for b in 0..3 {
+        assert!(rt; device.after_crash(rt.alloc(), Pick::Old)?.block(b) == ONES);
+    }
+    device.write(0, &TWOS)?;
+    device.sync()?;
+    device.write(1, &TWOS)?;
+    for (pick, left) in [
+        (Pick::Old, ONES),
+        (Pick::New, TWOS),
+        (Pick::Other(3), THREES),
+    ] {
+        let after = device.after_crash(rt.alloc(), pick)?;
+        assert!(rt; after.block(0) == TWOS);
+        assert!(rt; after.block(1) == left);
+        assert!(rt; after.block(2) == ONES);
+    }
+    Ok(())
+}
+
+#[test]
+fn memory_device_fails_from_its_stop_on(rt: HostRuntime) -> Result<(), Fail> {
+    let mut device = MemDevice::new(rt.alloc(), 1)?;
+    device.stop_after(2);
+    device.attach("thin.img", true)?;
+    assert!(rt; device.write(0, &ONES).is_ok());
+    assert!(rt; device.write(0, &TWOS).is_err());
+    assert!(rt; device.sync().is_err());
+    assert!(rt; device.block(0) == ONES);
     Ok(())
 }
 

@@ -1,9 +1,9 @@
 -- Edges kept with the last one first.
-use Rattle.std.proofs.Common.{◌≡◌, ℕ, zero, suc, ◌+◌, ◌-◌, ◌<◌, ◌≤◌, List, ◌∷◌, length, Some, refl, ap, arith, slice_set, add-one}
+use Rattle.std.proofs.Common.{◌≡◌, ℕ, zero, suc, ◌+◌, ◌<◌, ◌≤◌, List, ◌∷◌, length, Some, refl, ap, arith, slice_set, add-one}
 use Rattle.std.specs.List.{slice_get}
 use Rattle.std.proofs.lemmas.List.{get_or-set_other}
 use Rattle.std.proofs.lemmas.Grind.{get_or-set_at}
-use Rattle.pd_kinds.specs.Edge.{Edge, edge_of}
+use Rattle.pd_kinds.specs.Edge.{edge_of}
 use Rattle.pd_kinds.specs.Edges.{edge_in, edges_down}
 
 -- their number

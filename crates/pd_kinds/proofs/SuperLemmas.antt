@@ -1,15 +1,15 @@
 -- Laws of written superblocks: the head reads back, and each field beside it stays.
-use Rattle.std.proofs.Common.{◌≡◌, ◌⊎◌, inl, inr, ℕ, ◌+◌, ◌≤◌, Bool, true, ◌&&◌, ◌==◌, List, [], ◌∷◌, length, take, drop, refl, ap, sym, ◌∙◌, arith, lit<, eq-eqb}
+use Rattle.std.proofs.Common.{◌≡◌, ◌⊎◌, inl, inr, ℕ, ◌+◌, ◌≤◌, Bool, true, false, ◌&&◌, ◌==◌, List, [], ◌∷◌, length, take, drop, refl, ap, sym, ◌∙◌, arith, lit<, eq-eqb}
 use Rattle.std.proofs.lemmas.Bool.{and_parts}
 use Rattle.pd_kinds.specs.declared.kind.Kind.{Kind}
 use Rattle.pd_kinds.specs.declared.kind.Kind.TheVariants.{Thin, Cache, Era}
 use Rattle.pd_kinds.specs.declared.rule.Rule.{Rule}
 use Rattle.pd_kinds.specs.RuleSet.{Test, failing, alone}
-use Rattle.pd_kinds.specs.Field.{Row, DoFit, bytes_at, le, put_bytes, written, zeros}
+use Rattle.pd_kinds.specs.Field.{Row, DoFit, bytes_at, le, put, put_bytes, written, zeros}
 use Rattle.pd_kinds.specs.Checksum.{checksum, has_checksum, sealed}
 use Rattle.pd_kinds.specs.Super.{head_rows, is_super_of, magic_of, salt_of, super_block, super_rules}
-use Rattle.pd_kinds.proofs.FieldLemmas.{le-put_other}
-use Rattle.pd_kinds.proofs.WrittenLemmas.{is_beside, length-written, length-zeros, length-written_zeros, drop-sealed, le-put_bytes_other, put_bytes_read}
+use Rattle.pd_kinds.proofs.FieldLemmas.{drop-put, le-put_other}
+use Rattle.pd_kinds.proofs.WrittenLemmas.{is_beside, length-written, length-zeros, length-written_zeros, drop-put_bytes, drop-sealed, le-put_bytes_other, put_bytes_read}
 use Rattle.pd_kinds.proofs.TableLemmas.{are_apart, are_beside, numbers_at, values_of, le-written_beside, on_a_side, table_read}
 
 -- the places of a superblock's head: the checksum, the place, the uuid and the magic
@@ -95,14 +95,39 @@ uuid_read kind uuid b whole len =
     let read = put_bytes_read headed 16 uuid (omega arith) in
     rw behind (ap (λ (n : ℕ). take n (drop 16 (put_bytes headed 16 uuid))) (sym len) ∙ read)
 
--- of a superblock of the kind the tests decide
-pub decided_by_tests : (kind : Kind) (b : List ℕ) (tests : List Test) (asked : Rule) → is_super_of kind b ≡ true
-    → super_rules kind b tests asked ≡ failing tests asked
+-- bytes behind the head stay
+pub bytes-super_block : (kind : Kind) (uuid b : List ℕ) (o n : ℕ) → length b ≡ 4096 → length uuid ≡ 16 → 40 ≤ o
+    → bytes_at (super_block kind uuid b) o n ≡ bytes_at b o n
+unfolding super_block written
+bytes-super_block kind uuid b o n whole len behind =
+    let placed = put b 8 8 0 in
+    let headed = written b (head_rows kind) in
+    let size = length-written b (head_rows kind) in
+    let sum = drop-sealed (put_bytes headed 16 uuid) (salt_of kind) o (omega arith) in
+    let text = drop-put_bytes headed 16 uuid o (omega arith) (omega arith) in
+    let rows = drop-put placed 32 8 (magic_of kind) o (omega arith) ∙ drop-put b 8 8 0 o (omega arith) in
+    ap (λ (xs : List ℕ). take n xs) (sum ∙ (text ∙ rows))
+
+-- the numbers of a table that lies beside written bytes stay
+pub numbers-put_bytes : (b : List ℕ) (o n : ℕ) (bytes : List ℕ) (rows : List Row) → length bytes ≡ n → o + n ≤ length b → are_beside o n rows ≡ true
+    → numbers_at (put_bytes b o bytes) rows ≡ numbers_at b rows
+numbers-put_bytes b o n bytes [] len within beside = refl
+numbers-put_bytes b o n bytes (row ∷ rows) len within beside =
+    let split = and_parts (is_beside o n row) (are_beside o n rows) beside in
+    let apart : ((row.offset + row.size ≤ o) ⊎ (o + length bytes ≤ row.offset)) =
+    elim (on_a_side o n row.offset row.size split.0) [ inl before ↦ inr (omega arith) | inr after ↦ inl after ] in
+    let here = le-put_bytes_other b o bytes row.offset row.size (omega arith) apart in
+    let rest = numbers-put_bytes b o n bytes rows len within split.1 in
+    rw (here, rest) refl
+
+-- a superblock of the kind breaks a rule only by the tests
+pub met_by_tests : (kind : Kind) (b : List ℕ) (tests : List Test) (asked : Rule) → is_super_of kind b ≡ true → failing tests asked ≡ false
+    → super_rules kind b tests asked ≡ false
 unfolding is_super_of alone
-decided_by_tests kind b tests asked valid =
+met_by_tests kind b tests asked valid met =
     let sums = and_parts (has_checksum b (salt_of kind)) ((le b 32 8 == magic_of kind) && (le b 8 8 == 0)) valid in
     let magics = and_parts (le b 32 8 == magic_of kind) (le b 8 8 == 0) sums.1 in
-    rw (sums.0, magics.0) refl
+    rw (sums.0, magics.0) met
 
 -- and its place is 0
 pub place_tested : (kind : Kind) (b : List ℕ) → is_super_of kind b ≡ true → (le b 8 8 == 0) ≡ true

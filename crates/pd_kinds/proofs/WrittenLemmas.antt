@@ -1,8 +1,9 @@
 -- Laws of written blocks: what is read of a block that a table, bytes or a checksum were written into.
-use Rattle.std.proofs.Common.{◌≡◌, ◌⊎◌, inl, inr, ℕ, zero, suc, ◌+◌, ◌-◌, ◌%◌, ◌^◌, ◌<◌, ◌≤◌, Bool, true, ◌&&◌, ◌||◌, ◌==◌, nat_le, cond, List, [], ◌∷◌, ◌++◌, length, take, drop, get_or, replicate, refl, ap, sym, ◌∙◌, arith, eq-eqb, nat_eq}
+use Rattle.std.proofs.Common.{◌≡◌, ◌⊎◌, inl, inr, ℕ, zero, suc, ◌+◌, ◌-◌, ◌%◌, ◌^◌, ◌<◌, ◌≤◌, Bool, true, ◌&&◌, ◌||◌, ◌==◌, nat_le, cond, List, [], ◌∷◌, ◌++◌, length, take, drop, get_or, replicate, append_assoc, length-append, refl, ap, sym, ◌∙◌, arith, eq-eqb, nat_eq}
 use Rattle.std.proofs.Math.Nat.{mod-eq_of_lt}
 use Rattle.std.proofs.Math.Seq.{take-append_seam, drop-append_seam}
-use Rattle.std.proofs.lemmas.List.{length-replicate, get_or-replicate, get_or_past, length-take-le, get_or_append_left, get_or-append_right, get_or-take, get_or-drop}
+use Rattle.std.proofs.lemmas.List.{length-replicate, get_or-replicate, get_or_past, length-take-le, length-drop, get_or_append_left, get_or-append_right, get_or-take, get_or-drop}
+use Rattle.std.proofs.lemmas.Slice.{drop-append-drop}
 use Rattle.std.proofs.lemmas.Bool.Decides.{nat_tests}
 use Rattle.std.proofs.lemmas.Bool.{cases_lt, and_parts}
 use Rattle.std.specs.Int.Bits.{bit_xor}
@@ -72,6 +73,12 @@ get_or-put_bytes_other b o bytes j within apart =
           ∙ (get_or-drop (o + length bytes) b (j - o - length bytes) 0 ∙ ap (λ (i : ℕ). get_or b i 0) place))
     ]
 
+-- written bytes keep the length
+pub length-put_bytes : (b : List ℕ) (o : ℕ) (bytes : List ℕ) → o + length bytes ≤ length b → length (put_bytes b o bytes) ≡ length b
+unfolding put_bytes
+length-put_bytes b o bytes within =
+    rw (length-append, length-append, length-take-le o b (omega arith), length-drop) (omega arith)
+
 -- the written bytes are read back
 pub put_bytes_read : (b : List ℕ) (o : ℕ) (bytes : List ℕ) → o ≤ length b → take (length bytes) (drop o (put_bytes b o bytes)) ≡ bytes
 unfolding put_bytes
@@ -85,6 +92,14 @@ put_bytes_read b o bytes within =
 pub le-put_bytes_other : (b : List ℕ) (o : ℕ) (bytes : List ℕ) (p n : ℕ) → o + length bytes ≤ length b → ((p + n ≤ o) ⊎ (o + length bytes ≤ p)) → le (put_bytes b o bytes) p n ≡ le b p n
 le-put_bytes_other b o bytes p n within apart = le_same (put_bytes b o bytes) b p p n
     (λ i h. get_or-put_bytes_other b o bytes (p + i) within (elim apart [ inl before ↦ inl (omega arith) | inr after ↦ inr (omega arith) ]))
+
+-- what stands behind written bytes stays
+pub drop-put_bytes : (b : List ℕ) (o : ℕ) (bytes : List ℕ) (n : ℕ) → o ≤ length b → o + length bytes ≤ n → drop n (put_bytes b o bytes) ≡ drop n b
+unfolding put_bytes
+drop-put_bytes b o bytes n within behind =
+    let front : length (take o b ++ bytes) ≡ o + length bytes = rw (length-append, length-take-le o b within) refl in
+    ap (λ (xs : List ℕ). drop n xs) (sym (append_assoc (take o b) bytes (drop (o + length bytes) b)))
+    ∙ drop-append-drop (o + length bytes) b (take o b ++ bytes) n behind front
 
 -- a checksum changes nothing behind it
 pub drop-sealed : (b : List ℕ) (salt n : ℕ) → 4 ≤ n → drop n (sealed b salt) ≡ drop n b

@@ -2,70 +2,64 @@
 -- superblock's fields and rules, and the roles. These are 0 superblock, 1 tree of the mapping array,
 -- 2 its blocks, 3 tree of the hint array, 4 its blocks, 5 tree of the discard bitset, 6 its blocks,
 -- 7 index block of the metadata bitmaps, 8 metadata bitmap, 9 metadata overflow tree.
-use Rattle.std.specs.Prelude.{ℕ, Bool, ◌==◌, ◌&&◌, ◌||◌, not, List, [], ◌∷◌, ◌++◌, take, drop}
+use Rattle.std.specs.Prelude.{ℕ, Bool, ◌==◌, ◌&&◌, ◌||◌, not, List, [], ◌∷◌, ◌++◌, slice_index}
 use Rattle.pd_kinds.specs.declared.kind.Kind.TheVariants.{Cache}
-use Rattle.pd_kinds.specs.declared.map_root.SmRoot.{SmRoot}
+use Rattle.pd_kinds.specs.declared.cache_super.CacheSuper.{CacheSuper}
 use Rattle.pd_kinds.specs.declared.rule.Rule.{Rule}
 use Rattle.pd_kinds.specs.declared.rule.Rule.TheVariants as r
-use Rattle.pd_kinds.specs.Field.{le}
+use Rattle.pd_kinds.specs.Field.{Row, bytes_at, le, put_bytes, rows_at, written, zeros}
 use Rattle.pd_kinds.specs.RuleSet.{Test}
-use Rattle.pd_kinds.specs.Super.{super_rules}
-use Rattle.pd_kinds.specs.SpaceMap.{map_fields}
+use Rattle.pd_kinds.specs.Super.{super_block, super_rules}
+use Rattle.pd_kinds.specs.SpaceMap.{map_table, map_numbers}
 use Rattle.pd_kinds.specs.Edge.{Edge, optional_edge, has_edge_outside}
 use Rattle.pd_kinds.specs.Limits.{is_meta_size_bad}
 use Rattle.pd_kinds.specs.Graph.{Graph}
 use Rattle.pd_kinds.specs.Layout.{Layout, copy, bitmap, index, array, plain_tree, tree_to, layouts, graph_of}
 
 -- the fields of a cache superblock, but for the checksum, the place and the magic
-pub record CacheFields : Type 0 where
-  pub flags : ℕ
-  pub uuid : List ℕ
-  pub version : ℕ
-  pub policy : List ℕ
-  pub hint_size : ℕ
-  pub meta_map : SmRoot
-  pub mapping_root : ℕ
-  pub hint_root : ℕ
-  pub discard_root : ℕ
-  pub discard_size : ℕ
-  pub discard_blocks : ℕ
-  pub block_size : ℕ
-  pub meta_block_size : ℕ
-  pub blocks : ℕ
-  pub compat : ℕ
-  pub compat_ro : ℕ
-  pub incompat : ℕ
-  pub read_hits : ℕ
-  pub read_misses : ℕ
-  pub write_hits : ℕ
-  pub write_misses : ℕ
-  pub versions : List ℕ
+abbrev pub CacheFields : Type 0
+CacheFields = CacheSuper
 
-abbrev pub cache_fields : List ℕ → CacheFields
-cache_fields block = record {
-  flags = le block 4 4;
-  uuid = take 16 (drop 16 block);
-  version = le block 40 4;
-  policy = take 16 (drop 44 block);
-  hint_size = le block 60 4;
-  meta_map = map_fields block 64;
-  mapping_root = le block 192 8;
-  hint_root = le block 200 8;
-  discard_root = le block 208 8;
-  discard_size = le block 216 8;
-  discard_blocks = le block 224 8;
-  block_size = le block 232 4;
-  meta_block_size = le block 236 4;
-  blocks = le block 240 4;
-  compat = le block 244 4;
-  compat_ro = le block 248 4;
-  incompat = le block 252 4;
-  read_hits = le block 256 4;
-  read_misses = le block 260 4;
-  write_hits = le block 264 4;
-  write_misses = le block 268 4;
-  versions = le block 272 4 ∷ le block 276 4 ∷ le block 280 4 ∷ [];
+-- the table of the superblock: each field by what is had of a number, or of bytes, at an offset and of a size
+abbrev pub cache_table : (ℕ → ℕ → ℕ) → (ℕ → ℕ → List ℕ) → CacheFields
+cache_table number bytes = record {
+  flags = number 4 4;
+  uuid = bytes 16 16;
+  version = number 40 4;
+  policy = bytes 44 16;
+  hint_size = number 60 4;
+  meta_map = map_table number 64;
+  mapping_root = number 192 8;
+  hint_root = number 200 8;
+  discard_root = number 208 8;
+  discard_size = number 216 8;
+  discard_blocks = number 224 8;
+  block_size = number 232 4;
+  meta_block_size = number 236 4;
+  blocks = number 240 4;
+  compat = number 244 4;
+  compat_ro = number 248 4;
+  incompat = number 252 4;
+  read_hits = number 256 4;
+  read_misses = number 260 4;
+  write_hits = number 264 4;
+  write_misses = number 268 4;
+  versions = number 272 4 ∷ number 276 4 ∷ number 280 4 ∷ [];
 }
+
+-- the fields that stand in a block
+abbrev pub cache_fields : List ℕ → CacheFields
+cache_fields block = cache_table (le block) (bytes_at block)
+
+-- the numbers among the fields, in a row
+abbrev pub cache_numbers : CacheFields → List ℕ
+cache_numbers f =
+    f.flags ∷ f.version ∷ f.hint_size
+    ∷ (map_numbers f.meta_map
+    ++ (f.mapping_root ∷ f.hint_root ∷ f.discard_root ∷ f.discard_size ∷ f.discard_blocks
+    ∷ f.block_size ∷ f.meta_block_size ∷ f.blocks ∷ f.compat ∷ f.compat_ro ∷ f.incompat
+    ∷ f.read_hits ∷ f.read_misses ∷ f.write_hits ∷ f.write_misses
+    ∷ slice_index f.versions 0 ∷ slice_index f.versions 1 ∷ slice_index f.versions 2 ∷ []))
 
 -- the blocks that a cache superblock names, with their roles
 abbrev pub cache_super_edges : CacheFields → List Edge
@@ -97,6 +91,16 @@ cache_super_tests device_blocks block =
 -- the rules that the cache superblock of a device of so many blocks breaks
 unfoldable pub cache_super_bad : ℕ → List ℕ → Rule → Bool
 cache_super_bad device_blocks block = super_rules Cache block (cache_super_tests device_blocks block)
+
+-- the rows of the numbers
+abbrev pub cache_rows : CacheFields → List Row
+cache_rows fields =
+    rows_at (cache_numbers (cache_table (λ offset size. offset) (λ offset size. [])))
+    (cache_numbers (cache_table (λ offset size. size) (λ offset size. []))) (cache_numbers fields)
+
+-- the cache superblock of these fields, for block 0: every other byte is 0
+unfoldable pub cache_super_block : CacheFields → List ℕ
+cache_super_block fields = super_block Cache fields.uuid (put_bytes (written zeros (cache_rows fields)) 44 fields.policy)
 
 -- the layout of each role, of so many metadata blocks
 unfoldable pub cache_layout : ℕ → ℕ → Layout

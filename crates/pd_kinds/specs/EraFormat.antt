@@ -2,52 +2,53 @@
 -- superblock's fields and rules, and the roles. These are 0 superblock, 1 metadata snapshot, 2 tree of
 -- the archived writesets, by era, 3 tree of a writeset's bits, 4 its blocks, 5 tree of the era array,
 -- 6 its blocks, 7 index block of the metadata bitmaps, 8 metadata bitmap, 9 metadata overflow tree.
-use Rattle.std.specs.Prelude.{ℕ, ◌/◌, ◌%◌, ◌^◌, Bool, ◌==◌, ◌&&◌, not, nat_lt, List, [], ◌∷◌, ◌++◌, take, drop}
+use Rattle.std.specs.Prelude.{ℕ, ◌/◌, ◌%◌, ◌^◌, Bool, ◌==◌, ◌&&◌, not, nat_lt, List, [], ◌∷◌, ◌++◌}
 use Rattle.pd_kinds.specs.declared.kind.Kind.TheVariants.{Era}
-use Rattle.pd_kinds.specs.declared.map_root.SmRoot.{SmRoot}
+use Rattle.pd_kinds.specs.declared.era_super.EraSuper.{EraSuper}
 use Rattle.pd_kinds.specs.declared.rule.Rule.{Rule}
 use Rattle.pd_kinds.specs.declared.rule.Rule.TheVariants as r
-use Rattle.pd_kinds.specs.Field.{le}
+use Rattle.pd_kinds.specs.Field.{Row, bytes_at, le, rows_at, written, zeros}
 use Rattle.pd_kinds.specs.RuleSet.{Test}
-use Rattle.pd_kinds.specs.Super.{super_rules}
-use Rattle.pd_kinds.specs.SpaceMap.{map_fields}
+use Rattle.pd_kinds.specs.Super.{super_block, super_rules}
+use Rattle.pd_kinds.specs.SpaceMap.{map_table, map_numbers}
 use Rattle.pd_kinds.specs.Edge.{Edge, optional_edge, has_edge_outside}
 use Rattle.pd_kinds.specs.Limits.{is_meta_size_bad}
 use Rattle.pd_kinds.specs.Graph.{Graph}
 use Rattle.pd_kinds.specs.Layout.{Layout, copy, tree, bitmap, index, array, plain_tree, tree_to, layouts, graph_of}
 
 -- the fields of an era superblock, but for the checksum, the place and the magic
-pub record EraFields : Type 0 where
-  pub flags : ℕ
-  pub uuid : List ℕ
-  pub version : ℕ
-  pub meta_map : SmRoot
-  pub block_size : ℕ
-  pub meta_block_size : ℕ
-  pub blocks : ℕ
-  pub era : ℕ
-  pub current_bits : ℕ
-  pub current_root : ℕ
-  pub writesets_root : ℕ
-  pub array_root : ℕ
-  pub snap_root : ℕ
+abbrev pub EraFields : Type 0
+EraFields = EraSuper
 
-abbrev pub era_fields : List ℕ → EraFields
-era_fields block = record {
-  flags = le block 4 4;
-  uuid = take 16 (drop 16 block);
-  version = le block 40 4;
-  meta_map = map_fields block 44;
-  block_size = le block 172 4;
-  meta_block_size = le block 176 4;
-  blocks = le block 180 4;
-  era = le block 184 4;
-  current_bits = le block 188 4;
-  current_root = le block 192 8;
-  writesets_root = le block 200 8;
-  array_root = le block 208 8;
-  snap_root = le block 216 8;
+-- the table of the superblock: each field by what is had of a number, or of bytes, at an offset and of a size
+abbrev pub era_table : (ℕ → ℕ → ℕ) → (ℕ → ℕ → List ℕ) → EraFields
+era_table number bytes = record {
+  flags = number 4 4;
+  uuid = bytes 16 16;
+  version = number 40 4;
+  meta_map = map_table number 44;
+  block_size = number 172 4;
+  meta_block_size = number 176 4;
+  blocks = number 180 4;
+  era = number 184 4;
+  current_bits = number 188 4;
+  current_root = number 192 8;
+  writesets_root = number 200 8;
+  array_root = number 208 8;
+  snap_root = number 216 8;
 }
+
+-- the fields that stand in a block
+abbrev pub era_fields : List ℕ → EraFields
+era_fields block = era_table (le block) (bytes_at block)
+
+-- the numbers among the fields, in a row
+abbrev pub era_numbers : EraFields → List ℕ
+era_numbers f =
+    f.flags ∷ f.version
+    ∷ (map_numbers f.meta_map
+    ++ (f.block_size ∷ f.meta_block_size ∷ f.blocks ∷ f.era ∷ f.current_bits
+    ∷ f.current_root ∷ f.writesets_root ∷ f.array_root ∷ f.snap_root ∷ []))
 
 -- the blocks that an era superblock names, with their roles
 abbrev pub era_super_edges : EraFields → List Edge
@@ -61,11 +62,14 @@ era_super_edges fields =
     ∷ [])))
 
 -- of a metadata snapshot only the archived writesets and the era array count
-abbrev pub snap_edges : List ℕ → List Edge
-snap_edges block =
-    record { role = 2; block = (era_fields block).writesets_root }
-    ∷ record { role = 5; block = (era_fields block).array_root }
+abbrev pub era_snap_edges : EraFields → List Edge
+era_snap_edges fields =
+    record { role = 2; block = fields.writesets_root }
+    ∷ record { role = 5; block = fields.array_root }
     ∷ []
+
+abbrev pub snap_edges : List ℕ → List Edge
+snap_edges block = era_snap_edges (era_fields block)
 
 -- the rules of an era superblock that are looked at each by itself; pointers only where the size holds
 unfoldable pub era_super_tests : ℕ → List ℕ → List Test
@@ -92,6 +96,16 @@ era_snap_tests nr place block =
 -- the rules that a metadata snapshot in its place breaks
 unfoldable pub era_snap_bad : ℕ → ℕ → List ℕ → Rule → Bool
 era_snap_bad nr place block = super_rules Era block (era_snap_tests nr place block)
+
+-- the rows of the numbers
+abbrev pub era_rows : EraFields → List Row
+era_rows fields =
+    rows_at (era_numbers (era_table (λ offset size. offset) (λ offset size. [])))
+    (era_numbers (era_table (λ offset size. size) (λ offset size. []))) (era_numbers fields)
+
+-- the era superblock of these fields, for block 0: every other byte is 0
+unfoldable pub era_super_block : EraFields → List ℕ
+era_super_block fields = super_block Era fields.uuid (written zeros (era_rows fields))
 
 -- a writeset's number of bits, and the root of its bits
 abbrev pub writeset_bits : ℕ → ℕ

@@ -1,15 +1,15 @@
 -- The thin superblock: its fields, its local rules, and the block that is written for given fields.
 -- Offsets and sizes are those of struct thin_disk_superblock of "drivers/md/dm-thin-metadata.c" and of
 -- struct disk_sm_root of "drivers/md/persistent-data/dm-space-map-common.h".
-use Rattle.std.specs.Prelude.{ℕ, ◌^◌, Bool, ◌==◌, ◌&&◌, ◌||◌, not, nat_lt, List, [], ◌∷◌, ◌++◌}
+use Rattle.std.specs.Prelude.{ℕ, Bool, ◌==◌, ◌&&◌, ◌||◌, not, nat_lt, List, [], ◌∷◌, ◌++◌}
 use Rattle.pd_kinds.specs.Edge.{Edge, optional_edge, has_edge_outside}
-use Rattle.pd_kinds.specs.Limits.{is_meta_size_bad}
 use Rattle.pd_kinds.specs.SpaceMap.{map_table, map_numbers}
 use Rattle.pd_kinds.specs.declared.kind.Kind.TheVariants.{Thin}
 use Rattle.pd_kinds.specs.declared.thin_super.ThinSuper.{ThinSuper}
 use Rattle.pd_kinds.specs.declared.rule.Rule.{Rule}
 use Rattle.pd_kinds.specs.declared.rule.Rule.TheVariants as r
 use Rattle.pd_kinds.specs.Field.{Row, bytes_at, le, rows_at, written, zeros}
+use Rattle.pd_kinds.specs.Limits.{is_meta_size_bad, max_data_blocks}
 use Rattle.pd_kinds.specs.Super.{super_block, super_rules}
 use Rattle.pd_kinds.specs.RuleSet.{Test}
 
@@ -68,7 +68,7 @@ thin_super_edges fields =
 -- whether a thin pool's sizes are out of range: those of the metadata, or more than 2 ^ 40 data blocks
 unfoldable pub are_thin_sizes_bad : ℕ → ThinFields → Bool
 are_thin_sizes_bad device_blocks fields =
-    is_meta_size_bad device_blocks fields.meta_map.blocks || nat_lt (2 ^ 40) fields.data_map.blocks
+    is_meta_size_bad device_blocks fields.meta_map.blocks || nat_lt max_data_blocks fields.data_map.blocks
 
 -- the rules of a thin superblock that are looked at each by itself; pointers only where the sizes hold
 unfoldable pub thin_super_tests : ℕ → List ℕ → List Test

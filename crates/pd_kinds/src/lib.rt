@@ -6,7 +6,9 @@
 #![tactic(auto)]
 
 mod block;
+mod cache_super;
 mod edges;
+mod era_super;
 mod fault;
 mod fields;
 mod kind;
@@ -18,7 +20,9 @@ mod rules;
 mod thin_super;
 
 pub use block::{BLOCK_SIZE, Block, is_outside};
+pub use cache_super::CacheSuper;
 pub use edges::Edges;
+pub use era_super::EraSuper;
 pub use fault::{Fault, Space};
 pub use fields::{put_u32, put_u64, u32_at, u64_at};
 pub use kind::{Kind, Stage};

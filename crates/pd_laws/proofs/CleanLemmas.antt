@@ -21,6 +21,7 @@ use Rattle.pd_kinds.specs.Order.{is_deep, is_in_range}
 use Rattle.pd_kinds.specs.Stages.{Checked, super_faults, roles_of, walk_bad, is_out_of_range, order_bad, block_faults, count_fault, count_faults, stage_faults, stages_to, first_failing, HasCleanSuper, IsReached, AreClean}
 use Rattle.pd_kinds.specs.Whole.{whole_bad}
 use Rattle.pd_kinds.proofs.RuleBits.{number_below}
+use Rattle.pd_laws.specs.InOrder.{AreInOrder}
 
 module _ {X : Type 0} where
   cons_isnt_nil : {x : X} {xs : List X} → x ∷ xs ≡ [] → ⊥
@@ -297,21 +298,44 @@ module _ (checked : Checked) (image : List (List ℕ)) where
   abbrev data_at : ℕ → List Fault
   data_at d = count_fault DataBlock d (data_count checked.graph image d) (checked.stored_data d)
 
+  -- no faults up to Order, or up to a later stage
+  pub in_order_where_none : (later : List Stage) → first_failing checked image (stages.Super ∷ stages.Walk ∷ stages.Order ∷ later) ≡ [] → AreInOrder checked.graph image
+  in_order_where_none later none =
+      let all = no_stage_fails (stages.Super ∷ stages.Walk ∷ stages.Order ∷ later) none in
+      let walk = no_block_broken checked.graph.nr (walk_bad checked.graph image) all.1.0 in
+      let order = no_block_broken checked.graph.nr (order_bad checked.graph image) all.1.1.0 in
+      let shallow = order_depths checked.graph image order in
+      record {
+        well_formed = walk_rules checked.graph image walk;
+        not_deep = shallow;
+        in_range = λ b role at. in_range checked.graph image (pair b role) (order_ranges checked.graph image order b role at) (shallow b role at);
+      }
+
+  -- no faults up to Whole, or up to a later stage
+  pub whole_where_none : (later : List Stage) → first_failing checked image (stages.Super ∷ stages.Walk ∷ stages.Order ∷ stages.Whole ∷ later) ≡ []
+      → (b : ℕ) (broken : Rule) → b < checked.graph.nr → whole_bad checked.whole b broken ≡ false
+  whole_where_none later none b broken within =
+      let all = no_stage_fails (stages.Super ∷ stages.Walk ∷ stages.Order ∷ stages.Whole ∷ later) none in
+      no_block_broken checked.graph.nr (whole_bad checked.whole) all.1.1.1.0 b within broken
+
+  -- no faults up to any stage
+  pub clean_super_where_none : (later : List Stage) → first_failing checked image (stages.Super ∷ later) ≡ [] → HasCleanSuper checked image
+  clean_super_where_none later none = clean_super checked image (no_stage_fails (stages.Super ∷ later) none).0
+
   pub clean_where_none : first_failing checked image (stages_to stages.Counts) ≡ [] → AreClean checked image
   unfolding count_faults
   clean_where_none none =
       let all = no_stage_fails (stages_to stages.Counts) none in
       let walk = no_block_broken checked.graph.nr (walk_bad checked.graph image) all.1.0 in
-      let order = no_block_broken checked.graph.nr (order_bad checked.graph image) all.1.1.0 in
-      let shallow = order_depths checked.graph image order in
+      let order = in_order_where_none (stages.Whole ∷ stages.Counts ∷ []) none in
       let counts = nil_from_append (flat_map meta_at (range_with_len 0 checked.graph.nr)) (flat_map data_at (range_with_len 0 checked.graph.data_blocks)) all.1.1.1.1.0 in
       record {
         super_block = clean_super checked image all.0;
-        well_formed = walk_rules checked.graph image walk;
+        well_formed = order.well_formed;
         one_role = walk_one_role checked.graph image walk;
-        not_deep = shallow;
-        in_range = λ b role at. in_range checked.graph image (pair b role) (order_ranges checked.graph image order b role at) (shallow b role at);
-        whole = λ b broken within. no_block_broken checked.graph.nr (whole_bad checked.whole) all.1.1.1.0 b within broken;
+        not_deep = order.not_deep;
+        in_range = order.in_range;
+        whole = whole_where_none (stages.Counts ∷ []) none;
         meta_counts = λ b within. stored_is Meta b (meta_count checked.graph image b) (checked.stored_meta b) (none_at meta_at _ counts.0 b within);
         data_counts = λ d within. stored_is DataBlock d (data_count checked.graph image d) (checked.stored_data d) (none_at data_at _ counts.1 d within);
       }

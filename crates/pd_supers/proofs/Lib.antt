@@ -1,1 +1,3 @@
+mod CacheWritten
+mod EraWritten
 mod ThinWritten

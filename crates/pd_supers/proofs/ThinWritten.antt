@@ -1,15 +1,11 @@
--- The superblock that is written for a thin pool's fields: it reads back, and breaks no rule of its head.
-use Rattle.std.proofs.Common.{◌≡◌, ℕ, true, false, List, length, refl, ◌∙◌}
-use Rattle.std.proofs.Math.Bool.{and-false}
+-- Reading the superblock that is written for a thin pool's fields gives them back.
+use Rattle.std.proofs.Common.{◌≡◌, ℕ, List, length, refl}
 use Rattle.pd_kinds.specs.declared.kind.Kind.TheVariants.{Thin}
-use Rattle.pd_kinds.specs.declared.rule.Rule.TheVariants as r
 use Rattle.pd_kinds.specs.Field.{DoFit, Row, written, zeros}
-use Rattle.pd_kinds.specs.RuleSet.{failing}
-use Rattle.pd_kinds.specs.Super.{is_super_of}
-use Rattle.pd_kinds.specs.ThinSuper.{ThinFields, thin_fields, thin_numbers, thin_rows, thin_super_bad, thin_super_block, thin_super_tests, thin_table}
+use Rattle.pd_kinds.specs.ThinSuper.{ThinFields, thin_fields, thin_numbers, thin_rows, thin_super_block, thin_table}
 use Rattle.pd_kinds.proofs.WrittenLemmas.{length-written_zeros}
 use Rattle.pd_kinds.proofs.TableLemmas.{value_at}
-use Rattle.pd_kinds.proofs.SuperLemmas.{decided_by_tests, fields_read, place_tested, uuid_read}
+use Rattle.pd_kinds.proofs.SuperLemmas.{fields_read, uuid_read}
 
 -- the fields that these rows and this uuid make up
 abbrev made_of : List Row → List ℕ → ThinFields
@@ -27,17 +23,3 @@ unfolding thin_super_block
 reads_back f len fit =
     same_fields (thin_fields (thin_super_block f)) f (fields_read Thin f.uuid (thin_rows f) len refl refl fit)
     (uuid_read Thin f.uuid (written zeros (thin_rows f)) (length-written_zeros (thin_rows f)) len)
-
--- a superblock of the kind breaks neither Checksum nor Magic nor Place
-pub checksum_met : (n : ℕ) (b : List ℕ) → is_super_of Thin b ≡ true → thin_super_bad n b r.Checksum ≡ false
-unfolding thin_super_bad failing thin_super_tests
-checksum_met n b valid = decided_by_tests Thin b (thin_super_tests n b) r.Checksum valid ∙ simp and-false
-
-pub magic_met : (n : ℕ) (b : List ℕ) → is_super_of Thin b ≡ true → thin_super_bad n b r.Magic ≡ false
-unfolding thin_super_bad failing thin_super_tests
-magic_met n b valid = decided_by_tests Thin b (thin_super_tests n b) r.Magic valid ∙ simp and-false
-
-pub place_met : (n : ℕ) (b : List ℕ) → is_super_of Thin b ≡ true → thin_super_bad n b r.Place ≡ false
-unfolding thin_super_bad failing thin_super_tests
-place_met n b valid =
-    decided_by_tests Thin b (thin_super_tests n b) r.Place valid ∙ simp (and-false, place_tested Thin b valid)

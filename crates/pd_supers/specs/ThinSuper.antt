@@ -1,4 +1,4 @@
--- The fields of the struct, as the definitions speak of them.
+-- The name by which the crates above speak of a superblock's fields: the struct is the definitions' record.
 use Rattle.pd_kinds.specs.declared.thin_super.ThinSuper.{ThinSuper}
 use Rattle.pd_kinds.specs.ThinSuper.{ThinFields}
 

@@ -1,6 +1,10 @@
 //! The superblocks: their fields read and written, and the rules that they break.
 #![tactic(auto)]
 
+mod cache;
+mod cache_rules;
+mod era;
+mod era_rules;
 mod map_root;
 mod super_block;
 mod table;
@@ -17,8 +21,12 @@ ghost use Rattle.pd_kinds.specs.RuleSet.{has_rule};
 ghost use Rattle.pd_kinds.specs.declared.rule.Rule.{Rule as BrokenRule};
 ghost use Rattle.pd_kinds.specs.declared.rule.Rule.TheVariants.{Size};
 
+pub use cache::{read_cache_super, write_cache_super};
+pub use cache_rules::{cache_super_edges, cache_super_rules};
+pub use era::{read_era_super, write_era_super};
+pub use era_rules::{era_snap_edges, era_snap_rules, era_super_edges, era_super_rules};
 use pd_kinds::{Rule, Rules};
-pub use pd_kinds::{SmRoot, ThinSuper};
+pub use pd_kinds::{CacheSuper, EraSuper, SmRoot, ThinSuper};
 pub use thin::{read_thin_super, write_thin_super};
 pub use thin_edges::{thin_held_edges, thin_super_edges};
 pub use thin_held::thin_held_rules;

@@ -1,4 +1,4 @@
-//! What the superblocks of the three kinds share: the head, the checksum, and the rules that come alone.
+//! What the superblocks of the three kinds share: texts of sixteen bytes, the head, and the rules that come alone.
 
 ghost use Rattle.std.specs.Prelude.{◌≡◌, ℕ, ◌+◌, ◌≤◌, List, take, drop, true};
 ghost use Rattle.pd_kinds.specs.Field.{bytes_at, put_bytes, written};

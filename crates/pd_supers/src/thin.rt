@@ -2,7 +2,6 @@ ghost use Rattle.std.specs.Prelude.{◌≡◌, ℕ, false, map};
 ghost use Rattle.pd_kinds.specs.declared.rule.Rule.TheVariants.{Checksum, Place, Magic};
 ghost use Rattle.pd_kinds.specs.ThinSuper.{thin_fields, thin_rows, thin_super_bad, thin_super_block};
 ghost use Rattle.pd_supers.specs.Table.{row_of};
-ghost use Rattle.pd_supers.specs.ThinSuper.{fields_of};
 
 use crate::map_root::read_map_root;
 use crate::super_block::{sixteen_at, super_block};
@@ -12,7 +11,7 @@ use pd_kinds::{Block, Kind, ThinSuper, u32_at, u64_at};
 
 /// The fields of a thin superblock, whatever rules it breaks.
 pub fn read_thin_super(block: &Block) -> ThinSuper
-    ensures { fields_of result ≡ thin_fields block.now.0 }
+    ensures { result ≡ thin_fields block.now.0 }
 {
     ThinSuper {
         flags: u32_at(&block.0, 4),
@@ -36,9 +35,9 @@ pub fn read_thin_super(block: &Block) -> ThinSuper
 
 /// The superblock with these fields, sealed for block 0. Every other byte is 0.
 pub fn write_thin_super(s: &ThinSuper) -> Block
-    ensures block { result.0 ≡ thin_super_block (fields_of s.now) }
+    ensures block { result.0 ≡ thin_super_block s.now }
     // Reading what was written gives the same fields.
-    ensures reads_back { thin_fields result.0 ≡ fields_of s.now }
+    ensures reads_back { thin_fields result.0 ≡ s.now }
     ensures checksum { (n : ℕ) → thin_super_bad n result.0 Checksum ≡ false }
     ensures place { (n : ℕ) → thin_super_bad n result.0 Place ≡ false }
     ensures magic { (n : ℕ) → thin_super_bad n result.0 Magic ≡ false }
@@ -50,7 +49,7 @@ pub fn write_thin_super(s: &ThinSuper) -> Block
 
 /// The numbers of the superblock, each at its offset.
 fn rows_of(s: &ThinSuper) -> [(usize, Number); 21]
-    ensures { map row_of result ≡ thin_rows (fields_of s.now) }
+    ensures { map row_of result ≡ thin_rows s.now }
 {
     [
         (4, Four(s.flags)),

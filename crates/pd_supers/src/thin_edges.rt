@@ -3,13 +3,12 @@
 ghost use Rattle.std.specs.Prelude.{◌≡◌};
 ghost use Rattle.pd_kinds.specs.ThinSuper.{thin_super_edges};
 ghost use Rattle.pd_kinds.specs.ThinFormat.{thin_held_edges};
-ghost use Rattle.pd_supers.specs.ThinSuper.{fields_of};
 
 use pd_kinds::{Edges, ThinSuper};
 
 /// The blocks that the superblock names.
 pub fn thin_super_edges(s: &ThinSuper) -> Edges
-    ensures { result ≡ thin_super_edges (fields_of s.now) }
+    ensures { result ≡ thin_super_edges s.now }
 {
     Edges::none()
         .with(10, s.meta_map.overflow_root)
@@ -23,7 +22,7 @@ pub fn thin_super_edges(s: &ThinSuper) -> Edges
 
 /// The blocks that a held copy of the superblock names: of its fields the two roots of trees count alone.
 pub fn thin_held_edges(s: &ThinSuper) -> Edges
-    ensures { result ≡ thin_held_edges (fields_of s.now) }
+    ensures { result ≡ thin_held_edges s.now }
 {
     Edges::none()
         .with(4, s.details_root)

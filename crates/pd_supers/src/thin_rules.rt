@@ -4,7 +4,6 @@ ghost use Rattle.std.specs.Prelude.{◌≡◌};
 ghost use Rattle.pd_kinds.specs.declared.rule.Rule.{Rule as BrokenRule};
 ghost use Rattle.pd_kinds.specs.RuleSet.{has_rule, failing};
 ghost use Rattle.pd_kinds.specs.ThinSuper.{are_thin_sizes_bad, thin_super_bad, thin_super_tests};
-ghost use Rattle.pd_supers.specs.ThinSuper.{fields_of};
 
 use crate::super_block::super_rules;
 use crate::thin::read_thin_super;
@@ -42,8 +41,8 @@ fn table_rules(block: &Block, device_blocks: u64) -> Rules
 /// Whether a number of blocks is out of its range, on a metadata device of so many blocks.
 #[tactic(auto, unfolding(pd_kinds::specs::ThinSuper::are_thin_sizes_bad))]
 fn are_sizes_bad(fields: &ThinSuper, device_blocks: u64) -> bool
-    ensures { result ≡ are_thin_sizes_bad device_blocks (fields_of fields.now) }
+    ensures { result ≡ are_thin_sizes_bad device_blocks fields.now }
 {
-    let meta_bad = is_meta_size_bad(device_blocks, fields.meta_map.blocks);
-    meta_bad | (fields.data_map.blocks > MAX_DATA_BLOCKS)
+    is_meta_size_bad(device_blocks, fields.meta_map.blocks)
+        | (fields.data_map.blocks > MAX_DATA_BLOCKS)
 }

@@ -1,6 +1,11 @@
 use Rattle.std.proofs.Common.{◌≡◌, length, rules}
-use Rattle.pd_kinds.specs.ThinSuper.{thin_super_block}
-use Rattle.pd_supers.proofs.ThinWritten.{reads_back, checksum_met, magic_met, place_met}
+use Rattle.std.proofs.Math.Bool.{and-false}
+use Rattle.pd_kinds.specs.declared.kind.Kind.TheVariants.{Thin}
+use Rattle.pd_kinds.specs.declared.rule.Rule.TheVariants as r
+use Rattle.pd_kinds.specs.RuleSet.{failing}
+use Rattle.pd_kinds.specs.ThinSuper.{thin_super_bad, thin_super_block, thin_super_tests}
+use Rattle.pd_kinds.proofs.SuperLemmas.{met_by_tests, place_tested}
+use Rattle.pd_supers.proofs.ThinWritten.{reads_back}
 use Rattle.pd_supers.proofs.thin.write_thin_super.Goals as goal
 
 pub returns-clause-block : goal.returns-clause-block
@@ -13,10 +18,17 @@ returns-clause-reads_back c =
     rw (returns-clause-block c) (reads_back c.args.s.now sixteen (rw c.rows_of.ensures at c.put_rows.ensures.fit))
 
 pub returns-clause-checksum : goal.returns-clause-checksum
-returns-clause-checksum c = λ n. checksum_met n c.super_block.result.0 c.super_block.ensures.valid
+unfolding thin_super_bad thin_super_tests failing
+returns-clause-checksum c = λ n.
+    met_by_tests Thin c.super_block.result.0 (thin_super_tests n c.super_block.result.0) r.Checksum c.super_block.ensures.valid (simp and-false)
 
 pub returns-clause-place : goal.returns-clause-place
-returns-clause-place c = λ n. place_met n c.super_block.result.0 c.super_block.ensures.valid
+unfolding thin_super_bad thin_super_tests failing
+returns-clause-place c = λ n.
+    met_by_tests Thin c.super_block.result.0 (thin_super_tests n c.super_block.result.0) r.Place c.super_block.ensures.valid
+    (simp (and-false, place_tested Thin c.super_block.result.0 c.super_block.ensures.valid))
 
 pub returns-clause-magic : goal.returns-clause-magic
-returns-clause-magic c = λ n. magic_met n c.super_block.result.0 c.super_block.ensures.valid
+unfolding thin_super_bad thin_super_tests failing
+returns-clause-magic c = λ n.
+    met_by_tests Thin c.super_block.result.0 (thin_super_tests n c.super_block.result.0) r.Magic c.super_block.ensures.valid (simp and-false)

@@ -1,4 +1,4 @@
-use Rattle.std.proofs.Common.{◌≡◌, List, length, ap, subst, sym, ◌∙◌, ◌-◌, arith, drop, refl}
+use Rattle.std.proofs.Common.{List, ◌<◌, length, ap, subst, sym, ◌∙◌, ◌-◌, arith, drop, refl}
 use Rattle.std.proofs.lemmas.List.{drop_all}
 use Rattle.pd_kinds.specs.Edge.{Edge, edge_of}
 use Rattle.pd_graph.specs.Marks.{Follows}
@@ -19,13 +19,12 @@ loop-i-preserved g c =
 pub loop-i-init : goal.loop-i-init
 loop-i-init g c =
     let edges = (g.F.Format.graph c.args.format.now).edges c.args.role c.args.place c.args.block.now.0 in
-    let roles = g.met.F.Format.roles c.args.format.now in
-    let role = c.requires.role in
-    let told = (g.met.F.Format.told c.args.format.now).edges c.args.role c.args.place c.args.block.now.0 (omega arith) c.requires.sound in
-    let number : length edges ≡ c.edges_of_any-i.result = ap (λ (es : List Edge). length es) told ∙ sym c.edges_of_any-i.ensures in
+    let known : c.args.role < (g.F.Format.graph c.args.format.now).roles = omega (arith, g.met.F.Format.roles c.args.format.now, c.requires.role) in
+    let same = (g.met.F.Format.told c.args.format.now).edges c.args.role c.args.place c.args.block.now.0 known c.requires.sound in
+    let number = ap (λ (met : List Edge). length met) same in
     record {
       follows = subst (λ (met : List Edge). Follows met c.args.self.now c.args.self.now)
-          (sym (drop_all c.edges_of_any-i.result edges (omega arith)))
+          (sym (drop_all c.edges_of_any-i.result edges (omega (arith, c.edges_of_any-i.ensures, number))))
           (follows_none c.args.self.now);
       rules = refl;
     }

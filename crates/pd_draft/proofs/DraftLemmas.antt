@@ -1,0 +1,248 @@
+-- The three outcomes of a crash, from what is left at each moment.
+use Rattle.std.proofs.Common.{◌≡◌, inl, inr, ⊎_elim, ℕ, zero, suc, ◌<◌, ◌≤◌, Bool, true, false, List, [], ◌∷◌, length, take, get_or, set, refl, sym, ◌∙◌, ap, subst, arith, Option, Some, Result, Ok, Err, cond}
+use Rattle.std.specs.Prelude.{nat_eq, IfSome, ◌||◌, is_ok, OnOk}
+use Rattle.std.specs.List.{list_any, slice_get}
+use Rattle.std.specs.Option.{is_some, unwrap_or}
+use Rattle.std.proofs.lemmas.Bool.{cases_lt, eqb-true, eqb-false}
+use Rattle.std.proofs.lemmas.List.{ext_get_or, get_or-set_same, length-set}
+use Rattle.std.proofs.lemmas.Option.{slice_get-get_or, get_or_from_slice_get, unwrap_or-slice_get, slice_get_within, slice_get_past, same_Some}
+use Rattle.pd_kinds.specs.Field.{zeros}
+use Rattle.pd_image.proofs.BlockLemmas.{slice_get-set_other}
+use Rattle.pd_kinds.specs.Graph.{block_at}
+use Rattle.pd_kinds.specs.Super.{is_valid_super}
+use Rattle.pd_kinds.specs.Moments.{Moment, History, now, IsLeft, after_write, after_sync}
+use Rattle.pd_kinds.specs.Objects.{DeviceState}
+use Rattle.pd_kinds.specs.Crash.{LeavesNow, LeavesOnly, HoldsSynced, HasNoSuper, IsAmong, IsOldOrNone, IsNoneOrNew}
+use Rattle.pd_kinds.proofs.CrashLemmas.{left_synced, left_now, left_is, left_held, zeros_no_super, untold, and_then}
+use Rattle.pd_image.specs.Device.{MayChange, MayWrite}
+use Rattle.pd_image.proofs.CrashLemmas.{told_or_not, at_some, writes, syncs, synced_now}
+use Rattle.pd_draft.specs.Closed.{HasZeros, IsClosed}
+use Rattle.pd_draft.specs.Replaced.{IsReplaced}
+
+abbrev Image : Type 0
+Image = List (List ℕ)
+
+-- zeros in block 0 are no superblock
+pub zeros_none : (image firsts : Image) → HasZeros image firsts → HasNoSuper image
+zeros_none image firsts zeroed = ap (λ (b : Option (List ℕ)). is_valid_super (unwrap_or b [])) zeroed ∙ zeros_no_super
+
+-- two images that agree on block 0, and on the others
+pub same_image : (left image : Image) → length left ≡ length image → ((b : ℕ) → (b ≡ 0 → ⊥) → slice_get left b ≡ slice_get image b)
+    → block_at left 0 ≡ block_at image 0 → left ≡ image
+same_image left image number others first =
+    ext_get_or [] left image number (λ i within. at i within)
+  where
+    at : (i : ℕ) → i < length left → get_or left i [] ≡ get_or image i []
+    at zero within = sym (unwrap_or-slice_get left 0 []) ∙ first ∙ unwrap_or-slice_get image 0 []
+    at (suc i) within =
+        let within' : suc i < length image = omega arith in
+        get_or_from_slice_get left (suc i) (get_or image (suc i) []) [] (others (suc i) (λ no'. cc) ∙ slice_get-get_or image (suc i) [] within')
+
+or_false : (t r : Bool) → (t ≡ true → ⊥) → r ≡ false → (t || r) ≡ false
+or_false true r not_so isnt = absurd (not_so refl)
+or_false false r not_so isnt = isnt
+
+-- what is left where block 0 alone is unsynced
+pub others_left : (image left : Image) (m : Moment) → m.image ≡ image → m.unsynced ≡ 0 ∷ [] → IsLeft m left
+    → (length left ≡ length image) × ((b : ℕ) → (b ≡ 0 → ⊥) → slice_get left b ≡ slice_get image b)
+others_left image left m is one l = (
+  l.number ∙ ap (λ (i : Image). length i) is,
+  λ b past. l.synced b (ap (list_any (λ u. nat_eq u b)) one ∙ not_zero b past) ∙ ap (λ (i : Image). slice_get i b) is,
+)
+  where
+    not_zero : (b : ℕ) → (b ≡ 0 → ⊥) → list_any (λ u. nat_eq u b) (0 ∷ []) ≡ false
+    not_zero b past = or_false (nat_eq 0 b) false (λ same. absurd (past (sym (eqb-true 0 b same)))) refl
+
+-- the first of a list is what stands at 0
+among_first : (image : Image) (block : List ℕ) → IsAmong (take 1 image) block → block ≡ block_at image 0
+among_first [] block among = absurd among
+among_first (first ∷ image) block among = ⊎_elim (λ is. is) (λ none. absurd none) among
+
+-- block 0 of an image that holds nothing unsynced was being zeroed
+pub torn_clear : (image left : Image) (h : History) → h.unsynced ≡ [] → h.firsts ≡ take 1 image → IsLeft (now image (after_write 0 zeros image h)) left
+    → IsOldOrNone image left (zeros ∷ h.firsts)
+torn_clear image left h none firsts l chance =
+    let others = others_left image left (now image (after_write 0 zeros image h)) refl (ap (λ (us : List ℕ). 0 ∷ us) none) l in
+    ⊎_elim
+    (λ among. ⊎_elim
+    (λ zeroed. inr (ap is_valid_super zeroed ∙ zeros_no_super))
+    (λ was. inl (same_image left image others.0 others.1 (among_first image (block_at left 0) (subst (λ (f : Image). IsAmong f (block_at left 0)) firsts was))))
+    among)
+    (λ no_super. inr no_super)
+    chance
+
+-- block 0 of an image that is synced and has zeros there was being written
+pub torn_finish : (image left : Image) (bytes : List ℕ) (h : History) → h.unsynced ≡ [] → h.firsts ≡ take 1 image → slice_get image 0 ≡ Some zeros
+    → IsLeft (now image (after_write 0 bytes image h)) left → IsNoneOrNew (set image 0 bytes) left (bytes ∷ h.firsts)
+torn_finish image left bytes h none firsts zeroed l chance =
+    let others = others_left image left (now image (after_write 0 bytes image h)) refl (ap (λ (us : List ℕ). 0 ∷ us) none) l in
+    let within : 0 < length image = slice_get_within image 0 zeros zeroed in
+    ⊎_elim
+    (λ among. ⊎_elim
+    (λ new. inr (same_image left (set image 0 bytes) (others.0 ∙ sym (length-set image 0 bytes))
+    (λ b past. others.1 b past ∙ sym (slice_get-set_other image 0 b bytes past))
+    (new ∙ sym (unwrap_or-slice_get (set image 0 bytes) 0 [] ∙ get_or-set_same image 0 bytes [] within))))
+    (λ was. inl (ap is_valid_super (among_first image (block_at left 0) (subst (λ (f : Image). IsAmong f (block_at left 0)) firsts was)
+    ∙ ap (λ (b : Option (List ℕ)). unwrap_or b []) zeroed) ∙ zeros_no_super))
+    among)
+    (λ no_super. inl no_super)
+    chance
+
+-- a block put back
+same_at : (left image : Image) (b : ℕ) → length left ≡ length image → slice_get (set left b (get_or image b [])) b ≡ slice_get image b
+same_at left image b number = elim (cases_lt b (length image)) [
+  | inl within ↦
+      let within' : b < length left = omega arith in
+      let within'' : b < length (set left b (get_or image b [])) = rw (length-set left b (get_or image b [])) within' in
+      slice_get-get_or (set left b (get_or image b [])) b [] within'' ∙ ap (λ (x : List ℕ). Some x) (get_or-set_same left b (get_or image b []) [] within') ∙ sym (slice_get-get_or image b [] within)
+  | inr past ↦
+      let past' : length (set left b (get_or image b [])) ≤ b = rw (length-set left b (get_or image b [])) (omega arith) in
+      slice_get_past (set left b (get_or image b [])) b past' ∙ sym (slice_get_past image b past)
+]
+
+-- what is left with one block more unsynced, that block put back
+put_back : (image left : Image) (b : ℕ) (us : List ℕ) (fs fs' : Image) → IsLeft (record { image = image; unsynced = b ∷ us; firsts = fs }) left
+    → IsLeft (record { image = image; unsynced = us; firsts = fs' }) (set left b (get_or image b []))
+put_back image left b us fs fs' l = record {
+  number = length-set left b (get_or image b []) ∙ l.number;
+  synced = λ c none. at c none (nat_eq b c) refl;
+}
+  where
+    at : (c : ℕ) → list_any (λ u. nat_eq u c) us ≡ false → (t : Bool) → nat_eq b c ≡ t → slice_get (set left b (get_or image b [])) c ≡ slice_get image c
+    at c none true is = subst (λ x. slice_get (set left b (get_or image b [])) x ≡ slice_get image x) (eqb-true b c is) (same_at left image b l.number)
+    at c none false isnt =
+        slice_get-set_other left b c (get_or image b []) (λ same. eqb-false b c isnt (sym same))
+        ∙ l.synced c (ap (λ t. t || list_any (λ u. nat_eq u c) us) isnt ∙ none)
+
+-- a write past block 0 of an image that a crash now leaves with zeros there
+pub torn_place : (device : DeviceState) (image left : Image) (b : ℕ) (bytes : List ℕ) → 1 ≤ b → IsClosed device → device.held ≡ Some image
+    → IsLeft (now image (after_write b bytes image device.history)) left → HasZeros left (after_write b bytes image device.history).firsts
+torn_place device image left b bytes past closed held l =
+    let back = set left b (get_or image b []) in
+    let leaves = left_is device image back held (put_back image left b device.history.unsynced _ _ l) in
+    sym (slice_get-set_other left b 0 (get_or image b []) (λ same. absurd (omega arith))) ∙ closed back device.history.firsts leaves
+
+pub set_zeros : (image i : Image) → 1 ≤ length image → i ≡ set image 0 zeros → slice_get i 0 ≡ Some zeros
+set_zeros [] i some is = absurd (omega arith)
+set_zeros (first ∷ image) i some is = ap (λ (j : Image). slice_get j 0) is
+
+-- the calls of `clear`
+pub clear_here : (image : Image) (old : DeviceState) → HoldsSynced image old → LeavesNow (IsOldOrNone image) old
+clear_here image old synced left firsts leaves chance =
+    inl (left_synced image left (now image old.history) refl synced.unsynced (left_now old image left firsts synced.held leaves).0)
+
+pub clear_write : (image : Image) (bytes : List ℕ) {old new : DeviceState} → bytes ≡ zeros → HoldsSynced image old → IfSome old.held (λ i. MayWrite 0 bytes i old new)
+    → is_some new.held ≡ is_some old.held → IfSome old.held (λ i. IfSome new.held (MayChange 0 i)) → LeavesOnly (IsOldOrNone image) old new
+clear_write image bytes {old} {new} are_zeros synced crash told others =
+    writes 0 bytes crash told others (clear_here image old synced) (λ i held left l.
+    let same : i ≡ image = same_Some i image (sym held ∙ synced.held) in
+    subst (λ (j : Image). IsLeft (now j (after_write 0 bytes j old.history)) left → IsOldOrNone image left (bytes ∷ old.history.firsts)) (sym same)
+    (subst (λ (z : List ℕ). IsLeft (now image (after_write 0 z image old.history)) left → IsOldOrNone image left (z ∷ old.history.firsts)) (sym are_zeros)
+    (λ l'. torn_clear image left old.history synced.unsynced synced.firsts l')) l)
+
+-- what the write of zeros leaves in block 0
+pub zeroed_by : (old mid : DeviceState) (bytes : List ℕ) → bytes ≡ zeros → IfSome old.held (λ i. mid.held ≡ Some (set i 0 bytes)) → is_some mid.held ≡ is_some old.held
+    → 1 ≤ old.blocks → IfSome old.held (λ i. length i ≡ old.blocks) → (i : Image) → mid.held ≡ Some i → slice_get i 0 ≡ Some zeros
+zeroed_by old mid bytes are_zeros content told some measured i held =
+    ⊎_elim
+    (λ none. absurd (not_both (is_some old.held) (sym told ∙ ap is_some held) (ap is_some none)))
+    (λ was.
+    let image = was.0 in
+    let number : length image ≡ old.blocks = at_some old.held (λ (j : Image). length j ≡ old.blocks) image was.1 measured in
+    let written : mid.held ≡ Some (set image 0 bytes) = at_some old.held (λ (j : Image). mid.held ≡ Some (set j 0 bytes)) image was.1 content in
+    set_zeros image i (omega arith) (same_Some i (set image 0 bytes) (sym held ∙ written) ∙ ap (λ (z : List ℕ). set image 0 z) are_zeros))
+    (told_or_not old.held)
+  where
+    not_both : (t : Bool) → t ≡ true → t ≡ false → ⊥
+    not_both t is isnt = cc
+
+-- the sync of `clear`, after the write
+pub clear_sync : (image : Image) {old mid new : DeviceState} (ok : Bool) → LeavesOnly (IsOldOrNone image) old mid
+    → ((i : Image) → mid.held ≡ Some i → slice_get i 0 ≡ Some zeros)
+    → IfSome mid.held (λ i. new.history ≡ cond ok (after_sync i mid.history) mid.history) → new.held ≡ mid.held → LeavesOnly (IsOldOrNone image) old new
+clear_sync image {old} {mid} {new} ok so_far zeroed crash same =
+    and_then so_far (syncs ok crash same so_far.now (λ i is chance. inr (zeros_none i (take 1 i) (zeroed i is))))
+
+-- a device that holds zeros in block 0 is closed by a sync
+pub closed_by_sync : (old new : DeviceState) (ok : Bool) → ok ≡ true → IfSome old.held (λ i. new.history ≡ cond ok (after_sync i old.history) old.history) → new.held ≡ old.held
+    → ((i : Image) → old.held ≡ Some i → slice_get i 0 ≡ Some zeros) → IsClosed new
+closed_by_sync old new ok is_fine crash same zeroed left firsts leaves =
+    ⊎_elim
+    (λ none. (untold {P = HasZeros} {old = old} {new = new} (same ∙ none)).now left firsts leaves)
+    (λ held.
+    let synced = synced_now old new held.0 held.1 (subst (λ t. IfSome old.held (λ (i : Image). new.history ≡ cond t (after_sync i old.history) old.history)) is_fine crash) same in
+    let is : left ≡ held.0 = left_synced held.0 left (now held.0 new.history) refl synced.unsynced (left_now new held.0 left firsts synced.held leaves).0 in
+    ap (λ (i : Image). slice_get i 0) is ∙ zeroed held.0 held.1)
+    (told_or_not old.held)
+
+-- the calls of `finish`
+pub finish_here : (new_image : Image) (old : DeviceState) → IsClosed old → LeavesNow (IsNoneOrNew new_image) old
+finish_here new_image old closed left firsts leaves chance = inl (zeros_none left firsts (closed left firsts leaves))
+
+pub closed_held : (image : Image) (device : DeviceState) → IsClosed device → device.held ≡ Some image → slice_get image 0 ≡ Some zeros
+closed_held image device closed held = closed image device.history.firsts (left_held device image held)
+
+pub finish_sync : (image new_image : Image) {old new : DeviceState} (ok : Bool) → IsClosed old → old.held ≡ Some image
+    → IfSome old.held (λ i. new.history ≡ cond ok (after_sync i old.history) old.history) → new.held ≡ old.held → LeavesOnly (IsNoneOrNew new_image) old new
+finish_sync image new_image {old} {new} ok closed held crash same =
+    syncs ok crash same (finish_here new_image old closed) (λ i is chance. inl (zeros_none i (take 1 i) (closed_held i old closed is)))
+
+pub finish_write : (image : Image) (bytes : List ℕ) {old mid new : DeviceState} → LeavesOnly (IsNoneOrNew (set image 0 bytes)) old mid → HoldsSynced image mid
+    → slice_get image 0 ≡ Some zeros → IfSome mid.held (λ i. MayWrite 0 bytes i mid new) → is_some new.held ≡ is_some mid.held
+    → IfSome mid.held (λ i. IfSome new.held (MayChange 0 i)) → LeavesOnly (IsNoneOrNew (set image 0 bytes)) old new
+finish_write image bytes {old} {mid} {new} so_far synced zeroed crash told others =
+    and_then so_far (writes 0 bytes crash told others so_far.now (λ i held left l.
+    let same : i ≡ image = same_Some i image (sym held ∙ synced.held) in
+    subst (λ (j : Image). IsLeft (now j (after_write 0 bytes j mid.history)) left → IsNoneOrNew (set image 0 bytes) left (bytes ∷ mid.history.firsts)) (sym same)
+    (λ l'. torn_finish image left bytes mid.history synced.unsynced synced.firsts zeroed l') l))
+
+pub finish_last : (image : Image) (bytes : List ℕ) {old mid new : DeviceState} (ok : Bool) → LeavesOnly (IsNoneOrNew (set image 0 bytes)) old mid
+    → mid.held ≡ Some (set image 0 bytes)
+    → IfSome mid.held (λ i. new.history ≡ cond ok (after_sync i mid.history) mid.history) → new.held ≡ mid.held → LeavesOnly (IsNoneOrNew (set image 0 bytes)) old new
+finish_last image bytes {old} {mid} {new} ok so_far held crash same =
+    and_then so_far (syncs ok crash same so_far.now (λ i is chance. inr (same_Some i (set image 0 bytes) (sym is ∙ held))))
+
+-- the write of `place`
+pub place_write : {old new : DeviceState} (b : ℕ) (bytes : List ℕ) → 1 ≤ b → IsClosed old → IfSome old.held (λ i. MayWrite b bytes i old new)
+    → is_some new.held ≡ is_some old.held → IfSome old.held (λ i. IfSome new.held (MayChange b i)) → LeavesOnly HasZeros old new
+place_write {old} {new} b bytes past closed crash told others =
+    writes b bytes crash told others closed (λ i held left l. torn_place old i left b bytes past closed held l)
+
+-- a fact at Ok
+pub at_ok : {T E : Type 0} (r : Result T E) {Q : Type 0} → (is_ok r ≡ true → Q) → OnOk r Q
+at_ok (Ok x) f = f refl
+at_ok (Err e) f = tt
+
+-- block 0 of a synced image was being replaced
+pub torn_replaced : (image left : Image) (bytes : List ℕ) (h : History) → h.unsynced ≡ [] → h.firsts ≡ take 1 image → 1 ≤ length image
+    → IsLeft (now image (after_write 0 bytes image h)) left → IsReplaced image (set image 0 bytes) left (bytes ∷ h.firsts)
+torn_replaced image left bytes h none firsts some l chance =
+    let others = others_left image left (now image (after_write 0 bytes image h)) refl (ap (λ (us : List ℕ). 0 ∷ us) none) l in
+    let within : 0 < length image = omega arith in
+    ⊎_elim
+    (λ among. ⊎_elim
+    (λ new. inr (inl (same_image left (set image 0 bytes) (others.0 ∙ sym (length-set image 0 bytes))
+    (λ b past. others.1 b past ∙ sym (slice_get-set_other image 0 b bytes past))
+    (new ∙ sym (unwrap_or-slice_get (set image 0 bytes) 0 [] ∙ get_or-set_same image 0 bytes [] within)))))
+    (λ was. inl (same_image left image others.0 others.1 (among_first image (block_at left 0) (subst (λ (f : Image). IsAmong f (block_at left 0)) firsts was))))
+    among)
+    (λ no_super. inr (inr (no_super, record { number = others.0; others = others.1 })))
+    chance
+
+pub replaced_here : (image made : Image) (old : DeviceState) → HoldsSynced image old → LeavesNow (IsReplaced image made) old
+replaced_here image made old synced left firsts leaves chance =
+    inl (left_synced image left (now image old.history) refl synced.unsynced (left_now old image left firsts synced.held leaves).0)
+
+pub replaced_write : (image : Image) (bytes : List ℕ) {old new : DeviceState} → HoldsSynced image old → 1 ≤ length image → IfSome old.held (λ i. MayWrite 0 bytes i old new)
+    → is_some new.held ≡ is_some old.held → IfSome old.held (λ i. IfSome new.held (MayChange 0 i)) → LeavesOnly (IsReplaced image (set image 0 bytes)) old new
+replaced_write image bytes {old} {new} synced some crash told others =
+    writes 0 bytes crash told others (replaced_here image (set image 0 bytes) old synced) (λ i held left l.
+    let same : i ≡ image = same_Some i image (sym held ∙ synced.held) in
+    subst (λ (j : Image). IsLeft (now j (after_write 0 bytes j old.history)) left → IsReplaced image (set image 0 bytes) left (bytes ∷ old.history.firsts)) (sym same)
+    (λ l'. torn_replaced image left bytes old.history synced.unsynced synced.firsts some l') l)
+
+pub replaced_last : (image : Image) (bytes : List ℕ) {old mid new : DeviceState} (ok : Bool) → LeavesOnly (IsReplaced image (set image 0 bytes)) old mid
+    → mid.held ≡ Some (set image 0 bytes)
+    → IfSome mid.held (λ i. new.history ≡ cond ok (after_sync i mid.history) mid.history) → new.held ≡ mid.held → LeavesOnly (IsReplaced image (set image 0 bytes)) old new
+replaced_last image bytes {old} {mid} {new} ok so_far held crash same =
+    and_then so_far (syncs ok crash same so_far.now (λ i is chance. inr (inl (same_Some i (set image 0 bytes) (sym is ∙ held)))))

@@ -1,0 +1,65 @@
+-- Runs of puts.
+use Rattle.std.proofs.Common.{◌≡◌, ℕ, ◌+◌, List, [], ◌∷◌, ◌++◌, length, set, refl, sym, ◌∙◌, ap, arith, Option, Some, None, length-append}
+use Rattle.std.specs.Prelude.{IfSome}
+use Rattle.pd_image.proofs.CrashLemmas.{at_some}
+use Rattle.pd_draft.specs.Closed.{IsClosed, StaysClosed}
+use Rattle.pd_draft.specs.Placed.{placed, Stand, Wrote}
+use Rattle.pd_draft.proofs.StaysLemmas.{closed_start, closed_then}
+
+abbrev Image : Type 0
+Image = List (List ℕ)
+
+pub placed-append : (image : Image) (place : ℕ) (xs ys : Image) → placed image place (xs ++ ys) ≡ placed (placed image place xs) (place + length xs) ys
+unfolding placed
+placed-append image place [] ys = ap (λ (p : ℕ). placed image p ys) (omega arith)
+placed-append image place (x ∷ xs) ys =
+    placed-append (set image place x) (place + 1) xs ys
+    ∙ ap (λ (p : ℕ). placed (placed (set image place x) (place + 1) xs) p ys) (omega arith)
+
+both_placed : (was mid new : Option Image) (place : ℕ) (next : ℕ) (xs ys : Image) → next ≡ place + length xs
+    → IfSome was (λ image. mid ≡ Some (placed image place xs)) → IfSome mid (λ image. new ≡ Some (placed image next ys))
+    → IfSome was (λ image. new ≡ Some (placed image place (xs ++ ys)))
+both_placed None mid new place next xs ys at first second = tt
+both_placed (Some image) mid new place next xs ys at first second =
+    at_some mid (λ (i : Image). new ≡ Some (placed i next ys)) (placed image place xs) first second
+    ∙ ap (λ (i : Image). Some i) (ap (λ (p : ℕ). placed (placed image place xs) p ys) at ∙ sym (placed-append image place xs ys))
+
+same_placed : (was : Option Image) (place : ℕ) → IfSome was (λ image. was ≡ Some (placed image place []))
+unfolding placed
+same_placed None place = tt
+same_placed (Some image) place = refl
+
+-- before the first put
+pub wrote_none : (stand : Stand) → IsClosed stand.device → Wrote [] stand stand
+wrote_none stand closed = record {
+  moved = omega arith;
+  content = same_placed stand.device.held stand.place;
+  stays = closed_start stand.device closed;
+  faults = refl;
+}
+
+-- one run after another
+pub wrote_then : {xs ys : List (List ℕ)} {a b c : Stand} → Wrote xs a b → Wrote ys b c → Wrote (xs ++ ys) a c
+wrote_then {xs} {ys} {a} {b} {c} first second = record {
+  moved = let sum = length-append xs ys in omega (arith, first.moved, second.moved);
+  content = both_placed a.device.held b.device.held c.device.held a.place b.place xs ys first.moved first.content second.content;
+  stays = closed_then first.stays second.stays;
+  faults = second.faults ∙ first.faults;
+}
+
+one_placed : (was new : Option Image) (place : ℕ) (block : List ℕ) → IfSome was (λ image. new ≡ Some (set image place block))
+    → IfSome was (λ image. new ≡ Some (placed image place (block ∷ [])))
+unfolding placed
+one_placed None new place block put = tt
+one_placed (Some image) new place block put = put
+
+-- one put
+pub wrote_one : (block : List ℕ) (old new : Stand) → new.place ≡ old.place + 1
+    → IfSome old.device.held (λ image. new.device.held ≡ Some (set image old.place block))
+    → StaysClosed old.device new.device → new.device.faults ≡ old.device.faults → Wrote (block ∷ []) old new
+wrote_one block old new moved content stays faults = record {
+  moved = moved;
+  content = one_placed old.device.held new.device.held old.place block content;
+  stays = stays;
+  faults = faults;
+}

@@ -1,0 +1,4 @@
+pub mod Closed
+pub mod Placed
+pub mod Replaced
+pub mod Stand

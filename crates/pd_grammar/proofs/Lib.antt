@@ -1,0 +1,9 @@
+pub mod SplitLemmas
+pub mod NumberLemmas
+pub mod PlainLemmas
+pub mod ShortLemmas
+pub mod LineLemmas
+pub mod GrammarLemmas
+pub mod SpellingLemmas
+pub mod VerdictLemmas
+pub mod TestLemmas

@@ -1,0 +1,165 @@
+-- Words without spaces, and the uuids among them.
+use Rattle.std.proofs.Common.{◌≡◌, inl, ℕ, zero, suc, ◌+◌, ◌*◌, ◌≤◌, ◌<◌, Bool, true, false, ◌&&◌, List, [], ◌∷◌, ◌++◌, length, map, get_or, All, refl, ap, sym, ◌∙◌, arith, eqb, leb, decimal, Option, Some, None, if◌then◌else◌}
+use Rattle.std.proofs.lemmas.Bool.Decides.{Decides-eqb, nat_tests}
+use Rattle.std.proofs.lemmas.Option.{none-some, cond_some, option_and_then_some}
+use Rattle.std.proofs.lemmas.Slice.Eq.{bytes_eq-Decides}
+use Rattle.std.proofs.lemmas.Fmt.{digits_decimal}
+use Rattle.std.specs.Char.{is_ascii_digit}
+use Rattle.std.specs.Str.{all_ascii_digits, bytes_eq}
+use Rattle.std.specs.List.{AllByRecursion, join_with_byte, list_all}
+use Rattle.uuid.specs.Text.{by_index, lower, hyphenated_text, parsed, parsed_simple, simple_text, digits_of, byte_of_digits, value_of, is_hex_digit, nibble, digit_place, is_hyphen_place, hex_digit, has_hyphens}
+use Rattle.uuid.proofs.RoundTrips.{parses_hyphenated, parses_simple}
+use Rattle.uuid.proofs.TextLemmas.{by_index_length, by_index_at, nibble_small}
+use Rattle.pd_grammar.specs.Words.{is_printable, bytes_of, uuid_of, policy_of}
+use Rattle.pd_grammar.proofs.SplitLemmas.{Lacks}
+use Rattle.pd_grammar.proofs.NumberLemmas.{own, both, Fit}
+
+-- bytes that are printed, and aren't spaces
+abbrev pub Plain : List ℕ → Type 0
+Plain bytes = AllByRecursion (λ b. (33 ≤ b) × (b ≤ 126)) bytes
+
+-- a literal word, by a test that computes
+pub plain_word : (word : List ℕ) → list_all (λ b. leb 33 b && leb b 126) word ≡ true → Plain word
+plain_word [] test = tt
+plain_word (b ∷ word) test =
+    let parts = both (leb 33 b && leb b 126) (list_all (λ c. leb 33 c && leb c 126) word) test in
+    ((grind (arith, nat_tests, parts.0), grind (arith, nat_tests, parts.0)), plain_word word parts.1)
+
+pub plain_lacks : (at : ℕ) (bytes : List ℕ) → at < 33 → Plain bytes → Lacks at bytes
+plain_lacks at [] low plain = tt
+plain_lacks at (b ∷ bytes) low plain = (grind (arith, nat_tests, plain.0.0), plain_lacks at bytes low plain.1)
+
+pub words_lack : (words : List (List ℕ)) → AllByRecursion Plain words → AllByRecursion (Lacks 32) words
+words_lack [] plain = tt
+words_lack (w ∷ words) plain = (plain_lacks 32 w (omega arith) plain.0, words_lack words plain.1)
+
+abbrev pub Printable : List ℕ → Type 0
+Printable bytes = list_all is_printable bytes ≡ true
+
+printable_at : (b : ℕ) → 32 ≤ b → b ≤ 126 → is_printable b ≡ true
+printable_at b low high = grind (arith, nat_tests)
+
+joined_printable : (w tail : List ℕ) → Plain w → Printable tail → Printable (w ++ tail)
+joined_printable [] tail plain rest = rest
+joined_printable (b ∷ w) tail plain rest = rw (printable_at b (omega (arith, plain.0.0)) plain.0.1, joined_printable w tail plain.1 rest) refl
+
+printable_word : (w : List ℕ) → Plain w → Printable w
+printable_word [] plain = refl
+printable_word (b ∷ w) plain = rw (printable_at b (omega (arith, plain.0.0)) plain.0.1, printable_word w plain.1) refl
+
+pub printable_join : (words : List (List ℕ)) → AllByRecursion Plain words → Printable (join_with_byte 32 words)
+printable_join [] plain = refl
+printable_join (w ∷ []) plain = printable_word w plain.0
+printable_join (w ∷ v ∷ words) plain = joined_printable w (32 ∷ join_with_byte 32 (v ∷ words)) plain.0 (printable_join (v ∷ words) plain.1)
+
+pub printable_lacks : (bytes : List ℕ) → Printable bytes → Lacks 10 bytes
+printable_lacks [] test = tt
+printable_lacks (b ∷ bytes) test =
+    let parts = both (is_printable b) (list_all is_printable bytes) test in
+    let here : is_printable b ≡ true = parts.0 in
+    (grind (arith, nat_tests), printable_lacks bytes parts.1)
+
+-- numbers
+digits_plain : (bytes : List ℕ) → all_ascii_digits bytes ≡ true → Plain bytes
+digits_plain [] digits = tt
+digits_plain (b ∷ bytes) digits =
+    let parts = both (is_ascii_digit b) (all_ascii_digits bytes) digits in
+    let here : is_ascii_digit b ≡ true = parts.0 in
+    ((grind (arith, nat_tests), grind (arith, nat_tests)), digits_plain bytes parts.1)
+
+pub decimals_plain : (ns : List ℕ) → Fit ns → AllByRecursion Plain (map decimal ns)
+decimals_plain [] fit = tt
+decimals_plain (n ∷ ns) fit = (digits_plain (decimal n) (digits_decimal own n fit.0), decimals_plain ns fit.1)
+
+-- uuids
+plain-append : (xs ys : List ℕ) → Plain xs → Plain ys → Plain (xs ++ ys)
+plain-append [] ys p q = q
+plain-append (x ∷ xs) ys p q = (p.0, plain-append xs ys p.1 q)
+
+by_index_plain : (n : ℕ) (f : ℕ → ℕ) → ((k : ℕ) → (33 ≤ f k) × (f k ≤ 126)) → Plain (by_index n f)
+unfolding by_index
+by_index_plain zero f each = tt
+by_index_plain (suc n) f each = plain-append (by_index n f) (f n ∷ []) (by_index_plain n f each) (each n, tt)
+
+digit_plain : (b : Bool) (d : ℕ) → d < 16 → (33 ≤ (if b then 45 else hex_digit lower d)) × ((if b then 45 else hex_digit lower d) ≤ 126)
+digit_plain true d small = (omega arith, omega arith)
+digit_plain false d small = (grind (arith, nat_tests), grind (arith, nat_tests))
+
+pub uuid_plain : (uuid : List ℕ) → Plain (hyphenated_text lower uuid)
+uuid_plain uuid = by_index_plain 36 (λ k. if is_hyphen_place k then 45 else hex_digit lower (nibble uuid (digit_place k)))
+    (λ k. digit_plain (is_hyphen_place k) (nibble uuid (digit_place k)) (nibble_small uuid (digit_place k)))
+
+pub policy_plain : (policy : List ℕ) → Plain (simple_text lower policy)
+policy_plain policy = by_index_plain 32 (λ k. hex_digit lower (nibble policy k)) (λ k. digit_plain false (nibble policy k) (nibble_small policy k))
+
+-- sixteen bytes in a form that parses are read again
+bytes_again : (form : List ℕ → List ℕ) (bytes : List ℕ) → Some bytes ≡ parsed (form bytes) → bytes_of form (form bytes) ≡ Some bytes
+unfolding bytes_of
+bytes_again form bytes parses =
+    let same : bytes_eq (form bytes) (form bytes) ≡ true = (bytes_eq-Decides (form bytes) (form bytes)).1 refl in
+    rw (← parses, same) refl
+
+pub uuid_again : (uuid : List ℕ) → length uuid ≡ 16 → All (λ b. b < 256) uuid → uuid_of (hyphenated_text lower uuid) ≡ Some uuid
+uuid_again uuid len small = bytes_again (hyphenated_text lower) uuid (parses_hyphenated lower uuid (inl refl) len small)
+
+pub policy_again : (policy : List ℕ) → length policy ≡ 16 → All (λ b. b < 256) policy → policy_of (simple_text lower policy) ≡ Some policy
+policy_again policy len small = bytes_again (simple_text lower) policy (parses_simple lower policy (inl refl) len small)
+
+-- sixteen bytes that were read of a word, in this form
+pub record AreBytes (form : List ℕ → List ℕ) (word bytes : List ℕ) : Type 0 where
+  pub text : form bytes ≡ word
+  pub len : length bytes ≡ 16
+  pub small : All (λ b. b < 256) bytes
+
+value_small : (c : ℕ) → is_hex_digit c ≡ true → value_of c < 16
+value_small c digit = grind (arith, nat_tests)
+
+all_at : (test : ℕ → Bool) (xs : List ℕ) (i d : ℕ) → list_all test xs ≡ true → i < length xs → test (get_or xs i d) ≡ true
+all_at test [] i d all within = absurd (omega arith)
+all_at test (x ∷ xs) zero d all within = (both (test x) (list_all test xs) all).0
+all_at test (x ∷ xs) (suc i) d all within = all_at test xs i d (both (test x) (list_all test xs) all).1 (omega arith)
+
+bytes_small : (hex : List ℕ) (i d : ℕ) → length hex ≡ 32 → list_all is_hex_digit hex ≡ true → i < 16 → get_or (by_index 16 (byte_of_digits hex)) i d < 256
+bytes_small hex i d len digits within =
+    let high = value_small (get_or hex (2 * i) 0) (all_at is_hex_digit hex (2 * i) 0 digits (omega arith)) in
+    let low = value_small (get_or hex (2 * i + 1) 0) (all_at is_hex_digit hex (2 * i + 1) 0 digits (omega arith)) in
+    rw (by_index_at 16 (byte_of_digits hex) i d within) (omega arith)
+
+simple_small : (hex bytes : List ℕ) → parsed_simple hex ≡ Some bytes → (length bytes ≡ 16) × All (λ b. b < 256) bytes
+simple_small hex bytes e =
+    let parts = cond_some (eqb (length hex) 32 && list_all is_hex_digit hex) (by_index 16 (byte_of_digits hex)) bytes e in
+    let tests = both (eqb (length hex) 32) (list_all is_hex_digit hex) parts.0 in
+    rw (← parts.1) (by_index_length 16 (byte_of_digits hex), λ i d within. bytes_small hex i d ((Decides-eqb (length hex) 32).0 tests.0) tests.1 (omega (arith, within, by_index_length 16 (byte_of_digits hex))))
+
+simple_of : (b : Bool) (o : Option (List ℕ)) (bytes : List ℕ) → (if b then o else None) ≡ Some bytes → o ≡ Some bytes
+simple_of true o bytes e = e
+simple_of false o bytes e = absurd (none-some bytes e)
+
+uuid_small : (word bytes : List ℕ) → length word ≡ 36 → parsed word ≡ Some bytes → (length bytes ≡ 16) × All (λ b. b < 256) bytes
+uuid_small word bytes len e =
+    let at36 : (if has_hyphens word then parsed_simple (digits_of word) else None) ≡ Some bytes = rw len at e in
+    simple_small (digits_of word) bytes (simple_of (has_hyphens word) (parsed_simple (digits_of word)) bytes at36)
+
+policy_small : (word bytes : List ℕ) → length word ≡ 32 → parsed word ≡ Some bytes → (length bytes ≡ 16) × All (λ b. b < 256) bytes
+policy_small word bytes len e =
+    let at32 : parsed word ≡ parsed_simple word = rw len refl in
+    simple_small word bytes (sym at32 ∙ e)
+
+bytes_are : (form : List ℕ → List ℕ) (n : ℕ) → ((bytes : List ℕ) → length (form bytes) ≡ n)
+    → ((word bytes : List ℕ) → length word ≡ n → parsed word ≡ Some bytes → (length bytes ≡ 16) × All (λ b. b < 256) bytes)
+    → (word bytes : List ℕ) → bytes_of form word ≡ Some bytes → AreBytes form word bytes
+unfolding bytes_of
+bytes_are form n long small word bytes e =
+    option_and_then_some {P = AreBytes form word bytes} (λ (u : List ℕ). if bytes_eq word (form u) then Some u else None) (parsed word) bytes e
+    (λ u is same.
+    let parts = cond_some (bytes_eq word (form u)) u bytes same in
+    let text : form bytes ≡ word = ap form (sym parts.1) ∙ sym ((bytes_eq-Decides word (form u)).0 parts.0) in
+    let len : length word ≡ n = ap length (sym text) ∙ long bytes in
+    let are = small word bytes len (is ∙ ap (λ (v : List ℕ). Some v) parts.1) in
+    record { text = text; len = are.0; small = are.1 })
+
+pub uuid_is : (word uuid : List ℕ) → uuid_of word ≡ Some uuid → AreBytes (hyphenated_text lower) word uuid
+uuid_is = bytes_are (hyphenated_text lower) 36 (λ bytes. by_index_length 36 _) uuid_small
+
+pub policy_is : (word policy : List ℕ) → policy_of word ≡ Some policy → AreBytes (simple_text lower) word policy
+policy_is = bytes_are (simple_text lower) 32 (λ bytes. by_index_length 32 _) policy_small

@@ -1,0 +1,4 @@
+pub mod Causes
+pub mod Words
+pub mod Texts
+pub mod Spelling

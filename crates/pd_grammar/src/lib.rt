@@ -1,0 +1,9 @@
+//! Texts of lines of words, for every kind: what a text spells, where it is refused and why, and the verdict on a
+//! text where so many blocks are there.
+//!
+//! All of it stands over a record, `TextFormat` of `specs/`, of which each kind's text is one.
+#![tactic(auto)]
+
+mod cause;
+
+pub use cause::TextCause;

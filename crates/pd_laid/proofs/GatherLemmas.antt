@@ -1,0 +1,125 @@
+-- What stands below a node: to a depth that no chain reaches, and in the range of each child.
+use Rattle.std.proofs.Common.{◌≡◌, inl, inr, ℕ, zero, suc, ◌+◌, ◌<◌, ◌≤◌, Bool, true, false, not, ◌&&◌, nat_eq, nat_lt, List, [], ◌∷◌, ◌++◌, length, map, filter, refl, arith}
+use Rattle.std.specs.List.{AllByRecursion, list_any, list_all, flat_map, range_with_len}
+use Rattle.std.proofs.lemmas.Bool.{cases_Bool, cases_lt, both_ways, and_parts, or_parts, le-ltb, lt-ltb}
+use Rattle.std.proofs.lemmas.Bool.Decides.{nat_tests}
+use Rattle.pd_kinds.specs.Node.{Entry}
+use Rattle.pd_kinds.specs.Order.{has_chain, gathered, are_children_in_range}
+
+-- numbers from one on, and below one
+abbrev pub AreFrom : ℕ → List ℕ → Type 0
+AreFrom low keys = AllByRecursion (λ k. low ≤ k) keys
+
+abbrev pub AreBelow : ℕ → List ℕ → Type 0
+AreBelow high keys = AllByRecursion (λ k. k < high) keys
+
+pub from_test : (low : ℕ) (keys : List ℕ) → list_all (λ k. not (nat_lt k low)) keys ≡ true → AreFrom low keys
+from_test low [] all = tt
+from_test low (k ∷ keys) all =
+    let parts = and_parts _ _ all in
+    let first = parts.0 in
+    (grind (arith, nat_tests), from_test low keys parts.1)
+
+pub below_test : (high : ℕ) (keys : List ℕ) → list_all (λ k. nat_lt k high) keys ≡ true → AreBelow high keys
+below_test high [] all = tt
+below_test high (k ∷ keys) all =
+    let parts = and_parts _ _ all in
+    let first = parts.0 in
+    (grind (arith, nat_tests), below_test high keys parts.1)
+
+-- entries whose keys are in a range pass its test
+pub kept_in_range : (low high : ℕ) (entries : List Entry) → AreFrom low (map (λ (e : Entry). e.key) entries) → AreBelow high (map (λ (e : Entry). e.key) entries)
+    → filter (λ (e : Entry). not (nat_lt e.key low) && nat_lt e.key high) entries ≡ entries
+kept_in_range low high [] from below = refl
+kept_in_range low high (e ∷ entries) from below =
+    rw (le-ltb e.key low from.0, lt-ltb e.key high below.0, kept_in_range low high entries from.1 below.1) refl
+
+-- the two parts of a list
+pub all_first : {X : Type 0} → (P : X → Type 0) (xs ys : List X) → AllByRecursion P (xs ++ ys) → AllByRecursion P xs
+all_first P [] ys all = tt
+all_first P (x ∷ xs) ys all = (all.0, all_first P xs ys all.1)
+
+pub all_last : {X : Type 0} → (P : X → Type 0) (xs ys : List X) → AllByRecursion P (xs ++ ys) → AllByRecursion P ys
+all_last P [] ys all = all
+all_last P (x ∷ xs) ys all = all_last P xs ys all.1
+
+-- lists that are joined along a range
+pub all_at : {X : Type 0} → (P : X → Type 0) (f : ℕ → List X) (a n k : ℕ) → AllByRecursion P (flat_map f (range_with_len a n)) → a ≤ k → k < a + n
+    → AllByRecursion P (f k)
+all_at P f a zero k all from below = absurd (omega arith)
+all_at P f a (suc n) k all from below = elim (cases_lt a k) [
+  | inl later ↦ all_at P f (a + 1) n k (all_last P (f a) (flat_map f (range_with_len (a + 1) n)) all) (omega arith) (omega arith)
+  | inr here ↦ let same : a ≡ k = omega arith in rw same at (all_first P (f a) (flat_map f (range_with_len (a + 1) n)) all)
+]
+
+pub all_joined : {X : Type 0} → (P : X → Type 0) (f : ℕ → List X) (a n : ℕ) → ((k : ℕ) → a ≤ k → k < a + n → AllByRecursion P (f k))
+    → AllByRecursion P (flat_map f (range_with_len a n))
+all_joined P f a zero each = tt
+all_joined P f a (suc n) each =
+    both P (f a) (flat_map f (range_with_len (a + 1) n)) (each a (omega arith) (omega arith))
+    (all_joined P f (a + 1) n (λ k from below. each k (omega arith) (omega arith)))
+  where
+    both : {X : Type 0} → (P : X → Type 0) (xs ys : List X) → AllByRecursion P xs → AllByRecursion P ys → AllByRecursion P (xs ++ ys)
+    both P [] ys first last = last
+    both P (x ∷ xs) ys first last = (first.0, both P xs ys first.1 last)
+
+pub same_joined : {X : Type 0} → (f g : ℕ → List X) (a n : ℕ) → ((k : ℕ) → a ≤ k → k < a + n → f k ≡ g k)
+    → flat_map f (range_with_len a n) ≡ flat_map g (range_with_len a n)
+same_joined f g a zero each = refl
+same_joined f g a (suc n) each =
+    rw (each a (omega arith) (omega arith), same_joined f g (a + 1) n (λ k from below. each k (omega arith) (omega arith))) refl
+
+-- lists that are joined along those that fail a test
+same_where : {X : Type 0} → (test : ℕ → Bool) (f g : ℕ → List X) (ps : List ℕ) → list_any test ps ≡ false → ((p : ℕ) → test p ≡ false → f p ≡ g p)
+    → flat_map f ps ≡ flat_map g ps
+same_where test f g [] none each = refl
+same_where test f g (p ∷ ps) none each =
+    let parts = or_parts (test p) (list_any test ps) none in
+    rw (each p parts.0, same_where test f g ps parts.1 each) refl
+
+module _ {X : Type 0} (inner : ℕ → Bool) (down : ℕ → List ℕ) (own : ℕ → List X) where
+  -- a leaf has its own, to any depth
+  pub gathered_leaf : (j p : ℕ) → inner p ≡ false → gathered inner down own j p ≡ own p
+  unfolding gathered
+  gathered_leaf zero p leaf = rw leaf refl
+  gathered_leaf (suc j) p leaf = rw leaf refl
+
+  pub gathered_inner : (j p : ℕ) → inner p ≡ true → gathered inner down own (suc j) p ≡ flat_map (gathered inner down own j) (down p)
+  unfolding gathered
+  gathered_inner j p is = rw is refl
+
+  nothing_below : (xs : List ℕ) → list_any (has_chain down 0) xs ≡ false → xs ≡ []
+  unfolding has_chain
+  nothing_below [] none = refl
+  nothing_below (x ∷ xs) none = absurd (both_ways true none refl)
+
+  -- a depth that no chain passes gives all
+  pub stable : (i m p : ℕ) → i ≤ m → has_chain down (suc i) p ≡ false → gathered inner down own m p ≡ gathered inner down own i p
+  unfolding gathered has_chain
+  stable zero zero p within none = refl
+  stable zero (suc m) p within none = rw (nothing_below (down p) none) refl
+  stable (suc i) zero p within none = absurd (omega arith)
+  stable (suc i) (suc m) p within none = elim (cases_Bool (inner p)) [
+    | inl is ↦
+        rw is (same_where (has_chain down (suc i)) (gathered inner down own m) (gathered inner down own i) (down p) none
+        (λ q ends. stable i m q (omega arith) ends))
+    | inr leaf ↦ rw leaf refl
+  ]
+
+-- the range of child i of a node
+pub child_range : (low : ℕ → ℕ) (keys : ℕ → List ℕ) (d n a : ℕ) → d < n → are_children_in_range (map low (range_with_len a n)) (map keys (range_with_len a n)) ≡ true
+    → (list_all (λ k. not (nat_lt k (low (a + d)))) (keys (a + d)) ≡ true) × (d + 1 < n → list_all (λ k. nat_lt k (low (a + d + 1))) (keys (a + d)) ≡ true)
+unfolding are_children_in_range
+child_range low keys d zero a within is = absurd (omega arith)
+child_range low keys zero (suc zero) a within is =
+    let here : a + 0 ≡ a = omega arith in
+    rw here ((and_parts (not (nat_eq (length (keys a)) 0)) (list_all (λ k. not (nat_lt k (low a))) (keys a)) is).1, λ more. absurd (omega arith))
+child_range low keys zero (suc (suc n)) a within is =
+    let here : a + 0 ≡ a = omega arith in
+    let parts = and_parts _ _ (and_parts _ _ (and_parts _ _ is).0).1 in
+    rw here (parts.0, λ more. parts.1)
+child_range low keys (suc d) (suc zero) a within is = absurd (omega arith)
+child_range low keys (suc d) (suc (suc n)) a within is =
+    let here : a + suc d ≡ a + 1 + d = omega arith in
+    let rest = child_range low keys d (suc n) (a + 1) (omega arith) (and_parts _ _ is).1 in
+    rw here (rest.0, λ more. rest.1 (omega arith))

@@ -1,0 +1,11 @@
+pub mod Tree
+pub mod Laid
+pub mod Array
+pub mod Map
+pub mod Shape
+pub mod LaidThin
+pub mod CacheSuper
+pub mod LaidCache
+pub mod EraSuper
+pub mod LaidEra
+pub mod Salvage

@@ -1,0 +1,12 @@
+pub mod ThinRead
+pub mod ThinMeaning
+pub mod ThinLaws
+pub mod ThinJoin
+pub mod CacheRead
+pub mod CacheLaws
+pub mod EraRead
+pub mod EraLaws
+pub mod NeedLemmas
+pub mod ThinVerdict
+pub mod CacheVerdict
+pub mod EraVerdict
