@@ -7,7 +7,7 @@ use Rattle.pd_kinds.specs.declared.fault.Fault.{Fault}
 use Rattle.pd_kinds.specs.declared.fault.Space.{Space}
 use Rattle.pd_kinds.specs.declared.fault.Space.TheVariants.{Meta, DataBlock}
 use Rattle.pd_kinds.specs.Rule.{rule_name}
-use Rattle.pd_kinds.specs.Report.{report_of}
+use Rattle.pd_kinds.specs.Report.{Reported}
 
 -- the word for a space
 abbrev pub space_name : Space → List ℕ
@@ -31,9 +31,8 @@ unfoldable pub lines_of : List Fault → ℕ → List ℕ
 lines_of faults zero = codes "clean" ++ (10 ∷ [])
 lines_of faults (suc n) = flat_map fault_line faults ++ (codes "faults " ++ (decimal (suc n) ++ (10 ∷ [])))
 
--- the report of a list of faults: the first thousand, and the number of all
-unfoldable pub report_lines : List Fault → List ℕ
-report_lines faults = lines_of (report_of faults).faults (report_of faults).total
+abbrev pub reported_lines : Reported → List ℕ
+reported_lines report = lines_of report.faults report.total
 
 -- the line of status 2
 abbrev pub usage_line : List ℕ

@@ -1,2 +1,3 @@
-pub mod PutReport
 pub mod Answered
+pub mod Checks
+pub mod AtRest

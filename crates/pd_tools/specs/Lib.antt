@@ -1,2 +1,4 @@
 pub mod Notes
-pub mod Check
+pub mod Stop
+pub mod Read
+pub mod Work

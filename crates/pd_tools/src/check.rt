@@ -1,114 +1,137 @@
 //! A check, from the path of the image to the report and the status.
 
-ghost use Rattle.std.specs.Prelude.{◌≡◌, ◌≢◌, [], OnOk, IfOk, IfErr, IfSome};
-ghost use Rattle.pd_kinds.specs.declared.kind.Kind.TheVariants.{Thin};
-ghost use Rattle.pd_kinds.specs.Objects.{CountsFault, Appends, AppendsFront};
-ghost use Rattle.pd_kinds.specs.Stages.{IsBuilt, faults};
+ghost use Rattle.std.specs.Prelude.{◌≡◌, [], OnOk, IfOk, IfErr, IfSome, MatchResult, if◌then◌else◌};
+ghost use Rattle.pd_kinds.specs.Objects.{CountsFault, Appends, AppendsFront, SinkState};
 ghost use Rattle.pd_kinds.specs.Report.{report_of};
-ghost use Rattle.pd_answers.specs.Lines.{lines_of};
+ghost use Rattle.pd_kinds.specs.Stages.{faults};
 ghost use Rattle.pd_kinds.specs.Crash.{IsUntouched};
-ghost use Rattle.pd_answers.specs.Answer.{IsAccess, reading};
-ghost use Rattle.pd_tools.specs.Check.{Checks, Ends, IsUnread, stop_line, stop_status};
-ghost use Rattle.pd_tools.specs.Notes.{PutsLine};
+ghost use Rattle.pd_answers.specs.Lines.{reported_lines};
+ghost use Rattle.pd_answers.specs.Answer.{Objects, IsUsed, reading};
+ghost use Rattle.pd_answers.specs.Promises.{check};
+ghost use Rattle.pd_tools.specs.Read.{IsBuiltCheck, IsUnread};
+ghost use Rattle.pd_tools.specs.Work.{IsFinished, IsStopped, Answers};
 
-use crate::notes::{DEVICE_LINE, MEMORY_LINE, SINK_LINE, put_line};
+use crate::stop::Stop;
 use pd_image::{Device, Failed, Sink};
-use pd_kinds::{Report, Stage};
+use pd_kinds::{Kind, Report, Stage};
 use pd_lines::print_report;
 use pd_thin::{CheckFault, check_thin};
 use std::alloc::Global;
 
-/// What kept a check from its report.
-#[derive(Clone, Copy, Debug, PartialEq, Eq)]
-pub enum Stop {
-    /// Memory wasn't found, or the device failed.
-    Unread(CheckFault),
-    /// The sink of the report failed.
-    Unwritten,
+/// Checks the metadata of this kind in the image at the path up to a stage, and puts the report.
+pub fn run_check<K: Sink, E: Sink, A: Device>(
+    alloc: Global,
+    kind: Kind,
+    until: Stage,
+    image: &str,
+    out: &mut K,
+    notes: &mut E,
+    input: &mut A,
+) -> u8
+    requires built { IsBuiltCheck kind until }
+    requires out { (K.state out.old).access ≡ 0 }
+    requires notes { (E.state notes.old).access ≡ 1 }
+    requires input { (A.state input.old).access ≡ 0 }
+    ensures { (others : Objects) → Answers (check kind until image.now) (E.state notes.old)
+        (record others { out = K.state out.old; input = A.state input.old })
+        (record others { out = K.state out.new; notes = E.state notes.new; input = A.state input.new }) result }
+{
+    match check_image(alloc, kind, until, image, out, input) {
+        Ok(clean) => { if clean { 0 } else { 1 } }
+        Err(stop) => stop.put(notes),
+    }
 }
 
-/// Checks the thin pool's metadata in the image at the path up to a stage, and puts the report: whether
-/// the image is clean.
-pub fn check_image<K: Sink, A: Device>(
+/// Checks the image, and puts the report: whether it is clean.
+fn check_image<K: Sink, A: Device>(
     alloc: Global,
-    image: &str,
+    kind: Kind,
     until: Stage,
+    image: &str,
     out: &mut K,
     input: &mut A,
 ) -> Result<bool, Stop>
-    requires built { IsBuilt until }
+    requires built { IsBuiltCheck kind until }
     requires out { (K.state out.old).access ≡ 0 }
     requires input { (A.state input.old).access ≡ 0 }
-    ensures { Checks Thin until image.now result (K.state out.old) (K.state out.new) (A.state input.old) (A.state input.new) }
+    ensures { (others : Objects) (notes : SinkState) →
+        let before = record others { out = K.state out.old; input = A.state input.old } in
+        let after = record others { out = K.state out.new; notes = notes; input = A.state input.new } in
+        MatchResult result (λ clean. IsFinished (check kind until image.now) before after (if clean then 0 else 1) [])
+        (IsStopped (check kind until image.now) before after) }
 {
-    let report = match read_report(alloc, image, until, input) {
+    let report = match read_report(alloc, kind, until, image, input) {
         Ok(report) => report,
-        Err(fault) => return Err(Stop::Unread(fault)),
+        Err(stop) => return Err(stop),
     };
     match put_report(&report, out) {
         Ok(()) => Ok(report.is_empty()),
-        Err(_) => Err(Stop::Unwritten),
+        Err(_) => Err(Stop::Stream),
     }
 }
 
 /// Attaches the device for reading, and checks what it holds.
-fn read_report<A: Device>(
+pub fn read_report<A: Device>(
     alloc: Global,
-    image: &str,
+    kind: Kind,
     until: Stage,
+    image: &str,
     input: &mut A,
-) -> Result<Report, CheckFault>
-    requires built { IsBuilt until }
+) -> Result<Report, Stop>
+    requires built { IsBuiltCheck kind until }
     requires input { (A.state input.old).access ≡ 0 }
-    ensures report { IfOk result (λ report. IfSome (A.state input.old).held (λ image. report ≡ report_of (faults Thin until image))) }
+    ensures report { IfOk result (λ report. IfSome (A.state input.old).held (λ image. report ≡ report_of (faults kind until image))) }
     ensures access { OnOk result ((A.state input.new).access ≡ 1) }
-    ensures path { IfSome (A.state input.new).path (λ told. told ≡ image.now) }
+    ensures used { IsUsed (reading image.now) (A.state input.new).access (A.state input.new).path }
     ensures untouched { IsUntouched (A.state input.old) (A.state input.new) }
     ensures kept { OnOk result ((A.state input.new).faults ≡ (A.state input.old).faults) }
-    ensures stopped { IfErr result (IsUnread Thin until image.now (A.state input.old) (A.state input.new)) }
+    ensures stopped { IfErr result (IsUnread kind until (A.state input.old) (A.state input.new)) }
 {
-    match input.attach(image, false) {
-        Ok(()) => check_thin(alloc, input, until),
-        Err(_) => Err(CheckFault::Device),
+    if input.attach(image, false).is_err() {
+        return Err(Stop::Device);
+    }
+    check_attached(alloc, kind, until, input)
+}
+
+/// Checks what a device that is attached holds.
+fn check_attached<A: Device>(
+    alloc: Global,
+    kind: Kind,
+    until: Stage,
+    input: &mut A,
+) -> Result<Report, Stop>
+    requires built { IsBuiltCheck kind until }
+    requires input { (A.state input.old).access ≡ 1 }
+    ensures report { IfOk result (λ report. IfSome (A.state input.old).held (λ image. report ≡ report_of (faults kind until image))) }
+    ensures access { (A.state input.new).access ≡ 1 }
+    ensures path { (A.state input.new).path ≡ (A.state input.old).path }
+    ensures untouched { IsUntouched (A.state input.old) (A.state input.new) }
+    ensures kept { OnOk result ((A.state input.new).faults ≡ (A.state input.old).faults) }
+    ensures stopped { IfErr result (IsUnread kind until (A.state input.old) (A.state input.new)) }
+{
+    let checked = match kind {
+        Kind::Thin => check_thin(alloc, input, until),
+        Kind::Cache => unreachable!(),
+        Kind::Era => unreachable!(),
+    };
+    match checked {
+        Ok(report) => Ok(report),
+        Err(fault) => match fault {
+            CheckFault::Memory => Err(Stop::Memory),
+            CheckFault::Device => Err(Stop::Device),
+        },
     }
 }
 
 /// Attaches the standard output, and puts the report to it.
 fn put_report<K: Sink>(report: &Report, out: &mut K) -> Result<(), Failed>
     requires { (K.state out.old).access ≡ 0 }
-    ensures whole { OnOk result (Appends (lines_of report.now.faults report.now.total) (K.state out.old).written (K.state out.new).written) }
-    ensures front { AppendsFront (lines_of report.now.faults report.now.total) (K.state out.old).written (K.state out.new).written }
+    ensures whole { OnOk result (Appends (reported_lines report.now) (K.state out.old).written (K.state out.new).written) }
+    ensures front { AppendsFront (reported_lines report.now) (K.state out.old).written (K.state out.new).written }
     ensures access { OnOk result ((K.state out.new).access ≡ 1) }
-    ensures used { IsAccess (reading []) (K.state out.new).access }
-    ensures path { IfSome (K.state out.new).path (λ told. told ≡ []) }
+    ensures used { IsUsed (reading []) (K.state out.new).access (K.state out.new).path }
     ensures faults { CountsFault result (K.state out.old).faults (K.state out.new).faults }
 {
     out.attach(None)?;
     print_report(report, out)
-}
-
-/// The status of a check: 0 where it is clean, 1 where it has faults; else `notes` gets a line, and the
-/// status is 5 where the device failed, 6 where a sink did, and 7 where memory wasn't found.
-pub fn status_of<E: Sink>(outcome: Result<bool, Stop>, notes: &mut E) -> u8
-    requires { (E.state notes.old).access ≡ 1 }
-    ensures { Ends outcome result (E.state notes.old) (E.state notes.new) }
-{
-    match outcome {
-        Ok(clean) => { if clean { 0 } else { 1 } }
-        Err(stop) => put_stop(stop, notes),
-    }
-}
-
-/// Puts the line that says what stopped a check, and answers its status.
-fn put_stop<E: Sink>(stop: Stop, notes: &mut E) -> u8
-    requires { (E.state notes.old).access ≡ 1 }
-    ensures { PutsLine (stop_line stop) (stop_status stop) result (E.state notes.old) (E.state notes.new) }
-{
-    match stop {
-        Stop::Unread(fault) => match fault {
-            CheckFault::Device => put_line(notes, DEVICE_LINE, 5),
-            CheckFault::Memory => put_line(notes, MEMORY_LINE, 7),
-        },
-        Stop::Unwritten => put_line(notes, SINK_LINE, 6),
-    }
 }

@@ -3,12 +3,7 @@
 
 mod check;
 mod notes;
-#[cfg(test)]
-mod pool;
 mod run;
-#[cfg(test)]
-mod tests;
-#[cfg(test)]
-mod walk_tests;
+mod stop;
 
 pub use run::run_tool;

@@ -1,14 +1,15 @@
 //! The top call.
 
-ghost use Rattle.std.specs.Prelude.{◌≡◌, map, string_bytes};
-ghost use Rattle.pd_kinds.specs.Objects.{DeviceState, SourceState, SinkState};
+ghost use Rattle.std.specs.Prelude.{◌≡◌, true, Some, length, map, string_bytes};
 ghost use Rattle.pd_answers.specs.Words.{asked};
-ghost use Rattle.pd_kinds.specs.Stages.{IsBuilt};
-ghost use Rattle.pd_answers.specs.Answer.{objects, AreFresh, IsAnswered};
-ghost use Rattle.pd_tools.specs.Notes.{IsAttachedNotes};
-ghost use Rattle.pd_words.specs.Words.{request_of};
+ghost use Rattle.pd_answers.specs.Requests.{is_built};
+ghost use Rattle.pd_answers.specs.Answer.{Objects, objects, AreFresh};
+ghost use Rattle.pd_answers.specs.Terms.{IsAnswered};
+ghost use Rattle.pd_answers.specs.Promises.{terms_of};
+ghost use Rattle.pd_words.specs.Words.{AreNames, request_as};
+ghost use Rattle.pd_tools.specs.Work.{Answers};
 
-use crate::check::{check_image, status_of};
+use crate::check::run_check;
 use crate::notes::{USAGE_LINE, put_line};
 use pd_image::{Device, Sink, Source};
 use pd_words::{Request, read_words};
@@ -40,37 +41,52 @@ pub fn run_tool<S: Source, K: Sink, E: Sink, A: Device, B: Device, C: Device>(
     requires { AreFresh (objects (S.state source.old) (K.state out.old) (E.state notes.old) (A.state input.old) (B.state output.old) (C.state third.old)) }
     ensures { let before = objects (S.state source.old) (K.state out.old) (E.state notes.old) (A.state input.old) (B.state output.old) (C.state third.old) in
         let after = objects (S.state source.new) (K.state out.new) (E.state notes.new) (A.state input.new) (B.state output.new) (C.state third.new) in
-        IsAnswered (asked (map string_bytes words.now)) before after result }
+        IsAnswered (terms_of (asked (map string_bytes words.now))) before after result }
 {
     match notes.attach(None) {
         Ok(()) => match read_words(words) {
-            None => put_line(notes, USAGE_LINE, 2),
-            Some(request) => run_request(alloc, request, out, notes, input),
+            Ok(request) => run_request(alloc, words, request, out, notes, input),
+            Err(_) => put_line(notes, USAGE_LINE, 2),
         },
         Err(_) => 6,
     }
 }
 
-/// Does a request, with `notes` attached: its clause is that of the top call, whatever the other objects
+/// Does a request of these words, with `notes` attached: its clause is that of the top call, whatever the other objects
 /// are.
+#[tactic(auto, unfolding(pd_answers::specs::Requests::is_built))]
 fn run_request<K: Sink, E: Sink, A: Device>(
     alloc: Global,
-    request: Request<'_>,
+    words: &[String],
+    request: Request,
     out: &mut K,
     notes: &mut E,
     input: &mut A,
 ) -> u8
-    requires built { IsBuilt request.until }
+    requires names { AreNames (length words.now) request }
+    requires built { is_built (request_as (map string_bytes words.now) request) ≡ true }
     requires out { (K.state out.old).access ≡ 0 }
     requires notes { (E.state notes.old).access ≡ 1 }
     requires input { (A.state input.old).access ≡ 0 }
-    ensures { (source : SourceState) (unattached : SinkState) (output third : DeviceState)
-        → AreFresh (objects source (K.state out.old) unattached (A.state input.old) output third)
-        → IsAttachedNotes unattached (E.state notes.old)
-        → IsAnswered (Some (request_of request.entry))
-        (objects source (K.state out.old) unattached (A.state input.old) output third)
-        (objects source (K.state out.new) (E.state notes.new) (A.state input.new) output third) result }
+    ensures { (others : Objects) → Answers (terms_of (Some (request_as (map string_bytes words.now) request))) (E.state notes.old)
+        (record others { out = K.state out.old; input = A.state input.old })
+        (record others { out = K.state out.new; notes = E.state notes.new; input = A.state input.new }) result }
 {
-    let outcome = check_image(alloc, request.image, request.until, out, input);
-    status_of(outcome, notes)
+    match request {
+        Request::Check {
+            kind,
+            until,
+            clear: _,
+            image,
+        } => run_check(alloc, kind, until, image.word_in(words), out, notes, input),
+        Request::Dump { .. } => unreachable!(),
+        Request::Restore { .. } => unreachable!(),
+        Request::Repair { .. } => unreachable!(),
+        Request::Search { .. } => unreachable!(),
+        Request::Rmap { .. } => unreachable!(),
+        Request::List { .. } => unreachable!(),
+        Request::Since { .. } => unreachable!(),
+        Request::Generate { .. } => unreachable!(),
+        Request::Rehearse { .. } => unreachable!(),
+    }
 }

@@ -1,13 +1,59 @@
 -- What a request that was read means.
-use Rattle.std.specs.Prelude.{Option, Some, None}
-use Rattle.pd_words.specs.declared.words.Request.{Request}
-use Rattle.pd_answers.specs.Words as words
+use Rattle.std.specs.Prelude.{ℕ, ◌<◌, List, Option, Some, None, IfSome, Result, Ok, Err}
+use Rattle.std.specs.Option.{option_map}
+use Rattle.pd_words.specs.declared.request.Name.{Name}
+use Rattle.pd_words.specs.declared.request.Request.{Request}
+use Rattle.pd_words.specs.declared.request.Request.TheVariants.{Check, Dump, Restore, Repair, Search, Rmap, List as ListDevices, Since, Generate, Rehearse}
+use Rattle.pd_words.specs.declared.request.WordFault.{WordFault}
+use Rattle.pd_words.specs.Items.{word_at}
+use Rattle.pd_answers.specs.Requests as requests
 
--- the request as the definitions speak of it
-abbrev pub request_of : Request → words.Request
-request_of request = words.thin_check request.until request.image.now
+-- the word of a name, and of one that may be left out
+abbrev pub word_of : List (List ℕ) → Name → List ℕ
+word_of words name = word_at words name.0
+
+abbrev pub words_of : List (List ℕ) → Option Name → Option (List ℕ)
+words_of words name = option_map (word_of words) name
+
+-- the request as the definitions speak of it, with the words that its names stand for
+abbrev pub request_as : List (List ℕ) → Request → requests.Request
+request_as words (Check kind until clear image) = requests.check kind until clear (word_of words image)
+request_as words (Dump kind image out shared) = requests.dump kind shared (words_of words out) (word_of words image)
+request_as words (Restore kind text image version) = requests.restore kind version (word_of words text) (word_of words image)
+request_as words (Repair input output) = requests.repair (word_of words input) (word_of words output)
+request_as words (Search input output transaction block_size blocks) =
+    requests.search (word_of words input) (word_of words output) transaction block_size blocks
+request_as words (Rmap first end image out) = requests.rmap first end (words_of words out) (word_of words image)
+request_as words (ListDevices image out) = requests.list_devices (words_of words out) (word_of words image)
+request_as words (Since era image out) = requests.since era (words_of words out) (word_of words image)
+request_as words (Generate number out) = requests.generate number (words_of words out)
+request_as words (Rehearse number image) = requests.rehearse number (word_of words image)
 
 -- the request that was read, if one was
-abbrev pub spelled : Option Request → Option words.Request
-spelled None = None
-spelled (Some request) = Some (request_of request)
+abbrev pub read_as : List (List ℕ) → Option Request → Option requests.Request
+read_as words None = None
+read_as words (Some request) = Some (request_as words request)
+
+abbrev pub answer_as : List (List ℕ) → Result Request WordFault → Option requests.Request
+answer_as words (Ok request) = Some (request_as words request)
+answer_as words (Err fault) = None
+
+-- a name is the index of one of so many words
+abbrev pub IsName : ℕ → Name → Type 0
+IsName number name = name.0 < number
+
+abbrev pub IsNameIfAny : ℕ → Option Name → Type 0
+IsNameIfAny number name = IfSome name (IsName number)
+
+-- each name of a request is
+abbrev pub AreNames : ℕ → Request → Type 0
+AreNames number (Check kind until clear image) = IsName number image
+AreNames number (Dump kind image out shared) = IsName number image × IsNameIfAny number out
+AreNames number (Restore kind text image version) = IsName number text × IsName number image
+AreNames number (Repair input output) = IsName number input × IsName number output
+AreNames number (Search input output transaction block_size blocks) = IsName number input × IsName number output
+AreNames number (Rmap first end image out) = IsName number image × IsNameIfAny number out
+AreNames number (ListDevices image out) = IsName number image × IsNameIfAny number out
+AreNames number (Since era image out) = IsName number image × IsNameIfAny number out
+AreNames number (Generate number' out) = IsNameIfAny number out
+AreNames number (Rehearse number' image) = IsName number image

@@ -1,6 +1,9 @@
 //! The words of a command line, and the request that they spell.
 #![tactic(auto)]
 
+mod items;
+mod request;
 mod words;
 
-pub use words::{Request, read_words};
+pub use request::{Name, Request, WordFault};
+pub use words::read_words;

@@ -1,109 +1,174 @@
-ghost use Rattle.std.specs.Prelude.{◌≡◌, ◌∷◌, [], map, string_bytes, None, IfSome, if◌then◌else◌};
-ghost use Rattle.std.specs.Option.{option_and_then, option_map};
-ghost use Rattle.pd_answers.specs.Words.{asked, is_value, items_of, stage_of, thin_check_request, until_word};
-ghost use Rattle.pd_kinds.specs.Stages.{IsBuilt};
-ghost use Rattle.pd_answers.specs.Words as request;
-ghost use Rattle.pd_words.specs.Words.{spelled};
+ghost use Rattle.std.specs.Prelude.{◌≡◌, ℕ, List, true, map, drop, string_bytes, length, IfSome, IfOk};
+ghost use Rattle.std.specs.Option.{option_map};
+ghost use Rattle.pd_answers.specs.Words.{asked, stage_of, last_stage, items_of, sole, at_most_one, is_set, check_with};
+ghost use Rattle.pd_answers.specs.Words as words_spec;
+ghost use Rattle.pd_answers.specs.Requests.{is_built};
+ghost use Rattle.pd_words.specs.Items.{given_as, IsGivenWithin, tool_as};
+ghost use Rattle.pd_words.specs.Words.{request_as, read_as, answer_as, word_of, words_of, AreNames, IsName, IsNameIfAny};
 
-use pd_kinds::Stage;
+use crate::items::{Given, IMAGE, Tool, are_items, given_for, tool_named};
+use crate::request::{Name, Request, WordFault};
+use pd_kinds::{Kind, Stage};
 
-/// What the words of a command line ask for: the check of the metadata of a thin pool up to a stage. It is
-/// the only request that is built.
-#[derive(Clone, Copy)]
-pub struct Request<'a> {
-    /// The last stage that is looked at.
-    pub until: Stage,
-    /// The path of the image, a word of the command line.
-    pub image: &'a str,
-}
-
-/// The request that the words spell, without the program's own name; none where they spell none.
+/// The request that the words spell, without the program's own name.
 ///
-/// After the name of the tool come, in any order, an option's word followed by its value, and the one
-/// operand. Each option comes at most once. A value or an operand isn't empty and doesn't begin with
-/// `-`. The stage of a check is one that is built.
-pub fn read_words(words: &[String]) -> Option<Request<'_>>
-    ensures asked { spelled result ≡ asked (map string_bytes words.now) }
-    ensures built { IfSome result (λ request. IsBuilt request.until) }
+/// The first word is the name of a tool. After it come, in any order, an option's word followed by its value, a flag's
+/// word, or the one operand. Each comes at most once. A value or an operand isn't empty and doesn't begin with `-`.
+///
+/// Fails with `WordFault::Usage` where the words spell no request that is built. It takes no memory.
+pub fn read_words(words: &[String]) -> Result<Request, WordFault>
+    ensures asked { answer_as (map string_bytes words.now) result ≡ asked (map string_bytes words.now) }
+    ensures names { IfOk result (AreNames (length words.now)) }
+    ensures built { IfOk result (λ request. is_built (request_as (map string_bytes words.now) request) ≡ true) }
 {
-    match words {
-        [] => None,
-        [tool, rest @ ..] => read_tool(tool.as_str(), rest),
+    if words.is_empty() {
+        return Err(WordFault::Usage);
+    }
+    match tool_named(words[0].as_str()) {
+        None => Err(WordFault::Usage),
+        Some(tool) => {
+            if are_items(tool, words, 1) {
+                read_built(tool, words)
+            } else {
+                Err(WordFault::Usage)
+            }
+        }
     }
 }
 
-/// The request of the words after the name of a tool.
-#[tactic(auto, unfolding(pd_answers::specs::Words::asked))]
-fn read_tool<'a>(tool: &str, words: &'a [String]) -> Option<Request<'a>>
-    ensures asked { spelled result ≡ asked (tool.now ∷ map string_bytes words.now) }
-    ensures built { IfSome result (λ request. IsBuilt request.until) }
+/// What the words ask of a tool, if it is built.
+fn read_built(tool: Tool, words: &[String]) -> Result<Request, WordFault>
+    ensures asked { IfSome (items_of (drop 1 (map string_bytes words.now))) (λ items. answer_as (map string_bytes words.now) result ≡ words_spec.built (words_spec.request_of (tool_as tool) items)) }
+    ensures names { IfOk result (AreNames (length words.now)) }
+    ensures built { IfOk result (λ request. is_built (request_as (map string_bytes words.now) request) ≡ true) }
 {
-    if tool == "thin_check" {
-        read_thin_check(words)
-    } else {
-        None
+    match read_request(tool, words) {
+        None => Err(WordFault::Usage),
+        Some(request) => {
+            if is_built(&request) {
+                Ok(request)
+            } else {
+                Err(WordFault::Usage)
+            }
+        }
     }
 }
 
-/// The request of the words after `thin_check`.
-fn read_thin_check(words: &[String]) -> Option<Request<'_>>
-    ensures asked { spelled result ≡ option_and_then thin_check_request (items_of (until_word ∷ []) (map string_bytes words.now)) }
-    ensures built { IfSome result (λ request. IsBuilt request.until) }
+/// The table of what is built.
+#[tactic(auto, unfolding(pd_answers::specs::Requests::is_built))]
+fn is_built(request: &Request) -> bool
+    ensures { (words : List (List ℕ)) → result ≡ is_built (request_as words request.now) }
 {
-    if words.len() != 3 {
-        return None;
-    }
-    check_image(words[0].as_str(), words[1].as_str(), words[2].as_str())
-}
-
-/// The request of the three words after `thin_check`, of which one names the image.
-fn check_image<'a>(first: &'a str, second: &'a str, third: &'a str) -> Option<Request<'a>>
-    ensures asked { spelled result ≡ option_and_then thin_check_request (items_of (until_word ∷ []) (first.now ∷ second.now ∷ third.now ∷ [])) }
-    ensures built { IfSome result (λ request. IsBuilt request.until) }
-{
-    if first == "--until" {
-        check_until(second, third)
-    } else if second == "--until" {
-        check_until(third, first)
-    } else {
-        None
+    match *request {
+        Request::Check { kind, until, clear, image: _ } => match kind {
+            Kind::Thin => match until {
+                Stage::Super => !clear,
+                Stage::Walk => !clear,
+                _ => false,
+            },
+            _ => false,
+        },
+        _ => false,
     }
 }
 
-/// The check of an image up to a stage, where one word names a stage that is built and the other can be
-/// an operand.
-fn check_until<'a>(stage: &str, image: &'a str) -> Option<Request<'a>>
-    ensures asked { spelled result ≡ (if is_value image.now then option_map (λ until. request.thin_check until image.now) (stage_of stage.now) else None) }
-    ensures built { IfSome result (λ request. IsBuilt request.until) }
+/// What the words ask of a tool.
+fn read_request(tool: Tool, words: &[String]) -> Option<Request>
+    ensures asked { IfSome (items_of (drop 1 (map string_bytes words.now))) (λ items. read_as (map string_bytes words.now) result ≡ words_spec.request_of (tool_as tool) items) }
+    ensures names { IfSome result (AreNames (length words.now)) }
 {
-    if !is_operand(image) {
-        return None;
-    }
-    match stage_named(stage) {
-        Some(until) => Some(Request { until, image }),
-        None => None,
+    match tool {
+        Tool::Check(kind) => read_check(kind, words),
     }
 }
 
-/// The stage that a word names, if it is one that is built.
-#[tactic(auto, unfolding(pd_answers::specs::Words::stage_of))]
-fn stage_named(word: &str) -> Option<Stage>
-    ensures named { result ≡ stage_of word.now }
-    ensures built { IfSome result IsBuilt }
+/// What the words ask of a check.
+#[tactic(auto, unfolding(pd_answers::specs::Words::request_of))]
+fn read_check(kind: Kind, words: &[String]) -> Option<Request>
+    ensures asked { IfSome (items_of (drop 1 (map string_bytes words.now))) (λ items. read_as (map string_bytes words.now) result ≡ words_spec.request_of (words_spec.check_tool kind) items) }
+    ensures names { IfSome result (AreNames (length words.now)) }
 {
-    match word {
-        "super" => Some(Stage::Super),
-        "walk" => Some(Stage::Walk),
+    let until = last_stage(words, optional(given_for(words, 1, "--until"))?)?;
+    let clear = flag(given_for(words, 1, "--clear-needs-check-flag"))?;
+    let image = required(given_for(words, 1, IMAGE))?;
+    check_with(kind, until, clear, image)
+}
+
+/// A check; the flag stands only where the whole image is checked.
+fn check_with(kind: Kind, until: Stage, clear: bool, image: Name) -> Option<Request>
+    ensures asked { (words : List (List ℕ)) → read_as words result ≡ check_with kind until clear (word_of words image) }
+    ensures names { (number : ℕ) → IsName number image → IfSome result (AreNames number) }
+{
+    if clear {
+        match until {
+            Stage::Counts => {}
+            _ => return None,
+        }
+    }
+    Some(Request::Check {
+        kind,
+        until,
+        clear,
+        image,
+    })
+}
+
+/// A value that is wanted.
+fn required(given: Given) -> Option<Name>
+    ensures value { (words : List (List ℕ)) → words_of words result ≡ sole (given_as words given) }
+    ensures within { (number : ℕ) → IsGivenWithin number given → IsNameIfAny number result }
+{
+    match given {
+        Given::Once(value) => Some(value),
         _ => None,
     }
 }
 
-/// Whether a word can be a value or an operand.
-fn is_operand(word: &str) -> bool
-    ensures { result ≡ is_value word.now }
+/// A value that may be left out.
+fn optional(given: Given) -> Option<Option<Name>>
+    ensures value { (words : List (List ℕ)) → option_map (words_of words) result ≡ at_most_one (given_as words given) }
+    ensures within { (number : ℕ) → IsGivenWithin number given → IfSome result (IsNameIfAny number) }
 {
-    match word.as_bytes() {
-        [] => false,
-        [first, ..] => *first != b'-',
+    match given {
+        Given::Never => Some(None),
+        Given::Once(value) => Some(Some(value)),
+        Given::Often => None,
+    }
+}
+
+/// Whether a flag is set.
+fn flag(given: Given) -> Option<bool>
+    ensures { (words : List (List ℕ)) → result ≡ is_set (given_as words given) }
+{
+    match given {
+        Given::Never => Some(false),
+        Given::Once(_) => Some(true),
+        Given::Often => None,
+    }
+}
+
+/// The stage that a word names; without a word it is the last one.
+fn last_stage(words: &[String], name: Option<Name>) -> Option<Stage>
+    requires { IsNameIfAny (length words.now) name }
+    ensures { result ≡ last_stage (words_of (map string_bytes words.now) name) }
+{
+    match name {
+        None => Some(Stage::Counts),
+        Some(name) => stage_named(name.word_in(words)),
+    }
+}
+
+/// The stage that a word names.
+#[tactic(auto, unfolding(pd_answers::specs::Words::stage_of))]
+fn stage_named(word: &str) -> Option<Stage>
+    ensures { result ≡ stage_of word.now }
+{
+    match word {
+        "super" => Some(Stage::Super),
+        "walk" => Some(Stage::Walk),
+        "order" => Some(Stage::Order),
+        "whole" => Some(Stage::Whole),
+        "counts" => Some(Stage::Counts),
+        _ => None,
     }
 }

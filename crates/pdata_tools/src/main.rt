@@ -1,11 +1,11 @@
 //! The program: it gives the words of its command line, files and the standard streams to the tools.
 #![tactic(auto)]
 
-ghost use Rattle.std.specs.Prelude.{◌≡◌, ◌≢◌, ◌==◌, IsTrue, map, string_bytes};
-ghost use Rattle.std.specs.List.{list_any};
+ghost use Rattle.std.specs.Prelude.{◌≡◌, ◌≢◌, IsTrue, map, string_bytes};
 ghost use Rattle.std.specs.declared.io.ErrorKind.TheVariants.{OutOfMemory};
 ghost use Rattle.pd_answers.specs.Words.{asked};
-ghost use Rattle.pd_answers.specs.Answer.{statuses_of};
+ghost use Rattle.pd_answers.specs.Terms.{is_possible};
+ghost use Rattle.pd_answers.specs.Promises.{terms_of};
 
 use pd_image::{FileDevice, StdSink, StdSource};
 use pd_tools::run_tool;
@@ -30,7 +30,7 @@ fn tool_words(rt: &HostRuntime) -> io::Result<Vec<String>> {
 
 /// Runs the tool over real files and the standard streams.
 fn run(rt: &HostRuntime, words: &[String]) -> u8
-    ensures { IsTrue (list_any (λ status. result == status) (statuses_of (asked (map string_bytes words.now)))) }
+    ensures { IsTrue (is_possible (terms_of (asked (map string_bytes words.now))) result) }
 {
     run_tool(
         rt.alloc(),

@@ -1,24 +1,57 @@
-use Rattle.std.proofs.Common.{sym}
+use Rattle.std.proofs.Common.{sym, refl, lit≤, map, string_bytes}
+use Rattle.pd_answers.specs.Lines.{usage_line}
+use Rattle.pd_answers.specs.Answer.{objects}
+use Rattle.pd_answers.specs.Words.{asked}
+use Rattle.pd_answers.specs.Promises.{refused, terms_of}
+use Rattle.pd_kinds.proofs.AppendLemmas.{appends_none}
 use Rattle.pd_tools.specs.Notes.{IsAttachedNotes}
-use Rattle.pd_tools.proofs.Answered.{answered_refused}
+use Rattle.pd_tools.proofs.Answered.{answered_put, answered_unattached}
+use Rattle.pd_tools.proofs.AtRest.{at_rest}
 use Rattle.pd_tools.proofs.run.run_tool.Goals as goal
 
-pub returns-in-None : goal.returns-in-None
-returns-in-None g c =
+pub returns-in-Err-read_words : goal.returns-in-Err-read_words
+returns-in-Err-read_words g c =
     let was : IsAttachedNotes (g.E.Sink.state c.args.notes.now) (g.E.Sink.state c.attach.new.self) = record {
       access = c.in-Ok.ensures.access;
       path = c.in-Ok.ensures.path;
       written = c.in-Ok.ensures.written;
       faults = c.in-Ok.ensures.faults;
     } in
-    rw (sym c.in-None.ensures.asked) (answered_refused _ _ _ _ _ _ _ _ _ c.requires was c.put_line.ensures)
+    rw (sym c.in-Err-read_words.ensures.asked) (answered_put refused _ _ _ c.requires was 2 _ usage_line (record {
+      finding = tt;
+      work = record {
+        found = tt;
+        possible = refl;
+        followed = record { source = tt; out = tt; input = tt; output = tt; third = tt };
+        kept = record { source = refl; out = refl; input = refl; output = refl; third = refl };
+        silent = λ _. refl;
+        leaves = tt;
+      };
+      low = lit≤ tt;
+      same_status = refl;
+      same_line = refl;
+      out = appends_none _;
+      open_devices = record { source = tt; input = tt; output = tt; third = tt };
+      open_out = λ _. tt;
+      read = λ _. tt;
+    }) tt c.put_line.ensures)
 
-pub returns-in-Some : goal.returns-in-Some
-returns-in-Some g c =
+pub returns-in-Ok-read_words : goal.returns-in-Ok-read_words
+returns-in-Ok-read_words g c =
     let was : IsAttachedNotes (g.E.Sink.state c.args.notes.now) (g.E.Sink.state c.attach.new.self) = record {
       access = c.in-Ok.ensures.access;
       path = c.in-Ok.ensures.path;
       written = c.in-Ok.ensures.written;
       faults = c.in-Ok.ensures.faults;
     } in
-    rw (sym c.in-Some.ensures.asked) (c.run_request.ensures _ _ _ _ c.requires was)
+    rw (sym c.in-Ok-read_words.ensures.asked) (c.run_request.ensures (objects (g.S.Source.state c.args.source.now) (g.K.Sink.state c.args.out.now) (g.E.Sink.state c.args.notes.now)
+      (g.A.Device.state c.args.input.now) (g.B.Device.state c.args.output.now) (g.C.Device.state c.args.third.now)) c.requires was)
+
+pub returns-in-Err : goal.returns-in-Err
+returns-in-Err g c =
+    let before = objects (g.S.Source.state c.args.source.now) (g.K.Sink.state c.args.out.now) (g.E.Sink.state c.args.notes.now)
+      (g.A.Device.state c.args.input.now) (g.B.Device.state c.args.output.now) (g.C.Device.state c.args.third.now) in
+    let request = asked (map string_bytes c.args.words.now) in
+    let rest = at_rest request before (g.E.Sink.state c.attach.new.self) in
+    answered_unattached (terms_of request) before (g.E.Sink.state c.attach.new.self) rest.0 c.requires rest.1 rest.2
+    c.in-Err.ensures.access c.in-Err.ensures.path c.in-Err.ensures.written c.in-Err.ensures.faults.0

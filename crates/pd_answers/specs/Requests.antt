@@ -1,0 +1,35 @@
+-- What can be asked of the tools, and what of it is built.
+use Rattle.std.specs.Prelude.{ℕ, Bool, true, false, List, Option}
+use Rattle.pd_kinds.specs.declared.kind.Kind.{Kind}
+use Rattle.pd_kinds.specs.declared.kind.Kind.TheVariants.{Thin, Cache, Era}
+use Rattle.pd_kinds.specs.declared.kind.Stage.{Stage}
+use Rattle.pd_kinds.specs.declared.kind.Stage.TheVariants.{Super, Walk, Order, Whole, Counts}
+
+-- a request, with the words that name its objects: images, texts, and the file of `out` where one is named
+pub data Request : Type 0 where
+  -- the check of an image up to a stage; with the flag, "needs check" is cleared where nothing was found
+  check : Kind → Stage → Bool → List ℕ → Request
+  -- the text of an image, to a file; with the flag, shared leaves are printed once
+  dump : Kind → Bool → Option (List ℕ) → List ℕ → Request
+  -- an image of this version of its format, from the text of a file
+  restore : Kind → ℕ → List ℕ → List ℕ → Request
+  -- what can be saved of an image, to another one
+  repair : List ℕ → List ℕ → Request
+  -- the same without a superblock: its transaction, block size and number of data blocks are given
+  search : List ℕ → List ℕ → ℕ → ℕ → ℕ → Request
+  -- the mappings to the data blocks from one on and below another
+  rmap : ℕ → ℕ → Option (List ℕ) → List ℕ → Request
+  -- the thin devices of a pool
+  list_devices : Option (List ℕ) → List ℕ → Request
+  -- the blocks that were written in an era or later
+  since : ℕ → Option (List ℕ) → List ℕ → Request
+  -- the text of the generator for a number
+  generate : ℕ → Option (List ℕ) → Request
+  -- the restore, check and dump of that text, over an image
+  rehearse : ℕ → List ℕ → Request
+
+-- the table of what is built
+unfoldable pub is_built : Request → Bool
+is_built (check Thin Super false image) = true
+is_built (check Thin Walk false image) = true
+is_built _ = false

@@ -1,0 +1,127 @@
+-- The terms of a request, and what it is that a call answered them: the status, the bytes of `out` and `notes`, what
+-- the devices hold, what is attached, and what stands after a fault of an object.
+use Rattle.std.specs.Prelude.{◌≡◌, ◌≢◌, ◌⊎◌, ℕ, ◌≤◌, ◌==◌, ◌||◌, Bool, IsTrue, List, [], ◌∷◌, Option, Some, IfSome}
+use Rattle.std.specs.List.{list_any}
+use Rattle.pd_kinds.specs.Objects.{Rose, Appends, AppendsFront}
+use Rattle.pd_kinds.specs.Crash.{IsUntouched}
+use Rattle.pd_answers.specs.Lines.{device_line, sink_line, memory_line}
+use Rattle.pd_answers.specs.Answer.{Objects, Answer, Use, unused, reading, writing, IsOpen, IsUsed, IsGiven, AppendsFrontOfOne, failure_line, NoFaults, DeviceRose, StreamRose}
+
+-- how a request names its objects
+pub record Uses : Type 0 where
+  pub source : Use
+  pub out : Use
+  pub input : Use
+  pub output : Use
+  pub third : Use
+
+-- none but `notes` is named
+abbrev pub unnamed : Uses
+unnamed = record { source = unused; out = unused; input = unused; output = unused; third = unused }
+
+-- the terms of a request
+pub record Terms : Type 1 where
+  pub uses : Uses
+  -- What it looks for in its objects, and what is right to find in them, before the call and after it. Where those that
+  -- it rests on tell what they hold, that is one thing
+  pub Finding : Type 0
+  pub finds : Objects → Objects → Finding → Type 0
+  -- the answer to what was found
+  pub answer : Finding → Answer
+  -- the statuses that can come, beside 6
+  pub statuses : List ℕ
+  -- memory can be wanting
+  pub memory : Objects → Type 0
+  -- the statuses under which `out` is left alone
+  pub silent : List ℕ
+  -- what it leaves, under a status, of what it writes: what these devices hold, and what a crash leaves of them
+  pub leaves : Finding → Objects → Objects → ℕ → Type 0
+
+-- no device is written
+abbrev pub nothing : {Finding : Type 0} → Finding → Objects → Objects → ℕ → Type 0
+nothing finding before after status = Unit {0}
+
+-- what isn't named is left alone, and what is named for reading isn't changed
+abbrev pub IsKept : {State : Type 0} → (State → State → Type 0) → Use → State → State → Type 0
+IsKept Same unused old new = new ≡ old
+IsKept Same (reading path) old new = Same old new
+IsKept Same (writing path) old new = Unit {0}
+
+-- a stream that is named is read or written
+abbrev pub Changes : {State : Type 0} → State → State → Type 0
+Changes old new = Unit {0}
+
+pub record AreKept (uses : Uses) (before after : Objects) : Type 0 where
+  pub source : IsKept Changes uses.source before.source after.source
+  pub out : IsKept Changes uses.out before.out after.out
+  pub input : IsKept IsUntouched uses.input before.input after.input
+  pub output : IsKept IsUntouched uses.output before.output after.output
+  pub third : IsKept IsUntouched uses.third before.third after.third
+
+-- the objects are attached only as they are named
+pub record AreUsed (uses : Uses) (after : Objects) : Type 0 where
+  pub source : IsUsed uses.source after.source.access after.source.path
+  pub out : IsUsed uses.out after.out.access after.out.path
+  pub notes : IsUsed (reading []) after.notes.access after.notes.path
+  pub input : IsUsed uses.input after.input.access after.input.path
+  pub output : IsUsed uses.output after.output.access after.output.path
+  pub third : IsUsed uses.third after.third.access after.third.path
+
+-- the source and the devices that are named were attached
+pub record AreOpen (uses : Uses) (after : Objects) : Type 0 where
+  pub source : IsOpen uses.source after.source.access
+  pub input : IsOpen uses.input after.input.access
+  pub output : IsOpen uses.output after.output.access
+  pub third : IsOpen uses.third after.third.access
+
+-- a source that is named was read to its end, where it tells what is left
+abbrev pub IsReadWhole : Use → Option (List ℕ) → Option (List ℕ) → Type 0
+IsReadWhole unused old new = Unit {0}
+IsReadWhole (reading path) old new = IfSome old (λ text. new ≡ Some [])
+IsReadWhole (writing path) old new = Unit {0}
+
+abbrev pub is_one_of : List ℕ → ℕ → Bool
+is_one_of statuses status = list_any (λ s. status == s) statuses
+
+-- a status can come of a request; 6 can come of each
+abbrev pub is_possible : Terms → ℕ → Bool
+is_possible terms status = (status == 6) || is_one_of terms.statuses status
+
+-- the headline: what the status, the bytes and the objects are after a call that was asked for these terms
+pub record IsAnswered (terms : Terms) (before after : Objects) (status : ℕ) : Type 0 where
+  -- what was found, or would have been: it is right
+  pub finding : terms.Finding
+  pub found : terms.finds before after finding
+  -- whatever failed on the way, a status from 0 to 4 is the answer's, and so are the bytes
+  pub sound : status ≤ 4 → IsGiven before after status (terms.answer finding)
+  -- where nothing failed, the status is the answer's, or memory was wanting
+  pub complete : NoFaults before after → (status ≡ (terms.answer finding).status) ⊎ (status ≡ 7)
+  -- only these statuses come of the request
+  pub possible : IsTrue (is_possible terms status)
+  -- under every status the bytes of `out` are a front of the answer's
+  pub front : AppendsFront (terms.answer finding).out before.out.written after.out.written
+  -- under some there are none: `out` isn't even attached
+  pub silent : IsTrue (is_one_of terms.silent status) → status ≢ 6 → after.out ≡ before.out
+  -- a status from 5 to 7 has just its line on `notes`, if `notes` didn't fail
+  pub own_line : 5 ≤ status → after.notes.faults ≡ before.notes.faults
+      → Appends (failure_line status) before.notes.written after.notes.written
+  -- where `notes` failed, it has a front of the answer's line or of a line that says what failed
+  pub notes_front : AppendsFrontOfOne ((terms.answer finding).notes ∷ device_line ∷ sink_line ∷ memory_line ∷ [])
+      before.notes.written after.notes.written
+  -- 5 comes only where a device failed
+  pub device_failed : status ≡ 5 → DeviceRose before after
+  -- 6 comes only where the source or a sink failed, and always where `notes` did
+  pub sink_failed : status ≡ 6 → StreamRose before after ⊎ Rose before.notes.faults after.notes.faults
+  pub notes_failed : Rose before.notes.faults after.notes.faults → status ≡ 6
+  -- 7 comes only where memory can be wanting
+  pub memory_wanting : status ≡ 7 → terms.memory before
+  -- what is attached, and what isn't touched
+  pub used : AreUsed terms.uses after
+  pub kept : AreKept terms.uses before after
+  pub open_devices : status ≤ 4 → AreOpen terms.uses after
+  pub open_notes : status ≢ 6 → after.notes.access ≡ 1
+  pub open_out : status ≡ 0 → IsOpen terms.uses.out after.out.access
+  -- at status 0 a text was read to its end
+  pub read : status ≡ 0 → IsReadWhole terms.uses.source before.source.left after.source.left
+  -- what the devices that are written hold, and what a crash leaves of them
+  pub leaves : terms.leaves finding before after status

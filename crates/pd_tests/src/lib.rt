@@ -1,0 +1,11 @@
+//! Tests of whole runs of the tools, over images in memory.
+#![tactic(auto)]
+
+#[cfg(test)]
+mod pool;
+#[cfg(test)]
+mod ran;
+#[cfg(test)]
+mod super_tests;
+#[cfg(test)]
+mod walk_tests;

@@ -1,0 +1,69 @@
+-- What the work of a check comes to, over plain variables.
+use Rattle.std.proofs.Common.{◌≡◌, ◌≢◌, inl, inr, ℕ, IsTrue, List, [], Option, Some, None, IfSome, refl}
+use Rattle.std.specs.Option.{option_map_or}
+use Rattle.pd_kinds.specs.declared.kind.Kind.{Kind}
+use Rattle.pd_kinds.specs.declared.kind.Stage.{Stage}
+use Rattle.pd_kinds.specs.declared.kind.Stage.TheVariants.{Super, Walk, Order, Whole, Counts}
+use Rattle.pd_kinds.specs.Objects.{DeviceState, SinkState}
+use Rattle.pd_kinds.specs.Report.{Reported, report_of}
+use Rattle.pd_kinds.specs.Stages.{faults}
+use Rattle.pd_kinds.specs.Crash.{IsUntouched}
+use Rattle.pd_answers.specs.Answer.{Objects, IsUsed, reading}
+use Rattle.pd_kinds.proofs.AppendLemmas.{front_none}
+use Rattle.pd_answers.specs.Terms.{is_possible}
+use Rattle.pd_answers.specs.Promises.{check}
+use Rattle.pd_tools.specs.declared.stop.Stop.{Stop}
+use Rattle.pd_tools.specs.declared.stop.Stop.TheVariants.{Device, Stream, Memory}
+use Rattle.pd_tools.specs.Read.{IsUnread}
+use Rattle.pd_tools.specs.Work.{IsStopped, IsWork}
+
+-- what is found, where it is told
+pub told : {X Y : Type 0} → (o : Option X) (f : X → Y) (otherwise : Y) → IfSome o (λ x. option_map_or f o otherwise ≡ f x)
+told None f otherwise = tt
+told (Some x) f otherwise = refl
+
+-- an object that isn't attached
+pub not_yet : (path : List ℕ) (access : ℕ) (name : Option (List ℕ)) → access ≡ 0 → IsUsed (reading path) access name
+not_yet path access name none = record { allowed = inl none; named = λ ne. absurd (ne none) }
+
+-- memory can be wanting past the superblock
+wanting_possible : (kind : Kind) (until : Stage) (path : List ℕ) → until ≢ Super → IsTrue (is_possible (check kind until path) 7)
+wanting_possible kind Super path past = absurd (past refl)
+wanting_possible kind Walk path past = refl
+wanting_possible kind Order path past = refl
+wanting_possible kind Whole path past = refl
+wanting_possible kind Counts path past = refl
+
+-- a check whose image was not read
+pub check_unread : (kind : Kind) (until : Stage) (path : List ℕ) (others : Objects) (notes out : SinkState) (input input' : DeviceState) (stop : Stop)
+    → out.access ≡ 0 → IsUsed (reading path) input'.access input'.path → IsUntouched input input' → IsUnread kind until input input' stop
+    → IsStopped (check kind until path) (record others { out = out; input = input }) (record others { out = out; notes = notes; input = input' }) stop
+check_unread kind until path others notes out input input' Stream none used untouched unread = absurd unread
+check_unread kind until path others notes out input input' Device none used untouched unread = record {
+  finding = option_map_or (λ image. report_of (faults kind until image)) input.held (report_of []);
+  work = record {
+    found = told input.held (λ image. report_of (faults kind until image)) (report_of []);
+    possible = refl;
+    followed = record { source = tt; out = not_yet [] out.access out.path none; input = used; output = tt; third = tt };
+    kept = record { source = refl; out = tt; input = untouched; output = refl; third = refl };
+    silent = λ _. refl;
+    leaves = tt;
+  };
+  cause = inl unread;
+  front = front_none _ out.written;
+  lost = tt;
+}
+check_unread kind until path others notes out input input' Memory none used untouched unread = record {
+  finding = option_map_or (λ image. report_of (faults kind until image)) input.held (report_of []);
+  work = record {
+    found = told input.held (λ image. report_of (faults kind until image)) (report_of []);
+    possible = wanting_possible kind until path unread.past_super;
+    followed = record { source = tt; out = not_yet [] out.access out.path none; input = used; output = tt; third = tt };
+    kept = record { source = refl; out = tt; input = untouched; output = refl; third = refl };
+    silent = λ _. refl;
+    leaves = tt;
+  };
+  cause = unread;
+  front = front_none _ out.written;
+  lost = tt;
+}

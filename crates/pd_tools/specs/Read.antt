@@ -1,0 +1,21 @@
+-- What reading an image to a report does to the device.
+use Rattle.std.specs.Prelude.{◌≡◌, ℕ, List, IfSome}
+use Rattle.pd_kinds.specs.declared.kind.Kind.{Kind}
+use Rattle.pd_kinds.specs.declared.kind.Kind.TheVariants.{Thin, Cache, Era}
+use Rattle.pd_kinds.specs.declared.kind.Stage.{Stage}
+use Rattle.pd_kinds.specs.Objects.{DeviceState, Rose}
+use Rattle.pd_kinds.specs.Stages.{CanWantMemory, IsBuilt}
+use Rattle.pd_tools.specs.declared.stop.Stop.{Stop}
+use Rattle.pd_tools.specs.declared.stop.Stop.TheVariants.{Device, Stream, Memory}
+
+-- the checks that are built
+abbrev pub IsBuiltCheck : Kind → Stage → Type 0
+IsBuiltCheck Thin until = IsBuilt until
+IsBuiltCheck Cache until = ⊥
+IsBuiltCheck Era until = ⊥
+
+-- why the device was not read to a report
+abbrev pub IsUnread : Kind → Stage → DeviceState → DeviceState → Stop → Type 0
+IsUnread kind until input input' Memory = CanWantMemory kind until input.held
+IsUnread kind until input input' Device = Rose input.faults input'.faults
+IsUnread kind until input input' Stream = ⊥

@@ -1,0 +1,113 @@
+-- What is asked, by the tool and its items.
+use Rattle.std.proofs.Common.{◌≡◌, inl, inr, ℕ, ◌<◌, ◌==◌, Bool, true, false, List, [], ◌∷◌, length, get_or, map, drop, Option, Some, None, IfSome, is_some, refl, ap, sym, ◌∙◌, arith}
+use Rattle.std.specs.List.{list_all}
+use Rattle.std.specs.Option.{option_and_then}
+use Rattle.std.proofs.lemmas.Bool.{cases_Bool, true≢false}
+use Rattle.std.proofs.Math.Dec.{eqb-suc-zero}
+use Rattle.pd_kinds.specs.declared.kind.Kind.{Kind}
+use Rattle.pd_kinds.specs.declared.kind.Stage.{Stage}
+use Rattle.pd_answers.specs.Requests.{Request, is_built}
+use Rattle.pd_answers.specs.Words.{Item, items_of, Given, given, sole, at_most_one, is_set, last_stage, image_word, clear_word, until_word, required, optional, flag, check_with, repair_with, version_of, region_of, Region, number_below, generated_number, Tool, check_tool, dump_tool, restore_tool, repair_tool, rmap_tool, list_tool, since_tool, generate_tool, rehearse_tool, tool_of, request_of, is_known, known, spelled, built, asked}
+use Rattle.pd_words.specs.Items.{is_read, read}
+
+pub asked_nothing : {X : Type 0} (f : X → List ℕ) (xs : List X) → (length xs == 0) ≡ true → None ≡ asked (map f xs)
+unfolding asked spelled
+asked_nothing f [] none = refl
+asked_nothing f (x ∷ xs) none = absurd (true≢false (sym none ∙ eqb-suc-zero (length xs)))
+
+-- what is asked of a tool with these items, if it is built
+abbrev pub asked_of : Option Tool → Option (List Item) → Option Request
+asked_of tool items = built (option_and_then (λ (t : Tool). option_and_then (request_of t) (known t items)) tool)
+
+pub asked_first : {X : Type 0} (f : X → List ℕ) (xs : List X) (x : X) (word : List ℕ) → (length xs == 0) ≡ false → x ≡ get_or xs 0 x → word ≡ f x
+    → asked (map f xs) ≡ asked_of (tool_of word) (items_of (drop 1 (map f xs)))
+unfolding asked spelled
+asked_first f [] x word some at is = absurd (true≢false some)
+asked_first f (y ∷ ys) x word some at is =
+    let same : word ≡ f y = is ∙ ap f at in rw same refl
+
+-- steps of which none ends in a request that is built
+never : {A : Type 0} (o : Option A) (next : A → Option Request) → ((x : A) → built (next x) ≡ None) → built (option_and_then next o) ≡ None
+never None next all = refl
+never (Some x) next all = all x
+
+repair-never : (input output : List ℕ) (transaction size blocks : Option (List ℕ)) → built (repair_with input output transaction size blocks) ≡ None
+unfolding is_built
+repair-never input output None None None = refl
+repair-never input output None None (Some b) = refl
+repair-never input output None (Some s) blocks = refl
+repair-never input output (Some t) None blocks = refl
+repair-never input output (Some t) (Some s) None = refl
+repair-never input output (Some t) (Some s) (Some b) = search never
+
+-- a tool of which nothing is built, whatever its items are
+unbuilt-items : (tool : Tool) (items : List Item) → is_read tool ≡ false → built (request_of tool items) ≡ None
+unfolding request_of is_built
+unbuilt-items (check_tool kind) items none = absurd (true≢false none)
+unbuilt-items (dump_tool kind) items none = search never
+unbuilt-items (restore_tool kind) items none = search never
+unbuilt-items repair_tool items none = search (never, repair-never) depth 8
+unbuilt-items rmap_tool items none = search never
+unbuilt-items list_tool items none = search never
+unbuilt-items since_tool items none = search never
+unbuilt-items generate_tool items none = search never
+unbuilt-items rehearse_tool items none = search never
+
+pub unbuilt : (tool : Option Tool) (items : Option (List Item)) → None ≡ read tool → asked_of tool items ≡ None
+unbuilt None items none = refl
+unbuilt (Some tool) items none = elim (cases_Bool (is_read tool)) [
+  | inl e ↦ absurd (some (rw e at none))
+  | inr e ↦ never (known tool items) (request_of tool) (λ all. unbuilt-items tool all e)
+]
+  where
+    some : None ≡ Some tool → ⊥
+    some e = cc
+
+-- a tool of which something is built
+pub is_tool : (named : Option Tool) (tool : Tool) → Some tool ≡ read named → named ≡ Some tool
+is_tool None tool some = absurd cc
+is_tool (Some other) tool some = elim (cases_Bool (is_read other)) [
+  | inl e ↦ sym (rw e at some)
+  | inr e ↦ absurd (none (rw e at some))
+]
+  where
+    none : Some tool ≡ None → ⊥
+    none e = cc
+
+-- the items can be given to the tool
+pub all_known : (named : Option Tool) (tool : Tool) (items : Option (List Item)) (request : Option Request) → named ≡ Some tool → is_some (known tool items) ≡ true
+    → IfSome items (λ all. request ≡ built (request_of tool all)) → request ≡ asked_of named items
+all_known named tool None request same some is = absurd (true≢false (sym some))
+all_known named tool (Some items) request same some is = elim (cases_Bool (list_all (is_known tool) items)) [
+  | inl e ↦ rw (same, e) is
+  | inr e ↦ absurd (true≢false (sym (rw e at some)))
+]
+
+-- they can't
+pub not_known : (named : Option Tool) (tool : Tool) (items : Option (List Item)) → named ≡ Some tool → is_some (known tool items) ≡ false → None ≡ asked_of named items
+not_known named tool None same none = rw same refl
+not_known named tool (Some items) same none = elim (cases_Bool (list_all (is_known tool) items)) [
+  | inl e ↦ absurd (true≢false (rw e at none))
+  | inr e ↦ rw (same, e) refl
+]
+
+-- a check, by what was given for its stage, for the flag and for the image
+pub flag_twice : (kind : Kind) (items : Option (List Item)) (stage clear : Given) (word : Option (List ℕ)) (until : Stage)
+    → IfSome items (λ all. stage ≡ given until_word all) → Some word ≡ at_most_one stage → Some until ≡ last_stage word
+    → IfSome items (λ all. clear ≡ given clear_word all) → None ≡ is_set clear
+    → IfSome items (λ all. None ≡ request_of (check_tool kind) all)
+unfolding request_of
+flag_twice kind None stage clear word until stage_is at_most named clear_is twice = tt
+flag_twice kind (Some items) stage clear word until stage_is at_most named clear_is twice =
+    rw (← stage_is, ← at_most, ← named, ← clear_is, ← twice) refl
+
+pub check_given : (kind : Kind) (items : Option (List Item)) (stage clear image : Given) (word : Option (List ℕ)) (until : Stage) (set : Bool) (path : List ℕ) (request : Option Request)
+    → IfSome items (λ all. stage ≡ given until_word all) → Some word ≡ at_most_one stage → Some until ≡ last_stage word
+    → IfSome items (λ all. clear ≡ given clear_word all) → Some set ≡ is_set clear
+    → IfSome items (λ all. image ≡ given image_word all) → Some path ≡ sole image
+    → request ≡ check_with kind until set path
+    → IfSome items (λ all. request ≡ request_of (check_tool kind) all)
+unfolding request_of
+check_given kind None stage clear image word until set path request stage_is at_most named clear_is at_most_clear image_is one is = tt
+check_given kind (Some items) stage clear image word until set path request stage_is at_most named clear_is at_most_clear image_is one is =
+    rw (← stage_is, ← at_most, ← named, ← clear_is, ← at_most_clear, ← image_is, ← one) is

@@ -1,0 +1,123 @@
+-- The items of words, from an index on.
+use Rattle.std.proofs.Common.{◌≡◌, inl, inr, ℕ, zero, suc, ◌+◌, ◌<◌, ◌≤◌, Bool, true, false, ◌&&◌, List, [], ◌∷◌, length, get_or, map, drop, Option, Some, None, IfSome, is_some, refl, ap, sym, ◌∙◌, arith, if◌then◌else◌}
+use Rattle.std.specs.List.{list_any, list_all, filter_map}
+use Rattle.std.specs.Str.{bytes_eq}
+use Rattle.std.specs.Option.{option_map}
+use Rattle.std.proofs.lemmas.Bool.{cases_Bool}
+use Rattle.std.proofs.lemmas.Option.{same_Some}
+use Rattle.std.proofs.lemmas.List.{drop_more, drop_all}
+use Rattle.pd_answers.specs.Words.{is_value, is_flag, Item, image_word, more, items_of, never, once, often, given, given_of, value_of, Tool, is_known, known, purposes_of}
+use Rattle.pd_words.specs.Items.{values_in, values_from}
+
+-- the word of an element
+pub word_is : {X : Type 0} (f : X → List ℕ) (xs : List X) (i : ℕ) (x : X) → i < length xs → x ≡ get_or xs i x → get_or (map f xs) i [] ≡ f x
+word_is f [] i x less is = absurd (omega arith)
+word_is f (y ∷ ys) zero x less is = ap f (sym is)
+word_is f (y ∷ ys) (suc i) x less is = word_is f ys i x (omega arith) is
+
+items-operand : (word : List ℕ) (words : List (List ℕ)) → is_value word ≡ true → items_of (word ∷ words) ≡ more image_word word (items_of words)
+unfolding items_of
+items-operand word [] e = simp e
+items-operand word (next ∷ words) e = simp e
+
+items-flag : (word : List ℕ) (words : List (List ℕ)) → is_value word ≡ false → is_flag word ≡ true → items_of (word ∷ words) ≡ more word word (items_of words)
+unfolding items_of
+items-flag word [] e flag = simp (e, flag)
+items-flag word (next ∷ words) e flag = simp (e, flag)
+
+items-last : (word : List ℕ) → is_value word ≡ false → is_flag word ≡ false → items_of (word ∷ []) ≡ None
+unfolding items_of
+items-last word e flag = simp (e, flag)
+
+items-option : (word next : List ℕ) (words : List (List ℕ)) → is_value word ≡ false → is_flag word ≡ false
+    → items_of (word ∷ next ∷ words) ≡ (if is_value next then more word next (items_of words) else None)
+unfolding items_of
+items-option word next words e flag = simp (e, flag)
+
+module _ (words : List (List ℕ)) (i : ℕ) (less : i < length words) (word : List ℕ) (is : get_or words i [] ≡ word) where
+  -- the word here is the operand
+  pub operand_at : is_value word ≡ true → items_of (drop i words) ≡ more image_word (get_or words i []) (items_of (drop (i + 1) words))
+  operand_at e = rw (drop_more words i [] less) (items-operand (get_or words i []) (drop (i + 1) words) (rw is e))
+
+  -- a flag's
+  pub flag_at : is_value word ≡ false → is_flag word ≡ true
+      → items_of (drop i words) ≡ more word (get_or words i []) (items_of (drop (i + 1) words))
+  flag_at e flag = rw (drop_more words i [] less, is) (items-flag word (drop (i + 1) words) e flag)
+
+  -- an option's, with no word behind it
+  pub last_at : is_value word ≡ false → is_flag word ≡ false → length words ≤ i + 1 → items_of (drop i words) ≡ None
+  last_at e flag end = rw (drop_more words i [] less, drop_all (i + 1) words end, is) (items-last word e flag)
+
+  -- an option's, with another word behind it
+  pub option_at : is_value word ≡ false → is_flag word ≡ false → i + 1 < length words → (b : Bool) → is_value (get_or words (i + 1) []) ≡ b
+      → items_of (drop i words) ≡ (if b then more word (get_or words (i + 1) []) (items_of (drop (i + 2) words)) else None)
+  option_at e flag some b value =
+      let two : i + 1 + 1 ≡ i + 2 = omega arith in
+      rw (drop_more words i [] less, drop_more words (i + 1) [] some, is, ← value, two)
+      (items-option word (get_or words (i + 1) []) (drop (i + 2) words) e flag)
+
+-- one item more is known, where it can be given and the others are known
+pub known-more : (tool : Tool) (purpose value : List ℕ) (items : Option (List Item))
+    → is_some (known tool (more purpose value items)) ≡ (list_any (bytes_eq purpose) (purposes_of tool) && is_some (known tool items))
+known-more tool purpose value None = elim (cases_Bool (list_any (bytes_eq purpose) (purposes_of tool))) [ inl e ↦ simp e | inr e ↦ simp e ]
+known-more tool purpose value (Some items) = elim (cases_Bool (list_any (bytes_eq purpose) (purposes_of tool))) [
+  | inl e ↦ elim (cases_Bool (list_all (is_known tool) items)) [ inl f ↦ simp (e, f) | inr f ↦ simp (e, f) ]
+  | inr e ↦ simp e
+]
+
+-- what is known at the end of the words
+pub known_end : (tool : Tool) (words : List (List ℕ)) (i : ℕ) → length words ≤ i → true ≡ is_some (known tool (items_of (drop i words)))
+unfolding items_of
+known_end tool words i end = rw (drop_all i words end) refl
+
+-- the values that the words from this one on give, where an item stands here, or nothing does
+module _ (words : List (List ℕ)) (purpose : List ℕ) (i : ℕ) where
+  pub values_end : length words ≤ i → IfSome (values_from words purpose i) (λ vs. vs ≡ [])
+  unfolding values_from items_of
+  values_end end = rw (drop_all i words end) refl
+
+  pub values_none : items_of (drop i words) ≡ None → IfSome (values_from words purpose i) (λ vs. vs ≡ [])
+  unfolding values_from
+  values_none none = rw none tt
+
+  pub values_found : (given_for value : List ℕ) (next : ℕ) → items_of (drop i words) ≡ more given_for value (items_of (drop next words)) → bytes_eq given_for purpose ≡ true
+      → values_from words purpose i ≡ option_map (λ (vs : List (List ℕ)). value ∷ vs) (values_from words purpose next)
+  unfolding values_from
+  values_found given_for value next item e = rw item (with_more (items_of (drop next words)))
+    where
+      with_more : (items : Option (List Item)) → values_in purpose (more given_for value items) ≡ option_map (λ (vs : List (List ℕ)). value ∷ vs) (values_in purpose items)
+      with_more None = refl
+      with_more (Some items) = simp e
+
+  pub values_skip : (given_for value : List ℕ) (next : ℕ) → items_of (drop i words) ≡ more given_for value (items_of (drop next words)) → bytes_eq given_for purpose ≡ false
+      → values_from words purpose i ≡ values_from words purpose next
+  unfolding values_from
+  values_skip given_for value next item e = rw item (with_more (items_of (drop next words)))
+    where
+      with_more : (items : Option (List Item)) → values_in purpose (more given_for value items) ≡ values_in purpose items
+      with_more None = refl
+      with_more (Some items) = simp e
+
+-- how often something is given, by its values
+pub given_never : (purpose : List ℕ) (items : Option (List Item)) → IfSome (values_in purpose items) (λ vs. vs ≡ []) → IfSome items (λ all. never ≡ given purpose all)
+unfolding given
+given_never purpose None none = tt
+given_never purpose (Some items) none = rw none refl
+
+pub given_once : (purpose : List ℕ) (items : Option (List Item)) (value : List ℕ) (rest : Option (List (List ℕ)))
+    → values_in purpose items ≡ option_map (λ (vs : List (List ℕ)). value ∷ vs) rest → IfSome rest (λ vs. vs ≡ [])
+    → IfSome items (λ all. once value ≡ given purpose all)
+unfolding given
+given_once purpose None value rest first none = tt
+given_once purpose (Some items) value None first none = absurd cc
+given_once purpose (Some items) value (Some rest) first none = sym (ap given_of (same_Some _ _ first ∙ ap (λ (vs : List (List ℕ)). value ∷ vs) none))
+
+pub given_often : (purpose : List ℕ) (items : Option (List Item)) (value other : List ℕ) (more_values rest : Option (List (List ℕ)))
+    → values_in purpose items ≡ option_map (λ (vs : List (List ℕ)). value ∷ vs) more_values
+    → more_values ≡ option_map (λ (vs : List (List ℕ)). other ∷ vs) rest
+    → IfSome items (λ all. often ≡ given purpose all)
+unfolding given
+given_often purpose None value other more_values rest first second = tt
+given_often purpose (Some items) value other None rest first second = absurd cc
+given_often purpose (Some items) value other (Some values) None first second = absurd cc
+given_often purpose (Some items) value other (Some values) (Some rest) first second = sym (ap given_of (same_Some _ _ first ∙ ap (λ (vs : List (List ℕ)). value ∷ vs) (same_Some _ _ second)))

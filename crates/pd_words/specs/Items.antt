@@ -1,0 +1,68 @@
+-- What was read of the words, as the definitions speak of it.
+use Rattle.std.specs.Prelude.{◌≡◌, ℕ, ◌<◌, ◌≤◌, Bool, true, false, if◌then◌else◌, List, [], ◌∷◌, drop, get_or, Option, Some, None, IfSome}
+use Rattle.std.specs.List.{filter_map}
+use Rattle.std.specs.Option.{option_map}
+use Rattle.pd_answers.specs.Words as asked
+use Rattle.pd_words.specs.declared.request.Name.{Name}
+use Rattle.pd_words.specs.declared.items.Item.{Item}
+use Rattle.pd_words.specs.declared.items.Place.{Place}
+use Rattle.pd_words.specs.declared.items.Given.{Given}
+use Rattle.pd_words.specs.declared.items.Given.TheVariants.{Never, Once, Often}
+use Rattle.pd_words.specs.declared.items.Tool.{Tool}
+use Rattle.pd_words.specs.declared.items.Tool.TheVariants.{Check}
+
+-- the word that a name stands for
+abbrev pub word_at : List (List ℕ) → ℕ → List ℕ
+word_at words i = get_or words i []
+
+-- the items that begin with this one
+abbrev pub with_item : List (List ℕ) → Option Item → Option (List asked.Item)
+with_item words None = None
+with_item words (Some item) = asked.more item.purpose.now (word_at words item.value) (asked.items_of (drop item.next words))
+
+-- an item from this index on, of so many words
+pub record IsItemWithin (begin number : ℕ) (item : Item) : Type 0 where
+  pub value : item.value < number
+  pub next : begin < item.next
+  pub end : item.next ≤ number
+
+-- the values that the words from this one on give for something
+abbrev pub values_in : List ℕ → Option (List asked.Item) → Option (List (List ℕ))
+values_in purpose items = option_map (filter_map (asked.value_of purpose)) items
+
+unfoldable pub values_from : List (List ℕ) → List ℕ → ℕ → Option (List (List ℕ))
+values_from words purpose at = values_in purpose (asked.items_of (drop at words))
+
+-- the values begin with the one that was found; where none was found, there are none
+abbrev pub with_found : List (List ℕ) → List ℕ → Option (List (List ℕ)) → Option Place → Type 0
+with_found words purpose values None = IfSome values (λ vs. vs ≡ [])
+with_found words purpose values (Some place) =
+    values ≡ option_map (λ (vs : List (List ℕ)). word_at words place.value ∷ vs) (values_from words purpose place.next)
+
+abbrev pub given_as : List (List ℕ) → Given → asked.Given
+given_as words Never = asked.never
+given_as words (Once name) = asked.once (word_at words name.0)
+given_as words Often = asked.often
+
+-- the name is that of one of so many words
+abbrev pub IsGivenWithin : ℕ → Given → Type 0
+IsGivenWithin number Never = Unit {0}
+IsGivenWithin number (Once name) = name.0 < number
+IsGivenWithin number Often = Unit {0}
+
+abbrev pub tool_as : Tool → asked.Tool
+tool_as (Check kind) = asked.check_tool kind
+
+abbrev pub found_tool : Option Tool → Option asked.Tool
+found_tool None = None
+found_tool (Some tool) = Some (tool_as tool)
+
+-- whether something of a tool is built
+abbrev pub is_read : asked.Tool → Bool
+is_read (asked.check_tool kind) = true
+is_read _ = false
+
+-- the tools of which something is built
+abbrev pub read : Option asked.Tool → Option asked.Tool
+read None = None
+read (Some tool) = if is_read tool then Some tool else None

@@ -1,0 +1,185 @@
+//! The items of a command line: options with their values, flags, and the operand.
+
+ghost use Rattle.std.specs.Prelude.{◌≡◌, ◌<◌, ◌≤◌, length, map, drop, string_bytes, IfSome, is_some};
+ghost use Rattle.std.specs.List.{list_any};
+ghost use Rattle.std.specs.Str.{bytes_eq};
+ghost use Rattle.pd_answers.specs.Words.{is_value, is_flag, items_of, given, known, purposes_of, tool_of};
+ghost use Rattle.pd_words.specs.Items.{with_item, IsItemWithin, values_from, with_found, given_as, IsGivenWithin, tool_as, found_tool, read};
+
+use crate::request::Name;
+use pd_kinds::Kind;
+
+/// The tools of which something is built.
+#[derive(Clone, Copy)]
+pub enum Tool {
+    /// thin_check, cache_check, era_check
+    Check(Kind),
+}
+
+/// How often something was given.
+#[derive(Clone, Copy)]
+pub enum Given {
+    /// It wasn't given.
+    Never,
+    /// It was given once, by this word.
+    Once(Name),
+    /// It was given more than once.
+    Often,
+}
+
+/// A word that was given, and for what: its value for an option's word, the operand for `IMAGE`, a flag's word for
+/// itself.
+#[derive(Clone, Copy)]
+pub struct Item<'a> {
+    /// What it was given for.
+    pub purpose: &'a str,
+    /// The index of the word.
+    pub value: usize,
+    /// The index of the word after the item.
+    pub next: usize,
+}
+
+/// Where a word stands that was given, and the index of the word after its item.
+#[derive(Clone, Copy)]
+struct Place {
+    value: usize,
+    next: usize,
+}
+
+/// What the operand is given for.
+pub const IMAGE: &str = "IMAGE";
+
+/// The tool of this name, if something of it is built.
+pub fn tool_named(word: &str) -> Option<Tool>
+    ensures { found_tool result ≡ read (tool_of word.now) }
+{
+    match word {
+        "thin_check" => Some(Tool::Check(Kind::Thin)),
+        "cache_check" => Some(Tool::Check(Kind::Cache)),
+        "era_check" => Some(Tool::Check(Kind::Era)),
+        _ => None,
+    }
+}
+
+/// Whether a tool can be given something for this.
+pub fn is_purpose(tool: Tool, word: &str) -> bool
+    ensures { result ≡ list_any (bytes_eq word.now) (purposes_of (tool_as tool)) }
+{
+    match tool {
+        Tool::Check(kind) => match kind {
+            Kind::Thin => {
+                word == "--until" || word == "--clear-needs-check-flag" || word == "IMAGE"
+            }
+            Kind::Cache => word == "--until" || word == "IMAGE",
+            Kind::Era => word == "--until" || word == "IMAGE",
+        },
+    }
+}
+
+/// Whether a word is a flag's.
+#[tactic(auto, unfolding(pd_answers::specs::Words::is_flag))]
+fn is_flag(word: &str) -> bool
+    ensures { result ≡ is_flag word.now }
+{
+    word == "--clear-needs-check-flag" || word == "--shared"
+}
+
+/// Whether a word can be a value or an operand.
+fn is_operand(word: &str) -> bool
+    ensures { result ≡ is_value word.now }
+{
+    match word.as_bytes() {
+        [] => false,
+        [first, ..] => *first != b'-',
+    }
+}
+
+/// The item that begins with this word; none where the word wants a value and has none.
+pub fn item_at(words: &[String], at: usize) -> Option<Item<'_>>
+    requires { at < length words.now }
+    ensures items { items_of (drop at (map string_bytes words.now)) ≡ with_item (map string_bytes words.now) result }
+    ensures within { IfSome result (IsItemWithin at (length words.now)) }
+{
+    let word = words[at].as_str();
+    if is_operand(word) {
+        return Some(Item {
+            purpose: IMAGE,
+            value: at,
+            next: at + 1,
+        });
+    }
+    if is_flag(word) {
+        return Some(Item {
+            purpose: word,
+            value: at,
+            next: at + 1,
+        });
+    }
+    if at + 1 >= words.len() {
+        return None;
+    }
+    if !is_operand(words[at + 1].as_str()) {
+        return None;
+    }
+    Some(Item {
+        purpose: word,
+        value: at + 1,
+        next: at + 2,
+    })
+}
+
+/// Whether the words from this one on are items that the tool can be given.
+pub fn are_items(tool: Tool, words: &[String], begin: usize) -> bool
+    ensures { result ≡ is_some (known (tool_as tool) (items_of (drop begin (map string_bytes words.now)))) }
+{
+    let mut at = begin;
+    while at < words.len() {
+        match item_at(words, at) {
+            None => return false,
+            Some(item) => {
+                if !is_purpose(tool, item.purpose) {
+                    return false;
+                }
+                at = item.next;
+            }
+        }
+    }
+    true
+}
+
+/// The first word from this one on that is given for this.
+fn found_from(words: &[String], begin: usize, purpose: &str) -> Option<Place>
+    ensures found { with_found (map string_bytes words.now) purpose.now (values_from (map string_bytes words.now) purpose.now begin) result }
+    ensures within { IfSome result (λ place. place.value < length words.now) }
+{
+    let mut at = begin;
+    while at < words.len() {
+        match item_at(words, at) {
+            None => return None,
+            Some(item) => {
+                if item.purpose == purpose {
+                    return Some(Place {
+                        value: item.value,
+                        next: item.next,
+                    });
+                }
+                at = item.next;
+            }
+        }
+    }
+    None
+}
+
+/// What the words from this one on give for an option or a flag, or for the operand.
+pub fn given_for(words: &[String], begin: usize, purpose: &str) -> Given
+    ensures given { IfSome (items_of (drop begin (map string_bytes words.now))) (λ items. given_as (map string_bytes words.now) result ≡ given purpose.now items) }
+    ensures within { IsGivenWithin (length words.now) result }
+{
+    match found_from(words, begin, purpose) {
+        None => Given::Never,
+        Some(first) => match found_from(words, first.next, purpose) {
+            None => Given::Once(Name(first.value)),
+            Some(_) => Given::Often,
+        },
+    }
+}
