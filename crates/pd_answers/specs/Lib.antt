@@ -1,6 +1,9 @@
 pub mod Requests
 pub mod Words
 pub mod Lines
+pub mod QueryLines
+pub mod Generated
+pub mod Flag
 pub mod Answer
 pub mod Terms
 pub mod Promises

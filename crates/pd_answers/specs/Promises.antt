@@ -1,13 +1,18 @@
 -- The terms of each request: what the tools promise.
-use Rattle.std.specs.Prelude.{◌≡◌, ℕ, false, ◌==◌, if◌then◌else◌, List, [], ◌∷◌, Option, Some, None, IfSome}
+use Rattle.std.specs.Prelude.{◌≡◌, ℕ, true, false, ◌==◌, if◌then◌else◌, List, [], ◌∷◌, Option, Some, None, IfSome, unwrap_or}
 use Rattle.pd_kinds.specs.declared.kind.Kind.{Kind}
+use Rattle.pd_kinds.specs.declared.kind.Kind.TheVariants.{Thin, Era}
 use Rattle.pd_kinds.specs.declared.kind.Stage.{Stage}
 use Rattle.pd_kinds.specs.declared.kind.Stage.TheVariants.{Super, Walk, Order, Whole, Counts}
 use Rattle.pd_kinds.specs.Report.{Reported, report_of}
 use Rattle.pd_kinds.specs.Stages.{faults, CanWantMemory}
+use Rattle.pd_kinds.specs.Meaning.{thin_meaning, era_meaning}
 use Rattle.pd_answers.specs.Requests as request
 use Rattle.pd_answers.specs.Lines.{reported_lines, usage_line}
-use Rattle.pd_answers.specs.Answer.{Answer, reading}
+use Rattle.pd_answers.specs.QueryLines.{rmap_lines, list_lines, since_lines}
+use Rattle.pd_answers.specs.Generated.{generated_text}
+use Rattle.pd_answers.specs.Flag.{LeavesCleared}
+use Rattle.pd_answers.specs.Answer.{Answer, reading, writing}
 use Rattle.pd_answers.specs.Terms.{Terms, unnamed, nothing}
 
 -- no request
@@ -48,8 +53,76 @@ check kind until path = record {
   leaves = nothing;
 }
 
--- the terms of a request; those of a request that isn't built aren't written yet
+-- the same check of a thin pool to its end, whose image is written where nothing was reported and the flag is set
+abbrev pub check_and_clear : List ℕ → Terms
+check_and_clear path = record {
+  uses = record unnamed { out = reading []; input = writing path };
+  Finding = Reported;
+  finds = λ before after report. IfSome before.input.held (λ image. report ≡ report_of (faults Thin Counts image));
+  answer = check_answer;
+  statuses = 0 ∷ 1 ∷ 5 ∷ 7 ∷ [];
+  memory = λ before. CanWantMemory Thin Counts before.input.held;
+  silent = 7 ∷ [];
+  leaves = λ report before after status. LeavesCleared report status before.input after.input;
+}
+
+-- what a query finds: the report of the check before it, and the text that it puts where that is clean
+pub record Queried : Type 0 where
+  pub report : Reported
+  pub text : List ℕ
+
+-- a query puts its text, or the report to `notes`
+abbrev pub query_answer : Queried → Answer
+query_answer queried =
+    if queried.report.total == 0
+    then record { status = 0; out = queried.text; notes = [] }
+    else record { status = 1; out = []; notes = reported_lines queried.report }
+
+-- a query over the meaning of an image, which has one where there is no fault up to the stage Whole
+abbrev pub query : Kind → (List (List ℕ) → List ℕ) → Option (List ℕ) → List ℕ → Terms
+query kind text_of file path = record {
+  uses = record unnamed { out = reading (unwrap_or file []); input = reading path };
+  Finding = Queried;
+  finds = λ before after queried. IfSome before.input.held (λ image.
+      (queried.report ≡ report_of (faults kind Whole image)) × (queried.text ≡ text_of image));
+  answer = query_answer;
+  statuses = 0 ∷ 1 ∷ 5 ∷ 7 ∷ [];
+  memory = λ before. CanWantMemory kind Whole before.input.held;
+  silent = 1 ∷ [];
+  leaves = nothing;
+}
+
+-- the three queries
+abbrev pub rmap : ℕ → ℕ → Option (List ℕ) → List ℕ → Terms
+rmap first end file path = query Thin (λ image. rmap_lines first end (thin_meaning image)) file path
+
+abbrev pub list_devices : Option (List ℕ) → List ℕ → Terms
+list_devices file path = query Thin (λ image. list_lines (thin_meaning image)) file path
+
+abbrev pub since : ℕ → Option (List ℕ) → List ℕ → Terms
+since era file path = query Era (λ image. since_lines era (era_meaning image)) file path
+
+-- the generator takes no memory, and no device
+abbrev pub generate : ℕ → Option (List ℕ) → Terms
+generate number file = record {
+  uses = record unnamed { out = reading (unwrap_or file []) };
+  Finding = Unit {0};
+  finds = λ before after _. Unit {0};
+  answer = λ _. record { status = 0; out = generated_text number; notes = [] };
+  statuses = 0 ∷ [];
+  memory = λ before. ⊥;
+  silent = [];
+  leaves = nothing;
+}
+
+-- the terms of a request. Those of a dump, a restore, a repair, a search and a rehearsal aren't written yet, and they
+-- aren't built
 abbrev pub terms_of : Option request.Request → Terms
 terms_of None = refused
 terms_of (Some (request.check kind until false path)) = check kind until path
+terms_of (Some (request.check kind until true path)) = check_and_clear path
+terms_of (Some (request.rmap first end file path)) = rmap first end file path
+terms_of (Some (request.list_devices file path)) = list_devices file path
+terms_of (Some (request.since era file path)) = since era file path
+terms_of (Some (request.generate number file)) = generate number file
 terms_of (Some _) = refused

@@ -1,21 +1,48 @@
 -- What a request finds before anything was done.
-use Rattle.std.proofs.Common.{false, true, List, [], Option, Some, None}
+use Rattle.std.proofs.Common.{◌≡◌, inl, inr, true, false, List, [], ℕ, Option, Some, None, IfSome, refl, sym, ◌∙◌}
 use Rattle.std.specs.Option.{option_map_or}
+use Rattle.std.proofs.lemmas.Bool.{true≢false, cases_Bool}
+use Rattle.pd_kinds.specs.declared.kind.Kind.{Kind}
+use Rattle.pd_kinds.specs.declared.kind.Kind.TheVariants.{Thin, Cache, Era}
+use Rattle.pd_kinds.specs.declared.kind.Stage.{Stage}
+use Rattle.pd_kinds.specs.declared.kind.Stage.TheVariants.{Super, Walk, Order, Whole, Counts}
 use Rattle.pd_kinds.specs.Objects.{SinkState}
 use Rattle.pd_kinds.specs.Report.{report_of}
 use Rattle.pd_kinds.specs.Stages.{faults}
 use Rattle.pd_answers.specs.Answer.{Objects}
-use Rattle.pd_answers.specs.Terms.{Terms}
-use Rattle.pd_answers.specs.Requests.{Request, check}
+use Rattle.pd_answers.specs.Requests.{Request, check, is_built}
+use Rattle.pd_answers.specs.Words.{built, spelled, asked}
 use Rattle.pd_answers.specs.Promises.{terms_of}
 use Rattle.pd_tools.proofs.Checks.{told}
 
+-- the flag isn't built
+pub no_flag : (kind : Kind) (until : Stage) (path : List ℕ) → is_built (check kind until true path) ≡ false
+unfolding is_built
+no_flag Thin Super path = refl
+no_flag Thin Walk path = refl
+no_flag Thin Order path = refl
+no_flag Thin Whole path = refl
+no_flag Thin Counts path = refl
+no_flag Cache until path = refl
+no_flag Era until path = refl
+
+-- what is asked is built
+built_alone : (request : Option Request) → IfSome (built request) (λ r. is_built r ≡ true)
+built_alone None = tt
+built_alone (Some request) = elim (cases_Bool (is_built request)) [ inl e ↦ rw e e | inr e ↦ rw e tt ]
+
+pub asked_alone : (words : List (List ℕ)) → IfSome (asked words) (λ r. is_built r ≡ true)
+unfolding asked
+asked_alone words = built_alone (spelled words)
+
 -- something is right to find, and nothing was written
-pub at_rest : (request : Option Request) (before : Objects) (notes : SinkState)
+pub at_rest : (request : Option Request) (before : Objects) (notes : SinkState) → IfSome request (λ r. is_built r ≡ true)
     → (finding : (terms_of request).Finding) × ((terms_of request).finds before (record before { notes = notes }) finding)
     × ((terms_of request).leaves finding before (record before { notes = notes }) 6)
-at_rest None before notes = (tt, tt, tt)
-at_rest (Some (check kind until false path)) before notes =
+unfolding is_built
+at_rest None before notes is = (tt, tt, tt)
+at_rest (Some (check kind until false path)) before notes is =
     (option_map_or (λ image. report_of (faults kind until image)) before.input.held (report_of []),
     told before.input.held (λ image. report_of (faults kind until image)) (report_of []), tt)
-at_rest (Some _) before notes = (tt, tt, tt)
+at_rest (Some (check kind until true path)) before notes is = absurd (true≢false (sym is ∙ no_flag kind until path))
+at_rest (Some _) before notes is = absurd (true≢false (sym is))

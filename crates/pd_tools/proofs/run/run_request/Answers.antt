@@ -1,9 +1,7 @@
-use Rattle.std.proofs.Common.{◌≡◌, ℕ, Bool, true, false, List, Some, map, string_bytes, refl, sym, ◌∙◌}
+use Rattle.std.proofs.Common.{◌≡◌, ℕ, Bool, true, false, List, Some, map, string_bytes, sym, ◌∙◌}
 use Rattle.std.proofs.lemmas.Bool.{true≢false}
 use Rattle.pd_kinds.specs.declared.kind.Kind.{Kind}
-use Rattle.pd_kinds.specs.declared.kind.Kind.TheVariants.{Thin, Cache, Era}
 use Rattle.pd_kinds.specs.declared.kind.Stage.{Stage}
-use Rattle.pd_kinds.specs.declared.kind.Stage.TheVariants.{Super, Walk, Order, Whole, Counts}
 use Rattle.pd_kinds.specs.Objects.{SinkState}
 use Rattle.pd_answers.specs.Requests as request
 use Rattle.pd_answers.specs.Requests.{is_built}
@@ -11,18 +9,8 @@ use Rattle.pd_answers.specs.Answer.{Objects}
 use Rattle.pd_answers.specs.Promises.{check, terms_of}
 use Rattle.pd_words.specs.Words.{word_of}
 use Rattle.pd_tools.specs.Work.{Answers}
+use Rattle.pd_tools.proofs.AtRest.{no_flag}
 use Rattle.pd_tools.proofs.run.run_request.Goals as goal
-
--- the flag isn't built
-no_flag : (kind : Kind) (until : Stage) (path : List ℕ) → is_built (request.check kind until true path) ≡ false
-unfolding is_built
-no_flag Thin Super path = refl
-no_flag Thin Walk path = refl
-no_flag Thin Order path = refl
-no_flag Thin Whole path = refl
-no_flag Thin Counts path = refl
-no_flag Cache until path = refl
-no_flag Era until path = refl
 
 -- the check of these words is the one that is asked
 as_asked : (kind : Kind) (until : Stage) (clear : Bool) (path word : List ℕ) (attached : SinkState) (before after : Objects) (status : ℕ)

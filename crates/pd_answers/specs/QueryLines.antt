@@ -1,0 +1,61 @@
+-- The bytes of the lines that the queries print, over the meaning of an image.
+use Rattle.std.specs.Prelude.{ℕ, ◌-◌, Bool, ◌==◌, ◌&&◌, ◌||◌, not, nat_lt, List, [], ◌∷◌, ◌++◌, map, filter, length, drop, slice_index, count_by, codes, decimal}
+use Rattle.std.specs.List.{flat_map, range_with_len, take_while}
+use Rattle.pd_kinds.specs.Meaning.{Mapping, ThinDevice, ThinPool, EraMeaning}
+
+-- the reverse map: the line of a mapping to a data block
+abbrev pub mapping_line : ℕ → ThinDevice → Mapping → List ℕ
+mapping_line block device mapping =
+    codes "block " ++ (decimal block ++ (codes " device " ++ (decimal device.id
+    ++ (codes " virtual " ++ (decimal mapping.virtual_block ++ (10 ∷ []))))))
+
+-- the lines of a device's mappings to a data block
+abbrev pub mapping_lines : ℕ → ThinDevice → List ℕ
+mapping_lines block device = flat_map (mapping_line block device) (filter (λ (m : Mapping). m.data_block == block) device.mappings)
+
+-- the mappings to the data blocks from the first on and below the end: block after block, and then device after device
+unfoldable pub rmap_lines : ℕ → ℕ → ThinPool → List ℕ
+rmap_lines first end pool = flat_map (λ block. flat_map (mapping_lines block) pool.devices) (range_with_len first (end - first))
+
+-- the data blocks of all mappings of a pool
+abbrev pub mapped_blocks : ThinPool → List ℕ
+mapped_blocks pool = flat_map (λ (device : ThinDevice). map (λ (m : Mapping). m.data_block) device.mappings) pool.devices
+
+-- a mapping is exclusive where its data block is in no other mapping of any device
+abbrev pub is_exclusive : ThinPool → Mapping → Bool
+is_exclusive pool mapping = count_by (λ (block : ℕ). block == mapping.data_block) (mapped_blocks pool) == 1
+
+abbrev pub exclusive_number : ThinPool → ThinDevice → ℕ
+exclusive_number pool device = length (filter (is_exclusive pool) device.mappings)
+
+-- the line of a device: how many blocks are mapped, and how many of them are exclusive and shared
+abbrev pub device_of_list : ThinPool → ThinDevice → List ℕ
+device_of_list pool device =
+    codes "device " ++ (decimal device.id
+    ++ (codes " mapped " ++ (decimal device.mapped
+    ++ (codes " exclusive " ++ (decimal (exclusive_number pool device)
+    ++ (codes " shared " ++ (decimal (device.mapped - exclusive_number pool device)
+    ++ (codes " transaction " ++ (decimal device.transaction
+    ++ (codes " created " ++ (decimal device.created
+    ++ (codes " snapped " ++ (decimal device.snapped ++ (10 ∷ []))))))))))))))
+
+-- the list of a pool's devices, by ascending id
+unfoldable pub list_lines : ThinPool → List ℕ
+list_lines pool = flat_map (device_of_list pool) pool.devices
+
+-- whether the era of a block is the given one or a later one
+abbrev pub is_since : ℕ → ℕ → Bool
+is_since era era_of_block = not (nat_lt era_of_block era)
+
+-- whether a longest run of such blocks begins with this block
+abbrev pub begins_run : ℕ → List ℕ → ℕ → Bool
+begins_run era eras block = is_since era (slice_index eras block) && ((block == 0) || not (is_since era (slice_index eras (block - 1))))
+
+-- the line of the run that begins with a block
+abbrev pub run_line : ℕ → List ℕ → ℕ → List ℕ
+run_line era eras block =
+    codes "written " ++ (decimal block ++ (codes " " ++ (decimal (length (take_while (is_since era) (drop block eras))) ++ (10 ∷ []))))
+
+-- the longest runs of blocks whose era is the given one or a later one, ascending
+unfoldable pub since_lines : ℕ → EraMeaning → List ℕ
+since_lines era meaning = flat_map (run_line era meaning.eras) (filter (begins_run era meaning.eras) (range_with_len 0 (length meaning.eras)))
