@@ -8,11 +8,12 @@ use Rattle.pd_kinds.specs.Meaning.{EraMeaning}
 use Rattle.pd_kinds.specs.Node.{Entry, max_entries}
 use Rattle.pd_kinds.specs.Array.{max_words}
 use Rattle.pd_kinds.specs.Bitmap.{bitmaps_for}
-use Rattle.pd_laid.specs.Tree.{nodes_for, heads, levels_above, inners_above, tree_leaves, tree_inners, leaf_row, behind_leaves, spread}
+use Rattle.pd_spells.specs.Need.{nodes_for, need_above, need_tree, need_array, need_meta_map, nodes_of_tree}
+use Rattle.pd_laid.specs.Tree.{heads, levels_above, inners_above, tree_leaves, tree_inners, leaf_row, behind_leaves, spread}
 use Rattle.pd_laid.specs.Laid.{laid_number, tree_of, laid_leaf, laid_inner, laid_tree}
 use Rattle.pd_laid.specs.Array.{pieces, array_pieces, array_items, laid_words, laid_array}
 use Rattle.pd_laid.specs.Map.{laid_bitmap, laid_bitmaps, meta_overflow, meta_overflow_at, meta_overflow_blocks, meta_counts, laid_meta_map}
-use Rattle.pd_laid.specs.Need.{need_above, need_tree, need_array, need_meta_map, need_of_era}
+use Rattle.pd_spells.specs.EraNeed.{need_of_era}
 use Rattle.pd_laid.specs.LaidEra.{era_blocks, writeset_blocks, writesets_at, era_parts, era_named, meta_map_at, meta_map_blocks, laid_era}
 use Rattle.pd_laid.proofs.SpreadLemmas.{length-spread}
 
@@ -46,7 +47,7 @@ length-leaves size items = length-spread (max 1 (nodes_for (max_entries size) (l
 
 -- a tree
 pub length-tree : (role : ℕ) (t : Tree) (place : ℕ) (items : List Entry) → length (laid_tree role t place items) ≡ need_tree t.size (length items)
-unfolding laid_tree need_tree
+unfolding laid_tree nodes_of_tree
 length-tree role t place items =
     let leaves = tree_leaves t.size items in
     let inners = tree_inners t.size place items in

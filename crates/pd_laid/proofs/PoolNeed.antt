@@ -14,7 +14,8 @@ use Rattle.pd_laid.specs.Laid.{laid_number, tree_of, laid_leaf, laid_inner}
 use Rattle.pd_laid.specs.Map.{index_items, index_entry_of, meta_overflow}
 use Rattle.pd_laid.specs.Shape.{ShapeDevice, ThinShape, shape_of, unshared_device, unshared_pieces}
 use Rattle.pd_laid.specs.LaidThin.{mapping_items, shared_items, some_pieces, own_leaves, pieces_row, device_leaves, device_row, device_inners, laid_device, laid_devices, top_items, details_items, mappings, devices_at, device_blocks, tops_at, tops, top_blocks, details_at, details_blocks, data_counts, bitmaps_at, bitmap_blocks, index_at, data_index, index_blocks, overflow_at, data_overflow, overflow_blocks, pool_parts, pool_named, meta_map_at, meta_map_blocks, laid_shape, laid_pool}
-use Rattle.pd_laid.specs.Need.{need_above, need_tree, need_of_devices}
+use Rattle.pd_spells.specs.Need.{need_above, need_tree, nodes_of_tree}
+use Rattle.pd_spells.specs.ThinNeed.{need_of_devices}
 use Rattle.pd_laid.proofs.NeedLemmas.{length-heads, length-inners, length-leaves, length-tree, length-bitmaps, length-map_blocks}
 
 -- a device without shared leaves has the leaves of a tree of its mappings, and their row
@@ -33,7 +34,7 @@ length-mappings ms = length-map ms (λ (m : Mapping). record { key = m.virtual_b
 
 device_number : (t : Tree) (leaves : List (List Entry)) (place : ℕ) (d : ThinDevice)
     → length (laid_device t leaves place (unshared_device d)) ≡ need_tree 8 (length d.mappings)
-unfolding laid_device device_row need_tree
+unfolding laid_device device_row nodes_of_tree
 device_number t leaves place d =
     let device = unshared_device d in
     let all = tree_leaves 8 (mapping_items d.mappings) in

@@ -4,7 +4,8 @@ use Rattle.std.specs.List.{range_with_len}
 use Rattle.pd_kinds.specs.Node.{Entry}
 use Rattle.pd_kinds.specs.Array.{array_block, max_words}
 use Rattle.pd_kinds.specs.Layout.{tree_to}
-use Rattle.pd_laid.specs.Tree.{nodes_for, tree_root}
+use Rattle.pd_spells.specs.Need.{nodes_for}
+use Rattle.pd_laid.specs.Tree.{tree_root}
 use Rattle.pd_laid.specs.Laid.{LaidBlock, tree_of, laid_tree}
 
 -- so many pieces of a list, each of so many elements as long as there are any

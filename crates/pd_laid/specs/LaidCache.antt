@@ -10,7 +10,7 @@ use Rattle.pd_laid.specs.Tree.{tree_root}
 use Rattle.pd_laid.specs.Laid.{LaidBlock, Laid, named_by, tree_of, laid_tree}
 use Rattle.pd_laid.specs.Array.{laid_array, array_root}
 use Rattle.pd_laid.specs.Map.{laid_meta_map, meta_overflow_root}
-use Rattle.pd_laid.specs.CacheSuper.{cache_super_block}
+use Rattle.pd_laid.specs.CacheSuper.{cache_super_in}
 
 -- the entry of a cache block, where it is valid
 unfoldable pub entry_of : CacheMeaning → ℕ → Option CacheEntry
@@ -142,6 +142,6 @@ cache_laid_fields m version n = record {
 -- what is laid of a cache in a version, on a device of n blocks
 unfoldable pub laid_cache : CacheMeaning → ℕ → ℕ → Laid
 laid_cache m version n = record {
-  super_block = cache_super_block (cache_laid_fields m version n) (dirty_root m version);
+  super_block = cache_super_in (cache_laid_fields m version n) (dirty_root m version);
   blocks = cache_parts m version ++ meta_map_blocks m version n;
 }

@@ -1,5 +1,4 @@
 pub mod Tree
-pub mod Need
 pub mod Laid
 pub mod Array
 pub mod Map
@@ -7,6 +6,5 @@ pub mod Shape
 pub mod LaidThin
 pub mod CacheSuper
 pub mod LaidCache
-pub mod EraSuper
 pub mod LaidEra
 pub mod Salvage

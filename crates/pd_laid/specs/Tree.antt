@@ -1,15 +1,12 @@
 -- A tree as it is laid from a place on: its leaves, then each level above, every level spread evenly.
 use Rattle.std.specs.Prelude.{ℕ, zero, suc, ◌+◌, ◌-◌, ◌/◌, max, nat_lt, if◌then◌else◌, List, [], ◌∷◌, ◌++◌, length, take, drop}
 use Rattle.pd_kinds.specs.Node.{Entry, max_entries, leaf_block, inner_block}
+use Rattle.pd_spells.specs.Need.{nodes_for}
 
 -- a list in so many parts, as even as can be: the first ones have one element more than the others
 unfoldable pub spread : {X : Type 0} → ℕ → List X → List (List X)
 spread zero xs = []
 spread (suc k) xs = take ((length xs + k) / suc k) xs ∷ spread k (drop ((length xs + k) / suc k) xs)
-
--- how many nodes so many entries take, where a node has at most so many
-abbrev pub nodes_for : ℕ → ℕ → ℕ
-nodes_for most count = (count + (most - 1)) / most
 
 -- a tree's leaves: the fewest that hold the items, and one at least
 unfoldable pub tree_leaves : ℕ → List Entry → List (List Entry)

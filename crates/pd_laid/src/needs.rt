@@ -8,7 +8,10 @@ ghost use Rattle.pd_laid.specs.LaidCache.{cache_named, laid_cache};
 ghost use Rattle.pd_laid.specs.LaidEra.{era_named, laid_era};
 ghost use Rattle.pd_laid.specs.LaidThin.{data_overflow, laid_pool, pool_named};
 ghost use Rattle.pd_laid.specs.Map.{laid_meta_map, meta_overflow};
-ghost use Rattle.pd_laid.specs.Need.{need_above, need_array, need_meta_map, need_of_cache, need_of_devices, need_of_era, need_tree};
+ghost use Rattle.pd_spells.specs.Need.{need_above, need_array, need_meta_map, need_tree};
+ghost use Rattle.pd_spells.specs.CacheNeed.{need_of_cache};
+ghost use Rattle.pd_spells.specs.ThinNeed.{need_of_devices};
+ghost use Rattle.pd_spells.specs.EraNeed.{need_of_era};
 ghost use Rattle.pd_laid.specs.Shape.{shape_of};
 ghost use Rattle.pd_laid.specs.Tree.{inners_above};
 

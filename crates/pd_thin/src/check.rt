@@ -9,7 +9,6 @@ ghost use Rattle.pd_image.specs.Device.{IsAttached, KeepsObject};
 ghost use Rattle.pd_check.specs.Check.{MayWantMemory, ReadsFew};
 
 use crate::format::{ThinFormat, ThinTable};
-use crate::sizes::sound_super_has_blocks;
 use pd_check::{Metadata, check};
 use pd_image::Device;
 use pd_kinds::{Block, CheckFault, Report, Rules, Stage};
@@ -27,8 +26,7 @@ impl Metadata for ThinTable {
         thin_super_rules(b, device_blocks)
     }
 
-    fn format(b: &Block, device_blocks: u64) -> ThinFormat {
-        sound_super_has_blocks(device_blocks, b);
+    fn format(b: &Block, _device_blocks: u64) -> ThinFormat {
         ThinFormat::of(&read_thin_super(b))
     }
 }

@@ -1,11 +1,8 @@
-ghost use Rattle.std.specs.Prelude.{◌≡◌, ◌∷◌, []};
-ghost use Rattle.pd_kinds.specs.Edge.{edge_of};
-ghost use Rattle.pd_kinds.specs.ThinSuper.{thin_super_edges as edges_of_super};
-ghost use Rattle.pd_supers.specs.ThinSuper.{fields_of};
-
 use pd_kinds::{Block, Edges, Rules};
 use pd_layouts::{Layout, LeafValue, Names, Table, Tabled};
-use pd_supers::{ThinSuper, read_thin_super, thin_held_rules, thin_super_rules};
+use pd_supers::{
+    ThinSuper, read_thin_super, thin_held_edges, thin_held_rules, thin_super_edges, thin_super_rules,
+};
 
 /// The table of a thin pool's metadata, as "drivers/md/dm-thin-metadata.c" and
 /// "drivers/md/persistent-data/dm-space-map-common.c" use it.
@@ -79,27 +76,4 @@ impl Table for ThinTable {
     }
 
     ghost lawful = { thin_table };
-}
-
-/// The blocks that a superblock with these fields names.
-fn thin_super_edges(s: &ThinSuper) -> Edges
-    ensures { result ≡ edges_of_super (fields_of s.now) }
-{
-    Edges::none()
-        .with(10, s.meta_map.overflow_root)
-        .with(8, s.meta_map.bitmap_root)
-        .with(7, s.data_map.overflow_root)
-        .with(5, s.data_map.bitmap_root)
-        .with(4, s.details_root)
-        .with(2, s.mapping_root)
-        .with_optional(1, s.held_root)
-}
-
-/// The blocks that the held copy of a superblock with these fields names.
-fn thin_held_edges(s: &ThinSuper) -> Edges
-    ensures { result ≡ edge_of 2 s.now.mapping_root ∷ edge_of 4 s.now.details_root ∷ [] }
-{
-    Edges::none()
-        .with(4, s.details_root)
-        .with(2, s.mapping_root)
 }
