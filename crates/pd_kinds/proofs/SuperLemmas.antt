@@ -12,10 +12,11 @@ use Rattle.pd_kinds.proofs.FieldLemmas.{drop-put, le-put_other}
 use Rattle.pd_kinds.proofs.WrittenLemmas.{is_beside, length-written, length-zeros, length-written_zeros, drop-put_bytes, drop-sealed, le-put_bytes_other, put_bytes_read}
 use Rattle.pd_kinds.proofs.TableLemmas.{are_apart, are_beside, numbers_at, values_of, le-written_beside, on_a_side, table_read}
 
--- the places of a superblock's head: the checksum, the place, the uuid and the magic
+-- a field as a row, whatever its number
 abbrev place_of : ℕ → ℕ → Row
 place_of offset size = record { offset = offset; size = size; value = 0 }
 
+-- the fields of a superblock's head: the checksum, the place, the uuid and the magic
 abbrev pub head_places : List Row
 head_places = place_of 0 4 ∷ place_of 8 8 ∷ place_of 16 16 ∷ place_of 32 8 ∷ []
 
@@ -36,7 +37,7 @@ le-covered kind uuid b p n whole len behind apart =
     ∙ le-put_bytes_other headed 16 uuid p n (omega arith) beside
 
 -- a field beside the head stays
-pub le-super_block : (kind : Kind) (uuid b : List ℕ) (p n : ℕ) → length b ≡ 4096 → length uuid ≡ 16
+le-super_block : (kind : Kind) (uuid b : List ℕ) (p n : ℕ) → length b ≡ 4096 → length uuid ≡ 16
     → are_beside p n head_places ≡ true → le (super_block kind uuid b) p n ≡ le b p n
 le-super_block kind uuid b p n whole len beside =
     let checksums = and_parts (is_beside p n (place_of 0 4)) (are_beside p n (place_of 8 8 ∷ place_of 16 16 ∷ place_of 32 8 ∷ [])) beside in
@@ -64,13 +65,13 @@ head_fits Cache = (lit< tt, (lit< tt, tt))
 head_fits Era = (lit< tt, (lit< tt, tt))
 
 -- the place is 0, and the magic is that of the kind
-pub place_read : (kind : Kind) (uuid b : List ℕ) → length b ≡ 4096 → length uuid ≡ 16 → le (super_block kind uuid b) 8 8 ≡ 0
+place_read : (kind : Kind) (uuid b : List ℕ) → length b ≡ 4096 → length uuid ≡ 16 → le (super_block kind uuid b) 8 8 ≡ 0
 place_read kind uuid b whole len =
     let covered = le-covered kind uuid b 8 8 whole len (inr (omega arith)) (inl (omega arith)) in
     let read = table_read b (head_rows kind) whole refl (head_fits kind) in
     covered ∙ cc
 
-pub magic_read : (kind : Kind) (uuid b : List ℕ) → length b ≡ 4096 → length uuid ≡ 16 → le (super_block kind uuid b) 32 8 ≡ magic_of kind
+magic_read : (kind : Kind) (uuid b : List ℕ) → length b ≡ 4096 → length uuid ≡ 16 → le (super_block kind uuid b) 32 8 ≡ magic_of kind
 magic_read kind uuid b whole len =
     let covered = le-covered kind uuid b 32 8 whole len (inr (omega arith)) (inr (omega arith)) in
     let read = table_read b (head_rows kind) whole refl (head_fits kind) in
