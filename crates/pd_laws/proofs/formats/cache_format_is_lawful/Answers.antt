@@ -1,66 +1,9 @@
-use Rattle.pd_kinds.specs.declared.limits.TheConstants.{MAX_META_BLOCKS}
-use Rattle.std.proofs.Common.{ℕ, ◌<◌, ◌≤◌, false, List, [], ◌∷◌, ◌++◌, arith}
-use Rattle.std.proofs.lemmas.Bool.{or_parts}
-use Rattle.pd_kinds.specs.Edge.{Edge, optional_edge}
-use Rattle.pd_kinds.specs.CacheFormat.{CacheFields, cache_fields, cache_super_edges, cache_super_tests, cache_super_bad, are_cache_sizes_bad, cache_layout, cache_graph}
-use Rattle.pd_kinds.specs.Limits.{is_meta_size_bad}
-use Rattle.pd_kinds.specs.Layout.{copy}
-use Rattle.pd_laws.proofs.SoundLemmas.{IsSound, IsSoundSuper, tests_after_two, super_holds}
-use Rattle.pd_laws.proofs.LayoutLemmas.{IsLater, IsKeptBy, table_lawful, at_each, bitmap_kept, array_kept, index_kept, copy_kept, all_optional, length-optional}
-use Rattle.pd_laws.proofs.TreeLemmas.{plain_kept, naming_kept}
+use Rattle.pd_kinds.specs.CacheFormat.{cache_fields, cache_graph}
+use Rattle.pd_laws.proofs.CacheTable.{super_sound, cache_table}
 use Rattle.pd_laws.proofs.formats.cache_format_is_lawful.Goals as goal
-
--- what is known of a sound superblock
-super_sound : (blocks : ℕ) (block : List ℕ) → IsSound (cache_super_bad blocks block)
-    → IsSoundSuper blocks (cache_fields block).meta_map.blocks (cache_super_edges (cache_fields block))
-unfolding cache_super_bad cache_super_tests are_cache_sizes_bad
-super_sound blocks block sound =
-    let tests = tests_after_two _ _ _ _ (cache_super_tests blocks block) sound in
-    let nr = (cache_fields block).meta_map.blocks in
-    super_holds blocks nr _ _ (or_parts (is_meta_size_bad blocks nr) _ tests.1.0).0 tests.1.0 tests.0
-
--- the edges behind those to the hints and to the discarded blocks
-abbrev behind_discards : CacheFields → List Edge
-behind_discards fields =
-    record { role = 7; block = fields.meta_map.bitmap_root } ∷ record { role = 9; block = fields.meta_map.overflow_root } ∷ []
-
-abbrev behind_hints : CacheFields → List Edge
-behind_hints fields = optional_edge 5 fields.discard_root ++ behind_discards fields
-
--- the superblock
-super_kept : (nr : ℕ) → IsKeptBy 10 nr 0 0 (copy (λ place block. cache_super_bad nr block) (λ block. cache_super_edges (cache_fields block)))
-super_kept nr =
-    copy_kept 10 nr 0 0 _ _
-    (λ block. let fields = cache_fields block in
-    omega (arith, length-optional 3 fields.hint_root (behind_hints fields), length-optional 5 fields.discard_root (behind_discards fields)))
-    (λ place block sound. (super_sound nr block sound).inside)
-    (λ block. let fields = cache_fields block in (
-      search arith,
-      all_optional (IsLater 10 0) 3 fields.hint_root (behind_hints fields) (search arith)
-          (all_optional (IsLater 10 0) 5 fields.discard_root (behind_discards fields) (search arith) (search arith)),
-    ))
-
--- each role's layout is kept
-kept : (nr : ℕ) → nr ≤ MAX_META_BLOCKS → (role : ℕ) → role < 10 → IsKeptBy 10 nr 0 role (cache_layout nr role)
-unfolding cache_layout
-kept nr small role h =
-    let superblock = super_kept nr in
-    let mapping_tree = naming_kept 10 nr 0 1 8 2 (λ e. e.value) (λ e. false) (omega arith) (omega arith) (omega arith) in
-    let mappings = array_kept 10 nr 0 2 8 in
-    let hint_tree = naming_kept 10 nr 0 3 8 4 (λ e. e.value) (λ e. false) (omega arith) (omega arith) (omega arith) in
-    let hints = array_kept 10 nr 0 4 4 in
-    let discard_tree = naming_kept 10 nr 0 5 8 6 (λ e. e.value) (λ e. false) (omega arith) (omega arith) (omega arith) in
-    let discards = array_kept 10 nr 0 6 8 in
-    let index = index_kept 10 nr 0 7 8 small (omega arith) (omega arith) in
-    let counts = bitmap_kept 10 nr 0 8 in
-    let overflow = plain_kept 10 nr 0 9 4 (omega arith) (omega arith) in
-    at_each (λ role. IsKeptBy 10 nr 0 role (cache_layout nr role)) 10
-    (superblock, (mapping_tree, (mappings, (hint_tree, (hints, (discard_tree, (discards, (index, (counts, (overflow, tt))))))))))
-    role h
 
 pub returns : goal.returns
 unfolding cache_graph
 returns c = λ blocks super sound.
     let found = super_sound blocks super sound in
-    table_lawful 10 (cache_fields super).meta_map.blocks 0 _
-    (omega arith) (omega arith) found.some_block found.few_blocks (kept (cache_fields super).meta_map.blocks found.few_blocks)
+    cache_table (cache_fields super).meta_map.blocks 0 found.some_block found.few_blocks
