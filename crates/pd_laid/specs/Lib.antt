@@ -10,3 +10,4 @@ pub mod LaidCache
 pub mod EraSuper
 pub mod LaidEra
 pub mod Salvage
+pub mod Saved
