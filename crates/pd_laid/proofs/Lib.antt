@@ -7,3 +7,4 @@ pub mod ShapeLemmas
 pub mod NodeFacts
 pub mod GatherLemmas
 pub mod SalvageLemmas
+pub mod SavedLemmas

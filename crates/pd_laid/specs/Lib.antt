@@ -8,3 +8,4 @@ pub mod CacheSuper
 pub mod LaidCache
 pub mod LaidEra
 pub mod Salvage
+pub mod Saved

@@ -1,9 +1,11 @@
-ghost use Rattle.std.specs.Prelude.{◌≡◌, List, [], ℕ};
+ghost use Rattle.std.specs.Prelude.{◌≡◌, ◌↔◌, ◌<◌, ◌≤◌, List, [], ℕ};
 ghost use Rattle.pd_kinds.specs.declared.kind.Kind.TheVariants.{Thin};
 ghost use Rattle.pd_kinds.specs.declared.kind.Stage.TheVariants.{Whole};
 ghost use Rattle.pd_kinds.specs.Meaning.{thin_meaning};
+ghost use Rattle.pd_kinds.specs.Node.{Entry};
 ghost use Rattle.pd_kinds.specs.Stages.{faults};
-ghost use Rattle.pd_laid.specs.Salvage.{HasBytes, salvage};
+ghost use Rattle.pd_laid.specs.Salvage.{HasBytes, give, salvage};
+ghost use Rattle.pd_laid.specs.Saved.{Has, IsSaved};
 
 use pd_laws::trees_are_in_order;
 
@@ -13,3 +15,10 @@ pub fn sound_pool_is_saved()
 {
     trees_are_in_order();
 }
+
+/// The entries that are given below a node, in a range of keys, are those of the range that a path of at most
+/// so many undamaged nodes ends at, and that lie in the range of each child on that path.
+pub fn given_are_saved()
+    ensures { (size nr : ℕ) (image : List (List ℕ)) (nodes place low high : ℕ) (e : Entry)
+        → Has (give size nr image nodes place low high) e ↔ (IsSaved size nr image nodes place e × ((low ≤ e.key) × (e.key < high))) }
+{}
