@@ -17,6 +17,7 @@ first_value : {X : Type 0} → (decoded : ℕ → X) (same : Bool) (entry : Entr
 first_value decoded true entry found later rest = refl
 first_value decoded false entry found later rest = rest
 
+-- so it is found among the entries
 pub lookup_entries : {X : Type 0} → (decoded : ℕ → X) (key : ℕ) (entries : List Entry)
     → lookup key (map (item_of decoded) entries) ≡ option_map decoded (value_of_key entries key)
 unfolding lookup value_of_key

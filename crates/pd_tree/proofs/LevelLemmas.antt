@@ -17,6 +17,7 @@ none_at p f (suc d) (suc n) a within none =
     let next : a + suc d ≡ a + 1 + d = omega arith in
     rw next (none_at p f d n (a + 1) (omega arith) (or_parts (p (f a)) _ none).1)
 
+-- a child has one level less
 pub kid_level : (size : ℕ) (image : List (List ℕ)) (n b i : ℕ) → is_inner_node (block_at image b) ≡ true → i < entry_count size (block_at image b)
     → HasAtMostLevels size image (suc n) b → HasAtMostLevels size image n (child_at (block_at image b) i)
 unfolding has_chain kids_from
@@ -30,14 +31,17 @@ pub record IsAtLevel (size : ℕ) (image : List (List ℕ)) (root above b : ℕ)
   pub more : (n : ℕ) → HasAtMostLevels size image n root → above < n
   pub left : (n : ℕ) → HasAtMostLevels size image n root → HasAtMostLevels size image (n - above) b
 
+-- a tree has some level
 some_level : (size : ℕ) (image : List (List ℕ)) (n b : ℕ) → HasAtMostLevels size image n b → 0 < n
 unfolding has_chain
 some_level size image zero b few = absurd (cc)
 some_level size image (suc n) b few = omega arith
 
+-- the root is at the first
 pub root_level : (size : ℕ) (image : List (List ℕ)) (root : ℕ) → IsAtLevel size image root 0 root
 root_level size image root = record { more = λ n few. some_level size image n root few; left = λ n few. let whole : n - 0 ≡ n = omega arith in rw whole few }
 
+-- and a child of a node is one further down
 pub next_level : (size : ℕ) (image : List (List ℕ)) (root above b key i : ℕ) (block : List ℕ) → IsAtLevel size image root above b → block_at image b ≡ block
     → is_inner_node block ≡ true → IsSplit size block key i → 0 < i → IsAtLevel size image root (above + 1) (child_at block (i - 1))
 next_level size image root above b key i block level is inner split some =

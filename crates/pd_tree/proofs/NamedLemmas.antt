@@ -29,12 +29,15 @@ module _ (graph : Graph) (image : List (List ℕ)) (role size next : ℕ) (named
   abbrev Leads : Entry → Type 0
   Leads e = IsReached graph image (named e.value) next
 
+  -- the tree over the bytes of its nodes
   abbrev at : IsTreeAt graph image role size
   at = tree_at graph image role size to.is_role
 
+  -- the entries of the leaves below a pair
   abbrev entries_to : ℕ → ℕ → List Entry
   entries_to j p = gathered (is_inner_pair graph image) (children graph image) (λ p. leaf_entries size (block_at image (block_of p))) j p
 
+  -- those of a leaf lead on
   leaf_leads : (b : ℕ) → is_inner_node (block_at image b) ≡ false → IsClean graph image role size at b → IsMet graph image lawful (pair b role)
       → AllByRecursion Leads (leaf_entries size (block_at image b))
   unfolding leaf_entries
@@ -43,6 +46,7 @@ module _ (graph : Graph) (image : List (List ℕ)) (role size next : ℕ) (named
       rw leaf (singles (λ (e : Entry). record { role = next; block = named e.value }) (λ (e : Edge). IsReached graph image e.block e.role) _
       (rw (leaf_edges_at graph image role size next named b to leaf (clean (pair b role) (itself (pair b role)))) at edges))
 
+  -- those below a node, if those below its children do
   leads_by : (inner : Bool) (j b : ℕ) → is_inner_node (block_at image b) ≡ inner → IsClean graph image role size at b → IsMet graph image lawful (pair b role)
       → ((c : ℕ) → IsClean graph image role size at c → IsMet graph image lawful (pair c role) → AllByRecursion Leads (entries_to j (pair c role)))
       → AllByRecursion Leads (entries_to (suc j) (pair b role))
@@ -54,6 +58,7 @@ module _ (graph : Graph) (image : List (List ℕ)) (role size next : ℕ) (named
   leads_by false j b leaf clean met each =
       rw (at.inner b (clean (pair b role) (itself (pair b role))), leaf, block_pair b role at.few) (leaf_leads b leaf clean met)
 
+  -- those at the last level
   last_leads : (inner : Bool) (b : ℕ) → is_inner_node (block_at image b) ≡ inner → IsClean graph image role size at b → IsMet graph image lawful (pair b role)
       → AllByRecursion Leads (entries_to 0 (pair b role))
   unfolding gathered
@@ -61,6 +66,7 @@ module _ (graph : Graph) (image : List (List ℕ)) (role size next : ℕ) (named
   last_leads false b leaf clean met =
       rw (at.inner b (clean (pair b role) (itself (pair b role))), leaf, block_pair b role at.few) (leaf_leads b leaf clean met)
 
+  -- those of a reached tree
   pub all_lead : (j b : ℕ) → IsClean graph image role size at b → IsMet graph image lawful (pair b role) → AllByRecursion Leads (entries_to j (pair b role))
   all_lead zero b clean met = last_leads (is_inner_node (block_at image b)) b refl clean met
   all_lead (suc j) b clean met = leads_by (is_inner_node (block_at image b)) j b refl clean met (all_lead j)

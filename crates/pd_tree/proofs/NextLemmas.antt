@@ -1,5 +1,5 @@
 -- What a loop over steps keeps: what is left, with the reads that were made.
-use Rattle.std.proofs.Common.{◌≡◌, ℕ, zero, suc, ◌+◌, ◌-◌, ◌≤◌, List, [], ◌∷◌, ◌++◌, Option, Some, None, IfSome, length, refl, sym, ap, ◌∙◌, arith, length-append}
+use Rattle.std.proofs.Common.{◌≡◌, ℕ, zero, suc, ◌+◌, ◌-◌, ◌≤◌, List, [], ◌∷◌, ◌++◌, Option, Some, None, IfSome, length, refl, ap, ◌∙◌, arith, length-append}
 use Rattle.pd_kinds.specs.Field.{le}
 use Rattle.pd_kinds.specs.Node.{entry_count}
 use Rattle.pd_kinds.specs.Graph.{block_at}
@@ -10,7 +10,7 @@ use Rattle.pd_tree.specs.Below.{items_from, kids_from, items_below, nodes_below}
 use Rattle.pd_tree.specs.declared.place.Place.{Place}
 use Rattle.pd_tree.specs.Cursor.{root_left}
 use Rattle.pd_tree.specs.Stack.{stacked, items_at, stack_items, stack_nodes}
-use Rattle.pd_tree.specs.Steps.{Passes, GoesDown, Gives}
+use Rattle.pd_tree.specs.Steps.{GoesDown}
 use Rattle.pd_tree.proofs.BelowLemmas.{items_below_is, nodes_below_is, each_none}
 
 -- what holds of each, holds of both
@@ -18,6 +18,7 @@ pub if_both : {X : Type 0} {P Q R : X → Type 0} → (o : Option X) → ((x : X
 if_both None join p q = tt
 if_both (Some x) join p q = join x refl p q
 
+-- a device that is kept twice
 pub keeps_both : {old mid new : DeviceState} → KeepsObject old mid → KeepsObject mid new → KeepsObject old new
 keeps_both first second = record { access = second.access ∙ first.access; path = second.path ∙ first.path; blocks = second.blocks ∙ first.blocks; history = second.history ∙ first.history }
 
@@ -27,6 +28,7 @@ none_outside [] b outside = refl
 none_outside (block ∷ image) zero outside = absurd (omega arith)
 none_outside (block ∷ image) (suc b) outside = let rest : length image ≤ b = omega arith in none_outside image b rest
 
+-- a block without bytes is no node
 no_items : {X : Type 0} → (size : ℕ) (decoded : ℕ → X) → items_from size decoded [] 0 ≡ []
 unfolding items_from entry_count le
 no_items size decoded = refl
@@ -35,10 +37,12 @@ no_kids : (size : ℕ) → kids_from size [] 0 ≡ []
 unfolding kids_from entry_count le
 no_kids size = refl
 
+-- so a child outside counts as an empty leaf
 pub items_outside : {X : Type 0} → (size : ℕ) (decoded : ℕ → X) (image : List (List ℕ)) (j b : ℕ) → length image ≤ b → items_below size decoded image j b ≡ []
 items_outside size decoded image j b outside =
     rw (items_below_is size decoded image j b, none_outside image b outside, no_items size decoded, no_kids size, each_none (items_below size decoded image) j) refl
 
+-- the node itself is among those that are read
 pub nodes_some : (size : ℕ) (image : List (List ℕ)) (j b : ℕ) → 1 ≤ length (nodes_below size image j b)
 nodes_some size image j b = rw (nodes_below_is size image j b) (omega arith)
 
@@ -48,35 +52,13 @@ pub record Told {X : Type 0} (size : ℕ) (decoded : ℕ → X) (image : List (L
   pub reads_left : made + length (stack_nodes size image now) ≤ reads + length (stack_nodes size image start)
 
 module _ {X : Type 0} (size : ℕ) (decoded : ℕ → X) (image : List (List ℕ)) (reads made : ℕ) (start old new : Stack) (told : Told size decoded image reads start made old) where
-  pub told_passes : Passes size decoded old new → Told size decoded image reads start made new
-  told_passes passes =
-      let less = ap length (passes.nodes image) in
-      let before = told.reads_left in
-      record { items = told.items ∙ passes.items image; reads_left = omega arith }
-
-  pub told_gives : (key : ℕ) (value : X) → Gives size decoded key value old new
-      → (stack_items size decoded image start ≡ (key, value) ∷ stack_items size decoded image new)
-      × (made + length (stack_nodes size image new) ≤ reads + length (stack_nodes size image start))
-  told_gives key value gives =
-      let less = ap length (gives.nodes image) in
-      let before = told.reads_left in
-      (told.items ∙ gives.items image, omega arith)
-
+  -- a child outside of the device is passed
   pub told_skips : (b : ℕ) → GoesDown size decoded b old new → length image ≤ b → Told size decoded image reads start made new
   told_skips b down outside =
       let none = items_outside size decoded image (63 - new.depth) b outside in
       let less = ap length (down.nodes image) ∙ length-append (nodes_below size image (63 - new.depth) b) (stack_nodes size image new) in
       let before = told.reads_left in
       record { items = told.items ∙ (rw none at (down.items image)); reads_left = omega arith }
-
-  pub told_pushes : (b more : ℕ) (next : Stack) → GoesDown size decoded b old new → more ≤ made + 1
-      → stack_items size decoded image next ≡ items_below size decoded image (63 - new.depth) b ++ stack_items size decoded image new
-      → b ∷ stack_nodes size image next ≡ nodes_below size image (63 - new.depth) b ++ stack_nodes size image new
-      → Told size decoded image reads start more next
-  told_pushes b more next down one items nodes =
-      let less = ap length (down.nodes image ∙ sym nodes) in
-      let before = told.reads_left in
-      record { items = told.items ∙ (down.items image ∙ sym items); reads_left = omega arith }
 
   -- a read for a child, also where it failed
   pub told_reads : (b more : ℕ) → GoesDown size decoded b old new → more ≤ made + 1 → more ≤ reads + length (stack_nodes size image start)
@@ -91,6 +73,7 @@ pub none_left : {X : Type 0} → (left : ℕ → Place → List X) (places : Lis
 unfolding stacked
 none_left left places depth is = rw is refl
 
+-- in the end nothing is left
 pub told_ends : {X : Type 0} (size : ℕ) (decoded : ℕ → X) (image : List (List ℕ)) (reads made : ℕ) (start now : Stack) → Told size decoded image reads start made now → now.depth ≡ 0
     → (stack_items size decoded image start ≡ []) × (stack_items size decoded image now ≡ [])
 told_ends size decoded image reads made start now told ends =
@@ -104,6 +87,7 @@ root_reads size image root b reads more rest is one =
     let some = nodes_some size image 63 b in
     rw (is, length-append (nodes_below size image 63 b) rest) (omega arith)
 
+-- what holds of anything
 pub if_any : {X : Type 0} {P : X → Type 0} → (o : Option X) → ((x : X) → P x) → IfSome o P
 if_any None all = tt
 if_any (Some x) all = all x

@@ -14,11 +14,13 @@ pub record InRange (low : ℕ → ℕ) (keys : ℕ → List ℕ) (d n a : ℕ) :
   pub least : list_all (λ k. not (nat_lt k (low (a + d)))) (keys (a + d)) ≡ true
   pub most : d + 1 < n → list_all (λ k. nat_lt k (low (a + d + 1))) (keys (a + d)) ≡ true
 
+-- the range of a later child
 later_range : (low : ℕ → ℕ) (keys : ℕ → List ℕ) (d n a : ℕ) → InRange low keys d (suc n) (a + 1) → InRange low keys (suc d) (suc (suc n)) a
 later_range low keys d n a rest =
     let here : a + suc d ≡ a + 1 + d = omega arith in
     record { some = rw here rest.some; least = rw here rest.least; most = λ more. rw here (rest.most (omega arith)) }
 
+-- each child of a node in range
 pub child_range : (low : ℕ → ℕ) (keys : ℕ → List ℕ) (d n a : ℕ) → d < n → are_children_in_range (map low (range_with_len a n)) (map keys (range_with_len a n)) ≡ true
     → InRange low keys d n a
 unfolding are_children_in_range
@@ -73,6 +75,7 @@ all_less P here down (suc i) (suc j) b less all =
     all_append P (here b) (flat_map (gather here down i) (down b)) (all_first P (here b) (flat_map (gather here down j) (down b)) all)
     (all_flat P (gather here down j) (gather here down i) (down b) (λ c. all_less P here down i j c (omega arith)) (all_last P (here b) (flat_map (gather here down j) (down b)) all))
 
+-- so with the entries
 pub all_less_items : {X : Type 0} → (P : ℕ × X → Type 0) (size : ℕ) (decoded : ℕ → X) (image : List (List ℕ)) (i j b : ℕ) → i ≤ j
     → AllByRecursion P (items_below size decoded image j b) → AllByRecursion P (items_below size decoded image i b)
 unfolding items_below

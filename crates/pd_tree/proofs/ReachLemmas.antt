@@ -33,6 +33,7 @@ module _ (graph : Graph) (image : List (List ℕ)) (lawful : IsLawful graph) whe
     pub known : role_of p < graph.roles
     pub path : IsOnPath (16 * graph.nr) (next graph image) p
 
+  -- what a met pair leads to is met
   pub met_next : (p c : ℕ) → IsMet p → list_any (λ t. nat_eq t c) (next graph image p) ≡ true → IsMet c
   unfolding next
   met_next p c met leads =
@@ -44,17 +45,21 @@ module _ (graph : Graph) (image : List (List ℕ)) (lawful : IsLawful graph) whe
       (λ e is. let block = is.below in let role = is.known in (omega arith, omega arith)) within leads in
       record { block = bounds.0; known = bounds.1; path = edge p c below met.path leads }
 
+  -- all that paths lead to is met
   met_on_path : (p : ℕ) → IsOnPath (16 * graph.nr) (next graph image) p → IsMet p
   met_on_path p start = let block = lawful.some_block in let role = lawful.some_role in record { block = omega arith; known = omega arith; path = start }
   met_on_path p (edge q p' below path leads) = met_next q p' (met_on_path q path) leads
 
   module _ (paths : (q : ℕ) → (is_reached graph image q ≡ true) ↔ IsOnPath (16 * graph.nr) (next graph image) q) where
+    -- a reached pair is met
     pub met : (b role : ℕ) → IsReached graph image b role → IsMet (pair b role)
     met b role reached = met_on_path (pair b role) ((paths (pair b role)).0 reached.found)
 
+    -- the superblock is reached
     pub start_reached : IsReached graph image 0 0
     start_reached = let some = lawful.some_block in record { block = omega arith; within = omega arith; found = (paths 0).1 start }
 
+    -- what the edges of a met pair lead to is reached
     pub edges_reached : (b role : ℕ) → role < 16 → IsMet (pair b role) → AllByRecursion (λ (e : Edge). IsReached graph image e.block e.role) (graph.edges role b (block_at image b))
     unfolding next
     edges_reached b role within there =

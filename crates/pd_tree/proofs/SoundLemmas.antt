@@ -12,6 +12,7 @@ use Rattle.pd_tree.specs.Sound.IsUnder.{itself, below}
 use Rattle.pd_tree.proofs.ReachLemmas.{IsMet, met_next, met}
 
 module _ (graph : Graph) (image : List (List ℕ)) (lawful : IsLawful graph) where
+  -- a child is among the pairs that its node leads to
   child_next : (inner : Bool) (xs : List ℕ) (c : ℕ) → list_any (λ t. nat_eq t c) (cond inner xs []) ≡ true → list_any (λ t. nat_eq t c) xs ≡ true
   child_next true xs c any = any
   child_next false xs c any = absurd (cc)
@@ -20,17 +21,21 @@ module _ (graph : Graph) (image : List (List ℕ)) (lawful : IsLawful graph) whe
   unfolding children
   met_child p c there any = met_next graph image lawful p c there (child_next (is_inner_pair graph image p) (next graph image p) c any)
 
+  -- all pairs of a reached tree are met
   met_under : (p q : ℕ) → IsUnder graph image p q → IsMet graph image lawful p → IsMet graph image lawful q
   met_under p q (itself r) there = there
   met_under p q (below p' c q' is_child under) there = met_under c q' under (met_child p' c there is_child)
 
   module _ (paths : (q : ℕ) → (is_reached graph image q ≡ true) ↔ IsOnPath (16 * graph.nr) (next graph image) q) (ordered : AreInOrder graph image) where
+    -- a pair is its block and its role
     whole : (q : ℕ) → pair (block_of q) (role_of q) ≡ q
     whole q = omega arith
 
+    -- so they are reached
     found : (q : ℕ) → IsMet graph image lawful q → IsReached graph image (block_of q) (role_of q)
     found q there = record { block = there.block; within = omega arith; found = rw (whole q) ((paths q).1 there.path) }
 
+    -- and sound
     sound_met : (p : ℕ) → IsMet graph image lawful p → IsSoundTree graph image p
     sound_met p there = record {
       rules = λ q under. ordered.well_formed (block_of q) (role_of q) (found q (met_under p q under there));

@@ -22,12 +22,14 @@ pub none_passes : {X : Type 0} → (f : X → Bool) (xs : List X) → ((x : X) �
 none_passes f [] none = refl
 none_passes f (x ∷ xs) none = rw (none x, none_passes f xs none) refl
 
+-- the role and the block of a pair
 pub role_pair : (b role : ℕ) → role < 16 → role_of (pair b role) ≡ role
 role_pair b role few = omega arith
 
 pub block_pair : (b role : ℕ) → role < 16 → block_of (pair b role) ≡ b
 block_pair b role few = omega arith
 
+-- an inner node is one by its bytes
 clean_inner : (is_tree bad inner : Bool) → is_tree ≡ true → bad ≡ false → (is_tree && (not bad && inner)) ≡ inner
 clean_inner is_tree bad inner is clean = rw (is, clean) refl
 
@@ -40,6 +42,7 @@ pub record IsTreeAt (graph : Graph) (image : List (List ℕ)) (role size : ℕ) 
   pub ascend : (b : ℕ) → IsCleanPair graph image (pair b role) → KeysAscend size (block_at image b)
 
 module _ (roles nr data_blocks : ℕ) (layout : ℕ → Layout) (t : Tree) (role : ℕ) (image : List (List ℕ)) (few : role < 16) (is : layout role ≡ tree t) where
+  -- no rule is broken over the bytes
   clean_block : (b : ℕ) → IsCleanPair (graph_of roles nr data_blocks layout) image (pair b role) → is_bad nr role (layout role) b (block_at image b) ≡ false
   unfolding graph_of is_bad
   clean_block b clean =
@@ -52,6 +55,7 @@ module _ (roles nr data_blocks : ℕ) (layout : ℕ → Layout) (t : Tree) (role
       rw (role_pair b role few, block_pair b role few)
       (clean_inner (is_tree_layout (layout role)) (is_bad nr role (layout role) b (block_at image b)) (is_inner_node (block_at image b)) (rw is refl) (clean_block b clean))
 
+  -- an inner node leads to its children
   next_by : (b : ℕ) → is_inner_node (block_at image b) ≡ true → is_bad nr role (layout role) b (block_at image b) ≡ false
       → next (graph_of roles nr data_blocks layout) image (pair b role) ≡ map (λ c. pair c role) (kids_from t.size (block_at image b) 0)
   unfolding graph_of next kids_from tree_edges
@@ -71,6 +75,7 @@ module _ (roles nr data_blocks : ℕ) (layout : ℕ → Layout) (t : Tree) (role
       → children (graph_of roles nr data_blocks layout) image (pair b role) ≡ map (λ c. pair c role) (kids_from t.size (block_at image b) 0)
   children_is b clean = children_by (is_inner_node (block_at image b)) b refl clean
 
+  -- its keys
   keys_are : (b : ℕ) → IsCleanPair (graph_of roles nr data_blocks layout) image (pair b role) → own_keys (graph_of roles nr data_blocks layout) image (pair b role) ≡ node_keys t.size (block_at image b)
   unfolding graph_of
   keys_are b clean =
@@ -80,11 +85,13 @@ module _ (roles nr data_blocks : ℕ) (layout : ℕ → Layout) (t : Tree) (role
   unfolding graph_of
   clean_bytes b clean rule = rw (role_pair b role few, block_pair b role few, is) at (clean rule)
 
+  -- the blocks that a leaf names
   leaf_edges_are : (b : ℕ) → is_inner_node (block_at image b) ≡ false → IsCleanPair (graph_of roles nr data_blocks layout) image (pair b role)
       → (graph_of roles nr data_blocks layout).edges role b (block_at image b) ≡ flat_map t.leaf_edges (node_entries_of t.size (block_at image b))
   unfolding graph_of tree_edges
   leaf_edges_are b leaf clean = rw (clean_block b clean, is, leaf) refl
 
+  -- so a table has the tree
   table_tree : IsTreeAt (graph_of roles nr data_blocks layout) image role t.size
   table_tree = record {
     few = few;
@@ -94,6 +101,7 @@ module _ (roles nr data_blocks : ℕ) (layout : ℕ → Layout) (t : Tree) (role
     ascend = λ b clean. keys_say t.size (block_at image b) (order_says nr role t b (block_at image b) (clean_bytes b clean));
   }
 
+-- and so has any format with the role
 pub tree_at : (graph : Graph) (image : List (List ℕ)) (role size : ℕ) → IsTreeRole graph role size → IsTreeAt graph image role size
 tree_at graph image role size is =
     rw (is.is, ← is.value_size) (table_tree is.roles is.nr is.data_blocks is.layout is.nodes role image is.few is.at)

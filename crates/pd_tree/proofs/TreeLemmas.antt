@@ -68,12 +68,14 @@ module _ (graph : Graph) (image : List (List ℕ)) (role size : ℕ) (at : IsTre
       let is_child : list_any (λ t. nat_eq t (pair c role)) (children graph image (pair b role)) ≡ true = rw (at.kids b (clean (pair b role) (itself (pair b role)))) (member_pair role c (node_kids size image b) is_kid) in
       each c is_child (λ q under. clean q (below (pair b role) (pair c role) q is_child under)))
 
+  -- no node below a child breaks a rule
   pub clean_kids : (b : ℕ) → IsClean b → AllByRecursion IsClean (node_kids size image b)
   clean_kids b clean = each_kid IsClean b clean (λ c is_child kid_clean. kid_clean)
 
   module _ {X Y : Type 0} (f : X → Y) (own : ℕ → List X) (here : ℕ → List Y)
       (leaves : (b : ℕ) → is_inner_node (block_at image b) ≡ false → IsCleanPair graph image (pair b role) → map f (own (pair b role)) ≡ here b)
       (inners : (b : ℕ) → is_inner_node (block_at image b) ≡ true → here b ≡ []) where
+    -- what is gathered over the pairs is what stands below the blocks
     flat_agree : (j : ℕ) (cs : List ℕ)
         → ((c : ℕ) → IsClean c → map f (gathered (is_inner_pair graph image) (children graph image) own j (pair c role)) ≡ gather here (node_kids size image) j c)
         → AllByRecursion IsClean cs
@@ -107,6 +109,7 @@ module _ (graph : Graph) (image : List (List ℕ)) (role size : ℕ) (at : IsTre
     agree zero b clean = last_by (is_inner_node (block_at image b)) b refl clean
     agree (suc j) b clean = agree_by (is_inner_node (block_at image b)) j b refl clean (agree j)
 
+  -- so with entries
   pub entries_agree : {X : Type 0} → (decoded : ℕ → X) (j b : ℕ) → IsClean b
       → items_below size decoded image j b
       ≡ map (item_of decoded) (gathered (is_inner_pair graph image) (children graph image) (λ p. leaf_entries size (block_at image (block_of p))) j (pair b role))
@@ -118,6 +121,7 @@ module _ (graph : Graph) (image : List (List ℕ)) (role size : ℕ) (at : IsTre
       rw (block_pair c role at.few, leaf, whole) (map-map (item_of decoded) (λ (i : ℕ). record { key = key_at (block_at image c) i; value = value_at size (block_at image c) i }) (range_with_len 0 (entry_count size (block_at image c)))))
       (λ c inner. rw inner refl) j b clean)
 
+  -- and with keys
   pub keys_agree : {X : Type 0} → (decoded : ℕ → X) (b : ℕ) → IsClean b
       → keys_below graph image (pair b role) ≡ map (λ (item : ℕ × X). item.0) (items_below size decoded image 63 b)
   unfolding keys_below items_below items_from node_keys
@@ -132,9 +136,11 @@ module _ (graph : Graph) (image : List (List ℕ)) (role size : ℕ) (at : IsTre
       (λ c inner. rw inner refl) 63 b clean
       ∙ sym (map-gather (λ (item : ℕ × X). item.0) (λ c. items_from size decoded (block_at image c) 0) (node_kids size image) 63 b))
 
+  -- each inner node below the block is in range
   abbrev pub IsRanged : ℕ → Type 0
   IsRanged b = (q : ℕ) → IsUnder graph image (pair b role) q → is_inner_pair graph image q ≡ true → is_in_range graph image q ≡ true
 
+  -- a child stands under its node
   pub kid_under : (b i : ℕ) → IsClean b → is_inner_node (block_at image b) ≡ true → i < entry_count size (block_at image b)
       → list_any (λ t. nat_eq t (pair (child_at (block_at image b) i) role)) (children graph image (pair b role)) ≡ true
   unfolding kids_from
