@@ -1,9 +1,9 @@
 -- What can be asked of the tools, and what of it is built.
 use Rattle.std.specs.Prelude.{ℕ, Bool, true, false, List, Option}
 use Rattle.pd_kinds.specs.declared.kind.Kind.{Kind}
-use Rattle.pd_kinds.specs.declared.kind.Kind.TheVariants.{Thin, Cache, Era}
+use Rattle.pd_kinds.specs.declared.kind.Kind.TheVariants.{Thin}
 use Rattle.pd_kinds.specs.declared.kind.Stage.{Stage}
-use Rattle.pd_kinds.specs.declared.kind.Stage.TheVariants.{Super, Walk, Order, Whole, Counts}
+use Rattle.pd_kinds.specs.declared.kind.Stage.TheVariants.{Super, Walk}
 
 -- a request, with the words that name its objects: images, texts, and the file of `out` where one is named
 pub data Request : Type 0 where

@@ -1,5 +1,5 @@
 -- What the words of a command line ask for.
-use Rattle.std.specs.Prelude.{ℕ, Bool, true, false, ◌==◌, ◌<◌, ◌≤◌, ◌^◌, ◌+◌, nat_lt, not, ◌&&◌, if◌then◌else◌, List, [], ◌∷◌, length, drop, Option, Some, None, codes, decimal}
+use Rattle.std.specs.Prelude.{ℕ, Bool, true, false, ◌==◌, ◌^◌, ◌+◌, nat_lt, not, ◌&&◌, if◌then◌else◌, List, [], ◌∷◌, length, drop, Option, Some, None, codes, decimal}
 use Rattle.std.specs.List.{list_any, list_all, filter_map, take_while}
 use Rattle.std.specs.Option.{option_and_then}
 use Rattle.std.specs.Str.{bytes_eq}
@@ -133,10 +133,10 @@ pub record Region : Type 0 where
 unfoldable pub region_of : List ℕ → Option Region
 region_of word =
     let begin = take_while (λ (c : ℕ). not (c == 46)) word in do
-  first ← number_below (2 ^ 64) begin
-  rest ← behind_points (drop (length begin) word)
-  end ← number_below (2 ^ 64) rest
-  if nat_lt end first then None else Some (record { first = first; end = end })
+      first ← number_below (2 ^ 64) begin
+      rest ← behind_points (drop (length begin) word)
+      end ← number_below (2 ^ 64) rest
+      if nat_lt end first then None else Some (record { first = first; end = end })
 
 -- the stage that a word names; without a word it is the last one
 unfoldable pub stage_of : List ℕ → Option Stage

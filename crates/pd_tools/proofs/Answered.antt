@@ -1,13 +1,11 @@
 -- The headline over any terms, put together from what the work of a request ensures.
-use Rattle.std.proofs.Common.{◌≡◌, ◌≢◌, ◌⊎◌, inl, inr, ℕ, ◌≤◌, ◌==◌, IsTrue, List, [], ◌∷◌, Option, IfSome, refl, sym, ap, ◌∙◌, subst, arith, lit≤}
-use Rattle.std.specs.List.{list_any}
-use Rattle.std.proofs.lemmas.Bool.{cases_Bool}
+use Rattle.std.proofs.Common.{◌≡◌, inl, inr, ℕ, ◌≤◌, List, [], ◌∷◌, Option, IfSome, refl, ap, ◌∙◌, arith, lit≤}
 use Rattle.pd_kinds.specs.Objects.{DeviceState, SourceState, SinkState, Rose, Appends, AppendsFront}
 use Rattle.pd_kinds.specs.Crash.{IsUntouched}
 use Rattle.pd_answers.specs.Lines.{device_line, sink_line, memory_line}
 use Rattle.pd_answers.specs.Answer.{Objects, AreFresh, NoFaults, DeviceRose, StreamRose, failure_line, Use, unused, reading, writing, IsUsed, AppendsFrontOfOne}
 use Rattle.pd_kinds.proofs.AppendLemmas.{appends_none, front_none, front_from_whole}
-use Rattle.pd_answers.specs.Terms.{Terms, Uses, AreKept, AreUsed, IsKept, Changes, IsAnswered, is_possible}
+use Rattle.pd_answers.specs.Terms.{Terms, Uses, AreKept, AreUsed, IsKept, Changes, IsAnswered}
 use Rattle.pd_tools.specs.declared.stop.Stop.{Stop}
 use Rattle.pd_tools.specs.declared.stop.Stop.TheVariants.{Device, Stream, Memory}
 use Rattle.pd_tools.specs.Stop.{stop_line, stop_status}

@@ -41,8 +41,10 @@ pub at_rest : (request : Option Request) (before : Objects) (notes : SinkState) 
     × ((terms_of request).leaves finding before (record before { notes = notes }) 6)
 unfolding is_built
 at_rest None before notes is = (tt, tt, tt)
-at_rest (Some (check kind until false path)) before notes is =
-    (option_map_or (λ image. report_of (faults kind until image)) before.input.held (report_of []),
-    told before.input.held (λ image. report_of (faults kind until image)) (report_of []), tt)
+at_rest (Some (check kind until false path)) before notes is = (
+  option_map_or (λ image. report_of (faults kind until image)) before.input.held (report_of []),
+  told before.input.held (λ image. report_of (faults kind until image)) (report_of []),
+  tt,
+)
 at_rest (Some (check kind until true path)) before notes is = absurd (true≢false (sym is ∙ no_flag kind until path))
 at_rest (Some _) before notes is = absurd (true≢false (sym is))

@@ -1,11 +1,11 @@
 -- What the work of a check comes to, over plain variables.
-use Rattle.std.proofs.Common.{◌≡◌, ◌≢◌, inl, inr, ℕ, IsTrue, List, [], Option, Some, None, IfSome, refl}
+use Rattle.std.proofs.Common.{◌≡◌, ◌≢◌, inl, ℕ, IsTrue, List, [], Option, Some, None, IfSome, refl}
 use Rattle.std.specs.Option.{option_map_or}
 use Rattle.pd_kinds.specs.declared.kind.Kind.{Kind}
 use Rattle.pd_kinds.specs.declared.kind.Stage.{Stage}
 use Rattle.pd_kinds.specs.declared.kind.Stage.TheVariants.{Super, Walk, Order, Whole, Counts}
 use Rattle.pd_kinds.specs.Objects.{DeviceState, SinkState}
-use Rattle.pd_kinds.specs.Report.{Reported, report_of}
+use Rattle.pd_kinds.specs.Report.{report_of}
 use Rattle.pd_kinds.specs.Stages.{faults}
 use Rattle.pd_kinds.specs.Crash.{IsUntouched}
 use Rattle.pd_answers.specs.Answer.{Objects, IsUsed, reading}
@@ -15,7 +15,7 @@ use Rattle.pd_answers.specs.Promises.{check}
 use Rattle.pd_tools.specs.declared.stop.Stop.{Stop}
 use Rattle.pd_tools.specs.declared.stop.Stop.TheVariants.{Device, Stream, Memory}
 use Rattle.pd_tools.specs.Read.{IsUnread}
-use Rattle.pd_tools.specs.Work.{IsStopped, IsWork}
+use Rattle.pd_tools.specs.Work.{IsStopped}
 
 -- what is found, where it is told
 pub told : {X Y : Type 0} → (o : Option X) (f : X → Y) (otherwise : Y) → IfSome o (λ x. option_map_or f o otherwise ≡ f x)

@@ -1,5 +1,4 @@
 -- What reading an image to a report does to the device.
-use Rattle.std.specs.Prelude.{◌≡◌, ℕ, List, IfSome}
 use Rattle.pd_kinds.specs.declared.kind.Kind.{Kind}
 use Rattle.pd_kinds.specs.declared.kind.Kind.TheVariants.{Thin, Cache, Era}
 use Rattle.pd_kinds.specs.declared.kind.Stage.{Stage}

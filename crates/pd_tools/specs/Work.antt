@@ -1,5 +1,5 @@
 -- What a request's work does, up to the last line on `notes`.
-use Rattle.std.specs.Prelude.{◌≡◌, ℕ, ◌≤◌, IsTrue, List, []}
+use Rattle.std.specs.Prelude.{◌≡◌, ℕ, ◌≤◌, IsTrue, List}
 use Rattle.pd_kinds.specs.Objects.{SinkState, Appends, AppendsFront}
 use Rattle.pd_answers.specs.Answer.{Objects, Use, unused, reading, writing, IsUsed, IsOpen, AreFresh, DeviceRose, StreamRose}
 use Rattle.pd_answers.specs.Terms.{Terms, Uses, AreKept, AreOpen, IsReadWhole, is_one_of, is_possible, IsAnswered}

@@ -1,12 +1,12 @@
 -- The items of words, from an index on.
 use Rattle.std.proofs.Common.{◌≡◌, inl, inr, ℕ, zero, suc, ◌+◌, ◌<◌, ◌≤◌, Bool, true, false, ◌&&◌, List, [], ◌∷◌, length, get_or, map, drop, Option, Some, None, IfSome, is_some, refl, ap, sym, ◌∙◌, arith, if◌then◌else◌}
-use Rattle.std.specs.List.{list_any, list_all, filter_map}
+use Rattle.std.specs.List.{list_any, list_all}
 use Rattle.std.specs.Str.{bytes_eq}
 use Rattle.std.specs.Option.{option_map}
 use Rattle.std.proofs.lemmas.Bool.{cases_Bool}
 use Rattle.std.proofs.lemmas.Option.{same_Some}
 use Rattle.std.proofs.lemmas.List.{drop_more, drop_all}
-use Rattle.pd_answers.specs.Words.{is_value, is_flag, Item, image_word, more, items_of, never, once, often, given, given_of, value_of, Tool, is_known, known, purposes_of}
+use Rattle.pd_answers.specs.Words.{is_value, is_flag, Item, image_word, more, items_of, never, once, often, given, given_of, Tool, is_known, known, purposes_of}
 use Rattle.pd_words.specs.Items.{values_in, values_from}
 
 -- the word of an element

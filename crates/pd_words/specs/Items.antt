@@ -3,7 +3,6 @@ use Rattle.std.specs.Prelude.{◌≡◌, ℕ, ◌<◌, ◌≤◌, Bool, true, fa
 use Rattle.std.specs.List.{filter_map}
 use Rattle.std.specs.Option.{option_map}
 use Rattle.pd_answers.specs.Words as asked
-use Rattle.pd_words.specs.declared.request.Name.{Name}
 use Rattle.pd_words.specs.declared.items.Item.{Item}
 use Rattle.pd_words.specs.declared.items.Place.{Place}
 use Rattle.pd_words.specs.declared.items.Given.{Given}

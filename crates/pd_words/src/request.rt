@@ -45,7 +45,10 @@ pub enum Request {
         version: u32,
     },
     /// An image of what can be saved of another one.
-    Repair { input: Name, output: Name },
+    Repair {
+        input: Name,
+        output: Name,
+    },
     /// The same without a superblock, whose transaction, block size in sectors and number of data blocks are given.
     Search {
         input: Name,
@@ -62,7 +65,10 @@ pub enum Request {
         out: Option<Name>,
     },
     /// The thin devices of a pool.
-    List { image: Name, out: Option<Name> },
+    List {
+        image: Name,
+        out: Option<Name>,
+    },
     /// The blocks that were written in this era or later.
     Since {
         era: u32,
@@ -70,9 +76,15 @@ pub enum Request {
         out: Option<Name>,
     },
     /// The text of the generator for a number from 1 to 10000.
-    Generate { number: u32, out: Option<Name> },
+    Generate {
+        number: u32,
+        out: Option<Name>,
+    },
     /// The restore, check and dump of that text, over an image.
-    Rehearse { number: u32, image: Name },
+    Rehearse {
+        number: u32,
+        image: Name,
+    },
 }
 
 /// Why words have no request.

@@ -60,7 +60,12 @@ fn is_built(request: &Request) -> bool
     ensures { (words : List (List ℕ)) → result ≡ is_built (request_as words request.now) }
 {
     match *request {
-        Request::Check { kind, until, clear, image: _ } => match kind {
+        Request::Check {
+            kind,
+            until,
+            clear,
+            image: _,
+        } => match kind {
             Kind::Thin => match until {
                 Stage::Super => !clear,
                 Stage::Walk => !clear,

@@ -45,12 +45,12 @@ returns-in-Ok-read_words g c =
       faults = c.in-Ok.ensures.faults;
     } in
     rw (sym c.in-Ok-read_words.ensures.asked) (c.run_request.ensures (objects (g.S.Source.state c.args.source.now) (g.K.Sink.state c.args.out.now) (g.E.Sink.state c.args.notes.now)
-      (g.A.Device.state c.args.input.now) (g.B.Device.state c.args.output.now) (g.C.Device.state c.args.third.now)) c.requires was)
+    (g.A.Device.state c.args.input.now) (g.B.Device.state c.args.output.now) (g.C.Device.state c.args.third.now)) c.requires was)
 
 pub returns-in-Err : goal.returns-in-Err
 returns-in-Err g c =
     let before = objects (g.S.Source.state c.args.source.now) (g.K.Sink.state c.args.out.now) (g.E.Sink.state c.args.notes.now)
-      (g.A.Device.state c.args.input.now) (g.B.Device.state c.args.output.now) (g.C.Device.state c.args.third.now) in
+    (g.A.Device.state c.args.input.now) (g.B.Device.state c.args.output.now) (g.C.Device.state c.args.third.now) in
     let request = asked (map string_bytes c.args.words.now) in
     let rest = at_rest request before (g.E.Sink.state c.attach.new.self) (asked_alone (map string_bytes c.args.words.now)) in
     answered_unattached (terms_of request) before (g.E.Sink.state c.attach.new.self) rest.0 c.requires rest.1 rest.2

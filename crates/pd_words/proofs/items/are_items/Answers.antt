@@ -1,4 +1,4 @@
-use Rattle.std.proofs.Common.{◌≡◌, ◌∙◌, sym, map, string_bytes, arith}
+use Rattle.std.proofs.Common.{◌∙◌, sym, map, string_bytes}
 use Rattle.std.proofs.lemmas.List.{length-map}
 use Rattle.pd_words.specs.Items.{tool_as}
 use Rattle.pd_words.proofs.ItemLemmas.{known_end}

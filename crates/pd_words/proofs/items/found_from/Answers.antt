@@ -1,4 +1,4 @@
-use Rattle.std.proofs.Common.{◌≡◌, ◌∙◌, sym, map, string_bytes, arith}
+use Rattle.std.proofs.Common.{◌∙◌, sym, map, string_bytes}
 use Rattle.std.proofs.lemmas.List.{length-map}
 use Rattle.pd_words.proofs.ItemLemmas.{values_end, values_none, values_found, values_skip}
 use Rattle.pd_words.proofs.items.found_from.Goals as goal

@@ -1,4 +1,4 @@
-use Rattle.std.proofs.Common.{◌≡◌, ◌<◌, ◌≤◌, ◌+◌, true, false, [], length, map, get_or, string_bytes, refl, sym, ◌∙◌, arith}
+use Rattle.std.proofs.Common.{◌<◌, ◌+◌, true, false, length, map, string_bytes, sym, ◌∙◌}
 use Rattle.std.proofs.lemmas.List.{length-map}
 use Rattle.pd_words.proofs.ItemLemmas.{word_is, operand_at, flag_at, last_at, option_at}
 use Rattle.pd_words.proofs.items.item_at.Goals as goal

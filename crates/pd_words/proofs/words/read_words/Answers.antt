@@ -1,4 +1,4 @@
-use Rattle.std.proofs.Common.{◌≡◌, [], map, drop, string_bytes, sym, ◌∙◌}
+use Rattle.std.proofs.Common.{map, drop, string_bytes, sym, ◌∙◌}
 use Rattle.pd_answers.specs.Words.{items_of, tool_of}
 use Rattle.pd_words.specs.Items.{tool_as}
 use Rattle.pd_words.proofs.AskedLemmas.{asked_nothing, asked_first, unbuilt, is_tool, all_known, not_known}
