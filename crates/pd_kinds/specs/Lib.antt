@@ -6,6 +6,7 @@ pub mod RuleSet
 pub mod Report
 pub mod Moments
 pub mod Objects
+pub mod CheckFault
 pub mod Crash
 pub mod Edge
 pub mod Edges

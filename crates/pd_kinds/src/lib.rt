@@ -7,6 +7,7 @@
 
 mod block;
 mod cache_super;
+mod check_fault;
 mod edges;
 mod era_super;
 mod fault;
@@ -21,6 +22,7 @@ mod thin_super;
 
 pub use block::{BLOCK_SIZE, Block, is_outside};
 pub use cache_super::CacheSuper;
+pub use check_fault::CheckFault;
 pub use edges::Edges;
 pub use era_super::EraSuper;
 pub use fault::{Fault, Space};

@@ -10,7 +10,7 @@ mod order;
 mod paths;
 mod trees;
 
-pub use clean::{faults_are_none_where_clean, thin_super_faults_are_first};
+pub use clean::faults_are_none_where_clean;
 pub use formats::{cache_format_is_lawful, era_format_is_lawful, thin_format_is_lawful};
 pub use order::faults_ascend;
 pub use paths::reached_by_paths;

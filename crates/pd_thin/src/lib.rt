@@ -5,6 +5,7 @@ mod check;
 mod format;
 mod sizes;
 
-pub use check::{CheckFault, check_thin};
+pub use check::check_thin;
 pub use format::{ThinFormat, ThinTable};
+pub use pd_kinds::CheckFault;
 pub use sizes::sound_super_has_blocks;

@@ -4,8 +4,8 @@ use Rattle.pd_kinds.specs.Report.{report_of}
 use Rattle.pd_kinds.specs.Faults.{faults_at}
 use Rattle.pd_graph.specs.Audit.{has_rule_at}
 use Rattle.pd_laws.proofs.SuperStage.{faults_at-same}
-use Rattle.pd_thin.proofs.CheckLemmas.{one_block_more}
-use Rattle.pd_thin.proofs.check.walk_report.Goals as goal
+use Rattle.pd_check.proofs.WalkReport.{one_block_more}
+use Rattle.pd_check.proofs.walked.walk_report.Goals as goal
 
 pub loop-b-init : goal.loop-b-init
 loop-b-init c = record { faults = c.new-report.ensures; few = rw c.new-report.ensures (omega arith) }

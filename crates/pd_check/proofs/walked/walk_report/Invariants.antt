@@ -3,7 +3,7 @@ use Rattle.std.specs.List.{flat_map, range_with_len}
 use Rattle.pd_kinds.specs.Report.{report_of}
 use Rattle.pd_kinds.specs.Faults.{faults_at}
 use Rattle.pd_graph.specs.Audit.{has_rule_at}
-use Rattle.pd_thin.proofs.check.walk_report.Given as goal
+use Rattle.pd_check.proofs.walked.walk_report.Given as goal
 
 -- the faults of the blocks before this one were added
 abbrev pub invariant-loop-b : goal.invariant-loop-b

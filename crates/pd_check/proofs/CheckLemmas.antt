@@ -1,0 +1,175 @@
+-- The faults of the stages Super and Walk, and the report of a check up to one of them.
+use Rattle.std.proofs.Common.{◌≡◌, ◌≢◌, ℕ, suc, ◌+◌, ◌≤◌, Bool, false, cond, nat_lt, List, [], ◌∷◌, length, Option, Some, None, IfSome, refl, ap, sym, ◌∙◌, arith, Result, Ok, Err, IfOk}
+use Rattle.std.proofs.lemmas.Bool.{lt-ltb}
+use Rattle.pd_kinds.specs.declared.kind.Kind.{Kind}
+use Rattle.pd_kinds.specs.declared.kind.Kind.TheVariants.{Thin, Cache, Era}
+use Rattle.pd_kinds.specs.declared.kind.Stage.{Stage}
+use Rattle.pd_kinds.specs.declared.kind.Stage.TheVariants as stages
+use Rattle.pd_kinds.specs.declared.rule.Rule.{Rule}
+use Rattle.pd_kinds.specs.declared.rule.Rule.TheVariants as r
+use Rattle.pd_kinds.specs.declared.rules.Rules.{Rules}
+use Rattle.pd_kinds.specs.declared.fault.Fault.{Fault}
+use Rattle.pd_kinds.specs.declared.report.Report.{Report}
+use Rattle.pd_kinds.specs.declared.check_fault.CheckFault.{CheckFault}
+use Rattle.pd_kinds.specs.declared.check_fault.CheckFault.TheVariants.{Memory, Device}
+use Rattle.pd_kinds.specs.Stages.{IsBuilt, checked_of, faults, first_failing, block_faults, walk_bad, super_faults, thin_checked, cache_checked, era_checked}
+use Rattle.pd_kinds.specs.Rule.{same_rule, all_rules}
+use Rattle.pd_kinds.specs.RuleSet.{has_rule}
+use Rattle.pd_kinds.specs.Report.{Reported, report_of}
+use Rattle.pd_kinds.specs.Faults.{faults_at}
+use Rattle.pd_kinds.specs.Graph.{Graph, block_at, nodes}
+use Rattle.std.proofs.lemmas.Option.{IfSome_then}
+use Rattle.pd_graph.proofs.AnyLemmas.{if_any, if_both}
+use Rattle.pd_laws.proofs.CleanLemmas.{no_rule_broken, no_faults_at}
+use Rattle.pd_laws.proofs.SuperStage.{chosen, first_stage, faults_at-same}
+use Rattle.pd_check.specs.ByKind.{super_bad_of, graph_of_super}
+use Rattle.pd_check.specs.Check.{IsFirstBlock, MayWantMemory, ReadsFew}
+
+-- what is looked at in an image, by its kind
+same_rules : (kind : Kind) (image : List (List ℕ)) → (checked_of kind image).super_bad ≡ super_bad_of kind
+unfolding thin_checked cache_checked era_checked
+same_rules Thin image = refl
+same_rules Cache image = refl
+same_rules Era image = refl
+
+same_graph : (kind : Kind) (image : List (List ℕ)) → (checked_of kind image).graph ≡ graph_of_super kind (block_at image 0)
+unfolding thin_checked cache_checked era_checked
+same_graph Thin image = refl
+same_graph Cache image = refl
+same_graph Era image = refl
+
+-- the faults of an image without blocks
+missing_faults : (kind : Kind) → faults kind stages.Super [] ≡ faults_at 0 (same_rule r.Size)
+unfolding super_faults faults_at all_rules
+missing_faults kind = first_stage kind []
+
+-- and those of an image with this first block
+first_faults : (kind : Kind) (blocks : ℕ) (first : List ℕ) (image : List (List ℕ)) → IsFirstBlock blocks first image
+    → faults kind stages.Super image ≡ faults_at 0 (super_bad_of kind blocks first)
+unfolding super_faults
+first_faults kind blocks first [] found = let e = found.content in cc
+first_faults kind blocks first (block ∷ rest) found =
+    let same : block ≡ first = let e = found.content in cc in
+    first_stage kind (block ∷ rest)
+    ∙ (ap (λ (bad : ℕ → List ℕ → Rule → Bool). faults_at 0 (bad (length (block ∷ rest)) block)) (same_rules kind (block ∷ rest))
+    ∙ rw (found.number, same) refl)
+
+-- a list that isn't empty is chosen
+chosen_first : (list rest : List Fault) → (list ≢ []) → cond (nat_lt 0 (length list)) list rest ≡ list
+chosen_first [] rest some = absurd (some refl)
+chosen_first (fault ∷ faults) rest some = rw (lt-ltb 0 (suc (length faults)) (omega arith)) refl
+
+module _ (kind : Kind) (image : List (List ℕ)) where
+  -- what a check finds where block 0 has faults
+  broken_faults : (until : Stage) → IsBuilt until → (faults kind stages.Super image ≢ []) → faults kind until image ≡ faults kind stages.Super image
+  unfolding faults first_failing
+  broken_faults stages.Super built some = refl
+  broken_faults stages.Walk built some =
+      let first = first_stage kind image in
+      chosen_first (super_faults (checked_of kind image) image) _ (λ none. some (first ∙ none)) ∙ sym first
+  broken_faults stages.Order built some = absurd built
+  broken_faults stages.Whole built some = absurd built
+  broken_faults stages.Counts built some = absurd built
+
+  -- and where it has none
+  walked_faults : faults kind stages.Super image ≡ [] → faults kind stages.Walk image
+      ≡ block_faults (graph_of_super kind (block_at image 0)).nr (walk_bad (graph_of_super kind (block_at image 0)) image)
+  unfolding faults first_failing
+  walked_faults none =
+      let found : super_faults (checked_of kind image) image ≡ [] = sym (first_stage kind image) ∙ none in
+      rw (found, same_graph kind image)
+      (chosen (block_faults (graph_of_super kind (block_at image 0)).nr (walk_bad (graph_of_super kind (block_at image 0)) image)))
+
+-- the report of an image without blocks
+missing_some : (kind : Kind) → faults kind stages.Super [] ≢ []
+unfolding faults_at all_rules
+missing_some kind none = let e = missing_faults kind in cc
+
+pub missing_report : (held : Option (List (List ℕ))) (kind : Kind) (until : Stage) (blocks : ℕ) (rules : Rules) (report : Reported) → IsBuilt until
+    → blocks ≡ 0 → IfSome held (λ image. blocks ≡ length image) → ((rule : Rule) → has_rule rules rule ≡ same_rule r.Size rule)
+    → report ≡ report_of (faults_at 0 (has_rule rules))
+    → IfSome held (λ image. report ≡ report_of (faults kind until image))
+missing_report None kind until blocks rules report built none honest size same = tt
+missing_report (Some []) kind until blocks rules report built none honest size same =
+    same ∙ ap (λ (list : List Fault). report_of list)
+    (faults_at-same 0 (has_rule rules) (same_rule r.Size) size
+    ∙ (sym (missing_faults kind) ∙ sym (broken_faults kind [] until built (missing_some kind))))
+missing_report (Some (block ∷ rest)) kind until blocks rules report built none honest size same = absurd (omega arith)
+
+-- the block at the first place
+first_at : (blocks : ℕ) (first : List ℕ) (image : List (List ℕ)) → IsFirstBlock blocks first image → block_at image 0 ≡ first
+first_at blocks first image found = rw found.content refl
+
+-- where nothing is read
+pub none_read : (held : Option (List (List ℕ))) (kind : Kind) (old new : ℕ) → new ≤ old → IfSome held (λ image. ReadsFew kind image old new)
+none_read held kind old new few = if_any held (λ image. record { nodes = omega (arith, few); none = λ some. few })
+
+-- one read more before the others
+pub later_read : (before held : Option (List (List ℕ))) (kind : Kind) (old later new : ℕ) → before ≡ held → old ≤ later
+    → IfSome before (λ image. ReadsFew kind image old new)
+    → IfSome held (λ image. ReadsFew kind image later new)
+later_read before held kind old later new same more few =
+    rw (sym same)
+    (IfSome_then before few (λ image most. record {
+      nodes = let nodes = most.nodes in omega arith;
+      none = λ some. let none = most.none some in omega arith;
+    }))
+
+-- a check that has read block 0
+module _ (held : Option (List (List ℕ))) (kind : Kind) (blocks : ℕ) (first : List ℕ) (found : IfSome held (IsFirstBlock blocks first)) where
+  -- which breaks a rule
+  pub broken_report : (until : Stage) (rules : Rules) (report : Reported) → IsBuilt until
+      → ((rule : Rule) → has_rule rules rule ≡ super_bad_of kind blocks first rule) → (((rule : Rule) → has_rule rules rule ≡ false) → ⊥)
+      → report ≡ report_of (faults_at 0 (has_rule rules))
+      → IfSome held (λ image. report ≡ report_of (faults kind until image))
+  broken_report until rules report built bad broken same = IfSome_then held found (λ image here.
+      let e = first_faults kind blocks first image here in
+      same ∙ ap (λ (list : List Fault). report_of list)
+      (faults_at-same 0 (has_rule rules) (super_bad_of kind blocks first) bad
+      ∙ (sym e ∙ sym (broken_faults kind image until built (λ none. broken (λ rule. bad rule ∙ no_rule_broken 0 _ (sym e ∙ none) rule))))))
+
+  -- which breaks none
+  module _ (sound : (rule : Rule) → super_bad_of kind blocks first rule ≡ false) where
+    none_first : IfSome held (λ image. faults kind stages.Super image ≡ [])
+    none_first = IfSome_then held found (λ image here. first_faults kind blocks first image here ∙ no_faults_at 0 _ sound)
+
+    pub sound_report : (report : Reported) → report ≡ report_of [] → IfSome held (λ image. report ≡ report_of (faults kind stages.Super image))
+    sound_report report same =
+        IfSome_then held none_first (λ image none. same ∙ ap (λ (list : List Fault). report_of list) (sym none))
+
+    pub past_memory : (until : Stage) (result : Result Report CheckFault) → (until ≡ stages.Super → ⊥) → MayWantMemory kind until held result
+    past_memory until (Ok report) past = tt
+    past_memory until (Err Memory) past = record { past_super = past; sound = none_first }
+    past_memory until (Err Device) past = tt
+
+    module _ (graph : Graph) (same : graph ≡ graph_of_super kind first) where
+      walked_report : (report : Reported) → IfSome held (λ image. report ≡ report_of (block_faults graph.nr (walk_bad graph image)))
+          → IfSome held (λ image. report ≡ report_of (faults kind stages.Walk image))
+      walked_report report walked = if_both held
+          (λ image here is.
+          let none = first_faults kind blocks first image here ∙ no_faults_at 0 _ sound in
+          let mine : graph ≡ graph_of_super kind (block_at image 0) = same ∙ ap (graph_of_super kind) (sym (first_at blocks first image here)) in
+          is ∙ ap (λ (list : List Fault). report_of list) (
+          ap (λ (g : Graph). block_faults g.nr (walk_bad g image)) mine ∙ sym (walked_faults kind image none)))
+          found walked
+
+      -- past the stage Super, the one that is built is Walk
+      pub past_report : (until : Stage) (result : Result Report CheckFault) → IsBuilt until → (until ≡ stages.Super → ⊥)
+          → IfOk result (λ report. IfSome held (λ image. report ≡ report_of (block_faults graph.nr (walk_bad graph image))))
+          → IfOk result (λ report. IfSome held (λ image. report ≡ report_of (faults kind until image)))
+      past_report until (Err fault) built past walked = tt
+      past_report stages.Super (Ok report) built past walked = absurd (past refl)
+      past_report stages.Walk (Ok report) built past walked = walked_report report walked
+      past_report stages.Order (Ok report) built past walked = absurd built
+      past_report stages.Whole (Ok report) built past walked = absurd built
+      past_report stages.Counts (Ok report) built past walked = absurd built
+
+      pub walk_read : (old new : ℕ) → IfSome held (λ image. new ≤ old + length (nodes graph image)) → IfSome held (λ image. ReadsFew kind image old new)
+      walk_read old new few = if_both held
+          (λ image here most.
+          let mine : graph ≡ graph_of_super kind (block_at image 0) = same ∙ ap (graph_of_super kind) (sym (first_at blocks first image here)) in
+          record {
+            nodes = rw mine at most;
+            none = λ some. absurd (some (first_faults kind blocks first image here ∙ no_faults_at 0 _ sound));
+          })
+          found few

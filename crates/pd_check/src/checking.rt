@@ -1,0 +1,91 @@
+//! The check of a device, up to the stages that are built.
+
+ghost use Rattle.std.specs.Prelude.{◌≡◌, ◌+◌, IfOk, IfSome};
+ghost use Rattle.pd_kinds.specs.CheckFault.{CountsCheckFault, StopsEarly};
+ghost use Rattle.pd_kinds.specs.Stages.{IsBuilt, faults};
+ghost use Rattle.pd_kinds.specs.Report.{report_of};
+ghost use Rattle.pd_kinds.specs.RuleSet.{has_rule};
+ghost use Rattle.pd_kinds.specs.Faults.{faults_at};
+ghost use Rattle.pd_image.specs.Device.{IsAttached, KeepsObject};
+ghost use Rattle.pd_check.specs.Check.{IsFirstBlock, MayWantMemory, ReadsFew};
+
+use crate::metadata::Metadata;
+use crate::walked::check_walk;
+use pd_image::Device;
+use pd_kinds::{Block, CheckFault, Report, Rules, Stage};
+use pd_supers::missing_super;
+use std::alloc::Global;
+
+/// The faults of the first stage up to this one that has any. The stages that are built are `Super` and
+/// `Walk`.
+///
+/// A check up to `Super` takes no memory, and one up to `Walk` takes none before block 0 was found sound,
+/// and all of it before it reads another block: about 60 bytes a metadata block. It reads block 0, and then
+/// each block at most once for each role in which it is reached.
+///
+/// Fails with `CheckFault::Memory` where that memory wasn't found, and with `CheckFault::Device` where a
+/// read failed.
+pub fn check<M: Metadata, D: Device>(
+    alloc: Global,
+    dev: &mut D,
+    until: Stage,
+) -> Result<Report, CheckFault>
+    requires attached { IsAttached (D.state dev.old) }
+    requires built { IsBuilt until }
+    ensures report { IfOk result (λ report. IfSome (D.state dev.old).held (λ image. report ≡ report_of (faults M.kind until image))) }
+    ensures memory { MayWantMemory M.kind until (D.state dev.old).held result }
+    ensures early { StopsEarly result ((D.state dev.old).reads + 1) (D.state dev.new).reads }
+    ensures reads { IfSome (D.state dev.old).held (λ image. ReadsFew M.kind image ((D.state dev.old).reads + 1) (D.state dev.new).reads) }
+    ensures held { (D.state dev.new).held ≡ (D.state dev.old).held }
+    ensures kept { KeepsObject (D.state dev.old) (D.state dev.new) }
+    ensures faults { CountsCheckFault result (D.state dev.old).faults (D.state dev.new).faults }
+{
+    let blocks = dev.blocks();
+    if blocks == 0 {
+        return Ok(super_report(&missing_super()));
+    }
+    let mut first = Block::zeros();
+    match dev.read(0, &mut first) {
+        Ok(()) => check_from::<M, D>(alloc, dev, until, &first, blocks),
+        Err(_) => Err(CheckFault::Device),
+    }
+}
+
+/// The rest of a check, where block 0 of so many blocks was read.
+fn check_from<M: Metadata, D: Device>(
+    alloc: Global,
+    dev: &mut D,
+    until: Stage,
+    first: &Block,
+    blocks: u64,
+) -> Result<Report, CheckFault>
+    requires attached { IsAttached (D.state dev.old) }
+    requires built { IsBuilt until }
+    requires number { blocks ≡ (D.state dev.old).blocks }
+    requires first { IfSome (D.state dev.old).held (IsFirstBlock blocks first.now.0) }
+    ensures report { IfOk result (λ report. IfSome (D.state dev.old).held (λ image. report ≡ report_of (faults M.kind until image))) }
+    ensures memory { MayWantMemory M.kind until (D.state dev.old).held result }
+    ensures early { StopsEarly result (D.state dev.old).reads (D.state dev.new).reads }
+    ensures reads { IfSome (D.state dev.old).held (λ image. ReadsFew M.kind image (D.state dev.old).reads (D.state dev.new).reads) }
+    ensures held { (D.state dev.new).held ≡ (D.state dev.old).held }
+    ensures kept { KeepsObject (D.state dev.old) (D.state dev.new) }
+    ensures faults { CountsCheckFault result (D.state dev.old).faults (D.state dev.new).faults }
+{
+    let rules = M::super_rules(first, blocks);
+    if !rules.is_empty() {
+        return Ok(super_report(&rules));
+    }
+    match until {
+        Stage::Super => Ok(Report::new()),
+        _ => check_walk(alloc, dev, &M::format(first, blocks)),
+    }
+}
+
+/// The report of the rules that block 0 breaks.
+fn super_report(rules: &Rules) -> Report
+    ensures { result ≡ report_of (faults_at 0 (has_rule rules.now)) }
+{
+    let mut report = Report::new();
+    report.add_rules(0, rules);
+    report
+}

@@ -1,0 +1,59 @@
+//! The stage of a check that walks over all blocks that the superblock leads to.
+
+ghost use Rattle.std.specs.Prelude.{◌≡◌, ◌+◌, ◌≤◌, length, IfOk, IfSome};
+ghost use Rattle.std.specs.List.{flat_map, range_with_len};
+ghost use Rattle.pd_kinds.specs.CheckFault.{CountsCheckFault, StopsEarly};
+ghost use Rattle.pd_kinds.specs.Report.{report_of};
+ghost use Rattle.pd_kinds.specs.Faults.{faults_at};
+ghost use Rattle.pd_kinds.specs.Graph.{nodes};
+ghost use Rattle.pd_kinds.specs.Stages.{block_faults, walk_bad};
+ghost use Rattle.pd_image.specs.Device.{IsAttached, KeepsObject};
+ghost use Rattle.pd_graph.specs.Audit.{blocks_of, has_rule_at};
+
+use pd_graph::{Audit, Format, walk};
+use pd_image::Device;
+use pd_kinds::{CheckFault, Report};
+use std::alloc::Global;
+
+/// Walks over all that block 0 leads to in this format, and reports the rules that the reached blocks break.
+///
+/// It takes all its memory before it reads a block: about 60 bytes a metadata block.
+///
+/// Fails with `CheckFault::Memory` where that memory wasn't found, and with `CheckFault::Device` where a
+/// read failed.
+pub fn check_walk<F: Format, D: Device>(
+    alloc: Global,
+    dev: &mut D,
+    format: &F,
+) -> Result<Report, CheckFault>
+    requires attached { IsAttached (D.state dev.old) }
+    requires within { (F.graph format.now).nr ≤ (D.state dev.old).blocks }
+    ensures report { IfOk result (λ report. IfSome (D.state dev.old).held (λ image.
+        report ≡ report_of (block_faults (F.graph format.now).nr (walk_bad (F.graph format.now) image)))) }
+    ensures early { StopsEarly result (D.state dev.old).reads (D.state dev.new).reads }
+    ensures reads { IfSome (D.state dev.old).held (λ image.
+        (D.state dev.new).reads ≤ (D.state dev.old).reads + length (nodes (F.graph format.now) image)) }
+    ensures held { (D.state dev.new).held ≡ (D.state dev.old).held }
+    ensures kept { KeepsObject (D.state dev.old) (D.state dev.new) }
+    ensures faults { CountsCheckFault result (D.state dev.old).faults (D.state dev.new).faults }
+{
+    let mut audit = match Audit::new(alloc, format.nr()) {
+        Ok(audit) => audit,
+        Err(_) => return Err(CheckFault::Memory),
+    };
+    match walk(&mut audit, format, dev) {
+        Ok(()) => Ok(walk_report(&audit)),
+        Err(_) => Err(CheckFault::Device),
+    }
+}
+
+/// The rules that the audit has of each block, block after block.
+pub fn walk_report(audit: &Audit) -> Report
+    ensures { result ≡ report_of (flat_map (λ b. faults_at b (has_rule_at audit.now b)) (range_with_len 0 (blocks_of audit.now))) }
+{
+    let mut report = Report::new();
+    for b in 0..audit.nr() {
+        report.add_rules(b, &audit.rules(b));
+    }
+    report
+}
