@@ -32,4 +32,5 @@ pub data Request : Type 0 where
 unfoldable pub is_built : Request → Bool
 is_built (check Thin Super false image) = true
 is_built (check Thin Walk false image) = true
+is_built (check Thin Order false image) = true
 is_built _ = false

@@ -1,5 +1,5 @@
 -- The faults of the stages Super and Walk, and the report of a check up to one of them.
-use Rattle.std.proofs.Common.{◌≡◌, ◌≢◌, ℕ, suc, ◌+◌, ◌≤◌, Bool, false, cond, nat_lt, List, [], ◌∷◌, length, Option, Some, None, IfSome, refl, ap, sym, ◌∙◌, arith, Result, Ok, Err, IfOk}
+use Rattle.std.proofs.Common.{◌≡◌, ◌≢◌, ℕ, suc, ◌+◌, ◌*◌, ◌≤◌, Bool, true, false, not, cond, nat_lt, List, [], ◌∷◌, length, Option, Some, None, IfSome, refl, ap, sym, ◌∙◌, arith, Result, Ok, Err, IfOk}
 use Rattle.std.proofs.lemmas.Bool.{lt-ltb}
 use Rattle.pd_kinds.specs.declared.kind.Kind.{Kind}
 use Rattle.pd_kinds.specs.declared.kind.Kind.TheVariants.{Thin, Cache, Era}
@@ -12,7 +12,7 @@ use Rattle.pd_kinds.specs.declared.fault.Fault.{Fault}
 use Rattle.pd_kinds.specs.declared.report.Report.{Report}
 use Rattle.pd_kinds.specs.declared.check_fault.CheckFault.{CheckFault}
 use Rattle.pd_kinds.specs.declared.check_fault.CheckFault.TheVariants.{Memory, Device}
-use Rattle.pd_kinds.specs.Stages.{IsBuilt, checked_of, faults, first_failing, block_faults, walk_bad, super_faults, thin_checked, cache_checked, era_checked}
+use Rattle.pd_kinds.specs.Stages.{IsBuilt, checked_of, faults, first_failing, block_faults, walk_bad, order_bad, super_faults, thin_checked, cache_checked, era_checked}
 use Rattle.pd_kinds.specs.Rule.{same_rule, all_rules}
 use Rattle.pd_kinds.specs.RuleSet.{has_rule}
 use Rattle.pd_kinds.specs.Report.{Reported, report_of}
@@ -23,7 +23,7 @@ use Rattle.pd_graph.proofs.AnyLemmas.{if_any, if_both}
 use Rattle.pd_laws.proofs.CleanLemmas.{no_rule_broken, no_faults_at}
 use Rattle.pd_laws.proofs.SuperStage.{chosen, first_stage, faults_at-same}
 use Rattle.pd_check.specs.ByKind.{super_bad_of, graph_of_super}
-use Rattle.pd_check.specs.Check.{IsFirstBlock, MayWantMemory, ReadsFew}
+use Rattle.pd_check.specs.Check.{IsFirstBlock, MayWantMemory, ReadsFew, past_faults, reads_of}
 
 -- what is looked at in an image, by its kind
 same_rules : (kind : Kind) (image : List (List ℕ)) → (checked_of kind image).super_bad ≡ super_bad_of kind
@@ -59,6 +59,11 @@ chosen_first : (list rest : List Fault) → (list ≢ []) → cond (nat_lt 0 (le
 chosen_first [] rest some = absurd (some refl)
 chosen_first (fault ∷ faults) rest some = rw (lt-ltb 0 (suc (length faults)) (omega arith)) refl
 
+-- the first of two lists, or the second
+two_stages : (some : Bool) (first second : List Fault) → cond some first (cond (nat_lt 0 (length second)) second []) ≡ cond (not some) second first
+two_stages true first second = refl
+two_stages false first second = chosen second
+
 module _ (kind : Kind) (image : List (List ℕ)) where
   -- what a check finds where block 0 has faults
   broken_faults : (until : Stage) → IsBuilt until → (faults kind stages.Super image ≢ []) → faults kind until image ≡ faults kind stages.Super image
@@ -67,18 +72,28 @@ module _ (kind : Kind) (image : List (List ℕ)) where
   broken_faults stages.Walk built some =
       let first = first_stage kind image in
       chosen_first (super_faults (checked_of kind image) image) _ (λ none. some (first ∙ none)) ∙ sym first
-  broken_faults stages.Order built some = absurd built
+  broken_faults stages.Order built some =
+      let first = first_stage kind image in
+      chosen_first (super_faults (checked_of kind image) image) _ (λ none. some (first ∙ none)) ∙ sym first
   broken_faults stages.Whole built some = absurd built
   broken_faults stages.Counts built some = absurd built
 
   -- and where it has none
-  walked_faults : faults kind stages.Super image ≡ [] → faults kind stages.Walk image
-      ≡ block_faults (graph_of_super kind (block_at image 0)).nr (walk_bad (graph_of_super kind (block_at image 0)) image)
+  are_past : (until : Stage) → IsBuilt until → (until ≡ stages.Super → ⊥) → faults kind stages.Super image ≡ []
+      → faults kind until image ≡ past_faults until (graph_of_super kind (block_at image 0)) image
   unfolding faults first_failing
-  walked_faults none =
+  are_past stages.Super built past none = absurd (past refl)
+  are_past stages.Walk built past none =
       let found : super_faults (checked_of kind image) image ≡ [] = sym (first_stage kind image) ∙ none in
       rw (found, same_graph kind image)
       (chosen (block_faults (graph_of_super kind (block_at image 0)).nr (walk_bad (graph_of_super kind (block_at image 0)) image)))
+  are_past stages.Order built past none =
+      let found : super_faults (checked_of kind image) image ≡ [] = sym (first_stage kind image) ∙ none in
+      let graph = graph_of_super kind (block_at image 0) in
+      rw (found, same_graph kind image)
+      (two_stages (nat_lt 0 (length (block_faults graph.nr (walk_bad graph image)))) (block_faults graph.nr (walk_bad graph image)) (block_faults graph.nr (order_bad graph image)))
+  are_past stages.Whole built past none = absurd built
+  are_past stages.Counts built past none = absurd built
 
 -- the report of an image without blocks
 missing_some : (kind : Kind) → faults kind stages.Super [] ≢ []
@@ -101,14 +116,14 @@ first_at : (blocks : ℕ) (first : List ℕ) (image : List (List ℕ)) → IsFir
 first_at blocks first image found = rw found.content refl
 
 -- where nothing is read
-pub none_read : (held : Option (List (List ℕ))) (kind : Kind) (old new : ℕ) → new ≤ old → IfSome held (λ image. ReadsFew kind image old new)
-none_read held kind old new few = if_any held (λ image. record { nodes = omega (arith, few); none = λ some. few })
+pub none_read : (held : Option (List (List ℕ))) (kind : Kind) (until : Stage) (old new : ℕ) → new ≤ old → IfSome held (λ image. ReadsFew kind until image old new)
+none_read held kind until old new few = if_any held (λ image. record { nodes = omega (arith, few); none = λ some. few })
 
 -- one read more before the others
-pub later_read : (before held : Option (List (List ℕ))) (kind : Kind) (old later new : ℕ) → before ≡ held → old ≤ later
-    → IfSome before (λ image. ReadsFew kind image old new)
-    → IfSome held (λ image. ReadsFew kind image later new)
-later_read before held kind old later new same more few =
+pub later_read : (before held : Option (List (List ℕ))) (kind : Kind) (until : Stage) (old later new : ℕ) → before ≡ held → old ≤ later
+    → IfSome before (λ image. ReadsFew kind until image old new)
+    → IfSome held (λ image. ReadsFew kind until image later new)
+later_read before held kind until old later new same more few =
     rw (sym same)
     (IfSome_then before few (λ image most. record {
       nodes = let nodes = most.nodes in omega arith;
@@ -143,29 +158,21 @@ module _ (held : Option (List (List ℕ))) (kind : Kind) (blocks : ℕ) (first :
     past_memory until (Err Device) past = tt
 
     module _ (graph : Graph) (same : graph ≡ graph_of_super kind first) where
-      walked_report : (report : Reported) → IfSome held (λ image. report ≡ report_of (block_faults graph.nr (walk_bad graph image)))
-          → IfSome held (λ image. report ≡ report_of (faults kind stages.Walk image))
-      walked_report report walked = if_both held
+      -- past the stage Super
+      pub past_report : (until : Stage) (result : Result Report CheckFault) → IsBuilt until → (until ≡ stages.Super → ⊥)
+          → IfOk result (λ report. IfSome held (λ image. report ≡ report_of (past_faults until graph image)))
+          → IfOk result (λ report. IfSome held (λ image. report ≡ report_of (faults kind until image)))
+      past_report until (Err fault) built past found_past = tt
+      past_report until (Ok report) built past found_past = if_both held
           (λ image here is.
           let none = first_faults kind blocks first image here ∙ no_faults_at 0 _ sound in
           let mine : graph ≡ graph_of_super kind (block_at image 0) = same ∙ ap (graph_of_super kind) (sym (first_at blocks first image here)) in
           is ∙ ap (λ (list : List Fault). report_of list) (
-          ap (λ (g : Graph). block_faults g.nr (walk_bad g image)) mine ∙ sym (walked_faults kind image none)))
-          found walked
+          ap (λ (g : Graph). past_faults until g image) mine ∙ sym (are_past kind image until built past none)))
+          found found_past
 
-      -- past the stage Super, the one that is built is Walk
-      pub past_report : (until : Stage) (result : Result Report CheckFault) → IsBuilt until → (until ≡ stages.Super → ⊥)
-          → IfOk result (λ report. IfSome held (λ image. report ≡ report_of (block_faults graph.nr (walk_bad graph image))))
-          → IfOk result (λ report. IfSome held (λ image. report ≡ report_of (faults kind until image)))
-      past_report until (Err fault) built past walked = tt
-      past_report stages.Super (Ok report) built past walked = absurd (past refl)
-      past_report stages.Walk (Ok report) built past walked = walked_report report walked
-      past_report stages.Order (Ok report) built past walked = absurd built
-      past_report stages.Whole (Ok report) built past walked = absurd built
-      past_report stages.Counts (Ok report) built past walked = absurd built
-
-      pub walk_read : (old new : ℕ) → IfSome held (λ image. new ≤ old + length (nodes graph image)) → IfSome held (λ image. ReadsFew kind image old new)
-      walk_read old new few = if_both held
+      pub past_read : (until : Stage) (old new : ℕ) → IfSome held (λ image. new ≤ old + reads_of until * length (nodes graph image)) → IfSome held (λ image. ReadsFew kind until image old new)
+      past_read until old new few = if_both held
           (λ image here most.
           let mine : graph ≡ graph_of_super kind (block_at image 0) = same ∙ ap (graph_of_super kind) (sym (first_at blocks first image here)) in
           record {

@@ -10,18 +10,18 @@ ghost use Rattle.pd_image.specs.Device.{IsAttached, KeepsObject};
 ghost use Rattle.pd_check.specs.Check.{IsFirstBlock, MayWantMemory, ReadsFew};
 
 use crate::metadata::Metadata;
-use crate::walked::check_walk;
+use crate::past::check_past;
 use pd_image::Device;
 use pd_kinds::{Block, CheckFault, Report, Rules, Stage};
 use pd_supers::missing_super;
 use std::alloc::Global;
 
-/// The faults of the first stage up to this one that has any. The stages that are built are `Super` and
-/// `Walk`.
+/// The faults of the first stage up to this one that has any. The stages that are built are `Super`,
+/// `Walk` and `Order`.
 ///
-/// A check up to `Super` takes no memory, and one up to `Walk` takes none before block 0 was found sound,
-/// and all of it before it reads another block: about 60 bytes a metadata block. It reads block 0, and then
-/// each block at most once for each role in which it is reached.
+/// A check up to `Super` takes no memory, and one past it takes none before block 0 was found sound, and
+/// all of it before it reads another block: about 60 bytes a metadata block. It reads block 0, and then each
+/// block at most once for each role in which it is reached, and up to `Order` at most three times.
 ///
 /// Fails with `CheckFault::Memory` where that memory wasn't found, and with `CheckFault::Device` where a
 /// read failed.
@@ -35,7 +35,7 @@ pub fn check<M: Metadata, D: Device>(
     ensures report { IfOk result (λ report. IfSome (D.state dev.old).held (λ image. report ≡ report_of (faults M.kind until image))) }
     ensures memory { MayWantMemory M.kind until (D.state dev.old).held result }
     ensures early { StopsEarly result ((D.state dev.old).reads + 1) (D.state dev.new).reads }
-    ensures reads { IfSome (D.state dev.old).held (λ image. ReadsFew M.kind image ((D.state dev.old).reads + 1) (D.state dev.new).reads) }
+    ensures reads { IfSome (D.state dev.old).held (λ image. ReadsFew M.kind until image ((D.state dev.old).reads + 1) (D.state dev.new).reads) }
     ensures held { (D.state dev.new).held ≡ (D.state dev.old).held }
     ensures kept { KeepsObject (D.state dev.old) (D.state dev.new) }
     ensures faults { CountsCheckFault result (D.state dev.old).faults (D.state dev.new).faults }
@@ -66,7 +66,7 @@ fn check_from<M: Metadata, D: Device>(
     ensures report { IfOk result (λ report. IfSome (D.state dev.old).held (λ image. report ≡ report_of (faults M.kind until image))) }
     ensures memory { MayWantMemory M.kind until (D.state dev.old).held result }
     ensures early { StopsEarly result (D.state dev.old).reads (D.state dev.new).reads }
-    ensures reads { IfSome (D.state dev.old).held (λ image. ReadsFew M.kind image (D.state dev.old).reads (D.state dev.new).reads) }
+    ensures reads { IfSome (D.state dev.old).held (λ image. ReadsFew M.kind until image (D.state dev.old).reads (D.state dev.new).reads) }
     ensures held { (D.state dev.new).held ≡ (D.state dev.old).held }
     ensures kept { KeepsObject (D.state dev.old) (D.state dev.new) }
     ensures faults { CountsCheckFault result (D.state dev.old).faults (D.state dev.new).faults }
@@ -77,7 +77,7 @@ fn check_from<M: Metadata, D: Device>(
     }
     match until {
         Stage::Super => Ok(Report::new()),
-        _ => check_walk(alloc, dev, &M::format(first, blocks)),
+        _ => check_past(alloc, dev, &M::format(first, blocks), until),
     }
 }
 

@@ -3,8 +3,10 @@
 
 mod checking;
 mod metadata;
+mod past;
 mod walked;
 
 pub use checking::check;
 pub use metadata::Metadata;
-pub use walked::{check_walk, walk_report};
+pub use past::check_past;
+pub use walked::walk_report;

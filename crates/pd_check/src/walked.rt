@@ -1,35 +1,36 @@
-//! The stage of a check that walks over all blocks that the superblock leads to.
+//! The walk of a check over all blocks that the superblock leads to, and the report of what an audit has.
 
-ghost use Rattle.std.specs.Prelude.{◌≡◌, ◌+◌, ◌≤◌, length, IfOk, IfSome};
+ghost use Rattle.std.specs.Prelude.{◌≡◌, ◌+◌, ◌≤◌, true, length, IfOk, IfSome};
 ghost use Rattle.std.specs.List.{flat_map, range_with_len};
 ghost use Rattle.pd_kinds.specs.CheckFault.{CountsCheckFault, StopsEarly};
 ghost use Rattle.pd_kinds.specs.Report.{report_of};
 ghost use Rattle.pd_kinds.specs.Faults.{faults_at};
 ghost use Rattle.pd_kinds.specs.Graph.{nodes};
-ghost use Rattle.pd_kinds.specs.Stages.{block_faults, walk_bad};
 ghost use Rattle.pd_image.specs.Device.{IsAttached, KeepsObject};
-ghost use Rattle.pd_graph.specs.Audit.{blocks_of, has_rule_at};
+ghost use Rattle.pd_graph.specs.Audit.{blocks_of, has_walked, has_rule_at};
+ghost use Rattle.pd_graph.specs.Walk.{IsWalked};
 
 use pd_graph::{Audit, Format, walk};
 use pd_image::Device;
 use pd_kinds::{CheckFault, Report};
 use std::alloc::Global;
 
-/// Walks over all that block 0 leads to in this format, and reports the rules that the reached blocks break.
+/// Walks over all that block 0 leads to in this format.
 ///
 /// It takes all its memory before it reads a block: about 60 bytes a metadata block.
 ///
 /// Fails with `CheckFault::Memory` where that memory wasn't found, and with `CheckFault::Device` where a
 /// read failed.
-pub fn check_walk<F: Format, D: Device>(
+pub(crate) fn walked<F: Format, D: Device>(
     alloc: Global,
     dev: &mut D,
     format: &F,
-) -> Result<Report, CheckFault>
+) -> Result<Audit, CheckFault>
     requires attached { IsAttached (D.state dev.old) }
     requires within { (F.graph format.now).nr ≤ (D.state dev.old).blocks }
-    ensures report { IfOk result (λ report. IfSome (D.state dev.old).held (λ image.
-        report ≡ report_of (block_faults (F.graph format.now).nr (walk_bad (F.graph format.now) image)))) }
+    ensures walked { IfOk result (λ audit. has_walked audit ≡ true) }
+    ensures number { IfOk result (λ audit. blocks_of audit ≡ (F.graph format.now).nr) }
+    ensures marks { IfOk result (λ audit. IfSome (D.state dev.old).held (λ image. IsWalked (F.graph format.now) image audit)) }
     ensures early { StopsEarly result (D.state dev.old).reads (D.state dev.new).reads }
     ensures reads { IfSome (D.state dev.old).held (λ image.
         (D.state dev.new).reads ≤ (D.state dev.old).reads + length (nodes (F.graph format.now) image)) }
@@ -42,7 +43,7 @@ pub fn check_walk<F: Format, D: Device>(
         Err(_) => return Err(CheckFault::Memory),
     };
     match walk(&mut audit, format, dev) {
-        Ok(()) => Ok(walk_report(&audit)),
+        Ok(()) => Ok(audit),
         Err(_) => Err(CheckFault::Device),
     }
 }

@@ -130,7 +130,7 @@ stage_faults checked image stages.Counts = count_faults checked image
 abbrev pub IsBuilt : Stage → Type 0
 IsBuilt stages.Super = Unit {0}
 IsBuilt stages.Walk = Unit {0}
-IsBuilt stages.Order = ⊥
+IsBuilt stages.Order = Unit {0}
 IsBuilt stages.Whole = ⊥
 IsBuilt stages.Counts = ⊥
 

@@ -167,7 +167,7 @@ no_faults_at b bad clean = ap (map (meta_fault b)) (filtered_none bad all_rules 
 abbrev NoneBroken : ℕ → (ℕ → Rule → Bool) → Type 0
 NoneBroken nr bad = (b : ℕ) → b < nr → (broken : Rule) → bad b broken ≡ false
 
-no_block_broken : (nr : ℕ) (bad : ℕ → Rule → Bool) → block_faults nr bad ≡ [] → NoneBroken nr bad
+pub no_block_broken : (nr : ℕ) (bad : ℕ → Rule → Bool) → block_faults nr bad ≡ [] → NoneBroken nr bad
 unfolding block_faults
 no_block_broken nr bad none b within = no_rule_broken b (bad b) (none_at _ nr none b within)
 

@@ -69,6 +69,7 @@ fn is_built(request: &Request) -> bool
             Kind::Thin => match until {
                 Stage::Super => !clear,
                 Stage::Walk => !clear,
+                Stage::Order => !clear,
                 _ => false,
             },
             _ => false,

@@ -1,5 +1,5 @@
 use Rattle.std.proofs.Common.{refl, sym, ◌∙◌}
-use Rattle.pd_check.proofs.CheckLemmas.{broken_report, sound_report, past_report, past_memory, walk_read}
+use Rattle.pd_check.proofs.CheckLemmas.{broken_report, sound_report, past_report, past_memory, past_read}
 use Rattle.pd_check.proofs.checking.check_from.Goals as goal
 
 pub returns-then-not-is_empty-clause-report : goal.returns-then-not-is_empty-clause-report
@@ -16,14 +16,14 @@ returns-in-Super-clause-report g c =
 pub returns-in_default-clause-report : goal.returns-in_default-clause-report
 returns-in_default-clause-report g c =
     past_report _ _ _ _ c.requires.first (λ rule. sym (c.super_rules-rules.ensures rule) ∙ c.if-not-is_empty.ensures.0 refl rule) _ c.format.ensures.graph
-    c.args.until c.check_walk.result c.requires.built c.in_default.not-Super c.check_walk.ensures.report
+    c.args.until c.check_past.result c.requires.built c.in_default.not-Super c.check_past.ensures.report
 
 pub returns-in_default-clause-memory : goal.returns-in_default-clause-memory
 returns-in_default-clause-memory g c =
     past_memory _ _ _ _ c.requires.first (λ rule. sym (c.super_rules-rules.ensures rule) ∙ c.if-not-is_empty.ensures.0 refl rule)
-    c.args.until c.check_walk.result c.in_default.not-Super
+    c.args.until c.check_past.result c.in_default.not-Super
 
 pub returns-in_default-clause-reads : goal.returns-in_default-clause-reads
 returns-in_default-clause-reads g c =
-    walk_read _ _ _ _ c.requires.first (λ rule. sym (c.super_rules-rules.ensures rule) ∙ c.if-not-is_empty.ensures.0 refl rule) _ c.format.ensures.graph
-    _ _ c.check_walk.ensures.reads
+    past_read _ _ _ _ c.requires.first (λ rule. sym (c.super_rules-rules.ensures rule) ∙ c.if-not-is_empty.ensures.0 refl rule) _ c.format.ensures.graph
+    c.args.until _ _ c.check_past.ensures.reads
