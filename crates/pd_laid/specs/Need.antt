@@ -1,6 +1,8 @@
 -- How many blocks a tree, an array, a metadata map and each kind of image take. These are the words of the crate of
 -- texts for the need of a meaning, and give way to it.
-use Rattle.std.specs.Prelude.{ℕ, zero, suc, ◌+◌, ◌==◌, max, nat_lt, if◌then◌else◌, List, length, sum_by}
+use Rattle.std.specs.Prelude.{ℕ, zero, suc, ◌+◌, ◌==◌, max, nat_le, nat_lt, if◌then◌else◌, List, length, map, count_by, sum_by}
+use Rattle.std.specs.List.{flat_map, range_with_len}
+use Rattle.pd_kinds.specs.Meaning.{Mapping, ThinDevice, ThinPool}
 use Rattle.pd_kinds.specs.Node.{max_entries}
 use Rattle.pd_kinds.specs.Array.{max_words}
 use Rattle.pd_kinds.specs.Bitmap.{bitmaps_for}
@@ -45,3 +47,12 @@ need_of_cache version blocks hint_size room =
 -- the need of an era target of so many blocks, in so many metadata blocks
 unfoldable pub need_of_era : ℕ → ℕ → ℕ
 need_of_era blocks room = 1 + (need_array 4 blocks + (need_tree 12 0 + need_meta_map room))
+
+-- how many data blocks below this number stand three times or more in a list: their counts don't fit two bits
+unfoldable pub overflows_in : List ℕ → ℕ → ℕ
+overflows_in blocks data_blocks =
+    count_by (λ d. nat_le 3 (count_by (λ b. b == d) blocks)) (range_with_len 0 data_blocks)
+
+-- the data blocks of a pool's mappings
+abbrev pub mapped_data : ThinPool → List ℕ
+mapped_data m = flat_map (λ (d : ThinDevice). map (λ (x : Mapping). x.data_block) d.mappings) m.devices
