@@ -3,6 +3,7 @@ pub mod SpreadLemmas
 pub mod NeedLemmas
 pub mod CacheNeed
 pub mod PoolNeed
+pub mod DataNeed
 pub mod ShapeLemmas
 pub mod NodeFacts
 pub mod GatherLemmas

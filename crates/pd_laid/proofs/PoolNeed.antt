@@ -19,7 +19,7 @@ use Rattle.pd_spells.specs.ThinNeed.{need_of_devices}
 use Rattle.pd_laid.proofs.NeedLemmas.{length-heads, length-inners, length-leaves, length-tree, length-bitmaps, length-map_blocks}
 
 -- a device without shared leaves has the leaves of a tree of its mappings, and their row
-own_of : (ms : List Mapping) → flat_map own_leaves (some_pieces (unshared_pieces ms)) ≡ tree_leaves 8 (mapping_items ms)
+pub own_of : (ms : List Mapping) → flat_map own_leaves (some_pieces (unshared_pieces ms)) ≡ tree_leaves 8 (mapping_items ms)
 own_of [] = append-nil (tree_leaves 8 (mapping_items []))
 own_of (m ∷ ms) = append-nil (tree_leaves 8 (mapping_items (m ∷ ms)))
 
