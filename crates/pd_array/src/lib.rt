@@ -4,8 +4,6 @@
 
 mod read;
 mod rules;
-#[cfg(test)]
-mod tests;
 mod word;
 mod write;
 

@@ -5,8 +5,6 @@
 mod bitmap;
 mod counts;
 mod index;
-#[cfg(test)]
-mod tests;
 
 pub use bitmap::{bitmap_rules, new_bitmap, seal_bitmap, set_two_bits, two_bits};
 pub use index::{index_entry, index_rules, new_index, seal_index};

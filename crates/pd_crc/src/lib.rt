@@ -6,8 +6,6 @@
 mod raw;
 mod sealing;
 mod tables;
-#[cfg(test)]
-mod tests;
 
 pub use raw::crc32c_raw;
 pub use sealing::{any_valid, is_sealed, salted, seal};

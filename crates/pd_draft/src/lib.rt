@@ -8,8 +8,6 @@ mod draft;
 mod flag;
 mod rewrite;
 mod steps;
-#[cfg(test)]
-mod tests;
 
 pub use draft::Draft;
 pub use flag::rewrite_super;

@@ -7,8 +7,6 @@ mod marks;
 mod notes;
 mod roles;
 mod stack;
-#[cfg(test)]
-mod tests;
 mod walking;
 
 pub use audit::Audit;

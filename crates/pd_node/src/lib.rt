@@ -5,8 +5,6 @@
 mod header;
 mod read;
 mod rules;
-#[cfg(test)]
-mod tests;
 mod write;
 
 pub use header::{entries, is_inner};

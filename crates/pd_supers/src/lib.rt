@@ -8,8 +8,6 @@ mod era_rules;
 mod map_root;
 mod super_block;
 mod table;
-#[cfg(test)]
-mod tests;
 mod thin;
 mod thin_rules;
 

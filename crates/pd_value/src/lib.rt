@@ -4,8 +4,6 @@
 
 mod era;
 mod space_map;
-#[cfg(test)]
-mod tests;
 mod thin;
 mod value;
 

@@ -2,7 +2,8 @@ ghost use Rattle.std.specs.Prelude.{◌≤◌, IfOk};
 ghost use Rattle.pd_image.specs.Device.{IsWritable};
 ghost use Rattle.pd_image.specs.MemDevice.{mem_device_state};
 
-use crate::{Draft, Rewrite, rewrite_super};
+use crate::small_restore;
+use pd_draft::{Rewrite, rewrite_super};
 use pd_image::{Device, Failed, MemDevice, Pick};
 use pd_kinds::{BLOCK_SIZE, Block};
 use std::test::Fail;
@@ -27,10 +28,7 @@ fn restore<D: Device>(dev: &mut D) -> Result<(), Failed>
     requires room { 3 ≤ (D.state dev.old).blocks }
 {
     let [super_block, first, second] = NEW;
-    let mut draft = Draft::start(dev)?;
-    draft.put(&first)?;
-    draft.put(&second)?;
-    draft.commit(&super_block)
+    small_restore::restore(dev, &[first, second], &super_block)
 }
 
 /// What a device holds.

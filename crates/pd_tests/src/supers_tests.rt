@@ -1,6 +1,6 @@
 ghost use Rattle.std.specs.Prelude.{◌+◌, ◌≤◌};
 
-use crate::{SmRoot, ThinSuper, missing_super, thin_super_rules, write_thin_super};
+use pd_supers::{SmRoot, ThinSuper, missing_super, thin_super_rules, write_thin_super};
 use pd_crc::seal;
 use pd_kinds::{Kind, Rule, Rules, put_u64};
 

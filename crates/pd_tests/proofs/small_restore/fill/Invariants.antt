@@ -1,7 +1,7 @@
 use Rattle.std.proofs.Common.{◌≡◌, map, take}
 use Rattle.pd_kinds.specs.declared.block.Block.{Block}
 use Rattle.pd_draft.specs.Placed.{Wrote}
-use Rattle.pd_smallrestore.proofs.fill.Given as goal
+use Rattle.pd_tests.proofs.small_restore.fill.Given as goal
 
 abbrev pub invariant-loop-block : goal.invariant-loop-block
 invariant-loop-block g l = record {

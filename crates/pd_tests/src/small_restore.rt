@@ -1,12 +1,10 @@
 //! A small restore over a draft: what a crash leaves of it follows from the contracts of the draft alone.
-#![tactic(auto)]
-
 ghost use Rattle.std.specs.Prelude.{◌≡◌, ◌<◌, List, ℕ, OnOk, IfSome, Some, length};
 ghost use Rattle.pd_kinds.specs.Objects.{CountsFault};
 ghost use Rattle.pd_kinds.specs.Crash.{LeavesOnly, HoldsSynced, IsOutcome, IsNoneOrNew};
 ghost use Rattle.pd_image.specs.Device.{IsWritable, KeepsPlace};
 ghost use Rattle.pd_draft.specs.Closed.{IsClosed};
-ghost use Rattle.pd_smallrestore.specs.Restored.{filled, restored};
+ghost use Rattle.pd_tests.specs.Restored.{filled, restored};
 
 use pd_draft::{Draft, clear};
 use pd_image::{Device, Failed};

@@ -1,4 +1,4 @@
-use crate::{
+use pd_value::{
     BlockTime, Count, Details, IndexEntry, Root, Value, Writeset, reads_back, writes_back,
 };
 

@@ -1,4 +1,4 @@
-use crate::{
+use pd_node::{
     child, entries, is_inner, key, keys_ascend, max_entries_of, node_rules, value, write_inner,
     write_leaf,
 };

@@ -1,4 +1,4 @@
-use crate::{
+use pd_image::{
     Device, FileDevice, MemDevice, MemSink, MemSource, Pick, Sink, Source, StdSink, StdSource,
 };
 use pd_kinds::{BLOCK_SIZE, Block};

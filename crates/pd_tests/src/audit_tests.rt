@@ -1,4 +1,4 @@
-use crate::{Audit, Note};
+use pd_graph::{Audit, Note};
 use pd_kinds::Rule;
 use std::process::Abort;
 use std::test::Fail;

@@ -1,4 +1,4 @@
-use crate::{any_valid, crc32c_raw, is_sealed, salted, seal};
+use pd_crc::{any_valid, crc32c_raw, is_sealed, salted, seal};
 use pd_kinds::{Block, Kind, put_u64, u32_at};
 
 /// The published check value of CRC-32C is 0xE3069283, after an inversion at the end.

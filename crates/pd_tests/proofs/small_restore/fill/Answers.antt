@@ -8,9 +8,9 @@ use Rattle.pd_draft.specs.Closed.{StaysClosed}
 use Rattle.pd_draft.specs.Placed.{placed, Stand, Wrote}
 use Rattle.pd_draft.proofs.StaysLemmas.{closed_then}
 use Rattle.pd_draft.proofs.PlacedLemmas.{wrote_none, wrote_then}
-use Rattle.pd_smallrestore.specs.Restored.{filled}
-use Rattle.pd_smallrestore.proofs.RestoreLemmas.{none_yet, then_super, bytes_more, done_since}
-use Rattle.pd_smallrestore.proofs.fill.Goals as goal
+use Rattle.pd_tests.specs.Restored.{filled}
+use Rattle.pd_tests.proofs.RestoreLemmas.{none_yet, then_super, bytes_more, done_since}
+use Rattle.pd_tests.proofs.small_restore.fill.Goals as goal
 
 pub loop-block-preserved : goal.loop-block-preserved
 loop-block-preserved g c =

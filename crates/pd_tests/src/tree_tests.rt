@@ -1,6 +1,3 @@
-// For the crate of tests, as its module tree_tests, over pd_kinds, pd_image, pd_value, pd_node, pd_array and
-// pd_tree. Two functions have a loop, and need the files that stand at the end, with that crate's name for CRATE.
-
 //! Lookup in trees, and cursors over their entries and over the words of arrays, on devices in memory.
 
 ghost use Rattle.std.specs.Prelude.{◌≡◌, EachIndex, slice_index};
@@ -170,25 +167,3 @@ fn an_array_of_510_words_is_given_whole(rt: HostRuntime) -> Result<(), Fail> {
     assert!(rt; cursor.next(&mut device) == Ok(None));
     Ok(())
 }
-
-// proofs/tree_tests/fill_with_sevens/Invariants.antt
-//
-// use Rattle.std.proofs.Common.{◌≡◌, ℕ, ◌<◌, get_or}
-// use Rattle.CRATE.proofs.tree_tests.fill_with_sevens.Given as goal
-//
-// abbrev pub invariant-loop-word : goal.invariant-loop-word
-// invariant-loop-word l = (k : ℕ) → k < l.word-index → get_or l.words k 0 ≡ 7
-
-// proofs/tree_tests/an_array_of_510_words_is_given_whole/Invariants.antt
-//
-// use Rattle.std.proofs.Common.{◌≤◌}
-// use Rattle.pd_image.specs.Device.{IsAttached}
-// use Rattle.pd_image.specs.MemDevice.{mem_device_state}
-// use Rattle.pd_tree.specs.ArrayCursor.{array_room}
-// use Rattle.CRATE.proofs.tree_tests.an_array_of_510_words_is_given_whole.Given as goal
-//
-// abbrev pub invariant-loop : goal.invariant-loop
-// invariant-loop g l = record {
-//   attached : IsAttached (mem_device_state l.device);
-//   within : array_room l.cursor ≤ (mem_device_state l.device).blocks;
-// }

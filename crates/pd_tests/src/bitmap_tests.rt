@@ -1,6 +1,6 @@
 ghost use Rattle.std.specs.Prelude.{◌<◌, ◌≤◌};
 
-use crate::{
+use pd_bitmap::{
     bitmap_rules, index_entry, index_rules, new_bitmap, new_index, seal_bitmap, seal_index,
     set_two_bits, two_bits,
 };

@@ -1,6 +1,6 @@
 ghost use Rattle.std.specs.Prelude.{◌≡◌, EachIndex, slice_index};
 
-use crate::{Word, array_len, array_rules, array_word, write_array};
+use pd_array::{Word, array_len, array_rules, array_word, write_array};
 use pd_kinds::{Rule, Rules};
 
 /// Sets each word to 0.
