@@ -31,12 +31,12 @@ impl Metadata for ThinTable {
     }
 }
 
-/// The faults of the first stage up to this one that has any. The stages that are built are `Super` and
-/// `Walk`.
+/// The faults of the first stage up to this one that has any. The stages that are built are `Super`,
+/// `Walk` and `Order`.
 ///
-/// A check up to `Super` takes no memory, and one up to `Walk` takes none before block 0 was found sound,
-/// and all of it before it reads another block: about 60 bytes a metadata block. It reads block 0, and then
-/// each block at most once for each role in which it is reached.
+/// A check up to `Super` takes no memory, and one past it takes none before block 0 was found sound, and
+/// all of it before it reads another block: about 60 bytes a metadata block. It reads block 0, and then each
+/// block at most once for each role in which it is reached, and up to `Order` at most three times.
 ///
 /// Fails with `CheckFault::Memory` where that memory wasn't found, and with `CheckFault::Device` where a
 /// read failed.
@@ -46,7 +46,7 @@ pub fn check_thin<D: Device>(alloc: Global, dev: &mut D, until: Stage) -> Result
     ensures report { IfOk result (λ report. IfSome (D.state dev.old).held (λ image. report ≡ report_of (faults Thin until image))) }
     ensures memory { MayWantMemory Thin until (D.state dev.old).held result }
     ensures early { StopsEarly result ((D.state dev.old).reads + 1) (D.state dev.new).reads }
-    ensures reads { IfSome (D.state dev.old).held (λ image. ReadsFew Thin image ((D.state dev.old).reads + 1) (D.state dev.new).reads) }
+    ensures reads { IfSome (D.state dev.old).held (λ image. ReadsFew Thin until image ((D.state dev.old).reads + 1) (D.state dev.new).reads) }
     ensures held { (D.state dev.new).held ≡ (D.state dev.old).held }
     ensures kept { KeepsObject (D.state dev.old) (D.state dev.new) }
     ensures faults { CountsCheckFault result (D.state dev.old).faults (D.state dev.new).faults }
