@@ -3,7 +3,7 @@ use Rattle.std.specs.Prelude.{ℕ, Bool, true, false, List, Option}
 use Rattle.pd_kinds.specs.declared.kind.Kind.{Kind}
 use Rattle.pd_kinds.specs.declared.kind.Kind.TheVariants.{Thin}
 use Rattle.pd_kinds.specs.declared.kind.Stage.{Stage}
-use Rattle.pd_kinds.specs.declared.kind.Stage.TheVariants.{Super, Walk}
+use Rattle.pd_kinds.specs.declared.kind.Stage.TheVariants.{Super, Walk, Order}
 
 -- a request, with the words that name its objects: images, texts, and the file of `out` where one is named
 pub data Request : Type 0 where
