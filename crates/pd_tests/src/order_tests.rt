@@ -69,6 +69,7 @@ fn levels(alloc: Global, deep: &[Blocks]) -> Result<String, AllocError> {
 
 /// A pool of 300 data blocks and 256 metadata blocks, whose devices 1 and 2 have these roots, and block 255
 /// is a leaf of one mapping.
+#[tactic(auto, unfolding(pd_kinds::specs::Node::is_ascending))]
 fn pool_of_two(alloc: Global, first: u64, second: u64) -> Result<Vec<Block>, AllocError> {
     let mut fields = empty_super();
     fields.data_map = map_root(300, 1, 5, 6);
@@ -147,10 +148,10 @@ fn a_node_that_is_its_own_child_is_too_deep(rt: HostRuntime) -> Result<(), Fail>
 }
 
 /// A leaf of mappings of the virtual blocks from this one on, so many, to the data blocks from another one on.
-fn leaf_of(place: u64, first: u64, number: u64, data: u64) -> Block
+fn leaf_of(place: u64, first: u64, number: u64, target: u64) -> Block
     requires number { number ≤ 252 }
     requires first { first < 2 ^ 32 }
-    requires data { data < 2 ^ 32 }
+    requires target { target < 2 ^ 32 }
 {
     let mut leaf = mapping_leaf(place, 0);
     // The number of entries, and the greatest one; keys from 32 on, and values from 2048 on.
@@ -158,13 +159,14 @@ fn leaf_of(place: u64, first: u64, number: u64, data: u64) -> Block
     for i in 0..number {
         let at = 8 * i as usize;
         put_u64(&mut leaf.0, 32 + at, first + i);
-        put_u64(&mut leaf.0, 2048 + at, (data + i) << 24);
+        put_u64(&mut leaf.0, 2048 + at, (target + i) << 24);
     }
     seal(&mut leaf, NODE_SALT);
     leaf
 }
 
 #[test]
+#[tactic(auto, unfolding(pd_kinds::specs::Node::is_ascending))]
 fn a_shared_leaf_is_out_of_range_under_one_of_two_parents(rt: HostRuntime) -> Result<(), Fail> {
     let alloc = rt.alloc();
     let mut image = pool_of_two(alloc, 20, 21)?;
@@ -196,6 +198,7 @@ fn a_shared_leaf_is_out_of_range_under_one_of_two_parents(rt: HostRuntime) -> Re
 }
 
 /// A pool of 300 data blocks, of which the virtual blocks 0 to 252 of device 1 are mapped to 0 to 252.
+#[tactic(auto, unfolding(pd_kinds::specs::Node::is_ascending))]
 fn pool_of_two_leaves(alloc: Global) -> Result<Vec<Block>, AllocError> {
     let mut fields = empty_super();
     fields.data_map = map_root(300, 253, 7, 8);
