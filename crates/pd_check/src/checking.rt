@@ -6,7 +6,7 @@ ghost use Rattle.pd_kinds.specs.Stages.{IsBuilt, faults};
 ghost use Rattle.pd_kinds.specs.Report.{report_of};
 ghost use Rattle.pd_kinds.specs.RuleSet.{has_rule};
 ghost use Rattle.pd_kinds.specs.Faults.{faults_at};
-ghost use Rattle.pd_image.specs.Device.{IsAttached, KeepsObject};
+ghost use Rattle.pd_image.specs.Device.{IsAttached, OnlyReads};
 ghost use Rattle.pd_check.specs.Check.{IsFirstBlock, MayWantMemory, ReadsFew};
 
 use crate::metadata::Metadata;
@@ -36,8 +36,7 @@ pub fn check<M: Metadata, D: Device>(
     ensures memory { MayWantMemory M.kind until (D.state dev.old).held result }
     ensures early { StopsEarly result ((D.state dev.old).reads + 1) (D.state dev.new).reads }
     ensures reads { IfSome (D.state dev.old).held (λ image. ReadsFew M.kind until image ((D.state dev.old).reads + 1) (D.state dev.new).reads) }
-    ensures held { (D.state dev.new).held ≡ (D.state dev.old).held }
-    ensures kept { KeepsObject (D.state dev.old) (D.state dev.new) }
+    ensures kept { OnlyReads (D.state dev.old) (D.state dev.new) }
     ensures faults { CountsCheckFault result (D.state dev.old).faults (D.state dev.new).faults }
 {
     let blocks = dev.blocks();
@@ -67,8 +66,7 @@ fn check_from<M: Metadata, D: Device>(
     ensures memory { MayWantMemory M.kind until (D.state dev.old).held result }
     ensures early { StopsEarly result (D.state dev.old).reads (D.state dev.new).reads }
     ensures reads { IfSome (D.state dev.old).held (λ image. ReadsFew M.kind until image (D.state dev.old).reads (D.state dev.new).reads) }
-    ensures held { (D.state dev.new).held ≡ (D.state dev.old).held }
-    ensures kept { KeepsObject (D.state dev.old) (D.state dev.new) }
+    ensures kept { OnlyReads (D.state dev.old) (D.state dev.new) }
     ensures faults { CountsCheckFault result (D.state dev.old).faults (D.state dev.new).faults }
 {
     let rules = M::super_rules(first, blocks);

@@ -7,7 +7,7 @@ ghost use Rattle.pd_kinds.specs.Objects.{CountsFault};
 ghost use Rattle.pd_kinds.specs.Report.{report_of};
 ghost use Rattle.pd_kinds.specs.Graph.{nodes};
 ghost use Rattle.pd_kinds.specs.Stages.{block_faults, order_bad};
-ghost use Rattle.pd_image.specs.Device.{IsAttached, KeepsObject};
+ghost use Rattle.pd_image.specs.Device.{IsAttached, OnlyReads};
 ghost use Rattle.pd_graph.specs.Audit.{blocks_of, has_walked, has_rule_at};
 ghost use Rattle.pd_graph.specs.Walk.{IsWalked};
 ghost use Rattle.pd_check.specs.Check.{goes_past_walk, past_faults, reads_of};
@@ -38,8 +38,7 @@ pub fn check_past<F: Format, D: Device>(
     ensures early { StopsEarly result (D.state dev.old).reads (D.state dev.new).reads }
     ensures reads { IfSome (D.state dev.old).held (λ image.
         (D.state dev.new).reads ≤ (D.state dev.old).reads + reads_of until * length (nodes (F.graph format.now) image)) }
-    ensures held { (D.state dev.new).held ≡ (D.state dev.old).held }
-    ensures kept { KeepsObject (D.state dev.old) (D.state dev.new) }
+    ensures kept { OnlyReads (D.state dev.old) (D.state dev.new) }
     ensures faults { CountsCheckFault result (D.state dev.old).faults (D.state dev.new).faults }
 {
     let mut audit = walked(alloc, dev, format)?;
@@ -80,8 +79,7 @@ fn order_report<F: Format, D: Device>(
         → report ≡ report_of (block_faults (F.graph format.now).nr (order_bad (F.graph format.now) image)))) }
     ensures reads { IfSome (D.state dev.old).held (λ image. IsWalked (F.graph format.now) image audit.old
         → (D.state dev.new).reads ≤ (D.state dev.old).reads + 2 * length (nodes (F.graph format.now) image)) }
-    ensures held { (D.state dev.new).held ≡ (D.state dev.old).held }
-    ensures kept { KeepsObject (D.state dev.old) (D.state dev.new) }
+    ensures kept { OnlyReads (D.state dev.old) (D.state dev.new) }
     ensures faults { CountsFault result (D.state dev.old).faults (D.state dev.new).faults }
 {
     settle(audit, format, dev)?;

@@ -10,8 +10,6 @@ use Rattle.std.proofs.lemmas.List.{length-map}
 use Rattle.pd_kinds.specs.declared.rule.Rule.{Rule}
 use Rattle.pd_kinds.specs.Edge.{Edge}
 use Rattle.pd_kinds.specs.Graph.{Graph, block_at, pair, edges_of, next, is_reached, nodes}
-use Rattle.pd_kinds.specs.Objects.{DeviceState}
-use Rattle.pd_image.specs.Device.{KeepsObject}
 use Rattle.pd_kinds.specs.Lawful.{IsWithin, KeepsLaws}
 use Rattle.pd_kinds.specs.Paths.{edge}
 use Rattle.pd_graph.specs.declared.marks.Marks.{Marks}
@@ -295,13 +293,4 @@ pub all_read_kept : (old new : Marks) → KeepsTables old new → IsAllRead (see
 all_read_kept old new kept all = record {
   pairs = λ p met.
       ap (λ (table : List ℕ). is_in table p) kept.read ∙ all.pairs p (sym (ap (λ (table : List ℕ). is_in table p) kept.seen) ∙ met);
-}
-
--- what only `attach` sets stays, call after call
-pub keeps_both : {a b c : DeviceState} → KeepsObject a b → KeepsObject b c → KeepsObject a c
-keeps_both first second = record {
-  access = second.access ∙ first.access;
-  path = second.path ∙ first.path;
-  blocks = second.blocks ∙ first.blocks;
-  history = second.history ∙ first.history;
 }

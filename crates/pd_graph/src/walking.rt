@@ -1,7 +1,7 @@
 ghost use Rattle.std.specs.Prelude.{◌≡◌, ℕ, ◌+◌, ◌<◌, ◌≤◌, length, is_ok, OnOk, IfSome};
 ghost use Rattle.pd_kinds.specs.Objects.{DeviceState, CountsFault};
 ghost use Rattle.pd_kinds.specs.Graph.{Graph, nodes};
-ghost use Rattle.pd_image.specs.Device.{IsAttached, KeepsObject};
+ghost use Rattle.pd_image.specs.Device.{IsAttached, OnlyReads};
 ghost use Rattle.pd_graph.specs.Marks.{HasPlaces};
 ghost use Rattle.pd_graph.specs.Notes.{no_note};
 ghost use Rattle.pd_graph.specs.Audit.{blocks_of, has_walked, note_at, IsNew};
@@ -28,8 +28,7 @@ pub fn walk<F: Format, D: Device>(audit: &mut Audit, format: &F, dev: &mut D) ->
 
     // At most one read for each reachable pair, also where one failed.
     ensures reads { IfSome (D.state dev.old).held (λ image. (D.state dev.new).reads ≤ (D.state dev.old).reads + length (nodes (F.graph format.now) image)) }
-    ensures held { (D.state dev.new).held ≡ (D.state dev.old).held }
-    ensures kept { KeepsObject (D.state dev.old) (D.state dev.new) }
+    ensures kept { OnlyReads (D.state dev.old) (D.state dev.new) }
     ensures faults { CountsFault result (D.state dev.old).faults (D.state dev.new).faults }
 {
     audit.marks.meet(0, 0);
@@ -48,8 +47,7 @@ fn read_all<F: Format, D: Device>(marks: &mut Marks, format: &F, dev: &mut D) ->
     ensures places { HasPlaces (F.graph format.now).nr marks.new }
     ensures done { OnOk result (IfSome (D.state dev.old).held (λ image. IsDone (F.graph format.now) image marks.new)) }
     ensures reads { IfSome (D.state dev.old).held (λ image. (D.state dev.new).reads ≤ (D.state dev.old).reads + length (nodes (F.graph format.now) image)) }
-    ensures held { (D.state dev.new).held ≡ (D.state dev.old).held }
-    ensures kept { KeepsObject (D.state dev.old) (D.state dev.new) }
+    ensures kept { OnlyReads (D.state dev.old) (D.state dev.new) }
     ensures faults { CountsFault result (D.state dev.old).faults (D.state dev.new).faults }
 {
     let mut block = Block::zeros();

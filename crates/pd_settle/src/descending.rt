@@ -3,7 +3,7 @@
 ghost use Rattle.std.specs.Prelude.{◌≡◌, ℕ, ◌+◌, ◌<◌, ◌≤◌, true, OnOk, IfSome};
 ghost use Rattle.pd_kinds.specs.Objects.{DeviceState, CountsFault};
 ghost use Rattle.pd_kinds.specs.Graph.{Graph, pair};
-ghost use Rattle.pd_image.specs.Device.{IsAttached, KeepsObject};
+ghost use Rattle.pd_image.specs.Device.{IsAttached, OnlyReads};
 ghost use Rattle.pd_graph.specs.Audit.{blocks_of, note_at};
 ghost use Rattle.pd_settle.specs.Stepping.{KeepsWalk};
 ghost use Rattle.pd_settle.specs.Ordering.{is_node, IsClean, IsOrdering, IsClosed, Knows, steps};
@@ -36,8 +36,7 @@ pub(crate) fn descend<F: Format, D: Device>(
     ensures told { IfSome (D.state dev.old).held (λ image. IsClean (F.graph format.now) image → IsOrdering (F.graph format.now) image audit.old
         → is_node (F.graph format.now) image (pair start role) ≡ true → IsOrdering (F.graph format.now) image audit.new) }
     ensures reads { (D.state dev.new).reads + steps (F.graph format.now).nr audit.old ≤ (D.state dev.old).reads + steps (F.graph format.now).nr audit.new }
-    ensures held { (D.state dev.new).held ≡ (D.state dev.old).held }
-    ensures kept { KeepsObject (D.state dev.old) (D.state dev.new) }
+    ensures kept { OnlyReads (D.state dev.old) (D.state dev.new) }
     ensures faults { CountsFault result (D.state dev.old).faults (D.state dev.new).faults }
 {
     let mut block = Block::zeros();

@@ -3,7 +3,7 @@
 ghost use Rattle.pd_kinds.specs.declared.limits.TheConstants.{MAX_META_BLOCKS};
 ghost use Rattle.std.specs.Prelude.{◌≡◌, ◌+◌, ◌<◌, ◌≤◌, Some, OnOk, IfSome, slice_get, List, ℕ};
 ghost use Rattle.pd_kinds.specs.Objects.{DeviceState, CountsFault};
-ghost use Rattle.pd_image.specs.Device.{IsAttached, KeepsObject};
+ghost use Rattle.pd_image.specs.Device.{IsAttached, OnlyReads};
 ghost use Rattle.pd_settle.specs.Kept.{IsKept};
 
 use pd_graph::Format;
@@ -30,8 +30,7 @@ pub(crate) fn fetch<D: Device>(
     requires few { b < MAX_META_BLOCKS }
     ensures content { OnOk result (IfSome (D.state dev.old).held (λ image. IsKept image kept.now → slice_get image b ≡ Some into.new.0)) }
     ensures reads { (D.state dev.new).reads ≤ (D.state dev.old).reads + 1 }
-    ensures held { (D.state dev.new).held ≡ (D.state dev.old).held }
-    ensures object { KeepsObject (D.state dev.old) (D.state dev.new) }
+    ensures kept { OnlyReads (D.state dev.old) (D.state dev.new) }
     ensures faults { CountsFault result (D.state dev.old).faults (D.state dev.new).faults }
 {
     if kept.at == b + 1 {

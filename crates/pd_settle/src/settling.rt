@@ -4,7 +4,7 @@ ghost use Rattle.std.specs.Prelude.{◌≡◌, ℕ, ◌+◌, ◌*◌, ◌<◌, �
 ghost use Rattle.pd_kinds.specs.declared.rule.Rule.{Rule};
 ghost use Rattle.pd_kinds.specs.Objects.{DeviceState, CountsFault};
 ghost use Rattle.pd_kinds.specs.Graph.{Graph, nodes};
-ghost use Rattle.pd_image.specs.Device.{IsAttached, KeepsObject};
+ghost use Rattle.pd_image.specs.Device.{IsAttached, OnlyReads};
 ghost use Rattle.pd_graph.specs.Roles.{has_bit};
 ghost use Rattle.pd_graph.specs.Notes.{no_note};
 ghost use Rattle.pd_graph.specs.Walk.{IsWalked};
@@ -72,8 +72,7 @@ fn visit<F: Format, D: Device>(
     ensures told { IfSome (D.state dev.old).held (λ image. IsClean (F.graph format.now) image → IsOrdering (F.graph format.now) image audit.old
         → HasRoles (F.graph format.now) image audit.old → IsOrdering (F.graph format.now) image audit.new) }
     ensures reads { (D.state dev.new).reads + steps (F.graph format.now).nr audit.old ≤ (D.state dev.old).reads + steps (F.graph format.now).nr audit.new }
-    ensures held { (D.state dev.new).held ≡ (D.state dev.old).held }
-    ensures kept { KeepsObject (D.state dev.old) (D.state dev.new) }
+    ensures kept { OnlyReads (D.state dev.old) (D.state dev.new) }
     ensures faults { CountsFault result (D.state dev.old).faults (D.state dev.new).faults }
 {
     if audit.note(b).height != 0 {
@@ -100,8 +99,7 @@ fn settle_each<F: Format, D: Device>(
     ensures walk { KeepsWalk audit.old audit.new }
     ensures reads { IfSome (D.state dev.old).held (λ image. IsWalked (F.graph format.now) image audit.old
         → (D.state dev.new).reads ≤ (D.state dev.old).reads + 2 * length (nodes (F.graph format.now) image)) }
-    ensures held { (D.state dev.new).held ≡ (D.state dev.old).held }
-    ensures kept { KeepsObject (D.state dev.old) (D.state dev.new) }
+    ensures kept { OnlyReads (D.state dev.old) (D.state dev.new) }
     ensures faults { CountsFault result (D.state dev.old).faults (D.state dev.new).faults }
 {
     clear(audit);
@@ -134,8 +132,7 @@ pub fn settle<F: Format, D: Device>(
     // At most two reads for each reachable pair, also where one failed.
     ensures reads { IfSome (D.state dev.old).held (λ image. IsWalked (F.graph format.now) image audit.old
         → (D.state dev.new).reads ≤ (D.state dev.old).reads + 2 * length (nodes (F.graph format.now) image)) }
-    ensures held { (D.state dev.new).held ≡ (D.state dev.old).held }
-    ensures kept { KeepsObject (D.state dev.old) (D.state dev.new) }
+    ensures kept { OnlyReads (D.state dev.old) (D.state dev.new) }
     ensures faults { CountsFault result (D.state dev.old).faults (D.state dev.new).faults }
 {
     match settle_each(audit, format, dev) {

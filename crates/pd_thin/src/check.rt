@@ -5,7 +5,7 @@ ghost use Rattle.pd_kinds.specs.declared.kind.Kind.TheVariants.{Thin};
 ghost use Rattle.pd_kinds.specs.CheckFault.{CountsCheckFault, StopsEarly};
 ghost use Rattle.pd_kinds.specs.Stages.{IsBuilt, faults};
 ghost use Rattle.pd_kinds.specs.Report.{report_of};
-ghost use Rattle.pd_image.specs.Device.{IsAttached, KeepsObject};
+ghost use Rattle.pd_image.specs.Device.{IsAttached, OnlyReads};
 ghost use Rattle.pd_check.specs.Check.{MayWantMemory, ReadsFew};
 
 use crate::format::{ThinFormat, ThinTable};
@@ -47,8 +47,7 @@ pub fn check_thin<D: Device>(alloc: Global, dev: &mut D, until: Stage) -> Result
     ensures memory { MayWantMemory Thin until (D.state dev.old).held result }
     ensures early { StopsEarly result ((D.state dev.old).reads + 1) (D.state dev.new).reads }
     ensures reads { IfSome (D.state dev.old).held (λ image. ReadsFew Thin until image ((D.state dev.old).reads + 1) (D.state dev.new).reads) }
-    ensures held { (D.state dev.new).held ≡ (D.state dev.old).held }
-    ensures kept { KeepsObject (D.state dev.old) (D.state dev.new) }
+    ensures kept { OnlyReads (D.state dev.old) (D.state dev.new) }
     ensures faults { CountsCheckFault result (D.state dev.old).faults (D.state dev.new).faults }
 {
     check::<ThinTable, D>(alloc, dev, until)

@@ -3,8 +3,6 @@ use Rattle.std.proofs.Common.{◌≡◌, ℕ, zero, suc, ◌+◌, ◌-◌, ◌�
 use Rattle.pd_kinds.specs.Field.{le}
 use Rattle.pd_kinds.specs.Node.{entry_count}
 use Rattle.pd_kinds.specs.Graph.{block_at}
-use Rattle.pd_kinds.specs.Objects.{DeviceState}
-use Rattle.pd_image.specs.Device.{KeepsObject}
 use Rattle.pd_tree.specs.declared.stack.Stack.{Stack}
 use Rattle.pd_tree.specs.Below.{items_from, kids_from, items_below, nodes_below}
 use Rattle.pd_tree.specs.declared.place.Place.{Place}
@@ -17,10 +15,6 @@ use Rattle.pd_tree.proofs.BelowLemmas.{items_below_is, nodes_below_is, each_none
 pub if_both : {X : Type 0} {P Q R : X → Type 0} → (o : Option X) → ((x : X) → o ≡ Some x → P x → Q x → R x) → IfSome o P → IfSome o Q → IfSome o R
 if_both None join p q = tt
 if_both (Some x) join p q = join x refl p q
-
--- a device that is kept twice
-pub keeps_both : {old mid new : DeviceState} → KeepsObject old mid → KeepsObject mid new → KeepsObject old new
-keeps_both first second = record { access = second.access ∙ first.access; path = second.path ∙ first.path; blocks = second.blocks ∙ first.blocks; history = second.history ∙ first.history }
 
 -- nothing stands at a block outside of the image
 pub none_outside : (image : List (List ℕ)) (b : ℕ) → length image ≤ b → block_at image b ≡ []

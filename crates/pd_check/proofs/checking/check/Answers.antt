@@ -7,4 +7,4 @@ returns-then-blocks-eq0-clause-report g c =
     c.blocks-blocks.ensures.honest c.missing_super.ensures c.super_report.ensures
 
 pub returns-in-Ok-clause-reads : goal.returns-in-Ok-clause-reads
-returns-in-Ok-clause-reads g c = later_read _ _ _ c.args.until _ _ _ c.in-Ok.ensures.held c.in-Ok.ensures.reads c.check_from.ensures.reads
+returns-in-Ok-clause-reads g c = later_read _ _ _ c.args.until _ _ _ c.in-Ok.ensures.kept.held c.in-Ok.ensures.reads c.check_from.ensures.reads

@@ -23,7 +23,7 @@ returns-in-Ok-clause-report g c =
     c.in_ok-audit.ensures.marks
     (walked_report _ graph (blocks_of c.in_ok-audit.audit) c.in_ok-audit.audit c.walk_report-report.result c.in_ok-audit.ensures.number c.in_ok-audit.ensures.marks c.walk_report-report.ensures)
     (subst (λ o. IfSome o (λ image. IsWalked graph image c.in_ok-audit.audit → c.in-Ok.found ≡ report_of (block_faults graph.nr (order_bad graph image))))
-    c.in_ok-audit.ensures.held c.in-Ok.ensures.report)
+    c.in_ok-audit.ensures.kept.held c.in-Ok.ensures.report)
 
 pub returns-clause-report : goal.returns-clause-report
 returns-clause-report g c =

@@ -1,9 +1,10 @@
 use Rattle.std.proofs.Common.{◌≡◌, Some, IfSome, subst, ◌∙◌, arith}
 use Rattle.std.specs.List.{slice_get}
 use Rattle.std.proofs.lemmas.Option.{IfSome_then}
+use Rattle.pd_image.proofs.ReadLemmas.{only_reads_both}
 use Rattle.pd_graph.specs.Walk.{IsDone}
 use Rattle.pd_graph.proofs.AnyLemmas.{if_both}
-use Rattle.pd_graph.proofs.WalkLemmas.{keeps_both, taken_known, safe_step, told_step, one_more_read, read_kept, read_at_most, taken_reached, read_reached, room_taken, safe_kept, told_kept, all_read_kept}
+use Rattle.pd_graph.proofs.WalkLemmas.{taken_known, safe_step, told_step, one_more_read, read_kept, read_at_most, taken_reached, read_reached, room_taken, safe_kept, told_kept, all_read_kept}
 use Rattle.pd_graph.proofs.walking.read_all.Goals as goal
 
 pub returns-in_err-read-clause-reads : goal.returns-in_err-read-clause-reads
@@ -47,11 +48,10 @@ loop-b-preserved g c =
       safe = safe_step graph c.in-Some.b c.in-Some.role block c.loop-b.marks c.take.new.self c.look.new.self lawful.few_roles laws safe takes c.look.ensures;
       told = if_both (g.D.Device.state c.args.dev.now).held
           (λ image found told. told_step graph image c.in-Some.b c.in-Some.role block c.loop-b.marks c.take.new.self c.look.new.self safe found told takes c.look.ensures)
-          (subst (λ o. IfSome o (λ image. slice_get image c.in-Some.b ≡ Some block)) c.loop-b.invariant.held c.in_ok-read.ensures.content)
+          (subst (λ o. IfSome o (λ image. slice_get image c.in-Some.b ≡ Some block)) c.loop-b.invariant.kept.held c.in_ok-read.ensures.content)
           c.loop-b.invariant.told;
       reads = omega arith;
-      held = c.in_ok-read.ensures.held ∙ c.loop-b.invariant.held;
-      kept = keeps_both c.loop-b.invariant.kept c.in_ok-read.ensures.kept;
+      kept = only_reads_both c.loop-b.invariant.kept c.in_ok-read.ensures.kept;
       faults = c.in_ok-read.ensures.faults ∙ c.loop-b.invariant.faults;
     }
 

@@ -1,5 +1,5 @@
 use Rattle.std.proofs.Common.{◌≡◌, ◌+◌, ◌-◌, ◌*◌, ◌≤◌, IfSome}
-use Rattle.pd_image.specs.Device.{KeepsObject}
+use Rattle.pd_image.specs.Device.{OnlyReads}
 use Rattle.pd_graph.specs.Walk.{IsSafe, IsTold, read_number}
 use Rattle.pd_graph.proofs.walking.read_all.Given as goal
 
@@ -8,8 +8,7 @@ invariant-loop-b g l = record {
   safe : IsSafe (g.F.Format.graph l.format) l.marks;
   told : IfSome (g.D.Device.state l.initial.dev).held (λ image. IsTold (g.F.Format.graph l.format) image l.marks);
   reads : (g.D.Device.state l.dev).reads ≤ (g.D.Device.state l.initial.dev).reads + read_number (g.F.Format.graph l.format).nr l.marks;
-  held : (g.D.Device.state l.dev).held ≡ (g.D.Device.state l.initial.dev).held;
-  kept : KeepsObject (g.D.Device.state l.initial.dev) (g.D.Device.state l.dev);
+  kept : OnlyReads (g.D.Device.state l.initial.dev) (g.D.Device.state l.dev);
   faults : (g.D.Device.state l.dev).faults ≡ (g.D.Device.state l.initial.dev).faults;
 }
 

@@ -1,6 +1,6 @@
 use Rattle.std.proofs.Common.{◌≡◌, ◌-◌, [], ◌∷◌, Some, IfSome, refl, ◌∙◌, subst, arith}
 use Rattle.std.specs.List.{slice_get}
-use Rattle.pd_graph.proofs.WalkLemmas.{keeps_both}
+use Rattle.pd_image.proofs.ReadLemmas.{only_reads_both}
 use Rattle.pd_graph.proofs.AnyLemmas.{if_both, if_any}
 use Rattle.pd_settle.specs.Kept.{IsKept}
 use Rattle.pd_settle.specs.Looking.{blocks_of_edges}
@@ -23,8 +23,7 @@ loop-top-init g c =
       );
       reads = omega arith;
       holds = if_any (g.D.Device.state c.args.dev.now).held (λ image. record { holds = λ some. absurd (omega arith) });
-      held = refl;
-      kept = record { access = refl; path = refl; blocks = refl; history = refl };
+      kept = record { held = refl; access = refl; path = refl; blocks = refl; history = refl };
       faults = refl;
     }
 
@@ -92,7 +91,7 @@ loop-top-preserved g c =
     let reads = c.in_ok-fetch.ensures.reads in
     let before = c.loop-top.invariant.reads in
     let content = if_both (g.D.Device.state c.args.dev.now).held (λ image holds kept. holds kept)
-    (subst (λ o. IfSome o (λ image. IsKept image c.loop-top.kept → slice_get image b ≡ Some block)) c.loop-top.invariant.held c.in_ok-fetch.ensures.content)
+    (subst (λ o. IfSome o (λ image. IsKept image c.loop-top.kept → slice_get image b ≡ Some block)) c.loop-top.invariant.kept.held c.in_ok-fetch.ensures.content)
     c.loop-top.invariant.holds in
     record {
       holds = if_both (g.D.Device.state c.args.dev.now).held (λ image found kept. c.keep.ensures image found kept) content c.loop-top.invariant.holds;
@@ -102,8 +101,7 @@ loop-top-preserved g c =
           content
           top.0 descends.1 c.step-top.ensures;
       reads = omega arith;
-      held = c.in_ok-fetch.ensures.held ∙ c.loop-top.invariant.held;
-      kept = keeps_both c.loop-top.invariant.kept c.in_ok-fetch.ensures.object;
+      kept = only_reads_both c.loop-top.invariant.kept c.in_ok-fetch.ensures.kept;
       faults = c.in_ok-fetch.ensures.faults ∙ c.loop-top.invariant.faults;
     }
 

@@ -1,5 +1,5 @@
 use Rattle.std.proofs.Common.{◌≡◌, ℕ, ◌+◌, ◌-◌, ◌*◌, ◌≤◌, List, IfSome}
-use Rattle.pd_image.specs.Device.{KeepsObject}
+use Rattle.pd_image.specs.Device.{OnlyReads}
 use Rattle.pd_settle.specs.Kept.{IsKept}
 use Rattle.pd_settle.specs.Ordering.{steps}
 use Rattle.pd_settle.proofs.DescentLemmas.{Descending}
@@ -11,8 +11,7 @@ invariant-loop-top g l = record {
   reads : (g.D.Device.state l.dev).reads + steps (g.F.Format.graph l.format).nr l.fn.audit + 1
       ≤ (g.D.Device.state l.initial.dev).reads + steps (g.F.Format.graph l.format).nr l.audit;
   holds : IfSome (g.D.Device.state l.initial.dev).held (λ image. IsKept image l.kept);
-  held : (g.D.Device.state l.dev).held ≡ (g.D.Device.state l.initial.dev).held;
-  kept : KeepsObject (g.D.Device.state l.initial.dev) (g.D.Device.state l.dev);
+  kept : OnlyReads (g.D.Device.state l.initial.dev) (g.D.Device.state l.dev);
   faults : (g.D.Device.state l.dev).faults ≡ (g.D.Device.state l.initial.dev).faults;
 }
 

@@ -1,5 +1,5 @@
 use Rattle.std.proofs.Common.{IfSome, ◌∙◌, subst, arith}
-use Rattle.pd_graph.proofs.WalkLemmas.{keeps_both}
+use Rattle.pd_image.proofs.ReadLemmas.{only_reads_both}
 use Rattle.pd_graph.proofs.AnyLemmas.{if_both}
 use Rattle.std.proofs.lemmas.Option.{IfSome_then}
 use Rattle.pd_settle.specs.Ordering.{IsClean, IsOrdering, HasRoles}
@@ -20,7 +20,7 @@ returns-in_err-visit-clause-reads g c =
     let most = steps_reached graph image c.visit.new.audit ordering in
     omega arith)
     (subst (λ o. IfSome o (λ image. IsClean graph image → IsOrdering graph image c.loop-b.audit → HasRoles graph image c.loop-b.audit → IsOrdering graph image c.visit.new.audit))
-    c.loop-b.invariant.held c.visit.ensures.told)
+    c.loop-b.invariant.kept.held c.visit.ensures.told)
     c.loop-b.invariant.told
 
 pub loop-b-preserved : goal.loop-b-preserved
@@ -38,11 +38,10 @@ loop-b-preserved g c =
           more (clean_of graph image c.args.audit.now walked c.requires.sound) (told walked)
           (roles_kept graph image c.args.audit.now c.loop-b.audit walked c.loop-b.invariant.walk))
           (subst (λ o. IfSome o (λ image. IsClean graph image → IsOrdering graph image c.loop-b.audit → HasRoles graph image c.loop-b.audit → IsOrdering graph image c.visit.new.audit))
-          c.loop-b.invariant.held c.visit.ensures.told)
+          c.loop-b.invariant.kept.held c.visit.ensures.told)
           c.loop-b.invariant.told;
       reads = omega arith;
-      held = c.visit.ensures.held ∙ c.loop-b.invariant.held;
-      kept = keeps_both c.loop-b.invariant.kept c.visit.ensures.kept;
+      kept = only_reads_both c.loop-b.invariant.kept c.visit.ensures.kept;
       faults = c.in_ok-visit.ensures.faults ∙ c.loop-b.invariant.faults;
     }
 

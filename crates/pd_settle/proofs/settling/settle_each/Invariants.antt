@@ -1,5 +1,5 @@
 use Rattle.std.proofs.Common.{◌≡◌, ℕ, ◌+◌, ◌<◌, ◌≤◌, true, IfSome}
-use Rattle.pd_image.specs.Device.{KeepsObject}
+use Rattle.pd_image.specs.Device.{OnlyReads}
 use Rattle.pd_graph.specs.Roles.{has_bit}
 use Rattle.pd_graph.specs.Audit.{note_at, roles_at}
 use Rattle.pd_graph.specs.Walk.{IsWalked}
@@ -15,7 +15,6 @@ invariant-loop-b g l = record {
       → (g.F.Format.graph l.format).is_tree role ≡ true → 1 ≤ (note_at l.audit c).height;
   told : IfSome (g.D.Device.state l.initial.dev).held (λ image. IsWalked (g.F.Format.graph l.format) image l.fn.audit → IsOrdering (g.F.Format.graph l.format) image l.audit);
   reads : (g.D.Device.state l.dev).reads ≤ (g.D.Device.state l.initial.dev).reads + steps (g.F.Format.graph l.format).nr l.audit;
-  held : (g.D.Device.state l.dev).held ≡ (g.D.Device.state l.initial.dev).held;
-  kept : KeepsObject (g.D.Device.state l.initial.dev) (g.D.Device.state l.dev);
+  kept : OnlyReads (g.D.Device.state l.initial.dev) (g.D.Device.state l.dev);
   faults : (g.D.Device.state l.dev).faults ≡ (g.D.Device.state l.initial.dev).faults;
 }

@@ -2,8 +2,9 @@ use Rattle.std.proofs.Common.{◌≡◌, ◌+◌, ◌-◌, ◌<◌, ◌≤◌, s
 use Rattle.std.proofs.lemmas.Option.{IfSome_then}
 use Rattle.pd_kinds.specs.Node.{is_inner_node, child_at}
 use Rattle.pd_kinds.specs.Graph.{block_at}
+use Rattle.pd_image.proofs.ReadLemmas.{only_reads_both}
 use Rattle.pd_tree.proofs.BelowLemmas.{read_found}
-use Rattle.pd_tree.proofs.NextLemmas.{if_any, if_both, keeps_both}
+use Rattle.pd_tree.proofs.NextLemmas.{if_any, if_both}
 use Rattle.pd_tree.proofs.LevelLemmas.{IsAtLevel, root_level, next_level}
 use Rattle.pd_tree.proofs.SeekLemmas.{Seeks, seeks_root, seeks_none, seeks_outside, seeks_child, seeks_leaf, seeks_nothing}
 use Rattle.pd_tree.proofs.seek.find.Goals as goal
@@ -13,8 +14,7 @@ loop-level-init g c = record {
   seeks = if_any (g.D.Device.state c.args.dev.now).held (λ image. seeks_root g.V.Value.SIZE g.V.Value.decoded image c.args.wanted c.args.root);
   level = if_any (g.D.Device.state c.args.dev.now).held (λ image. root_level g.V.Value.SIZE image c.args.root);
   reads = omega arith;
-  held = refl;
-  kept = record { access = refl; path = refl; blocks = refl; history = refl };
+  kept = record { held = refl; access = refl; path = refl; blocks = refl; history = refl };
   faults = refl;
 }
 
@@ -24,7 +24,7 @@ returns-then-b-blocks-clause-found g c =
     seeks_outside g.V.Value.SIZE g.V.Value.decoded image c.args.wanted c.args.root (64 - c.loop-level._level) c.loop-level.b
     (let outside : length image ≤ c.loop-level.b = omega arith in outside) seeks)
     c.loop-level.invariant.seeks
-    (subst (λ o. IfSome o (λ image. c.blocks-in-loop-level.result ≡ length image)) c.loop-level.invariant.held c.blocks-in-loop-level.ensures.honest)
+    (subst (λ o. IfSome o (λ image. c.blocks-in-loop-level.result ≡ length image)) c.loop-level.invariant.kept.held c.blocks-in-loop-level.ensures.honest)
 
 pub returns-then-count-eq0-clause-found : goal.returns-then-count-eq0-clause-found
 returns-then-count-eq0-clause-found g c =
@@ -33,7 +33,7 @@ returns-then-count-eq0-clause-found g c =
     seeks_nothing g.V.Value.SIZE g.V.Value.decoded image c.args.wanted c.args.root (64 - c.loop-level._level) (64 - (c.loop-level._level + 1)) c.loop-level.b c.split-count.result c.read.new.into.0
     levels seeks block c.split-count.ensures c.if-count-eq0.true)
     c.loop-level.invariant.seeks
-    (read_found (g.D.Device.state c.args.dev.now).held (g.D.Device.state c.loop-level.dev).held c.loop-level.b c.read.new.into.0 c.loop-level.invariant.held c.in_ok-read.ensures.content)
+    (read_found (g.D.Device.state c.args.dev.now).held (g.D.Device.state c.loop-level.dev).held c.loop-level.b c.read.new.into.0 c.loop-level.invariant.kept.held c.in_ok-read.ensures.content)
 
 pub returns-then-not-is_inner-clause-found : goal.returns-then-not-is_inner-clause-found
 returns-then-not-is_inner-clause-found g c =
@@ -44,7 +44,7 @@ returns-then-not-is_inner-clause-found g c =
     (seeks_leaf g.V.Value.SIZE g.V.Value.decoded image c.args.wanted c.args.root (64 - c.loop-level._level) (64 - (c.loop-level._level + 1)) c.loop-level.b c.split-count.result c.read.new.into.0
     levels seeks block c.split-count.ensures leaf (omega arith) s))
     c.loop-level.invariant.seeks
-    (read_found (g.D.Device.state c.args.dev.now).held (g.D.Device.state c.loop-level.dev).held c.loop-level.b c.read.new.into.0 c.loop-level.invariant.held c.in_ok-read.ensures.content)
+    (read_found (g.D.Device.state c.args.dev.now).held (g.D.Device.state c.loop-level.dev).held c.loop-level.b c.read.new.into.0 c.loop-level.invariant.kept.held c.in_ok-read.ensures.content)
 
 pub loop-level-preserved : goal.loop-level-preserved
 loop-level-preserved g c =
@@ -56,7 +56,7 @@ loop-level-preserved g c =
     let levels : 64 - above ≡ suc (64 - (above + 1)) = omega arith in
     let inner : is_inner_node bytes ≡ true = sym c.is_inner.ensures ∙ c.if-not-is_inner.false in
     let some : 0 < i = omega arith in
-    let block : IfSome held (λ image. block_at image b ≡ bytes) = read_found held (g.D.Device.state c.loop-level.dev).held b bytes c.loop-level.invariant.held c.in_ok-read.ensures.content in
+    let block : IfSome held (λ image. block_at image b ≡ bytes) = read_found held (g.D.Device.state c.loop-level.dev).held b bytes c.loop-level.invariant.kept.held c.in_ok-read.ensures.content in
     let seeks : IfSome held (λ image. Seeks g.V.Value.SIZE g.V.Value.decoded image c.args.wanted c.args.root (64 - (above + 1)) (child_at bytes (i - 1))) =
     if_both held (λ image _ seeks block. seeks_child g.V.Value.SIZE g.V.Value.decoded image c.args.wanted c.args.root (64 - above) (64 - (above + 1)) b i bytes levels seeks block c.split-count.ensures inner some)
     c.loop-level.invariant.seeks block in
@@ -69,8 +69,7 @@ loop-level-preserved g c =
       seeks = rw c.child-b.ensures seeks;
       level = rw c.child-b.ensures level;
       reads = omega arith;
-      held = c.in_ok-read.ensures.held ∙ c.loop-level.invariant.held;
-      kept = keeps_both c.loop-level.invariant.kept c.in_ok-read.ensures.kept;
+      kept = only_reads_both c.loop-level.invariant.kept c.in_ok-read.ensures.kept;
       faults = c.in_ok-read.ensures.faults ∙ c.loop-level.invariant.faults;
     }
 

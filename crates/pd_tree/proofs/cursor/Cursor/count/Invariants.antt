@@ -1,5 +1,5 @@
 use Rattle.std.proofs.Common.{◌≡◌, ◌+◌, ◌-◌, ◌^◌, ◌≤◌, min, length, IfSome}
-use Rattle.pd_image.specs.Device.{KeepsObject}
+use Rattle.pd_image.specs.Device.{OnlyReads}
 use Rattle.pd_tree.specs.Cursor.{cursor_items, cursor_nodes, cursor_number, cursor_room}
 use Rattle.pd_tree.proofs.cursor.Cursor.count.Given as goal
 
@@ -10,8 +10,7 @@ invariant-loop-count g l = record {
   fits : l.count ≤ 2 ^ 64 - 1;
   reads : IfSome (g.D.Device.state l.initial.dev).held (λ image. (g.D.Device.state l.dev).reads + length (cursor_nodes g.V.Value.SIZE image l.self) ≤ (g.D.Device.state l.initial.dev).reads + length (cursor_nodes g.V.Value.SIZE image l.initial.self));
   room : cursor_room l.self ≤ cursor_room l.initial.self;
-  held : (g.D.Device.state l.dev).held ≡ (g.D.Device.state l.initial.dev).held;
-  kept : KeepsObject (g.D.Device.state l.initial.dev) (g.D.Device.state l.dev);
+  kept : OnlyReads (g.D.Device.state l.initial.dev) (g.D.Device.state l.dev);
   faults : (g.D.Device.state l.dev).faults ≡ (g.D.Device.state l.initial.dev).faults;
 }
 
