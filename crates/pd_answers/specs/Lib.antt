@@ -1,6 +1,5 @@
 pub mod Requests
 pub mod Words
-pub mod Lines
 pub mod QueryLines
 pub mod Generated
 pub mod Flag

@@ -8,7 +8,7 @@ use Rattle.pd_kinds.specs.Report.{Reported, report_of}
 use Rattle.pd_kinds.specs.Stages.{faults, CanWantMemory}
 use Rattle.pd_kinds.specs.Meaning.{thin_meaning, era_meaning}
 use Rattle.pd_answers.specs.Requests as request
-use Rattle.pd_answers.specs.Lines.{reported_lines, usage_line}
+use Rattle.pd_spells.specs.Lines.{reported_lines, usage_line}
 use Rattle.pd_answers.specs.QueryLines.{rmap_lines, list_lines, since_lines}
 use Rattle.pd_answers.specs.Generated.{generated_text}
 use Rattle.pd_answers.specs.Flag.{LeavesCleared}
