@@ -2,6 +2,7 @@ pub mod Requests
 pub mod Words
 pub mod QueryLines
 pub mod Generated
+pub mod SearchLines
 pub mod Flag
 pub mod Answer
 pub mod Terms
