@@ -2,7 +2,7 @@
 use Rattle.std.specs.Prelude.{◌≡◌, ◌≢◌, ◌⊎◌, ℕ, ◌==◌, if◌then◌else◌, List, [], ◌∷◌, Option, IfSome}
 use Rattle.pd_kinds.specs.Objects.{DeviceState, SourceState, SinkState, Appends, AppendsFront, Rose}
 use Rattle.pd_kinds.specs.Crash.{IsSynced}
-use Rattle.pd_answers.specs.Lines.{device_line, sink_line, memory_line}
+use Rattle.pd_spells.specs.Lines.{device_line, sink_line, memory_line}
 
 -- the six objects of a call
 pub record Objects : Type 0 where

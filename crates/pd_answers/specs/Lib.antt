@@ -1,8 +1,8 @@
 pub mod Requests
 pub mod Words
-pub mod Lines
 pub mod QueryLines
 pub mod Generated
+pub mod SearchLines
 pub mod Flag
 pub mod Answer
 pub mod Terms

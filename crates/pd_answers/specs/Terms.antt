@@ -4,7 +4,7 @@ use Rattle.std.specs.Prelude.{◌≡◌, ◌≢◌, ◌⊎◌, ℕ, ◌≤◌, �
 use Rattle.std.specs.List.{list_any}
 use Rattle.pd_kinds.specs.Objects.{Rose, Appends, AppendsFront}
 use Rattle.pd_kinds.specs.Crash.{IsUntouched}
-use Rattle.pd_answers.specs.Lines.{device_line, sink_line, memory_line}
+use Rattle.pd_spells.specs.Lines.{device_line, sink_line, memory_line}
 use Rattle.pd_answers.specs.Answer.{Objects, Answer, Use, unused, reading, writing, IsOpen, IsUsed, IsGiven, AppendsFrontOfOne, failure_line, NoFaults, DeviceRose, StreamRose}
 
 -- how a request names its objects

@@ -9,3 +9,4 @@ pub mod LaidCache
 pub mod LaidEra
 pub mod Salvage
 pub mod Saved
+pub mod FoundRoots

@@ -6,7 +6,7 @@ use Rattle.std.proofs.lemmas.Grind.{flat_map-append}
 use Rattle.std.proofs.lemmas.Option.{slice_get_within, get_or_from_slice_get}
 use Rattle.std.proofs.Math.Seq.{take-suc}
 use Rattle.pd_kinds.specs.declared.fault.Fault.{Fault}
-use Rattle.pd_answers.specs.Lines.{fault_line, lines_of}
+use Rattle.pd_spells.specs.Lines.{fault_line, lines_of}
 
 -- one line more
 pub lines-take-suc : (total : List ℕ) (faults : List Fault) (i : ℕ) (fault : Fault) → slice_get faults i ≡ Some fault

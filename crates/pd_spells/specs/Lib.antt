@@ -6,3 +6,4 @@ pub mod Need
 pub mod ThinNeed
 pub mod CacheNeed
 pub mod EraNeed
+pub mod Lines

@@ -2,7 +2,7 @@
 use Rattle.std.proofs.Common.{◌≡◌, inl, inr, ℕ, ◌≤◌, List, [], ◌∷◌, Option, IfSome, refl, ap, ◌∙◌, arith, lit≤}
 use Rattle.pd_kinds.specs.Objects.{DeviceState, SourceState, SinkState, Rose, Appends, AppendsFront}
 use Rattle.pd_kinds.specs.Crash.{IsUntouched}
-use Rattle.pd_answers.specs.Lines.{device_line, sink_line, memory_line}
+use Rattle.pd_spells.specs.Lines.{device_line, sink_line, memory_line}
 use Rattle.pd_answers.specs.Answer.{Objects, AreFresh, NoFaults, DeviceRose, StreamRose, failure_line, Use, unused, reading, writing, IsUsed, AppendsFrontOfOne}
 use Rattle.pd_kinds.proofs.AppendLemmas.{appends_none, front_none, front_from_whole}
 use Rattle.pd_answers.specs.Terms.{Terms, Uses, AreKept, AreUsed, IsKept, Changes, IsAnswered}

@@ -5,7 +5,7 @@ ghost use Rattle.pd_kinds.specs.Objects.{CountsFault, Appends, AppendsFront, Sin
 ghost use Rattle.pd_kinds.specs.Report.{report_of};
 ghost use Rattle.pd_kinds.specs.Stages.{faults};
 ghost use Rattle.pd_kinds.specs.Crash.{IsUntouched};
-ghost use Rattle.pd_answers.specs.Lines.{reported_lines};
+ghost use Rattle.pd_spells.specs.Lines.{reported_lines};
 ghost use Rattle.pd_answers.specs.Answer.{Objects, IsUsed, reading};
 ghost use Rattle.pd_answers.specs.Promises.{check};
 ghost use Rattle.pd_tools.specs.Read.{IsBuiltCheck, IsUnread};

@@ -1,6 +1,6 @@
 use Rattle.std.specs.List.{flat_map}
 use Rattle.std.proofs.Common.{◌++◌, take, drop, ◌≡◌, ◌∙◌}
-use Rattle.pd_answers.specs.Lines.{fault_line}
+use Rattle.pd_spells.specs.Lines.{fault_line}
 use Rattle.pd_kinds.proofs.AppendLemmas.{front_of_more}
 use Rattle.pd_lines.proofs.Gathering.{gathers_front}
 use Rattle.pd_lines.proofs.ReportLines.{lines-take-suc, lines-take}

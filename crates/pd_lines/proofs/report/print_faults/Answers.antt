@@ -1,6 +1,6 @@
 use Rattle.std.proofs.Common.{◌≡◌, ◌++◌, ◌∙◌, ◌∷◌, codes, decimal, []}
 use Rattle.std.specs.List.{flat_map}
-use Rattle.pd_answers.specs.Lines.{fault_line}
+use Rattle.pd_spells.specs.Lines.{fault_line}
 use Rattle.pd_kinds.proofs.AppendLemmas.{front_of_more}
 use Rattle.pd_lines.specs.Pieces.{Gathers}
 use Rattle.pd_lines.proofs.Gathering.{gathers_start}

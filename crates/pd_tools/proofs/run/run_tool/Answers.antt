@@ -1,5 +1,5 @@
 use Rattle.std.proofs.Common.{sym, refl, lit≤, map, string_bytes}
-use Rattle.pd_answers.specs.Lines.{usage_line}
+use Rattle.pd_spells.specs.Lines.{usage_line}
 use Rattle.pd_answers.specs.Answer.{objects}
 use Rattle.pd_answers.specs.Words.{asked}
 use Rattle.pd_answers.specs.Promises.{refused, terms_of}

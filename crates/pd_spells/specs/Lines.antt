@@ -1,5 +1,5 @@
 -- The bytes of the lines that the tools print.
-use Rattle.std.specs.Prelude.{ℕ, zero, suc, ◌-◌, List, [], ◌∷◌, ◌++◌, get_or, codes, decimal}
+use Rattle.std.specs.Prelude.{ℕ, zero, suc, List, [], ◌∷◌, ◌++◌, codes, decimal}
 use Rattle.std.specs.List.{flat_map}
 use Rattle.pd_kinds.specs.declared.rule.Rule.{Rule}
 use Rattle.pd_kinds.specs.declared.rule.Rule.TheVariants as r
@@ -8,6 +8,8 @@ use Rattle.pd_kinds.specs.declared.fault.Space.{Space}
 use Rattle.pd_kinds.specs.declared.fault.Space.TheVariants.{Meta, DataBlock}
 use Rattle.pd_kinds.specs.Rule.{rule_name}
 use Rattle.pd_kinds.specs.Report.{Reported}
+use Rattle.pd_grammar.specs.Causes.{cause_name}
+use Rattle.pd_grammar.specs.Texts.{Refusal}
 
 -- the word for a space
 abbrev pub space_name : Space → List ℕ
@@ -50,16 +52,10 @@ sink_line = codes "pdata_tools: source or sink fault" ++ (10 ∷ [])
 abbrev pub memory_line : List ℕ
 memory_line = codes "pdata_tools: out of memory" ++ (10 ∷ [])
 
--- why a line of a text is refused: the names of the causes, of which the first has number 1
-abbrev pub cause_names : List (List ℕ)
-cause_names =
-    codes "header" ∷ codes "word" ∷ codes "number" ∷ codes "order" ∷ codes "out of range" ∷ codes "mapped differs"
-    ∷ codes "too long" ∷ codes "no end" ∷ codes "after end" ∷ codes "repeated" ∷ codes "unused" ∷ []
-
--- the line of status 3: the number of the refused line, and the cause
-abbrev pub refusal_line : ℕ → ℕ → List ℕ
-refusal_line line cause =
-    codes "pdata_tools: line " ++ (decimal line ++ (codes ": " ++ (get_or cause_names (cause - 1) [] ++ (10 ∷ []))))
+-- the line of status 3: the refused line, and the cause
+abbrev pub refusal_line : Refusal → List ℕ
+refusal_line why =
+    codes "pdata_tools: line " ++ (decimal why.line ++ (codes ": " ++ (cause_name why.cause ++ (10 ∷ []))))
 
 -- the line of status 4: the blocks that are needed, and those that there are
 abbrev pub no_room_line : ℕ → ℕ → List ℕ
