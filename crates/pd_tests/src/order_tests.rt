@@ -1,6 +1,6 @@
 //! Checks up to the order of the trees.
 
-ghost use Rattle.std.specs.Prelude.{◌<◌, ◌≤◌, ◌^◌};
+ghost use Rattle.std.specs.Prelude.{◌≡◌, ◌<◌, ◌≤◌, ◌^◌, IfOk, vec_len};
 
 use crate::pool::{
     NODE_SALT, bitmap, device_leaf, empty_leaf, empty_super, index, index_entry, index_leaf, inner,
@@ -30,6 +30,9 @@ type Chain = (u64, u64, u64);
 
 /// Blocks from this one on, so many.
 type Blocks = (u64, u64);
+
+/// What a case shows, the two roots, the chains, and the blocks that are too deep.
+type Case = (&'static str, [u64; 2], [Chain; 2], [Blocks; 2]);
 
 /// Checks an image up to the order, where this must be the report. The status is 0 where it is clean.
 fn expect_order(
@@ -70,7 +73,9 @@ fn levels(alloc: Global, deep: &[Blocks]) -> Result<String, AllocError> {
 /// A pool of 300 data blocks and 256 metadata blocks, whose devices 1 and 2 have these roots, and block 255
 /// is a leaf of one mapping.
 #[tactic(auto, unfolding(pd_kinds::specs::Node::is_ascending))]
-fn pool_of_two(alloc: Global, first: u64, second: u64) -> Result<Vec<Block>, AllocError> {
+fn pool_of_two(alloc: Global, first: u64, second: u64) -> Result<Vec<Block>, AllocError>
+    ensures { IfOk result (λ image. vec_len image ≡ 256) }
+{
     let mut fields = empty_super();
     fields.data_map = map_root(300, 1, 5, 6);
     fields.meta_map = map_root(BLOCKS as u64, 10, 7, 9);
@@ -105,11 +110,19 @@ fn put_chains(rt: &impl Abort, image: &mut [Block], chains: &[Chain]) {
     }
 }
 
+/// Checks a pool of chains, where just these blocks must be too deep.
+fn expect_levels(rt: &impl Abort, alloc: Global, case: &Case) -> Result<(), AllocError> {
+    let (shows, roots, chains, deep) = *case;
+    let mut image = pool_of_two(alloc, roots[0], roots[1])?;
+    put_chains(rt, image.as_mut_slice(), &chains);
+    let report = levels(alloc, &deep)?;
+    expect_order(rt, alloc, shows, image.as_slice(), report.as_str())
+}
+
 #[test]
 fn chains_of_64_inner_nodes_are_too_deep(rt: HostRuntime) -> Result<(), Fail> {
     let alloc = rt.alloc();
-    // What it shows, the two roots, the chains, and the blocks that are too deep.
-    let cases: [(&'static str, [u64; 2], [Chain; 2], [Blocks; 2]); 17] = [
+    let cases: [Case; 17] = [
         ("63 alone", [20, 20], [(20, 63, LEAF), (20, 0, 0)], [(20, 0), (0, 0)]),
         ("64 alone", [20, 20], [(20, 64, LEAF), (20, 0, 0)], [(20, 1), (0, 0)]),
         ("65 alone", [20, 20], [(20, 65, LEAF), (20, 0, 0)], [(20, 2), (0, 0)]),
@@ -128,11 +141,8 @@ fn chains_of_64_inner_nodes_are_too_deep(rt: HostRuntime) -> Result<(), Fail> {
         ("a cycle of two", [20, 21], [(20, 2, 20), (20, 0, 0)], [(20, 2), (0, 0)]),
         ("a cycle behind a chain", [10, 20], [(10, 5, 20), (20, 100, 30)], [(10, 5), (20, 100)]),
     ];
-    for (shows, roots, chains, deep) in cases {
-        let mut image = pool_of_two(alloc, roots[0], roots[1])?;
-        put_chains(&rt, image.as_mut_slice(), &chains);
-        let report = levels(alloc, &deep)?;
-        expect_order(&rt, alloc, shows, image.as_slice(), report.as_str())?;
+    for case in &cases {
+        expect_levels(&rt, alloc, case)?;
     }
     Ok(())
 }
@@ -199,7 +209,9 @@ fn a_shared_leaf_is_out_of_range_under_one_of_two_parents(rt: HostRuntime) -> Re
 
 /// A pool of 300 data blocks, of which the virtual blocks 0 to 252 of device 1 are mapped to 0 to 252.
 #[tactic(auto, unfolding(pd_kinds::specs::Node::is_ascending))]
-fn pool_of_two_leaves(alloc: Global) -> Result<Vec<Block>, AllocError> {
+fn pool_of_two_leaves(alloc: Global) -> Result<Vec<Block>, AllocError>
+    ensures { IfOk result (λ image. vec_len image ≡ 16) }
+{
     let mut fields = empty_super();
     fields.data_map = map_root(300, 253, 7, 8);
     fields.meta_map = map_root(16, 12, 9, 11);
