@@ -1,8 +1,8 @@
+use pd_kinds::{Block, Rule, Rules};
 use pd_node::{
     child, entries, is_inner, key, keys_ascend, max_entries_of, node_rules, value, write_inner,
     write_leaf,
 };
-use pd_kinds::{Block, Rule, Rules};
 use pd_value::{BlockTime, Details};
 
 #[test]

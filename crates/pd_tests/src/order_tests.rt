@@ -102,7 +102,11 @@ fn put_chains(rt: &impl Abort, image: &mut [Block], chains: &[Chain]) {
     for (first, number, end) in chains {
         for i in 0..*number {
             let place = first.saturating_add(i);
-            let child = if i + 1 == *number { *end } else { place.saturating_add(1) };
+            let child = if i + 1 == *number {
+                *end
+            } else {
+                place.saturating_add(1)
+            };
             let b = place as usize;
             assert!(rt; b < image.len());
             image[b] = inner(place, child);
@@ -123,23 +127,108 @@ fn expect_levels(rt: &impl Abort, alloc: Global, case: &Case) -> Result<(), Allo
 fn chains_of_64_inner_nodes_are_too_deep(rt: HostRuntime) -> Result<(), Fail> {
     let alloc = rt.alloc();
     let cases: [Case; 17] = [
-        ("63 alone", [20, 20], [(20, 63, LEAF), (20, 0, 0)], [(20, 0), (0, 0)]),
-        ("64 alone", [20, 20], [(20, 64, LEAF), (20, 0, 0)], [(20, 1), (0, 0)]),
-        ("65 alone", [20, 20], [(20, 65, LEAF), (20, 0, 0)], [(20, 2), (0, 0)]),
-        ("63 behind another", [100, 100], [(20, 63, LEAF), (100, 3, 20)], [(20, 0), (100, 3)]),
-        ("64 behind another", [100, 100], [(20, 64, LEAF), (100, 3, 20)], [(20, 1), (100, 3)]),
-        ("65 behind another", [100, 100], [(20, 65, LEAF), (100, 3, 20)], [(20, 2), (100, 3)]),
-        ("behind an earlier one", [10, 10], [(10, 3, 20), (20, 63, LEAF)], [(10, 3), (20, 0)]),
-        ("63 shared", [20, 100], [(20, 63, LEAF), (100, 1, 20)], [(20, 0), (100, 1)]),
-        ("63 shared, turned round", [100, 20], [(20, 63, LEAF), (100, 1, 20)], [(20, 0), (100, 1)]),
-        ("63 shared by an earlier one", [10, 20], [(10, 1, 20), (20, 63, LEAF)], [(10, 1), (20, 0)]),
-        ("64 shared", [20, 100], [(20, 64, LEAF), (100, 1, 20)], [(20, 1), (100, 1)]),
-        ("65 shared in its middle", [20, 100], [(20, 65, LEAF), (100, 1, 22)], [(20, 2), (100, 1)]),
-        ("62 left of 65", [20, 100], [(20, 65, LEAF), (100, 1, 23)], [(20, 2), (100, 0)]),
-        ("far too many", [20, 20], [(20, 200, LEAF), (20, 0, 0)], [(20, 137), (0, 0)]),
-        ("a node in itself", [20, 20], [(20, 1, 20), (20, 0, 0)], [(20, 1), (0, 0)]),
-        ("a cycle of two", [20, 21], [(20, 2, 20), (20, 0, 0)], [(20, 2), (0, 0)]),
-        ("a cycle behind a chain", [10, 20], [(10, 5, 20), (20, 100, 30)], [(10, 5), (20, 100)]),
+        (
+            "63 alone",
+            [20, 20],
+            [(20, 63, LEAF), (20, 0, 0)],
+            [(20, 0), (0, 0)],
+        ),
+        (
+            "64 alone",
+            [20, 20],
+            [(20, 64, LEAF), (20, 0, 0)],
+            [(20, 1), (0, 0)],
+        ),
+        (
+            "65 alone",
+            [20, 20],
+            [(20, 65, LEAF), (20, 0, 0)],
+            [(20, 2), (0, 0)],
+        ),
+        (
+            "63 behind another",
+            [100, 100],
+            [(20, 63, LEAF), (100, 3, 20)],
+            [(20, 0), (100, 3)],
+        ),
+        (
+            "64 behind another",
+            [100, 100],
+            [(20, 64, LEAF), (100, 3, 20)],
+            [(20, 1), (100, 3)],
+        ),
+        (
+            "65 behind another",
+            [100, 100],
+            [(20, 65, LEAF), (100, 3, 20)],
+            [(20, 2), (100, 3)],
+        ),
+        (
+            "behind an earlier one",
+            [10, 10],
+            [(10, 3, 20), (20, 63, LEAF)],
+            [(10, 3), (20, 0)],
+        ),
+        (
+            "63 shared",
+            [20, 100],
+            [(20, 63, LEAF), (100, 1, 20)],
+            [(20, 0), (100, 1)],
+        ),
+        (
+            "63 shared, turned round",
+            [100, 20],
+            [(20, 63, LEAF), (100, 1, 20)],
+            [(20, 0), (100, 1)],
+        ),
+        (
+            "63 shared by an earlier one",
+            [10, 20],
+            [(10, 1, 20), (20, 63, LEAF)],
+            [(10, 1), (20, 0)],
+        ),
+        (
+            "64 shared",
+            [20, 100],
+            [(20, 64, LEAF), (100, 1, 20)],
+            [(20, 1), (100, 1)],
+        ),
+        (
+            "65 shared in its middle",
+            [20, 100],
+            [(20, 65, LEAF), (100, 1, 22)],
+            [(20, 2), (100, 1)],
+        ),
+        (
+            "62 left of 65",
+            [20, 100],
+            [(20, 65, LEAF), (100, 1, 23)],
+            [(20, 2), (100, 0)],
+        ),
+        (
+            "far too many",
+            [20, 20],
+            [(20, 200, LEAF), (20, 0, 0)],
+            [(20, 137), (0, 0)],
+        ),
+        (
+            "a node in itself",
+            [20, 20],
+            [(20, 1, 20), (20, 0, 0)],
+            [(20, 1), (0, 0)],
+        ),
+        (
+            "a cycle of two",
+            [20, 21],
+            [(20, 2, 20), (20, 0, 0)],
+            [(20, 2), (0, 0)],
+        ),
+        (
+            "a cycle behind a chain",
+            [10, 20],
+            [(10, 5, 20), (20, 100, 30)],
+            [(10, 5), (20, 100)],
+        ),
     ];
     for case in &cases {
         expect_levels(&rt, alloc, case)?;
@@ -188,11 +277,23 @@ fn a_shared_leaf_is_out_of_range_under_one_of_two_parents(rt: HostRuntime) -> Re
     let report = "fault meta 21 range\nfaults 1\n";
     expect_order(&rt, alloc, "key 50 twice", image.as_slice(), report)?;
     image[21] = write_inner(21, &[(0, 10), (51, 12)]);
-    expect_order(&rt, alloc, "up to the next key", image.as_slice(), "clean\n")?;
+    expect_order(
+        &rt,
+        alloc,
+        "up to the next key",
+        image.as_slice(),
+        "clean\n",
+    )?;
     image[21] = write_inner(21, &[(1, 10), (51, 12)]);
     expect_order(&rt, alloc, "below its key", image.as_slice(), report)?;
     image[21] = write_inner(21, &[(0, 10), (61, 12)]);
-    expect_order(&rt, alloc, "the last below its key", image.as_slice(), report)?;
+    expect_order(
+        &rt,
+        alloc,
+        "the last below its key",
+        image.as_slice(),
+        report,
+    )?;
     image[12] = empty_leaf::<BlockTime>(12);
     image[21] = write_inner(21, &[(0, 10), (51, 12)]);
     expect_order(&rt, alloc, "a child without keys", image.as_slice(), report)?;
@@ -203,7 +304,13 @@ fn a_shared_leaf_is_out_of_range_under_one_of_two_parents(rt: HostRuntime) -> Re
     put_chains(&rt, image.as_mut_slice(), &[(30, 64, LEAF)]);
     image[21] = write_inner(21, &[(0, 30), (7, 30)]);
     let report = "fault meta 21 level\nfault meta 30 level\nfaults 2\n";
-    expect_order(&rt, alloc, "children that are too deep", image.as_slice(), report)?;
+    expect_order(
+        &rt,
+        alloc,
+        "children that are too deep",
+        image.as_slice(),
+        report,
+    )?;
     Ok(())
 }
 

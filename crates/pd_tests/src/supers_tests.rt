@@ -1,8 +1,8 @@
 ghost use Rattle.std.specs.Prelude.{◌+◌, ◌≤◌};
 
-use pd_supers::{SmRoot, ThinSuper, missing_super, thin_super_rules, write_thin_super};
 use pd_crc::seal;
 use pd_kinds::{Kind, Rule, Rules, put_u64};
+use pd_supers::{SmRoot, ThinSuper, missing_super, thin_super_rules, write_thin_super};
 
 /// The superblock of an empty pool on eight metadata blocks.
 fn empty_pool() -> ThinSuper {

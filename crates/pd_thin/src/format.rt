@@ -1,7 +1,8 @@
 use pd_kinds::{Block, Edges, Rules};
 use pd_layouts::{Layout, LeafValue, Names, Table, Tabled};
 use pd_supers::{
-    ThinSuper, read_thin_super, thin_held_edges, thin_held_rules, thin_super_edges, thin_super_rules,
+    ThinSuper, read_thin_super, thin_held_edges, thin_held_rules, thin_super_edges,
+    thin_super_rules,
 };
 
 /// The table of a thin pool's metadata, as "drivers/md/dm-thin-metadata.c" and
