@@ -6,4 +6,8 @@ pub mod SearchLines
 pub mod Flag
 pub mod Answer
 pub mod Terms
+pub mod Outputs
+pub mod Restores
+pub mod Repairs
+pub mod Rehearsals
 pub mod Promises

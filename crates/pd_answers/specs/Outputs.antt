@@ -1,0 +1,21 @@
+-- What is left of the output of a request that makes an image of it.
+use Rattle.std.specs.Prelude.{◌≡◌, ℕ, min, Bool, true, List, length, IfSome}
+use Rattle.pd_kinds.specs.declared.limits.TheConstants.{MAX_META_BLOCKS}
+use Rattle.pd_kinds.specs.Objects.{DeviceState}
+use Rattle.pd_kinds.specs.Crash.{IsOutput, IsUntouched}
+
+-- so many of a device's blocks can have metadata
+abbrev pub room_of : ℕ → ℕ
+room_of blocks = min blocks MAX_META_BLOCKS
+
+-- the room of an output: that of the image that it tells, and that of its blocks where it was attached
+pub record IsRoom (before after : DeviceState) (room : ℕ) : Type 0 where
+  pub told : IfSome before.held (λ image. room ≡ room_of (length image))
+  pub attached : after.access ≡ 2 → room ≡ room_of after.blocks
+
+-- what is left of the output of a request that makes an image of it
+pub record LeavesMade (Made : List (List ℕ) → List (List ℕ) → Type 0) (unwritten : Bool) (status : ℕ) (old new : DeviceState) : Type 0 where
+  -- under every status it is the old image, the new one, or has no valid superblock
+  pub output : IsOutput Made status old new
+  -- what is refused before the output is written leaves it alone, under every status
+  pub untouched : unwritten ≡ true → IsUntouched old new

@@ -1,0 +1,62 @@
+-- The terms of a rehearsal: the restore, check and dump of the generator's text.
+use Rattle.std.specs.Prelude.{◌≡◌, ℕ, not, ◌==◌, if◌then◌else◌, List, [], ◌∷◌, length, sum_by, count_by, IfSome}
+use Rattle.pd_kinds.specs.Report.{Reported, report_of}
+use Rattle.pd_kinds.specs.Meaning.{ThinPool, ThinDevice}
+use Rattle.pd_grammar.specs.Spelling.{Verdict, accepted, refused, no_room}
+use Rattle.pd_spells.specs.ThinText.{text_of_pool}
+use Rattle.pd_spells.specs.ThinNeed.{thin_need, IsThinVerdict}
+use Rattle.pd_spells.specs.Lines.{reported_lines}
+use Rattle.pd_laid.specs.LaidThin.{laid_pool}
+use Rattle.pd_answers.specs.Generated.{generated_text, rehearsal_line}
+use Rattle.pd_answers.specs.Answer.{Answer, reading, writing}
+use Rattle.pd_answers.specs.Terms.{Terms, unnamed}
+use Rattle.pd_answers.specs.Outputs.{IsRoom, LeavesMade}
+use Rattle.pd_answers.specs.Restores.{Restores, restore_answer, is_pool_early}
+
+-- what a rehearsal finds: how many blocks there are, the verdict on the generator's text, the report of the check of
+-- what was restored, and the three numbers that it prints
+pub record Rehearsed : Type 0 where
+  pub room : ℕ
+  pub verdict : Verdict ThinPool
+  pub report : Reported
+  pub used : ℕ
+  pub mappings : ℕ
+  pub lines : ℕ
+
+-- the numbers of a pool: the blocks that it needs, the mappings of its devices, the lines of its text
+pub record AreNumbersOf (pool : ThinPool) (rehearsed : Rehearsed) : Type 0 where
+  pub used : rehearsed.used ≡ thin_need pool rehearsed.room
+  pub mappings : rehearsed.mappings ≡ sum_by (λ (d : ThinDevice). length d.mappings) pool.devices
+  pub lines : rehearsed.lines ≡ count_by (λ byte. byte == 10) (text_of_pool pool)
+
+-- of the text that is accepted
+abbrev pub AreNumbers : Verdict ThinPool → Rehearsed → Type 0
+AreNumbers (accepted pool) rehearsed = AreNumbersOf pool rehearsed
+AreNumbers (refused why) rehearsed = Unit {0}
+AreNumbers (no_room needed blocks) rehearsed = Unit {0}
+
+-- A rehearsal answers as the restore where that is refused. Else it puts its line, or the report of the check to
+-- `notes`
+abbrev pub rehearsal_answer : ℕ → Rehearsed → Answer
+rehearsal_answer number rehearsed =
+    if not ((restore_answer rehearsed.verdict).status == 0) then restore_answer rehearsed.verdict
+    else if rehearsed.report.total == 0
+    then record { status = 0; out = rehearsal_line number rehearsed.used rehearsed.mappings rehearsed.lines; notes = [] }
+    else record { status = 1; out = []; notes = reported_lines rehearsed.report }
+
+-- A rehearsal restores the generator's text, which is never refused for what it says. Over an output that tells what it
+-- holds, the check then finds nothing. Its line is the last that it does
+abbrev pub rehearse : ℕ → List ℕ → Terms
+rehearse number path = record {
+  uses = record unnamed { out = reading []; output = writing path };
+  Finding = Rehearsed;
+  finds = λ before after rehearsed. IsRoom before.output after.output rehearsed.room
+      × (IsThinVerdict (generated_text number) rehearsed.room rehearsed.verdict
+      × IfSome before.output.held (λ image. (rehearsed.report ≡ report_of []) × AreNumbers rehearsed.verdict rehearsed));
+  answer = rehearsal_answer number;
+  statuses = 0 ∷ 1 ∷ 4 ∷ 5 ∷ 7 ∷ [];
+  memory = λ before. Unit {0};
+  silent = 1 ∷ 4 ∷ 5 ∷ 7 ∷ [];
+  leaves = λ rehearsed before after status. LeavesMade (Restores laid_pool rehearsed.room rehearsed.verdict)
+      (is_pool_early (generated_text number) rehearsed.room) status before.output after.output;
+}
