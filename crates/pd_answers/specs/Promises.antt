@@ -131,8 +131,8 @@ image_text Era image = text_of_era (era_meaning image)
 abbrev pub dump : Kind → Option (List ℕ) → List ℕ → Terms
 dump kind file path = query kind (image_text kind) file path
 
--- The terms of a request. A dump that prints shared leaves once needs the second version of the thin text, which isn't
--- defined yet: it keeps the terms of no request, and isn't built
+-- The terms of a request. A dump that prints the shared leaves of a pool once needs the second version of the thin text,
+-- which isn't defined yet: it keeps the terms of no request, and isn't built. Of a cache or an era target no words ask it
 abbrev pub terms_of : Option request.Request → Terms
 terms_of None = refused
 terms_of (Some (request.check kind until false path)) = check kind until path

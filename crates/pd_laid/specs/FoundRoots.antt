@@ -1,5 +1,5 @@
--- The roots of a thin pool whose superblock is lost: the best pair of a mapping tree and a details tree that fit each
--- other. A filter over all pairs of blocks.
+-- The roots of a thin pool whose superblock is lost: of all pairs of blocks the best mapping tree and details
+-- tree that fit each other. In a pool's format these have the roles 2 and 4.
 use Rattle.std.specs.Prelude.{◌≡◌, ℕ, min, max, ◌==◌, ◌&&◌, ◌||◌, Bool, true, false, not, nat_lt, List, ◌∷◌, length, map, fold, replicate, sum_by, Option, Some, None}
 use Rattle.std.specs.List.{list_any, list_all, flat_map}
 use Rattle.std.specs.Str.{bytes_eq}
