@@ -1,6 +1,12 @@
 -- What the calls of a source leave and give.
-use Rattle.std.specs.Prelude.{◌≡◌, ℕ, ◌≤◌, List, [], length, take, drop, Option, Some}
+use Rattle.std.specs.Prelude.{◌≡◌, ℕ, ◌≤◌, Bool, if◌then◌else◌, List, [], length, take, drop, Option, Some, IfSome}
 use Rattle.pd_kinds.specs.Objects.{SourceState}
+
+-- what `attach` leaves
+pub record AttachesSource (asked : List ℕ) (ok : Bool) (old new : SourceState) : Type 0 where
+  pub access : new.access ≡ (if ok then 1 else 3)
+  pub path : IfSome new.path (λ told. told ≡ asked)
+  pub left : new.left ≡ old.left
 
 -- what only `attach` sets stays
 pub record KeepsSource (old new : SourceState) : Type 0 where

@@ -1,9 +1,9 @@
 //! A sink in memory, which tells what was written.
 
-ghost use Rattle.std.specs.Prelude.{is_none, true, false, None, ◌≡◌, ◌++◌, [], take, is_ok, not, Some, IsTrue, IsErr, IsSome, OnOk, OnErr, IfSome, unwrap_or, if◌then◌else◌};
+ghost use Rattle.std.specs.Prelude.{is_none, true, false, None, ◌≡◌, ◌++◌, [], take, is_ok, not, Some, IsTrue, IsErr, IsSome, OnOk, OnErr, unwrap_or, if◌then◌else◌};
 ghost use Rattle.std.specs.Option.{option_copied};
 ghost use Rattle.pd_kinds.specs.Objects.{CountsFault, Appends, AppendsFront};
-ghost use Rattle.pd_image.specs.Sink.{KeepsSink};
+ghost use Rattle.pd_image.specs.Sink.{AttachesSink, KeepsSink};
 ghost use Rattle.pd_image.specs.Access.{access_number, untold};
 ghost use Rattle.pd_image.specs.Calls.{counted, next_fails, IsUncalled, CountsCall, SetsToFail, KeepsCalls};
 
@@ -80,9 +80,7 @@ impl Sink for MemSink {
 
     fn attach(&mut self, path: Option<&str>) -> Result<(), Failed>
         requires { (mem_sink_state self.old).access ≡ 0 }
-        ensures access { (mem_sink_state self.new).access ≡ (if is_ok result then 1 else 3) }
-        ensures path { IfSome (mem_sink_state self.new).path (λ told. told ≡ unwrap_or (option_copied path.entry) []) }
-        ensures written { (mem_sink_state self.new).written ≡ (mem_sink_state self.old).written }
+        ensures attached { AttachesSink (unwrap_or (option_copied path.entry) []) (is_ok result) (mem_sink_state self.old) (mem_sink_state self.new) }
         ensures told { OnOk result (IsSome (mem_sink_state self.new).path) }
         ensures faults { CountsFault result (mem_sink_state self.old).faults (mem_sink_state self.new).faults }
         ensures set { IsTrue (next_fails (mem_sink_calls self.old)) → IsErr result }

@@ -5,7 +5,7 @@ ghost use Rattle.std.specs.Option.{option_copied};
 ghost use Rattle.pd_kinds.specs.Objects.{CountsFault};
 ghost use Rattle.pd_image.specs.Access.{access_number, untold};
 ghost use Rattle.pd_image.specs.Calls.{counted, next_fails, IsUncalled, CountsCall, SetsToFail, KeepsCalls};
-ghost use Rattle.pd_image.specs.Source.{KeepsSource, Takes};
+ghost use Rattle.pd_image.specs.Source.{AttachesSource, KeepsSource, Takes};
 
 use crate::access::Access;
 use crate::calls::Calls;
@@ -84,9 +84,7 @@ impl Source for MemSource {
 
     fn attach(&mut self, path: &str) -> Result<(), Failed>
         requires { (mem_source_state self.old).access ≡ 0 }
-        ensures access { (mem_source_state self.new).access ≡ (if is_ok result then 1 else 3) }
-        ensures path { IfSome (mem_source_state self.new).path (λ told. told ≡ path.now) }
-        ensures left { (mem_source_state self.new).left ≡ (mem_source_state self.old).left }
+        ensures attached { AttachesSource path.now (is_ok result) (mem_source_state self.old) (mem_source_state self.new) }
         ensures told { OnOk result (IsSome (mem_source_state self.new).path) }
         ensures faults { CountsFault result (mem_source_state self.old).faults (mem_source_state self.new).faults }
         ensures set { IsTrue (next_fails (mem_source_calls self.old)) → IsErr result }

@@ -1,7 +1,7 @@
-ghost use Rattle.std.specs.Prelude.{None, ◌≡◌, ℕ, List, [], length, is_ok, OnOk, OnErr, IfSome, unwrap_or, if◌then◌else◌};
+ghost use Rattle.std.specs.Prelude.{None, ◌≡◌, ℕ, List, [], length, is_ok, OnOk, OnErr, unwrap_or};
 ghost use Rattle.std.specs.Option.{option_copied};
 ghost use Rattle.pd_kinds.specs.Objects.{SinkState, CountsFault, Appends, AppendsFront};
-ghost use Rattle.pd_image.specs.Sink.{KeepsSink};
+ghost use Rattle.pd_image.specs.Sink.{AttachesSink, KeepsSink};
 
 use crate::Failed;
 
@@ -14,9 +14,7 @@ pub trait Sink {
     /// before all other calls.
     fn attach(&mut self, path: Option<&str>) -> Result<(), Failed>
         requires { (state self.old).access ≡ 0 }
-        ensures access { (state self.new).access ≡ (if is_ok result then 1 else 3) }
-        ensures path { IfSome (state self.new).path (λ told. told ≡ unwrap_or (option_copied path.entry) []) }
-        ensures written { (state self.new).written ≡ (state self.old).written }
+        ensures attached { AttachesSink (unwrap_or (option_copied path.entry) []) (is_ok result) (state self.old) (state self.new) }
         ensures faults { CountsFault result (state self.old).faults (state self.new).faults };
 
     /// Appends all of the bytes. After `Failed` a front of them was appended.

@@ -1,6 +1,6 @@
-ghost use Rattle.std.specs.Prelude.{None, ◌≡◌, ℕ, ◌<◌, ◌≤◌, List, length, take, drop, is_ok, OnOk, OnErr, IfOk, IfSome, Some, if◌then◌else◌};
+ghost use Rattle.std.specs.Prelude.{None, ◌≡◌, ℕ, ◌<◌, ◌≤◌, List, length, take, drop, is_ok, OnOk, OnErr, IfOk, IfSome, Some};
 ghost use Rattle.pd_kinds.specs.Objects.{SourceState, CountsFault};
-ghost use Rattle.pd_image.specs.Source.{KeepsSource, Takes};
+ghost use Rattle.pd_image.specs.Source.{AttachesSource, KeepsSource, Takes};
 
 use crate::Failed;
 
@@ -12,9 +12,7 @@ pub trait Source {
     /// Opens the source at the path. It is called once, before all other calls.
     fn attach(&mut self, path: &str) -> Result<(), Failed>
         requires { (state self.old).access ≡ 0 }
-        ensures access { (state self.new).access ≡ (if is_ok result then 1 else 3) }
-        ensures path { IfSome (state self.new).path (λ told. told ≡ path.now) }
-        ensures left { (state self.new).left ≡ (state self.old).left }
+        ensures attached { AttachesSource path.now (is_ok result) (state self.old) (state self.new) }
         ensures faults { CountsFault result (state self.old).faults (state self.new).faults };
 
     /// Moves bytes from the front of what is left to the front of `into`, and answers how many: 0 is the

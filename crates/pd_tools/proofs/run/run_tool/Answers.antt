@@ -12,9 +12,9 @@ use Rattle.pd_tools.proofs.run.run_tool.Goals as goal
 pub returns-in-Err-read_words : goal.returns-in-Err-read_words
 returns-in-Err-read_words g c =
     let was : IsAttachedNotes (g.E.Sink.state c.args.notes.now) (g.E.Sink.state c.attach.new.self) = record {
-      access = c.in-Ok.ensures.access;
-      path = c.in-Ok.ensures.path;
-      written = c.in-Ok.ensures.written;
+      access = c.in-Ok.ensures.attached.access;
+      path = c.in-Ok.ensures.attached.path;
+      written = c.in-Ok.ensures.attached.written;
       faults = c.in-Ok.ensures.faults;
     } in
     rw (sym c.in-Err-read_words.ensures.asked) (answered_put refused _ _ _ c.requires was 2 _ usage_line (record {
@@ -39,9 +39,9 @@ returns-in-Err-read_words g c =
 pub returns-in-Ok-read_words : goal.returns-in-Ok-read_words
 returns-in-Ok-read_words g c =
     let was : IsAttachedNotes (g.E.Sink.state c.args.notes.now) (g.E.Sink.state c.attach.new.self) = record {
-      access = c.in-Ok.ensures.access;
-      path = c.in-Ok.ensures.path;
-      written = c.in-Ok.ensures.written;
+      access = c.in-Ok.ensures.attached.access;
+      path = c.in-Ok.ensures.attached.path;
+      written = c.in-Ok.ensures.attached.written;
       faults = c.in-Ok.ensures.faults;
     } in
     rw (sym c.in-Ok-read_words.ensures.asked) (c.run_request.ensures (objects (g.S.Source.state c.args.source.now) (g.K.Sink.state c.args.out.now) (g.E.Sink.state c.args.notes.now)
@@ -54,4 +54,4 @@ returns-in-Err g c =
     let request = asked (map string_bytes c.args.words.now) in
     let rest = at_rest request before (g.E.Sink.state c.attach.new.self) (asked_alone (map string_bytes c.args.words.now)) in
     answered_unattached (terms_of request) before (g.E.Sink.state c.attach.new.self) rest.0 c.requires rest.1 rest.2
-    c.in-Err.ensures.access c.in-Err.ensures.path c.in-Err.ensures.written c.in-Err.ensures.faults.0
+    c.in-Err.ensures.attached.access c.in-Err.ensures.attached.path c.in-Err.ensures.attached.written c.in-Err.ensures.faults.0
