@@ -52,7 +52,7 @@ fn expect_order(
 }
 
 /// The report where these blocks, ascending, are too deep.
-fn levels(alloc: Global, deep: &[Blocks]) -> Result<String, AllocError> {
+fn levels(alloc: Global, deep: &[Blocks; 2]) -> Result<String, AllocError> {
     let mut report = String::new(alloc);
     let mut total = 0u64;
     for (first, number) in deep {
@@ -98,7 +98,7 @@ fn pool_of_two(alloc: Global, first: u64, second: u64) -> Result<Vec<Block>, All
 }
 
 /// Puts these chains into an image.
-fn put_chains(rt: &impl Abort, image: &mut [Block], chains: &[Chain]) {
+fn put_chains(rt: &impl Abort, image: &mut [Block], chains: &[Chain; 2]) {
     for (first, number, end) in chains {
         for i in 0..*number {
             let place = first.saturating_add(i);
