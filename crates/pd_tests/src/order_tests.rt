@@ -301,7 +301,7 @@ fn a_shared_leaf_is_out_of_range_under_one_of_two_parents(rt: HostRuntime) -> Re
     image[21] = write_inner(21, &[(0, LEAF), (1, LEAF)]);
     expect_order(&rt, alloc, "one leaf twice", image.as_slice(), report)?;
     // A child that is too deep makes the node too deep, and then nothing is said of its range.
-    put_chains(&rt, image.as_mut_slice(), &[(30, 64, LEAF)]);
+    put_chains(&rt, image.as_mut_slice(), &[(30, 64, LEAF), (0, 0, LEAF)]);
     image[21] = write_inner(21, &[(0, 30), (7, 30)]);
     let report = "fault meta 21 level\nfault meta 30 level\nfaults 2\n";
     expect_order(
