@@ -84,6 +84,7 @@ impl<'a, D: Device> Draft<'a, D> {
         ensures faults { CountsFault result (D.state self.old.dev.now).faults (D.state self.new.dev.now).faults }
     {
         let b = self.next;
+        // A device has at most 2^64 - 1 blocks, so the next place is a number too.
         let _blocks = self.dev.blocks();
         place(self.dev, b, block)?;
         self.next = b + 1;

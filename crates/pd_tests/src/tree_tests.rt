@@ -10,6 +10,19 @@ use pd_tree::{ArrayCursor, Cursor, find};
 use pd_value::Root;
 use std::test::Fail;
 
+/// A tree of three levels, whose root is block 0.
+#[tactic(auto, unfolding(pd_kinds::specs::Node::is_ascending))]
+fn three_levels() -> [Block; 6] {
+    [
+        write_inner(0, &[(2, 1), (20, 2)]),
+        write_inner(1, &[(2, 3), (9, 4)]),
+        write_inner(2, &[(20, 5)]),
+        write_leaf::<Root>(3, &[(2, Root(12)), (5, Root(15))]),
+        write_leaf::<Root>(4, &[(9, Root(19)), (11, Root(21))]),
+        write_leaf::<Root>(5, &[(20, Root(30))]),
+    ]
+}
+
 #[test]
 #[tactic(auto, unfolding(pd_kinds::specs::Node::is_ascending))]
 fn a_lookup_finds_the_keys_that_there_are(rt: HostRuntime) -> Result<(), Fail> {
@@ -23,17 +36,8 @@ fn a_lookup_finds_the_keys_that_there_are(rt: HostRuntime) -> Result<(), Fail> {
 }
 
 #[test]
-#[tactic(auto, unfolding(pd_kinds::specs::Node::is_ascending))]
 fn a_lookup_goes_down_three_levels_with_one_read_each(rt: HostRuntime) -> Result<(), Fail> {
-    let image = [
-        write_inner(0, &[(2, 1), (20, 2)]),
-        write_inner(1, &[(2, 3), (9, 4)]),
-        write_inner(2, &[(20, 5)]),
-        write_leaf::<Root>(3, &[(2, Root(12)), (5, Root(15))]),
-        write_leaf::<Root>(4, &[(9, Root(19)), (11, Root(21))]),
-        write_leaf::<Root>(5, &[(20, Root(30))]),
-    ];
-    let mut device = MemDevice::of(rt.alloc(), &image)?;
+    let mut device = MemDevice::of(rt.alloc(), &three_levels())?;
     // The calls are 0 for attaching, and three for each lookup.
     device.fail_at(13)?;
     device.attach("thin.img", false)?;
@@ -81,17 +85,8 @@ fn a_cursor_goes_on_behind_an_empty_leaf_and_a_block_outside(rt: HostRuntime) ->
 }
 
 #[test]
-#[tactic(auto, unfolding(pd_kinds::specs::Node::is_ascending))]
 fn a_cursor_reads_each_node_of_three_levels_once(rt: HostRuntime) -> Result<(), Fail> {
-    let image = [
-        write_inner(0, &[(2, 1), (20, 2)]),
-        write_inner(1, &[(2, 3), (9, 4)]),
-        write_inner(2, &[(20, 5)]),
-        write_leaf::<Root>(3, &[(2, Root(12)), (5, Root(15))]),
-        write_leaf::<Root>(4, &[(9, Root(19)), (11, Root(21))]),
-        write_leaf::<Root>(5, &[(20, Root(30))]),
-    ];
-    let mut device = MemDevice::of(rt.alloc(), &image)?;
+    let mut device = MemDevice::of(rt.alloc(), &three_levels())?;
     // The calls are 0 for attaching, and six for the nodes.
     device.fail_at(7)?;
     device.attach("thin.img", false)?;
