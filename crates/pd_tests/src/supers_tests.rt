@@ -2,7 +2,10 @@ ghost use Rattle.std.specs.Prelude.{◌+◌, ◌≤◌};
 
 use pd_crc::seal;
 use pd_kinds::{Kind, Rule, Rules, put_u64};
-use pd_supers::{SmRoot, ThinSuper, missing_super, thin_super_rules, write_thin_super};
+use pd_supers::{
+    SmRoot, ThinSuper, missing_super, read_thin_super, thin_held_rules, thin_super_rules,
+    write_thin_super,
+};
 
 /// The superblock of an empty pool on eight metadata blocks.
 fn empty_pool() -> ThinSuper {
@@ -61,4 +64,31 @@ fn gives_the_rules_of_changed_superblocks(rt: HostRuntime) {
     assert_eq!(rt; rules_after(8, 3, 320, 1), none.with(Rule::Place));
     assert_eq!(rt; rules_after(32, 5, 40, 7), none.with(Rule::Magic));
     assert_eq!(rt; missing_super(), none.with(Rule::Size));
+}
+
+#[test]
+fn gives_a_wrong_checksum_alone(rt: HostRuntime) {
+    let mut block = write_thin_super(&empty_pool());
+    assert_eq!(rt; thin_super_rules(&block, 8), Rules::none());
+    block.0[100] = 1;
+    assert_eq!(rt;
+        thin_super_rules(&block, 8),
+        Rules::none().with(Rule::Checksum)
+    );
+}
+
+#[test]
+fn wants_a_held_copy_in_its_place(rt: HostRuntime) {
+    let block = write_thin_super(&empty_pool());
+    assert_eq!(rt; thin_held_rules(&block, 0, 8), Rules::none());
+    assert_eq!(rt;
+        thin_held_rules(&block, 6, 8),
+        Rules::none().with(Rule::Place)
+    );
+}
+
+#[test]
+fn reads_what_it_wrote(rt: HostRuntime) {
+    let pool = empty_pool();
+    assert_eq!(rt; read_thin_super(&write_thin_super(&pool)), pool);
 }
