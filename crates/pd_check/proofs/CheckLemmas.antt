@@ -12,7 +12,7 @@ use Rattle.pd_kinds.specs.declared.fault.Fault.{Fault}
 use Rattle.pd_kinds.specs.declared.report.Report.{Report}
 use Rattle.pd_kinds.specs.declared.check_fault.CheckFault.{CheckFault}
 use Rattle.pd_kinds.specs.declared.check_fault.CheckFault.TheVariants.{Memory, Device}
-use Rattle.pd_kinds.specs.Stages.{IsBuilt, checked_of, faults, first_failing, block_faults, walk_bad, order_bad, super_faults, thin_checked, cache_checked, era_checked}
+use Rattle.pd_kinds.specs.Stages.{checked_of, faults, first_failing, block_faults, walk_bad, order_bad, super_faults, thin_checked, cache_checked, era_checked}
 use Rattle.pd_kinds.specs.Rule.{same_rule, all_rules}
 use Rattle.pd_kinds.specs.RuleSet.{has_rule}
 use Rattle.pd_kinds.specs.Report.{Reported, report_of}
@@ -23,7 +23,7 @@ use Rattle.pd_graph.proofs.AnyLemmas.{if_any, if_both}
 use Rattle.pd_laws.proofs.CleanLemmas.{no_rule_broken, no_faults_at}
 use Rattle.pd_laws.proofs.SuperStage.{chosen, first_stage, faults_at-same}
 use Rattle.pd_check.specs.ByKind.{super_bad_of, graph_of_super}
-use Rattle.pd_check.specs.Check.{IsFirstBlock, MayWantMemory, ReadsFew, past_faults, reads_of}
+use Rattle.pd_check.specs.Check.{IsBuilt, IsFirstBlock, MayWantMemory, ReadsFew, past_faults, reads_of}
 
 -- what is looked at in an image, by its kind
 same_rules : (kind : Kind) (image : List (List ℕ)) → (checked_of kind image).super_bad ≡ super_bad_of kind

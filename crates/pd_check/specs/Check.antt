@@ -16,6 +16,14 @@ pub record IsFirstBlock (blocks : ℕ) (first : List ℕ) (image : List (List �
   pub number : blocks ≡ length image
   pub content : slice_get image 0 ≡ Some first
 
+-- the stages that are built
+abbrev pub IsBuilt : Stage → Type 0
+IsBuilt Super = Unit {0}
+IsBuilt Walk = Unit {0}
+IsBuilt Order = Unit {0}
+IsBuilt Whole = ⊥
+IsBuilt Counts = ⊥
+
 -- memory is wanted only where a check up to the stage can want it
 abbrev pub MayWantMemory : {R : Type 0} → Kind → Stage → Option (List (List ℕ)) → Result R CheckFault → Type 0
 MayWantMemory kind until held (Err Memory) = CanWantMemory kind until held

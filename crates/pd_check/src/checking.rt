@@ -2,12 +2,12 @@
 
 ghost use Rattle.std.specs.Prelude.{◌≡◌, ◌+◌, IfOk, IfSome};
 ghost use Rattle.pd_kinds.specs.CheckFault.{CountsCheckFault, StopsEarly};
-ghost use Rattle.pd_kinds.specs.Stages.{IsBuilt, faults};
+ghost use Rattle.pd_kinds.specs.Stages.{faults};
 ghost use Rattle.pd_kinds.specs.Report.{report_of};
 ghost use Rattle.pd_kinds.specs.RuleSet.{has_rule};
 ghost use Rattle.pd_kinds.specs.Faults.{faults_at};
 ghost use Rattle.pd_image.specs.Device.{IsAttached, OnlyReads};
-ghost use Rattle.pd_check.specs.Check.{IsFirstBlock, MayWantMemory, ReadsFew};
+ghost use Rattle.pd_check.specs.Check.{IsBuilt, IsFirstBlock, MayWantMemory, ReadsFew};
 
 use crate::metadata::Metadata;
 use crate::past::check_past;

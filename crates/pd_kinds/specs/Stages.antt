@@ -126,14 +126,6 @@ stage_faults checked image stages.Order = block_faults checked.graph.nr (order_b
 stage_faults checked image stages.Whole = block_faults checked.graph.nr (whole_bad checked.whole)
 stage_faults checked image stages.Counts = count_faults checked image
 
--- the stages that are built
-abbrev pub IsBuilt : Stage → Type 0
-IsBuilt stages.Super = Unit {0}
-IsBuilt stages.Walk = Unit {0}
-IsBuilt stages.Order = Unit {0}
-IsBuilt stages.Whole = ⊥
-IsBuilt stages.Counts = ⊥
-
 -- the stages up to one, in their order
 abbrev pub stages_to : Stage → List Stage
 stages_to stages.Super = stages.Super ∷ []

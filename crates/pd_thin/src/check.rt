@@ -3,10 +3,10 @@
 ghost use Rattle.std.specs.Prelude.{◌≡◌, ◌+◌, IfOk, IfSome};
 ghost use Rattle.pd_kinds.specs.declared.kind.Kind.TheVariants.{Thin};
 ghost use Rattle.pd_kinds.specs.CheckFault.{CountsCheckFault, StopsEarly};
-ghost use Rattle.pd_kinds.specs.Stages.{IsBuilt, faults};
+ghost use Rattle.pd_kinds.specs.Stages.{faults};
 ghost use Rattle.pd_kinds.specs.Report.{report_of};
 ghost use Rattle.pd_image.specs.Device.{IsAttached, OnlyReads};
-ghost use Rattle.pd_check.specs.Check.{MayWantMemory, ReadsFew};
+ghost use Rattle.pd_check.specs.Check.{IsBuilt, MayWantMemory, ReadsFew};
 
 use crate::format::{ThinFormat, ThinTable};
 use pd_check::{Metadata, check};

@@ -3,7 +3,8 @@ use Rattle.pd_kinds.specs.declared.kind.Kind.{Kind}
 use Rattle.pd_kinds.specs.declared.kind.Kind.TheVariants.{Thin, Cache, Era}
 use Rattle.pd_kinds.specs.declared.kind.Stage.{Stage}
 use Rattle.pd_kinds.specs.Objects.{DeviceState, Rose}
-use Rattle.pd_kinds.specs.Stages.{CanWantMemory, IsBuilt}
+use Rattle.pd_kinds.specs.Stages.{CanWantMemory}
+use Rattle.pd_check.specs.Check.{IsBuilt}
 use Rattle.pd_tools.specs.declared.stop.Stop.{Stop}
 use Rattle.pd_tools.specs.declared.stop.Stop.TheVariants.{Device, Stream, Memory}
 
