@@ -1,0 +1,4 @@
+pub mod AheadLemmas
+pub mod ChunkLemmas
+pub mod StepLemmas
+pub mod CountLemmas

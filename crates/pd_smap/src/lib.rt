@@ -1,0 +1,7 @@
+//! The counts that a space map stores, and how they differ from the references, as
+//! "drivers/md/persistent-data" lays them out. It serves each format.
+#![tactic(auto)]
+
+mod counting;
+mod overflow;
+mod references;
