@@ -4,3 +4,4 @@ pub mod Counted
 pub mod Reports
 pub mod Steps
 pub mod Overflow
+pub mod Groups

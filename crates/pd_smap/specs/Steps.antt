@@ -1,9 +1,10 @@
 -- A comparison on its way: what was read, what was reported, and what is ahead.
-use Rattle.std.specs.Prelude.{◌≡◌, ℕ, ◌+◌, ◌-◌, ◌≤◌, List, length, IfSome, Option}
+use Rattle.std.specs.Prelude.{◌≡◌, ℕ, ◌+◌, ◌*◌, ◌-◌, ◌≤◌, List, length, IfSome, Option}
 use Rattle.pd_kinds.specs.Objects.{DeviceState, Rose}
 use Rattle.pd_kinds.specs.declared.fault.Fault.{Fault}
 use Rattle.pd_kinds.specs.declared.fault.Space.{Space}
 use Rattle.pd_kinds.specs.Bitmap.{two_bits_of}
+use Rattle.pd_kinds.specs.Graph.{block_at}
 use Rattle.pd_kinds.specs.Report.{Reported}
 use Rattle.pd_image.specs.Device.{OnlyReads}
 use Rattle.pd_value.specs.declared.space_map.Count.{Count}
@@ -28,6 +29,14 @@ pub record Compared : Type 0 where
 -- the two bits by one bitmap, whose first count is that of a block
 abbrev pub bits_from : ℕ → List ℕ → List (List ℕ) → ℕ → ℕ
 bits_from base bitmap image b = two_bits_of bitmap (b - base)
+
+-- the two bits by the bitmap in a place, which is bitmap i of a map
+abbrev pub bits_at : ℕ → ℕ → List (List ℕ) → ℕ → ℕ
+bits_at place i image b = two_bits_of (block_at image place) (b - 16320 * i)
+
+-- where a comparison stands that may read so many blocks more
+abbrev pub with_reads : ℕ → Stand → Stand
+with_reads more s = record s { reads = λ image. s.reads image + more }
 
 -- what is found over an image, where the entries ahead are enough
 abbrev pub faults_of : Compared → List (List ℕ) → (ℕ → Option ℕ) → ℕ → ℕ → List Fault

@@ -2,6 +2,8 @@
 //! "drivers/md/persistent-data" lays them out. It serves each format.
 #![tactic(auto)]
 
+mod bitmaps;
 mod counting;
+mod groups;
 mod overflow;
 mod references;
