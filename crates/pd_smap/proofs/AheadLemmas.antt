@@ -1,11 +1,11 @@
 -- What entries ahead tell of a block's count.
-use Rattle.std.proofs.Common.{◌≡◌, ℕ, zero, suc, ◌+◌, ◌<◌, ◌≤◌, Bool, true, false, nat_lt, eqb, cond, List, [], ◌∷◌, Option, Some, None, IfSome, ap, sym, ◌∙◌, refl, subst, arith}
+use Rattle.std.proofs.Common.{◌≡◌, ℕ, ◌+◌, ◌<◌, ◌≤◌, true, false, nat_lt, cond, List, [], ◌∷◌, Option, Some, None, IfSome, ap, sym, ◌∙◌, refl, subst, arith}
 use Rattle.std.specs.Option.{option_map}
 use Rattle.std.proofs.lemmas.Bool.{eq-eqb, ne_eqb, ltb-true, ltb-false}
 use Rattle.pd_value.specs.declared.space_map.Count.{Count}
 use Rattle.pd_tree.specs.Search.{AreFrom, lookup}
 use Rattle.pd_tree.specs.Next.{IsNext}
-use Rattle.pd_smap.specs.Ahead.{KeysRise, IsAhead, found}
+use Rattle.pd_smap.specs.Ahead.{IsAhead, found}
 use Rattle.pd_smap.specs.Overflow.{entries_ahead, is_entry_behind}
 
 -- what is enough from a block on is enough from a later one on

@@ -1,10 +1,9 @@
 -- One block's comparison as a step.
-use Rattle.std.proofs.Common.{◌≡◌, ◌≢◌, ℕ, ◌+◌, ◌-◌, ◌<◌, ◌≤◌, List, Option, Some, None, Result, Ok, Err, IfOk, IfSome, ap, sym, ◌∙◌, refl, subst, arith, cond, append-nil, OnErr}
+use Rattle.std.proofs.Common.{◌≡◌, ℕ, ◌+◌, ◌-◌, ◌≤◌, List, Option, Some, None, Result, Ok, Err, IfOk, IfSome, ap, sym, ◌∙◌, subst, arith, cond, append-nil, OnErr}
 use Rattle.std.proofs.lemmas.Bool.{le-ltb}
 use Rattle.pd_value.specs.declared.space_map.Count.{Count}
 use Rattle.pd_kinds.specs.Bitmap.{two_bits_of}
 use Rattle.pd_smap.specs.Ahead.{IsAhead, stored_by}
-use Rattle.pd_kinds.specs.declared.fault.Fault.{Fault}
 use Rattle.pd_kinds.specs.declared.fault.Space.{Space}
 use Rattle.pd_kinds.specs.Objects.{DeviceState, Rose}
 use Rattle.pd_kinds.specs.Report.{Reported, report_of}
@@ -12,7 +11,7 @@ use Rattle.pd_kinds.specs.Stages.{count_fault}
 use Rattle.pd_image.specs.Device.{OnlyReads}
 use Rattle.pd_smap.specs.Counted.{faults_from}
 use Rattle.pd_smap.specs.Reports.{Adds}
-use Rattle.pd_smap.specs.Steps.{Stand, Compared, Went, Stopped, bits_from}
+use Rattle.pd_smap.specs.Steps.{Compared, Went, Stopped, bits_from}
 use Rattle.pd_smap.proofs.AheadLemmas.{if_maps, ahead_later}
 use Rattle.pd_smap.proofs.StepLemmas.{faults_one}
 

@@ -1,5 +1,5 @@
 -- The entries of an overflow tree that are still ahead, where blocks are looked at in their order.
-use Rattle.std.specs.Prelude.{◌≡◌, ℕ, ◌+◌, ◌≤◌, nat_lt, if◌then◌else◌, List, [], ◌∷◌, Option, Some, None}
+use Rattle.std.specs.Prelude.{◌≡◌, ℕ, ◌+◌, ◌≤◌, nat_lt, if◌then◌else◌, List, [], ◌∷◌, Option, Some}
 use Rattle.std.specs.Option.{option_map}
 use Rattle.pd_value.specs.declared.space_map.Count.{Count}
 use Rattle.pd_tree.specs.Search.{AreFrom, lookup}

@@ -3,7 +3,6 @@ use Rattle.std.specs.Prelude.{ℕ, ◌+◌, List, [], ◌∷◌, Option, Some, N
 use Rattle.pd_kinds.specs.Objects.{DeviceState}
 use Rattle.pd_kinds.specs.Report.{Reported}
 use Rattle.pd_value.specs.declared.space_map.Count.{Count}
-use Rattle.pd_tree.specs.declared.cursor.Cursor.{Cursor}
 use Rattle.pd_tree.specs.Cursor.{cursor_items, cursor_nodes, cursor_number}
 use Rattle.pd_smap.specs.declared.overflow.Overflow.{Overflow}
 use Rattle.pd_smap.specs.Entries.{count_from}

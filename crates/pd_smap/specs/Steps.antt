@@ -1,5 +1,5 @@
 -- A comparison on its way: what was read, what was reported, and what is ahead.
-use Rattle.std.specs.Prelude.{◌≡◌, ℕ, ◌+◌, ◌*◌, ◌-◌, ◌≤◌, List, length, IfSome, Option}
+use Rattle.std.specs.Prelude.{◌≡◌, ℕ, ◌+◌, ◌*◌, ◌-◌, ◌/◌, ◌%◌, ◌≤◌, List, IfSome, Option}
 use Rattle.pd_kinds.specs.Objects.{DeviceState, Rose}
 use Rattle.pd_kinds.specs.declared.fault.Fault.{Fault}
 use Rattle.pd_kinds.specs.declared.fault.Space.{Space}
@@ -34,9 +34,16 @@ bits_from base bitmap image b = two_bits_of bitmap (b - base)
 abbrev pub bits_at : ℕ → ℕ → List (List ℕ) → ℕ → ℕ
 bits_at place i image b = two_bits_of (block_at image place) (b - 16320 * i)
 
+-- the two bits by the bitmaps of a map, whose places are told over an image
+abbrev pub bits_by : (List (List ℕ) → ℕ → ℕ) → List (List ℕ) → ℕ → ℕ
+bits_by place image b = two_bits_of (block_at image (place image (b / 16320))) (b % 16320)
+
 -- where a comparison stands that may read so many blocks more
 abbrev pub with_reads : ℕ → Stand → Stand
 with_reads more s = record s { reads = λ image. s.reads image + more }
+
+abbrev pub with_nodes : (List (List ℕ) → ℕ) → Stand → Stand
+with_nodes more s = record s { reads = λ image. s.reads image + more image }
 
 -- what is found over an image, where the entries ahead are enough
 abbrev pub faults_of : Compared → List (List ℕ) → (ℕ → Option ℕ) → ℕ → ℕ → List Fault

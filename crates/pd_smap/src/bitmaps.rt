@@ -74,7 +74,43 @@ fn compare_group<R: References, D: Device>(
     if are_equal(bitmap, g, refs, base + from as u64) {
         return Ok(());
     }
-    compare_each(dev, bitmap, base, from, GROUP_COUNTS, refs, overflow, report)
+    compare_each(
+        dev,
+        bitmap,
+        base,
+        from,
+        GROUP_COUNTS,
+        refs,
+        overflow,
+        report,
+    )
+}
+
+/// Compares the blocks of so many groups, which the bitmap begins with.
+fn compare_groups<R: References, D: Device>(
+    dev: &mut D,
+    bitmap: &Block,
+    base: u64,
+    groups: usize,
+    refs: &R,
+    overflow: &mut Overflow,
+    report: &mut Report,
+) -> Result<(), Failed>
+    requires attached { IsAttached (D.state dev.old) }
+    requires groups { groups ≤ 510 }
+    requires start { base % 16320 ≡ 0 }
+    requires within { base + 32 * groups ≤ R.number refs.now }
+    requires size { base + 32 * groups < 2 ^ 64 }
+    requires room { report.old.total + 32 * groups < 2 ^ 64 }
+    ensures went { OnOk result (Went (record { space = R.space refs.now; refs = R.refs refs.now; bits = bits_from base bitmap.now.0 }) base (32 * groups)
+        (stand (D.state dev.old) overflow.old report.old) (stand (D.state dev.new) overflow.new report.new)) }
+    ensures stopped { OnErr result (Stopped (record { space = R.space refs.now; refs = R.refs refs.now; bits = bits_from base bitmap.now.0 }) base (32 * groups)
+        (stand (D.state dev.old) overflow.old report.old) (stand (D.state dev.new) overflow.new report.new)) }
+{
+    for g in 0..groups {
+        compare_group(dev, bitmap, base, g, refs, overflow, report)?;
+    }
+    Ok(())
 }
 
 /// Compares so many blocks from `base` on, whose counts the bitmap begins with.
@@ -99,15 +135,17 @@ fn compare_bitmap<R: References, D: Device>(
         (stand (D.state dev.old) overflow.old report.old) (stand (D.state dev.new) overflow.new report.new)) }
 {
     let groups = len / GROUP_COUNTS;
-    for g in 0..groups {
-        compare_group(dev, bitmap, base, g, refs, overflow, report)?;
-    }
+    compare_groups(dev, bitmap, base, groups, refs, overflow, report)?;
     let done = GROUP_COUNTS * groups;
     compare_each(dev, bitmap, base, done, len - done, refs, overflow, report)
 }
 
 /// Reads the bitmap in this place. A place outside of the device has a bitmap of zeros.
-pub(crate) fn read_bitmap<D: Device>(dev: &mut D, place: u64, bitmap: &mut Block) -> Result<(), Failed>
+pub(crate) fn read_bitmap<D: Device>(
+    dev: &mut D,
+    place: u64,
+    bitmap: &mut Block,
+) -> Result<(), Failed>
     requires { IsAttached (D.state dev.old) }
     ensures counts { OnOk result (IfSome (D.state dev.old).held (λ image. (e : ℕ) → two_bits_of bitmap.new.0 e ≡ two_bits_of (block_at image place) e)) }
     ensures reads { (D.state dev.new).reads ≤ (D.state dev.old).reads + 1 }

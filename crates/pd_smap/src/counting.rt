@@ -17,7 +17,13 @@ use pd_image::{Device, Failed};
 use pd_kinds::{Block, Fault, Report, Rule, Space};
 
 /// Adds the fault of a block that is referred to so often, where another count is stored, or none.
-pub(crate) fn add_count(report: &mut Report, space: Space, block: u64, refs: u64, stored: Option<u32>)
+pub(crate) fn add_count(
+    report: &mut Report,
+    space: Space,
+    block: u64,
+    refs: u64,
+    stored: Option<u32>,
+)
     requires { report.old.total < 2 ^ 64 - 1 }
     ensures added { Adds (count_fault space block refs stored) report.old report.new }
     ensures total { report.new.total ≤ report.old.total + 1 }
@@ -60,7 +66,13 @@ fn add_difference(report: &mut Report, space: Space, block: u64, refs: u64, stor
 }
 
 /// The stored count of block `b`, which is entry `e` of the bitmap.
-fn stored_count<D: Device>(dev: &mut D, bitmap: &Block, e: usize, b: u64, overflow: &mut Overflow) -> Result<Option<u32>, Failed>
+fn stored_count<D: Device>(
+    dev: &mut D,
+    bitmap: &Block,
+    e: usize,
+    b: u64,
+    overflow: &mut Overflow,
+) -> Result<Option<u32>, Failed>
     requires attached { IsAttached (D.state dev.old) }
     requires entry { e < 16320 }
     ensures count { IfOk result (λ count. IfSome (D.state dev.old).held (λ image. (over : ℕ → Option ℕ) → IsAhead b over (overflow_items overflow.old image)

@@ -4,6 +4,14 @@
 
 mod bitmaps;
 mod counting;
+mod data;
 mod groups;
+mod meta;
 mod overflow;
 mod references;
+mod stored;
+
+pub use data::compare_data;
+pub use meta::compare_meta;
+pub use pd_kinds::CheckFault;
+pub use stored::stored_meta;

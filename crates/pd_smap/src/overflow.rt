@@ -28,7 +28,11 @@ impl Overflow {
     ghost use Rattle.pd_smap.specs.Overflow.{overflow_items, overflow_number, overflow_reads, is_behind};
 
     /// The entries of the tree with this root. It takes the memory of a cursor, and reads the way to the first entry.
-    pub(crate) fn start<D: Device>(alloc: Global, dev: &mut D, root: u64) -> Result<Overflow, CheckFault>
+    pub(crate) fn start<D: Device>(
+        alloc: Global,
+        dev: &mut D,
+        root: u64,
+    ) -> Result<Overflow, CheckFault>
         requires attached { IsAttached (D.state dev.old) }
         requires within { root < (D.state dev.old).blocks }
         ensures items { IfOk result (λ overflow. IfSome (D.state dev.old).held (λ image. overflow_items overflow image ≡ items_below 4 count_from image 63 root)) }
@@ -80,13 +84,7 @@ impl Overflow {
         ensures { is_behind b self.now ≡ false → (image : List (List ℕ)) (over : ℕ → Option ℕ) → IsAhead b over (overflow_items self.now image) → result ≡ over b }
     {
         match self.entry {
-            Some((key, count)) => {
-                if key == b {
-                    Some(count.0)
-                } else {
-                    None
-                }
-            }
+            Some((key, count)) => { if key == b { Some(count.0) } else { None } }
             None => None,
         }
     }

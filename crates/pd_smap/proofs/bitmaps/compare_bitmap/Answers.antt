@@ -1,44 +1,30 @@
-use Rattle.std.proofs.Common.{rules, ◌≡◌, ℕ, ◌+◌, ◌*◌, ◌-◌, ◌%◌, ◌^◌, ◌<◌, ◌≤◌, List, min, IfSome, OnOk, OnErr, length, ◌/◌, Bool, true, false, nat_eq, nat_lt, [], ◌∷◌, ◌++◌, slice_index_or, slice_set, bit_and, bit_or, Fits, w8, w32, w64, Bor, MutBor}
-use Rattle.pd_kinds.specs.Objects.{CountsFault}
-use Rattle.pd_kinds.specs.Bitmap.{two_bits_of}
-use Rattle.pd_kinds.specs.Graph.{block_at}
-use Rattle.pd_image.specs.Device.{IsAttached, OnlyReads}
+use Rattle.std.proofs.Common.{◌+◌, ◌-◌, ◌*◌, ◌/◌, arith, refl}
 use Rattle.pd_smap.specs.Overflow.{stand}
-use Rattle.pd_smap.specs.Steps.{Went, Stopped, bits_from, bits_at, with_reads}
+use Rattle.pd_smap.specs.Steps.{bits_from}
+use Rattle.pd_smap.proofs.StepLemmas.{went_next, stopped_next, went_nowhere, ok_maps, err_maps, still_attached}
+use Rattle.pd_smap.proofs.CountLemmas.{on_err}
 use Rattle.pd_smap.proofs.bitmaps.compare_bitmap.Goals as goal
 
--- src/bitmaps.rt:102:5
-pub loop-g-init : goal.loop-g-init
-loop-g-init g c = ?
-
--- src/bitmaps.rt:103:9
-pub compare_group-requires-clause-attached : goal.compare_group-requires-clause-attached
-compare_group-requires-clause-attached g c = ?
-
--- src/bitmaps.rt:103:9
-pub compare_group-requires-clause-room : goal.compare_group-requires-clause-room
-compare_group-requires-clause-room g c = ?
-
--- src/bitmaps.rt:103:9
-pub returns-in_err-compare_group-clause-stopped : goal.returns-in_err-compare_group-clause-stopped
-returns-in_err-compare_group-clause-stopped g c = ?
-
--- src/bitmaps.rt:102:5
-pub loop-g-preserved : goal.loop-g-preserved
-loop-g-preserved g c = ?
-
--- src/bitmaps.rt:106:5
 pub compare_each-requires-clause-attached : goal.compare_each-requires-clause-attached
-compare_each-requires-clause-attached g c = ?
+compare_each-requires-clause-attached g c = still_attached _ _ c.in_ok-compare_groups.ensures.went.kept c.requires.attached
 
--- src/bitmaps.rt:106:5
 pub compare_each-requires-clause-room : goal.compare_each-requires-clause-room
-compare_each-requires-clause-room g c = ?
+compare_each-requires-clause-room g c = omega (arith, c.in_ok-compare_groups.ensures.went.total, c.requires.room)
 
--- src/bitmaps.rt:81:1
+pub returns-in_err-compare_groups-clause-stopped : goal.returns-in_err-compare_groups-clause-stopped
+returns-in_err-compare_groups-clause-stopped g c =
+    on_err c.from_residual.result _
+    (stopped_next (record { space = g.R.References.space c.args.refs.now; refs = g.R.References.refs c.args.refs.now; bits = bits_from c.args.base c.args.bitmap.now.0 }) c.args.base 0 c.args.base (32 * (c.args.len / 32)) c.args.len (stand (g.D.Device.state c.args.dev.now) c.args.overflow.now c.args.report.now) (stand (g.D.Device.state c.args.dev.now) c.args.overflow.now c.args.report.now) _
+    (omega arith) (omega arith) (went_nowhere (record { space = g.R.References.space c.args.refs.now; refs = g.R.References.refs c.args.refs.now; bits = bits_from c.args.base c.args.bitmap.now.0 }) _ (stand (g.D.Device.state c.args.dev.now) c.args.overflow.now c.args.report.now)) c.in_err-compare_groups.ensures.stopped)
+
 pub returns-clause-went : goal.returns-clause-went
-returns-clause-went g c = ?
+returns-clause-went g c =
+    ok_maps c.compare_each.result _ _
+    (went_next (record { space = g.R.References.space c.args.refs.now; refs = g.R.References.refs c.args.refs.now; bits = bits_from c.args.base c.args.bitmap.now.0 }) c.args.base (32 * (c.args.len / 32)) (c.args.base + 32 * (c.args.len / 32)) (c.args.len - 32 * (c.args.len / 32)) c.args.len (stand (g.D.Device.state c.args.dev.now) c.args.overflow.now c.args.report.now) (stand (g.D.Device.state c.compare_groups.new.dev) c.compare_groups.new.overflow c.compare_groups.new.report) _
+    refl (omega arith) c.in_ok-compare_groups.ensures.went) c.compare_each.ensures.went
 
--- src/bitmaps.rt:81:1
 pub returns-clause-stopped : goal.returns-clause-stopped
-returns-clause-stopped g c = ?
+returns-clause-stopped g c =
+    err_maps c.compare_each.result _ _
+    (stopped_next (record { space = g.R.References.space c.args.refs.now; refs = g.R.References.refs c.args.refs.now; bits = bits_from c.args.base c.args.bitmap.now.0 }) c.args.base (32 * (c.args.len / 32)) (c.args.base + 32 * (c.args.len / 32)) (c.args.len - 32 * (c.args.len / 32)) c.args.len (stand (g.D.Device.state c.args.dev.now) c.args.overflow.now c.args.report.now) (stand (g.D.Device.state c.compare_groups.new.dev) c.compare_groups.new.overflow c.compare_groups.new.report) _
+    refl (omega arith) c.in_ok-compare_groups.ensures.went) c.compare_each.ensures.stopped

@@ -1,12 +1,10 @@
-use Rattle.std.proofs.Common.{rules, ◌≡◌, ℕ, ◌+◌, ◌*◌, ◌-◌, ◌%◌, ◌^◌, ◌<◌, ◌≤◌, List, min, IfSome, OnOk, OnErr, length, ◌/◌, Bool, true, false, nat_eq, nat_lt, [], ◌∷◌, ◌++◌, slice_index_or, slice_set, bit_and, bit_or, Fits, w8, w32, w64, Bor, MutBor}
-use Rattle.pd_kinds.specs.Objects.{CountsFault}
-use Rattle.pd_kinds.specs.Bitmap.{two_bits_of}
-use Rattle.pd_kinds.specs.Graph.{block_at}
-use Rattle.pd_image.specs.Device.{IsAttached, OnlyReads}
 use Rattle.pd_smap.specs.Overflow.{stand}
-use Rattle.pd_smap.specs.Steps.{Went, Stopped, bits_from, bits_at, with_reads}
+use Rattle.pd_smap.specs.Steps.{bits_from}
+use Rattle.pd_smap.proofs.StepLemmas.{went_equal}
+use Rattle.pd_smap.proofs.GroupLemmas.{equal_bits}
 use Rattle.pd_smap.proofs.bitmaps.compare_group.Goals as goal
 
--- src/bitmaps.rt:75:9
 pub returns-then-are_equal-clause-went : goal.returns-then-are_equal-clause-went
-returns-then-are_equal-clause-went g c = ?
+returns-then-are_equal-clause-went g c =
+    went_equal (g.R.References.space c.args.refs.now) (g.R.References.refs c.args.refs.now) (bits_from c.args.base c.args.bitmap.now.0) _ 32 (stand (g.D.Device.state c.args.dev.now) c.args.overflow.now c.args.report.now)
+    (λ image. equal_bits c.args.bitmap.now.0 c.args.g c.args.base (g.R.References.refs c.args.refs.now) (c.are_equal.ensures c.if-are_equal.true))

@@ -1,12 +1,9 @@
-use Rattle.std.proofs.Common.{rules, ◌≡◌, ℕ, ◌+◌, ◌*◌, ◌-◌, ◌%◌, ◌^◌, ◌<◌, ◌≤◌, List, min, IfSome, OnOk, OnErr, length, ◌/◌, Bool, true, false, nat_eq, nat_lt, [], ◌∷◌, ◌++◌, slice_index_or, slice_set, bit_and, bit_or, Fits, w8, w32, w64, Bor, MutBor}
-use Rattle.pd_kinds.specs.Objects.{CountsFault}
-use Rattle.pd_kinds.specs.Bitmap.{two_bits_of}
-use Rattle.pd_kinds.specs.Graph.{block_at}
-use Rattle.pd_image.specs.Device.{IsAttached, OnlyReads}
-use Rattle.pd_smap.specs.Overflow.{stand}
-use Rattle.pd_smap.specs.Steps.{Went, Stopped, bits_from, bits_at, with_reads}
+use Rattle.std.proofs.Common.{◌∙◌, arith, sym}
+use Rattle.pd_smap.proofs.AheadLemmas.{if_maps}
+use Rattle.pd_smap.proofs.BitmapLemmas.{outside_bits}
 use Rattle.pd_smap.proofs.bitmaps.read_bitmap.Goals as goal
 
--- src/bitmaps.rt:110:1
 pub returns-else-place-blocks-clause-counts : goal.returns-else-place-blocks-clause-counts
-returns-else-place-blocks-clause-counts g c = ?
+returns-else-place-blocks-clause-counts g c =
+    if_maps (g.D.Device.state c.args.dev.now).held _ _ (λ image honest e.
+    c.new_bitmap.ensures.counts e ∙ sym (outside_bits image c.args.place e (omega (arith, honest, c.if-place-blocks.false)))) c.blocks-2.ensures.honest

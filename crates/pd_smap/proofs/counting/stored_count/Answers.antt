@@ -1,4 +1,3 @@
-use Rattle.std.proofs.Common.{ℕ, Option}
 use Rattle.pd_smap.proofs.CountLemmas.{count_beyond}
 use Rattle.pd_smap.proofs.counting.stored_count.Goals as goal
 

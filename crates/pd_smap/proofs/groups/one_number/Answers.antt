@@ -1,11 +1,11 @@
-use Rattle.std.proofs.Common.{rules, ◌≡◌, ℕ, ◌+◌, ◌*◌, ◌%◌, ◌<◌, ◌≤◌, true, length, IfSome, ◌-◌, ◌/◌, Bool, false, nat_eq, nat_lt, List, [], ◌∷◌, ◌++◌, slice_index_or, slice_set, bit_and, bit_or, Fits, w8, w32, w64, Bor, MutBor}
-use Rattle.pd_smap.specs.Groups.{AreAll, AreRefs}
+use Rattle.std.proofs.Common.{arith}
+use Rattle.pd_smap.proofs.GroupLemmas.{all_zero, all_ones}
 use Rattle.pd_smap.proofs.groups.one_number.Goals as goal
 
--- src/groups.rt:26:1
 pub returns-then-word-eq0 : goal.returns-then-word-eq0
-returns-then-word-eq0 c = ?
+returns-then-word-eq0 c =
+    all_zero c.args.bytes.now c.args.g c.u64_at-word.result c.requires.group c.requires.size (λ k. omega (arith, c.type_inv.bytes k)) c.u64_at-word.ensures c.if-word-eq0.true
 
--- src/groups.rt:26:1
 pub returns-then-word : goal.returns-then-word
-returns-then-word c = ?
+returns-then-word c =
+    all_ones c.args.bytes.now c.args.g c.u64_at-word.result c.requires.group c.requires.size (λ k. omega (arith, c.type_inv.bytes k)) c.u64_at-word.ensures c.if-word.true

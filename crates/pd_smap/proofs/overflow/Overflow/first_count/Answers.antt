@@ -1,9 +1,3 @@
-use Rattle.std.proofs.Common.{◌≡◌, ℕ, false, Option, subst}
-use Rattle.pd_value.specs.declared.space_map.Count.{Count}
-use Rattle.pd_tree.specs.Cursor.{cursor_items}
-use Rattle.pd_smap.specs.Entries.{count_from}
-use Rattle.pd_smap.specs.Ahead.{IsAhead}
-use Rattle.pd_smap.specs.Overflow.{entries_ahead, is_entry_behind}
 use Rattle.pd_smap.proofs.AheadLemmas.{count_first, count_missing, count_past}
 use Rattle.pd_smap.proofs.overflow.Overflow.first_count.Goals as goal
 

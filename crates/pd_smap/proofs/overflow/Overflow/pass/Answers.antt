@@ -1,4 +1,3 @@
-use Rattle.std.proofs.Common.{ℕ, List}
 use Rattle.pd_smap.proofs.AheadLemmas.{if_maps, pass_ahead}
 use Rattle.pd_smap.proofs.overflow.Overflow.pass.Goals as goal
 

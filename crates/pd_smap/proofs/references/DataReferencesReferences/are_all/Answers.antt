@@ -1,4 +1,4 @@
-use Rattle.std.proofs.Common.{◌≡◌, ◌∙◌, sym, arith}
+use Rattle.std.proofs.Common.{◌∙◌, sym, arith}
 use Rattle.std.proofs.lemmas.Bool.{eqb-true}
 use Rattle.pd_smap.proofs.ChunkLemmas.{run_counts, run_uncounted}
 use Rattle.pd_smap.proofs.references.DataReferencesReferences.are_all.Goals as goal
