@@ -6,3 +6,4 @@ pub mod GroupLemmas
 pub mod BitmapLemmas
 pub mod RiseLemmas
 pub mod MapLemmas
+pub mod EntryLemmas

@@ -6,12 +6,14 @@ mod bitmaps;
 mod counting;
 mod data;
 mod groups;
+mod laws;
 mod meta;
 mod overflow;
 mod references;
 mod stored;
 
 pub use data::compare_data;
+pub use laws::{index_trees_name_bitmaps, overflow_trees_hold_counts};
 pub use meta::compare_meta;
 pub use pd_kinds::CheckFault;
 pub use stored::stored_meta;
