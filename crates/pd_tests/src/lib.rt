@@ -8,6 +8,8 @@ mod audit_tests;
 #[cfg(test)]
 mod bitmap_tests;
 #[cfg(test)]
+mod count_tests;
+#[cfg(test)]
 mod crc_tests;
 #[cfg(test)]
 mod draft_tests;
