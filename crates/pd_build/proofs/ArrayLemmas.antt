@@ -6,18 +6,18 @@ use Rattle.std.proofs.lemmas.List.{append_assoc, append-nil, nil_from_length, ta
 use Rattle.pd_kinds.specs.Array.{array_block, max_words}
 use Rattle.pd_draft.specs.Closed.{IsClosed}
 use Rattle.pd_draft.specs.Placed.{Stand, Wrote}
-use Rattle.pd_draft.proofs.PlacedLemmas.{wrote_none}
+use Rattle.pd_draft.proofs.PlacedLemmas.{wrote_none, wrote_then}
 use Rattle.pd_spells.specs.Need.{nodes_for, need_tree, need_array}
 use Rattle.pd_laid.specs.Tree.{blocks_from, tree_blocks, tree_root}
 use Rattle.pd_laid.specs.Array.{pieces, array_pieces, array_items, array_root}
-use Rattle.pd_build.specs.Array.{Words, array_blocks, pieces_left, array_left, array_root_left, array_number, Pushes}
+use Rattle.pd_build.specs.Array.{Words, ArrayLeft, array_blocks, pieces_left, array_left, array_root_left, array_number, Pushes}
 use Rattle.std.specs.List.{range_with_len}
 use Rattle.std.specs.Prelude.{map, nat_lt, true}
 use Rattle.std.proofs.lemmas.Bool.{and_from, lt-ltb}
 use Rattle.std.proofs.lemmas.List.FromFn.{length-map-range_with_len, get_or-map-range_with_len}
 use Rattle.pd_kinds.specs.Node.{Entry, is_ascending}
 use Rattle.pd_build.specs.Tree.{TreeLeft}
-use Rattle.pd_build.specs.Building.{IsBuilding}
+use Rattle.pd_build.specs.Building.{IsBuilding, IsFilling}
 use Rattle.pd_build.proofs.BuildingLemmas.{building_at}
 use Rattle.pd_build.proofs.CountLemmas.{parts_none, parts_some}
 
@@ -245,3 +245,40 @@ done_number size t room none left =
     let made : t.made + nodes_for (max_words size) (length t.begun + t.left) ≡ t.made = omega arith in
     let tree = ap (need_tree 8) made in
     omega arith
+
+-- an array, word by word
+pub filling_start : {size : ℕ} {stand : Stand} (all : List ℕ) (t : ArrayLeft) → IsClosed stand.device → t.size ≡ size
+    → array_left size stand.place t.words all ≡ array_blocks size stand.place all
+    → array_root_left size stand.place t.words all ≡ array_root size stand.place all
+    → t.words.left ≡ length all → array_number size t.words ≡ need_array size (length all) → t.words.made ≡ 0
+    → IsFilling size all all t stand stand
+filling_start {size} {stand} all t closed sized blocks root number room made = record {
+  done = [];
+  wrote = wrote_none stand closed;
+  sized = sized;
+  whole = sym blocks;
+  root = root;
+  number = number;
+  room = ap (λ (n : ℕ). stand.place + n) room;
+  stood = omega arith;
+}
+
+pub filling_next : {size word : ℕ} {all words : List ℕ} {old new : ArrayLeft} {from mid to : Stand} → IsFilling size all (word ∷ words) old from mid
+    → new.size ≡ old.size → Pushes size word old.words new.words mid to → IsFilling size all words new from to
+filling_next {size} {word} {all} {words} {old} {new} {from} {mid} {to} f same p =
+    let left : length words ≡ new.words.left = omega (arith, f.number, p.number) in
+    record {
+      done = f.done ++ p.written;
+      wrote = wrote_then f.wrote p.wrote;
+      sized = same ∙ f.sized;
+      whole = f.whole ∙ (ap (λ (rest : List (List ℕ)). f.done ++ rest) (p.blocks words left) ∙ sym (append_assoc f.done p.written (array_left size to.place new.words words)));
+      root = sym (p.root words left) ∙ f.root;
+      number = sym left;
+      room = p.room ∙ f.room;
+      stood = p.stood f.stood;
+    }
+
+pub filling_end : {size : ℕ} {all : List ℕ} {t : ArrayLeft} {from mid to : Stand} → IsFilling size all [] t from mid
+    → Wrote (array_left size mid.place t.words []) mid to → Wrote (array_blocks size from.place all) from to
+filling_end {size} {all} {t} {from} {mid} {to} f wrote =
+    subst (λ (blocks : List (List ℕ)). Wrote blocks from to) (sym f.whole) (wrote_then f.wrote wrote)

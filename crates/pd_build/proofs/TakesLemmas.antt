@@ -1,5 +1,5 @@
 -- What an item does to a builder of leaves.
-use Rattle.std.proofs.Common.{◌≡◌, ℕ, suc, ◌+◌, ◌-◌, ◌*◌, ◌/◌, ◌≤◌, List, [], ◌∷◌, ◌++◌, length, map, refl, sym, ◌∙◌, ap, ap₂, arith, Some, None, length-append, get_or, subst, inl, inr}
+use Rattle.std.proofs.Common.{◌≡◌, ℕ, suc, ◌+◌, ◌-◌, ◌*◌, ◌/◌, ◌<◌, ◌≤◌, List, [], ◌∷◌, ◌++◌, length, map, refl, sym, ◌∙◌, ap, ap₂, arith, Some, None, length-append, get_or, subst, inl, inr}
 use Rattle.std.specs.Prelude.{sum, max, nat_eq}
 use Rattle.std.proofs.lemmas.List.{append_assoc, map-append, length-map}
 use Rattle.std.proofs.lemmas.Bool.{cases_eq, ne_eqb}
@@ -11,20 +11,21 @@ use Rattle.pd_draft.proofs.PlacedLemmas.{wrote_none}
 use Rattle.pd_laid.specs.Tree.{heads, blocks_from, first_key, tree_leaves, spread}
 use Rattle.pd_spells.specs.Need.{nodes_for}
 use Rattle.pd_build.specs.Parts.{even_sizes, cut}
-use Rattle.pd_build.specs.Leaves.{LeavesLeft, items_to_come, leaves_to_come, Takes, AreCounts}
+use Rattle.pd_build.specs.Leaves.{LeavesLeft, items_to_come, leaves_to_come, size_of_first, Takes, AreCounts}
 use Rattle.pd_build.proofs.PartLemmas.{length-even, sum-any, cut_full, first_size, spread_is_cut}
 use Rattle.pd_build.proofs.CountLemmas.{IsEndOf, end_of, nodes_at, counts_start, parts_some, parts_none}
 
 -- the item ends no leaf
 pub takes_none : (size : ℕ) (e : Entry) (old new : LeavesLeft) (stand : Stand) → IsClosed stand.device
     → new.sizes ≡ old.sizes → new.begun ≡ old.begun ++ e ∷ [] → new.low ≡ e.key + 1 → 1 ≤ items_to_come old
-    → Takes size e None old new stand stand
+    → length old.begun + 1 < size_of_first old.sizes → Takes size e None old new stand stand
 unfolding blocks_from heads
-takes_none size e old new stand closed sizes begun low more =
+takes_none size e old new stand closed sizes begun low more ends =
     let one = length-append old.begun (e ∷ []) in
     let count : length new.begun ≡ length old.begun + 1 = ap length begun ∙ one in
     let whole : sum new.sizes ≡ sum old.sizes = ap sum sizes in
     record {
+      ends = ends;
       to_come = λ items. ap (λ (all : List Entry). cut old.sizes all) (sym (append_assoc old.begun (e ∷ []) items))
           ∙ sym (ap₂ (λ (s : List ℕ) (b : List Entry). cut s (b ++ items)) sizes begun);
       wrote = wrote_none stand closed;
@@ -34,6 +35,15 @@ takes_none size e old new stand closed sizes begun low more =
       raised = low;
       begun_is = begun;
     }
+
+-- the sizes of the first leaf and of the others
+first_even : {most leaves items first begun : ℕ} → AreCounts most leaves items first begun → 1 ≤ leaves
+    → even_sizes leaves items ≡ first ∷ even_sizes (leaves - 1) (items - first)
+first_even {most} {leaves} {items} {first} {begun} c one =
+    let k = leaves - 1 in
+    let is : leaves ≡ suc k = omega arith in
+    let sized : (items + k) / suc k ≡ first = sym (c.sized one ∙ nodes_at leaves k items is) in
+    ap (λ (m : ℕ). even_sizes m items) is ∙ (first_size k items ∙ ap (λ (c : ℕ). c ∷ even_sizes k (items - c)) sized)
 
 -- the item ends a leaf
 pub takes_one : {most leaves items first begun : ℕ} (size : ℕ) (e : Entry) (head : ℕ × ℕ) (old new : LeavesLeft) (from to : Stand)
@@ -46,17 +56,15 @@ pub takes_one : {most leaves items first begun : ℕ} (size : ℕ) (e : Entry) (
 unfolding blocks_from heads
 takes_one {most} {leaves} {items} {first} {begun} size e head old new from to c one old_sizes count ends new_sizes none low wrote key place =
     let k = leaves - 1 in
-    let is : leaves ≡ suc k = omega arith in
     let end : IsEndOf most leaves items first = end_of c one in
-    let sized : (items + k) / suc k ≡ first = sym (c.sized one ∙ nodes_at leaves k items is) in
-    let split : even_sizes leaves items ≡ first ∷ even_sizes k (items - first) =
-    ap (λ (m : ℕ). even_sizes m items) is ∙ (first_size k items ∙ ap (λ (c : ℕ). c ∷ even_sizes k (items - c)) sized) in
+    let split = first_even c one in
     let part = old.begun ++ e ∷ [] in
     let full : length part ≡ first = length-append old.begun (e ∷ []) ∙ (ap (λ (n : ℕ). n + 1) count ∙ ends) in
     let old_sum : sum old.sizes ≡ items = ap sum old_sizes ∙ sum-any leaves items (λ zero. absurd (omega arith)) in
     let new_sum : sum new.sizes ≡ items - first = ap sum new_sizes ∙ sum-any k (items - first) (λ zero. let z : k * most ≡ 0 * most = ap (λ (m : ℕ). m * most) zero in omega (arith, end.few)) in
     let nothing : length new.begun ≡ 0 = ap length none in
     record {
+      ends = ap (λ (n : ℕ). n + 1) count ∙ (ends ∙ sym (ap size_of_first (old_sizes ∙ split)));
       to_come = λ later.
           ap₂ (λ (s : List ℕ) (all : List Entry). cut s all) (old_sizes ∙ split) (sym (append_assoc old.begun (e ∷ []) later))
           ∙ (cut_full first (even_sizes k (items - first)) part later full
@@ -128,15 +136,19 @@ module _ {X : Type 0} (code : X → ℕ) (put all : List (ℕ × X)) (key : ℕ)
   more_begun : entries_of code all ≡ entries_of code put ++ record { key = key; value = code value } ∷ []
   more_begun = ap (entries_of code) is ∙ map-append (λ (item : ℕ × X). record { key = item.0; value = code item.1 }) put ((key, value) ∷ [])
 
-  pub takes_more : (size leaves items low : ℕ) (stand : Stand) → IsClosed stand.device
+  pub takes_more : {most leaves items first begun : ℕ} (size low : ℕ) (stand : Stand) → IsClosed stand.device
+      → AreCounts most leaves items first begun → 1 ≤ leaves → length put + 1 < first
       → 1 ≤ items_to_come (record { sizes = even_sizes leaves items; begun = entries_of code put; low = low })
       → Takes size (record { key = key; value = code value }) None
       (record { sizes = even_sizes leaves items; begun = entries_of code put; low = low })
       (record { sizes = even_sizes leaves items; begun = entries_of code all; low = key + 1 }) stand stand
-  takes_more size leaves items low stand closed more =
+  takes_more {most} {leaves} {items} {first} {begun} size low stand closed c one ends more =
+      let count : length (entries_of code put) ≡ length put = length-map put (λ (item : ℕ × X). record { key = item.0; value = code item.1 }) in
+      let first_is : size_of_first (even_sizes leaves items) ≡ first = ap size_of_first (first_even c one) in
       takes_none size (record { key = key; value = code value })
       (record { sizes = even_sizes leaves items; begun = entries_of code put; low = low })
       (record { sizes = even_sizes leaves items; begun = entries_of code all; low = key + 1 }) stand closed refl more_begun refl more
+      (omega arith)
 
   pub takes_end : {most leaves items first begun : ℕ} (size low least place : ℕ) (block : List ℕ) (nothing : List (ℕ × X)) (from to : Stand)
       → AreCounts most leaves items first begun → 1 ≤ leaves → begun ≡ length put → begun + 1 ≡ first → nothing ≡ []

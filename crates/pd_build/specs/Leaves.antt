@@ -38,12 +38,23 @@ abbrev pub begun_then : LeavesLeft → Entry → Option (ℕ × ℕ) → List En
 begun_then b e None = b.begun ++ e ∷ []
 begun_then b e (Some head) = []
 
+-- how many items the first leaf has that is to come
+abbrev pub size_of_first : List ℕ → ℕ
+size_of_first [] = 0
+size_of_first (size ∷ sizes) = size
+
+-- a head is answered exactly where the item ends a leaf
+abbrev pub EndsWhereFull : LeavesLeft → Option (ℕ × ℕ) → Type 0
+EndsWhereFull b None = length b.begun + 1 < size_of_first b.sizes
+EndsWhereFull b (Some head) = length b.begun + 1 ≡ size_of_first b.sizes
+
 -- an item that wasn't taken: all is as it was, or the leaf that it ends is lost
 abbrev pub Loses : LeavesLeft → Entry → LeavesLeft → Type 0
 Loses old e new = (new ≡ old) ⊎ ((new.begun ≡ []) × (new.low ≡ e.key + 1))
 
 -- an item was taken: the leaf that it ends was written, and the others are to come as they were
 pub record Takes (size : ℕ) (e : Entry) (head : Option (ℕ × ℕ)) (old new : LeavesLeft) (from to : Stand) : Type 0 where
+  pub ends : EndsWhereFull old head
   pub to_come : (items : List Entry) → leaves_to_come old (e ∷ items) ≡ ended old e head ++ leaves_to_come new items
   pub wrote : Wrote (blocks_from (leaf_block size) from.place (ended old e head)) from to
   pub heads_are : heads from.place (ended old e head) ≡ answered head

@@ -24,9 +24,12 @@ invariant_of-self-then-len-self g c =
 
 pub returns-then-len-self-clause-takes : goal.returns-then-len-self-clause-takes
 returns-then-len-self-clause-takes g c =
+    let count = c.self.inside.begun.ok.0 in
+    let len = c.in_ok-append.ensures.len in
+    let one : 1 ≤ c.self.inside.leaves = some_left c.self.inside.leaves c.self.inside.items c.args.self.now (ap (λ (b : LeavesLeft). b.sizes) (sym c.self.view_is)) c.requires.more in
     rw (← c.self.view_is)
     (takes_more g.V.Value.code c.self.inside.begun.items c.append.new.items.items c.args.key c.args.value c.in_ok-append.ensures.items
-    g.V.Value.SIZE c.self.inside.leaves c.self.inside.items _ _ c.requires.closed (rw (← c.self.view_is) at c.requires.more))
+    g.V.Value.SIZE _ _ c.requires.closed c.self.invariant.0 one (omega arith) (rw (← c.self.view_is) at c.requires.more))
 
 some_leaf : (g : given.Over) (c : Else-len-self g) → 1 ≤ c.self.inside.leaves
 some_leaf g c = some_left c.self.inside.leaves c.self.inside.items c.args.self.now (ap (λ (b : LeavesLeft). b.sizes) (sym c.self.view_is)) c.requires.more
