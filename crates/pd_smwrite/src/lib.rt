@@ -10,8 +10,10 @@ mod bits;
 mod data;
 mod free;
 mod index;
+mod laws;
 mod meta;
 mod overflow;
 
 pub use data::write_data_map;
+pub use laws::data_map_is_laid;
 pub use meta::write_meta_map;
