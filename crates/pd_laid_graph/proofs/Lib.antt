@@ -1,0 +1,5 @@
+pub mod ListLemmas
+pub mod FromLemmas
+mod ForestLemmas
+pub mod LaidLemmas
+pub mod PlaceLemmas

@@ -1,0 +1,6 @@
+pub mod Counts
+pub mod Plain
+pub mod Bitmaps
+pub mod MapItems
+pub mod Index
+pub mod MetaMap
