@@ -1,7 +1,7 @@
 -- The causes of a refusal: their numbers and their printed names.
 use Rattle.std.specs.Prelude.{ℕ, List, codes}
 use Rattle.pd_grammar.specs.declared.cause.TextCause.{TextCause}
-use Rattle.pd_grammar.specs.declared.cause.TextCause.TheVariants.{Header, Word, Number, Order, OutOfRange, MappedDiffers, TooLong, NoEnd, AfterEnd, Repeated}
+use Rattle.pd_grammar.specs.declared.cause.TextCause.TheVariants.{Header, Word, Number, Order, OutOfRange, MappedDiffers, TooLong, NoEnd, AfterEnd, Repeated, Unused}
 
 -- the number of a cause
 abbrev pub cause_number : TextCause → ℕ
@@ -15,6 +15,7 @@ cause_number TooLong = 7
 cause_number NoEnd = 8
 cause_number AfterEnd = 9
 cause_number Repeated = 10
+cause_number Unused = 11
 
 -- its printed name
 abbrev pub cause_name : TextCause → List ℕ
@@ -28,3 +29,4 @@ cause_name TooLong = codes "too long"
 cause_name NoEnd = codes "no end"
 cause_name AfterEnd = codes "after end"
 cause_name Repeated = codes "repeated"
+cause_name Unused = codes "unused"

@@ -4,7 +4,7 @@ ghost use Rattle.pd_grammar.specs.Causes.{cause_name, cause_number};
 /// Why a line of a text is refused, by its number.
 ///
 /// They are looked at in another order: `TooLong`, `NoEnd`, `Header`, `Word`, `Number`, `OutOfRange`, `Order`,
-/// `MappedDiffers` and `Repeated`; after the `end` line `AfterEnd` alone.
+/// `MappedDiffers`, `Repeated` and `Unused`; after the `end` line `AfterEnd` alone.
 #[derive(Clone, Copy, Debug, PartialEq, Eq)]
 pub enum TextCause {
     /// Line 1 isn't the first line of a text of this kind.
@@ -28,6 +28,8 @@ pub enum TextCause {
     AfterEnd = 9,
     /// An earlier line has this origin.
     Repeated = 10,
+    /// No device uses one of the shared leaves.
+    Unused = 11,
 }
 
 impl TextCause {
@@ -46,6 +48,7 @@ impl TextCause {
             TextCause::NoEnd => 8,
             TextCause::AfterEnd => 9,
             TextCause::Repeated => 10,
+            TextCause::Unused => 11,
         }
     }
 
@@ -65,6 +68,7 @@ impl TextCause {
             TextCause::NoEnd => "no end",
             TextCause::AfterEnd => "after end",
             TextCause::Repeated => "repeated",
+            TextCause::Unused => "unused",
         }
     }
 }
