@@ -216,6 +216,7 @@ module _ (graph : Graph) (image : List (List ℕ)) (blocks : List LaidBlock) (la
   pub laid_in_order : AreLaidInOrder graph image blocks
   unfolding meta_count data_count
   laid_in_order = record {
+    roles_small = role_small;
     nodes_are = laid_nodes;
     well_formed = at_reached (λ b role. (broken : Rule) → graph.bad role b (block_at image b) broken ≡ false) (λ q x is. is.seen.sound);
     one_role = λ b role other one another. (reached_laid b role one).1 ∙ sym (reached_laid b other another).1;

@@ -3,3 +3,4 @@ pub mod FromLemmas
 mod ForestLemmas
 pub mod LaidLemmas
 pub mod PlaceLemmas
+pub mod FitLemmas

@@ -1,5 +1,5 @@
 -- What is laid stands in its place.
-use Rattle.std.proofs.Common.{◌≡◌, ℕ, ◌+◌, true, nat_eq, List, [], ◌∷◌, ◌++◌, length, map, drop, refl, sym, subst, ◌∙◌, arith}
+use Rattle.std.proofs.Common.{◌≡◌, ℕ, suc, ◌+◌, ◌<◌, ◌≤◌, true, nat_eq, List, [], ◌∷◌, ◌++◌, length, map, drop, refl, sym, subst, ◌∙◌, arith}
 use Rattle.std.specs.List.{AllByRecursion, list_any}
 use Rattle.std.proofs.lemmas.List.{get_or_at, length-append, append_assoc}
 use Rattle.std.proofs.lemmas.Option.{unwrap_or-slice_get}
@@ -12,7 +12,7 @@ use Rattle.pd_laid.proofs.NodeFacts.{among_mapped}
 use Rattle.pd_laws.proofs.AllLemmas.{all_from}
 use Rattle.pd_laid_graph.specs.LaidOut.{AllFrom, role_at, IsNamed, IsInPlace, all_laid}
 use Rattle.pd_laid_graph.proofs.ListLemmas.{any_front, any_back}
-use Rattle.pd_laid_graph.proofs.FromLemmas.{from_follows, from_pairs}
+use Rattle.pd_laid_graph.proofs.FromLemmas.{by_place, from_follows, from_pairs}
 use Rattle.pd_laid_graph.proofs.LaidLemmas.{roles_at}
 
 -- blocks that are written one after another stand behind a front
@@ -28,7 +28,7 @@ stand_behind write front place (x ∷ xs) rest at =
     (here, rw (append_assoc front (block ∷ []) later) at (stand_behind write (front ++ block ∷ []) (place + 1) xs rest size))
 
 -- what holds of each element holds at each place
-from_all : {X : Type 0} (P : X → Type 0) (place : ℕ) (xs : List X) → AllByRecursion P xs → AllFrom (λ q x. P x) place xs
+pub from_all : {X : Type 0} (P : X → Type 0) (place : ℕ) (xs : List X) → AllByRecursion P xs → AllFrom (λ q x. P x) place xs
 from_all P place [] all = tt
 from_all P place (x ∷ xs) all = (all.0, from_all P (place + 1) xs all.1)
 
@@ -62,3 +62,19 @@ laid_in_place laid edges base image is =
     (from_pairs (λ q (x : LaidBlock). block_at image q ≡ x.written q) (λ q (x : LaidBlock). (role_at blocks q ≡ x.role) × AllByRecursion (λ (e : Edge). IsNamed blocks e.block) x.edges) 0 blocks stand
     (from_pairs (λ q (x : LaidBlock). role_at blocks q ≡ x.role) (λ q (x : LaidBlock). AllByRecursion (λ (e : Edge). IsNamed blocks e.block) x.edges) 0 blocks (roles_at blocks)
     (from_all (λ (x : LaidBlock). AllByRecursion (λ (e : Edge). IsNamed blocks e.block) x.edges) 0 blocks (all_named blocks))))
+
+-- where all have one role, each of their places has it
+pub role_of_places : (image : List (List ℕ)) (blocks : List LaidBlock) (role place : ℕ) (xs : List LaidBlock) → AllByRecursion (λ (x : LaidBlock). x.role ≡ role) xs
+    → AllFrom (IsInPlace image blocks) place xs → (q : ℕ) → place ≤ q → q < place + length xs → role_at blocks q ≡ role
+role_of_places image blocks role place xs roles stand q low high =
+    by_place (λ q. role_at blocks q ≡ role) place xs
+    (from_follows (λ q (x : LaidBlock). IsInPlace image blocks q x × (x.role ≡ role)) (λ q x. role_at blocks q ≡ role) place xs
+    (λ q low high x is. is.0.role_is ∙ is.1)
+    (from_pairs (IsInPlace image blocks) (λ q (x : LaidBlock). x.role ≡ role) place xs stand (from_all (λ (x : LaidBlock). x.role ≡ role) place xs roles))) q low high
+
+-- what holds of the places of a list
+pub from_places : {X : Type 0} → (P : ℕ → Type 0) (place : ℕ) (xs : List X) → ((i : ℕ) → i < length xs → P (place + i)) → AllFrom (λ q x. P q) place xs
+from_places P place [] each = tt
+from_places P place (x ∷ xs) each =
+    let e : place + 0 ≡ place = omega arith in
+    (rw e at (each 0 (omega arith)), from_places P (place + 1) xs (λ i within. let f : place + suc i ≡ place + 1 + i = omega arith in rw f at (each (suc i) (omega arith))))

@@ -54,6 +54,7 @@ pub record IsLaidOut (graph : Graph) (image : List (List ℕ)) (blocks : List La
 -- Such blocks are all that is reached, each in its role, and in order; and as often as they name a block, it is
 -- referred to, where block 0 counts once.
 pub record AreLaidInOrder (graph : Graph) (image : List (List ℕ)) (blocks : List LaidBlock) : Type 0 where
+  pub roles_small : (b : ℕ) → role_at blocks b < 16
   pub nodes_are : nodes graph image ≡ map (λ (b : ℕ). pair b (role_at blocks b)) (range_with_len 0 (length blocks))
   pub well_formed : (b role : ℕ) → IsReached graph image b role → (broken : Rule) → graph.bad role b (block_at image b) broken ≡ false
   pub one_role : (b role other : ℕ) → IsReached graph image b role → IsReached graph image b other → role ≡ other

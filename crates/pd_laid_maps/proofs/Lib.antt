@@ -4,3 +4,5 @@ pub mod Bitmaps
 pub mod MapItems
 pub mod Index
 pub mod MetaMap
+pub mod RoleCounts
+pub mod MapNames

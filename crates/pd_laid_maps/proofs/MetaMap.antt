@@ -17,6 +17,7 @@ use Rattle.pd_laid.proofs.NeedLemmas.{length-bitmaps}
 use Rattle.pd_laid_graph.specs.LaidOut.{AllFrom, IsFitting, IsInPlace, IsNamed, LeadsBelow}
 use Rattle.pd_laid_graph.proofs.ListLemmas.{count_append}
 use Rattle.pd_laid_graph.proofs.FromLemmas.{from_front, from_back, from_both}
+use Rattle.pd_laid_trees.proofs.Names.{root_leads}
 use Rattle.pd_laid_trees.proofs.Trees.{tree_seen}
 use Rattle.pd_laid_maps.specs.MetaMap.{IsMetaMapSeen}
 use Rattle.pd_laid_maps.proofs.Bitmaps.{bitmap_stands, bitmaps_fit}
@@ -25,10 +26,10 @@ use Rattle.pd_laid_maps.proofs.Index.{index_seen, named_block}
 use Rattle.pd_laid_maps.proofs.MapItems.{overflow_are, range_within}
 
 -- how often a number stands in a list that has only lower ones, and in a range
-one_more : (x b : ℕ) (xs : List ℕ) → count_in (x ∷ xs) b ≡ cond (nat_eq x b) 1 0 + count_in xs b
+pub one_more : (x b : ℕ) (xs : List ℕ) → count_in (x ∷ xs) b ≡ cond (nat_eq x b) 1 0 + count_in xs b
 one_more x b xs = sum_by-cons (λ y. cond (nat_eq y b) 1 0) x xs
 
-other_more : (x b : ℕ) (xs : List ℕ) → x ≢ b → count_in (x ∷ xs) b ≡ count_in xs b
+pub other_more : (x b : ℕ) (xs : List ℕ) → x ≢ b → count_in (x ∷ xs) b ≡ count_in xs b
 other_more x b xs other = one_more x b xs ∙ rw (ne_eqb x b other) (omega arith)
 
 few_more : (x b : ℕ) (xs : List ℕ) → count_in (x ∷ xs) b ≤ 1 + count_in xs b
@@ -79,7 +80,7 @@ each_range P place a (suc n) all =
     let e : (place + a) + 1 ≡ place + (a + 1) = omega arith in
     (all.0, rw e (each_range P place (a + 1) n all.1))
 
-unmapped : {X : Type 0} (f : X → Edge) (P : Edge → Type 0) (xs : List X) → AllByRecursion P (map f xs) → AllByRecursion (λ x. P (f x)) xs
+pub unmapped : {X : Type 0} (f : X → Edge) (P : Edge → Type 0) (xs : List X) → AllByRecursion P (map f xs) → AllByRecursion (λ x. P (f x)) xs
 unmapped f P [] all = tt
 unmapped f P (x ∷ xs) all = (all.0, unmapped f P xs all.1)
 
@@ -179,6 +180,9 @@ module _ (roles n data_blocks : ℕ) (table : ℕ → Layout) (image : List (Lis
               (bitmaps_fit roles n data_blocks table image blocks limit (role + 1) counts bitmap_is (omega arith) few_roles few (place + 1) n (omega (arith, room, number_is)) bitmaps_stand bitmaps_named)
               (rw size tree.fitting),
         );
+        index_leads = record { from_one = from; below = omega (arith, room, number_is); role_is = map_stands.0.role_is };
+        overflow_leads = root_leads image blocks limit (role + 2) (tree_of (plain_tree 4)) (meta_overflow_at n place) overflow (omega arith) (omega arith)
+            (omega (arith, room, number_is)) over_stands;
         overflow = tree.root.entries_are;
         stored = stored;
       }

@@ -6,3 +6,4 @@ pub mod Rows
 pub mod Roots
 pub mod Nodes
 pub mod Trees
+pub mod Names

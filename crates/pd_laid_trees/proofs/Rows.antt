@@ -167,32 +167,60 @@ inner_nodes first q (g ∷ groups) from some most asc fit before = (
   inner_nodes first (q + 1) groups (omega arith) some.1 most.1 asc.1 fit.1 before.1,
 )
 
--- The inner nodes above a row, with what they name: with the root, all that the row names, and all of themselves
-pub record AreInners (place root : ℕ) (row : List Entry) (inners : List (List Entry)) : Type 0 where
-  pub nodes : AllFrom IsInnerNode place inners
-  pub named : values_of (flat_map (λ (g : List Entry). g) inners) ++ (root ∷ []) ≡ values_of row ++ range_with_len place (length inners)
-
+-- what inner nodes name, with the root: all that the row names, and all of themselves
 one_named : (row : List Entry) → length row ≡ 1 → first_place row ∷ [] ≡ values_of row ++ []
 one_named [] one = absurd (omega arith)
 one_named (e ∷ []) one = refl
 one_named (e ∷ f ∷ row) one = absurd (omega arith)
 
-pub no_inners : (k place : ℕ) (row : List Entry) → length row ≡ 1 → AreInners place (root_of k place row) row (levels_above k place row)
+abbrev Names : ℕ → ℕ → List Entry → List (List Entry) → Type 0
+Names place root row inners = values_of (flat_map (λ (g : List Entry). g) inners) ++ (root ∷ []) ≡ values_of row ++ range_with_len place (length inners)
+
+no_inners : (k place : ℕ) (row : List Entry) → length row ≡ 1 → Names place (root_of k place row) row (levels_above k place row)
 no_inners k place row one =
     let few : length row ≤ 1 = omega arith in
-    rw (levels_one k place row few, le-ltb 1 (length row) few) (record { nodes = tt; named = one_named row one })
+    rw (levels_one k place row few, le-ltb 1 (length row) few) (one_named row one)
 
-pub inners_are : (k place : ℕ) (row : List Entry) → 1 ≤ length row → length row ≤ 252 ^ k
-    → is_ascending (keys_of row) ≡ true → AllByRecursion (λ (e : Entry). e.key < 2 ^ 64) row → AllByRecursion (λ (e : Entry). (1 ≤ e.value) × (e.value < place)) row
-    → 1 ≤ place
-    → AreInners place (root_of k place row) row (levels_above k place row)
-inners_are zero place row some few asc fit inside from = no_inners zero place row (omega arith)
-inners_are (suc k) place row some few asc fit inside from = elim (cases_lt 1 (length row)) [
+pub inners_name : (k place : ℕ) (row : List Entry) → 1 ≤ length row → length row ≤ 252 ^ k
+    → values_of (flat_map (λ (g : List Entry). g) (levels_above k place row)) ++ (root_of k place row ∷ [])
+    ≡ values_of row ++ range_with_len place (length (levels_above k place row))
+inners_name zero place row some few = no_inners zero place row (omega arith)
+inners_name (suc k) place row some few = elim (cases_lt 1 (length row)) [
   | inr single ↦ no_inners (suc k) place row (omega arith)
   | inl many ↦
+      let value = λ (e : Entry). e.value in
       let level = level_of row in
       let count = length level in
       let is = level_spread k row some in
+      let next = heads place level in
+      let size = length-heads place level in
+      let upper = levels_above k (place + count) next in
+      let root = root_of k (place + count) next in
+      let above = inners_name k (place + count) next (rw size is.number.some) (rw size (is.number.small few)) in
+      let rest = values_of (flat_map (λ (g : List Entry). g) upper) in
+      let split : values_of (flat_map (λ (g : List Entry). g) (level ++ upper)) ≡ values_of row ++ rest =
+      ap values_of (flat_map-append (λ (g : List Entry). g) level upper)
+      ∙ (map-append value (flat_map (λ (g : List Entry). g) level) (flat_map (λ (g : List Entry). g) upper)
+      ∙ ap (λ (front : List Entry). values_of front ++ rest) is.joined_is) in
+      let named : rest ++ (root ∷ []) ≡ range_with_len place (count + length upper) =
+      above ∙ (ap (λ (front : List ℕ). front ++ range_with_len (place + count) (length upper)) (values-heads place level) ∙ sym (range_on place count (length upper))) in
+      rw (root_more k place row many, levels_more k place row many)
+      (ap (λ (front : List ℕ). front ++ (root ∷ [])) split
+      ∙ (append_assoc (values_of row) rest (root ∷ [])
+      ∙ ap (λ (back : List ℕ). values_of row ++ back) (named ∙ ap (range_with_len place) (sym (length-append level upper)))))
+]
+
+-- the inner nodes above a row
+pub inners_are : (k place : ℕ) (row : List Entry) → length row ≤ 252 ^ k
+    → is_ascending (keys_of row) ≡ true → AllByRecursion (λ (e : Entry). e.key < 2 ^ 64) row → AllByRecursion (λ (e : Entry). (1 ≤ e.value) × (e.value < place)) row
+    → 1 ≤ place → AllFrom IsInnerNode place (levels_above k place row)
+inners_are zero place row few asc fit inside from = rw (levels_one zero place row (omega arith)) tt
+inners_are (suc k) place row few asc fit inside from = elim (cases_lt 1 (length row)) [
+  | inr single ↦ rw (levels_one (suc k) place row single) tt
+  | inl many ↦
+      let level = level_of row in
+      let count = length level in
+      let is = level_spread k row (omega arith) in
       let whole = is.joined_is in
       let asc_parts : is_ascending (keys_of (flat_map (λ (g : List Entry). g) level)) ≡ true = rw whole asc in
       let fit_parts : AllByRecursion (λ (e : Entry). e.key < 2 ^ 64) (flat_map (λ (g : List Entry). g) level) = rw whole fit in
@@ -200,30 +228,13 @@ inners_are (suc k) place row some few asc fit inside from = elim (cases_lt 1 (le
       let next = heads place level in
       let size = length-heads place level in
       let keys = keys-heads place level in
-      let upper = levels_above k (place + count) next in
       let next_asc : is_ascending (keys_of next) ≡ true = rw keys (firsts_ascend level is.some asc_parts) in
       let next_fit : AllByRecursion (λ (e : Entry). e.key < 2 ^ 64) next = by_keys (λ key. key < 2 ^ 64) next (rw keys (firsts_keep (λ key. key < 2 ^ 64) level is.some fit_parts)) in
-      let above = inners_are k (place + count) next (rw size is.number.some) (rw size (is.number.small few)) next_asc next_fit
-      (heads_inside place (place + count) level from (omega arith)) (omega arith) in
-      let root = root_of k (place + count) next in
-      rw (root_more k place row many, levels_more k place row many)
-      (record {
-        nodes = from_both IsInnerNode place level upper
-            (inner_nodes place place level (omega arith) is.some is.most (parts_ascend level asc_parts)
-            (all_parts (λ (e : Entry). e.key < 2 ^ 64) level fit_parts) (all_parts (λ (e : Entry). (1 ≤ e.value) × (e.value < place)) level before))
-            above.nodes;
-        named =
-            let value = λ (e : Entry). e.value in
-            let split : values_of (flat_map (λ (g : List Entry). g) (level ++ upper)) ≡ values_of row ++ values_of (flat_map (λ (g : List Entry). g) upper) =
-            ap values_of (flat_map-append (λ (g : List Entry). g) level upper)
-            ∙ (map-append value (flat_map (λ (g : List Entry). g) level) (flat_map (λ (g : List Entry). g) upper)
-            ∙ ap (λ (front : List Entry). values_of front ++ values_of (flat_map (λ (g : List Entry). g) upper)) whole) in
-            let named : values_of (flat_map (λ (g : List Entry). g) upper) ++ (root ∷ []) ≡ range_with_len place (count + length upper) =
-            above.named ∙ (ap (λ (front : List ℕ). front ++ range_with_len (place + count) (length upper)) (values-heads place level) ∙ sym (range_on place count (length upper))) in
-            ap (λ (front : List ℕ). front ++ (root ∷ [])) split
-            ∙ (append_assoc (values_of row) (values_of (flat_map (λ (g : List Entry). g) upper)) (root ∷ [])
-            ∙ ap (λ (back : List ℕ). values_of row ++ back) (named ∙ ap (range_with_len place) (sym (length-append level upper))));
-      })
+      rw (levels_more k place row many)
+      (from_both IsInnerNode place level (levels_above k (place + count) next)
+      (inner_nodes place place level (omega arith) is.some is.most (parts_ascend level asc_parts)
+      (all_parts (λ (e : Entry). e.key < 2 ^ 64) level fit_parts) (all_parts (λ (e : Entry). (1 ≤ e.value) × (e.value < place)) level before))
+      (inners_are k (place + count) next (rw size (is.number.small few)) next_asc next_fit (heads_inside place (place + count) level from (omega arith)) (omega arith)))
 ]
 
 -- a row has at most 252 entries for each inner node above it

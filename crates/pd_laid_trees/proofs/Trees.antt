@@ -26,7 +26,7 @@ use Rattle.pd_laid_trees.proofs.Ascending.{firsts_ascend, firsts_keep, parts_asc
 use Rattle.pd_laid_trees.proofs.Levels.{IsInnerAt, no_chain}
 use Rattle.pd_laid_trees.proofs.Nodes.{IsSeenInner, IsSeenLeaf, inner_seen, leaf_seen}
 use Rattle.pd_laid_trees.proofs.Roots.{AreLeavesAt, IsOrdered, all_above, leaves_keys, leaves_least, leaves_settled}
-use Rattle.pd_laid_trees.proofs.Rows.{AreInners, IsInnerNode, all_parts, by_keys, by_values, heads_inside, inners_are, no_inners, row_few, values_of}
+use Rattle.pd_laid_trees.proofs.Rows.{IsInnerNode, all_parts, by_keys, by_values, heads_inside, inners_are, inners_name, levels_one, row_few, values_of}
 use Rattle.pd_laid_trees.proofs.Spread.{spread_most, spread_some}
 
 -- the leaves of a tree
@@ -227,14 +227,14 @@ module _ (roles nr data_blocks : ℕ) (table : ℕ → Layout) (image : List (Li
       )
 
   -- what inner nodes name
-  inners_name : (place : ℕ) (inners : List (List Entry)) → AllFrom (IsInPlace image blocks) place (map (laid_inner role) inners)
+  these_name : (place : ℕ) (inners : List (List Entry)) → AllFrom (IsInPlace image blocks) place (map (laid_inner role) inners)
       → AllByRecursion (IsNamed blocks) (values_of (flat_map (λ (g : List Entry). g) inners))
-  inners_name place [] stand = tt
-  inners_name place (g ∷ inners) stand =
+  these_name place [] stand = tt
+  these_name place (g ∷ inners) stand =
       let value = λ (e : Entry). e.value in
       rw (map-append value g (flat_map (λ (g : List Entry). g) inners))
       (all_append (IsNamed blocks) (values_of g) (values_of (flat_map (λ (g : List Entry). g) inners))
-      (unmapped g stand.0.names) (inners_name (place + 1) inners stand.1))
+      (unmapped g stand.0.names) (these_name (place + 1) inners stand.1))
     where
       unmapped : (g : List Entry) → AllByRecursion (λ (edge : Edge). IsNamed blocks edge.block) (map (λ (e : Entry). edge_of role e.value) g) → AllByRecursion (IsNamed blocks) (values_of g)
       unmapped [] all = tt
@@ -266,14 +266,15 @@ module _ (roles nr data_blocks : ℕ) (table : ℕ → Layout) (image : List (Li
       let keys = leaves_keys this image t.size role row groups row_is.leaves in
       let whole = row_is.joined_is in
       let short : length row ≤ 252 ^ 10 = omega (arith, row_few 9 place row) in
-      let are : AreInners place (root_above place row) row inners = elim (cases_lt 1 (length row)) [
-        | inr single ↦ no_inners 10 place row (omega (arith, row_is.some))
+      let nodes : AllFrom IsInnerNode place inners = elim (cases_lt 1 (length row)) [
+        | inr single ↦ rw (levels_one 10 place row single) tt
         | inl many ↦
             let filled = row_is.filled many in
-            inners_are 10 place row row_is.some short (rw keys (firsts_ascend groups filled (rw whole row_is.ascending)))
+            inners_are 10 place row short (rw keys (firsts_ascend groups filled (rw whole row_is.ascending)))
             (by_keys (λ key. key < 2 ^ 64) row (rw keys (firsts_keep (λ key. key < 2 ^ 64) groups filled (rw whole row_is.keys_fit)))) row_is.inside from
       ] in
-      let seen = inners_seen place inners room stand are.nodes in
+      let names = inners_name 10 place row row_is.some short in
+      let seen = inners_seen place inners room stand nodes in
       let settled = leaves_settled this image t.size role row groups row_is.leaves in
       let all_is = settled.1 ∙ whole in
       let above = all_above this image t.size role 10 0 place row row_is.some short (omega arith) settled.0
@@ -282,17 +283,17 @@ module _ (roles nr data_blocks : ℕ) (table : ℕ → Layout) (image : List (Li
       let placed_roles : AllByRecursion (λ q. role_at blocks q ≡ role) (range_with_len place (length inners)) =
       range_from (λ q. role_at blocks q ≡ role) place inners (inner_roles place inners stand) in
       let all_roles : AllByRecursion (λ q. role_at blocks q ≡ role) (values_of (flat_map (λ (g : List Entry). g) inners) ++ (root_above place row ∷ [])) =
-      rw are.named (all_append (λ q. role_at blocks q ≡ role) (values_of row) (range_with_len place (length inners))
+      rw names (all_append (λ q. role_at blocks q ≡ role) (values_of row) (range_with_len place (length inners))
       (all_mapped (λ (e : Entry). e.value) (λ q. role_at blocks q ≡ role) row row_is.roles_are) placed_roles) in
       let each_roles : AllByRecursion (AllByRecursion (λ (e : Entry). role_at blocks e.value ≡ role)) inners =
       all_parts (λ (e : Entry). role_at blocks e.value ≡ role) inners
       (by_values (λ q. role_at blocks q ≡ role) (flat_map (λ (g : List Entry). g) inners)
       (all_front (λ q. role_at blocks q ≡ role) (values_of (flat_map (λ (g : List Entry). g) inners)) (root_above place row ∷ []) all_roles)) in
       let all_named : AllByRecursion (IsNamed blocks) (values_of row ++ range_with_len place (length inners)) =
-      rw are.named at (all_append (IsNamed blocks) (values_of (flat_map (λ (g : List Entry). g) inners)) (root_above place row ∷ []) (inners_name place inners stand) (root_named, tt)) in
+      rw names at (all_append (IsNamed blocks) (values_of (flat_map (λ (g : List Entry). g) inners)) (root_above place row ∷ []) (these_name place inners stand) (root_named, tt)) in
       record {
         root = rw all_is at root_is;
-        fitting = inners_fit place inners room seen above.ordered are.nodes each_roles
+        fitting = inners_fit place inners room seen above.ordered nodes each_roles
             (from_range (IsNamed blocks) place inners (all_back (IsNamed blocks) (values_of row) (range_with_len place (length inners)) all_named));
         named = by_values (IsNamed blocks) row (all_front (IsNamed blocks) (values_of row) (range_with_len place (length inners)) all_named);
       }
