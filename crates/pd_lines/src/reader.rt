@@ -204,7 +204,12 @@ fn line_end<S: Source>(buffer: &mut Buffer, source: &mut S) -> Result<Option<usi
 }
 
 /// Keeps the line that ends in this place.
-fn keep_line(buffer: &mut Buffer, line: &mut [u8; 160], number: u64, end: usize) -> Result<(), LineFault>
+fn keep_line(
+    buffer: &mut Buffer,
+    line: &mut [u8; 160],
+    number: u64,
+    end: usize,
+) -> Result<(), LineFault>
     requires { EndsLine buffer.old end }
     ensures kept { OnOk result (take end line.new ≡ take end buffer.old) }
     ensures text { OnOk result (list_all is_printable (take end line.new) ≡ true) }
