@@ -4,3 +4,4 @@ pub mod ReadLemmas
 pub mod TextLemmas
 pub mod GivesLemmas
 pub mod ThinWordLemmas
+pub mod ThinLemmas

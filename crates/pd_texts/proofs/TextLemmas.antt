@@ -14,7 +14,7 @@ use Rattle.pd_lines.specs.Moves.{IsUnbroken}
 use Rattle.pd_lines.specs.Reader.{Reads, held_of, lines_of, next_number, ReadsLine}
 use Rattle.pd_texts.specs.declared.reader.TextReader.{TextReader}
 use Rattle.pd_texts.specs.Faults.{Refuses, fault_of, fault_after_end}
-use Rattle.pd_texts.specs.Reader.{with_lines, HasRead, ReadsOn}
+use Rattle.pd_texts.specs.Reader.{in_order, with_lines, HasRead, ReadsOn}
 
 lacks_if_unbroken : (bytes : List ℕ) → IsUnbroken bytes → Lacks 10 bytes
 lacks_if_unbroken [] unbroken = tt
@@ -105,17 +105,12 @@ whole_at_end : {M : Type 0} → (format : TextFormat M) (before : List M) (text 
 unfolding lines_after
 whole_at_end format before text ended is = rw (is, ended) refl
 
--- lines before those of a reading don't change its refusal
-with_lines-refusal : {M : Type 0} → (before : List M) (r : Reading M) → (with_lines before r).refusal ≡ r.refusal
-with_lines-refusal [] r = refl
-with_lines-refusal (line ∷ before) r = with_lines-refusal before (with_line line r)
-
 -- a line that is refused is the text's refusal
 refused_text : {M : Type 0} → (format : TextFormat M) (text : List ℕ) (before : List M) (rest : Reading M) (number : ℕ) (cause : TextCause)
     → reading format text ≡ with_lines before rest → rest ≡ refused before cause → number ≡ number_after before
     → refusal format text ≡ Some (record { line = number; cause = cause })
 refused_text {M} format text before rest number cause is stops count =
-    ap (λ (r : Reading M). r.refusal) is ∙ with_lines-refusal before rest ∙ ap (λ (r : Reading M). r.refusal) stops
+    ap (λ (r : Reading M). r.refusal) is ∙ ap (λ (r : Reading M). r.refusal) stops
     ∙ ap (λ (n : ℕ). Some (record { line = n; cause = cause })) (sym count)
 
 -- what a reader of lines can't read of what is left, before the last line
@@ -177,7 +172,7 @@ line_after format text now bytes rest before number is ended count text_is =
 -- nothing after the last line
 pub end_after : {M : Type 0} → (format : TextFormat M) (text now : List ℕ) (before : List M)
     → reading format text ≡ with_lines before (lines_after format before (split 10 now)) → has_ended format before ≡ true → now ≡ []
-    → reading format text ≡ with_lines before (whole [])
+    → reading format text ≡ whole (in_order before [])
 end_after format text now before is ended none = is ∙ ap (with_lines before) (whole_at_end format before now ended none)
 
 pub count_is : {M : Type 0} → (before : List M) (lines : ℕ) → lines ≡ min (length before) (2 ^ 64 - 1) → min (lines + 1) (2 ^ 64 - 1) ≡ number_after before

@@ -7,3 +7,4 @@ pub mod ThinWords
 pub mod ThinState
 pub mod Printed
 pub mod ThinLaws
+pub mod ThinPrinted

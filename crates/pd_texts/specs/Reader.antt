@@ -1,16 +1,20 @@
 -- What a reader of a text has read of it, and gives.
 use Rattle.std.specs.Prelude.{◌≡◌, ℕ, ◌-◌, ◌^◌, min, false, List, [], ◌∷◌, ◌++◌, length, Option, Some, None, Result, Ok, Err}
 use Rattle.pd_grammar.specs.Words.{split}
-use Rattle.pd_grammar.specs.Texts.{TextFormat, Reading, has_ended, reading, lines_after, with_line, whole}
+use Rattle.pd_grammar.specs.Texts.{TextFormat, Reading, has_ended, reading, lines_after, whole}
 use Rattle.pd_lines.specs.Reader.{held_of, lines_of}
 use Rattle.pd_texts.specs.declared.fault.ReadFault.{ReadFault}
 use Rattle.pd_texts.specs.declared.reader.TextReader.{TextReader}
 use Rattle.pd_texts.specs.Faults.{Refuses}
 
+-- these lines, the newest first, in their order before others
+abbrev pub in_order : {M : Type 0} → List M → List M → List M
+in_order [] lines = lines
+in_order (line ∷ before) lines = in_order before (line ∷ lines)
+
 -- these lines, the newest first, before those of a reading
 abbrev pub with_lines : {M : Type 0} → List M → Reading M → Reading M
-with_lines [] reading = reading
-with_lines (line ∷ before) reading = with_lines before (with_line line reading)
+with_lines before rest = record { lines = in_order before rest.lines; refusal = rest.refusal }
 
 -- of the text these lines were read, the newest first, and none is refused: the lines of the text, and its refusal,
 -- are these lines and then what is read of the rest
@@ -35,7 +39,7 @@ begun first (line ∷ before) = line ∷ before
 
 -- these are all the lines of the text, the newest first, none is refused, and nothing of the text is left
 abbrev pub IsWhole : {M : Type 0} → TextFormat M → List ℕ → List M → Option (List ℕ) → Type 0
-IsWhole format text lines left = (reading format text ≡ with_lines lines (whole [])) × (left ≡ Some [])
+IsWhole format text lines left = (reading format text ≡ whole (in_order lines [])) × (left ≡ Some [])
 
 -- what is said of the end of a text
 abbrev pub IsReadWhole : {V M : Type 0} → TextFormat M → Result (Option V) ReadFault → List ℕ → List M → Option (List ℕ) → Type 0

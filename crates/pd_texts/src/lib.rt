@@ -8,6 +8,7 @@ mod fault;
 mod print;
 mod reader;
 mod state;
+mod thin_laws;
 mod thin_line;
 mod thin_print;
 mod thin_state;
@@ -18,6 +19,9 @@ pub use fault::{ReadFault, TextFault};
 pub use print::{add_end, add_first, print_end, print_first};
 pub use reader::TextReader;
 pub use state::TextState;
+pub use thin_laws::{
+    pool_text_is_its_lines, thin_lines_are_printed_in_order, whole_thin_text_spells,
+};
 pub use thin_line::{Run2, ThinLine};
 pub use thin_print::{add_thin, print_thin};
 pub use thin_state::{ThinState, ThinText};

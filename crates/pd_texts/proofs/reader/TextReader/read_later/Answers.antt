@@ -3,7 +3,7 @@ use Rattle.pd_grammar.specs.declared.cause.TextCause.TheVariants.{Word}
 use Rattle.pd_grammar.specs.Texts.{read}
 use Rattle.pd_grammar.proofs.NumberLemmas.{ok-err}
 use Rattle.pd_lines.specs.declared.fault.LineFault.TheVariants.{Source}
-use Rattle.pd_lines.specs.Reader.{line_of}
+use Rattle.pd_lines.specs.Reader.{line_of, next_number}
 use Rattle.pd_texts.specs.declared.reader.TextReader.{TextReader}
 use Rattle.pd_texts.proofs.ReadLemmas.{other_bytes}
 use Rattle.pd_texts.proofs.TextLemmas.{line_refuses, end_refuses, fault_refuses, count_is, has_read_more}
@@ -30,7 +30,7 @@ returns-in-Err-read-clause-gives g c = λ text before some on.
     let counted = c.in-Ok-true.ensures.counted (ok-err c.in-Ok-true.field-0 Source) in
     let is : read t.format before bytes ≡ Err c.in-Err-read.cause = sym (rw c.text.ensures.bytes at (c.in-Err-read.ensures.line before on.so_far.stands some)) in
     rw c.text_fault.ensures
-    (line_refuses t.format text (old.buffer ++ on.so_far.rest) bytes _ before c.lines.result c.in-Err-read.cause on.so_far.is on.going
+    (line_refuses t.format text (old.buffer ++ on.so_far.rest) bytes (c.advance.new.self.buffer ++ reads.rest) before c.lines.result c.in-Err-read.cause on.so_far.is on.going
     (c.lines.ensures ∙ counted ∙ count_is before old.lines on.so_far.count) reads.text_is reads.printable reads.short is)
 
 pub returns-in-Ok-false-clause-gives : goal.returns-in-Ok-false-clause-gives
@@ -48,6 +48,6 @@ returns-in-Err-clause-gives g c = λ text before some on.
     let t = g.P.TextState in
     let old = c.args.self.now.reader in
     rw c.fault_of.ensures
-    (fault_refuses t.format text (old.buffer ++ on.so_far.rest) c.advance.new.self.buffer (g.S.Source.state c.advance.new.source).left before _ Word c.in-Err.fault
+    (fault_refuses t.format text (old.buffer ++ on.so_far.rest) c.advance.new.self.buffer (g.S.Source.state c.advance.new.source).left before (next_number old) Word c.in-Err.fault
     on.so_far.is on.going (count_is before old.lines on.so_far.count) (λ bytes other. other_bytes t.format before bytes some other)
     (c.in-Err.ensures.reads on.so_far.rest on.so_far.left_is))
