@@ -14,7 +14,7 @@ use Rattle.pd_lines.specs.Moves.{IsUnbroken}
 use Rattle.pd_lines.specs.Reader.{Reads, held_of, lines_of, next_number, ReadsLine}
 use Rattle.pd_texts.specs.declared.reader.TextReader.{TextReader}
 use Rattle.pd_texts.specs.Faults.{Refuses, fault_of, fault_after_end}
-use Rattle.pd_texts.specs.Reader.{in_order, with_lines, HasRead, ReadsOn}
+use Rattle.pd_texts.specs.Reader.{in_order, with_lines, HasRead, ReadsOn, LeavesOf}
 
 lacks_if_unbroken : (bytes : List ℕ) → IsUnbroken bytes → Lacks 10 bytes
 lacks_if_unbroken [] unbroken = tt
@@ -179,20 +179,27 @@ pub count_is : {M : Type 0} → (before : List M) (lines : ℕ) → lines ≡ mi
 count_is before lines e = omega arith
 
 -- one line more was read
-pub has_read_more : {P V M : Type 0} → (format : TextFormat M) (Stands : P → List M → Type 0) (text : List ℕ) (before : List M) (line : M) (old new : TextReader P V)
-    (left now : Option (List ℕ)) (bytes : List ℕ) → (on : ReadsOn format Stands text before old left)
-    → ReadsLine (record { number = lines_of new.reader; bytes = bytes }) (next_number old.reader) (held_of old.reader ++ on.so_far.rest) (held_of new.reader) now
-    → lines_of new.reader ≡ next_number old.reader → read format before bytes ≡ Ok line → Stands new.state (line ∷ before)
-    → HasRead format Stands text (line ∷ before) new now
-has_read_more {P} {V} {M} format Stands text before line old new left now bytes on reads counted is stands =
+pub has_read_more : {P V M : Type 0} → (format : TextFormat M) (Stands : P → List M → Type 0) (before : List M) (line : M) (old new : TextReader P V) (bytes : List ℕ)
+    → ReadsOn format Stands before old → lines_of new.reader ≡ next_number old.reader → length bytes ≤ 160 → read format before bytes ≡ Ok line
+    → Stands new.state (line ∷ before) → HasRead format Stands (line ∷ before) new
+has_read_more format Stands before line old new bytes on counted short is stands = record {
+  lines = (record { going = on.going; bytes = bytes; short = short; is = is }, on.so_far.lines);
+  stands = stands;
+  count = omega (arith, counted, on.so_far.count);
+}
+
+-- and what is left of the text
+pub leaves_more : {P V M : Type 0} → (format : TextFormat M) (text : List ℕ) (before : List M) (line : M) (old new : TextReader P V) (left now : Option (List ℕ)) (bytes : List ℕ)
+    (number : ℕ) → has_ended format before ≡ false → (leaves : LeavesOf format text before old left)
+    → ReadsLine (record { number = number; bytes = bytes }) (next_number old.reader) (held_of old.reader ++ leaves.rest) (held_of new.reader) now
+    → read format before bytes ≡ Ok line → LeavesOf format text (line ∷ before) new now
+leaves_more {P} {V} {M} format text before line old new left now bytes number going leaves reads is =
     let held = held_of new.reader in
     let more : M → Reading M = λ l. lines_after format (l ∷ before) (split 10 (held ++ reads.rest)) in
     record {
-      stands = stands;
-      count = omega (arith, counted, on.so_far.count);
       rest = reads.rest;
       left_is = reads.left_is;
-      is = on.so_far.is
-          ∙ ap (with_lines before) (ended_line format before (held_of old.reader ++ on.so_far.rest) bytes (held ++ reads.rest) on.going reads.text_is (printable_lacks bytes reads.printable) reads.short
+      is = leaves.is
+          ∙ ap (with_lines before) (ended_line format before (held_of old.reader ++ leaves.rest) bytes (held ++ reads.rest) going reads.text_is (printable_lacks bytes reads.printable) reads.short
           ∙ ap (λ (r : Result M TextCause). after_line before r more) is);
     }
