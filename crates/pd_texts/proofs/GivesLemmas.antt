@@ -5,7 +5,7 @@ use Rattle.std.proofs.lemmas.Option.{none-some}
 use Rattle.pd_grammar.specs.Texts.{TextFormat}
 use Rattle.pd_texts.specs.declared.fault.ReadFault.{ReadFault}
 use Rattle.pd_texts.specs.declared.reader.TextReader.{TextReader}
-use Rattle.pd_texts.specs.Reader.{HasRead, ReadsOn, LeavesOf, GivesLine, GivesOf, EndsOf, begun}
+use Rattle.pd_texts.specs.Reader.{HasRead, LeavesOf, GivesLine, GivesOf, EndsOf, begun}
 
 pub none_before : {M : Type 0} → (before : List M) → eqb (length before) 0 ≡ true → before ≡ []
 none_before [] e = refl

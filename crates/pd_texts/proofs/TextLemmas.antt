@@ -5,7 +5,7 @@ use Rattle.std.specs.List.{list_all, join_with_byte}
 use Rattle.pd_grammar.specs.declared.cause.TextCause.{TextCause}
 use Rattle.pd_grammar.specs.declared.cause.TextCause.TheVariants.{TooLong, NoEnd, AfterEnd}
 use Rattle.pd_grammar.specs.Words.{split, with_first, is_printable}
-use Rattle.pd_grammar.specs.Texts.{TextFormat, Reading, has_ended, refused, whole, with_line, after_line, read, lines_after, reading, refusal, number_after}
+use Rattle.pd_grammar.specs.Texts.{TextFormat, Reading, has_ended, refused, whole, after_line, read, lines_after, reading, refusal, number_after}
 use Rattle.pd_grammar.proofs.SplitLemmas.{Lacks, split-cut, split-one, split-some, join_split}
 use Rattle.pd_grammar.proofs.PlainLemmas.{printable_lacks}
 use Rattle.pd_lines.specs.declared.fault.LineFault.{LineFault}

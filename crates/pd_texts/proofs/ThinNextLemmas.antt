@@ -1,5 +1,5 @@
 -- What lines of a pool's text that were read say and mean.
-use Rattle.std.proofs.Common.{◌≡◌, ℕ, suc, ◌+◌, ◌^◌, ◌≤◌, ◌<◌, true, false, not, ◌&&◌, ltb, leb, List, [], ◌∷◌, length, refl, arith, Ok}
+use Rattle.std.proofs.Common.{◌≡◌, ℕ, ◌+◌, ◌^◌, ◌≤◌, ◌<◌, true, false, not, ◌&&◌, ltb, leb, List, [], ◌∷◌, length, arith}
 use Rattle.std.proofs.lemmas.Bool.Decides.{nat_tests}
 use Rattle.pd_kinds.specs.Meaning.{ThinPool}
 use Rattle.pd_grammar.specs.Texts.{TextFormat, has_ended, written}

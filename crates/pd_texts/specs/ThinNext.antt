@@ -1,5 +1,5 @@
 -- What the numbers of a line of a pool's text are, after given lines, the newest first.
-use Rattle.std.specs.Prelude.{◌≡◌, ℕ, ◌+◌, ◌^◌, ◌<◌, ◌≤◌, true, List, length, All}
+use Rattle.std.specs.Prelude.{◌≡◌, ◌+◌, ◌^◌, ◌<◌, ◌≤◌, true, List, length, All}
 use Rattle.pd_spells.specs.ThinText.{Line, Head, Details, Run, data_blocks_of, least_id, has_device, run_end, unmapped}
 
 -- a pool line after these lines

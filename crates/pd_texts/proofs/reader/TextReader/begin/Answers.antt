@@ -1,4 +1,4 @@
-use Rattle.std.proofs.Common.{◌≡◌, ◌∙◌, sym, subst, [], List, ℕ, MatchResult, OnOk}
+use Rattle.std.proofs.Common.{◌≡◌, ◌∙◌, sym, subst, [], List, MatchResult, OnOk}
 use Rattle.pd_texts.specs.Faults.{Refuses}
 use Rattle.pd_texts.specs.Reader.{ReadsOn, LeavesOf, begun}
 use Rattle.pd_texts.proofs.GivesLemmas.{none_before}

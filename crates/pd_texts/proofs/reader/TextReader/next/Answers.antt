@@ -1,4 +1,3 @@
-use Rattle.std.proofs.Common.{List, ℕ}
 use Rattle.pd_texts.specs.Reader.{begun}
 use Rattle.pd_texts.proofs.GivesLemmas.{some_begun, line_begun, text_begun}
 use Rattle.pd_texts.proofs.reader.TextReader.next.Goals as goal

@@ -1,4 +1,4 @@
-use Rattle.std.proofs.Common.{List, ℕ, Some}
+use Rattle.std.proofs.Common.{Some}
 use Rattle.pd_texts.proofs.GivesLemmas.{gives_line, gives_last, gives_more, gives_end}
 use Rattle.pd_texts.proofs.reader.TextReader.next_value.Goals as goal
 
