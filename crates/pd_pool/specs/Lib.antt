@@ -1,0 +1,4 @@
+pub mod Items
+pub mod Devices
+pub mod Joined
+pub mod Runs
