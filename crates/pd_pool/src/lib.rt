@@ -7,8 +7,10 @@
 
 mod devices;
 mod joined;
+mod laws;
 mod runs;
 
 pub use devices::{DeviceRow, ThinDevices};
 pub use joined::Run;
+pub use laws::{given_lines_are_the_text, rows_are_the_devices};
 pub use runs::MapRuns;
