@@ -10,6 +10,8 @@ use Rattle.pd_kinds.specs.Meaning.{thin_meaning, cache_meaning, era_meaning}
 use Rattle.pd_spells.specs.ThinText.{text_of_pool}
 use Rattle.pd_spells.specs.CacheText.{text_of_cache}
 use Rattle.pd_spells.specs.EraText.{text_of_era}
+use Rattle.pd_shapes.specs.SharedText.{text_of_shape}
+use Rattle.pd_shapes.specs.ImageShape.{image_shape}
 use Rattle.pd_spells.specs.Lines.{reported_lines, usage_line}
 use Rattle.pd_answers.specs.Requests as request
 use Rattle.pd_answers.specs.QueryLines.{rmap_lines, list_lines, since_lines}
@@ -131,14 +133,19 @@ image_text Era image = text_of_era (era_meaning image)
 abbrev pub dump : Kind → Option (List ℕ) → List ℕ → Terms
 dump kind file path = query kind (image_text kind) file path
 
--- The terms of a request. A dump that prints the shared leaves of a pool once needs the second version of the thin text,
--- which isn't defined yet: it keeps the terms of no request, and isn't built. Of a cache or an era target no words ask it
+-- a dump that tells the leaves that a pool's devices share once
+abbrev pub dump_shared : Option (List ℕ) → List ℕ → Terms
+dump_shared file path = query Thin (λ image. text_of_shape (image_shape image)) file path
+
+-- The terms of a request. Of a cache or an era target no words ask a dump with shared leaves
 abbrev pub terms_of : Option request.Request → Terms
 terms_of None = refused
 terms_of (Some (request.check kind until false path)) = check kind until path
 terms_of (Some (request.check kind until true path)) = check_and_clear path
 terms_of (Some (request.dump kind false file path)) = dump kind file path
-terms_of (Some (request.dump kind true file path)) = refused
+terms_of (Some (request.dump Thin true file path)) = dump_shared file path
+terms_of (Some (request.dump Cache true file path)) = refused
+terms_of (Some (request.dump Era true file path)) = refused
 terms_of (Some (request.restore kind version file path)) = restore kind version file path
 terms_of (Some (request.repair from to)) = repair from to
 terms_of (Some (request.search from to transaction block_size blocks)) = search from to transaction block_size blocks

@@ -1,5 +1,5 @@
 -- The terms of a restore, for each kind.
-use Rattle.std.specs.Prelude.{◌≡◌, ℕ, nat_lt, Bool, true, List, [], ◌∷◌, IfSome}
+use Rattle.std.specs.Prelude.{◌≡◌, ℕ, nat_lt, Bool, true, false, if◌then◌else◌, List, [], ◌∷◌, IfSome}
 use Rattle.pd_kinds.specs.declared.kind.Kind.{Kind}
 use Rattle.pd_kinds.specs.declared.kind.Kind.TheVariants.{Thin, Cache, Era}
 use Rattle.pd_grammar.specs.Texts.{reading as lines_read}
@@ -12,12 +12,16 @@ use Rattle.pd_spells.specs.CacheNeed.{cache_need_so_far, IsCacheVerdict}
 use Rattle.pd_spells.specs.EraNeed.{era_need_so_far, IsEraVerdict}
 use Rattle.pd_spells.specs.Lines.{refusal_line, no_room_line}
 use Rattle.pd_laid.specs.Laid.{Laid, IsLaid}
-use Rattle.pd_laid.specs.LaidThin.{laid_pool}
+use Rattle.pd_laid.specs.LaidThin.{laid_pool, laid_shape}
 use Rattle.pd_laid.specs.LaidCache.{laid_cache}
 use Rattle.pd_laid.specs.LaidEra.{laid_era}
+use Rattle.pd_shapes.specs.SharedText.{shared_format}
+use Rattle.pd_shapes.specs.SharedNeed.{shape_need_so_far}
+use Rattle.pd_shapes.specs.PoolText.{is_second_version, IsPoolTextVerdict}
 use Rattle.pd_answers.specs.Answer.{Answer, reading, writing}
 use Rattle.pd_answers.specs.Terms.{Terms, unnamed}
 use Rattle.pd_answers.specs.Outputs.{IsRoom, LeavesMade}
+use Rattle.pd_answers.specs.Requests.{reads_second_version}
 
 -- what a restore finds: how many blocks there are for metadata, the verdict on the text, and whether the first two
 -- lines of the text decide it
@@ -69,9 +73,21 @@ is_cache_early version text room = is_decided_early (cache_need_so_far version r
 abbrev pub is_era_early : List ℕ → ℕ → Bool
 is_era_early text room = is_decided_early (era_need_so_far room) room (lines_read era text).lines
 
--- a restore of each kind; only a cache has more than one version. A thin text is one of version 1
+-- the same for a pool's text of either version
+abbrev pub is_shape_early : List ℕ → ℕ → Bool
+is_shape_early text room = is_decided_early (shape_need_so_far room) room (lines_read shared_format text).lines
+
+abbrev pub is_pool_text_early : List ℕ → ℕ → Bool
+is_pool_text_early text room = if is_second_version text then is_shape_early text room else is_pool_early text room
+
+-- a restore of a pool from a text of version 1, and from a text of either version
+abbrev pub restore_pool : Bool → List ℕ → List ℕ → Terms
+restore_pool false file path = restore_by IsThinVerdict is_pool_early laid_pool file path
+restore_pool true file path = restore_by IsPoolTextVerdict is_pool_text_early laid_shape file path
+
+-- a restore of each kind; only a cache is restored in more than one version of its metadata
 abbrev pub restore : Kind → ℕ → List ℕ → List ℕ → Terms
-restore Thin version file path = restore_by IsThinVerdict is_pool_early laid_pool file path
+restore Thin version file path = restore_pool reads_second_version file path
 restore Cache version file path =
     restore_by (IsCacheVerdict version) (is_cache_early version) (λ m room. laid_cache m version room) file path
 restore Era version file path = restore_by IsEraVerdict is_era_early laid_era file path

@@ -1,0 +1,7 @@
+pub mod SharedLines
+pub mod SharedTests
+pub mod SharedText
+pub mod SharedNeed
+pub mod ImageShape
+pub mod PoolText
+pub mod Example
