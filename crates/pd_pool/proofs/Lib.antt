@@ -5,3 +5,4 @@ pub mod FitLemmas
 pub mod RowLemmas
 pub mod SuperLemmas
 pub mod SoundPool
+pub mod LawfulLemmas

@@ -1,8 +1,8 @@
 -- Rows are entries of two trees with the same keys: each key finds the details beside it.
-use Rattle.std.proofs.Common.{◌≡◌, ℕ, ◌+◌, ◌<◌, ◌≤◌, nat_eq, List, [], ◌∷◌, ◌++◌, Some, map, refl, sym, ap, ◌∙◌, arith, eq-eqb}
-use Rattle.std.specs.List.{AllByRecursion, flat_map, zip}
+use Rattle.std.proofs.Common.{◌≡◌, ℕ, ◌+◌, ◌<◌, List, [], ◌∷◌, ◌++◌, Some, map, refl, sym, ap, ◌∙◌, arith, eq-eqb}
+use Rattle.std.specs.List.{AllByRecursion, flat_map}
 use Rattle.std.proofs.lemmas.Bool.{ne_eqb}
-use Rattle.std.proofs.lemmas.Simd.{map-map}
+use Rattle.pd_value.specs.declared.thin.BlockTime.{BlockTime}
 use Rattle.pd_value.specs.declared.thin.Root.{Root}
 use Rattle.pd_value.specs.declared.thin.Details.{Details}
 use Rattle.pd_kinds.specs.Node.{Entry}
@@ -17,9 +17,9 @@ use Rattle.pd_spells.specs.ThinText.{Line, end_line, first_line, joined_part, jo
 use Rattle.pd_tree.specs.Items.{item_of, root_of}
 use Rattle.pd_pool.specs.declared.devices.DeviceRow.{DeviceRow}
 use Rattle.pd_pool.specs.Devices.{row_of, rows_of}
-use Rattle.pd_pool.specs.Given.{GivesPool, device_of, pool_rows, row_lines, super_head, super_lines}
+use Rattle.pd_pool.specs.Given.{BlocksFrom, GivesPool, IdsFrom, device_of, pool_rows, row_lines, super_head, super_lines}
 use Rattle.pd_pool.specs.Items.{details_of}
-use Rattle.pd_pool.specs.Joined.{spelled}
+use Rattle.pd_pool.specs.Joined.{mapping_of, spelled}
 use Rattle.pd_pool.specs.Runs.{mappings_below, runs_below}
 use Rattle.pd_pool.proofs.AscendLemmas.{KeysFrom}
 
@@ -68,6 +68,23 @@ pub row_roots : (P : ℕ → Type 0) (tops : List Entry) (details : List (ℕ ×
 row_roots P [] details all = tt
 row_roots P (t ∷ tops) [] all = tt
 row_roots P (t ∷ tops) (d ∷ details) all = (all.0, row_roots P tops details all.1)
+
+-- what holds of the entries of the two trees, in two ways, holds of the rows
+pub all_rows : (P : ℕ × Root → Type 0) (Q : ℕ × Details → Type 0) (R : DeviceRow → Type 0) → ((top : ℕ × Root) (details : ℕ × Details) → P top → Q details → R (row_of (top, details)))
+    → (tops : List (ℕ × Root)) (details : List (ℕ × Details)) → AllByRecursion P tops → AllByRecursion Q details → AllByRecursion R (rows_of tops details)
+all_rows P Q R both [] details ps qs = tt
+all_rows P Q R both (t ∷ tops) [] ps qs = tt
+all_rows P Q R both (t ∷ tops) (d ∷ details) ps qs = (both t d ps.0 qs.0, all_rows P Q R both tops details ps.1 qs.1)
+
+-- ids and virtual blocks ascend with the keys
+pub ids_ascend : (least : ℕ) (tops : List (ℕ × Root)) (details : List (ℕ × Details)) → KeysFrom least tops → IdsFrom least (rows_of tops details)
+ids_ascend least [] details from = tt
+ids_ascend least (t ∷ tops) [] from = tt
+ids_ascend least (t ∷ tops) (d ∷ details) from = (from.0, ids_ascend (t.0 + 1) tops details from.1)
+
+pub blocks_ascend : (least : ℕ) (items : List (ℕ × BlockTime)) → KeysFrom least items → BlocksFrom least (map mapping_of items)
+blocks_ascend least [] from = tt
+blocks_ascend least (item ∷ items) from = (from.0, blocks_ascend (item.0 + 1) items from.1)
 
 -- the lines of rows whose runs are given as they are
 pub same_lines : (image : List (List ℕ)) (rows : List DeviceRow)

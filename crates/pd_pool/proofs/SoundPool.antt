@@ -29,13 +29,13 @@ use Rattle.pd_tree.proofs.RoleLemmas.{entries_are, searchable_is}
 use Rattle.pd_tree.proofs.TableLemmas.{IsTreeAt, block_pair, role_pair, tree_at}
 use Rattle.pd_tree.proofs.TreeLemmas.{IsClean, each_kid}
 use Rattle.pd_pool.specs.declared.devices.DeviceRow.{DeviceRow}
-use Rattle.pd_pool.specs.Given.{GivesPool, device_of, pool_rows}
+use Rattle.pd_pool.specs.Given.{BlocksFrom, GivesPool, IdsFrom, device_of, pool_rows}
 use Rattle.pd_pool.specs.Items.{block_time_of, details_of}
 use Rattle.pd_pool.specs.Joined.{mapping_of, spelled}
 use Rattle.pd_pool.specs.Runs.{mappings_below, runs_below}
 use Rattle.pd_pool.proofs.AscendLemmas.{KeysFrom, tree_ascends}
 use Rattle.pd_pool.proofs.FitLemmas.{spelled_given}
-use Rattle.pd_pool.proofs.RowLemmas.{HasMappings, own_found, row_roots, same_devices}
+use Rattle.pd_pool.proofs.RowLemmas.{HasMappings, blocks_ascend, ids_ascend, own_found, row_roots, same_devices}
 use Rattle.pd_pool.proofs.SuperLemmas.{same_keys, sizes}
 
 -- what holds of the entries of each node that breaks no rule holds of all entries of a sound tree
@@ -138,6 +138,11 @@ module _ (image : List (List ℕ)) (none : faults Thin stages.Whole image ≡ []
   details_ascend =
       rw details_are at (tree_ascends 24 details_of image fields.details_root (searchable_is graph image fields.details_root 4 24 trees.details (sound fields.details_root 4 roots.details) details_of))
 
+  ids_are : IdsFrom 0 (pool_rows image)
+  ids_are =
+      ids_ascend 0 (items_below 8 root_of image 63 fields.mapping_root) (items_below 24 details_of image 63 fields.details_root)
+      (tree_ascends 8 root_of image fields.mapping_root (searchable_is graph image fields.mapping_root 2 8 trees.devices.is_role (sound fields.mapping_root 2 roots.devices) root_of))
+
   -- the mappings of a device
   have_mappings : (top : Entry) → IsReached graph image top.value 3 → HasMappings graph image details top
   have_mappings top reached =
@@ -156,6 +161,13 @@ module _ (image : List (List ℕ)) (none : faults Thin stages.Whole image ≡ []
   each_row P each =
       rw tops_are (row_roots P tops (items_below 24 details_of image 63 fields.details_root)
       (all_from (λ (e : Entry). IsReached graph image e.value 3) (λ (e : Entry). P e.value) (λ e reached. each e.value reached) tops named))
+
+  blocks_are : AllByRecursion (λ (row : DeviceRow). BlocksFrom 0 (mappings_below image row.root)) (pool_rows image)
+  blocks_are =
+      each_row (λ b. BlocksFrom 0 (mappings_below image b))
+      (λ b reached.
+      blocks_ascend 0 (items_below 8 block_time_of image 63 b)
+      (tree_ascends 8 block_time_of image b (searchable_is graph image b 3 8 trees.mappings (sound b 3 reached) block_time_of)))
 
   -- a reached block is in the image
   inside : (b role : ℕ) → IsReached graph image b role → b < length image
@@ -183,6 +195,8 @@ module _ (image : List (List ℕ)) (none : faults Thin stages.Whole image ≡ []
   pub gives_pool : GivesPool image
   gives_pool = record {
     devices = devices_are;
+    ids = ids_are;
+    blocks = blocks_are;
     mapping_root = inside fields.mapping_root 2 roots.devices;
     details_root = inside fields.details_root 4 roots.details;
     roots = roots_inside;

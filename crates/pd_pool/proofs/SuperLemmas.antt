@@ -1,6 +1,6 @@
 -- What is known of a pool's superblock that breaks no rule, and of a pool whose two trees have the same devices.
-use Rattle.std.proofs.Common.{◌≡◌, ℕ, ◌^◌, ◌<◌, ◌≤◌, Bool, true, false, not, ◌&&◌, ◌||◌, nat_eq, List, [], ◌∷◌, ◌++◌, length, map, refl, eq-eqb}
-use Rattle.std.specs.List.{list_any, flat_map}
+use Rattle.std.proofs.Common.{◌≡◌, ℕ, ◌^◌, ◌<◌, ◌≤◌, Bool, true, false, not, ◌&&◌, ◌||◌, nat_eq, List, [], ◌∷◌, ◌++◌, length, refl, eq-eqb}
+use Rattle.std.specs.List.{list_any}
 use Rattle.std.specs.Str.{bytes_eq}
 use Rattle.std.proofs.lemmas.Bool.{or_parts, not-false, ltb-false}
 use Rattle.std.proofs.lemmas.Slice.Eq.{bytes_eq-Decides}
@@ -15,7 +15,7 @@ use Rattle.pd_kinds.specs.Stages.{HasCleanSuper, faults, thin_checked}
 use Rattle.pd_kinds.specs.ThinFormat.{thin_graph}
 use Rattle.pd_kinds.specs.ThinSuper.{thin_fields, thin_super_bad, thin_super_tests, are_thin_sizes_bad}
 use Rattle.pd_kinds.specs.Trees.{keys_of}
-use Rattle.pd_kinds.specs.Whole.{WholeTest, bitmap_tests, details_entries, device_test, mapped_tests, thin_roots, thin_whole, top_entries, whole_bad}
+use Rattle.pd_kinds.specs.Whole.{WholeTest, bitmap_tests, details_entries, device_test, thin_roots, thin_whole, top_entries, whole_bad}
 use Rattle.pd_laws.proofs.CleanLemmas.{clean_super_where_none, whole_where_none}
 use Rattle.pd_laws.proofs.SoundLemmas.{IsSound, tests_after_two}
 use Rattle.pd_laws.proofs.ThinTable.{super_sound}

@@ -1,5 +1,5 @@
 -- What the cursors give of a pool, as devices and as lines of a text.
-use Rattle.std.specs.Prelude.{◌≡◌, ℕ, ◌<◌, List, [], ◌∷◌, ◌++◌, length, map}
+use Rattle.std.specs.Prelude.{◌≡◌, ℕ, ◌+◌, ◌<◌, ◌≤◌, List, [], ◌∷◌, ◌++◌, length, map}
 use Rattle.std.specs.List.{AllByRecursion, flat_map}
 use Rattle.pd_kinds.specs.declared.thin_super.ThinSuper.{ThinSuper}
 use Rattle.pd_kinds.specs.Graph.{block_at}
@@ -30,10 +30,22 @@ device_of image row = record {
   mappings = mappings_below image row.root;
 }
 
--- What the cursors give of an image are the devices of its meaning
+-- ids ascend, the first of them from a number on
+abbrev pub IdsFrom : ℕ → List DeviceRow → Type 0
+IdsFrom least [] = Unit {0}
+IdsFrom least (row ∷ rows) = (least ≤ row.id) × IdsFrom (row.id + 1) rows
+
+-- so do virtual blocks
+abbrev pub BlocksFrom : ℕ → List Mapping → Type 0
+BlocksFrom least [] = Unit {0}
+BlocksFrom least (m ∷ ms) = (least ≤ m.virtual_block) × BlocksFrom (m.virtual_block + 1) ms
+
+-- what the cursors give of an image are the devices of its meaning
 pub record GivesPool (image : List (List ℕ)) : Type 0 where
   -- the rows are its devices, and below their roots are the mappings of each
   pub devices : (thin_meaning image).devices ≡ map (device_of image) (pool_rows image)
+  pub ids : IdsFrom 0 (pool_rows image)
+  pub blocks : AllByRecursion (λ (row : DeviceRow). BlocksFrom 0 (mappings_below image row.root)) (pool_rows image)
   -- the roots are in the image
   pub mapping_root : (thin_fields (block_at image 0)).mapping_root < length image
   pub details_root : (thin_fields (block_at image 0)).details_root < length image

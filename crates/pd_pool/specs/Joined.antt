@@ -1,5 +1,5 @@
 -- Runs of mappings, as they are given.
-use Rattle.std.specs.Prelude.{◌≡◌, ℕ, suc, ◌+◌, ◌-◌, ◌^◌, min, Bool, ◌==◌, ◌&&◌, nat_lt, List, [], ◌∷◌, map, Option, Some, None}
+use Rattle.std.specs.Prelude.{◌≡◌, ℕ, suc, ◌+◌, ◌-◌, ◌^◌, min, Bool, ◌==◌, ◌&&◌, List, [], ◌∷◌, map, Option, Some, None}
 use Rattle.pd_kinds.specs.Meaning.{Mapping}
 use Rattle.pd_value.specs.declared.thin.BlockTime.{BlockTime}
 use Rattle.pd_spells.specs.ThinText as text

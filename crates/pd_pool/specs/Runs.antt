@@ -1,5 +1,5 @@
 -- What is left of the runs of a device's mappings.
-use Rattle.std.specs.Prelude.{ℕ, ◌+◌, ◌*◌, Bool, if◌then◌else◌, List, [], ◌++◌, length, map}
+use Rattle.std.specs.Prelude.{ℕ, ◌+◌, ◌*◌, if◌then◌else◌, List, [], ◌++◌, length, map}
 use Rattle.pd_kinds.specs.Meaning.{Mapping}
 use Rattle.pd_tree.specs.Below.{items_below}
 use Rattle.pd_tree.specs.Cursor.{cursor_items, cursor_nodes, cursor_number, cursor_room}

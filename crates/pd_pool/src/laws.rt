@@ -16,6 +16,7 @@ ghost use Rattle.pd_pool.specs.Given.{GivesPool, super_lines};
 ghost use Rattle.pd_pool.specs.Joined.{spelled};
 ghost use Rattle.pd_pool.specs.Runs.{mappings_below, runs_below};
 
+use pd_laid::sound_pool_is_saved;
 use pd_laws::trees_are_in_order;
 use pd_tree::{
     entries_lead_to_reached_pairs, formats_have_trees, reached_trees_are_sound,
@@ -40,4 +41,13 @@ pub fn given_lines_are_the_text()
         → text_of_lines thin (super_lines image (thin_fields (block_at image 0))) ≡ text_of_pool (thin_meaning image) }
 {
     rows_are_the_devices();
+}
+
+/// The meaning of a pool without faults up to the stage Whole is lawful: a text spells it.
+pub fn sound_pools_are_lawful()
+    ensures { (image : List (List ℕ)) → HasBytes image → All (λ block. length block ≡ 4096) image → faults Thin Whole image ≡ []
+        → IsLawfulPool (thin_meaning image) }
+{
+    rows_are_the_devices();
+    sound_pool_is_saved();
 }

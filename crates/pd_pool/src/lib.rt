@@ -12,5 +12,5 @@ mod runs;
 
 pub use devices::{DeviceRow, ThinDevices};
 pub use joined::Run;
-pub use laws::{given_lines_are_the_text, rows_are_the_devices};
+pub use laws::{given_lines_are_the_text, rows_are_the_devices, sound_pools_are_lawful};
 pub use runs::MapRuns;

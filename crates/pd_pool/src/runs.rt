@@ -40,6 +40,17 @@ impl MapRuns {
         })
     }
 
+    /// Begins again, before the first run of the device whose mappings have this root, with the memory that it has.
+    pub fn restart(&mut self, root: u64)
+        ensures runs { (image : List (List ℕ)) → runs_left image self.new ≡ runs_below image root }
+        ensures reads { (image : List (List ℕ)) → runs_reads image self.new ≡ length (nodes_below 8 image 63 root) }
+        ensures room { runs_room self.new ≡ root + 1 }
+    {
+        self.mappings.restart(root);
+        self.joined.begun = None;
+        self.ended = false;
+    }
+
     /// The next run, or `None` after the last one. It takes no memory.
     ///
     /// Each node that is left is read at most once. Over any device and tree the cursor's number falls with each run.

@@ -1,4 +1,4 @@
-use Rattle.std.proofs.Common.{ℕ, Some, None, IfSome, subst}
+use Rattle.std.proofs.Common.{ℕ, None, IfSome, subst}
 use Rattle.pd_value.specs.declared.thin.Details.{Details}
 use Rattle.pd_tree.specs.Cursor.{cursor_items}
 use Rattle.pd_tree.specs.Items.{root_of}
