@@ -17,3 +17,12 @@ Fails result dev dev' out out' = MatchResult result (λ _. (dev' ≡ dev) × (ou
 -- a sink alone
 abbrev pub SinkFails : Result (Unit {0}) QueryFault → ℕ → ℕ → Type 0
 SinkFails result out out' = MatchResult result (λ _. out' ≡ out) (λ fault. (fault ≡ Sink) × (Rose out out' × (out ≤ out')))
+
+-- why the start of a query fails: the device, or memory
+abbrev pub HasNotStarted : QueryFault → ℕ → ℕ → Type 0
+HasNotStarted Memory dev dev' = dev' ≡ dev
+HasNotStarted Device dev dev' = Rose dev dev' × (dev ≤ dev')
+HasNotStarted Sink dev dev' = ⊥
+
+abbrev pub StartFails : {T : Type 0} → Result T QueryFault → ℕ → ℕ → Type 0
+StartFails result dev dev' = MatchResult result (λ _. dev' ≡ dev) (λ fault. HasNotStarted fault dev dev')

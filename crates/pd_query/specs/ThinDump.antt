@@ -1,25 +1,14 @@
--- The text of a pool, as it is dumped.
-use Rattle.std.specs.Prelude.{ℕ, List, ◌++◌, map}
-use Rattle.std.specs.List.{flat_map}
-use Rattle.pd_kinds.specs.declared.thin_super.ThinSuper.{ThinSuper}
-use Rattle.pd_grammar.specs.Texts.{text_of_lines}
-use Rattle.pd_spells.specs.ThinText.{map_line, thin}
-use Rattle.pd_pool.specs.declared.devices.DeviceRow.{DeviceRow}
-use Rattle.pd_pool.specs.declared.joined.Run.{Run}
-use Rattle.pd_pool.specs.Given.{row_lines, super_lines}
-use Rattle.pd_pool.specs.Joined.{spelled}
+-- A dump that wasn't put yet.
+use Rattle.std.specs.Prelude.{ℕ, List, ◌++◌}
+use Rattle.pd_spells.specs.ThinText.{first_line, pool_line, thin}
+use Rattle.pd_texts.specs.Printed.{text_of_line}
+use Rattle.pd_pool.specs.Given.{super_head}
+use Rattle.pd_query.specs.declared.thin_dump.ThinDump.{ThinDump}
+use Rattle.pd_query.specs.ThinText.{rest_text, some_room}
 
--- the map lines of given runs
-abbrev pub given_text : List Run → List ℕ
-given_text runs = text_of_lines thin (map map_line (map spelled runs))
+-- its text, and how many blocks the device must have
+abbrev pub text_left : List (List ℕ) → ThinDump → List ℕ
+text_left image dump = text_of_line thin first_line ++ (text_of_line thin (pool_line (super_head dump.s)) ++ rest_text image dump.devices)
 
--- the lines of a row, and those of rows
-abbrev pub row_text : List (List ℕ) → DeviceRow → List ℕ
-row_text image row = text_of_lines thin (row_lines image row)
-
-abbrev pub rows_text : List (List ℕ) → List DeviceRow → List ℕ
-rows_text image rows = text_of_lines thin (flat_map (row_lines image) rows)
-
--- the text of the pool with this superblock
-abbrev pub dump_text : List (List ℕ) → ThinSuper → List ℕ
-dump_text image s = text_of_lines thin (super_lines image s)
+abbrev pub dump_room : ThinDump → ℕ
+dump_room dump = some_room dump.devices

@@ -7,6 +7,7 @@
 mod fault;
 mod lines;
 mod thin_dump;
+mod thin_lines;
 
 pub use fault::QueryFault;
 pub use thin_dump::ThinDump;

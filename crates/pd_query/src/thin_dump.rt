@@ -1,138 +1,90 @@
 //! The dump of a pool.
 
-ghost use Rattle.std.specs.Prelude.{◌≡◌, ◌<◌, ◌≤◌, ℕ, List, MatchResult, IfOk};
-ghost use Rattle.pd_kinds.specs.Objects.{DeviceState};
-ghost use Rattle.pd_image.specs.Device.{IsAttached, OnlyReads};
-ghost use Rattle.pd_image.specs.Sink.{KeepsSink};
-ghost use Rattle.pd_pool.specs.Devices.{rows_left, rows_room};
-ghost use Rattle.pd_pool.specs.Runs.{runs_left, runs_room};
-ghost use Rattle.pd_query.specs.Adds.{AddsSome, PutsFront, PutsText};
-ghost use Rattle.pd_query.specs.Failing.{Fails};
-ghost use Rattle.pd_query.specs.ThinDump.{dump_text, given_text, row_text, rows_text};
-
 use crate::fault::QueryFault;
-use crate::lines::add_line;
+use crate::thin_lines::{add_first_lines, devices_of, read_super};
 use pd_image::{Device, Sink};
-use pd_kinds::{Kind, ThinSuper};
+use pd_kinds::ThinSuper;
 use pd_lines::Pieces;
-use pd_pool::{DeviceRow, MapRuns, Run, ThinDevices};
-use pd_texts::{Run2, ThinLine, add_end, add_first};
+use pd_pool::{MapRuns, ThinDevices};
 use std::alloc::{AllocError, Global};
 
 /// The dump of a pool, with the memory that it takes.
 #[derive(Drop)]
 pub struct ThinDump {
     s: ThinSuper,
-    devices: ThinDevices,
+    /// The devices; none where a root is outside of the device.
+    devices: Option<ThinDevices>,
     runs: MapRuns,
 }
 
-/// The line of a pool.
-fn pool_line(s: &ThinSuper) -> ThinLine {
-    ThinLine::Pool {
-        uuid: s.uuid,
-        time: s.time,
-        transaction: s.transaction,
-        block_size: s.block_size,
-        blocks: s.data_map.blocks,
-    }
-}
+impl ThinDump {
+    ghost use Rattle.std.specs.Prelude.{◌≡◌, ◌≤◌, ℕ, List, MatchResult, IfOk, IfSome, length};
+    ghost use Rattle.pd_kinds.specs.Objects.{DeviceState};
+    ghost use Rattle.pd_kinds.specs.Graph.{block_at};
+    ghost use Rattle.pd_kinds.specs.ThinSuper.{thin_fields};
+    ghost use Rattle.pd_image.specs.Device.{IsAttached, OnlyReads};
+    ghost use Rattle.pd_image.specs.Sink.{KeepsSink};
+    ghost use Rattle.pd_query.specs.Adds.{PutsText};
+    ghost use Rattle.pd_query.specs.Failing.{Fails, StartFails};
+    ghost use Rattle.pd_query.specs.ThinDump.{dump_room, text_left};
+    ghost use Rattle.pd_query.specs.ThinText.{dump_text};
 
-/// The line of a run.
-fn map_line(run: &Run) -> ThinLine {
-    ThinLine::Map(Run2 {
-        virt: run.virt,
-        target: run.target,
-        length: run.length,
-        time: run.time,
-    })
-}
-
-/// Gathers the map lines of the runs that are left.
-fn add_runs<D: Device, K: Sink>(
-    runs: &mut MapRuns,
-    dev: &mut D,
-    pieces: &mut Pieces,
-    out: &mut K,
-) -> Result<(), QueryFault>
-    requires dev { IsAttached (D.state dev.old) }
-    requires out { (K.state out.old).access ≡ 1 }
-    requires within { runs_room runs.old ≤ (D.state dev.old).blocks }
-    ensures lines { MatchResult result
-        (λ _. AddsSome (D.state dev.old).held (λ image. given_text (runs_left image runs.old)) pieces.old pieces.new (K.state out.old).written (K.state out.new).written)
-        (λ _. PutsFront (D.state dev.old).held (λ image. given_text (runs_left image runs.old)) pieces.old (K.state out.old).written (K.state out.new).written) }
-    ensures kept { OnlyReads (D.state dev.old) (D.state dev.new) }
-    ensures sink { KeepsSink (K.state out.old) (K.state out.new) }
-    ensures faults { Fails result (D.state dev.old).faults (D.state dev.new).faults (K.state out.old).faults (K.state out.new).faults }
-{
-    loop {
-        let run = match runs.next(dev) {
-            Ok(run) => run,
+    /// Reads the superblock of a pool, and takes the memory for its dump: three cursors over trees.
+    ///
+    /// Fails with `Device` where a read failed, and with `Memory` where that memory wasn't found.
+    pub fn start<D: Device>(alloc: Global, dev: &mut D) -> Result<ThinDump, QueryFault>
+        requires { IsAttached (D.state dev.old) }
+        ensures text { IfOk result (λ dump. IfSome (D.state dev.old).held (λ image. 1 ≤ length image → text_left image dump ≡ dump_text image (thin_fields (block_at image 0)))) }
+        ensures room { IfOk result (λ dump. dump_room dump ≤ (D.state dev.old).blocks) }
+        ensures kept { OnlyReads (D.state dev.old) (D.state dev.new) }
+        ensures faults { StartFails result (D.state dev.old).faults (D.state dev.new).faults }
+    {
+        let s = match read_super(dev) {
+            Ok(s) => s,
             Err(_) => return Err(QueryFault::Device),
         };
-        match run {
-            Some(run) => add_line(&map_line(&run), pieces, out)?,
-            None => return Ok(()),
+        match ThinDump::over(alloc, s, dev.blocks()) {
+            Ok(dump) => Ok(dump),
+            Err(_) => Err(QueryFault::Memory),
         }
     }
-}
 
-/// Gathers the line of a device, and those of its runs.
-fn add_device<D: Device, K: Sink>(
-    row: &DeviceRow,
-    runs: &mut MapRuns,
-    dev: &mut D,
-    pieces: &mut Pieces,
-    out: &mut K,
-) -> Result<(), QueryFault>
-    requires dev { IsAttached (D.state dev.old) }
-    requires out { (K.state out.old).access ≡ 1 }
-    ensures lines { MatchResult result
-        (λ _. AddsSome (D.state dev.old).held (λ image. row_text image row.now) pieces.old pieces.new (K.state out.old).written (K.state out.new).written)
-        (λ _. PutsFront (D.state dev.old).held (λ image. row_text image row.now) pieces.old (K.state out.old).written (K.state out.new).written) }
-    ensures kept { OnlyReads (D.state dev.old) (D.state dev.new) }
-    ensures sink { KeepsSink (K.state out.old) (K.state out.new) }
-    ensures faults { Fails result (D.state dev.old).faults (D.state dev.new).faults (K.state out.old).faults (K.state out.new).faults }
-{
-    let line = ThinLine::Device {
-        id: row.id,
-        details: row.details,
-    };
-    add_line(&line, pieces, out)?;
-    if row.root < dev.blocks() {
-        runs.restart(row.root);
-        add_runs(runs, dev, pieces, out)
-    } else {
-        Ok(())
+    /// Takes the memory for the dump of the pool with this superblock, in a device of so many blocks.
+    fn over(alloc: Global, s: ThinSuper, blocks: u64) -> Result<ThinDump, AllocError>
+        ensures text { (image : List (List ℕ)) → length image ≡ blocks → IfOk result (λ dump. text_left image dump ≡ dump_text image s) }
+        ensures room { IfOk result (λ dump. dump_room dump ≤ blocks) }
+    {
+        let runs = MapRuns::start(alloc, s.mapping_root)?;
+        let devices = devices_of(alloc, &s, blocks)?;
+        Ok(ThinDump { s, devices, runs })
     }
-}
 
-/// Gathers the lines of the devices that are left.
-fn add_devices<D: Device, K: Sink>(
-    devices: &mut ThinDevices,
-    runs: &mut MapRuns,
-    dev: &mut D,
-    pieces: &mut Pieces,
-    out: &mut K,
-) -> Result<(), QueryFault>
-    requires dev { IsAttached (D.state dev.old) }
-    requires out { (K.state out.old).access ≡ 1 }
-    requires within { rows_room devices.old ≤ (D.state dev.old).blocks }
-    ensures lines { MatchResult result
-        (λ _. AddsSome (D.state dev.old).held (λ image. rows_text image (rows_left image devices.old)) pieces.old pieces.new (K.state out.old).written (K.state out.new).written)
-        (λ _. PutsFront (D.state dev.old).held (λ image. rows_text image (rows_left image devices.old)) pieces.old (K.state out.old).written (K.state out.new).written) }
-    ensures kept { OnlyReads (D.state dev.old) (D.state dev.new) }
-    ensures sink { KeepsSink (K.state out.old) (K.state out.new) }
-    ensures faults { Fails result (D.state dev.old).faults (D.state dev.new).faults (K.state out.old).faults (K.state out.new).faults }
-{
-    loop {
-        let row = match devices.next(dev) {
-            Ok(row) => row,
-            Err(_) => return Err(QueryFault::Device),
-        };
-        match row {
-            Some(row) => add_device(&row, runs, dev, pieces, out)?,
-            None => return Ok(()),
+    /// Puts the pool's text, once. It takes no memory.
+    ///
+    /// Fails with `Device` where a read failed, and with `Sink` where `out` did; then a front of the text was put.
+    pub fn put<D: Device, K: Sink>(&mut self, dev: &mut D, out: &mut K) -> Result<(), QueryFault>
+        requires dev { IsAttached (D.state dev.old) }
+        requires out { (K.state out.old).access ≡ 1 }
+        requires within { dump_room self.old ≤ (D.state dev.old).blocks }
+        ensures text { PutsText (D.state dev.old).held (λ image. text_left image self.old) result (K.state out.old).written (K.state out.new).written }
+        ensures kept { OnlyReads (D.state dev.old) (D.state dev.new) }
+        ensures sink { KeepsSink (K.state out.old) (K.state out.new) }
+        ensures faults { Fails result (D.state dev.old).faults (D.state dev.new).faults (K.state out.old).faults (K.state out.new).faults }
+    {
+        let mut pieces = Pieces::new();
+        match add_first_lines(
+            &self.s,
+            &mut self.devices,
+            &mut self.runs,
+            dev,
+            &mut pieces,
+            out,
+        ) {
+            Ok(()) => match pieces.put(out) {
+                Ok(()) => Ok(()),
+                Err(_) => Err(QueryFault::Sink),
+            },
+            Err(fault) => Err(fault),
         }
     }
 }
