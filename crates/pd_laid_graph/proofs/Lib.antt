@@ -4,3 +4,4 @@ mod ForestLemmas
 pub mod LaidLemmas
 pub mod PlaceLemmas
 pub mod FitLemmas
+pub mod CheckLemmas

@@ -7,3 +7,4 @@ pub mod Roots
 pub mod Nodes
 pub mod Trees
 pub mod Names
+pub mod SuperBytes

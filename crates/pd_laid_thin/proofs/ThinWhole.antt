@@ -1,11 +1,10 @@
 -- What is read of a laid pool: its devices, and the rules that speak of the whole.
-use Rattle.std.proofs.Common.{◌≡◌, inl, inr, ℕ, zero, suc, ◌+◌, ◌/◌, ◌%◌, ◌^◌, ◌<◌, ◌≤◌, Bool, true, false, not, nat_eq, List, [], ◌∷◌, length, map, filter, Option, refl, sym, ◌∙◌, ap, ap₂, arith, eq-eqb}
+use Rattle.std.proofs.Common.{◌≡◌, inl, inr, ℕ, zero, suc, ◌+◌, ◌/◌, ◌%◌, ◌^◌, ◌<◌, ◌≤◌, true, false, not, nat_eq, List, [], ◌∷◌, length, map, filter, Option, refl, sym, ◌∙◌, ap, ap₂, arith, eq-eqb}
 use Rattle.std.specs.declared.option.Option.TheVariants.{Some}
 use Rattle.std.specs.List.{AllByRecursion, flat_map, range_with_len}
 use Rattle.std.specs.Option.{unwrap_or}
-use Rattle.std.proofs.lemmas.Bool.{and_left, cases_Bool, cases_eq, ne_eqb, not_from_true, or_from}
+use Rattle.std.proofs.lemmas.Bool.{cases_eq, ne_eqb, not_from_true}
 use Rattle.std.proofs.lemmas.Bool.Decides.{nat_tests}
-use Rattle.pd_kinds.specs.declared.rule.Rule.{Rule}
 use Rattle.pd_kinds.specs.declared.rule.Rule.TheVariants as r
 use Rattle.pd_kinds.specs.Graph.{Graph}
 use Rattle.pd_kinds.specs.Layout.{Tree}
@@ -14,27 +13,13 @@ use Rattle.pd_kinds.specs.Node.{Entry, is_ascending}
 use Rattle.pd_kinds.specs.ThinFormat.{mapped_block, mapped_time}
 use Rattle.pd_kinds.specs.Trees.{value_of_key}
 use Rattle.pd_kinds.specs.Value.{details_code, mapping_code}
-use Rattle.pd_kinds.specs.Whole.{WholeTest, mapped_number, mapping_entries, whole_bad}
+use Rattle.pd_kinds.specs.Whole.{WholeTest, mapped_number, mapping_entries}
 use Rattle.pd_laid.specs.LaidThin.{details_items, laid_device, mapping_items, top_items}
 use Rattle.pd_laid.specs.Shape.{ShapeDevice, device_of, piece_mappings}
 use Rattle.pd_laid_trees.proofs.Ascending.{asc_tail, first_less}
-use Rattle.pd_laid_laws.proofs.ThinDevices.{AreRead}
-use Rattle.pd_laid_laws.proofs.ThinItems.{DeviceFits, MappingFits, details_value, mappings_fit}
-use Rattle.pd_laid_laws.proofs.ThinRows.{length-items}
-
--- rules whose tests all hold are broken nowhere
-pub whole_holds : (tests : List WholeTest) (b : ℕ) (broken : Rule) → AllByRecursion (λ (t : WholeTest). t.fails ≡ false) tests → whole_bad tests b broken ≡ false
-unfolding whole_bad
-whole_holds [] b broken all = refl
-whole_holds (t ∷ tests) b broken all = or_from _ _ (and_left t.fails _ all.0) (whole_holds tests b broken all.1)
-
--- what holds of each element that passes holds of those that a filter keeps
-pub all_filtered : (P : ℕ → Type 0) (test : ℕ → Bool) (xs : List ℕ) → AllByRecursion (λ x. test x ≡ true → P x) xs → AllByRecursion P (filter test xs)
-all_filtered P test [] all = tt
-all_filtered P test (x ∷ xs) all = elim (cases_Bool (test x)) [
-  | inl here ↦ rw here (all.0 here, all_filtered P test xs all.1)
-  | inr missed ↦ rw missed (all_filtered P test xs all.1)
-]
+use Rattle.pd_laid_thin.proofs.ThinDevices.{AreRead}
+use Rattle.pd_laid_thin.proofs.ThinItems.{DeviceFits, MappingFits, details_value, mappings_fit}
+use Rattle.pd_laid_thin.proofs.ThinRows.{length-items}
 
 -- the value at a key that a range has
 pub value_found : (value : ℕ → ℕ) (a n b : ℕ) → a ≤ b → b < a + n

@@ -23,8 +23,8 @@ use Rattle.pd_laid.specs.Shape.{IsShape, ThinShape}
 use Rattle.pd_laid_graph.specs.LaidOut.{AllFrom, IsInPlace, IsSeen, LeadsBelow, laid_super}
 use Rattle.pd_laid_trees.proofs.Nodes.{none_outside}
 use Rattle.pd_laid_maps.proofs.Plain.{plain_seen}
-use Rattle.pd_laid_laws.proofs.SuperBytes.{is_super_of_rows}
-use Rattle.pd_laid_laws.proofs.ThinPool.{ShapeFits, data_index_root_leads, data_overflow_root_leads, details_root_leads, mapping_root_leads, meta_map_seen, pool_blocks, super_edges, super_edges_are, super_stands}
+use Rattle.pd_laid_trees.proofs.SuperBytes.{is_super_of_rows}
+use Rattle.pd_laid_thin.proofs.ThinPool.{ShapeFits, data_index_root_leads, data_overflow_root_leads, details_root_leads, mapping_root_leads, meta_map_seen, pool_blocks, super_edges, super_edges_are, super_stands}
 
 -- the fields that these rows and this uuid make up
 abbrev made_of : List Row → List ℕ → ThinFields

@@ -22,9 +22,9 @@ use Rattle.pd_laid_trees.specs.Items.{AreItems}
 use Rattle.pd_laid_trees.proofs.Names.{root_has}
 use Rattle.pd_laid_trees.proofs.Roots.{AreLeavesAt, leaves_both}
 use Rattle.pd_laid_trees.proofs.Trees.{IsRow, SeenLeaf, leaf_roles, leaves_are, leaves_fit, leaves_seen, parts_items, row_above, seen_at}
-use Rattle.pd_laid_laws.proofs.ThinItems.{DeviceFits, mapping_items_are}
-use Rattle.pd_laid_laws.proofs.ThinRoles.{mappings_role}
-use Rattle.pd_laid_laws.proofs.ThinRows.{PieceFits, all_by_index, from_by_index, groups_filled, groups_joined, holds_among, own_most, own_part, piece_groups, pieces_fit, row_all, row_own, row_uses, shared_part, some_mappings, uses_fit}
+use Rattle.pd_laid_thin.proofs.ThinItems.{DeviceFits, mapping_items_are}
+use Rattle.pd_laid_thin.proofs.ThinRoles.{mappings_role}
+use Rattle.pd_laid_thin.proofs.ThinRows.{PieceFits, all_by_index, from_by_index, groups_filled, groups_joined, holds_among, own_most, own_part, piece_groups, pieces_fit, row_all, row_own, row_uses, shared_part, some_mappings, uses_fit}
 
 -- below the roots of devices stand their mappings
 abbrev pub AreRead : Graph → List (List ℕ) → Tree → List (List Mapping) → ℕ → List ShapeDevice → Type 0

@@ -22,7 +22,7 @@ use Rattle.pd_laid_maps.proofs.Index.{range_of}
 use Rattle.pd_laid_maps.proofs.MapItems.{index_edges}
 use Rattle.pd_laid_maps.proofs.MapNames.{bitmaps_no_data, meta_names, meta_no_data, no_data, tree_no_data}
 use Rattle.pd_laid_maps.proofs.RoleCounts.{NameNone, blocks_count, both_count, edges_in, inners_name_none, leaves_name_none, no_edges, none_count, range_count, role_count, tree_count, tree_names_none}
-use Rattle.pd_laid_laws.proofs.ThinPool.{pool_blocks, super_edges}
+use Rattle.pd_laid_thin.proofs.ThinPool.{pool_blocks, super_edges}
 
 -- one element more, counted
 one_of : {X : Type 0} → (test : X → Bool) → X → ℕ

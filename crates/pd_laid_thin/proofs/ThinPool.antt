@@ -34,10 +34,10 @@ use Rattle.pd_laid_maps.specs.MetaMap.{IsMetaMapSeen}
 use Rattle.pd_laid_maps.proofs.Bitmaps.{bitmap_stands, bitmaps_fit}
 use Rattle.pd_laid_maps.proofs.MapItems.{index_are, index_edges, overflow_are}
 use Rattle.pd_laid_maps.proofs.MetaMap.{map_seen, unmapped}
-use Rattle.pd_laid_laws.proofs.ThinDevices.{AreDevicesSeen, devices_seen, few_roles, known, leaves_are_items, tops_inside, wide}
-use Rattle.pd_laid_laws.proofs.ThinItems.{DeviceFits, details_items_are, devices_ascend, devices_fit}
-use Rattle.pd_laid_laws.proofs.ThinRoles as roles
-use Rattle.pd_laid_laws.proofs.ThinRows.{holds_among, length-items}
+use Rattle.pd_laid_thin.proofs.ThinDevices.{AreDevicesSeen, devices_seen, few_roles, known, leaves_are_items, tops_inside, wide}
+use Rattle.pd_laid_thin.proofs.ThinItems.{DeviceFits, details_items_are, devices_ascend, devices_fit}
+use Rattle.pd_laid_thin.proofs.ThinRoles as roles
+use Rattle.pd_laid_thin.proofs.ThinRows.{holds_among, length-items}
 
 -- what a shape with a lawful meaning keeps
 pub record ShapeFits (w : ThinShape) : Type 0 where

@@ -3,8 +3,8 @@ pub mod ThinItems
 pub mod ThinRows
 pub mod ThinDevices
 pub mod ThinPool
-pub mod SuperBytes
 pub mod ThinSuper
 pub mod ThinCounts
 pub mod ThinWhole
 pub mod ThinLaw
+pub mod ThinNamed

@@ -3,19 +3,16 @@ use Rattle.std.proofs.Common.{◌≡◌, ◌⊎◌, inl, inr, ℕ, ◌+◌, ◌/
 use Rattle.std.specs.declared.option.Option.TheVariants.{Some}
 use Rattle.std.specs.List.{AllByRecursion, flat_map, range_with_len}
 use Rattle.std.specs.Option.{option_map}
-use Rattle.std.specs.Str.{bytes_eq}
 use Rattle.std.proofs.lemmas.Bool.{eqb-true, le-ltb, not_from_true, or_cases}
 use Rattle.std.proofs.lemmas.List.{map-id}
-use Rattle.std.proofs.lemmas.Slice.Eq.{bytes_eq-Decides}
 use Rattle.pd_kinds.specs.declared.kind.Kind.TheVariants.{Thin}
-use Rattle.pd_kinds.specs.declared.rule.Rule.{Rule}
 use Rattle.pd_kinds.specs.declared.rule.Rule.TheVariants as r
 use Rattle.pd_kinds.specs.Bitmap.{bitmaps_for}
 use Rattle.pd_kinds.specs.Graph.{Graph, block_at, block_of, meta_count, data_count, nodes, pair, role_of}
 use Rattle.pd_kinds.specs.Layout.{Tree, graph_of}
 use Rattle.pd_kinds.specs.Meaning.{ThinDevice, ThinPool, thin_device, thin_meaning}
 use Rattle.pd_kinds.specs.Node.{Entry}
-use Rattle.pd_kinds.specs.Stages.{AreClean, Checked, HasCleanSuper, IsClean, thin_checked}
+use Rattle.pd_kinds.specs.Stages.{AreClean, Checked, IsClean, thin_checked}
 use Rattle.pd_kinds.specs.ThinFormat.{mappings_tree, thin_graph, thin_layout}
 use Rattle.pd_kinds.specs.ThinSuper.{ThinFields, thin_fields, thin_super_bad, thin_super_block}
 use Rattle.pd_kinds.specs.Trees.{entries_below, keys_of, stored_data_in, stored_in, stored_meta_in}
@@ -27,6 +24,7 @@ use Rattle.pd_laid.specs.LaidThin.{bitmaps_at, data_counts, data_index, data_ove
 use Rattle.pd_laid.specs.Map.{index_entry_of, free_in, index_items, meta_counts, meta_map_number, meta_overflow}
 use Rattle.pd_laid.specs.Shape.{IsShape, ShapeDevice, ThinShape, pool_of}
 use Rattle.pd_laid_graph.specs.LaidOut.{AllFrom, AreLaidInOrder, IsFitting, IsInPlace, IsLaidOut, laid_super, role_at}
+use Rattle.pd_laid_graph.proofs.CheckLemmas.{all_filtered, clean_super, same_bytes, whole_holds}
 use Rattle.pd_laid_graph.proofs.FitLemmas.{fits_more}
 use Rattle.pd_laid_graph.proofs.FromLemmas.{from_both}
 use Rattle.pd_laid_graph.proofs.LaidLemmas.{laid_in_order}
@@ -35,21 +33,13 @@ use Rattle.pd_laid_maps.proofs.MapItems.{code_block, made_keys}
 use Rattle.pd_laid_maps.proofs.MapNames.{length-meta_map}
 use Rattle.pd_laid_maps.proofs.MetaMap.{other_more}
 use Rattle.pd_laid_maps.proofs.RoleCounts.{fitting_lead}
-use Rattle.pd_laid_laws.specs.CleanPool.{IsCleanPool, room_of}
-use Rattle.pd_laid_laws.proofs.ThinCounts.{bitmap_once, data_references, references_count}
-use Rattle.pd_laid_laws.proofs.ThinDevices.{AreRead}
-use Rattle.pd_laid_laws.proofs.ThinItems.{details_value}
-use Rattle.pd_laid_laws.proofs.ThinPool.{ShapeFits, bitmap_count, blocks_number, data_bitmap_stands, data_index_seen, data_overflow_seen, details_seen, device_fits, devices_all_seen, ids_ascend, lawful_graph, meta_fitting, meta_map_seen, parts_end, parts_fitting, pool_blocks, pool_in_place, pool_number, shape_fits, super_edges, top_keys, tops_seen}
-use Rattle.pd_laid_laws.proofs.ThinSuper.{IsSuperLaid, super_laid, super_leads, super_seen}
-use Rattle.pd_laid_laws.proofs.ThinWhole.{AreFound, all_filtered, devices_back, keyed, mapped_holds, value_found, whole_holds}
-
-same_bytes : (xs ys : List ℕ) → xs ≡ ys → bytes_eq xs ys ≡ true
-same_bytes xs ys same = (bytes_eq-Decides xs ys).1 same
-
-clean_super : (checked : Checked) (image : List (List ℕ)) → 1 ≤ length image → ((broken : Rule) → checked.super_bad (length image) (block_at image 0) broken ≡ false)
-    → HasCleanSuper checked image
-clean_super checked [] some sound = absurd (omega arith)
-clean_super checked (block ∷ blocks) some sound = sound
+use Rattle.pd_laid_thin.specs.CleanPool.{IsCleanPool, room_of}
+use Rattle.pd_laid_thin.proofs.ThinCounts.{bitmap_once, data_references, references_count}
+use Rattle.pd_laid_thin.proofs.ThinDevices.{AreRead}
+use Rattle.pd_laid_thin.proofs.ThinItems.{details_value}
+use Rattle.pd_laid_thin.proofs.ThinPool.{ShapeFits, bitmap_count, blocks_number, data_bitmap_stands, data_index_seen, data_overflow_seen, details_seen, device_fits, devices_all_seen, ids_ascend, lawful_graph, meta_fitting, meta_map_seen, parts_end, parts_fitting, pool_blocks, pool_in_place, pool_number, shape_fits, super_edges, top_keys, tops_seen}
+use Rattle.pd_laid_thin.proofs.ThinSuper.{IsSuperLaid, super_laid, super_leads, super_seen}
+use Rattle.pd_laid_thin.proofs.ThinWhole.{AreFound, devices_back, keyed, mapped_holds, value_found}
 
 index_keys : (w : ThinShape) → keys_of (data_index w) ≡ range_with_len 0 (bitmaps_for w.data_blocks)
 unfolding index_items
