@@ -1,0 +1,4 @@
+mod EraParts
+mod EraSuper
+mod EraCounts
+mod EraLaw
