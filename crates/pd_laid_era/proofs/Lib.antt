@@ -2,3 +2,4 @@ mod EraParts
 mod EraSuper
 mod EraCounts
 mod EraLaw
+mod EraNamed
