@@ -1,5 +1,5 @@
 -- An array of numbers, word by word.
-use Rattle.std.proofs.Common.{◌≡◌, ℕ, suc, ◌+◌, ◌-◌, ◌<◌, ◌≤◌, List, [], ◌∷◌, ap, subst, arith}
+use Rattle.std.proofs.Common.{◌≡◌, ℕ, suc, ◌+◌, ◌-◌, ◌<◌, ◌≤◌, [], ◌∷◌, subst, arith}
 use Rattle.std.specs.List.{range_with_len}
 use Rattle.pd_draft.specs.Placed.{Stand}
 use Rattle.pd_build.specs.Array.{ArrayLeft}

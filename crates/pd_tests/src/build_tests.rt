@@ -1,4 +1,4 @@
-ghost use Rattle.std.specs.Prelude.{◌≤◌, IfOk};
+ghost use Rattle.std.specs.Prelude.{IfOk};
 ghost use Rattle.pd_image.specs.Device.{IsWritable};
 ghost use Rattle.pd_image.specs.MemDevice.{mem_device_state};
 

@@ -1,7 +1,6 @@
-use Rattle.std.proofs.Common.{ℕ, ◌+◌, ◌^◌, nat_lt, subst, sym, List, ◌∷◌, [], ◌++◌, arith}
+use Rattle.std.proofs.Common.{◌^◌, nat_lt, arith}
 use Rattle.std.proofs.lemmas.Bool.{lt-ltb}
 use Rattle.pd_value.specs.declared.thin.Root.{Root}
-use Rattle.pd_build.specs.Leaves.{AreInOrder}
 use Rattle.pd_build.proofs.OrderLemmas.{in_order_none, in_order_more}
 use Rattle.pd_tests.proofs.built.numbered.Goals as goal
 

@@ -1,4 +1,4 @@
-use Rattle.std.proofs.Common.{ℕ, ◌^◌, nat_lt}
+use Rattle.std.proofs.Common.{◌^◌, nat_lt}
 use Rattle.pd_value.specs.declared.thin.Root.{Root}
 use Rattle.pd_build.specs.Leaves.{AreInOrder}
 use Rattle.pd_tests.proofs.built.numbered.Given as goal

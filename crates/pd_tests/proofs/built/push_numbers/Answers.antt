@@ -1,10 +1,7 @@
-use Rattle.std.proofs.Common.{◌≡◌, ◌+◌, ◌-◌, ◌≤◌, ℕ, List, length, refl, sym, ◌∙◌, ap, subst, arith}
+use Rattle.std.proofs.Common.{◌≡◌, ◌-◌, length, refl, sym, ◌∙◌, ap, arith}
 use Rattle.std.specs.List.{range_with_len}
 use Rattle.std.proofs.lemmas.List.FromFn.{length-range_with_len}
-use Rattle.pd_draft.specs.Stand.{stand}
-use Rattle.pd_draft.proofs.StaysLemmas.{keeps_place}
 use Rattle.pd_spells.specs.Need.{need_array}
-use Rattle.pd_build.specs.Building.{IsFilling}
 use Rattle.pd_build.proofs.ArrayLemmas.{filling_start, filling_next}
 use Rattle.pd_tests.proofs.FillingNumbers.{filling_here, filling_done}
 use Rattle.pd_tests.proofs.built.push_numbers.Goals as goal

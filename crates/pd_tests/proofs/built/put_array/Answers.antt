@@ -1,4 +1,4 @@
-use Rattle.std.proofs.Common.{◌≡◌, ◌+◌, ◌/◌, ◌≤◌, ℕ, ap, arith}
+use Rattle.std.proofs.Common.{◌≡◌, ◌+◌, ◌/◌, ap, arith}
 use Rattle.pd_spells.specs.Need.{need_array, need_tree}
 use Rattle.pd_tests.proofs.built.put_array.Goals as goal
 

@@ -1,4 +1,4 @@
-use Rattle.std.proofs.Common.{◌+◌, ◌≤◌, arith}
+use Rattle.std.proofs.Common.{arith}
 use Rattle.pd_count.specs.Counted.{count_of}
 use Rattle.pd_tests.proofs.MapNeeds.{no_data_need}
 use Rattle.pd_tests.proofs.map_tests.the_map_of_no_data_has_two_empty_trees.Goals as goal
