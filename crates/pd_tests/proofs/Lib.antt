@@ -1,2 +1,4 @@
 pub mod Kept
 pub mod RestoreLemmas
+pub mod FillingNumbers
+pub mod MapNeeds
