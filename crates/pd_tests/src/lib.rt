@@ -43,3 +43,5 @@ mod tree_tests;
 mod value_tests;
 #[cfg(test)]
 mod walk_tests;
+#[cfg(test)]
+mod whole_tests;
