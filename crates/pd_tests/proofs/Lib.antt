@@ -1,4 +1,1 @@
 pub mod Kept
-pub mod RestoreLemmas
-pub mod FillingNumbers
-pub mod MapNeeds

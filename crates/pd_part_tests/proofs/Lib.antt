@@ -1,0 +1,3 @@
+pub mod RestoreLemmas
+pub mod FillingNumbers
+pub mod MapNeeds
