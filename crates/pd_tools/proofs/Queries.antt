@@ -25,7 +25,7 @@ use Rattle.pd_tools.specs.Work.{IsFinished, IsStopped, IsWork}
 use Rattle.pd_tools.proofs.Checks.{not_yet}
 
 -- a value that is told, if one is
-abbrev told_or : {X Y : Type 0} → (X → Y) → Y → Option X → Y
+abbrev pub told_or : {X Y : Type 0} → (X → Y) → Y → Option X → Y
 told_or f otherwise None = otherwise
 told_or f otherwise (Some x) = f x
 
@@ -61,7 +61,7 @@ text_told : (held : Option (List (List ℕ))) (f : List (List ℕ) → List ℕ)
 text_told None f = tt
 text_told (Some image) f = refl
 
-both_told : (held : Option (List (List ℕ))) (kind : Kind) (f : List (List ℕ) → List ℕ)
+pub both_told : (held : Option (List (List ℕ))) (kind : Kind) (f : List (List ℕ) → List ℕ)
     → IfSome held (λ image. (told_or (λ image. report_of (faults kind stages.Whole image)) (report_of []) held ≡ report_of (faults kind stages.Whole image)) × (told_or f [] held ≡ f image))
 both_told None kind f = tt
 both_told (Some image) kind f = (refl, refl)
