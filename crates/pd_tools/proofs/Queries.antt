@@ -1,13 +1,13 @@
 -- What the work of a query comes to, over plain variables.
-use Rattle.std.proofs.Common.{◌≡◌, ◌≢◌, inl, inr, ℕ, Bool, true, false, nat_eq, nat_lt, IsTrue, List, [], ◌∷◌, length, Option, Some, None, IfSome, refl, sym, ap, ◌∙◌, lit≤, arith, unwrap_or, Result, Ok, Err}
+use Rattle.std.proofs.Common.{◌≡◌, inl, inr, ℕ, true, false, nat_eq, nat_lt, IsTrue, List, [], ◌∷◌, length, Option, Some, None, IfSome, refl, sym, ap, ◌∙◌, lit≤, arith, unwrap_or, Result, Ok, Err}
 use Rattle.std.proofs.lemmas.Bool.{cases_Bool, eqb-true}
 use Rattle.pd_kinds.specs.declared.kind.Kind.{Kind}
 use Rattle.pd_kinds.specs.declared.kind.Kind.TheVariants.{Thin}
 use Rattle.pd_kinds.specs.declared.kind.Stage.{Stage}
 use Rattle.pd_kinds.specs.declared.kind.Stage.TheVariants as stages
-use Rattle.pd_kinds.specs.Objects.{DeviceState, SinkState, Appends, AppendsFront, Rose}
+use Rattle.pd_kinds.specs.Objects.{DeviceState, SinkState, Appends, AppendsFront}
 use Rattle.pd_kinds.specs.Report.{Reported, report_of}
-use Rattle.pd_kinds.specs.Stages.{CanWantMemory, Checked, checked_of, faults, first_failing, stage_faults}
+use Rattle.pd_kinds.specs.Stages.{Checked, checked_of, faults, first_failing, stage_faults}
 use Rattle.pd_kinds.specs.Crash.{IsUntouched}
 use Rattle.pd_kinds.proofs.AppendLemmas.{appends_none, front_none}
 use Rattle.pd_image.specs.Device.{OnlyReads}
