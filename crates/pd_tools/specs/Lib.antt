@@ -2,3 +2,4 @@ pub mod Notes
 pub mod Stop
 pub mod Read
 pub mod Work
+pub mod Query

@@ -14,6 +14,8 @@ use pd_kinds::Kind;
 pub enum Tool {
     /// thin_check, cache_check, era_check
     Check(Kind),
+    /// thin_dump, cache_dump, era_dump
+    Dump(Kind),
 }
 
 /// How often something was given.
@@ -57,6 +59,9 @@ pub fn tool_named(word: &str) -> Option<Tool>
         "thin_check" => Some(Tool::Check(Kind::Thin)),
         "cache_check" => Some(Tool::Check(Kind::Cache)),
         "era_check" => Some(Tool::Check(Kind::Era)),
+        "thin_dump" => Some(Tool::Dump(Kind::Thin)),
+        "cache_dump" => Some(Tool::Dump(Kind::Cache)),
+        "era_dump" => Some(Tool::Dump(Kind::Era)),
         _ => None,
     }
 }
@@ -72,6 +77,11 @@ pub fn is_purpose(tool: Tool, word: &str) -> bool
             }
             Kind::Cache => word == "--until" || word == "IMAGE",
             Kind::Era => word == "--until" || word == "IMAGE",
+        },
+        Tool::Dump(kind) => match kind {
+            Kind::Thin => word == "--shared" || word == "-o" || word == "IMAGE",
+            Kind::Cache => word == "-o" || word == "IMAGE",
+            Kind::Era => word == "-o" || word == "IMAGE",
         },
     }
 }

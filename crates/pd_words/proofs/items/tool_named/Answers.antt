@@ -18,6 +18,18 @@ pub returns-in-era_check : goal.returns-in-era_check
 unfolding tool_in
 returns-in-era_check c = rw c.in-era_check.is refl
 
+pub returns-in-thin_dump : goal.returns-in-thin_dump
+unfolding tool_in
+returns-in-thin_dump c = rw c.in-thin_dump.is refl
+
+pub returns-in-cache_dump : goal.returns-in-cache_dump
+unfolding tool_in
+returns-in-cache_dump c = rw c.in-cache_dump.is refl
+
+pub returns-in-era_dump : goal.returns-in-era_dump
+unfolding tool_in
+returns-in-era_dump c = rw c.in-era_dump.is refl
+
 -- another word
 skip : (named : Named) (others : List Named) (word : List ℕ) → word ≢ named.name → tool_in (named ∷ others) word ≡ tool_in others word
 unfolding tool_in
@@ -42,5 +54,6 @@ unread (named ∷ others) word none = elim (cases_Bool (bytes_eq word named.name
 pub returns-in_default : goal.returns-in_default
 returns-in_default c =
     let word = c.args.word.now in
-    let others = skip _ _ word c.in_default.not-thin_check ∙ (skip _ _ word c.in_default.not-cache_check ∙ skip _ _ word c.in_default.not-era_check) in
-    sym (ap read others ∙ unread _ word (refl, (refl, (refl, (refl, (refl, (refl, (refl, (refl, (refl, (refl, (refl, (refl, tt)))))))))))))
+    let checks = skip _ _ word c.in_default.not-thin_check ∙ (skip _ _ word c.in_default.not-cache_check ∙ skip _ _ word c.in_default.not-era_check) in
+    let dumps = skip _ _ word c.in_default.not-thin_dump ∙ (skip _ _ word c.in_default.not-cache_dump ∙ skip _ _ word c.in_default.not-era_dump) in
+    sym (ap read (checks ∙ dumps) ∙ unread _ word (refl, (refl, (refl, (refl, (refl, (refl, (refl, (refl, (refl, tt))))))))))
