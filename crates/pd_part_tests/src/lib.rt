@@ -21,8 +21,7 @@ mod image_tests;
 mod map_tests;
 #[cfg(test)]
 mod node_tests;
-#[cfg(test)]
-mod small_copy;
+pub mod small_copy;
 #[cfg(test)]
 mod small_restore;
 #[cfg(test)]
