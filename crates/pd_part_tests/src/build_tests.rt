@@ -6,6 +6,8 @@ use crate::built::{build_array, build_tree, has_numbers, has_words, numbered};
 use pd_build::{BuildFault, need_tree, need_upper};
 use pd_image::{Device, MemDevice, Pick};
 use pd_kinds::{BLOCK_SIZE, Block};
+use pd_node::entries;
+use pd_value::BlockTime;
 use std::test::Fail;
 
 /// Numbers of items, and the place of the root: the tree stands from block 1 on, and its root comes last.
@@ -53,6 +55,18 @@ fn trees_are_read_back(rt: HostRuntime) -> Result<(), Fail> {
         assert!(rt; root < dev.blocks());
         assert!(rt; has_numbers(rt.alloc(), &mut dev, root, count)?);
     }
+    Ok(())
+}
+
+#[test]
+fn leaves_of_253_items_have_127_and_126(rt: HostRuntime) -> Result<(), Fail> {
+    let items = numbered(rt.alloc(), 253)?;
+    let mut dev = attached(&rt, 4)?;
+    assert!(rt; dev.blocks() >= 1);
+    let _root = build_tree(rt.alloc(), &mut dev, &items)?;
+    assert!(rt; dev.blocks() >= 3);
+    assert_eq!(rt; entries::<BlockTime>(&dev.block(1)), 127);
+    assert_eq!(rt; entries::<BlockTime>(&dev.block(2)), 126);
     Ok(())
 }
 
