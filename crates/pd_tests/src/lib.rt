@@ -4,6 +4,8 @@
 #[cfg(test)]
 mod count_tests;
 #[cfg(test)]
+mod dump_tests;
+#[cfg(test)]
 mod order_tests;
 #[cfg(test)]
 mod pool;

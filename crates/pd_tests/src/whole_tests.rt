@@ -37,7 +37,7 @@ fn details(mapped: u64) -> Details {
 }
 
 /// The superblock of the pool of one mapping, with a held copy in this block, or none at 0.
-fn superblock(data_blocks: u64, held_root: u64) -> ThinSuper {
+pub(crate) fn superblock(data_blocks: u64, held_root: u64) -> ThinSuper {
     let mut fields = empty_super();
     fields.held_root = held_root;
     fields.data_map = map_root(data_blocks, 1, 5, 6);
@@ -57,7 +57,7 @@ fn copy_with_details(details_root: u64) -> Block {
 
 /// A details leaf of one device.
 #[tactic(auto, unfolding(pd_kinds::specs::Node::is_ascending))]
-fn details_leaf(place: u64, id: u64, mapped: u64) -> Block {
+pub(crate) fn details_leaf(place: u64, id: u64, mapped: u64) -> Block {
     write_leaf(place, &[(id, details(mapped))])
 }
 
