@@ -1,0 +1,4 @@
+pub mod CountLemmas
+pub mod NeedLemmas
+pub mod GrowthLemmas
+pub mod RunLemmas

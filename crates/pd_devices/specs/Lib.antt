@@ -1,0 +1,3 @@
+pub mod Need
+pub mod Counts
+pub mod Growth
