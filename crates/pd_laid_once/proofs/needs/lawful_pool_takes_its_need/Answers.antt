@@ -1,0 +1,14 @@
+use Rattle.pd_laid_once.proofs.Need.{laid_need, map_place, data_counts_are, overflows_are}
+use Rattle.pd_laid_once.proofs.needs.lawful_pool_takes_its_need.Goals as goal
+
+pub returns-clause-number : goal.returns-clause-number
+returns-clause-number c = λ m n lawful. laid_need m lawful n
+
+pub returns-clause-place : goal.returns-clause-place
+returns-clause-place c = λ m n lawful. map_place m lawful n
+
+pub returns-clause-counts : goal.returns-clause-counts
+returns-clause-counts c = data_counts_are
+
+pub returns-clause-overflows : goal.returns-clause-overflows
+returns-clause-overflows c = overflows_are
