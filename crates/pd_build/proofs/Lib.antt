@@ -4,6 +4,7 @@ pub mod CountLemmas
 pub mod NeedLemmas
 pub mod OrderLemmas
 pub mod PartLemmas
+pub mod RowLemmas
 pub mod SpreadLemmas
 pub mod TakesLemmas
 pub mod TreeLemmas

@@ -15,7 +15,8 @@ use Rattle.pd_build.specs.Leaves.{LeavesLeft, items_to_come, leaves_to_come, end
 use Rattle.pd_build.specs.Tree.{TreeLeft, leaf_number, leaves_left, blocks_left, root_left, number_left, Grows, AreKeysInOrder}
 use Rattle.pd_build.proofs.CountLemmas.{parts_none, parts_some}
 use Rattle.pd_laid.proofs.LaidLemmas.{blocks_from-append}
-use Rattle.pd_build.proofs.UpperLemmas.{heads-append, moved_by, uppers_one, root_one}
+use Rattle.pd_build.proofs.UpperLemmas.{heads-append, uppers_one, root_one}
+use Rattle.pd_build.proofs.RowLemmas.{moved_by}
 
 -- a tree of these leaves below what stands above
 abbrev all_blocks : ℕ → ℕ → List Entry → List (List Entry) → List (List ℕ)

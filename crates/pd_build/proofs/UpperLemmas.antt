@@ -8,13 +8,12 @@ use Rattle.pd_kinds.specs.Node.{Entry, is_ascending, inner_block}
 use Rattle.pd_node.specs.Items.{keys_of}
 use Rattle.pd_draft.specs.Closed.{IsClosed}
 use Rattle.pd_draft.specs.Placed.{Stand, Wrote}
-use Rattle.pd_draft.proofs.PlacedLemmas.{wrote_none, wrote_then}
 use Rattle.pd_laid.specs.Tree.{spread, heads, blocks_from, first_key, levels_above, first_place, root_above}
 use Rattle.pd_spells.specs.Need.{nodes_for, need_above}
 use Rattle.pd_laid.proofs.SpreadLemmas.{length-spread}
 use Rattle.pd_build.proofs.OrderLemmas.{keys, asc_left, asc_right, heads_ascend}
 use Rattle.pd_laid.proofs.NeedLemmas.{length-heads}
-use Rattle.pd_laid.proofs.LaidLemmas.{length-blocks_from, blocks_from-append}
+use Rattle.pd_build.proofs.RowLemmas.{moved_by, rows_then, row_next, wrote_nothing}
 use Rattle.pd_build.proofs.SpreadLemmas.{level_spread}
 use Rattle.pd_build.specs.Leaves.{AreCounts}
 use Rattle.pd_build.specs.Rows.{links}
@@ -40,7 +39,7 @@ pub record IsRising (all level : List Entry) (from to : Stand) : Type 0 where
   pub top : length level ≡ 1 → first_place level ≡ root_above from.place all
   pub need : to.place + need_above fuel (length level) ≡ from.place + need_above 10 (length all)
 
--- rows of heads and of blocks
+-- rows of heads
 pub heads-append : (place : ℕ) (xs ys : List (List Entry)) → heads place (xs ++ ys) ≡ heads place xs ++ heads (place + length xs) ys
 unfolding heads
 heads-append place [] ys = ap (λ (p : ℕ). heads p ys) (omega arith)
@@ -51,24 +50,6 @@ heads-append place (x ∷ xs) ys =
 pub head_one : (place : ℕ) (node : List Entry) → heads place (node ∷ []) ≡ record { key = first_key node; value = place } ∷ []
 unfolding heads
 head_one place node = refl
-
-pub block_one : (write : ℕ → List Entry → List ℕ) (place : ℕ) (node : List Entry) → blocks_from write place (node ∷ []) ≡ write place node ∷ []
-unfolding blocks_from
-block_one write place node = refl
-
--- where a row of blocks was written
-pub moved_by : (write : ℕ → List Entry → List ℕ) (nodes : List (List Entry)) {from to : Stand} → Wrote (blocks_from write from.place nodes) from to
-    → to.place ≡ from.place + length nodes
-moved_by write nodes {from} {to} wrote = wrote.moved ∙ ap (λ (n : ℕ). from.place + n) (length-blocks_from write from.place nodes)
-
--- one row after another
-pub rows_then : (write : ℕ → List Entry → List ℕ) (xs ys : List (List Entry)) {a b c : Stand} → Wrote (blocks_from write a.place xs) a b
-    → Wrote (blocks_from write b.place ys) b c → Wrote (blocks_from write a.place (xs ++ ys)) a c
-rows_then write xs ys {a} {b} {c} first second =
-    let at : b.place ≡ a.place + length xs = moved_by write xs first in
-    subst (λ (blocks : List (List ℕ)). Wrote blocks a c)
-    (ap (λ (p : ℕ). blocks_from write a.place xs ++ blocks_from write p ys) at ∙ sym (blocks_from-append write a.place xs ys))
-    (wrote_then first second)
 
 -- a level that is half written
 half_counts : {nodes i used : ℕ} {all : List Entry} → IsHalf nodes all i used → i < nodes
@@ -206,11 +187,8 @@ pub wrote_next : (nodes i used size place : ℕ) (block : List ℕ) (was level :
     → Wrote (blocks_from inner_block from.place (take (i + 1) (spread nodes (links was)))) from to
 wrote_next nodes i used size place block was level from mid to part below before is_block at wrote =
     let p = take size (drop used (links was)) in
-    let one : block ∷ [] ≡ blocks_from inner_block mid.place (p ∷ []) =
-    ap (λ (b : List ℕ). b ∷ []) (is_block ∙ ap₂ inner_block at (part_is used size was level below)) ∙ sym (block_one inner_block mid.place p) in
     subst (λ (nodes : List (List Entry)). Wrote (blocks_from inner_block from.place nodes) from to) (sym part.is)
-    (rows_then inner_block (take i (spread nodes (links was))) (p ∷ []) before
-    (subst (λ (blocks : List (List ℕ)). Wrote blocks mid to) one wrote))
+    (row_next inner_block (take i (spread nodes (links was))) p block before (is_block ∙ ap₂ inner_block at (part_is used size was level below)) wrote)
 
 -- how far it is written
 pub half_moved : (nodes i : ℕ) (all : List Entry) (from to : Stand) → i ≤ nodes
@@ -218,10 +196,6 @@ pub half_moved : (nodes i : ℕ) (all : List Entry) (from to : Stand) → i ≤ 
 half_moved nodes i all from to within wrote =
     moved_by inner_block (take i (spread nodes all)) wrote
     ∙ ap (λ (n : ℕ). from.place + n) (length-take-le i (spread nodes all) (omega (arith, length-spread nodes all)))
-
-pub wrote_nothing : (stand : Stand) → IsClosed stand.device → Wrote (blocks_from inner_block stand.place []) stand stand
-unfolding blocks_from
-wrote_nothing stand closed = wrote_none stand closed
 
 pub all_parts_taken : (nodes : ℕ) (all : List Entry) → take nodes (spread nodes all) ≡ spread nodes all
 all_parts_taken nodes all = take_all nodes (spread nodes all) (omega (arith, length-spread nodes all))
@@ -260,7 +234,7 @@ rising_start all stand some few asc closed = record {
   some = some;
   ascending = asc;
   whole = refl;
-  wrote = wrote_nothing stand closed;
+  wrote = wrote_nothing inner_block stand closed;
   top = λ one. sym (root_one stand.place all (omega arith));
   need = refl;
 }

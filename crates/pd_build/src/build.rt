@@ -86,6 +86,7 @@ impl<V: Value> Builder<V> {
         ensures root { IfOk result (λ root. root ≡ root_left draft.old.next self []) }
         ensures closed { StaysClosed (stand draft.old).device (stand draft.new).device }
         ensures faults { CountsBuildFault result (stand draft.old).device.faults (stand draft.new).device.faults }
+        ensures fault { IfErr result (λ fault. fault ≡ BuildFault.Device) }
     {
         let _done = self.leaves.is_done();
         if self.upper.is_empty() {

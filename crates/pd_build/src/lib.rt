@@ -20,5 +20,6 @@ pub use build::Builder;
 pub use fault::BuildFault;
 pub use leaves::LeafBuilder;
 pub use need::{need_tree, need_upper};
+pub use steps::put_block;
 pub use upper::UpperBuilder;
 pub use write::write_tree;

@@ -42,10 +42,7 @@ pub(crate) fn least_of<T: Copy>(items: &[(u64, T)]) -> u64
 }
 
 /// Puts a block at the draft's next place.
-pub(crate) fn put_block<D: Device>(
-    draft: &mut Draft<'_, D>,
-    block: &Block,
-) -> Result<(), BuildFault>
+pub fn put_block<D: Device>(draft: &mut Draft<'_, D>, block: &Block) -> Result<(), BuildFault>
     requires writable { IsWritable (stand draft.old).device }
     requires room { draft.old.next < (stand draft.old).device.blocks }
     requires closed { IsClosed (stand draft.old).device }
@@ -53,6 +50,7 @@ pub(crate) fn put_block<D: Device>(
     ensures wrote { OnOk result (Wrote (block.now.0 ∷ []) (stand draft.old) (stand draft.new)) }
     ensures closed { StaysClosed (stand draft.old).device (stand draft.new).device }
     ensures faults { CountsBuildFault result (stand draft.old).device.faults (stand draft.new).device.faults }
+    ensures fault { IfErr result (λ fault. fault ≡ BuildFault.Device) }
 {
     match draft.put(block) {
         Ok(_) => Ok(()),

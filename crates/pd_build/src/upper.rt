@@ -1,6 +1,6 @@
 //! The levels above a row of nodes.
 
-ghost use Rattle.std.specs.Prelude.{◌≡◌, ℕ, ◌+◌, ◌-◌, ◌*◌, ◌<◌, ◌≤◌, List, [], ◌∷◌, ◌++◌, length, map, take, true, OnOk, OnErr, IfOk, nat_eq};
+ghost use Rattle.std.specs.Prelude.{◌≡◌, ℕ, ◌+◌, ◌-◌, ◌*◌, ◌<◌, ◌≤◌, List, [], ◌∷◌, ◌++◌, length, map, take, true, OnOk, OnErr, IfOk, IfErr, nat_eq};
 ghost use Rattle.pd_kinds.specs.Node.{Entry, is_ascending, inner_block};
 ghost use Rattle.pd_node.specs.Items.{keys_of};
 ghost use Rattle.pd_image.specs.Device.{IsWritable};
@@ -74,6 +74,7 @@ impl UpperBuilder {
         ensures root { IfOk result (λ root. root ≡ root_above draft.old.next self) }
         ensures closed { StaysClosed (stand draft.old).device (stand draft.new).device }
         ensures faults { CountsBuildFault result (stand draft.old).device.faults (stand draft.new).device.faults }
+        ensures fault { IfErr result (λ fault. fault ≡ BuildFault.Device) }
     {
         let mut level = self.level;
         while level.len() > 1 {
@@ -103,6 +104,7 @@ fn write_level<D: Device>(
     ensures wrote { OnOk result (Wrote (blocks_from inner_block draft.old.next (spread nodes (links level.old))) (stand draft.old) (stand draft.new)) }
     ensures closed { StaysClosed (stand draft.old).device (stand draft.new).device }
     ensures faults { CountsBuildFault result (stand draft.old).device.faults (stand draft.new).device.faults }
+    ensures fault { IfErr result (λ fault. fault ≡ BuildFault.Device) }
 {
     let mut used = 0;
     for i in 0..nodes {

@@ -6,7 +6,8 @@ use Rattle.pd_draft.specs.Stand.{stand}
 use Rattle.pd_laid.specs.Tree.{heads, blocks_from}
 use Rattle.pd_spells.specs.Need.{nodes_for}
 use Rattle.pd_build.specs.Rows.{links}
-use Rattle.pd_build.proofs.UpperLemmas.{IsPart, half_start, half_next, length-links, part_ascends, heads_next, wrote_next, half_moved, wrote_nothing, all_parts_taken}
+use Rattle.pd_build.proofs.UpperLemmas.{IsPart, half_start, half_next, length-links, part_ascends, heads_next, wrote_next, half_moved, all_parts_taken}
+use Rattle.pd_build.proofs.RowLemmas.{wrote_nothing}
 use Rattle.pd_build.proofs.upper.write_level.Goals as goal
 
 pub loop-i-init : goal.loop-i-init
@@ -18,7 +19,7 @@ loop-i-init g c =
       half = half_start c.args.nodes (links c.args.level.now) (omega (arith, c.requires.some)) (omega (arith, c.requires.few));
       below = refl;
       heads_are = refl;
-      wrote = wrote_nothing (stand c.args.draft.now) c.requires.closed;
+      wrote = wrote_nothing inner_block (stand c.args.draft.now) c.requires.closed;
       same_length = refl;
     }
 
