@@ -1,5 +1,5 @@
 -- A tree that grows by runs.
-use Rattle.std.proofs.Common.{◌≡◌, ℕ, suc, ◌+◌, List, [], ◌∷◌, ◌++◌, length, length-append, refl, sym, ◌∙◌, ap, subst, append_assoc, arith}
+use Rattle.std.proofs.Common.{◌≡◌, ℕ, List, [], ◌∷◌, ◌++◌, length, length-append, refl, sym, ◌∙◌, ap, subst, append_assoc, arith}
 use Rattle.std.proofs.lemmas.List.{append-nil}
 use Rattle.pd_kinds.specs.Node.{Entry}
 use Rattle.pd_draft.specs.Closed.{IsClosed}
@@ -7,7 +7,7 @@ use Rattle.pd_draft.specs.Placed.{Stand, Wrote}
 use Rattle.pd_draft.proofs.PlacedLemmas.{wrote_none, wrote_then}
 use Rattle.pd_laid.specs.Tree.{tree_blocks, tree_root}
 use Rattle.pd_build.specs.Leaves.{items_to_come}
-use Rattle.pd_build.specs.Tree.{TreeLeft, Grows, blocks_left, root_left, number_left}
+use Rattle.pd_build.specs.Tree.{TreeLeft, Grows, blocks_left, root_left}
 use Rattle.pd_devices.specs.Growth.{IsBegun, GrowsBy}
 
 -- nothing was taken yet

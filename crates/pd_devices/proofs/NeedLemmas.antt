@@ -1,5 +1,5 @@
 -- The need of a pool by the sum of its trees.
-use Rattle.std.proofs.Common.{◌≡◌, ℕ, suc, ◌+◌, ◌-◌, ◌^◌, ◌<◌, ◌≤◌, min, List, length, take, sum_by, refl, sym, ◌∙◌, ap, arith}
+use Rattle.std.proofs.Common.{◌≡◌, ℕ, min, List, length, sum_by, refl, arith}
 use Rattle.pd_spells.specs.Need.{need_tree}
 use Rattle.pd_spells.specs.ThinNeed.{need_of_devices}
 use Rattle.pd_devices.specs.Need.{need_of_trees}

@@ -1,9 +1,8 @@
 -- The mappings of a run.
-use Rattle.std.proofs.Common.{◌≡◌, ℕ, zero, suc, ◌+◌, List, [], ◌∷◌, ◌++◌, length, map, refl, sym, ◌∙◌, ap, arith}
+use Rattle.std.proofs.Common.{◌≡◌, ℕ, zero, suc, ◌+◌, List, [], ◌∷◌, ◌++◌, length, map, refl, ◌∙◌, ap, arith}
 use Rattle.std.proofs.lemmas.List.{length-map, map-append}
 use Rattle.std.specs.List.{range_with_len}
 use Rattle.pd_kinds.specs.Meaning.{Mapping}
-use Rattle.pd_kinds.specs.Node.{Entry}
 use Rattle.pd_kinds.specs.Value.{mapping_code}
 use Rattle.pd_spells.specs.ThinText.{mappings_from}
 use Rattle.pd_laid.specs.LaidThin.{mapping_items}

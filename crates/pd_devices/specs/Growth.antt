@@ -1,5 +1,5 @@
 -- A tree that grows by the items of a run, whatever comes after them.
-use Rattle.std.specs.Prelude.{◌≡◌, ℕ, ◌+◌, ◌≤◌, List, ◌++◌, length}
+use Rattle.std.specs.Prelude.{◌≡◌, ℕ, ◌+◌, List, ◌++◌, length}
 use Rattle.pd_kinds.specs.Node.{Entry}
 use Rattle.pd_draft.specs.Placed.{Stand, Wrote}
 use Rattle.pd_laid.specs.Tree.{tree_blocks, tree_root}

@@ -1,7 +1,5 @@
-use Rattle.std.proofs.Common.{◌≡◌, ◌+◌, ◌++◌, ◌∷◌, [], List, ap, sym, subst, arith, rules}
+use Rattle.std.proofs.Common.{List, sym, subst, arith, rules}
 use Rattle.pd_kinds.specs.Node.{Entry}
-use Rattle.pd_kinds.specs.Value.{mapping_code}
-use Rattle.pd_draft.specs.Closed.{IsClosed}
 use Rattle.pd_draft.specs.Placed.{Stand}
 use Rattle.pd_spells.specs.ThinText.{mappings_from}
 use Rattle.pd_laid.specs.LaidThin.{mapping_items}

@@ -1,6 +1,4 @@
 use Rattle.std.proofs.Common.{◌≡◌, ◌+◌, ◌≤◌}
-use Rattle.pd_draft.specs.Closed.{IsClosed}
-use Rattle.pd_draft.specs.Placed.{Stand}
 use Rattle.pd_spells.specs.ThinText.{mappings_from}
 use Rattle.pd_laid.specs.LaidThin.{mapping_items}
 use Rattle.pd_devices.specs.Growth.{GrowsBy}

@@ -1,4 +1,4 @@
-use Rattle.std.proofs.Common.{◌≡◌, ◌+◌, arith, sym, ◌∙◌, ap}
+use Rattle.std.proofs.Common.{◌+◌, arith, sym, ◌∙◌, ap}
 use Rattle.pd_devices.specs.Counts.{overflows_of}
 use Rattle.pd_devices.proofs.CountLemmas.{overflows_third, overflows_other, overflows-le, counts_bounded}
 use Rattle.pd_devices.proofs.counts.BlockCounts.add.Goals as goal
