@@ -22,11 +22,15 @@ mod pool;
 #[cfg(test)]
 mod ran;
 #[cfg(test)]
+mod small_copy;
+#[cfg(test)]
 mod small_restore;
 #[cfg(test)]
 mod super_tests;
 #[cfg(test)]
 mod supers_tests;
+#[cfg(test)]
+mod text_tests;
 #[cfg(test)]
 mod tree_tests;
 #[cfg(test)]
