@@ -107,7 +107,7 @@ last_entry : (es : List Entry) (i j v w : ℕ) → i ≡ j → v ≡ w → es ++
 last_entry es i j v w a b = cc
 
 -- where no device is open, no tree is
-closed_here : (o : Option Growing) (from to : Stand) → IsOpen [] 0 0 o from to → from ≡ to
+pub closed_here : (o : Option Growing) (from to : Stand) → IsOpen [] 0 0 o from to → from ≡ to
 closed_here None from to is = is
 closed_here (Some o) from to is = absurd is
 
@@ -179,7 +179,7 @@ gathered_ended {start} {mid} {now} before old new o root h none growing ended de
           total = rw counts (omega (arith, h.total, none));
           trees = rw trees h.trees;
           number = rw details h.number;
-          place = omega (arith, h.place, ap open_need opened, tree.moved, length-tree_blocks h.behind.place items, ap (need_tree 8) full);
+          place = omega (arith, h.place, ap open_need opened, tree.moved, length-tree_blocks 8 h.behind.place items, ap (need_tree 8) full);
         }
 
 -- a device was begun

@@ -16,11 +16,11 @@ use Rattle.pd_spells.specs.Need.{nodes_for, nodes_of_tree, need_tree}
 use Rattle.pd_devices.proofs.RunLemmas.{length-items}
 
 -- a tree has as many blocks as it needs
-pub length-tree_blocks : (place : ℕ) (items : List Entry) → length (tree_blocks 8 place items) ≡ need_tree 8 (length items)
-length-tree_blocks place items =
-    ap (λ (blocks : List (List ℕ)). length blocks) (sym (tree_written 3 (tree_of (plain_tree 8)) place items))
-    ∙ (length-blocks_from (λ at (b : LaidBlock). b.written at) place (laid_tree 3 (tree_of (plain_tree 8)) place items)
-    ∙ length-tree 3 (tree_of (plain_tree 8)) place items)
+pub length-tree_blocks : (size place : ℕ) (items : List Entry) → length (tree_blocks size place items) ≡ need_tree size (length items)
+length-tree_blocks size place items =
+    ap (λ (blocks : List (List ℕ)). length blocks) (sym (tree_written 3 (tree_of (plain_tree size)) place items))
+    ∙ (length-blocks_from (λ at (b : LaidBlock). b.written at) place (laid_tree 3 (tree_of (plain_tree size)) place items)
+    ∙ length-tree 3 (tree_of (plain_tree size)) place items)
 
 pub length-device_trees : (place : ℕ) (devices : List ThinDevice) → length (device_trees place devices) ≡ trees_need devices
 unfolding device_trees
@@ -32,7 +32,7 @@ length-device_trees place (d ∷ devices) =
     omega (
       arith,
       length-append here (device_trees next devices),
-      length-tree_blocks place (mapping_items d.mappings),
+      length-tree_blocks 8 place (mapping_items d.mappings),
       items,
       length-device_trees next devices,
       sum_by-cons (need_tree 8) (length d.mappings) (map (λ (d : ThinDevice). length d.mappings) devices),
