@@ -107,7 +107,7 @@ last_entry : (es : List Entry) (i j v w : ℕ) → i ≡ j → v ≡ w → es ++
 last_entry es i j v w a b = cc
 
 -- where no device is open, no tree is
-pub closed_here : (o : Option Growing) (from to : Stand) → IsOpen [] 0 0 o from to → from ≡ to
+closed_here : (o : Option Growing) (from to : Stand) → IsOpen [] 0 0 o from to → from ≡ to
 closed_here None from to is = is
 closed_here (Some o) from to is = absurd is
 

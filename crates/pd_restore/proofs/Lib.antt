@@ -1,0 +1,4 @@
+pub mod MapLemmas
+pub mod OrderLemmas
+pub mod PartLemmas
+pub mod LineLemmas

@@ -1,0 +1,4 @@
+pub mod Written
+pub mod Parts
+pub mod Restored
+pub mod Faults

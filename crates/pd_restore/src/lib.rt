@@ -1,0 +1,8 @@
+//! A pool that is restored from its text, as a stream.
+#![tactic(auto)]
+
+mod fault;
+mod parts;
+
+pub use fault::RestoreFault;
+pub use pd_devices::need_thin;
