@@ -261,7 +261,7 @@ gathered_run {start} {mid} {now} before old new o p r h follows growing grown sa
         }
 
 -- the trees of all devices are within the need
-trees_within : (room : ℕ) (before : List Line) → 1 + sum_by (need_tree 8) (mapped_in before) ≤ thin_need_so_far room before
+pub trees_within : (room : ℕ) (before : List Line) → 1 + sum_by (need_tree 8) (mapped_in before) ≤ thin_need_so_far room before
 unfolding thin_need_so_far need_of_devices
 trees_within room before = omega arith
 

@@ -2,3 +2,4 @@ pub mod MapLemmas
 pub mod OrderLemmas
 pub mod PartLemmas
 pub mod LineLemmas
+pub mod ReadingLemmas

@@ -2,3 +2,4 @@ pub mod Written
 pub mod Parts
 pub mod Restored
 pub mod Faults
+pub mod Reading

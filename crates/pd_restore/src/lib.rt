@@ -2,6 +2,7 @@
 #![tactic(auto)]
 
 mod fault;
+mod lines;
 mod parts;
 
 pub use fault::RestoreFault;
