@@ -32,6 +32,8 @@ mod supers_tests;
 #[cfg(test)]
 mod text_tests;
 #[cfg(test)]
+mod thin_pool_text;
+#[cfg(test)]
 mod tree_tests;
 #[cfg(test)]
 mod value_tests;

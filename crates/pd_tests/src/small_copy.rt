@@ -1,7 +1,7 @@
 //! A small copy of a pool's text: that it is printed as it was read follows from the contracts of the reader and the
 //! printers alone.
 
-ghost use Rattle.std.specs.Prelude.{◌≡◌, List, ℕ, Option, MatchResult, OnOk, IfErr, Some};
+ghost use Rattle.std.specs.Prelude.{◌≡◌, List, ℕ, Option, MatchResult, Some};
 ghost use Rattle.std.specs.Bool.{MatchBool};
 ghost use Rattle.pd_kinds.specs.Meaning.{ThinPool};
 ghost use Rattle.pd_kinds.specs.Objects.{Appends};
@@ -29,19 +29,13 @@ pub enum CopyFault {
 }
 
 /// Reads a pool's text and prints it again.
-pub fn copy<S: Source, K: Sink>(
-    alloc: Global,
-    source: &mut S,
-    out: &mut K,
-) -> Result<(), CopyFault>
+pub fn copy<S: Source, K: Sink>(alloc: Global, source: &mut S, out: &mut K) -> Result<(), CopyFault>
     requires source { (S.state source.old).access ≡ 1 }
     requires sink { (K.state out.old).access ≡ 1 }
 
-    // What was read to its end is printed byte for byte, and spells a pool.
-    ensures copied { (text : List ℕ) → (S.state source.old).left ≡ Some text
-        → OnOk result (Appends text (K.state out.old).written (K.state out.new).written) }
-    ensures spells { (text : List ℕ) → (S.state source.old).left ≡ Some text → OnOk result ((m : ThinPool) × SpellsPool text m) }
-    ensures refused { (text : List ℕ) → (S.state source.old).left ≡ Some text → IfErr result (IsRefused text) }
+    // What was read to its end is printed byte for byte, and spells a pool; a refusal is the text's.
+    ensures { (text : List ℕ) → (S.state source.old).left ≡ Some text
+        → MatchResult result (λ _. Appends text (K.state out.old).written (K.state out.new).written × ((m : ThinPool) × SpellsPool text m)) (IsRefused text) }
 {
     let mut text = match ThinText::new(alloc) {
         Ok(text) => text,
@@ -63,7 +57,7 @@ fn copy_after_first<S: Source, K: Sink>(
 ) -> Result<(), CopyFault>
     requires source { (S.state source.old).access ≡ 1 }
     requires sink { (K.state out.old).access ≡ 1 }
-    ensures copied { (t : List ℕ) (start : Option (List ℕ)) → IsCopying t start text.old (S.state source.old).left pieces.old (K.state out.old).written
+    ensures { (t : List ℕ) (start : Option (List ℕ)) → IsCopying t start text.old (S.state source.old).left pieces.old (K.state out.old).written
         → MatchResult result (λ _. Appends t start (K.state out.new).written × ((m : ThinPool) × SpellsPool t m)) (IsRefused t) }
 {
     match copy_lines(text, source, pieces, out) {
@@ -125,7 +119,7 @@ fn copy_line<S: Source, K: Sink>(
 /// Puts the last line, and what is gathered.
 fn put_end<K: Sink>(pieces: &mut Pieces, out: &mut K) -> Result<(), CopyFault>
     requires { (K.state out.old).access ≡ 1 }
-    ensures copied { (t : List ℕ) (start : Option (List ℕ)) → HasCopied t start pieces.old (K.state out.old).written
+    ensures { (t : List ℕ) (start : Option (List ℕ)) → HasCopied t start pieces.old (K.state out.old).written
         → MatchResult result (λ _. Appends t start (K.state out.new).written × ((m : ThinPool) × SpellsPool t m)) (IsRefused t) }
 {
     whole_thin_text_spells();

@@ -1,11 +1,11 @@
 -- What the calls of a reader of a text give together.
-use Rattle.std.proofs.Common.{◌≡◌, ℕ, ◌≤◌, true, false, eqb, List, [], ◌∷◌, length, refl, sym, arith, Option, Some, None, Result, Ok, Err, IfOk}
+use Rattle.std.proofs.Common.{◌≡◌, inl, inr, ℕ, ◌≤◌, true, false, eqb, List, [], ◌∷◌, length, refl, sym, arith, Option, Some, None, Result, Ok, Err, IfOk}
 use Rattle.std.proofs.lemmas.Bool.Decides.{nat_tests}
 use Rattle.std.proofs.lemmas.Option.{none-some}
 use Rattle.pd_grammar.specs.Texts.{TextFormat}
 use Rattle.pd_texts.specs.declared.fault.ReadFault.{ReadFault}
 use Rattle.pd_texts.specs.declared.reader.TextReader.{TextReader}
-use Rattle.pd_texts.specs.Reader.{HasRead, LeavesOf, GivesLine, GivesOf, EndsOf, begun}
+use Rattle.pd_texts.specs.Reader.{HasRead, LeavesOf, GivesLine, GivesOf, EndsOf, RefusesNext, begun}
 
 pub none_before : {M : Type 0} → (before : List M) → eqb (length before) 0 ≡ true → before ≡ []
 none_before [] e = refl
@@ -14,6 +14,11 @@ none_before (line ∷ before) e = absurd (grind (arith, nat_tests))
 pub some_begun : {M : Type 0} → (first : M) (before : List M) → 1 ≤ length (begun first before)
 some_begun first [] = omega arith
 some_begun first (line ∷ before) = omega arith
+
+refused_begun : {M : Type 0} → (format : TextFormat M) (first last : M) (text : List ℕ) (before : List M) (fault : ReadFault)
+    → RefusesNext format first last text (begun first before) fault → RefusesNext format first last text before fault
+refused_begun format first last text [] fault refuses = elim refuses [ inl now ↦ inr (inl now) | inr later ↦ inr later ]
+refused_begun format first last text (newest ∷ before) fault refuses = refuses
 
 module _ {P V M : Type 0} (format : TextFormat M) (Stands : P → List M → Type 0) (first : M) (meant : Option V → M) where
   -- a line more
@@ -51,7 +56,8 @@ module _ {P V M : Type 0} (format : TextFormat M) (first : M) (meant : Option V 
   gives_end (Ok None) text [] reader left some none whole = absurd (omega arith)
   gives_end (Ok None) text (newest ∷ before) reader left some none whole = whole
   gives_end (Ok (Some line)) text before reader left some none whole = absurd (none-some line (sym none))
-  gives_end (Err fault) text before reader left some none refuses = refuses
+  gives_end (Err fault) text [] reader left some none refuses = absurd (omega arith)
+  gives_end (Err fault) text (newest ∷ before) reader left some none refuses = inr (inr refuses)
 
   pub text_begun : (result : Result (Option V) ReadFault) (text : List ℕ) (before : List M) (reader : TextReader P V) (left : Option (List ℕ))
       → GivesOf format first meant result text (begun first before) reader left → GivesOf format first meant result text before reader left
@@ -59,4 +65,4 @@ module _ {P V M : Type 0} (format : TextFormat M) (first : M) (meant : Option V 
   text_begun (Ok None) text (newest ∷ before) reader left gives = gives
   text_begun (Ok (Some line)) text [] reader left gives = gives
   text_begun (Ok (Some line)) text (newest ∷ before) reader left gives = gives
-  text_begun (Err fault) text before reader left refuses = refuses
+  text_begun (Err fault) text before reader left refuses = refused_begun format first (meant None) text before fault refuses

@@ -1,11 +1,12 @@
 -- What a reader of a text has read of it, and gives.
-use Rattle.std.specs.Prelude.{◌≡◌, ℕ, ◌-◌, ◌^◌, ◌≤◌, min, false, List, [], ◌∷◌, ◌++◌, length, Option, Some, None, Result, Ok, Err}
+use Rattle.std.specs.Prelude.{◌≡◌, ◌⊎◌, ℕ, ◌-◌, ◌^◌, ◌≤◌, min, false, List, [], ◌∷◌, ◌++◌, length, Option, Some, None, Result, Ok, Err}
 use Rattle.pd_grammar.specs.Words.{split}
-use Rattle.pd_grammar.specs.Texts.{TextFormat, Reading, has_ended, read, reading, lines_after, whole}
+use Rattle.pd_grammar.specs.Texts.{TextFormat, Reading, has_ended, read, reading, refusal, refused, number_after, lines_after, whole}
 use Rattle.pd_lines.specs.Reader.{held_of, lines_of}
+use Rattle.pd_texts.specs.declared.fault.TextFault.{TextFault}
 use Rattle.pd_texts.specs.declared.fault.ReadFault.{ReadFault}
+use Rattle.pd_texts.specs.declared.fault.ReadFault.TheVariants as r
 use Rattle.pd_texts.specs.declared.reader.TextReader.{TextReader}
-use Rattle.pd_texts.specs.Faults.{Refuses}
 
 -- these lines, the newest first, in their order before others
 abbrev pub in_order : {M : Type 0} → List M → List M → List M
@@ -51,6 +52,25 @@ abbrev pub begun : {M : Type 0} → M → List M → List M
 begun first [] = first ∷ []
 begun first (line ∷ before) = line ∷ before
 
+-- a text is refused at the line after these ones, the newest first
+pub record IsRefusedAfter {M : Type 0} (format : TextFormat M) (text : List ℕ) (lines : List M) (fault : TextFault) : Type 0 where
+  pub is : reading format text ≡ with_lines lines (refused lines fault.cause)
+  pub number : fault.line ≡ number_after lines
+  pub refusal : refusal format text ≡ Some (record { line = fault.line; cause = fault.cause })
+
+-- a fault after these lines refuses the text there; a failure of the source says nothing of the text
+abbrev pub RefusesAfter : {M : Type 0} → TextFormat M → List ℕ → List M → ReadFault → Type 0
+RefusesAfter format text lines r.Memory = ⊥
+RefusesAfter format text lines r.Source = Unit {0}
+RefusesAfter format text lines (r.Text fault) = IsRefusedAfter format text lines fault
+
+-- a fault of a call after these lines refuses the text at the next line, at the one after the first line, or at what
+-- follows the last line
+abbrev pub RefusesNext : {M : Type 0} → TextFormat M → M → M → List ℕ → List M → ReadFault → Type 0
+RefusesNext format first last text before fault =
+    RefusesAfter format text before fault
+    ⊎ (RefusesAfter format text (begun first before) fault ⊎ RefusesAfter format text (last ∷ begun first before) fault)
+
 -- these are all the lines of the text, the newest first, none is refused, and nothing of the text is left
 abbrev pub IsWhole : {M : Type 0} → TextFormat M → List ℕ → List M → Option (List ℕ) → Type 0
 IsWhole format text lines left = (reading format text ≡ whole (in_order lines [])) × (left ≡ Some [])
@@ -66,9 +86,9 @@ GivesLine format Stands first meant (Err fault) before reader = Unit {0}
 abbrev pub GivesOf : {P V M : Type 0} → TextFormat M → M → (Option V → M) → Result (Option V) ReadFault → List ℕ → List M → TextReader P V → Option (List ℕ) → Type 0
 GivesOf format first meant (Ok None) text before reader left = IsWhole format text (meant None ∷ begun first before) left
 GivesOf format first meant (Ok (Some line)) text before reader left = LeavesOf format text (meant (Some line) ∷ begun first before) reader left
-GivesOf format first meant (Err fault) text before reader left = Refuses format text fault
+GivesOf format first meant (Err fault) text before reader left = RefusesNext format first (meant None) text before fault
 
 -- what is said of a text after its last line
 abbrev pub EndsOf : {V M : Type 0} → TextFormat M → Result (Option V) ReadFault → List ℕ → List M → Option (List ℕ) → Type 0
 EndsOf format (Ok line) text lines left = IsWhole format text lines left
-EndsOf format (Err fault) text lines left = Refuses format text fault
+EndsOf format (Err fault) text lines left = RefusesAfter format text lines fault

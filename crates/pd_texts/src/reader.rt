@@ -2,7 +2,7 @@
 
 ghost use Rattle.std.specs.Prelude.{◌≡◌, ◌≤◌, ℕ, List, [], ◌∷◌, ◌++◌, length, IfOk, OnOk, Some, None, MatchResult};
 ghost use Rattle.pd_image.specs.Source.{KeepsSource};
-ghost use Rattle.pd_texts.specs.Faults.{Refuses, CountsReads};
+ghost use Rattle.pd_texts.specs.Faults.{CountsReads};
 
 use crate::fault::{ReadFault, fault_after_end, fault_of, text_fault};
 use crate::state::TextState;
@@ -19,7 +19,7 @@ pub struct TextReader<P: TextState> {
 }
 
 impl<P: TextState> TextReader<P> {
-    ghost use Rattle.pd_texts.specs.Reader.{HasRead, ReadsOn, LeavesOf, GivesLine, GivesOf, EndsOf, begun};
+    ghost use Rattle.pd_texts.specs.Reader.{HasRead, ReadsOn, LeavesOf, GivesLine, GivesOf, EndsOf, RefusesAfter, begun};
 
     /// No line was read. It takes memory for 32 KiB, and `next` takes none.
     pub fn new(alloc: Global) -> Result<TextReader<P>, AllocError>
@@ -54,7 +54,7 @@ impl<P: TextState> TextReader<P> {
         requires { (S.state source.old).access ≡ 1 }
         ensures lines { (before : List P.Meant) → ReadsOn P.format P.Stands before self.old → OnOk result (ReadsOn P.format P.Stands (begun P.first_line before) self.new) }
         ensures text { (text : List ℕ) (before : List P.Meant) → ReadsOn P.format P.Stands before self.old → LeavesOf P.format text before self.old (S.state source.old).left
-            → MatchResult result (λ _. LeavesOf P.format text (begun P.first_line before) self.new (S.state source.new).left) (Refuses P.format text) }
+            → MatchResult result (λ _. LeavesOf P.format text (begun P.first_line before) self.new (S.state source.new).left) (RefusesAfter P.format text before) }
         ensures kept { KeepsSource (S.state source.old) (S.state source.new) }
         ensures faults { CountsReads result (S.state source.old).faults (S.state source.new).faults }
     {
@@ -70,7 +70,7 @@ impl<P: TextState> TextReader<P> {
         requires { (S.state source.old).access ≡ 1 }
         ensures lines { ReadsOn P.format P.Stands [] self.old → OnOk result (ReadsOn P.format P.Stands (P.first_line ∷ []) self.new) }
         ensures text { (text : List ℕ) → ReadsOn P.format P.Stands [] self.old → LeavesOf P.format text [] self.old (S.state source.old).left
-            → MatchResult result (λ _. LeavesOf P.format text (P.first_line ∷ []) self.new (S.state source.new).left) (Refuses P.format text) }
+            → MatchResult result (λ _. LeavesOf P.format text (P.first_line ∷ []) self.new (S.state source.new).left) (RefusesAfter P.format text []) }
         ensures kept { KeepsSource (S.state source.old) (S.state source.new) }
         ensures faults { CountsReads result (S.state source.old).faults (S.state source.new).faults }
     {
@@ -112,7 +112,7 @@ impl<P: TextState> TextReader<P> {
             → IfOk result (λ line. HasRead P.format P.Stands (P.meant line ∷ before) self.new) }
         ensures text { (text : List ℕ) (before : List P.Meant) → 1 ≤ length before → ReadsOn P.format P.Stands before self.old
             → LeavesOf P.format text before self.old (S.state source.old).left
-            → MatchResult result (λ line. LeavesOf P.format text (P.meant line ∷ before) self.new (S.state source.new).left) (Refuses P.format text) }
+            → MatchResult result (λ line. LeavesOf P.format text (P.meant line ∷ before) self.new (S.state source.new).left) (RefusesAfter P.format text before) }
         ensures kept { KeepsSource (S.state source.old) (S.state source.new) }
         ensures faults { CountsReads result (S.state source.old).faults (S.state source.new).faults }
     {

@@ -1,6 +1,5 @@
 use Rattle.std.proofs.Common.{◌≡◌, ◌∙◌, sym, subst, [], List, MatchResult, OnOk}
-use Rattle.pd_texts.specs.Faults.{Refuses}
-use Rattle.pd_texts.specs.Reader.{ReadsOn, LeavesOf, begun}
+use Rattle.pd_texts.specs.Reader.{ReadsOn, LeavesOf, RefusesAfter, begun}
 use Rattle.pd_texts.proofs.GivesLemmas.{none_before}
 use Rattle.pd_texts.proofs.reader.TextReader.begin.Goals as goal
 
@@ -17,5 +16,5 @@ returns-then-is_first-clause-text g c = λ text before on leaves.
     let t = g.P.TextState in
     let none : before ≡ [] = none_before before (sym (c.is_first.ensures before on.so_far.stands) ∙ c.if-is_first.true) in
     let Then : List t.Meant → Type 0 = λ lines. ReadsOn t.format t.Stands lines c.args.self.now → LeavesOf t.format text lines c.args.self.now (g.S.Source.state c.args.source.now).left
-    → MatchResult c.read_first.result (λ x. LeavesOf t.format text (begun t.first_line lines) c.read_first.new.self (g.S.Source.state c.read_first.new.source).left) (Refuses t.format text) in
+    → MatchResult c.read_first.result (λ x. LeavesOf t.format text (begun t.first_line lines) c.read_first.new.self (g.S.Source.state c.read_first.new.source).left) (RefusesAfter t.format text lines) in
     subst Then (sym none) (c.read_first.ensures.text text) on leaves

@@ -1,4 +1,4 @@
-use Rattle.std.proofs.Common.{Some}
+use Rattle.std.proofs.Common.{inl, Some}
 use Rattle.pd_texts.proofs.GivesLemmas.{gives_line, gives_last, gives_more, gives_end}
 use Rattle.pd_texts.proofs.reader.TextReader.next_value.Goals as goal
 
@@ -27,3 +27,6 @@ returns-in-Ok-None-clause-text g c = λ text before some on leaves.
     let more = rw c.in-Ok-None.field-0-is at (c.in-Ok-None.ensures.text text before some on leaves) in
     gives_end t.format t.first_line t.meant c.read_end.result text before c.read_end.new.self (g.S.Source.state c.read_end.new.source).left some
     c.read_end.ensures.none (c.read_end.ensures.text text before read more)
+
+pub returns-in-Err-clause-text : goal.returns-in-Err-clause-text
+returns-in-Err-clause-text g c = λ text before some on leaves. inl (c.in-Err.ensures.text text before some on leaves)
