@@ -6,12 +6,7 @@ use Rattle.std.proofs.lemmas.List.{append-nil, map-append}
 use Rattle.std.proofs.lemmas.List.Sums.{sum_by-append}
 use Rattle.pd_kinds.specs.Meaning.{ThinPool, ThinDevice, Mapping}
 use Rattle.pd_draft.specs.Placed.{Stand}
-use Rattle.pd_count.specs.Counted.{count_of}
-use Rattle.pd_spells.specs.Lawful.{IsLawfulPool}
-use Rattle.pd_spells.specs.ThinText.{Line, first_line, pool_line, device_line, map_line, end_line, Head, Details, Run, Part, mappings_of, device_of_part, head_of, lines_of_part, lines_of_parts, data_blocks_of, run_end, unmapped, MeansPool}
-use Rattle.pd_spells.specs.ThinNeed.{data_of_line, mapped_data}
-use Rattle.pd_laid.specs.LaidThin.{data_counts}
-use Rattle.pd_laid.specs.Shape.{shape_of}
+use Rattle.pd_spells.specs.ThinText.{Line, first_line, pool_line, device_line, map_line, end_line, Run, Part, mappings_of, device_of_part, head_of, lines_of_part, data_blocks_of, run_end, unmapped, MeansPool}
 use Rattle.pd_laid_once.proofs.Need.{data_counts_are}
 use Rattle.pd_texts.specs.Reader.{in_order}
 use Rattle.pd_devices.specs.declared.devices.Devices.{Devices}

@@ -1,14 +1,13 @@
 -- Counts of ones, and the maps that store them.
-use Rattle.std.proofs.Common.{◌≡◌, ◌≢◌, inl, inr, ℕ, ◌+◌, ◌<◌, ◌≤◌, ltb, cond, List, [], ◌∷◌, ◌++◌, length, map, refl, sym, ◌∙◌, ap, arith, Result, Ok, Err}
+use Rattle.std.proofs.Common.{◌≡◌, inl, inr, ℕ, ◌+◌, ◌<◌, ◌≤◌, [], length, refl, sym, ◌∙◌, ap, arith, Result, Ok, Err}
 use Rattle.std.specs.Prelude.{OnOk, IfOk}
 use Rattle.std.proofs.Math.Path.{fun_ext}
 use Rattle.std.proofs.lemmas.Bool.{cases_eq, cases_lt, lt-ltb, le-ltb}
 use Rattle.pd_kinds.specs.Bitmap.{bitmaps_for}
 use Rattle.pd_count.specs.Counted.{Counted, count_of, HasCounted, CountsOneMore}
 use Rattle.pd_spells.specs.Need.{need_tree, need_meta_map}
-use Rattle.pd_laid.specs.Map.{overflow_items}
 use Rattle.pd_laid_once.specs.Once.{ones_below}
-use Rattle.pd_laid_once.proofs.MapLemmas.{ones_overflow, ones_allocated}
+use Rattle.pd_laid_once.proofs.MapLemmas.{ones_overflow}
 use Rattle.pd_smwrite.specs.Map.{meta_map_blocks, meta_map_need, meta_map_root}
 use Rattle.pd_draft.specs.Placed.{Stand, Wrote}
 use Rattle.pd_smwrite.specs.Own.{CountsOwn, HasNone}

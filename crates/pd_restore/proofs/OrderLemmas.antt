@@ -1,12 +1,9 @@
 -- The ids of lawful devices ascend.
-use Rattle.std.proofs.Common.{◌≡◌, ℕ, suc, ◌+◌, ◌<◌, ltb, ◌&&◌, true, List, [], ◌∷◌, length, map, refl, sym, ◌∙◌, ap, ap₂, arith}
+use Rattle.std.proofs.Common.{◌≡◌, ℕ, suc, ◌+◌, true, List, [], ◌∷◌, length, map, refl, sym, ◌∙◌, ap, arith}
 use Rattle.std.proofs.lemmas.Bool.{lt-ltb}
 use Rattle.pd_kinds.specs.Meaning.{ThinDevice}
 use Rattle.pd_kinds.specs.Node.{Entry, is_ascending}
-use Rattle.pd_kinds.specs.Value.{details_code}
 use Rattle.pd_node.specs.Items.{entries_of, keys_of}
-use Rattle.pd_laid.specs.LaidThin.{mapping_items}
-use Rattle.pd_laid.specs.Tree.{tree_root}
 use Rattle.pd_laid_once.specs.Written.{device_roots, device_details}
 use Rattle.pd_spells.specs.Need.{need_tree}
 use Rattle.pd_spells.specs.Lawful.{AreDevices}

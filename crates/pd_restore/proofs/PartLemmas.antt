@@ -1,5 +1,5 @@
 -- A pool's parts, one behind another.
-use Rattle.std.proofs.Common.{◌≡◌, ℕ, ◌+◌, ◌≤◌, ◌^◌, not, eqb, List, [], ◌∷◌, ◌++◌, length, length-append, map, refl, sym, ◌∙◌, ap, ap₂, subst, append_assoc, arith}
+use Rattle.std.proofs.Common.{◌≡◌, ℕ, ◌+◌, ◌≤◌, ◌^◌, not, eqb, List, [], ◌∷◌, ◌++◌, length, length-append, refl, sym, ◌∙◌, ap, ap₂, subst, append_assoc, arith}
 use Rattle.std.specs.List.{count_by, range_with_len}
 use Rattle.std.proofs.lemmas.List.FromFn.{length-range_with_len, length-map-range_with_len}
 use Rattle.pd_kinds.specs.Bitmap.{bitmaps_for}
@@ -11,7 +11,7 @@ use Rattle.pd_draft.proofs.PlacedLemmas.{wrote_then}
 use Rattle.pd_spells.specs.Lawful.{IsLawfulPool}
 use Rattle.pd_spells.specs.Need.{need_tree, need_meta_map}
 use Rattle.pd_spells.specs.ThinNeed.{thin_need}
-use Rattle.pd_laid.specs.Laid.{laid_blocks, laid_number}
+use Rattle.pd_laid.specs.Laid.{laid_blocks}
 use Rattle.pd_laid.specs.Tree.{tree_blocks, tree_root}
 use Rattle.pd_laid.specs.Map.{index_items, index_entry_of, overflow_items, meta_overflow, meta_overflow_at, meta_counts}
 use Rattle.pd_laid.specs.LaidThin as laid
@@ -20,7 +20,7 @@ use Rattle.pd_laid.specs.Shape.{shape_of}
 use Rattle.pd_laid.proofs.LaidLemmas.{length-blocks_from}
 use Rattle.pd_laid.proofs.NeedLemmas.{length-map_blocks}
 use Rattle.pd_laid_once.specs.Once.{ones_below, NamesEachOnce}
-use Rattle.pd_laid_once.specs.Written.{device_trees, device_roots, device_details, bitmaps_from, meta_map_from, pool_blocks, trees_need, ArePlaces}
+use Rattle.pd_laid_once.specs.Written.{device_trees, device_roots, device_details, bitmaps_from, meta_map_from, pool_blocks, trees_need}
 use Rattle.pd_laid_once.proofs.MapLemmas.{ones_overflow, named_overflow, stored_counts, ones_allocated}
 use Rattle.pd_laid_once.proofs.Need.{map_place}
 use Rattle.pd_laid_once.proofs.Pool.{pool_named_once}

@@ -1,5 +1,5 @@
 -- A text that is read and restored, line by line.
-use Rattle.std.proofs.Common.{◌≡◌, inl, inr, ℕ, zero, suc, ◌+◌, ◌-◌, ◌*◌, ◌/◌, ◌<◌, ◌≤◌, ◌^◌, min, max, Bool, true, false, not, ltb, leb, eqb, ◌&&◌, cond, List, [], ◌∷◌, ◌++◌, length, sum, sum_by, refl, sym, ◌∙◌, ap, arith, Option, None, Some, Result, Ok, Err}
+use Rattle.std.proofs.Common.{◌≡◌, inl, inr, ⊎_elim, ℕ, zero, suc, ◌-◌, ◌*◌, ◌<◌, ◌≤◌, ◌^◌, min, max, Bool, true, false, not, leb, eqb, ◌&&◌, List, [], ◌∷◌, ◌++◌, length, sum_by, refl, sym, ◌∙◌, ap, arith, Option, None, Some, Result, Ok, Err}
 use Rattle.std.specs.Prelude.{MatchResult, IfOk, IfErr, OnOk}
 use Rattle.std.specs.List.{count_by, flat_map, range_with_len}
 use Rattle.std.proofs.lemmas.Bool.Decides.{nat_tests}
@@ -23,7 +23,7 @@ use Rattle.pd_spells.specs.ThinNeed.{data_of_line, thin_need_so_far, need_of_dev
 use Rattle.pd_texts.specs.declared.thin_line.ThinLine.{ThinLine}
 use Rattle.pd_texts.specs.declared.thin_line.ThinLine.TheVariants as v
 use Rattle.pd_texts.specs.declared.thin_line.Run2.{Run2}
-use Rattle.pd_texts.specs.Reader.{in_order, IsReadAfter, AreReadSoFar, ReadsOn, LeavesOf, GivesLine, GivesOf, IsWhole, begun}
+use Rattle.pd_texts.specs.Reader.{in_order, IsReadAfter, AreReadSoFar, ReadsOn, LeavesOf, GivesLine, GivesOf, IsWhole, IsRefusedAfter, RefusesNext, begun}
 use Rattle.pd_texts.specs.ThinLine.{line_of, details_of, run_of, thin_meant}
 use Rattle.pd_texts.proofs.ThinNextLemmas.{pool_read, device_read, map_read, end_read}
 use Rattle.pd_devices.specs.declared.devices.Devices.{Devices}
@@ -35,7 +35,11 @@ use Rattle.pd_devices.specs.Devices.{MayFollow}
 use Rattle.pd_devices.specs.Gathered.{HasGathered, mapped_in}
 use Rattle.pd_restore.specs.declared.fault.RestoreFault.{RestoreFault}
 use Rattle.pd_restore.specs.declared.fault.RestoreFault.TheVariants as r
-use Rattle.pd_restore.specs.Reading.{NoneAbove, Reading, Steps, LacksRoom, IsShort, IsOver, progress}
+use Rattle.pd_restore.specs.Reading.{NoneAbove, Reading, Steps, SaysOf, IsShort, IsOver, IsOfBuild, progress}
+use Rattle.pd_restore.specs.Faults.{read_fault}
+use Rattle.pd_texts.specs.declared.fault.TextFault.{TextFault}
+use Rattle.pd_texts.specs.declared.fault.ReadFault.{ReadFault}
+use Rattle.pd_texts.specs.declared.fault.ReadFault.TheVariants as c
 
 -- want of room is what is said of the room
 pub over_if_short : (P : Type 0) (room need : ℕ) (result : Result Bool RestoreFault) → MatchResult result (λ more. P) (IsShort room need) → MatchResult result (λ more. P) (IsOver room need)
@@ -182,33 +186,39 @@ pub stepped : (result : Result Bool RestoreFault) (before : List Line) (line : T
 stepped (Err fault) before line room old text was left s t start now to h blocks reads told more gathered need = tt
 stepped (Ok more) before line room old text was left s t start now to h blocks reads told is gathered need =
     let within : thin_need_so_far room (line_of line ∷ before) ≤ room = omega (arith, need, h.most) in
-    rw is (line_of line, (record {
-      reads = reads;
-      later = omega (arith, h.later);
-      gathered = gathered;
-      need = within;
-      above = above_next room before (line_of line) h.above within;
-      most = h.most;
-      there = omega (arith, h.there, blocks);
-    }, told))
+    rw is (
+      line_of line,
+      (
+        record {
+          reads = reads;
+          later = omega (arith, h.later);
+          gathered = gathered;
+          need = within;
+          above = above_next room before (line_of line) h.above within;
+          most = h.most;
+          there = omega (arith, h.there, blocks);
+        },
+        told,
+      ),
+    )
 
 -- a step that found no room
 pub lacking : (result : Result Bool RestoreFault) (before : List Line) (line : ThinLine) (room : ℕ) (old text : TextReader ThinState ThinLine) (left : Option (List ℕ)) (s : Devices) (start now : Stand) (t : List ℕ)
     → Reading before room old s start now → IsReadAfter thin before (line_of line) → LeavesOf thin t (line_of line ∷ before) text left
     → MatchResult result (λ more. min (thin_need_so_far room (line_of line ∷ before)) top ≤ room) (IsOver room (min (thin_need_so_far room (line_of line ∷ before)) top))
-    → IfErr result (LacksRoom room t)
+    → IfErr result (SaysOf room t)
 lacking (Ok more) before line room old text left s start now t h after told over = tt
 lacking (Err r.Memory) before line room old text left s start now t h after told over = tt
 lacking (Err r.Source) before line room old text left s start now t h after told over = tt
 lacking (Err r.Device) before line room old text left s start now t h after told over = tt
-lacking (Err (r.Text fault)) before line room old text left s start now t h after told over = tt
+lacking (Err (r.Text fault)) before line room old text left s start now t h after told over = absurd over
 lacking (Err (r.NoRoom needed blocks)) before line room old text left s start now t h after told over =
     let need = thin_need_so_far room (line_of line ∷ before) in
     let fits : need ≤ top = need_fits room before line h.later after h.gathered.small h.need h.most in
     let is : needed ≡ need = omega (arith, over.0) in
     let more = (lines_after thin (line_of line ∷ before) (split 10 (held_of text.reader ++ told.rest))).lines in (
       ap (λ (reading : Texts.Reading Line). need_above_room (thin_need_so_far room) room [] reading.lines) told.is
-      ∙ (above_here room before more (line_of line) h.above (omega (arith, h.later)) (omega (arith, over.1.1)) ∙ ap (λ n. Some n) (sym is)),
+          ∙ (above_here room before more (line_of line) h.above (omega (arith, h.later)) (omega (arith, over.1.1)) ∙ ap (λ n. Some n) (sym is)),
       over.1.0,
     )
 
@@ -221,13 +231,16 @@ pub came_to_end : (result : Result Bool RestoreFault) (before : List Line) (room
 unfolding thin_need_so_far
 came_to_end (Err fault) before room old text was left s t start now to h reads told more gathered = tt
 came_to_end (Ok more) before room old text was left s t start now to h reads told is gathered =
-    rw is (record {
-      reads = reads;
-      ended = refl;
-      gathered = gathered;
-      need = h.need;
-      above = above_next room before end_line h.above h.need;
-    }, told)
+    rw is (
+      record {
+        reads = reads;
+        ended = refl;
+        gathered = gathered;
+        need = h.need;
+        above = above_next room before end_line h.above h.need;
+      },
+      told,
+    )
 
 pub grows_where : (result : Result Bool RestoreFault) (before : List Line) (line : ThinLine) (old new : Devices) (start now from to : Stand) → 2 ≤ length before → IsReadAfter thin before (line_of line)
     → HasGathered before old start now → OnOk result (HasGathered (line_of line ∷ before) new from to) → IfOk result (λ more. more ≡ true → progress old < progress new)
@@ -247,3 +260,28 @@ progress_most before room text h =
 -- what stays of a source over two calls
 pub keeps_source : {a b c : SourceState} → KeepsSource a b → KeepsSource b c → KeepsSource a c
 keeps_source p q = record { access = q.access ∙ p.access; path = q.path ∙ p.path }
+
+-- a failure at the end says nothing of the text
+pub end_says : (result : Result Bool RestoreFault) (room : ℕ) (t : List ℕ) → IfErr result IsOfBuild → IfErr result (SaysOf room t)
+end_says (Ok more) room t of = tt
+end_says (Err r.Memory) room t of = tt
+end_says (Err r.Source) room t of = tt
+end_says (Err r.Device) room t of = tt
+end_says (Err (r.Text fault)) room t of = absurd of
+end_says (Err (r.NoRoom need blocks)) room t of = absurd of
+
+-- a refusal after lines that have room
+refused_says : (room : ℕ) (t : List ℕ) (lines : List Line) (fault : TextFault) → NoneAbove room lines → IsRefusedAfter thin t lines fault → SaysOf room t (r.Text fault)
+refused_says room t lines fault above is =
+    (ap (λ (reading : Texts.Reading Line). need_above_room (thin_need_so_far room) room [] reading.lines) is.is ∙ above [], is.refusal)
+
+pub next_says : {s : Devices} {start now : Stand} (fault : ReadFault) (room : ℕ) (t : List ℕ) (before : List Line) (text : TextReader ThinState ThinLine) → Reading before room text s start now
+    → RefusesNext thin first_line end_line t before fault → SaysOf room t (read_fault fault)
+unfolding thin_need_so_far
+next_says c.Memory room t before text h refuses = tt
+next_says c.Source room t before text h refuses = tt
+next_says (c.Text fault) room t before text h refuses =
+    let same = begun_same before (omega (arith, h.later)) in
+    ⊎_elim (λ first. refused_says room t before fault h.above first)
+    (⊎_elim (λ second. refused_says room t before fault h.above (rw same at second))
+    (λ last. refused_says room t (end_line ∷ before) fault (above_next room before end_line h.above h.need) (rw same at last))) refuses

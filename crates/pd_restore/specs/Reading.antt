@@ -1,9 +1,9 @@
 -- A text that is read and restored, line by line; of lines the newest comes first.
-use Rattle.std.specs.Prelude.{◌≡◌, ℕ, ◌+◌, ◌<◌, ◌≤◌, Bool, true, false, List, [], ◌∷◌, length, Option, Some, Result, MatchResult}
+use Rattle.std.specs.Prelude.{◌≡◌, ℕ, ◌+◌, ◌<◌, ◌≤◌, Bool, true, false, List, [], ◌∷◌, length, Option, None, Some, Result, MatchResult}
 use Rattle.pd_kinds.specs.Objects.{Rose}
 use Rattle.pd_kinds.specs.declared.limits.TheConstants.{MAX_META_BLOCKS}
 use Rattle.pd_draft.specs.Placed.{Stand}
-use Rattle.pd_grammar.specs.Texts.{has_ended, reading}
+use Rattle.pd_grammar.specs.Texts.{has_ended, reading, refusal}
 use Rattle.pd_grammar.specs.Spelling.{need_above_room}
 use Rattle.pd_spells.specs.ThinText.{Line, end_line, thin}
 use Rattle.pd_spells.specs.ThinNeed.{thin_need_so_far}
@@ -73,13 +73,15 @@ pub record Went (before : List Line) (room : ℕ) (old : TextReader ThinState Th
   pub so_far : Reading lines room text s start now
   pub told : (t : List ℕ) → LeavesOf thin t before old was → LeavesOf thin t lines text left
 
--- there is no room for a text: so much is needed
-abbrev pub LacksRoom : ℕ → List ℕ → RestoreFault → Type 0
-LacksRoom room t r.Memory = Unit {0}
-LacksRoom room t r.Source = Unit {0}
-LacksRoom room t r.Device = Unit {0}
-LacksRoom room t (r.Text fault) = Unit {0}
-LacksRoom room t (r.NoRoom need blocks) = (need_above_room (thin_need_so_far room) room [] (reading thin t).lines ≡ Some need) × (blocks ≡ room)
+-- what a fault says of a text: a line is refused, and none before it needs more than the room; or there is no room, and
+-- so much is needed
+abbrev pub SaysOf : ℕ → List ℕ → RestoreFault → Type 0
+SaysOf room t r.Memory = Unit {0}
+SaysOf room t r.Source = Unit {0}
+SaysOf room t r.Device = Unit {0}
+SaysOf room t (r.Text fault) =
+    (need_above_room (thin_need_so_far room) room [] (reading thin t).lines ≡ None) × (refusal thin t ≡ Some (record { line = fault.line; cause = fault.cause }))
+SaysOf room t (r.NoRoom need blocks) = (need_above_room (thin_need_so_far room) room [] (reading thin t).lines ≡ Some need) × (blocks ≡ room)
 
 -- how far a text has come: each line adds a mapping or a device
 abbrev pub progress : Devices → ℕ

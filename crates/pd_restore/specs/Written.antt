@@ -1,5 +1,5 @@
 -- A pool that is being written: its devices, and what stands behind them.
-use Rattle.std.specs.Prelude.{◌≡◌, ℕ, ◌+◌, ◌^◌, ◌≤◌, true, nat_lt, ◌&&◌, List, [], ◌∷◌, ◌++◌}
+use Rattle.std.specs.Prelude.{◌≡◌, ℕ, ◌^◌, ◌≤◌, true, nat_lt, ◌&&◌, List, ◌++◌}
 use Rattle.std.specs.List.{All}
 use Rattle.pd_kinds.specs.declared.limits.TheConstants.{MAX_META_BLOCKS}
 use Rattle.pd_kinds.specs.Meaning.{ThinPool}
@@ -11,7 +11,7 @@ use Rattle.pd_draft.specs.Placed.{Stand, Wrote}
 use Rattle.pd_count.specs.Counted.{count_of}
 use Rattle.pd_spells.specs.Lawful.{IsLawfulPool}
 use Rattle.pd_spells.specs.ThinNeed.{thin_need}
-use Rattle.pd_laid.specs.Laid.{LaidBlock, written_from}
+use Rattle.pd_laid.specs.Laid.{written_from}
 use Rattle.pd_laid.specs.LaidThin.{data_counts, pool_parts, meta_map_blocks}
 use Rattle.pd_laid.specs.Shape.{shape_of}
 use Rattle.pd_laid_once.specs.Written.{device_trees, device_roots, device_details}

@@ -1,4 +1,3 @@
-use Rattle.std.proofs.Common.{arith}
 use Rattle.pd_restore.proofs.ReadingLemmas.{pool_after, device_after, map_after}
 use Rattle.pd_restore.proofs.lines.put_line.Goals as goal
 

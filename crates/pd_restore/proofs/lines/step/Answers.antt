@@ -1,7 +1,6 @@
-use Rattle.std.proofs.Common.{◌∷◌, arith}
+use Rattle.std.proofs.Common.{arith}
 use Rattle.pd_draft.specs.Stand.{stand}
-use Rattle.pd_texts.specs.ThinLine.{line_of}
-use Rattle.pd_restore.proofs.ReadingLemmas.{line_given, line_told, end_given, end_told, no_later_need, stepped, lacking, came_to_end, grows_where}
+use Rattle.pd_restore.proofs.ReadingLemmas.{line_given, line_told, end_given, end_told, no_later_need, stepped, lacking, came_to_end, grows_where, end_says, next_says}
 use Rattle.pd_restore.proofs.lines.step.Goals as goal
 
 pub take-requires-clause-put : goal.take-requires-clause-put
@@ -65,3 +64,10 @@ returns-in-Ok-None-clause-steps g c before start h =
     came_to_end c.end.result before c.args.room c.args.text.now c.next.new.self was left c.args.devices.now c.end.new.devices start (stand c.args.draft.now) (stand c.end.new.draft) h
     reads (λ t leaves. end_told n.field-0 t before c.next.new.self left n.field-0-is (omega (arith, h.later)) (n.ensures.text t before h.reads leaves))
     c.end.ensures.more (c.end.ensures.gathered before start h.gathered (no_later_need before reads.0))
+
+pub returns-in-Ok-None-clause-room : goal.returns-in-Ok-None-clause-room
+returns-in-Ok-None-clause-room g c before start h t leaves = end_says c.end.result c.args.room t c.end.ensures.fault
+
+pub returns-in-Err-clause-room : goal.returns-in-Err-clause-room
+returns-in-Err-clause-room g c before start h t leaves =
+    rw c.of_read.ensures (next_says c.in-Err.fault c.args.room t before c.args.text.now h (c.in-Err.ensures.text t before h.reads leaves))

@@ -1,10 +1,8 @@
-use Rattle.std.proofs.Common.{◌≡◌, ◌+◌, ◌≤◌, ℕ, List, ap, sym, ◌∙◌, subst, arith}
-use Rattle.pd_draft.specs.Placed.{Stand, Wrote}
+use Rattle.std.proofs.Common.{◌≡◌, ap, ◌∙◌, arith}
 use Rattle.pd_draft.specs.Stand.{stand}
 use Rattle.pd_count.specs.Counted.{count_of}
 use Rattle.pd_spells.specs.Need.{need_meta_map}
-use Rattle.pd_laid_once.specs.Once.{ones_below}
-use Rattle.pd_smwrite.specs.Map.{meta_map_need, meta_map_blocks, meta_map_root}
+use Rattle.pd_smwrite.specs.Map.{meta_map_need}
 use Rattle.pd_restore.proofs.MapLemmas.{ones_need, none_own, stored_blocks, stored_root, on_ok_both, if_ok_with}
 use Rattle.pd_restore.proofs.parts.write_own_map.Goals as goal
 use Rattle.pd_restore.proofs.parts.write_own_map.Given as given

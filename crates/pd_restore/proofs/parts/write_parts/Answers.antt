@@ -1,9 +1,8 @@
-use Rattle.std.proofs.Common.{◌≡◌, ◌+◌, ◌≤◌, ◌^◌, ℕ, sym, ◌∙◌, ap, ap₂, arith}
+use Rattle.std.proofs.Common.{ℕ, ◌∙◌, ap, ap₂, arith}
 use Rattle.pd_node.specs.Items.{entries_of}
 use Rattle.pd_laid.specs.Tree.{tree_root}
 use Rattle.pd_count.specs.Counted.{Counted, count_of}
 use Rattle.pd_smwrite.specs.Map.{data_map_root}
-use Rattle.pd_draft.specs.Stand.{stand}
 use Rattle.pd_kinds.specs.Value.{details_code}
 use Rattle.pd_value.specs.declared.thin.Root.{Root}
 use Rattle.pd_value.specs.declared.thin.Details.{Details}
