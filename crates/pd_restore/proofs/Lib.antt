@@ -3,3 +3,4 @@ pub mod OrderLemmas
 pub mod PartLemmas
 pub mod LineLemmas
 pub mod ReadingLemmas
+pub mod PoolLemmas

@@ -3,3 +3,4 @@ pub mod Parts
 pub mod Restored
 pub mod Faults
 pub mod Reading
+pub mod Whole

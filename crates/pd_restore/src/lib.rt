@@ -4,6 +4,7 @@
 mod fault;
 mod lines;
 mod parts;
+mod pool;
 
 pub use fault::RestoreFault;
 pub use pd_devices::need_thin;
