@@ -1,0 +1,7 @@
+pub mod MapLemmas
+pub mod OrderLemmas
+pub mod PartLemmas
+pub mod LineLemmas
+pub mod ReadingLemmas
+pub mod PoolLemmas
+pub mod CrashLemmas

@@ -1,0 +1,10 @@
+//! A pool that is restored from its text, as a stream.
+#![tactic(auto)]
+
+mod fault;
+mod lines;
+mod parts;
+mod pool;
+
+pub use fault::RestoreFault;
+pub use pd_devices::need_thin;
