@@ -1,5 +1,5 @@
 -- The faults of the stages Super and Walk, and the report of a check up to one of them.
-use Rattle.std.proofs.Common.{◌≡◌, ◌≢◌, ℕ, suc, ◌+◌, ◌*◌, ◌≤◌, Bool, true, false, not, cond, nat_lt, List, [], ◌∷◌, length, Option, Some, None, IfSome, refl, ap, sym, ◌∙◌, arith, Result, Ok, Err, IfOk}
+use Rattle.std.proofs.Common.{◌≡◌, ◌≢◌, ℕ, suc, ◌+◌, ◌*◌, ◌≤◌, Bool, true, false, not, cond, nat_lt, List, [], ◌∷◌, length, Option, Some, None, IfSome, refl, ap, sym, subst, ◌∙◌, arith, Result, Ok, Err, IfOk}
 use Rattle.std.proofs.lemmas.Bool.{lt-ltb}
 use Rattle.pd_kinds.specs.declared.kind.Kind.{Kind}
 use Rattle.pd_kinds.specs.declared.kind.Kind.TheVariants.{Thin, Cache, Era}
@@ -23,7 +23,8 @@ use Rattle.pd_graph.proofs.AnyLemmas.{if_any, if_both}
 use Rattle.pd_laws.proofs.CleanLemmas.{no_rule_broken, no_faults_at}
 use Rattle.pd_laws.proofs.SuperStage.{chosen, first_stage, faults_at-same}
 use Rattle.pd_check.specs.ByKind.{super_bad_of, graph_of_super}
-use Rattle.pd_check.specs.Check.{IsBuilt, IsFirstBlock, MayWantMemory, ReadsFew, past_faults, reads_of}
+use Rattle.pd_check.specs.Counts.{count_reads}
+use Rattle.pd_check.specs.Check.{IsFirstBlock, MayWantMemory, ReadsFew, past_faults, reads_of}
 
 -- what is looked at in an image, by its kind
 same_rules : (kind : Kind) (image : List (List ℕ)) → (checked_of kind image).super_bad ≡ super_bad_of kind
@@ -66,52 +67,54 @@ two_stages false first second = chosen second
 
 module _ (kind : Kind) (image : List (List ℕ)) where
   -- what a check finds where block 0 has faults
-  broken_faults : (until : Stage) → IsBuilt until → (faults kind stages.Super image ≢ []) → faults kind until image ≡ faults kind stages.Super image
+  broken_faults : (until : Stage) → (faults kind stages.Super image ≢ []) → faults kind until image ≡ faults kind stages.Super image
   unfolding faults first_failing
-  broken_faults stages.Super built some = refl
-  broken_faults stages.Walk built some =
+  broken_faults stages.Super some = refl
+  broken_faults stages.Walk some =
       let first = first_stage kind image in
       chosen_first (super_faults (checked_of kind image) image) _ (λ none. some (first ∙ none)) ∙ sym first
-  broken_faults stages.Order built some =
+  broken_faults stages.Order some =
       let first = first_stage kind image in
       chosen_first (super_faults (checked_of kind image) image) _ (λ none. some (first ∙ none)) ∙ sym first
-  broken_faults stages.Whole built some =
+  broken_faults stages.Whole some =
       let first = first_stage kind image in
       chosen_first (super_faults (checked_of kind image) image) _ (λ none. some (first ∙ none)) ∙ sym first
-  broken_faults stages.Counts built some = absurd built
+  broken_faults stages.Counts some =
+      let first = first_stage kind image in
+      chosen_first (super_faults (checked_of kind image) image) _ (λ none. some (first ∙ none)) ∙ sym first
 
   -- and where it has none
-  are_past : (until : Stage) → IsBuilt until → (until ≡ stages.Super → ⊥) → (until ≡ stages.Whole → ⊥) → faults kind stages.Super image ≡ []
+  are_past : (until : Stage) → (until ≡ stages.Super → ⊥) → (until ≡ stages.Whole → ⊥) → (until ≡ stages.Counts → ⊥) → faults kind stages.Super image ≡ []
       → faults kind until image ≡ past_faults until (graph_of_super kind (block_at image 0)) image
   unfolding faults first_failing
-  are_past stages.Super built past before none = absurd (past refl)
-  are_past stages.Walk built past before none =
+  are_past stages.Super past before last none = absurd (past refl)
+  are_past stages.Walk past before last none =
       let found : super_faults (checked_of kind image) image ≡ [] = sym (first_stage kind image) ∙ none in
       rw (found, same_graph kind image)
       (chosen (block_faults (graph_of_super kind (block_at image 0)).nr (walk_bad (graph_of_super kind (block_at image 0)) image)))
-  are_past stages.Order built past before none =
+  are_past stages.Order past before last none =
       let found : super_faults (checked_of kind image) image ≡ [] = sym (first_stage kind image) ∙ none in
       let graph = graph_of_super kind (block_at image 0) in
       rw (found, same_graph kind image)
       (two_stages (nat_lt 0 (length (block_faults graph.nr (walk_bad graph image)))) (block_faults graph.nr (walk_bad graph image)) (block_faults graph.nr (order_bad graph image)))
-  are_past stages.Whole built past before none = absurd (before refl)
-  are_past stages.Counts built past before none = absurd built
+  are_past stages.Whole past before last none = absurd (before refl)
+  are_past stages.Counts past before last none = absurd (last refl)
 
 -- the report of an image without blocks
 missing_some : (kind : Kind) → faults kind stages.Super [] ≢ []
 unfolding faults_at all_rules
 missing_some kind none = let e = missing_faults kind in cc
 
-pub missing_report : (held : Option (List (List ℕ))) (kind : Kind) (until : Stage) (blocks : ℕ) (rules : Rules) (report : Reported) → IsBuilt until
+pub missing_report : (held : Option (List (List ℕ))) (kind : Kind) (until : Stage) (blocks : ℕ) (rules : Rules) (report : Reported)
     → blocks ≡ 0 → IfSome held (λ image. blocks ≡ length image) → ((rule : Rule) → has_rule rules rule ≡ same_rule r.Size rule)
     → report ≡ report_of (faults_at 0 (has_rule rules))
     → IfSome held (λ image. report ≡ report_of (faults kind until image))
-missing_report None kind until blocks rules report built none honest size same = tt
-missing_report (Some []) kind until blocks rules report built none honest size same =
+missing_report None kind until blocks rules report none honest size same = tt
+missing_report (Some []) kind until blocks rules report none honest size same =
     same ∙ ap (λ (list : List Fault). report_of list)
     (faults_at-same 0 (has_rule rules) (same_rule r.Size) size
-    ∙ (sym (missing_faults kind) ∙ sym (broken_faults kind [] until built (missing_some kind))))
-missing_report (Some (block ∷ rest)) kind until blocks rules report built none honest size same = absurd (omega arith)
+    ∙ (sym (missing_faults kind) ∙ sym (broken_faults kind [] until (missing_some kind))))
+missing_report (Some (block ∷ rest)) kind until blocks rules report none honest size same = absurd (omega arith)
 
 -- the block at the first place
 pub first_at : (blocks : ℕ) (first : List ℕ) (image : List (List ℕ)) → IsFirstBlock blocks first image → block_at image 0 ≡ first
@@ -135,15 +138,15 @@ later_read before held kind until old later new same more few =
 -- a check that has read block 0
 module _ (held : Option (List (List ℕ))) (kind : Kind) (blocks : ℕ) (first : List ℕ) (found : IfSome held (IsFirstBlock blocks first)) where
   -- which breaks a rule
-  pub broken_report : (until : Stage) (rules : Rules) (report : Reported) → IsBuilt until
+  pub broken_report : (until : Stage) (rules : Rules) (report : Reported)
       → ((rule : Rule) → has_rule rules rule ≡ super_bad_of kind blocks first rule) → (((rule : Rule) → has_rule rules rule ≡ false) → ⊥)
       → report ≡ report_of (faults_at 0 (has_rule rules))
       → IfSome held (λ image. report ≡ report_of (faults kind until image))
-  broken_report until rules report built bad broken same = IfSome_then held found (λ image here.
+  broken_report until rules report bad broken same = IfSome_then held found (λ image here.
       let e = first_faults kind blocks first image here in
       same ∙ ap (λ (list : List Fault). report_of list)
       (faults_at-same 0 (has_rule rules) (super_bad_of kind blocks first) bad
-      ∙ (sym e ∙ sym (broken_faults kind image until built (λ none. broken (λ rule. bad rule ∙ no_rule_broken 0 _ (sym e ∙ none) rule))))))
+      ∙ (sym e ∙ sym (broken_faults kind image until (λ none. broken (λ rule. bad rule ∙ no_rule_broken 0 _ (sym e ∙ none) rule))))))
 
   -- which breaks none
   module _ (sound : (rule : Rule) → super_bad_of kind blocks first rule ≡ false) where
@@ -159,18 +162,28 @@ module _ (held : Option (List (List ℕ))) (kind : Kind) (blocks : ℕ) (first :
     past_memory until (Err Memory) past = record { past_super = past; sound = none_first }
     past_memory until (Err Device) past = tt
 
+    -- up to the stage Counts
+    pub counted_read : (old new : ℕ) → IfSome held (λ image. new ≤ old + (5 * length (nodes (graph_of_super kind first) image) + count_reads kind first image))
+        → IfSome held (λ image. ReadsFew kind stages.Counts image old new)
+    counted_read old new few = if_both held
+        (λ image here most. record {
+          nodes = subst (λ (b : List ℕ). new ≤ old + (5 * length (nodes (graph_of_super kind b) image) + count_reads kind b image)) (sym (first_at blocks first image here)) most;
+          none = λ some. absurd (some (first_faults kind blocks first image here ∙ no_faults_at 0 _ sound));
+        })
+        found few
+
     module _ (graph : Graph) (same : graph ≡ graph_of_super kind first) where
       -- past the stage Super
-      pub past_report : (until : Stage) (result : Result Report CheckFault) → IsBuilt until → (until ≡ stages.Super → ⊥) → (until ≡ stages.Whole → ⊥)
+      pub past_report : (until : Stage) (result : Result Report CheckFault) → (until ≡ stages.Super → ⊥) → (until ≡ stages.Whole → ⊥) → (until ≡ stages.Counts → ⊥)
           → IfOk result (λ report. IfSome held (λ image. report ≡ report_of (past_faults until graph image)))
           → IfOk result (λ report. IfSome held (λ image. report ≡ report_of (faults kind until image)))
-      past_report until (Err fault) built past before found_past = tt
-      past_report until (Ok report) built past before found_past = if_both held
+      past_report until (Err fault) past before last found_past = tt
+      past_report until (Ok report) past before last found_past = if_both held
           (λ image here is.
           let none = first_faults kind blocks first image here ∙ no_faults_at 0 _ sound in
           let mine : graph ≡ graph_of_super kind (block_at image 0) = same ∙ ap (graph_of_super kind) (sym (first_at blocks first image here)) in
           is ∙ ap (λ (list : List Fault). report_of list) (
-          ap (λ (g : Graph). past_faults until g image) mine ∙ sym (are_past kind image until built past before none)))
+          ap (λ (g : Graph). past_faults until g image) mine ∙ sym (are_past kind image until past before last none)))
           found found_past
 
       pub past_read : (until : Stage) (old new : ℕ) → IfSome held (λ image. new ≤ old + reads_of until * length (nodes graph image)) → IfSome held (λ image. ReadsFew kind until image old new)
@@ -178,7 +191,7 @@ module _ (held : Option (List (List ℕ))) (kind : Kind) (blocks : ℕ) (first :
           (λ image here most.
           let mine : graph ≡ graph_of_super kind (block_at image 0) = same ∙ ap (graph_of_super kind) (sym (first_at blocks first image here)) in
           record {
-            nodes = rw mine at most;
+            nodes = let few = rw mine at most in omega (arith, few);
             none = λ some. absurd (some (first_faults kind blocks first image here ∙ no_faults_at 0 _ sound));
           })
           found few

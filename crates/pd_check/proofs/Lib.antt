@@ -2,3 +2,4 @@ pub mod WalkReport
 pub mod StageLemmas
 pub mod CheckLemmas
 pub mod WholeLemmas
+pub mod CountLemmas

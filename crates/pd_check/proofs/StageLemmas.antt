@@ -4,7 +4,7 @@ use Rattle.pd_kinds.specs.declared.kind.Kind.{Kind}
 use Rattle.pd_kinds.specs.declared.kind.Stage.{Stage}
 use Rattle.pd_kinds.specs.declared.kind.Stage.TheVariants as stages
 use Rattle.pd_kinds.specs.declared.fault.Fault.{Fault}
-use Rattle.pd_kinds.specs.Stages.{Checked, checked_of, faults, first_failing, stage_faults, stages_to, block_faults}
+use Rattle.pd_kinds.specs.Stages.{Checked, checked_of, faults, first_failing, stage_faults, stages_to, block_faults, count_faults}
 use Rattle.pd_kinds.specs.Whole.{whole_bad}
 use Rattle.pd_laws.proofs.SuperStage.{chosen}
 
@@ -33,3 +33,13 @@ up_to_whole kind image =
     first_failing-append checked image (stages_to stages.Order) (stages.Whole ∷ [])
     ∙ ap (λ (last : List Fault). cond (nat_lt 0 (length (faults kind stages.Order image))) (faults kind stages.Order image) last)
     (chosen (block_faults checked.graph.nr (whole_bad checked.whole)))
+
+-- the faults up to the stage Counts
+pub up_to_counts : (kind : Kind) (image : List (List ℕ))
+    → faults kind stages.Counts image ≡ cond (nat_lt 0 (length (faults kind stages.Whole image))) (faults kind stages.Whole image) (count_faults (checked_of kind image) image)
+unfolding faults first_failing
+up_to_counts kind image =
+    let checked = checked_of kind image in
+    first_failing-append checked image (stages_to stages.Whole) (stages.Counts ∷ [])
+    ∙ ap (λ (last : List Fault). cond (nat_lt 0 (length (faults kind stages.Whole image))) (faults kind stages.Whole image) last)
+    (chosen (count_faults checked image))

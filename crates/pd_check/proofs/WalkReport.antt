@@ -29,7 +29,7 @@ one_block_more f n =
     rw more (flat_map-append f (range_with_len 0 n) (n ∷ []) ∙ ap (λ (xs : List Fault). flat_map f (range_with_len 0 n) ++ xs) (append-nil (f n)))
 
 -- blocks with the rules of a walk
-flat_map-same : (f g : ℕ → List Fault) (a n : ℕ) → ((k : ℕ) → k < a + n → f k ≡ g k) → flat_map f (range_with_len a n) ≡ flat_map g (range_with_len a n)
+pub flat_map-same : (f g : ℕ → List Fault) (a n : ℕ) → ((k : ℕ) → k < a + n → f k ≡ g k) → flat_map f (range_with_len a n) ≡ flat_map g (range_with_len a n)
 flat_map-same f g a zero same = refl
 flat_map-same f g a (suc n) same = rw (same a (omega arith), flat_map-same f g (a + 1) n (λ k within. same k (omega arith))) refl
 

@@ -1,19 +1,20 @@
 -- The report of the stage Whole, after that of the order of the trees.
-use Rattle.std.proofs.Common.{◌≡◌, ℕ, ◌+◌, ◌*◌, ◌<◌, ◌≤◌, Bool, true, false, ◌||◌, ◌&&◌, cond, nat_eq, nat_lt, List, length, Option, IfSome, Ok, refl, ap, sym, subst, ◌∙◌, arith}
+use Rattle.std.proofs.Common.{◌≡◌, ℕ, ◌+◌, ◌*◌, ◌<◌, ◌≤◌, Bool, true, false, ◌||◌, ◌&&◌, cond, nat_eq, nat_lt, List, length, Option, IfSome, IfOk, Result, Ok, Err, refl, ap, sym, subst, ◌∙◌, arith}
 use Rattle.std.specs.List.{flat_map, range_with_len}
 use Rattle.std.proofs.lemmas.Bool.{both_ways, lt-ltb}
 use Rattle.std.proofs.lemmas.Option.{IfSome_then}
 use Rattle.pd_kinds.specs.declared.kind.Kind.{Kind}
 use Rattle.pd_kinds.specs.declared.kind.Stage.{Stage}
-use Rattle.pd_kinds.specs.declared.kind.Stage.TheVariants.{Order, Whole}
+use Rattle.pd_kinds.specs.declared.kind.Stage.TheVariants.{Order, Whole, Counts}
 use Rattle.pd_kinds.specs.declared.rule.Rule.{Rule}
 use Rattle.pd_kinds.specs.declared.fault.Fault.{Fault}
 use Rattle.pd_kinds.specs.Faults.{faults_at}
+use Rattle.pd_kinds.specs.declared.check_fault.CheckFault.{CheckFault}
 use Rattle.pd_kinds.specs.declared.report.Report.{Report}
 use Rattle.pd_kinds.specs.Report.{Reported, report_of}
 use Rattle.pd_kinds.specs.Graph.{Graph, nodes}
 use Rattle.pd_kinds.specs.Lawful.{IsLawful}
-use Rattle.pd_kinds.specs.Stages.{checked_of, faults, block_faults}
+use Rattle.pd_kinds.specs.Stages.{checked_of, faults, block_faults, count_faults}
 use Rattle.pd_kinds.specs.Whole.{WholeTest, whole_bad}
 use Rattle.pd_graph.specs.declared.audit.Audit.{Audit}
 use Rattle.pd_graph.specs.Audit.{blocks_of, has_rule_at}
@@ -24,9 +25,10 @@ use Rattle.pd_whole.specs.Charges.{Charges}
 use Rattle.pd_whole.specs.Known.{IsWellSettled, IsKnown}
 use Rattle.pd_check.specs.ByKind.{super_bad_of, graph_of_super}
 use Rattle.pd_check.specs.Check.{IsFirstBlock, goes_past_walk, past_faults}
-use Rattle.pd_check.specs.Whole.{IsOrdered}
+use Rattle.pd_check.specs.Counts.{count_reads}
+use Rattle.pd_check.specs.Whole.{IsOrdered, IsWhole}
 use Rattle.pd_check.proofs.CheckLemmas.{first_at, same_graph, past_report}
-use Rattle.pd_check.proofs.StageLemmas.{up_to_whole}
+use Rattle.pd_check.proofs.StageLemmas.{up_to_whole, up_to_counts}
 use Rattle.pd_check.proofs.WalkReport.{walked_blocks, none_listed, none_reported}
 
 -- settling without a rule that it marks, after a walk without a rule
@@ -82,7 +84,7 @@ module _ (held : Option (List (List ℕ))) (kind : Kind) (blocks : ℕ) (first :
     (told : IfSome held (λ image. report ≡ report_of (past_faults Order graph image))) where
   -- the report is that of the check up to the order
   up_to_order : IfSome held (λ image. report ≡ report_of (faults kind Order image))
-  up_to_order = past_report held kind blocks first found sound graph same Order (Ok report) tt (λ e. cc) (λ e. cc) told
+  up_to_order = past_report held kind blocks first found sound graph same Order (Ok report) (λ e. cc) (λ e. cc) (λ e. cc) told
 
   -- which is that of the check where it has a fault
   pub whole_first : (report.total ≡ 0 → ⊥) → IfSome held (λ image. report ≡ report_of (faults kind Whole image))
@@ -100,13 +102,16 @@ module _ (held : Option (List (List ℕ))) (kind : Kind) (blocks : ℕ) (first :
     all_told =
         if_both held (λ image is leads. (is, subst (λ (g : Graph). IsKnown g image audit) same (known graph image audit lawful number (leads refl none)))) up_to_order settled
 
-    in_order : IfSome held (λ image. IsOrdered kind first image audit)
+    pub in_order : IfSome held (λ image. IsOrdered kind first image audit)
     in_order =
         if_both held (λ image here both. record {
           first_block = first_at blocks first image here;
           none = none_listed (faults kind Order image) (sym (ap (λ (r : Reported). r.total) both.0) ∙ none);
           known = both.1;
         }) found all_told
+
+    pub is_settled : IfSome held (λ image. IsWellSettled (graph_of_super kind first) image audit)
+    is_settled = subst (λ (g : Graph). IfSome held (λ image. IsWellSettled g image audit)) same (IfSome_then held settled (λ image leads. leads refl none))
 
     -- then the report is that of the whole image
     pub whole_second : (later : Option (List (List ℕ))) (found : Reported) → later ≡ held
@@ -142,3 +147,58 @@ pub settled_from : (P : List (List ℕ) → Type 0) (held later : Option (List (
 settled_from P held later until graph audit report stays walked leads =
     if_both held (λ image is then goes none. then is none) walked
     (subst (λ (o : Option (List (List ℕ))). IfSome o (λ image. IsWalked graph image audit → report.total ≡ 0 → P image)) stays leads)
+
+-- a report with faults up to the stage Whole is that of the check up to the stage Counts
+pub counts_first : (held : Option (List (List ℕ))) (kind : Kind) (report : Reported) → (report.total ≡ 0 → ⊥)
+    → IfSome held (λ image. report ≡ report_of (faults kind Whole image)) → IfSome held (λ image. report ≡ report_of (faults kind Counts image))
+counts_first held kind report some told =
+    IfSome_then held told (λ image is.
+    let total = ap (λ (r : Reported). r.total) is in
+    is ∙ ap (λ (list : List Fault). report_of list)
+    (sym (up_to_counts kind image ∙ chosen_where (nat_lt 0 (length (faults kind Whole image))) (faults kind Whole image) _ refl (λ none. some (total ∙ none)))))
+
+-- and where there are none, it is that of the counts
+pub counts_second : (held later : Option (List (List ℕ))) (kind : Kind) (first : List ℕ) (audit : Audit) (report : Reported) (result : Result Report CheckFault) → later ≡ held → report.total ≡ 0
+    → IfSome held (λ image. report.total ≡ 0 → IsWhole kind first image audit)
+    → IfOk result (λ found. IfSome later (λ image. IsWhole kind first image audit → found ≡ report_of (count_faults (checked_of kind image) image)))
+    → IfOk result (λ found. IfSome held (λ image. found ≡ report_of (faults kind Counts image)))
+counts_second held later kind first audit report (Err fault) stays none known told = tt
+counts_second held later kind first audit report (Ok found) stays none known told =
+    if_both held (λ image knows leads.
+    let whole = knows none in
+    leads whole ∙ ap (λ (list : List Fault). report_of list) (sym (up_to_counts kind image ∙ rw whole.none refl)))
+    known (subst (λ (o : Option (List (List ℕ))). IfSome o (λ image. IsWhole kind first image audit → found ≡ report_of (count_faults (checked_of kind image) image))) stays told)
+
+-- an audit that knew the image before the marks of the whole image knows it after them
+pub whole_known : (held later : Option (List (List ℕ))) (kind : Kind) (first : List ℕ) (before audit : Audit) (found : Reported) → later ≡ held
+    → IfSome held (λ image. IsOrdered kind first image before)
+    → blocks_of before ≡ (graph_of_super kind first).nr
+    → IfSome held (λ image. IsWellSettled (graph_of_super kind first) image before)
+    → IfSome later (λ image. IsOrdered kind first image before → IsKnown (graph_of_super kind first) image audit)
+    → IfSome held (λ image. found ≡ report_of (faults kind Whole image))
+    → found ≡ report_of (flat_map (λ b. faults_at b (has_rule_at audit b)) (range_with_len 0 (blocks_of audit)))
+    → blocks_of audit ≡ blocks_of before
+    → IfSome held (λ image. found.total ≡ 0 → IsWhole kind first image audit)
+whole_known held later kind first before audit found stays ordered number settled knows told reported same =
+    let known = subst (λ (o : Option (List (List ℕ))). IfSome o (λ image. IsOrdered kind first image before → IsKnown (graph_of_super kind first) image audit)) stays knows in
+    let pair_known = if_both {R = λ image. IsOrdered kind first image before × IsKnown (graph_of_super kind first) image audit} held (λ image is leads. (is, leads is)) ordered known in
+    let pair_told = if_both {R = λ image. IsWellSettled (graph_of_super kind first) image before × (found ≡ report_of (faults kind Whole image))} held (λ image is sames. (is, sames)) settled told in
+    if_both held (λ image knew tells none. record {
+      first_block = knew.0.first_block;
+      none = none_listed (faults kind Whole image) (sym (ap (λ (r : Reported). r.total) tells.1) ∙ none);
+      known = knew.1;
+      walked = record {
+        roles = knew.1.roles;
+        counts = knew.1.counts;
+        rules = λ b wanted within.
+            none_reported (graph_of_super kind first).nr (blocks_of audit) audit found (same ∙ number) reported none b wanted within ∙ sym (tells.0.walked b wanted within);
+      };
+    }) pair_known pair_told
+
+-- and the reads of the stages before and of the counts add up
+pub counts_reads : (held later : Option (List (List ℕ))) (kind : Kind) (first : List ℕ) (a b c : ℕ) → later ≡ held
+    → IfSome held (λ image. b ≤ a + 5 * length (nodes (graph_of_super kind first) image)) → IfSome later (λ image. c ≤ b + count_reads kind first image)
+    → IfSome held (λ image. c ≤ a + (5 * length (nodes (graph_of_super kind first) image) + count_reads kind first image))
+counts_reads held later kind first a b c stays before after =
+    if_both held (λ image most more. omega (arith, most, more)) before
+    (subst (λ (o : Option (List (List ℕ))). IfSome o (λ image. c ≤ b + count_reads kind first image)) stays after)

@@ -10,19 +10,12 @@ use Rattle.pd_kinds.specs.declared.fault.Fault.{Fault}
 use Rattle.pd_kinds.specs.Graph.{Graph, block_at, nodes}
 use Rattle.pd_kinds.specs.Stages.{CanWantMemory, faults, block_faults, walk_bad, order_bad}
 use Rattle.pd_check.specs.ByKind.{graph_of_super}
+use Rattle.pd_check.specs.Counts.{count_reads}
 
 -- the image has so many blocks, and this one is the first
 pub record IsFirstBlock (blocks : ℕ) (first : List ℕ) (image : List (List ℕ)) : Type 0 where
   pub number : blocks ≡ length image
   pub content : slice_get image 0 ≡ Some first
-
--- the stages that are built
-abbrev pub IsBuilt : Stage → Type 0
-IsBuilt Super = Unit {0}
-IsBuilt Walk = Unit {0}
-IsBuilt Order = Unit {0}
-IsBuilt Whole = Unit {0}
-IsBuilt Counts = ⊥
 
 -- memory is wanted only where a check up to the stage can want it
 abbrev pub MayWantMemory : {R : Type 0} → Kind → Stage → Option (List (List ℕ)) → Result R CheckFault → Type 0
@@ -37,6 +30,11 @@ reads_of Walk = 1
 reads_of Order = 3
 reads_of Whole = 5
 reads_of Counts = 5
+
+-- and how much it reads besides, to count and compare references
+abbrev pub reads_besides : Kind → List ℕ → List (List ℕ) → Stage → ℕ
+reads_besides kind first image Counts = count_reads kind first image
+reads_besides kind first image _ = 0
 
 -- and how often up to the order of the trees, where a check goes as far
 abbrev pub reads_to_order : Stage → ℕ
@@ -64,5 +62,6 @@ past_faults until graph image =
 -- a check up to a stage reads no node of the graph that a superblock gives more often than so, and none
 -- where the superblock has faults
 pub record ReadsFew (kind : Kind) (until : Stage) (image : List (List ℕ)) (old new : ℕ) : Type 0 where
-  pub nodes : new ≤ old + reads_of until * length (nodes (graph_of_super kind (block_at image 0)) image)
+  pub nodes : new ≤ old
+      + (reads_of until * length (nodes (graph_of_super kind (block_at image 0)) image) + reads_besides kind (block_at image 0) image until)
   pub none : (faults kind Super image ≢ []) → new ≤ old

@@ -1,3 +1,4 @@
 pub mod ByKind
 pub mod Check
 pub mod Whole
+pub mod Counts

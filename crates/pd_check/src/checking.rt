@@ -1,28 +1,29 @@
-//! The check of a device, up to the stages that are built.
+//! The check of a device, stage by stage.
 
 ghost use Rattle.std.specs.Prelude.{◌≡◌, ◌+◌, IfOk, IfSome};
+ghost use Rattle.pd_kinds.specs.declared.kind.Stage.TheVariants.{Counts};
 ghost use Rattle.pd_kinds.specs.CheckFault.{CountsCheckFault, StopsEarly};
 ghost use Rattle.pd_kinds.specs.Stages.{faults};
 ghost use Rattle.pd_kinds.specs.Report.{report_of};
 ghost use Rattle.pd_kinds.specs.RuleSet.{has_rule};
 ghost use Rattle.pd_kinds.specs.Faults.{faults_at};
 ghost use Rattle.pd_image.specs.Device.{IsAttached, OnlyReads};
-ghost use Rattle.pd_check.specs.Check.{IsBuilt, IsFirstBlock, MayWantMemory, ReadsFew};
+ghost use Rattle.pd_check.specs.Check.{IsFirstBlock, MayWantMemory, ReadsFew};
 
 use crate::metadata::Metadata;
 use crate::past::check_past;
-use crate::whole::check_whole;
+use crate::whole::{check_counts, check_whole};
 use pd_image::Device;
 use pd_kinds::{Block, CheckFault, Report, Rules, Stage};
 use pd_supers::missing_super;
 use std::alloc::Global;
 
-/// The faults of the first stage up to this one that has any. The stages that are built are `Super`,
-/// `Walk`, `Order` and `Whole`.
+/// The faults of the first stage up to this one that has any. Up to `Counts` there are none exactly where the image is
+/// clean.
 ///
 /// A check up to `Super` takes no memory, and one past it takes none before block 0 was found sound, and
 /// all of it before it reads another block: about 60 bytes a metadata block, and up to `Whole` what the kind
-/// needs besides. It reads block 0, and then each block at most once for each role in which it is reached, up to
+/// needs besides. Up to `Counts` it takes memory for the cursors and the counts of data blocks later too. It reads block 0, and then each block at most once for each role in which it is reached, up to
 /// `Order` at most three times, and up to `Whole` at most five times.
 ///
 /// Fails with `CheckFault::Memory` where that memory wasn't found, and with `CheckFault::Device` where a
@@ -33,10 +34,9 @@ pub fn check<M: Metadata, D: Device>(
     until: Stage,
 ) -> Result<Report, CheckFault>
     requires attached { IsAttached (D.state dev.old) }
-    requires built { IsBuilt until }
     ensures report { IfOk result (λ report. IfSome (D.state dev.old).held (λ image. report ≡ report_of (faults M.kind until image))) }
     ensures memory { MayWantMemory M.kind until (D.state dev.old).held result }
-    ensures early { StopsEarly result ((D.state dev.old).reads + 1) (D.state dev.new).reads }
+    ensures early { (until ≡ Counts → ⊥) → StopsEarly result ((D.state dev.old).reads + 1) (D.state dev.new).reads }
     ensures reads { IfSome (D.state dev.old).held (λ image. ReadsFew M.kind until image ((D.state dev.old).reads + 1) (D.state dev.new).reads) }
     ensures kept { OnlyReads (D.state dev.old) (D.state dev.new) }
     ensures faults { CountsCheckFault result (D.state dev.old).faults (D.state dev.new).faults }
@@ -61,12 +61,11 @@ fn check_from<M: Metadata, D: Device>(
     blocks: u64,
 ) -> Result<Report, CheckFault>
     requires attached { IsAttached (D.state dev.old) }
-    requires built { IsBuilt until }
     requires number { blocks ≡ (D.state dev.old).blocks }
     requires first { IfSome (D.state dev.old).held (IsFirstBlock blocks first.now.0) }
     ensures report { IfOk result (λ report. IfSome (D.state dev.old).held (λ image. report ≡ report_of (faults M.kind until image))) }
     ensures memory { MayWantMemory M.kind until (D.state dev.old).held result }
-    ensures early { StopsEarly result (D.state dev.old).reads (D.state dev.new).reads }
+    ensures early { (until ≡ Counts → ⊥) → StopsEarly result (D.state dev.old).reads (D.state dev.new).reads }
     ensures reads { IfSome (D.state dev.old).held (λ image. ReadsFew M.kind until image (D.state dev.old).reads (D.state dev.new).reads) }
     ensures kept { OnlyReads (D.state dev.old) (D.state dev.new) }
     ensures faults { CountsCheckFault result (D.state dev.old).faults (D.state dev.new).faults }
@@ -78,7 +77,7 @@ fn check_from<M: Metadata, D: Device>(
     match until {
         Stage::Super => Ok(Report::new()),
         Stage::Whole => check_whole::<M, D>(alloc, dev, first, blocks),
-        Stage::Counts => unreachable!(),
+        Stage::Counts => check_counts::<M, D>(alloc, dev, first, blocks),
         _ => check_past(alloc, dev, &M::format(first, blocks), until),
     }
 }

@@ -1,4 +1,4 @@
-ghost use Rattle.std.specs.Prelude.{◌≡◌, ◌≤◌, ◌+◌, ◌*◌, false, length, OnOk, IfSome};
+ghost use Rattle.std.specs.Prelude.{◌≡◌, ◌≤◌, ◌+◌, ◌*◌, ◌<◌, false, length, OnOk, IfSome};
 ghost use Rattle.pd_kinds.specs.declared.kind.Kind.{Kind};
 ghost use Rattle.pd_kinds.specs.declared.rule.Rule.{Rule as BrokenRule};
 ghost use Rattle.pd_kinds.specs.Objects.{CountsFault};
@@ -8,12 +8,13 @@ ghost use Rattle.pd_kinds.specs.Stages.{checked_of};
 ghost use Rattle.pd_image.specs.Device.{IsAttached, OnlyReads};
 ghost use Rattle.pd_graph.specs.Audit.{blocks_of};
 ghost use Rattle.pd_whole.specs.Charges.{Charges};
-ghost use Rattle.pd_check.specs.ByKind.{graph_of_super, super_bad_of};
+ghost use Rattle.pd_check.specs.ByKind.{data_space_of, graph_of_super, meta_map_of, super_bad_of};
 ghost use Rattle.pd_check.specs.Whole.{IsOrdered};
 
+use crate::data_space::DataSpace;
 use pd_graph::{Audit, Format};
 use pd_image::{Device, Failed};
-use pd_kinds::{Block, Rules};
+use pd_kinds::{Block, Rules, SmRoot};
 use std::alloc::{AllocError, Global};
 
 /// A kind of metadata, by what a check needs of it: the rules of its superblock, the format that a
@@ -37,6 +38,15 @@ pub trait Metadata {
         requires { (rule : BrokenRule) → super_bad_of kind device_blocks b.now.0 rule ≡ false }
         ensures graph { Self.Format.graph result ≡ graph_of_super kind b.now.0 }
         ensures within { (graph_of_super kind b.now.0).nr ≤ device_blocks };
+
+    /// The root of the map that counts the metadata blocks.
+    fn meta_map(b: &Block) -> SmRoot
+        ensures { result ≡ meta_map_of kind b.now.0 };
+
+    /// The data blocks that this kind counts, or `None` where it counts none.
+    fn data_space(b: &Block) -> Option<DataSpace>
+        ensures space { result ≡ data_space_of kind b.now.0 }
+        ensures role { IfSome result (λ space. space.role < Self.Format.ROLES) };
 
     /// Takes the memory that the rules of the whole image need, where this is block 0. Want of it is the only
     /// error.

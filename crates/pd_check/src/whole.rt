@@ -1,7 +1,9 @@
-//! The stage of the whole image, after the order of the trees.
+//! The stages of the whole image and of the counts, after the order of the trees.
 
-ghost use Rattle.std.specs.Prelude.{◌≡◌, ℕ, ◌+◌, ◌*◌, ◌<◌, ◌≤◌, false, length, IfOk, IfSome};
-ghost use Rattle.pd_kinds.specs.declared.kind.Stage.TheVariants.{Whole};
+ghost use Rattle.std.specs.Prelude.{◌≡◌, ℕ, ◌+◌, ◌*◌, ◌<◌, ◌≤◌, false, length, IfOk, IfSome, OnOk};
+ghost use Rattle.std.specs.List.{flat_map, range_with_len};
+ghost use Rattle.pd_kinds.specs.Faults.{faults_at};
+ghost use Rattle.pd_kinds.specs.declared.kind.Stage.TheVariants.{Counts, Whole};
 ghost use Rattle.pd_kinds.specs.declared.rule.Rule.{Rule};
 ghost use Rattle.pd_kinds.specs.CheckFault.{CountsCheckFault, StopsEarly};
 ghost use Rattle.pd_kinds.specs.Objects.{CountsFault};
@@ -11,10 +13,12 @@ ghost use Rattle.pd_kinds.specs.Stages.{block_faults, checked_of, faults};
 ghost use Rattle.pd_kinds.specs.Whole.{whole_bad};
 ghost use Rattle.pd_image.specs.Device.{IsAttached, OnlyReads};
 ghost use Rattle.pd_graph.specs.Audit.{blocks_of, has_rule_at};
+ghost use Rattle.pd_whole.specs.Known.{IsKnown};
 ghost use Rattle.pd_check.specs.ByKind.{graph_of_super, super_bad_of};
-ghost use Rattle.pd_check.specs.Check.{IsFirstBlock, reads_of};
-ghost use Rattle.pd_check.specs.Whole.{IsOrdered};
+ghost use Rattle.pd_check.specs.Check.{IsFirstBlock, reads_besides, reads_of};
+ghost use Rattle.pd_check.specs.Whole.{IsOrdered, IsWhole};
 
+use crate::counts::count_report;
 use crate::metadata::Metadata;
 use crate::past::looked_at;
 use crate::walked::walk_report;
@@ -48,6 +52,34 @@ pub(crate) fn check_whole<M: Metadata, D: Device>(
     ensures kept { OnlyReads (D.state dev.old) (D.state dev.new) }
     ensures faults { CountsCheckFault result (D.state dev.old).faults (D.state dev.new).faults }
 {
+    let (_audit, report) = whole_looked::<M, D>(alloc, dev, first, blocks)?;
+    Ok(report)
+}
+
+/// Does what `check_whole` does: the audit of that, and the report.
+///
+/// Fails as `check_whole` does.
+pub(crate) fn whole_looked<M: Metadata, D: Device>(
+    alloc: Global,
+    dev: &mut D,
+    first: &Block,
+    blocks: u64,
+) -> Result<(Audit, Report), CheckFault>
+    requires attached { IsAttached (D.state dev.old) }
+    requires number { blocks ≡ (D.state dev.old).blocks }
+    requires first { IfSome (D.state dev.old).held (IsFirstBlock blocks first.now.0) }
+    requires sound { (rule : Rule) → super_bad_of M.kind blocks first.now.0 rule ≡ false }
+    ensures report { IfOk result (λ found. IfSome (D.state dev.old).held (λ image. found.1 ≡ report_of (faults M.kind Whole image))) }
+    ensures number { IfOk result (λ found. blocks_of found.0 ≡ (graph_of_super M.kind first.now.0).nr) }
+
+    // Where nothing was found, the audit knows the image.
+    ensures whole { IfOk result (λ found. IfSome (D.state dev.old).held (λ image. found.1.total ≡ 0 → IsWhole M.kind first.now.0 image found.0)) }
+    ensures early { StopsEarly result (D.state dev.old).reads (D.state dev.new).reads }
+    ensures reads { IfSome (D.state dev.old).held (λ image.
+        (D.state dev.new).reads ≤ (D.state dev.old).reads + reads_of Whole * length (nodes (graph_of_super M.kind first.now.0) image)) }
+    ensures kept { OnlyReads (D.state dev.old) (D.state dev.new) }
+    ensures faults { CountsCheckFault result (D.state dev.old).faults (D.state dev.new).faults }
+{
     settled_audits_are_known();
     let room = match M::room(alloc, first) {
         Ok(room) => room,
@@ -55,12 +87,39 @@ pub(crate) fn check_whole<M: Metadata, D: Device>(
     };
     let (mut audit, report) = looked_at(alloc, dev, &M::format(first, blocks), Stage::Order)?;
     if !report.is_empty() {
-        return Ok(report);
+        return Ok((audit, report));
     }
     match whole_report::<M, D>(room, first, &mut audit, dev) {
-        Ok(found) => Ok(found),
+        Ok(found) => Ok((audit, found)),
         Err(_) => Err(CheckFault::Device),
     }
+}
+
+/// Looks at all that block 0, which breaks no rule, leads to, and where no block breaks a rule up to those of the
+/// whole image, compares the stored counts with the references.
+///
+/// Fails with `CheckFault::Memory` where memory wasn't found, and with `CheckFault::Device` where a read failed.
+pub(crate) fn check_counts<M: Metadata, D: Device>(
+    alloc: Global,
+    dev: &mut D,
+    first: &Block,
+    blocks: u64,
+) -> Result<Report, CheckFault>
+    requires attached { IsAttached (D.state dev.old) }
+    requires number { blocks ≡ (D.state dev.old).blocks }
+    requires first { IfSome (D.state dev.old).held (IsFirstBlock blocks first.now.0) }
+    requires sound { (rule : Rule) → super_bad_of M.kind blocks first.now.0 rule ≡ false }
+    ensures report { IfOk result (λ report. IfSome (D.state dev.old).held (λ image. report ≡ report_of (faults M.kind Counts image))) }
+    ensures reads { IfSome (D.state dev.old).held (λ image. (D.state dev.new).reads ≤ (D.state dev.old).reads
+        + (reads_of Counts * length (nodes (graph_of_super M.kind first.now.0) image) + reads_besides M.kind first.now.0 image Counts)) }
+    ensures kept { OnlyReads (D.state dev.old) (D.state dev.new) }
+    ensures faults { CountsCheckFault result (D.state dev.old).faults (D.state dev.new).faults }
+{
+    let (audit, report) = whole_looked::<M, D>(alloc, dev, first, blocks)?;
+    if !report.is_empty() {
+        return Ok(report);
+    }
+    count_report::<M, D>(alloc, dev, &M::format(first, blocks), first, &audit)
 }
 
 /// Marks the rules of the whole image, where no block has a rule yet, and reports them.
@@ -76,6 +135,10 @@ fn whole_report<M: Metadata, D: Device>(
     requires none { (b : ℕ) (rule : Rule) → b < (graph_of_super M.kind first.now.0).nr → has_rule_at audit.old b rule ≡ false }
     ensures report { IfOk result (λ report. IfSome (D.state dev.old).held (λ image. IsOrdered M.kind first.now.0 image audit.old
         → report ≡ report_of (block_faults (graph_of_super M.kind first.now.0).nr (whole_bad (checked_of M.kind image).whole)))) }
+    ensures known { OnOk result (IfSome (D.state dev.old).held (λ image. IsOrdered M.kind first.now.0 image audit.old
+        → IsKnown (graph_of_super M.kind first.now.0) image audit.new)) }
+    ensures number { blocks_of audit.new ≡ blocks_of audit.old }
+    ensures told { IfOk result (λ report. report ≡ report_of (flat_map (λ b. faults_at b (has_rule_at audit.new b)) (range_with_len 0 (blocks_of audit.new)))) }
     ensures reads { IfSome (D.state dev.old).held (λ image. IsOrdered M.kind first.now.0 image audit.old
         → (D.state dev.new).reads ≤ (D.state dev.old).reads + 2 * length (nodes (graph_of_super M.kind first.now.0) image)) }
     ensures kept { OnlyReads (D.state dev.old) (D.state dev.new) }

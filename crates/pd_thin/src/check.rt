@@ -2,19 +2,20 @@
 
 ghost use Rattle.std.specs.Prelude.{◌≡◌, ◌+◌, IfOk, IfSome};
 ghost use Rattle.pd_kinds.specs.declared.kind.Kind.TheVariants.{Thin};
+ghost use Rattle.pd_kinds.specs.declared.kind.Stage.TheVariants.{Counts};
 ghost use Rattle.pd_kinds.specs.CheckFault.{CountsCheckFault, StopsEarly};
 ghost use Rattle.pd_kinds.specs.Stages.{faults};
 ghost use Rattle.pd_kinds.specs.Report.{report_of};
 ghost use Rattle.pd_image.specs.Device.{IsAttached, OnlyReads};
-ghost use Rattle.pd_check.specs.Check.{IsBuilt, MayWantMemory, ReadsFew};
+ghost use Rattle.pd_check.specs.Check.{MayWantMemory, ReadsFew};
 
 use crate::format::{ThinFormat, ThinTable};
 use crate::pool::mark_pool;
 use crate::turns::DeviceCursors;
-use pd_check::{Metadata, check};
+use pd_check::{DataSpace, Metadata, check};
 use pd_graph::Audit;
 use pd_image::{Device, Failed};
-use pd_kinds::{Block, CheckFault, Report, Rules, Stage};
+use pd_kinds::{Block, CheckFault, Report, Rules, SmRoot, Stage};
 use pd_supers::{read_thin_super, thin_super_rules};
 use std::alloc::{AllocError, Global};
 
@@ -35,6 +36,17 @@ impl Metadata for ThinTable {
         ThinFormat::of(&read_thin_super(b))
     }
 
+    fn meta_map(b: &Block) -> SmRoot {
+        read_thin_super(b).meta_map
+    }
+
+    fn data_space(b: &Block) -> Option<DataSpace> {
+        Some(DataSpace {
+            root: read_thin_super(b).data_map,
+            role: 3,
+        })
+    }
+
     fn room(alloc: Global, _b: &Block) -> Result<DeviceCursors, AllocError> {
         DeviceCursors::new(alloc)
     }
@@ -50,22 +62,21 @@ impl Metadata for ThinTable {
     }
 }
 
-/// The faults of the first stage up to this one that has any. The stages that are built are `Super`,
-/// `Walk`, `Order` and `Whole`.
+/// The faults of the first stage up to this one that has any. Up to `Counts` there are none exactly where the image is
+/// clean.
 ///
 /// A check up to `Super` takes no memory, and one past it takes none before block 0 was found sound, and
 /// all of it before it reads another block: about 60 bytes a metadata block, and up to `Whole` 530 KiB
-/// besides. It reads block 0, and then each block at most once for each role in which it is reached, up to `Order` at
+/// besides. Up to `Counts` it takes memory for cursors and for the counts of data blocks later too. It reads block 0, and then each block at most once for each role in which it is reached, up to `Order` at
 /// most three times, and up to `Whole` at most five times.
 ///
 /// Fails with `CheckFault::Memory` where that memory wasn't found, and with `CheckFault::Device` where a
 /// read failed.
 pub fn check_thin<D: Device>(alloc: Global, dev: &mut D, until: Stage) -> Result<Report, CheckFault>
     requires attached { IsAttached (D.state dev.old) }
-    requires built { IsBuilt until }
     ensures report { IfOk result (λ report. IfSome (D.state dev.old).held (λ image. report ≡ report_of (faults Thin until image))) }
     ensures memory { MayWantMemory Thin until (D.state dev.old).held result }
-    ensures early { StopsEarly result ((D.state dev.old).reads + 1) (D.state dev.new).reads }
+    ensures early { (until ≡ Counts → ⊥) → StopsEarly result ((D.state dev.old).reads + 1) (D.state dev.new).reads }
     ensures reads { IfSome (D.state dev.old).held (λ image. ReadsFew Thin until image ((D.state dev.old).reads + 1) (D.state dev.new).reads) }
     ensures kept { OnlyReads (D.state dev.old) (D.state dev.new) }
     ensures faults { CountsCheckFault result (D.state dev.old).faults (D.state dev.new).faults }

@@ -3,7 +3,7 @@ use Rattle.pd_check.proofs.checking.check.Goals as goal
 
 pub returns-then-blocks-eq0-clause-report : goal.returns-then-blocks-eq0-clause-report
 returns-then-blocks-eq0-clause-report g c =
-    missing_report _ _ c.args.until c.blocks-blocks.result c.missing_super.result c.super_report.result c.requires.built c.if-blocks-eq0.true
+    missing_report _ _ c.args.until c.blocks-blocks.result c.missing_super.result c.super_report.result c.if-blocks-eq0.true
     c.blocks-blocks.ensures.honest c.missing_super.ensures c.super_report.ensures
 
 pub returns-in-Ok-clause-reads : goal.returns-in-Ok-clause-reads

@@ -2,8 +2,8 @@ use Rattle.std.proofs.Common.{ap, sym, ◌∙◌, eq-eqb}
 use Rattle.std.proofs.lemmas.Bool.{eqb-true, both_ways}
 use Rattle.pd_kinds.specs.Graph.{Graph}
 use Rattle.pd_check.proofs.WalkReport.{none_reported}
-use Rattle.pd_check.proofs.WholeLemmas.{whole_first, whole_second, whole_reads}
-use Rattle.pd_check.proofs.whole.check_whole.Goals as goal
+use Rattle.pd_check.proofs.WholeLemmas.{whole_first, whole_second, whole_reads, whole_known, in_order, is_settled}
+use Rattle.pd_check.proofs.whole.whole_looked.Goals as goal
 
 pub returns-then-not-is_empty-clause-report : goal.returns-then-not-is_empty-clause-report
 returns-then-not-is_empty-clause-report g c =
@@ -29,8 +29,22 @@ returns-in-Ok-whole_report-clause-reads g c =
     c.settled_audits_are_known.ensures c.in_ok-audit.ensures.settled
     _ _ _ _ c.in_ok-audit.ensures.kept.held c.in_ok-audit.ensures.reads c.whole_report.ensures.reads
 
-pub returns-clause-reads : goal.returns-clause-reads
-returns-clause-reads g c =
+pub returns-in-Ok-whole_report-clause-whole : goal.returns-in-Ok-whole_report-clause-whole
+returns-in-Ok-whole_report-clause-whole g c =
+    let none = eqb-true c.in_ok-audit.report.total 0 (sym c.if-not-is_empty.ensures) in
+    let told = whole_second _ _ _ _ _ c.in_ok-audit.report c.in_ok-audit.audit c.requires.first c.requires.sound c.format.ensures.graph c.in_ok-audit.ensures.report none
+    (g.met.M.Format.Format.lawful c.format.result) c.in_ok-audit.ensures.number c.settled_audits_are_known.ensures c.in_ok-audit.ensures.settled
+    _ c.in-Ok-whole_report.found c.in_ok-audit.ensures.kept.held c.in-Ok-whole_report.ensures.report in
+    whole_known _ _ g.M.Metadata.kind c.args.first.now.0 c.in_ok-audit.audit c.whole_report.new.audit c.in-Ok-whole_report.found c.in_ok-audit.ensures.kept.held
+    (in_order _ _ _ _ _ c.in_ok-audit.report c.in_ok-audit.audit c.requires.first c.requires.sound c.format.ensures.graph c.in_ok-audit.ensures.report none
+    (g.met.M.Format.Format.lawful c.format.result) c.in_ok-audit.ensures.number c.settled_audits_are_known.ensures c.in_ok-audit.ensures.settled)
+    (c.in_ok-audit.ensures.number ∙ ap (λ (graph : Graph). graph.nr) c.format.ensures.graph)
+    (is_settled _ _ _ _ _ c.in_ok-audit.report c.in_ok-audit.audit c.requires.first c.requires.sound c.format.ensures.graph c.in_ok-audit.ensures.report none
+    (g.met.M.Format.Format.lawful c.format.result) c.in_ok-audit.ensures.number c.settled_audits_are_known.ensures c.in_ok-audit.ensures.settled)
+    c.in-Ok-whole_report.ensures.known told c.in-Ok-whole_report.ensures.told c.in-Ok-whole_report.ensures.number
+
+pub returns-in-Err-whole_report-clause-reads : goal.returns-in-Err-whole_report-clause-reads
+returns-in-Err-whole_report-clause-reads g c =
     whole_reads _ _ _ _ _ c.in_ok-audit.report c.in_ok-audit.audit c.requires.first c.requires.sound c.format.ensures.graph c.in_ok-audit.ensures.report
     (eqb-true c.in_ok-audit.report.total 0 (sym c.if-not-is_empty.ensures)) (g.met.M.Format.Format.lawful c.format.result) c.in_ok-audit.ensures.number
     c.settled_audits_are_known.ensures c.in_ok-audit.ensures.settled

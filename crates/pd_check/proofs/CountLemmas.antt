@@ -1,0 +1,427 @@
+-- The faults that are found of stored counts are those of the definition.
+use Rattle.std.proofs.Common.{◌≡◌, ℕ, zero, suc, ◌+◌, ◌%◌, ◌^◌, ◌<◌, ◌≤◌, Bool, true, false, not, ◌&&◌, cond, nat_eq, nat_lt, List, [], ◌∷◌, ◌++◌, Option, Some, None, IfSome, Result, Ok, Err, OnOk, refl, ap, sym, subst, ◌∙◌, arith, eq-eqb, append-nil}
+use Rattle.std.specs.List.{flat_map, range_with_len, count_by, AllByRecursion}
+use Rattle.std.specs.Str.{bytes_eq}
+use Rattle.std.proofs.lemmas.Bool.{or_parts, not-false, ltb-false, both_ways, lt-ltb, and_from}
+use Rattle.std.proofs.lemmas.List.FromFn.{length-range_with_len}
+use Rattle.std.proofs.lemmas.List.Sums.{count_by-le-length}
+use Rattle.std.proofs.lemmas.Option.{IfSome_then}
+use Rattle.std.proofs.lemmas.Slice.Eq.{bytes_eq-Decides}
+use Rattle.pd_kinds.specs.declared.kind.Kind.{Kind}
+use Rattle.pd_kinds.specs.declared.kind.Kind.TheVariants.{Thin, Cache, Era}
+use Rattle.pd_kinds.specs.declared.kind.Stage.{Stage}
+use Rattle.pd_kinds.specs.declared.kind.Stage.TheVariants as stages
+use Rattle.pd_kinds.specs.declared.rule.Rule.{Rule}
+use Rattle.pd_kinds.specs.declared.rule.Rule.TheVariants as r
+use Rattle.pd_kinds.specs.Rule.{same_rule}
+use Rattle.pd_kinds.specs.declared.fault.Fault.{Fault}
+use Rattle.pd_kinds.specs.declared.fault.Space.{Space}
+use Rattle.pd_kinds.specs.declared.fault.Space.TheVariants.{Meta, DataBlock}
+use Rattle.pd_kinds.specs.declared.map_root.SmRoot.{SmRoot}
+use Rattle.pd_kinds.specs.Node.{Entry}
+use Rattle.pd_kinds.specs.Bitmap.{bitmaps_for}
+use Rattle.pd_kinds.specs.Graph.{Graph, block_at, pair, meta_count, data_count}
+use Rattle.pd_kinds.specs.Layout.{Layout, bitmap, index, plain_tree, tree_to, layouts, layout_data, is_bad, leaf_entries, graph_of}
+use Rattle.pd_kinds.specs.Limits.{is_meta_size_bad, max_data_blocks}
+use Rattle.pd_kinds.specs.Report.{Reported, report_of}
+use Rattle.pd_kinds.specs.Stages.{checked_of, thin_checked, cache_checked, era_checked, count_fault, count_faults, faults, IsReached}
+use Rattle.pd_kinds.specs.ThinSuper.{thin_fields, thin_super_bad, thin_super_tests, are_thin_sizes_bad}
+use Rattle.pd_kinds.specs.ThinFormat.{thin_graph, thin_layout}
+use Rattle.pd_kinds.specs.CacheFormat.{cache_fields, cache_graph}
+use Rattle.pd_kinds.specs.EraFormat.{era_fields, era_graph}
+use Rattle.pd_kinds.specs.Trees.{entries_below, keys_of, stored_meta_in, stored_data_in}
+use Rattle.pd_kinds.specs.Whole.{whole_bad, thin_whole, data_index_entries}
+use Rattle.pd_laws.specs.InOrder.{AreInOrder, LooksAtOrder, graph_of_kind}
+use Rattle.pd_laws.proofs.CleanLemmas.{whole_where_none}
+use Rattle.pd_laws.proofs.SoundLemmas.{IsSound, tests_after_two}
+use Rattle.pd_graph.specs.declared.audit.Audit.{Audit}
+use Rattle.pd_graph.specs.Audit.{count_at, roles_at}
+use Rattle.pd_graph.specs.Roles.{has_bit}
+use Rattle.pd_graph.specs.Walk.{IsWalked}
+use Rattle.pd_graph.proofs.AnyLemmas.{if_any, if_both}
+use Rattle.pd_tree.specs.Roots.{HasCacheRoots, HasEraRoots, HasThinRoots}
+use Rattle.pd_tree.specs.Sound.{IsSoundTree}
+use Rattle.pd_tree.specs.TreeRoles.{HasCacheTrees, HasEraTrees, HasThinTrees, IsTreeRole}
+use Rattle.pd_count.specs.Counted.{Counted, HasCounted, count_of}
+use Rattle.pd_refs.specs.Refs.{number_in, refs_before}
+use Rattle.pd_smap.specs.Counted.{faults_from}
+use Rattle.pd_smap.specs.Entries.{IsIndex, IsOverflow, index_of, overflow_of}
+use Rattle.pd_smap.specs.Reports.{Adds}
+use Rattle.pd_whole.specs.Known.{IsKnown}
+use Rattle.pd_check.specs.declared.data_space.DataSpace.{DataSpace}
+use Rattle.pd_check.specs.ByKind.{data_space_of, graph_of_super, meta_map_of, super_bad_of}
+use Rattle.pd_check.specs.Counts.{count_reads, data_faults, data_reads, meta_faults, meta_reads}
+use Rattle.pd_check.specs.Whole.{IsWhole}
+use Rattle.pd_check.proofs.CheckLemmas.{same_graph}
+use Rattle.pd_check.proofs.WalkReport.{flat_map-same}
+
+-- the faults of blocks with the same references and the same stored counts
+faults_same : (space : Space) (refs others : ℕ → ℕ) (stored told : ℕ → Option ℕ) (n : ℕ) → ((b : ℕ) → b < n → refs b ≡ others b) → ((b : ℕ) → stored b ≡ told b)
+    → faults_from space refs stored 0 n ≡ flat_map (λ b. count_fault space b (others b) (told b)) (range_with_len 0 n)
+unfolding faults_from
+faults_same space refs others stored told n same is =
+    flat_map-same (λ b. count_fault space b (refs b) (stored b)) (λ b. count_fault space b (others b) (told b)) 0 n
+    (λ b within. ap (λ (k : ℕ). count_fault space b k (stored b)) (same b (omega arith)) ∙ ap (λ (o : Option ℕ). count_fault space b (others b) o) (is b))
+
+-- the map of metadata blocks has a count for each of them
+pub map_number : (kind : Kind) (first : List ℕ) → (meta_map_of kind first).blocks ≡ (graph_of_super kind first).nr
+unfolding thin_graph cache_graph era_graph graph_of
+map_number Thin first = refl
+map_number Cache first = refl
+map_number Era first = refl
+
+-- and that of data blocks for each of those
+pub data_number : (kind : Kind) (first : List ℕ) (space : DataSpace) → data_space_of kind first ≡ Some space → space.root.blocks ≡ (graph_of_super kind first).data_blocks
+unfolding thin_graph graph_of
+data_number Thin first space is = let same : record { root = (thin_fields first).data_map; role = 3 } ≡ space = cc in ap (λ (s : DataSpace). s.root.blocks) (sym same)
+data_number Cache first space is = absurd (cc)
+data_number Era first space is = absurd (cc)
+
+-- the data blocks of a sound superblock are few
+few_data : (blocks : ℕ) (block : List ℕ) → IsSound (thin_super_bad blocks block) → (thin_fields block).data_map.blocks ≤ 2 ^ 40
+unfolding thin_super_bad thin_super_tests are_thin_sizes_bad
+few_data blocks block sound =
+    let tests = tests_after_two _ _ _ _ (thin_super_tests blocks block) sound in
+    ltb-false max_data_blocks (thin_fields block).data_map.blocks (or_parts (is_meta_size_bad blocks (thin_fields block).meta_map.blocks) _ tests.1.0).1
+
+pub few_counted : (kind : Kind) (blocks : ℕ) (first : List ℕ) → ((rule : Rule) → super_bad_of kind blocks first rule ≡ false)
+    → IfSome (data_space_of kind first) (λ space. space.root.blocks ≤ 2 ^ 40)
+few_counted Thin blocks first sound = few_data blocks first sound
+few_counted Cache blocks first sound = tt
+few_counted Era blocks first sound = tt
+
+-- the map of metadata blocks, where no rule is broken up to those of the whole image
+pub record HasMetaMap (kind : Kind) (image : List (List ℕ)) : Type 0 where
+  pub index : (meta_map_of kind (block_at image 0)).bitmap_root < (graph_of_super kind (block_at image 0)).nr
+  pub overflow : (meta_map_of kind (block_at image 0)).overflow_root < (graph_of_super kind (block_at image 0)).nr
+  pub searchable : IsOverflow image (meta_map_of kind (block_at image 0)).overflow_root
+  pub stored : (b : ℕ) → stored_meta_in image (meta_map_of kind (block_at image 0)).bitmap_root (overflow_of image (meta_map_of kind (block_at image 0)).overflow_root) b
+      ≡ (checked_of kind image).stored_meta b
+
+-- the laws on sound trees
+module _ (thin_trees : (super_block : List ℕ) → HasThinTrees (thin_graph super_block))
+    (cache_trees : (super_block : List ℕ) → HasCacheTrees (cache_graph super_block))
+    (era_trees : (super_block : List ℕ) → HasEraTrees (era_graph super_block))
+    (sound : (kind : Kind) (until : Stage) (image : List (List ℕ)) (b role : ℕ) → LooksAtOrder until → faults kind until image ≡ []
+    → IsReached (graph_of_kind kind image) image b role → IsSoundTree (graph_of_kind kind image) image (pair b role))
+    (thin_roots : (until : Stage) (image : List (List ℕ)) → LooksAtOrder until → faults Thin until image ≡ [] → HasThinRoots (thin_graph (block_at image 0)) image (thin_fields (block_at image 0)))
+    (cache_roots : (until : Stage) (image : List (List ℕ)) → LooksAtOrder until → faults Cache until image ≡ [] → HasCacheRoots (cache_graph (block_at image 0)) image (cache_fields (block_at image 0)))
+    (era_roots : (until : Stage) (image : List (List ℕ)) → LooksAtOrder until → faults Era until image ≡ [] → HasEraRoots (era_graph (block_at image 0)) image (era_fields (block_at image 0)))
+    (searchable : (graph : Graph) (image : List (List ℕ)) (b role : ℕ) → IsTreeRole graph role 4 → IsSoundTree graph image (pair b role) → IsOverflow image b)
+    (entries : (graph : Graph) (image : List (List ℕ)) (b role : ℕ) → IsTreeRole graph role 4 → IsSoundTree graph image (pair b role)
+    → overflow_of image b ≡ entries_below graph image 4 role b) where
+  has_meta_map : (kind : Kind) (image : List (List ℕ)) → faults kind stages.Whole image ≡ [] → HasMetaMap kind image
+  unfolding thin_checked cache_checked era_checked
+  has_meta_map Thin image none =
+      let roots = thin_roots stages.Whole image tt none in
+      let tree = (thin_trees (block_at image 0)).meta_overflow in
+      let root = (thin_fields (block_at image 0)).meta_map in
+      let found = sound Thin stages.Whole image root.overflow_root 10 tt none roots.meta_overflow in
+      record {
+        index = roots.meta_index.block;
+        overflow = roots.meta_overflow.block;
+        searchable = searchable (thin_graph (block_at image 0)) image root.overflow_root 10 tree found;
+        stored = λ b. ap (λ (list : List Entry). stored_meta_in image root.bitmap_root list b) (entries (thin_graph (block_at image 0)) image root.overflow_root 10 tree found);
+      }
+  has_meta_map Cache image none =
+      let roots = cache_roots stages.Whole image tt none in
+      let tree = (cache_trees (block_at image 0)).meta_overflow in
+      let root = (cache_fields (block_at image 0)).meta_map in
+      let found = sound Cache stages.Whole image root.overflow_root 9 tt none roots.meta_overflow in
+      record {
+        index = roots.meta_index.block;
+        overflow = roots.meta_overflow.block;
+        searchable = searchable (cache_graph (block_at image 0)) image root.overflow_root 9 tree found;
+        stored = λ b. ap (λ (list : List Entry). stored_meta_in image root.bitmap_root list b) (entries (cache_graph (block_at image 0)) image root.overflow_root 9 tree found);
+      }
+  has_meta_map Era image none =
+      let roots = era_roots stages.Whole image tt none in
+      let tree = (era_trees (block_at image 0)).meta_overflow in
+      let root = (era_fields (block_at image 0)).meta_map in
+      let found = sound Era stages.Whole image root.overflow_root 9 tt none roots.meta_overflow in
+      record {
+        index = roots.meta_index.block;
+        overflow = roots.meta_overflow.block;
+        searchable = searchable (era_graph (block_at image 0)) image root.overflow_root 9 tree found;
+        stored = λ b. ap (λ (list : List Entry). stored_meta_in image root.bitmap_root list b) (entries (era_graph (block_at image 0)) image root.overflow_root 9 tree found);
+      }
+
+  meta_same : (kind : Kind) (image : List (List ℕ)) (first : List ℕ) (audit : Audit) → IsWhole kind first image audit → HasMetaMap kind image
+      → faults_from Meta (count_at audit)
+      (stored_meta_in image (meta_map_of kind (block_at image 0)).bitmap_root (overflow_of image (meta_map_of kind (block_at image 0)).overflow_root)) 0 (meta_map_of kind (block_at image 0)).blocks
+      ≡ meta_faults (checked_of kind image) image
+  unfolding meta_faults
+  meta_same kind image first audit whole map =
+      let checked = checked_of kind image in
+      let stored = stored_meta_in image (meta_map_of kind (block_at image 0)).bitmap_root (overflow_of image (meta_map_of kind (block_at image 0)).overflow_root) in
+      let same : graph_of_super kind first ≡ checked.graph = ap (graph_of_super kind) (sym whole.first_block) ∙ sym (same_graph kind image) in
+      let known = subst (λ (g : Graph). IsKnown g image audit) same whole.known in
+      ap (λ (n : ℕ). faults_from Meta (count_at audit) stored 0 n) (map_number kind (block_at image 0) ∙ ap (λ (g : Graph). g.nr) (sym (same_graph kind image)))
+      ∙ faults_same Meta (count_at audit) (meta_count checked.graph image) stored checked.stored_meta checked.graph.nr known.counts map.stored
+
+  -- the faults that were added are those of metadata blocks
+  pub meta_told : (held : Option (List (List ℕ))) (kind : Kind) (first : List ℕ) (audit : Audit) (root : SmRoot) (old new : Reported) → root ≡ meta_map_of kind first
+      → IfSome held (λ image. IsOverflow image root.overflow_root
+      → Adds (faults_from Meta (count_at audit) (stored_meta_in image root.bitmap_root (overflow_of image root.overflow_root)) 0 root.blocks) old new)
+      → IfSome held (λ image. IsWhole kind first image audit → Adds (meta_faults (checked_of kind image) image) old new)
+  meta_told held kind first audit root old new is adds = IfSome_then held adds (λ image leads whole.
+      let map = has_meta_map kind image whole.none in
+      let same : root ≡ meta_map_of kind (block_at image 0) = is ∙ ap (meta_map_of kind) (sym whole.first_block) in
+      let added = subst (λ (m : SmRoot). IsOverflow image m.overflow_root
+      → Adds (faults_from Meta (count_at audit) (stored_meta_in image m.bitmap_root (overflow_of image m.overflow_root)) 0 m.blocks) old new) same leads in
+      subst (λ (list : List Fault). Adds list old new) (meta_same kind image first audit whole map) (added map.searchable))
+
+  -- both roots lie within the device
+  pub meta_inside : (P : List (List ℕ) → Type 0) (held : Option (List (List ℕ))) (kind : Kind) (first : List ℕ) (audit : Audit) (root : SmRoot) (one two : ℕ) → root ≡ meta_map_of kind first
+      → (graph_of_super kind first).nr ≤ one → (graph_of_super kind first).nr ≤ two
+      → (nat_lt root.bitmap_root one && nat_lt root.overflow_root two) ≡ false
+      → IfSome held (λ image. IsWhole kind first image audit → P image)
+  meta_inside P held kind first audit root one two is within also outside = if_any held (λ image whole.
+      let map = has_meta_map kind image whole.none in
+      let index = subst (λ (m : List ℕ). (meta_map_of kind m).bitmap_root < (graph_of_super kind m).nr) whole.first_block map.index in
+      let overflow = subst (λ (m : List ℕ). (meta_map_of kind m).overflow_root < (graph_of_super kind m).nr) whole.first_block map.overflow in
+      let first_is = ap (λ (m : SmRoot). m.bitmap_root) is in
+      let second_is = ap (λ (m : SmRoot). m.overflow_root) is in
+      absurd (both_ways (nat_lt root.bitmap_root one && nat_lt root.overflow_root two) outside
+      (and_from (nat_lt root.bitmap_root one) (nat_lt root.overflow_root two) (lt-ltb root.bitmap_root one (omega arith)) (lt-ltb root.overflow_root two (omega arith)))))
+
+-- what holds where a call went well
+pub on_ok : {T E : Type 0} {P Q : Type 0} → (result : Result T E) → (P → Q) → OnOk result P → OnOk result Q
+on_ok (Ok value) leads holds = leads holds
+on_ok (Err fault) leads holds = tt
+
+-- the index of the data bitmaps has an entry for each, by the rule Index
+first_not : (first second : Bool) → second ≡ true → (first && second) ≡ false → first ≡ false
+first_not true second is none = absurd (cc)
+first_not false second is none = refl
+
+index_if : (graph : Graph) (image : List (List ℕ)) → ((b : ℕ) (broken : Rule) → b < graph.nr → whole_bad (thin_whole graph image) b broken ≡ false)
+    → (thin_fields (block_at image 0)).data_map.bitmap_root < graph.nr
+    → keys_of (data_index_entries graph image) ≡ range_with_len 0 (bitmaps_for graph.data_blocks)
+unfolding whole_bad thin_whole
+index_if graph image whole within =
+    let root = (thin_fields (block_at image 0)).data_map.bitmap_root in
+    let keys = keys_of (data_index_entries graph image) in
+    let wanted = range_with_len 0 (bitmaps_for graph.data_blocks) in
+    let none = (or_parts _ _ (whole root r.Index within)).0 in
+    let here : (nat_eq root root && same_rule r.Index r.Index) ≡ true = rw (eq-eqb root root refl) refl in
+    let fails = first_not (not (bytes_eq keys wanted)) (nat_eq root root && same_rule r.Index r.Index) here none in
+    (bytes_eq-Decides keys wanted).0 (not-false (bytes_eq keys wanted) fails)
+
+index_keys : (image : List (List ℕ)) → faults Thin stages.Whole image ≡ [] → (thin_fields (block_at image 0)).data_map.bitmap_root < (thin_graph (block_at image 0)).nr
+    → keys_of (data_index_entries (thin_graph (block_at image 0)) image) ≡ range_with_len 0 (bitmaps_for (thin_graph (block_at image 0)).data_blocks)
+unfolding faults thin_checked
+index_keys image none within = index_if (thin_graph (block_at image 0)) image (λ b broken below. whole_where_none (thin_checked image) image [] none b broken below) within
+
+-- only the mappings of a pool name data blocks
+abbrev IsMute : Layout → Type 0
+IsMute layout = (block : List ℕ) → layout_data layout block ≡ []
+
+nothing_named : {X : Type 0} → (xs : List X) → flat_map (λ (x : X). let none : List ℕ = [] in none) xs ≡ []
+nothing_named [] = refl
+nothing_named (x ∷ xs) = nothing_named xs
+
+mute_among : (role : ℕ) (table : List Layout) → AllByRecursion IsMute table → IsMute (layouts role table)
+mute_among role [] all = λ block. refl
+mute_among zero (layout ∷ table) all = all.0
+mute_among (suc role) (layout ∷ table) all = mute_among role table all.1
+
+others_mute : (nr data_blocks role : ℕ) → (role ≡ 3 → ⊥) → IsMute (thin_layout nr data_blocks role)
+unfolding thin_layout
+others_mute nr data_blocks zero differ = λ block. refl
+others_mute nr data_blocks (suc zero) differ = λ block. refl
+others_mute nr data_blocks (suc (suc zero)) differ = λ block. nothing_named (leaf_entries 8 block)
+others_mute nr data_blocks (suc (suc (suc zero))) differ = absurd (differ refl)
+others_mute nr data_blocks (suc (suc (suc (suc role)))) differ =
+    mute_among role (plain_tree 24 ∷ tree_to 16 6 (λ v. v % 2 ^ 64) ∷ bitmap ∷ plain_tree 4 ∷ index 9 ∷ bitmap ∷ plain_tree 4 ∷ []) (
+      (λ block. nothing_named (leaf_entries 24 block)),
+      (
+        (λ block. nothing_named (leaf_entries 16 block)),
+        (
+          (λ block. refl),
+          (
+            (λ block. nothing_named (leaf_entries 4 block)),
+            (
+              (λ block. refl),
+              (
+                (λ block. refl),
+                ((λ block. nothing_named (leaf_entries 4 block)), tt),
+              ),
+            ),
+          ),
+        ),
+      ),
+    )
+
+empty_either : (t : Bool) (xs : List ℕ) → xs ≡ [] → cond t [] xs ≡ []
+empty_either true xs none = refl
+empty_either false xs none = none
+
+mappings_alone : (super : List ℕ) (other place : ℕ) (block : List ℕ) → other < 16 → (other ≡ 3 → ⊥) → (thin_graph super).data_refs other place block ≡ []
+unfolding thin_graph graph_of
+mappings_alone super other place block few differ =
+    empty_either (is_bad (thin_fields super).meta_map.blocks other (thin_layout (thin_fields super).meta_map.blocks (thin_fields super).data_map.blocks other) place block) _
+    (others_mute (thin_fields super).meta_map.blocks (thin_fields super).data_map.blocks other differ block)
+
+-- the map of data blocks of a pool, where no rule is broken up to those of the whole image
+pub record HasDataMap (image : List (List ℕ)) : Type 0 where
+  pub index : (thin_fields (block_at image 0)).data_map.bitmap_root < (thin_graph (block_at image 0)).nr
+  pub overflow : (thin_fields (block_at image 0)).data_map.overflow_root < (thin_graph (block_at image 0)).nr
+  pub searchable : IsOverflow image (thin_fields (block_at image 0)).data_map.overflow_root
+  pub counting : IsIndex image (thin_fields (block_at image 0)).data_map.bitmap_root (thin_fields (block_at image 0)).data_map.blocks
+  pub stored : (d : ℕ) → stored_data_in image (index_of image (thin_fields (block_at image 0)).data_map.bitmap_root) (overflow_of image (thin_fields (block_at image 0)).data_map.overflow_root) d
+      ≡ (checked_of Thin image).stored_data d
+
+module _ (thin_trees : (super_block : List ℕ) → HasThinTrees (thin_graph super_block))
+    (sound : (kind : Kind) (until : Stage) (image : List (List ℕ)) (b role : ℕ) → LooksAtOrder until → faults kind until image ≡ []
+    → IsReached (graph_of_kind kind image) image b role → IsSoundTree (graph_of_kind kind image) image (pair b role))
+    (thin_roots : (until : Stage) (image : List (List ℕ)) → LooksAtOrder until → faults Thin until image ≡ [] → HasThinRoots (thin_graph (block_at image 0)) image (thin_fields (block_at image 0)))
+    (searchable : (graph : Graph) (image : List (List ℕ)) (b role : ℕ) → IsTreeRole graph role 4 → IsSoundTree graph image (pair b role) → IsOverflow image b)
+    (entries : (graph : Graph) (image : List (List ℕ)) (b role : ℕ) → IsTreeRole graph role 4 → IsSoundTree graph image (pair b role)
+    → overflow_of image b ≡ entries_below graph image 4 role b)
+    (keys : (graph : Graph) (image : List (List ℕ)) (b role : ℕ) → IsTreeRole graph role 16 → IsSoundTree graph image (pair b role)
+    → keys_of (index_of image b) ≡ keys_of (entries_below graph image 16 role b))
+    (stored : (graph : Graph) (image : List (List ℕ)) (b role d : ℕ) (overflow : List Entry) → IsTreeRole graph role 16 → IsSoundTree graph image (pair b role)
+    → stored_data_in image (index_of image b) overflow d ≡ stored_data_in image (entries_below graph image 16 role b) overflow d) where
+  has_data_map : (image : List (List ℕ)) → faults Thin stages.Whole image ≡ [] → HasDataMap image
+  unfolding thin_checked
+  has_data_map image none =
+      let graph = thin_graph (block_at image 0) in
+      let roots = thin_roots stages.Whole image tt none in
+      let trees = thin_trees (block_at image 0) in
+      let root = (thin_fields (block_at image 0)).data_map in
+      let over = sound Thin stages.Whole image root.overflow_root 7 tt none roots.data_overflow in
+      let index = sound Thin stages.Whole image root.bitmap_root 5 tt none roots.data_index in
+      record {
+        index = roots.data_index.block;
+        overflow = roots.data_overflow.block;
+        searchable = searchable graph image root.overflow_root 7 trees.data_overflow over;
+        counting = keys graph image root.bitmap_root 5 trees.data_index.is_role index ∙ (index_keys image none roots.data_index.block
+            ∙ ap (λ (n : ℕ). range_with_len 0 (bitmaps_for n)) (sym (data_number Thin (block_at image 0) (record { root = root; role = 3 }) refl)));
+        stored = λ d.
+            ap (λ (list : List Entry). stored_data_in image (index_of image root.bitmap_root) list d) (entries graph image root.overflow_root 7 trees.data_overflow over)
+            ∙ stored graph image root.bitmap_root 5 d _ trees.data_index.is_role index;
+      }
+
+  module _ (ordered : (kind : Kind) (until : Stage) (image : List (List ℕ)) → LooksAtOrder until → faults kind until image ≡ [] → AreInOrder (graph_of_kind kind image) image)
+      (one_role : (graph : Graph) (image : List (List ℕ)) (role d : ℕ) → role < 16
+      → ((other place : ℕ) (block : List ℕ) → other < 16 → (other ≡ role → ⊥) → graph.data_refs other place block ≡ [])
+      → data_count graph image d ≡ count_by (λ x. nat_eq x d) (refs_before graph image role graph.nr)) where
+    data_same : (image : List (List ℕ)) (counts : Counted) → HasDataMap image
+        → HasCounted counts (refs_before (thin_graph (block_at image 0)) image 3 (thin_graph (block_at image 0)).nr)
+        → faults_from DataBlock (count_of counts)
+        (stored_data_in image (index_of image (thin_fields (block_at image 0)).data_map.bitmap_root) (overflow_of image (thin_fields (block_at image 0)).data_map.overflow_root)) 0
+        (thin_fields (block_at image 0)).data_map.blocks
+        ≡ data_faults (checked_of Thin image) image
+    unfolding data_faults
+    data_same image counts map counted =
+        let checked = checked_of Thin image in
+        let root = (thin_fields (block_at image 0)).data_map in
+        let graph = thin_graph (block_at image 0) in
+        let stored_by = stored_data_in image (index_of image root.bitmap_root) (overflow_of image root.overflow_root) in
+        let same : checked.graph ≡ graph = same_graph Thin image in
+        let refs : (d : ℕ) → d < checked.graph.data_blocks → count_of counts d ≡ data_count checked.graph image d =
+        λ d within. counted d ∙ (sym (one_role graph image 3 d (omega arith) (mappings_alone (block_at image 0))) ∙ ap (λ (g : Graph). data_count g image d) (sym same)) in
+        ap (λ (n : ℕ). faults_from DataBlock (count_of counts) stored_by 0 n)
+        (data_number Thin (block_at image 0) (record { root = root; role = 3 }) refl ∙ ap (λ (g : Graph). g.data_blocks) (sym same))
+        ∙ faults_same DataBlock (count_of counts) (data_count checked.graph image) stored_by checked.stored_data checked.graph.data_blocks refs map.stored
+
+    -- the faults that were added are those of data blocks
+    pub data_told : (held later : Option (List (List ℕ))) (kind : Kind) (first : List ℕ) (graph : Graph) (audit : Audit) (space : DataSpace) (counts : Counted) (old new : Reported)
+        → later ≡ held → graph ≡ graph_of_super kind first → data_space_of kind first ≡ Some space
+        → IfSome held (λ image. IsWalked graph image audit → AreInOrder graph image → HasCounted counts (refs_before graph image space.role graph.nr))
+        → IfSome later (λ image. IsOverflow image space.root.overflow_root → IsIndex image space.root.bitmap_root space.root.blocks
+        → Adds (faults_from DataBlock (count_of counts) (stored_data_in image (index_of image space.root.bitmap_root) (overflow_of image space.root.overflow_root)) 0 space.root.blocks) old new)
+        → IfSome held (λ image. IsWhole kind first image audit → Adds (data_faults (checked_of kind image) image) old new)
+    data_told held later Thin first graph audit space counts old new stays is here counted adds =
+        let now = subst (λ (o : Option (List (List ℕ))). IfSome o (λ image. IsOverflow image space.root.overflow_root → IsIndex image space.root.bitmap_root space.root.blocks
+        → Adds (faults_from DataBlock (count_of counts) (stored_data_in image (index_of image space.root.bitmap_root) (overflow_of image space.root.overflow_root)) 0 space.root.blocks) old new)) stays adds in
+        if_both held (λ image count leads whole.
+        let map = has_data_map image whole.none in
+        let same_first = sym whole.first_block in
+        let same : space ≡ record { root = (thin_fields (block_at image 0)).data_map; role = 3 } =
+        let mine : record { root = (thin_fields first).data_map; role = 3 } ≡ space = cc in
+        sym mine ∙ ap (λ (m : List ℕ). let s : DataSpace = record { root = (thin_fields m).data_map; role = 3 } in s) same_first in
+        let same_format : graph ≡ thin_graph (block_at image 0) = is ∙ ap thin_graph same_first in
+        let walked = subst (λ (m : List ℕ). IsWalked (thin_graph m) image audit) same_first whole.walked in
+        let in_order = ordered Thin stages.Whole image tt whole.none in
+        let counts_of = subst (λ (g : Graph). IsWalked g image audit → AreInOrder g image → HasCounted counts (refs_before g image space.role g.nr)) same_format count walked in_order in
+        let counts_in = subst (λ (s : DataSpace). HasCounted counts (refs_before (thin_graph (block_at image 0)) image s.role (thin_graph (block_at image 0)).nr)) same counts_of in
+        let added = subst (λ (s : DataSpace). IsOverflow image s.root.overflow_root → IsIndex image s.root.bitmap_root s.root.blocks
+        → Adds (faults_from DataBlock (count_of counts) (stored_data_in image (index_of image s.root.bitmap_root) (overflow_of image s.root.overflow_root)) 0 s.root.blocks) old new) same leads in
+        subst (λ (list : List Fault). Adds list old new) (data_same image counts map counts_in) (added map.searchable map.counting))
+        counted now
+    data_told held later Cache first graph audit space counts old new stays is here counted adds = absurd (cc)
+    data_told held later Era first graph audit space counts old new stays is here counted adds = absurd (cc)
+
+  -- both roots lie within the device
+  pub data_inside : (P : List (List ℕ) → Type 0) (held : Option (List (List ℕ))) (kind : Kind) (first : List ℕ) (audit : Audit) (space : DataSpace) (one two : ℕ) → data_space_of kind first ≡ Some space
+      → (graph_of_super kind first).nr ≤ one → (graph_of_super kind first).nr ≤ two
+      → (nat_lt space.root.bitmap_root one && nat_lt space.root.overflow_root two) ≡ false
+      → IfSome held (λ image. IsWhole kind first image audit → P image)
+  data_inside P held Thin first audit space one two is within also outside = if_any held (λ image whole.
+      let map = has_data_map image whole.none in
+      let index = subst (λ (m : List ℕ). (thin_fields m).data_map.bitmap_root < (thin_graph m).nr) whole.first_block map.index in
+      let overflow = subst (λ (m : List ℕ). (thin_fields m).data_map.overflow_root < (thin_graph m).nr) whole.first_block map.overflow in
+      let mine : record { root = (thin_fields first).data_map; role = 3 } ≡ space = cc in
+      let first_is = ap (λ (s : DataSpace). s.root.bitmap_root) mine in
+      let second_is = ap (λ (s : DataSpace). s.root.overflow_root) mine in
+      absurd (both_ways (nat_lt space.root.bitmap_root one && nat_lt space.root.overflow_root two) outside
+      (and_from (nat_lt space.root.bitmap_root one) (nat_lt space.root.overflow_root two) (lt-ltb space.root.bitmap_root one (omega arith)) (lt-ltb space.root.overflow_root two (omega arith)))))
+  data_inside P held Cache first audit space one two is within also outside = absurd (cc)
+  data_inside P held Era first audit space one two is within also outside = absurd (cc)
+
+-- a kind without data blocks has no faults of theirs
+no_data : (kind : Kind) (image : List (List ℕ)) (first : List ℕ) → data_space_of kind first ≡ None → data_faults (checked_of kind image) image ≡ []
+unfolding data_faults cache_checked era_checked cache_graph era_graph graph_of
+no_data Thin image first none = absurd (cc)
+no_data Cache image first none = refl
+no_data Era image first none = refl
+
+both_faults : (kind : Kind) (image : List (List ℕ)) → count_faults (checked_of kind image) image ≡ meta_faults (checked_of kind image) image ++ data_faults (checked_of kind image) image
+unfolding count_faults meta_faults data_faults
+both_faults kind image = refl
+
+-- the report of both, and that of metadata blocks alone
+pub both_told : (held later : Option (List (List ℕ))) (kind : Kind) (first : List ℕ) (audit : Audit) (start mid last : Reported) → later ≡ held → start ≡ report_of []
+    → IfSome held (λ image. IsWhole kind first image audit → Adds (meta_faults (checked_of kind image) image) start mid)
+    → IfSome later (λ image. IsWhole kind first image audit → Adds (data_faults (checked_of kind image) image) mid last)
+    → IfSome held (λ image. IsWhole kind first image audit → last ≡ report_of (count_faults (checked_of kind image) image))
+both_told held later kind first audit start mid last stays none meta data_added =
+    if_both held (λ image leads next whole.
+    let one : mid ≡ report_of (meta_faults (checked_of kind image) image) = leads whole [] none in
+    next whole (meta_faults (checked_of kind image) image) one ∙ ap (λ (list : List Fault). report_of list) (sym (both_faults kind image)))
+    meta (subst (λ (o : Option (List (List ℕ))). IfSome o (λ image. IsWhole kind first image audit → Adds (data_faults (checked_of kind image) image) mid last)) stays data_added)
+
+pub meta_alone : (held : Option (List (List ℕ))) (kind : Kind) (first : List ℕ) (audit : Audit) (start mid : Reported) → start ≡ report_of [] → data_space_of kind first ≡ None
+    → IfSome held (λ image. IsWhole kind first image audit → Adds (meta_faults (checked_of kind image) image) start mid)
+    → IfSome held (λ image. IsWhole kind first image audit → mid ≡ report_of (count_faults (checked_of kind image) image))
+meta_alone held kind first audit start mid none nothing meta =
+    IfSome_then held meta (λ image leads whole.
+    let one : mid ≡ report_of (meta_faults (checked_of kind image) image) = leads whole [] none in
+    one ∙ ap (λ (list : List Fault). report_of list)
+    (sym (both_faults kind image ∙ (ap (λ (list : List Fault). meta_faults (checked_of kind image) image ++ list) (no_data kind image first nothing) ∙ append-nil (meta_faults (checked_of kind image) image)))))
+
+-- and what was read for both
+few_in : (audit : Audit) (role n : ℕ) → number_in audit role n ≤ n
+unfolding number_in
+few_in audit role n =
+    let most = count_by-le-length (λ b. has_bit (roles_at audit b) role) (range_with_len 0 n) in
+    let number = length-range_with_len 0 n in
+    omega (arith, most, number)
+
+pub meta_few : (held : Option (List (List ℕ))) (kind : Kind) (first : List ℕ) (old mid : ℕ)
+    → IfSome held (λ image. mid ≤ old + meta_reads (meta_map_of kind first) image) → IfSome held (λ image. mid ≤ old + count_reads kind first image)
+unfolding count_reads
+meta_few held kind first old mid most = IfSome_then held most (λ image few. omega (arith, few))
+
+pub both_few : (held later : Option (List (List ℕ))) (kind : Kind) (first : List ℕ) (audit : Audit) (space : DataSpace) (old mid new : ℕ) → later ≡ held → data_space_of kind first ≡ Some space
+    → IfSome held (λ image. mid ≤ old + meta_reads (meta_map_of kind first) image)
+    → IfSome later (λ image. new ≤ mid + data_reads space audit (graph_of_super kind first).nr image)
+    → IfSome held (λ image. new ≤ old + count_reads kind first image)
+unfolding count_reads
+both_few held later kind first audit space old mid new stays is one two =
+    if_both held (λ image few more.
+    let some = few_in audit space.role (graph_of_super kind first).nr in
+    rw is (omega (arith, few, more, some)))
+    one (subst (λ (o : Option (List (List ℕ))). IfSome o (λ image. new ≤ mid + data_reads space audit (graph_of_super kind first).nr image)) stays two)
