@@ -1,2 +1,4 @@
 pub mod Gathering
 pub mod ReportLines
+pub mod BufferLemmas
+pub mod ReaderLemmas

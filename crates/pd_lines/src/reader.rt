@@ -1,0 +1,244 @@
+//! The lines of a text, from a source.
+
+ghost use Rattle.std.specs.Prelude.{◌≡◌, ◌≢◌, ℕ, ◌<◌, ◌≤◌, ◌+◌, List, [], ◌++◌, length, take, drop, Ok, Err, IfOk, IfErr, IfSome, OnOk, OnErr, true, false, Some, None};
+ghost use Rattle.std.specs.List.{list_all};
+ghost use Rattle.pd_kinds.specs.Objects.{CountsFault, Rose};
+ghost use Rattle.pd_grammar.specs.Words.{is_printable};
+ghost use Rattle.pd_image.specs.Source.{KeepsSource};
+ghost use Rattle.pd_lines.specs.Moves.{Moves, IsUnbroken, EndsLine};
+ghost use Rattle.pd_lines.specs.LineText.{LineText};
+
+use crate::buffer::Buffer;
+use crate::fault::LineFault;
+use pd_image::{Failed, Source};
+use std::alloc::{AllocError, Global};
+use std::marker::Model;
+
+/// A line of a text: at most 160 bytes from 0x20 to 0x7E, without its line feed.
+#[derive(Drop)]
+pub struct Line {
+    number: u64,
+    bytes: [u8; 160],
+    len: usize,
+}
+
+impl Model for Line {
+    ghost Value = { LineText };
+
+    ghost view = { λ line. record { number = line.number; bytes = take line.len line.bytes } };
+
+    ghost invariant = { λ line. (line.len ≤ 160) × (list_all is_printable (take line.len line.bytes) ≡ true) };
+}
+
+impl Line {
+    fn new(number: u64, text: &[u8]) -> Line
+        requires short { length text.now ≤ 160 }
+        requires text { list_all is_printable text.now ≡ true }
+        ensures number { result.number ≡ number }
+        ensures bytes { result.bytes ≡ text.now }
+    {
+        let mut bytes = [0; 160];
+        bytes[..text.len()].copy_from_slice(text);
+        Line {
+            number,
+            bytes,
+            len: text.len(),
+        }
+    }
+
+    /// The number of the line, from 1, up to the end of its type.
+    pub fn number(&self) -> u64
+        ensures { result ≡ self.now.number }
+    {
+        self.number
+    }
+
+    /// The bytes of the line, without its line feed.
+    pub fn text(&self) -> &[u8]
+        ensures bytes { result.now ≡ self.now.bytes }
+        ensures text { list_all is_printable result.now ≡ true }
+        ensures short { length result.now ≤ 160 }
+    {
+        &self.bytes[..self.len]
+    }
+}
+
+/// The lines of a text, from what a source gives in pieces.
+#[derive(Drop)]
+pub struct LineReader {
+    buffer: Buffer,
+    /// How many lines were read, up to the end of its type.
+    lines: u64,
+    /// The last line that was read, and how long it is.
+    line: [u8; 160],
+    len: usize,
+    ghost short: { len ≤ 160 },
+    ghost printable: { list_all is_printable (take len line) ≡ true },
+}
+
+impl LineReader {
+    ghost use Rattle.pd_lines.specs.Reader.{held_of, lines_of, line_of, next_number, Reads, answered};
+
+    /// No line was read. It takes memory for 32 KiB, and `next` takes none.
+    pub fn new(alloc: Global) -> Result<LineReader, AllocError>
+        ensures held { IfOk result (λ reader. held_of reader ≡ []) }
+        ensures lines { IfOk result (λ reader. lines_of reader ≡ 0) }
+    {
+        Ok(LineReader {
+            buffer: Buffer::new(alloc)?,
+            lines: 0,
+            line: [0; 160],
+            len: 0,
+        })
+    }
+
+    /// How many lines were read, up to the end of its type.
+    pub fn lines(&self) -> u64
+        ensures { result ≡ lines_of self.now }
+    {
+        self.lines
+    }
+
+    /// The bytes of the last line that was read, without its line feed.
+    pub fn text(&self) -> &[u8]
+        ensures bytes { result.now ≡ line_of self.now }
+        ensures text { list_all is_printable result.now ≡ true }
+        ensures short { length result.now ≤ 160 }
+    {
+        &self.line[..self.len]
+    }
+
+    /// Reads the next line, and answers whether there was one: none exactly where the input ends at a line's start.
+    /// After an error or the end it says nothing of what a further call gives.
+    pub fn advance<S: Source>(&mut self, source: &mut S) -> Result<bool, LineFault>
+        requires { (S.state source.old).access ≡ 1 }
+        ensures reads { (left : List ℕ) → (S.state source.old).left ≡ Some left
+            → Reads (answered (lines_of self.new) (line_of self.new) result) (next_number self.old) (held_of self.old ++ left) (held_of self.new) (S.state source.new).left }
+        ensures counted { (result ≢ Err LineFault.Source) → lines_of self.new ≡ next_number self.old }
+        ensures source { result ≡ Err LineFault.Source → Rose (S.state source.old).faults (S.state source.new).faults }
+        ensures faults { (S.state source.old).faults ≤ (S.state source.new).faults }
+        ensures quiet { (result ≢ Err LineFault.Source) → (S.state source.new).faults ≡ (S.state source.old).faults }
+        ensures kept { KeepsSource (S.state source.old) (S.state source.new) }
+    {
+        let number = self.lines.saturating_add(1);
+        let found = match line_end(&mut self.buffer, source) {
+            Ok(found) => found,
+            Err(_) => return Err(LineFault::Source),
+        };
+        self.lines = number;
+        match found {
+            Some(end) => match keep_line(&mut self.buffer, &mut self.line, number, end) {
+                Ok(()) => {
+                    self.len = end;
+                    Ok(true)
+                }
+                Err(fault) => Err(fault),
+            },
+            None => end_of(self.buffer.held(), number),
+        }
+    }
+
+    /// The next line; none exactly where the input ends at a line's start. After an error or none it says nothing of
+    /// what a further call gives.
+    pub fn next<S: Source>(&mut self, source: &mut S) -> Result<Option<Line>, LineFault>
+        requires { (S.state source.old).access ≡ 1 }
+        ensures reads { (left : List ℕ) → (S.state source.old).left ≡ Some left
+            → Reads result (next_number self.old) (held_of self.old ++ left) (held_of self.new) (S.state source.new).left }
+        ensures counted { (result ≢ Err LineFault.Source) → lines_of self.new ≡ next_number self.old }
+        ensures source { result ≡ Err LineFault.Source → Rose (S.state source.old).faults (S.state source.new).faults }
+        ensures faults { (S.state source.old).faults ≤ (S.state source.new).faults }
+        ensures quiet { (result ≢ Err LineFault.Source) → (S.state source.new).faults ≡ (S.state source.old).faults }
+        ensures kept { KeepsSource (S.state source.old) (S.state source.new) }
+    {
+        match self.advance(source) {
+            Ok(true) => Ok(Some(Line::new(self.lines, self.text()))),
+            Ok(false) => Ok(None),
+            Err(fault) => Err(fault),
+        }
+    }
+}
+
+/// Where the first line feed is, among the first 161 bytes.
+fn find_end(bytes: &[u8]) -> Option<usize>
+    ensures found { IfSome result (λ i. EndsLine bytes.now i) }
+    ensures none { result ≡ None → IsUnbroken (take 161 bytes.now) }
+{
+    let most = bytes.len().min(161);
+    for i in 0..most {
+        if bytes[i] == b'\n' {
+            return Some(i);
+        }
+    }
+    None
+}
+
+/// Whether all bytes are those that a line may have.
+fn is_text(bytes: &[u8]) -> bool
+    ensures { result ≡ list_all is_printable bytes.now }
+{
+    bytes.iter().all(|b| 32 <= *b && *b <= 126)
+}
+
+/// Takes bytes until the first 161 of those that are held have a line feed, or are there, or no more come.
+fn line_end<S: Source>(buffer: &mut Buffer, source: &mut S) -> Result<Option<usize>, Failed>
+    requires { (S.state source.old).access ≡ 1 }
+    ensures moved { Moves buffer.old buffer.new (S.state source.old).left (S.state source.new).left }
+    ensures found { IfOk result (λ found. IfSome found (λ i. EndsLine buffer.new i)) }
+    ensures none { IfOk result (λ found. found ≡ None → IsUnbroken (take 161 buffer.new)) }
+    ensures end { IfOk result (λ found. found ≡ None → length buffer.new ≤ 160 → (left : List ℕ) → (S.state source.old).left ≡ Some left → (S.state source.new).left ≡ Some []) }
+    ensures kept { KeepsSource (S.state source.old) (S.state source.new) }
+    ensures faults { CountsFault result (S.state source.old).faults (S.state source.new).faults }
+{
+    'filling: loop {
+        let found = find_end(buffer.held());
+        if found.is_some() {
+            return Ok(found);
+        }
+        if buffer.held().len() > 160 {
+            return Ok(None);
+        }
+        if !buffer.fill(source)? {
+            return Ok(None);
+        }
+    }
+}
+
+/// Keeps the line that ends in this place.
+fn keep_line(
+    buffer: &mut Buffer,
+    line: &mut [u8; 160],
+    number: u64,
+    end: usize,
+) -> Result<(), LineFault>
+    requires { EndsLine buffer.old end }
+    ensures kept { OnOk result (take end line.new ≡ take end buffer.old) }
+    ensures text { OnOk result (list_all is_printable (take end line.new) ≡ true) }
+    ensures rest { OnOk result (buffer.new ≡ drop (end + 1) buffer.old) }
+    ensures fault { IfErr result (λ fault. fault ≡ LineFault.NotText number) }
+    ensures not_text { OnErr result (list_all is_printable (take end buffer.old) ≡ false) }
+    ensures unchanged { OnErr result ((buffer.new ≡ buffer.old) × (line.new ≡ line.old)) }
+{
+    let text = &buffer.held()[..end];
+    if !is_text(text) {
+        return Err(LineFault::NotText(number));
+    }
+    line[..end].copy_from_slice(text);
+    buffer.skip(end + 1);
+    Ok(())
+}
+
+/// What is left at the input's end, or too much without a line feed.
+fn end_of(held: &[u8], number: u64) -> Result<bool, LineFault>
+    requires { IsUnbroken (take 161 held.now) }
+    ensures long { 160 < length held.now → result ≡ Err (LineFault.TooLong number) }
+    ensures unended { 1 ≤ length held.now → length held.now ≤ 160 → result ≡ Err (LineFault.Unended number) }
+    ensures end { held.now ≡ [] → result ≡ Ok false }
+{
+    if held.len() > 160 {
+        Err(LineFault::TooLong(number))
+    } else if held.is_empty() {
+        Ok(false)
+    } else {
+        Err(LineFault::Unended(number))
+    }
+}

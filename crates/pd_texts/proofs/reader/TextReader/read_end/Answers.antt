@@ -1,0 +1,30 @@
+use Rattle.std.proofs.Common.{◌∙◌, ◌++◌, ◌∷◌, None}
+use Rattle.pd_grammar.proofs.NumberLemmas.{ok-err}
+use Rattle.pd_lines.specs.declared.fault.LineFault.TheVariants.{Source}
+use Rattle.pd_lines.specs.Reader.{line_of, next_number}
+use Rattle.pd_texts.proofs.TextLemmas.{line_after, end_after, fault_after, count_is}
+use Rattle.pd_texts.proofs.reader.TextReader.read_end.Goals as goal
+
+pub returns-in-Ok-true-clause-gives : goal.returns-in-Ok-true-clause-gives
+returns-in-Ok-true-clause-gives g c = λ text before read.
+    let t = g.P.TextState in
+    let old = c.args.self.now.reader in
+    let reads = rw c.in-Ok-true.field-0-test at (c.in-Ok-true.ensures.reads read.rest read.left_is) in
+    let counted = c.in-Ok-true.ensures.counted (ok-err c.in-Ok-true.field-0 Source) in
+    rw c.text_fault.ensures
+    (line_after t.format text (old.buffer ++ read.rest) (line_of c.advance.new.self) (c.advance.new.self.buffer ++ reads.rest) (t.meant None ∷ before) c.lines.result read.is (g.met.P.TextState.ends None)
+    (c.lines.ensures ∙ counted ∙ count_is (t.meant None ∷ before) old.lines read.count) reads.text_is)
+
+pub returns-in-Ok-false-clause-gives : goal.returns-in-Ok-false-clause-gives
+returns-in-Ok-false-clause-gives g c = λ text before read.
+    let t = g.P.TextState in
+    let reads = rw c.in-Ok-false.field-0-test at (c.in-Ok-false.ensures.reads read.rest read.left_is) in
+    (end_after t.format text (c.args.self.now.reader.buffer ++ read.rest) (t.meant None ∷ before) read.is (g.met.P.TextState.ends None) reads.0, reads.1.1)
+
+pub returns-in-Err-clause-gives : goal.returns-in-Err-clause-gives
+returns-in-Err-clause-gives g c = λ text before read.
+    let t = g.P.TextState in
+    let old = c.args.self.now.reader in
+    rw c.fault_after_end.ensures
+    (fault_after t.format text (old.buffer ++ read.rest) c.advance.new.self.buffer (g.S.Source.state c.advance.new.source).left (t.meant None ∷ before) (next_number old) c.in-Err.fault
+    read.is (g.met.P.TextState.ends None) (count_is (t.meant None ∷ before) old.lines read.count) (c.in-Err.ensures.reads read.rest read.left_is))

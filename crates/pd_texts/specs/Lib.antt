@@ -1,0 +1,10 @@
+pub mod Faults
+pub mod Seen
+pub mod Reader
+pub mod Words
+pub mod ThinLine
+pub mod ThinWords
+pub mod ThinState
+pub mod Printed
+pub mod ThinLaws
+pub mod ThinPrinted

@@ -1,0 +1,27 @@
+//! The texts of pools, read from a source line by line and printed.
+//!
+//! What all kinds of text share stands over a trait (`TextState`), of which each kind is one type: the reader of a
+//! text, its words and its numbers, and the causes of a refusal.
+#![tactic(auto)]
+
+mod fault;
+mod print;
+mod reader;
+mod state;
+mod thin_laws;
+mod thin_line;
+mod thin_print;
+mod thin_state;
+mod thin_words;
+mod words;
+
+pub use fault::{ReadFault, TextFault};
+pub use print::{add_end, add_first, print_end, print_first};
+pub use reader::TextReader;
+pub use state::TextState;
+pub use thin_laws::{
+    pool_text_is_its_lines, thin_lines_are_printed_in_order, whole_thin_text_spells,
+};
+pub use thin_line::{Run2, ThinLine};
+pub use thin_print::{add_thin, print_thin};
+pub use thin_state::{ThinState, ThinText};

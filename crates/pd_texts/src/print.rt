@@ -1,0 +1,100 @@
+//! Lines of texts, printed one by one or gathered into large pieces.
+
+ghost use Rattle.std.specs.Prelude.{◌≡◌, ◌≤◌, ◌+◌, ◌++◌, ◌∷◌, [], ℕ, List, Option, OnOk, OnErr, length, codes, decimal};
+ghost use Rattle.uuid.specs.Text.{hyphenated_text, lower};
+ghost use Rattle.pd_kinds.specs.Objects.{CountsFault, Appends, AppendsFront};
+ghost use Rattle.pd_image.specs.Sink.{KeepsSink};
+ghost use Rattle.pd_lines.specs.Pieces.{Gathers};
+ghost use Rattle.pd_texts.specs.Printed.{first_text, end_text};
+
+use pd_image::{Failed, Sink};
+use pd_kinds::Kind;
+use pd_lines::{LineBuffer, Pieces};
+use uuid::Uuid;
+
+/// Prints the first line of a text of this kind. It takes no memory.
+pub fn print_first<K: Sink>(kind: Kind, out: &mut K) -> Result<(), Failed>
+    requires { (K.state out.old).access ≡ 1 }
+    ensures whole { OnOk result (Appends (first_text kind) (K.state out.old).written (K.state out.new).written) }
+    ensures front { AppendsFront (first_text kind) (K.state out.old).written (K.state out.new).written }
+    ensures kept { KeepsSink (K.state out.old) (K.state out.new) }
+    ensures faults { CountsFault result (K.state out.old).faults (K.state out.new).faults }
+{
+    out.put(first_bytes(kind))
+}
+
+/// Prints the last line of a text. It takes no memory.
+pub fn print_end<K: Sink>(out: &mut K) -> Result<(), Failed>
+    requires { (K.state out.old).access ≡ 1 }
+    ensures whole { OnOk result (Appends end_text (K.state out.old).written (K.state out.new).written) }
+    ensures front { AppendsFront end_text (K.state out.old).written (K.state out.new).written }
+    ensures kept { KeepsSink (K.state out.old) (K.state out.new) }
+    ensures faults { CountsFault result (K.state out.old).faults (K.state out.new).faults }
+{
+    out.put(b"end\n")
+}
+
+/// Gathers the first line of a text of this kind. What is gathered ends with `Pieces::put`.
+pub fn add_first<K: Sink>(kind: Kind, pieces: &mut Pieces, out: &mut K) -> Result<(), Failed>
+    requires { (K.state out.old).access ≡ 1 }
+    ensures gathered { (total : List ℕ) (start : Option (List ℕ)) → Gathers total pieces.old start (K.state out.old).written
+        → OnOk result (Gathers (total ++ first_text kind) pieces.new start (K.state out.new).written) }
+    ensures front { (total : List ℕ) (start : Option (List ℕ)) → Gathers total pieces.old start (K.state out.old).written
+        → AppendsFront total start (K.state out.new).written }
+    ensures access { (K.state out.new).access ≡ (K.state out.old).access }
+    ensures path { (K.state out.new).path ≡ (K.state out.old).path }
+    ensures faults { CountsFault result (K.state out.old).faults (K.state out.new).faults }
+    ensures failed { OnErr result (pieces.new ≡ pieces.old) }
+{
+    pieces.add(first_bytes(kind), out)
+}
+
+/// Gathers the last line of a text.
+pub fn add_end<K: Sink>(pieces: &mut Pieces, out: &mut K) -> Result<(), Failed>
+    requires { (K.state out.old).access ≡ 1 }
+    ensures gathered { (total : List ℕ) (start : Option (List ℕ)) → Gathers total pieces.old start (K.state out.old).written
+        → OnOk result (Gathers (total ++ end_text) pieces.new start (K.state out.new).written) }
+    ensures front { (total : List ℕ) (start : Option (List ℕ)) → Gathers total pieces.old start (K.state out.old).written
+        → AppendsFront total start (K.state out.new).written }
+    ensures access { (K.state out.new).access ≡ (K.state out.old).access }
+    ensures path { (K.state out.new).path ≡ (K.state out.old).path }
+    ensures faults { CountsFault result (K.state out.old).faults (K.state out.new).faults }
+    ensures failed { OnErr result (pieces.new ≡ pieces.old) }
+{
+    pieces.add(b"end\n", out)
+}
+
+/// The bytes of the first line of a text of this kind.
+fn first_bytes(kind: Kind) -> &'static [u8]
+    ensures bytes { result.now ≡ first_text kind }
+    ensures len { length result.now ≤ 8 }
+{
+    match kind {
+        Kind::Thin => b"thin 1\n",
+        Kind::Cache => b"cache 1\n",
+        Kind::Era => b"era 1\n",
+    }
+}
+
+/// Adds a space and a number.
+pub(crate) fn add_word(line: &mut LineBuffer, number: u64)
+    requires { length line.old + 21 ≤ 161 }
+    ensures bytes { line.new ≡ line.old ++ (32 ∷ decimal number) }
+    ensures len { length line.new ≤ length line.old + 21 }
+{
+    line.add(b" ");
+    line.add_number(number);
+}
+
+/// Adds a uuid, in its hyphenated form in lower case.
+pub(crate) fn add_uuid(line: &mut LineBuffer, uuid: [u8; 16])
+    requires { length line.old + 36 ≤ 161 }
+    ensures bytes { line.new ≡ line.old ++ hyphenated_text lower uuid }
+    ensures len { length line.new ≡ length line.old + 36 }
+{
+    let mut buffer = Uuid::encode_buffer();
+    let text = Uuid::from_bytes(uuid)
+        .hyphenated()
+        .encode_lower(&mut buffer);
+    line.add(text.as_bytes());
+}

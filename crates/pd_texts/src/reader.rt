@@ -1,0 +1,132 @@
+//! The reader of a text of any kind.
+
+ghost use Rattle.std.specs.Prelude.{◌≡◌, ◌≤◌, ℕ, List, [], ◌∷◌, ◌++◌, length, IfOk, Some, None, MatchResult};
+ghost use Rattle.pd_image.specs.Source.{KeepsSource};
+ghost use Rattle.pd_texts.specs.Faults.{Refuses, CountsReads};
+
+use crate::fault::{ReadFault, fault_after_end, fault_of, text_fault};
+use crate::state::TextState;
+use pd_grammar::TextCause;
+use pd_image::Source;
+use pd_lines::LineReader;
+use std::alloc::{AllocError, Global};
+
+/// A text that is read line by line.
+#[derive(Drop)]
+pub struct TextReader<P: TextState> {
+    reader: LineReader,
+    state: P,
+}
+
+impl<P: TextState> TextReader<P> {
+    ghost use Rattle.pd_texts.specs.Reader.{HasRead, ReadsOn, Gives, begun, IsReadWhole};
+
+    /// No line was read. It takes memory for 32 KiB, and `next` takes none.
+    pub fn new(alloc: Global) -> Result<TextReader<P>, AllocError>
+        ensures { IfOk result (λ reader. (text : List ℕ) → ReadsOn P.format P.Stands text [] reader (Some text)) }
+    {
+        Ok(TextReader {
+            reader: LineReader::new(alloc)?,
+            state: P::start(),
+        })
+    }
+
+    /// What the next line gives that isn't the first one; none exactly where the last line and then the end of the
+    /// input were read. After an error or none it says nothing of what a further call gives.
+    pub fn next<S: Source>(&mut self, source: &mut S) -> Result<Option<P::Line>, ReadFault>
+        requires { (S.state source.old).access ≡ 1 }
+        ensures gives { (text : List ℕ) (before : List P.Meant) → ReadsOn P.format P.Stands text before self.old (S.state source.old).left
+            → Gives P.format P.Stands P.first_line P.meant result text before self.new (S.state source.new).left }
+        ensures kept { KeepsSource (S.state source.old) (S.state source.new) }
+        ensures faults { CountsReads result (S.state source.old).faults (S.state source.new).faults }
+    {
+        match self.begin(source) {
+            Ok(()) => self.next_value(source),
+            Err(fault) => Err(fault),
+        }
+    }
+
+    /// Reads the first line, where none was read.
+    fn begin<S: Source>(&mut self, source: &mut S) -> Result<(), ReadFault>
+        requires { (S.state source.old).access ≡ 1 }
+        ensures gives { (text : List ℕ) (before : List P.Meant) → ReadsOn P.format P.Stands text before self.old (S.state source.old).left
+            → MatchResult result (λ _. ReadsOn P.format P.Stands text (begun P.first_line before) self.new (S.state source.new).left) (Refuses P.format text) }
+        ensures kept { KeepsSource (S.state source.old) (S.state source.new) }
+        ensures faults { CountsReads result (S.state source.old).faults (S.state source.new).faults }
+    {
+        if self.state.is_first() {
+            self.read_first(source)
+        } else {
+            Ok(())
+        }
+    }
+
+    /// Reads the first line.
+    fn read_first<S: Source>(&mut self, source: &mut S) -> Result<(), ReadFault>
+        requires { (S.state source.old).access ≡ 1 }
+        ensures gives { (text : List ℕ) → ReadsOn P.format P.Stands text [] self.old (S.state source.old).left
+            → MatchResult result (λ _. ReadsOn P.format P.Stands text (P.first_line ∷ []) self.new (S.state source.new).left) (Refuses P.format text) }
+        ensures kept { KeepsSource (S.state source.old) (S.state source.new) }
+        ensures faults { CountsReads result (S.state source.old).faults (S.state source.new).faults }
+    {
+        match self.reader.advance(source) {
+            Ok(true) => {
+                if self.state.read_first(self.reader.text()) {
+                    Ok(())
+                } else {
+                    Err(text_fault(self.reader.lines(), TextCause::Header))
+                }
+            }
+            Ok(false) => Err(text_fault(self.reader.lines(), TextCause::NoEnd)),
+            Err(fault) => Err(fault_of(fault, TextCause::Header)),
+        }
+    }
+
+    /// What the next line gives after the first one, or the end.
+    fn next_value<S: Source>(&mut self, source: &mut S) -> Result<Option<P::Line>, ReadFault>
+        requires { (S.state source.old).access ≡ 1 }
+        ensures gives { (text : List ℕ) (before : List P.Meant) → 1 ≤ length before → ReadsOn P.format P.Stands text before self.old (S.state source.old).left
+            → Gives P.format P.Stands P.first_line P.meant result text before self.new (S.state source.new).left }
+        ensures kept { KeepsSource (S.state source.old) (S.state source.new) }
+        ensures faults { CountsReads result (S.state source.old).faults (S.state source.new).faults }
+    {
+        match self.read_later(source) {
+            Ok(Some(line)) => Ok(Some(line)),
+            Ok(None) => self.read_end(source),
+            Err(fault) => Err(fault),
+        }
+    }
+
+    /// Reads a line after the first one.
+    fn read_later<S: Source>(&mut self, source: &mut S) -> Result<Option<P::Line>, ReadFault>
+        requires { (S.state source.old).access ≡ 1 }
+        ensures gives { (text : List ℕ) (before : List P.Meant) → 1 ≤ length before → ReadsOn P.format P.Stands text before self.old (S.state source.old).left
+            → MatchResult result (λ line. HasRead P.format P.Stands text (P.meant line ∷ before) self.new (S.state source.new).left) (Refuses P.format text) }
+        ensures kept { KeepsSource (S.state source.old) (S.state source.new) }
+        ensures faults { CountsReads result (S.state source.old).faults (S.state source.new).faults }
+    {
+        match self.reader.advance(source) {
+            Ok(true) => match self.state.read(self.reader.text()) {
+                Ok(line) => Ok(line),
+                Err(cause) => Err(text_fault(self.reader.lines(), cause)),
+            },
+            Ok(false) => Err(text_fault(self.reader.lines(), TextCause::NoEnd)),
+            Err(fault) => Err(fault_of(fault, TextCause::Word)),
+        }
+    }
+
+    /// Reads the end of the input after the last line.
+    fn read_end<S: Source>(&mut self, source: &mut S) -> Result<Option<P::Line>, ReadFault>
+        requires { (S.state source.old).access ≡ 1 }
+        ensures gives { (text : List ℕ) (before : List P.Meant) → HasRead P.format P.Stands text (P.meant None ∷ before) self.old (S.state source.old).left
+            → IsReadWhole P.format result text (P.meant None ∷ before) (S.state source.new).left }
+        ensures kept { KeepsSource (S.state source.old) (S.state source.new) }
+        ensures faults { CountsReads result (S.state source.old).faults (S.state source.new).faults }
+    {
+        match self.reader.advance(source) {
+            Ok(true) => Err(text_fault(self.reader.lines(), TextCause::AfterEnd)),
+            Ok(false) => Ok(None),
+            Err(fault) => Err(fault_after_end(fault)),
+        }
+    }
+}

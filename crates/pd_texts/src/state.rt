@@ -1,0 +1,60 @@
+ghost use Rattle.std.specs.Prelude.{◌≡◌, ◌==◌, ◌≤◌, ℕ, List, [], ◌∷◌, length, Option, Some, None, is_none, true, false, IfOk};
+ghost use Rattle.std.specs.List.{list_all};
+ghost use Rattle.pd_grammar.specs.Words.{is_printable};
+ghost use Rattle.pd_grammar.specs.Texts.{TextFormat, read};
+ghost use Rattle.pd_texts.specs.Seen.{seen_by};
+
+use pd_grammar::TextCause;
+
+/// What the lines so far say of the next one, in one kind of text.
+pub trait TextState: Drop {
+    /// What a line gives that isn't the first or the last one.
+    type Line;
+
+    /// What a line is in the definitions.
+    ghost Meant: { Type 0 };
+
+    /// The format of the text.
+    ghost format: { TextFormat Meant };
+
+    /// The first line.
+    ghost first_line: { Meant };
+
+    /// What a later line means; none is the last one.
+    ghost meant: { Option Self.Line → Meant };
+
+    /// These are the lines so far, the newest first.
+    ghost Stands: { Self → List Meant → Type 0 };
+
+    /// No line was read.
+    fn start() -> Self
+        ensures { Stands result [] };
+
+    /// Whether no line was read.
+    fn is_first(&self) -> bool
+        ensures { (before : List Meant) → Stands self.now before → result ≡ (length before == 0) };
+
+    /// Reads the first line, and answers whether it is the format's.
+    fn read_first(&mut self, text: &[u8]) -> bool
+        ensures first { result ≡ true → format.first text.now ≡ Some first_line }
+        ensures other { result ≡ false → format.first text.now ≡ None }
+        ensures after { Stands self.old [] → result ≡ true → Stands self.new (first_line ∷ []) };
+
+    /// Reads a later line, of which none is the last one, or says why it is refused. After an error it says nothing
+    /// of what a further call gives.
+    fn read(&mut self, text: &[u8]) -> Result<Option<Self::Line>, TextCause>
+        requires { list_all is_printable text.now ≡ true }
+        ensures line { (before : List Meant) → Stands self.old before → 1 ≤ length before
+            → seen_by meant result ≡ read format before text.now }
+        ensures after { (before : List Meant) → Stands self.old before → 1 ≤ length before
+            → IfOk result (λ line. Stands self.new (meant line ∷ before)) };
+
+    /// The first line has only bytes that a line may have.
+    ghost header: { (bytes : List ℕ) → list_all is_printable bytes ≡ false → format.first bytes ≡ None };
+
+    /// The first line isn't the last one.
+    ghost begins: { format.is_end first_line ≡ false };
+
+    /// The last line is the one that gives nothing.
+    ghost ends: { (line : Option Self.Line) → format.is_end (meant line) ≡ is_none line };
+}

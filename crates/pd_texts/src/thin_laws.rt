@@ -1,0 +1,30 @@
+//! What the lines of a pool's text come to, read and printed.
+
+ghost use Rattle.std.specs.Prelude.{◌≡◌, ◌++◌, ◌∷◌, [], ℕ, List};
+ghost use Rattle.std.specs.List.{flat_map};
+ghost use Rattle.pd_kinds.specs.Meaning.{ThinPool};
+ghost use Rattle.pd_kinds.specs.declared.kind.Kind.TheVariants.{Thin};
+ghost use Rattle.pd_grammar.specs.Texts.{Reading, reading, refusal, text_of_lines, whole};
+ghost use Rattle.pd_spells.specs.ThinText.{Line, first_line, end_line, pool_line, head_of, thin, text_of_pool, MeansPool, SpellsPool};
+ghost use Rattle.pd_texts.specs.Printed.{text_of_line, first_text, end_text};
+ghost use Rattle.pd_texts.specs.ThinPrinted.{device_text};
+ghost use Rattle.pd_texts.specs.Reader.{in_order, with_lines};
+
+/// A text of which no line is refused is the text of its lines; they mean a pool, which it spells.
+pub fn whole_thin_text_spells()
+    ensures bytes { (text : List ℕ) (lines : List Line) → reading thin text ≡ whole lines → text ≡ text_of_lines thin lines }
+    ensures spells { (text : List ℕ) (lines : List Line) → reading thin text ≡ whole lines → (m : ThinPool) × (MeansPool lines m × SpellsPool text m) }
+{}
+
+/// The bytes of the lines so far grow by those of the next line, and the first and the last line are printed as such.
+pub fn thin_lines_are_printed_in_order()
+    ensures more { (before : List Line) (line : Line) → text_of_lines thin (in_order (line ∷ before) []) ≡ text_of_lines thin (in_order before []) ++ text_of_line thin line }
+    ensures first { text_of_lines thin (in_order (first_line ∷ []) []) ≡ first_text Thin }
+    ensures last { text_of_line thin end_line ≡ end_text }
+{}
+
+/// A pool's text is the first line, the pool line, for each device its line and those of its runs, as long as can be,
+/// and the last line.
+pub fn pool_text_is_its_lines()
+    ensures { (m : ThinPool) → text_of_pool m ≡ first_text Thin ++ (text_of_line thin (pool_line (head_of m)) ++ (flat_map device_text m.devices ++ end_text)) }
+{}

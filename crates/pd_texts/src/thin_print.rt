@@ -1,0 +1,116 @@
+//! The lines of a pool's text, printed.
+
+ghost use Rattle.std.specs.Prelude.{◌≡◌, ◌++◌, ℕ, List, Option, OnOk, OnErr};
+ghost use Rattle.pd_kinds.specs.Objects.{CountsFault, Appends, AppendsFront};
+ghost use Rattle.pd_image.specs.Sink.{KeepsSink};
+ghost use Rattle.pd_lines.specs.Pieces.{Gathers};
+ghost use Rattle.pd_spells.specs.ThinText.{thin, device_line, map_line, pool_line};
+ghost use Rattle.pd_texts.specs.Printed.{text_of_line};
+ghost use Rattle.pd_texts.specs.ThinLine.{line_of, details_of, run_of};
+
+use crate::print::{add_uuid, add_word};
+use crate::thin_line::{Run2, ThinLine};
+use pd_image::{Failed, Sink};
+use pd_lines::{LineBuffer, Pieces};
+use pd_value::Details;
+
+/// Prints a line. It takes no memory.
+pub fn print_thin<K: Sink>(line: &ThinLine, out: &mut K) -> Result<(), Failed>
+    requires { (K.state out.old).access ≡ 1 }
+    ensures whole { OnOk result (Appends (text_of_line thin (line_of line.now)) (K.state out.old).written (K.state out.new).written) }
+    ensures front { AppendsFront (text_of_line thin (line_of line.now)) (K.state out.old).written (K.state out.new).written }
+    ensures kept { KeepsSink (K.state out.old) (K.state out.new) }
+    ensures faults { CountsFault result (K.state out.old).faults (K.state out.new).faults }
+{
+    out.put(line_text(line).as_bytes())
+}
+
+/// Gathers a line. What is gathered ends with `Pieces::put`.
+pub fn add_thin<K: Sink>(line: &ThinLine, pieces: &mut Pieces, out: &mut K) -> Result<(), Failed>
+    requires { (K.state out.old).access ≡ 1 }
+    ensures gathered { (total : List ℕ) (start : Option (List ℕ)) → Gathers total pieces.old start (K.state out.old).written
+        → OnOk result (Gathers (total ++ text_of_line thin (line_of line.now)) pieces.new start (K.state out.new).written) }
+    ensures front { (total : List ℕ) (start : Option (List ℕ)) → Gathers total pieces.old start (K.state out.old).written
+        → AppendsFront total start (K.state out.new).written }
+    ensures access { (K.state out.new).access ≡ (K.state out.old).access }
+    ensures path { (K.state out.new).path ≡ (K.state out.old).path }
+    ensures faults { CountsFault result (K.state out.old).faults (K.state out.new).faults }
+    ensures failed { OnErr result (pieces.new ≡ pieces.old) }
+{
+    pieces.add(line_text(line).as_bytes(), out)
+}
+
+/// The bytes of a line.
+fn line_text(line: &ThinLine) -> LineBuffer
+    ensures bytes { result ≡ text_of_line thin (line_of line.now) }
+{
+    match line {
+        ThinLine::Pool {
+            uuid,
+            time,
+            transaction,
+            block_size,
+            blocks,
+        } => {
+            pool_text(
+                *uuid,
+                *time as u64,
+                *transaction,
+                *block_size as u64,
+                *blocks,
+            )
+        }
+        ThinLine::Device { id, details } => device_text(*id, details),
+        ThinLine::Map(run) => map_text(run),
+    }
+}
+
+/// The bytes of a pool line.
+fn pool_text(
+    uuid: [u8; 16],
+    time: u64,
+    transaction: u64,
+    block_size: u64,
+    blocks: u64,
+) -> LineBuffer
+    ensures bytes { result ≡ text_of_line thin (pool_line (record { uuid = uuid; time = time; transaction = transaction; block_size = block_size; data_blocks = blocks })) }
+{
+    let mut line = LineBuffer::new();
+    line.add(b"pool ");
+    add_uuid(&mut line, uuid);
+    add_word(&mut line, time);
+    add_word(&mut line, transaction);
+    add_word(&mut line, block_size);
+    add_word(&mut line, blocks);
+    line.add(b"\n");
+    line
+}
+
+/// The bytes of a device line.
+fn device_text(id: u64, details: &Details) -> LineBuffer
+    ensures bytes { result ≡ text_of_line thin (device_line (details_of id details.now)) }
+{
+    let mut line = LineBuffer::new();
+    line.add(b"device");
+    add_word(&mut line, id);
+    add_word(&mut line, details.mapped);
+    add_word(&mut line, details.transaction);
+    add_word(&mut line, details.created as u64);
+    add_word(&mut line, details.snapped as u64);
+    line.add(b"\n");
+    line
+}
+
+/// The bytes of a map line.
+fn map_text(run: &Run2) -> LineBuffer
+    ensures bytes { result ≡ text_of_line thin (map_line (run_of run.now)) }
+{
+    let mut line = LineBuffer::new();
+    line.add(b"map");
+    add_word(&mut line, run.virt);
+    add_word(&mut line, run.target);
+    add_word(&mut line, run.length);
+    add_word(&mut line, run.time as u64);
+    line.add(b"\n");
+    line
+}

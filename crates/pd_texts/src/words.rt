@@ -1,0 +1,123 @@
+//! The words of a line: numbers and uuids.
+
+ghost use Rattle.std.specs.Prelude.{◌≡◌, ◌==◌, ◌&&◌, ℕ, ◌+◌, ◌*◌, ◌-◌, ◌^◌, ◌<◌, ◌≤◌, nat_lt, if◌then◌else◌, List, [], ◌∷◌, length, take, slice_index, Option, Some, None, is_some, Result, Ok, Err, MatchResult, true, false};
+ghost use Rattle.std.specs.Char.{is_ascii_digit};
+ghost use Rattle.std.specs.Str.{all_ascii_digits};
+ghost use Rattle.std.specs.Str.Parse.{digits_value};
+ghost use Rattle.pd_grammar.specs.Words.{split, number_of, of_numbers, uuid_of};
+ghost use Rattle.pd_texts.specs.Words.{words_in};
+
+use pd_grammar::TextCause;
+use uuid::Uuid;
+
+/// The first word, and what follows it after a space.
+pub(crate) fn cut_word(bytes: &[u8]) -> (&[u8], Option<&[u8]>)
+    ensures { split 32 bytes.now ≡ result.0.now ∷ words_in result.1 }
+{
+    for i in 0..bytes.len() {
+        if bytes[i] == b' ' {
+            return (&bytes[..i], Some(&bytes[i + 1..]));
+        }
+    }
+    (bytes, None)
+}
+
+/// The number with a digit more.
+fn with_digit(value: u64, byte: u8) -> Option<u64>
+    ensures { result ≡ (if is_ascii_digit byte && nat_lt (value * 10 + (byte - 48)) (2 ^ 64) then Some (value * 10 + (byte - 48)) else None) }
+{
+    if byte < 48 || byte > 57 {
+        return None;
+    }
+    match value.checked_mul(10) {
+        Some(tens) => tens.checked_add((byte - 48) as u64),
+        None => None,
+    }
+}
+
+/// The number below 2 ^ 64 that digits are.
+fn digits_number(word: &[u8]) -> Option<u64>
+    ensures { result ≡ (if all_ascii_digits word.now && nat_lt (digits_value 10 word.now) (2 ^ 64) then Some (digits_value 10 word.now) else None) }
+{
+    let mut value = 0;
+    for b in word {
+        match with_digit(value, *b) {
+            Some(next) => value = next,
+            None => return None,
+        }
+    }
+    Some(value)
+}
+
+/// The number below 2 ^ 64 that a word is, without leading zeros.
+#[tactic(auto, unfolding(pd_grammar::specs::Words::number_of, pd_grammar::specs::Words::is_canonical))]
+pub(crate) fn number_word(word: &[u8]) -> Option<u64>
+    ensures { result ≡ number_of word.now }
+{
+    match word {
+        [] => None,
+        [first, _, ..] if *first == b'0' => None,
+        _ => digits_number(word),
+    }
+}
+
+/// Reads a number into its place, and answers whether the word is one.
+fn put_number(numbers: &mut [u64], i: usize, word: &[u8]) -> bool
+    requires { i < length numbers.old }
+    ensures read { result ≡ is_some (number_of word.now) }
+    ensures put { result ≡ true → number_of word.now ≡ Some (slice_index numbers.new i) }
+    ensures before { take i numbers.new ≡ take i numbers.old }
+{
+    match number_word(word) {
+        Some(number) => {
+            numbers[i] = number;
+            true
+        }
+        None => false,
+    }
+}
+
+/// Just so many numbers.
+pub(crate) fn read_numbers(words: Option<&[u8]>, count: usize) -> Result<[u64; 5], TextCause>
+    requires { count ≤ 5 }
+    ensures { MatchResult result (λ ns. of_numbers count (λ (xs : List ℕ). xs) (words_in words.entry) ≡ Ok (take count ns)) (λ cause. of_numbers count (λ (xs : List ℕ). xs) (words_in words.entry) ≡ Err cause) }
+{
+    let mut numbers = [0; 5];
+    let mut rest = words;
+    let mut all = true;
+    for i in 0..count {
+        let text = match rest {
+            Some(text) => text,
+            None => return Err(TextCause::Word),
+        };
+        let (word, next) = cut_word(text);
+        rest = next;
+        let good = put_number(&mut numbers, i, word);
+        all = all & good;
+    }
+    if rest.is_some() {
+        return Err(TextCause::Word);
+    }
+    if all {
+        Ok(numbers)
+    } else {
+        Err(TextCause::Number)
+    }
+}
+
+/// The uuid that a word is, in its hyphenated form in lower case.
+#[tactic(auto, unfolding(pd_grammar::specs::Words::bytes_of))]
+pub(crate) fn read_uuid(word: &[u8]) -> Option<[u8; 16]>
+    ensures { result ≡ uuid_of word.now }
+{
+    let Ok(uuid) = Uuid::try_parse_ascii(word) else {
+        return None;
+    };
+    let mut buffer = Uuid::encode_buffer();
+    let text = uuid.hyphenated().encode_lower(&mut buffer);
+    if text.as_bytes() == word {
+        Some(uuid.into_bytes())
+    } else {
+        None
+    }
+}
