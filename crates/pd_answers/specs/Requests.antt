@@ -33,6 +33,7 @@ unfoldable pub is_built : Request → Bool
 is_built (check Thin Super false image) = true
 is_built (check Thin Walk false image) = true
 is_built (check Thin Order false image) = true
+is_built (restore Thin version text image) = true
 is_built _ = false
 
 -- whether a restore reads the second version of a pool's text, too

@@ -1,3 +1,4 @@
 pub mod Answered
 pub mod Checks
 pub mod AtRest
+pub mod Restores

@@ -1,4 +1,5 @@
 pub mod Notes
 pub mod Stop
 pub mod Read
+pub mod Restore
 pub mod Work

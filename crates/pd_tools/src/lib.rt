@@ -3,6 +3,8 @@
 
 mod check;
 mod notes;
+mod refusals;
+mod restore;
 mod run;
 mod stop;
 

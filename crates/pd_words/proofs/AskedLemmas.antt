@@ -1,13 +1,13 @@
 -- What is asked, by the tool and its items.
-use Rattle.std.proofs.Common.{◌≡◌, inl, inr, ℕ, ◌==◌, Bool, true, false, List, [], ◌∷◌, length, get_or, map, drop, Option, Some, None, IfSome, is_some, refl, ap, sym, ◌∙◌}
+use Rattle.std.proofs.Common.{◌≡◌, inl, inr, ℕ, ◌==◌, Bool, true, false, List, [], ◌∷◌, length, get_or, map, drop, Option, Some, None, IfSome, is_some, codes, refl, ap, sym, ◌∙◌}
 use Rattle.std.specs.List.{list_all}
 use Rattle.std.specs.Option.{option_and_then}
 use Rattle.std.proofs.lemmas.Bool.{cases_Bool, true≢false}
 use Rattle.std.proofs.Math.Dec.{eqb-suc-zero}
 use Rattle.pd_kinds.specs.declared.kind.Kind.{Kind}
 use Rattle.pd_kinds.specs.declared.kind.Stage.{Stage}
-use Rattle.pd_answers.specs.Requests.{Request, is_built}
-use Rattle.pd_answers.specs.Words.{Item, items_of, Given, given, sole, at_most_one, is_set, last_stage, image_word, clear_word, until_word, check_with, repair_with, Tool, check_tool, dump_tool, restore_tool, repair_tool, rmap_tool, list_tool, since_tool, generate_tool, rehearse_tool, tool_of, request_of, is_known, known, spelled, built, asked}
+use Rattle.pd_answers.specs.Requests.{Request, restore, is_built}
+use Rattle.pd_answers.specs.Words.{Item, items_of, Given, given, sole, at_most_one, is_set, last_stage, version_of, image_word, clear_word, until_word, check_with, repair_with, Tool, check_tool, dump_tool, restore_tool, repair_tool, rmap_tool, list_tool, since_tool, generate_tool, rehearse_tool, tool_of, request_of, is_known, known, spelled, built, asked}
 use Rattle.pd_words.specs.Items.{is_read, read}
 
 pub asked_nothing : {X : Type 0} (f : X → List ℕ) (xs : List X) → (length xs == 0) ≡ true → None ≡ asked (map f xs)
@@ -45,7 +45,7 @@ unbuilt-items : (tool : Tool) (items : List Item) → is_read tool ≡ false →
 unfolding request_of is_built
 unbuilt-items (check_tool kind) items none = absurd (true≢false none)
 unbuilt-items (dump_tool kind) items none = search never
-unbuilt-items (restore_tool kind) items none = search never
+unbuilt-items (restore_tool kind) items none = absurd (true≢false none)
 unbuilt-items repair_tool items none = search (never, repair-never) depth 8
 unbuilt-items rmap_tool items none = search never
 unbuilt-items list_tool items none = search never
@@ -111,3 +111,15 @@ unfolding request_of
 check_given kind None stage clear image word until set path request stage_is at_most named clear_is at_most_clear image_is one is = tt
 check_given kind (Some items) stage clear image word until set path request stage_is at_most named clear_is at_most_clear image_is one is =
     rw (← stage_is, ← at_most, ← named, ← clear_is, ← at_most_clear, ← image_is, ← one) is
+
+-- a restore, by what was given for its version, for the text and for the image
+pub restore_given : (kind : Kind) (items : Option (List Item)) (named text image : Given) (word : Option (List ℕ)) (version : ℕ) (file path : List ℕ) (request : Option Request)
+    → IfSome items (λ all. named ≡ given (codes "--metadata-version") all) → Some word ≡ at_most_one named → Some version ≡ version_of word
+    → IfSome items (λ all. text ≡ given (codes "-i") all) → Some file ≡ sole text
+    → IfSome items (λ all. image ≡ given (codes "-o") all) → Some path ≡ sole image
+    → request ≡ Some (restore kind version file path)
+    → IfSome items (λ all. request ≡ request_of (restore_tool kind) all)
+unfolding request_of
+restore_given kind None named text image word version file path request named_is at_most version_is text_is one_text image_is one_image is = tt
+restore_given kind (Some items) named text image word version file path request named_is at_most version_is text_is one_text image_is one_image is =
+    rw (← named_is, ← at_most, ← version_is, ← text_is, ← one_text, ← image_is, ← one_image) is

@@ -14,6 +14,8 @@ use pd_kinds::Kind;
 pub enum Tool {
     /// thin_check, cache_check, era_check
     Check(Kind),
+    /// thin_restore, cache_restore, era_restore
+    Restore(Kind),
 }
 
 /// How often something was given.
@@ -57,6 +59,9 @@ pub fn tool_named(word: &str) -> Option<Tool>
         "thin_check" => Some(Tool::Check(Kind::Thin)),
         "cache_check" => Some(Tool::Check(Kind::Cache)),
         "era_check" => Some(Tool::Check(Kind::Era)),
+        "thin_restore" => Some(Tool::Restore(Kind::Thin)),
+        "cache_restore" => Some(Tool::Restore(Kind::Cache)),
+        "era_restore" => Some(Tool::Restore(Kind::Era)),
         _ => None,
     }
 }
@@ -72,6 +77,11 @@ pub fn is_purpose(tool: Tool, word: &str) -> bool
             }
             Kind::Cache => word == "--until" || word == "IMAGE",
             Kind::Era => word == "--until" || word == "IMAGE",
+        },
+        Tool::Restore(kind) => match kind {
+            Kind::Thin => word == "-i" || word == "-o",
+            Kind::Cache => word == "--metadata-version" || word == "-i" || word == "-o",
+            Kind::Era => word == "-i" || word == "-o",
         },
     }
 }
