@@ -3,7 +3,7 @@ use Rattle.std.specs.Prelude.{ℕ, Bool, true, false, List, Option}
 use Rattle.pd_kinds.specs.declared.kind.Kind.{Kind}
 use Rattle.pd_kinds.specs.declared.kind.Kind.TheVariants.{Thin}
 use Rattle.pd_kinds.specs.declared.kind.Stage.{Stage}
-use Rattle.pd_kinds.specs.declared.kind.Stage.TheVariants.{Super, Walk, Order}
+use Rattle.pd_kinds.specs.declared.kind.Stage.TheVariants.{Super, Walk, Order, Whole}
 
 -- a request, with the words that name its objects: images, texts, and the file of `out` where one is named
 pub data Request : Type 0 where
@@ -33,6 +33,7 @@ unfoldable pub is_built : Request → Bool
 is_built (check Thin Super false image) = true
 is_built (check Thin Walk false image) = true
 is_built (check Thin Order false image) = true
+is_built (check Thin Whole false image) = true
 is_built (restore Thin version text image) = true
 is_built _ = false
 

@@ -32,7 +32,7 @@ same_rules Thin image = refl
 same_rules Cache image = refl
 same_rules Era image = refl
 
-same_graph : (kind : Kind) (image : List (List ℕ)) → (checked_of kind image).graph ≡ graph_of_super kind (block_at image 0)
+pub same_graph : (kind : Kind) (image : List (List ℕ)) → (checked_of kind image).graph ≡ graph_of_super kind (block_at image 0)
 unfolding thin_checked cache_checked era_checked
 same_graph Thin image = refl
 same_graph Cache image = refl
@@ -75,25 +75,27 @@ module _ (kind : Kind) (image : List (List ℕ)) where
   broken_faults stages.Order built some =
       let first = first_stage kind image in
       chosen_first (super_faults (checked_of kind image) image) _ (λ none. some (first ∙ none)) ∙ sym first
-  broken_faults stages.Whole built some = absurd built
+  broken_faults stages.Whole built some =
+      let first = first_stage kind image in
+      chosen_first (super_faults (checked_of kind image) image) _ (λ none. some (first ∙ none)) ∙ sym first
   broken_faults stages.Counts built some = absurd built
 
   -- and where it has none
-  are_past : (until : Stage) → IsBuilt until → (until ≡ stages.Super → ⊥) → faults kind stages.Super image ≡ []
+  are_past : (until : Stage) → IsBuilt until → (until ≡ stages.Super → ⊥) → (until ≡ stages.Whole → ⊥) → faults kind stages.Super image ≡ []
       → faults kind until image ≡ past_faults until (graph_of_super kind (block_at image 0)) image
   unfolding faults first_failing
-  are_past stages.Super built past none = absurd (past refl)
-  are_past stages.Walk built past none =
+  are_past stages.Super built past before none = absurd (past refl)
+  are_past stages.Walk built past before none =
       let found : super_faults (checked_of kind image) image ≡ [] = sym (first_stage kind image) ∙ none in
       rw (found, same_graph kind image)
       (chosen (block_faults (graph_of_super kind (block_at image 0)).nr (walk_bad (graph_of_super kind (block_at image 0)) image)))
-  are_past stages.Order built past none =
+  are_past stages.Order built past before none =
       let found : super_faults (checked_of kind image) image ≡ [] = sym (first_stage kind image) ∙ none in
       let graph = graph_of_super kind (block_at image 0) in
       rw (found, same_graph kind image)
       (two_stages (nat_lt 0 (length (block_faults graph.nr (walk_bad graph image)))) (block_faults graph.nr (walk_bad graph image)) (block_faults graph.nr (order_bad graph image)))
-  are_past stages.Whole built past none = absurd built
-  are_past stages.Counts built past none = absurd built
+  are_past stages.Whole built past before none = absurd (before refl)
+  are_past stages.Counts built past before none = absurd built
 
 -- the report of an image without blocks
 missing_some : (kind : Kind) → faults kind stages.Super [] ≢ []
@@ -112,7 +114,7 @@ missing_report (Some []) kind until blocks rules report built none honest size s
 missing_report (Some (block ∷ rest)) kind until blocks rules report built none honest size same = absurd (omega arith)
 
 -- the block at the first place
-first_at : (blocks : ℕ) (first : List ℕ) (image : List (List ℕ)) → IsFirstBlock blocks first image → block_at image 0 ≡ first
+pub first_at : (blocks : ℕ) (first : List ℕ) (image : List (List ℕ)) → IsFirstBlock blocks first image → block_at image 0 ≡ first
 first_at blocks first image found = rw found.content refl
 
 -- where nothing is read
@@ -159,16 +161,16 @@ module _ (held : Option (List (List ℕ))) (kind : Kind) (blocks : ℕ) (first :
 
     module _ (graph : Graph) (same : graph ≡ graph_of_super kind first) where
       -- past the stage Super
-      pub past_report : (until : Stage) (result : Result Report CheckFault) → IsBuilt until → (until ≡ stages.Super → ⊥)
+      pub past_report : (until : Stage) (result : Result Report CheckFault) → IsBuilt until → (until ≡ stages.Super → ⊥) → (until ≡ stages.Whole → ⊥)
           → IfOk result (λ report. IfSome held (λ image. report ≡ report_of (past_faults until graph image)))
           → IfOk result (λ report. IfSome held (λ image. report ≡ report_of (faults kind until image)))
-      past_report until (Err fault) built past found_past = tt
-      past_report until (Ok report) built past found_past = if_both held
+      past_report until (Err fault) built past before found_past = tt
+      past_report until (Ok report) built past before found_past = if_both held
           (λ image here is.
           let none = first_faults kind blocks first image here ∙ no_faults_at 0 _ sound in
           let mine : graph ≡ graph_of_super kind (block_at image 0) = same ∙ ap (graph_of_super kind) (sym (first_at blocks first image here)) in
           is ∙ ap (λ (list : List Fault). report_of list) (
-          ap (λ (g : Graph). past_faults until g image) mine ∙ sym (are_past kind image until built past none)))
+          ap (λ (g : Graph). past_faults until g image) mine ∙ sym (are_past kind image until built past before none)))
           found found_past
 
       pub past_read : (until : Stage) (old new : ℕ) → IfSome held (λ image. new ≤ old + reads_of until * length (nodes graph image)) → IfSome held (λ image. ReadsFew kind until image old new)

@@ -1,2 +1,4 @@
 pub mod WalkReport
+pub mod StageLemmas
 pub mod CheckLemmas
+pub mod WholeLemmas

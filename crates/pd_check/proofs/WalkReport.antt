@@ -33,7 +33,7 @@ flat_map-same : (f g : ℕ → List Fault) (a n : ℕ) → ((k : ℕ) → k < a 
 flat_map-same f g a zero same = refl
 flat_map-same f g a (suc n) same = rw (same a (omega arith), flat_map-same f g (a + 1) n (λ k within. same k (omega arith))) refl
 
-walked_blocks : (nr : ℕ) (marked bad : ℕ → Rule → Bool) → ((b : ℕ) (wanted : Rule) → b < nr → marked b wanted ≡ bad b wanted)
+pub walked_blocks : (nr : ℕ) (marked bad : ℕ → Rule → Bool) → ((b : ℕ) (wanted : Rule) → b < nr → marked b wanted ≡ bad b wanted)
     → flat_map (λ b. faults_at b (marked b)) (range_with_len 0 nr) ≡ block_faults nr bad
 unfolding block_faults
 walked_blocks nr marked bad same =
@@ -59,7 +59,7 @@ settled_report (Some image) graph count first audit report number settled same =
     (rw number at same)
     ∙ ap (λ (list : List Fault). report_of list) (walked_blocks graph.nr (has_rule_at audit) (order_bad graph image) (λ b wanted within. (settled walked).rules b wanted within))
 
-none_listed : (list : List Fault) → length list ≡ 0 → list ≡ []
+pub none_listed : (list : List Fault) → length list ≡ 0 → list ≡ []
 none_listed [] e = refl
 none_listed (x ∷ xs) e = absurd (omega arith)
 

@@ -21,7 +21,7 @@ abbrev pub IsBuilt : Stage → Type 0
 IsBuilt Super = Unit {0}
 IsBuilt Walk = Unit {0}
 IsBuilt Order = Unit {0}
-IsBuilt Whole = ⊥
+IsBuilt Whole = Unit {0}
 IsBuilt Counts = ⊥
 
 -- memory is wanted only where a check up to the stage can want it
@@ -29,13 +29,22 @@ abbrev pub MayWantMemory : {R : Type 0} → Kind → Stage → Option (List (Lis
 MayWantMemory kind until held (Err Memory) = CanWantMemory kind until held
 MayWantMemory kind until held _ = Unit {0}
 
--- how often a check up to a stage reads a block in a role: the walk reads it once, and settling twice at most
+-- how often a check up to a stage reads a block in a role: the walk reads it once, and settling and the rules of
+-- the whole image twice at most
 abbrev pub reads_of : Stage → ℕ
 reads_of Super = 1
 reads_of Walk = 1
 reads_of Order = 3
-reads_of Whole = 3
-reads_of Counts = 3
+reads_of Whole = 5
+reads_of Counts = 5
+
+-- and how often up to the order of the trees, where a check goes as far
+abbrev pub reads_to_order : Stage → ℕ
+reads_to_order Super = 1
+reads_to_order Walk = 1
+reads_to_order Order = 3
+reads_to_order Whole = 3
+reads_to_order Counts = 3
 
 -- the stages after the walk
 abbrev pub goes_past_walk : Stage → Bool

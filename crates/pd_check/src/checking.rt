@@ -11,17 +11,19 @@ ghost use Rattle.pd_check.specs.Check.{IsBuilt, IsFirstBlock, MayWantMemory, Rea
 
 use crate::metadata::Metadata;
 use crate::past::check_past;
+use crate::whole::check_whole;
 use pd_image::Device;
 use pd_kinds::{Block, CheckFault, Report, Rules, Stage};
 use pd_supers::missing_super;
 use std::alloc::Global;
 
 /// The faults of the first stage up to this one that has any. The stages that are built are `Super`,
-/// `Walk` and `Order`.
+/// `Walk`, `Order` and `Whole`.
 ///
 /// A check up to `Super` takes no memory, and one past it takes none before block 0 was found sound, and
-/// all of it before it reads another block: about 60 bytes a metadata block. It reads block 0, and then each
-/// block at most once for each role in which it is reached, and up to `Order` at most three times.
+/// all of it before it reads another block: about 60 bytes a metadata block, and up to `Whole` what the kind
+/// needs besides. It reads block 0, and then each block at most once for each role in which it is reached, up to
+/// `Order` at most three times, and up to `Whole` at most five times.
 ///
 /// Fails with `CheckFault::Memory` where that memory wasn't found, and with `CheckFault::Device` where a
 /// read failed.
@@ -75,6 +77,8 @@ fn check_from<M: Metadata, D: Device>(
     }
     match until {
         Stage::Super => Ok(Report::new()),
+        Stage::Whole => check_whole::<M, D>(alloc, dev, first, blocks),
+        Stage::Counts => unreachable!(),
         _ => check_past(alloc, dev, &M::format(first, blocks), until),
     }
 }

@@ -1,10 +1,12 @@
-//! The check of any kind of metadata, stage by stage: block 0, and the walk over all that it leads to.
+//! The check of any kind of metadata, stage by stage: block 0, the walk over all that it leads to, the order of
+//! the trees, and the rules of the whole image.
 #![tactic(auto)]
 
 mod checking;
 mod metadata;
 mod past;
 mod walked;
+mod whole;
 
 pub use checking::check;
 pub use metadata::Metadata;

@@ -1,17 +1,29 @@
-ghost use Rattle.std.specs.Prelude.{◌≡◌, ◌≤◌, false};
+ghost use Rattle.std.specs.Prelude.{◌≡◌, ◌≤◌, ◌+◌, ◌*◌, false, length, OnOk, IfSome};
 ghost use Rattle.pd_kinds.specs.declared.kind.Kind.{Kind};
 ghost use Rattle.pd_kinds.specs.declared.rule.Rule.{Rule as BrokenRule};
+ghost use Rattle.pd_kinds.specs.Objects.{CountsFault};
 ghost use Rattle.pd_kinds.specs.RuleSet.{has_rule};
+ghost use Rattle.pd_kinds.specs.Graph.{nodes};
+ghost use Rattle.pd_kinds.specs.Stages.{checked_of};
+ghost use Rattle.pd_image.specs.Device.{IsAttached, OnlyReads};
+ghost use Rattle.pd_graph.specs.Audit.{blocks_of};
+ghost use Rattle.pd_whole.specs.Charges.{Charges};
 ghost use Rattle.pd_check.specs.ByKind.{graph_of_super, super_bad_of};
+ghost use Rattle.pd_check.specs.Whole.{IsOrdered};
 
-use pd_graph::Format;
+use pd_graph::{Audit, Format};
+use pd_image::{Device, Failed};
 use pd_kinds::{Block, Rules};
+use std::alloc::{AllocError, Global};
 
-/// A kind of metadata, by what a check needs of it: the rules of its superblock, and the format that a
-/// superblock without a broken rule gives.
+/// A kind of metadata, by what a check needs of it: the rules of its superblock, the format that a
+/// superblock without a broken rule gives, and the rules of the whole image.
 pub trait Metadata {
     /// The format of such metadata.
     type Format: Format + Copy;
+
+    /// The memory that the rules of the whole image need.
+    type Room: Drop;
 
     /// Which kind it is.
     ghost kind: { Kind };
@@ -25,4 +37,32 @@ pub trait Metadata {
         requires { (rule : BrokenRule) → super_bad_of kind device_blocks b.now.0 rule ≡ false }
         ensures graph { Self.Format.graph result ≡ graph_of_super kind b.now.0 }
         ensures within { (graph_of_super kind b.now.0).nr ≤ device_blocks };
+
+    /// Takes the memory that the rules of the whole image need, where this is block 0. Want of it is the only
+    /// error.
+    fn room(alloc: Global, b: &Block) -> Result<Self::Room, AllocError>;
+
+    /// Gives each block the rules of the whole image that it breaks, where this is block 0 and no block has a
+    /// rule up to the order of the trees. It takes no memory.
+    ///
+    /// What it says of content holds where the audit knows what the device holds; over any other device or
+    /// audit it is safe.
+    fn mark_whole<D: Device>(
+        room: Self::Room,
+        b: &Block,
+        audit: &mut Audit,
+        dev: &mut D,
+    ) -> Result<(), Failed>
+        requires attached { IsAttached (D.state dev.old) }
+        requires number { blocks_of audit.old ≡ (graph_of_super kind b.now.0).nr }
+        requires within { (graph_of_super kind b.now.0).nr ≤ (D.state dev.old).blocks }
+        ensures number { blocks_of audit.new ≡ blocks_of audit.old }
+        ensures charges { OnOk result (IfSome (D.state dev.old).held (λ image. IsOrdered kind b.now.0 image audit.old
+            → Charges (checked_of kind image).whole audit.old audit.new)) }
+
+        // At most two reads for each reachable pair, also where one failed.
+        ensures reads { IfSome (D.state dev.old).held (λ image. IsOrdered kind b.now.0 image audit.old
+            → (D.state dev.new).reads ≤ (D.state dev.old).reads + 2 * length (nodes (graph_of_super kind b.now.0) image)) }
+        ensures kept { OnlyReads (D.state dev.old) (D.state dev.new) }
+        ensures faults { CountsFault result (D.state dev.old).faults (D.state dev.new).faults };
 }

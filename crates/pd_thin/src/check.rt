@@ -9,16 +9,21 @@ ghost use Rattle.pd_image.specs.Device.{IsAttached, OnlyReads};
 ghost use Rattle.pd_check.specs.Check.{IsBuilt, MayWantMemory, ReadsFew};
 
 use crate::format::{ThinFormat, ThinTable};
+use crate::pool::mark_pool;
+use crate::turns::DeviceCursors;
 use pd_check::{Metadata, check};
-use pd_image::Device;
+use pd_graph::Audit;
+use pd_image::{Device, Failed};
 use pd_kinds::{Block, CheckFault, Report, Rules, Stage};
 use pd_supers::{read_thin_super, thin_super_rules};
-use std::alloc::Global;
+use std::alloc::{AllocError, Global};
 
 impl Metadata for ThinTable {
     ghost use Rattle.pd_kinds.specs.declared.kind.Kind.TheVariants.{Thin};
 
     type Format = ThinFormat;
+
+    type Room = DeviceCursors;
 
     ghost kind = { Thin };
 
@@ -29,14 +34,29 @@ impl Metadata for ThinTable {
     fn format(b: &Block, _device_blocks: u64) -> ThinFormat {
         ThinFormat::of(&read_thin_super(b))
     }
+
+    fn room(alloc: Global, _b: &Block) -> Result<DeviceCursors, AllocError> {
+        DeviceCursors::new(alloc)
+    }
+
+    fn mark_whole<D: Device>(
+        room: DeviceCursors,
+        b: &Block,
+        audit: &mut Audit,
+        dev: &mut D,
+    ) -> Result<(), Failed> {
+        let mut cursors = room;
+        mark_pool(&mut cursors, b, audit, dev)
+    }
 }
 
 /// The faults of the first stage up to this one that has any. The stages that are built are `Super`,
-/// `Walk` and `Order`.
+/// `Walk`, `Order` and `Whole`.
 ///
 /// A check up to `Super` takes no memory, and one past it takes none before block 0 was found sound, and
-/// all of it before it reads another block: about 60 bytes a metadata block. It reads block 0, and then each
-/// block at most once for each role in which it is reached, and up to `Order` at most three times.
+/// all of it before it reads another block: about 60 bytes a metadata block, and up to `Whole` 530 KiB
+/// besides. It reads block 0, and then each block at most once for each role in which it is reached, up to `Order` at
+/// most three times, and up to `Whole` at most five times.
 ///
 /// Fails with `CheckFault::Memory` where that memory wasn't found, and with `CheckFault::Device` where a
 /// read failed.

@@ -70,6 +70,7 @@ fn is_built(request: &Request) -> bool
                 Stage::Super => !clear,
                 Stage::Walk => !clear,
                 Stage::Order => !clear,
+                Stage::Whole => !clear,
                 _ => false,
             },
             _ => false,

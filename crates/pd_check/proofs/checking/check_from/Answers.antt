@@ -1,4 +1,5 @@
 use Rattle.std.proofs.Common.{refl, sym, ◌∙◌}
+use Rattle.pd_kinds.specs.declared.kind.Stage.TheVariants.{Whole}
 use Rattle.pd_check.proofs.CheckLemmas.{broken_report, sound_report, past_report, past_memory, past_read}
 use Rattle.pd_check.proofs.checking.check_from.Goals as goal
 
@@ -16,7 +17,7 @@ returns-in-Super-clause-report g c =
 pub returns-in_default-clause-report : goal.returns-in_default-clause-report
 returns-in_default-clause-report g c =
     past_report _ _ _ _ c.requires.first (λ rule. sym (c.super_rules-rules.ensures rule) ∙ c.if-not-is_empty.ensures.0 refl rule) _ c.format.ensures.graph
-    c.args.until c.check_past.result c.requires.built c.in_default.not-Super c.check_past.ensures.report
+    c.args.until c.check_past.result c.requires.built c.in_default.not-Super c.in_default.not-Whole c.check_past.ensures.report
 
 pub returns-in_default-clause-memory : goal.returns-in_default-clause-memory
 returns-in_default-clause-memory g c =
@@ -27,3 +28,14 @@ pub returns-in_default-clause-reads : goal.returns-in_default-clause-reads
 returns-in_default-clause-reads g c =
     past_read _ _ _ _ c.requires.first (λ rule. sym (c.super_rules-rules.ensures rule) ∙ c.if-not-is_empty.ensures.0 refl rule) _ c.format.ensures.graph
     c.args.until _ _ c.check_past.ensures.reads
+
+pub returns-in-Whole-clause-memory : goal.returns-in-Whole-clause-memory
+returns-in-Whole-clause-memory g c =
+    rw c.in-Whole.is
+    (past_memory _ _ _ _ c.requires.first (λ rule. sym (c.super_rules-rules.ensures rule) ∙ c.if-not-is_empty.ensures.0 refl rule)
+    Whole c.check_whole.result (λ e. cc))
+
+pub returns-in-Whole-clause-reads : goal.returns-in-Whole-clause-reads
+returns-in-Whole-clause-reads g c =
+    rw c.in-Whole.is
+    (past_read _ _ _ _ c.requires.first (λ rule. sym (c.super_rules-rules.ensures rule) ∙ c.if-not-is_empty.ensures.0 refl rule) _ refl Whole _ _ c.check_whole.ensures.reads)

@@ -1,0 +1,144 @@
+-- The report of the stage Whole, after that of the order of the trees.
+use Rattle.std.proofs.Common.{◌≡◌, ℕ, ◌+◌, ◌*◌, ◌<◌, ◌≤◌, Bool, true, false, ◌||◌, ◌&&◌, cond, nat_eq, nat_lt, List, length, Option, IfSome, Ok, refl, ap, sym, subst, ◌∙◌, arith}
+use Rattle.std.specs.List.{flat_map, range_with_len}
+use Rattle.std.proofs.lemmas.Bool.{both_ways, lt-ltb}
+use Rattle.std.proofs.lemmas.Option.{IfSome_then}
+use Rattle.pd_kinds.specs.declared.kind.Kind.{Kind}
+use Rattle.pd_kinds.specs.declared.kind.Stage.{Stage}
+use Rattle.pd_kinds.specs.declared.kind.Stage.TheVariants.{Order, Whole}
+use Rattle.pd_kinds.specs.declared.rule.Rule.{Rule}
+use Rattle.pd_kinds.specs.declared.fault.Fault.{Fault}
+use Rattle.pd_kinds.specs.Faults.{faults_at}
+use Rattle.pd_kinds.specs.declared.report.Report.{Report}
+use Rattle.pd_kinds.specs.Report.{Reported, report_of}
+use Rattle.pd_kinds.specs.Graph.{Graph, nodes}
+use Rattle.pd_kinds.specs.Lawful.{IsLawful}
+use Rattle.pd_kinds.specs.Stages.{checked_of, faults, block_faults}
+use Rattle.pd_kinds.specs.Whole.{WholeTest, whole_bad}
+use Rattle.pd_graph.specs.declared.audit.Audit.{Audit}
+use Rattle.pd_graph.specs.Audit.{blocks_of, has_rule_at}
+use Rattle.pd_graph.specs.Walk.{IsWalked}
+use Rattle.pd_graph.proofs.AnyLemmas.{if_both, if_any}
+use Rattle.pd_settle.specs.Settled.{IsSettled, KeepsMet}
+use Rattle.pd_whole.specs.Charges.{Charges}
+use Rattle.pd_whole.specs.Known.{IsWellSettled, IsKnown}
+use Rattle.pd_check.specs.ByKind.{super_bad_of, graph_of_super}
+use Rattle.pd_check.specs.Check.{IsFirstBlock, goes_past_walk, past_faults}
+use Rattle.pd_check.specs.Whole.{IsOrdered}
+use Rattle.pd_check.proofs.CheckLemmas.{first_at, same_graph, past_report}
+use Rattle.pd_check.proofs.StageLemmas.{up_to_whole}
+use Rattle.pd_check.proofs.WalkReport.{walked_blocks, none_listed, none_reported}
+
+-- settling without a rule that it marks, after a walk without a rule
+pub well_settled : (held : Option (List (List ℕ))) (graph : Graph) (first audit : Audit) (count : ℕ) (report : Reported) → count ≡ graph.nr
+    → ((b : ℕ) (rule : Rule) → b < graph.nr → has_rule_at first b rule ≡ false) → KeepsMet first audit
+    → IfSome held (λ image. IsWalked graph image first → IsSettled graph image audit)
+    → report ≡ report_of (flat_map (λ b. faults_at b (has_rule_at audit b)) (range_with_len 0 count))
+    → IfSome held (λ image. IsWalked graph image first → report.total ≡ 0 → IsWellSettled graph image audit)
+well_settled held graph first audit count report number sound met settled told =
+    IfSome_then held settled (λ image is walked none.
+    let marks = is walked in
+    record {
+      roles = λ b role within small. rw (met.roles b) (walked.roles b role within small);
+      counts = λ b within. met.counts b ∙ walked.counts b within;
+      walked = λ b wanted within. sym (walked.rules b wanted within) ∙ sound b wanted within;
+      in_order = λ b wanted within. sym (marks.rules b wanted within) ∙ none_reported graph.nr count audit report number told none b wanted within;
+      settled = marks;
+    })
+
+-- where the trees weren't looked at, or the walk found a fault
+pub not_settled : (P : List (List ℕ) → Type 0) (held : Option (List (List ℕ))) (until : Stage) (report : Reported) → (goes_past_walk until && nat_eq report.total 0) ≡ false
+    → IfSome held (λ image. goes_past_walk until ≡ true → report.total ≡ 0 → P image)
+not_settled P held until report either =
+    if_any held (λ image goes none. absurd (both_ways (goes_past_walk until && nat_eq report.total 0) either (rw (goes, none) refl)))
+
+-- the report of the marks of the whole image
+charged : (nr : ℕ) (tests : List WholeTest) (old new : Audit) (b : ℕ) (wanted : Rule) → Charges tests old new → b < blocks_of old → has_rule_at old b wanted ≡ false
+    → has_rule_at new b wanted ≡ whole_bad tests b wanted
+charged nr tests old new b wanted charges within none = charges.rules b wanted within ∙ ap (λ (x : Bool). x || whole_bad tests b wanted) none
+
+pub charged_report : (held : Option (List (List ℕ))) (kind : Kind) (first : List ℕ) (old new : Audit) (count : ℕ) (report : Reported)
+    → count ≡ (graph_of_super kind first).nr → blocks_of old ≡ (graph_of_super kind first).nr
+    → ((b : ℕ) (rule : Rule) → b < (graph_of_super kind first).nr → has_rule_at old b rule ≡ false)
+    → IfSome held (λ image. IsOrdered kind first image old → Charges (checked_of kind image).whole old new)
+    → report ≡ report_of (flat_map (λ b. faults_at b (has_rule_at new b)) (range_with_len 0 count))
+    → IfSome held (λ image. IsOrdered kind first image old
+    → report ≡ report_of (block_faults (graph_of_super kind first).nr (whole_bad (checked_of kind image).whole)))
+charged_report held kind first old new count report number blocks none charges told =
+    IfSome_then held charges (λ image leads ordered.
+    let graph = graph_of_super kind first in
+    (rw number at told)
+    ∙ ap (λ (list : List Fault). report_of list)
+    (walked_blocks graph.nr (has_rule_at new) (whole_bad (checked_of kind image).whole)
+    (λ b wanted within. charged graph.nr (checked_of kind image).whole old new b wanted (leads ordered) (omega arith) (none b wanted within))))
+
+-- a fault up to the order of the trees is all that is reported
+chosen_where : (some : Bool) (first second : List Fault) → some ≡ nat_lt 0 (length first) → (length first ≡ 0 → ⊥) → cond some first second ≡ first
+chosen_where true first second is found = refl
+chosen_where false first second is found = absurd (both_ways (nat_lt 0 (length first)) (sym is) (lt-ltb 0 (length first) (omega arith)))
+
+module _ (held : Option (List (List ℕ))) (kind : Kind) (blocks : ℕ) (first : List ℕ) (graph : Graph) (report : Report) (audit : Audit)
+    (found : IfSome held (IsFirstBlock blocks first)) (sound : (rule : Rule) → super_bad_of kind blocks first rule ≡ false) (same : graph ≡ graph_of_super kind first)
+    (told : IfSome held (λ image. report ≡ report_of (past_faults Order graph image))) where
+  -- the report is that of the check up to the order
+  up_to_order : IfSome held (λ image. report ≡ report_of (faults kind Order image))
+  up_to_order = past_report held kind blocks first found sound graph same Order (Ok report) tt (λ e. cc) (λ e. cc) told
+
+  -- which is that of the check where it has a fault
+  pub whole_first : (report.total ≡ 0 → ⊥) → IfSome held (λ image. report ≡ report_of (faults kind Whole image))
+  whole_first some =
+      IfSome_then held up_to_order (λ image is.
+      let total = ap (λ (r : Reported). r.total) is in
+      is ∙ ap (λ (list : List Fault). report_of list)
+      (sym (up_to_whole kind image ∙ chosen_where (nat_lt 0 (length (faults kind Order image))) (faults kind Order image) _ refl (λ none. some (total ∙ none)))))
+
+  -- and where there is none, an audit of the walk and of settling knows the image
+  module _ (none : report.total ≡ 0) (lawful : IsLawful graph) (number : blocks_of audit ≡ graph.nr)
+      (known : (graph : Graph) (image : List (List ℕ)) (audit : Audit) → IsLawful graph → blocks_of audit ≡ graph.nr → IsWellSettled graph image audit → IsKnown graph image audit)
+      (settled : IfSome held (λ image. goes_past_walk Order ≡ true → report.total ≡ 0 → IsWellSettled graph image audit)) where
+    all_told : IfSome held (λ image. (report ≡ report_of (faults kind Order image)) × IsKnown (graph_of_super kind first) image audit)
+    all_told =
+        if_both held (λ image is leads. (is, subst (λ (g : Graph). IsKnown g image audit) same (known graph image audit lawful number (leads refl none)))) up_to_order settled
+
+    in_order : IfSome held (λ image. IsOrdered kind first image audit)
+    in_order =
+        if_both held (λ image here both. record {
+          first_block = first_at blocks first image here;
+          none = none_listed (faults kind Order image) (sym (ap (λ (r : Reported). r.total) both.0) ∙ none);
+          known = both.1;
+        }) found all_told
+
+    -- then the report is that of the whole image
+    pub whole_second : (later : Option (List (List ℕ))) (found : Reported) → later ≡ held
+        → IfSome later (λ image. IsOrdered kind first image audit → found ≡ report_of (block_faults (graph_of_super kind first).nr (whole_bad (checked_of kind image).whole)))
+        → IfSome held (λ image. found ≡ report_of (faults kind Whole image))
+    whole_second later found stays is =
+        if_both held (λ image ordered leads.
+        let same_nr : (checked_of kind image).graph ≡ graph_of_super kind first = same_graph kind image ∙ ap (graph_of_super kind) ordered.first_block in
+        leads ordered ∙ ap (λ (list : List Fault). report_of list)
+        (sym (up_to_whole kind image ∙ rw (ordered.none, same_nr) refl))) in_order
+        (subst (λ (o : Option (List (List ℕ))). IfSome o (λ image. IsOrdered kind first image audit
+        → found ≡ report_of (block_faults (graph_of_super kind first).nr (whole_bad (checked_of kind image).whole)))) stays is)
+
+    -- and the reads of both add up
+    pub whole_reads : (later : Option (List (List ℕ))) (a b c : ℕ) → later ≡ held
+        → IfSome held (λ image. b ≤ a + 3 * length (nodes graph image))
+        → IfSome later (λ image. IsOrdered kind first image audit → c ≤ b + 2 * length (nodes (graph_of_super kind first) image))
+        → IfSome held (λ image. c ≤ a + 5 * length (nodes (graph_of_super kind first) image))
+    whole_reads later a b c stays before after =
+        let number = λ (image : List (List ℕ)). length (nodes (graph_of_super kind first) image) in
+        let first_reads : IfSome held (λ image. b ≤ a + 3 * number image) =
+        subst (λ (g : Graph). IfSome held (λ image. b ≤ a + 3 * length (nodes g image))) same before in
+        let last_reads : IfSome held (λ image. IsOrdered kind first image audit → c ≤ b + 2 * number image) =
+        subst (λ (o : Option (List (List ℕ))). IfSome o (λ image. IsOrdered kind first image audit → c ≤ b + 2 * number image)) stays after in
+        let both : IfSome held (λ image. (b ≤ a + 3 * number image) × (IsOrdered kind first image audit → c ≤ b + 2 * number image)) =
+        if_both held (λ image most leads. (most, leads)) first_reads last_reads in
+        if_both held (λ image ordered reads. let most = reads.0 in let more = reads.1 ordered in omega arith) in_order both
+
+-- the marks of settling, after those of a walk
+pub settled_from : (P : List (List ℕ) → Type 0) (held later : Option (List (List ℕ))) (until : Stage) (graph : Graph) (audit : Audit) (report : Reported) → later ≡ held
+    → IfSome held (λ image. IsWalked graph image audit) → IfSome later (λ image. IsWalked graph image audit → report.total ≡ 0 → P image)
+    → IfSome held (λ image. goes_past_walk until ≡ true → report.total ≡ 0 → P image)
+settled_from P held later until graph audit report stays walked leads =
+    if_both held (λ image is then goes none. then is none) walked
+    (subst (λ (o : Option (List (List ℕ))). IfSome o (λ image. IsWalked graph image audit → report.total ≡ 0 → P image)) stays leads)

@@ -1,0 +1,37 @@
+use Rattle.std.proofs.Common.{ap, sym, ◌∙◌, eq-eqb}
+use Rattle.std.proofs.lemmas.Bool.{eqb-true, both_ways}
+use Rattle.pd_kinds.specs.Graph.{Graph}
+use Rattle.pd_check.proofs.WalkReport.{none_reported}
+use Rattle.pd_check.proofs.WholeLemmas.{whole_first, whole_second, whole_reads}
+use Rattle.pd_check.proofs.whole.check_whole.Goals as goal
+
+pub returns-then-not-is_empty-clause-report : goal.returns-then-not-is_empty-clause-report
+returns-then-not-is_empty-clause-report g c =
+    whole_first _ _ _ _ _ c.in_ok-audit.report c.in_ok-audit.audit c.requires.first c.requires.sound c.format.ensures.graph c.in_ok-audit.ensures.report
+    (λ none. both_ways c.is_empty.result c.if-not-is_empty.true (c.is_empty.ensures ∙ eq-eqb c.in_ok-audit.report.total 0 none))
+
+pub whole_report-requires-clause-none : goal.whole_report-requires-clause-none
+whole_report-requires-clause-none g c =
+    none_reported _ _ c.in_ok-audit.audit c.in_ok-audit.report (c.in_ok-audit.ensures.number ∙ ap (λ (graph : Graph). graph.nr) c.format.ensures.graph) c.in_ok-audit.ensures.told
+    (eqb-true c.in_ok-audit.report.total 0 (sym c.if-not-is_empty.ensures))
+
+pub returns-in-Ok-whole_report-clause-report : goal.returns-in-Ok-whole_report-clause-report
+returns-in-Ok-whole_report-clause-report g c =
+    whole_second _ _ _ _ _ c.in_ok-audit.report c.in_ok-audit.audit c.requires.first c.requires.sound c.format.ensures.graph c.in_ok-audit.ensures.report
+    (eqb-true c.in_ok-audit.report.total 0 (sym c.if-not-is_empty.ensures)) (g.met.M.Format.Format.lawful c.format.result) c.in_ok-audit.ensures.number
+    c.settled_audits_are_known.ensures c.in_ok-audit.ensures.settled
+    _ c.in-Ok-whole_report.found c.in_ok-audit.ensures.kept.held c.in-Ok-whole_report.ensures.report
+
+pub returns-in-Ok-whole_report-clause-reads : goal.returns-in-Ok-whole_report-clause-reads
+returns-in-Ok-whole_report-clause-reads g c =
+    whole_reads _ _ _ _ _ c.in_ok-audit.report c.in_ok-audit.audit c.requires.first c.requires.sound c.format.ensures.graph c.in_ok-audit.ensures.report
+    (eqb-true c.in_ok-audit.report.total 0 (sym c.if-not-is_empty.ensures)) (g.met.M.Format.Format.lawful c.format.result) c.in_ok-audit.ensures.number
+    c.settled_audits_are_known.ensures c.in_ok-audit.ensures.settled
+    _ _ _ _ c.in_ok-audit.ensures.kept.held c.in_ok-audit.ensures.reads c.whole_report.ensures.reads
+
+pub returns-clause-reads : goal.returns-clause-reads
+returns-clause-reads g c =
+    whole_reads _ _ _ _ _ c.in_ok-audit.report c.in_ok-audit.audit c.requires.first c.requires.sound c.format.ensures.graph c.in_ok-audit.ensures.report
+    (eqb-true c.in_ok-audit.report.total 0 (sym c.if-not-is_empty.ensures)) (g.met.M.Format.Format.lawful c.format.result) c.in_ok-audit.ensures.number
+    c.settled_audits_are_known.ensures c.in_ok-audit.ensures.settled
+    _ _ _ _ c.in_ok-audit.ensures.kept.held c.in_ok-audit.ensures.reads c.whole_report.ensures.reads

@@ -1,0 +1,86 @@
+//! The stage of the whole image, after the order of the trees.
+
+ghost use Rattle.std.specs.Prelude.{◌≡◌, ℕ, ◌+◌, ◌*◌, ◌<◌, ◌≤◌, false, length, IfOk, IfSome};
+ghost use Rattle.pd_kinds.specs.declared.kind.Stage.TheVariants.{Whole};
+ghost use Rattle.pd_kinds.specs.declared.rule.Rule.{Rule};
+ghost use Rattle.pd_kinds.specs.CheckFault.{CountsCheckFault, StopsEarly};
+ghost use Rattle.pd_kinds.specs.Objects.{CountsFault};
+ghost use Rattle.pd_kinds.specs.Report.{report_of};
+ghost use Rattle.pd_kinds.specs.Graph.{nodes};
+ghost use Rattle.pd_kinds.specs.Stages.{block_faults, checked_of, faults};
+ghost use Rattle.pd_kinds.specs.Whole.{whole_bad};
+ghost use Rattle.pd_image.specs.Device.{IsAttached, OnlyReads};
+ghost use Rattle.pd_graph.specs.Audit.{blocks_of, has_rule_at};
+ghost use Rattle.pd_check.specs.ByKind.{graph_of_super, super_bad_of};
+ghost use Rattle.pd_check.specs.Check.{IsFirstBlock, reads_of};
+ghost use Rattle.pd_check.specs.Whole.{IsOrdered};
+
+use crate::metadata::Metadata;
+use crate::past::looked_at;
+use crate::walked::walk_report;
+use pd_graph::Audit;
+use pd_image::{Device, Failed};
+use pd_kinds::{Block, CheckFault, Report, Stage};
+use pd_whole::settled_audits_are_known;
+use std::alloc::Global;
+
+/// Looks at all that block 0, which breaks no rule, leads to, and where no block breaks a rule up to the order
+/// of the trees, at the rules of the whole image.
+///
+/// It takes all its memory before it reads a block.
+///
+/// Fails with `CheckFault::Memory` where that memory wasn't found, and with `CheckFault::Device` where a
+/// read failed.
+pub(crate) fn check_whole<M: Metadata, D: Device>(
+    alloc: Global,
+    dev: &mut D,
+    first: &Block,
+    blocks: u64,
+) -> Result<Report, CheckFault>
+    requires attached { IsAttached (D.state dev.old) }
+    requires number { blocks ≡ (D.state dev.old).blocks }
+    requires first { IfSome (D.state dev.old).held (IsFirstBlock blocks first.now.0) }
+    requires sound { (rule : Rule) → super_bad_of M.kind blocks first.now.0 rule ≡ false }
+    ensures report { IfOk result (λ report. IfSome (D.state dev.old).held (λ image. report ≡ report_of (faults M.kind Whole image))) }
+    ensures early { StopsEarly result (D.state dev.old).reads (D.state dev.new).reads }
+    ensures reads { IfSome (D.state dev.old).held (λ image.
+        (D.state dev.new).reads ≤ (D.state dev.old).reads + reads_of Whole * length (nodes (graph_of_super M.kind first.now.0) image)) }
+    ensures kept { OnlyReads (D.state dev.old) (D.state dev.new) }
+    ensures faults { CountsCheckFault result (D.state dev.old).faults (D.state dev.new).faults }
+{
+    settled_audits_are_known();
+    let room = match M::room(alloc, first) {
+        Ok(room) => room,
+        Err(_) => return Err(CheckFault::Memory),
+    };
+    let (mut audit, report) = looked_at(alloc, dev, &M::format(first, blocks), Stage::Order)?;
+    if !report.is_empty() {
+        return Ok(report);
+    }
+    match whole_report::<M, D>(room, first, &mut audit, dev) {
+        Ok(found) => Ok(found),
+        Err(_) => Err(CheckFault::Device),
+    }
+}
+
+/// Marks the rules of the whole image, where no block has a rule yet, and reports them.
+fn whole_report<M: Metadata, D: Device>(
+    room: M::Room,
+    first: &Block,
+    audit: &mut Audit,
+    dev: &mut D,
+) -> Result<Report, Failed>
+    requires attached { IsAttached (D.state dev.old) }
+    requires number { blocks_of audit.old ≡ (graph_of_super M.kind first.now.0).nr }
+    requires within { (graph_of_super M.kind first.now.0).nr ≤ (D.state dev.old).blocks }
+    requires none { (b : ℕ) (rule : Rule) → b < (graph_of_super M.kind first.now.0).nr → has_rule_at audit.old b rule ≡ false }
+    ensures report { IfOk result (λ report. IfSome (D.state dev.old).held (λ image. IsOrdered M.kind first.now.0 image audit.old
+        → report ≡ report_of (block_faults (graph_of_super M.kind first.now.0).nr (whole_bad (checked_of M.kind image).whole)))) }
+    ensures reads { IfSome (D.state dev.old).held (λ image. IsOrdered M.kind first.now.0 image audit.old
+        → (D.state dev.new).reads ≤ (D.state dev.old).reads + 2 * length (nodes (graph_of_super M.kind first.now.0) image)) }
+    ensures kept { OnlyReads (D.state dev.old) (D.state dev.new) }
+    ensures faults { CountsFault result (D.state dev.old).faults (D.state dev.new).faults }
+{
+    M::mark_whole(room, first, audit, dev)?;
+    Ok(walk_report(audit))
+}

@@ -1,0 +1,86 @@
+-- Lists in a row, and what of them passes a test.
+use Rattle.std.proofs.Common.{◌≡◌, ◌⊎◌, inl, inr, ℕ, zero, suc, ◌+◌, ◌<◌, ◌≤◌, Bool, true, false, nat_eq, cond, List, [], ◌∷◌, ◌++◌, map, refl, ◌∙◌, ap, arith}
+use Rattle.std.specs.List.{AllByRecursion, list_any, flat_map, range_with_len, count_by}
+use Rattle.std.proofs.lemmas.Bool.{both_ways, or_cases, or_left, or_right, or_from, eqb-true}
+use Rattle.std.proofs.lemmas.List.{map-append}
+use Rattle.std.proofs.lemmas.List.Sums.{sum_by-append}
+
+-- some number of a range passes
+pub in_range_of : (f : ℕ → Bool) (a n : ℕ) → list_any f (range_with_len a n) ≡ true → (q : ℕ) × (a ≤ q) × (q < a + n) × (f q ≡ true)
+in_range_of f a zero e = absurd (both_ways (list_any f []) refl e)
+in_range_of f a (suc n) e = elim (or_cases (f a) (list_any f (range_with_len (a + 1) n)) e) [
+  | inl here ↦ (a, omega arith, omega arith, here)
+  | inr later ↦ let found = in_range_of f (a + 1) n later in (found.0, omega arith, omega arith, found.3)
+]
+
+-- what holds of each number of a list holds of one that is found
+pub holds_of_found : {X : Type 0} → (P : ℕ → Type 0) (f : X → ℕ) (xs : List X) (p : ℕ) → AllByRecursion (λ x. P (f x)) xs
+    → list_any (λ t. nat_eq t p) (map f xs) ≡ true → P p
+holds_of_found P f [] p all e = absurd (both_ways (list_any (λ t. nat_eq t p) []) refl e)
+holds_of_found P f (x ∷ xs) p all e = elim (or_cases (nat_eq (f x) p) (list_any (λ t. nat_eq t p) (map f xs)) e) [
+  | inl here ↦ let same = eqb-true (f x) p here in rw (← same) all.0
+  | inr later ↦ holds_of_found P f xs p all.1 later
+]
+
+-- a test over two lists in a row
+pub any_front : {X : Type 0} → (test : X → Bool) (xs ys : List X) → list_any test xs ≡ true → list_any test (xs ++ ys) ≡ true
+any_front test [] ys e = absurd (both_ways (list_any test []) refl e)
+any_front test (x ∷ xs) ys e = elim (or_cases (test x) (list_any test xs) e) [
+  | inl here ↦ or_left (test x) (list_any test (xs ++ ys)) here
+  | inr later ↦ or_right (test x) (list_any test (xs ++ ys)) (any_front test xs ys later)
+]
+
+pub any_back : {X : Type 0} → (test : X → Bool) (xs ys : List X) → list_any test ys ≡ true → list_any test (xs ++ ys) ≡ true
+any_back test [] ys e = e
+any_back test (x ∷ xs) ys e = or_right (test x) (list_any test (xs ++ ys)) (any_back test xs ys e)
+
+pub any_both : {X : Type 0} → (test : X → Bool) (xs ys : List X) → list_any test (xs ++ ys) ≡ true → ((list_any test xs ≡ true) ⊎ (list_any test ys ≡ true))
+any_both test [] ys e = inr e
+any_both test (x ∷ xs) ys e = elim (or_cases (test x) (list_any test (xs ++ ys)) e) [
+  | inl here ↦ inl (or_left (test x) (list_any test xs) here)
+  | inr later ↦ elim (any_both test xs ys later) [
+    | inl front ↦ inl (or_right (test x) (list_any test xs) front)
+    | inr back ↦ inr back
+  ]
+]
+
+-- none passes
+pub any_none : {X : Type 0} → (test : X → Bool) (xs : List X) → AllByRecursion (λ x. test x ≡ false) xs → list_any test xs ≡ false
+any_none test [] all = refl
+any_none test (x ∷ xs) all = or_from (test x) (list_any test xs) all.0 (any_none test xs all.1)
+
+-- two facts of each element
+pub all_pairs : {X : Type 0} → (P Q : X → Type 0) (xs : List X) → AllByRecursion P xs → AllByRecursion Q xs → AllByRecursion (λ x. P x × Q x) xs
+all_pairs P Q [] ps qs = tt
+all_pairs P Q (x ∷ xs) ps qs = ((ps.0, qs.0), all_pairs P Q xs ps.1 qs.1)
+
+-- the parts of lists in a row
+pub all_front : {X : Type 0} → (P : X → Type 0) (xs ys : List X) → AllByRecursion P (xs ++ ys) → AllByRecursion P xs
+all_front P [] ys all = tt
+all_front P (x ∷ xs) ys all = (all.0, all_front P xs ys all.1)
+
+pub all_back : {X : Type 0} → (P : X → Type 0) (xs ys : List X) → AllByRecursion P (xs ++ ys) → AllByRecursion P ys
+all_back P [] ys all = all
+all_back P (x ∷ xs) ys all = all_back P xs ys all.1
+
+-- ranges in a row
+pub range_on : (a m n : ℕ) → range_with_len a (m + n) ≡ range_with_len a m ++ range_with_len (a + m) n
+range_on a zero n = let e : a + 0 ≡ a = omega arith in let f : 0 + n ≡ n = omega arith in rw (e, f) refl
+range_on a (suc m) n =
+    let e : a + suc m ≡ (a + 1) + m = omega arith in
+    let f : suc m + n ≡ suc (m + n) = omega arith in
+    rw (e, f) (ap (λ (rest : List ℕ). a ∷ rest) (range_on (a + 1) m n))
+
+-- lists in a row, counted
+pub count_append : {X : Type 0} → (test : X → Bool) (xs ys : List X) → count_by test (xs ++ ys) ≡ count_by test xs + count_by test ys
+count_append test xs ys = sum_by-append (λ x. cond (test x) 1 0) xs ys
+
+-- lists in a row, each mapped
+pub map_flat : {X Y Z : Type 0} → (g : Y → Z) (f : X → List Y) (xs : List X) → map g (flat_map f xs) ≡ flat_map (λ x. map g (f x)) xs
+map_flat g f [] = refl
+map_flat {X} {Y} {Z} g f (x ∷ xs) = map-append g (f x) (flat_map f xs) ∙ ap (λ (rest : List Z). map g (f x) ++ rest) (map_flat g f xs)
+
+-- a list that is mapped twice
+pub map_twice : {X Y Z : Type 0} → (g : Y → Z) (f : X → Y) (xs : List X) → map g (map f xs) ≡ map (λ x. g (f x)) xs
+map_twice g f [] = refl
+map_twice {X} {Y} {Z} g f (x ∷ xs) = ap (λ (rest : List Z). g (f x) ∷ rest) (map_twice g f xs)

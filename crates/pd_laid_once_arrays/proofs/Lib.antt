@@ -1,0 +1,4 @@
+pub mod Arrays
+pub mod EraNamed
+pub mod CacheNamed
+pub mod NeedLemmas

@@ -1,0 +1,10 @@
+pub mod ThinRoles
+pub mod ThinItems
+pub mod ThinRows
+pub mod ThinDevices
+pub mod ThinPool
+pub mod ThinSuper
+pub mod ThinCounts
+pub mod ThinWhole
+pub mod ThinLaw
+pub mod ThinNamed

@@ -1,0 +1,5 @@
+pub mod Items
+pub mod Devices
+pub mod Joined
+pub mod Runs
+pub mod Given

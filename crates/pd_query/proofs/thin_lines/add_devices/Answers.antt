@@ -1,0 +1,45 @@
+use Rattle.std.proofs.Common.{Some, None, IfSome, ap, ◌∙◌, subst, arith}
+use Rattle.pd_image.proofs.ReadLemmas.{only_reads_both}
+use Rattle.pd_tree.specs.Next.{IsNext}
+use Rattle.pd_pool.specs.declared.devices.DeviceRow.{DeviceRow}
+use Rattle.pd_pool.specs.Devices.{rows_left}
+use Rattle.pd_query.specs.ThinText.{rows_text}
+use Rattle.pd_query.proofs.AddsLemmas.{adds_all, adds_more, front_before, front_in, keeps_both, one_told, stops_here}
+use Rattle.pd_query.proofs.TextLemmas.{row_first}
+use Rattle.pd_query.proofs.thin_lines.add_devices.Goals as goal
+
+pub returns-in-Err-clause-lines : goal.returns-in-Err-clause-lines
+returns-in-Err-clause-lines g c =
+    front_before (g.D.Device.state c.args.dev.now).held c.loop-row.invariant.adds (stops_here c.loop-row.pieces (g.K.Sink.state c.loop-row.out).written)
+
+pub returns-in-Err-add_device-clause-lines : goal.returns-in-Err-add_device-clause-lines
+returns-in-Err-add_device-clause-lines g c =
+    front_in (g.D.Device.state c.args.dev.now).held (λ image. rows_text image (rows_left image c.next.new.self)) c.loop-row.invariant.adds
+    (one_told (g.D.Device.state c.args.dev.now).held (λ image next. row_first image c.in-Some.row (rows_left image c.loop-row.devices) (rows_left image c.next.new.self) next)
+    (subst (λ o. IfSome o (λ image. IsNext {X = DeviceRow} (Some c.in-Some.row) (rows_left image c.loop-row.devices) (rows_left image c.next.new.self))) c.loop-row.invariant.kept.held
+    (rw c.in-Some.is at c.in-Ok.ensures.next)))
+    (rw (only_reads_both c.loop-row.invariant.kept c.in-Ok.ensures.kept).held at c.in-Err-add_device.ensures.lines)
+
+pub returns-in-None-clause-lines : goal.returns-in-None-clause-lines
+returns-in-None-clause-lines g c =
+    adds_all (g.D.Device.state c.args.dev.now).held c.loop-row.invariant.adds
+    (one_told (g.D.Device.state c.args.dev.now).held (λ image none. ap (rows_text image) none.0)
+    (subst (λ o. IfSome o (λ image. IsNext {X = DeviceRow} None (rows_left image c.loop-row.devices) (rows_left image c.next.new.self))) c.loop-row.invariant.kept.held
+    (rw c.in-None.is at c.in-Ok.ensures.next)))
+
+pub loop-row-preserved : goal.loop-row-preserved
+loop-row-preserved g c =
+    let before = c.loop-row.invariant.room in
+    let room = c.in-Ok.ensures.room in
+    record {
+      adds = adds_more (g.D.Device.state c.args.dev.now).held c.loop-row.invariant.adds
+          (one_told (g.D.Device.state c.args.dev.now).held (λ image next. row_first image c.in-Some.row (rows_left image c.loop-row.devices) (rows_left image c.next.new.self) next)
+          (subst (λ o. IfSome o (λ image. IsNext {X = DeviceRow} (Some c.in-Some.row) (rows_left image c.loop-row.devices) (rows_left image c.next.new.self))) c.loop-row.invariant.kept.held
+          (rw c.in-Some.is at c.in-Ok.ensures.next)))
+          (rw (only_reads_both c.loop-row.invariant.kept c.in-Ok.ensures.kept).held at c.in-Ok-add_device.ensures.lines);
+      room = omega arith;
+      kept = only_reads_both (only_reads_both c.loop-row.invariant.kept c.in-Ok.ensures.kept) c.in-Ok-add_device.ensures.kept;
+      sink = keeps_both c.loop-row.invariant.sink c.in-Ok-add_device.ensures.sink;
+      dev_faults = c.in-Ok-add_device.ensures.faults.0 ∙ (c.in-Ok.ensures.faults ∙ c.loop-row.invariant.dev_faults);
+      out_faults = c.in-Ok-add_device.ensures.faults.1 ∙ c.loop-row.invariant.out_faults;
+    }

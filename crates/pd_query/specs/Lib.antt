@@ -1,0 +1,4 @@
+pub mod Adds
+pub mod Failing
+pub mod ThinText
+pub mod ThinDump

@@ -1,0 +1,14 @@
+-- A dump that wasn't put yet.
+use Rattle.std.specs.Prelude.{ℕ, List, ◌++◌}
+use Rattle.pd_spells.specs.ThinText.{first_line, pool_line, thin}
+use Rattle.pd_texts.specs.Printed.{text_of_line}
+use Rattle.pd_pool.specs.Given.{super_head}
+use Rattle.pd_query.specs.declared.thin_dump.ThinDump.{ThinDump}
+use Rattle.pd_query.specs.ThinText.{rest_text, some_room}
+
+-- its text, and how many blocks the device must have
+abbrev pub text_left : List (List ℕ) → ThinDump → List ℕ
+text_left image dump = text_of_line thin first_line ++ (text_of_line thin (pool_line (super_head dump.s)) ++ rest_text image dump.devices)
+
+abbrev pub dump_room : ThinDump → ℕ
+dump_room dump = some_room dump.devices

@@ -1,0 +1,13 @@
+//! What is asked of an image that was found sound, and put as text: a pool's own text.
+//!
+//! What is put is said over the bytes of any image that the device tells. The laws of the crates below say what
+//! that comes to in an image without faults.
+#![tactic(auto)]
+
+mod fault;
+mod lines;
+mod thin_dump;
+mod thin_lines;
+
+pub use fault::QueryFault;
+pub use thin_dump::ThinDump;

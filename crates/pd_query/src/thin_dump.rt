@@ -1,0 +1,90 @@
+//! The dump of a pool.
+
+use crate::fault::QueryFault;
+use crate::thin_lines::{add_first_lines, devices_of, read_super};
+use pd_image::{Device, Sink};
+use pd_kinds::ThinSuper;
+use pd_lines::Pieces;
+use pd_pool::{MapRuns, ThinDevices};
+use std::alloc::{AllocError, Global};
+
+/// The dump of a pool, with the memory that it takes.
+#[derive(Drop)]
+pub struct ThinDump {
+    s: ThinSuper,
+    /// The devices; none where a root is outside of the device.
+    devices: Option<ThinDevices>,
+    runs: MapRuns,
+}
+
+impl ThinDump {
+    ghost use Rattle.std.specs.Prelude.{◌≡◌, ◌≤◌, ℕ, List, MatchResult, IfOk, IfSome, length};
+    ghost use Rattle.pd_kinds.specs.Objects.{DeviceState};
+    ghost use Rattle.pd_kinds.specs.Graph.{block_at};
+    ghost use Rattle.pd_kinds.specs.ThinSuper.{thin_fields};
+    ghost use Rattle.pd_image.specs.Device.{IsAttached, OnlyReads};
+    ghost use Rattle.pd_image.specs.Sink.{KeepsSink};
+    ghost use Rattle.pd_query.specs.Adds.{PutsText};
+    ghost use Rattle.pd_query.specs.Failing.{Fails, StartFails};
+    ghost use Rattle.pd_query.specs.ThinDump.{dump_room, text_left};
+    ghost use Rattle.pd_query.specs.ThinText.{dump_text};
+
+    /// Reads the superblock of a pool, and takes the memory for its dump: three cursors over trees.
+    ///
+    /// Fails with `Device` where a read failed, and with `Memory` where that memory wasn't found.
+    pub fn start<D: Device>(alloc: Global, dev: &mut D) -> Result<ThinDump, QueryFault>
+        requires { IsAttached (D.state dev.old) }
+        ensures text { IfOk result (λ dump. IfSome (D.state dev.old).held (λ image. 1 ≤ length image → text_left image dump ≡ dump_text image (thin_fields (block_at image 0)))) }
+        ensures room { IfOk result (λ dump. dump_room dump ≤ (D.state dev.old).blocks) }
+        ensures kept { OnlyReads (D.state dev.old) (D.state dev.new) }
+        ensures faults { StartFails result (D.state dev.old).faults (D.state dev.new).faults }
+    {
+        let s = match read_super(dev) {
+            Ok(s) => s,
+            Err(_) => return Err(QueryFault::Device),
+        };
+        match ThinDump::over(alloc, s, dev.blocks()) {
+            Ok(dump) => Ok(dump),
+            Err(_) => Err(QueryFault::Memory),
+        }
+    }
+
+    /// Takes the memory for the dump of the pool with this superblock, in a device of so many blocks.
+    fn over(alloc: Global, s: ThinSuper, blocks: u64) -> Result<ThinDump, AllocError>
+        ensures text { (image : List (List ℕ)) → length image ≡ blocks → IfOk result (λ dump. text_left image dump ≡ dump_text image s) }
+        ensures room { IfOk result (λ dump. dump_room dump ≤ blocks) }
+    {
+        let runs = MapRuns::start(alloc, s.mapping_root)?;
+        let devices = devices_of(alloc, &s, blocks)?;
+        Ok(ThinDump { s, devices, runs })
+    }
+
+    /// Puts the pool's text, once. It takes no memory.
+    ///
+    /// Fails with `Device` where a read failed, and with `Sink` where `out` did; then a front of the text was put.
+    pub fn put<D: Device, K: Sink>(&mut self, dev: &mut D, out: &mut K) -> Result<(), QueryFault>
+        requires dev { IsAttached (D.state dev.old) }
+        requires out { (K.state out.old).access ≡ 1 }
+        requires within { dump_room self.old ≤ (D.state dev.old).blocks }
+        ensures text { PutsText (D.state dev.old).held (λ image. text_left image self.old) result (K.state out.old).written (K.state out.new).written }
+        ensures kept { OnlyReads (D.state dev.old) (D.state dev.new) }
+        ensures sink { KeepsSink (K.state out.old) (K.state out.new) }
+        ensures faults { Fails result (D.state dev.old).faults (D.state dev.new).faults (K.state out.old).faults (K.state out.new).faults }
+    {
+        let mut pieces = Pieces::new();
+        match add_first_lines(
+            &self.s,
+            &mut self.devices,
+            &mut self.runs,
+            dev,
+            &mut pieces,
+            out,
+        ) {
+            Ok(()) => match pieces.put(out) {
+                Ok(()) => Ok(()),
+                Err(_) => Err(QueryFault::Sink),
+            },
+            Err(fault) => Err(fault),
+        }
+    }
+}

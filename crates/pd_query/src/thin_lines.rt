@@ -1,0 +1,303 @@
+//! The lines of a pool, gathered.
+
+ghost use Rattle.std.specs.Prelude.{◌≡◌, ◌≤◌, ◌++◌, ℕ, List, MatchResult, IfOk, IfSome, length};
+ghost use Rattle.pd_kinds.specs.Objects.{DeviceState, CountsFault};
+ghost use Rattle.pd_kinds.specs.Graph.{block_at};
+ghost use Rattle.pd_kinds.specs.ThinSuper.{thin_fields};
+ghost use Rattle.pd_image.specs.Device.{IsAttached, OnlyReads};
+ghost use Rattle.pd_image.specs.Sink.{KeepsSink};
+ghost use Rattle.pd_pool.specs.Devices.{rows_left, rows_room};
+ghost use Rattle.pd_pool.specs.Runs.{runs_below, runs_left, runs_room};
+ghost use Rattle.pd_spells.specs.ThinText as p;
+ghost use Rattle.pd_spells.specs.ThinText.{thin};
+ghost use Rattle.pd_texts.specs.Printed.{text_of_line};
+ghost use Rattle.pd_pool.specs.Given.{super_head, super_rows};
+ghost use Rattle.pd_pool.specs.Joined.{spelled};
+ghost use Rattle.pd_texts.specs.ThinLine.{line_of};
+ghost use Rattle.pd_query.specs.Adds.{AddsSome, PutsFront};
+ghost use Rattle.pd_query.specs.Failing.{Fails};
+ghost use Rattle.pd_query.specs.ThinText.{given_text, rest_text, row_text, rows_text, some_room, some_rows};
+
+use crate::fault::QueryFault;
+use crate::lines::{add_end_line, add_first_line, add_line};
+use pd_image::{Device, Failed, Sink};
+use pd_kinds::{Block, ThinSuper};
+use pd_lines::Pieces;
+use pd_pool::{DeviceRow, MapRuns, Run, ThinDevices};
+use pd_supers::read_thin_super;
+use pd_texts::{Run2, ThinLine};
+use std::alloc::{AllocError, Global};
+
+/// The line of a pool.
+fn pool_line(s: &ThinSuper) -> ThinLine
+    ensures { line_of result ≡ p.pool_line (super_head s.now) }
+{
+    ThinLine::Pool {
+        uuid: s.uuid,
+        time: s.time,
+        transaction: s.transaction,
+        block_size: s.block_size,
+        blocks: s.data_map.blocks,
+    }
+}
+
+/// The line of a run.
+fn map_line(run: &Run) -> ThinLine
+    ensures { line_of result ≡ p.map_line (spelled run.now) }
+{
+    ThinLine::Map(Run2 {
+        virt: run.virt,
+        target: run.target,
+        length: run.length,
+        time: run.time,
+    })
+}
+
+/// Gathers the map lines of the runs that are left.
+fn add_runs<D: Device, K: Sink>(
+    runs: &mut MapRuns,
+    dev: &mut D,
+    pieces: &mut Pieces,
+    out: &mut K,
+) -> Result<(), QueryFault>
+    requires dev { IsAttached (D.state dev.old) }
+    requires out { (K.state out.old).access ≡ 1 }
+    requires within { runs_room runs.old ≤ (D.state dev.old).blocks }
+    ensures lines { MatchResult result
+        (λ _. AddsSome (D.state dev.old).held (λ image. given_text (runs_left image runs.old)) pieces.old pieces.new (K.state out.old).written (K.state out.new).written)
+        (λ _. PutsFront (D.state dev.old).held (λ image. given_text (runs_left image runs.old)) pieces.old (K.state out.old).written (K.state out.new).written) }
+    ensures kept { OnlyReads (D.state dev.old) (D.state dev.new) }
+    ensures sink { KeepsSink (K.state out.old) (K.state out.new) }
+    ensures faults { Fails result (D.state dev.old).faults (D.state dev.new).faults (K.state out.old).faults (K.state out.new).faults }
+{
+    loop {
+        let run = match runs.next(dev) {
+            Ok(run) => run,
+            Err(_) => return Err(QueryFault::Device),
+        };
+        match run {
+            Some(run) => match add_line(&map_line(&run), pieces, out) {
+                Ok(()) => {}
+                Err(fault) => return Err(fault),
+            },
+            None => return Ok(()),
+        }
+    }
+}
+
+/// Gathers the map lines of the runs below a root. There are none below a block outside of the device.
+fn add_runs_of<D: Device, K: Sink>(
+    root: u64,
+    runs: &mut MapRuns,
+    dev: &mut D,
+    pieces: &mut Pieces,
+    out: &mut K,
+) -> Result<(), QueryFault>
+    requires dev { IsAttached (D.state dev.old) }
+    requires out { (K.state out.old).access ≡ 1 }
+    ensures lines { MatchResult result
+        (λ _. AddsSome (D.state dev.old).held (λ image. given_text (runs_below image root)) pieces.old pieces.new (K.state out.old).written (K.state out.new).written)
+        (λ _. PutsFront (D.state dev.old).held (λ image. given_text (runs_below image root)) pieces.old (K.state out.old).written (K.state out.new).written) }
+    ensures kept { OnlyReads (D.state dev.old) (D.state dev.new) }
+    ensures sink { KeepsSink (K.state out.old) (K.state out.new) }
+    ensures faults { Fails result (D.state dev.old).faults (D.state dev.new).faults (K.state out.old).faults (K.state out.new).faults }
+{
+    if root >= dev.blocks() {
+        return Ok(());
+    }
+    runs.restart(root);
+    add_runs(runs, dev, pieces, out)
+}
+
+/// Gathers the line of a device, and those of its runs.
+fn add_device<D: Device, K: Sink>(
+    row: &DeviceRow,
+    runs: &mut MapRuns,
+    dev: &mut D,
+    pieces: &mut Pieces,
+    out: &mut K,
+) -> Result<(), QueryFault>
+    requires dev { IsAttached (D.state dev.old) }
+    requires out { (K.state out.old).access ≡ 1 }
+    ensures lines { MatchResult result
+        (λ _. AddsSome (D.state dev.old).held (λ image. row_text image row.now) pieces.old pieces.new (K.state out.old).written (K.state out.new).written)
+        (λ _. PutsFront (D.state dev.old).held (λ image. row_text image row.now) pieces.old (K.state out.old).written (K.state out.new).written) }
+    ensures kept { OnlyReads (D.state dev.old) (D.state dev.new) }
+    ensures sink { KeepsSink (K.state out.old) (K.state out.new) }
+    ensures faults { Fails result (D.state dev.old).faults (D.state dev.new).faults (K.state out.old).faults (K.state out.new).faults }
+{
+    let line = ThinLine::Device {
+        id: row.id,
+        details: row.details,
+    };
+    match add_line(&line, pieces, out) {
+        Ok(()) => add_runs_of(row.root, runs, dev, pieces, out),
+        Err(fault) => Err(fault),
+    }
+}
+
+/// Gathers the lines of the devices that are left.
+fn add_devices<D: Device, K: Sink>(
+    devices: &mut ThinDevices,
+    runs: &mut MapRuns,
+    dev: &mut D,
+    pieces: &mut Pieces,
+    out: &mut K,
+) -> Result<(), QueryFault>
+    requires dev { IsAttached (D.state dev.old) }
+    requires out { (K.state out.old).access ≡ 1 }
+    requires within { rows_room devices.old ≤ (D.state dev.old).blocks }
+    ensures lines { MatchResult result
+        (λ _. AddsSome (D.state dev.old).held (λ image. rows_text image (rows_left image devices.old)) pieces.old pieces.new (K.state out.old).written (K.state out.new).written)
+        (λ _. PutsFront (D.state dev.old).held (λ image. rows_text image (rows_left image devices.old)) pieces.old (K.state out.old).written (K.state out.new).written) }
+    ensures kept { OnlyReads (D.state dev.old) (D.state dev.new) }
+    ensures sink { KeepsSink (K.state out.old) (K.state out.new) }
+    ensures faults { Fails result (D.state dev.old).faults (D.state dev.new).faults (K.state out.old).faults (K.state out.new).faults }
+{
+    loop {
+        let row = match devices.next(dev) {
+            Ok(row) => row,
+            Err(_) => return Err(QueryFault::Device),
+        };
+        match row {
+            Some(row) => match add_device(&row, runs, dev, pieces, out) {
+                Ok(()) => {}
+                Err(fault) => return Err(fault),
+            },
+            None => return Ok(()),
+        }
+    }
+}
+
+/// Gathers the lines of the devices that are left, if there are any.
+fn add_some_devices<D: Device, K: Sink>(
+    devices: &mut Option<ThinDevices>,
+    runs: &mut MapRuns,
+    dev: &mut D,
+    pieces: &mut Pieces,
+    out: &mut K,
+) -> Result<(), QueryFault>
+    requires dev { IsAttached (D.state dev.old) }
+    requires out { (K.state out.old).access ≡ 1 }
+    requires within { some_room devices.old ≤ (D.state dev.old).blocks }
+    ensures lines { MatchResult result
+        (λ _. AddsSome (D.state dev.old).held (λ image. rows_text image (some_rows image devices.old)) pieces.old pieces.new (K.state out.old).written (K.state out.new).written)
+        (λ _. PutsFront (D.state dev.old).held (λ image. rows_text image (some_rows image devices.old)) pieces.old (K.state out.old).written (K.state out.new).written) }
+    ensures kept { OnlyReads (D.state dev.old) (D.state dev.new) }
+    ensures sink { KeepsSink (K.state out.old) (K.state out.new) }
+    ensures faults { Fails result (D.state dev.old).faults (D.state dev.new).faults (K.state out.old).faults (K.state out.new).faults }
+{
+    match devices {
+        Some(devices) => add_devices(devices, runs, dev, pieces, out),
+        None => Ok(()),
+    }
+}
+
+/// Gathers the lines of the devices that are left, and the last line.
+fn add_last_lines<D: Device, K: Sink>(
+    devices: &mut Option<ThinDevices>,
+    runs: &mut MapRuns,
+    dev: &mut D,
+    pieces: &mut Pieces,
+    out: &mut K,
+) -> Result<(), QueryFault>
+    requires dev { IsAttached (D.state dev.old) }
+    requires out { (K.state out.old).access ≡ 1 }
+    requires within { some_room devices.old ≤ (D.state dev.old).blocks }
+    ensures lines { MatchResult result
+        (λ _. AddsSome (D.state dev.old).held (λ image. rest_text image devices.old) pieces.old pieces.new (K.state out.old).written (K.state out.new).written)
+        (λ _. PutsFront (D.state dev.old).held (λ image. rest_text image devices.old) pieces.old (K.state out.old).written (K.state out.new).written) }
+    ensures kept { OnlyReads (D.state dev.old) (D.state dev.new) }
+    ensures sink { KeepsSink (K.state out.old) (K.state out.new) }
+    ensures faults { Fails result (D.state dev.old).faults (D.state dev.new).faults (K.state out.old).faults (K.state out.new).faults }
+{
+    match add_some_devices(devices, runs, dev, pieces, out) {
+        Ok(()) => add_end_line(pieces, out),
+        Err(fault) => Err(fault),
+    }
+}
+
+/// Gathers the line of the pool, and those after it.
+fn add_pool_lines<D: Device, K: Sink>(
+    s: &ThinSuper,
+    devices: &mut Option<ThinDevices>,
+    runs: &mut MapRuns,
+    dev: &mut D,
+    pieces: &mut Pieces,
+    out: &mut K,
+) -> Result<(), QueryFault>
+    requires dev { IsAttached (D.state dev.old) }
+    requires out { (K.state out.old).access ≡ 1 }
+    requires within { some_room devices.old ≤ (D.state dev.old).blocks }
+    ensures lines { MatchResult result
+        (λ _. AddsSome (D.state dev.old).held (λ image. text_of_line thin (p.pool_line (super_head s.now)) ++ rest_text image devices.old) pieces.old pieces.new (K.state out.old).written (K.state out.new).written)
+        (λ _. PutsFront (D.state dev.old).held (λ image. text_of_line thin (p.pool_line (super_head s.now)) ++ rest_text image devices.old) pieces.old (K.state out.old).written (K.state out.new).written) }
+    ensures kept { OnlyReads (D.state dev.old) (D.state dev.new) }
+    ensures sink { KeepsSink (K.state out.old) (K.state out.new) }
+    ensures faults { Fails result (D.state dev.old).faults (D.state dev.new).faults (K.state out.old).faults (K.state out.new).faults }
+{
+    match add_line(&pool_line(s), pieces, out) {
+        Ok(()) => add_last_lines(devices, runs, dev, pieces, out),
+        Err(fault) => Err(fault),
+    }
+}
+
+/// Gathers the first line, and those after it.
+pub(crate) fn add_first_lines<D: Device, K: Sink>(
+    s: &ThinSuper,
+    devices: &mut Option<ThinDevices>,
+    runs: &mut MapRuns,
+    dev: &mut D,
+    pieces: &mut Pieces,
+    out: &mut K,
+) -> Result<(), QueryFault>
+    requires dev { IsAttached (D.state dev.old) }
+    requires out { (K.state out.old).access ≡ 1 }
+    requires within { some_room devices.old ≤ (D.state dev.old).blocks }
+    ensures lines { MatchResult result
+        (λ _. AddsSome (D.state dev.old).held (λ image. text_of_line thin p.first_line ++ (text_of_line thin (p.pool_line (super_head s.now)) ++ rest_text image devices.old)) pieces.old pieces.new (K.state out.old).written (K.state out.new).written)
+        (λ _. PutsFront (D.state dev.old).held (λ image. text_of_line thin p.first_line ++ (text_of_line thin (p.pool_line (super_head s.now)) ++ rest_text image devices.old)) pieces.old (K.state out.old).written (K.state out.new).written) }
+    ensures kept { OnlyReads (D.state dev.old) (D.state dev.new) }
+    ensures sink { KeepsSink (K.state out.old) (K.state out.new) }
+    ensures faults { Fails result (D.state dev.old).faults (D.state dev.new).faults (K.state out.old).faults (K.state out.new).faults }
+{
+    match add_first_line(pieces, out) {
+        Ok(()) => add_pool_lines(s, devices, runs, dev, pieces, out),
+        Err(fault) => Err(fault),
+    }
+}
+
+/// The devices of the pool with this superblock, in a device of so many blocks; none where a root is outside of it.
+///
+/// Fails with `AllocError` where the memory for two cursors wasn't found.
+pub(crate) fn devices_of(
+    alloc: Global,
+    s: &ThinSuper,
+    blocks: u64,
+) -> Result<Option<ThinDevices>, AllocError>
+    ensures rows { (image : List (List ℕ)) → length image ≡ blocks → IfOk result (λ devices. some_rows image devices ≡ super_rows image s.now) }
+    ensures room { IfOk result (λ devices. some_room devices ≤ blocks) }
+{
+    if s.mapping_root >= blocks {
+        return Ok(None);
+    }
+    if s.details_root >= blocks {
+        return Ok(None);
+    }
+    let devices = ThinDevices::start(alloc, s)?;
+    Ok(Some(devices))
+}
+
+/// The superblock of the pool on a device; of a device without blocks, some superblock.
+pub(crate) fn read_super<D: Device>(dev: &mut D) -> Result<ThinSuper, Failed>
+    requires { IsAttached (D.state dev.old) }
+    ensures fields { IfOk result (λ s. IfSome (D.state dev.old).held (λ image. 1 ≤ length image → s ≡ thin_fields (block_at image 0))) }
+    ensures kept { OnlyReads (D.state dev.old) (D.state dev.new) }
+    ensures faults { CountsFault result (D.state dev.old).faults (D.state dev.new).faults }
+{
+    let mut block = Block::zeros();
+    if dev.blocks() > 0 {
+        dev.read(0, &mut block)?;
+    }
+    Ok(read_thin_super(&block))
+}

@@ -1,0 +1,37 @@
+-- What an audit knows of an image once the walk and settling found no rule broken.
+use Rattle.std.specs.Prelude.{◌≡◌, ℕ, ◌<◌, false, List, length}
+use Rattle.pd_kinds.specs.declared.rule.Rule.{Rule}
+use Rattle.pd_kinds.specs.Graph.{Graph, pair, is_reached, meta_count}
+use Rattle.pd_kinds.specs.Lawful.{IsLawful}
+use Rattle.pd_kinds.specs.Stages.{walk_bad, order_bad, IsReached}
+use Rattle.pd_kinds.specs.Trees.{entries_below, keys_of}
+use Rattle.pd_graph.specs.declared.audit.Audit.{Audit}
+use Rattle.pd_graph.specs.declared.notes.Note.{Note}
+use Rattle.pd_graph.specs.Audit.{blocks_of, roles_at, count_at, note_at}
+use Rattle.pd_graph.specs.Roles.{has_bit}
+use Rattle.pd_settle.specs.Notes.{least_of, greatest_of}
+use Rattle.pd_settle.specs.Settled.{IsSettled}
+use Rattle.pd_tree.specs.TreeRoles.{IsTreeRole}
+
+-- the note is that of these keys
+pub record IsNoteOf (keys : List ℕ) (note : Note) : Type 0 where
+  pub least : note.least ≡ least_of keys
+  pub greatest : note.greatest ≡ greatest_of keys
+  pub below : note.below ≡ length keys
+
+-- the roles and the references of each block were met, no rule is broken, and trees were settled
+pub record IsWellSettled (graph : Graph) (image : List (List ℕ)) (audit : Audit) : Type 0 where
+  pub roles : (b role : ℕ) → b < graph.nr → role < 16 → has_bit (roles_at audit b) role ≡ is_reached graph image (pair b role)
+  pub counts : (b : ℕ) → b < graph.nr → count_at audit b ≡ meta_count graph image b
+  pub walked : (b : ℕ) (wanted : Rule) → b < graph.nr → walk_bad graph image b wanted ≡ false
+  pub in_order : (b : ℕ) (wanted : Rule) → b < graph.nr → order_bad graph image b wanted ≡ false
+  pub settled : IsSettled graph image audit
+
+-- the audit has the roles and the references of each block, and for each node of a tree a note of the keys below it
+pub record IsKnown (graph : Graph) (image : List (List ℕ)) (audit : Audit) : Type 0 where
+  pub lawful : IsLawful graph
+  pub number : blocks_of audit ≡ graph.nr
+  pub roles : (b role : ℕ) → b < graph.nr → role < 16 → has_bit (roles_at audit b) role ≡ is_reached graph image (pair b role)
+  pub counts : (b : ℕ) → b < graph.nr → count_at audit b ≡ meta_count graph image b
+  pub notes : (b role size : ℕ) → IsTreeRole graph role size → IsReached graph image b role
+      → IsNoteOf (keys_of (entries_below graph image size role b)) (note_at audit b)

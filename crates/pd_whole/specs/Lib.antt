@@ -1,0 +1,5 @@
+pub mod Charges
+pub mod Ascending
+pub mod Counting
+pub mod Known
+pub mod Shared
