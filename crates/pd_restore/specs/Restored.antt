@@ -1,77 +1,80 @@
--- What a restore does.
-use Rattle.std.specs.Prelude.{◌≡◌, ◌⊎◌, ℕ, ◌≤◌, min, nat_lt, Bool, true, List, [], ◌∷◌, Some, Result, Ok, Err, OnOk, IfSome}
+-- What a restore promises, for any kind.
+use Rattle.std.specs.Prelude.{◌≡◌, ◌⊎◌, ℕ, ◌≤◌, min, true, Bool, List, [], Result, Ok, Err, OnOk, IfSome, MatchResult, Some}
 use Rattle.pd_kinds.specs.declared.limits.TheConstants.{MAX_META_BLOCKS}
-use Rattle.pd_kinds.specs.Objects.{DeviceState, SourceState, Rose}
-use Rattle.pd_kinds.specs.Crash.{LeavesOnly, HoldsSynced, HasNoSuper, IsOldNoneOrMade, IsUntouched}
-use Rattle.pd_grammar.specs.Texts.{reading}
+use Rattle.pd_kinds.specs.Objects.{SourceState, DeviceState, Rose}
+use Rattle.pd_kinds.specs.Crash.{HasNoSuper, HoldsSynced, IsOldNoneOrMade, IsUntouched, LeavesOnly}
 use Rattle.pd_grammar.specs.Spelling.{Verdict, accepted, refused, no_room}
-use Rattle.pd_spells.specs.ThinText.{thin}
-use Rattle.pd_spells.specs.ThinNeed.{thin_need_so_far}
 use Rattle.pd_laid.specs.Laid.{Laid, IsLaid}
-use Rattle.pd_restore.specs.declared.thin.RestoreFault.{RestoreFault}
-use Rattle.pd_restore.specs.declared.thin.RestoreFault.TheVariants.{Memory, Source, Device, Text, NoRoom}
+use Rattle.pd_texts.specs.declared.fault.TextFault.{TextFault}
+use Rattle.pd_restore.specs.declared.fault.RestoreFault.{RestoreFault}
+use Rattle.pd_restore.specs.declared.fault.RestoreFault.TheVariants as r
 
 -- so many of a device's blocks can have metadata
 abbrev pub room_of : ℕ → ℕ
 room_of blocks = min blocks MAX_META_BLOCKS
 
--- whether the first two lines of a text decide
-abbrev pub is_decided_early : {L : Type 0} → (List L → ℕ) → ℕ → List L → Bool
-is_decided_early need room (first ∷ second ∷ lines) = nat_lt room (need (second ∷ first ∷ []))
-is_decided_early need room (first ∷ []) = true
-is_decided_early need room [] = true
-
-abbrev pub is_pool_early : List ℕ → ℕ → Bool
-is_pool_early text room = is_decided_early (thin_need_so_far room) room (reading thin text).lines
-
--- an image is made where the text is accepted
+-- an image is made where the text is accepted: what it spells is laid over what the device held
 abbrev pub Makes : {M : Type 0} → (M → ℕ → Laid) → ℕ → Verdict M → List (List ℕ) → List (List ℕ) → Type 0
 Makes laid room (accepted m) old new = IsLaid (laid m room) old new
 Makes laid room (refused why) old new = ⊥
 Makes laid room (no_room needed blocks) old new = ⊥
 
--- a verdict that is a refusal of this line
+-- what is answered to a verdict; a fault of an object, or want of memory, may be answered to any
 abbrev pub IsAccepted : {M : Type 0} → (M → Type 0) → Verdict M → Type 0
 IsAccepted Lawful (accepted m) = Lawful m
 IsAccepted Lawful (refused why) = ⊥
 IsAccepted Lawful (no_room needed blocks) = ⊥
 
--- a result is the answer to a verdict; a fault of an object, or want of memory, answers to any
+abbrev pub IsRefused : {M : Type 0} → TextFault → Verdict M → Type 0
+IsRefused fault (accepted m) = ⊥
+IsRefused fault (refused why) = why ≡ record { line = fault.line; cause = fault.cause }
+IsRefused fault (no_room needed blocks) = ⊥
+
+abbrev pub IsWithoutRoom : {M : Type 0} → ℕ → ℕ → Verdict M → Type 0
+IsWithoutRoom need room (accepted m) = ⊥
+IsWithoutRoom need room (refused why) = ⊥
+IsWithoutRoom need room (no_room needed blocks) = (needed ≡ need) × (blocks ≡ room)
+
+abbrev pub AnswersFault : {M : Type 0} → RestoreFault → Verdict M → Type 0
+AnswersFault r.Memory verdict = Unit {0}
+AnswersFault r.Source verdict = Unit {0}
+AnswersFault r.Device verdict = Unit {0}
+AnswersFault (r.Text fault) verdict = IsRefused fault verdict
+AnswersFault (r.NoRoom need blocks) verdict = IsWithoutRoom need blocks verdict
+
 abbrev pub Answers : {M : Type 0} → (M → Type 0) → Result (Unit {0}) RestoreFault → Verdict M → Type 0
-Answers Lawful (Ok done) verdict = IsAccepted Lawful verdict
-Answers Lawful (Err Memory) verdict = Unit {0}
-Answers Lawful (Err Source) verdict = Unit {0}
-Answers Lawful (Err Device) verdict = Unit {0}
-Answers Lawful (Err (Text fault)) verdict = verdict ≡ refused (record { line = fault.line; cause = fault.cause })
-Answers Lawful (Err (NoRoom need blocks)) verdict = verdict ≡ no_room need blocks
+Answers Lawful result verdict = MatchResult result (λ done. IsAccepted Lawful verdict) (λ fault. AnswersFault fault verdict)
 
--- a line is refused, or there is no room
-abbrev pub IsRefusal : Result (Unit {0}) RestoreFault → Type 0
-IsRefusal (Ok done) = ⊥
-IsRefusal (Err Memory) = ⊥
-IsRefusal (Err Source) = ⊥
-IsRefusal (Err Device) = ⊥
-IsRefusal (Err (Text fault)) = Unit {0}
-IsRefusal (Err (NoRoom need blocks)) = Unit {0}
+-- the text was refused, or there is no room for it
+abbrev pub IsRefusal : RestoreFault → Type 0
+IsRefusal r.Memory = ⊥
+IsRefusal r.Source = ⊥
+IsRefusal r.Device = ⊥
+IsRefusal (r.Text fault) = Unit {0}
+IsRefusal (r.NoRoom need blocks) = Unit {0}
 
-pub record IsRestored {M : Type 0} (Lawful : M → Type 0) (IsVerdictOn : List ℕ → ℕ → Verdict M → Type 0) (is_early : List ℕ → ℕ → Bool)
-    (laid : M → ℕ → Laid) (result : Result (Unit {0}) RestoreFault) (from to : SourceState) (old new : DeviceState) : Type 0 where
+-- the counts of failures: that of the source rose where it is blamed, that of the device where that is, and else none
+abbrev pub BlamesOne : RestoreFault → ℕ → ℕ → ℕ → ℕ → Type 0
+BlamesOne r.Source s t d e = (Rose s t × (s ≤ t)) × (e ≡ d)
+BlamesOne r.Device s t d e = (t ≡ s) × (Rose d e × (d ≤ e))
+BlamesOne r.Memory s t d e = (t ≡ s) × (e ≡ d)
+BlamesOne (r.Text fault) s t d e = (t ≡ s) × (e ≡ d)
+BlamesOne (r.NoRoom need blocks) s t d e = (t ≡ s) × (e ≡ d)
+
+abbrev pub CountsRestore : {T : Type 0} → Result T RestoreFault → ℕ → ℕ → ℕ → ℕ → Type 0
+CountsRestore result s t d e = MatchResult result (λ done. (t ≡ s) × (e ≡ d)) (λ fault. BlamesOne fault s t d e)
+
+-- a restore of a text onto a device, which may hold so much
+pub record IsRestored {M : Type 0} (Lawful : M → Type 0) (IsVerdictOn : List ℕ → ℕ → Verdict M → Type 0) (is_early : List ℕ → ℕ → Bool) (laid : M → ℕ → Laid)
+    (result : Result (Unit {0}) RestoreFault) (from to : SourceState) (old new : DeviceState) : Type 0 where
   pub verdict : Verdict M
+  -- whether the first two lines decide
   pub early : Bool
   pub right : IfSome from.left (λ text. IsVerdictOn text (room_of old.blocks) verdict × (early ≡ is_early text (room_of old.blocks)))
   pub answer : Answers Lawful result verdict
+  -- a crash at any moment of the call, whatever its result, leaves the old image, no valid superblock, or what is made
   pub crash : (image : List (List ℕ)) → HoldsSynced image old → LeavesOnly (IsOldNoneOrMade image (Makes laid (room_of old.blocks) verdict image)) old new
-  pub made : OnOk result ((image : List (List ℕ)) → HoldsSynced image old
-      → IfSome new.held (λ now. Makes laid (room_of old.blocks) verdict image now × HoldsSynced now new))
-  pub refused_leaves : IsRefusal result → IfSome old.held (λ image. IfSome new.held (λ now. (now ≡ image) ⊎ HasNoSuper now))
+  pub made : OnOk result ((image : List (List ℕ)) → HoldsSynced image old → IfSome new.held (λ now. Makes laid (room_of old.blocks) verdict image now × HoldsSynced now new))
+  pub kept : MatchResult result (λ done. Unit {0}) (λ fault. IsRefusal fault → IfSome old.held (λ image. IfSome new.held (λ now. (now ≡ image) ⊎ HasNoSuper now)))
   pub untouched : early ≡ true → IsUntouched old new
   pub ended : OnOk result (IfSome from.left (λ text. to.left ≡ Some []))
-
--- only the object that failed has counted it
-abbrev pub CountsRestore : Result (Unit {0}) RestoreFault → ℕ → ℕ → ℕ → ℕ → Type 0
-CountsRestore (Ok done) from to old new = (to ≡ from) × (new ≡ old)
-CountsRestore (Err Memory) from to old new = (to ≡ from) × (new ≡ old)
-CountsRestore (Err Source) from to old new = Rose from to × (from ≤ to) × (new ≡ old)
-CountsRestore (Err Device) from to old new = (to ≡ from) × Rose old new × (old ≤ new)
-CountsRestore (Err (Text fault)) from to old new = (to ≡ from) × (new ≡ old)
-CountsRestore (Err (NoRoom need blocks)) from to old new = (to ≡ from) × (new ≡ old)

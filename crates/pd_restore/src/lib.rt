@@ -1,6 +1,8 @@
 //! A restore (stand-in: the contract alone; it always wants memory).
 #![tactic(auto)]
 
+mod fault;
 mod thin;
 
-pub use thin::{RestoreFault, restore_thin};
+pub use fault::RestoreFault;
+pub use thin::restore_thin;

@@ -4,27 +4,13 @@ ghost use Rattle.pd_spells.specs.Lawful.{IsLawfulPool};
 ghost use Rattle.pd_spells.specs.ThinNeed.{IsThinVerdict};
 ghost use Rattle.pd_image.specs.Device.{IsWritable, KeepsPlace};
 ghost use Rattle.pd_image.specs.Source.{KeepsSource};
-ghost use Rattle.pd_restore.specs.Restored.{CountsRestore, IsRestored, is_pool_early};
+ghost use Rattle.pd_restore.specs.Restored.{CountsRestore, IsRestored};
+ghost use Rattle.pd_restore.specs.Early.{is_pool_early};
 
+use crate::fault::RestoreFault;
 use pd_image::{Device, Source};
 use pd_spells::thin_text_has_one_verdict;
-use pd_texts::TextFault;
 use std::alloc::Global;
-
-/// Why a text wasn't restored.
-#[derive(Clone, Copy, Debug, PartialEq, Eq)]
-pub enum RestoreFault {
-    /// There wasn't enough memory.
-    Memory,
-    /// The source failed.
-    Source,
-    /// The device failed.
-    Device,
-    /// A line of the text is refused.
-    Text(TextFault),
-    /// So many blocks are needed, and so many are there.
-    NoRoom { need: u64, blocks: u64 },
-}
 
 /// Restores a pool from its text.
 pub fn restore_thin<S: Source, D: Device>(

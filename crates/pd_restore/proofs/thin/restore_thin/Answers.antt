@@ -1,7 +1,8 @@
 use Rattle.std.proofs.Common.{refl}
 use Rattle.pd_laid.specs.LaidThin.{laid_pool}
 use Rattle.pd_spells.specs.ThinNeed.{IsThinVerdict}
-use Rattle.pd_restore.specs.Restored.{Makes, is_pool_early, room_of}
+use Rattle.pd_restore.specs.Restored.{Makes, room_of}
+use Rattle.pd_restore.specs.Early.{is_pool_early}
 use Rattle.pd_restore.proofs.Untouched.{at_rest, text_in, right_of}
 use Rattle.pd_restore.proofs.thin.restore_thin.Goals as goal
 
@@ -18,7 +19,7 @@ returns-clause-restored g c =
       answer = tt;
       crash = λ image synced. at_rest image (Makes laid_pool room found.0 image) device synced;
       made = tt;
-      refused_leaves = λ none. absurd none;
+      kept = λ none. absurd none;
       untouched = λ _. record { held = refl; history = refl };
       ended = tt;
     }
