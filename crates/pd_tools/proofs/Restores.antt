@@ -1,6 +1,6 @@
 -- What the work of a restore comes to, over plain variables.
 use Rattle.std.proofs.Common.{◌≡◌, ◌≢◌, ◌⊎◌, inl, inr, ℕ, ◌≤◌, Bool, List, [], length, Option, Some, None, IfSome, IsTrue, Result, Ok, Err, refl, sym, ap, ◌∙◌, subst, arith, lit≤}
-use Rattle.std.specs.Prelude.{OnOk}
+use Rattle.std.specs.Prelude.{OnOk, MatchResult}
 use Rattle.std.specs.Option.{option_map_or}
 use Rattle.std.proofs.lemmas.Option.{IfSome_then, same_Some}
 use Rattle.pd_kinds.specs.declared.kind.Kind.{Kind}
@@ -25,9 +25,9 @@ use Rattle.pd_answers.specs.Answer.{Answer, Objects, IsUsed, reading, writing}
 use Rattle.pd_answers.specs.Terms.{is_possible}
 use Rattle.pd_answers.specs.Outputs.{room_of, LeavesMade}
 use Rattle.pd_answers.specs.Restores.{Judged, Restores, restore_answer, restore_by, restore, is_pool_early, is_cache_early, is_era_early}
-use Rattle.pd_restore.specs.declared.thin.RestoreFault.{RestoreFault}
-use Rattle.pd_restore.specs.declared.thin.RestoreFault.TheVariants as fault
-use Rattle.pd_restore.specs.Restored.{IsRestored, Answers, IsAccepted, IsRefusal}
+use Rattle.pd_restore.specs.declared.fault.RestoreFault.{RestoreFault}
+use Rattle.pd_restore.specs.declared.fault.RestoreFault.TheVariants as fault
+use Rattle.pd_restore.specs.Restored.{IsRestored, Answers, IsAccepted, IsRefused, IsWithoutRoom, IsRefusal}
 use Rattle.pd_tools.specs.declared.restore.Outcome.TheVariants.{Refused, NoRoom}
 use Rattle.pd_texts.specs.declared.fault.TextFault.{TextFault}
 use Rattle.pd_tools.proofs.Answered.{stop_status-low}
@@ -100,6 +100,18 @@ answer_accepted Lawful (accepted m) is = refl
 answer_accepted Lawful (refused why) is = absurd is
 answer_accepted Lawful (no_room needed blocks) is = absurd is
 
+answer_refused : {M : Type 0} (why : TextFault) (v : Verdict M) → IsRefused why v
+    → restore_answer v ≡ record { status = 3; out = []; notes = outcome_line (Refused why) }
+answer_refused why (accepted m) is = absurd is
+answer_refused why (refused refusal) is = rw is refl
+answer_refused why (no_room needed blocks) is = absurd is
+
+answer_no_room : {M : Type 0} (need room : ℕ) (v : Verdict M) → IsWithoutRoom need room v
+    → restore_answer v ≡ record { status = 4; out = []; notes = outcome_line (NoRoom need room) }
+answer_no_room need room (accepted m) is = absurd is
+answer_no_room need room (refused refusal) is = absurd is
+answer_no_room need room (no_room needed blocks) is = rw (is.0, is.1) refl
+
 module _ {M : Type 0} (Lawful : M → Type 0) (IsVerdictOn : List ℕ → ℕ → Verdict M → Type 0) (is_early : List ℕ → ℕ → Bool) (laid : M → ℕ → Laid)
     (file path : List ℕ) (others : Objects) (notes : SinkState) (source last_source : SourceState) (output last_output : DeviceState) (synced : IsSynced output) where
   abbrev before : Objects
@@ -169,6 +181,15 @@ abbrev IsDone : Result (Unit {0}) RestoreFault → Type 0
 IsDone (Ok done) = Unit {0}
 IsDone (Err fault) = ⊥
 
+-- a refusal, or want of room
+abbrev IsTurnedDown : Result (Unit {0}) RestoreFault → Type 0
+IsTurnedDown (Ok done) = ⊥
+IsTurnedDown (Err fault) = IsRefusal fault
+
+where_turned_down : (result : Result (Unit {0}) RestoreFault) {P : Type 0} → MatchResult result (λ done. Unit {0}) (λ fault. IsRefusal fault → P) → IsTurnedDown result → P
+where_turned_down (Ok done) kept is = absurd is
+where_turned_down (Err fault) kept is = kept is
+
 where_done : (result : Result (Unit {0}) RestoreFault) {P : Type 0} → OnOk result P → IsDone result → P
 where_done (Ok done) p is = p
 where_done (Err fault) p is = absurd is
@@ -204,7 +225,7 @@ module _ {M : Type 0} (Lawful : M → Type 0) (IsVerdictOn : List ℕ → ℕ �
   output_used = record { allowed = inr (inl (place.access ∙ both.output_access)); named = λ _. rw place.path both.output_path }
 
   -- what the output holds
-  leaves : (status : ℕ) → (status ≡ 0 → IsDone result) → ((status ≡ 3) ⊎ (status ≡ 4) → IsRefusal result)
+  leaves : (status : ℕ) → (status ≡ 0 → IsDone result) → ((status ≡ 3) ⊎ (status ≡ 4) → IsTurnedDown result)
       → LeavesMade (Restores laid room done.verdict) done.early status output last_output
   leaves status is_done is_refusal = record {
     output = record {
@@ -213,7 +234,7 @@ module _ {M : Type 0} (Lawful : M → Type 0) (IsVerdictOn : List ℕ → ℕ �
           (done.crash image (still_synced image output opened both.untouched s)));
       made = λ zero. IfSome_then output.held synced (λ image s.
           where_done result done.made (is_done zero) image (still_synced image output opened both.untouched s));
-      refused = λ either. right-held (done.refused_leaves (is_refusal either));
+      refused = λ either. right-held (where_turned_down result done.kept (is_refusal either));
     };
     untouched = λ early. let same = done.untouched early in record { held = same.held ∙ both.untouched.held; history = same.history ∙ both.untouched.history };
   }
@@ -225,7 +246,7 @@ module _ {M : Type 0} (Lawful : M → Type 0) (IsVerdictOn : List ℕ → ℕ �
   -- it came to an answer
   finished : (status : ℕ) (line : List ℕ) → status ≤ 4 → IsTrue (is_possible (restore_by IsVerdictOn is_early laid file path) status)
       → restore_answer done.verdict ≡ record { status = status; out = []; notes = line }
-      → (status ≡ 0 → IsDone result) → ((status ≡ 3) ⊎ (status ≡ 4) → IsRefusal result)
+      → (status ≡ 0 → IsDone result) → ((status ≡ 3) ⊎ (status ≡ 4) → IsTurnedDown result)
       → IsFinished (restore_by IsVerdictOn is_early laid file path) (record others { source = source; output = output })
       (record others { source = last_source; notes = notes; output = last_output }) status line
   finished status line low possible answer is_done is_refusal = record {
@@ -258,14 +279,14 @@ module _ {M : Type 0} (Lawful : M → Type 0) (IsVerdictOn : List ℕ → ℕ �
       → IsFinished (restore_by IsVerdictOn is_early laid file path) (record others { source = source; output = output })
       (record others { source = last_source; notes = notes; output = last_output }) (outcome_status (Refused why)) (outcome_line (Refused why))
   refuses why is =
-      finished 3 _ (lit≤ tt) refl (ap restore_answer (subst (λ (r : Result (Unit {0}) RestoreFault). Answers Lawful r done.verdict) is done.answer))
+      finished 3 _ (lit≤ tt) refl (answer_refused why done.verdict (subst (λ (r : Result (Unit {0}) RestoreFault). Answers Lawful r done.verdict) is done.answer))
       (λ zero. absurd (omega arith)) (λ _. rw is tt)
 
   pub lacks_room : (need blocks : ℕ) → result ≡ Err (fault.NoRoom need blocks)
       → IsFinished (restore_by IsVerdictOn is_early laid file path) (record others { source = source; output = output })
       (record others { source = last_source; notes = notes; output = last_output }) (outcome_status (NoRoom need blocks)) (outcome_line (NoRoom need blocks))
   lacks_room need blocks is =
-      finished 4 _ (lit≤ tt) refl (ap restore_answer (subst (λ (r : Result (Unit {0}) RestoreFault). Answers Lawful r done.verdict) is done.answer))
+      finished 4 _ (lit≤ tt) refl (answer_no_room need blocks done.verdict (subst (λ (r : Result (Unit {0}) RestoreFault). Answers Lawful r done.verdict) is done.answer))
       (λ zero. absurd (omega arith)) (λ _. rw is tt)
 
   pub stopped : (stop : Stop) → HasCause (restore_by IsVerdictOn is_early laid file path) (record others { source = source; output = output })

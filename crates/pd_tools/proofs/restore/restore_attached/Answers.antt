@@ -19,14 +19,14 @@ returns-in-Source g c file path source output others notes synced both =
     source_as c.args.version file path others notes source (g.S.Source.state c.args.source.now) (g.S.Source.state c.restore_kind.new.source)
     output (g.B.Device.state c.args.output.now) (g.B.Device.state c.restore_kind.new.output) synced both (g.met.B.Device.measured c.args.output.now)
     c.restore_kind.ensures.place c.restore_kind.ensures.source c.restore_kind.result c.args.kind c.restore_kind.ensures.restored
-    (rw c.in-Source.is at c.in-Err.ensures.causes).0
+    (rw c.in-Source.is at c.in-Err.ensures.causes).0.0
 
 pub returns-in-Device : goal.returns-in-Device
 returns-in-Device g c file path source output others notes synced both =
     device_as c.args.version file path others notes source (g.S.Source.state c.args.source.now) (g.S.Source.state c.restore_kind.new.source)
     output (g.B.Device.state c.args.output.now) (g.B.Device.state c.restore_kind.new.output) synced both (g.met.B.Device.measured c.args.output.now)
     c.restore_kind.ensures.place c.restore_kind.ensures.source c.restore_kind.result c.args.kind c.restore_kind.ensures.restored
-    (rw c.in-Device.is at c.in-Err.ensures.causes).1
+    (rw c.in-Device.is at c.in-Err.ensures.causes).1.0
 
 pub returns-in-Text : goal.returns-in-Text
 returns-in-Text g c file path source output others notes synced both =
