@@ -28,6 +28,8 @@ mod super_tests;
 #[cfg(test)]
 mod supers_tests;
 #[cfg(test)]
+mod thin_restore_tests;
+#[cfg(test)]
 mod tree_tests;
 #[cfg(test)]
 mod value_tests;
