@@ -1,5 +1,7 @@
 -- Runs of puts.
-use Rattle.std.proofs.Common.{◌≡◌, ℕ, ◌+◌, List, [], ◌∷◌, ◌++◌, length, set, refl, sym, ◌∙◌, ap, arith, Option, Some, None, length-append}
+use Rattle.std.proofs.Common.{◌≡◌, ℕ, suc, ◌+◌, ◌<◌, ◌≤◌, List, [], ◌∷◌, ◌++◌, length, set, take, drop, refl, sym, ◌∙◌, ap, ap₂, arith, add-one, Option, Some, None, length-append}
+use Rattle.std.proofs.Math.Seq.{take-suc-set}
+use Rattle.std.proofs.lemmas.List.{append_assoc, drop-set-lt, length-set, take-append-drop}
 use Rattle.std.specs.Prelude.{IfSome}
 use Rattle.pd_image.proofs.CrashLemmas.{at_some}
 use Rattle.pd_draft.specs.Closed.{IsClosed, StaysClosed}
@@ -15,6 +17,20 @@ placed-append image place [] ys = ap (λ (p : ℕ). placed image p ys) (omega ar
 placed-append image place (x ∷ xs) ys =
     placed-append (set image place x) (place + 1) xs ys
     ∙ ap (λ (p : ℕ). placed (placed (set image place x) (place + 1) xs) p ys) (omega arith)
+
+-- they stand between what was before them and behind them
+pub placed_between : (image : Image) (place : ℕ) (blocks : Image) → place + length blocks ≤ length image
+    → placed image place blocks ≡ take place image ++ (blocks ++ drop (place + length blocks) image)
+unfolding placed
+placed_between image place [] room = let none : place + 0 ≡ place = omega arith in rw none (sym (take-append-drop place image))
+placed_between image place (x ∷ xs) room =
+    let within : place < length image = omega arith in
+    let same = length-set image place x in
+    let next : place + 1 + length xs ≡ place + suc (length xs) = omega arith in
+    placed_between (set image place x) (place + 1) xs (rw same (omega arith))
+    ∙ (ap₂ (λ (front back : Image). front ++ (xs ++ back)) (rw add-one (take-suc-set image place x within))
+    (drop-set-lt (place + 1 + length xs) image place x (omega arith) ∙ ap (λ (n : ℕ). drop n image) next)
+    ∙ append_assoc (take place image) (x ∷ []) (xs ++ drop (place + suc (length xs)) image))
 
 both_placed : (was mid new : Option Image) (place : ℕ) (next : ℕ) (xs ys : Image) → next ≡ place + length xs
     → IfSome was (λ image. mid ≡ Some (placed image place xs)) → IfSome mid (λ image. new ≡ Some (placed image next ys))

@@ -6,10 +6,12 @@
 
 mod draft;
 mod flag;
+mod laws;
 mod rewrite;
 mod steps;
 
 pub use draft::Draft;
 pub use flag::rewrite_super;
+pub use laws::others_stay;
 pub use rewrite::Rewrite;
 pub use steps::clear;

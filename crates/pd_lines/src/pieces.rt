@@ -26,7 +26,8 @@ impl Model for Pieces {
 impl Pieces {
     /// Nothing is gathered.
     pub fn new() -> Pieces
-        ensures { result ≡ [] }
+        ensures none { result ≡ [] }
+        ensures start { (start : Option (List ℕ)) → Gathers [] result start start }
     {
         Pieces {
             bytes: [0; 16384],

@@ -5,3 +5,4 @@ pub mod TextLemmas
 pub mod GivesLemmas
 pub mod ThinWordLemmas
 pub mod ThinLemmas
+pub mod ThinNextLemmas

@@ -5,7 +5,7 @@ use Rattle.std.specs.List.{list_all, join_with_byte}
 use Rattle.pd_grammar.specs.declared.cause.TextCause.{TextCause}
 use Rattle.pd_grammar.specs.declared.cause.TextCause.TheVariants.{TooLong, NoEnd, AfterEnd}
 use Rattle.pd_grammar.specs.Words.{split, with_first, is_printable}
-use Rattle.pd_grammar.specs.Texts.{TextFormat, Reading, has_ended, refused, whole, with_line, after_line, read, lines_after, reading, refusal, number_after}
+use Rattle.pd_grammar.specs.Texts.{TextFormat, Reading, has_ended, refused, whole, after_line, read, lines_after, reading, number_after}
 use Rattle.pd_grammar.proofs.SplitLemmas.{Lacks, split-cut, split-one, split-some, join_split}
 use Rattle.pd_grammar.proofs.PlainLemmas.{printable_lacks}
 use Rattle.pd_lines.specs.declared.fault.LineFault.{LineFault}
@@ -13,8 +13,8 @@ use Rattle.pd_lines.specs.declared.fault.LineFault.TheVariants as l
 use Rattle.pd_lines.specs.Moves.{IsUnbroken}
 use Rattle.pd_lines.specs.Reader.{Reads, held_of, lines_of, next_number, ReadsLine}
 use Rattle.pd_texts.specs.declared.reader.TextReader.{TextReader}
-use Rattle.pd_texts.specs.Faults.{Refuses, fault_of, fault_after_end}
-use Rattle.pd_texts.specs.Reader.{in_order, with_lines, HasRead, ReadsOn}
+use Rattle.pd_texts.specs.Faults.{fault_of, fault_after_end}
+use Rattle.pd_texts.specs.Reader.{in_order, with_lines, HasRead, ReadsOn, LeavesOf, IsRefusedAfter, RefusesAfter}
 
 lacks_if_unbroken : (bytes : List ℕ) → IsUnbroken bytes → Lacks 10 bytes
 lacks_if_unbroken [] unbroken = tt
@@ -108,16 +108,19 @@ whole_at_end format before text ended is = rw (is, ended) refl
 -- a line that is refused is the text's refusal
 refused_text : {M : Type 0} → (format : TextFormat M) (text : List ℕ) (before : List M) (rest : Reading M) (number : ℕ) (cause : TextCause)
     → reading format text ≡ with_lines before rest → rest ≡ refused before cause → number ≡ number_after before
-    → refusal format text ≡ Some (record { line = number; cause = cause })
-refused_text {M} format text before rest number cause is stops count =
-    ap (λ (r : Reading M). r.refusal) is ∙ ap (λ (r : Reading M). r.refusal) stops
-    ∙ ap (λ (n : ℕ). Some (record { line = n; cause = cause })) (sym count)
+    → IsRefusedAfter format text before (record { line = number; cause = cause })
+refused_text {M} format text before rest number cause is stops count = record {
+  is = is ∙ ap (with_lines before) stops;
+  number = count;
+  refusal = ap (λ (r : Reading M). r.refusal) is ∙ ap (λ (r : Reading M). r.refusal) stops
+      ∙ ap (λ (n : ℕ). Some (record { line = n; cause = cause })) (sym count);
+}
 
 -- what a reader of lines can't read of what is left, before the last line
 pub fault_refuses : {M : Type 0} → (format : TextFormat M) (text now held : List ℕ) (left : Option (List ℕ)) (before : List M) (number : ℕ) (other : TextCause) (fault : LineFault)
     → reading format text ≡ with_lines before (lines_after format before (split 10 now)) → has_ended format before ≡ false → number ≡ number_after before
     → ((bytes : List ℕ) → list_all is_printable bytes ≡ false → read format before bytes ≡ Err other)
-    → Reads (Err fault) number now held left → Refuses format text (fault_of other fault)
+    → Reads (Err fault) number now held left → RefusesAfter format text before (fault_of other fault)
 fault_refuses format text now held left before number other l.Source is going count refuses reads = tt
 fault_refuses format text now held left before number other (l.TooLong n) is going count refuses reads =
     refused_text format text before (lines_after format before (split 10 now)) n TooLong is (too_long_line format before now going reads.1.0 reads.1.1) (reads.0 ∙ count)
@@ -133,7 +136,7 @@ fault_refuses format text now held left before number other (l.Unended n) is goi
 -- the end of the input before the last line
 pub end_refuses : {M : Type 0} → (format : TextFormat M) (text now : List ℕ) (before : List M) (number : ℕ)
     → reading format text ≡ with_lines before (lines_after format before (split 10 now)) → has_ended format before ≡ false → number ≡ number_after before → now ≡ []
-    → refusal format text ≡ Some (record { line = number; cause = NoEnd })
+    → IsRefusedAfter format text before (record { line = number; cause = NoEnd })
 end_refuses format text now before number is going count none =
     refused_text format text before (lines_after format before (split 10 now)) number NoEnd is (nothing_left format before now going none) count
 
@@ -141,7 +144,7 @@ end_refuses format text now before number is going count none =
 pub line_refuses : {M : Type 0} → (format : TextFormat M) (text now bytes rest : List ℕ) (before : List M) (number : ℕ) (cause : TextCause)
     → reading format text ≡ with_lines before (lines_after format before (split 10 now)) → has_ended format before ≡ false → number ≡ number_after before
     → now ≡ bytes ++ (10 ∷ rest) → list_all is_printable bytes ≡ true → length bytes ≤ 160 → read format before bytes ≡ Err cause
-    → refusal format text ≡ Some (record { line = number; cause = cause })
+    → IsRefusedAfter format text before (record { line = number; cause = cause })
 line_refuses {M} format text now bytes rest before number cause is going count text_is printable short refuses =
     let more : M → Reading M = λ line. lines_after format (line ∷ before) (split 10 rest) in
     refused_text format text before (lines_after format before (split 10 now)) number cause is
@@ -151,7 +154,7 @@ line_refuses {M} format text now bytes rest before number cause is going count t
 -- what a reader of lines can't read after the last line
 pub fault_after : {M : Type 0} → (format : TextFormat M) (text now held : List ℕ) (left : Option (List ℕ)) (before : List M) (number : ℕ) (fault : LineFault)
     → reading format text ≡ with_lines before (lines_after format before (split 10 now)) → has_ended format before ≡ true → number ≡ number_after before
-    → Reads (Err fault) number now held left → Refuses format text (fault_after_end fault)
+    → Reads (Err fault) number now held left → RefusesAfter format text before (fault_after_end fault)
 fault_after format text now held left before number l.Source is ended count reads = tt
 fault_after format text now held left before number (l.TooLong n) is ended count reads =
     refused_text format text before (lines_after format before (split 10 now)) n AfterEnd is (after_end format before now ended (omega (arith, reads.1.0))) (reads.0 ∙ count)
@@ -164,7 +167,7 @@ fault_after format text now held left before number (l.Unended n) is ended count
 -- a line after the last one
 pub line_after : {M : Type 0} → (format : TextFormat M) (text now bytes rest : List ℕ) (before : List M) (number : ℕ)
     → reading format text ≡ with_lines before (lines_after format before (split 10 now)) → has_ended format before ≡ true → number ≡ number_after before
-    → now ≡ bytes ++ (10 ∷ rest) → refusal format text ≡ Some (record { line = number; cause = AfterEnd })
+    → now ≡ bytes ++ (10 ∷ rest) → IsRefusedAfter format text before (record { line = number; cause = AfterEnd })
 line_after format text now bytes rest before number is ended count text_is =
     let some : 1 ≤ length now = rw text_is (omega (arith, length-append bytes (10 ∷ rest))) in
     refused_text format text before (lines_after format before (split 10 now)) number AfterEnd is (after_end format before now ended some) count
@@ -179,20 +182,27 @@ pub count_is : {M : Type 0} → (before : List M) (lines : ℕ) → lines ≡ mi
 count_is before lines e = omega arith
 
 -- one line more was read
-pub has_read_more : {P V M : Type 0} → (format : TextFormat M) (Stands : P → List M → Type 0) (text : List ℕ) (before : List M) (line : M) (old new : TextReader P V)
-    (left now : Option (List ℕ)) (bytes : List ℕ) → (on : ReadsOn format Stands text before old left)
-    → ReadsLine (record { number = lines_of new.reader; bytes = bytes }) (next_number old.reader) (held_of old.reader ++ on.so_far.rest) (held_of new.reader) now
-    → lines_of new.reader ≡ next_number old.reader → read format before bytes ≡ Ok line → Stands new.state (line ∷ before)
-    → HasRead format Stands text (line ∷ before) new now
-has_read_more {P} {V} {M} format Stands text before line old new left now bytes on reads counted is stands =
+pub has_read_more : {P V M : Type 0} → (format : TextFormat M) (Stands : P → List M → Type 0) (before : List M) (line : M) (old new : TextReader P V) (bytes : List ℕ)
+    → ReadsOn format Stands before old → lines_of new.reader ≡ next_number old.reader → length bytes ≤ 160 → read format before bytes ≡ Ok line
+    → Stands new.state (line ∷ before) → HasRead format Stands (line ∷ before) new
+has_read_more format Stands before line old new bytes on counted short is stands = record {
+  lines = (record { going = on.going; bytes = bytes; short = short; is = is }, on.so_far.lines);
+  stands = stands;
+  count = omega (arith, counted, on.so_far.count);
+}
+
+-- and what is left of the text
+pub leaves_more : {P V M : Type 0} → (format : TextFormat M) (text : List ℕ) (before : List M) (line : M) (old new : TextReader P V) (left now : Option (List ℕ)) (bytes : List ℕ)
+    (number : ℕ) → has_ended format before ≡ false → (leaves : LeavesOf format text before old left)
+    → ReadsLine (record { number = number; bytes = bytes }) (next_number old.reader) (held_of old.reader ++ leaves.rest) (held_of new.reader) now
+    → read format before bytes ≡ Ok line → LeavesOf format text (line ∷ before) new now
+leaves_more {P} {V} {M} format text before line old new left now bytes number going leaves reads is =
     let held = held_of new.reader in
     let more : M → Reading M = λ l. lines_after format (l ∷ before) (split 10 (held ++ reads.rest)) in
     record {
-      stands = stands;
-      count = omega (arith, counted, on.so_far.count);
       rest = reads.rest;
       left_is = reads.left_is;
-      is = on.so_far.is
-          ∙ ap (with_lines before) (ended_line format before (held_of old.reader ++ on.so_far.rest) bytes (held ++ reads.rest) on.going reads.text_is (printable_lacks bytes reads.printable) reads.short
+      is = leaves.is
+          ∙ ap (with_lines before) (ended_line format before (held_of old.reader ++ leaves.rest) bytes (held ++ reads.rest) going reads.text_is (printable_lacks bytes reads.printable) reads.short
           ∙ ap (λ (r : Result M TextCause). after_line before r more) is);
     }

@@ -1,13 +1,13 @@
 -- What the lines of a pool's text come to.
-use Rattle.std.proofs.Common.{◌≡◌, ℕ, List, [], ◌∷◌, ◌++◌, map, refl, ap, sym, subst, ◌∙◌, append_assoc, None}
+use Rattle.std.proofs.Common.{◌≡◌, ℕ, List, [], ◌∷◌, ◌++◌, map, refl, ap, sym, subst, ◌∙◌, append_assoc}
 use Rattle.std.specs.List.{flat_map}
 use Rattle.std.proofs.lemmas.Grind.{flat_map-append}
 use Rattle.std.proofs.lemmas.List.{append-nil}
 use Rattle.pd_kinds.specs.Meaning.{ThinPool, ThinDevice}
 use Rattle.pd_kinds.specs.declared.kind.Kind.TheVariants.{Thin}
-use Rattle.pd_grammar.specs.Texts.{TextFormat, Reading, reading, refusal, text_of_lines, whole, written}
+use Rattle.pd_grammar.specs.Texts.{Reading, reading, text_of_lines, whole}
 use Rattle.pd_grammar.proofs.SpellingLemmas.{reading_if_spelled, spelled_if_none}
-use Rattle.pd_spells.specs.ThinText.{Line, first_line, end_line, pool_line, device_line, map_line, Run, Part, Head, head_of, thin, joined_part, lines_of_part, lines_of_parts, text_of_pool, MeansPool, SpellsPool}
+use Rattle.pd_spells.specs.ThinText.{Line, end_line, pool_line, device_line, map_line, Run, head_of, thin, joined_part, lines_of_part, text_of_pool, MeansPool, SpellsPool}
 use Rattle.pd_spells.proofs.ThinRead.{FitsLine, Placed}
 use Rattle.pd_spells.proofs.ThinLaws.{thin_language}
 use Rattle.pd_texts.specs.Printed.{text_of_line, first_text, end_text}

@@ -1,9 +1,8 @@
 -- Why a text isn't read on.
-use Rattle.std.specs.Prelude.{◌≡◌, ℕ, ◌≤◌, List, Some, Result, MatchResult}
+use Rattle.std.specs.Prelude.{◌≡◌, ℕ, ◌≤◌, Result, MatchResult}
 use Rattle.pd_kinds.specs.Objects.{Rose}
 use Rattle.pd_grammar.specs.declared.cause.TextCause.{TextCause}
 use Rattle.pd_grammar.specs.declared.cause.TextCause.TheVariants as c
-use Rattle.pd_grammar.specs.Texts.{TextFormat, refusal}
 use Rattle.pd_lines.specs.declared.fault.LineFault.{LineFault}
 use Rattle.pd_lines.specs.declared.fault.LineFault.TheVariants as l
 use Rattle.pd_texts.specs.declared.fault.ReadFault.{ReadFault}
@@ -26,12 +25,6 @@ fault_after_end l.Source = r.Source
 fault_after_end (l.TooLong line) = text_fault line c.AfterEnd
 fault_after_end (l.NotText line) = text_fault line c.AfterEnd
 fault_after_end (l.Unended line) = text_fault line c.AfterEnd
-
--- a text is refused so; a failure of the source says nothing of the text
-abbrev pub Refuses : {L : Type 0} → TextFormat L → List ℕ → ReadFault → Type 0
-Refuses format text r.Memory = ⊥
-Refuses format text r.Source = Unit {0}
-Refuses format text (r.Text fault) = refusal format text ≡ Some (record { line = fault.line; cause = fault.cause })
 
 -- what the count of the source's failures is after a fault: it rose only where that is the fault
 abbrev pub CountsRead : ReadFault → ℕ → ℕ → Type 0

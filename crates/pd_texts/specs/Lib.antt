@@ -8,3 +8,4 @@ pub mod ThinState
 pub mod Printed
 pub mod ThinLaws
 pub mod ThinPrinted
+pub mod ThinNext

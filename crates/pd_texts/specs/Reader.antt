@@ -1,11 +1,12 @@
 -- What a reader of a text has read of it, and gives.
-use Rattle.std.specs.Prelude.{◌≡◌, ℕ, ◌-◌, ◌^◌, min, false, List, [], ◌∷◌, ◌++◌, length, Option, Some, None, Result, Ok, Err}
+use Rattle.std.specs.Prelude.{◌≡◌, ◌⊎◌, ℕ, ◌-◌, ◌^◌, ◌≤◌, min, false, List, [], ◌∷◌, ◌++◌, length, Option, Some, None, Result, Ok, Err}
 use Rattle.pd_grammar.specs.Words.{split}
-use Rattle.pd_grammar.specs.Texts.{TextFormat, Reading, has_ended, reading, lines_after, whole}
+use Rattle.pd_grammar.specs.Texts.{TextFormat, Reading, has_ended, read, reading, refusal, refused, number_after, lines_after, whole}
 use Rattle.pd_lines.specs.Reader.{held_of, lines_of}
+use Rattle.pd_texts.specs.declared.fault.TextFault.{TextFault}
 use Rattle.pd_texts.specs.declared.fault.ReadFault.{ReadFault}
+use Rattle.pd_texts.specs.declared.fault.ReadFault.TheVariants as r
 use Rattle.pd_texts.specs.declared.reader.TextReader.{TextReader}
-use Rattle.pd_texts.specs.Faults.{Refuses}
 
 -- these lines, the newest first, in their order before others
 abbrev pub in_order : {M : Type 0} → List M → List M → List M
@@ -16,40 +17,78 @@ in_order (line ∷ before) lines = in_order before (line ∷ lines)
 abbrev pub with_lines : {M : Type 0} → List M → Reading M → Reading M
 with_lines before rest = record { lines = in_order before rest.lines; refusal = rest.refusal }
 
--- of the text these lines were read, the newest first, and none is refused: the lines of the text, and its refusal,
--- are these lines and then what is read of the rest
-pub record HasRead {P V M : Type 0} (format : TextFormat M) (Stands : P → List M → Type 0) (text : List ℕ) (before : List M) (reader : TextReader P V)
-    (left : Option (List ℕ)) : Type 0 where
+-- a line was read after these ones, the newest first
+pub record IsReadAfter {M : Type 0} (format : TextFormat M) (before : List M) (line : M) : Type 0 where
+  pub going : has_ended format before ≡ false
+  pub bytes : List ℕ
+  pub short : length bytes ≤ 160
+  pub is : read format before bytes ≡ Ok line
+
+-- each of these lines, the newest first, was read after those before it
+abbrev pub AreReadSoFar : {M : Type 0} → TextFormat M → List M → Type 0
+AreReadSoFar format [] = Unit {0}
+AreReadSoFar format (line ∷ before) = IsReadAfter format before line × AreReadSoFar format before
+
+-- a reader has read these lines, the newest first, from whatever source
+pub record HasRead {P V M : Type 0} (format : TextFormat M) (Stands : P → List M → Type 0) (before : List M) (reader : TextReader P V) : Type 0 where
+  pub lines : AreReadSoFar format before
   pub stands : Stands reader.state before
   pub count : lines_of reader.reader ≡ min (length before) (2 ^ 64 - 1)
+
+-- and the last line isn't among them
+pub record ReadsOn {P V M : Type 0} (format : TextFormat M) (Stands : P → List M → Type 0) (before : List M) (reader : TextReader P V) : Type 0 where
+  pub so_far : HasRead format Stands before reader
+  pub going : has_ended format before ≡ false
+
+-- of the text these lines were read, the newest first, and this is left, where the source tells it: the lines of the
+-- text, and its refusal, are these lines and then what is read of the rest
+pub record LeavesOf {P V M : Type 0} (format : TextFormat M) (text : List ℕ) (before : List M) (reader : TextReader P V) (left : Option (List ℕ)) : Type 0 where
   pub rest : List ℕ
   pub left_is : left ≡ Some rest
   pub is : reading format text ≡ with_lines before (lines_after format before (split 10 (held_of reader.reader ++ rest)))
-
--- and the last line isn't among them
-pub record ReadsOn {P V M : Type 0} (format : TextFormat M) (Stands : P → List M → Type 0) (text : List ℕ) (before : List M) (reader : TextReader P V)
-    (left : Option (List ℕ)) : Type 0 where
-  pub so_far : HasRead format Stands text before reader left
-  pub going : has_ended format before ≡ false
 
 -- the lines so far, once the first line was read
 abbrev pub begun : {M : Type 0} → M → List M → List M
 begun first [] = first ∷ []
 begun first (line ∷ before) = line ∷ before
 
+-- a text is refused at the line after these ones, the newest first
+pub record IsRefusedAfter {M : Type 0} (format : TextFormat M) (text : List ℕ) (lines : List M) (fault : TextFault) : Type 0 where
+  pub is : reading format text ≡ with_lines lines (refused lines fault.cause)
+  pub number : fault.line ≡ number_after lines
+  pub refusal : refusal format text ≡ Some (record { line = fault.line; cause = fault.cause })
+
+-- a fault after these lines refuses the text there; a failure of the source says nothing of the text
+abbrev pub RefusesAfter : {M : Type 0} → TextFormat M → List ℕ → List M → ReadFault → Type 0
+RefusesAfter format text lines r.Memory = ⊥
+RefusesAfter format text lines r.Source = Unit {0}
+RefusesAfter format text lines (r.Text fault) = IsRefusedAfter format text lines fault
+
+-- a fault of a call after these lines refuses the text at the next line, at the one after the first line, or at what
+-- follows the last line
+abbrev pub RefusesNext : {M : Type 0} → TextFormat M → M → M → List ℕ → List M → ReadFault → Type 0
+RefusesNext format first last text before fault =
+    RefusesAfter format text before fault
+    ⊎ (RefusesAfter format text (begun first before) fault ⊎ RefusesAfter format text (last ∷ begun first before) fault)
+
 -- these are all the lines of the text, the newest first, none is refused, and nothing of the text is left
 abbrev pub IsWhole : {M : Type 0} → TextFormat M → List ℕ → List M → Option (List ℕ) → Type 0
 IsWhole format text lines left = (reading format text ≡ whole (in_order lines [])) × (left ≡ Some [])
 
--- what is said of the end of a text
-abbrev pub IsReadWhole : {V M : Type 0} → TextFormat M → Result (Option V) ReadFault → List ℕ → List M → Option (List ℕ) → Type 0
-IsReadWhole format (Ok None) text lines left = IsWhole format text lines left
-IsReadWhole format (Ok (Some line)) text lines left = ⊥
-IsReadWhole format (Err fault) text lines left = Refuses format text fault
+-- what a call gives after these lines, from whatever source: a line more, or the last line
+abbrev pub GivesLine : {P V M : Type 0} → TextFormat M → (P → List M → Type 0) → M → (Option V → M) → Result (Option V) ReadFault → List M → TextReader P V → Type 0
+GivesLine format Stands first meant (Ok None) before reader = AreReadSoFar format (meant None ∷ begun first before)
+GivesLine format Stands first meant (Ok (Some line)) before reader = ReadsOn format Stands (meant (Some line) ∷ begun first before) reader
+GivesLine format Stands first meant (Err fault) before reader = Unit {0}
 
--- what a call gives, after these lines: a line more, the end of a text of which no line is refused, or its refusal
-abbrev pub Gives : {P V M : Type 0} → TextFormat M → (P → List M → Type 0) → M → (Option V → M) → Result (Option V) ReadFault → List ℕ → List M → TextReader P V
-    → Option (List ℕ) → Type 0
-Gives format Stands first meant (Ok None) text before reader left = IsWhole format text (meant None ∷ begun first before) left
-Gives format Stands first meant (Ok (Some line)) text before reader left = ReadsOn format Stands text (meant (Some line) ∷ begun first before) reader left
-Gives format Stands first meant (Err fault) text before reader left = Refuses format text fault
+-- what a call gives of a text after these lines, where the source tells it: a line more, the end of a text of which no
+-- line is refused, or its refusal
+abbrev pub GivesOf : {P V M : Type 0} → TextFormat M → M → (Option V → M) → Result (Option V) ReadFault → List ℕ → List M → TextReader P V → Option (List ℕ) → Type 0
+GivesOf format first meant (Ok None) text before reader left = IsWhole format text (meant None ∷ begun first before) left
+GivesOf format first meant (Ok (Some line)) text before reader left = LeavesOf format text (meant (Some line) ∷ begun first before) reader left
+GivesOf format first meant (Err fault) text before reader left = RefusesNext format first (meant None) text before fault
+
+-- what is said of a text after its last line
+abbrev pub EndsOf : {V M : Type 0} → TextFormat M → Result (Option V) ReadFault → List ℕ → List M → Option (List ℕ) → Type 0
+EndsOf format (Ok line) text lines left = IsWhole format text lines left
+EndsOf format (Err fault) text lines left = RefusesAfter format text lines fault

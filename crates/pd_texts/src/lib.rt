@@ -20,7 +20,8 @@ pub use print::{add_end, add_first, print_end, print_first};
 pub use reader::TextReader;
 pub use state::TextState;
 pub use thin_laws::{
-    pool_text_is_its_lines, thin_lines_are_printed_in_order, whole_thin_text_spells,
+    pool_text_is_its_lines, read_thin_lines_are_in_range, read_thin_lines_mean_a_pool,
+    thin_lines_are_printed_in_order, whole_thin_text_spells,
 };
 pub use thin_line::{Run2, ThinLine};
 pub use thin_print::{add_thin, print_thin};

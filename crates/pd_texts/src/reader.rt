@@ -1,8 +1,8 @@
 //! The reader of a text of any kind.
 
-ghost use Rattle.std.specs.Prelude.{◌≡◌, ◌≤◌, ℕ, List, [], ◌∷◌, ◌++◌, length, IfOk, Some, None, MatchResult};
+ghost use Rattle.std.specs.Prelude.{◌≡◌, ◌≤◌, ℕ, List, [], ◌∷◌, ◌++◌, length, IfOk, OnOk, Some, None, MatchResult};
 ghost use Rattle.pd_image.specs.Source.{KeepsSource};
-ghost use Rattle.pd_texts.specs.Faults.{Refuses, CountsReads};
+ghost use Rattle.pd_texts.specs.Faults.{CountsReads};
 
 use crate::fault::{ReadFault, fault_after_end, fault_of, text_fault};
 use crate::state::TextState;
@@ -19,11 +19,12 @@ pub struct TextReader<P: TextState> {
 }
 
 impl<P: TextState> TextReader<P> {
-    ghost use Rattle.pd_texts.specs.Reader.{HasRead, ReadsOn, Gives, begun, IsReadWhole};
+    ghost use Rattle.pd_texts.specs.Reader.{HasRead, ReadsOn, LeavesOf, GivesLine, GivesOf, EndsOf, RefusesAfter, begun};
 
     /// No line was read. It takes memory for 32 KiB, and `next` takes none.
     pub fn new(alloc: Global) -> Result<TextReader<P>, AllocError>
-        ensures { IfOk result (λ reader. (text : List ℕ) → ReadsOn P.format P.Stands text [] reader (Some text)) }
+        ensures lines { IfOk result (λ reader. ReadsOn P.format P.Stands [] reader) }
+        ensures text { IfOk result (λ reader. (text : List ℕ) → LeavesOf P.format text [] reader (Some text)) }
     {
         Ok(TextReader {
             reader: LineReader::new(alloc)?,
@@ -35,8 +36,10 @@ impl<P: TextState> TextReader<P> {
     /// input were read. After an error or none it says nothing of what a further call gives.
     pub fn next<S: Source>(&mut self, source: &mut S) -> Result<Option<P::Line>, ReadFault>
         requires { (S.state source.old).access ≡ 1 }
-        ensures gives { (text : List ℕ) (before : List P.Meant) → ReadsOn P.format P.Stands text before self.old (S.state source.old).left
-            → Gives P.format P.Stands P.first_line P.meant result text before self.new (S.state source.new).left }
+        ensures lines { (before : List P.Meant) → ReadsOn P.format P.Stands before self.old
+            → GivesLine P.format P.Stands P.first_line P.meant result before self.new }
+        ensures text { (text : List ℕ) (before : List P.Meant) → ReadsOn P.format P.Stands before self.old → LeavesOf P.format text before self.old (S.state source.old).left
+            → GivesOf P.format P.first_line P.meant result text before self.new (S.state source.new).left }
         ensures kept { KeepsSource (S.state source.old) (S.state source.new) }
         ensures faults { CountsReads result (S.state source.old).faults (S.state source.new).faults }
     {
@@ -49,8 +52,9 @@ impl<P: TextState> TextReader<P> {
     /// Reads the first line, where none was read.
     fn begin<S: Source>(&mut self, source: &mut S) -> Result<(), ReadFault>
         requires { (S.state source.old).access ≡ 1 }
-        ensures gives { (text : List ℕ) (before : List P.Meant) → ReadsOn P.format P.Stands text before self.old (S.state source.old).left
-            → MatchResult result (λ _. ReadsOn P.format P.Stands text (begun P.first_line before) self.new (S.state source.new).left) (Refuses P.format text) }
+        ensures lines { (before : List P.Meant) → ReadsOn P.format P.Stands before self.old → OnOk result (ReadsOn P.format P.Stands (begun P.first_line before) self.new) }
+        ensures text { (text : List ℕ) (before : List P.Meant) → ReadsOn P.format P.Stands before self.old → LeavesOf P.format text before self.old (S.state source.old).left
+            → MatchResult result (λ _. LeavesOf P.format text (begun P.first_line before) self.new (S.state source.new).left) (RefusesAfter P.format text before) }
         ensures kept { KeepsSource (S.state source.old) (S.state source.new) }
         ensures faults { CountsReads result (S.state source.old).faults (S.state source.new).faults }
     {
@@ -64,8 +68,9 @@ impl<P: TextState> TextReader<P> {
     /// Reads the first line.
     fn read_first<S: Source>(&mut self, source: &mut S) -> Result<(), ReadFault>
         requires { (S.state source.old).access ≡ 1 }
-        ensures gives { (text : List ℕ) → ReadsOn P.format P.Stands text [] self.old (S.state source.old).left
-            → MatchResult result (λ _. ReadsOn P.format P.Stands text (P.first_line ∷ []) self.new (S.state source.new).left) (Refuses P.format text) }
+        ensures lines { ReadsOn P.format P.Stands [] self.old → OnOk result (ReadsOn P.format P.Stands (P.first_line ∷ []) self.new) }
+        ensures text { (text : List ℕ) → ReadsOn P.format P.Stands [] self.old → LeavesOf P.format text [] self.old (S.state source.old).left
+            → MatchResult result (λ _. LeavesOf P.format text (P.first_line ∷ []) self.new (S.state source.new).left) (RefusesAfter P.format text []) }
         ensures kept { KeepsSource (S.state source.old) (S.state source.new) }
         ensures faults { CountsReads result (S.state source.old).faults (S.state source.new).faults }
     {
@@ -85,8 +90,11 @@ impl<P: TextState> TextReader<P> {
     /// What the next line gives after the first one, or the end.
     fn next_value<S: Source>(&mut self, source: &mut S) -> Result<Option<P::Line>, ReadFault>
         requires { (S.state source.old).access ≡ 1 }
-        ensures gives { (text : List ℕ) (before : List P.Meant) → 1 ≤ length before → ReadsOn P.format P.Stands text before self.old (S.state source.old).left
-            → Gives P.format P.Stands P.first_line P.meant result text before self.new (S.state source.new).left }
+        ensures lines { (before : List P.Meant) → 1 ≤ length before → ReadsOn P.format P.Stands before self.old
+            → GivesLine P.format P.Stands P.first_line P.meant result before self.new }
+        ensures text { (text : List ℕ) (before : List P.Meant) → 1 ≤ length before → ReadsOn P.format P.Stands before self.old
+            → LeavesOf P.format text before self.old (S.state source.old).left
+            → GivesOf P.format P.first_line P.meant result text before self.new (S.state source.new).left }
         ensures kept { KeepsSource (S.state source.old) (S.state source.new) }
         ensures faults { CountsReads result (S.state source.old).faults (S.state source.new).faults }
     {
@@ -100,8 +108,11 @@ impl<P: TextState> TextReader<P> {
     /// Reads a line after the first one.
     fn read_later<S: Source>(&mut self, source: &mut S) -> Result<Option<P::Line>, ReadFault>
         requires { (S.state source.old).access ≡ 1 }
-        ensures gives { (text : List ℕ) (before : List P.Meant) → 1 ≤ length before → ReadsOn P.format P.Stands text before self.old (S.state source.old).left
-            → MatchResult result (λ line. HasRead P.format P.Stands text (P.meant line ∷ before) self.new (S.state source.new).left) (Refuses P.format text) }
+        ensures lines { (before : List P.Meant) → 1 ≤ length before → ReadsOn P.format P.Stands before self.old
+            → IfOk result (λ line. HasRead P.format P.Stands (P.meant line ∷ before) self.new) }
+        ensures text { (text : List ℕ) (before : List P.Meant) → 1 ≤ length before → ReadsOn P.format P.Stands before self.old
+            → LeavesOf P.format text before self.old (S.state source.old).left
+            → MatchResult result (λ line. LeavesOf P.format text (P.meant line ∷ before) self.new (S.state source.new).left) (RefusesAfter P.format text before) }
         ensures kept { KeepsSource (S.state source.old) (S.state source.new) }
         ensures faults { CountsReads result (S.state source.old).faults (S.state source.new).faults }
     {
@@ -118,8 +129,10 @@ impl<P: TextState> TextReader<P> {
     /// Reads the end of the input after the last line.
     fn read_end<S: Source>(&mut self, source: &mut S) -> Result<Option<P::Line>, ReadFault>
         requires { (S.state source.old).access ≡ 1 }
-        ensures gives { (text : List ℕ) (before : List P.Meant) → HasRead P.format P.Stands text (P.meant None ∷ before) self.old (S.state source.old).left
-            → IsReadWhole P.format result text (P.meant None ∷ before) (S.state source.new).left }
+        ensures none { IfOk result (λ line. line ≡ None) }
+        ensures text { (text : List ℕ) (before : List P.Meant) → HasRead P.format P.Stands (P.meant None ∷ before) self.old
+            → LeavesOf P.format text (P.meant None ∷ before) self.old (S.state source.old).left
+            → EndsOf P.format result text (P.meant None ∷ before) (S.state source.new).left }
         ensures kept { KeepsSource (S.state source.old) (S.state source.new) }
         ensures faults { CountsReads result (S.state source.old).faults (S.state source.new).faults }
     {

@@ -1,14 +1,15 @@
 //! What the lines of a pool's text come to, read and printed.
 
-ghost use Rattle.std.specs.Prelude.{◌≡◌, ◌++◌, ◌∷◌, [], ℕ, List};
+ghost use Rattle.std.specs.Prelude.{◌≡◌, ◌++◌, ◌∷◌, [], ℕ, List, true};
 ghost use Rattle.std.specs.List.{flat_map};
 ghost use Rattle.pd_kinds.specs.Meaning.{ThinPool};
 ghost use Rattle.pd_kinds.specs.declared.kind.Kind.TheVariants.{Thin};
-ghost use Rattle.pd_grammar.specs.Texts.{Reading, reading, refusal, text_of_lines, whole};
-ghost use Rattle.pd_spells.specs.ThinText.{Line, first_line, end_line, pool_line, head_of, thin, text_of_pool, MeansPool, SpellsPool};
+ghost use Rattle.pd_grammar.specs.Texts.{has_ended, reading, text_of_lines, whole};
+ghost use Rattle.pd_spells.specs.ThinText.{Line, Head, Details, Run, first_line, pool_line, device_line, map_line, end_line, head_of, thin, text_of_pool, MeansPool, SpellsPool};
 ghost use Rattle.pd_texts.specs.Printed.{text_of_line, first_text, end_text};
 ghost use Rattle.pd_texts.specs.ThinPrinted.{device_text};
-ghost use Rattle.pd_texts.specs.Reader.{in_order, with_lines};
+ghost use Rattle.pd_texts.specs.ThinNext.{IsPoolLine, IsDeviceLine, IsMapLine, IsEndLine};
+ghost use Rattle.pd_texts.specs.Reader.{in_order, IsReadAfter, AreReadSoFar};
 
 /// A text of which no line is refused is the text of its lines; they mean a pool, which it spells.
 pub fn whole_thin_text_spells()
@@ -27,4 +28,17 @@ pub fn thin_lines_are_printed_in_order()
 /// and the last line.
 pub fn pool_text_is_its_lines()
     ensures { (m : ThinPool) → text_of_pool m ≡ first_text Thin ++ (text_of_line thin (pool_line (head_of m)) ++ (flat_map device_text m.devices ++ end_text)) }
+{}
+
+/// Lines that were read up to the last one, from whatever source, mean a pool.
+pub fn read_thin_lines_mean_a_pool()
+    ensures { (lines : List Line) → AreReadSoFar thin lines → has_ended thin lines ≡ true → (m : ThinPool) × MeansPool (in_order lines []) m }
+{}
+
+/// What is known of the numbers of each line that was read after others.
+pub fn read_thin_lines_are_in_range()
+    ensures pool { (before : List Line) (p : Head) → IsReadAfter thin before (pool_line p) → IsPoolLine before p }
+    ensures device { (before : List Line) (d : Details) → IsReadAfter thin before (device_line d) → IsDeviceLine before d }
+    ensures map { (before : List Line) (r : Run) → IsReadAfter thin before (map_line r) → IsMapLine before r }
+    ensures end { (before : List Line) → IsReadAfter thin before end_line → IsEndLine before }
 {}

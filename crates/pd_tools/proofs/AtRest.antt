@@ -10,14 +10,15 @@ use Rattle.pd_kinds.specs.Objects.{SinkState}
 use Rattle.pd_kinds.specs.Report.{report_of}
 use Rattle.pd_kinds.specs.Stages.{faults}
 use Rattle.pd_answers.specs.Answer.{Objects, AreFresh}
-use Rattle.pd_answers.specs.Requests.{Request, check, restore, is_built}
+use Rattle.pd_answers.specs.Requests.{Request, check, dump, restore, is_built}
 use Rattle.pd_answers.specs.Words.{built, spelled, asked}
-use Rattle.pd_answers.specs.Promises.{terms_of}
+use Rattle.pd_answers.specs.Promises.{image_text, terms_of}
 use Rattle.pd_answers.specs.Restores.{is_pool_early}
 use Rattle.pd_spells.specs.ThinNeed.{IsThinVerdict}
 use Rattle.pd_laid.specs.LaidThin.{laid_pool}
 use Rattle.pd_tools.specs.Restore.{HaveVerdicts}
 use Rattle.pd_tools.proofs.Checks.{told}
+use Rattle.pd_tools.proofs.Queries.{both_told, told_or}
 use Rattle.pd_tools.proofs.Restores.{restore_at_rest}
 
 -- the flag isn't built
@@ -30,6 +31,13 @@ no_flag Thin Whole path = refl
 no_flag Thin Counts path = refl
 no_flag Cache until path = refl
 no_flag Era until path = refl
+
+-- nor are shared leaves
+pub no_shared : (kind : Kind) (file : Option (List ℕ)) (path : List ℕ) → is_built (dump kind true file path) ≡ false
+unfolding is_built
+no_shared Thin file path = refl
+no_shared Cache file path = refl
+no_shared Era file path = refl
 
 -- what is asked is built
 built_alone : (request : Option Request) → IfSome (built request) (λ r. is_built r ≡ true)
@@ -55,4 +63,10 @@ at_rest (Some (check kind until false path)) before notes fresh verdicts is = (
 at_rest (Some (check kind until true path)) before notes fresh verdicts is = absurd (true≢false (sym is ∙ no_flag kind until path))
 at_rest (Some (restore Thin version file path)) before notes fresh verdicts is =
     restore_at_rest IsThinVerdict is_pool_early laid_pool file path before (record before { notes = notes }) before.source before.output fresh.output.2 verdicts fresh.output.0
+at_rest (Some (dump kind false file path)) before notes fresh verdicts is = (
+  record { report = told_or (λ image. report_of (faults kind Whole image)) (report_of []) before.input.held; text = told_or (image_text kind) [] before.input.held },
+  both_told before.input.held kind (image_text kind),
+  tt,
+)
+at_rest (Some (dump kind true file path)) before notes fresh verdicts is = absurd (true≢false (sym is ∙ no_shared kind file path))
 at_rest (Some _) before notes fresh verdicts is = absurd (true≢false (sym is))

@@ -1,4 +1,5 @@
 pub mod Answered
 pub mod Checks
 pub mod AtRest
+pub mod Queries
 pub mod Restores

@@ -3,3 +3,4 @@ pub mod Stop
 pub mod Read
 pub mod Restore
 pub mod Work
+pub mod Query

@@ -3,6 +3,7 @@
 
 mod check;
 mod notes;
+mod query;
 mod refusals;
 mod restore;
 mod run;

@@ -6,14 +6,16 @@ ghost use Rattle.pd_answers.specs.Requests.{is_built};
 ghost use Rattle.pd_answers.specs.Answer.{Objects, objects, AreFresh};
 ghost use Rattle.pd_answers.specs.Terms.{IsAnswered};
 ghost use Rattle.pd_answers.specs.Promises.{terms_of};
-ghost use Rattle.pd_words.specs.Words.{AreNames, request_as};
+ghost use Rattle.std.specs.Option.{option_copied};
+ghost use Rattle.pd_words.specs.Words.{AreNames, IsNameIfAny, request_as, words_of};
 ghost use Rattle.pd_tools.specs.Work.{Answers};
 
 use crate::check::run_check;
 use crate::notes::{USAGE_LINE, put_line};
+use crate::query::{Query, run_query};
 use crate::restore::{run_restore, texts_have_verdicts};
 use pd_image::{Device, Sink, Source};
-use pd_words::{Request, read_words};
+use pd_words::{Name, Request, read_words};
 use std::alloc::Global;
 
 /// Does what the words ask, and answers the status of the program.
@@ -23,8 +25,8 @@ use std::alloc::Global;
 ///
 /// | Status | Meaning |
 /// |---|---|
-/// | 0 | the image is clean, or was made |
-/// | 1 | the image has faults; the report is on `out` |
+/// | 0 | done; after a check, the image is clean |
+/// | 1 | the image has faults; the report is on `out`, or, where a dump was asked, on `notes` |
 /// | 2 | the words spell no request |
 /// | 3 | a line of the text is refused |
 /// | 4 | more blocks are needed than the output has |
@@ -87,7 +89,20 @@ fn run_request<S: Source, K: Sink, E: Sink, A: Device, B: Device>(
             clear: _,
             image,
         } => run_check(alloc, kind, until, image.word_in(words), out, notes, input),
-        Request::Dump { .. } => unreachable!(),
+        Request::Dump {
+            kind,
+            image,
+            out: file,
+            shared: _,
+        } => run_query(
+            alloc,
+            Query::Dump(kind),
+            file_in(words, file),
+            image.word_in(words),
+            out,
+            notes,
+            input,
+        ),
         Request::Restore {
             kind,
             text,
@@ -110,5 +125,16 @@ fn run_request<S: Source, K: Sink, E: Sink, A: Device, B: Device>(
         Request::Since { .. } => unreachable!(),
         Request::Generate { .. } => unreachable!(),
         Request::Rehearse { .. } => unreachable!(),
+    }
+}
+
+/// The word of a name that may be left out.
+fn file_in(words: &[String], name: Option<Name>) -> Option<&str>
+    requires { IsNameIfAny (length words.now) name }
+    ensures { option_copied result ≡ words_of (map string_bytes words.now) name }
+{
+    match name {
+        Some(name) => Some(name.word_in(words)),
+        None => None,
     }
 }

@@ -6,9 +6,10 @@ use Rattle.std.proofs.lemmas.Bool.{cases_Bool, true≢false}
 use Rattle.std.proofs.Math.Dec.{eqb-suc-zero}
 use Rattle.pd_kinds.specs.declared.kind.Kind.{Kind}
 use Rattle.pd_kinds.specs.declared.kind.Stage.{Stage}
-use Rattle.pd_answers.specs.Requests.{Request, restore, is_built}
-use Rattle.pd_answers.specs.Words.{Item, items_of, Given, given, sole, at_most_one, is_set, last_stage, version_of, image_word, clear_word, until_word, check_with, repair_with, Tool, check_tool, dump_tool, restore_tool, repair_tool, rmap_tool, list_tool, since_tool, generate_tool, rehearse_tool, tool_of, request_of, is_known, known, spelled, built, asked}
+use Rattle.pd_answers.specs.Requests.{Request, dump, restore, is_built}
+use Rattle.pd_answers.specs.Words.{Item, items_of, Given, given, sole, at_most_one, is_set, last_stage, version_of, image_word, clear_word, shared_word, until_word, check_with, repair_with, Tool, check_tool, dump_tool, restore_tool, repair_tool, rmap_tool, list_tool, since_tool, generate_tool, rehearse_tool, tool_of, request_of, is_known, known, spelled, built, asked}
 use Rattle.pd_words.specs.Items.{is_read, read}
+use Rattle.pd_words.specs.Words.{dump_as}
 
 pub asked_nothing : {X : Type 0} (f : X → List ℕ) (xs : List X) → (length xs == 0) ≡ true → None ≡ asked (map f xs)
 unfolding asked spelled
@@ -44,7 +45,7 @@ repair-never input output (Some t) (Some s) (Some b) = search never
 unbuilt-items : (tool : Tool) (items : List Item) → is_read tool ≡ false → built (request_of tool items) ≡ None
 unfolding request_of is_built
 unbuilt-items (check_tool kind) items none = absurd (true≢false none)
-unbuilt-items (dump_tool kind) items none = search never
+unbuilt-items (dump_tool kind) items none = absurd (true≢false none)
 unbuilt-items (restore_tool kind) items none = absurd (true≢false none)
 unbuilt-items repair_tool items none = search (never, repair-never) depth 8
 unbuilt-items rmap_tool items none = search never
@@ -111,6 +112,23 @@ unfolding request_of
 check_given kind None stage clear image word until set path request stage_is at_most named clear_is at_most_clear image_is one is = tt
 check_given kind (Some items) stage clear image word until set path request stage_is at_most named clear_is at_most_clear image_is one is =
     rw (← stage_is, ← at_most, ← named, ← clear_is, ← at_most_clear, ← image_is, ← one) is
+
+-- a dump, by what was given for the flag, for the file and for the image
+dump_steps : (kind : Kind) (shared : Option Bool) (file : Option (Option (List ℕ))) (image : Option (List ℕ))
+    → dump_as kind shared file image ≡ option_and_then (λ s. option_and_then (λ f. option_and_then (λ i. Some (dump kind s f i)) image) file) shared
+dump_steps kind None file image = refl
+dump_steps kind (Some s) None image = refl
+dump_steps kind (Some s) (Some f) None = refl
+dump_steps kind (Some s) (Some f) (Some i) = refl
+
+pub dump_given : (kind : Kind) (items : Option (List Item)) (shared file image : Given) (request : Option Request)
+    → IfSome items (λ all. shared ≡ given shared_word all) → IfSome items (λ all. file ≡ given (codes "-o") all) → IfSome items (λ all. image ≡ given image_word all)
+    → request ≡ dump_as kind (is_set shared) (at_most_one file) (sole image)
+    → IfSome items (λ all. request ≡ request_of (dump_tool kind) all)
+unfolding request_of
+dump_given kind None shared file image request shared_is file_is image_is is = tt
+dump_given kind (Some items) shared file image request shared_is file_is image_is is =
+    is ∙ (dump_steps kind (is_set shared) (at_most_one file) (sole image) ∙ rw (← shared_is, ← file_is, ← image_is) refl)
 
 -- a restore, by what was given for its version, for the text and for the image
 pub restore_given : (kind : Kind) (items : Option (List Item)) (named text image : Given) (word : Option (List ℕ)) (version : ℕ) (file path : List ℕ) (request : Option Request)

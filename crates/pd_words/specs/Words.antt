@@ -1,6 +1,7 @@
 -- What a request that was read means.
-use Rattle.std.specs.Prelude.{ℕ, ◌<◌, List, Option, Some, None, IfSome, Result, Ok, Err}
+use Rattle.std.specs.Prelude.{ℕ, ◌<◌, Bool, List, Option, Some, None, IfSome, Result, Ok, Err}
 use Rattle.std.specs.Option.{option_map}
+use Rattle.pd_kinds.specs.declared.kind.Kind.{Kind}
 use Rattle.pd_words.specs.declared.request.Name.{Name}
 use Rattle.pd_words.specs.declared.request.Request.{Request}
 use Rattle.pd_words.specs.declared.request.Request.TheVariants.{Check, Dump, Restore, Repair, Search, Rmap, List as ListDevices, Since, Generate, Rehearse}
@@ -37,6 +38,13 @@ read_as words (Some request) = Some (request_as words request)
 abbrev pub answer_as : List (List ℕ) → Result Request WordFault → Option requests.Request
 answer_as words (Ok request) = Some (request_as words request)
 answer_as words (Err fault) = None
+
+-- a dump of what was given, if each was given as it may be
+abbrev pub dump_as : Kind → Option Bool → Option (Option (List ℕ)) → Option (List ℕ) → Option requests.Request
+dump_as kind (Some shared) (Some file) (Some image) = Some (requests.dump kind shared file image)
+dump_as kind (Some shared) (Some file) None = None
+dump_as kind (Some shared) None image = None
+dump_as kind None file image = None
 
 -- a name is the index of one of so many words
 abbrev pub IsName : ℕ → Name → Type 0

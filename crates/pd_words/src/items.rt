@@ -14,6 +14,8 @@ use pd_kinds::Kind;
 pub enum Tool {
     /// thin_check, cache_check, era_check
     Check(Kind),
+    /// thin_dump, cache_dump, era_dump
+    Dump(Kind),
     /// thin_restore, cache_restore, era_restore
     Restore(Kind),
 }
@@ -59,6 +61,9 @@ pub fn tool_named(word: &str) -> Option<Tool>
         "thin_check" => Some(Tool::Check(Kind::Thin)),
         "cache_check" => Some(Tool::Check(Kind::Cache)),
         "era_check" => Some(Tool::Check(Kind::Era)),
+        "thin_dump" => Some(Tool::Dump(Kind::Thin)),
+        "cache_dump" => Some(Tool::Dump(Kind::Cache)),
+        "era_dump" => Some(Tool::Dump(Kind::Era)),
         "thin_restore" => Some(Tool::Restore(Kind::Thin)),
         "cache_restore" => Some(Tool::Restore(Kind::Cache)),
         "era_restore" => Some(Tool::Restore(Kind::Era)),
@@ -77,6 +82,11 @@ pub fn is_purpose(tool: Tool, word: &str) -> bool
             }
             Kind::Cache => word == "--until" || word == "IMAGE",
             Kind::Era => word == "--until" || word == "IMAGE",
+        },
+        Tool::Dump(kind) => match kind {
+            Kind::Thin => word == "--shared" || word == "-o" || word == "IMAGE",
+            Kind::Cache => word == "-o" || word == "IMAGE",
+            Kind::Era => word == "-o" || word == "IMAGE",
         },
         Tool::Restore(kind) => match kind {
             Kind::Thin => word == "-i" || word == "-o",

@@ -4,7 +4,7 @@ ghost use Rattle.pd_answers.specs.Words.{asked, stage_of, last_stage, version_of
 ghost use Rattle.pd_answers.specs.Words as words_spec;
 ghost use Rattle.pd_answers.specs.Requests.{is_built};
 ghost use Rattle.pd_words.specs.Items.{given_as, IsGivenWithin, tool_as};
-ghost use Rattle.pd_words.specs.Words.{request_as, read_as, answer_as, word_of, words_of, AreNames, IsName, IsNameIfAny};
+ghost use Rattle.pd_words.specs.Words.{request_as, read_as, answer_as, dump_as, word_of, words_of, AreNames, IsName, IsNameIfAny};
 
 use crate::items::{Given, IMAGE, Tool, are_items, given_for, tool_named};
 use crate::request::{Name, Request, WordFault};
@@ -75,6 +75,15 @@ fn is_built(request: &Request) -> bool
             },
             _ => false,
         },
+        Request::Dump {
+            kind,
+            image: _,
+            out: _,
+            shared,
+        } => match kind {
+            Kind::Thin => !shared,
+            _ => false,
+        },
         Request::Restore {
             kind,
             text: _,
@@ -95,6 +104,7 @@ fn read_request(tool: Tool, words: &[String]) -> Option<Request>
 {
     match tool {
         Tool::Check(kind) => read_check(kind, words),
+        Tool::Dump(kind) => read_dump(kind, words),
         Tool::Restore(kind) => read_restore(kind, words),
     }
 }
@@ -109,6 +119,44 @@ fn read_check(kind: Kind, words: &[String]) -> Option<Request>
     let clear = flag(given_for(words, 1, "--clear-needs-check-flag"))?;
     let image = required(given_for(words, 1, IMAGE))?;
     check_with(kind, until, clear, image)
+}
+
+/// What the words ask of a dump.
+fn read_dump(kind: Kind, words: &[String]) -> Option<Request>
+    ensures asked { IfSome (items_of (drop 1 (map string_bytes words.now))) (λ items. read_as (map string_bytes words.now) result ≡ words_spec.request_of (words_spec.dump_tool kind) items) }
+    ensures names { IfSome result (AreNames (length words.now)) }
+{
+    let shared = flag(given_for(words, 1, "--shared"));
+    let out = optional(given_for(words, 1, "-o"));
+    let image = required(given_for(words, 1, IMAGE));
+    dump_with(kind, shared, out, image)
+}
+
+/// A dump of what was given.
+fn dump_with(
+    kind: Kind,
+    shared: Option<bool>,
+    out: Option<Option<Name>>,
+    image: Option<Name>,
+) -> Option<Request>
+    ensures asked { (words : List (List ℕ)) → read_as words result ≡ dump_as kind shared (option_map (words_of words) out) (words_of words image) }
+    ensures names { (number : ℕ) → IfSome out (IsNameIfAny number) → IsNameIfAny number image → IfSome result (AreNames number) }
+{
+    match shared {
+        None => None,
+        Some(shared) => match out {
+            None => None,
+            Some(out) => match image {
+                None => None,
+                Some(image) => Some(Request::Dump {
+                    kind,
+                    image,
+                    out,
+                    shared,
+                }),
+            },
+        },
+    }
 }
 
 /// A check; the flag stands only where the whole image is checked.

@@ -1,4 +1,4 @@
-use Rattle.std.proofs.Common.{◌≡◌, ◌-◌, ◌≤◌, length, slice_range, arith}
+use Rattle.std.proofs.Common.{◌-◌, ◌≤◌, length, slice_range, arith}
 use Rattle.pd_lines.proofs.BufferLemmas.{moves_if_taken, end_if_none}
 use Rattle.pd_lines.proofs.buffer.fill_after.Goals as goal
 

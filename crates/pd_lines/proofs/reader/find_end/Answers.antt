@@ -1,4 +1,4 @@
-use Rattle.std.proofs.Common.{◌≡◌, ◌∙◌, sym, subst, ℕ, List, take, min, length, arith}
+use Rattle.std.proofs.Common.{◌≡◌, subst, ℕ, List, min, length, arith}
 use Rattle.pd_lines.specs.Moves.{IsUnbroken}
 use Rattle.pd_lines.proofs.BufferLemmas.{take_most}
 use Rattle.pd_lines.proofs.reader.find_end.Goals as goal

@@ -1,4 +1,4 @@
-use Rattle.std.proofs.Common.{◌≡◌, ℕ, Bool, true, false, List, Some, map, string_bytes, sym, ◌∙◌}
+use Rattle.std.proofs.Common.{◌≡◌, ℕ, Bool, true, false, List, Option, Some, map, string_bytes, sym, ◌∙◌}
 use Rattle.std.proofs.lemmas.Bool.{true≢false}
 use Rattle.pd_kinds.specs.declared.kind.Kind.{Kind}
 use Rattle.pd_kinds.specs.declared.kind.Stage.{Stage}
@@ -8,9 +8,12 @@ use Rattle.pd_answers.specs.Requests.{is_built}
 use Rattle.pd_answers.specs.Answer.{Objects}
 use Rattle.pd_answers.specs.Promises.{check, terms_of}
 use Rattle.pd_answers.specs.Restores.{restore}
-use Rattle.pd_words.specs.Words.{word_of}
+use Rattle.std.specs.Option.{option_copied}
+use Rattle.pd_words.specs.Words.{word_of, words_of}
+use Rattle.pd_tools.specs.declared.query.Query.TheVariants.{Dump}
+use Rattle.pd_tools.specs.Query.{terms_of_query}
 use Rattle.pd_tools.specs.Work.{Answers}
-use Rattle.pd_tools.proofs.AtRest.{no_flag}
+use Rattle.pd_tools.proofs.AtRest.{no_flag, no_shared}
 use Rattle.pd_tools.proofs.run.run_request.Goals as goal
 
 -- the check of these words is the one that is asked
@@ -21,12 +24,26 @@ as_asked : (kind : Kind) (until : Stage) (clear : Bool) (path word : List ℕ) (
 as_asked kind until false path word attached before after status is same answers = rw same at answers
 as_asked kind until true path word attached before after status is same answers = absurd (true≢false (sym is ∙ no_flag kind until path))
 
+-- so with the dump
+dump_as_asked : (kind : Kind) (shared : Bool) (file given : Option (List ℕ)) (path word : List ℕ) (attached : SinkState) (before after : Objects) (status : ℕ)
+    → is_built (request.dump kind shared file path) ≡ true → given ≡ file → word ≡ path
+    → Answers (terms_of_query (Dump kind) given word) attached before after status
+    → Answers (terms_of (Some (request.dump kind shared file path))) attached before after status
+dump_as_asked kind false file given path word attached before after status is file_is same answers = rw (file_is, same) at answers
+dump_as_asked kind true file given path word attached before after status is file_is same answers = absurd (true≢false (sym is ∙ no_shared kind file path))
+
 pub returns-in-Check : goal.returns-in-Check
 returns-in-Check g c others =
     let words = map string_bytes c.args.words.now in
     rw c.in-Check.is (as_asked c.in-Check.kind c.in-Check.until c.in-Check.clear (word_of words c.in-Check.image) c.word_in.result.now _ _ _ _
     (rw c.in-Check.is at c.requires.built) c.word_in.ensures
     (c.run_check.ensures (record others { source = g.S.Source.state c.args.source.now; output = g.B.Device.state c.args.output.now })))
+
+pub returns-in-Dump : goal.returns-in-Dump
+returns-in-Dump g c others =
+    let words = map string_bytes c.args.words.now in
+    rw c.in-Dump.is (dump_as_asked c.in-Dump.kind c.in-Dump.shared (words_of words c.in-Dump.file) (option_copied c.file_in.result) (word_of words c.in-Dump.image) c.word_in-in-Dump.result.now _ _ _ _
+    (rw c.in-Dump.is at c.requires.built) c.file_in.ensures c.word_in-in-Dump.ensures (c.run_query.ensures (record others { source = g.S.Source.state c.args.source.now; output = g.B.Device.state c.args.output.now })))
 
 -- the restore of these words is the one that is asked
 restored_as_asked : (kind : Kind) (version : ℕ) (file path text image : List ℕ) (attached : SinkState) (before after : Objects) (status : ℕ)

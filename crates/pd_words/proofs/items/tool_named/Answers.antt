@@ -18,6 +18,18 @@ pub returns-in-era_check : goal.returns-in-era_check
 unfolding tool_in
 returns-in-era_check c = rw c.in-era_check.is refl
 
+pub returns-in-thin_dump : goal.returns-in-thin_dump
+unfolding tool_in
+returns-in-thin_dump c = rw c.in-thin_dump.is refl
+
+pub returns-in-cache_dump : goal.returns-in-cache_dump
+unfolding tool_in
+returns-in-cache_dump c = rw c.in-cache_dump.is refl
+
+pub returns-in-era_dump : goal.returns-in-era_dump
+unfolding tool_in
+returns-in-era_dump c = rw c.in-era_dump.is refl
+
 pub returns-in-thin_restore : goal.returns-in-thin_restore
 unfolding tool_in
 returns-in-thin_restore c = rw c.in-thin_restore.is refl
@@ -50,30 +62,7 @@ pub returns-in_default : goal.returns-in_default
 returns-in_default c =
     let w = c.in_default in
     sym (no_tool _ c.args.word.now (
-      inr w.not-thin_check,
-      (
-        inr w.not-cache_check,
-        (
-          inr w.not-era_check,
-          (
-            inl refl,
-            (
-              inl refl,
-              (
-                inl refl,
-                (
-                  inr w.not-thin_restore,
-                  (
-                    inr w.not-cache_restore,
-                    (
-                      inr w.not-era_restore,
-                      (inl refl, (inl refl, (inl refl, (inl refl, (inl refl, (inl refl, tt)))))),
-                    ),
-                  ),
-                ),
-              ),
-            ),
-          ),
-        ),
-      ),
-    ))
+    inr w.not-thin_check, (inr w.not-cache_check, (inr w.not-era_check,
+    (inr w.not-thin_dump, (inr w.not-cache_dump, (inr w.not-era_dump,
+    (inr w.not-thin_restore, (inr w.not-cache_restore, (inr w.not-era_restore,
+    (inl refl, (inl refl, (inl refl, (inl refl, (inl refl, (inl refl, tt))))))))))))))))

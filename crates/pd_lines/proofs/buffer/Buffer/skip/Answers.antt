@@ -1,4 +1,4 @@
-use Rattle.std.proofs.Common.{◌≡◌, sym, ◌∙◌, ap, ◌+◌, ◌≤◌, length, drop, arith, length-take, length-drop, slice_range}
+use Rattle.std.proofs.Common.{◌∙◌, ap, ◌+◌, ◌≤◌, drop}
 use Rattle.pd_lines.proofs.BufferLemmas.{skipped, skip_within}
 use Rattle.pd_lines.proofs.buffer.Buffer.skip.Goals as goal
 

@@ -1,4 +1,4 @@
-use Rattle.std.proofs.Common.{◌≡◌, ℕ, ◌+◌, List, take, drop, refl, Ok, Err, Some}
+use Rattle.std.proofs.Common.{◌+◌, take, drop, refl, Ok, Err, Some}
 use Rattle.pd_lines.specs.Moves.{EndsLine}
 use Rattle.pd_lines.specs.declared.fault.LineFault.TheVariants.{NotText}
 use Rattle.pd_lines.proofs.ReaderLemmas.{held_line, not_text, reads_moved, reads_end}

@@ -1,0 +1,53 @@
+-- How many nodes stand above so many, counted level by level.
+use Rattle.std.proofs.Common.{◌≡◌, inl, inr, ℕ, zero, suc, ◌+◌, ◌-◌, ◌*◌, ◌/◌, ◌^◌, ◌<◌, ◌≤◌, refl, ◌∙◌, ap, arith}
+use Rattle.std.proofs.lemmas.Bool.{lt-ltb, le-ltb, cases_eq}
+use Rattle.std.proofs.Math.Nat.{div-mul-le_self, mul-le-mul_left}
+use Rattle.pd_build.proofs.CountLemmas.{parts_some, parts_none}
+use Rattle.pd_spells.specs.Need.{need_above, nodes_for}
+
+pub record IsCounting (all nodes need : ℕ) : Type 0 where
+  pub fuel : ℕ
+  pub high : nodes ≤ 252 ^ fuel
+  pub some : 1 ≤ nodes
+  pub whole : need_above 10 all ≡ need + need_above fuel nodes
+  pub few : need + nodes ≤ all
+
+need_one : (k nodes : ℕ) → nodes ≤ 1 → need_above k nodes ≡ 0
+unfolding need_above
+need_one zero nodes few = refl
+need_one (suc k) nodes few = rw (le-ltb 1 nodes few) refl
+
+need_more : (k nodes : ℕ) → 1 < nodes → need_above (suc k) nodes ≡ nodes_for 252 nodes + need_above k (nodes_for 252 nodes)
+unfolding need_above
+need_more k nodes many = rw (lt-ltb 1 nodes many) refl
+
+pub counting_start : (all : ℕ) → 1 ≤ all → all ≤ 252 ^ 10 → IsCounting all all 0
+counting_start all some high = record { fuel = 10; high = high; some = some; whole = omega arith; few = omega arith }
+
+counting_by : (fuel all nodes need : ℕ) → nodes ≤ 252 ^ fuel → 1 < nodes → need_above 10 all ≡ need + need_above fuel nodes → need + nodes ≤ all
+    → IsCounting all (nodes_for 252 nodes) (need + nodes_for 252 nodes)
+counting_by zero all nodes need high many whole few = absurd (omega arith)
+counting_by (suc k) all nodes need high many whole few = record {
+  fuel = k;
+  high = let e : 252 ^ suc k ≡ 252 ^ k * 252 = omega arith in omega arith;
+  some = omega arith;
+  whole = omega (arith, whole, need_more k nodes many);
+  few = omega arith;
+}
+
+pub counting_next : {all nodes need : ℕ} → IsCounting all nodes need → 1 < nodes → IsCounting all (nodes_for 252 nodes) (need + nodes_for 252 nodes)
+counting_next {all} {nodes} {need} c many = counting_by c.fuel all nodes need c.high many c.whole c.few
+
+pub counting_end : {all nodes need : ℕ} → IsCounting all nodes need → nodes ≤ 1 → need ≡ need_above 10 all
+counting_end {all} {nodes} {need} c few = omega (arith, c.whole, need_one c.fuel nodes few)
+
+-- where a node has at least two entries, there are at most half as many nodes
+pub half_of : (most n : ℕ) → 2 ≤ most → nodes_for most n * 2 ≤ n + 1
+half_of most n some = elim (cases_eq n 0) [
+  | inl none ↦ let is : nodes_for most n ≡ 0 = ap (nodes_for most) none ∙ parts_none most (omega arith) in omega arith
+  | inr more ↦
+      let is = parts_some most n (omega arith) (omega arith) in
+      let whole : (n - 1) / most * most ≤ n - 1 = div-mul-le_self (n - 1) most in
+      let scaled : (n - 1) / most * 2 ≤ (n - 1) / most * most = mul-le-mul_left ((n - 1) / most) some in
+      omega arith
+]

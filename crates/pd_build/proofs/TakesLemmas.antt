@@ -1,0 +1,204 @@
+-- What an item does to a builder of leaves.
+use Rattle.std.proofs.Common.{◌≡◌, ℕ, suc, ◌+◌, ◌-◌, ◌*◌, ◌/◌, ◌<◌, ◌≤◌, List, [], ◌∷◌, ◌++◌, length, map, refl, sym, ◌∙◌, ap, ap₂, arith, Some, None, length-append, get_or, subst, inl, inr}
+use Rattle.std.specs.Prelude.{sum, max, nat_eq}
+use Rattle.std.proofs.lemmas.List.{append_assoc, map-append, length-map}
+use Rattle.std.proofs.lemmas.Bool.{cases_eq, ne_eqb}
+use Rattle.pd_node.specs.Items.{entries_of, keys_of}
+use Rattle.pd_kinds.specs.Node.{Entry, leaf_block, max_entries}
+use Rattle.pd_draft.specs.Closed.{IsClosed}
+use Rattle.pd_draft.specs.Placed.{Stand, Wrote}
+use Rattle.pd_draft.proofs.PlacedLemmas.{wrote_none}
+use Rattle.pd_laid.specs.Tree.{heads, blocks_from, first_key, tree_leaves, spread}
+use Rattle.pd_spells.specs.Need.{nodes_for}
+use Rattle.pd_build.specs.Parts.{even_sizes, cut}
+use Rattle.pd_build.specs.Leaves.{LeavesLeft, items_to_come, leaves_to_come, size_of_first, Takes, AreCounts}
+use Rattle.pd_build.proofs.PartLemmas.{length-even, sum-any, cut_full, first_size, spread_is_cut}
+use Rattle.pd_build.proofs.CountLemmas.{IsEndOf, end_of, nodes_at, counts_start, parts_some, parts_none}
+
+-- the item ends no leaf
+pub takes_none : (size : ℕ) (e : Entry) (old new : LeavesLeft) (stand : Stand) → IsClosed stand.device
+    → new.sizes ≡ old.sizes → new.begun ≡ old.begun ++ e ∷ [] → new.low ≡ e.key + 1 → 1 ≤ items_to_come old
+    → length old.begun + 1 < size_of_first old.sizes → Takes size e None old new stand stand
+unfolding blocks_from heads
+takes_none size e old new stand closed sizes begun low more ends =
+    let one = length-append old.begun (e ∷ []) in
+    let count : length new.begun ≡ length old.begun + 1 = ap length begun ∙ one in
+    let whole : sum new.sizes ≡ sum old.sizes = ap sum sizes in
+    record {
+      ends = ends;
+      to_come = λ items. ap (λ (all : List Entry). cut old.sizes all) (sym (append_assoc old.begun (e ∷ []) items))
+          ∙ sym (ap₂ (λ (s : List ℕ) (b : List Entry). cut s (b ++ items)) sizes begun);
+      wrote = wrote_none stand closed;
+      heads_are = refl;
+      number = omega arith;
+      leaves = let same = ap length sizes in omega arith;
+      raised = low;
+      begun_is = begun;
+    }
+
+-- the sizes of the first leaf and of the others
+first_even : {most leaves items first begun : ℕ} → AreCounts most leaves items first begun → 1 ≤ leaves
+    → even_sizes leaves items ≡ first ∷ even_sizes (leaves - 1) (items - first)
+first_even {most} {leaves} {items} {first} {begun} c one =
+    let k = leaves - 1 in
+    let is : leaves ≡ suc k = omega arith in
+    let sized : (items + k) / suc k ≡ first = sym (c.sized one ∙ nodes_at leaves k items is) in
+    ap (λ (m : ℕ). even_sizes m items) is ∙ (first_size k items ∙ ap (λ (c : ℕ). c ∷ even_sizes k (items - c)) sized)
+
+-- the item ends a leaf
+pub takes_one : {most leaves items first begun : ℕ} (size : ℕ) (e : Entry) (head : ℕ × ℕ) (old new : LeavesLeft) (from to : Stand)
+    → AreCounts most leaves items first begun → 1 ≤ leaves
+    → old.sizes ≡ even_sizes leaves items → length old.begun ≡ begun → begun + 1 ≡ first
+    → new.sizes ≡ even_sizes (leaves - 1) (items - first) → new.begun ≡ [] → new.low ≡ e.key + 1
+    → Wrote (leaf_block size from.place (old.begun ++ e ∷ []) ∷ []) from to
+    → head.0 ≡ first_key (old.begun ++ e ∷ []) → head.1 ≡ from.place
+    → Takes size e (Some head) old new from to
+unfolding blocks_from heads
+takes_one {most} {leaves} {items} {first} {begun} size e head old new from to c one old_sizes count ends new_sizes none low wrote key place =
+    let k = leaves - 1 in
+    let end : IsEndOf most leaves items first = end_of c one in
+    let split = first_even c one in
+    let part = old.begun ++ e ∷ [] in
+    let full : length part ≡ first = length-append old.begun (e ∷ []) ∙ (ap (λ (n : ℕ). n + 1) count ∙ ends) in
+    let old_sum : sum old.sizes ≡ items = ap sum old_sizes ∙ sum-any leaves items (λ zero. absurd (omega arith)) in
+    let new_sum : sum new.sizes ≡ items - first = ap sum new_sizes ∙ sum-any k (items - first) (λ zero. let z : k * most ≡ 0 * most = ap (λ (m : ℕ). m * most) zero in omega (arith, end.few)) in
+    let nothing : length new.begun ≡ 0 = ap length none in
+    record {
+      ends = ap (λ (n : ℕ). n + 1) count ∙ (ends ∙ sym (ap size_of_first (old_sizes ∙ split)));
+      to_come = λ later.
+          ap₂ (λ (s : List ℕ) (all : List Entry). cut s all) (old_sizes ∙ split) (sym (append_assoc old.begun (e ∷ []) later))
+          ∙ (cut_full first (even_sizes k (items - first)) part later full
+          ∙ ap (λ (rest : List (List Entry)). part ∷ rest)
+          (sym (ap₂ (λ (s : List ℕ) (b : List Entry). cut s (b ++ later)) new_sizes none)));
+      wrote = wrote;
+      heads_are = ap₂ (λ (k p : ℕ). record { key = k; value = p } ∷ []) (sym key) (sym place);
+      number = omega (arith, end.within);
+      leaves = ap (λ (n : ℕ). 1 + n) (ap length new_sizes ∙ length-even k (items - first))
+          ∙ (omega (arith, ap length old_sizes, length-even leaves items));
+      raised = low;
+      begun_is = none;
+    }
+
+-- before the first item
+pub start_items : (leaves n : ℕ) (b : LeavesLeft) → (leaves ≡ 0 → n ≡ 0) → b.sizes ≡ even_sizes leaves n → b.begun ≡ [] → items_to_come b ≡ n
+start_items leaves n b some sizes none =
+    let whole : sum b.sizes ≡ n = ap sum sizes ∙ sum-any leaves n some in
+    let nothing : length b.begun ≡ 0 = ap length none in
+    omega arith
+
+pub start_leaves : (size leaves : ℕ) (b : LeavesLeft) (items : List Entry) → leaves ≡ nodes_for (max_entries size) (length items) → 1 ≤ leaves
+    → b.sizes ≡ even_sizes leaves (length items) → b.begun ≡ [] → leaves_to_come b items ≡ tree_leaves size items
+unfolding tree_leaves
+start_leaves size leaves b items number some sizes none =
+    let least : leaves ≡ max 1 (nodes_for (max_entries size) (length items)) = omega arith in
+    ap₂ (λ (s : List ℕ) (begun : List Entry). cut s (begun ++ items)) sizes none
+    ∙ (sym (spread_is_cut leaves items) ∙ ap (λ (k : ℕ). spread k items) least)
+
+-- no leaves for no items
+pub none_then : {leaves : ℕ} (most n : ℕ) → 1 ≤ most → leaves ≡ nodes_for most n → leaves ≡ 0 → n ≡ 0
+none_then most n some is none = elim (cases_eq n 0) [
+  | inl nothing ↦ nothing
+  | inr more ↦ let at : nodes_for most n ≡ (n - 1) / most + 1 = parts_some most n some (omega arith) in absurd (omega arith)
+]
+
+pub started : {leaves size begun : ℕ} (most n : ℕ) → 1 ≤ most → leaves ≡ nodes_for most n → (1 ≤ leaves → size ≡ nodes_for leaves n) → begun ≡ 0
+    → AreCounts most leaves n size begun
+started {leaves} {size} {begun} most n some leaves_are size_is none = elim (cases_eq n 0) [
+  | inl nothing ↦
+      let zero : leaves ≡ 0 = leaves_are ∙ (ap (nodes_for most) nothing ∙ parts_none most some) in
+      record {
+        some = omega arith;
+        few = omega arith;
+        none = λ z. none;
+        sized = size_is;
+        begun_less = λ one. absurd (omega arith);
+      }
+  | inr more ↦
+      let at : nodes_for most n ≡ (n - 1) / most + 1 = parts_some most n some (omega arith) in
+      let sized = size_is (omega arith) in
+      rw (sized, none, leaves_are) (counts_start most n some (omega arith))
+]
+
+pub some_left : (leaves items : ℕ) (b : LeavesLeft) → b.sizes ≡ even_sizes leaves items → 1 ≤ items_to_come b → 1 ≤ leaves
+unfolding even_sizes
+some_left leaves items b sizes more = elim (cases_eq leaves 0) [
+  | inl none ↦
+      let nothing : sum b.sizes ≡ 0 = ap sum sizes ∙ ap (λ (k : ℕ). sum (even_sizes k items)) none in
+      absurd (omega arith)
+  | inr some ↦ omega arith
+]
+
+first_of_all : {X : Type 0} → (code : X → ℕ) (all : List (ℕ × X)) → 1 ≤ length all → get_or (keys_of all) 0 0 ≡ first_key (entries_of code all)
+first_of_all code [] some = absurd (omega arith)
+first_of_all code (item ∷ all) some = refl
+
+module _ {X : Type 0} (code : X → ℕ) (put all : List (ℕ × X)) (key : ℕ) (value : X) (is : all ≡ put ++ (key, value) ∷ []) where
+  more_begun : entries_of code all ≡ entries_of code put ++ record { key = key; value = code value } ∷ []
+  more_begun = ap (entries_of code) is ∙ map-append (λ (item : ℕ × X). record { key = item.0; value = code item.1 }) put ((key, value) ∷ [])
+
+  pub takes_more : {most leaves items first begun : ℕ} (size low : ℕ) (stand : Stand) → IsClosed stand.device
+      → AreCounts most leaves items first begun → 1 ≤ leaves → length put + 1 < first
+      → 1 ≤ items_to_come (record { sizes = even_sizes leaves items; begun = entries_of code put; low = low })
+      → Takes size (record { key = key; value = code value }) None
+      (record { sizes = even_sizes leaves items; begun = entries_of code put; low = low })
+      (record { sizes = even_sizes leaves items; begun = entries_of code all; low = key + 1 }) stand stand
+  takes_more {most} {leaves} {items} {first} {begun} size low stand closed c one ends more =
+      let count : length (entries_of code put) ≡ length put = length-map put (λ (item : ℕ × X). record { key = item.0; value = code item.1 }) in
+      let first_is : size_of_first (even_sizes leaves items) ≡ first = ap size_of_first (first_even c one) in
+      takes_none size (record { key = key; value = code value })
+      (record { sizes = even_sizes leaves items; begun = entries_of code put; low = low })
+      (record { sizes = even_sizes leaves items; begun = entries_of code all; low = key + 1 }) stand closed refl more_begun refl more
+      (omega arith)
+
+  pub takes_end : {most leaves items first begun : ℕ} (size low least place : ℕ) (block : List ℕ) (nothing : List (ℕ × X)) (from to : Stand)
+      → AreCounts most leaves items first begun → 1 ≤ leaves → begun ≡ length put → begun + 1 ≡ first → nothing ≡ []
+      → place ≡ from.place → block ≡ leaf_block size place (entries_of code all) → Wrote (block ∷ []) from to → least ≡ get_or (keys_of all) 0 0
+      → Takes size (record { key = key; value = code value }) (Some (least, place))
+      (record { sizes = even_sizes leaves items; begun = entries_of code put; low = low })
+      (record { sizes = even_sizes (leaves - 1) (items - first); begun = entries_of code nothing; low = key + 1 }) from to
+  takes_end {most} {leaves} {items} {first} {begun} size low least place block nothing from to c one count ends none at is_block wrote first_is =
+      let e : Entry = record { key = key; value = code value } in
+      let part = entries_of code put ++ e ∷ [] in
+      let is_leaf : block ≡ leaf_block size from.place part = is_block ∙ ap₂ (λ (p : ℕ) (es : List Entry). leaf_block size p es) at more_begun in
+      let some : 1 ≤ length all = (let n = length-append put ((key, value) ∷ []) in let m = ap length is in omega arith) in
+      takes_one size e (least, place)
+      (record { sizes = even_sizes leaves items; begun = entries_of code put; low = low })
+      (record { sizes = even_sizes (leaves - 1) (items - first); begun = entries_of code nothing; low = key + 1 }) from to
+      c one refl (length-map put (λ (item : ℕ × X). record { key = item.0; value = code item.1 }) ∙ sym count) ends refl (ap (entries_of code) none) refl
+      (subst (λ (b : List ℕ). Wrote (b ∷ []) from to) is_leaf wrote)
+      (first_is ∙ (first_of_all code all some ∙ ap first_key more_begun)) at
+
+-- all items were put just where no leaf is left
+pub done_is : {most leaves items size begun : ℕ} → AreCounts most leaves items size begun → sum (even_sizes leaves items) - begun ≡ 0 → leaves ≡ 0
+done_is {most} {leaves} {items} {size} {begun} c none = elim (cases_eq leaves 0) [
+  | inl zero ↦ zero
+  | inr some ↦
+      let whole = sum-any leaves items (λ zero. absurd (some zero)) in
+      let end = end_of c (omega arith) in
+      let less = c.begun_less (omega arith) in
+      absurd (omega (arith, end.within))
+]
+
+pub sizes_done : {most leaves items size begun : ℕ} → AreCounts most leaves items size begun → sum (even_sizes leaves items) - begun ≡ 0 → even_sizes leaves items ≡ []
+unfolding even_sizes
+sizes_done {most} {leaves} {items} {size} {begun} c none = let zero = done_is c none in rw zero refl
+
+-- the test that code makes
+pub done_test : {most leaves items size begun : ℕ} → AreCounts most leaves items size begun → nat_eq leaves 0 ≡ nat_eq (sum (even_sizes leaves items) - begun) 0
+done_test {most} {leaves} {items} {size} {begun} c = elim (cases_eq leaves 0) [
+  | inl zero ↦
+      let nothing : items ≡ 0 = (let p : leaves * most ≡ 0 * most = ap (λ (k : ℕ). k * most) zero in omega (arith, c.few)) in
+      let whole = sum-any leaves items (λ z. nothing) in
+      let left : sum (even_sizes leaves items) - begun ≡ 0 = omega arith in
+      rw (left, zero) refl
+  | inr some ↦
+      let left : sum (even_sizes leaves items) - begun ≡ 0 → ⊥ = λ none. some (done_is c none) in
+      ne_eqb leaves 0 some ∙ sym (ne_eqb (sum (even_sizes leaves items) - begun) 0 left)
+]
+
+pub length-entries : {X : Type 0} → (code : X → ℕ) (items : List (ℕ × X)) → length (entries_of code items) ≡ length items
+length-entries {X} code items = length-map items (λ (item : ℕ × X). record { key = item.0; value = code item.1 })
+
+pub keys-entries : {X : Type 0} → (code : X → ℕ) (items : List (ℕ × X)) → map (λ (e : Entry). e.key) (entries_of code items) ≡ keys_of items
+keys-entries code [] = refl
+keys-entries code (item ∷ items) = ap (λ (rest : List ℕ). item.0 ∷ rest) (keys-entries code items)

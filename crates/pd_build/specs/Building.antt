@@ -1,0 +1,37 @@
+-- A tree or an array that is being built: what a caller's loop keeps.
+use Rattle.std.specs.Prelude.{◌≡◌, ℕ, ◌+◌, ◌≤◌, true, List, [], ◌∷◌, ◌++◌, length, map}
+use Rattle.pd_kinds.specs.Node.{Entry, is_ascending}
+use Rattle.pd_draft.specs.Placed.{Stand, Wrote}
+use Rattle.pd_laid.specs.Tree.{tree_blocks, tree_root}
+use Rattle.pd_laid.specs.Array.{array_root}
+use Rattle.pd_spells.specs.Need.{need_tree, need_array}
+use Rattle.pd_build.specs.Leaves.{items_to_come}
+use Rattle.pd_build.specs.Tree.{TreeLeft, blocks_left, root_left, number_left}
+use Rattle.pd_build.specs.Array.{ArrayLeft, array_blocks, array_left, array_root_left, array_number}
+
+-- the first item, if there is one, has at least this key
+abbrev pub StartsAt : ℕ → List Entry → Type 0
+StartsAt low [] = Unit {0}
+StartsAt low (e ∷ items) = low ≤ e.key
+
+-- the tree of all these items is begun: these items are to come
+pub record IsBuilding (size : ℕ) (all items : List Entry) (t : TreeLeft) (from to : Stand) : Type 0 where
+  pub done : List (List ℕ)
+  pub wrote : Wrote done from to
+  pub whole : tree_blocks size from.place all ≡ done ++ blocks_left size to.place t items
+  pub root : root_left to.place t items ≡ tree_root size from.place all
+  pub number : items_to_come t.leaves ≡ length items
+  pub room : to.place + number_left t ≡ from.place + need_tree size (length all)
+  pub ascending : is_ascending (map (λ (e : Entry). e.key) items) ≡ true
+  pub above : StartsAt t.leaves.low items
+
+-- the array of all these words is begun: these words are to come
+pub record IsFilling (size : ℕ) (all words : List ℕ) (t : ArrayLeft) (from to : Stand) : Type 0 where
+  pub done : List (List ℕ)
+  pub wrote : Wrote done from to
+  pub sized : t.size ≡ size
+  pub whole : array_blocks size from.place all ≡ done ++ array_left size to.place t.words words
+  pub root : array_root_left size to.place t.words words ≡ array_root size from.place all
+  pub number : t.words.left ≡ length words
+  pub room : to.place + array_number size t.words ≡ from.place + need_array size (length all)
+  pub stood : t.words.made ≤ to.place

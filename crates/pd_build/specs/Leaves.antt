@@ -1,0 +1,83 @@
+-- What a builder of leaves still writes.
+use Rattle.std.specs.Prelude.{◌≡◌, ◌⊎◌, ℕ, ◌+◌, ◌-◌, ◌*◌, ◌<◌, ◌≤◌, List, [], ◌∷◌, ◌++◌, length, sum, Option, Some, None, Bool, true}
+use Rattle.std.specs.List.{All, AllByRecursion}
+use Rattle.pd_node.specs.Items.{keys_of}
+use Rattle.pd_kinds.specs.Node.{Entry, leaf_block, is_ascending}
+use Rattle.pd_draft.specs.Placed.{Stand, Wrote}
+use Rattle.pd_laid.specs.Tree.{heads, blocks_from}
+use Rattle.pd_spells.specs.Need.{nodes_for}
+use Rattle.pd_build.specs.Parts.{cut}
+
+-- a builder of leaves: the sizes of the leaves that are to come, the items of the first of them that were put,
+-- and the least key that may come
+pub record LeavesLeft : Type 0 where
+  pub sizes : List ℕ
+  pub begun : List Entry
+  pub low : ℕ
+
+-- how many items are to come
+abbrev pub items_to_come : LeavesLeft → ℕ
+items_to_come b = sum b.sizes - length b.begun
+
+-- the leaves that are written yet, where these items come
+abbrev pub leaves_to_come : LeavesLeft → List Entry → List (List Entry)
+leaves_to_come b items = cut b.sizes (b.begun ++ items)
+
+-- the leaf that an item ends, where it ends one
+abbrev pub ended : LeavesLeft → Entry → Option (ℕ × ℕ) → List (List Entry)
+ended b e None = []
+ended b e (Some head) = (b.begun ++ e ∷ []) ∷ []
+
+-- what is answered of it
+abbrev pub answered : Option (ℕ × ℕ) → List Entry
+answered None = []
+answered (Some head) = record { key = head.0; value = head.1 } ∷ []
+
+-- what is begun then
+abbrev pub begun_then : LeavesLeft → Entry → Option (ℕ × ℕ) → List Entry
+begun_then b e None = b.begun ++ e ∷ []
+begun_then b e (Some head) = []
+
+-- how many items the first leaf has that is to come
+abbrev pub size_of_first : List ℕ → ℕ
+size_of_first [] = 0
+size_of_first (size ∷ sizes) = size
+
+-- a head is answered exactly where the item ends a leaf
+abbrev pub EndsWhereFull : LeavesLeft → Option (ℕ × ℕ) → Type 0
+EndsWhereFull b None = length b.begun + 1 < size_of_first b.sizes
+EndsWhereFull b (Some head) = length b.begun + 1 ≡ size_of_first b.sizes
+
+-- an item that wasn't taken: all is as it was, or the leaf that it ends is lost
+abbrev pub Loses : LeavesLeft → Entry → LeavesLeft → Type 0
+Loses old e new = (new ≡ old) ⊎ ((new.begun ≡ []) × (new.low ≡ e.key + 1))
+
+-- an item was taken: the leaf that it ends was written, and the others are to come as they were
+pub record Takes (size : ℕ) (e : Entry) (head : Option (ℕ × ℕ)) (old new : LeavesLeft) (from to : Stand) : Type 0 where
+  pub ends : EndsWhereFull old head
+  pub to_come : (items : List Entry) → leaves_to_come old (e ∷ items) ≡ ended old e head ++ leaves_to_come new items
+  pub wrote : Wrote (blocks_from (leaf_block size) from.place (ended old e head)) from to
+  pub heads_are : heads from.place (ended old e head) ≡ answered head
+  pub number : items_to_come new + 1 ≡ items_to_come old
+  pub leaves : length (ended old e head) + length new.sizes ≡ length old.sizes
+  pub raised : new.low ≡ e.key + 1
+  pub begun_is : new.begun ≡ begun_then old e head
+
+-- the least key above the last one
+abbrev pub low_of : Option ℕ → ℕ
+low_of None = 0
+low_of (Some last) = last + 1
+
+-- the numbers of a builder: so many leaves of at most so many items, and the size of the first
+pub record AreCounts (most leaves items size begun : ℕ) : Type 0 where
+  pub some : leaves ≤ items
+  pub few : items ≤ leaves * most
+  pub none : leaves ≡ 0 → begun ≡ 0
+  pub sized : 1 ≤ leaves → size ≡ nodes_for leaves items
+  pub begun_less : 1 ≤ leaves → begun < size
+
+-- items whose keys ascend below a bound, and whose values fit
+pub record AreInOrder {X : Type 0} (fitting : X → Bool) (items : List (ℕ × X)) (low : ℕ) : Type 0 where
+  pub ascending : is_ascending (keys_of items) ≡ true
+  pub below : AllByRecursion (λ k. k < low) (keys_of items)
+  pub fit : All (λ (item : ℕ × X). fitting item.1 ≡ true) items

@@ -1,0 +1,120 @@
+//! The levels above a row of nodes.
+
+ghost use Rattle.std.specs.Prelude.{◌≡◌, ℕ, ◌+◌, ◌-◌, ◌*◌, ◌<◌, ◌≤◌, List, [], ◌∷◌, ◌++◌, length, map, take, true, OnOk, OnErr, IfOk, IfErr, nat_eq};
+ghost use Rattle.pd_kinds.specs.Node.{Entry, is_ascending, inner_block};
+ghost use Rattle.pd_node.specs.Items.{keys_of};
+ghost use Rattle.pd_image.specs.Device.{IsWritable};
+ghost use Rattle.pd_draft.specs.Closed.{IsClosed, StaysClosed};
+ghost use Rattle.pd_draft.specs.Placed.{Wrote};
+ghost use Rattle.pd_draft.specs.Stand.{stand};
+ghost use Rattle.pd_laid.specs.Tree.{blocks_from, heads, spread, levels_above, root_above};
+ghost use Rattle.pd_spells.specs.Need.{need_above};
+ghost use Rattle.pd_build.specs.Rows.{links};
+ghost use Rattle.pd_build.specs.Causes.{CountsBuildFault};
+
+use crate::BuildFault;
+use crate::steps::{parts, put_block};
+use pd_draft::Draft;
+use pd_image::Device;
+use pd_node::write_inner;
+use std::alloc::{AllocError, Global};
+use std::marker::Model;
+
+/// Writes the levels above a row of nodes, whose least keys and places it is given. It holds the rows alone: each level
+/// takes the place of the one below it.
+#[derive(Drop)]
+pub struct UpperBuilder {
+    /// The least key and the place of each.
+    level: Vec<(u64, u64)>,
+}
+
+impl Model for UpperBuilder {
+    ghost Value = { List Entry };
+
+    ghost view = { λ b. links b.level.items };
+}
+
+impl UpperBuilder {
+    /// A row without nodes.
+    pub fn new(alloc: Global) -> UpperBuilder
+        ensures { result ≡ [] }
+    {
+        UpperBuilder {
+            level: Vec::new(alloc),
+        }
+    }
+
+    /// Whether no node was added.
+    pub fn is_empty(&self) -> bool
+        ensures { result ≡ nat_eq (length self.now) 0 }
+    {
+        self.level.is_empty()
+    }
+
+    /// Adds a node to the row. Where memory is wanting, all stays as it was.
+    pub fn add(&mut self, key: u64, place: u64) -> Result<(), AllocError>
+        ensures added { OnOk result (self.new ≡ self.old ++ record { key = key; value = place } ∷ []) }
+        ensures kept { OnErr result (self.new ≡ self.old) }
+    {
+        match self.level.push((key, place)) {
+            Ok(()) => Ok(()),
+            Err(_) => Err(AllocError),
+        }
+    }
+
+    /// Writes the levels above, and answers the place of the root: that of the one node, where no other was added.
+    pub fn finish<D: Device>(self, draft: &mut Draft<'_, D>) -> Result<u64, BuildFault>
+        requires some { 1 ≤ length self }
+        requires ascend { is_ascending (map (λ (e : Entry). e.key) self) ≡ true }
+        requires writable { IsWritable (stand draft.old).device }
+        requires room { draft.old.next + need_above 10 (length self) ≤ (stand draft.old).device.blocks }
+        requires closed { IsClosed (stand draft.old).device }
+        ensures same_reference { draft.new.dev.ghost_name ≡ draft.old.dev.ghost_name }
+        ensures wrote { OnOk result (Wrote (blocks_from inner_block draft.old.next (levels_above 10 draft.old.next self)) (stand draft.old) (stand draft.new)) }
+        ensures root { IfOk result (λ root. root ≡ root_above draft.old.next self) }
+        ensures closed { StaysClosed (stand draft.old).device (stand draft.new).device }
+        ensures faults { CountsBuildFault result (stand draft.old).device.faults (stand draft.new).device.faults }
+        ensures fault { IfErr result (λ fault. fault ≡ BuildFault.Device) }
+    {
+        let mut level = self.level;
+        while level.len() > 1 {
+            let nodes = parts(level.len() as u64, 252) as usize;
+            write_level(draft, &mut level, nodes)?;
+            level.truncate(nodes);
+        }
+        let (_, root) = level[0];
+        Ok(root)
+    }
+}
+
+/// Writes a level of so many nodes above a row of nodes, whose first links give way to those of the level.
+fn write_level<D: Device>(
+    draft: &mut Draft<'_, D>,
+    level: &mut [(u64, u64)],
+    nodes: usize,
+) -> Result<(), BuildFault>
+    requires some { nodes ≤ length level.old }
+    requires few { length level.old ≤ nodes * 252 }
+    requires ascend { is_ascending (keys_of level.old) ≡ true }
+    requires writable { IsWritable (stand draft.old).device }
+    requires room { draft.old.next + nodes ≤ (stand draft.old).device.blocks }
+    requires closed { IsClosed (stand draft.old).device }
+    ensures same_reference { draft.new.dev.ghost_name ≡ draft.old.dev.ghost_name }
+    ensures heads_are { OnOk result (links (take nodes level.new) ≡ heads draft.old.next (spread nodes (links level.old))) }
+    ensures wrote { OnOk result (Wrote (blocks_from inner_block draft.old.next (spread nodes (links level.old))) (stand draft.old) (stand draft.new)) }
+    ensures closed { StaysClosed (stand draft.old).device (stand draft.new).device }
+    ensures faults { CountsBuildFault result (stand draft.old).device.faults (stand draft.new).device.faults }
+    ensures fault { IfErr result (λ fault. fault ≡ BuildFault.Device) }
+{
+    let mut used = 0;
+    for i in 0..nodes {
+        let size = parts((level.len() - used) as u64, (nodes - i) as u64) as usize;
+        let place = draft.next();
+        let (least, _) = level[used];
+        let block = write_inner(place, &level[used..used + size]);
+        put_block(draft, &block)?;
+        level[i] = (least, place);
+        used += size;
+    }
+    Ok(())
+}

@@ -1,0 +1,47 @@
+//! A tree of items in memory.
+
+ghost use Rattle.std.specs.Prelude.{◌≡◌, ℕ, ◌+◌, ◌≤◌, List, length, true, OnOk, IfOk};
+ghost use Rattle.std.specs.List.{All};
+ghost use Rattle.pd_kinds.specs.Node.{is_ascending};
+ghost use Rattle.pd_node.specs.Items.{entries_of, keys_of};
+ghost use Rattle.pd_image.specs.Device.{IsWritable};
+ghost use Rattle.pd_draft.specs.Closed.{IsClosed, StaysClosed};
+ghost use Rattle.pd_draft.specs.Placed.{Wrote};
+ghost use Rattle.pd_draft.specs.Stand.{stand};
+ghost use Rattle.pd_laid.specs.Tree.{tree_blocks, tree_root};
+ghost use Rattle.pd_spells.specs.Need.{need_tree};
+ghost use Rattle.pd_build.specs.Causes.{CountsBuildFault};
+
+use crate::{BuildFault, Builder};
+use pd_draft::Draft;
+use pd_image::Device;
+use pd_value::Value;
+use std::alloc::Global;
+
+/// Writes the tree of these items, and answers the place of its root.
+pub fn write_tree<V: Value, D: Device>(
+    alloc: Global,
+    draft: &mut Draft<'_, D>,
+    items: &[(u64, V)],
+) -> Result<u64, BuildFault>
+    requires ascend { is_ascending (keys_of items.now) ≡ true }
+    requires fit { All (λ item. V.fitting item.1 ≡ true) items.now }
+    requires writable { IsWritable (stand draft.old).device }
+    requires room { draft.old.next + need_tree V.SIZE (length items.now) ≤ (stand draft.old).device.blocks }
+    requires closed { IsClosed (stand draft.old).device }
+    ensures same_reference { draft.new.dev.ghost_name ≡ draft.old.dev.ghost_name }
+    ensures wrote { OnOk result (Wrote (tree_blocks V.SIZE draft.old.next (entries_of V.code items.now)) (stand draft.old) (stand draft.new)) }
+    ensures root { IfOk result (λ root. root ≡ tree_root V.SIZE draft.old.next (entries_of V.code items.now)) }
+    ensures closed { StaysClosed (stand draft.old).device (stand draft.new).device }
+    ensures faults { CountsBuildFault result (stand draft.old).device.faults (stand draft.new).device.faults }
+{
+    let mut builder = match Builder::<V>::new(alloc, items.len() as u64) {
+        Ok(builder) => builder,
+        Err(_) => return Err(BuildFault::Memory),
+    };
+    for item in items {
+        let (key, value) = *item;
+        builder.put(draft, key, value)?;
+    }
+    builder.finish(draft)
+}

@@ -1,0 +1,95 @@
+-- What one more count in one chunk comes to for all blocks.
+use Rattle.std.proofs.Common.{◌≡◌, ◌≢◌, ℕ, ◌+◌, ◌*◌, ◌/◌, ◌%◌, ◌<◌, ◌≤◌, List, [], ◌∷◌, ◌++◌, length, get_or, set, sym, ◌∙◌, ap, refl, arith, inl, inr, eqb, cond, get_or-set_same, get_or-set_other}
+use Rattle.std.specs.Prelude.{count_by, Option, None, Some, MatchOption}
+use Rattle.std.proofs.Common.{Bor}
+use Rattle.std.proofs.lemmas.List.{get_or_default}
+use Rattle.std.proofs.lemmas.List.Sums.{sum_by_push}
+use Rattle.std.proofs.lemmas.Bool.{cases_eq, eq-eqb, ne_eqb}
+use Rattle.std.proofs.Math.Nat.{div-add-mod}
+use Rattle.pd_count.specs.Counted.{Counted, count_of, HasCounted, CountsOneMore, AddsOne, IsChunk, IsUncounted}
+
+-- the table of these chunks
+abbrev table : ℕ → List (List ℕ) → Counted
+table size chunks = record { size = size; chunks = chunks }
+
+-- the count of a block by its chunk
+pub count_in_chunk : (size : ℕ) (chunks : List (List ℕ)) (b : ℕ) (numbers : List ℕ) → b / 16320 < length chunks
+    → numbers ≡ get_or chunks (b / 16320) numbers → count_of (table size chunks) b ≡ get_or numbers (b % 16320) 0
+unfolding count_of
+count_in_chunk size chunks b numbers within read =
+    ap (λ (c : List ℕ). get_or c (b % 16320) 0) (sym (read ∙ get_or_default chunks (b / 16320) numbers [] within))
+
+-- blocks of one chunk that stand at one place in it are one block
+same_block : (b c : ℕ) → c / 16320 ≡ b / 16320 → c % 16320 ≡ b % 16320 → c ≡ b
+same_block b c chunk at = omega (arith, div-add-mod b 16320, div-add-mod c 16320)
+
+-- the other counts stay
+others_stay : (size : ℕ) (chunks : List (List ℕ)) (b : ℕ) (old new : List ℕ) → b / 16320 < length chunks
+    → old ≡ get_or chunks (b / 16320) old → AddsOne (b % 16320) old new
+    → (c : ℕ) → c ≢ b → count_of (table size (set chunks (b / 16320) new)) c ≡ count_of (table size chunks) c
+unfolding count_of
+others_stay size chunks b old new within read adds c other =
+    elim (cases_eq (c / 16320) (b / 16320)) [
+      | inl same ↦
+          let put : get_or (set chunks (b / 16320) new) (c / 16320) [] ≡ new = rw same (get_or-set_same chunks (b / 16320) new [] within) in
+          let had : old ≡ get_or chunks (c / 16320) [] = rw same (read ∙ get_or_default chunks (b / 16320) old [] within) in
+          ap (λ (numbers : List ℕ). get_or numbers (c % 16320) 0) put
+          ∙ adds.others (c % 16320) (λ at. other (same_block b c same at))
+          ∙ ap (λ (numbers : List ℕ). get_or numbers (c % 16320) 0) had
+      | inr apart ↦ ap (λ (numbers : List ℕ). get_or numbers (c % 16320) 0) (get_or-set_other chunks (b / 16320) (c / 16320) new [] apart)
+    ]
+
+-- one more at a block
+pub counts_one_more : (size : ℕ) (chunks : List (List ℕ)) (b : ℕ) (old new : List ℕ) → b / 16320 < length chunks
+    → old ≡ get_or chunks (b / 16320) old → AddsOne (b % 16320) old new
+    → CountsOneMore b (table size chunks) (table size (set chunks (b / 16320) new))
+unfolding count_of
+counts_one_more size chunks b old new within read adds = record {
+  size = refl;
+  counted = ap (λ (c : List ℕ). get_or c (b % 16320) 0) (get_or-set_same chunks (b / 16320) new [] within)
+      ∙ adds.counted ∙ ap (λ n. n + 1) (sym (count_in_chunk size chunks b old within read));
+  others = others_stay size chunks b old new within read adds;
+}
+
+-- and the counts are those of a list with one more block
+pub counts_listed : (b : ℕ) (old new : Counted) → CountsOneMore b old new → (before : List ℕ) → HasCounted old before
+    → HasCounted new (before ++ b ∷ [])
+counts_listed b old new adds before counted c =
+    elim (cases_eq c b) [
+      | inl same ↦ rw same (adds.counted ∙ ap (λ n. n + 1) (counted b)
+          ∙ sym (sum_by_push (λ r. cond (eqb r b) 1 0) before b ∙ ap (λ t. count_by (λ r. eqb r b) before + cond t 1 0) (eq-eqb b b refl)))
+      | inr other ↦ adds.others c other ∙ counted c
+          ∙ sym (sum_by_push (λ r. cond (eqb r c) 1 0) before b
+          ∙ ap (λ t. count_by (λ r. eqb r c) before + cond t 1 0) (ne_eqb b c (λ e. other (sym e))) ∙ omega arith)
+    ]
+
+-- the block at a place of a chunk
+place_in_chunk : (i k : ℕ) → k < 16320 → ((16320 * i + k) / 16320 ≡ i) × ((16320 * i + k) % 16320 ≡ k)
+place_in_chunk i k within = (omega arith, omega arith)
+
+-- the counts of a chunk
+pub chunk_counts : (size : ℕ) (chunks : List (List ℕ)) (i k : ℕ) → k < 16320
+    → count_of (table size chunks) (16320 * i + k) ≡ get_or (get_or chunks i []) k 0
+unfolding count_of
+chunk_counts size chunks i k within = let place = place_in_chunk i k within in rw (place.0, place.1) refl
+
+-- what a chunk tells where it has numbers, and where it has none
+pub chunk_told : (counts : Counted) (i : ℕ) (chunk : List ℕ) (numbers : Option (Bor (List ℕ)))
+    → ((k : ℕ) → k < 16320 → count_of counts (16320 * i + k) ≡ get_or chunk k 0)
+    → MatchOption numbers (chunk ≡ []) (λ xs. (xs.now ≡ chunk) × (length chunk ≡ 16320))
+    → MatchOption numbers (IsUncounted counts i) (λ xs. IsChunk counts i xs.now)
+chunk_told counts i chunk None counted told = λ k within. counted k within ∙ ap (λ (xs : List ℕ). get_or xs k 0) told
+chunk_told counts i chunk (Some numbers) counted told = record {
+  full = ap (length {A = ℕ}) told.0 ∙ told.1;
+  counted = λ k within. ap (λ (xs : List ℕ). get_or xs k 0) told.0 ∙ sym (counted k within);
+}
+
+-- no block past the last one was counted, also after one more count
+pub none_past : (b size : ℕ) (old new : Counted) → b < size → CountsOneMore b old new
+    → ((c : ℕ) → size ≤ c → count_of old c ≡ 0) → (c : ℕ) → size ≤ c → count_of new c ≡ 0
+none_past b size old new within adds none c past = adds.others c (λ same. omega (arith, same)) ∙ none c past
+
+-- where no chunk is made, nothing was counted
+pub none_counted : (size : ℕ) (chunks : List (List ℕ)) → ((i : ℕ) → get_or chunks i [] ≡ []) → (b : ℕ) → count_of (table size chunks) b ≡ 0
+unfolding count_of
+none_counted size chunks absent b = ap (λ (numbers : List ℕ). get_or numbers (b % 16320) 0) (absent (b / 16320))

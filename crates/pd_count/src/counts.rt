@@ -1,0 +1,106 @@
+//! A table of counts.
+
+ghost use Rattle.std.specs.Prelude.{◌≡◌, ℕ, ◌+◌, ◌-◌, ◌^◌, ◌<◌, ◌≤◌, List, [], ◌∷◌, ◌++◌, length, slice_index_or, IfOk, OnOk, OnErr, MatchOption};
+
+use crate::CHUNK_COUNTS;
+use crate::chunk::Chunk;
+use std::alloc::{AllocError, Global};
+use std::marker::Model;
+
+/// How often each of so many blocks was counted.
+///
+/// The counts stand in chunks of 16320, and a chunk is made when a block in it is first counted: 24 bytes a chunk,
+/// and 65280 more where it is made.
+#[derive(Drop)]
+pub struct Counts {
+    size: u64,
+    chunks: Vec<Chunk>,
+}
+
+impl Model for Counts {
+    ghost use Rattle.std.specs.Prelude.{◌≡◌, ℕ, ◌+◌, ◌/◌, ◌≤◌, length};
+    ghost use Rattle.pd_count.specs.Counted.{Counted, count_of};
+
+    ghost Value = { Counted };
+
+    ghost view = { λ c. record { size = c.size; chunks = c.chunks.items } };
+
+    ghost invariant = { λ c. (length c.chunks.items ≡ (c.size + 16319) / 16320)
+        × ((b : ℕ) → c.size ≤ b → count_of (record { size = c.size; chunks = c.chunks.items }) b ≡ 0) };
+}
+
+impl Counts {
+    ghost use Rattle.pd_count.specs.Counted.{count_of, CountsOneMore, HasCounted, IsChunk, IsUncounted};
+
+    /// A table of so many blocks, none of which was counted. It takes the memory of the list of chunks.
+    ///
+    /// Fails with `AllocError` where that memory wasn't found.
+    pub fn new(alloc: Global, size: u64) -> Result<Counts, AllocError>
+        ensures size { IfOk result (λ counts. counts.size ≡ size) }
+        ensures none { IfOk result (λ counts. HasCounted counts []) }
+    {
+        let places = size.div_ceil(CHUNK_COUNTS as u64) as usize;
+        Ok(Counts {
+            size,
+            chunks: absent_chunks(alloc, places)?,
+        })
+    }
+
+    /// Counts the block once more. It takes memory only where the block is the first one of its chunk that is
+    /// counted.
+    ///
+    /// Fails with `AllocError` where that memory wasn't found; then all is as before.
+    pub fn add(&mut self, b: u64) -> Result<(), AllocError>
+        requires within { b < self.old.size }
+        requires few { count_of self.old b < 2 ^ 32 - 1 }
+        ensures added { OnOk result (CountsOneMore b self.old self.new) }
+        // So the counts are those of the list of the blocks that were counted.
+        ensures listed { OnOk result ((before : List ℕ) → HasCounted self.old before → HasCounted self.new (before ++ b ∷ [])) }
+        ensures err { OnErr result (self.new ≡ self.old) }
+    {
+        let i = (b / CHUNK_COUNTS as u64) as usize;
+        let at = (b % CHUNK_COUNTS as u64) as usize;
+        self.chunks[i].add(at)?;
+        Ok(())
+    }
+
+    /// How often the block was counted. It takes no memory.
+    pub fn get(&self, b: u64) -> u32
+        requires { b < self.now.size }
+        ensures { result ≡ count_of self.now b }
+    {
+        let i = (b / CHUNK_COUNTS as u64) as usize;
+        let at = (b % CHUNK_COUNTS as u64) as usize;
+        self.chunks[i].get(at)
+    }
+
+    /// The number of blocks. It takes no memory.
+    pub fn size(&self) -> u64
+        ensures size { result ≡ self.now.size }
+        // No block past them was counted.
+        ensures past { (b : ℕ) → self.now.size ≤ b → count_of self.now b ≡ 0 }
+    {
+        self.size
+    }
+
+    /// The 16320 counts from block `16320 * i` on, or `None` where none of these blocks was counted. Those past the
+    /// last block are 0. It takes no memory.
+    pub fn chunk(&self, i: u64) -> Option<&[u32]>
+        ensures { MatchOption result (IsUncounted self.now i) (λ numbers. IsChunk self.now i numbers.now) }
+    {
+        let chunk = self.chunks.get(i as usize)?;
+        chunk.numbers()
+    }
+}
+
+/// So many chunks that aren't made.
+fn absent_chunks(alloc: Global, places: usize) -> Result<Vec<Chunk>, AllocError>
+    ensures len { IfOk result (λ chunks. length chunks.items ≡ places) }
+    ensures absent { IfOk result (λ chunks. (i : ℕ) → slice_index_or chunks.items i [] ≡ []) }
+{
+    let mut chunks = Vec::with_capacity(alloc, places)?;
+    for _ in 0..places {
+        chunks.push(Chunk::absent(alloc))?;
+    }
+    Ok(chunks)
+}

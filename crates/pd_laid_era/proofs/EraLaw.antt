@@ -1,0 +1,313 @@
+-- A laid era target is clean, and means the target.
+use Rattle.std.proofs.Common.{◌≡◌, ℕ, zero, suc, ◌+◌, ◌<◌, ◌≤◌, max, true, false, eq-eqb, nat_eq, nat_lt, get_or, List, [], ◌∷◌, ◌++◌, length, map, filter, refl, sym, subst, ◌∙◌, ap, ap₂, arith, zero-le}
+use Rattle.std.specs.declared.option.Option.TheVariants.{None, Some}
+use Rattle.std.specs.List.{AllByRecursion, flat_map, fold, range_with_len}
+use Rattle.std.proofs.lemmas.Bool.{and_right, eqb-true, le-ltb, not_from_true}
+use Rattle.std.proofs.lemmas.List.FromFn.{fill_by_all}
+use Rattle.pd_kinds.specs.declared.kind.Kind.TheVariants.{Era}
+use Rattle.pd_kinds.specs.declared.rule.Rule.TheVariants as r
+use Rattle.pd_kinds.specs.Bitmap.{bitmaps_for}
+use Rattle.pd_kinds.specs.EraFormat.{EraFields, era_fields, era_graph, era_layout, era_super_bad, era_super_block}
+use Rattle.pd_kinds.specs.Graph.{Graph, block_at, block_of, meta_count, nodes, pair, role_of}
+use Rattle.pd_kinds.specs.Layout.{graph_of, leaf_entries, plain_tree, tree_to}
+use Rattle.pd_kinds.specs.Meaning.{EraMeaning, archived_era, current_era, era_meaning, era_of}
+use Rattle.pd_kinds.specs.Node.{Entry}
+use Rattle.pd_kinds.specs.Stages.{AreClean, Checked, IsClean, era_checked}
+use Rattle.pd_kinds.specs.Trees.{entries_below, stored_meta_in}
+use Rattle.pd_kinds.specs.Whole.{Array, WholeTest, array_whole, array_words, bitmap_tests, era_arrays, era_whole, is_array_index_bad, reached_writesets}
+use Rattle.pd_laws.proofs.AllLemmas.{all_append, all_from, all_map, all_mapped}
+use Rattle.pd_spells.specs.Lawful.{IsLawfulEra}
+use Rattle.pd_laid.specs.Array.{array_items, array_pieces, laid_array, laid_words}
+use Rattle.pd_laid.specs.Laid.{IsLaid, LaidBlock, laid_number, laid_tree, named_by, tree_of}
+use Rattle.pd_laid.specs.LaidEra.{array_root_of, era_blocks, era_laid_fields, era_named, era_parts, laid_era, meta_map_at, meta_map_blocks, writeset_blocks, writesets_at}
+use Rattle.pd_laid.specs.Map.{laid_bitmap, laid_bitmaps, laid_meta_map, meta_counts, meta_map_number, meta_overflow, meta_overflow_at, meta_overflow_blocks}
+use Rattle.pd_laid_graph.specs.LaidOut.{AllFrom, AreLaidInOrder, IsFitting, IsInPlace, IsLaidOut, laid_super, role_at}
+use Rattle.pd_laid_graph.proofs.CheckLemmas.{all_filtered, clean_super, whole_holds}
+use Rattle.pd_laid_graph.proofs.FitLemmas.{fits_more}
+use Rattle.pd_laid_graph.proofs.FromLemmas.{by_place, from_both, from_follows, from_pairs}
+use Rattle.pd_laid_graph.proofs.LaidLemmas.{laid_in_order}
+use Rattle.pd_laid_trees.proofs.Names.{tree_roles}
+use Rattle.pd_laid_maps.proofs.MapNames.{length-meta_map}
+use Rattle.pd_laid_maps.proofs.MetaMap.{other_more}
+use Rattle.pd_laid_maps.proofs.RoleCounts.{fitting_lead}
+use Rattle.pd_laid_era.specs.CleanEra.{IsCleanEra, room_of}
+use Rattle.pd_laid_era.proofs.EraCounts.{bitmap_once, references_count}
+use Rattle.pd_laid_era.proofs.EraParts.{array_is, blocks_number, era_all, era_in_place, era_number, first_super, lawful_graph, meta_fitting, meta_is, no_writesets, one_leaf, parts_end, parts_fitting, super_edges, super_leads, writesets_are}
+use Rattle.pd_laid_era.proofs.EraSuper.{IsSuperLaid, super_laid, super_seen}
+
+super_role_is : (m : EraMeaning) (n : ℕ) → role_at (era_all m n) 0 ≡ 0
+unfolding role_at era_all
+super_role_is m n = refl
+
+module _ (m : EraMeaning) (n : ℕ) (image : List (List ℕ)) (few : n ≤ 4161600) (lawful : IsLawfulEra m)
+    (room : meta_map_at m + length (meta_map_blocks m n) ≤ n) (stand : AllFrom (IsInPlace image (era_all m n)) 0 (era_all m n)) where
+  abbrev this : Graph
+  this = graph_of 10 n 0 (era_layout n)
+
+  abbrev blocks : List LaidBlock
+  blocks = era_all m n
+
+  abbrev end : ℕ
+  end = meta_map_at m + length (meta_map_blocks m n)
+
+  super_is : IsSuperLaid image m n
+  super_is = super_laid m n image few lawful room stand
+
+  all_fit : AllFrom (IsFitting (graph_of 10 n 0 (era_layout n)) image (era_all m n) (meta_map_at m + length (meta_map_blocks m n))) 0 (era_all m n)
+  all_fit =
+      let first : IsFitting this image blocks end 0 (laid_super (era_super_block (era_laid_fields m n)) (super_edges m n)) = record {
+        seen = super_seen m n image few lawful room stand;
+        leads = super_leads m n image few lawful room stand;
+        named = λ from. absurd (omega arith);
+      } in
+      let front = fits_more this image blocks (meta_map_at m) end 1 (era_parts m) (omega arith) (parts_fitting m n image few lawful room stand) in
+      let e = parts_end m in
+      first_super (IsFitting this image blocks end) m n first
+      (from_both (IsFitting this image blocks end) 1 (era_parts m) (meta_map_blocks m n) front (rw e (meta_fitting m n image few lawful room stand)))
+
+  laid_out : IsLaidOut (graph_of 10 n 0 (era_layout n)) image (era_all m n)
+  unfolding graph_of
+  laid_out =
+      let number = blocks_number m n in
+      record {
+        some = omega arith;
+        super_role = super_role_is m n;
+        fits = omega arith;
+        each = rw number all_fit;
+      }
+
+  in_order : AreLaidInOrder (graph_of 10 n 0 (era_layout n)) image (era_all m n)
+  in_order = laid_in_order this image blocks (lawful_graph m n image few lawful room stand) laid_out
+
+  few_meta : meta_map_number 7 n (meta_map_at m) (era_named m) ≤ 4161600
+  unfolding meta_map_blocks
+  few_meta = omega (arith, length-meta_map 7 n (meta_map_at m) (era_named m))
+
+  meta_count_is : (b : ℕ) → meta_count (graph_of 10 n 0 (era_layout n)) image b ≡ meta_counts 7 n (meta_map_at m) (era_named m) b
+  meta_count_is b = in_order.meta_counts b ∙ references_count m n few_meta b
+
+  -- a bitmap is referred to once
+  bitmap_few : (b : ℕ) → role_at (era_all m n) b ≡ 8 → meta_count (graph_of 10 n 0 (era_layout n)) image b ≤ 1
+  bitmap_few b eight =
+      let once = bitmap_once m n end b eight (fitting_lead this image blocks end 0 blocks all_fit) in
+      let other = other_more 0 b (named_by blocks) (λ zero_is. let own : role_at blocks b ≡ 0 = rw (← zero_is) (super_role_is m n) in omega arith) in
+      rw (in_order.meta_counts b, other) once
+
+  abbrev Holds : WholeTest → Type 0
+  Holds t = t.fails ≡ false
+
+  -- what is said of the places of a role is said of the reached pairs in it
+  at_role : (P : ℕ → Type 0) (role : ℕ) → ((b : ℕ) → b < length (era_all m n) → role_at (era_all m n) b ≡ role → P b)
+      → AllByRecursion (λ p. P (block_of p)) (filter (λ p. nat_eq (role_of p) role) (nodes (graph_of 10 n 0 (era_layout n)) image))
+  at_role P role holds =
+      let at = λ (b : ℕ). pair b (role_at blocks b) in
+      all_filtered (λ p. P (block_of p)) (λ p. nat_eq (role_of p) role) (nodes this image)
+      (subst (λ (ps : List ℕ). AllByRecursion (λ p. nat_eq (role_of p) role ≡ true → P (block_of p)) ps) (sym in_order.nodes_are)
+      (each 0 (length blocks) (omega arith)))
+    where
+      each : (a k : ℕ) → a + k ≤ length (era_all m n) → AllByRecursion (λ p. nat_eq (role_of p) role ≡ true → P (block_of p)) (map (λ (b : ℕ). pair b (role_at (era_all m n) b)) (range_with_len a k))
+      each a zero within = tt
+      each a (suc k) within = (
+        (λ here.
+            let small = in_order.roles_small a in
+            let own : role_of (pair a (role_at (era_all m n) a)) ≡ role_at (era_all m n) a = omega arith in
+            let block : block_of (pair a (role_at (era_all m n) a)) ≡ a = omega arith in
+            rw block (holds a (omega arith) (sym own ∙ eqb-true _ role here))),
+        each (a + 1) k (omega arith),
+      )
+
+  one_edge : AllByRecursion (λ (t : WholeTest). t.fails ≡ false) (bitmap_tests (graph_of 10 n 0 (era_layout n)) image (λ role. nat_eq role 8))
+  unfolding bitmap_tests
+  one_edge =
+      let kept = filter (λ p. nat_eq (role_of p) 8) (nodes this image) in
+      all_mapped (λ (p : ℕ). record { block = block_of p; rule = r.Index; fails = nat_lt 1 (meta_count this image (block_of p)) }) Holds kept
+      (all_from (λ p. meta_count this image (block_of p) ≤ 1) (λ p. nat_lt 1 (meta_count this image (block_of p)) ≡ false) (λ p once. le-ltb 1 (meta_count this image (block_of p)) once) kept
+      (at_role (λ b. meta_count this image b ≤ 1) 8 (λ b inside eight. bitmap_few b eight)))
+
+  -- only the empty leaf has the role of writesets
+  abbrev IsEmpty : ℕ → Type 0
+  IsEmpty q = leaf_entries 12 (block_at image q) ≡ []
+
+  others : (place : ℕ) (xs : List LaidBlock) → AllByRecursion (λ (x : LaidBlock). x.role ≡ 2 → ⊥) xs → AllFrom (λ q (x : LaidBlock). x.role ≡ 2 → leaf_entries 12 (block_at image q) ≡ []) place xs
+  others place [] all = tt
+  others place (x ∷ xs) all = ((λ two. absurd (all.0 two)), others (place + 1) xs all.1)
+
+  eras_other : AllByRecursion (λ (x : LaidBlock). x.role ≡ 2 → ⊥) (era_blocks m)
+  unfolding era_blocks laid_array
+  eras_other =
+      let list = array_pieces 4 m.eras in
+      let t = tree_of (tree_to 8 6 (λ v. v)) in
+      let above = laid_tree 5 t (1 + length list) (array_items 1 (length list)) in
+      all_append (λ (x : LaidBlock). x.role ≡ 2 → ⊥) (map (laid_words 6 4) list) above
+      (all_map (laid_words 6 4) (λ (x : LaidBlock). x.role ≡ 2 → ⊥) (λ ws two. omega arith) list)
+      (all_from (λ (x : LaidBlock). x.role ≡ 5) (λ (x : LaidBlock). x.role ≡ 2 → ⊥) (λ x five two. omega arith) above (tree_roles 5 t (1 + length list) (array_items 1 (length list))))
+
+  bitmaps_other : (counts : ℕ → ℕ) → AllByRecursion (λ (x : LaidBlock). x.role ≡ 2 → ⊥) (laid_bitmaps 8 counts n)
+  unfolding laid_bitmaps
+  bitmaps_other counts = all_map (laid_bitmap 8 counts) (λ (x : LaidBlock). x.role ≡ 2 → ⊥) (λ i two. omega arith) (range_with_len 0 (bitmaps_for n))
+
+  meta_other : AllByRecursion (λ (x : LaidBlock). x.role ≡ 2 → ⊥) (meta_map_blocks m n)
+  unfolding meta_map_blocks laid_meta_map meta_overflow_blocks
+  meta_other =
+      let counts = meta_counts 7 n (meta_map_at m) (era_named m) in
+      let t = tree_of (plain_tree 4) in
+      let over = laid_tree 9 t (meta_overflow_at n (meta_map_at m)) (meta_overflow n (era_named m)) in (
+        (λ two. omega arith),
+        all_append (λ (x : LaidBlock). x.role ≡ 2 → ⊥) (laid_bitmaps 8 counts n) over (bitmaps_other counts)
+            (all_from (λ (x : LaidBlock). x.role ≡ 9) (λ (x : LaidBlock). x.role ≡ 2 → ⊥) (λ x nine two. omega arith) over (tree_roles 9 t (meta_overflow_at n (meta_map_at m)) (meta_overflow n (era_named m)))),
+      )
+
+  all_empty : AllFrom (λ q (x : LaidBlock). x.role ≡ 2 → leaf_entries 12 (block_at image q) ≡ []) 0 (era_all m n)
+  unfolding era_parts
+  all_empty =
+      let holds = λ (q : ℕ) (x : LaidBlock). x.role ≡ 2 → leaf_entries 12 (block_at image q) ≡ [] in
+      let leaf : AllFrom holds (writesets_at m) (writeset_blocks m) =
+      subst (λ (xs : List LaidBlock). AllFrom (λ q (x : LaidBlock). x.role ≡ 2 → leaf_entries 12 (block_at image q) ≡ []) (writesets_at m) xs) (sym (one_leaf m))
+      ((λ two. no_writesets m n image few lawful room stand), tt) in
+      let e = parts_end m in
+      first_super holds m n (λ two. absurd (omega arith))
+      (from_both holds 1 (era_parts m) (meta_map_blocks m n) (from_both holds 1 (era_blocks m) (writeset_blocks m) (others 1 (era_blocks m) eras_other) leaf)
+      (rw e (others (meta_map_at m) (meta_map_blocks m n) meta_other)))
+
+  empty_at : (b : ℕ) → b < length (era_all m n) → role_at (era_all m n) b ≡ 2 → leaf_entries 12 (block_at image b) ≡ []
+  empty_at b inside =
+      by_place (λ q. role_at blocks q ≡ 2 → IsEmpty q) 0 blocks
+      (from_follows (λ q x. IsInPlace image blocks q x × (x.role ≡ 2 → IsEmpty q)) (λ q x. role_at blocks q ≡ 2 → IsEmpty q) 0 blocks
+      (λ q low high x is two. is.1 (sym is.0.role_is ∙ two))
+      (from_pairs (IsInPlace image blocks) (λ q (x : LaidBlock). x.role ≡ 2 → IsEmpty q) 0 blocks stand all_empty)) b zero-le (omega arith)
+
+  no_reached : reached_writesets (graph_of 10 n 0 (era_layout n)) image ≡ []
+  unfolding reached_writesets
+  no_reached = none (filter (λ p. nat_eq (role_of p) 2) (nodes this image)) (at_role IsEmpty 2 empty_at)
+    where
+      none : (ps : List ℕ) → AllByRecursion (λ p. leaf_entries 12 (block_at image (block_of p)) ≡ []) ps → flat_map (λ p. leaf_entries 12 (block_at image (block_of p))) ps ≡ []
+      none [] all = refl
+      none (p ∷ ps) all = ap (λ (front : List Entry). front ++ flat_map (λ p. leaf_entries 12 (block_at image (block_of p))) ps) all.0 ∙ none ps all.1
+
+  -- the era array
+  abbrev fields_at : EraFields
+  fields_at = era_fields (block_at image 0)
+
+  abbrev era_array : ℕ → ℕ → Array
+  era_array root number = record { role = 5; root = root; size = 4; lengths = number ∷ [] }
+
+  arrays_are : era_arrays (graph_of 10 n 0 (era_layout n)) image ≡ record { role = 5; root = (era_fields (block_at image 0)).array_root; size = 4; lengths = (era_fields (block_at image 0)).blocks ∷ [] } ∷ []
+  unfolding era_arrays era_laid_fields
+  arrays_are =
+      let snap = ap (λ (f : EraFields). f.snap_root) super_is.fields_are in
+      let current = ap (λ (f : EraFields). f.current_root) super_is.fields_are in
+      rw (snap, current, no_reached) refl
+
+  root_is : (era_fields (block_at image 0)).array_root ≡ array_root_of m
+  unfolding era_laid_fields
+  root_is = ap (λ (f : EraFields). f.array_root) super_is.fields_are
+
+  blocks_are : (era_fields (block_at image 0)).blocks ≡ length m.eras
+  unfolding era_laid_fields
+  blocks_are = ap (λ (f : EraFields). f.blocks) super_is.fields_are ∙ lawful.one_each
+
+  era_read : (lengths : List ℕ)
+      → (is_array_index_bad (graph_of 10 n 0 (era_layout n)) image (record { role = 5; root = (era_fields (block_at image 0)).array_root; size = 4; lengths = lengths }) ≡ false)
+      × (array_words (graph_of 10 n 0 (era_layout n)) image (record { role = 5; root = (era_fields (block_at image 0)).array_root; size = 4; lengths = lengths }) ≡ m.eras)
+  era_read lengths =
+      let seen = array_is m n image few lawful room stand in (
+        ap (λ (root : ℕ). is_array_index_bad this image (record { role = 5; root = root; size = 4; lengths = lengths })) root_is ∙ seen.whole lengths,
+        ap (λ (root : ℕ). array_words this image (record { role = 5; root = root; size = 4; lengths = lengths })) root_is ∙ seen.words_are lengths,
+      )
+
+  array_holds : AllByRecursion (λ (t : WholeTest). t.fails ≡ false) (array_whole (graph_of 10 n 0 (era_layout n)) image (record { role = 5; root = (era_fields (block_at image 0)).array_root; size = 4; lengths = (era_fields (block_at image 0)).blocks ∷ [] }))
+  unfolding array_whole
+  array_holds =
+      let read = era_read (fields_at.blocks ∷ []) in
+      let words : length (array_words this image (era_array fields_at.array_root fields_at.blocks)) ≡ fields_at.blocks = ap length read.1 ∙ sym blocks_are in
+      (read.0, (and_right _ _ (not_from_true _ (eq-eqb _ _ words)), tt))
+
+  whole_tests : AllByRecursion (λ (t : WholeTest). t.fails ≡ false) (era_whole (graph_of 10 n 0 (era_layout n)) image)
+  unfolding era_whole
+  whole_tests =
+      rw arrays_are
+      (all_append Holds (bitmap_tests this image (λ role. nat_eq role 8)) _ one_edge
+      (all_append Holds (array_whole this image (era_array fields_at.array_root fields_at.blocks)) [] array_holds tt))
+
+  -- what is looked at in the image
+  abbrev looked_at : Graph → ℕ → List Entry → Checked
+  looked_at graph index meta_over = record {
+    super_bad = era_super_bad;
+    graph = graph;
+    whole = era_whole graph image;
+    stored_meta = stored_meta_in image index meta_over;
+    stored_data = λ d. None;
+  }
+
+  graph_is : era_graph (block_at image 0) ≡ graph_of 10 n 0 (era_layout n)
+  unfolding era_graph era_laid_fields
+  graph_is = ap (λ (number : ℕ). graph_of 10 number 0 (era_layout number)) (ap (λ (f : EraFields). f.meta_map.blocks) super_is.fields_are)
+
+  overflow_is : entries_below (graph_of 10 n 0 (era_layout n)) image 4 9 (era_fields (block_at image 0)).meta_map.overflow_root ≡ meta_overflow n (era_named m)
+  unfolding era_laid_fields
+  overflow_is = ap (λ (f : EraFields). entries_below this image 4 9 f.meta_map.overflow_root) super_is.fields_are ∙ (meta_is m n image few lawful room stand).overflow
+
+  checked_is : era_checked image ≡ looked_at (graph_of 10 n 0 (era_layout n)) (meta_map_at m) (meta_overflow n (era_named m))
+  unfolding era_checked era_laid_fields
+  checked_is =
+      ap (λ (g : Graph). looked_at g fields_at.meta_map.bitmap_root (entries_below g image 4 9 fields_at.meta_map.overflow_root)) graph_is
+      ∙ ap₂ (λ (i : ℕ) (over : List Entry). looked_at this i over) (ap (λ (f : EraFields). f.meta_map.bitmap_root) super_is.fields_are) overflow_is
+
+  laid_clean : n ≤ length image → IsClean Era image
+  unfolding graph_of
+  laid_clean within =
+      let checked = looked_at this (meta_map_at m) (meta_overflow n (era_named m)) in
+      subst (λ (checked : Checked). AreClean checked image) (sym checked_is)
+      (record {
+        super_block = clean_super checked image (omega arith) (super_is.sound (length image) within);
+        well_formed = in_order.well_formed;
+        one_role = in_order.one_role;
+        not_deep = in_order.not_deep;
+        in_range = in_order.in_range;
+        whole = λ b broken small. whole_holds (era_whole this image) b broken whole_tests;
+        meta_counts = λ b small. (meta_is m n image few lawful room stand).stored b small ∙ ap (λ (k : ℕ). Some k) (sym (meta_count_is b));
+        data_counts = λ d wrong. absurd (omega (arith, wrong));
+      })
+
+  abbrev meaning_of : EraFields → List ℕ → EraMeaning
+  meaning_of f eras = record { uuid = f.uuid; block_size = f.block_size; blocks = f.blocks; era = f.era; eras = eras }
+
+  no_current : (b : ℕ) → current_era (graph_of 10 n 0 (era_layout n)) image b ≡ 0
+  unfolding current_era era_laid_fields
+  no_current b = let current = ap (λ (f : EraFields). f.current_root) super_is.fields_are in rw current refl
+
+  writesets_read : entries_below (graph_of 10 n 0 (era_layout n)) image 12 2 (era_fields (block_at image 0)).writesets_root ≡ []
+  unfolding era_laid_fields
+  writesets_read = ap (λ (f : EraFields). entries_below this image 12 2 f.writesets_root) super_is.fields_are ∙ (writesets_are m n image few lawful room stand).root.entries_are
+
+  one_era : (b : ℕ) → era_of (graph_of 10 n 0 (era_layout n)) image b ≡ get_or m.eras b 0
+  unfolding era_of
+  one_era b =
+      let es = entries_below this image 12 2 fields_at.writesets_root in
+      let own = λ (words : List ℕ) (es : List Entry) (current : ℕ). max (fold max (get_or words b 0) (map (archived_era this image b) es)) current in
+      let zero_is : max (get_or m.eras b 0) 0 ≡ get_or m.eras b 0 = omega arith in
+      ap (λ (words : List ℕ). own words es (current_era this image b)) (era_read []).1
+      ∙ (ap (λ (es : List Entry). own m.eras es (current_era this image b)) writesets_read
+      ∙ (ap (λ (current : ℕ). max (get_or m.eras b 0) current) (no_current b) ∙ zero_is))
+
+  laid_means : era_meaning image ≡ m
+  unfolding era_meaning era_laid_fields
+  laid_means =
+      let eras = ap (λ (g : Graph). map (era_of g image) (range_with_len 0 fields_at.blocks)) graph_is
+      ∙ sym (fill_by_all (era_of this image) m.eras fields_at.blocks 0 (sym blocks_are) (λ k h. sym (one_era k))) in
+      ap₂ meaning_of super_is.fields_are eras
+
+pub law : (m : EraMeaning) (base image : List (List ℕ)) → IsLawfulEra m → laid_number (laid_era m (room_of base)) ≤ room_of base
+    → IsLaid (laid_era m (room_of base)) base image → IsCleanEra image m
+law m base image lawful room is =
+    let n = room_of base in
+    let stand = era_in_place m n base image is in
+    let few : n ≤ 4161600 = omega arith in
+    let number = era_number m n in
+    let enough : meta_map_at m + length (meta_map_blocks m n) ≤ n = omega arith in
+    let size = is.number in
+    record {
+      clean = laid_clean m n image few lawful enough stand (omega arith);
+      means = laid_means m n image few lawful enough stand;
+      valid = (super_is m n image few lawful enough stand).valid;
+    }

@@ -1,0 +1,5 @@
+mod EraParts
+mod EraSuper
+mod EraCounts
+mod EraLaw
+mod EraNamed

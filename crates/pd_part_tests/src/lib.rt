@@ -1,0 +1,37 @@
+//! Tests of the parts below the tools: what no clause says of each crate, and what one crate writes and another reads.
+#![tactic(auto)]
+
+#[cfg(test)]
+mod array_tests;
+#[cfg(test)]
+mod audit_tests;
+#[cfg(test)]
+mod bitmap_tests;
+#[cfg(test)]
+mod build_tests;
+#[cfg(test)]
+mod built;
+#[cfg(test)]
+mod crc_tests;
+#[cfg(test)]
+mod draft_tests;
+#[cfg(test)]
+mod image_tests;
+#[cfg(test)]
+mod map_tests;
+#[cfg(test)]
+mod node_tests;
+#[cfg(test)]
+mod small_copy;
+#[cfg(test)]
+mod small_restore;
+#[cfg(test)]
+mod supers_tests;
+#[cfg(test)]
+mod text_tests;
+#[cfg(test)]
+mod thin_pool_text;
+#[cfg(test)]
+mod tree_tests;
+#[cfg(test)]
+mod value_tests;

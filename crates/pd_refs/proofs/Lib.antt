@@ -1,0 +1,2 @@
+pub mod RefsLemmas
+pub mod RoleLemmas

@@ -1,0 +1,19 @@
+//! The counts that a space map stores, and how they differ from the references, as
+//! "drivers/md/persistent-data" lays them out. It serves each format.
+#![tactic(auto)]
+
+mod bitmaps;
+mod counting;
+mod data;
+mod groups;
+mod laws;
+mod meta;
+mod overflow;
+mod references;
+mod stored;
+
+pub use data::compare_data;
+pub use laws::{index_trees_name_bitmaps, overflow_trees_hold_counts};
+pub use meta::compare_meta;
+pub use pd_kinds::CheckFault;
+pub use stored::stored_meta;

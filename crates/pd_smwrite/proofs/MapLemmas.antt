@@ -1,0 +1,138 @@
+-- The parts of a map, put together.
+use Rattle.std.proofs.Common.{◌≡◌, ℕ, ◌+◌, ◌<◌, ◌≤◌, List, [], ◌∷◌, ◌++◌, length, sym, ◌∙◌, ap, ap₂, subst, arith}
+use Rattle.std.specs.List.{range_with_len}
+use Rattle.std.proofs.Math.Path.{fun_ext}
+use Rattle.std.proofs.lemmas.List.FromFn.{length-range_with_len}
+use Rattle.pd_kinds.specs.declared.map_root.SmRoot.{SmRoot}
+use Rattle.pd_kinds.specs.Bitmap.{bitmaps_for}
+use Rattle.pd_kinds.specs.Layout.{plain_tree}
+use Rattle.pd_kinds.specs.Node.{Entry}
+use Rattle.pd_draft.specs.Placed.{Stand, Wrote}
+use Rattle.pd_draft.proofs.PlacedLemmas.{wrote_then}
+use Rattle.pd_spells.specs.Need.{need_tree}
+use Rattle.pd_laid.specs.Laid.{LaidBlock, count_in, laid_tree, tree_of, written_from}
+use Rattle.pd_laid.specs.Tree.{blocks_from, tree_blocks}
+use Rattle.pd_laid.specs.Map.{index_items, laid_bitmap, laid_bitmaps, laid_meta_map, meta_counts, meta_map_number, meta_overflow, meta_overflow_blocks, overflow_items}
+use Rattle.pd_laid.proofs.LaidLemmas.{blocks_from-append, blocks_from-map, length-blocks_from, tree_written}
+use Rattle.pd_laid.proofs.NeedLemmas.{length-bitmaps, length-tree}
+use Rattle.pd_build.proofs.RowLemmas.{moved_by}
+use Rattle.pd_count.specs.Counted.{Counted, count_of, HasCounted}
+use Rattle.pd_smwrite.specs.Map.{bitmap_blocks, data_map_blocks, index_at, index_block, meta_map_blocks, meta_map_need, overflow_at, written_bitmap}
+use Rattle.pd_smwrite.specs.Map.{meta_overflow_at as overflow_behind}
+use Rattle.pd_smwrite.specs.Own.{CountsOwn}
+use Rattle.pd_smwrite.proofs.IndexLemmas.{length-index_items}
+use Rattle.pd_smwrite.proofs.OverflowLemmas.{overflow_agrees}
+use Rattle.pd_smwrite.proofs.OwnLemmas.{own_agrees}
+
+-- a root of these numbers
+abbrev pub root_of : ℕ → ℕ → ℕ → ℕ → SmRoot
+root_of blocks allocated bitmap overflow = record { blocks = blocks; allocated = allocated; bitmap_root = bitmap; overflow_root = overflow }
+
+-- where the next part begins
+pub bitmaps_moved : (counts : ℕ → ℕ) (n : ℕ) {from to : Stand} → Wrote (bitmap_blocks counts n from.place) from to → to.place ≡ from.place + bitmaps_for n
+unfolding bitmap_blocks
+bitmaps_moved counts n {from} {to} wrote =
+    moved_by (written_bitmap counts) (range_with_len 0 (bitmaps_for n)) wrote ∙ ap (λ (k : ℕ). from.place + k) (length-range_with_len 0 (bitmaps_for n))
+
+length-tree_blocks : (size place : ℕ) (items : List Entry) → length (tree_blocks size place items) ≡ need_tree size (length items)
+length-tree_blocks size place items =
+    let t = tree_of (plain_tree size) in
+    ap length (sym (tree_written 0 t place items))
+    ∙ (length-blocks_from (λ at (b : LaidBlock). b.written at) place (laid_tree 0 t place items) ∙ length-tree 0 t place items)
+
+pub index_moved : (counts : ℕ → ℕ) (n first : ℕ) {from to : Stand} → Wrote (tree_blocks 16 from.place (index_items counts n first)) from to
+    → to.place ≡ from.place + need_tree 16 (bitmaps_for n)
+index_moved counts n first {from} {to} wrote =
+    wrote.moved ∙ ap (λ (k : ℕ). from.place + k)
+    (length-tree_blocks 16 from.place (index_items counts n first) ∙ ap (need_tree 16) (length-index_items counts n first))
+
+-- the parts of a data map
+pub data_map_then : (counts : ℕ → ℕ) (n : ℕ) {a b c d : Stand} → Wrote (bitmap_blocks counts n a.place) a b
+    → Wrote (tree_blocks 16 b.place (index_items counts n a.place)) b c → Wrote (tree_blocks 4 c.place (overflow_items counts n)) c d
+    → Wrote (data_map_blocks counts n a.place) a d
+unfolding data_map_blocks
+data_map_then counts n {a} {b} {c} {d} first second third =
+    let index : b.place ≡ index_at n a.place = bitmaps_moved counts n first in
+    let over : c.place ≡ overflow_at n a.place = index_moved counts n a.place second ∙ ap (λ (p : ℕ). p + need_tree 16 (bitmaps_for n)) index in
+    subst (λ (blocks : List (List ℕ)). Wrote blocks a d)
+    (ap₂ (λ (p q : ℕ). bitmap_blocks counts n a.place ++ (tree_blocks 16 p (index_items counts n a.place) ++ tree_blocks 4 q (overflow_items counts n))) index over)
+    (wrote_then first (wrote_then second third))
+
+-- those of a metadata map
+pub meta_map_then : (counts : ℕ → ℕ) (n : ℕ) {a b c d : Stand} → Wrote (index_block counts n a.place ∷ []) a b
+    → Wrote (bitmap_blocks counts n b.place) b c → Wrote (tree_blocks 4 c.place (overflow_items counts n)) c d
+    → Wrote (meta_map_blocks counts n a.place) a d
+unfolding meta_map_blocks
+meta_map_then counts n {a} {b} {c} {d} first second third =
+    let behind : b.place ≡ a.place + 1 = first.moved in
+    let over : c.place ≡ overflow_behind n a.place = bitmaps_moved counts n second ∙ ap (λ (p : ℕ). p + bitmaps_for n) behind in
+    subst (λ (blocks : List (List ℕ)). Wrote blocks a d)
+    (ap₂ (λ (p q : ℕ). index_block counts n a.place ∷ (bitmap_blocks counts n p ++ tree_blocks 4 q (overflow_items counts n))) behind over)
+    (wrote_then first (wrote_then second third))
+
+-- laid bitmaps, as they are written
+pub bitmaps_written : (role : ℕ) (counts : ℕ → ℕ) (n place : ℕ) → written_from place (laid_bitmaps role counts n) ≡ bitmap_blocks counts n place
+unfolding laid_bitmaps bitmap_blocks
+bitmaps_written role counts n place =
+    blocks_from-map (λ at (b : LaidBlock). b.written at) (laid_bitmap role counts) place (range_with_len 0 (bitmaps_for n))
+
+-- a laid metadata map, as it is written: the counts before it was counted, and after
+module _ (role n place : ℕ) (named : List ℕ) (before after : ℕ → ℕ) (listed : count_in named ≡ before) where
+  over_is : meta_overflow n named ≡ overflow_items before n
+  over_is = ap (λ (f : ℕ → ℕ). overflow_items f n) listed
+
+  number_is : meta_map_number role n place named ≡ meta_map_need before n
+  unfolding meta_overflow_blocks meta_map_need
+  number_is =
+      let over = length-tree (role + 2) (tree_of (plain_tree 4)) (overflow_behind n place) (meta_overflow n named) in
+      let items = ap (λ (entries : List Entry). need_tree 4 (length entries)) over_is in
+      omega (arith, over, items)
+
+  counts_are : ((b : ℕ) → after b ≡ count_in (named ++ range_with_len place (meta_map_need before n)) b) → meta_counts role n place named ≡ after
+  unfolding meta_counts
+  counts_are counted = fun_ext (λ b. ap (λ (k : ℕ). count_in (named ++ range_with_len place k) b) number_is ∙ sym (counted b))
+
+  laid_over : written_from (overflow_behind n place) (meta_overflow_blocks role n place named) ≡ tree_blocks 4 (overflow_behind n place) (overflow_items before n)
+  unfolding meta_overflow_blocks
+  laid_over =
+      tree_written (role + 2) (tree_of (plain_tree 4)) (overflow_behind n place) (meta_overflow n named)
+      ∙ ap (tree_blocks 4 (overflow_behind n place)) over_is
+
+  pub meta_written : ((b : ℕ) → after b ≡ count_in (named ++ range_with_len place (meta_map_need before n)) b) → overflow_items after n ≡ overflow_items before n
+      → written_from place (laid_meta_map role n place named) ≡ meta_map_blocks after n place
+  unfolding laid_meta_map meta_map_blocks index_block blocks_from
+  meta_written counted same =
+      let counts = counts_are counted in
+      let write : ℕ → LaidBlock → List ℕ = λ at b. b.written at in
+      let maps = laid_bitmaps (role + 1) after n in
+      let over = meta_overflow_blocks role n place named in
+      let number : length maps ≡ bitmaps_for n = length-bitmaps (role + 1) after n in
+      let rest : written_from (place + 1) (maps ++ over) ≡ bitmap_blocks after n (place + 1) ++ tree_blocks 4 (overflow_behind n place) (overflow_items after n) =
+      blocks_from-append write (place + 1) maps over
+      ∙ (ap (λ (k : ℕ). written_from (place + 1) maps ++ written_from (place + 1 + k) over) number
+      ∙ ap₂ (λ (front back : List (List ℕ)). front ++ back) (bitmaps_written (role + 1) after n (place + 1))
+      (laid_over ∙ ap (tree_blocks 4 (overflow_behind n place)) (sym same))) in
+      rw counts (ap (λ (blocks : List (List ℕ)). index_block after n place ∷ blocks) rest)
+
+-- so it is, where these blocks were named before and the map's own were counted
+pub meta_laid : (role n place : ℕ) (named : List ℕ) (old new : Counted) → CountsOwn place (meta_map_need (count_of old) n) old new
+    → ((b : ℕ) → place ≤ b → b < place + meta_map_need (count_of old) n → count_of old b ≡ 0) → HasCounted old named
+    → written_from place (laid_meta_map role n place named) ≡ meta_map_blocks (count_of new) n place
+meta_laid role n place named old new own none counted =
+    meta_written role n place named (count_of old) (count_of new) (sym (fun_ext counted)) (own.listed named counted)
+    (overflow_agrees (count_of new) (count_of old) n (λ b within. own_agrees place (meta_map_need (count_of old) n) own none b))
+
+-- its need is the same before and after
+pub need_same : (place n : ℕ) (old new : Counted) → CountsOwn place (meta_map_need (count_of old) n) old new
+    → ((b : ℕ) → place ≤ b → b < place + meta_map_need (count_of old) n → count_of old b ≡ 0)
+    → meta_map_need (count_of new) n ≡ meta_map_need (count_of old) n
+unfolding meta_map_need
+need_same place n old new own none =
+    ap (λ (items : List Entry). 1 + (bitmaps_for n + need_tree 4 (length items)))
+    (overflow_agrees (count_of new) (count_of old) n (λ b within. own_agrees place (meta_map_need (count_of old) n) own none b))
+
+-- a root of equal numbers
+pub root_is : {blocks allocated bitmap overflow blocks' allocated' bitmap' overflow' : ℕ} → blocks ≡ blocks' → allocated ≡ allocated' → bitmap ≡ bitmap' → overflow ≡ overflow'
+    → root_of blocks allocated bitmap overflow ≡ root_of blocks' allocated' bitmap' overflow'
+root_is {blocks} {allocated} {bitmap} {overflow} {blocks'} {allocated'} {bitmap'} {overflow'} first second third fourth =
+    ap₂ (λ (a b : ℕ). root_of a b bitmap overflow) first second ∙ ap₂ (λ (c d : ℕ). root_of blocks' allocated' c d) third fourth

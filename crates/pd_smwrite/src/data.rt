@@ -1,0 +1,48 @@
+//! The map of data blocks.
+
+ghost use Rattle.std.specs.Prelude.{◌≡◌, ◌+◌, ◌≤◌, IfOk, OnOk};
+ghost use Rattle.pd_image.specs.Device.{IsWritable};
+ghost use Rattle.pd_draft.specs.Closed.{IsClosed, StaysClosed};
+ghost use Rattle.pd_draft.specs.Placed.{Wrote};
+ghost use Rattle.pd_draft.specs.Stand.{stand};
+ghost use Rattle.pd_count.specs.Counted.{count_of};
+ghost use Rattle.pd_build.specs.Causes.{CountsBuildFault};
+ghost use Rattle.pd_smwrite.specs.Map.{data_map_blocks, data_map_need, data_map_root};
+
+use crate::bitmaps::write_bitmaps;
+use crate::free::allocated;
+use crate::index::write_index_tree;
+use crate::overflow::write_overflow;
+use pd_build::BuildFault;
+use pd_count::Counts;
+use pd_draft::Draft;
+use pd_image::Device;
+use pd_kinds::SmRoot;
+use std::alloc::Global;
+
+/// Writes the map that stores these counts of data blocks, and answers its root.
+pub fn write_data_map<D: Device>(
+    alloc: Global,
+    draft: &mut Draft<'_, D>,
+    counts: &Counts,
+) -> Result<SmRoot, BuildFault>
+    requires writable { IsWritable (stand draft.old).device }
+    requires room { draft.old.next + data_map_need (count_of counts.now) counts.now.size ≤ (stand draft.old).device.blocks }
+    requires closed { IsClosed (stand draft.old).device }
+    ensures same_reference { draft.new.dev.ghost_name ≡ draft.old.dev.ghost_name }
+    ensures wrote { OnOk result (Wrote (data_map_blocks (count_of counts.now) counts.now.size draft.old.next) (stand draft.old) (stand draft.new)) }
+    ensures root { IfOk result (λ root. root ≡ data_map_root (count_of counts.now) counts.now.size draft.old.next) }
+    ensures closed { StaysClosed (stand draft.old).device (stand draft.new).device }
+    ensures faults { CountsBuildFault result (stand draft.old).device.faults (stand draft.new).device.faults }
+{
+    let first = draft.next();
+    write_bitmaps(draft, counts)?;
+    let bitmap_root = write_index_tree(alloc, draft, counts, first)?;
+    let overflow_root = write_overflow(alloc, draft, counts)?;
+    Ok(SmRoot {
+        blocks: counts.size(),
+        allocated: allocated(counts),
+        bitmap_root,
+        overflow_root,
+    })
+}

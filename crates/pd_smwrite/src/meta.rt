@@ -1,0 +1,145 @@
+//! The map of metadata blocks, which counts its own blocks.
+
+ghost use Rattle.std.specs.Prelude.{◌≡◌, ◌+◌, ◌<◌, ◌≤◌, ◌^◌, ℕ, List, [], ◌∷◌, IfOk, IfErr, OnOk};
+ghost use Rattle.pd_image.specs.Device.{IsWritable};
+ghost use Rattle.pd_draft.specs.Closed.{IsClosed, StaysClosed};
+ghost use Rattle.pd_draft.specs.Placed.{Wrote};
+ghost use Rattle.pd_draft.specs.Stand.{stand};
+ghost use Rattle.pd_laid.specs.Laid.{written_from};
+ghost use Rattle.pd_laid.specs.Map.{laid_meta_map};
+ghost use Rattle.pd_count.specs.Counted.{HasCounted, count_of};
+ghost use Rattle.pd_build.specs.Causes.{CountsBuildFault};
+ghost use Rattle.pd_smwrite.specs.Map.{index_block as index_block_of, meta_map_blocks, meta_map_need, meta_map_root};
+ghost use Rattle.pd_smwrite.specs.Own.{CountsOwn, HasNone};
+
+use crate::bitmaps::{bitmap_number, write_bitmaps};
+use crate::free::allocated;
+use crate::index::index_block;
+use crate::overflow::{overflow_number, write_overflow};
+use pd_build::{BuildFault, need_tree, put_block};
+use pd_count::Counts;
+use pd_draft::Draft;
+use pd_image::Device;
+use pd_kinds::SmRoot;
+use std::alloc::Global;
+
+/// The greatest number of entries of a leaf of counts.
+const OVERFLOW_ENTRIES: u64 = 336;
+
+/// Counts each block of the map itself once, writes the map that stores the counts of all metadata blocks then, and
+/// answers its root.
+///
+/// After an error the counts may have some of the map's blocks.
+pub fn write_meta_map<D: Device>(
+    alloc: Global,
+    draft: &mut Draft<'_, D>,
+    counts: &mut Counts,
+) -> Result<SmRoot, BuildFault>
+    requires small { counts.old.size ≤ 4161600 }
+    requires within { draft.old.next + meta_map_need (count_of counts.old) counts.old.size ≤ counts.old.size }
+    requires none { HasNone counts.old draft.old.next (meta_map_need (count_of counts.old) counts.old.size) }
+    requires writable { IsWritable (stand draft.old).device }
+    requires room { draft.old.next + meta_map_need (count_of counts.old) counts.old.size ≤ (stand draft.old).device.blocks }
+    requires closed { IsClosed (stand draft.old).device }
+    ensures same_reference { draft.new.dev.ghost_name ≡ draft.old.dev.ghost_name }
+    ensures counted { OnOk result (CountsOwn draft.old.next (meta_map_need (count_of counts.old) counts.old.size) counts.old counts.new) }
+    ensures wrote { OnOk result (Wrote (meta_map_blocks (count_of counts.new) counts.old.size draft.old.next) (stand draft.old) (stand draft.new)) }
+    ensures root { IfOk result (λ root. root ≡ meta_map_root (count_of counts.new) counts.old.size draft.old.next) }
+
+    // So what is written is the laid map, where these are the blocks that were named before.
+    ensures laid { OnOk result ((role : ℕ) (named : List ℕ) → HasCounted counts.old named
+        → Wrote (written_from draft.old.next (laid_meta_map role counts.old.size draft.old.next named)) (stand draft.old) (stand draft.new)) }
+    ensures closed { StaysClosed (stand draft.old).device (stand draft.new).device }
+    ensures faults { CountsBuildFault result (stand draft.old).device.faults (stand draft.new).device.faults }
+{
+    let number = meta_map_number(counts);
+    count_own(counts, draft.next(), number)?;
+    write_counted(alloc, draft, counts)
+}
+
+/// How many blocks the map of these counts has.
+fn meta_map_number(counts: &Counts) -> u64
+    requires { meta_map_need (count_of counts.now) counts.now.size < 2 ^ 64 }
+    ensures { result ≡ meta_map_need (count_of counts.now) counts.now.size }
+{
+    1 + bitmap_number(counts) + need_tree(overflow_number(counts), OVERFLOW_ENTRIES)
+}
+
+/// Counts so many blocks from a place on, each once.
+fn count_own(counts: &mut Counts, place: u64, number: u64) -> Result<(), BuildFault>
+    requires within { place + number ≤ counts.old.size }
+    requires fits { place + number < 2 ^ 64 }
+    requires none { HasNone counts.old place number }
+    ensures counted { OnOk result (CountsOwn place number counts.old counts.new) }
+    ensures fault { IfErr result (λ fault. fault ≡ BuildFault.Memory) }
+{
+    for i in 0..number {
+        add_one(counts, place + i)?;
+    }
+    Ok(())
+}
+
+/// Counts a block once.
+fn add_one(counts: &mut Counts, b: u64) -> Result<(), BuildFault>
+    requires within { b < counts.old.size }
+    requires none { count_of counts.old b ≡ 0 }
+    ensures counted { OnOk result (CountsOwn b 1 counts.old counts.new) }
+    ensures fault { IfErr result (λ fault. fault ≡ BuildFault.Memory) }
+{
+    match counts.add(b) {
+        Ok(()) => Ok(()),
+        Err(_) => Err(BuildFault::Memory),
+    }
+}
+
+/// Writes the map that stores these counts, and answers its root.
+fn write_counted<D: Device>(
+    alloc: Global,
+    draft: &mut Draft<'_, D>,
+    counts: &Counts,
+) -> Result<SmRoot, BuildFault>
+    requires small { counts.now.size ≤ 4161600 }
+    requires place { draft.old.next + 256 < 2 ^ 64 }
+    requires writable { IsWritable (stand draft.old).device }
+    requires room { draft.old.next + meta_map_need (count_of counts.now) counts.now.size ≤ (stand draft.old).device.blocks }
+    requires closed { IsClosed (stand draft.old).device }
+    ensures same_reference { draft.new.dev.ghost_name ≡ draft.old.dev.ghost_name }
+    ensures wrote { OnOk result (Wrote (meta_map_blocks (count_of counts.now) counts.now.size draft.old.next) (stand draft.old) (stand draft.new)) }
+    ensures root { IfOk result (λ root. root ≡ meta_map_root (count_of counts.now) counts.now.size draft.old.next) }
+    ensures closed { StaysClosed (stand draft.old).device (stand draft.new).device }
+    ensures faults { CountsBuildFault result (stand draft.old).device.faults (stand draft.new).device.faults }
+{
+    let place = draft.next();
+    put_index(alloc, draft, counts)?;
+    write_bitmaps(draft, counts)?;
+    let overflow_root = write_overflow(alloc, draft, counts)?;
+    Ok(SmRoot {
+        blocks: counts.size(),
+        allocated: allocated(counts),
+        bitmap_root: place,
+        overflow_root,
+    })
+}
+
+/// Writes the index block at the draft's next place, for bitmaps behind it.
+fn put_index<D: Device>(
+    alloc: Global,
+    draft: &mut Draft<'_, D>,
+    counts: &Counts,
+) -> Result<(), BuildFault>
+    requires small { counts.now.size ≤ 4161600 }
+    requires place { draft.old.next + 256 < 2 ^ 64 }
+    requires writable { IsWritable (stand draft.old).device }
+    requires room { draft.old.next < (stand draft.old).device.blocks }
+    requires closed { IsClosed (stand draft.old).device }
+    ensures same_reference { draft.new.dev.ghost_name ≡ draft.old.dev.ghost_name }
+    ensures wrote { OnOk result (Wrote (index_block_of (count_of counts.now) counts.now.size draft.old.next ∷ []) (stand draft.old) (stand draft.new)) }
+    ensures closed { StaysClosed (stand draft.old).device (stand draft.new).device }
+    ensures faults { CountsBuildFault result (stand draft.old).device.faults (stand draft.new).device.faults }
+{
+    let block = match index_block(alloc, counts, draft.next()) {
+        Ok(block) => block,
+        Err(_) => return Err(BuildFault::Memory),
+    };
+    put_block(draft, &block)
+}

@@ -1,0 +1,109 @@
+-- What lines of a pool's text that were read say and mean.
+use Rattle.std.proofs.Common.{◌≡◌, ℕ, ◌+◌, ◌^◌, ◌≤◌, ◌<◌, true, false, not, ◌&&◌, ltb, leb, List, [], ◌∷◌, length, arith}
+use Rattle.std.proofs.lemmas.Bool.Decides.{nat_tests}
+use Rattle.pd_kinds.specs.Meaning.{ThinPool}
+use Rattle.pd_grammar.specs.Texts.{TextFormat, has_ended, written}
+use Rattle.pd_grammar.proofs.LineLemmas.{IsReader, AreRead}
+use Rattle.pd_grammar.proofs.GrammarLemmas.{Passes, is_read, is_reader, lines_if_read}
+use Rattle.pd_spells.specs.ThinText.{Line, pool_line, device_line, map_line, end_line, Head, Details, Run, thin, thin_tests, data_blocks_of, least_id, run_end, unmapped, has_number_out_of_range, is_out_of_order, is_mapped_otherwise, MeansPool}
+use Rattle.pd_spells.proofs.ThinRead.{FitsLine, Placed, thin_grammar}
+use Rattle.pd_spells.proofs.ThinLaws.{thin_language}
+use Rattle.pd_texts.specs.Reader.{IsReadAfter, AreReadSoFar, in_order}
+use Rattle.pd_texts.specs.ThinNext.{IsPoolLine, IsDeviceLine, IsMapLine, IsEndLine}
+
+-- lines that were read, one after the other, are read again from what is written
+read_again : {M : Type 0} → (format : TextFormat M) → IsReader format → (before lines : List M) → AreReadSoFar format before → AreRead format before lines
+    → AreRead format [] (in_order before lines)
+read_again format reader [] lines so_far rest = rest
+read_again {M} format reader (line ∷ before) lines so_far rest =
+    let one = so_far.0 in
+    let same : written format line ≡ one.bytes = reader.written before one.bytes line one.is in
+    read_again format reader before (line ∷ lines) so_far.1 (one.going, (rw same one.short, (rw same one.is, rest)))
+
+-- lines that were read up to the last one mean a pool
+pub read_lines_mean : (lines : List Line) → AreReadSoFar thin lines → has_ended thin lines ≡ true → (m : ThinPool) × MeansPool (in_order lines []) m
+read_lines_mean lines so_far ended =
+    let are = read_again thin (is_reader thin FitsLine Placed thin_grammar) lines [] so_far ended in
+    thin_language.means (in_order lines []) (lines_if_read thin FitsLine Placed thin_grammar [] (in_order lines []) are)
+
+-- the tests that a line has passed
+record HasPassed (before : List Line) (line : Line) : Type 0 where
+  range : has_number_out_of_range before line ≡ false
+  order : is_out_of_order before line ≡ false
+  mapped : is_mapped_otherwise before line ≡ false
+
+passed : (before : List Line) (line : Line) → 1 ≤ length before → Passes thin_tests before line → HasPassed before line
+passed [] line some passes = absurd (omega arith)
+passed (newest ∷ before) line some passes = record { range = passes.0; order = passes.1.0; mapped = passes.1.1.0 }
+
+pool_says : (time size blocks : ℕ) → not (ltb time (2 ^ 32) && (ltb size (2 ^ 32) && leb blocks (2 ^ 40))) ≡ false
+    → (time < 2 ^ 32) × ((size < 2 ^ 32) × (blocks ≤ 2 ^ 40))
+pool_says time size blocks range = (grind (arith, nat_tests), (grind (arith, nat_tests), grind (arith, nat_tests)))
+
+pub pool_read : (before : List Line) (p : Head) → IsReadAfter thin before (pool_line p) → IsPoolLine before p
+pool_read before p one =
+    let is = is_read thin FitsLine Placed thin_grammar before one.bytes (pool_line p) one.is in
+    let tests = passed before (pool_line p) (omega (arith, is.placed)) is.passes in
+    let says = pool_says p.time p.block_size p.data_blocks tests.range in
+    record {
+      second = is.placed;
+      uuid_len = is.fits.0;
+      uuid_bytes = is.fits.1.0;
+      time_fits = says.0;
+      transaction_fits = is.fits.1.1.1.0;
+      block_size_fits = says.1.0;
+      data_blocks_fit = says.1.1;
+    }
+
+device_says : (created snapped id least left : ℕ) → not (ltb created (2 ^ 32) && ltb snapped (2 ^ 32)) ≡ false → ltb id least ≡ false → ltb 0 left ≡ false
+    → (created < 2 ^ 32) × ((snapped < 2 ^ 32) × ((least ≤ id) × (left ≡ 0)))
+device_says created snapped id least left range order mapped =
+    (grind (arith, nat_tests), (grind (arith, nat_tests), (grind (arith, nat_tests), grind (arith, nat_tests))))
+
+pub device_read : (before : List Line) (d : Details) → IsReadAfter thin before (device_line d) → IsDeviceLine before d
+device_read before d one =
+    let is = is_read thin FitsLine Placed thin_grammar before one.bytes (device_line d) one.is in
+    let tests = passed before (device_line d) (omega (arith, is.placed)) is.passes in
+    let says = device_says d.created d.snapped d.id (least_id before) (unmapped before) tests.range tests.order tests.mapped in
+    record {
+      later = is.placed;
+      above = says.1.1.0;
+      complete = says.1.1.1;
+      id_fits = is.fits.0;
+      mapped_fits = is.fits.1.0;
+      transaction_fits = is.fits.1.1.0;
+      created_fits = says.0;
+      snapped_fits = says.1.0;
+    }
+
+map_says : (n end blocks_end blocks time v run left : ℕ) → not (ltb 0 n && (leb end (2 ^ 64) && (leb blocks_end blocks && ltb time (2 ^ 24)))) ≡ false
+    → ltb v run ≡ false → ltb left n ≡ false
+    → (1 ≤ n) × ((end ≤ 2 ^ 64) × ((blocks_end ≤ blocks) × ((time < 2 ^ 24) × ((run ≤ v) × (n ≤ left)))))
+map_says n end blocks_end blocks time v run left range order mapped =
+    (grind (arith, nat_tests), (grind (arith, nat_tests), (grind (arith, nat_tests), (grind (arith, nat_tests), (grind (arith, nat_tests), grind (arith, nat_tests))))))
+
+pub map_read : (before : List Line) (r : Run) → IsReadAfter thin before (map_line r) → IsMapLine before r
+map_read before r one =
+    let is = is_read thin FitsLine Placed thin_grammar before one.bytes (map_line r) one.is in
+    let tests = passed before (map_line r) (omega (arith, is.placed.0)) is.passes in
+    let says = map_says r.length (r.virtual_block + r.length) (r.data_block + r.length) (data_blocks_of before) r.time r.virtual_block (run_end before) (unmapped before)
+    tests.range tests.order tests.mapped in
+    record {
+      later = is.placed.0;
+      has_device = is.placed.1;
+      some = says.0;
+      above = says.1.1.1.1.0;
+      virtual_fits = says.1.0;
+      within = says.1.1.0;
+      time_fits = says.1.1.1.0;
+      mapped = says.1.1.1.1.1;
+    }
+
+end_says : (left : ℕ) → ltb 0 left ≡ false → left ≡ 0
+end_says left mapped = grind (arith, nat_tests)
+
+pub end_read : (before : List Line) → IsReadAfter thin before end_line → IsEndLine before
+end_read before one =
+    let is = is_read thin FitsLine Placed thin_grammar before one.bytes end_line one.is in
+    let tests = passed before end_line (omega (arith, is.placed)) is.passes in
+    record { later = is.placed; complete = end_says (unmapped before) tests.mapped }

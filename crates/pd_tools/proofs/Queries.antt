@@ -1,0 +1,226 @@
+-- What the work of a query comes to, over plain variables.
+use Rattle.std.proofs.Common.{◌≡◌, inl, inr, ℕ, true, false, nat_eq, nat_lt, IsTrue, List, [], ◌∷◌, length, Option, Some, None, IfSome, refl, sym, ap, ◌∙◌, lit≤, arith, unwrap_or, Result, Ok, Err}
+use Rattle.std.proofs.lemmas.Bool.{cases_Bool, eqb-true}
+use Rattle.pd_kinds.specs.declared.kind.Kind.{Kind}
+use Rattle.pd_kinds.specs.declared.kind.Kind.TheVariants.{Thin}
+use Rattle.pd_kinds.specs.declared.kind.Stage.{Stage}
+use Rattle.pd_kinds.specs.declared.kind.Stage.TheVariants as stages
+use Rattle.pd_kinds.specs.Objects.{DeviceState, SinkState, Appends, AppendsFront}
+use Rattle.pd_kinds.specs.Report.{Reported, report_of}
+use Rattle.pd_kinds.specs.Stages.{Checked, checked_of, faults, first_failing, stage_faults}
+use Rattle.pd_kinds.specs.Crash.{IsUntouched}
+use Rattle.pd_kinds.proofs.AppendLemmas.{appends_none, front_none}
+use Rattle.pd_image.specs.Device.{OnlyReads}
+use Rattle.pd_answers.specs.Answer.{Objects, IsUsed, reading}
+use Rattle.pd_answers.specs.Promises.{image_text}
+use Rattle.pd_answers.specs.Terms.{is_one_of, is_possible}
+use Rattle.pd_query.specs.Adds.{PutsText}
+use Rattle.pd_query.specs.declared.fault.QueryFault.{QueryFault}
+use Rattle.pd_tools.specs.declared.query.Query.{Query}
+use Rattle.pd_tools.specs.declared.stop.Stop.{Stop}
+use Rattle.pd_tools.specs.declared.stop.Stop.TheVariants.{Device, Stream, Memory}
+use Rattle.pd_tools.specs.Query.{IsUnput, PutsAnswer, kind_of, stopped_as, query_line, query_status, terms_of_query, text_of}
+use Rattle.pd_tools.specs.Read.{IsUnread}
+use Rattle.pd_tools.specs.Work.{IsFinished, IsStopped, IsWork}
+use Rattle.pd_tools.proofs.Checks.{not_yet}
+
+-- a value that is told, if one is
+abbrev pub told_or : {X Y : Type 0} → (X → Y) → Y → Option X → Y
+told_or f otherwise None = otherwise
+told_or f otherwise (Some x) = f x
+
+-- a report without faults is that of an image without faults
+none_reported : (kind : Kind) (image : List (List ℕ)) (report : Reported) → report ≡ report_of (faults kind stages.Whole image) → (nat_eq report.total 0) ≡ true → faults kind stages.Whole image ≡ []
+none_reported kind image report is clean = none_of (faults kind stages.Whole image) (sym (ap (λ (r : Reported). r.total) is) ∙ eqb-true report.total 0 clean)
+  where
+    none_of : {X : Type 0} (xs : List X) → length xs ≡ 0 → xs ≡ []
+    none_of [] none = refl
+    none_of (x ∷ xs) none = absurd (omega arith)
+
+-- an image without faults has none at its superblock
+none_first : (checked : Checked) (image : List (List ℕ)) (stage : Stage) (later : List Stage) → first_failing checked image (stage ∷ later) ≡ [] → first_failing checked image (stage ∷ []) ≡ []
+unfolding first_failing
+none_first checked image stage later none = elim (cases_Bool (nat_lt 0 (length (stage_faults checked image stage)))) [
+  | inl some ↦ rw some (rw some at none)
+  | inr nothing ↦ rw nothing refl
+]
+
+none_at_super : (kind : Kind) (image : List (List ℕ)) → faults kind stages.Whole image ≡ [] → faults kind stages.Super image ≡ []
+unfolding faults
+none_at_super kind image none = none_first (checked_of kind image) image stages.Super (stages.Walk ∷ stages.Order ∷ stages.Whole ∷ []) none
+
+two_told : {X : Type 0} {P Q R : X → Type 0} → (o : Option X) → ((x : X) → P x → Q x → R x) → IfSome o P → IfSome o Q → IfSome o R
+two_told None join p q = tt
+two_told (Some x) join p q = join x p q
+
+pub one_told : {X : Type 0} {P Q : X → Type 0} → (o : Option X) → ((x : X) → P x → Q x) → IfSome o P → IfSome o Q
+one_told None join p = tt
+one_told (Some x) join p = join x p
+
+text_told : (held : Option (List (List ℕ))) (f : List (List ℕ) → List ℕ) → IfSome held (λ image. told_or f [] held ≡ f image)
+text_told None f = tt
+text_told (Some image) f = refl
+
+pub both_told : (held : Option (List (List ℕ))) (kind : Kind) (f : List (List ℕ) → List ℕ)
+    → IfSome held (λ image. (told_or (λ image. report_of (faults kind stages.Whole image)) (report_of []) held ≡ report_of (faults kind stages.Whole image)) × (told_or f [] held ≡ f image))
+both_told None kind f = tt
+both_told (Some image) kind f = (refl, refl)
+
+module _ (q : Query) (file : Option (List ℕ)) (path : List ℕ) (others : Objects) (notes out : SinkState) (input : DeviceState) (fresh : out.access ≡ 0) where
+  -- the image was not read
+  pub query_unread : (input' : DeviceState) (stop : Stop) → IsUsed (reading path) input'.access input'.path → IsUntouched input input' → IsUnread (kind_of q) stages.Whole input input' stop
+      → IsStopped (terms_of_query q file path) (record others { out = out; input = input }) (record others { out = out; notes = notes; input = input' }) stop
+  query_unread input' Stream used untouched unread = absurd unread
+  query_unread input' Device used untouched unread = record {
+    finding = record { report = told_or (λ image. report_of (faults (kind_of q) stages.Whole image)) (report_of []) input.held; text = told_or (text_of q) [] input.held };
+    work = record {
+      found = both_told input.held (kind_of q) (text_of q);
+      possible = refl;
+      followed = record { source = tt; out = not_yet (unwrap_or file []) out.access out.path fresh; input = used; output = tt; third = tt };
+      kept = record { source = refl; out = tt; input = untouched; output = refl; third = refl };
+      silent = λ _. refl;
+      leaves = tt;
+    };
+    cause = inl unread;
+    front = front_none _ out.written;
+    lost = tt;
+  }
+  query_unread input' Memory used untouched unread = record {
+    finding = record { report = told_or (λ image. report_of (faults (kind_of q) stages.Whole image)) (report_of []) input.held; text = told_or (text_of q) [] input.held };
+    work = record {
+      found = both_told input.held (kind_of q) (text_of q);
+      possible = refl;
+      followed = record { source = tt; out = not_yet (unwrap_or file []) out.access out.path fresh; input = used; output = tt; third = tt };
+      kept = record { source = refl; out = tt; input = untouched; output = refl; third = refl };
+      silent = λ _. refl;
+      leaves = tt;
+    };
+    cause = unread;
+    front = front_none _ out.written;
+    lost = tt;
+  }
+
+  module _ (input' : DeviceState) (report : Reported) (right : IfSome input.held (λ image. report ≡ report_of (faults (kind_of q) stages.Whole image)))
+      (used : IsUsed (reading path) input'.access input'.path) (untouched : IsUntouched input input') (opened : input'.access ≡ 1) where
+    -- the image has faults
+    pub query_faulty : (nat_eq report.total 0) ≡ false
+        → IsFinished (terms_of_query q file path) (record others { out = out; input = input }) (record others { out = out; notes = notes; input = input' }) (query_status report) (query_line report)
+    query_faulty faulty =
+        rw faulty (record {
+          finding = record { report = report; text = told_or (text_of q) [] input.held };
+          work = record {
+            found = two_told input.held (λ image is text. (is, text)) right (text_told input.held (text_of q));
+            possible = refl;
+            followed = record { source = tt; out = not_yet (unwrap_or file []) out.access out.path fresh; input = used; output = tt; third = tt };
+            kept = record { source = refl; out = tt; input = untouched; output = refl; third = refl };
+            silent = λ _. refl;
+            leaves = tt;
+          };
+          low = lit≤ tt;
+          same_status = rw faulty refl;
+          same_line = rw faulty refl;
+          out = rw faulty (appends_none out.written);
+          open_devices = record { source = tt; input = opened; output = tt; third = tt };
+          open_out = λ e. absurd (omega arith);
+          read = λ _. tt;
+        })
+
+    -- it has none, and the text was put
+    module _ (clean : (nat_eq report.total 0) ≡ true) (out' : SinkState) (out_used : IsUsed (reading (unwrap_or file [])) out'.access out'.path)
+        (text : List ℕ) (told : IfSome input.held (λ image. faults (kind_of q) stages.Whole image ≡ [] → text ≡ text_of q image)) where
+      found_text : IfSome input.held (λ image. (report ≡ report_of (faults (kind_of q) stages.Whole image)) × (text ≡ text_of q image))
+      found_text = two_told input.held (λ image is answers. (is, answers (none_reported (kind_of q) image report is clean))) right told
+
+      pub query_done : out'.access ≡ 1 → Appends text out.written out'.written
+          → IsFinished (terms_of_query q file path) (record others { out = out; input = input }) (record others { out = out'; notes = notes; input = input' }) (query_status report) (query_line report)
+      query_done access whole =
+          rw clean (record {
+            finding = record { report = report; text = text };
+            work = record {
+              found = found_text;
+              possible = refl;
+              followed = record { source = tt; out = out_used; input = used; output = tt; third = tt };
+              kept = record { source = refl; out = tt; input = untouched; output = refl; third = refl };
+              silent = λ e. absurd cc;
+              leaves = tt;
+            };
+            low = lit≤ tt;
+            same_status = rw clean refl;
+            same_line = rw clean refl;
+            out = rw clean whole;
+            open_devices = record { source = tt; input = opened; output = tt; third = tt };
+            open_out = λ _. access;
+            read = λ _. tt;
+          })
+
+      -- or a front of it
+      stopped_work : (stop : Stop) (status : ℕ) → IsTrue (is_possible (terms_of_query q file path) status) → (IsTrue (is_one_of (1 ∷ []) status) → ⊥)
+          → IsWork (terms_of_query q file path) (record { report = report; text = text }) (record others { out = out; input = input }) (record others { out = out'; notes = notes; input = input' }) status
+      stopped_work stop status possible loud = record {
+        found = found_text;
+        possible = possible;
+        followed = record { source = tt; out = out_used; input = used; output = tt; third = tt };
+        kept = record { source = refl; out = tt; input = untouched; output = refl; third = refl };
+        silent = λ e. absurd (loud e);
+        leaves = tt;
+      }
+
+      pub query_unput : (stop : Stop) → AppendsFront text out.written out'.written → IsUnput input.faults input'.faults out.faults out'.faults stop
+          → IsStopped (terms_of_query q file path) (record others { out = out; input = input }) (record others { out = out'; notes = notes; input = input' }) stop
+      query_unput Device front unput = record {
+        finding = record { report = report; text = text };
+        work = stopped_work Device 5 refl (λ e. cc);
+        cause = inl unput;
+        front = rw clean front;
+        lost = tt;
+      }
+      query_unput Stream front unput = record {
+        finding = record { report = report; text = text };
+        work = stopped_work Stream 6 refl (λ e. cc);
+        cause = inr unput;
+        front = rw clean front;
+        lost = tt;
+      }
+      query_unput Memory front unput = record {
+        finding = record { report = report; text = text };
+        work = stopped_work Memory 7 refl (λ e. cc);
+        cause = record {
+          past_super = λ e. absurd cc;
+          sound = one_told input.held (λ image is. none_at_super (kind_of q) image (none_reported (kind_of q) image report is clean)) right;
+        };
+        front = rw clean front;
+        lost = tt;
+      }
+
+-- what is only read after it was opened
+pub reads_used : (path : List ℕ) (input input' : DeviceState) → OnlyReads input input' → IsUsed (reading path) input.access input.path → IsUsed (reading path) input'.access input'.path
+reads_used path input input' kept used = rw (kept.access, kept.path) used
+
+pub reads_untouched : (first input input' : DeviceState) → OnlyReads input input' → IsUntouched first input → IsUntouched first input'
+reads_untouched first input input' kept same = record { held = kept.held ∙ same.held; history = kept.history ∙ same.history }
+
+-- no text was put
+pub answer_none : (kind : Kind) (f : List (List ℕ) → List ℕ) (stop : Stop) (held : Option (List (List ℕ))) (before after : Option (List ℕ)) → after ≡ before → PutsAnswer kind f (Err stop) held before after
+answer_none kind f stop held before after same = record {
+  text = told_or f [] held;
+  told = one_told held (λ image is _. is) (text_told held f);
+  whole = tt;
+  front = rw same (front_none _ before);
+}
+
+-- a dump's text, where its law holds
+pub answer_put : (result : Result (Unit {0}) QueryFault) (held : Option (List (List ℕ))) (left : List (List ℕ) → List ℕ) (before after : Option (List ℕ))
+    → PutsText held left result before after → IfSome held (λ image. faults Thin stages.Whole image ≡ [] → left image ≡ image_text Thin image)
+    → PutsAnswer Thin (image_text Thin) (stopped_as result) held before after
+answer_put (Ok done) held left before after puts law = record {
+  text = puts.text;
+  told = two_told held (λ image is same none. is ∙ same none) puts.told law;
+  whole = puts.whole;
+  front = puts.front;
+}
+answer_put (Err fault) held left before after puts law = record {
+  text = puts.text;
+  told = two_told held (λ image is same none. is ∙ same none) puts.told law;
+  whole = tt;
+  front = puts.front;
+}

@@ -1,0 +1,56 @@
+-- What a query of an image does.
+use Rattle.std.specs.Prelude.{◌≡◌, ℕ, ◌==◌, if◌then◌else◌, List, [], Option, IfSome, Result, Ok, Err, OnOk}
+use Rattle.pd_kinds.specs.declared.kind.Kind.{Kind}
+use Rattle.pd_kinds.specs.declared.kind.Stage.TheVariants.{Whole}
+use Rattle.pd_kinds.specs.Objects.{Appends, AppendsFront, Rose}
+use Rattle.pd_kinds.specs.Report.{Reported}
+use Rattle.pd_kinds.specs.Stages.{faults}
+use Rattle.pd_spells.specs.Lines.{reported_lines}
+use Rattle.pd_answers.specs.Promises.{image_text, query}
+use Rattle.pd_answers.specs.Terms.{Terms}
+use Rattle.pd_query.specs.declared.fault.QueryFault.{QueryFault}
+use Rattle.pd_query.specs.declared.fault.QueryFault.TheVariants as f
+use Rattle.pd_tools.specs.declared.query.Query.{Query}
+use Rattle.pd_tools.specs.declared.query.Query.TheVariants.{Dump}
+use Rattle.pd_tools.specs.declared.stop.Stop.{Stop}
+use Rattle.pd_tools.specs.declared.stop.Stop.TheVariants.{Device, Stream, Memory}
+
+-- the kind of metadata that is asked about, and the text that answers
+abbrev pub kind_of : Query → Kind
+kind_of (Dump kind) = kind
+
+abbrev pub text_of : Query → List (List ℕ) → List ℕ
+text_of (Dump kind) image = image_text kind image
+
+abbrev pub terms_of_query : Query → Option (List ℕ) → List ℕ → Terms
+terms_of_query q file path = query (kind_of q) (text_of q) file path
+
+-- the status after a check with this report, and the line that goes to `notes`
+abbrev pub query_status : Reported → ℕ
+query_status report = if report.total == 0 then 0 else 1
+
+abbrev pub query_line : Reported → List ℕ
+query_line report = if report.total == 0 then [] else reported_lines report
+
+-- a text was put, or a front of it where the work failed; where the device tells an image without faults, it answers
+pub record PutsAnswer (kind : Kind) (text_of : List (List ℕ) → List ℕ) (result : Result (Unit {0}) Stop) (held : Option (List (List ℕ))) (before after : Option (List ℕ)) : Type 0 where
+  pub text : List ℕ
+  pub told : IfSome held (λ image. faults kind Whole image ≡ [] → text ≡ text_of image)
+  pub whole : OnOk result (Appends text before after)
+  pub front : AppendsFront text before after
+
+-- what a query's fault stops
+abbrev pub stop_as : QueryFault → Stop
+stop_as f.Memory = Memory
+stop_as f.Device = Device
+stop_as f.Sink = Stream
+
+abbrev pub stopped_as : Result (Unit {0}) QueryFault → Result (Unit {0}) Stop
+stopped_as (Ok done) = Ok done
+stopped_as (Err fault) = Err (stop_as fault)
+
+-- why the text wasn't put: the count of the device that failed rose, or that of the sink
+abbrev pub IsUnput : ℕ → ℕ → ℕ → ℕ → Stop → Type 0
+IsUnput input input' out out' Memory = Unit {0}
+IsUnput input input' out out' Device = Rose input input'
+IsUnput input input' out out' Stream = Rose out out'

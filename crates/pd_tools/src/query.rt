@@ -1,0 +1,179 @@
+//! A query of an image: the check of it, and then the text that answers the query.
+
+ghost use Rattle.std.specs.Prelude.{◌≡◌, ◌==◌, [], ℕ, List, IfOk, IfErr, OnOk, MatchResult, if◌then◌else◌, unwrap_or};
+ghost use Rattle.std.specs.Option.{option_copied};
+ghost use Rattle.pd_kinds.specs.declared.kind.Stage.TheVariants.{Whole};
+ghost use Rattle.pd_kinds.specs.Objects.{SinkState};
+ghost use Rattle.pd_kinds.specs.Crash.{IsUntouched};
+ghost use Rattle.pd_image.specs.Device.{OnlyReads};
+ghost use Rattle.pd_spells.specs.Lines.{reported_lines};
+ghost use Rattle.pd_answers.specs.Answer.{Objects, IsUsed, reading};
+ghost use Rattle.pd_kinds.specs.declared.kind.Kind.TheVariants.{Thin};
+ghost use Rattle.pd_answers.specs.Promises.{image_text};
+ghost use Rattle.pd_tools.specs.Notes.{PutsLine};
+ghost use Rattle.pd_tools.specs.Query.{IsUnput, PutsAnswer, kind_of, query_line, query_status, stop_as, terms_of_query, text_of};
+ghost use Rattle.pd_tools.specs.Read.{IsBuiltCheck};
+ghost use Rattle.pd_tools.specs.Work.{IsFinished, IsStopped, Answers};
+
+use crate::check::read_report;
+use crate::stop::Stop;
+use pd_image::{Device, Sink};
+use pd_kinds::{Kind, Report, Stage};
+use pd_lines::print_report;
+use pd_pool::{given_lines_are_the_text, rows_are_the_devices};
+use pd_query::{QueryFault, ThinDump};
+use std::alloc::Global;
+
+/// What is asked of an image.
+#[derive(Clone, Copy)]
+pub enum Query {
+    /// Its text.
+    Dump(Kind),
+}
+
+/// Checks the image at the path up to the stage Whole, and puts the text that answers the query to the file, or to the
+/// standard output. Where the image has faults, their report goes to `notes`, and `out` isn't attached.
+pub fn run_query<K: Sink, E: Sink, A: Device>(
+    alloc: Global,
+    query: Query,
+    file: Option<&str>,
+    image: &str,
+    out: &mut K,
+    notes: &mut E,
+    input: &mut A,
+) -> u8
+    requires built { IsBuiltCheck (kind_of query) Whole }
+    requires out { (K.state out.old).access ≡ 0 }
+    requires notes { (E.state notes.old).access ≡ 1 }
+    requires input { (A.state input.old).access ≡ 0 }
+    ensures { (others : Objects) → Answers (terms_of_query query (option_copied file.entry) image.now) (E.state notes.old)
+        (record others { out = K.state out.old; input = A.state input.old })
+        (record others { out = K.state out.new; notes = E.state notes.new; input = A.state input.new }) result }
+{
+    match query_image(alloc, query, file, image, out, input) {
+        Ok(report) => {
+            if report.is_empty() {
+                0
+            } else {
+                put_faults(&report, notes)
+            }
+        }
+        Err(stop) => stop.put(notes),
+    }
+}
+
+/// Puts the report of an image with faults to `notes`, and answers the status 1, or 6 where `notes` fails.
+fn put_faults<E: Sink>(report: &Report, notes: &mut E) -> u8
+    requires { (E.state notes.old).access ≡ 1 }
+    ensures { PutsLine (reported_lines report.now) 1 result (E.state notes.old) (E.state notes.new) }
+{
+    match print_report(report, notes) {
+        Ok(()) => 1,
+        Err(_) => 6,
+    }
+}
+
+/// Checks the image, and puts the text where it has no faults: the report of the check.
+fn query_image<K: Sink, A: Device>(
+    alloc: Global,
+    query: Query,
+    file: Option<&str>,
+    image: &str,
+    out: &mut K,
+    input: &mut A,
+) -> Result<Report, Stop>
+    requires built { IsBuiltCheck (kind_of query) Whole }
+    requires out { (K.state out.old).access ≡ 0 }
+    requires input { (A.state input.old).access ≡ 0 }
+    ensures { (others : Objects) (notes : SinkState) →
+        let before = record others { out = K.state out.old; input = A.state input.old } in
+        let after = record others { out = K.state out.new; notes = notes; input = A.state input.new } in
+        let terms = terms_of_query query (option_copied file.entry) image.now in
+        MatchResult result (λ report. IsFinished terms before after (query_status report) (query_line report)) (IsStopped terms before after) }
+{
+    let report = match read_report(alloc, kind_of(query), Stage::Whole, image, input) {
+        Ok(report) => report,
+        Err(stop) => return Err(stop),
+    };
+    if !report.is_empty() {
+        return Ok(report);
+    }
+    match put_text(alloc, query, file, out, input) {
+        Ok(()) => Ok(report),
+        Err(stop) => Err(stop),
+    }
+}
+
+/// The kind of metadata that is asked about.
+fn kind_of(query: Query) -> Kind
+    ensures { result ≡ kind_of query }
+{
+    match query {
+        Query::Dump(kind) => kind,
+    }
+}
+
+/// Puts the text that answers the query; `out` is attached just before its first byte.
+fn put_text<K: Sink, A: Device>(
+    alloc: Global,
+    query: Query,
+    file: Option<&str>,
+    out: &mut K,
+    input: &mut A,
+) -> Result<(), Stop>
+    requires built { IsBuiltCheck (kind_of query) Whole }
+    requires out { (K.state out.old).access ≡ 0 }
+    requires input { (A.state input.old).access ≡ 1 }
+    ensures text { PutsAnswer (kind_of query) (text_of query) result (A.state input.old).held (K.state out.old).written (K.state out.new).written }
+    ensures kept { OnlyReads (A.state input.old) (A.state input.new) }
+    ensures used { IsUsed (reading (unwrap_or (option_copied file.entry) [])) (K.state out.new).access (K.state out.new).path }
+    ensures access { OnOk result ((K.state out.new).access ≡ 1) }
+    ensures stopped { IfErr result (IsUnput (A.state input.old).faults (A.state input.new).faults (K.state out.old).faults (K.state out.new).faults) }
+{
+    match query {
+        Query::Dump(Kind::Thin) => put_thin_dump(alloc, file, out, input),
+        Query::Dump(Kind::Cache) => unreachable!(),
+        Query::Dump(Kind::Era) => unreachable!(),
+    }
+}
+
+/// Puts the text of a pool.
+fn put_thin_dump<K: Sink, A: Device>(
+    alloc: Global,
+    file: Option<&str>,
+    out: &mut K,
+    input: &mut A,
+) -> Result<(), Stop>
+    requires out { (K.state out.old).access ≡ 0 }
+    requires input { (A.state input.old).access ≡ 1 }
+    ensures text { PutsAnswer Thin (image_text Thin) result (A.state input.old).held (K.state out.old).written (K.state out.new).written }
+    ensures kept { OnlyReads (A.state input.old) (A.state input.new) }
+    ensures used { IsUsed (reading (unwrap_or (option_copied file.entry) [])) (K.state out.new).access (K.state out.new).path }
+    ensures access { OnOk result ((K.state out.new).access ≡ 1) }
+    ensures stopped { IfErr result (IsUnput (A.state input.old).faults (A.state input.new).faults (K.state out.old).faults (K.state out.new).faults) }
+{
+    given_lines_are_the_text();
+    rows_are_the_devices();
+    let mut dump = match ThinDump::start(alloc, input) {
+        Ok(dump) => dump,
+        Err(fault) => return Err(stop_of(fault)),
+    };
+    if out.attach(file).is_err() {
+        return Err(Stop::Stream);
+    }
+    match dump.put(input, out) {
+        Ok(()) => Ok(()),
+        Err(fault) => Err(stop_of(fault)),
+    }
+}
+
+/// What a query's fault stops.
+fn stop_of(fault: QueryFault) -> Stop
+    ensures { result ≡ stop_as fault }
+{
+    match fault {
+        QueryFault::Memory => Stop::Memory,
+        QueryFault::Device => Stop::Device,
+        QueryFault::Sink => Stop::Stream,
+    }
+}
