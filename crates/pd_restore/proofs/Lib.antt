@@ -1,1 +1,6 @@
+pub mod MapLemmas
+pub mod OrderLemmas
+pub mod PartLemmas
+pub mod LineLemmas
+pub mod ReadingLemmas
 pub mod Untouched

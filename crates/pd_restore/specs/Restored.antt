@@ -1,5 +1,5 @@
 -- What a restore promises, for any kind.
-use Rattle.std.specs.Prelude.{◌≡◌, ◌⊎◌, ℕ, ◌≤◌, min, true, Bool, List, [], Result, Ok, Err, OnOk, IfSome, MatchResult, Some}
+use Rattle.std.specs.Prelude.{◌≡◌, ◌⊎◌, ℕ, ◌≤◌, min, true, Bool, List, [], Result, OnOk, IfSome, MatchResult, Some}
 use Rattle.pd_kinds.specs.declared.limits.TheConstants.{MAX_META_BLOCKS}
 use Rattle.pd_kinds.specs.Objects.{SourceState, DeviceState, Rose}
 use Rattle.pd_kinds.specs.Crash.{HasNoSuper, HoldsSynced, IsOldNoneOrMade, IsUntouched, LeavesOnly}

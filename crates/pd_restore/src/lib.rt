@@ -1,8 +1,11 @@
-//! A restore (stand-in: the contract alone; it always wants memory).
+//! A pool that is restored from its text, as a stream.
 #![tactic(auto)]
 
 mod fault;
+mod lines;
+mod parts;
 mod thin;
 
 pub use fault::RestoreFault;
+pub use pd_devices::need_thin;
 pub use thin::restore_thin;

@@ -1,0 +1,287 @@
+-- A text that is read and restored, line by line.
+use Rattle.std.proofs.Common.{◌≡◌, inl, inr, ⊎_elim, ℕ, zero, suc, ◌-◌, ◌*◌, ◌<◌, ◌≤◌, ◌^◌, min, max, Bool, true, false, not, leb, eqb, ◌&&◌, List, [], ◌∷◌, ◌++◌, length, sum_by, refl, sym, ◌∙◌, ap, arith, Option, None, Some, Result, Ok, Err}
+use Rattle.std.specs.Prelude.{MatchResult, IfOk, IfErr, OnOk}
+use Rattle.std.specs.List.{count_by, flat_map, range_with_len}
+use Rattle.std.proofs.lemmas.Bool.Decides.{nat_tests}
+use Rattle.std.proofs.lemmas.List.FromFn.{length-range_with_len}
+use Rattle.pd_grammar.specs.Words.{split}
+use Rattle.pd_grammar.specs.Texts as Texts
+use Rattle.pd_grammar.specs.Texts.{lines_after}
+use Rattle.pd_lines.specs.Reader.{held_of}
+use Rattle.pd_texts.specs.declared.reader.TextReader.{TextReader}
+use Rattle.pd_texts.specs.declared.thin_state.ThinState.{ThinState}
+use Rattle.pd_texts.specs.ThinState.{ThinStands}
+use Rattle.pd_spells.specs.ThinText as d
+use Rattle.std.proofs.lemmas.Bool.{cases_lt, lt-ltb, le-ltb}
+use Rattle.std.proofs.lemmas.List.Sums.{sum_by-cons, count_by-le-length}
+use Rattle.pd_value.specs.declared.thin.Details.{Details}
+use Rattle.pd_draft.specs.Placed.{Stand}
+use Rattle.pd_grammar.specs.Spelling.{need_above_room}
+use Rattle.pd_spells.specs.Need.{nodes_for, need_above, nodes_of_tree, need_tree}
+use Rattle.pd_spells.specs.ThinText.{Line, first_line, pool_line, device_line, map_line, end_line, thin, data_blocks_of, unmapped}
+use Rattle.pd_spells.specs.ThinNeed.{data_of_line, thin_need_so_far, need_of_devices, overflows_in}
+use Rattle.pd_texts.specs.declared.thin_line.ThinLine.{ThinLine}
+use Rattle.pd_texts.specs.declared.thin_line.ThinLine.TheVariants as v
+use Rattle.pd_texts.specs.declared.thin_line.Run2.{Run2}
+use Rattle.pd_texts.specs.Reader.{in_order, IsReadAfter, AreReadSoFar, ReadsOn, LeavesOf, GivesLine, GivesOf, IsWhole, IsRefusedAfter, RefusesNext, begun}
+use Rattle.pd_texts.specs.ThinLine.{line_of, details_of, run_of, thin_meant}
+use Rattle.pd_texts.proofs.ThinNextLemmas.{pool_read, device_read, map_read, end_read}
+use Rattle.pd_devices.specs.declared.devices.Devices.{Devices}
+use Rattle.pd_kinds.specs.Objects.{SourceState}
+use Rattle.pd_image.specs.Source.{KeepsSource}
+use Rattle.pd_devices.proofs.TreeLemmas.{sum_few}
+use Rattle.pd_devices.proofs.GatherLemmas.{trees_within}
+use Rattle.pd_devices.specs.Devices.{MayFollow}
+use Rattle.pd_devices.specs.Gathered.{HasGathered, mapped_in}
+use Rattle.pd_restore.specs.declared.fault.RestoreFault.{RestoreFault}
+use Rattle.pd_restore.specs.declared.fault.RestoreFault.TheVariants as r
+use Rattle.pd_restore.specs.Reading.{NoneAbove, Reading, Steps, SaysOf, IsShort, IsOver, IsOfBuild, progress}
+use Rattle.pd_restore.specs.Faults.{read_fault}
+use Rattle.pd_texts.specs.declared.fault.TextFault.{TextFault}
+use Rattle.pd_texts.specs.declared.fault.ReadFault.{ReadFault}
+use Rattle.pd_texts.specs.declared.fault.ReadFault.TheVariants as c
+
+-- want of room is what is said of the room
+pub over_if_short : (P : Type 0) (room need : ℕ) (result : Result Bool RestoreFault) → MatchResult result (λ more. P) (IsShort room need) → MatchResult result (λ more. P) (IsOver room need)
+over_if_short P room need (Ok more) p = p
+over_if_short P room need (Err r.Memory) p = tt
+over_if_short P room need (Err r.Source) p = p
+over_if_short P room need (Err r.Device) p = tt
+over_if_short P room need (Err (r.Text fault)) p = p
+over_if_short P room need (Err (r.NoRoom needed blocks)) p = p
+
+-- what the lines of a text say of each other
+pub pool_after : (before : List Line) (line : ThinLine) (uuid : List ℕ) (time transaction block_size blocks : ℕ) → line ≡ v.Pool uuid time transaction block_size blocks → 2 ≤ length before
+    → IsReadAfter thin before (line_of line) → ⊥
+pool_after before line uuid time transaction block_size blocks is later after =
+    let one = (pool_read before (record { uuid = uuid; time = time; transaction = transaction; block_size = block_size; data_blocks = blocks }) (rw is at after)).second in omega arith
+
+pub device_after : (before : List Line) (line : ThinLine) (id : ℕ) (details : Details) → line ≡ v.Device id details → IsReadAfter thin before (line_of line) → unmapped before ≡ 0
+device_after before line id details is after = (device_read before (details_of id details) (rw is at after)).complete
+
+pub map_after : (before : List Line) (line : ThinLine) (run : Run2) → line ≡ v.Map run → IsReadAfter thin before (line_of line) → MayFollow before (run_of run)
+map_after before line run is after =
+    let m = map_read before (run_of run) (rw is at after) in
+    record { some = m.some; fits = m.virtual_fits; within = m.within; time = m.time_fits; above = m.above; enough = m.mapped }
+
+-- how many nodes stand above so many at most
+above_most : (levels nodes : ℕ) → need_above levels nodes ≤ nodes
+unfolding need_above
+above_most zero nodes = omega arith
+above_most (suc levels) nodes = elim (cases_lt 1 nodes) [
+  | inl some ↦ rw (lt-ltb 1 nodes some) (let rest = above_most levels (nodes_for 252 nodes) in omega arith)
+  | inr none ↦ rw (le-ltb 1 nodes none) (omega arith)
+]
+
+-- and how many a tree has
+tree_most : (most n : ℕ) → nodes_of_tree most n ≤ 2 * max 1 (nodes_for most n)
+unfolding nodes_of_tree
+tree_most most n = let above = above_most 10 (max 1 (nodes_for most n)) in omega arith
+
+mappings_most : (n : ℕ) → n < 2 ^ 64 → need_tree 8 n < 2 ^ 58
+mappings_most n fits = let most = tree_most 252 n in omega arith
+
+small_most : (n : ℕ) → n ≤ 2 ^ 41 → (need_tree 8 n < 2 ^ 58) × ((need_tree 24 n < 2 ^ 58) × (need_tree 4 n < 2 ^ 58))
+small_most n few = (let most = tree_most 252 n in omega arith, (let most = tree_most 126 n in omega arith, let most = tree_most 336 n in omega arith))
+
+overflows_most : (ns : List ℕ) (blocks : ℕ) → overflows_in ns blocks ≤ blocks
+unfolding overflows_in
+overflows_most ns blocks =
+    omega (arith, count_by-le-length (λ d. leb 3 (count_by (λ b. eqb b d) ns)) (range_with_len 0 blocks), length-range_with_len 0 blocks)
+
+-- one line more needs no number that isn't one of its type
+some_tree : (n : ℕ) → 1 ≤ need_tree 8 n
+unfolding nodes_of_tree
+some_tree n = omega arith
+
+trees_some : (mapped : List ℕ) → length mapped ≤ sum_by (need_tree 8) mapped
+trees_some [] = omega arith
+trees_some (n ∷ mapped) = omega (arith, trees_some mapped, some_tree n, sum_by-cons (need_tree 8) n mapped)
+
+-- a number among lines
+abbrev top : ℕ
+top = 2 ^ 64 - 1
+
+device_fits : (room : ℕ) (before : List Line) (d : d.Details) → d.mapped < 2 ^ 64 → thin_need_so_far room before ≤ room → room ≤ 4161600 → thin_need_so_far room (device_line d ∷ before) ≤ top
+unfolding thin_need_so_far need_of_devices
+device_fits room before d fits need most =
+    let mapped = mapped_in before in
+    let number = small_most (suc (length mapped)) (omega (arith, trees_some mapped)) in
+    omega (arith, mappings_most d.mapped fits, number.0, number.1.0, sum_by-cons (need_tree 8) d.mapped mapped)
+
+map_fits : (room : ℕ) (before : List Line) (run : d.Run) → data_blocks_of before ≤ 2 ^ 40 → thin_need_so_far room before ≤ room → room ≤ 4161600 → thin_need_so_far room (map_line run ∷ before) ≤ top
+unfolding thin_need_so_far need_of_devices
+map_fits room before run small need most =
+    let over = overflows_most (flat_map data_of_line (map_line run ∷ before)) (data_blocks_of before) in
+    let tree = (small_most (overflows_in (flat_map data_of_line (map_line run ∷ before)) (data_blocks_of before)) (omega arith)).1.1 in
+    omega arith
+
+-- what is needed after a line more is a number of its type
+pub need_fits : (room : ℕ) (before : List Line) (line : ThinLine) → 2 ≤ length before → IsReadAfter thin before (line_of line) → data_blocks_of before ≤ 2 ^ 40
+    → thin_need_so_far room before ≤ room → room ≤ 4161600 → thin_need_so_far room (line_of line ∷ before) ≤ top
+need_fits room before (v.Pool uuid time transaction block_size blocks) later after small need most = absurd (pool_after before (v.Pool uuid time transaction block_size blocks) uuid time transaction block_size blocks refl later after)
+need_fits room before (v.Device id details) later after small need most = device_fits room before (details_of id details) (device_read before (details_of id details) after).mapped_fits need most
+need_fits room before (v.Map run) later after small need most = map_fits room before (run_of run) small need most
+
+-- each line adds a mapping or a device
+pub progress_more : {start now from to : Stand} (before : List Line) (line : ThinLine) (old new : Devices) → 2 ≤ length before → IsReadAfter thin before (line_of line)
+    → HasGathered before old start now → HasGathered (line_of line ∷ before) new from to → progress old < progress new
+progress_more before (v.Pool uuid time transaction block_size blocks) old new later after g h = absurd (pool_after before (v.Pool uuid time transaction block_size blocks) uuid time transaction block_size blocks refl later after)
+progress_more before (v.Device id details) old new later after g h =
+    let complete = (device_read before (details_of id details) after).complete in
+    omega (arith, g.total, h.total, g.number, h.number, complete, sum_by-cons (λ (x : ℕ). x) details.mapped (mapped_in before))
+progress_more before (v.Map run) old new later after g h =
+    let m = map_read before (run_of run) after in
+    omega (arith, g.total, h.total, g.number, h.number, m.some, m.mapped)
+
+-- no line so far is above the room, also with one more that isn't
+and_false : (b : Bool) → (b && false) ≡ false
+and_false true = refl
+and_false false = refl
+
+pub above_next : (room : ℕ) (before : List Line) (line : Line) → NoneAbove room before → thin_need_so_far room (line ∷ before) ≤ room → NoneAbove room (line ∷ before)
+above_next room before line above need lines =
+    above (line ∷ lines) ∙ rw (le-ltb room (thin_need_so_far room (line ∷ before)) need, and_false (not (eqb (length before) 0))) refl
+
+some_lines : (n : ℕ) → 1 ≤ n → eqb n 0 ≡ false
+some_lines n some = grind (arith, nat_tests)
+
+-- the first one that is, is what is needed
+pub above_here : (room : ℕ) (before lines : List Line) (line : Line) → NoneAbove room before → 1 ≤ length before → room < thin_need_so_far room (line ∷ before)
+    → need_above_room (thin_need_so_far room) room [] (in_order before (line ∷ lines)) ≡ Some (thin_need_so_far room (line ∷ before))
+above_here room before lines line above some need =
+    above (line ∷ lines) ∙ rw (some_lines (length before) some, lt-ltb room (thin_need_so_far room (line ∷ before)) need) refl
+
+-- what a reader gives after lines
+begun_same : (before : List Line) → 1 ≤ length before → begun first_line before ≡ before
+begun_same [] some = absurd (omega arith)
+begun_same (line ∷ before) some = refl
+
+pub line_given : (next : Option ThinLine) (line : ThinLine) (before : List Line) (new : TextReader ThinState ThinLine) → next ≡ Some line → 1 ≤ length before
+    → GivesLine thin ThinStands first_line thin_meant (Ok next) before new → ReadsOn thin ThinStands (line_of line ∷ before) new
+line_given next line before new is some gives = rw (begun_same before some) at (rw is at gives)
+
+pub line_told : (next : Option ThinLine) (line : ThinLine) (t : List ℕ) (before : List Line) (new : TextReader ThinState ThinLine) (left : Option (List ℕ)) → next ≡ Some line → 1 ≤ length before
+    → GivesOf thin first_line thin_meant (Ok next) t before new left → LeavesOf thin t (line_of line ∷ before) new left
+line_told next line t before new left is some gives = rw (begun_same before some) at (rw is at gives)
+
+pub end_given : (next : Option ThinLine) (before : List Line) (new : TextReader ThinState ThinLine) → next ≡ None → 1 ≤ length before
+    → GivesLine thin ThinStands first_line thin_meant (Ok next) before new → AreReadSoFar thin (end_line ∷ before)
+end_given next before new is some gives = rw (begun_same before some) at (rw is at gives)
+
+pub end_told : (next : Option ThinLine) (t : List ℕ) (before : List Line) (new : TextReader ThinState ThinLine) (left : Option (List ℕ)) → next ≡ None → 1 ≤ length before
+    → GivesOf thin first_line thin_meant (Ok next) t before new left → IsWhole thin t (end_line ∷ before) left
+end_told next t before new left is some gives = rw (begun_same before some) at (rw is at gives)
+
+pub no_later_need : (before : List Line) → IsReadAfter thin before end_line → unmapped before ≡ 0
+no_later_need before after = (end_read before after).complete
+
+-- a step that took a line
+pub stepped : (result : Result Bool RestoreFault) (before : List Line) (line : ThinLine) (room : ℕ) (old text : TextReader ThinState ThinLine) (was left : Option (List ℕ)) (s t : Devices) (start now to : Stand)
+    → Reading before room old s start now → to.device.blocks ≡ now.device.blocks → ReadsOn thin ThinStands (line_of line ∷ before) text
+    → ((x : List ℕ) → LeavesOf thin x before old was → LeavesOf thin x (line_of line ∷ before) text left)
+    → IfOk result (λ more. more ≡ true) → OnOk result (HasGathered (line_of line ∷ before) t start to)
+    → MatchResult result (λ more. min (thin_need_so_far room (line_of line ∷ before)) top ≤ room) (IsOver room (min (thin_need_so_far room (line_of line ∷ before)) top))
+    → IfOk result (λ more. Steps more before room old was text left t start to)
+stepped (Err fault) before line room old text was left s t start now to h blocks reads told more gathered need = tt
+stepped (Ok more) before line room old text was left s t start now to h blocks reads told is gathered need =
+    let within : thin_need_so_far room (line_of line ∷ before) ≤ room = omega (arith, need, h.most) in
+    rw is (
+      line_of line,
+      (
+        record {
+          reads = reads;
+          later = omega (arith, h.later);
+          gathered = gathered;
+          need = within;
+          above = above_next room before (line_of line) h.above within;
+          most = h.most;
+          there = omega (arith, h.there, blocks);
+        },
+        told,
+      ),
+    )
+
+-- a step that found no room
+pub lacking : (result : Result Bool RestoreFault) (before : List Line) (line : ThinLine) (room : ℕ) (old text : TextReader ThinState ThinLine) (left : Option (List ℕ)) (s : Devices) (start now : Stand) (t : List ℕ)
+    → Reading before room old s start now → IsReadAfter thin before (line_of line) → LeavesOf thin t (line_of line ∷ before) text left
+    → MatchResult result (λ more. min (thin_need_so_far room (line_of line ∷ before)) top ≤ room) (IsOver room (min (thin_need_so_far room (line_of line ∷ before)) top))
+    → IfErr result (SaysOf room t)
+lacking (Ok more) before line room old text left s start now t h after told over = tt
+lacking (Err r.Memory) before line room old text left s start now t h after told over = tt
+lacking (Err r.Source) before line room old text left s start now t h after told over = tt
+lacking (Err r.Device) before line room old text left s start now t h after told over = tt
+lacking (Err (r.Text fault)) before line room old text left s start now t h after told over = absurd over
+lacking (Err (r.NoRoom needed blocks)) before line room old text left s start now t h after told over =
+    let need = thin_need_so_far room (line_of line ∷ before) in
+    let fits : need ≤ top = need_fits room before line h.later after h.gathered.small h.need h.most in
+    let is : needed ≡ need = omega (arith, over.0) in
+    let more = (lines_after thin (line_of line ∷ before) (split 10 (held_of text.reader ++ told.rest))).lines in (
+      ap (λ (reading : Texts.Reading Line). need_above_room (thin_need_so_far room) room [] reading.lines) told.is
+          ∙ (above_here room before more (line_of line) h.above (omega (arith, h.later)) (omega (arith, over.1.1)) ∙ ap (λ n. Some n) (sym is)),
+      over.1.0,
+    )
+
+-- a step that came to the end
+pub came_to_end : (result : Result Bool RestoreFault) (before : List Line) (room : ℕ) (old text : TextReader ThinState ThinLine) (was left : Option (List ℕ)) (s t : Devices) (start now to : Stand)
+    → Reading before room old s start now → AreReadSoFar thin (end_line ∷ before)
+    → ((x : List ℕ) → LeavesOf thin x before old was → IsWhole thin x (end_line ∷ before) left)
+    → IfOk result (λ more. more ≡ false) → OnOk result (HasGathered (end_line ∷ before) t start to)
+    → IfOk result (λ more. Steps more before room old was text left t start to)
+unfolding thin_need_so_far
+came_to_end (Err fault) before room old text was left s t start now to h reads told more gathered = tt
+came_to_end (Ok more) before room old text was left s t start now to h reads told is gathered =
+    rw is (
+      record {
+        reads = reads;
+        ended = refl;
+        gathered = gathered;
+        need = h.need;
+        above = above_next room before end_line h.above h.need;
+      },
+      told,
+    )
+
+pub grows_where : (result : Result Bool RestoreFault) (before : List Line) (line : ThinLine) (old new : Devices) (start now from to : Stand) → 2 ≤ length before → IsReadAfter thin before (line_of line)
+    → HasGathered before old start now → OnOk result (HasGathered (line_of line ∷ before) new from to) → IfOk result (λ more. more ≡ true → progress old < progress new)
+grows_where (Err fault) before line old new start now from to later after g h = tt
+grows_where (Ok more) before line old new start now from to later after g h = λ is. progress_more before line old new later after g h
+
+-- a step by its answer
+pub steps_as : (a b : Bool) (before : List Line) (room : ℕ) (old text : TextReader ThinState ThinLine) (was left : Option (List ℕ)) (s : Devices) (start now : Stand) → a ≡ b
+    → Steps a before room old was text left s start now → Steps b before room old was text left s start now
+steps_as a b before room old text was left s start now is steps = rw is at steps
+
+-- a text that has room has few mappings and devices
+pub progress_most : {s : Devices} {start now : Stand} (before : List Line) (room : ℕ) (text : TextReader ThinState ThinLine) → Reading before room text s start now → progress s ≤ 253 * room
+progress_most before room text h =
+    omega (arith, h.gathered.total, h.gathered.number, sum_few (mapped_in before), trees_some (mapped_in before), trees_within room before, h.need)
+
+-- what stays of a source over two calls
+pub keeps_source : {a b c : SourceState} → KeepsSource a b → KeepsSource b c → KeepsSource a c
+keeps_source p q = record { access = q.access ∙ p.access; path = q.path ∙ p.path }
+
+-- a failure at the end says nothing of the text
+pub end_says : (result : Result Bool RestoreFault) (room : ℕ) (t : List ℕ) → IfErr result IsOfBuild → IfErr result (SaysOf room t)
+end_says (Ok more) room t of = tt
+end_says (Err r.Memory) room t of = tt
+end_says (Err r.Source) room t of = tt
+end_says (Err r.Device) room t of = tt
+end_says (Err (r.Text fault)) room t of = absurd of
+end_says (Err (r.NoRoom need blocks)) room t of = absurd of
+
+-- a refusal after lines that have room
+refused_says : (room : ℕ) (t : List ℕ) (lines : List Line) (fault : TextFault) → NoneAbove room lines → IsRefusedAfter thin t lines fault → SaysOf room t (r.Text fault)
+refused_says room t lines fault above is =
+    (ap (λ (reading : Texts.Reading Line). need_above_room (thin_need_so_far room) room [] reading.lines) is.is ∙ above [], is.refusal)
+
+pub next_says : {s : Devices} {start now : Stand} (fault : ReadFault) (room : ℕ) (t : List ℕ) (before : List Line) (text : TextReader ThinState ThinLine) → Reading before room text s start now
+    → RefusesNext thin first_line end_line t before fault → SaysOf room t (read_fault fault)
+unfolding thin_need_so_far
+next_says c.Memory room t before text h refuses = tt
+next_says c.Source room t before text h refuses = tt
+next_says (c.Text fault) room t before text h refuses =
+    let same = begun_same before (omega (arith, h.later)) in
+    ⊎_elim (λ first. refused_says room t before fault h.above first)
+    (⊎_elim (λ second. refused_says room t before fault h.above (rw same at second))
+    (λ last. refused_says room t (end_line ∷ before) fault (above_next room before end_line h.above h.need) (rw same at last))) refuses
