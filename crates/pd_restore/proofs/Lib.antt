@@ -4,3 +4,4 @@ pub mod PartLemmas
 pub mod LineLemmas
 pub mod ReadingLemmas
 pub mod Untouched
+pub mod PoolLemmas

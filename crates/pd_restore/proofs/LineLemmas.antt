@@ -1,17 +1,20 @@
 -- The devices that the lines of a whole text give.
-use Rattle.std.proofs.Common.{◌≡◌, ℕ, ◌+◌, eqb, cond, List, [], ◌∷◌, ◌++◌, map, refl, sym, ◌∙◌, ap, ap₂, append_assoc, arith, Option, None, Some}
+use Rattle.std.proofs.Common.{◌≡◌, ℕ, ◌+◌, eqb, cond, List, [], ◌∷◌, ◌++◌, length, length-append, map, sum_by, refl, sym, ◌∙◌, ap, ap₂, append_assoc, arith, Option, None, Some}
 use Rattle.std.proofs.Math.Path.{fun_ext}
 use Rattle.std.specs.List.{count_by, flat_map}
 use Rattle.std.proofs.lemmas.List.{append-nil, map-append}
 use Rattle.std.proofs.lemmas.List.Sums.{sum_by-append}
 use Rattle.pd_kinds.specs.Meaning.{ThinPool, ThinDevice, Mapping}
 use Rattle.pd_draft.specs.Placed.{Stand}
-use Rattle.pd_spells.specs.ThinText.{Line, first_line, pool_line, device_line, map_line, end_line, Run, Part, mappings_of, device_of_part, head_of, lines_of_part, data_blocks_of, run_end, unmapped, MeansPool}
+use Rattle.pd_spells.specs.Need.{need_tree}
+use Rattle.pd_spells.specs.ThinNeed.{mapped_data, overflows_in, thin_need, thin_need_so_far}
+use Rattle.pd_spells.proofs.NeedLemmas.{devices-same, overflows-same}
+use Rattle.pd_spells.specs.ThinText.{Line, first_line, pool_line, device_line, map_line, end_line, Run, Part, mappings_of, device_of_part, head_of, lines_of_part, data_blocks_of, run_end, unmapped, MeansPool, Head}
 use Rattle.pd_laid_once.proofs.Need.{data_counts_are}
 use Rattle.pd_texts.specs.Reader.{in_order}
 use Rattle.pd_devices.specs.declared.devices.Devices.{Devices}
 use Rattle.pd_devices.specs.Devices.{bare_device, with_run, open_device, whole_devices}
-use Rattle.pd_devices.specs.Gathered.{HasGathered, IsOpen, data_in}
+use Rattle.pd_devices.specs.Gathered.{HasGathered, IsOpen, data_in, mapped_in}
 use Rattle.pd_devices.specs.declared.devices.Growing.{Growing}
 use Rattle.pd_laid_once.specs.Written.{device_details}
 use Rattle.pd_restore.specs.Written.{HasDevices}
@@ -154,3 +157,53 @@ devices_of_lines {start} {now} lines m s h means =
       )) ∙ sym (data_counts_are m means.lawful);
       size = h.size ∙ blocks;
     }
+
+-- the pool line of lines that begin with it
+abbrev head_in : List Line → Head → Head
+head_in (first_line ∷ pool_line q ∷ lines) other = q
+head_in _ other = other
+
+pub head_is : (p : Head) (later lines : List Line) (m : ThinPool) → MeansPool (in_order lines []) m
+    → ((others : List Line) → in_order lines others ≡ in_order (pool_line p ∷ first_line ∷ []) (later ++ others)) → p ≡ head_of m
+head_is p later lines m means front = ap (λ (ls : List Line). head_in ls p) (sym (front []) ∙ means.lines_are)
+
+-- what adds up over the mapped numbers
+module _ (h : List ℕ → ℕ) (adds : (xs ys : List ℕ) → h (xs ++ ys) ≡ h xs + h ys) where
+  runs_mapped : (runs : List Run) (before : List Line) → mapped_in (pushed before (map map_line runs)) ≡ mapped_in before
+  runs_mapped [] before = refl
+  runs_mapped (r ∷ runs) before = runs_mapped runs (map_line r ∷ before)
+
+  parts_mapped : (parts : List Part) (before : List Line)
+      → h (mapped_in (pushed before (flat_map lines_of_part parts ++ end_line ∷ []))) ≡ h (mapped_in before) + h (map (λ (d : ThinDevice). d.mapped) (map device_of_part parts))
+  parts_mapped [] before = omega (arith, adds [] [])
+  parts_mapped (p ∷ parts) before =
+      let next = pushed (device_line p.details ∷ before) (map map_line p.runs) in
+      let same = ap (λ (ls : List Line). h (mapped_in ls)) (part_lines p before (end_line ∷ []) parts) in
+      let rest = parts_mapped parts next in
+      let mine = ap h (runs_mapped p.runs (device_line p.details ∷ before)) in
+      let here = adds (p.details.mapped ∷ []) (mapped_in before) in
+      let there = adds (p.details.mapped ∷ []) (map (λ (d : ThinDevice). d.mapped) (map device_of_part parts)) in
+      omega (arith, same, rest, mine, here, there)
+
+-- the need after all lines is that of their pool
+pub whole_need : (lines : List Line) (m : ThinPool) (room : ℕ) → MeansPool (in_order lines []) m → thin_need_so_far room lines ≡ thin_need m room
+unfolding thin_need thin_need_so_far
+whole_need lines m room means =
+    let head : List Line = pool_line (head_of m) ∷ first_line ∷ [] in
+    let is = lines_are lines m means in
+    let numbers = map (λ (d : ThinDevice). d.mapped) m.devices in
+    let blocks : data_blocks_of lines ≡ m.data_blocks = ap data_blocks_of is ∙ parts_blocks means.parts head in
+    let devices : map (λ (d : ThinDevice). d.mapped) (map device_of_part means.parts) ≡ numbers = ap (map (λ (d : ThinDevice). d.mapped)) means.devices in
+    let trees : sum_by (need_tree 8) (mapped_in lines) ≡ sum_by (need_tree 8) numbers =
+    omega (
+      arith,
+      ap (λ (ls : List Line). sum_by (need_tree 8) (mapped_in ls)) is,
+      parts_mapped (sum_by (need_tree 8)) (sum_by-append (need_tree 8)) means.parts head,
+      ap (sum_by (need_tree 8)) devices,
+    ) in
+    let number : length (mapped_in lines) ≡ length numbers =
+    omega (arith, ap (λ (ls : List Line). length (mapped_in ls)) is, parts_mapped (λ xs. length xs) length-append means.parts head, ap (λ (xs : List ℕ). length xs) devices) in
+    let counts : (d : ℕ) → count_by (λ b. eqb b d) (data_in lines) ≡ count_by (λ b. eqb b d) (mapped_data m) =
+    λ d. omega (arith, ap (λ (ls : List Line). count d (data_in ls)) is, parts_data d means.parts head, ap (λ (ds : List ThinDevice). count d (devices_data d ds)) means.devices) in
+    rw blocks (devices-same (mapped_in lines) numbers m.data_blocks (overflows_in (data_in lines) m.data_blocks) (overflows_in (mapped_data m) m.data_blocks) room
+    trees number (overflows-same (data_in lines) (mapped_data m) m.data_blocks counts))

@@ -1,5 +1,5 @@
 -- A text that is read and restored, line by line.
-use Rattle.std.proofs.Common.{◌≡◌, inl, inr, ⊎_elim, ℕ, zero, suc, ◌-◌, ◌*◌, ◌<◌, ◌≤◌, ◌^◌, min, max, Bool, true, false, not, leb, eqb, ◌&&◌, List, [], ◌∷◌, ◌++◌, length, sum_by, refl, sym, ◌∙◌, ap, arith, Option, None, Some, Result, Ok, Err}
+use Rattle.std.proofs.Common.{◌≡◌, inl, inr, ⊎_elim, ℕ, zero, suc, ◌-◌, ◌*◌, ◌<◌, ◌≤◌, ◌^◌, min, max, Bool, true, false, not, leb, eqb, ◌&&◌, List, [], ◌∷◌, ◌++◌, length, sum_by, refl, sym, ◌∙◌, ap, append_assoc, arith, Option, None, Some, Result, Ok, Err}
 use Rattle.std.specs.Prelude.{MatchResult, IfOk, IfErr, OnOk}
 use Rattle.std.specs.List.{count_by, flat_map, range_with_len}
 use Rattle.std.proofs.lemmas.Bool.Decides.{nat_tests}
@@ -285,3 +285,8 @@ next_says (c.Text fault) room t before text h refuses =
     ⊎_elim (λ first. refused_says room t before fault h.above first)
     (⊎_elim (λ second. refused_says room t before fault h.above (rw same at second))
     (λ last. refused_says room t (end_line ∷ before) fault (above_next room before end_line h.above h.need) (rw same at last))) refuses
+
+-- a line more behind others
+pub one_later : (before lines later : List Line) (line : Line) → ((others : List Line) → in_order lines others ≡ in_order before (later ++ others))
+    → (others : List Line) → in_order (line ∷ lines) others ≡ in_order before ((later ++ line ∷ []) ++ others)
+one_later before lines later line front others = front (line ∷ others) ∙ ap (in_order before) (sym (append_assoc later (line ∷ []) others))

@@ -1,5 +1,5 @@
 -- A text that is read and restored, line by line; of lines the newest comes first.
-use Rattle.std.specs.Prelude.{◌≡◌, ℕ, ◌+◌, ◌<◌, ◌≤◌, Bool, true, false, List, [], ◌∷◌, length, Option, None, Some, Result, MatchResult}
+use Rattle.std.specs.Prelude.{◌≡◌, ℕ, ◌+◌, ◌<◌, ◌≤◌, Bool, true, false, List, [], ◌∷◌, ◌++◌, length, Option, None, Some, Result, MatchResult}
 use Rattle.pd_kinds.specs.Objects.{Rose}
 use Rattle.pd_kinds.specs.declared.limits.TheConstants.{MAX_META_BLOCKS}
 use Rattle.pd_draft.specs.Placed.{Stand}
@@ -63,6 +63,8 @@ Steps false before room old was text left s start now = HasReadAll (end_line ∷
 -- after these lines all others were read
 pub record Ends (before : List Line) (room : ℕ) (old : TextReader ThinState ThinLine) (was left : Option (List ℕ)) (s : Devices) (start now : Stand) : Type 0 where
   pub lines : List Line
+  pub later : List Line
+  pub front : (others : List Line) → in_order lines others ≡ in_order before (later ++ others)
   pub all : HasReadAll lines room s start now
   pub told : (t : List ℕ) → LeavesOf thin t before old was → IsWhole thin t lines left
 
@@ -70,6 +72,8 @@ pub record Ends (before : List Line) (room : ℕ) (old : TextReader ThinState Th
 pub record Went (before : List Line) (room : ℕ) (old : TextReader ThinState ThinLine) (was : Option (List ℕ)) (text : TextReader ThinState ThinLine) (left : Option (List ℕ)) (s : Devices)
     (start now : Stand) : Type 0 where
   pub lines : List Line
+  pub later : List Line
+  pub front : (others : List Line) → in_order lines others ≡ in_order before (later ++ others)
   pub so_far : Reading lines room text s start now
   pub told : (t : List ℕ) → LeavesOf thin t before old was → LeavesOf thin t lines text left
 

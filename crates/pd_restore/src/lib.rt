@@ -4,6 +4,7 @@
 mod fault;
 mod lines;
 mod parts;
+mod pool;
 mod thin;
 
 pub use fault::RestoreFault;

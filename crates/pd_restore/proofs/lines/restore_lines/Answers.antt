@@ -1,8 +1,8 @@
-use Rattle.std.proofs.Common.{rules, ◌∷◌, true, false, ◌∙◌, arith}
+use Rattle.std.proofs.Common.{rules, [], ◌∷◌, ◌++◌, refl, true, false, ◌∙◌, arith}
 use Rattle.pd_draft.specs.Stand.{stand}
-use Rattle.pd_draft.proofs.StaysLemmas.{closed_then}
+use Rattle.pd_draft.proofs.StaysLemmas.{closed_start, closed_then}
 use Rattle.pd_spells.specs.ThinText.{end_line}
-use Rattle.pd_restore.proofs.ReadingLemmas.{steps_as, progress_most, keeps_source}
+use Rattle.pd_restore.proofs.ReadingLemmas.{steps_as, one_later, progress_most, keeps_source}
 use Rattle.pd_restore.proofs.lines.restore_lines.Goals as goal
 
 pub returns-in_err-step-clause-room : goal.returns-in_err-step-clause-room
@@ -31,7 +31,7 @@ lines-preserved g c =
       went = λ before start h.
           let w = c.lines.invariant.went before start h in
           let s = steps_as more true w.lines c.args.room c.lines.text text was left devices start now c.if-branch.true (ends.steps w.lines start w.so_far) in
-          record { lines = s.0 ∷ w.lines; so_far = s.1.0; told = λ t leaves. s.1.1 t (w.told t leaves) };
+          record { lines = s.0 ∷ w.lines; later = w.later ++ s.0 ∷ []; front = one_later before w.lines w.later s.0 w.front; so_far = s.1.0; told = λ t leaves. s.1.1 t (w.told t leaves) };
       closed = closed_then c.lines.invariant.closed ends.closed;
       kept = keeps_source c.lines.invariant.kept ends.source;
       source_faults = ends.faults.0 ∙ c.lines.invariant.source_faults;
@@ -55,4 +55,15 @@ returns-clause-all g c before start h =
     let was = (g.S.Source.state c.lines.source).left in
     let left = (g.S.Source.state c.step.new.source).left in
     let s = steps_as c.in_ok-step.field-0 false w.lines c.args.room c.lines.text c.step.new.text was left c.step.new.devices start (stand c.step.new.draft) c.if-branch.false (c.in_ok-step.ensures.steps w.lines start w.so_far) in
-    record { lines = end_line ∷ w.lines; all = s.0; told = λ t leaves. s.1 t (w.told t leaves) }
+    record { lines = end_line ∷ w.lines; later = w.later ++ end_line ∷ []; front = one_later before w.lines w.later end_line w.front; all = s.0; told = λ t leaves. s.1 t (w.told t leaves) }
+
+pub lines-init : goal.lines-init
+lines-init g c = record {
+  same_reference = refl;
+  reading = c.requires.reading;
+  went = λ before start h. record { lines = before; later = []; front = λ others. refl; so_far = h; told = λ t leaves. leaves };
+  closed = closed_start _ c.requires.closed;
+  kept = record { access = refl; path = refl };
+  source_faults = refl;
+  device_faults = refl;
+}
