@@ -5,3 +5,4 @@ pub mod LineLemmas
 pub mod ReadingLemmas
 pub mod Untouched
 pub mod PoolLemmas
+pub mod MadeLemmas
