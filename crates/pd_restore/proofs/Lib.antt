@@ -6,3 +6,4 @@ pub mod ReadingLemmas
 pub mod Untouched
 pub mod PoolLemmas
 pub mod MadeLemmas
+pub mod BeginLemmas

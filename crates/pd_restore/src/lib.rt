@@ -1,6 +1,7 @@
 //! A pool that is restored from its text, as a stream.
 #![tactic(auto)]
 
+mod begin;
 mod fault;
 mod lines;
 mod parts;
