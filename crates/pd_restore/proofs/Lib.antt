@@ -7,3 +7,4 @@ pub mod Untouched
 pub mod PoolLemmas
 pub mod MadeLemmas
 pub mod BeginLemmas
+pub mod CrashLemmas

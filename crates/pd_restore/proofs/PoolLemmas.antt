@@ -1,12 +1,10 @@
 -- A pool from its own line on.
-use Rattle.std.proofs.Common.{◌≡◌, ℕ, List, [], ◌∷◌, ◌++◌, refl, sym, ◌∙◌, ap, arith, Option, None, Some}
+use Rattle.std.proofs.Common.{◌≡◌, ℕ, List, [], refl, ◌∙◌, ap, Option, Some}
 use Rattle.pd_kinds.specs.Meaning.{ThinPool}
-use Rattle.pd_kinds.specs.ThinSuper.{ThinFields}
-use Rattle.pd_draft.specs.Placed.{Stand}
 use Rattle.pd_grammar.specs.Texts as Texts
 use Rattle.pd_grammar.specs.Spelling.{need_above_room, accepted}
 use Rattle.pd_spells.specs.ThinText.{Line, Head, head_of, MeansPool}
-use Rattle.pd_spells.specs.ThinNeed.{thin_need, thin_need_so_far, IsThinVerdict}
+use Rattle.pd_spells.specs.ThinNeed.{thin_need_so_far, IsThinVerdict}
 use Rattle.pd_spells.specs.ThinText.{thin}
 use Rattle.pd_laid.specs.LaidThin.{pool_fields}
 use Rattle.pd_laid.specs.Shape.{shape_of}

@@ -290,3 +290,17 @@ next_says (c.Text fault) room t before text h refuses =
 pub one_later : (before lines later : List Line) (line : Line) → ((others : List Line) → in_order lines others ≡ in_order before (later ++ others))
     → (others : List Line) → in_order (line ∷ lines) others ≡ in_order before ((later ++ line ∷ []) ++ others)
 one_later before lines later line front others = front (line ∷ others) ∙ ap (in_order before) (sym (append_assoc later (line ∷ []) others))
+
+-- the first two lines were read
+pub begun_reading : (p : d.Head) (room : ℕ) (text : TextReader ThinState ThinLine) (s : Devices) (start : Stand) → ReadsOn thin ThinStands (pool_line p ∷ first_line ∷ []) text
+    → HasGathered (pool_line p ∷ first_line ∷ []) s start start → thin_need_so_far room (pool_line p ∷ first_line ∷ []) ≤ room → room ≤ 4161600 → room ≤ start.device.blocks
+    → Reading (pool_line p ∷ first_line ∷ []) room text s start start
+begun_reading p room text s start reads gathered need most there = record {
+  reads = reads;
+  later = omega arith;
+  gathered = gathered;
+  need = need;
+  above = above_next room (first_line ∷ []) (pool_line p) (λ lines. refl) need;
+  most = most;
+  there = there;
+}

@@ -1,6 +1,5 @@
-use Rattle.std.proofs.Common.{rules, ◌≡◌, ◌≤◌, sym, ◌∙◌, ap, arith}
-use Rattle.pd_kinds.specs.ThinSuper.{ThinFields, thin_super_block}
-use Rattle.pd_draft.specs.Stand.{stand}
+use Rattle.std.proofs.Common.{rules, ◌∙◌, ap, arith}
+use Rattle.pd_kinds.specs.ThinSuper.{thin_super_block}
 use Rattle.pd_texts.proofs.ThinNextLemmas.{read_lines_mean}
 use Rattle.pd_restore.specs.Whole.{begun_lines, head_of_pool}
 use Rattle.pd_restore.proofs.LineLemmas.{devices_of_lines, head_is, whole_need}
