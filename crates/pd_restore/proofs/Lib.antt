@@ -3,8 +3,8 @@ pub mod OrderLemmas
 pub mod PartLemmas
 pub mod LineLemmas
 pub mod ReadingLemmas
-pub mod Untouched
 pub mod PoolLemmas
 pub mod MadeLemmas
 pub mod BeginLemmas
 pub mod CrashLemmas
+pub mod ThinLemmas
