@@ -2,7 +2,9 @@
 #![tactic(auto)]
 
 mod laws;
+mod words;
 
 pub use laws::{
     crashed_restore_leaves_no_other_pool, restored_dump_means_the_same, restored_pool_is_clean,
 };
+pub use words::thin_restore_is_asked;

@@ -18,7 +18,9 @@ use Rattle.pd_texts.specs.declared.reader.TextReader.{TextReader}
 use Rattle.pd_texts.specs.declared.thin_line.ThinLine.{ThinLine}
 use Rattle.pd_texts.specs.declared.thin_state.ThinState.{ThinState}
 use Rattle.pd_restore.specs.declared.pool.Pool.{Pool}
-use Rattle.pd_restore.specs.Whole.{made_of, WritesPool, Commits, CommitsSynced}
+use Rattle.pd_restore.specs.Whole.{made_of, WritesPool, Commits, CommitsSynced, ShutBy}
+use Rattle.pd_restore.specs.declared.fault.RestoreFault.{RestoreFault}
+use Rattle.pd_restore.specs.declared.fault.RestoreFault.TheVariants as r
 
 abbrev Image : Type 0
 Image = List (List ℕ)
@@ -60,6 +62,7 @@ commits {a} {b} {old} {new} {was} {left} {p} {room} {text} {block} same begin w 
     subst (λ (d : DeviceState). Commits p room text was left d new) same (record {
       pool = w.pool;
       lawful = w.lawful;
+      fits = w.fits;
       told = w.told;
       crash = committed {a = a} {b = b} {c = new} w.pool room block.0 begin w.super_is w.wrote last;
     })
@@ -72,8 +75,17 @@ commits_synced {a} {b} {old} {new} {was} {left} {p} {room} {text} {block} same b
       commits = record {
         pool = w.pool;
         lawful = w.lawful;
+        fits = w.fits;
         told = w.told;
         crash = committed {a = a} {b = b} {c = new} w.pool room block.0 begin w.super_is w.wrote last;
       };
       done = synced {a = a} {b = b} {c = new} w.pool room block.0 begin w.super_is w.wrote done;
     })
+
+-- a fault after which block 0 stayed closed
+pub shut_by : (fault : RestoreFault) (old new : DeviceState) → StaysClosed old new → ShutBy fault old new
+shut_by r.Memory old new stays = stays
+shut_by r.Source old new stays = stays
+shut_by r.Device old new stays = tt
+shut_by (r.Text fault) old new stays = stays
+shut_by (r.NoRoom need blocks) old new stays = stays

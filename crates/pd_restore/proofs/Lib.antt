@@ -4,4 +4,7 @@ pub mod PartLemmas
 pub mod LineLemmas
 pub mod ReadingLemmas
 pub mod PoolLemmas
+pub mod MadeLemmas
+pub mod BeginLemmas
 pub mod CrashLemmas
+pub mod ThinLemmas

@@ -74,7 +74,7 @@ above_most (suc levels) nodes = elim (cases_lt 1 nodes) [
 ]
 
 -- and how many a tree has
-tree_most : (most n : ℕ) → nodes_of_tree most n ≤ 2 * max 1 (nodes_for most n)
+pub tree_most : (most n : ℕ) → nodes_of_tree most n ≤ 2 * max 1 (nodes_for most n)
 unfolding nodes_of_tree
 tree_most most n = let above = above_most 10 (max 1 (nodes_for most n)) in omega arith
 

@@ -12,7 +12,7 @@ ghost use Rattle.pd_texts.specs.ThinState.{ThinStands};
 ghost use Rattle.pd_spells.specs.ThinNeed.{thin_need_so_far};
 ghost use Rattle.pd_restore.specs.Restored.{CountsRestore};
 ghost use Rattle.pd_restore.specs.Reading.{Reading, SaysOf};
-ghost use Rattle.pd_restore.specs.Whole.{begun_lines, fields_of, CanBegin, WritesPool, CommitsSynced, Tries};
+ghost use Rattle.pd_restore.specs.Whole.{begun_lines, fields_of, CanBegin, WritesPool, CommitsSynced, ShutBy, Tries};
 
 use crate::fault::{RestoreFault, of_build};
 use crate::lines::restore_lines;
@@ -85,6 +85,7 @@ pub(crate) fn restore_pool<S: Source, D: Device>(
     ensures tries { MatchResult result
         (λ _. CommitsSynced pool.now room text.old (S.state source.old).left (S.state source.new).left (D.state dev.old) (D.state dev.new))
         (λ _. Tries pool.now room text.old (S.state source.old).left (S.state source.new).left (D.state dev.old) (D.state dev.new)) }
+    ensures shut { IfErr result (λ fault. ShutBy fault (D.state dev.old) (D.state dev.new)) }
     ensures says { (t : List ℕ) → LeavesOf thin t (begun_lines pool.now) text.old (S.state source.old).left → IfErr result (SaysOf room t) }
     ensures source { KeepsSource (S.state source.old) (S.state source.new) }
     ensures kept { KeepsPlace (D.state dev.old) (D.state dev.new) }

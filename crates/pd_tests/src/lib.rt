@@ -14,6 +14,8 @@ mod ran;
 #[cfg(test)]
 mod super_tests;
 #[cfg(test)]
+mod thin_restore_tests;
+#[cfg(test)]
 mod walk_tests;
 #[cfg(test)]
 mod whole_tests;

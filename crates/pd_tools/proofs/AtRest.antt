@@ -9,12 +9,17 @@ use Rattle.pd_kinds.specs.declared.kind.Stage.TheVariants.{Super, Walk, Order, W
 use Rattle.pd_kinds.specs.Objects.{SinkState}
 use Rattle.pd_kinds.specs.Report.{report_of}
 use Rattle.pd_kinds.specs.Stages.{faults}
-use Rattle.pd_answers.specs.Answer.{Objects}
-use Rattle.pd_answers.specs.Requests.{Request, check, dump, is_built}
+use Rattle.pd_answers.specs.Answer.{Objects, AreFresh}
+use Rattle.pd_answers.specs.Requests.{Request, check, dump, restore, is_built}
 use Rattle.pd_answers.specs.Words.{built, spelled, asked}
 use Rattle.pd_answers.specs.Promises.{image_text, terms_of}
+use Rattle.pd_answers.specs.Restores.{is_pool_early}
+use Rattle.pd_spells.specs.ThinNeed.{IsThinVerdict}
+use Rattle.pd_laid.specs.LaidThin.{laid_pool}
+use Rattle.pd_tools.specs.Restore.{HaveVerdicts}
 use Rattle.pd_tools.proofs.Checks.{told}
 use Rattle.pd_tools.proofs.Queries.{both_told, told_or}
+use Rattle.pd_tools.proofs.Restores.{restore_at_rest}
 
 -- the flag isn't built
 pub no_flag : (kind : Kind) (until : Stage) (path : List ℕ) → is_built (check kind until true path) ≡ false
@@ -44,21 +49,24 @@ unfolding asked
 asked_alone words = built_alone (spelled words)
 
 -- something is right to find, and nothing was written
-pub at_rest : (request : Option Request) (before : Objects) (notes : SinkState) → IfSome request (λ r. is_built r ≡ true)
+pub at_rest : (request : Option Request) (before : Objects) (notes : SinkState) → AreFresh before → HaveVerdicts IsThinVerdict
+    → IfSome request (λ r. is_built r ≡ true)
     → (finding : (terms_of request).Finding) × ((terms_of request).finds before (record before { notes = notes }) finding)
     × ((terms_of request).leaves finding before (record before { notes = notes }) 6)
 unfolding is_built
-at_rest None before notes is = (tt, tt, tt)
-at_rest (Some (check kind until false path)) before notes is = (
+at_rest None before notes fresh verdicts is = (tt, tt, tt)
+at_rest (Some (check kind until false path)) before notes fresh verdicts is = (
   option_map_or (λ image. report_of (faults kind until image)) before.input.held (report_of []),
   told before.input.held (λ image. report_of (faults kind until image)) (report_of []),
   tt,
 )
-at_rest (Some (check kind until true path)) before notes is = absurd (true≢false (sym is ∙ no_flag kind until path))
-at_rest (Some (dump kind false file path)) before notes is = (
+at_rest (Some (check kind until true path)) before notes fresh verdicts is = absurd (true≢false (sym is ∙ no_flag kind until path))
+at_rest (Some (restore Thin version file path)) before notes fresh verdicts is =
+    restore_at_rest IsThinVerdict is_pool_early laid_pool file path before (record before { notes = notes }) before.source before.output fresh.output.2 verdicts fresh.output.0
+at_rest (Some (dump kind false file path)) before notes fresh verdicts is = (
   record { report = told_or (λ image. report_of (faults kind Whole image)) (report_of []) before.input.held; text = told_or (image_text kind) [] before.input.held },
   both_told before.input.held kind (image_text kind),
   tt,
 )
-at_rest (Some (dump kind true file path)) before notes is = absurd (true≢false (sym is ∙ no_shared kind file path))
-at_rest (Some _) before notes is = absurd (true≢false (sym is))
+at_rest (Some (dump kind true file path)) before notes fresh verdicts is = absurd (true≢false (sym is ∙ no_shared kind file path))
+at_rest (Some _) before notes fresh verdicts is = absurd (true≢false (sym is))

@@ -2,3 +2,4 @@ pub mod Answered
 pub mod Checks
 pub mod AtRest
 pub mod Queries
+pub mod Restores

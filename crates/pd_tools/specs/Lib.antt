@@ -1,5 +1,6 @@
 pub mod Notes
 pub mod Stop
 pub mod Read
+pub mod Restore
 pub mod Work
 pub mod Query

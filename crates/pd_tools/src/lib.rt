@@ -4,6 +4,8 @@
 mod check;
 mod notes;
 mod query;
+mod refusals;
+mod restore;
 mod run;
 mod stop;
 

@@ -13,6 +13,7 @@ ghost use Rattle.pd_tools.specs.Work.{Answers};
 use crate::check::run_check;
 use crate::notes::{USAGE_LINE, put_line};
 use crate::query::{Query, run_query};
+use crate::restore::{run_restore, texts_have_verdicts};
 use pd_image::{Device, Sink, Source};
 use pd_words::{Name, Request, read_words};
 use std::alloc::Global;
@@ -27,9 +28,11 @@ use std::alloc::Global;
 /// | 0 | done; after a check, the image is clean |
 /// | 1 | the image has faults; the report is on `out`, or, where a dump was asked, on `notes` |
 /// | 2 | the words spell no request |
+/// | 3 | a line of the text is refused |
+/// | 4 | more blocks are needed than the output has |
 /// | 5 | a device failed in this call |
 /// | 6 | the source, `out` or `notes` failed in this call |
-/// | 7 | memory wasn't found; only in a check past the superblock, and only where that is sound |
+/// | 7 | memory wasn't found; in a check only past the superblock, and only where that is sound |
 pub fn run_tool<S: Source, K: Sink, E: Sink, A: Device, B: Device, C: Device>(
     alloc: Global,
     words: &[String],
@@ -45,9 +48,10 @@ pub fn run_tool<S: Source, K: Sink, E: Sink, A: Device, B: Device, C: Device>(
         let after = objects (S.state source.new) (K.state out.new) (E.state notes.new) (A.state input.new) (B.state output.new) (C.state third.new) in
         IsAnswered (terms_of (asked (map string_bytes words.now))) before after result }
 {
+    texts_have_verdicts();
     match notes.attach(None) {
         Ok(()) => match read_words(words) {
-            Ok(request) => run_request(alloc, words, request, out, notes, input),
+            Ok(request) => { run_request(alloc, words, request, source, out, notes, input, output) }
             Err(_) => put_line(notes, USAGE_LINE, 2),
         },
         Err(_) => 6,
@@ -57,22 +61,26 @@ pub fn run_tool<S: Source, K: Sink, E: Sink, A: Device, B: Device, C: Device>(
 /// Does a request of these words, with `notes` attached: its clause is that of the top call, whatever the other objects
 /// are.
 #[tactic(auto, unfolding(pd_answers::specs::Requests::is_built))]
-fn run_request<K: Sink, E: Sink, A: Device>(
+fn run_request<S: Source, K: Sink, E: Sink, A: Device, B: Device>(
     alloc: Global,
     words: &[String],
     request: Request,
+    source: &mut S,
     out: &mut K,
     notes: &mut E,
     input: &mut A,
+    output: &mut B,
 ) -> u8
     requires names { AreNames (length words.now) request }
     requires built { is_built (request_as (map string_bytes words.now) request) ≡ true }
+    requires source { (S.state source.old).access ≡ 0 }
     requires out { (K.state out.old).access ≡ 0 }
     requires notes { (E.state notes.old).access ≡ 1 }
     requires input { (A.state input.old).access ≡ 0 }
+    requires output { (B.state output.old).access ≡ 0 }
     ensures { (others : Objects) → Answers (terms_of (Some (request_as (map string_bytes words.now) request))) (E.state notes.old)
-        (record others { out = K.state out.old; input = A.state input.old })
-        (record others { out = K.state out.new; notes = E.state notes.new; input = A.state input.new }) result }
+        (record others { source = S.state source.old; out = K.state out.old; input = A.state input.old; output = B.state output.old })
+        (record others { source = S.state source.new; out = K.state out.new; notes = E.state notes.new; input = A.state input.new; output = B.state output.new }) result }
 {
     match request {
         Request::Check {
@@ -95,7 +103,21 @@ fn run_request<K: Sink, E: Sink, A: Device>(
             notes,
             input,
         ),
-        Request::Restore { .. } => unreachable!(),
+        Request::Restore {
+            kind,
+            text,
+            image,
+            version,
+        } => run_restore(
+            alloc,
+            kind,
+            version,
+            text.word_in(words),
+            image.word_in(words),
+            source,
+            notes,
+            output,
+        ),
         Request::Repair { .. } => unreachable!(),
         Request::Search { .. } => unreachable!(),
         Request::Rmap { .. } => unreachable!(),

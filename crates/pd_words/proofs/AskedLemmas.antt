@@ -6,8 +6,8 @@ use Rattle.std.proofs.lemmas.Bool.{cases_Bool, true≢false}
 use Rattle.std.proofs.Math.Dec.{eqb-suc-zero}
 use Rattle.pd_kinds.specs.declared.kind.Kind.{Kind}
 use Rattle.pd_kinds.specs.declared.kind.Stage.{Stage}
-use Rattle.pd_answers.specs.Requests.{Request, dump, is_built}
-use Rattle.pd_answers.specs.Words.{Item, items_of, Given, given, sole, at_most_one, is_set, last_stage, image_word, clear_word, shared_word, until_word, check_with, repair_with, Tool, check_tool, dump_tool, restore_tool, repair_tool, rmap_tool, list_tool, since_tool, generate_tool, rehearse_tool, tool_of, request_of, is_known, known, spelled, built, asked}
+use Rattle.pd_answers.specs.Requests.{Request, dump, restore, is_built}
+use Rattle.pd_answers.specs.Words.{Item, items_of, Given, given, sole, at_most_one, is_set, last_stage, version_of, image_word, clear_word, shared_word, until_word, check_with, repair_with, Tool, check_tool, dump_tool, restore_tool, repair_tool, rmap_tool, list_tool, since_tool, generate_tool, rehearse_tool, tool_of, request_of, is_known, known, spelled, built, asked}
 use Rattle.pd_words.specs.Items.{is_read, read}
 use Rattle.pd_words.specs.Words.{dump_as}
 
@@ -46,7 +46,7 @@ unbuilt-items : (tool : Tool) (items : List Item) → is_read tool ≡ false →
 unfolding request_of is_built
 unbuilt-items (check_tool kind) items none = absurd (true≢false none)
 unbuilt-items (dump_tool kind) items none = absurd (true≢false none)
-unbuilt-items (restore_tool kind) items none = search never
+unbuilt-items (restore_tool kind) items none = absurd (true≢false none)
 unbuilt-items repair_tool items none = search (never, repair-never) depth 8
 unbuilt-items rmap_tool items none = search never
 unbuilt-items list_tool items none = search never
@@ -129,3 +129,15 @@ unfolding request_of
 dump_given kind None shared file image request shared_is file_is image_is is = tt
 dump_given kind (Some items) shared file image request shared_is file_is image_is is =
     is ∙ (dump_steps kind (is_set shared) (at_most_one file) (sole image) ∙ rw (← shared_is, ← file_is, ← image_is) refl)
+
+-- a restore, by what was given for its version, for the text and for the image
+pub restore_given : (kind : Kind) (items : Option (List Item)) (named text image : Given) (word : Option (List ℕ)) (version : ℕ) (file path : List ℕ) (request : Option Request)
+    → IfSome items (λ all. named ≡ given (codes "--metadata-version") all) → Some word ≡ at_most_one named → Some version ≡ version_of word
+    → IfSome items (λ all. text ≡ given (codes "-i") all) → Some file ≡ sole text
+    → IfSome items (λ all. image ≡ given (codes "-o") all) → Some path ≡ sole image
+    → request ≡ Some (restore kind version file path)
+    → IfSome items (λ all. request ≡ request_of (restore_tool kind) all)
+unfolding request_of
+restore_given kind None named text image word version file path request named_is at_most version_is text_is one_text image_is one_image is = tt
+restore_given kind (Some items) named text image word version file path request named_is at_most version_is text_is one_text image_is one_image is =
+    rw (← named_is, ← at_most, ← version_is, ← text_is, ← one_text, ← image_is, ← one_image) is

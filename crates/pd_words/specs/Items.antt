@@ -8,7 +8,7 @@ use Rattle.pd_words.specs.declared.items.Place.{Place}
 use Rattle.pd_words.specs.declared.items.Given.{Given}
 use Rattle.pd_words.specs.declared.items.Given.TheVariants.{Never, Once, Often}
 use Rattle.pd_words.specs.declared.items.Tool.{Tool}
-use Rattle.pd_words.specs.declared.items.Tool.TheVariants.{Check, Dump}
+use Rattle.pd_words.specs.declared.items.Tool.TheVariants.{Check, Dump, Restore}
 
 -- the word that a name stands for
 abbrev pub word_at : List (List ℕ) → ℕ → List ℕ
@@ -52,6 +52,7 @@ IsGivenWithin number Often = Unit {0}
 abbrev pub tool_as : Tool → asked.Tool
 tool_as (Check kind) = asked.check_tool kind
 tool_as (Dump kind) = asked.dump_tool kind
+tool_as (Restore kind) = asked.restore_tool kind
 
 abbrev pub found_tool : Option Tool → Option asked.Tool
 found_tool None = None
@@ -61,6 +62,7 @@ found_tool (Some tool) = Some (tool_as tool)
 abbrev pub is_read : asked.Tool → Bool
 is_read (asked.check_tool kind) = true
 is_read (asked.dump_tool kind) = true
+is_read (asked.restore_tool kind) = true
 is_read _ = false
 
 -- the tools of which something is built

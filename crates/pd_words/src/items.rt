@@ -16,6 +16,8 @@ pub enum Tool {
     Check(Kind),
     /// thin_dump, cache_dump, era_dump
     Dump(Kind),
+    /// thin_restore, cache_restore, era_restore
+    Restore(Kind),
 }
 
 /// How often something was given.
@@ -62,6 +64,9 @@ pub fn tool_named(word: &str) -> Option<Tool>
         "thin_dump" => Some(Tool::Dump(Kind::Thin)),
         "cache_dump" => Some(Tool::Dump(Kind::Cache)),
         "era_dump" => Some(Tool::Dump(Kind::Era)),
+        "thin_restore" => Some(Tool::Restore(Kind::Thin)),
+        "cache_restore" => Some(Tool::Restore(Kind::Cache)),
+        "era_restore" => Some(Tool::Restore(Kind::Era)),
         _ => None,
     }
 }
@@ -82,6 +87,11 @@ pub fn is_purpose(tool: Tool, word: &str) -> bool
             Kind::Thin => word == "--shared" || word == "-o" || word == "IMAGE",
             Kind::Cache => word == "-o" || word == "IMAGE",
             Kind::Era => word == "-o" || word == "IMAGE",
+        },
+        Tool::Restore(kind) => match kind {
+            Kind::Thin => word == "-i" || word == "-o",
+            Kind::Cache => word == "--metadata-version" || word == "-i" || word == "-o",
+            Kind::Era => word == "-i" || word == "-o",
         },
     }
 }

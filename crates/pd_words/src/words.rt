@@ -1,6 +1,6 @@
 ghost use Rattle.std.specs.Prelude.{◌≡◌, ℕ, List, true, map, drop, string_bytes, length, IfSome, IfOk};
 ghost use Rattle.std.specs.Option.{option_map};
-ghost use Rattle.pd_answers.specs.Words.{asked, stage_of, last_stage, items_of, sole, at_most_one, is_set, check_with};
+ghost use Rattle.pd_answers.specs.Words.{asked, stage_of, last_stage, version_of, items_of, sole, at_most_one, is_set, check_with};
 ghost use Rattle.pd_answers.specs.Words as words_spec;
 ghost use Rattle.pd_answers.specs.Requests.{is_built};
 ghost use Rattle.pd_words.specs.Items.{given_as, IsGivenWithin, tool_as};
@@ -84,6 +84,15 @@ fn is_built(request: &Request) -> bool
             Kind::Thin => !shared,
             _ => false,
         },
+        Request::Restore {
+            kind,
+            text: _,
+            image: _,
+            version: _,
+        } => match kind {
+            Kind::Thin => true,
+            _ => false,
+        },
         _ => false,
     }
 }
@@ -96,6 +105,7 @@ fn read_request(tool: Tool, words: &[String]) -> Option<Request>
     match tool {
         Tool::Check(kind) => read_check(kind, words),
         Tool::Dump(kind) => read_dump(kind, words),
+        Tool::Restore(kind) => read_restore(kind, words),
     }
 }
 
@@ -168,6 +178,23 @@ fn check_with(kind: Kind, until: Stage, clear: bool, image: Name) -> Option<Requ
     })
 }
 
+/// What the words ask of a restore.
+#[tactic(auto, unfolding(pd_answers::specs::Words::request_of))]
+fn read_restore(kind: Kind, words: &[String]) -> Option<Request>
+    ensures asked { IfSome (items_of (drop 1 (map string_bytes words.now))) (λ items. read_as (map string_bytes words.now) result ≡ words_spec.request_of (words_spec.restore_tool kind) items) }
+    ensures names { IfSome result (AreNames (length words.now)) }
+{
+    let version = version_named(words, optional(given_for(words, 1, "--metadata-version"))?)?;
+    let text = required(given_for(words, 1, "-i"))?;
+    let image = required(given_for(words, 1, "-o"))?;
+    Some(Request::Restore {
+        kind,
+        text,
+        image,
+        version,
+    })
+}
+
 /// A value that is wanted.
 fn required(given: Given) -> Option<Name>
     ensures value { (words : List (List ℕ)) → words_of words result ≡ sole (given_as words given) }
@@ -224,6 +251,30 @@ fn stage_named(word: &str) -> Option<Stage>
         "order" => Some(Stage::Order),
         "whole" => Some(Stage::Whole),
         "counts" => Some(Stage::Counts),
+        _ => None,
+    }
+}
+
+/// The version of the metadata that a word names; without a word it is the first one.
+#[tactic(auto, unfolding(pd_answers::specs::Words::version_of))]
+fn version_named(words: &[String], name: Option<Name>) -> Option<u32>
+    requires { IsNameIfAny (length words.now) name }
+    ensures { result ≡ version_of (words_of (map string_bytes words.now) name) }
+{
+    match name {
+        None => Some(1),
+        Some(name) => version_number(name.word_in(words)),
+    }
+}
+
+/// The version that a word is.
+#[tactic(auto, unfolding(pd_answers::specs::Words::version_of))]
+fn version_number(word: &str) -> Option<u32>
+    ensures { result ≡ version_of (Some word.now) }
+{
+    match word {
+        "1" => Some(1),
+        "2" => Some(2),
         _ => None,
     }
 }

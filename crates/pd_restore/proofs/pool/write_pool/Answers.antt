@@ -34,6 +34,7 @@ returns-in-Ok-clause-writes g c start h =
     record {
       pool = m.0;
       lawful = m.1.lawful;
+      fits = omega (arith, whole_need e.lines m.0 c.args.room m.1, e.all.need);
       super_is = c.write_thin_super.ensures.block
           ∙ ap thin_super_block (c.super_of.ensures ∙ fields_are c.args.pool.now c.in-Ok.parts c.args.room m.0 head (c.in-Ok.ensures.parts m.0 start devices));
       wrote = c.in-Ok.ensures.wrote m.0 start devices;

@@ -7,8 +7,9 @@ use Rattle.pd_answers.specs.Requests as request
 use Rattle.pd_answers.specs.Requests.{is_built}
 use Rattle.pd_answers.specs.Answer.{Objects}
 use Rattle.pd_answers.specs.Promises.{check, terms_of}
-use Rattle.pd_words.specs.Words.{word_of, words_of}
+use Rattle.pd_answers.specs.Restores.{restore}
 use Rattle.std.specs.Option.{option_copied}
+use Rattle.pd_words.specs.Words.{word_of, words_of}
 use Rattle.pd_tools.specs.declared.query.Query.TheVariants.{Dump}
 use Rattle.pd_tools.specs.Query.{terms_of_query}
 use Rattle.pd_tools.specs.Work.{Answers}
@@ -35,10 +36,24 @@ pub returns-in-Check : goal.returns-in-Check
 returns-in-Check g c others =
     let words = map string_bytes c.args.words.now in
     rw c.in-Check.is (as_asked c.in-Check.kind c.in-Check.until c.in-Check.clear (word_of words c.in-Check.image) c.word_in.result.now _ _ _ _
-    (rw c.in-Check.is at c.requires.built) c.word_in.ensures (c.run_check.ensures others))
+    (rw c.in-Check.is at c.requires.built) c.word_in.ensures
+    (c.run_check.ensures (record others { source = g.S.Source.state c.args.source.now; output = g.B.Device.state c.args.output.now })))
 
 pub returns-in-Dump : goal.returns-in-Dump
 returns-in-Dump g c others =
     let words = map string_bytes c.args.words.now in
     rw c.in-Dump.is (dump_as_asked c.in-Dump.kind c.in-Dump.shared (words_of words c.in-Dump.file) (option_copied c.file_in.result) (word_of words c.in-Dump.image) c.word_in-in-Dump.result.now _ _ _ _
-    (rw c.in-Dump.is at c.requires.built) c.file_in.ensures c.word_in-in-Dump.ensures (c.run_query.ensures others))
+    (rw c.in-Dump.is at c.requires.built) c.file_in.ensures c.word_in-in-Dump.ensures (c.run_query.ensures (record others { source = g.S.Source.state c.args.source.now; output = g.B.Device.state c.args.output.now })))
+
+-- the restore of these words is the one that is asked
+restored_as_asked : (kind : Kind) (version : ℕ) (file path text image : List ℕ) (attached : SinkState) (before after : Objects) (status : ℕ)
+    → text ≡ file → image ≡ path → Answers (restore kind version text image) attached before after status → Answers (restore kind version file path) attached before after status
+restored_as_asked kind version file path text image attached before after status same_text same_image answers = rw (same_text, same_image) at answers
+
+pub returns-in-Restore : goal.returns-in-Restore
+returns-in-Restore g c others =
+    let words = map string_bytes c.args.words.now in
+    let w = c.in-Restore in
+    rw w.is (restored_as_asked w.kind w.version (word_of words w.text) (word_of words w.image) c.word_in-in-Restore.result.now c.word_in-in-Restore-2.result.now _ _ _ _
+    c.word_in-in-Restore.ensures c.word_in-in-Restore-2.ensures
+    (c.run_restore.ensures (record others { out = g.K.Sink.state c.args.out.now; input = g.A.Device.state c.args.input.now })))

@@ -1,4 +1,4 @@
-use Rattle.std.proofs.Common.{◌≡◌, ◌≢◌, inl, inr, ℕ, false, List, [], ◌∷◌, None, refl, sym, ap, ◌∙◌}
+use Rattle.std.proofs.Common.{◌≡◌, ◌≢◌, ◌⊎◌, inl, inr, ℕ, false, List, [], ◌∷◌, None, refl, sym}
 use Rattle.std.specs.Str.{bytes_eq}
 use Rattle.std.proofs.lemmas.Bool.{cases_Bool}
 use Rattle.std.proofs.lemmas.Slice.Eq.{bytes_eq-Decides}
@@ -30,30 +30,39 @@ pub returns-in-era_dump : goal.returns-in-era_dump
 unfolding tool_in
 returns-in-era_dump c = rw c.in-era_dump.is refl
 
--- another word
-skip : (named : Named) (others : List Named) (word : List ℕ) → word ≢ named.name → tool_in (named ∷ others) word ≡ tool_in others word
+pub returns-in-thin_restore : goal.returns-in-thin_restore
 unfolding tool_in
-skip named others word other = elim (cases_Bool (bytes_eq word named.name)) [
-  | inl same ↦ absurd (other ((bytes_eq-Decides word named.name).0 same))
-  | inr e ↦ rw e refl
-]
+returns-in-thin_restore c = rw c.in-thin_restore.is refl
 
--- tools of which nothing is built
-abbrev AreUnread : List Named → Type 0
-AreUnread [] = Unit {0}
-AreUnread (named ∷ others) = (is_read named.tool ≡ false) × AreUnread others
-
-unread : (tools : List Named) (word : List ℕ) → AreUnread tools → read (tool_in tools word) ≡ None
+pub returns-in-cache_restore : goal.returns-in-cache_restore
 unfolding tool_in
-unread [] word none = refl
-unread (named ∷ others) word none = elim (cases_Bool (bytes_eq word named.name)) [
-  | inl e ↦ rw (e, none.0) refl
-  | inr e ↦ rw e (unread others word none.1)
+returns-in-cache_restore c = rw c.in-cache_restore.is refl
+
+pub returns-in-era_restore : goal.returns-in-era_restore
+unfolding tool_in
+returns-in-era_restore c = rw c.in-era_restore.is refl
+
+-- tools of which nothing is built, or with other names than the word
+abbrev AreOthers : List ℕ → List Named → Type 0
+AreOthers word [] = Unit {0}
+AreOthers word (named ∷ others) = ((is_read named.tool ≡ false) ⊎ (word ≢ named.name)) × AreOthers word others
+
+no_tool : (tools : List Named) (word : List ℕ) → AreOthers word tools → read (tool_in tools word) ≡ None
+unfolding tool_in
+no_tool [] word others = refl
+no_tool (named ∷ tools) word others = elim (cases_Bool (bytes_eq word named.name)) [
+  | inl e ↦ elim others.0 [
+    | inl none ↦ rw (e, none) refl
+    | inr other ↦ absurd (other ((bytes_eq-Decides word named.name).0 e))
+  ]
+  | inr e ↦ rw e (no_tool tools word others.1)
 ]
 
 pub returns-in_default : goal.returns-in_default
 returns-in_default c =
-    let word = c.args.word.now in
-    let checks = skip _ _ word c.in_default.not-thin_check ∙ (skip _ _ word c.in_default.not-cache_check ∙ skip _ _ word c.in_default.not-era_check) in
-    let dumps = skip _ _ word c.in_default.not-thin_dump ∙ (skip _ _ word c.in_default.not-cache_dump ∙ skip _ _ word c.in_default.not-era_dump) in
-    sym (ap read (checks ∙ dumps) ∙ unread _ word (refl, (refl, (refl, (refl, (refl, (refl, (refl, (refl, (refl, tt))))))))))
+    let w = c.in_default in
+    sym (no_tool _ c.args.word.now (
+    inr w.not-thin_check, (inr w.not-cache_check, (inr w.not-era_check,
+    (inr w.not-thin_dump, (inr w.not-cache_dump, (inr w.not-era_dump,
+    (inr w.not-thin_restore, (inr w.not-cache_restore, (inr w.not-era_restore,
+    (inl refl, (inl refl, (inl refl, (inl refl, (inl refl, (inl refl, tt))))))))))))))))

@@ -1,0 +1,317 @@
+-- A restore, put together from its first two lines, the closing of block 0 and the rest.
+use Rattle.std.proofs.Common.{◌≡◌, ◌⊎◌, inl, inr, ⊎_elim, ℕ, zero, suc, ◌+◌, ◌^◌, ◌-◌, ◌<◌, ◌≤◌, min, max, Bool, true, false, cond, set, List, [], ◌∷◌, length, Option, Some, None, IfSome, Result, Ok, Err, refl, sym, ap, ◌∙◌, subst, arith, zero-add}
+use Rattle.std.specs.Prelude.{OnOk, MatchResult, nat_lt, IfErr}
+use Rattle.std.specs.List.{count_by, range_with_len}
+use Rattle.std.specs.Option.{option_map_or}
+use Rattle.std.proofs.lemmas.Bool.{both_ways, lt-ltb, le-ltb}
+use Rattle.std.proofs.lemmas.List.Sums.{sum_by-cons}
+use Rattle.std.proofs.lemmas.Option.{IfSome_then, same_Some}
+use Rattle.pd_kinds.specs.declared.limits.TheConstants.{MAX_META_BLOCKS}
+use Rattle.pd_kinds.specs.Bitmap.{bitmaps_for}
+use Rattle.pd_kinds.specs.Crash.{HasNoSuper, HoldsSynced, IsOldNoneOrMade, IsOldOrNone, IsNoneOrNew, IsUntouched, LeavesOnly}
+use Rattle.pd_kinds.specs.Field.{zeros}
+use Rattle.pd_kinds.specs.Meaning.{ThinPool}
+use Rattle.pd_kinds.specs.Moments.{now}
+use Rattle.pd_kinds.specs.Objects.{DeviceState, SourceState}
+use Rattle.pd_kinds.proofs.CrashLemmas.{and_then, weaken, stays, left_now, left_synced, left_held}
+use Rattle.pd_image.proofs.CrashLemmas.{at_some}
+use Rattle.pd_draft.specs.Closed.{HasZeros, StaysClosed}
+use Rattle.pd_draft.proofs.DraftLemmas.{zeros_none}
+use Rattle.pd_grammar.specs.Texts as Texts
+use Rattle.pd_grammar.specs.Spelling.{Verdict, accepted, refused, no_room, need_above_room}
+use Rattle.pd_spells.specs.Lawful.{IsLawfulPool}
+use Rattle.pd_spells.specs.Need.{need_tree}
+use Rattle.pd_spells.specs.ThinNeed.{thin_need, need_of_devices, overflows_in, thin_need_so_far, IsThinVerdict}
+use Rattle.pd_spells.specs.ThinText.{Line, first_line, pool_line, thin}
+use Rattle.pd_laid.specs.Laid.{IsLaid}
+use Rattle.pd_laid.specs.LaidThin.{laid_pool}
+use Rattle.pd_texts.specs.declared.reader.TextReader.{TextReader}
+use Rattle.pd_texts.specs.declared.thin_line.ThinLine.{ThinLine}
+use Rattle.pd_texts.specs.declared.thin_state.ThinState.{ThinState}
+use Rattle.pd_texts.specs.Reader.{LeavesOf}
+use Rattle.pd_restore.specs.declared.fault.RestoreFault.{RestoreFault}
+use Rattle.pd_restore.specs.declared.fault.RestoreFault.TheVariants as r
+use Rattle.pd_restore.specs.declared.pool.Pool.{Pool}
+use Rattle.pd_restore.specs.Begin.{BeginsOf, BlamesSource}
+use Rattle.pd_restore.specs.Early.{is_pool_early}
+use Rattle.pd_restore.specs.Reading.{SaysOf, NoneAbove}
+use Rattle.pd_restore.specs.Restored.{IsRestored, IsRefusal, AnswersFault, Makes, room_of}
+use Rattle.pd_restore.specs.Whole.{begun_lines, head_of_pool, made_of, Commits, CommitsSynced, Tries, ShutBy}
+use Rattle.pd_restore.proofs.MadeLemmas.{made_of_closed}
+use Rattle.pd_restore.proofs.ReadingLemmas.{above_here, tree_most}
+
+abbrev Image : Type 0
+Image = List (List ℕ)
+
+-- what the first two lines need
+none_passes : (from n : ℕ) → count_by (λ d. false) (range_with_len from n) ≡ 0
+none_passes from zero = refl
+none_passes from (suc n) = sum_by-cons (λ (d : ℕ). 0) from (range_with_len (from + 1) n) ∙ (zero-add (count_by (λ d. false) (range_with_len (from + 1) n)) ∙ none_passes (from + 1) n)
+
+no_overflows : (n : ℕ) → overflows_in [] n ≡ 0
+unfolding overflows_in
+no_overflows n = none_passes 0 n
+
+pub first_need : (p : Pool) (room : ℕ) → thin_need_so_far room (begun_lines p) ≡ need_of_devices [] p.blocks 0 room
+unfolding thin_need_so_far
+first_need p room = ap (λ (over : ℕ). need_of_devices [] p.blocks over room) (no_overflows p.blocks)
+
+small_need : (blocks room : ℕ) → blocks ≤ 2 ^ 40 → room ≤ 4161600 → need_of_devices [] blocks 0 room ≤ 2 ^ 64 - 1
+unfolding need_of_devices
+small_need blocks room small most = omega (arith, tree_most 252 0, tree_most 126 0, tree_most 336 0, tree_most 168 (bitmaps_for blocks))
+
+some_need : (blocks room : ℕ) → 1 ≤ need_of_devices [] blocks 0 room
+unfolding need_of_devices
+some_need blocks room = omega arith
+
+pub need_exact : (p : Pool) (room need : ℕ) → p.blocks ≤ 2 ^ 40 → room ≤ 4161600 → need ≡ min (need_of_devices [] p.blocks 0 room) (2 ^ 64 - 1) → need ≡ thin_need_so_far room (begun_lines p)
+need_exact p room need small most is = omega (arith, is, first_need p room, small_need p.blocks room small most)
+
+pub need_some : (p : Pool) (room : ℕ) → thin_need_so_far room (begun_lines p) ≤ room → 1 ≤ room
+need_some p room fits = omega (arith, fits, first_need p room, some_need p.blocks room)
+
+-- a text that goes on behind these lines
+module _ (p : Pool) (room : ℕ) (t : List ℕ) (text : TextReader ThinState ThinLine) (left : Option (List ℕ)) (leaves : LeavesOf thin t (begun_lines p) text left) where
+  early_is : nat_lt room (thin_need_so_far room (begun_lines p)) ≡ is_pool_early t room
+  early_is = let is = leaves.is in rw is refl
+
+  over_says : room < thin_need_so_far room (begun_lines p) → need_above_room (thin_need_so_far room) room [] (Texts.reading thin t).lines ≡ Some (thin_need_so_far room (begun_lines p))
+  over_says less = let is = leaves.is in rw is (above_here room (first_line ∷ []) _ (pool_line (head_of_pool p)) (λ lines. refl) (omega arith) less)
+
+-- a text that is told
+text_in : Option (List ℕ) → List ℕ
+text_in left = option_map_or (λ (text : List ℕ). text) left []
+
+at_text : (left : Option (List ℕ)) (P : List ℕ → Type 0) → P (text_in left) → IfSome left P
+unfolding text_in
+at_text None P is = tt
+at_text (Some text) P is = is
+
+where_told : (left : Option (List ℕ)) (P : List ℕ → Type 0) → ((t : List ℕ) → left ≡ Some t → P t) → IfSome left P
+where_told None P told = tt
+where_told (Some text) P told = told text refl
+
+both_told : (left : Option (List ℕ)) (P Q : List ℕ → Type 0) → IfSome left P → IfSome left Q → IfSome left (λ t. P t × Q t)
+both_told None P Q p q = tt
+both_told (Some text) P Q p q = (p, q)
+
+-- the device as it was
+at_rest : (image : Image) (Made : Image → Type 0) (device : DeviceState) → HoldsSynced image device → LeavesOnly (IsOldNoneOrMade image Made) device device
+at_rest image Made device synced =
+    stays refl refl (λ left firsts leaves chance. inl (left_synced image left (now image device.history) refl synced.unsynced (left_now device image left firsts synced.held leaves).0))
+
+kept_same : (held : Option Image) → IfSome held (λ image. IfSome held (λ now. (now ≡ image) ⊎ HasNoSuper now))
+kept_same None = tt
+kept_same (Some image) = inl refl
+
+-- the verdict of each text
+abbrev pub AllVerdicts : Type 0
+AllVerdicts = (text : List ℕ) (room : ℕ) → (v : Verdict ThinPool) × IsThinVerdict text room v
+
+abbrev pub Restored : Result (Unit {0}) RestoreFault → SourceState → SourceState → DeviceState → DeviceState → Type 0
+Restored result from to old new = IsRestored IsLawfulPool IsThinVerdict is_pool_early laid_pool result from to old new
+
+-- a fault before the device is written
+unwritten : (fault : RestoreFault) (from to : SourceState) (old : DeviceState) (v : Verdict ThinPool) (early : Bool)
+    → IfSome from.left (λ t. IsThinVerdict t (room_of old.blocks) v × (early ≡ is_pool_early t (room_of old.blocks))) → AnswersFault fault v → Restored (Err fault) from to old old
+unwritten fault from to old v early right answer = record {
+  verdict = v;
+  early = early;
+  right = right;
+  answer = answer;
+  crash = λ image synced. at_rest image (Makes laid_pool (room_of old.blocks) v image) old synced;
+  made = tt;
+  kept = λ _. kept_same old.held;
+  untouched = λ _. record { held = refl; history = refl };
+  ended = tt;
+}
+
+-- a fault that says nothing of the text
+IsSilent : RestoreFault → Type 0
+IsSilent r.Memory = Unit {0}
+IsSilent r.Source = Unit {0}
+IsSilent r.Device = Unit {0}
+IsSilent (r.Text fault) = ⊥
+IsSilent (r.NoRoom need blocks) = ⊥
+
+silent_answer : (fault : RestoreFault) (v : Verdict ThinPool) → IsSilent fault → AnswersFault fault v
+unfolding IsSilent
+silent_answer r.Memory v is = tt
+silent_answer r.Source v is = tt
+silent_answer r.Device v is = tt
+silent_answer (r.Text fault) v is = absurd is
+silent_answer (r.NoRoom need blocks) v is = absurd is
+
+early_told : (left : Option (List ℕ)) (room : ℕ) → IfSome left (λ t. is_pool_early (text_in left) room ≡ is_pool_early t room)
+early_told left room = at_text left (λ t. is_pool_early (text_in left) room ≡ is_pool_early t room) refl
+
+silent_unwritten : AllVerdicts → (fault : RestoreFault) (from to : SourceState) (old : DeviceState) → IsSilent fault → Restored (Err fault) from to old old
+silent_unwritten verdicts fault from to old silent =
+    let room = room_of old.blocks in
+    let found = verdicts (text_in from.left) room in
+    unwritten fault from to old found.0 (is_pool_early (text_in from.left) room)
+    (both_told from.left (λ t. IsThinVerdict t room found.0) (λ t. is_pool_early (text_in from.left) room ≡ is_pool_early t room)
+    (at_text from.left (λ t. IsThinVerdict t room found.0) found.1) (early_told from.left room)) (silent_answer fault found.0 silent)
+
+pub wants_memory : AllVerdicts → (from to : SourceState) (old : DeviceState) → Restored (Err r.Memory) from to old old
+unfolding IsSilent
+wants_memory verdicts from to old = silent_unwritten verdicts r.Memory from to old tt
+
+-- the first two lines weren't read
+pub never_begun : AllVerdicts → (fault : RestoreFault) (from to : SourceState) (old : DeviceState) → BlamesSource fault from.faults to.faults
+    → ((t : List ℕ) → from.left ≡ Some t → (room : ℕ) → BeginsOf room t fault) → Restored (Err fault) from to old old
+unfolding IsSilent
+never_begun verdicts r.Memory from to old blames told = absurd blames
+never_begun verdicts r.Device from to old blames told = absurd blames
+never_begun verdicts (r.NoRoom need blocks) from to old blames told = absurd blames
+never_begun verdicts r.Source from to old blames told = silent_unwritten verdicts r.Source from to old tt
+never_begun verdicts (r.Text fault) from to old blames told =
+    let room = room_of old.blocks in
+    let why : Texts.Refusal = record { line = fault.line; cause = fault.cause } in
+    unwritten (r.Text fault) from to old (refused why) (is_pool_early (text_in from.left) room)
+    (both_told from.left (λ t. IsThinVerdict t room (refused why)) (λ t. is_pool_early (text_in from.left) room ≡ is_pool_early t room)
+    (where_told from.left (λ t. IsThinVerdict t room (refused why)) (λ t is. told t is room)) (early_told from.left room)) refl
+
+-- what is said of an old image and no superblock
+abbrev older : {image : Image} {Made : Image → Type 0} {a b : DeviceState} → LeavesOnly (IsOldOrNone image) a b → LeavesOnly (IsOldNoneOrMade image Made) a b
+older first = weaken first (λ left firsts outcome chance. ⊎_elim (λ old. inl old) (λ none. inr (inl none)) (outcome chance))
+
+-- once the first two lines were read
+module _ (p : Pool) (text : TextReader ThinState ThinLine) (mid_left : Option (List ℕ)) (from to : SourceState) (old : DeviceState)
+    (told : (t : List ℕ) → from.left ≡ Some t → LeavesOf thin t (begun_lines p) text mid_left) where
+  abbrev room : ℕ
+  room = room_of old.blocks
+
+  abbrev need : ℕ
+  need = thin_need_so_far room (begun_lines p)
+
+  abbrev early : Bool
+  early = nat_lt room need
+
+  early_right : IfSome from.left (λ t. early ≡ is_pool_early t room)
+  early_right = where_told from.left (λ t. early ≡ is_pool_early t room) (λ t is. early_is p room t text mid_left (told t is))
+
+  right_of : (v : Verdict ThinPool) → IfSome from.left (λ t. IsThinVerdict t room v) → IfSome from.left (λ t. IsThinVerdict t room v × (early ≡ is_pool_early t room))
+  right_of v is = both_told from.left (λ t. IsThinVerdict t room v) (λ t. early ≡ is_pool_early t room) is early_right
+
+  -- there is no room for them
+  pub begun_no_room : (needed : ℕ) → needed ≡ need → room < needed → Restored (Err (r.NoRoom needed room)) from to old old
+  begun_no_room needed is less =
+      unwritten (r.NoRoom needed room) from to old (no_room needed room) early
+      (right_of (no_room needed room) (where_told from.left (λ t. IsThinVerdict t room (no_room needed room))
+      (λ t told_is. (over_says p room t text mid_left (told t told_is) (omega arith) ∙ ap (λ n. Some n) (sym is), refl)))) (refl, refl)
+
+  module _ (fits : need ≤ room) (mid new : DeviceState) where
+    not_early : early ≡ true → ⊥
+    not_early e = absurd (both_ways early (le-ltb room need fits) e)
+
+    -- the device was written, and a fault came
+    begun_fault : (fault : RestoreFault) (v : Verdict ThinPool) → IfSome from.left (λ t. IsThinVerdict t room v) → AnswersFault fault v
+        → ((image : Image) → HoldsSynced image old → LeavesOnly (IsOldNoneOrMade image (Makes laid_pool room v image)) old new)
+        → (IsRefusal fault → IfSome old.held (λ image. IfSome new.held (λ now. (now ≡ image) ⊎ HasNoSuper now)))
+        → Restored (Err fault) from to old new
+    begun_fault fault v is answer crash kept = record {
+      verdict = v;
+      early = early;
+      right = right_of v is;
+      answer = answer;
+      crash = crash;
+      made = tt;
+      kept = kept;
+      untouched = λ e. absurd (not_early e);
+      ended = tt;
+    }
+
+    -- block 0 wasn't closed
+    pub begun_unclosed : AllVerdicts → ((image : Image) → HoldsSynced image old → LeavesOnly (IsOldOrNone image) old new) → Restored (Err r.Device) from to old new
+    begun_unclosed verdicts first =
+        let found = verdicts (text_in from.left) room in
+        begun_fault r.Device found.0 (at_text from.left (λ t. IsThinVerdict t room found.0) found.1) tt (λ image synced. older (first image synced)) (λ none. absurd none)
+
+    module _ (first : (image : Image) → HoldsSynced image old → LeavesOnly (IsOldOrNone image) old mid)
+        (content : IfSome old.held (λ image. mid.held ≡ Some (set image 0 zeros))) (measured : IfSome old.held (λ image. length image ≡ old.blocks)) where
+      -- block 0 stayed closed
+      closed_crash : StaysClosed mid new → (Made : Image → Image → Type 0) → (image : Image) → HoldsSynced image old → LeavesOnly (IsOldNoneOrMade image (Made image)) old new
+      closed_crash stays Made image synced =
+          and_then (older (first image synced)) (weaken stays.crash (λ left firsts zeroed chance. inr (inl (zeros_none left firsts zeroed))))
+
+      closed_kept : StaysClosed mid new → IfSome old.held (λ image. IfSome new.held (λ now. (now ≡ image) ⊎ HasNoSuper now))
+      closed_kept stays =
+          IfSome_then old.held measured (λ image number.
+          each_told new.held (λ now. (now ≡ image) ⊎ HasNoSuper now) (λ now is. inr (zeros_none now new.history.firsts (stays.crash.now now new.history.firsts (left_held new now is)))))
+        where
+          each_told : (o : Option Image) (P : Image → Type 0) → ((x : Image) → o ≡ Some x → P x) → IfSome o P
+          each_told None P all = tt
+          each_told (Some x) P all = all x refl
+
+      closed_at : (image : Image) → HoldsSynced image old → mid.held ≡ Some (set image 0 zeros)
+      closed_at image synced = at_some old.held (λ (i : Image). mid.held ≡ Some (set i 0 zeros)) image synced.held content
+
+      -- what is made is laid
+      made_laid : (m : ThinPool) → IsLawfulPool m → thin_need m room ≤ room → (image made : Image) → HoldsSynced image old → made ≡ made_of m room (set image 0 zeros)
+          → IsLaid (laid_pool m room) image made
+      unfolding made_of
+      made_laid m lawful enough image made synced is =
+          let number : length image ≡ old.blocks = at_some old.held (λ (i : Image). length i ≡ old.blocks) image synced.held measured in
+          rw is (made_of_closed m room lawful enough (omega arith) image zeros (omega arith))
+
+      commit_crash : {was left : Option (List ℕ)} → (done : Commits p room text was left mid new) → (image : Image) → HoldsSynced image old
+          → LeavesOnly (IsOldNoneOrMade image (Makes laid_pool room (accepted done.pool) image)) old new
+      commit_crash done image synced =
+          and_then (older (first image synced)) (weaken (done.crash (set image 0 zeros) (closed_at image synced))
+          (λ left firsts outcome chance. ⊎_elim (λ none. inr (inl none)) (λ made. inr (inr (made_laid done.pool done.lawful done.fits image left synced made))) (outcome chance)))
+
+      -- the pool was committed
+      pub begun_done : CommitsSynced p room text mid_left to.left mid new → Restored (Ok tt) from to old new
+      begun_done done =
+          let m = done.commits.pool in record {
+            verdict = accepted m;
+            early = early;
+            right = right_of (accepted m) (where_told from.left (λ t. IsThinVerdict t room (accepted m)) (λ t is. (done.commits.told t (told t is)).0));
+            answer = done.commits.lawful;
+            crash = λ image synced. commit_crash done.commits image synced;
+            made = λ image synced.
+                let s = done.done (set image 0 zeros) (closed_at image synced) in
+                at_made new.held (λ (made : Image). IsLaid (laid_pool m room) image made) (made_of m room (set image 0 zeros)) s s.held
+                (λ made is. made_laid m done.commits.lawful done.commits.fits image made synced is);
+            kept = tt;
+            untouched = λ e. absurd (not_early e);
+            ended = where_told from.left (λ t. to.left ≡ Some []) (λ t is. (done.commits.told t (told t is)).1);
+          }
+        where
+          at_made : (o : Option Image) (P : Image → Type 0) (image : Image) → HoldsSynced image new → o ≡ Some image → ((made : Image) → made ≡ image → P made)
+              → IfSome o (λ now. P now × HoldsSynced now new)
+          at_made None P image s is laid = tt
+          at_made (Some now) P image s is laid =
+              let same : now ≡ image = same_Some now image is in (laid now same, subst (λ (j : Image). HoldsSynced j new) (sym same) s)
+
+      silent_closed : AllVerdicts → (fault : RestoreFault) → IsSilent fault → StaysClosed mid new → Restored (Err fault) from to old new
+      silent_closed verdicts fault silent stays =
+          let found = verdicts (text_in from.left) room in
+          begun_fault fault found.0 (at_text from.left (λ t. IsThinVerdict t room found.0) found.1) (silent_answer fault found.0 silent)
+          (closed_crash stays (Makes laid_pool room found.0)) (λ _. closed_kept stays)
+
+      -- it wasn't
+      pub begun_failed : AllVerdicts → (fault : RestoreFault) → Tries p room text mid_left to.left mid new → ShutBy fault mid new
+          → ((t : List ℕ) → from.left ≡ Some t → SaysOf room t fault) → Restored (Err fault) from to old new
+      unfolding IsSilent
+      begun_failed verdicts r.Memory tries shut says = silent_closed verdicts r.Memory tt shut
+      begun_failed verdicts r.Source tries shut says = silent_closed verdicts r.Source tt shut
+      begun_failed verdicts r.Device (inl closed) shut says = silent_closed verdicts r.Device tt closed
+      begun_failed verdicts r.Device (inr done) shut says =
+          begun_fault r.Device (accepted done.pool) (where_told from.left (λ t. IsThinVerdict t room (accepted done.pool)) (λ t is. (done.told t (told t is)).0)) tt
+          (λ image synced. commit_crash done image synced) (λ none. absurd none)
+      begun_failed verdicts (r.Text fault) tries shut says =
+          let why : Texts.Refusal = record { line = fault.line; cause = fault.cause } in
+          begun_fault (r.Text fault) (refused why) (where_told from.left (λ t. IsThinVerdict t room (refused why)) (λ t is. says t is)) refl
+          (closed_crash shut (Makes laid_pool room (refused why))) (λ _. closed_kept shut)
+      begun_failed verdicts (r.NoRoom needed blocks) tries shut says =
+          begun_fault (r.NoRoom needed blocks) (no_room needed blocks) (where_told from.left (λ t. IsThinVerdict t room (no_room needed blocks)) (λ t is. says t is)) (refl, refl)
+          (closed_crash shut (Makes laid_pool room (no_room needed blocks))) (λ _. closed_kept shut)
+
+      -- by the result
+      pub begun_result : AllVerdicts → (result : Result (Unit {0}) RestoreFault)
+          → MatchResult result (λ _. CommitsSynced p room text mid_left to.left mid new) (λ _. Tries p room text mid_left to.left mid new)
+          → IfErr result (λ fault. ShutBy fault mid new) → ((t : List ℕ) → from.left ≡ Some t → IfErr result (SaysOf room t)) → Restored result from to old new
+      begun_result verdicts (Ok done) tries shut says = begun_done tries
+      begun_result verdicts (Err fault) tries shut says = begun_failed verdicts fault tries shut says

@@ -1,0 +1,223 @@
+//! Whole runs of `thin_restore` over objects in memory: what is restored, what is refused, and what the output holds then.
+
+use crate::ran::{NOTHING_FAILS, run};
+use pd_image::{Device, MemDevice, MemSink, MemSource, Pick};
+use pd_kinds::{BLOCK_SIZE, Block};
+use pd_tools::run_tool;
+use std::alloc::{AllocError, Global};
+use std::test::Fail;
+
+/// What the output holds afterwards in block 0, whose bytes were all 1.
+#[derive(Clone, Copy, PartialEq, Eq)]
+enum Left {
+    /// It isn't written.
+    Untouched,
+    /// It is zeros.
+    Closed,
+    /// It is a superblock.
+    Made,
+}
+
+/// A text, the blocks of the output, and the status, the notes and what is left.
+type Row = (&'static str, usize, u8, &'static str, Left);
+
+/// The words of a restore.
+const WORDS: [&str; 5] = ["thin_restore", "-i", "text", "-o", "image"];
+
+/// The call of a restore, and two of its objects after it.
+#[derive(Drop)]
+struct Restored {
+    status: u8,
+    notes: MemSink,
+    output: MemDevice,
+}
+
+/// A block whose bytes are all 1.
+fn ones() -> Block {
+    Block([1; BLOCK_SIZE])
+}
+
+/// Restores a text to so many blocks of ones; this call of the source fails.
+fn restore(
+    alloc: Global,
+    text: &str,
+    blocks: usize,
+    failing: Option<u64>,
+) -> Result<Restored, AllocError> {
+    let mut words = Vec::new(alloc);
+    for word in WORDS {
+        words.push(String::from_str(alloc, word)?)?;
+    }
+    let base = vec![in alloc; ones(); blocks]?;
+    let mut source = MemSource::of(alloc, text.as_bytes(), 7)?;
+    if let Some(call) = failing {
+        source.fail_at(call)?;
+    }
+    let mut out = MemSink::new(alloc);
+    let mut notes = MemSink::new(alloc);
+    let mut input = MemDevice::of(alloc, &[])?;
+    let mut output = MemDevice::of(alloc, base.as_slice())?;
+    let mut third = MemDevice::of(alloc, &[])?;
+    let status = run_tool(
+        alloc,
+        words.as_slice(),
+        &mut source,
+        &mut out,
+        &mut notes,
+        &mut input,
+        &mut output,
+        &mut third,
+    );
+    Ok(Restored {
+        status,
+        notes,
+        output,
+    })
+}
+
+/// The small pools: an empty one, and one with a mapping.
+const EMPTY: &str = "thin 1\npool 00000000-0000-0000-0000-000000000000 0 0 128 0\nend\n";
+
+const ONE: &str =
+    "thin 1\npool 00000000-0000-0000-0000-000000000000 0 0 128 1\ndevice 1 1 0 0 0\nmap 0 0 1 0\nend\n";
+
+/// Restores, with what they come to.
+fn rows() -> [Row; 12] {
+    [
+        (EMPTY, 8, 0, "", Left::Made),
+        (
+            EMPTY,
+            7,
+            4,
+            "pdata_tools: no room: need 8, blocks 7\n",
+            Left::Untouched,
+        ),
+        (ONE, 16, 0, "", Left::Made),
+        (
+            ONE,
+            9,
+            4,
+            "pdata_tools: no room: need 10, blocks 9\n",
+            Left::Closed,
+        ),
+        (
+            "thin 1\npool 00000000-0000-0000-0000-000000000000 0 0 128 1099511627776\ndevice 1 1099511627776 0 0 0\nmap 0 0 1099511627776 0\nend\n",
+            100,
+            4,
+            "pdata_tools: no room: need 67774669, blocks 100\n",
+            Left::Untouched,
+        ),
+        (
+            "thin 1\npool 00000000-0000-0000-0000-000000000000 0 0 128 0\n",
+            100,
+            3,
+            "pdata_tools: line 3: no end\n",
+            Left::Closed,
+        ),
+        (
+            "thin 1\npool 00000000-0000-0000-0000-000000000000 0 0 128 0\nend\nx",
+            100,
+            3,
+            "pdata_tools: line 4: after end\n",
+            Left::Closed,
+        ),
+        (
+            "thin 1\npool 00000000-0000-0000-0000-000000000000 0 0 128 2\ndevice 1 2 0 0 0\nmap 0 0 1 0\nend\n",
+            100,
+            3,
+            "pdata_tools: line 5: mapped differs\n",
+            Left::Closed,
+        ),
+        (
+            "thin 1\npool 00000000-0000-0000-0000-000000000000 0 0 128 1\ndevice 1 1 0 0 0\nmap 0 0 01 0\nend\n",
+            100,
+            3,
+            "pdata_tools: line 4: number\n",
+            Left::Closed,
+        ),
+        ("", 100, 3, "pdata_tools: line 1: no end\n", Left::Untouched),
+        (
+            "thin 3\n",
+            100,
+            3,
+            "pdata_tools: line 1: header\n",
+            Left::Untouched,
+        ),
+        (
+            "thin 1\npool 00000000-0000-0000-0000-000000000000 0 0 128 x\n",
+            100,
+            3,
+            "pdata_tools: line 2: number\n",
+            Left::Untouched,
+        ),
+    ]
+}
+
+/// The blocks that the output holds, as far as the calls went.
+fn blocks_of(rt: &HostRuntime, output: &MemDevice) -> Result<Vec<Block>, Fail> {
+    let mut left = output.after_crash(rt.alloc(), Pick::New)?;
+    left.attach("image", false)?;
+    let mut blocks = Vec::new(rt.alloc());
+    for b in 0..left.blocks() {
+        blocks.push(left.block(b))?;
+    }
+    Ok(blocks)
+}
+
+/// What is left of block 0.
+fn left_of(blocks: &[Block]) -> Left {
+    match blocks {
+        [] => Left::Untouched,
+        [first, ..] => {
+            if *first == ones() {
+                Left::Untouched
+            } else if *first == Block::zeros() {
+                Left::Closed
+            } else {
+                Left::Made
+            }
+        }
+    }
+}
+
+#[test]
+fn restores_come_to_their_status(rt: HostRuntime) -> Result<(), Fail> {
+    for (text, blocks, status, notes, leaves) in rows() {
+        let restored = restore(rt.alloc(), text, blocks, None)?;
+        assert_eq!(rt; restored.status, status, "{text}");
+        assert_eq!(rt; restored.notes.bytes(), notes.as_bytes(), "{text}");
+        let image = blocks_of(&rt, &restored.output)?;
+        assert!(rt; left_of(image.as_slice()) == leaves, "{text}");
+    }
+    Ok(())
+}
+
+#[test]
+fn restored_pools_are_clean(rt: HostRuntime) -> Result<(), Fail> {
+    for (text, blocks) in [(EMPTY, 8), (ONE, 16)] {
+        let restored = restore(rt.alloc(), text, blocks, None)?;
+        let image = blocks_of(&rt, &restored.output)?;
+        let ran = run(
+            rt.alloc(),
+            &["thin_check", "--until", "whole", "image"],
+            image.as_slice(),
+            NOTHING_FAILS,
+        )?;
+        assert_eq!(rt; ran.status, 0);
+        assert_eq!(rt; ran.out.bytes(), b"clean\n".as_slice());
+    }
+    Ok(())
+}
+
+#[test]
+fn a_source_that_fails_is_blamed(rt: HostRuntime) -> Result<(), Fail> {
+    let restored = restore(rt.alloc(), ONE, 16, Some(1))?;
+    assert_eq!(rt; restored.status, 6);
+    assert_eq!(rt;
+        restored.notes.bytes(),
+        b"pdata_tools: source or sink fault\n".as_slice()
+    );
+    let image = blocks_of(&rt, &restored.output)?;
+    assert!(rt; left_of(image.as_slice()) == Left::Untouched);
+    Ok(())
+}

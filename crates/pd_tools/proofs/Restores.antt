@@ -1,0 +1,406 @@
+-- What the work of a restore comes to, over plain variables.
+use Rattle.std.proofs.Common.{◌≡◌, ◌≢◌, ◌⊎◌, inl, inr, ℕ, ◌≤◌, Bool, List, [], length, Option, Some, None, IfSome, IsTrue, Result, Ok, Err, refl, sym, ap, ◌∙◌, subst, arith, lit≤}
+use Rattle.std.specs.Prelude.{OnOk, MatchResult}
+use Rattle.std.specs.Option.{option_map_or}
+use Rattle.std.proofs.lemmas.Option.{IfSome_then, same_Some}
+use Rattle.pd_kinds.specs.declared.kind.Kind.{Kind}
+use Rattle.pd_kinds.specs.declared.kind.Kind.TheVariants.{Thin, Cache, Era}
+use Rattle.pd_kinds.specs.Objects.{DeviceState, SourceState, SinkState, Rose}
+use Rattle.pd_kinds.specs.Moments.{History, now}
+use Rattle.pd_kinds.specs.Crash.{IsSynced, LeavesNow, HoldsSynced, HasNoSuper, IsOldNoneOrMade, IsUntouched}
+use Rattle.pd_kinds.proofs.AppendLemmas.{appends_none, front_none}
+use Rattle.pd_kinds.proofs.CrashLemmas.{and_then, stays, left_now, left_synced}
+use Rattle.pd_grammar.specs.Spelling.{Verdict, accepted, refused, no_room}
+use Rattle.pd_spells.specs.ThinNeed.{IsThinVerdict}
+use Rattle.pd_spells.specs.CacheNeed.{IsCacheVerdict}
+use Rattle.pd_spells.specs.EraNeed.{IsEraVerdict}
+use Rattle.pd_spells.specs.Lawful.{IsLawfulPool, IsLawfulCache, IsLawfulEra}
+use Rattle.pd_laid.specs.Laid.{Laid}
+use Rattle.pd_laid.specs.LaidThin.{laid_pool}
+use Rattle.pd_laid.specs.LaidCache.{laid_cache}
+use Rattle.pd_laid.specs.LaidEra.{laid_era}
+use Rattle.pd_image.specs.Device.{KeepsPlace}
+use Rattle.pd_image.specs.Source.{KeepsSource}
+use Rattle.pd_answers.specs.Answer.{Answer, Objects, IsUsed, reading, writing}
+use Rattle.pd_answers.specs.Terms.{is_possible}
+use Rattle.pd_answers.specs.Outputs.{room_of, LeavesMade}
+use Rattle.pd_answers.specs.Restores.{Judged, Restores, restore_answer, restore_by, restore, is_pool_early, is_cache_early, is_era_early}
+use Rattle.pd_restore.specs.declared.fault.RestoreFault.{RestoreFault}
+use Rattle.pd_restore.specs.declared.fault.RestoreFault.TheVariants as fault
+use Rattle.pd_restore.specs.Restored.{IsRestored, Answers, IsAccepted, IsRefused, IsWithoutRoom, IsRefusal}
+use Rattle.pd_tools.specs.declared.restore.Outcome.TheVariants.{Refused, NoRoom}
+use Rattle.pd_texts.specs.declared.fault.TextFault.{TextFault}
+use Rattle.pd_tools.proofs.Answered.{stop_status-low}
+use Rattle.pd_tools.specs.declared.stop.Stop.{Stop}
+use Rattle.pd_tools.specs.declared.stop.Stop.TheVariants.{Device, Stream, Memory}
+use Rattle.pd_tools.specs.Stop.{stop_status}
+use Rattle.pd_tools.specs.Restore.{HaveVerdicts, TextsHaveVerdicts, IsRestoredAs, AreAttached, AreUnattached, FailedToAttach, outcome_status, outcome_line}
+use Rattle.pd_tools.specs.Work.{IsStopped, IsFinished, HasCause}
+
+abbrev Image : Type 0
+Image = List (List ℕ)
+
+-- the verdicts of all kinds
+pub all_kinds : HaveVerdicts IsThinVerdict → ((version : ℕ) → HaveVerdicts (IsCacheVerdict version)) → HaveVerdicts IsEraVerdict
+    → (kind : Kind) (version : ℕ) → TextsHaveVerdicts kind version
+all_kinds thin cache era Thin version = thin
+all_kinds thin cache era Cache version = cache version
+all_kinds thin cache era Era version = era
+
+-- what is there before the first call, where nothing is unsynced
+here : (image : Image) (Made : Image → Type 0) (device : DeviceState) → HoldsSynced image device → LeavesNow (IsOldNoneOrMade image Made) device
+here image Made device synced left firsts leaves chance =
+    inl (left_synced image left (now image device.history) refl synced.unsynced (left_now device image left firsts synced.held leaves).0)
+
+-- a device that was left alone still holds its image, with nothing unsynced
+still_synced : (image : Image) (old new : DeviceState) → IsUntouched old new → HoldsSynced image old → HoldsSynced image new
+still_synced image old new same synced = record {
+  held = same.held ∙ synced.held;
+  unsynced = ap (λ (h : History). h.unsynced) same.history ∙ synced.unsynced;
+  firsts = ap (λ (h : History). h.firsts) same.history ∙ synced.firsts;
+}
+
+-- an output that was left alone
+pub untouched_output : (Made : Image → Image → Type 0) (unwritten : Bool) (status : ℕ) (old new : DeviceState) → IsSynced old → IsUntouched old new
+    → status ≢ 0 → LeavesMade Made unwritten status old new
+untouched_output Made unwritten status old new synced same not_made = record {
+  output = record {
+    crash = IfSome_then old.held synced (λ image s. stays same.held same.history (here image (Made image) old s));
+    made = λ zero. absurd (not_made zero);
+    refused = λ _. IfSome_then old.held synced (λ image s. if_same new.held image (same.held ∙ s.held));
+  };
+  untouched = λ _. same;
+}
+  where
+    if_same : (o : Option Image) (image : Image) → o ≡ Some image → IfSome o (λ now. (now ≡ image) ⊎ HasNoSuper now)
+    if_same None image is = tt
+    if_same (Some now) image is = inl (same_Some now image is)
+
+-- the room of an output, and the text that is left
+room_in : Option Image → ℕ
+room_in held = option_map_or (λ (image : Image). room_of (length image)) held 0
+
+room-told : (held : Option Image) → IfSome held (λ image. room_in held ≡ room_of (length image))
+unfolding room_in
+room-told None = tt
+room-told (Some image) = refl
+
+text_in : Option (List ℕ) → List ℕ
+text_in left = option_map_or (λ (text : List ℕ). text) left []
+
+verdict-told : {M : Type 0} (P : List ℕ → ℕ → Verdict M → Type 0) (early : List ℕ → ℕ → Bool) (left : Option (List ℕ)) (room : ℕ) (v : Verdict M) → P (text_in left) room v
+    → IfSome left (λ text. P text room v × (early (text_in left) room ≡ early text room))
+unfolding text_in
+verdict-told P early None room v is = tt
+verdict-told P early (Some text) room v is = (is, refl)
+
+-- the answer to a verdict, by the result
+answer_accepted : {M : Type 0} (Lawful : M → Type 0) (v : Verdict M) → IsAccepted Lawful v → restore_answer v ≡ record { status = 0; out = []; notes = [] }
+answer_accepted Lawful (accepted m) is = refl
+answer_accepted Lawful (refused why) is = absurd is
+answer_accepted Lawful (no_room needed blocks) is = absurd is
+
+answer_refused : {M : Type 0} (why : TextFault) (v : Verdict M) → IsRefused why v
+    → restore_answer v ≡ record { status = 3; out = []; notes = outcome_line (Refused why) }
+answer_refused why (accepted m) is = absurd is
+answer_refused why (refused refusal) is = rw is refl
+answer_refused why (no_room needed blocks) is = absurd is
+
+answer_no_room : {M : Type 0} (need room : ℕ) (v : Verdict M) → IsWithoutRoom need room v
+    → restore_answer v ≡ record { status = 4; out = []; notes = outcome_line (NoRoom need room) }
+answer_no_room need room (accepted m) is = absurd is
+answer_no_room need room (refused refusal) is = absurd is
+answer_no_room need room (no_room needed blocks) is = rw (is.0, is.1) refl
+
+module _ {M : Type 0} (Lawful : M → Type 0) (IsVerdictOn : List ℕ → ℕ → Verdict M → Type 0) (is_early : List ℕ → ℕ → Bool) (laid : M → ℕ → Laid)
+    (file path : List ℕ) (others : Objects) (notes : SinkState) (source last_source : SourceState) (output last_output : DeviceState) (synced : IsSynced output) where
+  abbrev before : Objects
+  before = record others { source = source; output = output }
+
+  abbrev after : Objects
+  after = record others { source = last_source; notes = notes; output = last_output }
+
+  -- an object couldn't be attached
+  pub not_attached : HaveVerdicts IsVerdictOn → (stop : Stop) → AreUnattached file path source last_source output last_output stop
+      → IsStopped (restore_by IsVerdictOn is_early laid file path) before after stop
+  not_attached verdicts stop un =
+      let room = room_in output.held in
+      let found = verdicts (text_in source.left) room in
+      let early = is_early (text_in source.left) room in
+      let leaves = λ (status : ℕ) (some : status ≢ 0). untouched_output (Restores laid room found.0) early status output last_output synced un.untouched some in
+      record {
+        finding = record { room = room; verdict = found.0; is_early = early };
+        work = record {
+          found = (record { told = room-told output.held; attached = λ e. absurd (un.closed e) }, verdict-told IsVerdictOn is_early source.left room found.0 found.1);
+          possible = possible_stop stop;
+          followed = record { source = un.source_used; out = tt; input = tt; output = un.output_used; third = tt };
+          kept = record { source = tt; out = refl; input = refl; output = tt; third = refl };
+          silent = λ _. refl;
+          leaves = leaves (stop_status stop) (some_stop stop);
+        };
+        cause = failed stop un.cause;
+        front = front_none _ others.out.written;
+        lost = leaves 6 (λ e. omega arith);
+      }
+    where
+      possible_stop : (stop : Stop) → IsTrue (is_possible (restore_by IsVerdictOn is_early laid file path) (stop_status stop))
+      possible_stop Device = refl
+      possible_stop Stream = refl
+      possible_stop Memory = refl
+
+      some_stop : (stop : Stop) → stop_status stop ≢ 0
+      some_stop Device e = absurd (omega arith)
+      some_stop Stream e = absurd (omega arith)
+      some_stop Memory e = absurd (omega arith)
+
+      failed : (stop : Stop) → FailedToAttach source last_source output last_output stop → HasCause (restore_by IsVerdictOn is_early laid file path) before after stop
+      failed Device rose = inr (inl rose)
+      failed Stream rose = inl rose
+      failed Memory none = absurd none
+
+-- a fact of the image that a device holds
+at_held : (o : Option Image) (P : Image → Type 0) (image : Image) → o ≡ Some image → IfSome o P → P image
+at_held None P image is all = absurd (none is)
+  where
+    none : None ≡ Some image → ⊥
+    none e = cc
+at_held (Some other) P image is all = subst P (same_Some other image is) all
+
+-- the room of a device that tells how many blocks it has
+room-held : (held opened_held : Option Image) (blocks : ℕ) → opened_held ≡ held → IfSome opened_held (λ image. length image ≡ blocks)
+    → IfSome held (λ image. room_of blocks ≡ room_of (length image))
+room-held held opened_held blocks same measured =
+    IfSome_then held (subst (λ (h : Option Image). IfSome h (λ image. length image ≡ blocks)) same measured) (λ image is. ap room_of (sym is))
+
+-- what is right of the text that was attached is right of the text that was there before
+right-before : (P : List ℕ → Type 0) (left attached_left : Option (List ℕ)) → attached_left ≡ left → IfSome attached_left P → IfSome left P
+right-before P left attached_left same right = subst (λ (l : Option (List ℕ)). IfSome l P) same right
+
+-- a result without a fault
+abbrev IsDone : Result (Unit {0}) RestoreFault → Type 0
+IsDone (Ok done) = Unit {0}
+IsDone (Err fault) = ⊥
+
+-- a refusal, or want of room
+abbrev IsTurnedDown : Result (Unit {0}) RestoreFault → Type 0
+IsTurnedDown (Ok done) = ⊥
+IsTurnedDown (Err fault) = IsRefusal fault
+
+where_turned_down : (result : Result (Unit {0}) RestoreFault) {P : Type 0} → MatchResult result (λ done. Unit {0}) (λ fault. IsRefusal fault → P) → IsTurnedDown result → P
+where_turned_down (Ok done) kept is = absurd is
+where_turned_down (Err fault) kept is = kept is
+
+where_done : (result : Result (Unit {0}) RestoreFault) {P : Type 0} → OnOk result P → IsDone result → P
+where_done (Ok done) p is = p
+where_done (Err fault) p is = absurd is
+
+module _ {M : Type 0} (Lawful : M → Type 0) (IsVerdictOn : List ℕ → ℕ → Verdict M → Type 0) (is_early : List ℕ → ℕ → Bool) (laid : M → ℕ → Laid)
+    (file path : List ℕ) (others : Objects) (notes : SinkState) (source attached last_source : SourceState) (output opened last_output : DeviceState)
+    (synced : IsSynced output) (both : AreAttached file path source attached output opened)
+    (measured : IfSome opened.held (λ image. length image ≡ opened.blocks))
+    (place : KeepsPlace opened last_output) (keeps : KeepsSource attached last_source)
+    (result : Result (Unit {0}) RestoreFault) (done : IsRestored Lawful IsVerdictOn is_early laid result attached last_source opened last_output) where
+  abbrev room : ℕ
+  room = room_of opened.blocks
+
+  abbrev finding : Judged M
+  finding = record { room = room; verdict = done.verdict; is_early = done.early }
+
+  -- what was found is right
+  found : (restore_by IsVerdictOn is_early laid file path).finds (record others { source = source; output = output })
+      (record others { source = last_source; notes = notes; output = last_output }) finding
+  found = (
+    record {
+      told = room-held output.held opened.held opened.blocks both.untouched.held measured;
+      attached = λ _. ap room_of (sym place.blocks);
+    },
+    right-before (λ text. IsVerdictOn text room done.verdict × (done.early ≡ is_early text room)) source.left attached.left both.left done.right,
+  )
+
+  -- both objects are attached as they are named
+  source_used : IsUsed (reading file) last_source.access last_source.path
+  source_used = record { allowed = inr (inl (keeps.access ∙ both.source_access)); named = λ _. rw keeps.path both.source_path }
+
+  output_used : IsUsed (writing path) last_output.access last_output.path
+  output_used = record { allowed = inr (inl (place.access ∙ both.output_access)); named = λ _. rw place.path both.output_path }
+
+  -- what the output holds
+  leaves : (status : ℕ) → (status ≡ 0 → IsDone result) → ((status ≡ 3) ⊎ (status ≡ 4) → IsTurnedDown result)
+      → LeavesMade (Restores laid room done.verdict) done.early status output last_output
+  leaves status is_done is_refusal = record {
+    output = record {
+      crash = IfSome_then output.held synced (λ image s.
+          and_then (stays {old = output} {new = opened} both.untouched.held both.untouched.history (here image (Restores laid room done.verdict image) output s))
+          (done.crash image (still_synced image output opened both.untouched s)));
+      made = λ zero. IfSome_then output.held synced (λ image s.
+          where_done result done.made (is_done zero) image (still_synced image output opened both.untouched s));
+      refused = λ either. right-held (where_turned_down result done.kept (is_refusal either));
+    };
+    untouched = λ early. let same = done.untouched early in record { held = same.held ∙ both.untouched.held; history = same.history ∙ both.untouched.history };
+  }
+    where
+      right-held : IfSome opened.held (λ image. IfSome last_output.held (λ now. (now ≡ image) ⊎ HasNoSuper now))
+          → IfSome output.held (λ image. IfSome last_output.held (λ now. (now ≡ image) ⊎ HasNoSuper now))
+      right-held is = subst (λ (h : Option Image). IfSome h (λ image. IfSome last_output.held (λ now. (now ≡ image) ⊎ HasNoSuper now))) both.untouched.held is
+
+  -- it came to an answer
+  finished : (status : ℕ) (line : List ℕ) → status ≤ 4 → IsTrue (is_possible (restore_by IsVerdictOn is_early laid file path) status)
+      → restore_answer done.verdict ≡ record { status = status; out = []; notes = line }
+      → (status ≡ 0 → IsDone result) → ((status ≡ 3) ⊎ (status ≡ 4) → IsTurnedDown result)
+      → IsFinished (restore_by IsVerdictOn is_early laid file path) (record others { source = source; output = output })
+      (record others { source = last_source; notes = notes; output = last_output }) status line
+  finished status line low possible answer is_done is_refusal = record {
+    finding = finding;
+    work = record {
+      found = found;
+      possible = possible;
+      followed = record { source = source_used; out = tt; input = tt; output = output_used; third = tt };
+      kept = record { source = tt; out = refl; input = refl; output = tt; third = refl };
+      silent = λ _. refl;
+      leaves = leaves status is_done is_refusal;
+    };
+    low = low;
+    same_status = sym (ap (λ (a : Answer). a.status) answer);
+    same_line = sym (ap (λ (a : Answer). a.notes) answer);
+    out = rw answer (appends_none others.out.written);
+    open_devices = record { source = keeps.access ∙ both.source_access; input = tt; output = place.access ∙ both.output_access; third = tt };
+    open_out = λ _. tt;
+    read = λ zero. subst (λ (l : Option (List ℕ)). IfSome l (λ text. last_source.left ≡ Some [])) both.left (where_done result done.ended (is_done zero));
+  }
+
+  -- it came to an outcome, or was stopped
+  pub made : result ≡ Ok tt → IsFinished (restore_by IsVerdictOn is_early laid file path) (record others { source = source; output = output })
+      (record others { source = last_source; notes = notes; output = last_output }) 0 []
+  made is =
+      finished 0 [] (lit≤ tt) refl (answer_accepted Lawful done.verdict (subst (λ (r : Result (Unit {0}) RestoreFault). Answers Lawful r done.verdict) is done.answer))
+      (λ _. rw is tt) (λ either. absurd (elim either [ inl e ↦ omega arith | inr e ↦ omega arith ]))
+
+  pub refuses : (why : TextFault) → result ≡ Err (fault.Text why)
+      → IsFinished (restore_by IsVerdictOn is_early laid file path) (record others { source = source; output = output })
+      (record others { source = last_source; notes = notes; output = last_output }) (outcome_status (Refused why)) (outcome_line (Refused why))
+  refuses why is =
+      finished 3 _ (lit≤ tt) refl (answer_refused why done.verdict (subst (λ (r : Result (Unit {0}) RestoreFault). Answers Lawful r done.verdict) is done.answer))
+      (λ zero. absurd (omega arith)) (λ _. rw is tt)
+
+  pub lacks_room : (need blocks : ℕ) → result ≡ Err (fault.NoRoom need blocks)
+      → IsFinished (restore_by IsVerdictOn is_early laid file path) (record others { source = source; output = output })
+      (record others { source = last_source; notes = notes; output = last_output }) (outcome_status (NoRoom need blocks)) (outcome_line (NoRoom need blocks))
+  lacks_room need blocks is =
+      finished 4 _ (lit≤ tt) refl (answer_no_room need blocks done.verdict (subst (λ (r : Result (Unit {0}) RestoreFault). Answers Lawful r done.verdict) is done.answer))
+      (λ zero. absurd (omega arith)) (λ _. rw is tt)
+
+  pub stopped : (stop : Stop) → HasCause (restore_by IsVerdictOn is_early laid file path) (record others { source = source; output = output })
+      (record others { source = last_source; notes = notes; output = last_output }) stop
+      → IsStopped (restore_by IsVerdictOn is_early laid file path) (record others { source = source; output = output })
+      (record others { source = last_source; notes = notes; output = last_output }) stop
+  stopped stop cause = record {
+    finding = finding;
+    work = record {
+      found = found;
+      possible = possible_stop stop;
+      followed = record { source = source_used; out = tt; input = tt; output = output_used; third = tt };
+      kept = record { source = tt; out = refl; input = refl; output = tt; third = refl };
+      silent = λ _. refl;
+      leaves = high (stop_status stop) (stop_status-low stop);
+    };
+    cause = cause;
+    front = front_none _ others.out.written;
+    lost = high 6 (lit≤ tt);
+  }
+    where
+      possible_stop : (stop : Stop) → IsTrue (is_possible (restore_by IsVerdictOn is_early laid file path) (stop_status stop))
+      possible_stop Device = refl
+      possible_stop Stream = refl
+      possible_stop Memory = refl
+
+      high : (status : ℕ) → 5 ≤ status → LeavesMade (Restores laid room done.verdict) done.early status output last_output
+      high status five = leaves status (λ zero. absurd (omega arith)) (λ either. absurd (elim either [ inl e ↦ omega arith | inr e ↦ omega arith ]))
+
+-- the same for each kind
+module _ (version : ℕ) (file path : List ℕ) (others : Objects) (notes : SinkState) (source attached last_source : SourceState) (output opened last_output : DeviceState)
+    (synced : IsSynced output) (both : AreAttached file path source attached output opened)
+    (measured : IfSome opened.held (λ image. length image ≡ opened.blocks))
+    (place : KeepsPlace opened last_output) (keeps : KeepsSource attached last_source) (result : Result (Unit {0}) RestoreFault) where
+  abbrev IsDoneAs : Kind → Type 0
+  IsDoneAs kind = IsRestoredAs kind version result attached last_source opened last_output
+
+  abbrev Finishes : Kind → ℕ → List ℕ → Type 0
+  Finishes kind status line = IsFinished (restore kind version file path) (record others { source = source; output = output })
+      (record others { source = last_source; notes = notes; output = last_output }) status line
+
+  pub made_as : (kind : Kind) → IsDoneAs kind → result ≡ Ok tt → Finishes kind 0 []
+  made_as Thin done is = made IsLawfulPool IsThinVerdict is_pool_early laid_pool file path others notes source attached last_source output opened last_output synced both measured place keeps result done is
+  made_as Cache done is = made IsLawfulCache (IsCacheVerdict version) (is_cache_early version) (λ m room. laid_cache m version room) file path others notes source attached last_source output opened last_output synced both measured place keeps result done is
+  made_as Era done is = made IsLawfulEra IsEraVerdict is_era_early laid_era file path others notes source attached last_source output opened last_output synced both measured place keeps result done is
+
+  pub refuses_as : (kind : Kind) → IsDoneAs kind → (why : TextFault) → result ≡ Err (fault.Text why) → Finishes kind (outcome_status (Refused why)) (outcome_line (Refused why))
+  refuses_as Thin done why is = refuses IsLawfulPool IsThinVerdict is_pool_early laid_pool file path others notes source attached last_source output opened last_output synced both measured place keeps result done why is
+  refuses_as Cache done why is = refuses IsLawfulCache (IsCacheVerdict version) (is_cache_early version) (λ m room. laid_cache m version room) file path others notes source attached last_source output opened last_output synced both measured place keeps result done why is
+  refuses_as Era done why is = refuses IsLawfulEra IsEraVerdict is_era_early laid_era file path others notes source attached last_source output opened last_output synced both measured place keeps result done why is
+
+  pub lacks_room_as : (kind : Kind) → IsDoneAs kind → (need blocks : ℕ) → result ≡ Err (fault.NoRoom need blocks) → Finishes kind (outcome_status (NoRoom need blocks)) (outcome_line (NoRoom need blocks))
+  lacks_room_as Thin done need blocks is = lacks_room IsLawfulPool IsThinVerdict is_pool_early laid_pool file path others notes source attached last_source output opened last_output synced both measured place keeps result done need blocks is
+  lacks_room_as Cache done need blocks is = lacks_room IsLawfulCache (IsCacheVerdict version) (is_cache_early version) (λ m room. laid_cache m version room) file path others notes source attached last_source output opened last_output synced both measured place keeps result done need blocks is
+  lacks_room_as Era done need blocks is = lacks_room IsLawfulEra IsEraVerdict is_era_early laid_era file path others notes source attached last_source output opened last_output synced both measured place keeps result done need blocks is
+
+  abbrev Stops : Kind → Stop → Type 0
+  Stops kind stop = IsStopped (restore kind version file path) (record others { source = source; output = output })
+      (record others { source = last_source; notes = notes; output = last_output }) stop
+
+  pub memory_as : (kind : Kind) → IsDoneAs kind → Stops kind Memory
+  memory_as Thin done = stopped IsLawfulPool IsThinVerdict is_pool_early laid_pool file path others notes source attached last_source output opened last_output synced both measured place keeps result done Memory tt
+  memory_as Cache done = stopped IsLawfulCache (IsCacheVerdict version) (is_cache_early version) (λ m room. laid_cache m version room) file path others notes source attached last_source output opened last_output synced both measured place keeps result done Memory tt
+  memory_as Era done = stopped IsLawfulEra IsEraVerdict is_era_early laid_era file path others notes source attached last_source output opened last_output synced both measured place keeps result done Memory tt
+
+  pub source_as : (kind : Kind) → IsDoneAs kind → Rose attached.faults last_source.faults → Stops kind Stream
+  source_as Thin done rose = stopped IsLawfulPool IsThinVerdict is_pool_early laid_pool file path others notes source attached last_source output opened last_output synced both measured place keeps result done Stream (inl (rw both.source_faults at rose))
+  source_as Cache done rose = stopped IsLawfulCache (IsCacheVerdict version) (is_cache_early version) (λ m room. laid_cache m version room) file path others notes source attached last_source output opened last_output synced both measured place keeps result done Stream (inl (rw both.source_faults at rose))
+  source_as Era done rose = stopped IsLawfulEra IsEraVerdict is_era_early laid_era file path others notes source attached last_source output opened last_output synced both measured place keeps result done Stream (inl (rw both.source_faults at rose))
+
+  pub device_as : (kind : Kind) → IsDoneAs kind → Rose opened.faults last_output.faults → Stops kind Device
+  device_as Thin done rose = stopped IsLawfulPool IsThinVerdict is_pool_early laid_pool file path others notes source attached last_source output opened last_output synced both measured place keeps result done Device (inr (inl (rw both.output_faults at rose)))
+  device_as Cache done rose = stopped IsLawfulCache (IsCacheVerdict version) (is_cache_early version) (λ m room. laid_cache m version room) file path others notes source attached last_source output opened last_output synced both measured place keeps result done Device (inr (inl (rw both.output_faults at rose)))
+  device_as Era done rose = stopped IsLawfulEra IsEraVerdict is_era_early laid_era file path others notes source attached last_source output opened last_output synced both measured place keeps result done Device (inr (inl (rw both.output_faults at rose)))
+
+-- an object couldn't be attached, for each kind
+pub not_attached_as : (kind : Kind) (version : ℕ) (file path : List ℕ) (others : Objects) (notes : SinkState) (source last_source : SourceState) (output last_output : DeviceState)
+    → IsSynced output → TextsHaveVerdicts kind version → (stop : Stop) → AreUnattached file path source last_source output last_output stop
+    → IsStopped (restore kind version file path) (record others { source = source; output = output })
+    (record others { source = last_source; notes = notes; output = last_output }) stop
+not_attached_as Thin version file path others notes source last_source output last_output synced = not_attached IsLawfulPool IsThinVerdict is_pool_early laid_pool file path others notes source last_source output last_output synced
+not_attached_as Cache version file path others notes source last_source output last_output synced = not_attached IsLawfulCache (IsCacheVerdict version) (is_cache_early version) (λ m room. laid_cache m version room) file path others notes source last_source output last_output synced
+not_attached_as Era version file path others notes source last_source output last_output synced = not_attached IsLawfulEra IsEraVerdict is_era_early laid_era file path others notes source last_source output last_output synced
+
+-- what is left where the line of a refusal is lost
+left_lost : (Made : Image → Image → Type 0) (unwritten : Bool) (status : ℕ) (old new : DeviceState) → LeavesMade Made unwritten status old new → LeavesMade Made unwritten 6 old new
+left_lost Made unwritten status old new left = record {
+  output = record {
+    crash = left.output.crash;
+    made = λ zero. absurd (omega arith);
+    refused = λ either. absurd (elim either [ inl e ↦ omega arith | inr e ↦ omega arith ]);
+  };
+  untouched = left.untouched;
+}
+
+pub lost_as : (kind : Kind) (version : ℕ) (file path : List ℕ) (before after : Objects) (finding : (restore kind version file path).Finding) (status : ℕ)
+    → (restore kind version file path).leaves finding before after status → (restore kind version file path).leaves finding before after 6
+lost_as Thin version file path before after judged status left = left_lost _ _ status before.output after.output left
+lost_as Cache version file path before after judged status left = left_lost _ _ status before.output after.output left
+lost_as Era version file path before after judged status left = left_lost _ _ status before.output after.output left
+
+-- before anything was done
+pub restore_at_rest : {M : Type 0} (IsVerdictOn : List ℕ → ℕ → Verdict M → Type 0) (is_early : List ℕ → ℕ → Bool) (laid : M → ℕ → Laid)
+    (file path : List ℕ) (before after : Objects) (source : SourceState) (output : DeviceState)
+    → IsSynced output → HaveVerdicts IsVerdictOn → output.access ≡ 0
+    → (judged : Judged M) × ((restore_by IsVerdictOn is_early laid file path).finds (record before { source = source; output = output }) (record after { source = source; output = output }) judged)
+    × ((restore_by IsVerdictOn is_early laid file path).leaves judged (record before { source = source; output = output }) (record after { source = source; output = output }) 6)
+restore_at_rest IsVerdictOn is_early laid file path before after source output synced verdicts closed =
+    let room = room_in output.held in
+    let v = verdicts (text_in source.left) room in (
+      record { room = room; verdict = v.0; is_early = is_early (text_in source.left) room },
+      (
+        record { told = room-told output.held; attached = λ e. absurd (omega arith) },
+        verdict-told IsVerdictOn is_early source.left room v.0 v.1,
+      ),
+      untouched_output (Restores laid room v.0) (is_early (text_in source.left) room) 6 output output synced (record { held = refl; history = refl }) (λ e. omega arith),
+    )

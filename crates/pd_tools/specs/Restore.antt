@@ -1,0 +1,81 @@
+-- What a restore does to its objects, for each kind.
+use Rattle.std.specs.Prelude.{◌≡◌, ◌≢◌, ℕ, List, [], Result, IfSome}
+use Rattle.pd_kinds.specs.declared.kind.Kind.{Kind}
+use Rattle.pd_kinds.specs.declared.kind.Kind.TheVariants.{Thin, Cache, Era}
+use Rattle.pd_kinds.specs.Objects.{DeviceState, SourceState, Rose}
+use Rattle.pd_kinds.specs.Crash.{IsUntouched}
+use Rattle.pd_grammar.specs.Spelling.{Verdict}
+use Rattle.pd_spells.specs.Lawful.{IsLawfulPool, IsLawfulCache, IsLawfulEra}
+use Rattle.pd_spells.specs.ThinNeed.{IsThinVerdict}
+use Rattle.pd_spells.specs.CacheNeed.{IsCacheVerdict}
+use Rattle.pd_spells.specs.EraNeed.{IsEraVerdict}
+use Rattle.pd_spells.specs.Lines as lines
+use Rattle.pd_laid.specs.LaidThin.{laid_pool}
+use Rattle.pd_laid.specs.LaidCache.{laid_cache}
+use Rattle.pd_laid.specs.LaidEra.{laid_era}
+use Rattle.pd_answers.specs.Answer.{IsUsed, reading, writing}
+use Rattle.pd_answers.specs.Restores.{is_pool_early, is_cache_early, is_era_early}
+use Rattle.pd_restore.specs.declared.fault.RestoreFault.{RestoreFault}
+use Rattle.pd_restore.specs.Restored.{IsRestored}
+use Rattle.pd_tools.specs.declared.restore.Outcome.{Outcome}
+use Rattle.pd_tools.specs.declared.restore.Outcome.TheVariants.{Made, Refused, NoRoom}
+use Rattle.pd_tools.specs.declared.stop.Stop.{Stop}
+use Rattle.pd_tools.specs.declared.stop.Stop.TheVariants.{Device, Stream, Memory}
+
+-- the restores that are built
+abbrev pub IsBuiltRestore : Kind → Type 0
+IsBuiltRestore Thin = Unit {0}
+IsBuiltRestore Cache = ⊥
+IsBuiltRestore Era = ⊥
+
+-- each text of the kind has a verdict, whatever the room
+abbrev pub HaveVerdicts : {M : Type 0} → (List ℕ → ℕ → Verdict M → Type 0) → Type 0
+HaveVerdicts {M} IsVerdictOn = (text : List ℕ) (room : ℕ) → (v : Verdict M) × IsVerdictOn text room v
+
+abbrev pub TextsHaveVerdicts : Kind → ℕ → Type 0
+TextsHaveVerdicts Thin version = HaveVerdicts IsThinVerdict
+TextsHaveVerdicts Cache version = HaveVerdicts (IsCacheVerdict version)
+TextsHaveVerdicts Era version = HaveVerdicts IsEraVerdict
+
+-- what a restore of the kind did
+abbrev pub IsRestoredAs : Kind → ℕ → Result (Unit {0}) RestoreFault → SourceState → SourceState → DeviceState → DeviceState → Type 0
+IsRestoredAs Thin version = IsRestored IsLawfulPool IsThinVerdict is_pool_early laid_pool
+IsRestoredAs Cache version =
+    IsRestored IsLawfulCache (IsCacheVerdict version) (is_cache_early version) (λ m room. laid_cache m version room)
+IsRestoredAs Era version = IsRestored IsLawfulEra IsEraVerdict is_era_early laid_era
+
+-- the status of an outcome, and its line
+abbrev pub outcome_status : Outcome → ℕ
+outcome_status Made = 0
+outcome_status (Refused fault) = 3
+outcome_status (NoRoom need blocks) = 4
+
+abbrev pub outcome_line : Outcome → List ℕ
+outcome_line Made = []
+outcome_line (Refused fault) = lines.refusal_line (record { line = fault.line; cause = fault.cause })
+outcome_line (NoRoom need blocks) = lines.no_room_line need blocks
+
+-- both objects were attached, under these paths, and otherwise left alone
+pub record AreAttached (file path : List ℕ) (source attached : SourceState) (output opened : DeviceState) : Type 0 where
+  pub source_access : attached.access ≡ 1
+  pub source_path : IfSome attached.path (λ told. told ≡ file)
+  pub left : attached.left ≡ source.left
+  pub source_faults : attached.faults ≡ source.faults
+  pub output_access : opened.access ≡ 2
+  pub output_path : IfSome opened.path (λ told. told ≡ path)
+  pub untouched : IsUntouched output opened
+  pub output_faults : opened.faults ≡ output.faults
+
+-- why an object couldn't be attached
+abbrev pub FailedToAttach : SourceState → SourceState → DeviceState → DeviceState → Stop → Type 0
+FailedToAttach source attached output opened Device = Rose output.faults opened.faults
+FailedToAttach source attached output opened Stream = Rose source.faults attached.faults
+FailedToAttach source attached output opened Memory = ⊥
+
+-- one of them couldn't be attached, and both were left alone
+pub record AreUnattached (file path : List ℕ) (source attached : SourceState) (output opened : DeviceState) (stop : Stop) : Type 0 where
+  pub source_used : IsUsed (reading file) attached.access attached.path
+  pub output_used : IsUsed (writing path) opened.access opened.path
+  pub closed : opened.access ≢ 2
+  pub untouched : IsUntouched output opened
+  pub cause : FailedToAttach source attached output opened stop

@@ -1,0 +1,176 @@
+//! A restore, from the path of a text to an image.
+
+ghost use Rattle.std.specs.Prelude.{◌≡◌, ℕ, List, OnOk, IfErr, MatchResult};
+ghost use Rattle.pd_kinds.specs.declared.kind.Kind.{Kind};
+ghost use Rattle.pd_kinds.specs.Objects.{DeviceState, SinkState, SourceState};
+ghost use Rattle.pd_kinds.specs.Crash.{IsSynced};
+ghost use Rattle.pd_image.specs.Device.{IsWritable, KeepsPlace};
+ghost use Rattle.pd_image.specs.Source.{KeepsSource};
+ghost use Rattle.pd_answers.specs.Answer.{Objects};
+ghost use Rattle.pd_answers.specs.Restores.{restore};
+ghost use Rattle.pd_restore.specs.Restored.{CountsRestore};
+ghost use Rattle.pd_tools.specs.Restore.{AreAttached, AreUnattached, IsBuiltRestore, IsRestoredAs, TextsHaveVerdicts, outcome_line, outcome_status};
+ghost use Rattle.pd_tools.specs.Work.{IsFinished, IsStopped, Answers};
+
+use crate::notes::put_line;
+use crate::refusals::{no_room_line, refusal_line};
+use crate::stop::Stop;
+use pd_image::{Device, Sink, Source};
+use pd_kinds::Kind;
+use pd_restore::{RestoreFault, restore_thin};
+use pd_spells::{cache_text_has_one_verdict, era_text_has_one_verdict, thin_text_has_one_verdict};
+use pd_texts::TextFault;
+use std::alloc::Global;
+
+/// What becomes of a text.
+#[derive(Clone, Copy)]
+pub enum Outcome {
+    /// An image was made of it.
+    Made,
+    /// A line of it is refused.
+    Refused(TextFault),
+    /// So many blocks are needed, and so many are there.
+    NoRoom { need: u64, blocks: u64 },
+}
+
+/// Restores an image of this kind, and of a cache's version, from the text at a path.
+pub fn run_restore<S: Source, E: Sink, B: Device>(
+    alloc: Global,
+    kind: Kind,
+    version: u32,
+    text: &str,
+    image: &str,
+    source: &mut S,
+    notes: &mut E,
+    output: &mut B,
+) -> u8
+    requires built { IsBuiltRestore kind }
+    requires source { (S.state source.old).access ≡ 0 }
+    requires notes { (E.state notes.old).access ≡ 1 }
+    requires output { (B.state output.old).access ≡ 0 }
+    ensures { (others : Objects) → Answers (restore kind version text.now image.now) (E.state notes.old)
+        (record others { source = S.state source.old; output = B.state output.old })
+        (record others { source = S.state source.new; notes = E.state notes.new; output = B.state output.new }) result }
+{
+    match restore_image(alloc, kind, version, text, image, source, output) {
+        Ok(outcome) => match outcome {
+            Outcome::Made => 0,
+            Outcome::Refused(fault) => put_line(notes, refusal_line(&fault).as_bytes(), 3),
+            Outcome::NoRoom { need, blocks } => {
+                put_line(notes, no_room_line(need, blocks).as_bytes(), 4)
+            }
+        },
+        Err(stop) => stop.put(notes),
+    }
+}
+
+/// Attaches the text and the image, and restores the one from the other.
+fn restore_image<S: Source, B: Device>(
+    alloc: Global,
+    kind: Kind,
+    version: u32,
+    text: &str,
+    image: &str,
+    source: &mut S,
+    output: &mut B,
+) -> Result<Outcome, Stop>
+    requires built { IsBuiltRestore kind }
+    requires source { (S.state source.old).access ≡ 0 }
+    requires output { (B.state output.old).access ≡ 0 }
+    ensures { (others : Objects) (notes : SinkState) →
+        let terms = restore kind version text.now image.now in
+        let before = record others { source = S.state source.old; output = B.state output.old } in
+        let after = record others { source = S.state source.new; notes = notes; output = B.state output.new } in
+        MatchResult result (λ outcome. IsFinished terms before after (outcome_status outcome) (outcome_line outcome))
+        (IsStopped terms before after) }
+{
+    texts_have_verdicts();
+    match attach_both(text, image, source, output) {
+        Ok(()) => restore_attached(alloc, kind, version, source, output),
+        Err(stop) => Err(stop),
+    }
+}
+
+/// Each text has a verdict.
+pub fn texts_have_verdicts()
+    ensures { (kind : Kind) (version : ℕ) → TextsHaveVerdicts kind version }
+{
+    thin_text_has_one_verdict();
+    cache_text_has_one_verdict();
+    era_text_has_one_verdict();
+}
+
+/// Attaches the text, and then the image for writing.
+fn attach_both<S: Source, B: Device>(
+    text: &str,
+    image: &str,
+    source: &mut S,
+    output: &mut B,
+) -> Result<(), Stop>
+    requires source { (S.state source.old).access ≡ 0 }
+    requires output { (B.state output.old).access ≡ 0 }
+    ensures attached { OnOk result (AreAttached text.now image.now (S.state source.old) (S.state source.new) (B.state output.old) (B.state output.new)) }
+    ensures unattached { IfErr result (AreUnattached text.now image.now (S.state source.old) (S.state source.new) (B.state output.old) (B.state output.new)) }
+{
+    match source.attach(text) {
+        Ok(()) => match output.attach(image, true) {
+            Ok(()) => Ok(()),
+            Err(_) => Err(Stop::Device),
+        },
+        Err(_) => Err(Stop::Stream),
+    }
+}
+
+/// Restores an image from a text, which are both attached.
+fn restore_attached<S: Source, B: Device>(
+    alloc: Global,
+    kind: Kind,
+    version: u32,
+    source: &mut S,
+    output: &mut B,
+) -> Result<Outcome, Stop>
+    requires built { IsBuiltRestore kind }
+    requires source { (S.state source.old).access ≡ 1 }
+    requires output { IsWritable (B.state output.old) }
+    ensures { (file path : List ℕ) (before_source : SourceState) (before_output : DeviceState) (others : Objects) (notes : SinkState) →
+        IsSynced before_output → AreAttached file path before_source (S.state source.old) before_output (B.state output.old) →
+        let terms = restore kind version file path in
+        let before = record others { source = before_source; output = before_output } in
+        let after = record others { source = S.state source.new; notes = notes; output = B.state output.new } in
+        MatchResult result (λ outcome. IsFinished terms before after (outcome_status outcome) (outcome_line outcome))
+        (IsStopped terms before after) }
+{
+    match restore_kind(alloc, kind, version, source, output) {
+        Ok(()) => Ok(Outcome::Made),
+        Err(fault) => match fault {
+            RestoreFault::Memory => Err(Stop::Memory),
+            RestoreFault::Source => Err(Stop::Stream),
+            RestoreFault::Device => Err(Stop::Device),
+            RestoreFault::Text(refused) => Ok(Outcome::Refused(refused)),
+            RestoreFault::NoRoom { need, blocks } => Ok(Outcome::NoRoom { need, blocks }),
+        },
+    }
+}
+
+/// Restores an image of this kind.
+fn restore_kind<S: Source, B: Device>(
+    alloc: Global,
+    kind: Kind,
+    version: u32,
+    source: &mut S,
+    output: &mut B,
+) -> Result<(), RestoreFault>
+    requires built { IsBuiltRestore kind }
+    requires source { (S.state source.old).access ≡ 1 }
+    requires output { IsWritable (B.state output.old) }
+    ensures restored { IsRestoredAs kind version result (S.state source.old) (S.state source.new) (B.state output.old) (B.state output.new) }
+    ensures place { KeepsPlace (B.state output.old) (B.state output.new) }
+    ensures source { KeepsSource (S.state source.old) (S.state source.new) }
+    ensures causes { CountsRestore result (S.state source.old).faults (S.state source.new).faults (B.state output.old).faults (B.state output.new).faults }
+{
+    match kind {
+        Kind::Thin => restore_thin(alloc, source, output),
+        Kind::Cache => unreachable!(),
+        Kind::Era => unreachable!(),
+    }
+}
