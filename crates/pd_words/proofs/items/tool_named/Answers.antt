@@ -62,7 +62,30 @@ pub returns-in_default : goal.returns-in_default
 returns-in_default c =
     let w = c.in_default in
     sym (no_tool _ c.args.word.now (
-    inr w.not-thin_check, (inr w.not-cache_check, (inr w.not-era_check,
-    (inr w.not-thin_dump, (inr w.not-cache_dump, (inr w.not-era_dump,
-    (inr w.not-thin_restore, (inr w.not-cache_restore, (inr w.not-era_restore,
-    (inl refl, (inl refl, (inl refl, (inl refl, (inl refl, (inl refl, tt))))))))))))))))
+      inr w.not-thin_check,
+      (
+        inr w.not-cache_check,
+        (
+          inr w.not-era_check,
+          (
+            inr w.not-thin_dump,
+            (
+              inr w.not-cache_dump,
+              (
+                inr w.not-era_dump,
+                (
+                  inr w.not-thin_restore,
+                  (
+                    inr w.not-cache_restore,
+                    (
+                      inr w.not-era_restore,
+                      (inl refl, (inl refl, (inl refl, (inl refl, (inl refl, (inl refl, tt)))))),
+                    ),
+                  ),
+                ),
+              ),
+            ),
+          ),
+        ),
+      ),
+    ))
