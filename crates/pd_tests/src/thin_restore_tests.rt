@@ -44,11 +44,32 @@ fn restore(
     blocks: usize,
     failing: Option<u64>,
 ) -> Result<Restored, AllocError> {
+    let base = vec![in alloc; ones(); blocks]?;
+    run_restore(alloc, text, base.as_slice(), failing, u64::MAX)
+}
+
+/// Restores a text to a device that holds these blocks and stops after so many calls.
+fn restored_over(
+    alloc: Global,
+    text: &str,
+    base: &[Block],
+    calls: u64,
+) -> Result<Restored, AllocError> {
+    run_restore(alloc, text, base, None, calls)
+}
+
+/// Restores a text; this call of the source fails, and the device stops after so many calls.
+fn run_restore(
+    alloc: Global,
+    text: &str,
+    base: &[Block],
+    failing: Option<u64>,
+    calls: u64,
+) -> Result<Restored, AllocError> {
     let mut words = Vec::new(alloc);
     for word in WORDS {
         words.push(String::from_str(alloc, word)?)?;
     }
-    let base = vec![in alloc; ones(); blocks]?;
     let mut source = MemSource::of(alloc, text.as_bytes(), 7)?;
     if let Some(call) = failing {
         source.fail_at(call)?;
@@ -56,7 +77,8 @@ fn restore(
     let mut out = MemSink::new(alloc);
     let mut notes = MemSink::new(alloc);
     let mut input = MemDevice::of(alloc, &[])?;
-    let mut output = MemDevice::of(alloc, base.as_slice())?;
+    let mut output = MemDevice::of(alloc, base)?;
+    output.stop_after(calls);
     let mut third = MemDevice::of(alloc, &[])?;
     let status = run_tool(
         alloc,
@@ -219,5 +241,64 @@ fn a_source_that_fails_is_blamed(rt: HostRuntime) -> Result<(), Fail> {
     );
     let image = blocks_of(&rt, &restored.output)?;
     assert!(rt; left_of(image.as_slice()) == Left::Untouched);
+    Ok(())
+}
+
+/// What a stop leaves.
+#[derive(Clone, Copy, PartialEq, Eq)]
+enum Stopped {
+    Old,
+    Closed,
+    New,
+    Other,
+}
+
+/// What a crash by this pick leaves of a device that held these blocks, and may hold the others.
+fn left_by(
+    rt: &HostRuntime,
+    output: &MemDevice,
+    pick: Pick,
+    old: &[Block],
+    new: &[Block],
+) -> Result<Stopped, Fail> {
+    let mut left = output.after_crash(rt.alloc(), pick)?;
+    left.attach("image", false)?;
+    let mut blocks = Vec::new(rt.alloc());
+    for b in 0..left.blocks() {
+        blocks.push(left.block(b))?;
+    }
+    let found = blocks.as_slice();
+    Ok(if found == old {
+        Stopped::Old
+    } else if found == new {
+        Stopped::New
+    } else if left_of(found) == Left::Closed {
+        Stopped::Closed
+    } else {
+        Stopped::Other
+    })
+}
+
+#[test]
+fn a_stop_leaves_the_old_pool_none_or_the_new_one(rt: HostRuntime) -> Result<(), Fail> {
+    let old = blocks_of(&rt, &restore(rt.alloc(), EMPTY, 16, None)?.output)?;
+    let new = blocks_of(
+        &rt,
+        &restored_over(rt.alloc(), ONE, old.as_slice(), 100)?.output,
+    )?;
+    for calls in 0..17 {
+        let restored = restored_over(rt.alloc(), ONE, old.as_slice(), calls)?;
+        assert_eq!(rt; restored.status, if calls < 15 { 5 } else { 0 }, "{calls}");
+        for pick in [Pick::Old, Pick::New, Pick::Other(0)] {
+            let found = left_by(&rt, &restored.output, pick, old.as_slice(), new.as_slice())?;
+            let may_be = match calls {
+                0..=2 => found == Stopped::Old || found == Stopped::Closed,
+                3..=13 => found == Stopped::Closed,
+                14 => found == Stopped::Closed || found == Stopped::New,
+                _ => found == Stopped::New,
+            };
+            assert!(rt; may_be, "{calls}");
+        }
+    }
     Ok(())
 }
