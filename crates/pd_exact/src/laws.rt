@@ -1,9 +1,11 @@
 ghost use Rattle.std.specs.Prelude.{◌≡◌, ◌⊎◌, ℕ, List, IfSome};
+ghost use Rattle.pd_kinds.specs.declared.kind.Kind.{Kind};
 ghost use Rattle.pd_kinds.specs.Meaning.{thin_meaning};
 ghost use Rattle.pd_answers.specs.Answer.{NoFaults, Objects};
-ghost use Rattle.pd_exact.specs.Exact.{HoldsPoolOfText, IsDumpOf, IsRestoreAnswered, LeavesPoolOfText};
+ghost use Rattle.pd_exact.specs.Exact.{HoldsPoolOfText, IsCheckAnswered, IsDumpOf, IsRestoreAnswered, LeavesPoolOfText, TellsClean};
 
 use pd_laid_thin::laid_pool_is_clean;
+use pd_laws::faults_are_none_where_clean;
 use pd_pool::sound_pools_are_lawful;
 use pd_spells::{
     thin_text_has_one_meaning, thin_text_has_one_verdict,
@@ -44,4 +46,13 @@ pub fn restored_dump_means_the_same()
     thin_text_has_one_meaning();
     thin_text_has_one_verdict();
     thin_text_is_accepted_where_there_is_room();
+}
+
+/// A check to its end tells by its status whether the image that it read is clean: 0 says that it is, 1 that it isn't.
+/// Where it is, and nothing fails and memory isn't wanting, the status is 0.
+pub fn checks_tell_clean_images()
+    ensures { (kind : Kind) (path : List ℕ) (before after : Objects) (status : ℕ) → IsCheckAnswered kind path before after status
+        → IfSome before.input.held (TellsClean kind before after status) }
+{
+    faults_are_none_where_clean();
 }
