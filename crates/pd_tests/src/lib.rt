@@ -10,6 +10,8 @@ mod pool;
 #[cfg(test)]
 mod ran;
 #[cfg(test)]
+mod stored_tests;
+#[cfg(test)]
 mod super_tests;
 #[cfg(test)]
 mod walk_tests;
