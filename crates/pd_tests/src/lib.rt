@@ -12,6 +12,8 @@ mod pool;
 #[cfg(test)]
 mod ran;
 #[cfg(test)]
+mod stored_tests;
+#[cfg(test)]
 mod super_tests;
 #[cfg(test)]
 mod thin_restore_tests;

@@ -132,7 +132,7 @@ fn refuses_words_that_spell_no_request(rt: HostRuntime) -> Result<(), Fail> {
         &[],
         &["thin_check"],
         &["thin_check", "a", "b"],
-        &["thin_check", "x"],
+        &["thin_check", "--until", "counts"],
         &["thin_check", "--until", "fast", "a"],
         &["thin_check", "--until=super", "a"],
         &["thin_check", "--until", "super", "--until", "super", "a"],
