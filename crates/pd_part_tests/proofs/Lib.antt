@@ -1,4 +1,3 @@
 pub mod RestoreLemmas
 pub mod FillingNumbers
 pub mod MapNeeds
-pub mod CopyLemmas

@@ -21,15 +21,10 @@ mod image_tests;
 mod map_tests;
 #[cfg(test)]
 mod node_tests;
-pub mod small_copy;
 #[cfg(test)]
 mod small_restore;
 #[cfg(test)]
 mod supers_tests;
-#[cfg(test)]
-mod text_tests;
-#[cfg(test)]
-mod thin_pool_text;
 #[cfg(test)]
 mod tree_tests;
 #[cfg(test)]

@@ -3,7 +3,7 @@ use Rattle.pd_grammar.specs.Texts.{text_of_lines}
 use Rattle.pd_spells.specs.ThinText.{end_line, thin}
 use Rattle.pd_texts.specs.Printed.{end_text}
 use Rattle.pd_texts.specs.Reader.{in_order}
-use Rattle.pd_part_tests.proofs.small_copy.put_end.Goals as goal
+use Rattle.pd_text_tests.proofs.small_copy.put_end.Goals as goal
 
 pub returns-in-Ok-put : goal.returns-in-Ok-put
 returns-in-Ok-put g c = λ t start copied.

@@ -6,7 +6,7 @@ ghost use Rattle.std.specs.Bool.{MatchBool};
 ghost use Rattle.pd_kinds.specs.Meaning.{ThinPool};
 ghost use Rattle.pd_kinds.specs.Objects.{Appends};
 ghost use Rattle.pd_spells.specs.ThinText.{SpellsPool};
-ghost use Rattle.pd_part_tests.specs.Copied.{IsCopying, HasCopied, IsRefused};
+ghost use Rattle.pd_text_tests.specs.Copied.{IsCopying, HasCopied, IsRefused};
 
 use pd_image::{Sink, Source};
 use pd_kinds::Kind;

@@ -9,8 +9,8 @@ use Rattle.pd_texts.specs.declared.thin_state.ThinState.{ThinState}
 use Rattle.pd_texts.specs.declared.thin_line.ThinLine.{ThinLine}
 use Rattle.pd_texts.specs.ThinState.{ThinStands}
 use Rattle.pd_texts.specs.Reader.{ReadsOn, LeavesOf, begun, in_order}
-use Rattle.pd_part_tests.specs.declared.small_copy.CopyFault.{CopyFault}
-use Rattle.pd_part_tests.specs.declared.small_copy.CopyFault.TheVariants as c
+use Rattle.pd_text_tests.specs.declared.small_copy.CopyFault.{CopyFault}
+use Rattle.pd_text_tests.specs.declared.small_copy.CopyFault.TheVariants as c
 
 -- some lines of the text were read, and they were printed or are pending; the first one was printed before it is read
 pub record IsCopying (text : List ℕ) (start : Option (List ℕ)) (reader : TextReader ThinState ThinLine) (left : Option (List ℕ)) (pending : List ℕ) (now : Option (List ℕ)) : Type 0 where

@@ -1,7 +1,7 @@
 use Rattle.std.proofs.Common.{[]}
 use Rattle.pd_texts.specs.Reader.{LeavesOf}
 use Rattle.pd_spells.specs.ThinText.{thin}
-use Rattle.pd_part_tests.proofs.small_copy.copy.Goals as goal
+use Rattle.pd_text_tests.proofs.small_copy.copy.Goals as goal
 
 pub returns-in-Ok-add_first : goal.returns-in-Ok-add_first
 returns-in-Ok-add_first g c = λ text told.

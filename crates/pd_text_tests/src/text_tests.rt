@@ -427,16 +427,18 @@ fn the_text_of_a_real_pool_is_printed_again(rt: HostRuntime) -> Result<(), Fail>
 #[derive(Drop)]
 struct Endless {
     byte: u8,
+    access: u8,
 }
 
 impl Source for Endless {
     ghost use Rattle.std.specs.Prelude.{refl, None};
 
-    ghost state = { λ _. record { access = 1; path = None; left = None; faults = 0 } };
+    ghost state = { λ s. record { access = s.access; path = None; left = None; faults = 0 } };
 
     ghost unnamed = { λ _ _. refl };
 
     fn attach(&mut self, _path: &str) -> Result<(), Failed> {
+        self.access = 1;
         Ok(())
     }
 
@@ -451,7 +453,8 @@ impl Source for Endless {
 #[test]
 fn bytes_for_ever_are_refused_at_once(rt: HostRuntime) -> Result<(), Fail> {
     for (byte, cause) in [(b'x', TextCause::TooLong), (b'\n', TextCause::Header)] {
-        let mut source = Endless { byte };
+        let mut source = Endless { byte, access: 0 };
+        source.attach("x")?;
         let mut text = ThinText::new(rt.alloc())?;
         match text.next(&mut source) {
             Err(fault) => assert_eq!(rt; fault, ReadFault::Text(TextFault { line: 1, cause })),

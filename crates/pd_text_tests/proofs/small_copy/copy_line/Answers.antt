@@ -3,8 +3,8 @@ use Rattle.pd_grammar.specs.Texts.{text_of_lines}
 use Rattle.pd_spells.specs.ThinText.{first_line, thin}
 use Rattle.pd_texts.specs.ThinLine.{line_of}
 use Rattle.pd_texts.specs.Reader.{begun, in_order}
-use Rattle.pd_part_tests.proofs.CopyLemmas.{refused_by}
-use Rattle.pd_part_tests.proofs.small_copy.copy_line.Goals as goal
+use Rattle.pd_text_tests.proofs.CopyLemmas.{refused_by}
+use Rattle.pd_text_tests.proofs.small_copy.copy_line.Goals as goal
 
 pub returns-in-Ok-clause-copied : goal.returns-in-Ok-clause-copied
 returns-in-Ok-clause-copied g c = λ t start copying.

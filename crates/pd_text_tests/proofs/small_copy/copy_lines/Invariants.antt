@@ -1,6 +1,6 @@
 use Rattle.std.proofs.Common.{◌≡◌, ℕ, List, Option}
-use Rattle.pd_part_tests.specs.Copied.{IsCopying}
-use Rattle.pd_part_tests.proofs.small_copy.copy_lines.Given as goal
+use Rattle.pd_text_tests.specs.Copied.{IsCopying}
+use Rattle.pd_text_tests.proofs.small_copy.copy_lines.Given as goal
 
 abbrev pub invariant-loop : goal.invariant-loop
 invariant-loop g l =
