@@ -1,6 +1,11 @@
 //! Whole runs of `thin_restore` over objects in memory: what is restored, what is refused, and what the output holds then.
 
+ghost use Rattle.std.specs.Prelude.{◌≡◌, ◌≤◌, IfOk};
+ghost use Rattle.pd_image.specs.Blocks.{block_bytes};
+ghost use Rattle.pd_image.specs.MemDevice.{mem_device_state, unattached_device};
+
 use crate::ran::{NOTHING_FAILS, run};
+use pd_bitmap::{new_bitmap, seal_bitmap, set_two_bits};
 use pd_image::{Device, MemDevice, MemSink, MemSource, Pick};
 use pd_kinds::{BLOCK_SIZE, Block};
 use pd_tools::run_tool;
@@ -37,48 +42,62 @@ fn ones() -> Block {
     Block([1; BLOCK_SIZE])
 }
 
-/// Restores a text to so many blocks of ones; this call of the source fails.
+/// Which call of the source fails, which one of the output, and after how many the output stops.
+#[derive(Clone, Copy)]
+struct Failing {
+    source: Option<u64>,
+    output: Option<u64>,
+    stop: u64,
+}
+
+const SOUND: Failing = Failing {
+    source: None,
+    output: None,
+    stop: u64::MAX,
+};
+
+/// Restores a text to so many blocks of ones.
 fn restore(
     alloc: Global,
     text: &str,
     blocks: usize,
-    failing: Option<u64>,
+    failing: Failing,
 ) -> Result<Restored, AllocError> {
     let base = vec![in alloc; ones(); blocks]?;
-    run_restore(alloc, text, base.as_slice(), failing, u64::MAX)
+    run_restore(alloc, text.as_bytes(), base.as_slice(), failing)
 }
 
-/// Restores a text to a device that holds these blocks and stops after so many calls.
-fn restored_over(
-    alloc: Global,
-    text: &str,
-    base: &[Block],
-    calls: u64,
-) -> Result<Restored, AllocError> {
-    run_restore(alloc, text, base, None, calls)
+/// A device that holds these blocks, with its failing call and its stop.
+fn output_of(alloc: Global, base: &[Block], failing: Failing) -> Result<MemDevice, AllocError>
+    ensures { IfOk result (λ output. mem_device_state output ≡ unattached_device (block_bytes base.now)) }
+{
+    let mut output = MemDevice::of(alloc, base)?;
+    if let Some(call) = failing.output {
+        output.fail_at(call)?;
+    }
+    output.stop_after(failing.stop);
+    Ok(output)
 }
 
-/// Restores a text; this call of the source fails, and the device stops after so many calls.
+/// Restores a text to a device that holds these blocks.
 fn run_restore(
     alloc: Global,
-    text: &str,
+    text: &[u8],
     base: &[Block],
-    failing: Option<u64>,
-    calls: u64,
+    failing: Failing,
 ) -> Result<Restored, AllocError> {
     let mut words = Vec::new(alloc);
     for word in WORDS {
         words.push(String::from_str(alloc, word)?)?;
     }
-    let mut source = MemSource::of(alloc, text.as_bytes(), 7)?;
-    if let Some(call) = failing {
+    let mut source = MemSource::of(alloc, text, 7)?;
+    if let Some(call) = failing.source {
         source.fail_at(call)?;
     }
     let mut out = MemSink::new(alloc);
     let mut notes = MemSink::new(alloc);
     let mut input = MemDevice::of(alloc, &[])?;
-    let mut output = MemDevice::of(alloc, base)?;
-    output.stop_after(calls);
+    let mut output = output_of(alloc, base, failing)?;
     let mut third = MemDevice::of(alloc, &[])?;
     let status = run_tool(
         alloc,
@@ -103,9 +122,27 @@ const EMPTY: &str = "thin 1\npool 00000000-0000-0000-0000-000000000000 0 0 128 0
 const ONE: &str =
     "thin 1\npool 00000000-0000-0000-0000-000000000000 0 0 128 1\ndevice 1 1 0 0 0\nmap 0 0 1 0\nend\n";
 
+/// A pool of a hundred million data blocks, of which the last one is mapped.
+const WIDE: &str =
+    "thin 1\npool 00000000-0000-0000-0000-000000000000 0 0 128 100000000\ndevice 1 1 0 0 0\nmap 0 99999999 1 0\nend\n";
+
 /// Restores, with what they come to.
-fn rows() -> [Row; 12] {
+fn rows() -> [Row; 14] {
     [
+        (
+            EMPTY,
+            0,
+            4,
+            "pdata_tools: no room: need 7, blocks 0\n",
+            Left::Untouched,
+        ),
+        (
+            WIDE,
+            6173,
+            4,
+            "pdata_tools: no room: need 6174, blocks 6173\n",
+            Left::Closed,
+        ),
         (EMPTY, 8, 0, "", Left::Made),
         (
             EMPTY,
@@ -205,7 +242,7 @@ fn left_of(blocks: &[Block]) -> Left {
 #[test]
 fn restores_come_to_their_status(rt: HostRuntime) -> Result<(), Fail> {
     for (text, blocks, status, notes, leaves) in rows() {
-        let restored = restore(rt.alloc(), text, blocks, None)?;
+        let restored = restore(rt.alloc(), text, blocks, SOUND)?;
         assert_eq!(rt; restored.status, status, "{text}");
         assert_eq!(rt; restored.notes.bytes(), notes.as_bytes(), "{text}");
         let image = blocks_of(&rt, &restored.output)?;
@@ -216,12 +253,12 @@ fn restores_come_to_their_status(rt: HostRuntime) -> Result<(), Fail> {
 
 #[test]
 fn restored_pools_are_clean(rt: HostRuntime) -> Result<(), Fail> {
-    for (text, blocks) in [(EMPTY, 8), (ONE, 16)] {
-        let restored = restore(rt.alloc(), text, blocks, None)?;
+    for (text, blocks) in [(EMPTY, 8), (ONE, 16), (WIDE, 8192)] {
+        let restored = restore(rt.alloc(), text, blocks, SOUND)?;
         let image = blocks_of(&rt, &restored.output)?;
         let ran = run(
             rt.alloc(),
-            &["thin_check", "--until", "whole", "image"],
+            &["thin_check", "image"],
             image.as_slice(),
             NOTHING_FAILS,
         )?;
@@ -231,16 +268,55 @@ fn restored_pools_are_clean(rt: HostRuntime) -> Result<(), Fail> {
     Ok(())
 }
 
+// The calls of the source are 0 for attaching, and one for each piece of seven bytes.
 #[test]
 fn a_source_that_fails_is_blamed(rt: HostRuntime) -> Result<(), Fail> {
-    let restored = restore(rt.alloc(), ONE, 16, Some(1))?;
-    assert_eq!(rt; restored.status, 6);
+    for call in 0..14 {
+        let failing = Failing {
+            source: Some(call),
+            ..SOUND
+        };
+        let restored = restore(rt.alloc(), ONE, 16, failing)?;
+        assert_eq!(rt; restored.status, 6, "{call}");
+        assert_eq!(rt;
+            restored.notes.bytes(),
+            b"pdata_tools: source or sink fault\n".as_slice()
+        );
+        let image = blocks_of(&rt, &restored.output)?;
+        assert!(rt; left_of(image.as_slice()) != Left::Made, "{call}");
+    }
+    Ok(())
+}
+
+#[test]
+fn a_text_that_ends_early_has_no_end(rt: HostRuntime) -> Result<(), Fail> {
+    let text = ONE.as_bytes();
+    let base = [ones(); 16];
+    for end in 0..text.len() {
+        let front = &text[..end];
+        let restored = run_restore(rt.alloc(), front, &base, SOUND)?;
+        let line = 1 + front.iter().filter(|b| **b == b'\n').count();
+        let notes = format!(in rt.alloc(); "pdata_tools: line {line}: no end\n")?;
+        assert_eq!(rt; restored.status, 3, "{end}");
+        assert_eq!(rt; restored.notes.bytes(), notes.as_bytes(), "{end}");
+    }
+    Ok(())
+}
+
+#[test]
+fn leaves_are_written_as_their_lines_come(rt: HostRuntime) -> Result<(), Fail> {
+    let text =
+        "thin 1\npool 00000000-0000-0000-0000-000000000000 0 0 128 1\ndevice 1 1 0 0 0\nmap 0 0 1 0\nx\n";
+    let refused = restore(rt.alloc(), text, 16, SOUND)?;
+    assert_eq!(rt; refused.status, 3);
     assert_eq!(rt;
-        restored.notes.bytes(),
-        b"pdata_tools: source or sink fault\n".as_slice()
+        refused.notes.bytes(),
+        b"pdata_tools: line 5: word\n".as_slice()
     );
-    let image = blocks_of(&rt, &restored.output)?;
-    assert!(rt; left_of(image.as_slice()) == Left::Untouched);
+    let found = blocks_of(&rt, &refused.output)?;
+    let whole = blocks_of(&rt, &restore(rt.alloc(), ONE, 16, SOUND)?.output)?;
+    assert!(rt; left_of(found.as_slice()) == Left::Closed);
+    assert!(rt; found.get(1) == whole.get(1));
     Ok(())
 }
 
@@ -281,13 +357,17 @@ fn left_by(
 
 #[test]
 fn a_stop_leaves_the_old_pool_none_or_the_new_one(rt: HostRuntime) -> Result<(), Fail> {
-    let old = blocks_of(&rt, &restore(rt.alloc(), EMPTY, 16, None)?.output)?;
+    let old = blocks_of(&rt, &restore(rt.alloc(), EMPTY, 16, SOUND)?.output)?;
     let new = blocks_of(
         &rt,
-        &restored_over(rt.alloc(), ONE, old.as_slice(), 100)?.output,
+        &run_restore(rt.alloc(), ONE.as_bytes(), old.as_slice(), SOUND)?.output,
     )?;
     for calls in 0..17 {
-        let restored = restored_over(rt.alloc(), ONE, old.as_slice(), calls)?;
+        let failing = Failing {
+            stop: calls,
+            ..SOUND
+        };
+        let restored = run_restore(rt.alloc(), ONE.as_bytes(), old.as_slice(), failing)?;
         assert_eq!(rt; restored.status, if calls < 15 { 5 } else { 0 }, "{calls}");
         for pick in [Pick::Old, Pick::New, Pick::Other(0)] {
             let found = left_by(&rt, &restored.output, pick, old.as_slice(), new.as_slice())?;
@@ -300,5 +380,69 @@ fn a_stop_leaves_the_old_pool_none_or_the_new_one(rt: HostRuntime) -> Result<(),
             assert!(rt; may_be, "{calls}");
         }
     }
+    Ok(())
+}
+
+#[test]
+fn a_failed_call_leaves_the_old_pool_none_or_the_new_one(rt: HostRuntime) -> Result<(), Fail> {
+    let old = blocks_of(&rt, &restore(rt.alloc(), EMPTY, 16, SOUND)?.output)?;
+    let new = blocks_of(
+        &rt,
+        &run_restore(rt.alloc(), ONE.as_bytes(), old.as_slice(), SOUND)?.output,
+    )?;
+    for call in 0..15 {
+        let failing = Failing {
+            output: Some(call),
+            ..SOUND
+        };
+        let restored = run_restore(rt.alloc(), ONE.as_bytes(), old.as_slice(), failing)?;
+        assert_eq!(rt; restored.status, 5, "{call}");
+        for pick in [Pick::Old, Pick::New, Pick::Other(0)] {
+            let found = left_by(&rt, &restored.output, pick, old.as_slice(), new.as_slice())?;
+            assert!(rt; found != Stopped::Other, "{call}");
+        }
+    }
+    Ok(())
+}
+
+/// A data bitmap with so many counts of 1.
+fn leaking(place: u64, counts: usize) -> Block
+    requires { counts ≤ 16320 }
+{
+    let mut bitmap = new_bitmap();
+    for i in 0..counts {
+        set_two_bits(&mut bitmap, i, 1);
+    }
+    seal_bitmap(&mut bitmap, place);
+    bitmap
+}
+
+#[test]
+fn a_thousand_and_one_leaks_are_counted(rt: HostRuntime) -> Result<(), Fail> {
+    let text = "thin 1\npool 00000000-0000-0000-0000-000000000000 0 0 128 1001\nend\n";
+    let mut image = blocks_of(&rt, &restore(rt.alloc(), text, 16, SOUND)?.output)?;
+    assert_eq!(rt; image.len(), 16);
+    image[3] = leaking(3, 1001);
+    let ran = run(
+        rt.alloc(),
+        &["thin_check", "image"],
+        image.as_slice(),
+        NOTHING_FAILS,
+    )?;
+    let mut report = String::new(rt.alloc());
+    for d in 0..1000 {
+        writeln!(report, "fault data {d} leak stored 1 references 0")?;
+    }
+    writeln!(report, "faults 1001")?;
+    assert_eq!(rt; ran.status, 1);
+    assert!(rt; ran.out.bytes() == report.as_bytes());
+    let dumped = run(
+        rt.alloc(),
+        &["thin_dump", "image"],
+        image.as_slice(),
+        NOTHING_FAILS,
+    )?;
+    assert_eq!(rt; dumped.status, 0);
+    assert!(rt; dumped.out.bytes() == text.as_bytes());
     Ok(())
 }
