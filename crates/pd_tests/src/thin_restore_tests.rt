@@ -126,9 +126,32 @@ const ONE: &str =
 const WIDE: &str =
     "thin 1\npool 00000000-0000-0000-0000-000000000000 0 0 128 100000000\ndevice 1 1 0 0 0\nmap 0 99999999 1 0\nend\n";
 
+/// A device whose mappings take two leaves, and one whose mappings fill one.
+const TWO_LEAVES: &str =
+    "thin 1\npool 00000000-0000-0000-0000-000000000000 0 0 128 300\ndevice 1 253 0 0 0\nmap 0 0 253 0\nend\n";
+
+const FULL_LEAF: &str =
+    "thin 1\npool 00000000-0000-0000-0000-000000000000 0 0 128 252\ndevice 1 252 0 0 0\nmap 0 0 252 0\nend\n";
+
 /// Restores, with what they come to.
-fn rows() -> [Row; 14] {
+fn rows() -> [Row; 18] {
     [
+        (TWO_LEAVES, 12, 0, "", Left::Made),
+        (
+            TWO_LEAVES,
+            11,
+            4,
+            "pdata_tools: no room: need 12, blocks 11\n",
+            Left::Closed,
+        ),
+        (FULL_LEAF, 10, 0, "", Left::Made),
+        (
+            FULL_LEAF,
+            9,
+            4,
+            "pdata_tools: no room: need 10, blocks 9\n",
+            Left::Closed,
+        ),
         (
             EMPTY,
             0,
@@ -253,7 +276,13 @@ fn restores_come_to_their_status(rt: HostRuntime) -> Result<(), Fail> {
 
 #[test]
 fn restored_pools_are_clean(rt: HostRuntime) -> Result<(), Fail> {
-    for (text, blocks) in [(EMPTY, 8), (ONE, 16), (WIDE, 8192)] {
+    for (text, blocks) in [
+        (EMPTY, 8),
+        (ONE, 16),
+        (TWO_LEAVES, 12),
+        (FULL_LEAF, 10),
+        (WIDE, 8192),
+    ] {
         let restored = restore(rt.alloc(), text, blocks, SOUND)?;
         let image = blocks_of(&rt, &restored.output)?;
         let ran = run(
@@ -264,6 +293,29 @@ fn restored_pools_are_clean(rt: HostRuntime) -> Result<(), Fail> {
         )?;
         assert_eq!(rt; ran.status, 0);
         assert_eq!(rt; ran.out.bytes(), b"clean\n".as_slice());
+    }
+    Ok(())
+}
+
+#[test]
+fn restored_pools_are_dumped_with_their_runs_joined(rt: HostRuntime) -> Result<(), Fail> {
+    let joined =
+        "thin 1\npool 00000000-0000-0000-0000-000000000000 0 0 128 2\ndevice 1 2 0 0 0\nmap 0 0 2 0\nend\n";
+    let apart =
+        "thin 1\npool 00000000-0000-0000-0000-000000000000 0 0 128 2\ndevice 1 2 0 0 0\nmap 0 0 1 0\nmap 1 1 1 1\nend\n";
+    let cut =
+        "thin 1\npool 00000000-0000-0000-0000-000000000000 0 0 128 2\ndevice 1 2 0 0 0\nmap 0 0 1 0\nmap 1 1 1 0\nend\n";
+    for (text, dump) in [(ONE, ONE), (joined, joined), (cut, joined), (apart, apart)] {
+        let restored = restore(rt.alloc(), text, 16, SOUND)?;
+        let image = blocks_of(&rt, &restored.output)?;
+        let ran = run(
+            rt.alloc(),
+            &["thin_dump", "image"],
+            image.as_slice(),
+            NOTHING_FAILS,
+        )?;
+        assert_eq!(rt; ran.status, 0);
+        assert!(rt; ran.out.bytes() == dump.as_bytes(), "{text}");
     }
     Ok(())
 }
