@@ -1,12 +1,8 @@
 -- What is left of the output of a request that makes an image of it.
-use Rattle.std.specs.Prelude.{◌≡◌, ℕ, min, Bool, true, List, length, IfSome}
-use Rattle.pd_kinds.specs.declared.limits.TheConstants.{MAX_META_BLOCKS}
+use Rattle.std.specs.Prelude.{◌≡◌, ℕ, Bool, true, List, length, IfSome}
+use Rattle.pd_kinds.specs.Limits.{room_of}
 use Rattle.pd_kinds.specs.Objects.{DeviceState}
 use Rattle.pd_kinds.specs.Crash.{IsOutput, IsUntouched}
-
--- so many of a device's blocks can have metadata
-abbrev pub room_of : ℕ → ℕ
-room_of blocks = min blocks MAX_META_BLOCKS
 
 -- the room of an output: that of the image that it tells, and that of its blocks where it was attached
 pub record IsRoom (before after : DeviceState) (room : ℕ) : Type 0 where

@@ -7,11 +7,13 @@ use Rattle.pd_spells.specs.ThinText.{text_of_pool}
 use Rattle.pd_spells.specs.ThinNeed.{thin_need, IsThinVerdict}
 use Rattle.pd_spells.specs.Lines.{reported_lines}
 use Rattle.pd_laid.specs.LaidThin.{laid_pool}
+use Rattle.pd_spells.specs.Early.{is_pool_early}
+use Rattle.pd_laid.specs.Made.{Makes}
 use Rattle.pd_answers.specs.Generated.{generated_text, rehearsal_line}
 use Rattle.pd_answers.specs.Answer.{Answer, reading, writing}
 use Rattle.pd_answers.specs.Terms.{Terms, unnamed}
 use Rattle.pd_answers.specs.Outputs.{IsRoom, LeavesMade}
-use Rattle.pd_answers.specs.Restores.{Restores, restore_answer, is_pool_early}
+use Rattle.pd_answers.specs.Restores.{restore_answer}
 
 -- what a rehearsal finds: how many blocks there are, the verdict on the generator's text, the report of the check of
 -- what was restored, and the three numbers that it prints
@@ -57,6 +59,6 @@ rehearse number path = record {
   statuses = 0 ∷ 1 ∷ 4 ∷ 5 ∷ 7 ∷ [];
   memory = λ before. Unit {0};
   silent = 1 ∷ 4 ∷ 5 ∷ 7 ∷ [];
-  leaves = λ rehearsed before after status. LeavesMade (Restores laid_pool rehearsed.room rehearsed.verdict)
+  leaves = λ rehearsed before after status. LeavesMade (Makes laid_pool rehearsed.room rehearsed.verdict)
       (is_pool_early (generated_text number) rehearsed.room) status before.output after.output;
 }

@@ -1,17 +1,16 @@
 -- The terms of a restore, for each kind.
-use Rattle.std.specs.Prelude.{◌≡◌, ℕ, nat_lt, Bool, true, false, if◌then◌else◌, List, [], ◌∷◌, IfSome}
+use Rattle.std.specs.Prelude.{◌≡◌, ℕ, Bool, true, false, if◌then◌else◌, List, [], ◌∷◌, IfSome}
 use Rattle.pd_kinds.specs.declared.kind.Kind.{Kind}
 use Rattle.pd_kinds.specs.declared.kind.Kind.TheVariants.{Thin, Cache, Era}
 use Rattle.pd_grammar.specs.Texts.{reading as lines_read}
 use Rattle.pd_grammar.specs.Spelling.{Verdict, accepted, refused, no_room}
-use Rattle.pd_spells.specs.ThinText.{thin}
-use Rattle.pd_spells.specs.CacheText.{cache}
-use Rattle.pd_spells.specs.EraText.{era}
-use Rattle.pd_spells.specs.ThinNeed.{thin_need_so_far, IsThinVerdict}
-use Rattle.pd_spells.specs.CacheNeed.{cache_need_so_far, IsCacheVerdict}
-use Rattle.pd_spells.specs.EraNeed.{era_need_so_far, IsEraVerdict}
+use Rattle.pd_spells.specs.Early.{is_decided_early, is_pool_early, is_cache_early, is_era_early}
+use Rattle.pd_spells.specs.ThinNeed.{IsThinVerdict}
+use Rattle.pd_spells.specs.CacheNeed.{IsCacheVerdict}
+use Rattle.pd_spells.specs.EraNeed.{IsEraVerdict}
 use Rattle.pd_spells.specs.Lines.{refusal_line, no_room_line}
-use Rattle.pd_laid.specs.Laid.{Laid, IsLaid}
+use Rattle.pd_laid.specs.Laid.{Laid}
+use Rattle.pd_laid.specs.Made.{Makes}
 use Rattle.pd_laid.specs.LaidThin.{laid_pool, laid_shape}
 use Rattle.pd_laid.specs.LaidCache.{laid_cache}
 use Rattle.pd_laid.specs.LaidEra.{laid_era}
@@ -30,23 +29,11 @@ pub record Judged (M : Type 0) : Type 0 where
   pub verdict : Verdict M
   pub is_early : Bool
 
--- whether the first two lines of a text decide: one of them is refused, or they need more blocks than there are
-abbrev pub is_decided_early : {L : Type 0} → (List L → ℕ) → ℕ → List L → Bool
-is_decided_early need room (first ∷ second ∷ lines) = nat_lt room (need (second ∷ first ∷ []))
-is_decided_early need room (first ∷ []) = true
-is_decided_early need room [] = true
-
 -- a restore puts nothing but the refusal of a line, or what was needed
 abbrev pub restore_answer : {M : Type 0} → Verdict M → Answer
 restore_answer (accepted m) = record { status = 0; out = []; notes = [] }
 restore_answer (refused why) = record { status = 3; out = []; notes = refusal_line why }
 restore_answer (no_room needed blocks) = record { status = 4; out = []; notes = no_room_line needed blocks }
-
--- an image is made where the text is accepted: what it spells is laid over what the output held
-abbrev pub Restores : {M : Type 0} → (M → ℕ → Laid) → ℕ → Verdict M → List (List ℕ) → List (List ℕ) → Type 0
-Restores laid room (accepted m) old new = IsLaid (laid m room) old new
-Restores laid room (refused why) old new = ⊥
-Restores laid room (no_room needed blocks) old new = ⊥
 
 -- a restore from a file: the verdict rests on its text, and on the room of the output
 abbrev pub restore_by : {M : Type 0} → (List ℕ → ℕ → Verdict M → Type 0) → (List ℕ → ℕ → Bool) → (M → ℕ → Laid) → List ℕ → List ℕ → Terms
@@ -60,20 +47,10 @@ restore_by {M} IsVerdictOn is_early laid file path = record {
   memory = λ before. Unit {0};
   silent = [];
   leaves = λ judged before after status.
-      LeavesMade (Restores laid judged.room judged.verdict) judged.is_early status before.output after.output;
+      LeavesMade (Makes laid judged.room judged.verdict) judged.is_early status before.output after.output;
 }
 
--- whether the first two lines of a text decide, for each kind
-abbrev pub is_pool_early : List ℕ → ℕ → Bool
-is_pool_early text room = is_decided_early (thin_need_so_far room) room (lines_read thin text).lines
-
-abbrev pub is_cache_early : ℕ → List ℕ → ℕ → Bool
-is_cache_early version text room = is_decided_early (cache_need_so_far version room) room (lines_read cache text).lines
-
-abbrev pub is_era_early : List ℕ → ℕ → Bool
-is_era_early text room = is_decided_early (era_need_so_far room) room (lines_read era text).lines
-
--- the same for a pool's text of either version
+-- whether the first two lines of a pool's text decide, of version 2 and of either version
 abbrev pub is_shape_early : List ℕ → ℕ → Bool
 is_shape_early text room = is_decided_early (shape_need_so_far room) room (lines_read shared_format text).lines
 

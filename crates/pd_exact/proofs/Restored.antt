@@ -11,9 +11,12 @@ use Rattle.pd_spells.specs.ThinNeed.{thin_need, IsThinVerdict}
 use Rattle.pd_spells.specs.ThinText.{SpellsPool, text_of_pool}
 use Rattle.pd_laid.specs.Laid.{IsLaid}
 use Rattle.pd_laid.specs.LaidThin.{laid_pool}
-use Rattle.pd_laid_thin.specs.CleanPool.{IsCleanPool, room_of}
+use Rattle.pd_kinds.specs.Limits.{room_of}
+use Rattle.pd_laid_thin.specs.CleanPool.{IsCleanPool}
 use Rattle.pd_answers.specs.Answer.{Objects, NoFaults}
-use Rattle.pd_answers.specs.Restores.{Restores, restore_answer, is_pool_early}
+use Rattle.pd_answers.specs.Restores.{restore_answer}
+use Rattle.pd_spells.specs.Early.{is_pool_early}
+use Rattle.pd_laid.specs.Made.{Makes}
 use Rattle.pd_exact.specs.Exact.{IsRestoreAnswered, IsPoolOfText, HoldsPoolOfText, LeavesPoolOfText, IsDumpOf}
 
 abbrev Image : Type 0
@@ -43,8 +46,8 @@ NoRoomAbove = (text : List ℕ) (m : ThinPool) (room : ℕ) → SpellsPool text 
     → (needed : ℕ) × (IsThinVerdict text room (no_room needed room) × ((room < needed) × (needed ≤ thin_need m room)))
 
 abbrev pub LaidIsClean : Type 0
-LaidIsClean = (m : ThinPool) (base image : Image) → IsLawfulPool m → thin_need m (room_of base) ≤ room_of base
-    → IsLaid (laid_pool m (room_of base)) base image → IsCleanPool image m
+LaidIsClean = (m : ThinPool) (base image : Image) → IsLawfulPool m → thin_need m (room_of (length base)) ≤ room_of (length base)
+    → IsLaid (laid_pool m (room_of (length base))) base image → IsCleanPool image m
 
 -- an accepted pool has room
 has_room : OneVerdict → NoRoomAbove → (text : List ℕ) (m : ThinPool) (room : ℕ) → IsThinVerdict text room (accepted m) → thin_need m room ≤ room
@@ -60,8 +63,8 @@ has_room one above text m room is = elim (cases_lt room (thin_need m room)) [
 
 module _ (one : OneVerdict) (above : NoRoomAbove) (clean : LaidIsClean) where
   -- what is made of a text is a pool of it
-  made_of_text : (text : List ℕ) (base image : Image) (room : ℕ) (v : Verdict ThinPool) → IsThinVerdict text room v → room ≡ room_of base
-      → Restores laid_pool room v base image → IsPoolOfText text image
+  made_of_text : (text : List ℕ) (base image : Image) (room : ℕ) (v : Verdict ThinPool) → IsThinVerdict text room v → room ≡ room_of (length base)
+      → Makes laid_pool room v base image → IsPoolOfText text image
   made_of_text text base image room (accepted m) is same laid =
       let enough = has_room one above text m room is in
       record {
@@ -78,8 +81,8 @@ module _ (one : OneVerdict) (above : NoRoomAbove) (clean : LaidIsClean) where
     holds_pool answered =
         let judged = answered.finding in
         IfSome_then before.source.left answered.found.1 (λ text right.
-        IfSome_then before.output.held (both_told before.output.held (λ (base : Image). judged.room ≡ room_of base)
-        (λ (base : Image). IfSome after.output.held (λ (image : Image). Restores laid_pool judged.room judged.verdict base image × HoldsSynced image after.output))
+        IfSome_then before.output.held (both_told before.output.held (λ (base : Image). judged.room ≡ room_of (length base))
+        (λ (base : Image). IfSome after.output.held (λ (image : Image). Makes laid_pool judged.room judged.verdict base image × HoldsSynced image after.output))
         answered.found.0.told (answered.leaves.output.made refl)) (λ base told.
         IfSome_then after.output.held told.1 (λ image held.
         (made_of_text text base image judged.room judged.verdict right.0 told.0 held.0, held.1))))
@@ -89,8 +92,8 @@ module _ (one : OneVerdict) (above : NoRoomAbove) (clean : LaidIsClean) where
     leaves_pool status answered =
         let judged = answered.finding in
         IfSome_then before.source.left answered.found.1 (λ text right.
-        IfSome_then before.output.held (both_told before.output.held (λ (base : Image). judged.room ≡ room_of base)
-        (λ (base : Image). LeavesOnly (IsOldNoneOrMade base (Restores laid_pool judged.room judged.verdict base)) before.output after.output)
+        IfSome_then before.output.held (both_told before.output.held (λ (base : Image). judged.room ≡ room_of (length base))
+        (λ (base : Image). LeavesOnly (IsOldNoneOrMade base (Makes laid_pool judged.room judged.verdict base)) before.output after.output)
         answered.found.0.told answered.leaves.output.crash) (λ base told.
         weaken told.1 (λ left firsts outcome chance.
         ⊎_elim (λ old. inl old) (λ other. inr (⊎_elim (λ none. inl none) (λ made. inr (made_of_text text base left judged.room judged.verdict right.0 told.0 made)) other)) (outcome chance))))
@@ -104,7 +107,7 @@ module _ (image base : Image) (file path : List ℕ) (before after : Objects) (d
       let text = text_of_pool (thin_meaning image) in
       let m = thin_meaning image in
       let right = at_told before.source.left text (λ (t : List ℕ). IsThinVerdict t judged.room judged.verdict × (judged.is_early ≡ is_pool_early t judged.room)) dump.text answered.found.1 in
-      let room = at_told before.output.held base (λ (i : Image). judged.room ≡ room_of i) dump.held answered.found.0.told in
+      let room = at_told before.output.held base (λ (i : Image). judged.room ≡ room_of (length i)) dump.held answered.found.0.told in
       let fits = accepts text m judged.room spells (rw room dump.room) in
       let is : judged.verdict ≡ accepted m = one text judged.room judged.verdict (accepted m) right.0 fits in
       rw is at (answered.complete none)

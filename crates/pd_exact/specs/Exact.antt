@@ -10,7 +10,8 @@ use Rattle.pd_kinds.specs.Stages.{IsClean, faults}
 use Rattle.pd_spells.specs.ThinNeed.{thin_need}
 use Rattle.pd_spells.specs.ThinText.{SpellsPool, text_of_pool}
 use Rattle.pd_laid.specs.Salvage.{HasBytes}
-use Rattle.pd_laid_thin.specs.CleanPool.{IsCleanPool, room_of}
+use Rattle.pd_kinds.specs.Limits.{room_of}
+use Rattle.pd_laid_thin.specs.CleanPool.{IsCleanPool}
 use Rattle.pd_answers.specs.Answer.{NoFaults, Objects}
 use Rattle.pd_answers.specs.Promises.{terms_of}
 use Rattle.pd_answers.specs.Requests.{check, restore}
@@ -45,7 +46,7 @@ pub record IsDumpOf (image base : List (List ℕ)) (before : Objects) : Type 0 w
   pub sound : faults Thin Whole image ≡ []
   pub text : before.source.left ≡ Some (text_of_pool (thin_meaning image))
   pub held : before.output.held ≡ Some base
-  pub room : thin_need (thin_meaning image) (room_of base) ≤ room_of base
+  pub room : thin_need (thin_meaning image) (room_of (length base)) ≤ room_of (length base)
 
 -- a check of this kind of metadata to its end was asked, and was answered with this status
 abbrev pub IsCheckAnswered : Kind → List ℕ → Objects → Objects → ℕ → Type 0

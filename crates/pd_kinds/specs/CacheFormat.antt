@@ -1,8 +1,9 @@
--- A cache's metadata, version 1 (struct cache_disk_superblock of "drivers/md/dm-cache-metadata.c"): the
--- superblock's fields and rules, and the roles. These are 0 superblock, 1 tree of the mapping array,
+-- A cache's metadata, versions 1 and 2 (struct cache_disk_superblock of "drivers/md/dm-cache-metadata.c"):
+-- the superblock's fields and rules, and the roles. These are 0 superblock, 1 tree of the mapping array,
 -- 2 its blocks, 3 tree of the hint array, 4 its blocks, 5 tree of the discard bitset, 6 its blocks,
--- 7 index block of the metadata bitmaps, 8 metadata bitmap, 9 metadata overflow tree.
-use Rattle.std.specs.Prelude.{ℕ, Bool, ◌==◌, ◌&&◌, ◌||◌, not, List, [], ◌∷◌, ◌++◌, slice_index}
+-- 7 index block of the metadata bitmaps, 8 metadata bitmap, 9 metadata overflow tree, and in version 2
+-- 10 tree of the dirty bitset, 11 its blocks.
+use Rattle.std.specs.Prelude.{ℕ, Bool, ◌==◌, ◌&&◌, ◌||◌, not, if◌then◌else◌, List, [], ◌∷◌, ◌++◌, slice_index}
 use Rattle.pd_kinds.specs.declared.kind.Kind.TheVariants.{Cache}
 use Rattle.pd_kinds.specs.declared.cache_super.CacheSuper.{CacheSuper}
 use Rattle.pd_kinds.specs.declared.rule.Rule.{Rule}
@@ -45,11 +46,24 @@ cache_table number bytes = record {
   write_hits = number 264 4;
   write_misses = number 268 4;
   versions = number 272 4 ∷ number 276 4 ∷ number 280 4 ∷ [];
+  dirty_root = number 284 8;
 }
+
+-- whether there is a dirty bitset: version 2 has it
+abbrev pub has_dirty_bits : ℕ → Bool
+has_dirty_bits version = version == 2
+
+-- the root of the dirty bitset by the version; a version that has none has 0
+abbrev pub dirty_root_in : ℕ → ℕ → ℕ
+dirty_root_in version root = if has_dirty_bits version then root else 0
+
+-- the fields, where the root of the dirty bitset stands in version 2 alone
+abbrev pub by_version : CacheFields → CacheFields
+by_version fields = record fields { dirty_root = dirty_root_in fields.version fields.dirty_root }
 
 -- the fields that stand in a block
 abbrev pub cache_fields : List ℕ → CacheFields
-cache_fields block = cache_table (le block) (bytes_at block)
+cache_fields block = by_version (cache_table (le block) (bytes_at block))
 
 -- the numbers among the fields, in a row
 abbrev pub cache_numbers : CacheFields → List ℕ
@@ -59,7 +73,11 @@ cache_numbers f =
     ++ (f.mapping_root ∷ f.hint_root ∷ f.discard_root ∷ f.discard_size ∷ f.discard_blocks
     ∷ f.block_size ∷ f.meta_block_size ∷ f.blocks ∷ f.compat ∷ f.compat_ro ∷ f.incompat
     ∷ f.read_hits ∷ f.read_misses ∷ f.write_hits ∷ f.write_misses
-    ∷ slice_index f.versions 0 ∷ slice_index f.versions 1 ∷ slice_index f.versions 2 ∷ []))
+    ∷ slice_index f.versions 0 ∷ slice_index f.versions 1 ∷ slice_index f.versions 2 ∷ f.dirty_root ∷ []))
+
+-- the root of the dirty bitset, where there is one
+abbrev pub dirty_edges : CacheFields → List Edge
+dirty_edges fields = if has_dirty_bits fields.version then record { role = 10; block = fields.dirty_root } ∷ [] else []
 
 -- the blocks that a cache superblock names, with their roles
 abbrev pub cache_super_edges : CacheFields → List Edge
@@ -69,7 +87,7 @@ cache_super_edges fields =
     ++ (optional_edge 5 fields.discard_root
     ++ (record { role = 7; block = fields.meta_map.bitmap_root }
     ∷ record { role = 9; block = fields.meta_map.overflow_root }
-    ∷ [])))
+    ∷ dirty_edges fields)))
 
 -- whether a cache's sizes are out of range: those of the metadata, or a hint size that is neither 0 nor 4
 unfoldable pub are_cache_sizes_bad : ℕ → CacheFields → Bool
@@ -84,7 +102,7 @@ cache_super_tests device_blocks block =
     record { rule = r.Pointer; fails = not sizes_bad && has_edge_outside fields.meta_map.blocks (cache_super_edges fields) }
     ∷ record { rule = r.Size; fails = sizes_bad }
     ∷ record { rule = r.Features; fails = not (fields.incompat == 0) }
-    ∷ record { rule = r.Version; fails = not (fields.version == 1) }
+    ∷ record { rule = r.Version; fails = not (fields.version == 1 || fields.version == 2) }
     ∷ record { rule = r.Place; fails = not (le block 8 8 == 0) }
     ∷ []
 
@@ -116,8 +134,10 @@ cache_layout nr role =
     ∷ index 8
     ∷ bitmap
     ∷ plain_tree 4
+    ∷ tree_to 8 11 (λ v. v)
+    ∷ array 8
     ∷ [])
 
 -- a cache's format, by its superblock
 unfoldable pub cache_graph : List ℕ → Graph
-cache_graph super = graph_of 10 (cache_fields super).meta_map.blocks 0 (cache_layout (cache_fields super).meta_map.blocks)
+cache_graph super = graph_of 12 (cache_fields super).meta_map.blocks 0 (cache_layout (cache_fields super).meta_map.blocks)

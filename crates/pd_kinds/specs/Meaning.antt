@@ -7,10 +7,10 @@ use Rattle.pd_kinds.specs.Node.{Entry}
 use Rattle.pd_kinds.specs.Graph.{Graph, block_at}
 use Rattle.pd_kinds.specs.ThinSuper.{thin_fields}
 use Rattle.pd_kinds.specs.ThinFormat.{thin_graph, mapped_block, mapped_time}
-use Rattle.pd_kinds.specs.CacheFormat.{cache_fields, cache_graph}
+use Rattle.pd_kinds.specs.CacheFormat.{cache_fields, cache_graph, has_dirty_bits}
 use Rattle.pd_kinds.specs.EraFormat.{era_fields, era_graph, writeset_bits, writeset_root}
 use Rattle.pd_kinds.specs.Trees.{entries_below, value_of_key}
-use Rattle.pd_kinds.specs.Whole.{array_words, mapping_array, top_entries, mapping_entries, details_entries, mapped_number, is_valid_word, is_dirty_word, origin_of_word, writeset_array}
+use Rattle.pd_kinds.specs.Whole.{array_words, mapping_array, dirty_array, top_entries, mapping_entries, details_entries, mapped_number, is_valid_word, is_dirty_word, origin_of_word, writeset_array}
 
 -- one mapping of a thin device
 pub record Mapping : Type 0 where
@@ -91,12 +91,26 @@ cache_hints graph image =
     then array_words graph image (record { role = 3; root = fields.hint_root; size = 4; lengths = [] })
     else []
 
+-- the words of the dirty bits, where there are any
+unfoldable pub cache_dirty_bits : Graph → List (List ℕ) → List ℕ
+cache_dirty_bits graph image =
+    if has_dirty_bits (cache_fields (block_at image 0)).version then array_words graph image (dirty_array image) else []
+
+-- whether bit i is set, of words of 64 bits
+abbrev pub is_bit_set : List ℕ → ℕ → Bool
+is_bit_set words i = bit_at (slice_index words (i / 64)) (i % 64) == 1
+
+-- whether a cache block is dirty: its bit says so in version 2, its mapping word in version 1
+abbrev pub is_dirty_block : ℕ → List ℕ → List ℕ → ℕ → Bool
+is_dirty_block version words bits i =
+    if has_dirty_bits version then is_bit_set bits i else is_dirty_word (slice_index words i)
+
 -- the entry of a cache block; a hint past the end of the hint array is 0
-abbrev pub cache_entry : List ℕ → List ℕ → ℕ → CacheEntry
-cache_entry words hints i = record {
+abbrev pub cache_entry : ℕ → List ℕ → List ℕ → List ℕ → ℕ → CacheEntry
+cache_entry version words hints bits i = record {
   block = i;
   origin = origin_of_word (slice_index words i);
-  dirty = is_dirty_word (slice_index words i);
+  dirty = is_dirty_block version words bits i;
   hint = slice_index hints i;
 }
 
@@ -114,7 +128,7 @@ cache_meaning image =
       policy = fields.policy;
       versions = fields.versions;
       hint_size = fields.hint_size;
-      entries = map (cache_entry words (cache_hints graph image))
+      entries = map (cache_entry fields.version words (cache_hints graph image) (cache_dirty_bits graph image))
           (filter (λ i. is_valid_word (slice_index words i)) (range_with_len 0 (length words)));
     }
 
@@ -129,7 +143,7 @@ pub record EraMeaning : Type 0 where
 -- whether a writeset holds a block: a bit counts only below its number of bits
 unfoldable pub is_held : Graph → List (List ℕ) → ℕ → ℕ → ℕ → Bool
 is_held graph image bits root b =
-    nat_lt b bits && (bit_at (slice_index (array_words graph image (writeset_array bits root)) (b / 64)) (b % 64) == 1)
+    nat_lt b bits && is_bit_set (array_words graph image (writeset_array bits root)) b
 
 -- the era that an archived writeset gives a block, and the one that the current writeset does
 abbrev pub archived_era : Graph → List (List ℕ) → ℕ → Entry → ℕ

@@ -12,7 +12,7 @@ use Rattle.pd_kinds.specs.Graph.{Graph, block_at, block_of, role_of, nodes, meta
 use Rattle.pd_kinds.specs.Layout.{leaf_entries}
 use Rattle.pd_kinds.specs.Trees.{entries_below, keys_of, words_of}
 use Rattle.pd_kinds.specs.ThinSuper.{thin_fields}
-use Rattle.pd_kinds.specs.CacheFormat.{cache_fields}
+use Rattle.pd_kinds.specs.CacheFormat.{cache_fields, has_dirty_bits}
 use Rattle.pd_kinds.specs.EraFormat.{era_fields, writeset_bits, writeset_root}
 
 -- a rule that is looked at for the whole image: the block that it is charged to, and whether it fails
@@ -149,13 +149,24 @@ mapping_array image = record {
   lengths = (cache_fields (block_at image 0)).blocks ∷ [];
 }
 
+-- its dirty bits, 64 in a word, which version 2 has
+abbrev pub dirty_array : List (List ℕ) → Array
+dirty_array image = record {
+  role = 10;
+  root = (cache_fields (block_at image 0)).dirty_root;
+  size = 8;
+  lengths = ((cache_fields (block_at image 0)).blocks + 63) / 64 ∷ [];
+}
+
 unfoldable pub cache_arrays : List (List ℕ) → List Array
 cache_arrays image =
+    let fields = cache_fields (block_at image 0) in
     mapping_array image
-    ∷ (optional_array 3 (cache_fields (block_at image 0)).hint_root 4 []
-    ++ optional_array 5 (cache_fields (block_at image 0)).discard_root 8 [])
+    ∷ (optional_array 3 fields.hint_root 4 []
+    ++ (optional_array 5 fields.discard_root 8 []
+    ++ (if has_dirty_bits fields.version then dirty_array image ∷ [] else [])))
 
--- a word of the mapping array: bit 0 says that it is valid, bit 1 that it is dirty, the origin is above
+-- a word of the mapping array: bit 0 says that it is valid, in version 1 bit 1 that it is dirty, the origin is above
 abbrev pub is_valid_word : ℕ → Bool
 is_valid_word word = word % 2 == 1
 

@@ -1,6 +1,6 @@
 use crate::map_root::SmRoot;
 
-/// The superblock of a cache's metadata, version 1, as struct cache_disk_superblock of
+/// The superblock of a cache's metadata, version 1 or 2, as struct cache_disk_superblock of
 /// "drivers/md/dm-cache-metadata.c", but for the checksum, the place and the magic.
 #[derive(Clone, Copy, Debug, PartialEq, Eq)]
 pub struct CacheSuper {
@@ -8,7 +8,7 @@ pub struct CacheSuper {
     pub flags: u32,
     /// The cache's identifier, which the kernel doesn't use.
     pub uuid: [u8; 16],
-    /// 1 is the only version that is known.
+    /// 1 or 2; no other version is known.
     pub version: u32,
     /// The name of the policy, with zeros behind it.
     pub policy: [u8; 16],
@@ -48,4 +48,6 @@ pub struct CacheSuper {
     pub write_misses: u32,
     /// The version of the policy, in three parts.
     pub versions: [u32; 3],
+    /// The block of the root of the tree of the dirty bitset, in version 2 alone; 0 in any other.
+    pub dirty_root: u64,
 }

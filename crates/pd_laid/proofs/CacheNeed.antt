@@ -7,7 +7,8 @@ use Rattle.pd_kinds.specs.Meaning.{CacheMeaning}
 use Rattle.pd_laid.specs.Laid.{LaidBlock, laid_number, tree_of}
 use Rattle.pd_laid.specs.Array.{laid_array}
 use Rattle.pd_laid.specs.Map.{meta_overflow}
-use Rattle.pd_laid.specs.LaidCache.{entry_of, mapping_word, hint_word, mapping_words, hint_words, dirty_word, dirty_words, mapping_blocks, hints_at, hint_blocks, has_hints, dirty_at, dirty_blocks, has_dirty, discards_at, discard_blocks, cache_parts, cache_named, meta_map_at, meta_map_blocks, laid_cache}
+use Rattle.pd_kinds.specs.CacheFormat.{has_dirty_bits}
+use Rattle.pd_laid.specs.LaidCache.{entry_of, mapping_word, hint_word, mapping_words, hint_words, dirty_word, dirty_words, mapping_blocks, hints_at, hint_blocks, has_hints, dirty_at, dirty_blocks, discards_at, discard_blocks, cache_parts, cache_named, meta_map_at, meta_map_blocks, laid_cache}
 use Rattle.pd_spells.specs.Need.{need_array}
 use Rattle.pd_spells.specs.CacheNeed.{need_of_cache}
 use Rattle.pd_laid.proofs.NeedLemmas.{length-tree, length-array, length-map_blocks}
@@ -35,7 +36,7 @@ module _ (m : CacheMeaning) (version : ℕ) where
   dirty_number : length (dirty_blocks m version) ≡ cond (nat_eq version 2) (need_array 8 ((m.blocks + 63) / 64)) 0
   unfolding dirty_blocks dirty_words
   dirty_number =
-      length-where (has_dirty version) (laid_array 10 8 (dirty_at m version) (dirty_words m)) (need_array 8 ((m.blocks + 63) / 64))
+      length-where (has_dirty_bits version) (laid_array 10 8 (dirty_at m version) (dirty_words m)) (need_array 8 ((m.blocks + 63) / 64))
       (array_of 10 8 (dirty_at m version) ((m.blocks + 63) / 64) (dirty_words m) (length-map-range_with_len (dirty_word m) 0 ((m.blocks + 63) / 64)))
 
   pub cache_number : (n : ℕ) → meta_overflow n (cache_named m version) ≡ [] → laid_number (laid_cache m version n) ≡ need_of_cache version m.blocks m.hint_size n

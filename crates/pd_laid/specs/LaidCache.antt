@@ -1,16 +1,14 @@
 -- How a cache is laid in version 1 or 2: the mapping array, the hint array where there are hints, the array of
--- dirty bits in version 2, an empty discard tree, the metadata map. Roles are those of a cache's format; in
--- version 2 the tree of the dirty bits has role 10, and its blocks 11.
+-- dirty bits in version 2, an empty discard tree, the metadata map. Roles are those of a cache's format.
 use Rattle.std.specs.Prelude.{ℕ, ◌+◌, ◌*◌, ◌/◌, ◌^◌, Bool, false, ◌==◌, ◌&&◌, if◌then◌else◌, List, [], ◌∷◌, ◌++◌, length, map, sum, Option, Some, None}
 use Rattle.std.specs.List.{find, range_with_len}
 use Rattle.pd_kinds.specs.Layout.{tree_to}
-use Rattle.pd_kinds.specs.CacheFormat.{CacheFields}
+use Rattle.pd_kinds.specs.CacheFormat.{CacheFields, cache_super_block, has_dirty_bits}
 use Rattle.pd_kinds.specs.Meaning.{CacheEntry, CacheMeaning}
 use Rattle.pd_laid.specs.Tree.{tree_root}
 use Rattle.pd_laid.specs.Laid.{LaidBlock, Laid, named_by, tree_of, laid_tree}
 use Rattle.pd_laid.specs.Array.{laid_array, array_root}
 use Rattle.pd_laid.specs.Map.{laid_meta_map, meta_overflow_root}
-use Rattle.pd_laid.specs.CacheSuper.{cache_super_in}
 
 -- the entry of a cache block, where it is valid
 unfoldable pub entry_of : CacheMeaning → ℕ → Option CacheEntry
@@ -47,12 +45,9 @@ dirty_words m = map (dirty_word m) (range_with_len 0 ((m.blocks + 63) / 64))
 unfoldable pub mapping_blocks : CacheMeaning → ℕ → List LaidBlock
 mapping_blocks m version = laid_array 1 8 1 (mapping_words m version)
 
--- whether there are hints, and whether there is an array of dirty bits
+-- whether there are hints
 abbrev pub has_hints : CacheMeaning → Bool
 has_hints m = m.hint_size == 4
-
-abbrev pub has_dirty : ℕ → Bool
-has_dirty version = version == 2
 
 -- the hint array
 abbrev pub hints_at : CacheMeaning → ℕ → ℕ
@@ -66,7 +61,7 @@ abbrev pub dirty_at : CacheMeaning → ℕ → ℕ
 dirty_at m version = hints_at m version + length (hint_blocks m version)
 
 unfoldable pub dirty_blocks : CacheMeaning → ℕ → List LaidBlock
-dirty_blocks m version = if has_dirty version then laid_array 10 8 (dirty_at m version) (dirty_words m) else []
+dirty_blocks m version = if has_dirty_bits version then laid_array 10 8 (dirty_at m version) (dirty_words m) else []
 
 -- the discard tree, which is an empty leaf
 abbrev pub discards_at : CacheMeaning → ℕ → ℕ
@@ -91,7 +86,7 @@ abbrev pub hint_root : CacheMeaning → ℕ → ℕ
 hint_root m version = if has_hints m then array_root 4 (hints_at m version) (hint_words m) else 0
 
 abbrev pub dirty_root : CacheMeaning → ℕ → ℕ
-dirty_root m version = if has_dirty version then array_root 8 (dirty_at m version) (dirty_words m) else 0
+dirty_root m version = if has_dirty_bits version then array_root 8 (dirty_at m version) (dirty_words m) else 0
 
 abbrev pub discard_root : CacheMeaning → ℕ → ℕ
 discard_root m version = tree_root 8 (discards_at m version) []
@@ -101,7 +96,7 @@ unfoldable pub cache_named : CacheMeaning → ℕ → List ℕ
 cache_named m version =
     0 ∷ mapping_root m version
     ∷ ((if has_hints m then hint_root m version ∷ [] else [])
-    ++ ((if has_dirty version then dirty_root m version ∷ [] else [])
+    ++ ((if has_dirty_bits version then dirty_root m version ∷ [] else [])
     ++ (discard_root m version ∷ named_by (cache_parts m version))))
 
 unfoldable pub meta_map_blocks : CacheMeaning → ℕ → ℕ → List LaidBlock
@@ -137,11 +132,12 @@ cache_laid_fields m version n = record {
   write_hits = 0;
   write_misses = 0;
   versions = m.versions;
+  dirty_root = dirty_root m version;
 }
 
 -- what is laid of a cache in a version, on a device of n blocks
 unfoldable pub laid_cache : CacheMeaning → ℕ → ℕ → Laid
 laid_cache m version n = record {
-  super_block = cache_super_in (cache_laid_fields m version n) (dirty_root m version);
+  super_block = cache_super_block (cache_laid_fields m version n);
   blocks = cache_parts m version ++ meta_map_blocks m version n;
 }

@@ -1,10 +1,10 @@
 pub mod Tree
 pub mod Laid
+pub mod Made
 pub mod Array
 pub mod Map
 pub mod Shape
 pub mod LaidThin
-pub mod CacheSuper
 pub mod LaidCache
 pub mod LaidEra
 pub mod Salvage

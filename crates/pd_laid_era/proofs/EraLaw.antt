@@ -30,7 +30,8 @@ use Rattle.pd_laid_trees.proofs.Names.{tree_roles}
 use Rattle.pd_laid_maps.proofs.MapNames.{length-meta_map}
 use Rattle.pd_laid_maps.proofs.MetaMap.{other_more}
 use Rattle.pd_laid_maps.proofs.RoleCounts.{fitting_lead}
-use Rattle.pd_laid_era.specs.CleanEra.{IsCleanEra, room_of}
+use Rattle.pd_kinds.specs.Limits.{room_of}
+use Rattle.pd_laid_era.specs.CleanEra.{IsCleanEra}
 use Rattle.pd_laid_era.proofs.EraCounts.{bitmap_once, references_count}
 use Rattle.pd_laid_era.proofs.EraParts.{array_is, blocks_number, era_all, era_in_place, era_number, first_super, lawful_graph, meta_fitting, meta_is, no_writesets, one_leaf, parts_end, parts_fitting, super_edges, super_leads, writesets_are}
 use Rattle.pd_laid_era.proofs.EraSuper.{IsSuperLaid, super_laid, super_seen}
@@ -297,10 +298,10 @@ module _ (m : EraMeaning) (n : ℕ) (image : List (List ℕ)) (few : n ≤ 41616
       ∙ sym (fill_by_all (era_of this image) m.eras fields_at.blocks 0 (sym blocks_are) (λ k h. sym (one_era k))) in
       ap₂ meaning_of super_is.fields_are eras
 
-pub law : (m : EraMeaning) (base image : List (List ℕ)) → IsLawfulEra m → laid_number (laid_era m (room_of base)) ≤ room_of base
-    → IsLaid (laid_era m (room_of base)) base image → IsCleanEra image m
+pub law : (m : EraMeaning) (base image : List (List ℕ)) → IsLawfulEra m → laid_number (laid_era m (room_of (length base))) ≤ room_of (length base)
+    → IsLaid (laid_era m (room_of (length base))) base image → IsCleanEra image m
 law m base image lawful room is =
-    let n = room_of base in
+    let n = room_of (length base) in
     let stand = era_in_place m n base image is in
     let few : n ≤ 4161600 = omega arith in
     let number = era_number m n in

@@ -22,7 +22,8 @@ use Rattle.pd_laid_trees.proofs.Names.{blocks_of, named-append, tree_names}
 use Rattle.pd_laid_trees.proofs.Rows.{values_of}
 use Rattle.pd_laid_maps.proofs.Index.{range_of}
 use Rattle.pd_laid_maps.proofs.MetaMap.{once_at_most, one_more}
-use Rattle.pd_laid_era.specs.CleanEra.{IsCleanEra, room_of}
+use Rattle.pd_kinds.specs.Limits.{room_of}
+use Rattle.pd_laid_era.specs.CleanEra.{IsCleanEra}
 use Rattle.pd_laid_era.proofs.EraLaw.{law}
 use Rattle.pd_laid_era.proofs.EraParts.{era_number}
 
@@ -117,8 +118,8 @@ takes_need m n lawful limit room =
     let before : meta_map_at m ≤ 4161600 = omega (arith, need_apart (length m.eras) n, needs.era_number m 0 (none_at_all m), era_number m 0, map_at_none m, same, room, limit) in
     needs.era_number m n (none_over m before n) ∙ sym same
 
-pub need_law : (m : EraMeaning) (base image : List (List ℕ)) → IsLawfulEra m → era_need m (room_of base) ≤ room_of base
-    → IsLaid (laid_era m (room_of base)) base image → IsCleanEra image m
+pub need_law : (m : EraMeaning) (base image : List (List ℕ)) → IsLawfulEra m → era_need m (room_of (length base)) ≤ room_of (length base)
+    → IsLaid (laid_era m (room_of (length base))) base image → IsCleanEra image m
 need_law m base image lawful room is =
-    let number = takes_need m (room_of base) lawful (omega arith) room in
+    let number = takes_need m (room_of (length base)) lawful (omega arith) room in
     law m base image lawful (omega arith) is

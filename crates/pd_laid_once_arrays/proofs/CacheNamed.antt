@@ -1,11 +1,12 @@
 -- What the parts of a cache name.
 use Rattle.std.proofs.Common.{◌≡◌, ℕ, ◌+◌, ◌^◌, ◌≤◌, Bool, true, false, cond, List, [], ◌∷◌, ◌++◌, length, refl, arith}
 use Rattle.std.specs.List.{range_with_len}
+use Rattle.pd_kinds.specs.CacheFormat.{has_dirty_bits}
 use Rattle.pd_kinds.specs.Layout.{tree_to}
 use Rattle.pd_kinds.specs.Meaning.{CacheMeaning}
 use Rattle.pd_laid.specs.Laid.{LaidBlock, named_by, count_in, tree_of}
 use Rattle.pd_laid.specs.Array.{laid_array, array_root}
-use Rattle.pd_laid.specs.LaidCache.{has_hints, has_dirty, mapping_words, mapping_blocks, hint_words, hints_at, hint_blocks, dirty_words, dirty_at, dirty_blocks, discards_at, discard_blocks, cache_parts, meta_map_at, mapping_root, hint_root, dirty_root, discard_root, cache_named}
+use Rattle.pd_laid.specs.LaidCache.{has_hints, mapping_words, mapping_blocks, hint_words, hints_at, hint_blocks, dirty_words, dirty_at, dirty_blocks, discards_at, discard_blocks, cache_parts, meta_map_at, mapping_root, hint_root, dirty_root, discard_root, cache_named}
 use Rattle.pd_laid_once.specs.Once.{NamesEachOnce}
 use Rattle.pd_laid_once.proofs.Counts.{count-append, count-cons}
 use Rattle.pd_laid_once.proofs.Trees.{tree_named}
@@ -32,7 +33,7 @@ module _ (m : CacheMeaning) (version : ℕ) (fits : meta_map_at m version ≤ 2 
   hint_roots = cond (has_hints m) (hint_root m version ∷ []) []
 
   abbrev dirty_roots : List ℕ
-  dirty_roots = cond (has_dirty version) (dirty_root m version ∷ []) []
+  dirty_roots = cond (has_dirty_bits version) (dirty_root m version ∷ []) []
 
   mapping_part : c (named_by (mapping_blocks m version)) + c (mapping_root m version ∷ []) ≡ in_places 1 (mapping_blocks m version)
   unfolding mapping_blocks
@@ -46,7 +47,7 @@ module _ (m : CacheMeaning) (version : ℕ) (fits : meta_map_at m version ≤ 2 
 
   dirty_part : c (named_by (dirty_blocks m version)) + c dirty_roots ≡ in_places (dirty_at m version) (dirty_blocks m version)
   unfolding dirty_blocks
-  dirty_part = either_part (has_dirty version) 10 8 (dirty_at m version) (dirty_words m) b (omega arith)
+  dirty_part = either_part (has_dirty_bits version) 10 8 (dirty_at m version) (dirty_words m) b (omega arith)
 
   discard_part : c (named_by (discard_blocks m version)) + c (discard_root m version ∷ []) ≡ in_places (discards_at m version) (discard_blocks m version)
   unfolding discard_blocks

@@ -33,7 +33,8 @@ use Rattle.pd_laid_maps.proofs.MapItems.{code_block, made_keys}
 use Rattle.pd_laid_maps.proofs.MapNames.{length-meta_map}
 use Rattle.pd_laid_maps.proofs.MetaMap.{other_more}
 use Rattle.pd_laid_maps.proofs.RoleCounts.{fitting_lead}
-use Rattle.pd_laid_thin.specs.CleanPool.{IsCleanPool, room_of}
+use Rattle.pd_kinds.specs.Limits.{room_of}
+use Rattle.pd_laid_thin.specs.CleanPool.{IsCleanPool}
 use Rattle.pd_laid_thin.proofs.ThinCounts.{bitmap_once, data_references, references_count}
 use Rattle.pd_laid_thin.proofs.ThinDevices.{AreRead}
 use Rattle.pd_laid_thin.proofs.ThinItems.{details_value}
@@ -308,9 +309,9 @@ module _ (w : ThinShape) (n : ℕ) (image : List (List ℕ)) (few : n ≤ 416160
       ap₂ meaning_of super_is.fields_are devices
 
 pub law : (w : ThinShape) (base image : List (List ℕ)) → IsLawfulPool (pool_of w) → IsShape w
-    → laid_number (laid_shape w (room_of base)) ≤ room_of base → IsLaid (laid_shape w (room_of base)) base image → IsCleanPool image (pool_of w)
+    → laid_number (laid_shape w (room_of (length base))) ≤ room_of (length base) → IsLaid (laid_shape w (room_of (length base))) base image → IsCleanPool image (pool_of w)
 law w base image lawful shape room is =
-    let n = room_of base in
+    let n = room_of (length base) in
     let fits = shape_fits w lawful in
     let stand = pool_in_place w n base image is in
     let few : n ≤ 4161600 = omega arith in

@@ -29,7 +29,8 @@ use Rattle.pd_laid_trees.proofs.Trees.{leaves_are}
 use Rattle.pd_laid_maps.proofs.MapItems.{index_edges}
 use Rattle.pd_laid_maps.proofs.MapNames.{named-bitmaps, no_edges_of}
 use Rattle.pd_laid_maps.proofs.MetaMap.{once_at_most, one_more}
-use Rattle.pd_laid_thin.specs.CleanPool.{IsCleanPool, room_of}
+use Rattle.pd_kinds.specs.Limits.{room_of}
+use Rattle.pd_laid_thin.specs.CleanPool.{IsCleanPool}
 use Rattle.pd_laid_thin.proofs.ThinItems.{mappings_fit}
 use Rattle.pd_laid_thin.proofs.ThinLaw.{law}
 use Rattle.pd_laid_thin.proofs.ThinPool.{pool_number}
@@ -309,11 +310,11 @@ takes_need m n lawful limit room =
     pool_need m n have.0 (none_over m before lawful.data_blocks_fit n) ∙ sym same
 
 -- the law for meanings
-pub meaning_law : (m : ThinPool) (base image : List (List ℕ)) → IsLawfulPool m → thin_need m (room_of base) ≤ room_of base → IsLaid (laid_pool m (room_of base)) base image
+pub meaning_law : (m : ThinPool) (base image : List (List ℕ)) → IsLawfulPool m → thin_need m (room_of (length base)) ≤ room_of (length base) → IsLaid (laid_pool m (room_of (length base))) base image
     → IsCleanPool image m
 unfolding laid_pool
 meaning_law m base image lawful room is =
-    let n = room_of base in
+    let n = room_of (length base) in
     let kept = pool_kept m in
     let number = takes_need m n lawful (omega arith) room in
     rw kept at (law (shape_of m) base image (rw kept lawful) (is_shape m) (omega arith) is)

@@ -33,9 +33,11 @@ use Rattle.pd_restore.specs.declared.fault.RestoreFault.{RestoreFault}
 use Rattle.pd_restore.specs.declared.fault.RestoreFault.TheVariants as r
 use Rattle.pd_restore.specs.declared.pool.Pool.{Pool}
 use Rattle.pd_restore.specs.Begin.{BeginsOf, BlamesSource}
-use Rattle.pd_restore.specs.Early.{is_pool_early}
+use Rattle.pd_spells.specs.Early.{is_pool_early}
 use Rattle.pd_restore.specs.Reading.{SaysOf, NoneAbove}
-use Rattle.pd_restore.specs.Restored.{IsRestored, IsRefusal, AnswersFault, Makes, room_of}
+use Rattle.pd_restore.specs.Restored.{IsRestored, IsRefusal, AnswersFault}
+use Rattle.pd_kinds.specs.Limits.{room_of}
+use Rattle.pd_laid.specs.Made.{Makes}
 use Rattle.pd_restore.specs.Whole.{begun_lines, head_of_pool, made_of, Commits, CommitsSynced, Tries, ShutBy}
 use Rattle.pd_restore.proofs.MadeLemmas.{made_of_closed}
 use Rattle.pd_restore.proofs.ReadingLemmas.{above_here, tree_most}

@@ -1,23 +1,14 @@
 -- What a restore promises, for any kind.
-use Rattle.std.specs.Prelude.{◌≡◌, ◌⊎◌, ℕ, ◌≤◌, min, true, Bool, List, [], Result, OnOk, IfSome, MatchResult, Some}
-use Rattle.pd_kinds.specs.declared.limits.TheConstants.{MAX_META_BLOCKS}
+use Rattle.std.specs.Prelude.{◌≡◌, ◌⊎◌, ℕ, ◌≤◌, true, Bool, List, [], Result, OnOk, IfSome, MatchResult, Some}
+use Rattle.pd_kinds.specs.Limits.{room_of}
 use Rattle.pd_kinds.specs.Objects.{SourceState, DeviceState, Rose}
 use Rattle.pd_kinds.specs.Crash.{HasNoSuper, HoldsSynced, IsOldNoneOrMade, IsUntouched, LeavesOnly}
 use Rattle.pd_grammar.specs.Spelling.{Verdict, accepted, refused, no_room}
-use Rattle.pd_laid.specs.Laid.{Laid, IsLaid}
+use Rattle.pd_laid.specs.Laid.{Laid}
+use Rattle.pd_laid.specs.Made.{Makes}
 use Rattle.pd_texts.specs.declared.fault.TextFault.{TextFault}
 use Rattle.pd_restore.specs.declared.fault.RestoreFault.{RestoreFault}
 use Rattle.pd_restore.specs.declared.fault.RestoreFault.TheVariants as r
-
--- so many of a device's blocks can have metadata
-abbrev pub room_of : ℕ → ℕ
-room_of blocks = min blocks MAX_META_BLOCKS
-
--- an image is made where the text is accepted: what it spells is laid over what the device held
-abbrev pub Makes : {M : Type 0} → (M → ℕ → Laid) → ℕ → Verdict M → List (List ℕ) → List (List ℕ) → Type 0
-Makes laid room (accepted m) old new = IsLaid (laid m room) old new
-Makes laid room (refused why) old new = ⊥
-Makes laid room (no_room needed blocks) old new = ⊥
 
 -- what is answered to a verdict; a fault of an object, or want of memory, may be answered to any
 abbrev pub IsAccepted : {M : Type 0} → (M → Type 0) → Verdict M → Type 0

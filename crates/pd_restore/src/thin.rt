@@ -10,8 +10,9 @@ ghost use Rattle.pd_spells.specs.ThinNeed.{IsThinVerdict};
 ghost use Rattle.pd_spells.specs.ThinText.{thin};
 ghost use Rattle.pd_texts.specs.Reader.{LeavesOf, ReadsOn};
 ghost use Rattle.pd_texts.specs.ThinState.{ThinStands};
-ghost use Rattle.pd_restore.specs.Early.{is_pool_early};
-ghost use Rattle.pd_restore.specs.Restored.{CountsRestore, IsRestored, room_of};
+ghost use Rattle.pd_spells.specs.Early.{is_pool_early};
+ghost use Rattle.pd_restore.specs.Restored.{CountsRestore, IsRestored};
+ghost use Rattle.pd_kinds.specs.Limits.{room_of};
 ghost use Rattle.pd_restore.specs.Whole.{begun_lines};
 
 use crate::begin::read_pool;

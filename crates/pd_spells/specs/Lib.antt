@@ -6,4 +6,5 @@ pub mod Need
 pub mod ThinNeed
 pub mod CacheNeed
 pub mod EraNeed
+pub mod Early
 pub mod Lines

@@ -1,8 +1,10 @@
 -- Reading the superblock that is written for a cache's fields gives them back.
-use Rattle.std.proofs.Common.{◌≡◌, ℕ, ◌==◌, cond, List, [], ◌∷◌, length, slice_index, refl, ap, sym, ◌∙◌, arith}
+use Rattle.std.proofs.Common.{◌≡◌, ◌≢◌, inl, inr, ℕ, ◌==◌, cond, eq-eqb, List, [], ◌∷◌, length, slice_index, refl, ap, sym, ◌∙◌, arith}
+use Rattle.std.proofs.Math.Dec.{eqb}
+use Rattle.std.proofs.lemmas.Bool.{cases_Bool, true≢false}
 use Rattle.pd_kinds.specs.declared.kind.Kind.TheVariants.{Cache}
-use Rattle.pd_kinds.specs.Field.{DoFit, Row, bytes_at, put_bytes, written, zeros}
-use Rattle.pd_kinds.specs.CacheFormat.{CacheFields, cache_fields, cache_numbers, cache_rows, cache_super_block, cache_table}
+use Rattle.pd_kinds.specs.Field.{DoFit, Row, bytes_at, le, put_bytes, written, zeros}
+use Rattle.pd_kinds.specs.CacheFormat.{CacheFields, by_version, cache_fields, cache_numbers, cache_rows, cache_super_block, cache_table}
 use Rattle.pd_kinds.proofs.WrittenLemmas.{length-put_bytes, length-written_zeros, length-zeros, put_bytes_read}
 use Rattle.pd_kinds.proofs.TableLemmas.{numbers_at, table_read, value_at, values_of}
 use Rattle.pd_kinds.proofs.SuperLemmas.{bytes-super_block, numbers-put_bytes, numbers-super_block, uuid_read}
@@ -26,11 +28,22 @@ same_fields f g parts_f parts_g numbers uuid policy =
     sym (ap (λ (xs : List ℕ). record f { versions = xs }) (three f.versions parts_f))
     ∙ (made ∙ ap (λ (xs : List ℕ). record g { versions = xs }) (three g.versions parts_g))
 
+-- a root of the dirty bitset that is 0 where there is none stays as it is
+same_by_version : (f : CacheFields) → (f.version ≢ 2 → f.dirty_root ≡ 0) → by_version f ≡ f
+same_by_version f none = elim (cases_Bool (eqb f.version 2)) [
+  | inl two ↦ rw two refl
+  | inr other ↦
+      let zero : f.dirty_root ≡ 0 = none (λ two. true≢false (sym (eq-eqb f.version 2 two) ∙ other)) in
+      rw other (ap (λ (n : ℕ). record f { dirty_root = n }) (sym zero))
+]
+
 -- reading what was written gives the same fields
-pub reads_back : (f : CacheFields) → length f.uuid ≡ 16 → length f.policy ≡ 16 → length f.versions ≡ 3 → DoFit (cache_rows f)
-    → cache_fields (cache_super_block f) ≡ f
+pub reads_back : (f : CacheFields) → length f.uuid ≡ 16 → length f.policy ≡ 16 → length f.versions ≡ 3 → (f.version ≢ 2 → f.dirty_root ≡ 0)
+    → DoFit (cache_rows f) → cache_fields (cache_super_block f) ≡ f
 unfolding cache_super_block
-reads_back f len len_policy parts fit =
+reads_back f len len_policy parts none fit =
+    let block = cache_super_block f in
+    let read = cache_table (le block) (bytes_at block) in
     let rows = written zeros (cache_rows f) in
     let size = length-written_zeros (cache_rows f) in
     let over = put_bytes rows 44 f.policy in
@@ -42,4 +55,4 @@ reads_back f len len_policy parts fit =
     let policy : bytes_at (cache_super_block f) 44 16 ≡ f.policy =
     bytes-super_block Cache f.uuid over 44 16 whole len (omega arith)
     ∙ (ap (λ (n : ℕ). bytes_at over 44 n) (sym len_policy) ∙ put_bytes_read rows 44 f.policy (omega arith)) in
-    same_fields (cache_fields (cache_super_block f)) f refl parts numbers (uuid_read Cache f.uuid over whole len) policy
+    ap by_version (same_fields read f refl parts numbers (uuid_read Cache f.uuid over whole len) policy) ∙ same_by_version f none

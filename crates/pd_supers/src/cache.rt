@@ -1,4 +1,4 @@
-ghost use Rattle.std.specs.Prelude.{◌≡◌, ℕ, false, map};
+ghost use Rattle.std.specs.Prelude.{◌≡◌, ◌≢◌, ℕ, false, map};
 ghost use Rattle.pd_kinds.specs.declared.rule.Rule.TheVariants.{Checksum, Place, Magic};
 ghost use Rattle.pd_kinds.specs.CacheFormat.{cache_fields, cache_rows, cache_super_bad, cache_super_block};
 ghost use Rattle.pd_supers.specs.Table.{row_of};
@@ -36,6 +36,7 @@ pub fn read_cache_super(block: &Block) -> CacheSuper
         write_hits: u32_at(&block.0, 264),
         write_misses: u32_at(&block.0, 268),
         versions: read_versions(block),
+        dirty_root: read_dirty_root(block),
     }
 }
 
@@ -50,8 +51,20 @@ fn read_versions(block: &Block) -> [u32; 3]
     ]
 }
 
+/// The root of the dirty bitset; a version that has none has 0.
+fn read_dirty_root(block: &Block) -> u64
+    ensures { result ≡ (cache_fields block.now.0).dirty_root }
+{
+    if u32_at(&block.0, 40) == 2 {
+        u64_at(&block.0, 284)
+    } else {
+        0
+    }
+}
+
 /// The superblock with these fields, sealed for block 0. Every other byte is 0.
 pub fn write_cache_super(s: &CacheSuper) -> Block
+    requires dirty_root { s.now.version ≢ 2 → s.now.dirty_root ≡ 0 }
     ensures block { result.0 ≡ cache_super_block s.now }
     // Reading what was written gives the same fields.
     ensures reads_back { cache_fields result.0 ≡ s.now }
@@ -66,7 +79,7 @@ pub fn write_cache_super(s: &CacheSuper) -> Block
 }
 
 /// The numbers of the superblock, each at its offset.
-fn rows_of(s: &CacheSuper) -> [(usize, Number); 25]
+fn rows_of(s: &CacheSuper) -> [(usize, Number); 26]
     ensures { map row_of result ≡ cache_rows s.now }
 {
     [
@@ -95,5 +108,6 @@ fn rows_of(s: &CacheSuper) -> [(usize, Number); 25]
         (272, Four(s.versions[0])),
         (276, Four(s.versions[1])),
         (280, Four(s.versions[2])),
+        (284, Eight(s.dirty_root)),
     ]
 }

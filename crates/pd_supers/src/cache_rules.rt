@@ -3,7 +3,7 @@
 ghost use Rattle.std.specs.Prelude.{◌≡◌};
 ghost use Rattle.pd_kinds.specs.declared.rule.Rule.{Rule as BrokenRule};
 ghost use Rattle.pd_kinds.specs.RuleSet.{failing, has_rule};
-ghost use Rattle.pd_kinds.specs.CacheFormat.{are_cache_sizes_bad, cache_super_bad, cache_super_edges, cache_super_tests};
+ghost use Rattle.pd_kinds.specs.CacheFormat.{are_cache_sizes_bad, cache_super_bad, cache_super_edges, cache_super_tests, dirty_edges};
 
 use crate::cache::read_cache_super;
 use crate::super_block::super_rules;
@@ -28,7 +28,7 @@ fn table_rules(block: &Block, device_blocks: u64) -> Rules
     let edge_outside = cache_super_edges(&fields).any_outside(fields.meta_map.blocks);
     Rules::none()
         .with_if(Rule::Place, place != 0)
-        .with_if(Rule::Version, fields.version != 1)
+        .with_if(Rule::Version, (fields.version != 1) & (fields.version != 2))
         .with_if(Rule::Features, fields.incompat != 0)
         .with_if(Rule::Size, sizes_bad)
         .with_if(Rule::Pointer, !sizes_bad & edge_outside)
@@ -47,10 +47,21 @@ fn are_sizes_bad(fields: &CacheSuper, device_blocks: u64) -> bool
 pub fn cache_super_edges(s: &CacheSuper) -> Edges
     ensures { result ≡ cache_super_edges s.now }
 {
-    Edges::none()
+    dirty_edges(s)
         .with(9, s.meta_map.overflow_root)
         .with(7, s.meta_map.bitmap_root)
         .with_optional(5, s.discard_root)
         .with_optional(3, s.hint_root)
         .with(1, s.mapping_root)
+}
+
+/// The root of the dirty bitset, which version 2 has.
+fn dirty_edges(s: &CacheSuper) -> Edges
+    ensures { result ≡ dirty_edges s.now }
+{
+    if s.version == 2 {
+        Edges::none().with(10, s.dirty_root)
+    } else {
+        Edges::none()
+    }
 }

@@ -13,7 +13,7 @@ use Rattle.pd_answers.specs.Answer.{Objects, AreFresh}
 use Rattle.pd_answers.specs.Requests.{Request, check, dump, restore, is_built}
 use Rattle.pd_answers.specs.Words.{built, spelled, asked}
 use Rattle.pd_answers.specs.Promises.{image_text, terms_of}
-use Rattle.pd_answers.specs.Restores.{is_pool_early}
+use Rattle.pd_spells.specs.Early.{is_pool_early}
 use Rattle.pd_spells.specs.ThinNeed.{IsThinVerdict}
 use Rattle.pd_laid.specs.LaidThin.{laid_pool}
 use Rattle.pd_tools.specs.Restore.{HaveVerdicts}

@@ -23,8 +23,11 @@ use Rattle.pd_image.specs.Device.{KeepsPlace}
 use Rattle.pd_image.specs.Source.{KeepsSource}
 use Rattle.pd_answers.specs.Answer.{Answer, Objects, IsUsed, reading, writing}
 use Rattle.pd_answers.specs.Terms.{is_possible}
-use Rattle.pd_answers.specs.Outputs.{room_of, LeavesMade}
-use Rattle.pd_answers.specs.Restores.{Judged, Restores, restore_answer, restore_by, restore, is_pool_early, is_cache_early, is_era_early}
+use Rattle.pd_kinds.specs.Limits.{room_of}
+use Rattle.pd_answers.specs.Outputs.{LeavesMade}
+use Rattle.pd_answers.specs.Restores.{Judged, restore_answer, restore_by, restore}
+use Rattle.pd_spells.specs.Early.{is_pool_early, is_cache_early, is_era_early}
+use Rattle.pd_laid.specs.Made.{Makes}
 use Rattle.pd_restore.specs.declared.fault.RestoreFault.{RestoreFault}
 use Rattle.pd_restore.specs.declared.fault.RestoreFault.TheVariants as fault
 use Rattle.pd_restore.specs.Restored.{IsRestored, Answers, IsAccepted, IsRefused, IsWithoutRoom, IsRefusal}
@@ -127,7 +130,7 @@ module _ {M : Type 0} (Lawful : M → Type 0) (IsVerdictOn : List ℕ → ℕ �
       let room = room_in output.held in
       let found = verdicts (text_in source.left) room in
       let early = is_early (text_in source.left) room in
-      let leaves = λ (status : ℕ) (some : status ≢ 0). untouched_output (Restores laid room found.0) early status output last_output synced un.untouched some in
+      let leaves = λ (status : ℕ) (some : status ≢ 0). untouched_output (Makes laid room found.0) early status output last_output synced un.untouched some in
       record {
         finding = record { room = room; verdict = found.0; is_early = early };
         work = record {
@@ -226,11 +229,11 @@ module _ {M : Type 0} (Lawful : M → Type 0) (IsVerdictOn : List ℕ → ℕ �
 
   -- what the output holds
   leaves : (status : ℕ) → (status ≡ 0 → IsDone result) → ((status ≡ 3) ⊎ (status ≡ 4) → IsTurnedDown result)
-      → LeavesMade (Restores laid room done.verdict) done.early status output last_output
+      → LeavesMade (Makes laid room done.verdict) done.early status output last_output
   leaves status is_done is_refusal = record {
     output = record {
       crash = IfSome_then output.held synced (λ image s.
-          and_then (stays {old = output} {new = opened} both.untouched.held both.untouched.history (here image (Restores laid room done.verdict image) output s))
+          and_then (stays {old = output} {new = opened} both.untouched.held both.untouched.history (here image (Makes laid room done.verdict image) output s))
           (done.crash image (still_synced image output opened both.untouched s)));
       made = λ zero. IfSome_then output.held synced (λ image s.
           where_done result done.made (is_done zero) image (still_synced image output opened both.untouched s));
@@ -313,7 +316,7 @@ module _ {M : Type 0} (Lawful : M → Type 0) (IsVerdictOn : List ℕ → ℕ �
       possible_stop Stream = refl
       possible_stop Memory = refl
 
-      high : (status : ℕ) → 5 ≤ status → LeavesMade (Restores laid room done.verdict) done.early status output last_output
+      high : (status : ℕ) → 5 ≤ status → LeavesMade (Makes laid room done.verdict) done.early status output last_output
       high status five = leaves status (λ zero. absurd (omega arith)) (λ either. absurd (elim either [ inl e ↦ omega arith | inr e ↦ omega arith ]))
 
 -- the same for each kind
@@ -402,5 +405,5 @@ restore_at_rest IsVerdictOn is_early laid file path before after source output s
         record { told = room-told output.held; attached = λ e. absurd (omega arith) },
         verdict-told IsVerdictOn is_early source.left room v.0 v.1,
       ),
-      untouched_output (Restores laid room v.0) (is_early (text_in source.left) room) 6 output output synced (record { held = refl; history = refl }) (λ e. omega arith),
+      untouched_output (Makes laid room v.0) (is_early (text_in source.left) room) 6 output output synced (record { held = refl; history = refl }) (λ e. omega arith),
     )

@@ -14,7 +14,7 @@ use Rattle.pd_laid.specs.LaidThin.{laid_pool}
 use Rattle.pd_laid.specs.LaidCache.{laid_cache}
 use Rattle.pd_laid.specs.LaidEra.{laid_era}
 use Rattle.pd_answers.specs.Answer.{IsUsed, reading, writing}
-use Rattle.pd_answers.specs.Restores.{is_pool_early, is_cache_early, is_era_early}
+use Rattle.pd_spells.specs.Early.{is_pool_early, is_cache_early, is_era_early}
 use Rattle.pd_restore.specs.declared.fault.RestoreFault.{RestoreFault}
 use Rattle.pd_restore.specs.Restored.{IsRestored}
 use Rattle.pd_tools.specs.declared.restore.Outcome.{Outcome}

@@ -31,12 +31,13 @@ pub record HasThinTrees (graph : Graph) : Type 0 where
   pub data_overflow : IsTreeRole graph 7 4
   pub meta_overflow : IsTreeRole graph 10 4
 
--- the trees of a cache
+-- the trees of a cache; that of the dirty bits is reached in version 2 alone
 pub record HasCacheTrees (graph : Graph) : Type 0 where
   pub mappings : IsTreeTo graph 1 8 2 (λ v. v)
   pub hints : IsTreeTo graph 3 8 4 (λ v. v)
   pub discards : IsTreeTo graph 5 8 6 (λ v. v)
   pub meta_overflow : IsTreeRole graph 9 4
+  pub dirty_bits : IsTreeTo graph 10 8 11 (λ v. v)
 
 -- the trees of an era target
 pub record HasEraTrees (graph : Graph) : Type 0 where

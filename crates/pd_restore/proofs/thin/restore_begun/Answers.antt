@@ -1,6 +1,6 @@
 use Rattle.std.proofs.Common.{◌≡◌, ◌≤◌, rules, sym, arith}
 use Rattle.pd_spells.specs.ThinNeed.{thin_need_so_far}
-use Rattle.pd_restore.specs.Restored.{room_of}
+use Rattle.pd_kinds.specs.Limits.{room_of}
 use Rattle.pd_restore.specs.Whole.{begun_lines}
 use Rattle.pd_restore.proofs.ThinLemmas.{need_exact, need_some, begun_no_room, begun_unclosed, begun_result}
 use Rattle.pd_restore.proofs.thin.restore_begun.Goals as goal

@@ -18,7 +18,7 @@ returns-clause-reads_back c =
     let policy : length c.args.s.now.policy ≡ 16 = search rules in
     let parts : length c.args.s.now.versions ≡ 3 = search rules in
     rw (returns-clause-block c)
-    (reads_back c.args.s.now sixteen policy parts (rw c.rows_of.ensures at c.put_rows.ensures.fit))
+    (reads_back c.args.s.now sixteen policy parts c.requires.dirty_root (rw c.rows_of.ensures at c.put_rows.ensures.fit))
 
 pub returns-clause-checksum : goal.returns-clause-checksum
 unfolding cache_super_bad cache_super_tests failing

@@ -42,10 +42,11 @@ returns-clause-cache c = λ super.
     let nr = (cache_fields super).meta_map.blocks in
     let layout = cache_layout nr in
     record {
-      mappings = naming_role 1 10 nr 0 2 (λ v. v) layout refl refl (omega arith);
-      hints = naming_role 3 10 nr 0 4 (λ v. v) layout refl refl (omega arith);
-      discards = naming_role 5 10 nr 0 6 (λ v. v) layout refl refl (omega arith);
-      meta_overflow = table_role 9 10 nr 0 layout refl (omega arith);
+      mappings = naming_role 1 12 nr 0 2 (λ v. v) layout refl refl (omega arith);
+      hints = naming_role 3 12 nr 0 4 (λ v. v) layout refl refl (omega arith);
+      discards = naming_role 5 12 nr 0 6 (λ v. v) layout refl refl (omega arith);
+      meta_overflow = table_role 9 12 nr 0 layout refl (omega arith);
+      dirty_bits = naming_role 10 12 nr 0 11 (λ v. v) layout refl refl (omega arith);
     }
 
 pub returns-clause-era : goal.returns-clause-era

@@ -1,4 +1,5 @@
-use Rattle.std.proofs.Common.{◌≡◌, ℕ, false, List, [], ◌∷◌, ◌++◌, refl}
+use Rattle.std.proofs.Common.{◌≡◌, ℕ, false, List, [], ◌∷◌, ◌++◌, refl, ap}
+use Rattle.std.specs.List.{AllByRecursion}
 use Rattle.pd_kinds.specs.declared.kind.Kind.TheVariants.{Thin, Cache, Era}
 use Rattle.pd_kinds.specs.declared.rule.Rule.{Rule}
 use Rattle.pd_kinds.specs.Edge.{Edge, optional_edge}
@@ -6,7 +7,7 @@ use Rattle.pd_kinds.specs.Graph.{Graph, block_at}
 use Rattle.pd_kinds.specs.Stages.{IsReached}
 use Rattle.pd_kinds.specs.ThinSuper.{thin_fields, thin_super_edges}
 use Rattle.pd_kinds.specs.ThinFormat.{thin_graph, thin_layout}
-use Rattle.pd_kinds.specs.CacheFormat.{cache_fields, cache_graph, cache_layout, cache_super_edges}
+use Rattle.pd_kinds.specs.CacheFormat.{CacheFields, cache_fields, cache_graph, cache_layout, cache_super_edges, dirty_edges, has_dirty_bits}
 use Rattle.pd_kinds.specs.EraFormat.{era_fields, era_graph, era_layout, era_super_edges}
 use Rattle.pd_tree.proofs.RootLemmas.{copy_edges, behind_optional, at_optional}
 use Rattle.pd_tree.proofs.laws.superblocks_lead_to_reached_roots.Goals as goal
@@ -21,11 +22,15 @@ thin_edges block clean = copy_edges 11 (thin_fields block).meta_map.blocks (thin
 
 cache_edges : (block : List ℕ) → ((rule : Rule) → (cache_graph block).bad 0 0 block rule ≡ false) → (cache_graph block).edges 0 0 block ≡ cache_super_edges (cache_fields block)
 unfolding cache_graph cache_layout
-cache_edges block clean = copy_edges 10 (cache_fields block).meta_map.blocks 0 (cache_layout (cache_fields block).meta_map.blocks) _ (λ block. cache_super_edges (cache_fields block)) block refl clean
+cache_edges block clean = copy_edges 12 (cache_fields block).meta_map.blocks 0 (cache_layout (cache_fields block).meta_map.blocks) _ (λ block. cache_super_edges (cache_fields block)) block refl clean
 
 era_edges : (block : List ℕ) → ((rule : Rule) → (era_graph block).bad 0 0 block rule ≡ false) → (era_graph block).edges 0 0 block ≡ era_super_edges (era_fields block)
 unfolding era_graph era_layout
 era_edges block clean = copy_edges 10 (era_fields block).meta_map.blocks 0 (era_layout (era_fields block).meta_map.blocks) _ (λ block. era_super_edges (era_fields block)) block refl clean
+
+-- in version 2 the dirty bits are among the edges
+dirty_at : (P : Edge → Type 0) (fields : CacheFields) → fields.version ≡ 2 → AllByRecursion P (dirty_edges fields) → P (record { role = 10; block = fields.dirty_root })
+dirty_at P fields two all = (rw (ap has_dirty_bits two) at all).0
 
 pub returns-clause-thin : goal.returns-clause-thin
 returns-clause-thin c = λ until image looks none.
@@ -50,7 +55,7 @@ returns-clause-cache c = λ until image looks none.
     let ordered = c.trees_are_in_order.ensures.in_order Cache until image looks none in
     let start = c.edges_lead_to_reached_pairs.ensures.start graph image lawful in
     let all = rw (cache_edges block (ordered.well_formed 0 0 start)) at (c.edges_lead_to_reached_pairs.ensures.edges graph image 0 0 lawful start) in
-    let maps : List Edge = record { role = 7; block = fields.meta_map.bitmap_root } ∷ record { role = 9; block = fields.meta_map.overflow_root } ∷ [] in
+    let maps : List Edge = record { role = 7; block = fields.meta_map.bitmap_root } ∷ record { role = 9; block = fields.meta_map.overflow_root } ∷ dirty_edges fields in
     let behind_hints = behind_optional (To graph image) 3 fields.hint_root (optional_edge 5 fields.discard_root ++ maps) all.1 in
     let behind_discards = behind_optional (To graph image) 5 fields.discard_root maps behind_hints in
     record {
@@ -59,6 +64,7 @@ returns-clause-cache c = λ until image looks none.
       discards = at_optional (To graph image) 5 fields.discard_root maps behind_hints;
       meta_index = behind_discards.0;
       meta_overflow = behind_discards.1.0;
+      dirty_bits = λ two. dirty_at (To graph image) fields two behind_discards.1.1;
     }
 
 pub returns-clause-era : goal.returns-clause-era
