@@ -1,14 +1,11 @@
 //! Whole runs of `thin_restore` over objects in memory: what is restored, what is refused, and what the output holds then.
 
-ghost use Rattle.std.specs.Prelude.{◌≡◌, ◌≤◌, IfOk};
-ghost use Rattle.pd_image.specs.Blocks.{block_bytes};
-ghost use Rattle.pd_image.specs.MemDevice.{mem_device_state, unattached_device};
+ghost use Rattle.std.specs.Prelude.{◌≤◌};
 
-use crate::ran::{NOTHING_FAILS, run};
 use pd_bitmap::{new_bitmap, seal_bitmap, set_two_bits};
-use pd_image::{Device, MemDevice, MemSink, MemSource, Pick};
+use pd_image::{MemDevice, Pick};
 use pd_kinds::{BLOCK_SIZE, Block};
-use pd_tools::run_tool;
+use pd_samples::runs::{Failing, NOTHING_FAILS, Ran, blocks_after_crash, blocks_of, restore, run};
 use std::alloc::{AllocError, Global};
 use std::test::Fail;
 
@@ -26,94 +23,20 @@ enum Left {
 /// A text, the blocks of the output, and the status, the notes and what is left.
 type Row = (&'static str, usize, u8, &'static str, Left);
 
-/// The words of a restore.
-const WORDS: [&str; 5] = ["thin_restore", "-i", "text", "-o", "image"];
-
-/// The call of a restore, and two of its objects after it.
-#[derive(Drop)]
-struct Restored {
-    status: u8,
-    notes: MemSink,
-    output: MemDevice,
-}
-
 /// A block whose bytes are all 1.
 fn ones() -> Block {
     Block([1; BLOCK_SIZE])
 }
 
-/// Which call of the source fails, which one of the output, and after how many the output stops.
-#[derive(Clone, Copy)]
-struct Failing {
-    source: Option<u64>,
-    output: Option<u64>,
-    stop: u64,
-}
-
-const SOUND: Failing = Failing {
-    source: None,
-    output: None,
-    stop: u64::MAX,
-};
-
 /// Restores a text to so many blocks of ones.
-fn restore(
+fn restore_to_ones(
     alloc: Global,
     text: &str,
     blocks: usize,
     failing: Failing,
-) -> Result<Restored, AllocError> {
+) -> Result<Ran, AllocError> {
     let base = vec![in alloc; ones(); blocks]?;
-    run_restore(alloc, text.as_bytes(), base.as_slice(), failing)
-}
-
-/// A device that holds these blocks, with its failing call and its stop.
-fn output_of(alloc: Global, base: &[Block], failing: Failing) -> Result<MemDevice, AllocError>
-    ensures { IfOk result (λ output. mem_device_state output ≡ unattached_device (block_bytes base.now)) }
-{
-    let mut output = MemDevice::of(alloc, base)?;
-    if let Some(call) = failing.output {
-        output.fail_at(call)?;
-    }
-    output.stop_after(failing.stop);
-    Ok(output)
-}
-
-/// Restores a text to a device that holds these blocks.
-fn run_restore(
-    alloc: Global,
-    text: &[u8],
-    base: &[Block],
-    failing: Failing,
-) -> Result<Restored, AllocError> {
-    let mut words = Vec::new(alloc);
-    for word in WORDS {
-        words.push(String::from_str(alloc, word)?)?;
-    }
-    let mut source = MemSource::of(alloc, text, 7)?;
-    if let Some(call) = failing.source {
-        source.fail_at(call)?;
-    }
-    let mut out = MemSink::new(alloc);
-    let mut notes = MemSink::new(alloc);
-    let mut input = MemDevice::of(alloc, &[])?;
-    let mut output = output_of(alloc, base, failing)?;
-    let mut third = MemDevice::of(alloc, &[])?;
-    let status = run_tool(
-        alloc,
-        words.as_slice(),
-        &mut source,
-        &mut out,
-        &mut notes,
-        &mut input,
-        &mut output,
-        &mut third,
-    );
-    Ok(Restored {
-        status,
-        notes,
-        output,
-    })
+    restore(alloc, text.as_bytes(), base.as_slice(), failing)
 }
 
 /// The small pools: an empty one, and one with a mapping.
@@ -133,8 +56,12 @@ const TWO_LEAVES: &str =
 const FULL_LEAF: &str =
     "thin 1\npool 00000000-0000-0000-0000-000000000000 0 0 128 252\ndevice 1 252 0 0 0\nmap 0 0 252 0\nend\n";
 
+/// An empty pool, whose third line has 161 bytes.
+const LONG: &str =
+    "thin 1\npool 00000000-0000-0000-0000-000000000000 0 0 128 0\nxxxxxxxxxxxxxxxxxxxxxxxxxxxxxxxxxxxxxxxxxxxxxxxxxxxxxxxxxxxxxxxxxxxxxxxxxxxxxxxxxxxxxxxxxxxxxxxxxxxxxxxxxxxxxxxxxxxxxxxxxxxxxxxxxxxxxxxxxxxxxxxxxxxxxxxxxxxxxxxxx\n";
+
 /// Restores, with what they come to.
-fn rows() -> [Row; 18] {
+fn rows() -> [Row; 19] {
     [
         (TWO_LEAVES, 12, 0, "", Left::Made),
         (
@@ -197,6 +124,13 @@ fn rows() -> [Row; 18] {
             Left::Closed,
         ),
         (
+            LONG,
+            100,
+            3,
+            "pdata_tools: line 3: too long\n",
+            Left::Closed,
+        ),
+        (
             "thin 1\npool 00000000-0000-0000-0000-000000000000 0 0 128 0\nend\nx",
             100,
             3,
@@ -235,17 +169,6 @@ fn rows() -> [Row; 18] {
     ]
 }
 
-/// The blocks that the output holds, as far as the calls went.
-fn blocks_of(rt: &HostRuntime, output: &MemDevice) -> Result<Vec<Block>, Fail> {
-    let mut left = output.after_crash(rt.alloc(), Pick::New)?;
-    left.attach("image", false)?;
-    let mut blocks = Vec::new(rt.alloc());
-    for b in 0..left.blocks() {
-        blocks.push(left.block(b))?;
-    }
-    Ok(blocks)
-}
-
 /// What is left of block 0.
 fn left_of(blocks: &[Block]) -> Left {
     match blocks {
@@ -265,10 +188,10 @@ fn left_of(blocks: &[Block]) -> Left {
 #[test]
 fn restores_come_to_their_status(rt: HostRuntime) -> Result<(), Fail> {
     for (text, blocks, status, notes, leaves) in rows() {
-        let restored = restore(rt.alloc(), text, blocks, SOUND)?;
+        let restored = restore_to_ones(rt.alloc(), text, blocks, NOTHING_FAILS)?;
         assert_eq!(rt; restored.status, status, "{text}");
         assert_eq!(rt; restored.notes.bytes(), notes.as_bytes(), "{text}");
-        let image = blocks_of(&rt, &restored.output)?;
+        let image = blocks_of(rt.alloc(), &restored.output)?;
         assert!(rt; left_of(image.as_slice()) == leaves, "{text}");
     }
     Ok(())
@@ -283,8 +206,8 @@ fn restored_pools_are_clean(rt: HostRuntime) -> Result<(), Fail> {
         (FULL_LEAF, 10),
         (WIDE, 8192),
     ] {
-        let restored = restore(rt.alloc(), text, blocks, SOUND)?;
-        let image = blocks_of(&rt, &restored.output)?;
+        let restored = restore_to_ones(rt.alloc(), text, blocks, NOTHING_FAILS)?;
+        let image = blocks_of(rt.alloc(), &restored.output)?;
         let ran = run(
             rt.alloc(),
             &["thin_check", "image"],
@@ -306,8 +229,8 @@ fn restored_pools_are_dumped_with_their_runs_joined(rt: HostRuntime) -> Result<(
     let cut =
         "thin 1\npool 00000000-0000-0000-0000-000000000000 0 0 128 2\ndevice 1 2 0 0 0\nmap 0 0 1 0\nmap 1 1 1 0\nend\n";
     for (text, dump) in [(ONE, ONE), (joined, joined), (cut, joined), (apart, apart)] {
-        let restored = restore(rt.alloc(), text, 16, SOUND)?;
-        let image = blocks_of(&rt, &restored.output)?;
+        let restored = restore_to_ones(rt.alloc(), text, 16, NOTHING_FAILS)?;
+        let image = blocks_of(rt.alloc(), &restored.output)?;
         let ran = run(
             rt.alloc(),
             &["thin_dump", "image"],
@@ -326,15 +249,15 @@ fn a_source_that_fails_is_blamed(rt: HostRuntime) -> Result<(), Fail> {
     for call in 0..14 {
         let failing = Failing {
             source: Some(call),
-            ..SOUND
+            ..NOTHING_FAILS
         };
-        let restored = restore(rt.alloc(), ONE, 16, failing)?;
+        let restored = restore_to_ones(rt.alloc(), ONE, 16, failing)?;
         assert_eq!(rt; restored.status, 6, "{call}");
         assert_eq!(rt;
             restored.notes.bytes(),
             b"pdata_tools: source or sink fault\n".as_slice()
         );
-        let image = blocks_of(&rt, &restored.output)?;
+        let image = blocks_of(rt.alloc(), &restored.output)?;
         assert!(rt; left_of(image.as_slice()) != Left::Made, "{call}");
     }
     Ok(())
@@ -346,7 +269,7 @@ fn a_text_that_ends_early_has_no_end(rt: HostRuntime) -> Result<(), Fail> {
     let base = [ones(); 16];
     for end in 0..text.len() {
         let front = &text[..end];
-        let restored = run_restore(rt.alloc(), front, &base, SOUND)?;
+        let restored = restore(rt.alloc(), front, &base, NOTHING_FAILS)?;
         let line = 1 + front.iter().filter(|b| **b == b'\n').count();
         let notes = format!(in rt.alloc(); "pdata_tools: line {line}: no end\n")?;
         assert_eq!(rt; restored.status, 3, "{end}");
@@ -359,14 +282,17 @@ fn a_text_that_ends_early_has_no_end(rt: HostRuntime) -> Result<(), Fail> {
 fn leaves_are_written_as_their_lines_come(rt: HostRuntime) -> Result<(), Fail> {
     let text =
         "thin 1\npool 00000000-0000-0000-0000-000000000000 0 0 128 1\ndevice 1 1 0 0 0\nmap 0 0 1 0\nx\n";
-    let refused = restore(rt.alloc(), text, 16, SOUND)?;
+    let refused = restore_to_ones(rt.alloc(), text, 16, NOTHING_FAILS)?;
     assert_eq!(rt; refused.status, 3);
     assert_eq!(rt;
         refused.notes.bytes(),
         b"pdata_tools: line 5: word\n".as_slice()
     );
-    let found = blocks_of(&rt, &refused.output)?;
-    let whole = blocks_of(&rt, &restore(rt.alloc(), ONE, 16, SOUND)?.output)?;
+    let found = blocks_of(rt.alloc(), &refused.output)?;
+    let whole = blocks_of(
+        rt.alloc(),
+        &restore_to_ones(rt.alloc(), ONE, 16, NOTHING_FAILS)?.output,
+    )?;
     assert!(rt; left_of(found.as_slice()) == Left::Closed);
     assert!(rt; found.get(1) == whole.get(1));
     Ok(())
@@ -383,18 +309,13 @@ enum Stopped {
 
 /// What a crash by this pick leaves of a device that held these blocks, and may hold the others.
 fn left_by(
-    rt: &HostRuntime,
+    alloc: Global,
     output: &MemDevice,
     pick: Pick,
     old: &[Block],
     new: &[Block],
-) -> Result<Stopped, Fail> {
-    let mut left = output.after_crash(rt.alloc(), pick)?;
-    left.attach("image", false)?;
-    let mut blocks = Vec::new(rt.alloc());
-    for b in 0..left.blocks() {
-        blocks.push(left.block(b))?;
-    }
+) -> Result<Stopped, AllocError> {
+    let blocks = blocks_after_crash(alloc, output, pick)?;
     let found = blocks.as_slice();
     Ok(if found == old {
         Stopped::Old
@@ -409,20 +330,29 @@ fn left_by(
 
 #[test]
 fn a_stop_leaves_the_old_pool_none_or_the_new_one(rt: HostRuntime) -> Result<(), Fail> {
-    let old = blocks_of(&rt, &restore(rt.alloc(), EMPTY, 16, SOUND)?.output)?;
+    let old = blocks_of(
+        rt.alloc(),
+        &restore_to_ones(rt.alloc(), EMPTY, 16, NOTHING_FAILS)?.output,
+    )?;
     let new = blocks_of(
-        &rt,
-        &run_restore(rt.alloc(), ONE.as_bytes(), old.as_slice(), SOUND)?.output,
+        rt.alloc(),
+        &restore(rt.alloc(), ONE.as_bytes(), old.as_slice(), NOTHING_FAILS)?.output,
     )?;
     for calls in 0..17 {
         let failing = Failing {
-            stop: calls,
-            ..SOUND
+            output_stops_after: calls,
+            ..NOTHING_FAILS
         };
-        let restored = run_restore(rt.alloc(), ONE.as_bytes(), old.as_slice(), failing)?;
+        let restored = restore(rt.alloc(), ONE.as_bytes(), old.as_slice(), failing)?;
         assert_eq!(rt; restored.status, if calls < 15 { 5 } else { 0 }, "{calls}");
         for pick in [Pick::Old, Pick::New, Pick::Other(0)] {
-            let found = left_by(&rt, &restored.output, pick, old.as_slice(), new.as_slice())?;
+            let found = left_by(
+                rt.alloc(),
+                &restored.output,
+                pick,
+                old.as_slice(),
+                new.as_slice(),
+            )?;
             let may_be = match calls {
                 0..=2 => found == Stopped::Old || found == Stopped::Closed,
                 3..=13 => found == Stopped::Closed,
@@ -437,20 +367,29 @@ fn a_stop_leaves_the_old_pool_none_or_the_new_one(rt: HostRuntime) -> Result<(),
 
 #[test]
 fn a_failed_call_leaves_the_old_pool_none_or_the_new_one(rt: HostRuntime) -> Result<(), Fail> {
-    let old = blocks_of(&rt, &restore(rt.alloc(), EMPTY, 16, SOUND)?.output)?;
+    let old = blocks_of(
+        rt.alloc(),
+        &restore_to_ones(rt.alloc(), EMPTY, 16, NOTHING_FAILS)?.output,
+    )?;
     let new = blocks_of(
-        &rt,
-        &run_restore(rt.alloc(), ONE.as_bytes(), old.as_slice(), SOUND)?.output,
+        rt.alloc(),
+        &restore(rt.alloc(), ONE.as_bytes(), old.as_slice(), NOTHING_FAILS)?.output,
     )?;
     for call in 0..15 {
         let failing = Failing {
             output: Some(call),
-            ..SOUND
+            ..NOTHING_FAILS
         };
-        let restored = run_restore(rt.alloc(), ONE.as_bytes(), old.as_slice(), failing)?;
+        let restored = restore(rt.alloc(), ONE.as_bytes(), old.as_slice(), failing)?;
         assert_eq!(rt; restored.status, 5, "{call}");
         for pick in [Pick::Old, Pick::New, Pick::Other(0)] {
-            let found = left_by(&rt, &restored.output, pick, old.as_slice(), new.as_slice())?;
+            let found = left_by(
+                rt.alloc(),
+                &restored.output,
+                pick,
+                old.as_slice(),
+                new.as_slice(),
+            )?;
             assert!(rt; found != Stopped::Other, "{call}");
         }
     }
@@ -472,7 +411,10 @@ fn leaking(place: u64, counts: usize) -> Block
 #[test]
 fn a_thousand_and_one_leaks_are_counted(rt: HostRuntime) -> Result<(), Fail> {
     let text = "thin 1\npool 00000000-0000-0000-0000-000000000000 0 0 128 1001\nend\n";
-    let mut image = blocks_of(&rt, &restore(rt.alloc(), text, 16, SOUND)?.output)?;
+    let mut image = blocks_of(
+        rt.alloc(),
+        &restore_to_ones(rt.alloc(), text, 16, NOTHING_FAILS)?.output,
+    )?;
     assert_eq!(rt; image.len(), 16);
     image[3] = leaking(3, 1001);
     let ran = run(
