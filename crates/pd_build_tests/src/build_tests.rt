@@ -1,8 +1,8 @@
-ghost use Rattle.std.specs.Prelude.{IfOk};
+ghost use Rattle.std.specs.Prelude.{◌≤◌, IfOk};
 ghost use Rattle.pd_image.specs.Device.{IsWritable};
 ghost use Rattle.pd_image.specs.MemDevice.{mem_device_state};
 
-use crate::built::{build_array, build_tree, has_numbers, has_words, numbered};
+use crate::built::{build_array, build_tree, first_after, has_numbers, has_words, numbered};
 use pd_build::{BuildFault, need_tree, need_upper};
 use pd_image::{Device, MemDevice, Pick};
 use pd_kinds::{BLOCK_SIZE, Block};
@@ -90,35 +90,47 @@ const OLD: [Block; 4] = [
     Block([6; BLOCK_SIZE]),
 ];
 
-/// Block 0 as a crash now may leave it, where there is one.
-fn first_after(rt: &HostRuntime, dev: &MemDevice, pick: Pick) -> Result<Option<Block>, Fail> {
-    let mut after = dev.after_crash(rt.alloc(), pick)?;
-    after.attach("x", false)?;
-    if after.blocks() == 0 {
-        return Ok(None);
-    }
-    Ok(Some(after.block(0)))
+/// A part that is built in three blocks: a tree of 253 items, or an array of 510 words.
+#[derive(Clone, Copy)]
+enum Part {
+    Tree,
+    Array,
 }
 
-// The calls are 0 for attaching, two for closing block 0, and one for each of the tree's three nodes.
+/// Builds a part from block 1 on.
+fn build(rt: &HostRuntime, dev: &mut MemDevice, part: Part) -> Result<Result<u64, BuildFault>, Fail>
+    requires writable { IsWritable (mem_device_state dev.old) }
+    requires some { 1 ≤ (mem_device_state dev.old).blocks }
+{
+    match part {
+        Part::Tree => {
+            let items = numbered(rt.alloc(), 253)?;
+            Ok(build_tree(rt.alloc(), dev, &items))
+        }
+        Part::Array => Ok(build_array(rt.alloc(), dev, 510)),
+    }
+}
+
+// The calls are 0 for attaching, two for closing block 0, and one for each of the part's three blocks.
 #[test]
 fn a_failing_call_leaves_no_superblock(rt: HostRuntime) -> Result<(), Fail> {
-    let items = numbered(rt.alloc(), 253)?;
-    for call in 1..8 {
-        let mut dev = MemDevice::of(rt.alloc(), &OLD)?;
-        dev.fail_at(call)?;
-        dev.attach("x", true)?;
-        assert!(rt; dev.blocks() >= 1);
-        let built = build_tree(rt.alloc(), &mut dev, &items);
-        let wanted = if call <= 5 {
-            Err(BuildFault::Device)
-        } else {
-            Ok(3)
-        };
-        assert_eq!(rt; built, wanted);
-        for pick in [Pick::Old, Pick::New] {
-            let first = first_after(&rt, &dev, pick)?;
-            assert!(rt; first == Some(Block::zeros()) || (call <= 2 && first == Some(OLD[0])));
+    for part in [Part::Tree, Part::Array] {
+        for call in 1..8 {
+            let mut dev = MemDevice::of(rt.alloc(), &OLD)?;
+            dev.fail_at(call)?;
+            dev.attach("x", true)?;
+            assert!(rt; dev.blocks() >= 1);
+            let built = build(&rt, &mut dev, part)?;
+            let wanted = if call <= 5 {
+                Err(BuildFault::Device)
+            } else {
+                Ok(3)
+            };
+            assert_eq!(rt; built, wanted);
+            for pick in [Pick::Old, Pick::New] {
+                let first = first_after(&rt, &dev, pick)?;
+                assert!(rt; first == Some(Block::zeros()) || (call <= 2 && first == Some(OLD[0])));
+            }
         }
     }
     Ok(())

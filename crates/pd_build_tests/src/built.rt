@@ -12,7 +12,8 @@ ghost use Rattle.pd_spells.specs.Need.{need_array};
 use pd_array::Word;
 use pd_build::{ArrayBuilder, BuildFault, need_tree, write_tree};
 use pd_draft::{Draft, clear};
-use pd_image::Device;
+use pd_image::{Device, MemDevice, Pick};
+use pd_kinds::Block;
 use pd_tree::{ArrayCursor, Cursor};
 use pd_value::{Root, Value};
 use std::alloc::{AllocError, Global};
@@ -163,4 +164,18 @@ pub(crate) fn has_words<D: Device>(
         }
     }
     Ok(cursor.next(dev)?.is_none())
+}
+
+/// Block 0 as a crash now may leave it, where there is one.
+pub(crate) fn first_after(
+    rt: &HostRuntime,
+    dev: &MemDevice,
+    pick: Pick,
+) -> Result<Option<Block>, Fail> {
+    let mut after = dev.after_crash(rt.alloc(), pick)?;
+    after.attach("x", false)?;
+    if after.blocks() == 0 {
+        return Ok(None);
+    }
+    Ok(Some(after.block(0)))
 }

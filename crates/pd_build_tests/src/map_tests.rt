@@ -1,15 +1,16 @@
 ghost use Rattle.std.specs.Prelude.{◌≡◌, ◌+◌, ◌≤◌, [], ◌∷◌, IfOk, OnOk};
 ghost use Rattle.pd_image.specs.Device.{IsWritable, KeepsPlace};
+ghost use Rattle.pd_image.specs.MemDevice.{mem_device_state};
 ghost use Rattle.pd_draft.specs.Closed.{IsClosed};
 ghost use Rattle.pd_count.specs.Counted.{HasCounted, count_of};
 ghost use Rattle.pd_smwrite.specs.Map.{data_map_need};
 
-use crate::built::close;
+use crate::built::{close, first_after};
 use pd_build::{BuildFault, put_block};
 use pd_count::Counts;
 use pd_draft::Draft;
-use pd_image::{Device, MemDevice};
-use pd_kinds::{Block, SmRoot};
+use pd_image::{Device, MemDevice, Pick};
+use pd_kinds::{BLOCK_SIZE, Block, SmRoot};
 use pd_smwrite::{write_data_map, write_meta_map};
 use std::alloc::{AllocError, Global};
 use std::test::Fail;
@@ -107,3 +108,55 @@ fn the_map_of_metadata_counts_its_own_blocks(rt: HostRuntime) -> Result<(), Fail
     assert_eq!(rt; dev.block(2).0[24], 11);
     Ok(())
 }
+
+/// A map on a device of 16 blocks: that of no data, or that of metadata behind a block.
+#[derive(Clone, Copy)]
+enum Map {
+    Data,
+    Meta,
+}
+
+/// Writes a map, and answers the root of its overflow tree.
+fn put_map(rt: &HostRuntime, dev: &mut MemDevice, map: Map) -> Result<Result<u64, BuildFault>, Fail>
+    requires writable { IsWritable (mem_device_state dev.old) }
+    requires room { 16 ≤ (mem_device_state dev.old).blocks }
+{
+    let no_data = Counts::new(rt.alloc(), 0)?;
+    let mut counts = four_counted(rt.alloc())?;
+    if close(dev).is_err() {
+        return Ok(Err(BuildFault::Device));
+    }
+    let root = match map {
+        Map::Data => put_data_map(rt.alloc(), dev, &no_data),
+        Map::Meta => put_meta_map(rt.alloc(), dev, &mut counts),
+    };
+    Ok(root.map(|root| root.overflow_root))
+}
+
+// The calls are 0 for attaching, two for closing block 0, and one for each block that is put: two of the data map,
+// four with the metadata map.
+#[test]
+fn a_failing_call_leaves_no_superblock(rt: HostRuntime) -> Result<(), Fail> {
+    for (map, last, root) in [(Map::Data, 4, 2), (Map::Meta, 6, 4)] {
+        for call in 1..9 {
+            let mut dev = MemDevice::of(rt.alloc(), &[OLD; 16])?;
+            dev.fail_at(call)?;
+            dev.attach("x", true)?;
+            assert!(rt; dev.blocks() >= 16);
+            let wanted = if call <= last {
+                Err(BuildFault::Device)
+            } else {
+                Ok(root)
+            };
+            assert_eq!(rt; put_map(&rt, &mut dev, map)?, wanted);
+            for pick in [Pick::Old, Pick::New] {
+                let first = first_after(&rt, &dev, pick)?;
+                assert!(rt; first == Some(Block::zeros()) || (call <= 2 && first == Some(OLD)));
+            }
+        }
+    }
+    Ok(())
+}
+
+/// What every block was before.
+const OLD: Block = Block([9; BLOCK_SIZE]);
