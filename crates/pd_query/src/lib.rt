@@ -11,3 +11,4 @@ mod thin_lines;
 
 pub use fault::QueryFault;
 pub use thin_dump::ThinDump;
+pub use thin_lines::{devices_of, read_super};

@@ -270,7 +270,7 @@ pub(crate) fn add_first_lines<D: Device, K: Sink>(
 /// The devices of the pool with this superblock, in a device of so many blocks; none where a root is outside of it.
 ///
 /// Fails with `AllocError` where the memory for two cursors wasn't found.
-pub(crate) fn devices_of(
+pub fn devices_of(
     alloc: Global,
     s: &ThinSuper,
     blocks: u64,
@@ -289,7 +289,7 @@ pub(crate) fn devices_of(
 }
 
 /// The superblock of the pool on a device; of a device without blocks, some superblock.
-pub(crate) fn read_super<D: Device>(dev: &mut D) -> Result<ThinSuper, Failed>
+pub fn read_super<D: Device>(dev: &mut D) -> Result<ThinSuper, Failed>
     requires { IsAttached (D.state dev.old) }
     ensures fields { IfOk result (λ s. IfSome (D.state dev.old).held (λ image. 1 ≤ length image → s ≡ thin_fields (block_at image 0))) }
     ensures kept { OnlyReads (D.state dev.old) (D.state dev.new) }

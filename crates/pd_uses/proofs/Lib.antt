@@ -1,0 +1,5 @@
+pub mod TakenLemmas
+pub mod OrderLemmas
+pub mod CountLemmas
+pub mod LineLemmas
+pub mod SoundLemmas

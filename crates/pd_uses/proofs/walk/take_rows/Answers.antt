@@ -1,0 +1,31 @@
+use Rattle.std.proofs.Common.{Some, None, IfSome, ap, ◌∙◌, subst, arith}
+use Rattle.pd_image.proofs.ReadLemmas.{only_reads_both}
+use Rattle.pd_tree.specs.Next.{IsNext}
+use Rattle.pd_pool.specs.declared.devices.DeviceRow.{DeviceRow}
+use Rattle.pd_pool.specs.Devices.{rows_left}
+use Rattle.pd_query.proofs.AddsLemmas.{one_told}
+use Rattle.pd_uses.specs.Uses.{rows_uses}
+use Rattle.pd_uses.proofs.TakenLemmas.{row_first, takes_all, takes_more}
+use Rattle.pd_uses.proofs.walk.take_rows.Goals as goal
+
+pub returns-in-None-clause-taken : goal.returns-in-None-clause-taken
+returns-in-None-clause-taken g c =
+    takes_all g.T.TakesUses.has_taken (g.D.Device.state c.args.dev.now).held c.loop-row.invariant.takes
+    (one_told (g.D.Device.state c.args.dev.now).held (λ image none. ap (rows_uses image) none.0)
+    (subst (λ o. IfSome o (λ image. IsNext {X = DeviceRow} None (rows_left image c.loop-row.devices) (rows_left image c.next.new.self))) c.loop-row.invariant.kept.held
+    (rw c.in-None.is at c.in-Ok.ensures.next)))
+
+pub loop-row-preserved : goal.loop-row-preserved
+loop-row-preserved g c =
+    let before = c.loop-row.invariant.room in
+    let room = c.in-Ok.ensures.room in
+    record {
+      takes = takes_more g.T.TakesUses.has_taken (g.D.Device.state c.args.dev.now).held c.loop-row.invariant.takes
+          (one_told (g.D.Device.state c.args.dev.now).held (λ image next. row_first image c.in-Some.row (rows_left image c.loop-row.devices) (rows_left image c.next.new.self) next)
+          (subst (λ o. IfSome o (λ image. IsNext {X = DeviceRow} (Some c.in-Some.row) (rows_left image c.loop-row.devices) (rows_left image c.next.new.self))) c.loop-row.invariant.kept.held
+          (rw c.in-Some.is at c.in-Ok.ensures.next)))
+          (rw (only_reads_both c.loop-row.invariant.kept c.in-Ok.ensures.kept).held at c.in-Ok-take_row.ensures.taken);
+      room = omega arith;
+      kept = only_reads_both (only_reads_both c.loop-row.invariant.kept c.in-Ok.ensures.kept) c.in-Ok-take_row.ensures.kept;
+      faults = c.in-Ok-take_row.ensures.faults ∙ (c.in-Ok.ensures.faults ∙ c.loop-row.invariant.faults);
+    }

@@ -1,0 +1,6 @@
+pub mod Uses
+pub mod Taken
+pub mod Ordered
+pub mod UseCounts
+pub mod UseLines
+pub mod Ending

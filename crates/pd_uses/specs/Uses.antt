@@ -1,0 +1,34 @@
+-- The uses of a pool's data blocks, as its trees have them.
+use Rattle.std.specs.Prelude.{ℕ, List, map}
+use Rattle.std.specs.List.{flat_map}
+use Rattle.pd_kinds.specs.declared.thin_super.ThinSuper.{ThinSuper}
+use Rattle.pd_kinds.specs.Meaning.{Mapping}
+use Rattle.pd_value.specs.declared.thin.BlockTime.{BlockTime}
+use Rattle.pd_tree.specs.declared.cursor.Cursor.{Cursor}
+use Rattle.pd_tree.specs.Cursor.{cursor_items}
+use Rattle.pd_pool.specs.declared.devices.DeviceRow.{DeviceRow}
+use Rattle.pd_pool.specs.Given.{super_rows}
+use Rattle.pd_pool.specs.Items.{block_time_of}
+use Rattle.pd_pool.specs.Joined.{mapping_of}
+use Rattle.pd_pool.specs.Runs.{mappings_below}
+use Rattle.pd_uses.specs.declared.data_use.DataUse.{DataUse}
+
+-- the use that a mapping of a device is
+abbrev pub use_by : ℕ → Mapping → DataUse
+use_by id mapping = record { block = mapping.data_block; id = id; virt = mapping.virtual_block }
+
+-- the uses by a device
+abbrev pub row_uses : List (List ℕ) → DeviceRow → List DataUse
+row_uses image row = map (use_by row.id) (mappings_below image row.root)
+
+-- those by some devices, one after another
+abbrev pub rows_uses : List (List ℕ) → List DeviceRow → List DataUse
+rows_uses image rows = flat_map (row_uses image) rows
+
+-- those by the devices of the pool with this superblock
+abbrev pub super_uses : List (List ℕ) → ThinSuper → List DataUse
+super_uses image s = rows_uses image (super_rows image s)
+
+-- the uses by the mappings that are left of a device
+abbrev pub uses_left : List (List ℕ) → ℕ → Cursor BlockTime → List DataUse
+uses_left image id mappings = map (use_by id) (map mapping_of (cursor_items 8 block_time_of image mappings))

@@ -1,0 +1,215 @@
+//! The list of a pool's devices.
+
+ghost use Rattle.std.specs.Prelude.{◌≡◌, ◌≤◌, MatchResult};
+ghost use Rattle.pd_image.specs.Device.{IsAttached, OnlyReads};
+ghost use Rattle.pd_image.specs.Sink.{KeepsSink};
+ghost use Rattle.pd_answers.specs.QueryLines.{list_lines};
+ghost use Rattle.pd_pool.specs.Devices.{rows_left, rows_room};
+ghost use Rattle.pd_pool.specs.Given.{super_rows};
+ghost use Rattle.pd_query.specs.Adds.{Adds, AddsSome, PutsFront, PutsText};
+ghost use Rattle.pd_query.specs.Failing.{SinkFails};
+ghost use Rattle.pd_uses.specs.Ending.{Ends};
+ghost use Rattle.pd_uses.specs.UseLines.{Begins, PutsLines, blocks_part, details_part, device_line, listed_row, listed_rows};
+
+use crate::counting::{count_uses, exclusive_blocks};
+use crate::lines::{add_labeled, add_text};
+use pd_count::Counts;
+use pd_image::{Device, Sink};
+use pd_kinds::ThinSuper;
+use pd_lines::{LineBuffer, Pieces};
+use pd_pool::{DeviceRow, ThinDevices, rows_are_the_devices};
+use pd_query::{QueryFault, devices_of};
+use pd_tree::Cursor;
+use pd_value::BlockTime;
+use std::alloc::Global;
+
+/// Puts a line for each thin device of the pool with this superblock, by ascending number: how many blocks it maps, how
+/// many of them are exclusive, since no other mapping of any device has their data block, and how many are shared.
+/// It goes twice over all mappings, and holds a count for each data block in chunks, and no mappings.
+///
+/// Fails with `Device` where a read failed, with `Memory` where memory wasn't found, and with `Sink` where `out` failed;
+/// then a front of the lines was put.
+pub fn list_devices<D: Device, K: Sink>(
+    alloc: Global,
+    dev: &mut D,
+    s: &ThinSuper,
+    out: &mut K,
+) -> Result<(), QueryFault>
+    requires dev { IsAttached (D.state dev.old) }
+    requires out { (K.state out.old).access ≡ 1 }
+    ensures lines { PutsLines list_lines s.now result (D.state dev.old).held (K.state out.old).written (K.state out.new).written }
+    ensures kept { OnlyReads (D.state dev.old) (D.state dev.new) }
+    ensures sink { KeepsSink (K.state out.old) (K.state out.new) }
+    ensures faults { Ends result (D.state dev.old).faults (D.state dev.new).faults (K.state out.old).faults (K.state out.new).faults }
+{
+    rows_are_the_devices();
+    let counts = match count_uses(alloc, dev, s) {
+        Ok(counts) => counts,
+        Err(fault) => return Err(fault),
+    };
+    put_devices(alloc, s, &counts, dev, out)
+}
+
+/// Puts the lines of the devices, over the counts of their data blocks.
+fn put_devices<D: Device, K: Sink>(
+    alloc: Global,
+    s: &ThinSuper,
+    counts: &Counts,
+    dev: &mut D,
+    out: &mut K,
+) -> Result<(), QueryFault>
+    requires dev { IsAttached (D.state dev.old) }
+    requires out { (K.state out.old).access ≡ 1 }
+    ensures text { PutsText (D.state dev.old).held (λ image. listed_rows image counts.now (super_rows image s.now)) result (K.state out.old).written (K.state out.new).written }
+    ensures kept { OnlyReads (D.state dev.old) (D.state dev.new) }
+    ensures sink { KeepsSink (K.state out.old) (K.state out.new) }
+    ensures faults { Ends result (D.state dev.old).faults (D.state dev.new).faults (K.state out.old).faults (K.state out.new).faults }
+{
+    let mut pieces = Pieces::new();
+    match add_devices(alloc, s, counts, dev, &mut pieces, out) {
+        Ok(()) => match pieces.put(out) {
+            Ok(()) => Ok(()),
+            Err(_) => Err(QueryFault::Sink),
+        },
+        Err(fault) => Err(fault),
+    }
+}
+
+/// Gathers the lines of the devices, in the memory of three cursors over trees.
+fn add_devices<D: Device, K: Sink>(
+    alloc: Global,
+    s: &ThinSuper,
+    counts: &Counts,
+    dev: &mut D,
+    pieces: &mut Pieces,
+    out: &mut K,
+) -> Result<(), QueryFault>
+    requires dev { IsAttached (D.state dev.old) }
+    requires out { (K.state out.old).access ≡ 1 }
+    ensures lines { MatchResult result
+        (λ _. AddsSome (D.state dev.old).held (λ image. listed_rows image counts.now (super_rows image s.now)) pieces.old pieces.new (K.state out.old).written (K.state out.new).written)
+        (λ _. PutsFront (D.state dev.old).held (λ image. listed_rows image counts.now (super_rows image s.now)) pieces.old (K.state out.old).written (K.state out.new).written) }
+    ensures kept { OnlyReads (D.state dev.old) (D.state dev.new) }
+    ensures sink { KeepsSink (K.state out.old) (K.state out.new) }
+    ensures faults { Ends result (D.state dev.old).faults (D.state dev.new).faults (K.state out.old).faults (K.state out.new).faults }
+{
+    let mut mappings = match Cursor::start(alloc, s.mapping_root) {
+        Ok(mappings) => mappings,
+        Err(_) => return Err(QueryFault::Memory),
+    };
+    let devices = match devices_of(alloc, s, dev.blocks()) {
+        Ok(devices) => devices,
+        Err(_) => return Err(QueryFault::Memory),
+    };
+    match devices {
+        Some(mut devices) => add_rows(&mut devices, counts, &mut mappings, dev, pieces, out),
+        None => Ok(()),
+    }
+}
+
+/// Gathers the lines of the devices that are left.
+fn add_rows<D: Device, K: Sink>(
+    devices: &mut ThinDevices,
+    counts: &Counts,
+    mappings: &mut Cursor<BlockTime>,
+    dev: &mut D,
+    pieces: &mut Pieces,
+    out: &mut K,
+) -> Result<(), QueryFault>
+    requires dev { IsAttached (D.state dev.old) }
+    requires out { (K.state out.old).access ≡ 1 }
+    requires within { rows_room devices.old ≤ (D.state dev.old).blocks }
+    ensures lines { MatchResult result
+        (λ _. AddsSome (D.state dev.old).held (λ image. listed_rows image counts.now (rows_left image devices.old)) pieces.old pieces.new (K.state out.old).written (K.state out.new).written)
+        (λ _. PutsFront (D.state dev.old).held (λ image. listed_rows image counts.now (rows_left image devices.old)) pieces.old (K.state out.old).written (K.state out.new).written) }
+    ensures kept { OnlyReads (D.state dev.old) (D.state dev.new) }
+    ensures sink { KeepsSink (K.state out.old) (K.state out.new) }
+    ensures faults { Ends result (D.state dev.old).faults (D.state dev.new).faults (K.state out.old).faults (K.state out.new).faults }
+{
+    loop {
+        let row = match devices.next(dev) {
+            Ok(row) => row,
+            Err(_) => return Err(QueryFault::Device),
+        };
+        match row {
+            Some(row) => match add_row(&row, counts, mappings, dev, pieces, out) {
+                Ok(()) => {}
+                Err(fault) => return Err(fault),
+            },
+            None => return Ok(()),
+        }
+    }
+}
+
+/// Gathers the line of a device.
+fn add_row<D: Device, K: Sink>(
+    row: &DeviceRow,
+    counts: &Counts,
+    mappings: &mut Cursor<BlockTime>,
+    dev: &mut D,
+    pieces: &mut Pieces,
+    out: &mut K,
+) -> Result<(), QueryFault>
+    requires dev { IsAttached (D.state dev.old) }
+    requires out { (K.state out.old).access ≡ 1 }
+    ensures lines { MatchResult result
+        (λ _. AddsSome (D.state dev.old).held (λ image. listed_row image counts.now row.now) pieces.old pieces.new (K.state out.old).written (K.state out.new).written)
+        (λ _. PutsFront (D.state dev.old).held (λ image. listed_row image counts.now row.now) pieces.old (K.state out.old).written (K.state out.new).written) }
+    ensures kept { OnlyReads (D.state dev.old) (D.state dev.new) }
+    ensures sink { KeepsSink (K.state out.old) (K.state out.new) }
+    ensures faults { Ends result (D.state dev.old).faults (D.state dev.new).faults (K.state out.old).faults (K.state out.new).faults }
+{
+    let exclusive = match exclusive_blocks(row, counts, mappings, dev) {
+        Ok(exclusive) => exclusive,
+        Err(fault) => return Err(fault),
+    };
+    add_parts(row, exclusive, pieces, out)
+}
+
+/// Gathers the line of a device in two parts, since it can be longer than a line of a text.
+fn add_parts<K: Sink>(
+    row: &DeviceRow,
+    exclusive: u64,
+    pieces: &mut Pieces,
+    out: &mut K,
+) -> Result<(), QueryFault>
+    requires { (K.state out.old).access ≡ 1 }
+    ensures lines { MatchResult result
+        (λ _. Adds (device_line row.now exclusive) pieces.old pieces.new (K.state out.old).written (K.state out.new).written)
+        (λ _. Begins (device_line row.now exclusive) pieces.old (K.state out.old).written (K.state out.new).written) }
+    ensures sink { KeepsSink (K.state out.old) (K.state out.new) }
+    ensures faults { SinkFails result (K.state out.old).faults (K.state out.new).faults }
+{
+    match add_text(&blocks_text(row, exclusive), pieces, out) {
+        Ok(()) => add_text(&details_text(row), pieces, out),
+        Err(fault) => Err(fault),
+    }
+}
+
+/// The part of a device's line that tells its blocks.
+fn blocks_text(row: &DeviceRow, exclusive: u64) -> LineBuffer
+    ensures { result ≡ blocks_part row.now exclusive }
+{
+    let mut line = LineBuffer::new();
+    add_labeled(&mut line, b"device ", row.id);
+    add_labeled(&mut line, b" mapped ", row.details.mapped);
+    add_labeled(&mut line, b" exclusive ", exclusive);
+    add_labeled(
+        &mut line,
+        b" shared ",
+        row.details.mapped.saturating_sub(exclusive),
+    );
+    line
+}
+
+/// The part of a device's line that tells its other details.
+fn details_text(row: &DeviceRow) -> LineBuffer
+    ensures { result ≡ details_part row.now }
+{
+    let mut line = LineBuffer::new();
+    add_labeled(&mut line, b" transaction ", row.details.transaction);
+    add_labeled(&mut line, b" created ", u64::from(row.details.created));
+    add_labeled(&mut line, b" snapped ", u64::from(row.details.snapped));
+    line.add(b"\n");
+    line
+}

@@ -1,0 +1,98 @@
+//! The reverse map of a pool: which virtual blocks use the data blocks of a region.
+
+ghost use Rattle.std.specs.Prelude.{◌≡◌, MatchResult, OnOk};
+ghost use Rattle.pd_kinds.specs.Objects.{Appends, AppendsFront};
+ghost use Rattle.pd_image.specs.Device.{IsAttached, OnlyReads};
+ghost use Rattle.pd_image.specs.Sink.{KeepsSink};
+ghost use Rattle.pd_answers.specs.QueryLines.{rmap_lines};
+ghost use Rattle.pd_query.specs.Adds.{Adds};
+ghost use Rattle.pd_query.specs.Failing.{SinkFails};
+ghost use Rattle.pd_uses.specs.Ending.{Ends};
+ghost use Rattle.pd_uses.specs.UseLines.{Begins, PutsLines, use_line, uses_text};
+
+use crate::data_use::DataUse;
+use crate::lines::{add_labeled, add_text};
+use crate::region::region_uses;
+use pd_image::{Device, Sink};
+use pd_kinds::ThinSuper;
+use pd_lines::{LineBuffer, Pieces};
+use pd_pool::rows_are_the_devices;
+use pd_query::QueryFault;
+use std::alloc::Global;
+
+/// Puts a line for each mapping to a data block from `first` on and below `end`, of the pool with this superblock:
+/// ordered by data block, then by the number of the thin device, then by virtual block. It holds the mappings to those
+/// blocks alone, in 24 bytes each and the buffer of their sort.
+///
+/// Fails with `Device` where a read failed, with `Memory` where memory wasn't found, and with `Sink` where `out` failed;
+/// then a front of the lines was put. Nothing is put before all mappings were read.
+pub fn rmap<D: Device, K: Sink>(
+    alloc: Global,
+    dev: &mut D,
+    s: &ThinSuper,
+    first: u64,
+    end: u64,
+    out: &mut K,
+) -> Result<(), QueryFault>
+    requires dev { IsAttached (D.state dev.old) }
+    requires out { (K.state out.old).access ≡ 1 }
+    ensures lines { PutsLines (rmap_lines first end) s.now result (D.state dev.old).held (K.state out.old).written (K.state out.new).written }
+    ensures kept { OnlyReads (D.state dev.old) (D.state dev.new) }
+    ensures sink { KeepsSink (K.state out.old) (K.state out.new) }
+    ensures faults { Ends result (D.state dev.old).faults (D.state dev.new).faults (K.state out.old).faults (K.state out.new).faults }
+{
+    rows_are_the_devices();
+    let uses = match region_uses(alloc, dev, s, first, end) {
+        Ok(uses) => uses,
+        Err(fault) => return Err(fault),
+    };
+    put_uses(uses.as_slice(), out)
+}
+
+/// Puts the lines of uses. It takes no memory.
+fn put_uses<K: Sink>(uses: &[DataUse], out: &mut K) -> Result<(), QueryFault>
+    requires { (K.state out.old).access ≡ 1 }
+    ensures whole { OnOk result (Appends (uses_text uses.now) (K.state out.old).written (K.state out.new).written) }
+    ensures front { AppendsFront (uses_text uses.now) (K.state out.old).written (K.state out.new).written }
+    ensures sink { KeepsSink (K.state out.old) (K.state out.new) }
+    ensures faults { SinkFails result (K.state out.old).faults (K.state out.new).faults }
+{
+    let mut pieces = Pieces::new();
+    match add_uses(uses, &mut pieces, out) {
+        Ok(()) => match pieces.put(out) {
+            Ok(()) => Ok(()),
+            Err(_) => Err(QueryFault::Sink),
+        },
+        Err(fault) => Err(fault),
+    }
+}
+
+/// Gathers the lines of uses.
+fn add_uses<K: Sink>(uses: &[DataUse], pieces: &mut Pieces, out: &mut K) -> Result<(), QueryFault>
+    requires { (K.state out.old).access ≡ 1 }
+    ensures lines { MatchResult result
+        (λ _. Adds (uses_text uses.now) pieces.old pieces.new (K.state out.old).written (K.state out.new).written)
+        (λ _. Begins (uses_text uses.now) pieces.old (K.state out.old).written (K.state out.new).written) }
+    ensures sink { KeepsSink (K.state out.old) (K.state out.new) }
+    ensures faults { SinkFails result (K.state out.old).faults (K.state out.new).faults }
+{
+    for one in uses {
+        match add_text(&use_text(one), pieces, out) {
+            Ok(()) => {}
+            Err(fault) => return Err(fault),
+        }
+    }
+    Ok(())
+}
+
+/// The line of a use.
+fn use_text(one: &DataUse) -> LineBuffer
+    ensures { result ≡ use_line one.now }
+{
+    let mut line = LineBuffer::new();
+    add_labeled(&mut line, b"block ", one.block);
+    add_labeled(&mut line, b" device ", one.id);
+    add_labeled(&mut line, b" virtual ", one.virt);
+    line.add(b"\n");
+    line
+}

@@ -1,0 +1,124 @@
+//! All mappings of a pool, as uses of its data blocks, given to what takes them.
+
+ghost use Rattle.std.specs.Prelude.{◌≡◌, ◌≤◌, OnOk};
+ghost use Rattle.pd_image.specs.Device.{IsAttached, OnlyReads};
+ghost use Rattle.pd_tree.specs.Cursor.{cursor_room};
+ghost use Rattle.pd_pool.specs.Devices.{rows_left, rows_room};
+ghost use Rattle.pd_query.specs.Failing.{StartFails};
+ghost use Rattle.pd_uses.specs.Taken.{Takes};
+ghost use Rattle.pd_uses.specs.Uses.{row_uses, rows_uses, super_uses, uses_left};
+
+use crate::data_use::{DataUse, TakesUses};
+use pd_image::Device;
+use pd_kinds::ThinSuper;
+use pd_pool::{DeviceRow, ThinDevices};
+use pd_query::{QueryFault, devices_of};
+use pd_tree::Cursor;
+use pd_value::BlockTime;
+use std::alloc::Global;
+
+/// Gives the uses by the mappings that are left of a device.
+fn take_left<T: TakesUses, D: Device>(
+    id: u64,
+    mappings: &mut Cursor<BlockTime>,
+    dev: &mut D,
+    taker: &mut T,
+) -> Result<(), QueryFault>
+    requires dev { IsAttached (D.state dev.old) }
+    requires within { cursor_room mappings.old ≤ (D.state dev.old).blocks }
+    ensures taken { OnOk result (Takes T.has_taken (D.state dev.old).held (λ image. uses_left image id mappings.old) taker.old taker.new) }
+    ensures kept { OnlyReads (D.state dev.old) (D.state dev.new) }
+    ensures faults { StartFails result (D.state dev.old).faults (D.state dev.new).faults }
+{
+    loop {
+        let entry = match mappings.next(dev) {
+            Ok(entry) => entry,
+            Err(_) => return Err(QueryFault::Device),
+        };
+        match entry {
+            Some((virt, mapping)) => match taker.take(DataUse {
+                block: mapping.block,
+                id,
+                virt,
+            }) {
+                Ok(()) => {}
+                Err(_) => return Err(QueryFault::Memory),
+            },
+            None => return Ok(()),
+        }
+    }
+}
+
+/// Gives the uses by a device. There are none below a root outside of the device of blocks.
+pub(crate) fn take_row<T: TakesUses, D: Device>(
+    row: &DeviceRow,
+    mappings: &mut Cursor<BlockTime>,
+    dev: &mut D,
+    taker: &mut T,
+) -> Result<(), QueryFault>
+    requires dev { IsAttached (D.state dev.old) }
+    ensures taken { OnOk result (Takes T.has_taken (D.state dev.old).held (λ image. row_uses image row.now) taker.old taker.new) }
+    ensures kept { OnlyReads (D.state dev.old) (D.state dev.new) }
+    ensures faults { StartFails result (D.state dev.old).faults (D.state dev.new).faults }
+{
+    let root = row.root;
+    if root >= dev.blocks() {
+        return Ok(());
+    }
+    mappings.restart(root);
+    take_left(row.id, mappings, dev, taker)
+}
+
+/// Gives the uses by the devices that are left.
+fn take_rows<T: TakesUses, D: Device>(
+    devices: &mut ThinDevices,
+    mappings: &mut Cursor<BlockTime>,
+    dev: &mut D,
+    taker: &mut T,
+) -> Result<(), QueryFault>
+    requires dev { IsAttached (D.state dev.old) }
+    requires within { rows_room devices.old ≤ (D.state dev.old).blocks }
+    ensures taken { OnOk result (Takes T.has_taken (D.state dev.old).held (λ image. rows_uses image (rows_left image devices.old)) taker.old taker.new) }
+    ensures kept { OnlyReads (D.state dev.old) (D.state dev.new) }
+    ensures faults { StartFails result (D.state dev.old).faults (D.state dev.new).faults }
+{
+    loop {
+        let row = match devices.next(dev) {
+            Ok(row) => row,
+            Err(_) => return Err(QueryFault::Device),
+        };
+        match row {
+            Some(row) => match take_row(&row, mappings, dev, taker) {
+                Ok(()) => {}
+                Err(fault) => return Err(fault),
+            },
+            None => return Ok(()),
+        }
+    }
+}
+
+/// Gives the uses by all devices of the pool with this superblock, in the memory of three cursors over trees.
+pub(crate) fn take_pool<T: TakesUses, D: Device>(
+    alloc: Global,
+    s: &ThinSuper,
+    dev: &mut D,
+    taker: &mut T,
+) -> Result<(), QueryFault>
+    requires { IsAttached (D.state dev.old) }
+    ensures taken { OnOk result (Takes T.has_taken (D.state dev.old).held (λ image. super_uses image s.now) taker.old taker.new) }
+    ensures kept { OnlyReads (D.state dev.old) (D.state dev.new) }
+    ensures faults { StartFails result (D.state dev.old).faults (D.state dev.new).faults }
+{
+    let mut mappings = match Cursor::start(alloc, s.mapping_root) {
+        Ok(mappings) => mappings,
+        Err(_) => return Err(QueryFault::Memory),
+    };
+    let devices = match devices_of(alloc, s, dev.blocks()) {
+        Ok(devices) => devices,
+        Err(_) => return Err(QueryFault::Memory),
+    };
+    match devices {
+        Some(mut devices) => take_rows(&mut devices, &mut mappings, dev, taker),
+        None => Ok(()),
+    }
+}
