@@ -6,8 +6,8 @@ use Rattle.std.proofs.lemmas.Bool.{cases_Bool, true≢false}
 use Rattle.std.proofs.Math.Dec.{eqb-suc-zero}
 use Rattle.pd_kinds.specs.declared.kind.Kind.{Kind}
 use Rattle.pd_kinds.specs.declared.kind.Stage.{Stage}
-use Rattle.pd_answers.specs.Requests.{Request, dump, restore, is_built}
-use Rattle.pd_answers.specs.Words.{Item, items_of, Given, given, sole, at_most_one, is_set, last_stage, version_of, image_word, clear_word, shared_word, until_word, check_with, repair_with, Tool, check_tool, dump_tool, restore_tool, repair_tool, rmap_tool, list_tool, since_tool, generate_tool, rehearse_tool, tool_of, request_of, is_known, known, spelled, built, asked}
+use Rattle.pd_answers.specs.Requests.{Request, dump, restore, generate, rehearse, is_built}
+use Rattle.pd_answers.specs.Words.{Item, items_of, Given, given, sole, at_most_one, is_set, last_stage, version_of, generated_number, image_word, clear_word, shared_word, until_word, check_with, repair_with, Tool, check_tool, dump_tool, restore_tool, repair_tool, rmap_tool, list_tool, since_tool, generate_tool, rehearse_tool, tool_of, request_of, is_known, known, spelled, built, asked}
 use Rattle.pd_words.specs.Items.{is_read, read}
 use Rattle.pd_words.specs.Words.{dump_as}
 
@@ -51,8 +51,8 @@ unbuilt-items repair_tool items none = search (never, repair-never) depth 8
 unbuilt-items rmap_tool items none = search never
 unbuilt-items list_tool items none = search never
 unbuilt-items since_tool items none = search never
-unbuilt-items generate_tool items none = search never
-unbuilt-items rehearse_tool items none = search never
+unbuilt-items generate_tool items none = absurd (true≢false none)
+unbuilt-items rehearse_tool items none = absurd (true≢false none)
 
 pub unbuilt : (tool : Option Tool) (items : Option (List Item)) → None ≡ read tool → asked_of tool items ≡ None
 unbuilt None items none = refl
@@ -141,3 +141,40 @@ unfolding request_of
 restore_given kind None named text image word version file path request named_is at_most version_is text_is one_text image_is one_image is = tt
 restore_given kind (Some items) named text image word version file path request named_is at_most version_is text_is one_text image_is one_image is =
     rw (← named_is, ← at_most, ← version_is, ← text_is, ← one_text, ← image_is, ← one_image) is
+
+-- no number was given for the generator, or for a rehearsal
+pub no_generate_number : (items : Option (List Item)) (named : Given) (word : List ℕ)
+    → IfSome items (λ all. named ≡ given (codes "--number") all) → Some word ≡ sole named → None ≡ generated_number word
+    → IfSome items (λ all. None ≡ request_of generate_tool all)
+unfolding request_of
+no_generate_number None named word named_is one none = tt
+no_generate_number (Some items) named word named_is one none = rw (← named_is, ← one, ← none) refl
+
+pub no_rehearse_number : (items : Option (List Item)) (named : Given) (word : List ℕ)
+    → IfSome items (λ all. named ≡ given (codes "--number") all) → Some word ≡ sole named → None ≡ generated_number word
+    → IfSome items (λ all. None ≡ request_of rehearse_tool all)
+unfolding request_of
+no_rehearse_number None named word named_is one none = tt
+no_rehearse_number (Some items) named word named_is one none = rw (← named_is, ← one, ← none) refl
+
+-- a request of the generator, by what was given for the number and for the file
+pub generate_given : (items : Option (List Item)) (named file : Given) (word : List ℕ) (number : ℕ) (path : Option (List ℕ)) (request : Option Request)
+    → IfSome items (λ all. named ≡ given (codes "--number") all) → Some word ≡ sole named → Some number ≡ generated_number word
+    → IfSome items (λ all. file ≡ given (codes "-o") all) → Some path ≡ at_most_one file
+    → request ≡ Some (generate number path)
+    → IfSome items (λ all. request ≡ request_of generate_tool all)
+unfolding request_of
+generate_given None named file word number path request named_is one number_is file_is at_most is = tt
+generate_given (Some items) named file word number path request named_is one number_is file_is at_most is =
+    rw (← named_is, ← one, ← number_is, ← file_is, ← at_most) is
+
+-- a rehearsal, by what was given for the number and for the image
+pub rehearse_given : (items : Option (List Item)) (named image : Given) (word : List ℕ) (number : ℕ) (path : List ℕ) (request : Option Request)
+    → IfSome items (λ all. named ≡ given (codes "--number") all) → Some word ≡ sole named → Some number ≡ generated_number word
+    → IfSome items (λ all. image ≡ given (codes "-o") all) → Some path ≡ sole image
+    → request ≡ Some (rehearse number path)
+    → IfSome items (λ all. request ≡ request_of rehearse_tool all)
+unfolding request_of
+rehearse_given None named image word number path request named_is one number_is image_is one_image is = tt
+rehearse_given (Some items) named image word number path request named_is one number_is image_is one_image is =
+    rw (← named_is, ← one, ← number_is, ← image_is, ← one_image) is

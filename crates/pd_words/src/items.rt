@@ -18,6 +18,10 @@ pub enum Tool {
     Dump(Kind),
     /// thin_restore, cache_restore, era_restore
     Restore(Kind),
+    /// thin_generate
+    Generate,
+    /// thin_rehearse
+    Rehearse,
 }
 
 /// How often something was given.
@@ -67,6 +71,8 @@ pub fn tool_named(word: &str) -> Option<Tool>
         "thin_restore" => Some(Tool::Restore(Kind::Thin)),
         "cache_restore" => Some(Tool::Restore(Kind::Cache)),
         "era_restore" => Some(Tool::Restore(Kind::Era)),
+        "thin_generate" => Some(Tool::Generate),
+        "thin_rehearse" => Some(Tool::Rehearse),
         _ => None,
     }
 }
@@ -93,6 +99,8 @@ pub fn is_purpose(tool: Tool, word: &str) -> bool
             Kind::Cache => word == "--metadata-version" || word == "-i" || word == "-o",
             Kind::Era => word == "-i" || word == "-o",
         },
+        Tool::Generate => word == "--number" || word == "-o",
+        Tool::Rehearse => word == "--number" || word == "-o",
     }
 }
 

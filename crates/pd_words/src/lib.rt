@@ -2,6 +2,7 @@
 #![tactic(auto)]
 
 mod items;
+mod numbers;
 mod request;
 mod words;
 

@@ -1,12 +1,13 @@
 ghost use Rattle.std.specs.Prelude.{◌≡◌, ℕ, List, true, map, drop, string_bytes, length, IfSome, IfOk};
 ghost use Rattle.std.specs.Option.{option_map};
-ghost use Rattle.pd_answers.specs.Words.{asked, stage_of, last_stage, version_of, items_of, sole, at_most_one, is_set, check_with};
+ghost use Rattle.pd_answers.specs.Words.{asked, stage_of, last_stage, version_of, generated_number, items_of, sole, at_most_one, is_set, check_with};
 ghost use Rattle.pd_answers.specs.Words as words_spec;
 ghost use Rattle.pd_answers.specs.Requests.{is_built};
 ghost use Rattle.pd_words.specs.Items.{given_as, IsGivenWithin, tool_as};
 ghost use Rattle.pd_words.specs.Words.{request_as, read_as, answer_as, dump_as, word_of, words_of, AreNames, IsName, IsNameIfAny};
 
 use crate::items::{Given, IMAGE, Tool, are_items, given_for, tool_named};
+use crate::numbers::number_below;
 use crate::request::{Name, Request, WordFault};
 use pd_kinds::{Kind, Stage};
 
@@ -93,6 +94,7 @@ fn is_built(request: &Request) -> bool
             Kind::Thin => true,
             _ => false,
         },
+        Request::Generate { number: _, out: _ } => true,
         _ => false,
     }
 }
@@ -106,6 +108,8 @@ fn read_request(tool: Tool, words: &[String]) -> Option<Request>
         Tool::Check(kind) => read_check(kind, words),
         Tool::Dump(kind) => read_dump(kind, words),
         Tool::Restore(kind) => read_restore(kind, words),
+        Tool::Generate => read_generate(words),
+        Tool::Rehearse => read_rehearse(words),
     }
 }
 
@@ -193,6 +197,46 @@ fn read_restore(kind: Kind, words: &[String]) -> Option<Request>
         image,
         version,
     })
+}
+
+/// What the words ask of the generator.
+#[tactic(auto, unfolding(pd_answers::specs::Words::request_of))]
+fn read_generate(words: &[String]) -> Option<Request>
+    ensures asked { IfSome (items_of (drop 1 (map string_bytes words.now))) (λ items. read_as (map string_bytes words.now) result ≡ words_spec.request_of words_spec.generate_tool items) }
+    ensures names { IfSome result (AreNames (length words.now)) }
+{
+    let number = generated_number(words, required(given_for(words, 1, "--number"))?)?;
+    let out = optional(given_for(words, 1, "-o"))?;
+    Some(Request::Generate { number, out })
+}
+
+/// What the words ask of a rehearsal.
+#[tactic(auto, unfolding(pd_answers::specs::Words::request_of))]
+fn read_rehearse(words: &[String]) -> Option<Request>
+    ensures asked { IfSome (items_of (drop 1 (map string_bytes words.now))) (λ items. read_as (map string_bytes words.now) result ≡ words_spec.request_of words_spec.rehearse_tool items) }
+    ensures names { IfSome result (AreNames (length words.now)) }
+{
+    let number = generated_number(words, required(given_for(words, 1, "--number"))?)?;
+    let image = required(given_for(words, 1, "-o"))?;
+    Some(Request::Rehearse { number, image })
+}
+
+/// The number from 1 to 10000 that a word is.
+#[tactic(auto, unfolding(pd_answers::specs::Words::generated_number))]
+fn generated_number(words: &[String], name: Name) -> Option<u32>
+    requires { IsName (length words.now) name }
+    ensures { result ≡ generated_number (word_of (map string_bytes words.now) name) }
+{
+    match number_below(10001, name.word_in(words)) {
+        None => None,
+        Some(number) => {
+            if number == 0 {
+                None
+            } else {
+                Some(number as u32)
+            }
+        }
+    }
 }
 
 /// A value that is wanted.

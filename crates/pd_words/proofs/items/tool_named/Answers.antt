@@ -42,6 +42,14 @@ pub returns-in-era_restore : goal.returns-in-era_restore
 unfolding tool_in
 returns-in-era_restore c = rw c.in-era_restore.is refl
 
+pub returns-in-thin_generate : goal.returns-in-thin_generate
+unfolding tool_in
+returns-in-thin_generate c = rw c.in-thin_generate.is refl
+
+pub returns-in-thin_rehearse : goal.returns-in-thin_rehearse
+unfolding tool_in
+returns-in-thin_rehearse c = rw c.in-thin_rehearse.is refl
+
 -- tools of which nothing is built, or with other names than the word
 abbrev AreOthers : List ℕ → List Named → Type 0
 AreOthers word [] = Unit {0}
@@ -79,7 +87,7 @@ returns-in_default c =
                     inr w.not-cache_restore,
                     (
                       inr w.not-era_restore,
-                      (inl refl, (inl refl, (inl refl, (inl refl, (inl refl, (inl refl, tt)))))),
+                      (inl refl, (inl refl, (inl refl, (inl refl, (inr w.not-thin_generate, (inr w.not-thin_rehearse, tt)))))),
                     ),
                   ),
                 ),
