@@ -1,5 +1,5 @@
 -- What stands beside the words of a mapping array: the number of the cache block, hints and dirty bits.
-use Rattle.std.specs.Prelude.{◌≡◌, ℕ, suc, ◌+◌, ◌-◌, ◌^◌, max, min, Bool, ◌==◌, if◌then◌else◌, List, [], ◌∷◌, ◌++◌, drop, slice_index, Option, Some, None}
+use Rattle.std.specs.Prelude.{ℕ, ◌+◌, ◌-◌, ◌^◌, max, min, Bool, ◌==◌, if◌then◌else◌, List, [], ◌∷◌, ◌++◌, drop, slice_index, Option, Some, None}
 use Rattle.pd_kinds.specs.Whole.{is_dirty_word, is_valid_word, origin_of_word}
 use Rattle.pd_cached.specs.declared.beside.Beside.{Beside}
 use Rattle.pd_cached.specs.declared.beside.CacheRow.{CacheRow}

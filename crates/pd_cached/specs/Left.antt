@@ -1,5 +1,5 @@
 -- What is left of the words and of the bits of an array.
-use Rattle.std.specs.Prelude.{◌≡◌, ℕ, zero, suc, ◌+◌, ◌/◌, ◌%◌, List, [], ◌∷◌, ◌++◌, drop, slice_index}
+use Rattle.std.specs.Prelude.{◌≡◌, ℕ, zero, suc, ◌/◌, ◌%◌, List, [], ◌∷◌, ◌++◌, drop, slice_index}
 use Rattle.std.specs.List.{flat_map}
 use Rattle.pd_tree.specs.ArrayCursor.{array_reads, array_room, array_words}
 use Rattle.pd_tree.specs.Below.{items_below}

@@ -8,8 +8,10 @@
 mod beside;
 mod bits;
 mod hints;
+mod laws;
 mod optional;
 mod rows;
 
 pub use beside::CacheRow;
+pub use laws::rows_are_the_entries;
 pub use rows::CacheMaps;

@@ -39,10 +39,7 @@ pub(crate) fn bits_of(alloc: Global, s: &CacheSuper) -> Result<Option<Bits>, All
 }
 
 /// The next hint; 0 where there is none.
-pub(crate) fn take_hint<D: Device>(
-    hints: &mut Option<Hints>,
-    dev: &mut D,
-) -> Result<u32, Failed>
+pub(crate) fn take_hint<D: Device>(hints: &mut Option<Hints>, dev: &mut D) -> Result<u32, Failed>
     requires attached { IsAttached (D.state dev.old) }
     requires within { hints_in_room hints.old ≤ (D.state dev.old).blocks }
     ensures taken { IfOk result (λ hint. IfSome (D.state dev.old).held (λ image. Takes hint (hints_in image hints.old) (hints_in image hints.new))) }
