@@ -1,5 +1,5 @@
 -- Blocks that are reached once each in different roles are no more than the reachable pairs.
-use Rattle.std.proofs.Common.{◌≡◌, ◌↔◌, ℕ, suc, ◌+◌, ◌*◌, ◌%◌, ◌<◌, ◌≤◌, true, false, nat_eq, List, [], ◌∷◌, ◌++◌, length, map, refl, ◌∙◌, ◌&&◌, arith, eq-eqb, length-append}
+use Rattle.std.proofs.Common.{◌≡◌, ◌↔◌, ℕ, zero, suc, ◌+◌, ◌*◌, ◌%◌, ◌<◌, ◌≤◌, Bool, true, false, ◌&&◌, cond, nat_eq, List, [], ◌∷◌, ◌++◌, length, map, filter, refl, sym, ◌∙◌, arith, eq-eqb, length-append}
 use Rattle.std.specs.List.{list_any, flat_map, range_with_len, AllByRecursion, IsDistinct}
 use Rattle.std.specs.Cmp.{nat_eq_equiv}
 use Rattle.std.proofs.lemmas.Bool.{and_from, ne_eqb, both_ways}
@@ -21,7 +21,11 @@ use Rattle.pd_tree.specs.TreeRoles.{IsTreeRole}
 use Rattle.pd_tree.proofs.ReachLemmas.{IsMet, met}
 use Rattle.pd_tree.proofs.SoundLemmas.{met_child}
 use Rattle.pd_tree.proofs.RoleLemmas.{once_is, under_is}
-use Rattle.pd_whole.specs.Reached.{InRole, AreReachedOnce, blocks_in}
+use Rattle.pd_graph.specs.declared.audit.Audit.{Audit}
+use Rattle.pd_graph.specs.Audit.{roles_at}
+use Rattle.pd_graph.specs.Roles.{has_bit}
+use Rattle.pd_whole.specs.Known.{IsKnown}
+use Rattle.pd_whole.specs.Reached.{InRole, AreReachedOnce, blocks_in, known_in}
 use Rattle.pd_whole.proofs.SumLemmas.{member_holds}
 
 -- lists without a repeat that have nothing in common
@@ -46,6 +50,40 @@ distinct_pairs role (x ∷ xs) once = (
       (all_from (λ y. nat_eq x y ≡ false) (λ b. nat_eq (pair x role) (pair b role) ≡ false) (λ y apart. pair_apart x y role apart) xs once.0),
   distinct_pairs role xs once.1,
 )
+
+-- what holds of each number of a row that passes holds of all that are kept
+kept_by : (P : ℕ → Type 0) (passes : Bool) (a : ℕ) (rest : List ℕ) → (passes ≡ true → P a) → AllByRecursion P rest → AllByRecursion P (cond passes (a ∷ rest) rest)
+kept_by P true a rest here all = (here refl, all)
+kept_by P false a rest here all = all
+
+all_kept : (P : ℕ → Type 0) (t : ℕ → Bool) (n a : ℕ) → ((b : ℕ) → a ≤ b → b < a + n → t b ≡ true → P b) → AllByRecursion P (filter t (range_with_len a n))
+all_kept P t zero a each = tt
+all_kept P t (suc n) a each =
+    kept_by P (t a) a (filter t (range_with_len (a + 1) n)) (each a (omega arith) (omega arith))
+    (all_kept P t n (a + 1) (λ b from below passes. each b (omega arith) (omega arith) passes))
+
+-- and none of these comes twice
+once_by : (passes : Bool) (a : ℕ) (rest : List ℕ) → AllByRecursion (λ b. nat_eq a b ≡ false) rest → IsDistinct nat_eq rest → IsDistinct nat_eq (cond passes (a ∷ rest) rest)
+unfolding IsDistinct
+once_by true a rest apart once = (apart, once)
+once_by false a rest apart once = once
+
+kept_once : (t : ℕ → Bool) (n a : ℕ) → IsDistinct nat_eq (filter t (range_with_len a n))
+unfolding IsDistinct
+kept_once t zero a = tt
+kept_once t (suc n) a =
+    once_by (t a) a (filter t (range_with_len (a + 1) n))
+    (all_kept (λ b. nat_eq a b ≡ false) t n (a + 1) (λ b from below passes. ne_eqb a b (λ same. omega arith))) (kept_once t n (a + 1))
+
+-- the blocks that an audit has in a role
+pub known_once : (graph : Graph) (image : List (List ℕ)) (audit : Audit) (role : ℕ) → IsKnown graph image audit → role < 16
+    → AreReachedOnce graph image (record { role = role; blocks = known_in audit role graph.nr })
+unfolding known_in
+known_once graph image audit role known few = record {
+  reached = all_kept (λ b. IsReached graph image b role) (λ b. has_bit (roles_at audit b) role) graph.nr 0
+      (λ b from below passes. let within : b < graph.nr = omega arith in record { block = within; within = few; found = sym (known.roles b role within few) ∙ passes });
+  once = kept_once (λ b. has_bit (roles_at audit b) role) graph.nr 0;
+}
 
 module _ (graph : Graph) (image : List (List ℕ)) where
   -- a pair that is reached, and its role

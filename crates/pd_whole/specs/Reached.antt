@@ -1,10 +1,13 @@
 -- Blocks that are reached in one role, and what they name.
 use Rattle.std.specs.Prelude.{◌≡◌, ℕ, ◌<◌, ◌==◌, nat_eq, List, length, map, filter, sum_by}
-use Rattle.std.specs.List.{flat_map, AllByRecursion, IsDistinct}
+use Rattle.std.specs.List.{flat_map, range_with_len, AllByRecursion, IsDistinct}
 use Rattle.pd_kinds.specs.Edge.{Edge}
 use Rattle.pd_kinds.specs.Graph.{Graph, block_at}
 use Rattle.pd_kinds.specs.Layout.{Layout, index, graph_of}
 use Rattle.pd_kinds.specs.Stages.{IsReached}
+use Rattle.pd_graph.specs.declared.audit.Audit.{Audit}
+use Rattle.pd_graph.specs.Audit.{roles_at}
+use Rattle.pd_graph.specs.Roles.{has_bit}
 
 -- blocks in a role
 pub record InRole : Type 0 where
@@ -15,6 +18,10 @@ pub record InRole : Type 0 where
 pub record AreReachedOnce (graph : Graph) (image : List (List ℕ)) (part : InRole) : Type 0 where
   pub reached : AllByRecursion (λ b. IsReached graph image b part.role) part.blocks
   pub once : IsDistinct nat_eq part.blocks
+
+-- the blocks that an audit has in a role, of so many
+unfoldable pub known_in : Audit → ℕ → ℕ → List ℕ
+known_in audit role n = filter (λ b. has_bit (roles_at audit b) role) (range_with_len 0 n)
 
 -- how many blocks there are in all parts
 abbrev pub blocks_in : List InRole → ℕ

@@ -12,7 +12,7 @@ pub use charging::charge;
 pub use counting::is_counting;
 pub use laws::{keys_of_reached_trees_ascend, settled_audits_are_known};
 pub use nodes::{
-    bitmaps_are_named_once, nodes_of_reached_trees_are_reached_once,
+    bitmaps_are_named_once, known_blocks_are_reached_once, nodes_of_reached_trees_are_reached_once,
     reached_blocks_are_no_more_than_nodes, trees_and_indices_name_blocks,
     two_trees_have_no_more_nodes,
 };

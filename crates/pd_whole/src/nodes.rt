@@ -11,9 +11,11 @@ ghost use Rattle.pd_kinds.specs.Stages.{IsReached};
 ghost use Rattle.pd_kinds.specs.Trees.{entries_below};
 ghost use Rattle.pd_kinds.specs.Whole.{bitmap_tests, whole_bad};
 ghost use Rattle.pd_laws.specs.InOrder.{AreInOrder};
+ghost use Rattle.pd_graph.specs.declared.audit.Audit.{Audit};
 ghost use Rattle.pd_tree.specs.Below.{nodes_below};
 ghost use Rattle.pd_tree.specs.TreeRoles.{IsTreeRole, IsTreeTo};
-ghost use Rattle.pd_whole.specs.Reached.{AreReachedOnce, InRole, IsIndexRole, blocks_in, named_in};
+ghost use Rattle.pd_whole.specs.Known.{IsKnown};
+ghost use Rattle.pd_whole.specs.Reached.{AreReachedOnce, InRole, IsIndexRole, blocks_in, known_in, named_in};
 
 use pd_laws::reached_by_paths;
 use pd_tree::{edges_lead_to_reached_pairs, reached_trees_are_sound};
@@ -22,6 +24,12 @@ use pd_tree::{edges_lead_to_reached_pairs, reached_trees_are_sound};
 pub fn reached_blocks_are_no_more_than_nodes()
     ensures { (graph : Graph) (image : List (List ℕ)) (parts : List InRole) → AllByRecursion (AreReachedOnce graph image) parts
         → IsDistinct nat_eq (map (λ (part : InRole). part.role) parts) → blocks_in parts ≤ length (nodes graph image) }
+{}
+
+/// The blocks that an audit of an image has in a role are reached once each.
+pub fn known_blocks_are_reached_once()
+    ensures { (graph : Graph) (image : List (List ℕ)) (audit : Audit) (role : ℕ) → IsKnown graph image audit → role < 16
+        → AreReachedOnce graph image (record { role = role; blocks = known_in audit role graph.nr }) }
 {}
 
 /// Where no reached pair is out of order, the nodes that a cursor over a reached tree reads are reached once each.
