@@ -1,2 +1,4 @@
 pub mod Filling
 pub mod Begins
+pub mod Putting
+pub mod Spelled

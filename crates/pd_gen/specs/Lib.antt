@@ -1,3 +1,4 @@
 pub mod Lines
 pub mod Place
 pub mod GenSource
+pub mod Pool

@@ -38,7 +38,7 @@ impl GenSource {
     }
 
     /// Moves bytes to the front of `into`, until there is no room or no text: how many.
-    fn fill(&mut self, into: &mut [u8]) -> usize
+    pub(crate) fn fill(&mut self, into: &mut [u8]) -> usize
         requires { 0 < length into.old }
         ensures within { result ≤ length into.new }
         ensures moved { take result into.new ++ text_left self.new ≡ text_left self.old }

@@ -10,7 +10,7 @@ use Rattle.pd_kinds.specs.Objects.{SinkState}
 use Rattle.pd_kinds.specs.Report.{report_of}
 use Rattle.pd_kinds.specs.Stages.{faults}
 use Rattle.pd_answers.specs.Answer.{Objects, AreFresh}
-use Rattle.pd_answers.specs.Requests.{Request, check, dump, restore, is_built}
+use Rattle.pd_answers.specs.Requests.{Request, check, dump, restore, generate, is_built}
 use Rattle.pd_answers.specs.Words.{built, spelled, asked}
 use Rattle.pd_answers.specs.Promises.{image_text, terms_of}
 use Rattle.pd_spells.specs.Early.{is_pool_early}
@@ -69,4 +69,5 @@ at_rest (Some (dump kind false file path)) before notes fresh verdicts is = (
   tt,
 )
 at_rest (Some (dump kind true file path)) before notes fresh verdicts is = absurd (true≢false (sym is ∙ no_shared kind file path))
+at_rest (Some (generate number file)) before notes fresh verdicts is = (tt, tt, tt)
 at_rest (Some _) before notes fresh verdicts is = absurd (true≢false (sym is))

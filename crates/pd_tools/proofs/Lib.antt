@@ -3,3 +3,4 @@ pub mod Checks
 pub mod AtRest
 pub mod Queries
 pub mod Restores
+pub mod Generates

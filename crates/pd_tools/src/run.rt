@@ -11,6 +11,7 @@ ghost use Rattle.pd_words.specs.Words.{AreNames, IsNameIfAny, request_as, words_
 ghost use Rattle.pd_tools.specs.Work.{Answers};
 
 use crate::check::run_check;
+use crate::generate::run_generate;
 use crate::notes::{USAGE_LINE, put_line};
 use crate::query::{Query, run_query};
 use crate::restore::{run_restore, texts_have_verdicts};
@@ -123,7 +124,9 @@ fn run_request<S: Source, K: Sink, E: Sink, A: Device, B: Device>(
         Request::Rmap { .. } => unreachable!(),
         Request::List { .. } => unreachable!(),
         Request::Since { .. } => unreachable!(),
-        Request::Generate { .. } => unreachable!(),
+        Request::Generate { number, out: file } => {
+            run_generate(number, file_in(words, file), out, notes)
+        }
         Request::Rehearse { .. } => unreachable!(),
     }
 }

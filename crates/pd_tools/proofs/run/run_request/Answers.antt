@@ -6,7 +6,7 @@ use Rattle.pd_kinds.specs.Objects.{SinkState}
 use Rattle.pd_answers.specs.Requests as request
 use Rattle.pd_answers.specs.Requests.{is_built}
 use Rattle.pd_answers.specs.Answer.{Objects}
-use Rattle.pd_answers.specs.Promises.{check, terms_of}
+use Rattle.pd_answers.specs.Promises.{check, generate, terms_of}
 use Rattle.pd_answers.specs.Restores.{restore}
 use Rattle.std.specs.Option.{option_copied}
 use Rattle.pd_words.specs.Words.{word_of, words_of}
@@ -57,3 +57,15 @@ returns-in-Restore g c others =
     rw w.is (restored_as_asked w.kind w.version (word_of words w.text) (word_of words w.image) c.word_in-in-Restore.result.now c.word_in-in-Restore-2.result.now _ _ _ _
     c.word_in-in-Restore.ensures c.word_in-in-Restore-2.ensures
     (c.run_restore.ensures (record others { out = g.K.Sink.state c.args.out.now; input = g.A.Device.state c.args.input.now })))
+
+-- the generator's file of these words is the one that is asked
+generated_as_asked : (number : ℕ) (file given : Option (List ℕ)) (attached : SinkState) (before after : Objects) (status : ℕ)
+    → given ≡ file → Answers (generate number given) attached before after status → Answers (generate number file) attached before after status
+generated_as_asked number file given attached before after status same answers = rw same at answers
+
+pub returns-in-Generate : goal.returns-in-Generate
+returns-in-Generate g c others =
+    let w = c.in-Generate in
+    rw w.is (generated_as_asked w.number (words_of (map string_bytes c.args.words.now) w.file) (option_copied c.file_in-in-Generate.result) _ _ _ _
+    c.file_in-in-Generate.ensures
+    (c.run_generate.ensures (record others { source = g.S.Source.state c.args.source.now; input = g.A.Device.state c.args.input.now; output = g.B.Device.state c.args.output.now })))
