@@ -37,6 +37,8 @@ is_built (check Thin Whole false image) = true
 is_built (check Thin Counts false image) = true
 is_built (dump Thin false file image) = true
 is_built (restore Thin version text image) = true
+is_built (rmap first end file image) = true
+is_built (list_devices file image) = true
 is_built (generate number file) = true
 is_built _ = false
 

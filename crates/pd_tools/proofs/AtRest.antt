@@ -7,10 +7,12 @@ use Rattle.pd_kinds.specs.declared.kind.Kind.TheVariants.{Thin, Cache, Era}
 use Rattle.pd_kinds.specs.declared.kind.Stage.{Stage}
 use Rattle.pd_kinds.specs.declared.kind.Stage.TheVariants.{Super, Walk, Order, Whole, Counts}
 use Rattle.pd_kinds.specs.Objects.{SinkState}
+use Rattle.pd_kinds.specs.Meaning.{thin_meaning}
 use Rattle.pd_kinds.specs.Report.{report_of}
 use Rattle.pd_kinds.specs.Stages.{faults}
 use Rattle.pd_answers.specs.Answer.{Objects, AreFresh}
-use Rattle.pd_answers.specs.Requests.{Request, check, dump, restore, generate, is_built}
+use Rattle.pd_answers.specs.Requests.{Request, check, dump, restore, rmap, list_devices, generate, is_built}
+use Rattle.pd_answers.specs.QueryLines.{list_lines, rmap_lines}
 use Rattle.pd_answers.specs.Words.{built, spelled, asked}
 use Rattle.pd_answers.specs.Promises.{image_text, terms_of}
 use Rattle.pd_spells.specs.Early.{is_pool_early}
@@ -18,7 +20,7 @@ use Rattle.pd_spells.specs.ThinNeed.{IsThinVerdict}
 use Rattle.pd_laid.specs.LaidThin.{laid_pool}
 use Rattle.pd_tools.specs.Restore.{HaveVerdicts}
 use Rattle.pd_tools.proofs.Checks.{told}
-use Rattle.pd_tools.proofs.Queries.{both_told, told_or}
+use Rattle.pd_tools.proofs.Queries.{query_at_rest}
 use Rattle.pd_tools.proofs.Restores.{restore_at_rest}
 
 -- the flag isn't built
@@ -63,11 +65,9 @@ at_rest (Some (check kind until false path)) before notes fresh verdicts is = (
 at_rest (Some (check kind until true path)) before notes fresh verdicts is = absurd (true≢false (sym is ∙ no_flag kind until path))
 at_rest (Some (restore Thin version file path)) before notes fresh verdicts is =
     restore_at_rest IsThinVerdict is_pool_early laid_pool file path before (record before { notes = notes }) before.source before.output fresh.output.2 verdicts fresh.output.0
-at_rest (Some (dump kind false file path)) before notes fresh verdicts is = (
-  record { report = told_or (λ image. report_of (faults kind Whole image)) (report_of []) before.input.held; text = told_or (image_text kind) [] before.input.held },
-  both_told before.input.held kind (image_text kind),
-  tt,
-)
+at_rest (Some (dump kind false file path)) before notes fresh verdicts is = query_at_rest kind (image_text kind) before.input.held
 at_rest (Some (dump kind true file path)) before notes fresh verdicts is = absurd (true≢false (sym is ∙ no_shared kind file path))
+at_rest (Some (rmap first end file path)) before notes fresh verdicts is = query_at_rest Thin (λ image. rmap_lines first end (thin_meaning image)) before.input.held
+at_rest (Some (list_devices file path)) before notes fresh verdicts is = query_at_rest Thin (λ image. list_lines (thin_meaning image)) before.input.held
 at_rest (Some (generate number file)) before notes fresh verdicts is = (tt, tt, tt)
 at_rest (Some _) before notes fresh verdicts is = absurd (true≢false (sym is))

@@ -5,6 +5,10 @@ use Rattle.pd_kinds.specs.declared.kind.Kind.{Kind}
 use Rattle.pd_kinds.specs.declared.kind.Kind.TheVariants.{Thin}
 use Rattle.pd_kinds.specs.declared.kind.Stage.{Stage}
 use Rattle.pd_kinds.specs.declared.kind.Stage.TheVariants as stages
+use Rattle.pd_kinds.specs.declared.thin_super.ThinSuper.{ThinSuper}
+use Rattle.pd_kinds.specs.Graph.{block_at}
+use Rattle.pd_kinds.specs.Meaning.{ThinPool, thin_meaning}
+use Rattle.pd_kinds.specs.ThinSuper.{thin_fields}
 use Rattle.pd_kinds.specs.Objects.{DeviceState, SinkState, Appends, AppendsFront}
 use Rattle.pd_kinds.specs.Report.{Reported, report_of}
 use Rattle.pd_kinds.specs.Stages.{Checked, checked_of, faults, first_failing, stage_faults}
@@ -12,9 +16,10 @@ use Rattle.pd_kinds.specs.Crash.{IsUntouched}
 use Rattle.pd_kinds.proofs.AppendLemmas.{appends_none, front_none}
 use Rattle.pd_image.specs.Device.{OnlyReads}
 use Rattle.pd_answers.specs.Answer.{Objects, IsUsed, reading}
-use Rattle.pd_answers.specs.Promises.{image_text}
+use Rattle.pd_answers.specs.Promises.{Queried, image_text}
 use Rattle.pd_answers.specs.Terms.{is_one_of, is_possible}
 use Rattle.pd_query.specs.Adds.{PutsText}
+use Rattle.pd_uses.specs.UseLines.{PutsLines}
 use Rattle.pd_query.specs.declared.fault.QueryFault.{QueryFault}
 use Rattle.pd_tools.specs.declared.query.Query.{Query}
 use Rattle.pd_tools.specs.declared.stop.Stop.{Stop}
@@ -65,6 +70,15 @@ pub both_told : (held : Option (List (List ℕ))) (kind : Kind) (f : List (List 
     → IfSome held (λ image. (told_or (λ image. report_of (faults kind stages.Whole image)) (report_of []) held ≡ report_of (faults kind stages.Whole image)) × (told_or f [] held ≡ f image))
 both_told None kind f = tt
 both_told (Some image) kind f = (refl, refl)
+
+-- what a query finds before anything was done
+pub query_at_rest : (kind : Kind) (f : List (List ℕ) → List ℕ) (held : Option (List (List ℕ)))
+    → (queried : Queried) × IfSome held (λ image. (queried.report ≡ report_of (faults kind stages.Whole image)) × (queried.text ≡ f image)) × Unit {0}
+query_at_rest kind f held = (
+  record { report = told_or (λ image. report_of (faults kind stages.Whole image)) (report_of []) held; text = told_or f [] held },
+  both_told held kind f,
+  tt,
+)
 
 module _ (q : Query) (file : Option (List ℕ)) (path : List ℕ) (others : Objects) (notes out : SinkState) (input : DeviceState) (fresh : out.access ≡ 0) where
   -- the image was not read
@@ -221,6 +235,23 @@ answer_put (Ok done) held left before after puts law = record {
 answer_put (Err fault) held left before after puts law = record {
   text = puts.text;
   told = two_told held (λ image is same none. is ∙ same none) puts.told law;
+  whole = tt;
+  front = puts.front;
+}
+
+-- the lines of a query over the meaning, where the superblock is that of the image
+pub answer_lines : (lines : ThinPool → List ℕ) (s : ThinSuper) (result : Result (Unit {0}) QueryFault) (held : Option (List (List ℕ))) (before after : Option (List ℕ))
+    → PutsLines lines s result held before after → IfSome held (λ image. faults Thin stages.Whole image ≡ [] → s ≡ thin_fields (block_at image 0))
+    → PutsAnswer Thin (λ image. lines (thin_meaning image)) (stopped_as result) held before after
+answer_lines lines s (Ok done) held before after puts own = record {
+  text = puts.text;
+  told = two_told held (λ image is same none. is (same none) none) puts.told own;
+  whole = puts.whole;
+  front = puts.front;
+}
+answer_lines lines s (Err fault) held before after puts own = record {
+  text = puts.text;
+  told = two_told held (λ image is same none. is (same none) none) puts.told own;
   whole = tt;
   front = puts.front;
 }

@@ -1,15 +1,20 @@
 //! A query of an image: the check of it, and then the text that answers the query.
 
-ghost use Rattle.std.specs.Prelude.{◌≡◌, ◌==◌, [], ℕ, List, IfOk, IfErr, OnOk, MatchResult, if◌then◌else◌, unwrap_or};
+ghost use Rattle.std.specs.Prelude.{◌≡◌, ◌==◌, [], ℕ, List, IfOk, IfErr, IfSome, OnOk, MatchResult, if◌then◌else◌, unwrap_or};
 ghost use Rattle.std.specs.Option.{option_copied};
 ghost use Rattle.pd_kinds.specs.declared.kind.Stage.TheVariants.{Whole};
 ghost use Rattle.pd_kinds.specs.Objects.{SinkState};
 ghost use Rattle.pd_kinds.specs.Crash.{IsUntouched};
+ghost use Rattle.pd_kinds.specs.Graph.{block_at};
+ghost use Rattle.pd_kinds.specs.Meaning.{thin_meaning};
+ghost use Rattle.pd_kinds.specs.Stages.{faults};
+ghost use Rattle.pd_kinds.specs.ThinSuper.{thin_fields};
 ghost use Rattle.pd_image.specs.Device.{OnlyReads};
 ghost use Rattle.pd_spells.specs.Lines.{reported_lines};
 ghost use Rattle.pd_answers.specs.Answer.{Objects, IsUsed, reading};
 ghost use Rattle.pd_kinds.specs.declared.kind.Kind.TheVariants.{Thin};
 ghost use Rattle.pd_answers.specs.Promises.{image_text};
+ghost use Rattle.pd_answers.specs.QueryLines.{list_lines, rmap_lines};
 ghost use Rattle.pd_tools.specs.Notes.{PutsLine};
 ghost use Rattle.pd_tools.specs.Query.{IsUnput, PutsAnswer, kind_of, query_line, query_status, stop_as, terms_of_query, text_of};
 ghost use Rattle.pd_tools.specs.Read.{IsBuiltCheck};
@@ -18,10 +23,11 @@ ghost use Rattle.pd_tools.specs.Work.{IsFinished, IsStopped, Answers};
 use crate::check::read_report;
 use crate::stop::Stop;
 use pd_image::{Device, Sink};
-use pd_kinds::{Kind, Report, Stage};
+use pd_kinds::{Kind, Report, Stage, ThinSuper};
 use pd_lines::print_report;
 use pd_pool::{given_lines_are_the_text, rows_are_the_devices};
-use pd_query::{QueryFault, ThinDump};
+use pd_query::{QueryFault, ThinDump, read_super};
+use pd_uses::{list_devices, rmap};
 use std::alloc::Global;
 
 /// What is asked of an image.
@@ -29,6 +35,10 @@ use std::alloc::Global;
 pub enum Query {
     /// Its text.
     Dump(Kind),
+    /// The mappings of a pool to the data blocks from the first on and below the end.
+    ReverseMap { first: u64, end: u64 },
+    /// The thin devices of a pool.
+    DeviceList,
 }
 
 /// Checks the image at the path up to the stage Whole, and puts the text that answers the query to the file, or to the
@@ -110,6 +120,8 @@ fn kind_of(query: Query) -> Kind
 {
     match query {
         Query::Dump(kind) => kind,
+        Query::ReverseMap { first: _, end: _ } => Kind::Thin,
+        Query::DeviceList => Kind::Thin,
     }
 }
 
@@ -134,6 +146,8 @@ fn put_text<K: Sink, A: Device>(
         Query::Dump(Kind::Thin) => put_thin_dump(alloc, file, out, input),
         Query::Dump(Kind::Cache) => unreachable!(),
         Query::Dump(Kind::Era) => unreachable!(),
+        Query::ReverseMap { first, end } => put_rmap(alloc, first, end, file, out, input),
+        Query::DeviceList => put_list(alloc, file, out, input),
     }
 }
 
@@ -164,6 +178,85 @@ fn put_thin_dump<K: Sink, A: Device>(
     match dump.put(input, out) {
         Ok(()) => Ok(()),
         Err(fault) => Err(stop_of(fault)),
+    }
+}
+
+/// Puts the reverse map of a region.
+fn put_rmap<K: Sink, A: Device>(
+    alloc: Global,
+    first: u64,
+    end: u64,
+    file: Option<&str>,
+    out: &mut K,
+    input: &mut A,
+) -> Result<(), Stop>
+    requires out { (K.state out.old).access ≡ 0 }
+    requires input { (A.state input.old).access ≡ 1 }
+    ensures text { PutsAnswer Thin (λ image. rmap_lines first end (thin_meaning image)) result (A.state input.old).held (K.state out.old).written (K.state out.new).written }
+    ensures kept { OnlyReads (A.state input.old) (A.state input.new) }
+    ensures used { IsUsed (reading (unwrap_or (option_copied file.entry) [])) (K.state out.new).access (K.state out.new).path }
+    ensures access { OnOk result ((K.state out.new).access ≡ 1) }
+    ensures stopped { IfErr result (IsUnput (A.state input.old).faults (A.state input.new).faults (K.state out.old).faults (K.state out.new).faults) }
+{
+    let s = match super_to_ask(file, out, input) {
+        Ok(s) => s,
+        Err(stop) => return Err(stop),
+    };
+    match rmap(alloc, input, &s, first, end, out) {
+        Ok(()) => Ok(()),
+        Err(fault) => Err(stop_of(fault)),
+    }
+}
+
+/// Puts the list of a pool's devices.
+fn put_list<K: Sink, A: Device>(
+    alloc: Global,
+    file: Option<&str>,
+    out: &mut K,
+    input: &mut A,
+) -> Result<(), Stop>
+    requires out { (K.state out.old).access ≡ 0 }
+    requires input { (A.state input.old).access ≡ 1 }
+    ensures text { PutsAnswer Thin (λ image. list_lines (thin_meaning image)) result (A.state input.old).held (K.state out.old).written (K.state out.new).written }
+    ensures kept { OnlyReads (A.state input.old) (A.state input.new) }
+    ensures used { IsUsed (reading (unwrap_or (option_copied file.entry) [])) (K.state out.new).access (K.state out.new).path }
+    ensures access { OnOk result ((K.state out.new).access ≡ 1) }
+    ensures stopped { IfErr result (IsUnput (A.state input.old).faults (A.state input.new).faults (K.state out.old).faults (K.state out.new).faults) }
+{
+    let s = match super_to_ask(file, out, input) {
+        Ok(s) => s,
+        Err(stop) => return Err(stop),
+    };
+    match list_devices(alloc, input, &s, out) {
+        Ok(()) => Ok(()),
+        Err(fault) => Err(stop_of(fault)),
+    }
+}
+
+/// The superblock of a pool that is to be asked; `out` is attached for the answer.
+fn super_to_ask<K: Sink, A: Device>(
+    file: Option<&str>,
+    out: &mut K,
+    input: &mut A,
+) -> Result<ThinSuper, Stop>
+    requires out { (K.state out.old).access ≡ 0 }
+    requires input { (A.state input.old).access ≡ 1 }
+    ensures fields { IfOk result (λ s. IfSome (A.state input.old).held (λ image. faults Thin Whole image ≡ [] → s ≡ thin_fields (block_at image 0))) }
+    ensures kept { OnlyReads (A.state input.old) (A.state input.new) }
+    ensures written { (K.state out.new).written ≡ (K.state out.old).written }
+    ensures used { IsUsed (reading (unwrap_or (option_copied file.entry) [])) (K.state out.new).access (K.state out.new).path }
+    ensures access { OnOk result ((K.state out.new).access ≡ 1) }
+    ensures faults { OnOk result (((A.state input.new).faults ≡ (A.state input.old).faults) × ((K.state out.new).faults ≡ (K.state out.old).faults)) }
+    ensures stopped { IfErr result (IsUnput (A.state input.old).faults (A.state input.new).faults (K.state out.old).faults (K.state out.new).faults) }
+{
+    rows_are_the_devices();
+    let s = match read_super(input) {
+        Ok(s) => s,
+        Err(_) => return Err(Stop::Device),
+    };
+    match out.attach(file) {
+        Ok(()) => Ok(s),
+        Err(_) => Err(Stop::Stream),
     }
 }
 

@@ -121,8 +121,29 @@ fn run_request<S: Source, K: Sink, E: Sink, A: Device, B: Device>(
         ),
         Request::Repair { .. } => unreachable!(),
         Request::Search { .. } => unreachable!(),
-        Request::Rmap { .. } => unreachable!(),
-        Request::List { .. } => unreachable!(),
+        Request::Rmap {
+            first,
+            end,
+            image,
+            out: file,
+        } => run_query(
+            alloc,
+            Query::ReverseMap { first, end },
+            file_in(words, file),
+            image.word_in(words),
+            out,
+            notes,
+            input,
+        ),
+        Request::List { image, out: file } => run_query(
+            alloc,
+            Query::DeviceList,
+            file_in(words, file),
+            image.word_in(words),
+            out,
+            notes,
+            input,
+        ),
         Request::Since { .. } => unreachable!(),
         Request::Generate { number, out: file } => {
             run_generate(number, file_in(words, file), out, notes)

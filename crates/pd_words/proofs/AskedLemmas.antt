@@ -6,8 +6,8 @@ use Rattle.std.proofs.lemmas.Bool.{cases_Bool, true≢false}
 use Rattle.std.proofs.Math.Dec.{eqb-suc-zero}
 use Rattle.pd_kinds.specs.declared.kind.Kind.{Kind}
 use Rattle.pd_kinds.specs.declared.kind.Stage.{Stage}
-use Rattle.pd_answers.specs.Requests.{Request, dump, restore, generate, rehearse, is_built}
-use Rattle.pd_answers.specs.Words.{Item, items_of, Given, given, sole, at_most_one, is_set, last_stage, version_of, generated_number, image_word, clear_word, shared_word, until_word, check_with, repair_with, Tool, check_tool, dump_tool, restore_tool, repair_tool, rmap_tool, list_tool, since_tool, generate_tool, rehearse_tool, tool_of, request_of, is_known, known, spelled, built, asked}
+use Rattle.pd_answers.specs.Requests.{Request, dump, restore, rmap, list_devices, generate, rehearse, is_built}
+use Rattle.pd_answers.specs.Words.{Item, items_of, Given, given, sole, at_most_one, is_set, last_stage, version_of, Region, region_of, generated_number, image_word, clear_word, shared_word, until_word, check_with, repair_with, Tool, check_tool, dump_tool, restore_tool, repair_tool, rmap_tool, list_tool, since_tool, generate_tool, rehearse_tool, tool_of, request_of, is_known, known, spelled, built, asked}
 use Rattle.pd_words.specs.Items.{is_read, read}
 use Rattle.pd_words.specs.Words.{dump_as}
 
@@ -48,8 +48,8 @@ unbuilt-items (check_tool kind) items none = absurd (true≢false none)
 unbuilt-items (dump_tool kind) items none = absurd (true≢false none)
 unbuilt-items (restore_tool kind) items none = absurd (true≢false none)
 unbuilt-items repair_tool items none = search (never, repair-never) depth 8
-unbuilt-items rmap_tool items none = search never
-unbuilt-items list_tool items none = search never
+unbuilt-items rmap_tool items none = absurd (true≢false none)
+unbuilt-items list_tool items none = absurd (true≢false none)
 unbuilt-items since_tool items none = search never
 unbuilt-items generate_tool items none = absurd (true≢false none)
 unbuilt-items rehearse_tool items none = absurd (true≢false none)
@@ -178,3 +178,33 @@ unfolding request_of
 rehearse_given None named image word number path request named_is one number_is image_is one_image is = tt
 rehearse_given (Some items) named image word number path request named_is one number_is image_is one_image is =
     rw (← named_is, ← one, ← number_is, ← image_is, ← one_image) is
+
+-- no region was given for the reverse map
+pub no_region : (items : Option (List Item)) (named : Given) (word : List ℕ)
+    → IfSome items (λ all. named ≡ given (codes "--region") all) → Some word ≡ sole named → None ≡ region_of word
+    → IfSome items (λ all. None ≡ request_of rmap_tool all)
+unfolding request_of
+no_region None named word named_is one none = tt
+no_region (Some items) named word named_is one none = rw (← named_is, ← one, ← none) refl
+
+-- the reverse map, by what was given for the region, for the file and for the image
+pub rmap_given : (items : Option (List Item)) (named file image : Given) (word : List ℕ) (region : Region) (path : Option (List ℕ)) (of : List ℕ) (request : Option Request)
+    → IfSome items (λ all. named ≡ given (codes "--region") all) → Some word ≡ sole named → Some region ≡ region_of word
+    → IfSome items (λ all. file ≡ given (codes "-o") all) → Some path ≡ at_most_one file
+    → IfSome items (λ all. image ≡ given image_word all) → Some of ≡ sole image
+    → request ≡ Some (rmap region.first region.end path of)
+    → IfSome items (λ all. request ≡ request_of rmap_tool all)
+unfolding request_of
+rmap_given None named file image word region path of request named_is one region_is file_is at_most image_is one_image is = tt
+rmap_given (Some items) named file image word region path of request named_is one region_is file_is at_most image_is one_image is =
+    rw (← named_is, ← one, ← region_is, ← file_is, ← at_most, ← image_is, ← one_image) is
+
+-- the list of devices, by what was given for the file and for the image
+pub list_given : (items : Option (List Item)) (file image : Given) (path : Option (List ℕ)) (of : List ℕ) (request : Option Request)
+    → IfSome items (λ all. file ≡ given (codes "-o") all) → Some path ≡ at_most_one file
+    → IfSome items (λ all. image ≡ given image_word all) → Some of ≡ sole image
+    → request ≡ Some (list_devices path of)
+    → IfSome items (λ all. request ≡ request_of list_tool all)
+unfolding request_of
+list_given None file image path of request file_is at_most image_is one_image is = tt
+list_given (Some items) file image path of request file_is at_most image_is one_image is = rw (← file_is, ← at_most, ← image_is, ← one_image) is

@@ -8,7 +8,7 @@ use Rattle.pd_words.specs.declared.items.Place.{Place}
 use Rattle.pd_words.specs.declared.items.Given.{Given}
 use Rattle.pd_words.specs.declared.items.Given.TheVariants.{Never, Once, Often}
 use Rattle.pd_words.specs.declared.items.Tool.{Tool}
-use Rattle.pd_words.specs.declared.items.Tool.TheVariants.{Check, Dump, Restore, Generate, Rehearse}
+use Rattle.pd_words.specs.declared.items.Tool.TheVariants.{Check, Dump, Restore, ReverseMap, DeviceList, Generate, Rehearse}
 
 -- the word that a name stands for
 abbrev pub word_at : List (List ℕ) → ℕ → List ℕ
@@ -53,6 +53,8 @@ abbrev pub tool_as : Tool → asked.Tool
 tool_as (Check kind) = asked.check_tool kind
 tool_as (Dump kind) = asked.dump_tool kind
 tool_as (Restore kind) = asked.restore_tool kind
+tool_as ReverseMap = asked.rmap_tool
+tool_as DeviceList = asked.list_tool
 tool_as Generate = asked.generate_tool
 tool_as Rehearse = asked.rehearse_tool
 
@@ -65,6 +67,8 @@ abbrev pub is_read : asked.Tool → Bool
 is_read (asked.check_tool kind) = true
 is_read (asked.dump_tool kind) = true
 is_read (asked.restore_tool kind) = true
+is_read asked.rmap_tool = true
+is_read asked.list_tool = true
 is_read asked.generate_tool = true
 is_read asked.rehearse_tool = true
 is_read _ = false

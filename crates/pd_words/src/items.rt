@@ -18,6 +18,10 @@ pub enum Tool {
     Dump(Kind),
     /// thin_restore, cache_restore, era_restore
     Restore(Kind),
+    /// thin_rmap
+    ReverseMap,
+    /// thin_ls
+    DeviceList,
     /// thin_generate
     Generate,
     /// thin_rehearse
@@ -71,6 +75,8 @@ pub fn tool_named(word: &str) -> Option<Tool>
         "thin_restore" => Some(Tool::Restore(Kind::Thin)),
         "cache_restore" => Some(Tool::Restore(Kind::Cache)),
         "era_restore" => Some(Tool::Restore(Kind::Era)),
+        "thin_rmap" => Some(Tool::ReverseMap),
+        "thin_ls" => Some(Tool::DeviceList),
         "thin_generate" => Some(Tool::Generate),
         "thin_rehearse" => Some(Tool::Rehearse),
         _ => None,
@@ -99,6 +105,8 @@ pub fn is_purpose(tool: Tool, word: &str) -> bool
             Kind::Cache => word == "--metadata-version" || word == "-i" || word == "-o",
             Kind::Era => word == "-i" || word == "-o",
         },
+        Tool::ReverseMap => word == "--region" || word == "-o" || word == "IMAGE",
+        Tool::DeviceList => word == "-o" || word == "IMAGE",
         Tool::Generate => word == "--number" || word == "-o",
         Tool::Rehearse => word == "--number" || word == "-o",
     }

@@ -1,13 +1,14 @@
 ghost use Rattle.std.specs.Prelude.{◌≡◌, ℕ, List, true, map, drop, string_bytes, length, IfSome, IfOk};
 ghost use Rattle.std.specs.Option.{option_map};
-ghost use Rattle.pd_answers.specs.Words.{asked, stage_of, last_stage, version_of, generated_number, items_of, sole, at_most_one, is_set, check_with};
+ghost use Rattle.pd_answers.specs.Words.{asked, stage_of, last_stage, version_of, region_of, generated_number, items_of, sole, at_most_one, is_set, check_with};
 ghost use Rattle.pd_answers.specs.Words as words_spec;
 ghost use Rattle.pd_answers.specs.Requests.{is_built};
 ghost use Rattle.pd_words.specs.Items.{given_as, IsGivenWithin, tool_as};
+ghost use Rattle.pd_words.specs.Numbers.{region_as};
 ghost use Rattle.pd_words.specs.Words.{request_as, read_as, answer_as, dump_as, word_of, words_of, AreNames, IsName, IsNameIfAny};
 
 use crate::items::{Given, IMAGE, Tool, are_items, given_for, tool_named};
-use crate::numbers::number_below;
+use crate::numbers::{Region, number_below, read_region};
 use crate::request::{Name, Request, WordFault};
 use pd_kinds::{Kind, Stage};
 
@@ -94,6 +95,13 @@ fn is_built(request: &Request) -> bool
             Kind::Thin => true,
             _ => false,
         },
+        Request::Rmap {
+            first: _,
+            end: _,
+            image: _,
+            out: _,
+        } => true,
+        Request::List { image: _, out: _ } => true,
         Request::Generate { number: _, out: _ } => true,
         _ => false,
     }
@@ -108,6 +116,8 @@ fn read_request(tool: Tool, words: &[String]) -> Option<Request>
         Tool::Check(kind) => read_check(kind, words),
         Tool::Dump(kind) => read_dump(kind, words),
         Tool::Restore(kind) => read_restore(kind, words),
+        Tool::ReverseMap => read_rmap(words),
+        Tool::DeviceList => read_list(words),
         Tool::Generate => read_generate(words),
         Tool::Rehearse => read_rehearse(words),
     }
@@ -197,6 +207,42 @@ fn read_restore(kind: Kind, words: &[String]) -> Option<Request>
         image,
         version,
     })
+}
+
+/// What the words ask of the reverse map.
+#[tactic(auto, unfolding(pd_answers::specs::Words::request_of))]
+fn read_rmap(words: &[String]) -> Option<Request>
+    ensures asked { IfSome (items_of (drop 1 (map string_bytes words.now))) (λ items. read_as (map string_bytes words.now) result ≡ words_spec.request_of words_spec.rmap_tool items) }
+    ensures names { IfSome result (AreNames (length words.now)) }
+{
+    let region = region_named(words, required(given_for(words, 1, "--region"))?)?;
+    let out = optional(given_for(words, 1, "-o"))?;
+    let image = required(given_for(words, 1, IMAGE))?;
+    Some(Request::Rmap {
+        first: region.first,
+        end: region.end,
+        image,
+        out,
+    })
+}
+
+/// What the words ask of the list of devices.
+#[tactic(auto, unfolding(pd_answers::specs::Words::request_of))]
+fn read_list(words: &[String]) -> Option<Request>
+    ensures asked { IfSome (items_of (drop 1 (map string_bytes words.now))) (λ items. read_as (map string_bytes words.now) result ≡ words_spec.request_of words_spec.list_tool items) }
+    ensures names { IfSome result (AreNames (length words.now)) }
+{
+    let out = optional(given_for(words, 1, "-o"))?;
+    let image = required(given_for(words, 1, IMAGE))?;
+    Some(Request::List { image, out })
+}
+
+/// The region that a word names.
+fn region_named(words: &[String], name: Name) -> Option<Region>
+    requires { IsName (length words.now) name }
+    ensures { region_as result ≡ region_of (word_of (map string_bytes words.now) name) }
+{
+    read_region(name.word_in(words))
 }
 
 /// What the words ask of the generator.

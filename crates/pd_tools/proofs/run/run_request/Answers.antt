@@ -10,7 +10,8 @@ use Rattle.pd_answers.specs.Promises.{check, generate, terms_of}
 use Rattle.pd_answers.specs.Restores.{restore}
 use Rattle.std.specs.Option.{option_copied}
 use Rattle.pd_words.specs.Words.{word_of, words_of}
-use Rattle.pd_tools.specs.declared.query.Query.TheVariants.{Dump}
+use Rattle.pd_tools.specs.declared.query.Query.{Query}
+use Rattle.pd_tools.specs.declared.query.Query.TheVariants.{Dump, ReverseMap, DeviceList}
 use Rattle.pd_tools.specs.Query.{terms_of_query}
 use Rattle.pd_tools.specs.Work.{Answers}
 use Rattle.pd_tools.proofs.AtRest.{no_flag, no_shared}
@@ -44,6 +45,25 @@ returns-in-Dump g c others =
     let words = map string_bytes c.args.words.now in
     rw c.in-Dump.is (dump_as_asked c.in-Dump.kind c.in-Dump.shared (words_of words c.in-Dump.file) (option_copied c.file_in.result) (word_of words c.in-Dump.image) c.word_in-in-Dump.result.now _ _ _ _
     (rw c.in-Dump.is at c.requires.built) c.file_in.ensures c.word_in-in-Dump.ensures (c.run_query.ensures (record others { source = g.S.Source.state c.args.source.now; output = g.B.Device.state c.args.output.now })))
+
+-- so with another query
+query_as_asked : (query : Query) (file given : Option (List ℕ)) (path word : List ℕ) (attached : SinkState) (before after : Objects) (status : ℕ)
+    → given ≡ file → word ≡ path → Answers (terms_of_query query given word) attached before after status → Answers (terms_of_query query file path) attached before after status
+query_as_asked query file given path word attached before after status file_is same answers = rw (file_is, same) at answers
+
+pub returns-in-Rmap : goal.returns-in-Rmap
+returns-in-Rmap g c others =
+    let words = map string_bytes c.args.words.now in
+    let w = c.in-Rmap in
+    rw w.is (query_as_asked (ReverseMap w.first w.end) (words_of words w.file) (option_copied c.file_in-in-Rmap.result) (word_of words w.image) c.word_in-in-Rmap.result.now _ _ _ _
+    c.file_in-in-Rmap.ensures c.word_in-in-Rmap.ensures (c.run_query-in-Rmap.ensures (record others { source = g.S.Source.state c.args.source.now; output = g.B.Device.state c.args.output.now })))
+
+pub returns-in-List : goal.returns-in-List
+returns-in-List g c others =
+    let words = map string_bytes c.args.words.now in
+    let w = c.in-List in
+    rw w.is (query_as_asked DeviceList (words_of words w.file) (option_copied c.file_in-in-List.result) (word_of words w.image) c.word_in-in-List.result.now _ _ _ _
+    c.file_in-in-List.ensures c.word_in-in-List.ensures (c.run_query-in-List.ensures (record others { source = g.S.Source.state c.args.source.now; output = g.B.Device.state c.args.output.now })))
 
 -- the restore of these words is the one that is asked
 restored_as_asked : (kind : Kind) (version : ℕ) (file path text image : List ℕ) (attached : SinkState) (before after : Objects) (status : ℕ)

@@ -42,6 +42,14 @@ pub returns-in-era_restore : goal.returns-in-era_restore
 unfolding tool_in
 returns-in-era_restore c = rw c.in-era_restore.is refl
 
+pub returns-in-thin_rmap : goal.returns-in-thin_rmap
+unfolding tool_in
+returns-in-thin_rmap c = rw c.in-thin_rmap.is refl
+
+pub returns-in-thin_ls : goal.returns-in-thin_ls
+unfolding tool_in
+returns-in-thin_ls c = rw c.in-thin_ls.is refl
+
 pub returns-in-thin_generate : goal.returns-in-thin_generate
 unfolding tool_in
 returns-in-thin_generate c = rw c.in-thin_generate.is refl
@@ -87,7 +95,7 @@ returns-in_default c =
                     inr w.not-cache_restore,
                     (
                       inr w.not-era_restore,
-                      (inl refl, (inl refl, (inl refl, (inl refl, (inr w.not-thin_generate, (inr w.not-thin_rehearse, tt)))))),
+                      (inl refl, (inr w.not-thin_rmap, (inr w.not-thin_ls, (inl refl, (inr w.not-thin_generate, (inr w.not-thin_rehearse, tt)))))),
                     ),
                   ),
                 ),
