@@ -4,10 +4,12 @@
 //! that comes to in an image without faults.
 #![tactic(auto)]
 
+mod counts;
 mod fault;
 mod lines;
 mod thin_dump;
 mod thin_lines;
 
+pub use counts::DumpCounts;
 pub use fault::QueryFault;
 pub use thin_dump::ThinDump;
