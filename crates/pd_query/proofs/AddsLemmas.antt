@@ -142,20 +142,20 @@ module _ (held : Option (List (List ℕ))) where
       front_in later so_far (each_told held cut) stopped
 
   -- all that was gathered from the start on was put, or a front of it
-  pub text_put : {E : Type 0} {text_of : List (List ℕ) → List ℕ} {mid : List ℕ} {before between after : Option (List ℕ)} → AddsSome held text_of [] mid before between
-      → ((total : List ℕ) (start : Option (List ℕ)) → Gathers total mid start between → Appends total start after) → PutsText {E = E} held text_of (Ok tt) before after
-  text_put {E} {text_of} {mid} {before} {between} {after} some whole =
+  pub text_put : {T E : Type 0} (value : T) {text_of : List (List ℕ) → List ℕ} {mid : List ℕ} {before between after : Option (List ℕ)} → AddsSome held text_of [] mid before between
+      → ((total : List ℕ) (start : Option (List ℕ)) → Gathers total mid start between → Appends total start after) → PutsText {T = T} {E = E} held text_of (Ok value) before after
+  text_put {T} {E} value {text_of} {mid} {before} {between} {after} some whole =
       let all = whole some.text before (some.adds.gathered [] before (gathers_start before)) in
       record { text = some.text; told = some.told; whole = all; front = front_from_whole some.text before after all }
 
-  pub text_lost : {E : Type 0} (fault : E) {text_of : List (List ℕ) → List ℕ} {mid : List ℕ} {before between after : Option (List ℕ)} → AddsSome held text_of [] mid before between
-      → ((total : List ℕ) (start : Option (List ℕ)) → Gathers total mid start between → AppendsFront total start after) → PutsText {E = E} held text_of (Err fault) before after
-  text_lost fault {text_of} {mid} {before} some front =
+  pub text_lost : {T E : Type 0} (fault : E) {text_of : List (List ℕ) → List ℕ} {mid : List ℕ} {before between after : Option (List ℕ)} → AddsSome held text_of [] mid before between
+      → ((total : List ℕ) (start : Option (List ℕ)) → Gathers total mid start between → AppendsFront total start after) → PutsText {T = T} {E = E} held text_of (Err fault) before after
+  text_lost {T} {E} fault {text_of} {mid} {before} some front =
       record { text = some.text; told = some.told; whole = tt; front = front some.text before (some.adds.gathered [] before (gathers_start before)) }
 
-  pub text_stopped : {E : Type 0} (fault : E) {text_of : List (List ℕ) → List ℕ} {before after : Option (List ℕ)} → PutsFront held text_of [] before after
-      → PutsText {E = E} held text_of (Err fault) before after
-  text_stopped fault {text_of} {before} stopped =
+  pub text_stopped : {T E : Type 0} (fault : E) {text_of : List (List ℕ) → List ℕ} {before after : Option (List ℕ)} → PutsFront held text_of [] before after
+      → PutsText {T = T} {E = E} held text_of (Err fault) before after
+  text_stopped {T} {E} fault {text_of} {before} stopped =
       record { text = stopped.text; told = stopped.told; whole = tt; front = stopped.front [] before (gathers_start before) }
 
 -- what two calls keep

@@ -34,6 +34,9 @@ pub row_first : (image : List (List ℕ)) (row : DeviceRow) (left later : List D
 row_first image row left later is = rw is (text-append (row_lines image row) _)
 
 -- no run below a block outside of the image
+pub no_runs_outside : (image : List (List ℕ)) (root : ℕ) → length image ≤ root → runs_below image root ≡ []
+no_runs_outside image root outside = rw (items_outside 8 block_time_of image 63 root outside) refl
+
 pub none_outside : (image : List (List ℕ)) (root : ℕ) → length image ≤ root → given_text (runs_below image root) ≡ []
 none_outside image root outside = rw (items_outside 8 block_time_of image 63 root outside) refl
 

@@ -24,7 +24,7 @@ pub record PutsFront (held : Option (List (List ℕ))) (text_of : List (List ℕ
   pub front : (total : List ℕ) (start : Option (List ℕ)) → Gathers total old start before → AppendsFront (total ++ text) start after
 
 -- such a text was put, or a front of it where the work failed
-pub record PutsText {E : Type 0} (held : Option (List (List ℕ))) (text_of : List (List ℕ) → List ℕ) (result : Result (Unit {0}) E) (before after : Option (List ℕ)) : Type 0 where
+pub record PutsText {T E : Type 0} (held : Option (List (List ℕ))) (text_of : List (List ℕ) → List ℕ) (result : Result T E) (before after : Option (List ℕ)) : Type 0 where
   pub text : List ℕ
   pub told : IfSome held (λ image. text ≡ text_of image)
   pub whole : OnOk result (Appends text before after)

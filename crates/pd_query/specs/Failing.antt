@@ -11,7 +11,7 @@ HasFailed Device dev dev' out out' = Rose dev dev' × (dev ≤ dev') × (out' �
 HasFailed Sink dev dev' out out' = Rose out out' × (out ≤ out') × (dev' ≡ dev)
 
 -- the faults of a device and of a sink are as they were at Ok, and only the one that failed has more
-abbrev pub Fails : Result (Unit {0}) QueryFault → ℕ → ℕ → ℕ → ℕ → Type 0
+abbrev pub Fails : {T : Type 0} → Result T QueryFault → ℕ → ℕ → ℕ → ℕ → Type 0
 Fails result dev dev' out out' = MatchResult result (λ _. (dev' ≡ dev) × (out' ≡ out)) (λ fault. HasFailed fault dev dev' out out')
 
 -- a sink alone

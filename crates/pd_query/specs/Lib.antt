@@ -2,3 +2,5 @@ pub mod Adds
 pub mod Failing
 pub mod ThinText
 pub mod ThinDump
+pub mod Mapped
+pub mod Counts

@@ -4,11 +4,13 @@
 //! that comes to in an image without faults.
 #![tactic(auto)]
 
+mod counts;
 mod fault;
 mod lines;
 mod thin_dump;
 mod thin_lines;
 
+pub use counts::DumpCounts;
 pub use fault::QueryFault;
 pub use thin_dump::ThinDump;
 pub use thin_lines::{devices_of, read_super};

@@ -1,5 +1,6 @@
 //! The dump of a pool.
 
+use crate::counts::DumpCounts;
 use crate::fault::QueryFault;
 use crate::thin_lines::{add_first_lines, devices_of, read_super};
 use pd_image::{Device, Sink};
@@ -26,8 +27,10 @@ impl ThinDump {
     ghost use Rattle.pd_image.specs.Sink.{KeepsSink};
     ghost use Rattle.pd_query.specs.Adds.{PutsText};
     ghost use Rattle.pd_query.specs.Failing.{Fails, StartFails};
-    ghost use Rattle.pd_query.specs.ThinDump.{dump_room, text_left};
+    ghost use Rattle.pd_query.specs.Counts.{IsCountOf};
+    ghost use Rattle.pd_query.specs.ThinDump.{dump_room, lines_left, text_left, used_of};
     ghost use Rattle.pd_query.specs.ThinText.{dump_text};
+    ghost use Rattle.pd_pool.specs.Given.{super_lines};
 
     /// Reads the superblock of a pool, and takes the memory for its dump: three cursors over trees.
     ///
@@ -35,6 +38,8 @@ impl ThinDump {
     pub fn start<D: Device>(alloc: Global, dev: &mut D) -> Result<ThinDump, QueryFault>
         requires { IsAttached (D.state dev.old) }
         ensures text { IfOk result (λ dump. IfSome (D.state dev.old).held (λ image. 1 ≤ length image → text_left image dump ≡ dump_text image (thin_fields (block_at image 0)))) }
+        ensures lines { IfOk result (λ dump. IfSome (D.state dev.old).held (λ image. 1 ≤ length image → lines_left image dump ≡ super_lines image (thin_fields (block_at image 0)))) }
+        ensures used { IfOk result (λ dump. IfSome (D.state dev.old).held (λ image. 1 ≤ length image → used_of dump ≡ (thin_fields (block_at image 0)).meta_map.allocated)) }
         ensures room { IfOk result (λ dump. dump_room dump ≤ (D.state dev.old).blocks) }
         ensures kept { OnlyReads (D.state dev.old) (D.state dev.new) }
         ensures faults { StartFails result (D.state dev.old).faults (D.state dev.new).faults }
@@ -52,11 +57,20 @@ impl ThinDump {
     /// Takes the memory for the dump of the pool with this superblock, in a device of so many blocks.
     fn over(alloc: Global, s: ThinSuper, blocks: u64) -> Result<ThinDump, AllocError>
         ensures text { (image : List (List ℕ)) → length image ≡ blocks → IfOk result (λ dump. text_left image dump ≡ dump_text image s) }
+        ensures lines { (image : List (List ℕ)) → length image ≡ blocks → IfOk result (λ dump. lines_left image dump ≡ super_lines image s) }
+        ensures used { IfOk result (λ dump. used_of dump ≡ s.meta_map.allocated) }
         ensures room { IfOk result (λ dump. dump_room dump ≤ blocks) }
     {
         let runs = MapRuns::start(alloc, s.mapping_root)?;
         let devices = devices_of(alloc, &s, blocks)?;
         Ok(ThinDump { s, devices, runs })
+    }
+
+    /// How many metadata blocks the pool uses, as its superblock says.
+    pub fn used(&self) -> u64
+        ensures { result ≡ used_of self.now }
+    {
+        self.s.meta_map.allocated
     }
 
     /// Puts the pool's text, once. It takes no memory.
@@ -71,17 +85,40 @@ impl ThinDump {
         ensures sink { KeepsSink (K.state out.old) (K.state out.new) }
         ensures faults { Fails result (D.state dev.old).faults (D.state dev.new).faults (K.state out.old).faults (K.state out.new).faults }
     {
+        match self.put_counted(dev, out) {
+            Ok(_) => Ok(()),
+            Err(fault) => Err(fault),
+        }
+    }
+
+    /// Puts the pool's text in the same way, and answers what it counted of the lines that it put.
+    pub fn put_counted<D: Device, K: Sink>(
+        &mut self,
+        dev: &mut D,
+        out: &mut K,
+    ) -> Result<DumpCounts, QueryFault>
+        requires dev { IsAttached (D.state dev.old) }
+        requires out { (K.state out.old).access ≡ 1 }
+        requires within { dump_room self.old ≤ (D.state dev.old).blocks }
+        ensures text { PutsText (D.state dev.old).held (λ image. text_left image self.old) result (K.state out.old).written (K.state out.new).written }
+        ensures counted { IfOk result (λ counts. IfSome (D.state dev.old).held (λ image. IsCountOf counts (lines_left image self.old))) }
+        ensures kept { OnlyReads (D.state dev.old) (D.state dev.new) }
+        ensures sink { KeepsSink (K.state out.old) (K.state out.new) }
+        ensures faults { Fails result (D.state dev.old).faults (D.state dev.new).faults (K.state out.old).faults (K.state out.new).faults }
+    {
         let mut pieces = Pieces::new();
+        let mut counts = DumpCounts::none();
         match add_first_lines(
             &self.s,
             &mut self.devices,
             &mut self.runs,
             dev,
             &mut pieces,
+            &mut counts,
             out,
         ) {
             Ok(()) => match pieces.put(out) {
-                Ok(()) => Ok(()),
+                Ok(()) => Ok(counts),
                 Err(_) => Err(QueryFault::Sink),
             },
             Err(fault) => Err(fault),

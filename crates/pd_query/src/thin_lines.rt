@@ -1,6 +1,7 @@
 //! The lines of a pool, gathered.
 
-ghost use Rattle.std.specs.Prelude.{◌≡◌, ◌≤◌, ◌++◌, ℕ, List, MatchResult, IfOk, IfSome, length};
+ghost use Rattle.std.specs.Prelude.{◌≡◌, ◌≤◌, ◌++◌, ◌∷◌, [], ℕ, List, map, MatchResult, OnOk, IfOk, IfSome, length};
+ghost use Rattle.std.specs.List.{flat_map};
 ghost use Rattle.pd_kinds.specs.Objects.{DeviceState, CountsFault};
 ghost use Rattle.pd_kinds.specs.Graph.{block_at};
 ghost use Rattle.pd_kinds.specs.ThinSuper.{thin_fields};
@@ -11,13 +12,15 @@ ghost use Rattle.pd_pool.specs.Runs.{runs_below, runs_left, runs_room};
 ghost use Rattle.pd_spells.specs.ThinText as p;
 ghost use Rattle.pd_spells.specs.ThinText.{thin};
 ghost use Rattle.pd_texts.specs.Printed.{text_of_line};
-ghost use Rattle.pd_pool.specs.Given.{super_head, super_rows};
+ghost use Rattle.pd_pool.specs.Given.{row_lines, super_head, super_rows};
 ghost use Rattle.pd_pool.specs.Joined.{spelled};
 ghost use Rattle.pd_texts.specs.ThinLine.{line_of};
 ghost use Rattle.pd_query.specs.Adds.{AddsSome, PutsFront};
+ghost use Rattle.pd_query.specs.Counts.{CountsSome};
 ghost use Rattle.pd_query.specs.Failing.{Fails};
 ghost use Rattle.pd_query.specs.ThinText.{given_text, rest_text, row_text, rows_text, some_room, some_rows};
 
+use crate::counts::DumpCounts;
 use crate::fault::QueryFault;
 use crate::lines::{add_end_line, add_first_line, add_line};
 use pd_image::{Device, Failed, Sink};
@@ -58,6 +61,7 @@ fn add_runs<D: Device, K: Sink>(
     runs: &mut MapRuns,
     dev: &mut D,
     pieces: &mut Pieces,
+    counts: &mut DumpCounts,
     out: &mut K,
 ) -> Result<(), QueryFault>
     requires dev { IsAttached (D.state dev.old) }
@@ -66,6 +70,7 @@ fn add_runs<D: Device, K: Sink>(
     ensures lines { MatchResult result
         (λ _. AddsSome (D.state dev.old).held (λ image. given_text (runs_left image runs.old)) pieces.old pieces.new (K.state out.old).written (K.state out.new).written)
         (λ _. PutsFront (D.state dev.old).held (λ image. given_text (runs_left image runs.old)) pieces.old (K.state out.old).written (K.state out.new).written) }
+    ensures counted { OnOk result (CountsSome (D.state dev.old).held (λ image. map p.map_line (map spelled (runs_left image runs.old))) counts.old counts.new) }
     ensures kept { OnlyReads (D.state dev.old) (D.state dev.new) }
     ensures sink { KeepsSink (K.state out.old) (K.state out.new) }
     ensures faults { Fails result (D.state dev.old).faults (D.state dev.new).faults (K.state out.old).faults (K.state out.new).faults }
@@ -76,7 +81,7 @@ fn add_runs<D: Device, K: Sink>(
             Err(_) => return Err(QueryFault::Device),
         };
         match run {
-            Some(run) => match add_line(&map_line(&run), pieces, out) {
+            Some(run) => match add_line(&map_line(&run), pieces, counts, out) {
                 Ok(()) => {}
                 Err(fault) => return Err(fault),
             },
@@ -91,6 +96,7 @@ fn add_runs_of<D: Device, K: Sink>(
     runs: &mut MapRuns,
     dev: &mut D,
     pieces: &mut Pieces,
+    counts: &mut DumpCounts,
     out: &mut K,
 ) -> Result<(), QueryFault>
     requires dev { IsAttached (D.state dev.old) }
@@ -98,6 +104,7 @@ fn add_runs_of<D: Device, K: Sink>(
     ensures lines { MatchResult result
         (λ _. AddsSome (D.state dev.old).held (λ image. given_text (runs_below image root)) pieces.old pieces.new (K.state out.old).written (K.state out.new).written)
         (λ _. PutsFront (D.state dev.old).held (λ image. given_text (runs_below image root)) pieces.old (K.state out.old).written (K.state out.new).written) }
+    ensures counted { OnOk result (CountsSome (D.state dev.old).held (λ image. map p.map_line (map spelled (runs_below image root))) counts.old counts.new) }
     ensures kept { OnlyReads (D.state dev.old) (D.state dev.new) }
     ensures sink { KeepsSink (K.state out.old) (K.state out.new) }
     ensures faults { Fails result (D.state dev.old).faults (D.state dev.new).faults (K.state out.old).faults (K.state out.new).faults }
@@ -106,7 +113,7 @@ fn add_runs_of<D: Device, K: Sink>(
         return Ok(());
     }
     runs.restart(root);
-    add_runs(runs, dev, pieces, out)
+    add_runs(runs, dev, pieces, counts, out)
 }
 
 /// Gathers the line of a device, and those of its runs.
@@ -115,6 +122,7 @@ fn add_device<D: Device, K: Sink>(
     runs: &mut MapRuns,
     dev: &mut D,
     pieces: &mut Pieces,
+    counts: &mut DumpCounts,
     out: &mut K,
 ) -> Result<(), QueryFault>
     requires dev { IsAttached (D.state dev.old) }
@@ -122,6 +130,7 @@ fn add_device<D: Device, K: Sink>(
     ensures lines { MatchResult result
         (λ _. AddsSome (D.state dev.old).held (λ image. row_text image row.now) pieces.old pieces.new (K.state out.old).written (K.state out.new).written)
         (λ _. PutsFront (D.state dev.old).held (λ image. row_text image row.now) pieces.old (K.state out.old).written (K.state out.new).written) }
+    ensures counted { OnOk result (CountsSome (D.state dev.old).held (λ image. row_lines image row.now) counts.old counts.new) }
     ensures kept { OnlyReads (D.state dev.old) (D.state dev.new) }
     ensures sink { KeepsSink (K.state out.old) (K.state out.new) }
     ensures faults { Fails result (D.state dev.old).faults (D.state dev.new).faults (K.state out.old).faults (K.state out.new).faults }
@@ -130,8 +139,8 @@ fn add_device<D: Device, K: Sink>(
         id: row.id,
         details: row.details,
     };
-    match add_line(&line, pieces, out) {
-        Ok(()) => add_runs_of(row.root, runs, dev, pieces, out),
+    match add_line(&line, pieces, counts, out) {
+        Ok(()) => add_runs_of(row.root, runs, dev, pieces, counts, out),
         Err(fault) => Err(fault),
     }
 }
@@ -142,6 +151,7 @@ fn add_devices<D: Device, K: Sink>(
     runs: &mut MapRuns,
     dev: &mut D,
     pieces: &mut Pieces,
+    counts: &mut DumpCounts,
     out: &mut K,
 ) -> Result<(), QueryFault>
     requires dev { IsAttached (D.state dev.old) }
@@ -150,6 +160,7 @@ fn add_devices<D: Device, K: Sink>(
     ensures lines { MatchResult result
         (λ _. AddsSome (D.state dev.old).held (λ image. rows_text image (rows_left image devices.old)) pieces.old pieces.new (K.state out.old).written (K.state out.new).written)
         (λ _. PutsFront (D.state dev.old).held (λ image. rows_text image (rows_left image devices.old)) pieces.old (K.state out.old).written (K.state out.new).written) }
+    ensures counted { OnOk result (CountsSome (D.state dev.old).held (λ image. flat_map (row_lines image) (rows_left image devices.old)) counts.old counts.new) }
     ensures kept { OnlyReads (D.state dev.old) (D.state dev.new) }
     ensures sink { KeepsSink (K.state out.old) (K.state out.new) }
     ensures faults { Fails result (D.state dev.old).faults (D.state dev.new).faults (K.state out.old).faults (K.state out.new).faults }
@@ -160,7 +171,7 @@ fn add_devices<D: Device, K: Sink>(
             Err(_) => return Err(QueryFault::Device),
         };
         match row {
-            Some(row) => match add_device(&row, runs, dev, pieces, out) {
+            Some(row) => match add_device(&row, runs, dev, pieces, counts, out) {
                 Ok(()) => {}
                 Err(fault) => return Err(fault),
             },
@@ -175,6 +186,7 @@ fn add_some_devices<D: Device, K: Sink>(
     runs: &mut MapRuns,
     dev: &mut D,
     pieces: &mut Pieces,
+    counts: &mut DumpCounts,
     out: &mut K,
 ) -> Result<(), QueryFault>
     requires dev { IsAttached (D.state dev.old) }
@@ -183,12 +195,13 @@ fn add_some_devices<D: Device, K: Sink>(
     ensures lines { MatchResult result
         (λ _. AddsSome (D.state dev.old).held (λ image. rows_text image (some_rows image devices.old)) pieces.old pieces.new (K.state out.old).written (K.state out.new).written)
         (λ _. PutsFront (D.state dev.old).held (λ image. rows_text image (some_rows image devices.old)) pieces.old (K.state out.old).written (K.state out.new).written) }
+    ensures counted { OnOk result (CountsSome (D.state dev.old).held (λ image. flat_map (row_lines image) (some_rows image devices.old)) counts.old counts.new) }
     ensures kept { OnlyReads (D.state dev.old) (D.state dev.new) }
     ensures sink { KeepsSink (K.state out.old) (K.state out.new) }
     ensures faults { Fails result (D.state dev.old).faults (D.state dev.new).faults (K.state out.old).faults (K.state out.new).faults }
 {
     match devices {
-        Some(devices) => add_devices(devices, runs, dev, pieces, out),
+        Some(devices) => add_devices(devices, runs, dev, pieces, counts, out),
         None => Ok(()),
     }
 }
@@ -199,6 +212,7 @@ fn add_last_lines<D: Device, K: Sink>(
     runs: &mut MapRuns,
     dev: &mut D,
     pieces: &mut Pieces,
+    counts: &mut DumpCounts,
     out: &mut K,
 ) -> Result<(), QueryFault>
     requires dev { IsAttached (D.state dev.old) }
@@ -207,12 +221,13 @@ fn add_last_lines<D: Device, K: Sink>(
     ensures lines { MatchResult result
         (λ _. AddsSome (D.state dev.old).held (λ image. rest_text image devices.old) pieces.old pieces.new (K.state out.old).written (K.state out.new).written)
         (λ _. PutsFront (D.state dev.old).held (λ image. rest_text image devices.old) pieces.old (K.state out.old).written (K.state out.new).written) }
+    ensures counted { OnOk result (CountsSome (D.state dev.old).held (λ image. flat_map (row_lines image) (some_rows image devices.old) ++ (p.end_line ∷ [])) counts.old counts.new) }
     ensures kept { OnlyReads (D.state dev.old) (D.state dev.new) }
     ensures sink { KeepsSink (K.state out.old) (K.state out.new) }
     ensures faults { Fails result (D.state dev.old).faults (D.state dev.new).faults (K.state out.old).faults (K.state out.new).faults }
 {
-    match add_some_devices(devices, runs, dev, pieces, out) {
-        Ok(()) => add_end_line(pieces, out),
+    match add_some_devices(devices, runs, dev, pieces, counts, out) {
+        Ok(()) => add_end_line(pieces, counts, out),
         Err(fault) => Err(fault),
     }
 }
@@ -224,6 +239,7 @@ fn add_pool_lines<D: Device, K: Sink>(
     runs: &mut MapRuns,
     dev: &mut D,
     pieces: &mut Pieces,
+    counts: &mut DumpCounts,
     out: &mut K,
 ) -> Result<(), QueryFault>
     requires dev { IsAttached (D.state dev.old) }
@@ -232,12 +248,13 @@ fn add_pool_lines<D: Device, K: Sink>(
     ensures lines { MatchResult result
         (λ _. AddsSome (D.state dev.old).held (λ image. text_of_line thin (p.pool_line (super_head s.now)) ++ rest_text image devices.old) pieces.old pieces.new (K.state out.old).written (K.state out.new).written)
         (λ _. PutsFront (D.state dev.old).held (λ image. text_of_line thin (p.pool_line (super_head s.now)) ++ rest_text image devices.old) pieces.old (K.state out.old).written (K.state out.new).written) }
+    ensures counted { OnOk result (CountsSome (D.state dev.old).held (λ image. p.pool_line (super_head s.now) ∷ (flat_map (row_lines image) (some_rows image devices.old) ++ (p.end_line ∷ []))) counts.old counts.new) }
     ensures kept { OnlyReads (D.state dev.old) (D.state dev.new) }
     ensures sink { KeepsSink (K.state out.old) (K.state out.new) }
     ensures faults { Fails result (D.state dev.old).faults (D.state dev.new).faults (K.state out.old).faults (K.state out.new).faults }
 {
-    match add_line(&pool_line(s), pieces, out) {
-        Ok(()) => add_last_lines(devices, runs, dev, pieces, out),
+    match add_line(&pool_line(s), pieces, counts, out) {
+        Ok(()) => add_last_lines(devices, runs, dev, pieces, counts, out),
         Err(fault) => Err(fault),
     }
 }
@@ -249,6 +266,7 @@ pub(crate) fn add_first_lines<D: Device, K: Sink>(
     runs: &mut MapRuns,
     dev: &mut D,
     pieces: &mut Pieces,
+    counts: &mut DumpCounts,
     out: &mut K,
 ) -> Result<(), QueryFault>
     requires dev { IsAttached (D.state dev.old) }
@@ -257,12 +275,13 @@ pub(crate) fn add_first_lines<D: Device, K: Sink>(
     ensures lines { MatchResult result
         (λ _. AddsSome (D.state dev.old).held (λ image. text_of_line thin p.first_line ++ (text_of_line thin (p.pool_line (super_head s.now)) ++ rest_text image devices.old)) pieces.old pieces.new (K.state out.old).written (K.state out.new).written)
         (λ _. PutsFront (D.state dev.old).held (λ image. text_of_line thin p.first_line ++ (text_of_line thin (p.pool_line (super_head s.now)) ++ rest_text image devices.old)) pieces.old (K.state out.old).written (K.state out.new).written) }
+    ensures counted { OnOk result (CountsSome (D.state dev.old).held (λ image. p.first_line ∷ (p.pool_line (super_head s.now) ∷ (flat_map (row_lines image) (some_rows image devices.old) ++ (p.end_line ∷ [])))) counts.old counts.new) }
     ensures kept { OnlyReads (D.state dev.old) (D.state dev.new) }
     ensures sink { KeepsSink (K.state out.old) (K.state out.new) }
     ensures faults { Fails result (D.state dev.old).faults (D.state dev.new).faults (K.state out.old).faults (K.state out.new).faults }
 {
-    match add_first_line(pieces, out) {
-        Ok(()) => add_pool_lines(s, devices, runs, dev, pieces, out),
+    match add_first_line(pieces, counts, out) {
+        Ok(()) => add_pool_lines(s, devices, runs, dev, pieces, counts, out),
         Err(fault) => Err(fault),
     }
 }

@@ -6,6 +6,9 @@ use Rattle.pd_pool.specs.Devices.{rows_left}
 use Rattle.pd_query.specs.ThinText.{rows_text}
 use Rattle.pd_query.proofs.AddsLemmas.{adds_all, adds_more, front_before, front_in, keeps_both, one_told, stops_here}
 use Rattle.pd_query.proofs.TextLemmas.{row_first}
+use Rattle.std.specs.List.{flat_map}
+use Rattle.pd_pool.specs.Given.{row_lines}
+use Rattle.pd_query.proofs.CountLemmas.{counts_all, counts_more, rows_lines}
 use Rattle.pd_query.proofs.thin_lines.add_devices.Goals as goal
 
 pub returns-in-Err-clause-lines : goal.returns-in-Err-clause-lines
@@ -37,9 +40,22 @@ loop-row-preserved g c =
           (subst (λ o. IfSome o (λ image. IsNext {X = DeviceRow} (Some c.in-Some.row) (rows_left image c.loop-row.devices) (rows_left image c.next.new.self))) c.loop-row.invariant.kept.held
           (rw c.in-Some.is at c.in-Ok.ensures.next)))
           (rw (only_reads_both c.loop-row.invariant.kept c.in-Ok.ensures.kept).held at c.in-Ok-add_device.ensures.lines);
+      counted = counts_more (g.D.Device.state c.args.dev.now).held c.args.counts.now c.loop-row.counts c.add_device.new.counts (λ image. flat_map (row_lines image) (rows_left image c.args.devices.now)) (λ image. flat_map (row_lines image) (rows_left image c.loop-row.devices))
+          (λ image. row_lines image c.in-Some.row) (λ image. flat_map (row_lines image) (rows_left image c.next.new.self)) c.loop-row.invariant.counted
+          (one_told (g.D.Device.state c.args.dev.now).held (λ image next. rows_lines image c.in-Some.row (rows_left image c.loop-row.devices) (rows_left image c.next.new.self) next)
+          (subst (λ o. IfSome o (λ image. IsNext {X = DeviceRow} (Some c.in-Some.row) (rows_left image c.loop-row.devices) (rows_left image c.next.new.self))) c.loop-row.invariant.kept.held
+          (rw c.in-Some.is at c.in-Ok.ensures.next)))
+          (rw (only_reads_both c.loop-row.invariant.kept c.in-Ok.ensures.kept).held at c.in-Ok-add_device.ensures.counted);
       room = omega arith;
       kept = only_reads_both (only_reads_both c.loop-row.invariant.kept c.in-Ok.ensures.kept) c.in-Ok-add_device.ensures.kept;
       sink = keeps_both c.loop-row.invariant.sink c.in-Ok-add_device.ensures.sink;
       dev_faults = c.in-Ok-add_device.ensures.faults.0 ∙ (c.in-Ok.ensures.faults ∙ c.loop-row.invariant.dev_faults);
       out_faults = c.in-Ok-add_device.ensures.faults.1 ∙ c.loop-row.invariant.out_faults;
     }
+
+pub returns-in-None-clause-counted : goal.returns-in-None-clause-counted
+returns-in-None-clause-counted g c =
+    counts_all (g.D.Device.state c.args.dev.now).held c.args.counts.now c.loop-row.counts (λ image. flat_map (row_lines image) (rows_left image c.args.devices.now)) (λ image. flat_map (row_lines image) (rows_left image c.loop-row.devices)) c.loop-row.invariant.counted
+    (one_told (g.D.Device.state c.args.dev.now).held (λ image none. ap (flat_map (row_lines image)) none.0)
+    (subst (λ o. IfSome o (λ image. IsNext {X = DeviceRow} None (rows_left image c.loop-row.devices) (rows_left image c.next.new.self))) c.loop-row.invariant.kept.held
+    (rw c.in-None.is at c.in-Ok.ensures.next)))

@@ -1,10 +1,12 @@
 use Rattle.pd_query.specs.declared.fault.QueryFault.TheVariants.{Sink}
+use Rattle.pd_query.specs.ThinDump.{lines_left}
+use Rattle.pd_query.proofs.CountLemmas.{counts_whole}
 use Rattle.pd_query.proofs.AddsLemmas.{text_lost, text_put, text_stopped}
-use Rattle.pd_query.proofs.thin_dump.ThinDump.put.Goals as goal
+use Rattle.pd_query.proofs.thin_dump.ThinDump.put_counted.Goals as goal
 
 pub returns-in-Ok-put-clause-text : goal.returns-in-Ok-put-clause-text
 returns-in-Ok-put-clause-text g c =
-    text_put (g.D.Device.state c.args.dev.now).held (rw c.new-pieces.ensures.none at c.in-Ok.ensures.lines) c.in-Ok-put.ensures.whole
+    text_put (g.D.Device.state c.args.dev.now).held c.add_first_lines.new.counts (rw c.new-pieces.ensures.none at c.in-Ok.ensures.lines) c.in-Ok-put.ensures.whole
 
 pub returns-in-Err-put-clause-text : goal.returns-in-Err-put-clause-text
 returns-in-Err-put-clause-text g c =
@@ -13,3 +15,7 @@ returns-in-Err-put-clause-text g c =
 pub returns-in-Err-clause-text : goal.returns-in-Err-clause-text
 returns-in-Err-clause-text g c =
     text_stopped (g.D.Device.state c.args.dev.now).held c.in-Err.fault (rw c.new-pieces.ensures.none at c.in-Err.ensures.lines)
+
+pub returns-in-Ok-put-clause-counted : goal.returns-in-Ok-put-clause-counted
+returns-in-Ok-put-clause-counted g c =
+    counts_whole (g.D.Device.state c.args.dev.now).held (λ image. lines_left image c.args.self.now) c.none-counts.result c.add_first_lines.new.counts c.none-counts.ensures c.in-Ok.ensures.counted
