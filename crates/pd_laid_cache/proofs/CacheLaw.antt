@@ -264,18 +264,27 @@ module _ (m : CacheMeaning) (version n : ℕ) (image : List (List ℕ)) (few : n
       flag true = refl
       flag false = refl
 
-pub law : (m : CacheMeaning) (version : ℕ) (base image : List (List ℕ)) → IsLawfulCache m → (version ≡ 1) ⊎ (version ≡ 2)
-    → cache_need version m (room_of (length base)) ≤ room_of (length base) → IsLaid (laid_cache m version (room_of (length base))) base image → IsCleanCache image m
-law m version base image lawful which enough is =
-    let n = room_of (length base) in
-    let stand = cache_in_place m version n base image is in
-    let few : n ≤ 4161600 = omega arith in
-    let number = cache_number m version n in
-    let need = cache_takes_need m version n (omega arith) in
-    let room : meta_map_at m version + length (meta_map_blocks m version n) ≤ n = omega arith in
-    let size = is.number in
-    record {
-      clean = laid_clean m version n image few lawful which room stand (omega arith);
-      means = laid_means m version n image few lawful which room stand;
-      valid = (super_is m version n image few lawful which room stand).valid;
-    }
+-- a cache that has room for its need stands in its places
+module _ (m : CacheMeaning) (version : ℕ) (base image : List (List ℕ)) (lawful : IsLawfulCache m) (which : (version ≡ 1) ⊎ (version ≡ 2))
+    (enough : cache_need version m (room_of (length base)) ≤ room_of (length base)) (is : IsLaid (laid_cache m version (room_of (length base))) base image) where
+  abbrev n : ℕ
+  n = room_of (length base)
+
+  stands : AllFrom (IsInPlace image (cache_all m version n)) 0 (cache_all m version n)
+  stands = cache_in_place m version n base image is
+
+  has_room : meta_map_at m version + length (meta_map_blocks m version n) ≤ n
+  has_room = omega (arith, cache_number m version n, cache_takes_need m version n (omega arith))
+
+  pub law : IsCleanCache image m
+  law =
+      let size = is.number in
+      record {
+        clean = laid_clean m version n image (omega arith) lawful which has_room stands (omega arith);
+        means = laid_means m version n image (omega arith) lawful which has_room stands;
+        valid = (super_is m version n image (omega arith) lawful which has_room stands).valid;
+      }
+
+  pub version_law : (cache_fields (block_at image 0)).version ≡ version
+  unfolding cache_laid_fields
+  version_law = ap (λ (f : CacheFields). f.version) (super_is m version n image (omega arith) lawful which has_room stands).fields_are

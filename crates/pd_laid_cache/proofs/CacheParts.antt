@@ -31,7 +31,7 @@ use Rattle.pd_laid_arrays.proofs.Arrays.{array_seen}
 use Rattle.pd_laid_cache.proofs.Optional.{MayBeSeen, all_if, below_if, edge_if, length-one_if, may_see, one_if, root_if}
 use Rattle.pd_laid_cache.proofs.CacheWords.{dirty_words_fit, hint_words_fit, mapping_words_fit}
 
--- what the superblock names, the parts' roots first
+-- the edges of the superblock, of which two arrays may lack
 abbrev pub hint_edges : CacheMeaning → ℕ → List Edge
 hint_edges m version = one_if (has_hints m) (edge_of 3 (array_root 4 (hints_at m version) (hint_words m)))
 
