@@ -13,7 +13,7 @@ use Rattle.std.proofs.Common.{append_assoc, eq-eqb}
 use Rattle.std.proofs.Math.Bool.{and-true}
 use Rattle.std.proofs.lemmas.List.{append-nil}
 
-flat_map_same : (f g : ℕ → List ℕ) (xs : List ℕ) → AllByRecursion (λ c. f c ≡ g c) xs → flat_map f xs ≡ flat_map g xs
+flat_map_same : {X : Type 0} → (f g : ℕ → List X) (xs : List ℕ) → AllByRecursion (λ c. f c ≡ g c) xs → flat_map f xs ≡ flat_map g xs
 flat_map_same f g [] all = refl
 flat_map_same f g (x ∷ xs) all = rw (all.0, flat_map_same f g xs all.1) refl
 
@@ -21,19 +21,19 @@ no_child : (xs : List ℕ) → list_any (λ c. true) xs ≡ false → xs ≡ []
 no_child [] none = refl
 no_child (x ∷ xs) none = absurd (both_ways true none refl)
 
-module _ (inner : ℕ → Bool) (down : ℕ → List ℕ) (own : ℕ → List ℕ) where
+module _ {X : Type 0} (inner : ℕ → Bool) (down : ℕ → List ℕ) (own : ℕ → List X) where
   -- a deeper look finds no more where no chain is as long
   pub gathered_stable : (j p : ℕ) → has_chain down (suc j) p ≡ false → gathered inner down own (suc j) p ≡ gathered inner down own j p
   unfolding has_chain gathered
   gathered_stable zero p ends =
       ap (λ (cs : List ℕ). cond (inner p) (flat_map (gathered inner down own zero) cs) (own p)) (no_child (down p) ends)
   gathered_stable (suc j) p ends =
-      ap (λ (ks : List ℕ). cond (inner p) ks (own p))
+      ap (λ (ks : List X). cond (inner p) ks (own p))
       (flat_map_same (gathered inner down own (suc j)) (gathered inner down own j) (down p)
       (all_from (λ c. has_chain down (suc j) c ≡ false) (λ c. gathered inner down own (suc j) c ≡ gathered inner down own j c)
       (gathered_stable j) (down p) (none_passes (has_chain down (suc j)) (down p) ends)))
 
-  -- so the keys below a node are those below its children
+  -- so what stands below a node is what stands below its children
   pub gathered_step : (j p : ℕ) → has_chain down (suc j) p ≡ false
       → gathered inner down own j p ≡ cond (inner p) (flat_map (gathered inner down own j) (down p)) (own p)
   unfolding gathered

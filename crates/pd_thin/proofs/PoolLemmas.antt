@@ -1,48 +1,17 @@
 -- The rules of a whole pool.
-use Rattle.std.proofs.Common.{◌≡◌, inl, inr, ℕ, ◌<◌, Bool, true, false, ◌&&◌, ◌||◌, cond, nat_eq, List, [], ◌∷◌, ◌++◌, map, filter, refl, sym, ap, ◌∙◌, arith}
+use Rattle.std.proofs.Common.{◌≡◌, ℕ, Bool, true, false, ◌&&◌, ◌||◌, cond, nat_eq, List, [], ◌∷◌, ◌++◌, map, filter, refl, sym, ap, ◌∙◌}
 use Rattle.std.specs.List.{list_any}
-use Rattle.std.proofs.lemmas.Bool.{cases_lt, ne_eqb}
 use Rattle.pd_kinds.specs.declared.rule.Rule.{Rule}
-use Rattle.pd_kinds.specs.Rule.{same_rule}
 use Rattle.pd_kinds.specs.Graph.{Graph, role_of, nodes}
 use Rattle.pd_kinds.specs.Whole.{WholeTest, whole_bad, bitmap_tests}
 use Rattle.pd_graph.specs.declared.audit.Audit.{Audit}
-use Rattle.pd_graph.specs.Audit.{blocks_of, KeepsButRules}
+use Rattle.pd_graph.specs.Audit.{KeepsButRules}
 use Rattle.pd_whole.specs.Charges.{Charges}
-use Rattle.pd_whole.specs.Known.{IsKnown}
-use Rattle.pd_whole.proofs.ChargeLemmas.{whole_bad-one, whole_bad-append, whole_bad-cons, charges_same, charges_then}
+use Rattle.pd_whole.proofs.KnownLemmas.{known_stays}
+use Rattle.pd_whole.proofs.ChargeLemmas.{whole_bad-append, whole_bad-cons, charges_same, charges_then}
 use Rattle.pd_thin.specs.Pool.{IsKnownPool}
 
--- a test that is told where its block is one of the audit's
-pub charges_where : (block : ℕ) (broken : Rule) (fails told : Bool) (old new : Audit) → (block < blocks_of old → fails ≡ told)
-    → Charges (record { block = block; rule = broken; fails = fails } ∷ []) old new → Charges (record { block = block; rule = broken; fails = told } ∷ []) old new
-charges_where block broken fails told old new same charges =
-    charges_same (record { block = block; rule = broken; fails = fails } ∷ []) (record { block = block; rule = broken; fails = told } ∷ []) old new
-    (λ n wanted within.
-    whole_bad-one (record { block = block; rule = broken; fails = fails }) n wanted
-    ∙ (elim (cases_lt block (blocks_of old)) [
-      | inl there ↦ ap (λ (b : Bool). b && (nat_eq block n && same_rule broken wanted)) (same there)
-      | inr outside ↦ rw (ne_eqb block n (λ e. omega arith)) (no_test fails told)
-    ]
-    ∙ sym (whole_bad-one (record { block = block; rule = broken; fails = told }) n wanted)))
-    charges
-  where
-    no_test : (a b : Bool) → (a && false) ≡ (b && false)
-    no_test true true = refl
-    no_test true false = refl
-    no_test false true = refl
-    no_test false false = refl
-
--- what an audit knows stays while rules are added
-pub known_stays : (graph : Graph) (image : List (List ℕ)) (old new : Audit) → KeepsButRules old new → IsKnown graph image old → IsKnown graph image new
-known_stays graph image old new kept known = record {
-  lawful = known.lawful;
-  number = kept.number ∙ known.number;
-  roles = λ b role within small. rw (kept.roles b) (known.roles b role within small);
-  counts = λ b within. kept.counts b ∙ known.counts b within;
-  notes = λ b role size is reached. rw (kept.notes b) (known.notes b role size is reached);
-}
-
+-- what is known of a pool stays while rules are added
 pub pool_stays : (graph : Graph) (image : List (List ℕ)) (old new : Audit) → KeepsButRules old new → IsKnownPool graph image old → IsKnownPool graph image new
 pool_stays graph image old new kept pool = record { known = known_stays graph image old new kept pool.known; ordered = pool.ordered; trees = pool.trees }
 

@@ -1,7 +1,7 @@
 -- Tests of the whole image, one after another, and what they charge.
-use Rattle.std.proofs.Common.{◌≡◌, ℕ, ◌<◌, ◌≤◌, Bool, true, false, ◌&&◌, ◌||◌, nat_eq, List, [], ◌∷◌, ◌++◌, refl, sym, ap, ◌∙◌, arith}
+use Rattle.std.proofs.Common.{◌≡◌, inl, inr, ℕ, ◌<◌, ◌≤◌, Bool, true, false, ◌&&◌, ◌||◌, nat_eq, List, [], ◌∷◌, ◌++◌, refl, sym, ap, ◌∙◌, arith}
 use Rattle.std.proofs.Math.Bool.{or-false, or_assoc}
-use Rattle.std.proofs.lemmas.Bool.{and_parts, ne_eqb}
+use Rattle.std.proofs.lemmas.Bool.{and_parts, cases_lt, ne_eqb}
 use Rattle.std.proofs.lemmas.List.Folds.{list_any-append}
 use Rattle.pd_kinds.specs.declared.rule.Rule.{Rule}
 use Rattle.pd_kinds.specs.Rule.{same_rule}
@@ -96,3 +96,23 @@ charges_nothing block broken fails there audit either outside = record {
       ) (or-false (has_rule_at audit b wanted)));
   kept = keeps_none audit;
 }
+
+-- a test that is told where its block is one of the audit's
+pub charges_where : (block : ℕ) (broken : Rule) (fails told : Bool) (old new : Audit) → (block < blocks_of old → fails ≡ told)
+    → Charges (record { block = block; rule = broken; fails = fails } ∷ []) old new → Charges (record { block = block; rule = broken; fails = told } ∷ []) old new
+charges_where block broken fails told old new same charges =
+    charges_same (record { block = block; rule = broken; fails = fails } ∷ []) (record { block = block; rule = broken; fails = told } ∷ []) old new
+    (λ n wanted within.
+    whole_bad-one (record { block = block; rule = broken; fails = fails }) n wanted
+    ∙ (elim (cases_lt block (blocks_of old)) [
+      | inl there ↦ ap (λ (b : Bool). b && (nat_eq block n && same_rule broken wanted)) (same there)
+      | inr outside ↦ rw (ne_eqb block n (λ e. omega arith)) (no_test fails told)
+    ]
+    ∙ sym (whole_bad-one (record { block = block; rule = broken; fails = told }) n wanted)))
+    charges
+  where
+    no_test : (a b : Bool) → (a && false) ≡ (b && false)
+    no_test true true = refl
+    no_test true false = refl
+    no_test false true = refl
+    no_test false false = refl

@@ -1,8 +1,10 @@
 -- What an audit knows of an image once the walk and settling found no rule broken.
-use Rattle.std.specs.Prelude.{◌≡◌, ℕ, ◌<◌, false, List, length}
+use Rattle.std.specs.Prelude.{◌≡◌, ℕ, ◌<◌, ◌≤◌, ◌==◌, true, false, List, length}
+use Rattle.std.specs.List.{list_any}
 use Rattle.pd_kinds.specs.declared.rule.Rule.{Rule}
 use Rattle.pd_kinds.specs.Graph.{Graph, pair, is_reached, meta_count}
 use Rattle.pd_kinds.specs.Lawful.{IsLawful}
+use Rattle.pd_kinds.specs.Order.{children}
 use Rattle.pd_kinds.specs.Stages.{walk_bad, order_bad, IsReached}
 use Rattle.pd_kinds.specs.Trees.{entries_below, keys_of}
 use Rattle.pd_graph.specs.declared.audit.Audit.{Audit}
@@ -27,11 +29,16 @@ pub record IsWellSettled (graph : Graph) (image : List (List ℕ)) (audit : Audi
   pub in_order : (b : ℕ) (wanted : Rule) → b < graph.nr → order_bad graph image b wanted ≡ false
   pub settled : IsSettled graph image audit
 
--- the audit has the roles and the references of each block, and for each node of a tree a note of the keys below it
+-- each block is reached in one role, the audit has that role and the references to the block, and for each node of a
+-- tree a note of the keys below it, whose height is at most 64 and above that of each child
 pub record IsKnown (graph : Graph) (image : List (List ℕ)) (audit : Audit) : Type 0 where
   pub lawful : IsLawful graph
   pub number : blocks_of audit ≡ graph.nr
+  pub alone : (b role other : ℕ) → IsReached graph image b role → IsReached graph image b other → role ≡ other
   pub roles : (b role : ℕ) → b < graph.nr → role < 16 → has_bit (roles_at audit b) role ≡ is_reached graph image (pair b role)
   pub counts : (b : ℕ) → b < graph.nr → count_at audit b ≡ meta_count graph image b
   pub notes : (b role size : ℕ) → IsTreeRole graph role size → IsReached graph image b role
       → IsNoteOf (keys_of (entries_below graph image size role b)) (note_at audit b)
+  pub low : (b role size : ℕ) → IsTreeRole graph role size → IsReached graph image b role → (note_at audit b).height ≤ 64
+  pub above : (b c role size : ℕ) → IsTreeRole graph role size → IsReached graph image b role
+      → list_any (λ t. t == pair c role) (children graph image (pair b role)) ≡ true → (note_at audit c).height < (note_at audit b).height

@@ -1,5 +1,5 @@
 use Rattle.std.proofs.Common.{ℕ, not, nat_eq, ap, ◌∙◌}
-use Rattle.pd_thin.proofs.PoolLemmas.{charges_where}
+use Rattle.pd_whole.proofs.ChargeLemmas.{charges_where}
 use Rattle.pd_thin.proofs.turns.mark_mapped.Goals as goal
 
 pub returns-clause-charges : goal.returns-clause-charges

@@ -1,0 +1,5 @@
+pub mod MarkLemmas
+pub mod ReadLemmas
+pub mod NodeLemmas
+pub mod LevelLemmas
+pub mod JudgeLemmas

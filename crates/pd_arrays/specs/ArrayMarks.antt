@@ -1,0 +1,13 @@
+-- A table of marks.
+use Rattle.std.specs.Prelude.{ℕ, length, slice_index_or}
+use Rattle.pd_arrays.specs.declared.mark.ArrayMark.{ArrayMark}
+use Rattle.pd_arrays.specs.declared.marks.ArrayMarks.{ArrayMarks}
+use Rattle.pd_arrays.specs.ArrayMark.{no_mark}
+
+-- the number of blocks
+abbrev pub places_of : ArrayMarks → ℕ
+places_of marks = length marks.marks.items
+
+-- the mark of a block
+abbrev pub mark_at : ArrayMarks → ℕ → ArrayMark
+mark_at marks b = slice_index_or marks.marks.items b no_mark

@@ -1,0 +1,4 @@
+pub mod ArrayMark
+pub mod ArrayMarks
+pub mod Arrays
+pub mod Reads

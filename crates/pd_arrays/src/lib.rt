@@ -1,0 +1,16 @@
+//! The rules of arrays in any format: how full the blocks of an array are is marked for each node of its tree once,
+//! however many arrays share the node.
+#![tactic(auto)]
+
+mod filling;
+mod judging;
+mod mark;
+mod marks;
+mod nodes;
+mod roles;
+
+pub use filling::fill_marks;
+pub use judging::{check_array, has_words, is_index_bad};
+pub use mark::ArrayMark;
+pub use marks::ArrayMarks;
+pub use roles::ArrayRoles;

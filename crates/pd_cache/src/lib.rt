@@ -1,0 +1,6 @@
+//! A cache's metadata, versions 1 and 2: its format, as a walk sees it.
+#![tactic(auto)]
+
+mod format;
+
+pub use format::{CacheFormat, CacheTable};
