@@ -1,5 +1,5 @@
 -- The faults of the stages Super and Walk, and the report of a check up to one of them.
-use Rattle.std.proofs.Common.{◌≡◌, ◌≢◌, ℕ, suc, ◌+◌, ◌*◌, ◌≤◌, Bool, true, false, not, cond, nat_lt, List, [], ◌∷◌, length, Option, Some, None, IfSome, refl, ap, sym, subst, ◌∙◌, arith, Result, Ok, Err, IfOk}
+use Rattle.std.proofs.Common.{◌≡◌, ◌≢◌, ℕ, suc, ◌+◌, ◌*◌, ◌≤◌, Bool, true, false, not, cond, nat_lt, List, [], ◌∷◌, length, Option, Some, None, IfSome, refl, ap, sym, ◌∙◌, arith, Result, Ok, Err, IfOk}
 use Rattle.std.proofs.lemmas.Bool.{lt-ltb}
 use Rattle.pd_kinds.specs.declared.kind.Kind.{Kind}
 use Rattle.pd_kinds.specs.declared.kind.Kind.TheVariants.{Thin, Cache, Era}
@@ -23,7 +23,6 @@ use Rattle.pd_graph.proofs.AnyLemmas.{if_any, if_both}
 use Rattle.pd_laws.proofs.CleanLemmas.{no_rule_broken, no_faults_at}
 use Rattle.pd_laws.proofs.SuperStage.{chosen, first_stage, faults_at-same}
 use Rattle.pd_check.specs.ByKind.{super_bad_of, graph_of_super}
-use Rattle.pd_check.specs.Counts.{count_reads}
 use Rattle.pd_check.specs.Check.{IsFirstBlock, MayWantMemory, ReadsFew, past_faults, reads_of}
 
 -- what is looked at in an image, by its kind
@@ -161,16 +160,6 @@ module _ (held : Option (List (List ℕ))) (kind : Kind) (blocks : ℕ) (first :
     past_memory until (Ok report) past = tt
     past_memory until (Err Memory) past = record { past_super = past; sound = none_first }
     past_memory until (Err Device) past = tt
-
-    -- up to the stage Counts
-    pub counted_read : (old new : ℕ) → IfSome held (λ image. new ≤ old + (5 * length (nodes (graph_of_super kind first) image) + count_reads kind first image))
-        → IfSome held (λ image. ReadsFew kind stages.Counts image old new)
-    counted_read old new few = if_both held
-        (λ image here most. record {
-          nodes = subst (λ (b : List ℕ). new ≤ old + (5 * length (nodes (graph_of_super kind b) image) + count_reads kind b image)) (sym (first_at blocks first image here)) most;
-          none = λ some. absurd (some (first_faults kind blocks first image here ∙ no_faults_at 0 _ sound));
-        })
-        found few
 
     module _ (graph : Graph) (same : graph ≡ graph_of_super kind first) where
       -- past the stage Super

@@ -1,10 +1,8 @@
 -- The faults that are found of stored counts are those of the definition.
-use Rattle.std.proofs.Common.{◌≡◌, ℕ, zero, suc, ◌+◌, ◌%◌, ◌^◌, ◌<◌, ◌≤◌, Bool, true, false, not, ◌&&◌, cond, nat_eq, nat_lt, List, [], ◌∷◌, ◌++◌, Option, Some, None, IfSome, Result, Ok, Err, OnOk, refl, ap, sym, subst, ◌∙◌, arith, eq-eqb, append-nil}
+use Rattle.std.proofs.Common.{◌≡◌, ℕ, zero, suc, ◌+◌, ◌%◌, ◌^◌, ◌<◌, ◌≤◌, Bool, true, false, not, ◌&&◌, cond, nat_eq, List, [], ◌∷◌, ◌++◌, Option, Some, None, IfSome, Result, Ok, Err, OnOk, refl, ap, sym, subst, ◌∙◌, arith, eq-eqb, append-nil}
 use Rattle.std.specs.List.{flat_map, range_with_len, count_by, AllByRecursion}
 use Rattle.std.specs.Str.{bytes_eq}
-use Rattle.std.proofs.lemmas.Bool.{or_parts, not-false, ltb-false, both_ways, lt-ltb, and_from}
-use Rattle.std.proofs.lemmas.List.FromFn.{length-range_with_len}
-use Rattle.std.proofs.lemmas.List.Sums.{count_by-le-length}
+use Rattle.std.proofs.lemmas.Bool.{or_parts, not-false, ltb-false}
 use Rattle.std.proofs.lemmas.Option.{IfSome_then}
 use Rattle.std.proofs.lemmas.Slice.Eq.{bytes_eq-Decides}
 use Rattle.pd_kinds.specs.declared.kind.Kind.{Kind}
@@ -35,15 +33,14 @@ use Rattle.pd_laws.specs.InOrder.{AreInOrder, LooksAtOrder, graph_of_kind}
 use Rattle.pd_laws.proofs.CleanLemmas.{whole_where_none}
 use Rattle.pd_laws.proofs.SoundLemmas.{IsSound, tests_after_two}
 use Rattle.pd_graph.specs.declared.audit.Audit.{Audit}
-use Rattle.pd_graph.specs.Audit.{count_at, roles_at}
-use Rattle.pd_graph.specs.Roles.{has_bit}
+use Rattle.pd_graph.specs.Audit.{count_at}
 use Rattle.pd_graph.specs.Walk.{IsWalked}
-use Rattle.pd_graph.proofs.AnyLemmas.{if_any, if_both}
+use Rattle.pd_graph.proofs.AnyLemmas.{if_both}
 use Rattle.pd_tree.specs.Roots.{HasCacheRoots, HasEraRoots, HasThinRoots}
 use Rattle.pd_tree.specs.Sound.{IsSoundTree}
 use Rattle.pd_tree.specs.TreeRoles.{HasCacheTrees, HasEraTrees, HasThinTrees, IsTreeRole}
 use Rattle.pd_count.specs.Counted.{Counted, HasCounted, count_of}
-use Rattle.pd_refs.specs.Refs.{number_in, refs_before}
+use Rattle.pd_refs.specs.Refs.{refs_before}
 use Rattle.pd_smap.specs.Counted.{faults_from}
 use Rattle.pd_smap.specs.Entries.{IsIndex, IsOverflow, index_of, overflow_of}
 use Rattle.pd_smap.specs.Reports.{Adds}
@@ -92,8 +89,6 @@ few_counted Era blocks first sound = tt
 
 -- the map of metadata blocks, where no rule is broken up to those of the whole image
 pub record HasMetaMap (kind : Kind) (image : List (List ℕ)) : Type 0 where
-  pub index : (meta_map_of kind (block_at image 0)).bitmap_root < (graph_of_super kind (block_at image 0)).nr
-  pub overflow : (meta_map_of kind (block_at image 0)).overflow_root < (graph_of_super kind (block_at image 0)).nr
   pub searchable : IsOverflow image (meta_map_of kind (block_at image 0)).overflow_root
   pub stored : (b : ℕ) → stored_meta_in image (meta_map_of kind (block_at image 0)).bitmap_root (overflow_of image (meta_map_of kind (block_at image 0)).overflow_root) b
       ≡ (checked_of kind image).stored_meta b
@@ -118,8 +113,6 @@ module _ (thin_trees : (super_block : List ℕ) → HasThinTrees (thin_graph sup
       let root = (thin_fields (block_at image 0)).meta_map in
       let found = sound Thin stages.Whole image root.overflow_root 10 tt none roots.meta_overflow in
       record {
-        index = roots.meta_index.block;
-        overflow = roots.meta_overflow.block;
         searchable = searchable (thin_graph (block_at image 0)) image root.overflow_root 10 tree found;
         stored = λ b. ap (λ (list : List Entry). stored_meta_in image root.bitmap_root list b) (entries (thin_graph (block_at image 0)) image root.overflow_root 10 tree found);
       }
@@ -129,8 +122,6 @@ module _ (thin_trees : (super_block : List ℕ) → HasThinTrees (thin_graph sup
       let root = (cache_fields (block_at image 0)).meta_map in
       let found = sound Cache stages.Whole image root.overflow_root 9 tt none roots.meta_overflow in
       record {
-        index = roots.meta_index.block;
-        overflow = roots.meta_overflow.block;
         searchable = searchable (cache_graph (block_at image 0)) image root.overflow_root 9 tree found;
         stored = λ b. ap (λ (list : List Entry). stored_meta_in image root.bitmap_root list b) (entries (cache_graph (block_at image 0)) image root.overflow_root 9 tree found);
       }
@@ -140,8 +131,6 @@ module _ (thin_trees : (super_block : List ℕ) → HasThinTrees (thin_graph sup
       let root = (era_fields (block_at image 0)).meta_map in
       let found = sound Era stages.Whole image root.overflow_root 9 tt none roots.meta_overflow in
       record {
-        index = roots.meta_index.block;
-        overflow = roots.meta_overflow.block;
         searchable = searchable (era_graph (block_at image 0)) image root.overflow_root 9 tree found;
         stored = λ b. ap (λ (list : List Entry). stored_meta_in image root.bitmap_root list b) (entries (era_graph (block_at image 0)) image root.overflow_root 9 tree found);
       }
@@ -171,20 +160,6 @@ module _ (thin_trees : (super_block : List ℕ) → HasThinTrees (thin_graph sup
       → Adds (faults_from Meta (count_at audit) (stored_meta_in image m.bitmap_root (overflow_of image m.overflow_root)) 0 m.blocks) old new) same leads in
       subst (λ (list : List Fault). Adds list old new) (meta_same kind image first audit whole map) (added map.searchable))
 
-  -- both roots lie within the device
-  pub meta_inside : (P : List (List ℕ) → Type 0) (held : Option (List (List ℕ))) (kind : Kind) (first : List ℕ) (audit : Audit) (root : SmRoot) (one two : ℕ) → root ≡ meta_map_of kind first
-      → (graph_of_super kind first).nr ≤ one → (graph_of_super kind first).nr ≤ two
-      → (nat_lt root.bitmap_root one && nat_lt root.overflow_root two) ≡ false
-      → IfSome held (λ image. IsWhole kind first image audit → P image)
-  meta_inside P held kind first audit root one two is within also outside = if_any held (λ image whole.
-      let map = has_meta_map kind image whole.none in
-      let index = subst (λ (m : List ℕ). (meta_map_of kind m).bitmap_root < (graph_of_super kind m).nr) whole.first_block map.index in
-      let overflow = subst (λ (m : List ℕ). (meta_map_of kind m).overflow_root < (graph_of_super kind m).nr) whole.first_block map.overflow in
-      let first_is = ap (λ (m : SmRoot). m.bitmap_root) is in
-      let second_is = ap (λ (m : SmRoot). m.overflow_root) is in
-      absurd (both_ways (nat_lt root.bitmap_root one && nat_lt root.overflow_root two) outside
-      (and_from (nat_lt root.bitmap_root one) (nat_lt root.overflow_root two) (lt-ltb root.bitmap_root one (omega arith)) (lt-ltb root.overflow_root two (omega arith)))))
-
 -- what holds where a call went well
 pub on_ok : {T E : Type 0} {P Q : Type 0} → (result : Result T E) → (P → Q) → OnOk result P → OnOk result Q
 on_ok (Ok value) leads holds = leads holds
@@ -208,7 +183,7 @@ index_if graph image whole within =
     let fails = first_not (not (bytes_eq keys wanted)) (nat_eq root root && same_rule r.Index r.Index) here none in
     (bytes_eq-Decides keys wanted).0 (not-false (bytes_eq keys wanted) fails)
 
-index_keys : (image : List (List ℕ)) → faults Thin stages.Whole image ≡ [] → (thin_fields (block_at image 0)).data_map.bitmap_root < (thin_graph (block_at image 0)).nr
+pub index_keys : (image : List (List ℕ)) → faults Thin stages.Whole image ≡ [] → (thin_fields (block_at image 0)).data_map.bitmap_root < (thin_graph (block_at image 0)).nr
     → keys_of (data_index_entries (thin_graph (block_at image 0)) image) ≡ range_with_len 0 (bitmaps_for (thin_graph (block_at image 0)).data_blocks)
 unfolding faults thin_checked
 index_keys image none within = index_if (thin_graph (block_at image 0)) image (λ b broken below. whole_where_none (thin_checked image) image [] none b broken below) within
@@ -265,8 +240,6 @@ mappings_alone super other place block few differ =
 
 -- the map of data blocks of a pool, where no rule is broken up to those of the whole image
 pub record HasDataMap (image : List (List ℕ)) : Type 0 where
-  pub index : (thin_fields (block_at image 0)).data_map.bitmap_root < (thin_graph (block_at image 0)).nr
-  pub overflow : (thin_fields (block_at image 0)).data_map.overflow_root < (thin_graph (block_at image 0)).nr
   pub searchable : IsOverflow image (thin_fields (block_at image 0)).data_map.overflow_root
   pub counting : IsIndex image (thin_fields (block_at image 0)).data_map.bitmap_root (thin_fields (block_at image 0)).data_map.blocks
   pub stored : (d : ℕ) → stored_data_in image (index_of image (thin_fields (block_at image 0)).data_map.bitmap_root) (overflow_of image (thin_fields (block_at image 0)).data_map.overflow_root) d
@@ -293,8 +266,6 @@ module _ (thin_trees : (super_block : List ℕ) → HasThinTrees (thin_graph sup
       let over = sound Thin stages.Whole image root.overflow_root 7 tt none roots.data_overflow in
       let index = sound Thin stages.Whole image root.bitmap_root 5 tt none roots.data_index in
       record {
-        index = roots.data_index.block;
-        overflow = roots.data_overflow.block;
         searchable = searchable graph image root.overflow_root 7 trees.data_overflow over;
         counting = keys graph image root.bitmap_root 5 trees.data_index.is_role index ∙ (index_keys image none roots.data_index.block
             ∙ ap (λ (n : ℕ). range_with_len 0 (bitmaps_for n)) (sym (data_number Thin (block_at image 0) (record { root = root; role = 3 }) refl)));
@@ -354,23 +325,6 @@ module _ (thin_trees : (super_block : List ℕ) → HasThinTrees (thin_graph sup
     data_told held later Cache first graph audit space counts old new stays is here counted adds = absurd (cc)
     data_told held later Era first graph audit space counts old new stays is here counted adds = absurd (cc)
 
-  -- both roots lie within the device
-  pub data_inside : (P : List (List ℕ) → Type 0) (held : Option (List (List ℕ))) (kind : Kind) (first : List ℕ) (audit : Audit) (space : DataSpace) (one two : ℕ) → data_space_of kind first ≡ Some space
-      → (graph_of_super kind first).nr ≤ one → (graph_of_super kind first).nr ≤ two
-      → (nat_lt space.root.bitmap_root one && nat_lt space.root.overflow_root two) ≡ false
-      → IfSome held (λ image. IsWhole kind first image audit → P image)
-  data_inside P held Thin first audit space one two is within also outside = if_any held (λ image whole.
-      let map = has_data_map image whole.none in
-      let index = subst (λ (m : List ℕ). (thin_fields m).data_map.bitmap_root < (thin_graph m).nr) whole.first_block map.index in
-      let overflow = subst (λ (m : List ℕ). (thin_fields m).data_map.overflow_root < (thin_graph m).nr) whole.first_block map.overflow in
-      let mine : record { root = (thin_fields first).data_map; role = 3 } ≡ space = cc in
-      let first_is = ap (λ (s : DataSpace). s.root.bitmap_root) mine in
-      let second_is = ap (λ (s : DataSpace). s.root.overflow_root) mine in
-      absurd (both_ways (nat_lt space.root.bitmap_root one && nat_lt space.root.overflow_root two) outside
-      (and_from (nat_lt space.root.bitmap_root one) (nat_lt space.root.overflow_root two) (lt-ltb space.root.bitmap_root one (omega arith)) (lt-ltb space.root.overflow_root two (omega arith)))))
-  data_inside P held Cache first audit space one two is within also outside = absurd (cc)
-  data_inside P held Era first audit space one two is within also outside = absurd (cc)
-
 -- a kind without data blocks has no faults of theirs
 no_data : (kind : Kind) (image : List (List ℕ)) (first : List ℕ) → data_space_of kind first ≡ None → data_faults (checked_of kind image) image ≡ []
 unfolding data_faults cache_checked era_checked cache_graph era_graph graph_of
@@ -403,25 +357,16 @@ meta_alone held kind first audit start mid none nothing meta =
     (sym (both_faults kind image ∙ (ap (λ (list : List Fault). meta_faults (checked_of kind image) image ++ list) (no_data kind image first nothing) ∙ append-nil (meta_faults (checked_of kind image) image)))))
 
 -- and what was read for both
-few_in : (audit : Audit) (role n : ℕ) → number_in audit role n ≤ n
-unfolding number_in
-few_in audit role n =
-    let most = count_by-le-length (λ b. has_bit (roles_at audit b) role) (range_with_len 0 n) in
-    let number = length-range_with_len 0 n in
-    omega (arith, most, number)
-
-pub meta_few : (held : Option (List (List ℕ))) (kind : Kind) (first : List ℕ) (old mid : ℕ)
-    → IfSome held (λ image. mid ≤ old + meta_reads (meta_map_of kind first) image) → IfSome held (λ image. mid ≤ old + count_reads kind first image)
+pub meta_few : (held : Option (List (List ℕ))) (kind : Kind) (first : List ℕ) (audit : Audit) (old mid : ℕ)
+    → IfSome held (λ image. mid ≤ old + meta_reads (meta_map_of kind first) image) → IfSome held (λ image. mid ≤ old + count_reads kind first audit image)
 unfolding count_reads
-meta_few held kind first old mid most = IfSome_then held most (λ image few. omega (arith, few))
+meta_few held kind first audit old mid most = IfSome_then held most (λ image few. omega (arith, few))
 
 pub both_few : (held later : Option (List (List ℕ))) (kind : Kind) (first : List ℕ) (audit : Audit) (space : DataSpace) (old mid new : ℕ) → later ≡ held → data_space_of kind first ≡ Some space
     → IfSome held (λ image. mid ≤ old + meta_reads (meta_map_of kind first) image)
     → IfSome later (λ image. new ≤ mid + data_reads space audit (graph_of_super kind first).nr image)
-    → IfSome held (λ image. new ≤ old + count_reads kind first image)
+    → IfSome held (λ image. new ≤ old + count_reads kind first audit image)
 unfolding count_reads
 both_few held later kind first audit space old mid new stays is one two =
-    if_both held (λ image few more.
-    let some = few_in audit space.role (graph_of_super kind first).nr in
-    rw is (omega (arith, few, more, some)))
-    one (subst (λ (o : Option (List (List ℕ))). IfSome o (λ image. new ≤ mid + data_reads space audit (graph_of_super kind first).nr image)) stays two)
+    if_both held (λ image few more. rw is (omega (arith, few, more))) one
+    (subst (λ (o : Option (List (List ℕ))). IfSome o (λ image. new ≤ mid + data_reads space audit (graph_of_super kind first).nr image)) stays two)

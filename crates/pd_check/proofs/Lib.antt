@@ -3,3 +3,4 @@ pub mod StageLemmas
 pub mod CheckLemmas
 pub mod WholeLemmas
 pub mod CountLemmas
+pub mod ReadLemmas

@@ -196,9 +196,13 @@ whole_known held later kind first before audit found stays ordered number settle
     }) pair_known pair_told
 
 -- and the reads of the stages before and of the counts add up
-pub counts_reads : (held later : Option (List (List ℕ))) (kind : Kind) (first : List ℕ) (a b c : ℕ) → later ≡ held
-    → IfSome held (λ image. b ≤ a + 5 * length (nodes (graph_of_super kind first) image)) → IfSome later (λ image. c ≤ b + count_reads kind first image)
-    → IfSome held (λ image. c ≤ a + (5 * length (nodes (graph_of_super kind first) image) + count_reads kind first image))
-counts_reads held later kind first a b c stays before after =
-    if_both held (λ image most more. omega (arith, most, more)) before
-    (subst (λ (o : Option (List (List ℕ))). IfSome o (λ image. c ≤ b + count_reads kind first image)) stays after)
+pub counts_reads : (held later : Option (List (List ℕ))) (kind : Kind) (first : List ℕ) (audit : Audit) (report : Reported) (a b c : ℕ) → later ≡ held → report.total ≡ 0
+    → ((kind : Kind) (first : List ℕ) (image : List (List ℕ)) (audit : Audit) → IsWhole kind first image audit → count_reads kind first audit image ≤ length (nodes (graph_of_super kind first) image))
+    → IfSome held (λ image. report.total ≡ 0 → IsWhole kind first image audit)
+    → IfSome held (λ image. b ≤ a + 5 * length (nodes (graph_of_super kind first) image)) → IfSome later (λ image. c ≤ b + count_reads kind first audit image)
+    → IfSome held (λ image. c ≤ a + 6 * length (nodes (graph_of_super kind first) image))
+counts_reads held later kind first audit report a b c stays none few known before after =
+    let least = IfSome_then held known (λ image knows. few kind first image audit (knows none)) in
+    let more = subst (λ (o : Option (List (List ℕ))). IfSome o (λ image. c ≤ b + count_reads kind first audit image)) stays after in
+    let last : IfSome held (λ image. c ≤ b + length (nodes (graph_of_super kind first) image)) = if_both held (λ image fewer some. omega (arith, fewer, some)) least more in
+    if_both held (λ image most rest. omega (arith, most, rest)) before last

@@ -10,7 +10,6 @@ use Rattle.pd_kinds.specs.declared.fault.Fault.{Fault}
 use Rattle.pd_kinds.specs.Graph.{Graph, block_at, nodes}
 use Rattle.pd_kinds.specs.Stages.{CanWantMemory, faults, block_faults, walk_bad, order_bad}
 use Rattle.pd_check.specs.ByKind.{graph_of_super}
-use Rattle.pd_check.specs.Counts.{count_reads}
 
 -- the image has so many blocks, and this one is the first
 pub record IsFirstBlock (blocks : ℕ) (first : List ℕ) (image : List (List ℕ)) : Type 0 where
@@ -22,19 +21,14 @@ abbrev pub MayWantMemory : {R : Type 0} → Kind → Stage → Option (List (Lis
 MayWantMemory kind until held (Err Memory) = CanWantMemory kind until held
 MayWantMemory kind until held _ = Unit {0}
 
--- how often a check up to a stage reads a block in a role: the walk reads it once, and settling and the rules of
--- the whole image twice at most
+-- how often a check up to a stage reads a block in a role at the most: the walk once, settling and the rules of the
+-- whole image twice each, and the counts once
 abbrev pub reads_of : Stage → ℕ
 reads_of Super = 1
 reads_of Walk = 1
 reads_of Order = 3
 reads_of Whole = 5
-reads_of Counts = 5
-
--- and how much it reads besides, to count and compare references
-abbrev pub reads_besides : Kind → List ℕ → List (List ℕ) → Stage → ℕ
-reads_besides kind first image Counts = count_reads kind first image
-reads_besides kind first image _ = 0
+reads_of Counts = 6
 
 -- and how often up to the order of the trees, where a check goes as far
 abbrev pub reads_to_order : Stage → ℕ
@@ -62,6 +56,5 @@ past_faults until graph image =
 -- a check up to a stage reads no node of the graph that a superblock gives more often than so, and none
 -- where the superblock has faults
 pub record ReadsFew (kind : Kind) (until : Stage) (image : List (List ℕ)) (old new : ℕ) : Type 0 where
-  pub nodes : new ≤ old
-      + (reads_of until * length (nodes (graph_of_super kind (block_at image 0)) image) + reads_besides kind (block_at image 0) image until)
+  pub nodes : new ≤ old + reads_of until * length (nodes (graph_of_super kind (block_at image 0)) image)
   pub none : (faults kind Super image ≢ []) → new ≤ old

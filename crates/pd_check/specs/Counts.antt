@@ -28,17 +28,19 @@ data_faults checked image =
 abbrev pub meta_reads : SmRoot → List (List ℕ) → ℕ
 meta_reads root image = 1 + bitmaps_for root.blocks + length (nodes_below 4 image 63 root.overflow_root)
 
--- and to compare those of data blocks: the nodes of the index tree, the bitmaps, and the nodes of the overflow tree
-abbrev pub space_reads : Option DataSpace → List (List ℕ) → ℕ
-space_reads None image = 0
-space_reads (Some space) image =
-    length (nodes_below 16 image 63 space.root.bitmap_root) + bitmaps_for space.root.blocks + length (nodes_below 4 image 63 space.root.overflow_root)
-
--- with the blocks that refer to data blocks
+-- and for those of data blocks: the blocks that refer to them, the nodes of the index tree, the bitmaps, and the nodes
+-- of the overflow tree
 abbrev pub data_reads : DataSpace → Audit → ℕ → List (List ℕ) → ℕ
-data_reads space audit nr image = number_in audit space.role nr + space_reads (Some space) image
+data_reads space audit nr image =
+    number_in audit space.role nr
+    + (length (nodes_below 16 image 63 space.root.bitmap_root) + bitmaps_for space.root.blocks + length (nodes_below 4 image 63 space.root.overflow_root))
 
--- and for both: each metadata block at most once to count what it refers to, and the blocks of the maps
-unfoldable pub count_reads : Kind → List ℕ → List (List ℕ) → ℕ
-count_reads kind first image =
-    (graph_of_super kind first).nr + (meta_reads (meta_map_of kind first) image + space_reads (data_space_of kind first) image)
+-- where there are data blocks
+abbrev pub space_reads : Option DataSpace → Audit → ℕ → List (List ℕ) → ℕ
+space_reads None audit nr image = 0
+space_reads (Some space) audit nr image = data_reads space audit nr image
+
+-- and for both
+unfoldable pub count_reads : Kind → List ℕ → Audit → List (List ℕ) → ℕ
+count_reads kind first audit image =
+    meta_reads (meta_map_of kind first) image + space_reads (data_space_of kind first) audit (graph_of_super kind first).nr image

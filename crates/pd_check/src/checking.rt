@@ -23,8 +23,10 @@ use std::alloc::Global;
 ///
 /// A check up to `Super` takes no memory, and one past it takes none before block 0 was found sound, and
 /// all of it before it reads another block: about 60 bytes a metadata block, and up to `Whole` what the kind
-/// needs besides. Up to `Counts` it takes memory for the cursors and the counts of data blocks later too. It reads block 0, and then each block at most once for each role in which it is reached, up to
-/// `Order` at most three times, and up to `Whole` at most five times.
+/// needs besides. Up to `Counts` it takes memory for the cursors and the counts of data blocks later too.
+///
+/// It reads block 0, and where that breaks no rule at most once for each role in which a block is reached, whatever is
+/// shared; up to `Order` at most three times, up to `Whole` five times, and up to `Counts` six times.
 ///
 /// Fails with `CheckFault::Memory` where that memory wasn't found, and with `CheckFault::Device` where a
 /// read failed.

@@ -45,7 +45,7 @@ pub(crate) fn count_report<M: Metadata, D: Device>(
     requires data { IfSome (data_space_of M.kind first.now.0) (λ space. space.root.blocks ≤ 2 ^ 40) }
     ensures report { IfOk result (λ report. IfSome (D.state dev.old).held (λ image. IsWhole M.kind first.now.0 image audit.now
         → report ≡ report_of (count_faults (checked_of M.kind image) image))) }
-    ensures reads { IfSome (D.state dev.old).held (λ image. (D.state dev.new).reads ≤ (D.state dev.old).reads + count_reads M.kind first.now.0 image) }
+    ensures reads { IfSome (D.state dev.old).held (λ image. (D.state dev.new).reads ≤ (D.state dev.old).reads + count_reads M.kind first.now.0 audit.now image) }
     ensures kept { OnlyReads (D.state dev.old) (D.state dev.new) }
     ensures faults { CountsCheckFault result (D.state dev.old).faults (D.state dev.new).faults }
 {

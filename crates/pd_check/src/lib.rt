@@ -5,6 +5,7 @@
 mod checking;
 mod counts;
 mod data_space;
+mod few;
 mod metadata;
 mod past;
 mod walked;

@@ -15,10 +15,11 @@ ghost use Rattle.pd_image.specs.Device.{IsAttached, OnlyReads};
 ghost use Rattle.pd_graph.specs.Audit.{blocks_of, has_rule_at};
 ghost use Rattle.pd_whole.specs.Known.{IsKnown};
 ghost use Rattle.pd_check.specs.ByKind.{graph_of_super, super_bad_of};
-ghost use Rattle.pd_check.specs.Check.{IsFirstBlock, reads_besides, reads_of};
+ghost use Rattle.pd_check.specs.Check.{IsFirstBlock, reads_of};
 ghost use Rattle.pd_check.specs.Whole.{IsOrdered, IsWhole};
 
 use crate::counts::count_report;
+use crate::few::counts_read_no_more_than_nodes;
 use crate::metadata::Metadata;
 use crate::past::looked_at;
 use crate::walked::walk_report;
@@ -110,11 +111,12 @@ pub(crate) fn check_counts<M: Metadata, D: Device>(
     requires first { IfSome (D.state dev.old).held (IsFirstBlock blocks first.now.0) }
     requires sound { (rule : Rule) → super_bad_of M.kind blocks first.now.0 rule ≡ false }
     ensures report { IfOk result (λ report. IfSome (D.state dev.old).held (λ image. report ≡ report_of (faults M.kind Counts image))) }
-    ensures reads { IfSome (D.state dev.old).held (λ image. (D.state dev.new).reads ≤ (D.state dev.old).reads
-        + (reads_of Counts * length (nodes (graph_of_super M.kind first.now.0) image) + reads_besides M.kind first.now.0 image Counts)) }
+    ensures reads { IfSome (D.state dev.old).held (λ image.
+        (D.state dev.new).reads ≤ (D.state dev.old).reads + reads_of Counts * length (nodes (graph_of_super M.kind first.now.0) image)) }
     ensures kept { OnlyReads (D.state dev.old) (D.state dev.new) }
     ensures faults { CountsCheckFault result (D.state dev.old).faults (D.state dev.new).faults }
 {
+    counts_read_no_more_than_nodes();
     let (audit, report) = whole_looked::<M, D>(alloc, dev, first, blocks)?;
     if !report.is_empty() {
         return Ok(report);

@@ -1,9 +1,9 @@
 -- A whole array.
-use Rattle.std.proofs.Common.{◌≡◌, ◌⊎◌, inl, inr, ℕ, zero, suc, ◌+◌, ◌-◌, ◌*◌, ◌^◌, ◌<◌, ◌≤◌, true, false, not, ◌||◌, eq-eqb, List, [], ◌∷◌, ◌++◌, length, map, refl, sym, ◌∙◌, ap, ap₂, arith}
+use Rattle.std.proofs.Common.{◌≡◌, ◌⊎◌, inl, inr, ℕ, zero, suc, ◌+◌, ◌-◌, ◌*◌, ◌^◌, ◌<◌, ◌≤◌, ◌≢◌, nat_eq, true, false, not, ◌||◌, eq-eqb, List, [], ◌∷◌, ◌++◌, length, map, refl, sym, ◌∙◌, ap, ap₂, arith}
 use Rattle.std.specs.List.{AllByRecursion, flat_map, range_with_len}
 use Rattle.std.specs.Str.{bytes_eq}
 use Rattle.std.proofs.Math.Nat.{div-mul-le_self, lt-div-mul-add, suc-mul}
-use Rattle.std.proofs.lemmas.Bool.{and_from, cases_eq, not_from_true, or_from}
+use Rattle.std.proofs.lemmas.Bool.{and_from, cases_eq, ne_eqb, not_from_true, or_from}
 use Rattle.std.proofs.lemmas.List.{length-append, length-map, map-id}
 use Rattle.std.proofs.lemmas.List.FromFn.{length-map-range_with_len}
 use Rattle.std.proofs.lemmas.Nat.{le-div}
@@ -14,7 +14,7 @@ use Rattle.pd_kinds.specs.Layout.{Layout, Tree, array, graph_of, tree_to}
 use Rattle.pd_kinds.specs.Node.{Entry}
 use Rattle.pd_kinds.specs.Trees.{block_words, entries_below, keys_of, words_of}
 use Rattle.pd_kinds.specs.Whole.{Array, are_full, array_words, is_array_index_bad}
-use Rattle.pd_laws.proofs.AllLemmas.{all_of}
+use Rattle.pd_laws.proofs.AllLemmas.{all_append, all_from, all_map, all_of}
 use Rattle.pd_spells.specs.Need.{nodes_for}
 use Rattle.pd_laid.specs.Array.{array_items, array_pieces, array_root, laid_array, laid_words, pieces}
 use Rattle.pd_laid.specs.Laid.{LaidBlock, laid_tree, tree_of}
@@ -22,10 +22,11 @@ use Rattle.pd_laid_graph.specs.LaidOut.{AllFrom, IsFitting, IsInPlace, IsNamed, 
 use Rattle.pd_laid_graph.proofs.CheckLemmas.{same_bytes}
 use Rattle.pd_laid_graph.proofs.FromLemmas.{by_place, from_back, from_both, from_front}
 use Rattle.pd_laid_trees.specs.Items.{AreItems}
-use Rattle.pd_laid_trees.proofs.Names.{root_leads}
+use Rattle.pd_laid_trees.proofs.Names.{root_leads, tree_roles}
 use Rattle.pd_laid_trees.proofs.Trees.{tree_seen}
 use Rattle.pd_laid_maps.proofs.MapItems.{made_all, made_keys, range_ascends, range_within}
 use Rattle.pd_laid_maps.proofs.Plain.{plain_seen}
+use Rattle.pd_laid_maps.proofs.RoleCounts.{NameNone, tree_names_none}
 use Rattle.pd_laid_arrays.specs.ArraySeen.{IsArraySeen, array_at}
 use Rattle.pd_laid_arrays.proofs.Pieces.{AreFilled, IsPiece, IsWordSize, array_sound, count_read, filled_by, pieces_fit, pieces_joined, words_read}
 
@@ -224,3 +225,26 @@ module _ (roles nr data_blocks : ℕ) (table : ℕ → Layout) (image : List (Li
     where
       max_some : (size : ℕ) → 1 ≤ size → size ≤ 8 → 1 ≤ max_words size
       max_some size some small = le-div 1 4072 size (omega arith) (omega arith)
+
+-- an array's blocks have its role and the one behind it
+pub array_roles : (role size place : ℕ) (words : List ℕ) → AllByRecursion (λ (x : LaidBlock). (x.role ≡ role) ⊎ (x.role ≡ role + 1)) (laid_array role size place words)
+unfolding laid_array
+array_roles role size place words =
+    let list = array_pieces size words in
+    let t = tree_of (tree_to 8 (role + 1) (λ v. v)) in
+    let above = laid_tree role t (place + length list) (array_items place (length list)) in
+    let is = λ (x : LaidBlock). (x.role ≡ role) ⊎ (x.role ≡ role + 1) in
+    all_append is (map (laid_words (role + 1) size) list) above
+    (all_map (laid_words (role + 1) size) is (λ ws. inr refl) list)
+    (all_from (λ (x : LaidBlock). x.role ≡ role) is (λ x own. inl own) above (tree_roles role t (place + length list) (array_items place (length list))))
+
+-- and it names no block in another role
+pub array_names_none : (other role size place : ℕ) (words : List ℕ) → role ≢ other → role + 1 ≢ other → NameNone other (laid_array role size place words)
+unfolding laid_array
+array_names_none other role size place words first second =
+    let list = array_pieces size words in
+    let t = tree_of (tree_to 8 (role + 1) (λ v. v)) in
+    all_append (λ (x : LaidBlock). AllByRecursion (λ (e : Edge). nat_eq e.role other ≡ false) x.edges) (map (laid_words (role + 1) size) list)
+    (laid_tree role t (place + length list) (array_items place (length list)))
+    (all_map (laid_words (role + 1) size) (λ (x : LaidBlock). AllByRecursion (λ (e : Edge). nat_eq e.role other ≡ false) x.edges) (λ ws. tt) list)
+    (tree_names_none other role t (place + length list) (array_items place (length list)) first (λ e. (ne_eqb (role + 1) other second, tt)))

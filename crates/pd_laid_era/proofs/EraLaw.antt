@@ -1,44 +1,41 @@
 -- A laid era target is clean, and means the target.
-use Rattle.std.proofs.Common.{◌≡◌, ℕ, zero, suc, ◌+◌, ◌<◌, ◌≤◌, max, true, false, eq-eqb, nat_eq, nat_lt, get_or, List, [], ◌∷◌, ◌++◌, length, map, filter, refl, sym, subst, ◌∙◌, ap, ap₂, arith, zero-le}
+use Rattle.std.proofs.Common.{◌≡◌, ◌⊎◌, inl, inr, ℕ, ◌+◌, ◌<◌, ◌≤◌, max, false, eq-eqb, nat_eq, get_or, List, [], ◌∷◌, ◌++◌, length, map, filter, refl, sym, subst, ◌∙◌, ap, ap₂, arith, zero-le}
 use Rattle.std.specs.declared.option.Option.TheVariants.{None, Some}
 use Rattle.std.specs.List.{AllByRecursion, flat_map, fold, range_with_len}
-use Rattle.std.proofs.lemmas.Bool.{and_right, eqb-true, le-ltb, not_from_true}
+use Rattle.std.proofs.lemmas.Bool.{and_right, eqb-true, not_from_true}
 use Rattle.std.proofs.lemmas.List.FromFn.{fill_by_all}
 use Rattle.pd_kinds.specs.declared.kind.Kind.TheVariants.{Era}
-use Rattle.pd_kinds.specs.declared.rule.Rule.TheVariants as r
+use Rattle.pd_kinds.specs.declared.limits.TheConstants.{MAX_META_BLOCKS}
 use Rattle.pd_kinds.specs.Bitmap.{bitmaps_for}
 use Rattle.pd_kinds.specs.EraFormat.{EraFields, era_fields, era_graph, era_layout, era_super_bad, era_super_block}
-use Rattle.pd_kinds.specs.Graph.{Graph, block_at, block_of, meta_count, nodes, pair, role_of}
-use Rattle.pd_kinds.specs.Layout.{graph_of, leaf_entries, plain_tree, tree_to}
+use Rattle.pd_kinds.specs.Graph.{Graph, block_at, block_of, meta_count, nodes, role_of}
+use Rattle.pd_kinds.specs.Layout.{graph_of, leaf_entries, plain_tree}
 use Rattle.pd_kinds.specs.Meaning.{EraMeaning, archived_era, current_era, era_meaning, era_of}
 use Rattle.pd_kinds.specs.Node.{Entry}
 use Rattle.pd_kinds.specs.Stages.{AreClean, Checked, IsClean, era_checked}
 use Rattle.pd_kinds.specs.Trees.{entries_below, stored_meta_in}
 use Rattle.pd_kinds.specs.Whole.{Array, WholeTest, array_whole, array_words, bitmap_tests, era_arrays, era_whole, is_array_index_bad, reached_writesets}
-use Rattle.pd_laws.proofs.AllLemmas.{all_append, all_from, all_map, all_mapped}
+use Rattle.pd_laws.proofs.AllLemmas.{all_append, all_from, all_map}
+use Rattle.pd_spells.specs.EraNeed.{era_need}
 use Rattle.pd_spells.specs.Lawful.{IsLawfulEra}
-use Rattle.pd_laid.specs.Array.{array_items, array_pieces, laid_array, laid_words}
-use Rattle.pd_laid.specs.Laid.{IsLaid, LaidBlock, laid_number, laid_tree, named_by, tree_of}
+use Rattle.pd_laid.specs.Array.{laid_array}
+use Rattle.pd_laid.specs.Laid.{IsLaid, LaidBlock, laid_number, laid_tree, tree_of}
 use Rattle.pd_laid.specs.LaidEra.{array_root_of, era_blocks, era_laid_fields, era_named, era_parts, laid_era, meta_map_at, meta_map_blocks, writeset_blocks, writesets_at}
 use Rattle.pd_laid.specs.Map.{laid_bitmap, laid_bitmaps, laid_meta_map, meta_counts, meta_map_number, meta_overflow, meta_overflow_at, meta_overflow_blocks}
-use Rattle.pd_laid_graph.specs.LaidOut.{AllFrom, AreLaidInOrder, IsFitting, IsInPlace, IsLaidOut, laid_super, role_at}
-use Rattle.pd_laid_graph.proofs.CheckLemmas.{all_filtered, clean_super, whole_holds}
-use Rattle.pd_laid_graph.proofs.FitLemmas.{fits_more}
+use Rattle.pd_laid_once_arrays.proofs.NeedLemmas.{era_takes_need}
+use Rattle.pd_laid_graph.specs.LaidOut.{AllFrom, AreLaidInOrder, IsInPlace, IsLaidOut, role_at}
+use Rattle.pd_laid_graph.proofs.CheckLemmas.{clean_super, whole_holds}
 use Rattle.pd_laid_graph.proofs.FromLemmas.{by_place, from_both, from_follows, from_pairs}
 use Rattle.pd_laid_graph.proofs.LaidLemmas.{laid_in_order}
 use Rattle.pd_laid_trees.proofs.Names.{tree_roles}
+use Rattle.pd_laid_maps.proofs.Formats.{at_roles, bitmaps_hold, laid_out_of, referred_few}
 use Rattle.pd_laid_maps.proofs.MapNames.{length-meta_map}
-use Rattle.pd_laid_maps.proofs.MetaMap.{other_more}
-use Rattle.pd_laid_maps.proofs.RoleCounts.{fitting_lead}
+use Rattle.pd_laid_arrays.proofs.Arrays.{array_roles}
 use Rattle.pd_kinds.specs.Limits.{room_of}
 use Rattle.pd_laid_era.specs.CleanEra.{IsCleanEra}
 use Rattle.pd_laid_era.proofs.EraCounts.{bitmap_once, references_count}
-use Rattle.pd_laid_era.proofs.EraParts.{array_is, blocks_number, era_all, era_in_place, era_number, first_super, lawful_graph, meta_fitting, meta_is, no_writesets, one_leaf, parts_end, parts_fitting, super_edges, super_leads, writesets_are}
+use Rattle.pd_laid_era.proofs.EraParts.{array_is, era_all, era_in_place, era_number, first_super, lawful_graph, meta_fitting, meta_is, no_writesets, one_leaf, parts_end, parts_fitting, super_edges, super_leads, writesets_are}
 use Rattle.pd_laid_era.proofs.EraSuper.{IsSuperLaid, super_laid, super_seen}
-
-super_role_is : (m : EraMeaning) (n : ℕ) → role_at (era_all m n) 0 ≡ 0
-unfolding role_at era_all
-super_role_is m n = refl
 
 module _ (m : EraMeaning) (n : ℕ) (image : List (List ℕ)) (few : n ≤ 4161600) (lawful : IsLawfulEra m)
     (room : meta_map_at m + length (meta_map_blocks m n) ≤ n) (stand : AllFrom (IsInPlace image (era_all m n)) 0 (era_all m n)) where
@@ -54,28 +51,11 @@ module _ (m : EraMeaning) (n : ℕ) (image : List (List ℕ)) (few : n ≤ 41616
   super_is : IsSuperLaid image m n
   super_is = super_laid m n image few lawful room stand
 
-  all_fit : AllFrom (IsFitting (graph_of 10 n 0 (era_layout n)) image (era_all m n) (meta_map_at m + length (meta_map_blocks m n))) 0 (era_all m n)
-  all_fit =
-      let first : IsFitting this image blocks end 0 (laid_super (era_super_block (era_laid_fields m n)) (super_edges m n)) = record {
-        seen = super_seen m n image few lawful room stand;
-        leads = super_leads m n image few lawful room stand;
-        named = λ from. absurd (omega arith);
-      } in
-      let front = fits_more this image blocks (meta_map_at m) end 1 (era_parts m) (omega arith) (parts_fitting m n image few lawful room stand) in
-      let e = parts_end m in
-      first_super (IsFitting this image blocks end) m n first
-      (from_both (IsFitting this image blocks end) 1 (era_parts m) (meta_map_blocks m n) front (rw e (meta_fitting m n image few lawful room stand)))
-
   laid_out : IsLaidOut (graph_of 10 n 0 (era_layout n)) image (era_all m n)
-  unfolding graph_of
+  unfolding graph_of era_all
   laid_out =
-      let number = blocks_number m n in
-      record {
-        some = omega arith;
-        super_role = super_role_is m n;
-        fits = omega arith;
-        each = rw number all_fit;
-      }
+      laid_out_of this image (era_super_block (era_laid_fields m n)) (super_edges m n) (era_parts m) (meta_map_blocks m n) (meta_map_at m) end (parts_end m) refl room
+      (super_seen m n image few lawful room stand) (super_leads m n image few lawful room stand) (parts_fitting m n image few lawful room stand) (meta_fitting m n image few lawful room stand)
 
   in_order : AreLaidInOrder (graph_of 10 n 0 (era_layout n)) image (era_all m n)
   in_order = laid_in_order this image blocks (lawful_graph m n image few lawful room stand) laid_out
@@ -88,42 +68,13 @@ module _ (m : EraMeaning) (n : ℕ) (image : List (List ℕ)) (few : n ≤ 41616
   meta_count_is b = in_order.meta_counts b ∙ references_count m n few_meta b
 
   -- a bitmap is referred to once
-  bitmap_few : (b : ℕ) → role_at (era_all m n) b ≡ 8 → meta_count (graph_of 10 n 0 (era_layout n)) image b ≤ 1
-  bitmap_few b eight =
-      let once = bitmap_once m n end b eight (fitting_lead this image blocks end 0 blocks all_fit) in
-      let other = other_more 0 b (named_by blocks) (λ zero_is. let own : role_at blocks b ≡ 0 = rw (← zero_is) (super_role_is m n) in omega arith) in
-      rw (in_order.meta_counts b, other) once
+  one_edge : AllByRecursion (λ (t : WholeTest). t.fails ≡ false) (bitmap_tests (graph_of 10 n 0 (era_layout n)) image (λ role. nat_eq role 8))
+  one_edge =
+      bitmaps_hold this image blocks in_order (λ role. nat_eq role 8)
+      (λ b here. referred_few this image blocks in_order 8 b laid_out (omega arith) (eqb-true (role_at blocks b) 8 here) (bitmap_once m n b))
 
   abbrev Holds : WholeTest → Type 0
   Holds t = t.fails ≡ false
-
-  -- what is said of the places of a role is said of the reached pairs in it
-  at_role : (P : ℕ → Type 0) (role : ℕ) → ((b : ℕ) → b < length (era_all m n) → role_at (era_all m n) b ≡ role → P b)
-      → AllByRecursion (λ p. P (block_of p)) (filter (λ p. nat_eq (role_of p) role) (nodes (graph_of 10 n 0 (era_layout n)) image))
-  at_role P role holds =
-      let at = λ (b : ℕ). pair b (role_at blocks b) in
-      all_filtered (λ p. P (block_of p)) (λ p. nat_eq (role_of p) role) (nodes this image)
-      (subst (λ (ps : List ℕ). AllByRecursion (λ p. nat_eq (role_of p) role ≡ true → P (block_of p)) ps) (sym in_order.nodes_are)
-      (each 0 (length blocks) (omega arith)))
-    where
-      each : (a k : ℕ) → a + k ≤ length (era_all m n) → AllByRecursion (λ p. nat_eq (role_of p) role ≡ true → P (block_of p)) (map (λ (b : ℕ). pair b (role_at (era_all m n) b)) (range_with_len a k))
-      each a zero within = tt
-      each a (suc k) within = (
-        (λ here.
-            let small = in_order.roles_small a in
-            let own : role_of (pair a (role_at (era_all m n) a)) ≡ role_at (era_all m n) a = omega arith in
-            let block : block_of (pair a (role_at (era_all m n) a)) ≡ a = omega arith in
-            rw block (holds a (omega arith) (sym own ∙ eqb-true _ role here))),
-        each (a + 1) k (omega arith),
-      )
-
-  one_edge : AllByRecursion (λ (t : WholeTest). t.fails ≡ false) (bitmap_tests (graph_of 10 n 0 (era_layout n)) image (λ role. nat_eq role 8))
-  unfolding bitmap_tests
-  one_edge =
-      let kept = filter (λ p. nat_eq (role_of p) 8) (nodes this image) in
-      all_mapped (λ (p : ℕ). record { block = block_of p; rule = r.Index; fails = nat_lt 1 (meta_count this image (block_of p)) }) Holds kept
-      (all_from (λ p. meta_count this image (block_of p) ≤ 1) (λ p. nat_lt 1 (meta_count this image (block_of p)) ≡ false) (λ p once. le-ltb 1 (meta_count this image (block_of p)) once) kept
-      (at_role (λ b. meta_count this image b ≤ 1) 8 (λ b inside eight. bitmap_few b eight)))
 
   -- only the empty leaf has the role of writesets
   abbrev IsEmpty : ℕ → Type 0
@@ -134,14 +85,10 @@ module _ (m : EraMeaning) (n : ℕ) (image : List (List ℕ)) (few : n ≤ 41616
   others place (x ∷ xs) all = ((λ two. absurd (all.0 two)), others (place + 1) xs all.1)
 
   eras_other : AllByRecursion (λ (x : LaidBlock). x.role ≡ 2 → ⊥) (era_blocks m)
-  unfolding era_blocks laid_array
+  unfolding era_blocks
   eras_other =
-      let list = array_pieces 4 m.eras in
-      let t = tree_of (tree_to 8 6 (λ v. v)) in
-      let above = laid_tree 5 t (1 + length list) (array_items 1 (length list)) in
-      all_append (λ (x : LaidBlock). x.role ≡ 2 → ⊥) (map (laid_words 6 4) list) above
-      (all_map (laid_words 6 4) (λ (x : LaidBlock). x.role ≡ 2 → ⊥) (λ ws two. omega arith) list)
-      (all_from (λ (x : LaidBlock). x.role ≡ 5) (λ (x : LaidBlock). x.role ≡ 2 → ⊥) (λ x five two. omega arith) above (tree_roles 5 t (1 + length list) (array_items 1 (length list))))
+      all_from (λ (x : LaidBlock). (x.role ≡ 5) ⊎ (x.role ≡ 6)) (λ (x : LaidBlock). x.role ≡ 2 → ⊥) (λ x which two. elim which [ inl five ↦ omega arith | inr six ↦ omega arith ])
+      (laid_array 5 4 1 m.eras) (array_roles 5 4 1 m.eras)
 
   bitmaps_other : (counts : ℕ → ℕ) → AllByRecursion (λ (x : LaidBlock). x.role ≡ 2 → ⊥) (laid_bitmaps 8 counts n)
   unfolding laid_bitmaps
@@ -179,7 +126,7 @@ module _ (m : EraMeaning) (n : ℕ) (image : List (List ℕ)) (few : n ≤ 41616
 
   no_reached : reached_writesets (graph_of 10 n 0 (era_layout n)) image ≡ []
   unfolding reached_writesets
-  no_reached = none (filter (λ p. nat_eq (role_of p) 2) (nodes this image)) (at_role IsEmpty 2 empty_at)
+  no_reached = none (filter (λ p. nat_eq (role_of p) 2) (nodes this image)) (at_roles this image blocks in_order IsEmpty (λ role. nat_eq role 2) (λ b inside two. empty_at b inside (eqb-true (role_at blocks b) 2 two)))
     where
       none : (ps : List ℕ) → AllByRecursion (λ p. leaf_entries 12 (block_at image (block_of p)) ≡ []) ps → flat_map (λ p. leaf_entries 12 (block_at image (block_of p))) ps ≡ []
       none [] all = refl
@@ -298,7 +245,7 @@ module _ (m : EraMeaning) (n : ℕ) (image : List (List ℕ)) (few : n ≤ 41616
       ∙ sym (fill_by_all (era_of this image) m.eras fields_at.blocks 0 (sym blocks_are) (λ k h. sym (one_era k))) in
       ap₂ meaning_of super_is.fields_are eras
 
-pub law : (m : EraMeaning) (base image : List (List ℕ)) → IsLawfulEra m → laid_number (laid_era m (room_of (length base))) ≤ room_of (length base)
+law : (m : EraMeaning) (base image : List (List ℕ)) → IsLawfulEra m → laid_number (laid_era m (room_of (length base))) ≤ room_of (length base)
     → IsLaid (laid_era m (room_of (length base))) base image → IsCleanEra image m
 law m base image lawful room is =
     let n = room_of (length base) in
@@ -312,3 +259,12 @@ law m base image lawful room is =
       means = laid_means m n image few lawful enough stand;
       valid = (super_is m n image few lawful enough stand).valid;
     }
+
+pub takes_need : (m : EraMeaning) (n : ℕ) → IsLawfulEra m → n ≤ MAX_META_BLOCKS → era_need m n ≤ n → laid_number (laid_era m n) ≡ era_need m n
+takes_need m n lawful limit room = era_takes_need m lawful.one_each n (omega arith)
+
+pub need_law : (m : EraMeaning) (base image : List (List ℕ)) → IsLawfulEra m → era_need m (room_of (length base)) ≤ room_of (length base)
+    → IsLaid (laid_era m (room_of (length base))) base image → IsCleanEra image m
+need_law m base image lawful room is =
+    let number = takes_need m (room_of (length base)) lawful (omega arith) room in
+    law m base image lawful (omega arith) is

@@ -24,6 +24,7 @@ use Rattle.pd_laid_trees.proofs.Names.{root_leads}
 use Rattle.pd_laid_trees.proofs.Nodes.{leaf_seen}
 use Rattle.pd_laid_trees.proofs.Trees.{tree_seen}
 use Rattle.pd_laid_maps.specs.MetaMap.{IsMetaMapSeen}
+use Rattle.pd_laid_maps.proofs.Formats.{leads_more}
 use Rattle.pd_laid_maps.proofs.MetaMap.{map_seen}
 use Rattle.pd_laid_arrays.specs.ArraySeen.{IsArraySeen}
 use Rattle.pd_laid_arrays.proofs.Arrays.{array_seen}
@@ -183,10 +184,8 @@ module _ (m : EraMeaning) (n : ℕ) (image : List (List ℕ)) (few : n ≤ 41616
 
   pub super_leads : AllByRecursion (LeadsBelow (era_all m n) (meta_map_at m + length (meta_map_blocks m n))) (super_edges m n)
   super_leads =
+      let more = leads_more blocks (meta_map_at m) (meta_map_at m + length (meta_map_blocks m n)) (omega arith) in
       (more (edge_of 2 (writesets_root m)) writesets_lead, (more (edge_of 5 (array_root_of m)) array_is.leads, (meta_is.index_leads, (meta_is.overflow_leads, tt))))
-    where
-      more : (edge : Edge) → LeadsBelow (era_all m n) (meta_map_at m) edge → LeadsBelow (era_all m n) (meta_map_at m + length (meta_map_blocks m n)) edge
-      more edge is = record { from_one = is.from_one; below = omega (arith, is.below); role_is = is.role_is }
 
   -- the leaf of writesets has no entries
   pub no_writesets : leaf_entries 12 (block_at image (writesets_at m)) ≡ []

@@ -1,44 +1,27 @@
 -- The superblock of a laid era target.
 use Rattle.std.proofs.Common.{◌≡◌, ℕ, ◌+◌, ◌≤◌, true, false, List, length, refl, ◌∙◌, ap, arith}
 use Rattle.std.proofs.lemmas.Bool.{or_right}
-use Rattle.std.proofs.lemmas.Bool.Decides.{nat_tests}
 use Rattle.pd_kinds.specs.declared.kind.Kind.TheVariants.{Cache, Era, Thin}
 use Rattle.pd_kinds.specs.declared.rule.Rule.{Rule}
 use Rattle.pd_kinds.specs.Edge.{has_edge_outside}
-use Rattle.pd_kinds.specs.EraFormat.{EraFields, era_fields, era_layout, era_numbers, era_rows, era_super_bad, era_super_block, era_super_edges, era_super_tests, era_table}
-use Rattle.pd_kinds.specs.Field.{DoFit, Row, written, zeros}
+use Rattle.pd_kinds.specs.EraFormat.{EraFields, era_fields, era_layout, era_rows, era_super_bad, era_super_block, era_super_edges, era_super_tests}
+use Rattle.pd_kinds.specs.Field.{DoFit}
 use Rattle.pd_kinds.specs.Graph.{block_at}
 use Rattle.pd_kinds.specs.Layout.{copy, graph_of}
 use Rattle.pd_kinds.specs.Limits.{is_meta_size_bad}
 use Rattle.pd_kinds.specs.Meaning.{EraMeaning}
 use Rattle.pd_kinds.specs.RuleSet.{failing}
 use Rattle.pd_kinds.specs.Super.{is_super_of, is_valid_super}
-use Rattle.pd_kinds.proofs.SuperLemmas.{fields_read, met_by_tests, place_tested, uuid_read}
-use Rattle.pd_kinds.proofs.TableLemmas.{value_at}
-use Rattle.pd_kinds.proofs.WrittenLemmas.{length-written_zeros}
+use Rattle.pd_kinds.proofs.SuperLemmas.{met_by_tests, place_tested}
+use Rattle.pd_supers.proofs.EraWritten.{reads_back}
 use Rattle.pd_spells.specs.Lawful.{IsLawfulEra}
 use Rattle.pd_laid.specs.LaidEra.{era_laid_fields, meta_map_at, meta_map_blocks}
 use Rattle.pd_laid_graph.specs.LaidOut.{AllFrom, IsInPlace, IsSeen, laid_super}
 use Rattle.pd_laid_trees.proofs.Nodes.{none_outside}
 use Rattle.pd_laid_trees.proofs.SuperBytes.{is_super_of_rows}
+use Rattle.pd_laid_maps.proofs.Formats.{size_good}
 use Rattle.pd_laid_maps.proofs.Plain.{plain_seen}
 use Rattle.pd_laid_era.proofs.EraParts.{era_all, super_edges, super_edges_are, super_leads, super_stands}
-
--- the fields that these rows and this uuid make up
-abbrev made_of : List Row → List ℕ → EraFields
-made_of rows uuid = era_table (λ offset size. value_at rows offset) (λ offset size. uuid)
-
-same_fields : (f g : EraFields) → era_numbers f ≡ era_numbers g → f.uuid ≡ g.uuid → f ≡ g
-same_fields f g numbers uuid =
-    let made : made_of (era_rows f) f.uuid ≡ made_of (era_rows g) g.uuid = cc in
-    made
-
--- reading what was written gives the same fields
-reads_back : (f : EraFields) → length f.uuid ≡ 16 → DoFit (era_rows f) → era_fields (era_super_block f) ≡ f
-unfolding era_super_block
-reads_back f len fit =
-    same_fields (era_fields (era_super_block f)) f (fields_read Era f.uuid (era_rows f) len refl refl fit)
-    (uuid_read Era f.uuid (written zeros (era_rows f)) (length-written_zeros (era_rows f)) len)
 
 -- a superblock of sound fields breaks no rule
 super_sound : (device_blocks : ℕ) (b : List ℕ) (f : EraFields) → era_fields b ≡ f → is_super_of Era b ≡ true
@@ -52,9 +35,6 @@ super_sound device_blocks b f is valid version sizes pointers broken =
     ap (λ (f : EraFields). has_edge_outside f.meta_map.blocks (era_super_edges f)) is ∙ pointers in
     let place_is = place_tested Era b valid in
     met_by_tests Era b (era_super_tests device_blocks b) broken valid (rw (sizes_are, pointers_are, version_is, place_is) refl)
-
-size_good : (device_blocks n : ℕ) → 1 ≤ n → n ≤ device_blocks → n ≤ 4161600 → is_meta_size_bad device_blocks n ≡ false
-size_good device_blocks n some few limit = grind (arith, nat_tests)
 
 -- what is known of the superblock
 pub record IsSuperLaid (image : List (List ℕ)) (m : EraMeaning) (n : ℕ) : Type 0 where

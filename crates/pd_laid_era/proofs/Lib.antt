@@ -2,4 +2,3 @@ mod EraParts
 mod EraSuper
 mod EraCounts
 mod EraLaw
-mod EraNamed

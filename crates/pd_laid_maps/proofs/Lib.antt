@@ -6,3 +6,4 @@ pub mod Index
 pub mod MetaMap
 pub mod RoleCounts
 pub mod MapNames
+pub mod Formats

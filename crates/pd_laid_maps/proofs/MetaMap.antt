@@ -54,14 +54,7 @@ once_at_most a (suc n) b = elim (cases_eq a b) [
   | inr other ↦ rw (other_more a b (range_with_len (a + 1) n) other) (once_at_most (a + 1) n b)
 ]
 
--- the counts of the map: no block of the map is named more than once
-pub map_count : (role n place b : ℕ) (named : List ℕ) → AllByRecursion (λ r. r < place) named → place ≤ b → meta_counts role n place named b ≤ 1
-unfolding meta_counts
-map_count role n place b named all high =
-    let number = meta_map_number role n place named in
-    omega (arith, count_append (λ r. nat_eq r b) named (range_with_len place number), none_in place b named all high, once_at_most place number b)
-
--- and before it the counts are of what is named before it
+-- where it is above 2, a count is of what is named before the map
 before_count : (role n place b : ℕ) (named : List ℕ) → AllByRecursion (λ r. r < place) named → 3 ≤ meta_counts role n place named b
     → count_in named b ≡ meta_counts role n place named b
 unfolding meta_counts

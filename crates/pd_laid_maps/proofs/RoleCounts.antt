@@ -5,17 +5,20 @@ use Rattle.std.proofs.lemmas.Bool.{and_left, and_right, cases_eq, ne_eqb}
 use Rattle.std.proofs.lemmas.List.Folds.{flat_map-map}
 use Rattle.std.proofs.lemmas.List.Sums.{sum_by-cons}
 use Rattle.std.proofs.lemmas.Grind.{flat_map-append}
+use Rattle.pd_kinds.specs.Bitmap.{bitmaps_for}
 use Rattle.pd_kinds.specs.Edge.{Edge, edge_of}
 use Rattle.pd_kinds.specs.Graph.{Graph}
-use Rattle.pd_kinds.specs.Layout.{Tree}
+use Rattle.pd_kinds.specs.Layout.{Tree, plain_tree}
 use Rattle.pd_kinds.specs.Node.{Entry}
 use Rattle.pd_laws.proofs.AllLemmas.{all_append, all_flat_map, all_map, all_of}
-use Rattle.pd_laid.specs.Laid.{LaidBlock, count_in, laid_inner, laid_leaf, laid_tree, named_by}
+use Rattle.pd_laid.specs.Laid.{LaidBlock, count_in, laid_inner, laid_leaf, laid_tree, named_by, tree_of}
+use Rattle.pd_laid.specs.Map.{laid_bitmap, laid_bitmaps, laid_index, laid_meta_map, meta_counts, meta_overflow, meta_overflow_at, meta_overflow_blocks}
 use Rattle.pd_laid.specs.Tree.{tree_inners, tree_leaves}
 use Rattle.pd_laid_graph.specs.LaidOut.{AllFrom, IsFitting, LeadsBelow, role_at}
-use Rattle.pd_laid_graph.proofs.ListLemmas.{count_append, map_flat}
+use Rattle.pd_laid_graph.proofs.ListLemmas.{count_append, map_flat, map_twice}
 use Rattle.pd_laid_trees.proofs.Rows.{flat_joined}
 use Rattle.pd_laid_trees.proofs.Trees.{leaves_are}
+use Rattle.pd_laid_maps.proofs.Index.{range_of}
 use Rattle.pd_laid_maps.proofs.MetaMap.{once_at_most}
 
 -- the edges of blocks, and how many of them lead to a block in a role
@@ -118,3 +121,52 @@ range_count role b place n = rw (same (range_with_len place n)) (once_at_most pl
         let left = sum_by-cons (λ (e : Edge). cond (nat_eq e.role role && nat_eq e.block b) 1 0) (edge_of role x) (map (edge_of role) xs) in
         let right = sum_by-cons (λ r. cond (nat_eq r b) 1 0) x xs in
         rw (left, right, eq-eqb role role refl, same xs) refl
+
+-- bitmaps name nothing
+pub bitmaps_count : (role own b : ℕ) (counts : ℕ → ℕ) (n : ℕ) → role_count role b (edges_in (laid_bitmaps own counts n)) ≡ 0
+unfolding laid_bitmaps
+bitmaps_count role own b counts n = none (range_with_len 0 (bitmaps_for n))
+  where
+    none : (xs : List ℕ) → role_count role b (edges_in (map (laid_bitmap own counts) xs)) ≡ 0
+    none [] = refl
+    none (x ∷ xs) = none xs
+
+module _ (role n place : ℕ) (named : List ℕ) where
+  abbrev counts : ℕ → ℕ
+  counts = meta_counts role n place named
+
+  abbrev bitmaps : List LaidBlock
+  bitmaps = laid_bitmaps (role + 1) (meta_counts role n place named) n
+
+  -- the overflow tree of a metadata map names no block in another role
+  overflow_count : (other b : ℕ) → role + 2 ≢ other → role_count other b (edges_in (meta_overflow_blocks role n place named)) ≡ 0
+  unfolding meta_overflow_blocks
+  overflow_count other b differ =
+      none_count other b (meta_overflow_blocks role n place named)
+      (tree_names_none other (role + 2) (tree_of (plain_tree 4)) (meta_overflow_at n place) (meta_overflow n named) differ (λ e. tt))
+
+  map_split : (other b : ℕ) → role + 2 ≢ other
+      → role_count other b (edges_in (laid_meta_map role n place named)) ≡ role_count other b (map (λ (i : ℕ). edge_of (role + 1) (place + 1 + i)) (range_with_len 0 (bitmaps_for n)))
+  unfolding laid_meta_map
+  map_split other b differ =
+      let over = meta_overflow_blocks role n place named in
+      let index = laid_index role counts n (place + 1) in
+      let first = count_append (λ (e : Edge). nat_eq e.role other && nat_eq e.block b) index.edges (edges_in (bitmaps ++ over)) in
+      let split = both_count other b bitmaps over in
+      let c1 = bitmaps_count other (role + 1) b counts n in
+      let c2 = overflow_count other b differ in
+      omega arith
+
+  -- a metadata map names each of its bitmaps once, and no block in a role that isn't one of its own
+  pub meta_map_once : (b : ℕ) → role_count (role + 1) b (edges_in (laid_meta_map role n place named)) ≤ 1
+  meta_map_once b =
+      let at = place + 1 in
+      let edges : map (λ (i : ℕ). edge_of (role + 1) (at + i)) (range_with_len 0 (bitmaps_for n)) ≡ map (edge_of (role + 1)) (range_with_len at (bitmaps_for n)) =
+      sym (map_twice (edge_of (role + 1)) (λ (i : ℕ). at + i) (range_with_len 0 (bitmaps_for n))) ∙ ap (map (edge_of (role + 1))) (range_of (λ i. at + i) at (bitmaps_for n) (λ i within. refl)) in
+      rw (map_split (role + 1) b (λ e. omega arith), edges) (range_count (role + 1) b at (bitmaps_for n))
+
+  pub meta_map_none : (other b : ℕ) → role + 1 ≢ other → role + 2 ≢ other → role_count other b (edges_in (laid_meta_map role n place named)) ≡ 0
+  meta_map_none other b first second =
+      map_split other b second
+      ∙ no_edges other b (map (λ (i : ℕ). edge_of (role + 1) (place + 1 + i)) (range_with_len 0 (bitmaps_for n)))
+      (all_map (λ (i : ℕ). edge_of (role + 1) (place + 1 + i)) (λ (e : Edge). nat_eq e.role other ≡ false) (λ i. ne_eqb (role + 1) other first) (range_with_len 0 (bitmaps_for n)))

@@ -7,4 +7,3 @@ pub mod ThinSuper
 pub mod ThinCounts
 pub mod ThinWhole
 pub mod ThinLaw
-pub mod ThinNamed

@@ -1,78 +1,35 @@
 -- The references of a laid pool are what its stored counts say.
-use Rattle.std.proofs.Common.{◌≡◌, ◌⊎◌, inl, inr, ℕ, ◌+◌, ◌%◌, ◌^◌, ◌≤◌, ◌≢◌, Bool, false, ◌&&◌, nat_eq, cond, List, [], ◌∷◌, ◌++◌, length, map, refl, sym, ◌∙◌, ap, ap₂, arith}
-use Rattle.std.specs.List.{AllByRecursion, count_by, range_with_len}
+use Rattle.std.proofs.Common.{◌≡◌, ◌⊎◌, inl, inr, ℕ, ◌+◌, ◌%◌, ◌^◌, ◌≤◌, ◌≢◌, false, ◌&&◌, nat_eq, List, [], ◌∷◌, ◌++◌, length, map, refl, ◌∙◌, ap, ap₂, arith}
+use Rattle.std.specs.List.{AllByRecursion}
 use Rattle.std.proofs.lemmas.Bool.{ne_eqb}
 use Rattle.std.proofs.lemmas.List.{append-nil}
-use Rattle.std.proofs.lemmas.List.Sums.{sum_by-cons}
 use Rattle.std.proofs.lemmas.Grind.{flat_map-append}
-use Rattle.pd_kinds.specs.Edge.{Edge, edge_of}
+use Rattle.pd_kinds.specs.Edge.{Edge}
 use Rattle.pd_kinds.specs.Bitmap.{bitmaps_for}
 use Rattle.pd_kinds.specs.Layout.{Tree, plain_tree, tree_to}
 use Rattle.pd_kinds.specs.Node.{Entry}
 use Rattle.pd_kinds.specs.ThinSuper.{thin_super_block}
-use Rattle.pd_laws.proofs.AllLemmas.{all_append, all_map}
+use Rattle.pd_laws.proofs.AllLemmas.{all_append}
 use Rattle.pd_laid.specs.Laid.{LaidBlock, count_in, data_named_by, laid_inner, laid_leaf, named_by, tree_of}
-use Rattle.pd_laid.specs.LaidThin.{bitmap_blocks, bitmaps_at, data_counts, data_index, data_overflow, details_at, details_blocks, details_items, device_blocks, device_inners, device_leaves, devices_at, index_at, index_blocks, laid_device, laid_devices, mappings, meta_map_at, meta_map_blocks, overflow_at, overflow_blocks, pool_fields, pool_named, pool_parts, shared_items, top_blocks, tops, tops_at}
-use Rattle.pd_laid.specs.Map.{laid_bitmap, laid_bitmaps, laid_index, meta_counts, meta_map_number, meta_overflow, meta_overflow_at, meta_overflow_blocks, laid_meta_map}
+use Rattle.pd_laid.specs.LaidThin.{bitmap_blocks, bitmaps_at, data_counts, data_index, data_overflow, details_at, details_blocks, details_items, device_blocks, device_inners, device_leaves, devices_at, index_at, index_blocks, laid_device, laid_devices, mapping_root, mappings, meta_map_at, meta_map_blocks, overflow_at, overflow_blocks, pool_fields, pool_named, pool_parts, shared_items, top_blocks, tops, tops_at}
+use Rattle.pd_laid.specs.Map.{meta_counts, meta_map_number}
 use Rattle.pd_laid.specs.Shape.{ShapeDevice, ThinShape}
-use Rattle.pd_laid_graph.specs.LaidOut.{LeadsBelow, laid_super, role_at}
-use Rattle.pd_laid_graph.proofs.ListLemmas.{count_append, map_twice}
-use Rattle.pd_laid_trees.proofs.Names.{named-append}
-use Rattle.pd_laid_maps.proofs.Index.{range_of}
+use Rattle.pd_laid.specs.Tree.{tree_root}
+use Rattle.pd_laid_graph.specs.LaidOut.{laid_super}
+use Rattle.pd_laid_graph.proofs.ListLemmas.{count_append}
 use Rattle.pd_laid_maps.proofs.MapItems.{index_edges}
-use Rattle.pd_laid_maps.proofs.MapNames.{bitmaps_no_data, meta_names, meta_no_data, no_data, tree_no_data}
-use Rattle.pd_laid_maps.proofs.RoleCounts.{NameNone, blocks_count, both_count, edges_in, inners_name_none, leaves_name_none, no_edges, none_count, range_count, role_count, tree_count, tree_names_none}
+use Rattle.pd_laid_maps.proofs.Formats.{references_are}
+use Rattle.pd_laid_maps.proofs.MapNames.{bitmaps_no_data, meta_no_data, no_data, tree_no_data}
+use Rattle.pd_laid_maps.proofs.RoleCounts.{NameNone, bitmaps_count, both_count, edges_in, inners_name_none, leaves_name_none, meta_map_none, meta_map_once, no_edges, none_count, range_count, role_count, tree_count, tree_names_none}
 use Rattle.pd_laid_thin.proofs.ThinPool.{pool_blocks, super_edges}
-
--- one element more, counted
-one_of : {X : Type 0} → (test : X → Bool) → X → ℕ
-one_of test x = cond (test x) 1 0
-
-count_cons : {X : Type 0} → (test : X → Bool) (x : X) (xs : List X) → count_by test (x ∷ xs) ≡ one_of test x + count_by test xs
-unfolding one_of
-count_cons test x xs = sum_by-cons (λ y. cond (test y) 1 0) x xs
-
--- the two orders in which what is named is told
-sides : {X : Type 0} → (test : X → Bool) (z a b c d e f : X) (parts own : List X)
-    → count_by test (z ∷ a ∷ b ∷ c ∷ d ∷ e ∷ f ∷ (parts ++ own)) ≡ count_by test ((z ∷ a ∷ b ∷ c ∷ d ∷ parts) ++ (e ∷ (own ++ (f ∷ []))))
-sides test z a b c d e f parts own =
-    let left = parts ++ own in
-    let right = e ∷ (own ++ (f ∷ [])) in
-    let l1 = count_cons test z (a ∷ b ∷ c ∷ d ∷ e ∷ f ∷ left) in
-    let l2 = count_cons test a (b ∷ c ∷ d ∷ e ∷ f ∷ left) in
-    let l3 = count_cons test b (c ∷ d ∷ e ∷ f ∷ left) in
-    let l4 = count_cons test c (d ∷ e ∷ f ∷ left) in
-    let l5 = count_cons test d (e ∷ f ∷ left) in
-    let l6 = count_cons test e (f ∷ left) in
-    let l7 = count_cons test f left in
-    let l8 = count_append test parts own in
-    let r1 = count_cons test z (a ∷ b ∷ c ∷ d ∷ (parts ++ right)) in
-    let r2 = count_cons test a (b ∷ c ∷ d ∷ (parts ++ right)) in
-    let r3 = count_cons test b (c ∷ d ∷ (parts ++ right)) in
-    let r4 = count_cons test c (d ∷ (parts ++ right)) in
-    let r5 = count_cons test d (parts ++ right) in
-    let r6 = count_append test parts right in
-    let r7 = count_cons test e (own ++ (f ∷ [])) in
-    let r8 = count_append test own (f ∷ []) in
-    let r9 = count_cons test f [] in
-    omega arith
-
-named-first : (x : LaidBlock) (xs : List LaidBlock) → named_by (x ∷ xs) ≡ map (λ (e : Edge). e.block) x.edges ++ named_by xs
-unfolding named_by
-named-first x xs = refl
 
 module _ (w : ThinShape) (n : ℕ) (few : meta_map_number 8 n (meta_map_at w) (pool_named w) ≤ 4161600) where
   -- how often all blocks name a block, with block 0, is its count in the metadata map
   pub references_count : (b : ℕ) → count_in (0 ∷ named_by (pool_blocks w n)) b ≡ meta_counts 8 n (meta_map_at w) (pool_named w) b
-  unfolding pool_blocks meta_counts pool_named meta_map_blocks
+  unfolding pool_blocks pool_named meta_map_blocks
   references_count b =
-      let parts = named_by (pool_parts w) in
-      let meta = named_by (laid_meta_map 8 n (meta_map_at w) (pool_named w)) in
-      let whole : named_by (pool_blocks w n) ≡ map (λ (e : Edge). e.block) (super_edges w n) ++ (parts ++ meta) =
-      named-first (laid_super (thin_super_block (pool_fields w n)) (super_edges w n)) (pool_parts w ++ meta_map_blocks w n) ∙ ap (λ (rest : List ℕ). map (λ (e : Edge). e.block) (super_edges w n) ++ rest) (named-append (pool_parts w) (meta_map_blocks w n)) in
-      ap (λ (named : List ℕ). count_in (0 ∷ named) b) whole
-      ∙ (sides (λ r. nat_eq r b) 0 _ _ _ _ _ _ parts meta
-      ∙ ap (λ (own : List ℕ). count_in (pool_named w ++ own) b) (meta_names 8 n (meta_map_at w) (pool_named w) few))
+      let roots = mapping_root w ∷ tree_root 24 (details_at w) (details_items w.devices) ∷ tree_root 16 (index_at w) (data_index w) ∷ tree_root 4 (overflow_at w) (data_overflow w) ∷ [] in
+      references_are (thin_super_block (pool_fields w n)) (super_edges w n) (pool_parts w) roots 8 n (meta_map_at w) b few refl
 
 data-append : (xs ys : List LaidBlock) → data_named_by (xs ++ ys) ≡ data_named_by xs ++ data_named_by ys
 unfolding data_named_by
@@ -132,14 +89,6 @@ module _ (w : ThinShape) (n : ℕ) where
       (leaves_name_none role 3 (mappings w) (shared_items w) (λ e. tt))
       (devices_name_none role (mappings w) (shared_items w) (devices_at w) w.devices differ (λ e. tt))
 
-  bitmaps_edges : (role bitmap_role b : ℕ) (counts : ℕ → ℕ) (k : ℕ) → role_count role b (edges_in (laid_bitmaps bitmap_role counts k)) ≡ 0
-  unfolding laid_bitmaps
-  bitmaps_edges role bitmap_role b counts k = no_bitmap_edges (range_with_len 0 (bitmaps_for k))
-    where
-      no_bitmap_edges : (xs : List ℕ) → role_count role b (edges_in (map (laid_bitmap bitmap_role counts) xs)) ≡ 0
-      no_bitmap_edges [] = refl
-      no_bitmap_edges (x ∷ xs) = no_bitmap_edges xs
-
   -- the parts that name no block in the role of bitmaps
   tops_count : (role b : ℕ) → 2 ≢ role → 3 ≢ role → role_count role b (edges_in (top_blocks w)) ≡ 0
   unfolding top_blocks
@@ -152,7 +101,7 @@ module _ (w : ThinShape) (n : ℕ) where
 
   bitmap_count : (role b : ℕ) → role_count role b (edges_in (bitmap_blocks w)) ≡ 0
   unfolding bitmap_blocks
-  bitmap_count role b = bitmaps_edges role 6 b (data_counts w) w.data_blocks
+  bitmap_count role b = bitmaps_count role 6 b (data_counts w) w.data_blocks
 
   overflow_count : (role b : ℕ) → 7 ≢ role → role_count role b (edges_in (overflow_blocks w)) ≡ 0
   unfolding overflow_blocks
@@ -170,15 +119,6 @@ module _ (w : ThinShape) (n : ℕ) where
   unfolding index_blocks
   index_none b =
       none_count 9 b (index_blocks w) (tree_names_none 9 5 (tree_of (tree_to 16 6 (λ v. v % 2 ^ 64))) (index_at w) (data_index w) (λ e. omega arith) (λ e. (ne_eqb 6 9 (λ e. omega arith), tt)))
-
-  meta_tree_count : (role b : ℕ) → 10 ≢ role → role_count role b (edges_in (meta_overflow_blocks 8 n (meta_map_at w) (pool_named w))) ≡ 0
-  unfolding meta_overflow_blocks
-  meta_tree_count role b ten =
-      none_count role b (meta_overflow_blocks 8 n (meta_map_at w) (pool_named w))
-      (tree_names_none role 10 (tree_of (plain_tree 4)) (meta_overflow_at n (meta_map_at w)) (meta_overflow n (pool_named w)) ten (λ e. tt))
-
-  abbrev named_in : ℕ → ℕ → List LaidBlock → ℕ
-  named_in role b xs = role_count role b (edges_in xs)
 
   -- how often the parts name a block in the role of a bitmap
   parts_count : (role b : ℕ) → 2 ≢ role → 3 ≢ role → 4 ≢ role → 7 ≢ role → role_count role b (edges_in (pool_parts w)) ≡ role_count role b (edges_in (index_blocks w))
@@ -199,38 +139,6 @@ module _ (w : ThinShape) (n : ℕ) where
       let c6 = overflow_count role b seven in
       omega arith
 
-  -- and how often the metadata map does
-  meta_count_six : (b : ℕ) → role_count 6 b (edges_in (meta_map_blocks w n)) ≡ 0
-  unfolding meta_map_blocks laid_meta_map
-  meta_count_six b =
-      let counts = meta_counts 8 n (meta_map_at w) (pool_named w) in
-      let bitmaps = laid_bitmaps 9 counts n in
-      let over = meta_overflow_blocks 8 n (meta_map_at w) (pool_named w) in
-      let index = laid_index 8 counts n (meta_map_at w + 1) in
-      let first = count_append (λ (e : Edge). nat_eq e.role 6 && nat_eq e.block b) index.edges (edges_in (bitmaps ++ over)) in
-      let none = no_edges 6 b index.edges (all_map (λ (i : ℕ). edge_of 9 (meta_map_at w + 1 + i)) (λ (e : Edge). nat_eq e.role 6 ≡ false) (λ i. ne_eqb 9 6 (λ e. omega arith)) (range_with_len 0 (bitmaps_for n))) in
-      let split = both_count 6 b bitmaps over in
-      let c1 = bitmaps_edges 6 9 b counts n in
-      let c2 = meta_tree_count 6 b (λ e. omega arith) in
-      omega arith
-
-  meta_once : (b : ℕ) → role_count 9 b (edges_in (meta_map_blocks w n)) ≤ 1
-  unfolding meta_map_blocks laid_meta_map
-  meta_once b =
-      let counts = meta_counts 8 n (meta_map_at w) (pool_named w) in
-      let bitmaps = laid_bitmaps 9 counts n in
-      let over = meta_overflow_blocks 8 n (meta_map_at w) (pool_named w) in
-      let place = meta_map_at w + 1 in
-      let index = laid_index 8 counts n place in
-      let first = count_append (λ (e : Edge). nat_eq e.role 9 && nat_eq e.block b) index.edges (edges_in (bitmaps ++ over)) in
-      let edges : map (λ (i : ℕ). edge_of 9 (place + i)) (range_with_len 0 (bitmaps_for n)) ≡ map (edge_of 9) (range_with_len place (bitmaps_for n)) =
-      sym (map_twice (edge_of 9) (λ (i : ℕ). place + i) (range_with_len 0 (bitmaps_for n))) ∙ ap (map (edge_of 9)) (range_of (λ i. place + i) place (bitmaps_for n) (λ i within. refl)) in
-      let once : role_count 9 b index.edges ≤ 1 = rw edges (range_count 9 b place (bitmaps_for n)) in
-      let split = both_count 9 b bitmaps over in
-      let c1 = bitmaps_edges 9 9 b counts n in
-      let c2 = meta_tree_count 9 b (λ e. omega arith) in
-      omega arith
-
   super_none : (role b : ℕ) → 2 ≢ role → 4 ≢ role → 5 ≢ role → 7 ≢ role → 8 ≢ role → 10 ≢ role → role_count role b (super_edges w n) ≡ 0
   super_none role b two four five seven eight ten =
       no_edges role b (super_edges w n) (ne_eqb 2 role two, (ne_eqb 4 role four, (ne_eqb 5 role five, (ne_eqb 7 role seven, (ne_eqb 8 role eight, (ne_eqb 10 role ten, tt))))))
@@ -243,27 +151,23 @@ module _ (w : ThinShape) (n : ℕ) where
       ∙ ap (λ (k : ℕ). role_count role b (super_edges w n) + k) (both_count role b (pool_parts w) (meta_map_blocks w n))
 
   -- so no bitmap is named twice
-  pub bitmap_once : (limit role b : ℕ) → (role ≡ 6) ⊎ (role ≡ 9) → bitmaps_at w + bitmaps_for w.data_blocks ≤ 2 ^ 63 → role_at (pool_blocks w n) b ≡ role
-      → AllByRecursion (λ (x : LaidBlock). AllByRecursion (LeadsBelow (pool_blocks w n) limit) x.edges) (pool_blocks w n) → count_in (named_by (pool_blocks w n)) b ≤ 1
-  bitmap_once limit role b which small is leads =
-      rw (blocks_count (pool_blocks w n) limit role b (pool_blocks w n) is leads) (once role which)
-    where
-      once : (role : ℕ) → (role ≡ 6) ⊎ (role ≡ 9) → role_count role b (edges_in (pool_blocks w n)) ≤ 1
-      once role which = elim which [
-        | inl six ↦
-            rw six
-            (let split = blocks_split 6 b in
-            let own = super_none 6 b (λ e. omega arith) (λ e. omega arith) (λ e. omega arith) (λ e. omega arith) (λ e. omega arith) (λ e. omega arith) in
-            let parts = parts_count 6 b (λ e. omega arith) (λ e. omega arith) (λ e. omega arith) (λ e. omega arith) in
-            let index = index_once b small in
-            let meta = meta_count_six b in
-            omega arith)
-        | inr nine ↦
-            rw nine
-            (let split = blocks_split 9 b in
-            let own = super_none 9 b (λ e. omega arith) (λ e. omega arith) (λ e. omega arith) (λ e. omega arith) (λ e. omega arith) (λ e. omega arith) in
-            let parts = parts_count 9 b (λ e. omega arith) (λ e. omega arith) (λ e. omega arith) (λ e. omega arith) in
-            let index = index_none b in
-            let meta = meta_once b in
-            omega arith)
-      ]
+  pub bitmap_once : (role b : ℕ) → (role ≡ 6) ⊎ (role ≡ 9) → bitmaps_at w + bitmaps_for w.data_blocks ≤ 2 ^ 63 → role_count role b (edges_in (pool_blocks w n)) ≤ 1
+  unfolding meta_map_blocks
+  bitmap_once role b which small = elim which [
+    | inl six ↦
+        rw six
+        (let split = blocks_split 6 b in
+        let own = super_none 6 b (λ e. omega arith) (λ e. omega arith) (λ e. omega arith) (λ e. omega arith) (λ e. omega arith) (λ e. omega arith) in
+        let parts = parts_count 6 b (λ e. omega arith) (λ e. omega arith) (λ e. omega arith) (λ e. omega arith) in
+        let index = index_once b small in
+        let meta = meta_map_none 8 n (meta_map_at w) (pool_named w) 6 b (λ e. omega arith) (λ e. omega arith) in
+        omega arith)
+    | inr nine ↦
+        rw nine
+        (let split = blocks_split 9 b in
+        let own = super_none 9 b (λ e. omega arith) (λ e. omega arith) (λ e. omega arith) (λ e. omega arith) (λ e. omega arith) (λ e. omega arith) in
+        let parts = parts_count 9 b (λ e. omega arith) (λ e. omega arith) (λ e. omega arith) (λ e. omega arith) in
+        let index = index_none b in
+        let meta = meta_map_once 8 n (meta_map_at w) (pool_named w) b in
+        omega arith)
+  ]

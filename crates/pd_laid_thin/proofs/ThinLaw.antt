@@ -1,14 +1,15 @@
 -- A laid pool is clean, and means the pool.
-use Rattle.std.proofs.Common.{◌≡◌, ◌⊎◌, inl, inr, ℕ, ◌+◌, ◌/◌, ◌%◌, ◌^◌, ◌<◌, ◌≤◌, true, false, not, ◌||◌, nat_eq, nat_lt, cond, List, [], ◌∷◌, ◌++◌, length, map, filter, Option, refl, sym, subst, ◌∙◌, ap, ap₂, arith, zero-le}
+use Rattle.std.proofs.Common.{◌≡◌, ◌⊎◌, inl, inr, ℕ, ◌+◌, ◌/◌, ◌%◌, ◌^◌, ◌<◌, ◌≤◌, true, false, not, ◌||◌, nat_eq, cond, List, [], ◌∷◌, length, map, filter, Option, refl, sym, subst, ◌∙◌, ap, ap₂, arith, zero-le}
 use Rattle.std.specs.declared.option.Option.TheVariants.{Some}
 use Rattle.std.specs.List.{AllByRecursion, flat_map, range_with_len}
 use Rattle.std.specs.Option.{option_map}
-use Rattle.std.proofs.lemmas.Bool.{eqb-true, le-ltb, not_from_true, or_cases}
+use Rattle.std.proofs.lemmas.Bool.{eqb-true, not_from_true, or_cases}
 use Rattle.std.proofs.lemmas.List.{map-id}
 use Rattle.pd_kinds.specs.declared.kind.Kind.TheVariants.{Thin}
+use Rattle.pd_kinds.specs.declared.limits.TheConstants.{MAX_META_BLOCKS}
 use Rattle.pd_kinds.specs.declared.rule.Rule.TheVariants as r
 use Rattle.pd_kinds.specs.Bitmap.{bitmaps_for}
-use Rattle.pd_kinds.specs.Graph.{Graph, block_at, block_of, meta_count, data_count, nodes, pair, role_of}
+use Rattle.pd_kinds.specs.Graph.{Graph, block_at, meta_count, data_count}
 use Rattle.pd_kinds.specs.Layout.{Tree, graph_of}
 use Rattle.pd_kinds.specs.Meaning.{ThinDevice, ThinPool, thin_device, thin_meaning}
 use Rattle.pd_kinds.specs.Node.{Entry}
@@ -17,28 +18,28 @@ use Rattle.pd_kinds.specs.ThinFormat.{mappings_tree, thin_graph, thin_layout}
 use Rattle.pd_kinds.specs.ThinSuper.{ThinFields, thin_fields, thin_super_bad, thin_super_block}
 use Rattle.pd_kinds.specs.Trees.{entries_below, keys_of, stored_data_in, stored_in, stored_meta_in}
 use Rattle.pd_kinds.specs.Whole.{WholeTest, bitmap_tests, data_index_entries, device_test, is_not_counting, mapped_number, mapped_tests, mapping_entries, roots_in, thin_roots, thin_whole}
-use Rattle.pd_laws.proofs.AllLemmas.{all_append, all_from, all_map, all_mapped}
+use Rattle.pd_laws.proofs.AllLemmas.{all_append}
 use Rattle.pd_spells.specs.Lawful.{IsLawfulPool}
-use Rattle.pd_laid.specs.Laid.{IsLaid, LaidBlock, laid_number, named_by, tree_of}
-use Rattle.pd_laid.specs.LaidThin.{bitmaps_at, data_counts, data_index, data_overflow, details_items, devices_at, laid_shape, mapping_items, meta_map_at, meta_map_blocks, pool_fields, pool_named, pool_parts, tops}
+use Rattle.pd_spells.specs.ThinNeed.{thin_need}
+use Rattle.pd_laid.specs.Laid.{IsLaid, LaidBlock, laid_number, tree_of}
+use Rattle.pd_laid.specs.LaidThin.{bitmaps_at, data_counts, data_index, data_overflow, details_items, devices_at, laid_pool, laid_shape, mapping_items, meta_map_at, meta_map_blocks, pool_fields, pool_named, pool_parts, tops}
 use Rattle.pd_laid.specs.Map.{index_entry_of, free_in, index_items, meta_counts, meta_map_number, meta_overflow}
-use Rattle.pd_laid.specs.Shape.{IsShape, ShapeDevice, ThinShape, pool_of}
-use Rattle.pd_laid_graph.specs.LaidOut.{AllFrom, AreLaidInOrder, IsFitting, IsInPlace, IsLaidOut, laid_super, role_at}
-use Rattle.pd_laid_graph.proofs.CheckLemmas.{all_filtered, clean_super, same_bytes, whole_holds}
-use Rattle.pd_laid_graph.proofs.FitLemmas.{fits_more}
-use Rattle.pd_laid_graph.proofs.FromLemmas.{from_both}
+use Rattle.pd_laid.specs.Shape.{IsShape, ShapeDevice, ThinShape, pool_of, shape_of}
+use Rattle.pd_laid.proofs.ShapeLemmas.{is_shape, pool_kept}
+use Rattle.pd_laid_once.proofs.Need.{laid_need}
+use Rattle.pd_laid_graph.specs.LaidOut.{AllFrom, AreLaidInOrder, IsInPlace, IsLaidOut, role_at}
+use Rattle.pd_laid_graph.proofs.CheckLemmas.{clean_super, same_bytes, whole_holds}
 use Rattle.pd_laid_graph.proofs.LaidLemmas.{laid_in_order}
 use Rattle.pd_laid_maps.proofs.Counts.{stored_laid}
+use Rattle.pd_laid_maps.proofs.Formats.{bitmaps_hold, laid_out_of, referred_few}
 use Rattle.pd_laid_maps.proofs.MapItems.{code_block, made_keys}
 use Rattle.pd_laid_maps.proofs.MapNames.{length-meta_map}
-use Rattle.pd_laid_maps.proofs.MetaMap.{other_more}
-use Rattle.pd_laid_maps.proofs.RoleCounts.{fitting_lead}
 use Rattle.pd_kinds.specs.Limits.{room_of}
 use Rattle.pd_laid_thin.specs.CleanPool.{IsCleanPool}
 use Rattle.pd_laid_thin.proofs.ThinCounts.{bitmap_once, data_references, references_count}
 use Rattle.pd_laid_thin.proofs.ThinDevices.{AreRead}
 use Rattle.pd_laid_thin.proofs.ThinItems.{details_value}
-use Rattle.pd_laid_thin.proofs.ThinPool.{ShapeFits, bitmap_count, blocks_number, data_bitmap_stands, data_index_seen, data_overflow_seen, details_seen, device_fits, devices_all_seen, ids_ascend, lawful_graph, meta_fitting, meta_map_seen, parts_end, parts_fitting, pool_blocks, pool_in_place, pool_number, shape_fits, super_edges, top_keys, tops_seen}
+use Rattle.pd_laid_thin.proofs.ThinPool.{ShapeFits, bitmap_count, data_bitmap_stands, data_index_seen, data_overflow_seen, details_seen, device_fits, devices_all_seen, ids_ascend, lawful_graph, meta_fitting, meta_map_seen, parts_end, parts_fitting, pool_blocks, pool_in_place, pool_number, shape_fits, super_edges, top_keys, tops_seen}
 use Rattle.pd_laid_thin.proofs.ThinSuper.{IsSuperLaid, super_laid, super_leads, super_seen}
 use Rattle.pd_laid_thin.proofs.ThinWhole.{AreFound, devices_back, keyed, mapped_holds, value_found}
 
@@ -51,16 +52,6 @@ index_keys w =
 details_keys : (ds : List ShapeDevice) → keys_of (details_items ds) ≡ map (λ (d : ShapeDevice). d.id) ds
 unfolding details_items
 details_keys ds = made_keys (λ (d : ShapeDevice). d.id) details_value ds
-
--- the superblock, and all behind it
-first_super : (P : ℕ → LaidBlock → Type 0) (w : ThinShape) (n : ℕ) → P 0 (laid_super (thin_super_block (pool_fields w n)) (super_edges w n)) → AllFrom P 1 (pool_parts w ++ meta_map_blocks w n)
-    → AllFrom P 0 (pool_blocks w n)
-unfolding pool_blocks
-first_super P w n first rest = (first, rest)
-
-super_role_is : (w : ThinShape) (n : ℕ) → role_at (pool_blocks w n) 0 ≡ 0
-unfolding role_at pool_blocks
-super_role_is w n = refl
 
 module _ (w : ThinShape) (n : ℕ) (image : List (List ℕ)) (few : n ≤ 4161600) (fits : ShapeFits w) (shape : IsShape w)
     (room : meta_map_at w + length (meta_map_blocks w n) ≤ n) (stand : AllFrom (IsInPlace image (pool_blocks w n)) 0 (pool_blocks w n)) where
@@ -76,28 +67,11 @@ module _ (w : ThinShape) (n : ℕ) (image : List (List ℕ)) (few : n ≤ 416160
   super_is : IsSuperLaid image w n
   super_is = super_laid w n image few fits shape room stand
 
-  all_fit : AllFrom (IsFitting (graph_of 11 n w.data_blocks (thin_layout n w.data_blocks)) image (pool_blocks w n) (meta_map_at w + length (meta_map_blocks w n))) 0 (pool_blocks w n)
-  all_fit =
-      let first : IsFitting this image blocks end 0 (laid_super (thin_super_block (pool_fields w n)) (super_edges w n)) = record {
-        seen = super_seen w n image few fits shape room stand;
-        leads = super_leads w n image few fits shape room stand;
-        named = λ from. absurd (omega arith);
-      } in
-      let front = fits_more this image blocks (meta_map_at w) end 1 (pool_parts w) (omega arith) (parts_fitting w n image few fits shape room stand) in
-      let e = parts_end w in
-      first_super (IsFitting this image blocks end) w n first
-      (from_both (IsFitting this image blocks end) 1 (pool_parts w) (meta_map_blocks w n) front (rw e (meta_fitting w n image few fits shape room stand)))
-
   laid_out : IsLaidOut (graph_of 11 n w.data_blocks (thin_layout n w.data_blocks)) image (pool_blocks w n)
-  unfolding graph_of
+  unfolding graph_of pool_blocks
   laid_out =
-      let number = blocks_number w n in
-      record {
-        some = omega arith;
-        super_role = super_role_is w n;
-        fits = omega arith;
-        each = rw number all_fit;
-      }
+      laid_out_of this image (thin_super_block (pool_fields w n)) (super_edges w n) (pool_parts w) (meta_map_blocks w n) (meta_map_at w) end (parts_end w) refl room
+      (super_seen w n image few fits shape room stand) (super_leads w n image few fits shape room stand) (parts_fitting w n image few fits shape room stand) (meta_fitting w n image few fits shape room stand)
 
   in_order : AreLaidInOrder (graph_of 11 n w.data_blocks (thin_layout n w.data_blocks)) image (pool_blocks w n)
   in_order = laid_in_order this image blocks (lawful_graph w n image few fits shape room stand) laid_out
@@ -113,57 +87,27 @@ module _ (w : ThinShape) (n : ℕ) (image : List (List ℕ)) (few : n ≤ 416160
   data_count_is d = in_order.data_counts d ∙ data_references w n d
 
   -- a bitmap is referred to once
-  bitmap_few : (b : ℕ) → (role_at (pool_blocks w n) b ≡ 6) ⊎ (role_at (pool_blocks w n) b ≡ 9) → meta_count (graph_of 11 n w.data_blocks (thin_layout n w.data_blocks)) image b ≤ 1
-  bitmap_few b which =
-      let leads = fitting_lead this image blocks end 0 blocks all_fit in
+  bitmap_few : (b role : ℕ) → role_at (pool_blocks w n) b ≡ role → (role ≡ 6) ⊎ (role ≡ 9) → meta_count (graph_of 11 n w.data_blocks (thin_layout n w.data_blocks)) image b ≤ 1
+  bitmap_few b role is which =
       let small : bitmaps_at w + bitmaps_for w.data_blocks ≤ 2 ^ 63 = omega (arith, bitmap_count w n image few fits shape room stand) in
-      let once = bitmap_once w n end (role_at blocks b) b which small refl leads in
-      let other = other_more 0 b (named_by blocks) (λ zero_is. first_other b which zero_is) in
-      rw (in_order.meta_counts b, other) once
+      let some : 1 ≤ role = elim which [ inl six ↦ omega arith | inr nine ↦ omega arith ] in
+      referred_few this image blocks in_order role b laid_out some is (bitmap_once w n role b which small)
+
+  one_edge : AllByRecursion (λ (t : WholeTest). t.fails ≡ false) (bitmap_tests (graph_of 11 n w.data_blocks (thin_layout n w.data_blocks)) image (λ role. nat_eq role 6 || nat_eq role 9))
+  one_edge = bitmaps_hold this image blocks in_order (λ role. nat_eq role 6 || nat_eq role 9) (λ b here. bitmap_few b (role_at blocks b) refl (passed (role_at blocks b) here))
     where
-      first_other : (b : ℕ) → (role_at (pool_blocks w n) b ≡ 6) ⊎ (role_at (pool_blocks w n) b ≡ 9) → 0 ≡ b → ⊥
-      first_other b which zero_is =
-          let own : role_at (pool_blocks w n) b ≡ 0 = rw (← zero_is) (super_role_is w n) in
-          elim which [ inl six ↦ omega arith | inr nine ↦ omega arith ]
+      passed : (role : ℕ) → (nat_eq role 6 || nat_eq role 9) ≡ true → (role ≡ 6) ⊎ (role ≡ 9)
+      passed role here = elim (or_cases (nat_eq role 6) (nat_eq role 9) here) [
+        | inl six ↦ inl (eqb-true role 6 six)
+        | inr nine ↦ inr (eqb-true role 9 nine)
+      ]
 
   -- no rule of the whole is broken
   abbrev Holds : WholeTest → Type 0
   Holds t = t.fails ≡ false
 
-  one_edge : AllByRecursion (λ (t : WholeTest). t.fails ≡ false) (bitmap_tests (graph_of 11 n w.data_blocks (thin_layout n w.data_blocks)) image (λ role. nat_eq role 6 || nat_eq role 9))
-  unfolding bitmap_tests
-  one_edge =
-      let at = λ (b : ℕ). pair b (role_at blocks b) in
-      let passes = λ (p : ℕ). nat_eq (role_of p) 6 || nat_eq (role_of p) 9 in
-      let is = λ (p : ℕ). meta_count this image (block_of p) ≤ 1 in
-      all_mapped (λ (p : ℕ). record { block = block_of p; rule = r.Index; fails = nat_lt 1 (meta_count this image (block_of p)) }) Holds (filter passes (nodes this image))
-      (all_from is (λ p. nat_lt 1 (meta_count this image (block_of p)) ≡ false) (λ p once. le-ltb 1 (meta_count this image (block_of p)) once) (filter passes (nodes this image))
-      (all_filtered is passes (nodes this image)
-      (subst (λ (ps : List ℕ). AllByRecursion (λ p. passes p ≡ true → is p) ps) (sym in_order.nodes_are)
-      (all_map at (λ p. passes p ≡ true → is p) (λ b here. one_at b (passed b here)) (range_with_len 0 (length blocks))))))
-    where
-      passed : (b : ℕ) → (nat_eq (role_of (pair b (role_at (pool_blocks w n) b))) 6 || nat_eq (role_of (pair b (role_at (pool_blocks w n) b))) 9) ≡ true
-          → (role_at (pool_blocks w n) b ≡ 6) ⊎ (role_at (pool_blocks w n) b ≡ 9)
-      passed b here =
-          let small = in_order.roles_small b in
-          let own : role_of (pair b (role_at (pool_blocks w n) b)) ≡ role_at (pool_blocks w n) b = omega arith in
-          elim (or_cases _ _ here) [
-            | inl six ↦ inl (sym own ∙ eqb-true _ 6 six)
-            | inr nine ↦ inr (sym own ∙ eqb-true _ 9 nine)
-          ]
-
-      one_at : (b : ℕ) → (role_at (pool_blocks w n) b ≡ 6) ⊎ (role_at (pool_blocks w n) b ≡ 9)
-          → meta_count (graph_of 11 n w.data_blocks (thin_layout n w.data_blocks)) image (block_of (pair b (role_at (pool_blocks w n) b))) ≤ 1
-      one_at b which =
-          let small = in_order.roles_small b in
-          let own : block_of (pair b (role_at (pool_blocks w n) b)) ≡ b = omega arith in
-          rw own (bitmap_few b which)
-
   abbrev fields_at : ThinFields
   fields_at = thin_fields (block_at image 0)
-
-  abbrev read_at : (ThinFields → ℕ) → ℕ → ℕ → List Entry
-  read_at root size role = entries_below this image size role (root fields_at)
 
   index_is : data_index_entries (graph_of 11 n w.data_blocks (thin_layout n w.data_blocks)) image ≡ data_index w
   unfolding pool_fields
@@ -323,3 +267,16 @@ law w base image lawful shape room is =
       means = laid_means w n image few fits shape enough stand;
       valid = (super_is w n image few fits shape enough stand).valid;
     }
+
+pub takes_need : (m : ThinPool) (n : ℕ) → IsLawfulPool m → n ≤ MAX_META_BLOCKS → thin_need m n ≤ n → laid_number (laid_pool m n) ≡ thin_need m n
+takes_need m n lawful limit room = laid_need m lawful n (omega arith)
+
+-- the law for meanings
+pub meaning_law : (m : ThinPool) (base image : List (List ℕ)) → IsLawfulPool m → thin_need m (room_of (length base)) ≤ room_of (length base) → IsLaid (laid_pool m (room_of (length base))) base image
+    → IsCleanPool image m
+unfolding laid_pool
+meaning_law m base image lawful room is =
+    let n = room_of (length base) in
+    let kept = pool_kept m in
+    let number = takes_need m n lawful (omega arith) room in
+    rw kept at (law (shape_of m) base image (rw kept lawful) (is_shape m) (omega arith) is)

@@ -7,40 +7,24 @@ use Rattle.std.proofs.lemmas.List.FromFn.{length-range_with_len}
 use Rattle.std.proofs.lemmas.List.Sums.{count_by-le-length}
 use Rattle.pd_kinds.specs.declared.rule.Rule.{Rule}
 use Rattle.pd_kinds.specs.declared.kind.Kind.TheVariants.{Thin}
-use Rattle.pd_kinds.specs.Edge.{Edge, has_edge_outside}
-use Rattle.pd_kinds.specs.Field.{DoFit, Row, written, zeros}
+use Rattle.pd_kinds.specs.Edge.{has_edge_outside}
+use Rattle.pd_kinds.specs.Field.{DoFit}
 use Rattle.pd_kinds.specs.Graph.{block_at}
 use Rattle.pd_kinds.specs.Layout.{copy, graph_of}
 use Rattle.pd_kinds.specs.RuleSet.{failing}
 use Rattle.pd_kinds.specs.Super.{is_super_of, is_valid_super}
 use Rattle.pd_kinds.specs.ThinFormat.{thin_layout}
-use Rattle.pd_kinds.specs.ThinSuper.{ThinFields, are_thin_sizes_bad, thin_fields, thin_numbers, thin_rows, thin_super_bad, thin_super_block, thin_super_edges, thin_super_tests, thin_table}
-use Rattle.pd_kinds.proofs.SuperLemmas.{fields_read, met_by_tests, place_tested, uuid_read}
-use Rattle.pd_kinds.proofs.TableLemmas.{value_at}
-use Rattle.pd_kinds.proofs.WrittenLemmas.{length-written_zeros}
+use Rattle.pd_kinds.specs.ThinSuper.{ThinFields, are_thin_sizes_bad, thin_fields, thin_rows, thin_super_bad, thin_super_block, thin_super_edges, thin_super_tests}
+use Rattle.pd_kinds.proofs.SuperLemmas.{met_by_tests, place_tested}
+use Rattle.pd_supers.proofs.ThinWritten.{reads_back}
 use Rattle.pd_laid.specs.LaidThin.{data_counts, meta_map_at, meta_map_blocks, pool_fields}
 use Rattle.pd_laid.specs.Shape.{IsShape, ThinShape}
 use Rattle.pd_laid_graph.specs.LaidOut.{AllFrom, IsInPlace, IsSeen, LeadsBelow, laid_super}
 use Rattle.pd_laid_trees.proofs.Nodes.{none_outside}
+use Rattle.pd_laid_maps.proofs.Formats.{leads_more}
 use Rattle.pd_laid_maps.proofs.Plain.{plain_seen}
 use Rattle.pd_laid_trees.proofs.SuperBytes.{is_super_of_rows}
 use Rattle.pd_laid_thin.proofs.ThinPool.{ShapeFits, data_index_root_leads, data_overflow_root_leads, details_root_leads, mapping_root_leads, meta_map_seen, pool_blocks, super_edges, super_edges_are, super_stands}
-
--- the fields that these rows and this uuid make up
-abbrev made_of : List Row → List ℕ → ThinFields
-made_of rows uuid = thin_table (λ offset size. value_at rows offset) (λ offset size. uuid)
-
-same_fields : (f g : ThinFields) → thin_numbers f ≡ thin_numbers g → f.uuid ≡ g.uuid → f ≡ g
-same_fields f g numbers uuid =
-    let made : made_of (thin_rows f) f.uuid ≡ made_of (thin_rows g) g.uuid = cc in
-    made
-
--- reading what was written gives the same fields
-reads_back : (f : ThinFields) → length f.uuid ≡ 16 → DoFit (thin_rows f) → thin_fields (thin_super_block f) ≡ f
-unfolding thin_super_block
-reads_back f len fit =
-    same_fields (thin_fields (thin_super_block f)) f (fields_read Thin f.uuid (thin_rows f) len refl refl fit)
-    (uuid_read Thin f.uuid (written zeros (thin_rows f)) (length-written_zeros (thin_rows f)) len)
 
 -- a superblock of sound fields breaks no rule
 super_sound : (blocks : ℕ) (b : List ℕ) (f : ThinFields) → thin_fields b ≡ f → is_super_of Thin b ≡ true
@@ -71,12 +55,10 @@ module _ (w : ThinShape) (n : ℕ) (image : List (List ℕ)) (few : n ≤ 416160
   abbrev end : ℕ
   end = meta_map_at w + length (meta_map_blocks w n)
 
-  more : (edge : Edge) → LeadsBelow (pool_blocks w n) (meta_map_at w) edge → LeadsBelow (pool_blocks w n) (meta_map_at w + length (meta_map_blocks w n)) edge
-  more edge is = record { from_one = is.from_one; below = omega (arith, is.below); role_is = is.role_is }
-
   -- its edges lead to laid blocks
   pub super_leads : AllByRecursion (LeadsBelow (pool_blocks w n) (meta_map_at w + length (meta_map_blocks w n))) (super_edges w n)
   super_leads =
+      let more = leads_more (pool_blocks w n) (meta_map_at w) (meta_map_at w + length (meta_map_blocks w n)) (omega arith) in
       let meta = meta_map_seen w n image few fits shape room stand in (
         more _ (mapping_root_leads w n image few fits shape room stand),
         (

@@ -8,17 +8,11 @@ mod audit_tests;
 #[cfg(test)]
 mod bitmap_tests;
 #[cfg(test)]
-mod build_tests;
-#[cfg(test)]
-mod built;
-#[cfg(test)]
 mod crc_tests;
 #[cfg(test)]
 mod draft_tests;
 #[cfg(test)]
 mod image_tests;
-#[cfg(test)]
-mod map_tests;
 #[cfg(test)]
 mod node_tests;
 #[cfg(test)]

@@ -1,3 +1,3 @@
-mod CacheWritten
-mod EraWritten
-mod ThinWritten
+pub mod CacheWritten
+pub mod EraWritten
+pub mod ThinWritten

@@ -2,13 +2,13 @@
 
 ghost use Rattle.std.specs.Prelude.{◌≡◌};
 
-use crate::pool::{index, index_entry, index_leaf, pool_of_one_mapping};
 use pd_bitmap::{new_bitmap, seal_bitmap, set_two_bits};
 use pd_count::Counts;
 use pd_graph::Audit;
 use pd_image::{Device, MemDevice};
 use pd_kinds::{Block, Fault, Report, Rule, SmRoot, Space};
 use pd_node::write_leaf;
+use pd_samples::pool::{index, index_entry, index_leaf, pool_of_one_mapping};
 use pd_smap::{compare_data, compare_meta, stored_meta};
 use pd_value::Count;
 use std::process::Abort;

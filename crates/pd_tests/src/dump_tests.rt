@@ -2,11 +2,11 @@
 
 ghost use Rattle.std.specs.Prelude.{◌<◌, ◌^◌};
 
-use crate::pool::{bitmap, damaged, pool_of_one_mapping};
-use crate::ran::{Failing, NOTHING_FAILS, holds, run};
 use crate::whole_tests::{details_leaf, superblock};
 use pd_kinds::Block;
 use pd_node::write_leaf;
+use pd_samples::pool::{bitmap, damaged, pool_of_one_mapping};
+use pd_samples::runs::{Failing, NOTHING_FAILS, blocks_of, run};
 use pd_supers::write_thin_super;
 use pd_value::{BlockTime, Details, Root};
 use std::alloc::{AllocError, Global};
@@ -70,7 +70,7 @@ fn expect_text(rt: &impl Abort, alloc: Global, case: &Case) -> Result<(), AllocE
     assert!(rt; ran.out.bytes() == text.as_bytes(), "{shows}");
     assert_eq!(rt; ran.status, 0, "{shows}");
     assert!(rt; ran.notes.bytes().is_empty());
-    assert!(rt; holds(&ran.input, image));
+    assert!(rt; blocks_of(alloc, &ran.input)?.as_slice() == image.as_slice());
     Ok(())
 }
 
@@ -146,7 +146,7 @@ fn a_failed_put_leaves_a_front_of_the_text(rt: HostRuntime) -> Result<(), Fail> 
         assert_eq!(rt; ran.status, 6);
         assert!(rt; ONE_MAPPING.as_bytes().starts_with(ran.out.bytes()));
         assert!(rt; ran.notes.bytes() == b"pdata_tools: source or sink fault\n".as_slice());
-        assert!(rt; holds(&ran.input, &image));
+        assert!(rt; blocks_of(rt.alloc(), &ran.input)?.as_slice() == image.as_slice());
     }
     Ok(())
 }

@@ -8,15 +8,9 @@ mod dump_tests;
 #[cfg(test)]
 mod order_tests;
 #[cfg(test)]
-mod pool;
-#[cfg(test)]
-mod ran;
-#[cfg(test)]
 mod stored_tests;
 #[cfg(test)]
 mod super_tests;
-#[cfg(test)]
-mod thin_restore_tests;
 #[cfg(test)]
 mod walk_tests;
 #[cfg(test)]

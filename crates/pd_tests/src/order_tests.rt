@@ -2,14 +2,14 @@
 
 ghost use Rattle.std.specs.Prelude.{◌≡◌, ◌<◌, ◌≤◌, ◌^◌, IfOk, vec_len};
 
-use crate::pool::{
-    NODE_SALT, bitmap, device_leaf, empty_leaf, empty_super, index, index_entry, index_leaf, inner,
-    map_root, mapping_leaf, pool_of_one_mapping, resealed,
-};
-use crate::ran::{NOTHING_FAILS, holds, run};
 use pd_crc::seal;
 use pd_kinds::{Block, put_u64};
 use pd_node::{write_inner, write_leaf};
+use pd_samples::pool::{
+    NODE_SALT, bitmap, device_leaf, empty_leaf, empty_super, index, index_entry, index_leaf, inner,
+    map_root, mapping_leaf, pool_of_one_mapping, resealed,
+};
+use pd_samples::runs::{NOTHING_FAILS, blocks_of, run};
 use pd_supers::write_thin_super;
 use pd_value::{BlockTime, Count, Details, Root};
 use std::alloc::{AllocError, Global};
@@ -47,7 +47,7 @@ fn expect_order(
     let status = if report == "clean\n" { 0 } else { 1 };
     assert_eq!(rt; ran.status, status, "{shows}");
     assert!(rt; ran.notes.bytes().is_empty());
-    assert!(rt; holds(&ran.input, image));
+    assert!(rt; blocks_of(alloc, &ran.input)?.as_slice() == image);
     Ok(())
 }
 

@@ -2,11 +2,11 @@
 
 ghost use Rattle.std.specs.Prelude.{◌<◌, ◌≤◌};
 
-use crate::pool::{bitmap, empty_leaf, empty_pool, pool_of_one_mapping, pool_with_held_copy};
-use crate::ran::{NOTHING_FAILS, holds, run};
 use pd_bitmap::{seal_bitmap, set_two_bits};
 use pd_kinds::Block;
 use pd_node::write_leaf;
+use pd_samples::pool::{bitmap, empty_leaf, empty_pool, pool_of_one_mapping, pool_with_held_copy};
+use pd_samples::runs::{NOTHING_FAILS, blocks_of, run};
 use pd_value::{Count, Details, Root};
 use std::alloc::{AllocError, Global};
 use std::process::Abort;
@@ -32,7 +32,7 @@ fn expect_counts(
         assert!(rt; ran.out.bytes() == report.as_bytes(), "{shows}");
         assert_eq!(rt; ran.status, status, "{shows}");
         assert!(rt; ran.notes.bytes().is_empty());
-        assert!(rt; holds(&ran.input, image));
+        assert!(rt; blocks_of(alloc, &ran.input)?.as_slice() == image);
     }
     Ok(())
 }

@@ -1,8 +1,8 @@
 ghost use Rattle.std.specs.Prelude.{◌+◌, ◌≤◌};
 
-use crate::pool::{damaged, empty_super, resealed, zeros_behind};
-use crate::ran::{Failing, NOTHING_FAILS, holds, run};
 use pd_kinds::{Block, Kind};
+use pd_samples::pool::{damaged, empty_super, resealed, zeros_behind};
+use pd_samples::runs::{Failing, NOTHING_FAILS, blocks_of, run};
 use std::alloc::{AllocError, Global};
 use std::process::Abort;
 use std::test::Fail;
@@ -59,7 +59,7 @@ fn expect_report(
     assert!(rt; ran.out.bytes() == report.as_bytes());
     assert_eq!(rt; ran.status, status, "{report}");
     assert!(rt; ran.notes.bytes().is_empty());
-    assert!(rt; holds(&ran.input, image));
+    assert!(rt; blocks_of(alloc, &ran.input)?.as_slice() == image);
     assert!(rt; is_at(ran.input.path(), "thin.img"));
     assert!(rt; ran.source.path().is_none());
     assert!(rt; ran.output.path().is_none());
@@ -117,7 +117,12 @@ fn says_which_object_failed(rt: HostRuntime) -> Result<(), Fail> {
     ];
     let image = pool();
     for ((input, out, notes), status, report, line) in cases {
-        let failing = Failing { input, out, notes };
+        let failing = Failing {
+            input,
+            out,
+            notes,
+            ..NOTHING_FAILS
+        };
         let ran = run(rt.alloc(), &CHECK, &image, failing)?;
         assert_eq!(rt; ran.status, status, "{input:?} {out:?} {notes:?}");
         assert!(rt; ran.out.bytes() == report.as_bytes());

@@ -1,10 +1,10 @@
-use crate::pool::{
+use pd_kinds::{Block, Kind};
+use pd_samples::pool::{
     NODE_SALT, bitmap, damaged, device_leaf, empty_pool, empty_super, held_copy, index,
     index_entry, index_leaf, inner, map_root, mapping_leaf, pool_of_one_mapping,
     pool_with_held_copy, resealed, zeros_behind,
 };
-use crate::ran::{Failing, NOTHING_FAILS, holds, run};
-use pd_kinds::{Block, Kind};
+use pd_samples::runs::{Failing, NOTHING_FAILS, blocks_of, run};
 use pd_supers::write_thin_super;
 use std::alloc::{AllocError, Global};
 use std::process::Abort;
@@ -30,7 +30,7 @@ fn expect_walk(
     let status = if report == "clean\n" { 0 } else { 1 };
     assert_eq!(rt; ran.status, status, "{shows}");
     assert!(rt; ran.notes.bytes().is_empty());
-    assert!(rt; holds(&ran.input, image));
+    assert!(rt; blocks_of(alloc, &ran.input)?.as_slice() == image);
     Ok(())
 }
 

@@ -2,14 +2,14 @@
 
 ghost use Rattle.std.specs.Prelude.{◌+◌, ◌*◌, ◌≤◌};
 
-use crate::pool::{
-    NODE_SALT, bitmap, empty_leaf, empty_super, held_copy, index_entry, map_root,
-    pool_of_one_mapping,
-};
-use crate::ran::{Failing, NOTHING_FAILS, holds, run};
 use pd_crc::seal;
 use pd_kinds::{Block, put_u32, put_u64};
 use pd_node::{write_inner, write_leaf};
+use pd_samples::pool::{
+    NODE_SALT, bitmap, empty_leaf, empty_super, held_copy, index_entry, map_root,
+    pool_of_one_mapping,
+};
+use pd_samples::runs::{Failing, NOTHING_FAILS, blocks_of, run};
 use pd_supers::{ThinSuper, write_thin_super};
 use pd_value::{Details, IndexEntry, Root};
 use std::alloc::{AllocError, Global};
@@ -74,7 +74,7 @@ fn expect_whole(rt: &impl Abort, alloc: Global, case: &Case) -> Result<(), Alloc
     let status = if report == "clean\n" { 0 } else { 1 };
     assert_eq!(rt; ran.status, status, "{shows}");
     assert!(rt; ran.notes.bytes().is_empty());
-    assert!(rt; holds(&ran.input, &image));
+    assert!(rt; blocks_of(alloc, &ran.input)?.as_slice() == image.as_slice());
     Ok(())
 }
 
@@ -237,8 +237,7 @@ fn two_hundred_devices_over_one_leaf(rt: HostRuntime) -> Result<(), Fail> {
     // failure of the next call shows nowhere.
     let failing = Failing {
         input: Some(63),
-        out: None,
-        notes: None,
+        ..NOTHING_FAILS
     };
     let ran = run(rt.alloc(), &WHOLE, &image, failing)?;
     assert!(rt; ran.out.bytes() == "clean\n".as_bytes());

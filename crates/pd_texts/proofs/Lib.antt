@@ -3,6 +3,7 @@ pub mod NumberWords
 pub mod ReadLemmas
 pub mod TextLemmas
 pub mod GivesLemmas
+pub mod LawLemmas
 pub mod ThinWordLemmas
 pub mod ThinLemmas
 pub mod ThinNextLemmas

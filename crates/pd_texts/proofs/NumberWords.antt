@@ -4,10 +4,10 @@ use Rattle.std.proofs.lemmas.Bool.{cases_Bool, true≢false}
 use Rattle.std.proofs.lemmas.Slice.Eq.{bytes_eq-Decides}
 use Rattle.std.specs.Option.{option_map}
 use Rattle.std.specs.Str.{bytes_eq}
-use Rattle.uuid.specs.Text.{parsed, hyphenated_text, lower}
+use Rattle.uuid.specs.Text.{parsed}
 use Rattle.pd_grammar.specs.declared.cause.TextCause.{TextCause}
 use Rattle.pd_grammar.specs.declared.cause.TextCause.TheVariants.{Word, Number}
-use Rattle.pd_grammar.specs.Words.{of_numbers, numbers_of, or_cause, uuid_of, bytes_of}
+use Rattle.pd_grammar.specs.Words.{of_numbers, numbers_of, or_cause, bytes_of}
 use Rattle.pd_grammar.proofs.NumberLemmas.{ok-err, same_Ok}
 
 make_ok : {L : Type 0} → (o : Option (List ℕ)) (cause : TextCause) (make : List ℕ → L) (ns : List ℕ) → or_cause (option_map (λ (xs : List ℕ). xs) o) cause ≡ Ok ns
@@ -35,23 +35,24 @@ made_err k make words cause e = elim (cases_Bool (eqb (length words) k)) [
   | inr other ↦ rw other (let same : ◌≡◌ {A = Result (List ℕ) TextCause} (Err Word) (Err cause) = rw other at e in cc)
 ]
 
--- uuids
+-- sixteen bytes in a form
 swapped : (a b : List ℕ) → false ≡ bytes_eq b a → bytes_eq a b ≡ false
 swapped a b differ = elim (cases_Bool (bytes_eq a b)) [
   | inr e ↦ e
   | inl e ↦ absurd (true≢false (sym ((bytes_eq-Decides b a).1 (sym ((bytes_eq-Decides a b).0 e))) ∙ sym differ))
 ]
 
-pub other_uuid : (word uuid text : List ℕ) → Some uuid ≡ parsed word → text ≡ hyphenated_text lower uuid → false ≡ bytes_eq text word → None ≡ uuid_of word
+-- a word that isn't in its form, and one that isn't parsed
+pub other_bytes : (form : List ℕ → List ℕ) (word bytes text : List ℕ) → Some bytes ≡ parsed word → text ≡ form bytes → false ≡ bytes_eq text word → None ≡ bytes_of form word
 unfolding bytes_of
-other_uuid word uuid text is same differ =
-    let test : bytes_eq word (hyphenated_text lower uuid) ≡ false = swapped word (hyphenated_text lower uuid) (rw same at differ) in
+other_bytes form word bytes text is same differ =
+    let test : bytes_eq word (form bytes) ≡ false = swapped word (form bytes) (rw same at differ) in
     rw (← is, test) refl
 
-unparsed : (o : Option (List ℕ)) (word : List ℕ) → o ≡ parsed word → (((u : List ℕ) × (parsed word ≡ Some u)) → ⊥) → None ≡ uuid_of word
+unparsed : (form : List ℕ → List ℕ) (o : Option (List ℕ)) (word : List ℕ) → o ≡ parsed word → (((u : List ℕ) × (parsed word ≡ Some u)) → ⊥) → None ≡ bytes_of form word
 unfolding bytes_of
-unparsed None word is none = rw (← is) refl
-unparsed (Some u) word is none = absurd (none (u, sym is))
+unparsed form None word is none = rw (← is) refl
+unparsed form (Some u) word is none = absurd (none (u, sym is))
 
-pub no_uuid : (word : List ℕ) → (((u : List ℕ) × (parsed word ≡ Some u)) → ⊥) → None ≡ uuid_of word
-no_uuid word none = unparsed (parsed word) word refl none
+pub no_bytes : (form : List ℕ → List ℕ) (word : List ℕ) → (((u : List ℕ) × (parsed word ≡ Some u)) → ⊥) → None ≡ bytes_of form word
+no_bytes form word none = unparsed form (parsed word) word refl none

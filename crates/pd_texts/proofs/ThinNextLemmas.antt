@@ -1,30 +1,11 @@
 -- What lines of a pool's text that were read say and mean.
-use Rattle.std.proofs.Common.{◌≡◌, ℕ, ◌+◌, ◌^◌, ◌≤◌, ◌<◌, true, false, not, ◌&&◌, ltb, leb, List, [], ◌∷◌, length, arith}
+use Rattle.std.proofs.Common.{◌≡◌, ℕ, ◌+◌, ◌^◌, ◌≤◌, ◌<◌, false, not, ◌&&◌, ltb, leb, List, [], ◌∷◌, length, arith}
 use Rattle.std.proofs.lemmas.Bool.Decides.{nat_tests}
-use Rattle.pd_kinds.specs.Meaning.{ThinPool}
-use Rattle.pd_grammar.specs.Texts.{TextFormat, has_ended, written}
-use Rattle.pd_grammar.proofs.LineLemmas.{IsReader, AreRead}
-use Rattle.pd_grammar.proofs.GrammarLemmas.{Passes, is_read, is_reader, lines_if_read}
-use Rattle.pd_spells.specs.ThinText.{Line, pool_line, device_line, map_line, end_line, Head, Details, Run, thin, thin_tests, data_blocks_of, least_id, run_end, unmapped, has_number_out_of_range, is_out_of_order, is_mapped_otherwise, MeansPool}
+use Rattle.pd_grammar.proofs.GrammarLemmas.{Passes, is_read}
+use Rattle.pd_spells.specs.ThinText.{Line, pool_line, device_line, map_line, end_line, Head, Details, Run, thin, thin_tests, data_blocks_of, least_id, run_end, unmapped, has_number_out_of_range, is_out_of_order, is_mapped_otherwise}
 use Rattle.pd_spells.proofs.ThinRead.{FitsLine, Placed, thin_grammar}
-use Rattle.pd_spells.proofs.ThinLaws.{thin_language}
-use Rattle.pd_texts.specs.Reader.{IsReadAfter, AreReadSoFar, in_order}
+use Rattle.pd_texts.specs.Reader.{IsReadAfter}
 use Rattle.pd_texts.specs.ThinNext.{IsPoolLine, IsDeviceLine, IsMapLine, IsEndLine}
-
--- lines that were read, one after the other, are read again from what is written
-read_again : {M : Type 0} → (format : TextFormat M) → IsReader format → (before lines : List M) → AreReadSoFar format before → AreRead format before lines
-    → AreRead format [] (in_order before lines)
-read_again format reader [] lines so_far rest = rest
-read_again {M} format reader (line ∷ before) lines so_far rest =
-    let one = so_far.0 in
-    let same : written format line ≡ one.bytes = reader.written before one.bytes line one.is in
-    read_again format reader before (line ∷ lines) so_far.1 (one.going, (rw same one.short, (rw same one.is, rest)))
-
--- lines that were read up to the last one mean a pool
-pub read_lines_mean : (lines : List Line) → AreReadSoFar thin lines → has_ended thin lines ≡ true → (m : ThinPool) × MeansPool (in_order lines []) m
-read_lines_mean lines so_far ended =
-    let are = read_again thin (is_reader thin FitsLine Placed thin_grammar) lines [] so_far ended in
-    thin_language.means (in_order lines []) (lines_if_read thin FitsLine Placed thin_grammar [] (in_order lines []) are)
 
 -- the tests that a line has passed
 record HasPassed (before : List Line) (line : Line) : Type 0 where

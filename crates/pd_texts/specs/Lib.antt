@@ -2,6 +2,8 @@ pub mod Faults
 pub mod Seen
 pub mod Reader
 pub mod Words
+pub mod Stage
+pub mod Headers
 pub mod ThinLine
 pub mod ThinWords
 pub mod ThinState

@@ -1,22 +1,17 @@
 -- The first and the last line of a pool's text.
-use Rattle.std.proofs.Common.{◌≡◌, inl, inr, ℕ, false, List, Option, None, Some, refl, codes}
+use Rattle.std.proofs.Common.{◌≡◌, ℕ, false, List, Option, None, Some, refl, codes}
 use Rattle.std.specs.Prelude.{is_none}
 use Rattle.std.specs.List.{list_all}
-use Rattle.std.specs.Str.{bytes_eq}
-use Rattle.std.proofs.lemmas.Bool.{cases_Bool, true≢false}
-use Rattle.std.proofs.lemmas.Slice.Eq.{bytes_eq-Decides}
 use Rattle.pd_grammar.specs.Words.{is_printable}
-use Rattle.pd_spells.specs.ThinText.{first_of, is_end}
+use Rattle.pd_spells.specs.ThinText.{first_line, first_of, is_end}
 use Rattle.pd_texts.specs.declared.thin_line.ThinLine.{ThinLine}
 use Rattle.pd_texts.specs.declared.thin_line.ThinLine.TheVariants as t
+use Rattle.pd_texts.specs.Headers.{header_is}
 use Rattle.pd_texts.specs.ThinLine.{thin_meant}
 
 -- the first line has only bytes that a line may have
 pub thin_header : (bytes : List ℕ) → list_all is_printable bytes ≡ false → first_of bytes ≡ None
-thin_header bytes other = elim (cases_Bool (bytes_eq bytes (codes "thin 1"))) [
-  | inr e ↦ rw e refl
-  | inl e ↦ let same = (bytes_eq-Decides bytes (codes "thin 1")).0 e in absurd (true≢false (rw same at other))
-]
+thin_header = header_is (codes "thin 1") first_line refl
 
 -- the last line is the one that gives nothing
 pub thin_ends : (line : Option ThinLine) → is_end (thin_meant line) ≡ is_none line

@@ -1,15 +1,8 @@
 -- What the lines so far of a pool's text say of the next one.
-use Rattle.std.specs.Prelude.{◌≡◌, List, [], ◌∷◌}
+use Rattle.std.specs.Prelude.{◌≡◌, List}
 use Rattle.pd_spells.specs.ThinText.{Line, data_blocks_of, least_id, has_device, run_end, unmapped}
-use Rattle.pd_texts.specs.declared.thin_state.Stage.{Stage}
-use Rattle.pd_texts.specs.declared.thin_state.Stage.TheVariants as s
+use Rattle.pd_texts.specs.Stage.{stage_of}
 use Rattle.pd_texts.specs.declared.thin_state.ThinState.{ThinState}
-
--- what may come after these lines
-abbrev pub stage_of : List Line → Stage
-stage_of [] = s.First
-stage_of (line ∷ []) = s.Pool
-stage_of (line ∷ next ∷ before) = s.Body
 
 -- the state is that of these lines, the newest first
 pub record ThinStands (state : ThinState) (before : List Line) : Type 0 where

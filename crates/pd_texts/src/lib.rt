@@ -7,6 +7,7 @@
 mod fault;
 mod print;
 mod reader;
+mod stage;
 mod state;
 mod thin_laws;
 mod thin_line;
@@ -16,8 +17,9 @@ mod thin_words;
 mod words;
 
 pub use fault::{ReadFault, TextFault};
-pub use print::{add_end, add_first, print_end, print_first};
+pub use print::{add_end, add_first, add_uuid, add_word, print_end, print_first};
 pub use reader::TextReader;
+pub use stage::Stage;
 pub use state::TextState;
 pub use thin_laws::{
     pool_text_is_its_lines, read_thin_lines_are_in_range, read_thin_lines_mean_a_pool,
@@ -26,3 +28,4 @@ pub use thin_laws::{
 pub use thin_line::{Run2, ThinLine};
 pub use thin_print::{add_thin, print_thin};
 pub use thin_state::{ThinState, ThinText};
+pub use words::{cut_word, number_word, read_numbers, read_uuid};

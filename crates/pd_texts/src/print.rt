@@ -1,6 +1,6 @@
 //! Lines of texts, printed one by one or gathered into large pieces.
 
-ghost use Rattle.std.specs.Prelude.{◌≡◌, ◌≤◌, ◌+◌, ◌++◌, ◌∷◌, [], ℕ, List, Option, OnOk, OnErr, length, codes, decimal};
+ghost use Rattle.std.specs.Prelude.{◌≡◌, ◌<◌, ◌≤◌, ◌+◌, ◌^◌, ◌++◌, ◌∷◌, [], ℕ, List, Option, OnOk, OnErr, length, codes, decimal};
 ghost use Rattle.uuid.specs.Text.{hyphenated_text, lower};
 ghost use Rattle.pd_kinds.specs.Objects.{CountsFault, Appends, AppendsFront};
 ghost use Rattle.pd_image.specs.Sink.{KeepsSink};
@@ -77,17 +77,18 @@ fn first_bytes(kind: Kind) -> &'static [u8]
 }
 
 /// Adds a space and a number.
-pub(crate) fn add_word(line: &mut LineBuffer, number: u64)
+pub fn add_word(line: &mut LineBuffer, number: u64)
     requires { length line.old + 21 ≤ 161 }
     ensures bytes { line.new ≡ line.old ++ (32 ∷ decimal number) }
     ensures len { length line.new ≤ length line.old + 21 }
+    ensures small { number < 2 ^ 32 → length line.new ≤ length line.old + 11 }
 {
     line.add(b" ");
     line.add_number(number);
 }
 
 /// Adds a uuid, in its hyphenated form in lower case.
-pub(crate) fn add_uuid(line: &mut LineBuffer, uuid: [u8; 16])
+pub fn add_uuid(line: &mut LineBuffer, uuid: [u8; 16])
     requires { length line.old + 36 ≤ 161 }
     ensures bytes { line.new ≡ line.old ++ hyphenated_text lower uuid }
     ensures len { length line.new ≡ length line.old + 36 }

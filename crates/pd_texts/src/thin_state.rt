@@ -10,6 +10,7 @@ ghost use Rattle.pd_texts.specs.ThinLine.{thin_meant};
 ghost use Rattle.pd_texts.specs.ThinWords.{word_line, FitsLine};
 
 use crate::reader::TextReader;
+use crate::stage::Stage;
 use crate::state::TextState;
 use crate::thin_line::ThinLine;
 use crate::thin_words::{ThinWords, read_device, read_end, read_map, read_pool};
@@ -18,14 +19,6 @@ use pd_grammar::TextCause;
 
 /// The text of a pool, version 1, read line by line.
 pub type ThinText = TextReader<ThinState>;
-
-/// What may come next.
-#[derive(Clone, Copy, Debug, PartialEq, Eq)]
-pub(crate) enum Stage {
-    First,
-    Pool,
-    Body,
-}
 
 /// What the lines so far of a pool's text say of the next one.
 #[derive(Drop)]
@@ -76,12 +69,12 @@ impl TextState for ThinState {
     fn is_first(&self) -> bool {
         match self.stage {
             Stage::First => true,
-            Stage::Pool | Stage::Body => false,
+            Stage::Second | Stage::Body => false,
         }
     }
 
     fn read_first(&mut self, text: &[u8]) -> bool {
-        self.stage = Stage::Pool;
+        self.stage = Stage::Second;
         text == b"thin 1".as_slice()
     }
 
@@ -107,7 +100,7 @@ impl ThinState {
         ensures { (before : List Line) → ThinStands self.now before → 1 ≤ length before → seen_by word_line result ≡ words_read before (split 32 text.now) }
     {
         match self.stage {
-            Stage::First | Stage::Pool => ThinState::second_words(text),
+            Stage::First | Stage::Second => ThinState::second_words(text),
             Stage::Body => self.later_words(text),
         }
     }

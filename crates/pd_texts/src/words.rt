@@ -11,7 +11,7 @@ use pd_grammar::TextCause;
 use uuid::Uuid;
 
 /// The first word, and what follows it after a space.
-pub(crate) fn cut_word(bytes: &[u8]) -> (&[u8], Option<&[u8]>)
+pub fn cut_word(bytes: &[u8]) -> (&[u8], Option<&[u8]>)
     ensures { split 32 bytes.now ≡ result.0.now ∷ words_in result.1 }
 {
     for i in 0..bytes.len() {
@@ -51,7 +51,7 @@ fn digits_number(word: &[u8]) -> Option<u64>
 
 /// The number below 2 ^ 64 that a word is, without leading zeros.
 #[tactic(auto, unfolding(pd_grammar::specs::Words::number_of, pd_grammar::specs::Words::is_canonical))]
-pub(crate) fn number_word(word: &[u8]) -> Option<u64>
+pub fn number_word(word: &[u8]) -> Option<u64>
     ensures { result ≡ number_of word.now }
 {
     match word {
@@ -77,8 +77,9 @@ fn put_number(numbers: &mut [u64], i: usize, word: &[u8]) -> bool
     }
 }
 
-/// Just so many numbers.
-pub(crate) fn read_numbers(words: Option<&[u8]>, count: usize) -> Result<[u64; 5], TextCause>
+/// Just so many numbers, five at the most. `Word` where the number of words is another one, else `Number` where a word
+/// isn't one.
+pub fn read_numbers(words: Option<&[u8]>, count: usize) -> Result<[u64; 5], TextCause>
     requires { count ≤ 5 }
     ensures { MatchResult result (λ ns. of_numbers count (λ (xs : List ℕ). xs) (words_in words.entry) ≡ Ok (take count ns)) (λ cause. of_numbers count (λ (xs : List ℕ). xs) (words_in words.entry) ≡ Err cause) }
 {
@@ -107,7 +108,7 @@ pub(crate) fn read_numbers(words: Option<&[u8]>, count: usize) -> Result<[u64; 5
 
 /// The uuid that a word is, in its hyphenated form in lower case.
 #[tactic(auto, unfolding(pd_grammar::specs::Words::bytes_of))]
-pub(crate) fn read_uuid(word: &[u8]) -> Option<[u8; 16]>
+pub fn read_uuid(word: &[u8]) -> Option<[u8; 16]>
     ensures { result ≡ uuid_of word.now }
 {
     let Ok(uuid) = Uuid::try_parse_ascii(word) else {

@@ -3,4 +3,7 @@ pub mod SharedLemmas
 pub mod UpLemmas
 pub mod CountingLemmas
 pub mod KnownLemmas
+pub mod SumLemmas
 pub mod NodeLemmas
+pub mod SingleLemmas
+pub mod NamedLemmas

@@ -1,26 +1,32 @@
--- The nodes of two trees are no more than the reachable pairs.
-use Rattle.std.proofs.Common.{◌≡◌, ◌↔◌, inl, inr, ℕ, suc, ◌+◌, ◌*◌, ◌%◌, ◌<◌, ◌≤◌, true, false, ◌&&◌, nat_eq, List, [], ◌∷◌, ◌++◌, length, map, refl, sym, subst, ◌∙◌, arith, eq-eqb, length-append}
-use Rattle.std.specs.List.{list_any, range_with_len, AllByRecursion, IsDistinct}
+-- Blocks that are reached once each in different roles are no more than the reachable pairs.
+use Rattle.std.proofs.Common.{◌≡◌, ◌↔◌, ℕ, zero, suc, ◌+◌, ◌*◌, ◌%◌, ◌<◌, ◌≤◌, Bool, true, false, ◌&&◌, cond, nat_eq, List, [], ◌∷◌, ◌++◌, length, map, filter, refl, sym, ◌∙◌, arith, eq-eqb, length-append}
+use Rattle.std.specs.List.{list_any, flat_map, range_with_len, AllByRecursion, IsDistinct}
 use Rattle.std.specs.Cmp.{nat_eq_equiv}
-use Rattle.std.proofs.lemmas.Bool.{or_cases, and_from, eqb-true, ne_eqb, both_ways}
+use Rattle.std.proofs.lemmas.Bool.{and_from, ne_eqb, both_ways}
 use Rattle.std.proofs.lemmas.List.{length-map}
+use Rattle.std.proofs.lemmas.List.Sums.{sum_by-cons}
 use Rattle.std.proofs.lemmas.Map.Made.{length-le_from_is_member}
 use Rattle.pd_kinds.specs.Graph.{Graph, pair, nodes, next, is_reached}
 use Rattle.pd_kinds.specs.Lawful.{IsLawful}
 use Rattle.pd_kinds.specs.Paths.{IsOnPath}
 use Rattle.pd_kinds.specs.Stages.{IsReached}
-use Rattle.pd_laws.proofs.AllLemmas.{all_from, all_append}
+use Rattle.pd_laws.proofs.AllLemmas.{all_from, all_append, all_mapped}
 use Rattle.pd_laws.proofs.PathLemmas.{passes_below}
 use Rattle.pd_graph.proofs.AnyLemmas.{any_kept}
 use Rattle.pd_graph.proofs.BitLemmas.{pair_role}
-use Rattle.pd_tree.specs.Sound.{IsUnder}
+use Rattle.pd_tree.specs.Sound.{IsUnder, IsSoundTree}
 use Rattle.pd_tree.specs.Sound.IsUnder.{itself, below}
-use Rattle.pd_tree.specs.Sound.{IsSoundTree}
 use Rattle.pd_tree.specs.Below.{nodes_below}
 use Rattle.pd_tree.specs.TreeRoles.{IsTreeRole}
 use Rattle.pd_tree.proofs.ReachLemmas.{IsMet, met}
 use Rattle.pd_tree.proofs.SoundLemmas.{met_child}
 use Rattle.pd_tree.proofs.RoleLemmas.{once_is, under_is}
+use Rattle.pd_graph.specs.declared.audit.Audit.{Audit}
+use Rattle.pd_graph.specs.Audit.{roles_at}
+use Rattle.pd_graph.specs.Roles.{has_bit}
+use Rattle.pd_whole.specs.Known.{IsKnown}
+use Rattle.pd_whole.specs.Reached.{InRole, AreReachedOnce, blocks_in, known_in}
+use Rattle.pd_whole.proofs.SumLemmas.{member_holds}
 
 -- lists without a repeat that have nothing in common
 distinct_append : (P Q : ℕ → Type 0) (xs ys : List ℕ) → ((x y : ℕ) → P x → Q y → nat_eq x y ≡ false) → AllByRecursion P xs → AllByRecursion Q ys
@@ -36,28 +42,50 @@ distinct_append P Q (x ∷ xs) ys apart here there first second = (
 pair_apart : (x y role : ℕ) → nat_eq x y ≡ false → nat_eq (pair x role) (pair y role) ≡ false
 pair_apart x y role apart = ne_eqb (pair x role) (pair y role) (λ same. both_ways (nat_eq x y) apart (eq-eqb x y (omega arith)))
 
-map_all : (P Q : ℕ → Type 0) (f : ℕ → ℕ) (xs : List ℕ) → ((x : ℕ) → P x → Q (f x)) → AllByRecursion P xs → AllByRecursion Q (map f xs)
-map_all P Q f [] each all = tt
-map_all P Q f (x ∷ xs) each all = (each x all.0, map_all P Q f xs each all.1)
-
-distinct_pairs : (role : ℕ) (xs : List ℕ) → IsDistinct nat_eq xs → IsDistinct nat_eq (map (λ b. pair b role) xs)
+pub distinct_pairs : (role : ℕ) (xs : List ℕ) → IsDistinct nat_eq xs → IsDistinct nat_eq (map (λ b. pair b role) xs)
 unfolding IsDistinct
 distinct_pairs role [] once = tt
 distinct_pairs role (x ∷ xs) once = (
-  map_all (λ y. nat_eq x y ≡ false) (λ p. nat_eq (pair x role) p ≡ false) (λ b. pair b role) xs (λ y apart. pair_apart x y role apart) once.0,
+  all_mapped (λ b. pair b role) (λ p. nat_eq (pair x role) p ≡ false) xs
+      (all_from (λ y. nat_eq x y ≡ false) (λ b. nat_eq (pair x role) (pair b role) ≡ false) (λ y apart. pair_apart x y role apart) xs once.0),
   distinct_pairs role xs once.1,
 )
 
--- what holds of all holds of a member
-member_holds : (P : ℕ → Type 0) (q : ℕ) (xs : List ℕ) → AllByRecursion P xs → list_any (nat_eq q) xs ≡ true → P q
-member_holds P q [] all among = absurd (both_ways false refl among)
-member_holds P q (x ∷ xs) all among = elim (or_cases (nat_eq q x) (list_any (nat_eq q) xs) among) [
-  | inl here ↦ subst P (sym (eqb-true q x here)) all.0
-  | inr later ↦ member_holds P q xs all.1 later
-]
+-- what holds of each number of a row that passes holds of all that are kept
+kept_by : (P : ℕ → Type 0) (passes : Bool) (a : ℕ) (rest : List ℕ) → (passes ≡ true → P a) → AllByRecursion P rest → AllByRecursion P (cond passes (a ∷ rest) rest)
+kept_by P true a rest here all = (here refl, all)
+kept_by P false a rest here all = all
 
-module _ (graph : Graph) (image : List (List ℕ)) (lawful : IsLawful graph)
-    (paths : (q : ℕ) → (is_reached graph image q ≡ true) ↔ IsOnPath (16 * graph.nr) (next graph image) q) where
+all_kept : (P : ℕ → Type 0) (t : ℕ → Bool) (n a : ℕ) → ((b : ℕ) → a ≤ b → b < a + n → t b ≡ true → P b) → AllByRecursion P (filter t (range_with_len a n))
+all_kept P t zero a each = tt
+all_kept P t (suc n) a each =
+    kept_by P (t a) a (filter t (range_with_len (a + 1) n)) (each a (omega arith) (omega arith))
+    (all_kept P t n (a + 1) (λ b from below passes. each b (omega arith) (omega arith) passes))
+
+-- and none of these comes twice
+once_by : (passes : Bool) (a : ℕ) (rest : List ℕ) → AllByRecursion (λ b. nat_eq a b ≡ false) rest → IsDistinct nat_eq rest → IsDistinct nat_eq (cond passes (a ∷ rest) rest)
+unfolding IsDistinct
+once_by true a rest apart once = (apart, once)
+once_by false a rest apart once = once
+
+kept_once : (t : ℕ → Bool) (n a : ℕ) → IsDistinct nat_eq (filter t (range_with_len a n))
+unfolding IsDistinct
+kept_once t zero a = tt
+kept_once t (suc n) a =
+    once_by (t a) a (filter t (range_with_len (a + 1) n))
+    (all_kept (λ b. nat_eq a b ≡ false) t n (a + 1) (λ b from below passes. ne_eqb a b (λ same. omega arith))) (kept_once t n (a + 1))
+
+-- the blocks that an audit has in a role
+pub known_once : (graph : Graph) (image : List (List ℕ)) (audit : Audit) (role : ℕ) → IsKnown graph image audit → role < 16
+    → AreReachedOnce graph image (record { role = role; blocks = known_in audit role graph.nr })
+unfolding known_in
+known_once graph image audit role known few = record {
+  reached = all_kept (λ b. IsReached graph image b role) (λ b. has_bit (roles_at audit b) role) graph.nr 0
+      (λ b from below passes. let within : b < graph.nr = omega arith in record { block = within; within = few; found = sym (known.roles b role within few) ∙ passes });
+  once = kept_once (λ b. has_bit (roles_at audit b) role) graph.nr 0;
+}
+
+module _ (graph : Graph) (image : List (List ℕ)) where
   -- a pair that is reached, and its role
   record IsIn (role p : ℕ) : Type 0 where
     found : is_reached graph image p ≡ true
@@ -70,90 +98,121 @@ module _ (graph : Graph) (image : List (List ℕ)) (lawful : IsLawful graph)
       let few = reached.within in
       record { found = reached.found; small = omega arith; role_is = pair_role b role few }
 
-  -- all pairs of a reached tree are met
-  met_under : (p q : ℕ) → IsUnder graph image p q → IsMet graph image lawful p → IsMet graph image lawful q
-  met_under p q (itself r) there = there
-  met_under p q (below p' c q' is_child under) there = met_under c q' under (met_child graph image lawful p' c there is_child)
-
-  in_tree : (b role c : ℕ) → IsReached graph image b role → IsUnder graph image (pair b role) (pair c role) → IsIn role (pair c role)
-  in_tree b role c reached under =
-      let there = met_under (pair b role) (pair c role) under (met graph image lawful paths b role reached) in
-      let block = there.block in
-      let few = reached.within in
-      record { found = (paths (pair c role)).1 there.path; small = omega arith; role_is = pair_role c role few }
-
-  module _ (b role size : ℕ) (is : IsTreeRole graph role size) (reached : IsReached graph image b role) (sound : IsSoundTree graph image (pair b role)) where
-    -- the pairs that a cursor reads
-    pairs_read : List ℕ
-    pairs_read = map (λ c. pair c role) (nodes_below size image 63 b)
-
-    all_in : AllByRecursion (IsIn role) pairs_read
-    unfolding pairs_read
-    all_in =
-        map_all (λ c. IsUnder graph image (pair b role) (pair c role)) (IsIn role) (λ c. pair c role) (nodes_below size image 63 b)
-        (λ c under. in_tree b role c reached under) (under_is graph image b role size is sound)
-
-    read_once : IsDistinct nat_eq pairs_read
-    unfolding pairs_read
-    read_once = distinct_pairs role (nodes_below size image 63 b) (once_is graph image b role size is sound)
-
-    number_read : length pairs_read ≡ length (nodes_below size image 63 b)
-    unfolding pairs_read
-    number_read = length-map {A = ℕ} {B = ℕ} (nodes_below size image 63 b) (λ c. pair c role)
-
-  -- pairs in two roles differ
-  roles_apart : (role other x y : ℕ) → (role ≡ other → ⊥) → IsIn role x → IsIn other y → nat_eq x y ≡ false
-  roles_apart role other x y differ here there =
-      let first = here.role_is in
-      let second = there.role_is in
-      ne_eqb x y (λ same. differ (omega arith))
-
   -- a reached pair is one of the nodes
   among_nodes : (role p : ℕ) → IsIn role p → list_any (nat_eq p) (nodes graph image) ≡ true
   unfolding nodes
   among_nodes role p is =
-      let small = is.small in
       any_kept (nat_eq p) (is_reached graph image) (range_with_len 0 (16 * graph.nr))
-      ∙ passes_below (λ q. is_reached graph image q && nat_eq p q) (16 * graph.nr) p small (and_from (is_reached graph image p) (nat_eq p p) is.found (eq-eqb p p refl))
+      ∙ passes_below (λ q. is_reached graph image q && nat_eq p q) (16 * graph.nr) p is.small (and_from (is_reached graph image p) (nat_eq p p) is.found (eq-eqb p p refl))
 
-  module _ (c other : ℕ) (first : IsReached graph image c other)
-      (b role size : ℕ) (is : IsTreeRole graph role size) (reached : IsReached graph image b role) (sound : IsSoundTree graph image (pair b role))
-      (b' role' size' : ℕ) (is' : IsTreeRole graph role' size') (reached' : IsReached graph image b' role') (sound' : IsSoundTree graph image (pair b' role'))
-      (differ : role ≡ role' → ⊥) (one : other ≡ role → ⊥) (two : other ≡ role' → ⊥) where
-    -- those of both trees, and one more
-    all_read : List ℕ
-    all_read = pair c other ∷ (pairs_read b role size is reached sound ++ pairs_read b' role' size' is' reached' sound')
+  -- pairs in two roles differ
+  roles_apart : (role other x y : ℕ) → nat_eq role other ≡ false → IsIn role x → IsIn other y → nat_eq x y ≡ false
+  roles_apart role other x y differ here there =
+      let first = here.role_is in
+      let second = there.role_is in
+      ne_eqb x y (λ same. both_ways (nat_eq role other) differ (eq-eqb role other (omega arith)))
 
-    IsOne : ℕ → Type 0
-    IsOne p = (q : ℕ) × IsIn q p
+  -- the pairs of a part
+  pairs_of : InRole → List ℕ
+  pairs_of part = map (λ b. pair b part.role) part.blocks
 
-    all_nodes : AllByRecursion IsOne all_read
-    unfolding all_read IsOne
-    all_nodes = (
-      (other, in_by c other first),
-      all_append IsOne (pairs_read b role size is reached sound) (pairs_read b' role' size' is' reached' sound')
-          (all_from (IsIn role) IsOne (λ p here. (role, here)) _ (all_in b role size is reached sound))
-          (all_from (IsIn role') IsOne (λ p here. (role', here)) _ (all_in b' role' size' is' reached' sound')),
-    )
+  all_in : (part : InRole) → AreReachedOnce graph image part → AllByRecursion (IsIn part.role) (pairs_of part)
+  unfolding pairs_of
+  all_in part is =
+      all_mapped (λ b. pair b part.role) (IsIn part.role) part.blocks
+      (all_from (λ b. IsReached graph image b part.role) (λ b. IsIn part.role (pair b part.role)) (λ b reached. in_by b part.role reached) part.blocks is.reached)
 
-    all_once : IsDistinct nat_eq all_read
-    unfolding all_read IsDistinct
-    all_once = (
-      all_append (λ y. nat_eq (pair c other) y ≡ false) (pairs_read b role size is reached sound) (pairs_read b' role' size' is' reached' sound')
-          (all_from (IsIn role) (λ y. nat_eq (pair c other) y ≡ false) (λ p here. roles_apart other role (pair c other) p one (in_by c other first) here) _ (all_in b role size is reached sound))
-          (all_from (IsIn role') (λ y. nat_eq (pair c other) y ≡ false) (λ p here. roles_apart other role' (pair c other) p two (in_by c other first) here) _ (all_in b' role' size' is' reached' sound')),
-      distinct_append (IsIn role) (IsIn role') (pairs_read b role size is reached sound) (pairs_read b' role' size' is' reached' sound')
-          (λ x y here there. roles_apart role role' x y differ here there) (all_in b role size is reached sound) (all_in b' role' size' is' reached' sound')
-          (read_once b role size is reached sound) (read_once b' role' size' is' reached' sound'),
-    )
+  -- is among the nodes
+  pub pairs_among : (part : InRole) → AreReachedOnce graph image part → (q : ℕ) → list_any (nat_eq q) (map (λ b. pair b part.role) part.blocks) ≡ true → list_any (nat_eq q) (nodes graph image) ≡ true
+  unfolding pairs_of
+  pairs_among part is q among = among_nodes part.role q (member_holds (IsIn part.role) q (pairs_of part) (all_in part is) among)
 
-    -- are no more than the reachable pairs
-    pub no_more : suc (length (nodes_below size image 63 b) + length (nodes_below size' image 63 b')) ≤ length (nodes graph image)
-    unfolding all_read IsOne
-    no_more =
-        let fewer = length-le_from_is_member nat_eq_equiv all_read (nodes graph image) all_once
-        (λ q among. let one_of = member_holds IsOne q all_read all_nodes among in among_nodes one_of.0 q one_of.1) in
-        let parts = length-append (pairs_read b role size is reached sound) (pairs_read b' role' size' is' reached' sound') in
-        let here = number_read b role size is reached sound in
-        let there = number_read b' role' size' is' reached' sound' in
-        omega arith
+  -- a pair in one of some roles
+  IsOther : ℕ → ℕ → Type 0
+  IsOther role p = (other : ℕ) × IsIn other p × (nat_eq role other ≡ false)
+
+  -- the pairs of parts in other roles
+  all_other : (role : ℕ) (parts : List InRole) → AllByRecursion (AreReachedOnce graph image) parts → AllByRecursion (λ other. nat_eq role other ≡ false) (map (λ (part : InRole). part.role) parts)
+      → AllByRecursion (IsOther role) (flat_map pairs_of parts)
+  unfolding IsOther
+  all_other role [] all differ = tt
+  all_other role (part ∷ parts) all differ =
+      all_append (IsOther role) (pairs_of part) (flat_map pairs_of parts)
+      (all_from (IsIn part.role) (IsOther role) (λ p is. (part.role, is, differ.0)) (pairs_of part) (all_in part all.0))
+      (all_other role parts all.1 differ.1)
+
+  -- none of all pairs comes twice
+  all_once : (parts : List InRole) → AllByRecursion (AreReachedOnce graph image) parts → IsDistinct nat_eq (map (λ (part : InRole). part.role) parts) → IsDistinct nat_eq (flat_map pairs_of parts)
+  unfolding IsDistinct IsOther pairs_of
+  all_once [] all apart = tt
+  all_once (part ∷ parts) all apart =
+      distinct_append (IsIn part.role) (IsOther part.role) (pairs_of part) (flat_map pairs_of parts)
+      (λ x y here there. roles_apart part.role there.0 x y there.2 here there.1)
+      (all_in part all.0) (all_other part.role parts all.1 apart.0)
+      (distinct_pairs part.role part.blocks all.0.once) (all_once parts all.1 apart.1)
+
+  -- each is reached
+  IsOne : ℕ → Type 0
+  IsOne p = (role : ℕ) × IsIn role p
+
+  all_reached : (parts : List InRole) → AllByRecursion (AreReachedOnce graph image) parts → AllByRecursion IsOne (flat_map pairs_of parts)
+  unfolding IsOne
+  all_reached [] all = tt
+  all_reached (part ∷ parts) all =
+      all_append IsOne (pairs_of part) (flat_map pairs_of parts)
+      (all_from (IsIn part.role) IsOne (λ p is. (part.role, is)) (pairs_of part) (all_in part all.0))
+      (all_reached parts all.1)
+
+  -- and there are as many as blocks
+  number_of : (parts : List InRole) → length (flat_map pairs_of parts) ≡ blocks_in parts
+  unfolding pairs_of
+  number_of [] = refl
+  number_of (part ∷ parts) =
+      let both = length-append (pairs_of part) (flat_map pairs_of parts) in
+      let here = length-map {A = ℕ} {B = ℕ} part.blocks (λ b. pair b part.role) in
+      let rest = number_of parts in
+      let whole = sum_by-cons (λ (p : InRole). length p.blocks) part parts in
+      omega arith
+
+  -- so they are no more than the nodes
+  pub no_more : (parts : List InRole) → AllByRecursion (AreReachedOnce graph image) parts → IsDistinct nat_eq (map (λ (part : InRole). part.role) parts)
+      → blocks_in parts ≤ length (nodes graph image)
+  unfolding IsOne
+  no_more parts all apart =
+      let fewer = length-le_from_is_member nat_eq_equiv (flat_map pairs_of parts) (nodes graph image) (all_once parts all apart)
+      (λ q among. let one = member_holds IsOne q (flat_map pairs_of parts) (all_reached parts all) among in among_nodes one.0 q one.1) in
+      let number = number_of parts in
+      omega arith
+
+  -- as are those of one block and of two other parts
+  pub two_parts : (c other role role' : ℕ) (blocks blocks' : List ℕ) → IsReached graph image c other → (role ≡ role' → ⊥) → (other ≡ role → ⊥) → (other ≡ role' → ⊥)
+      → AreReachedOnce graph image (record { role = role; blocks = blocks }) → AreReachedOnce graph image (record { role = role'; blocks = blocks' })
+      → suc (length blocks + length blocks') ≤ length (nodes graph image)
+  unfolding IsDistinct
+  two_parts c other role role' blocks blocks' reached differ one two first second =
+      let most = no_more (record { role = other; blocks = c ∷ [] } ∷ record { role = role; blocks = blocks } ∷ record { role = role'; blocks = blocks' } ∷ [])
+      (record { reached = (reached, tt); once = (tt, tt) }, (first, (second, tt)))
+      ((ne_eqb other role one, (ne_eqb other role' two, tt)), ((ne_eqb role role' differ, tt), (tt, tt))) in
+      omega arith
+
+  module _ (lawful : IsLawful graph) (paths : (q : ℕ) → (is_reached graph image q ≡ true) ↔ IsOnPath (16 * graph.nr) (next graph image) q) where
+    -- all pairs of a reached tree are met
+    met_under : (p q : ℕ) → IsUnder graph image p q → IsMet graph image lawful p → IsMet graph image lawful q
+    met_under p q (itself r) there = there
+    met_under p q (below p' c q' is_child under) there = met_under c q' under (met_child graph image lawful p' c there is_child)
+
+    reached_under : (b role c : ℕ) → IsReached graph image b role → IsUnder graph image (pair b role) (pair c role) → IsReached graph image c role
+    reached_under b role c reached under =
+        let there = met_under (pair b role) (pair c role) under (met graph image lawful paths b role reached) in
+        let block = there.block in
+        let few = reached.within in
+        record { block = omega arith; within = few; found = (paths (pair c role)).1 there.path }
+
+    -- the nodes of a reached tree are reached once each
+    pub tree_once : (b role size : ℕ) → IsTreeRole graph role size → IsReached graph image b role → IsSoundTree graph image (pair b role)
+        → AreReachedOnce graph image (record { role = role; blocks = nodes_below size image 63 b })
+    tree_once b role size is reached sound = record {
+      reached = all_from (λ c. IsUnder graph image (pair b role) (pair c role)) (λ c. IsReached graph image c role) (λ c under. reached_under b role c reached under)
+          (nodes_below size image 63 b) (under_is graph image b role size is sound);
+      once = once_is graph image b role size is sound;
+    }

@@ -22,7 +22,7 @@ pub shared_stays : (old new : Audit) (role b : ℕ) → KeepsButRules old new �
 shared_stays old new role b kept = rw (kept.roles b, kept.counts b) refl
 
 -- a test of what a function gives of each element
-any_mapped : {X Y : Type 0} → (t : Y → Bool) (f : X → Y) (xs : List X) → list_any t (map f xs) ≡ list_any (λ x. t (f x)) xs
+pub any_mapped : {X Y : Type 0} → (t : Y → Bool) (f : X → Y) (xs : List X) → list_any t (map f xs) ≡ list_any (λ x. t (f x)) xs
 any_mapped t f [] = refl
 any_mapped t f (x ∷ xs) = ap (λ (rest : Bool). t (f x) || rest) (any_mapped t f xs)
 

@@ -2,4 +2,5 @@ pub mod Charges
 pub mod Ascending
 pub mod Counting
 pub mod Known
+pub mod Reached
 pub mod Shared

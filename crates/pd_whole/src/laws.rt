@@ -1,19 +1,17 @@
 //! What the trees and the audit of an image come to in which no rule is broken up to the order of the trees.
 
-ghost use Rattle.std.specs.Prelude.{◌≡◌, ℕ, suc, ◌+◌, ◌≤◌, List, length};
-ghost use Rattle.pd_kinds.specs.Graph.{Graph, nodes};
+ghost use Rattle.std.specs.Prelude.{◌≡◌, ℕ, List};
+ghost use Rattle.pd_kinds.specs.Graph.{Graph};
 ghost use Rattle.pd_kinds.specs.Lawful.{IsLawful};
 ghost use Rattle.pd_kinds.specs.Stages.{IsReached};
 ghost use Rattle.pd_kinds.specs.Trees.{entries_below, keys_of};
 ghost use Rattle.pd_laws.specs.InOrder.{AreInOrder};
 ghost use Rattle.pd_graph.specs.declared.audit.Audit.{Audit};
 ghost use Rattle.pd_graph.specs.Audit.{blocks_of};
-ghost use Rattle.pd_tree.specs.Below.{nodes_below};
 ghost use Rattle.pd_tree.specs.TreeRoles.{IsTreeRole};
 ghost use Rattle.pd_whole.specs.Ascending.{IsUp};
 ghost use Rattle.pd_whole.specs.Known.{IsKnown, IsWellSettled};
 
-use pd_laws::reached_by_paths;
 use pd_tree::reached_trees_are_sound;
 
 /// Where no reached pair is out of order, the keys of the entries of a reached tree ascend.
@@ -29,17 +27,3 @@ pub fn settled_audits_are_known()
     ensures { (graph : Graph) (image : List (List ℕ)) (audit : Audit) → IsLawful graph → blocks_of audit ≡ graph.nr
         → IsWellSettled graph image audit → IsKnown graph image audit }
 {}
-
-/// Where no reached pair is out of order, cursors over two reached trees in two roles read no more nodes than there
-/// are pairs besides one in a third role.
-pub fn two_trees_have_no_more_nodes()
-    ensures { (graph : Graph) (image : List (List ℕ)) (c other b role size b' role' size' : ℕ) → IsLawful graph → AreInOrder graph image
-        → IsReached graph image c other
-        → IsTreeRole graph role size → IsReached graph image b role
-        → IsTreeRole graph role' size' → IsReached graph image b' role'
-        → (role ≡ role' → ⊥) → (other ≡ role → ⊥) → (other ≡ role' → ⊥)
-        → suc (length (nodes_below size image 63 b) + length (nodes_below size' image 63 b')) ≤ length (nodes graph image) }
-{
-    reached_by_paths();
-    reached_trees_are_sound();
-}

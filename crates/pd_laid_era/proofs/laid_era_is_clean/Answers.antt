@@ -1,4 +1,4 @@
-use Rattle.pd_laid_era.proofs.EraNamed.{need_law, takes_need}
+use Rattle.pd_laid_era.proofs.EraLaw.{need_law, takes_need}
 use Rattle.pd_laid_era.proofs.laid_era_is_clean.Goals as goal
 
 pub returns-clause-clean : goal.returns-clause-clean

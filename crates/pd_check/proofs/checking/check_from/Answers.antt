@@ -1,6 +1,6 @@
 use Rattle.std.proofs.Common.{refl, sym, ◌∙◌}
 use Rattle.pd_kinds.specs.declared.kind.Stage.TheVariants.{Whole, Counts}
-use Rattle.pd_check.proofs.CheckLemmas.{broken_report, sound_report, past_report, past_memory, past_read, counted_read}
+use Rattle.pd_check.proofs.CheckLemmas.{broken_report, sound_report, past_report, past_memory, past_read}
 use Rattle.pd_check.proofs.checking.check_from.Goals as goal
 
 pub returns-then-not-is_empty-clause-report : goal.returns-then-not-is_empty-clause-report
@@ -49,4 +49,4 @@ returns-in-Counts-clause-memory g c =
 pub returns-in-Counts-clause-reads : goal.returns-in-Counts-clause-reads
 returns-in-Counts-clause-reads g c =
     rw c.in-Counts.is
-    (counted_read _ _ _ _ c.requires.first (λ rule. sym (c.super_rules-rules.ensures rule) ∙ c.if-not-is_empty.ensures.0 refl rule) _ _ c.check_counts.ensures.reads)
+    (past_read _ _ _ _ c.requires.first (λ rule. sym (c.super_rules-rules.ensures rule) ∙ c.if-not-is_empty.ensures.0 refl rule) _ refl Counts _ _ c.check_counts.ensures.reads)

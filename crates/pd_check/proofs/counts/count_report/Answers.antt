@@ -3,10 +3,10 @@ use Rattle.pd_check.proofs.CountLemmas.{both_few, both_told, meta_alone, meta_fe
 use Rattle.pd_check.proofs.counts.count_report.Goals as goal
 
 pub returns-in_err-add_meta_faults-clause-reads : goal.returns-in_err-add_meta_faults-clause-reads
-returns-in_err-add_meta_faults-clause-reads g c = meta_few _ g.M.Metadata.kind c.args.first.now.0 _ _ c.in_err-add_meta_faults.ensures.reads
+returns-in_err-add_meta_faults-clause-reads g c = meta_few _ g.M.Metadata.kind c.args.first.now.0 c.args.audit.now _ _ c.in_err-add_meta_faults.ensures.reads
 
 pub returns-in-None-clause-reads : goal.returns-in-None-clause-reads
-returns-in-None-clause-reads g c = meta_few _ g.M.Metadata.kind c.args.first.now.0 _ _ c.in_ok-add_meta_faults.ensures.reads
+returns-in-None-clause-reads g c = meta_few _ g.M.Metadata.kind c.args.first.now.0 c.args.audit.now _ _ c.in_ok-add_meta_faults.ensures.reads
 
 pub returns-in_err-add_data_faults-in-Some-clause-reads : goal.returns-in_err-add_data_faults-in-Some-clause-reads
 returns-in_err-add_data_faults-in-Some-clause-reads g c =

@@ -19,4 +19,6 @@ returns-clause-report g c =
 
 pub returns-clause-reads : goal.returns-clause-reads
 returns-clause-reads g c =
-    counts_reads _ _ g.M.Metadata.kind c.args.first.now.0 _ _ _ c.in_ok-audit.ensures.kept.held c.in_ok-audit.ensures.reads c.count_report.ensures.reads
+    counts_reads _ _ g.M.Metadata.kind c.args.first.now.0 c.in_ok-audit.audit c.in_ok-audit.report _ _ _ c.in_ok-audit.ensures.kept.held
+    (eqb-true c.in_ok-audit.report.total 0 (sym c.if-not-is_empty.ensures)) c.counts_read_no_more_than_nodes.ensures c.in_ok-audit.ensures.whole
+    c.in_ok-audit.ensures.reads c.count_report.ensures.reads

@@ -1,4 +1,4 @@
-use Rattle.pd_laid_thin.proofs.ThinNamed.{meaning_law, takes_need}
+use Rattle.pd_laid_thin.proofs.ThinLaw.{meaning_law, takes_need}
 use Rattle.pd_laid_thin.proofs.thin.laid_pool_is_clean.Goals as goal
 
 pub returns-clause-clean : goal.returns-clause-clean

@@ -1,0 +1,2 @@
+pub mod FillingNumbers
+pub mod MapNeeds

@@ -1,0 +1,10 @@
+use Rattle.std.proofs.Common.{arith}
+use Rattle.pd_count.specs.Counted.{count_of}
+use Rattle.pd_build_tests.proofs.MapNeeds.{no_data_need}
+use Rattle.pd_build_tests.proofs.map_tests.the_map_of_no_data_has_two_empty_trees.Goals as goal
+
+pub put_data_map-requires-clause-room : goal.put_data_map-requires-clause-room
+put_data_map-requires-clause-room g c =
+    let need = no_data_need (count_of c.in_ok-counts.counts) c.in_ok-counts.counts.size c.in_ok-counts.ensures.size in
+    let kept = c.close.ensures.kept.blocks in
+    omega (arith, need, kept)

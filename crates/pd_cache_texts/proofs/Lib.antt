@@ -1,0 +1,5 @@
+pub mod DigitLemmas
+pub mod FrontLemmas
+pub mod CacheWordLemmas
+pub mod SingleLemmas
+pub mod CacheNextLemmas

@@ -1,0 +1,138 @@
+-- Texts of caches of which each line is read without the origins of the others.
+use Rattle.std.proofs.Common.{◌≡◌, ℕ, ◌≤◌, true, false, List, [], ◌∷◌, ◌++◌, length, map, refl, ap, ◌∙◌, arith}
+use Rattle.std.proofs.lemmas.Grind.{flat_map-append}
+use Rattle.pd_kinds.specs.Meaning.{CacheMeaning, CacheEntry}
+use Rattle.pd_kinds.specs.declared.kind.Kind.TheVariants.{Cache}
+use Rattle.pd_grammar.specs.declared.cause.TextCause.{TextCause}
+use Rattle.pd_grammar.specs.declared.cause.TextCause.TheVariants.{Repeated}
+use Rattle.pd_grammar.specs.Texts.{Reading, has_ended, written, reading, refused, whole, with_line, number_after, stopped, text_of_lines}
+use Rattle.pd_grammar.proofs.GrammarLemmas.{IsGrammar, Passes, is_read, read_again}
+use Rattle.pd_grammar.proofs.ShortLemmas.{joined_short, numbers_short}
+use Rattle.pd_grammar.proofs.TestLemmas.{one_test_more}
+use Rattle.pd_spells.specs.CacheText.{Line, first_line, cache_line, map_line, end_line, cache, cache_single, repeated_test, is_repeated, words_of_line, head_of, row_of, text_of_cache, MeansCache, SpellsCache}
+use Rattle.pd_spells.proofs.CacheRead.{FitsLine, Placed, cache_grammar}
+use Rattle.pd_spells.proofs.CacheLaws.{cache_language}
+use Rattle.pd_texts.specs.declared.fault.TextFault.{TextFault}
+use Rattle.pd_texts.specs.Printed.{text_of_line, first_text, end_text}
+use Rattle.pd_texts.specs.Reader.{in_order, with_lines, IsReadAfter, AreReadSoFar, IsRefusedAfter}
+use Rattle.pd_texts.proofs.LawLemmas.{whole_spells, read_lines_mean}
+use Rattle.pd_cache_texts.specs.CachePrinted.{entries_text}
+use Rattle.pd_cache_texts.specs.Origins.{OriginsDiffer}
+
+-- a line that passes the other tests, and whose origin is new, passes all
+all_passed : (before : List Line) (line : Line) → is_repeated before line ≡ false → Passes cache_single.tests before line → Passes cache.tests before line
+all_passed [] line new passes = tt
+all_passed (newest ∷ before) line new passes = (passes.0, (passes.1.0, (new, tt)))
+
+short_line : (before : List Line) (line : Line) → FitsLine line → Placed before line → Passes cache_single.tests before line → length (written cache_single line) ≤ 160
+short_line before first_line fits placed passes = cache_grammar.short before first_line fits placed (all_passed before first_line refl passes)
+short_line before (cache_line h) fits placed passes = cache_grammar.short before (cache_line h) fits placed (all_passed before (cache_line h) refl passes)
+short_line before (map_line r) fits placed passes =
+    let rest = numbers_short (r.block ∷ r.origin ∷ r.dirty ∷ r.hint ∷ []) fits in
+    omega (arith, rest, joined_short (words_of_line (map_line r)))
+short_line before end_line fits placed passes = cache_grammar.short before end_line fits placed (all_passed before end_line refl passes)
+
+-- such a text reads what it writes
+pub single_grammar : IsGrammar cache_single FitsLine Placed
+single_grammar = record {
+  first_is = cache_grammar.first_is;
+  first_again = cache_grammar.first_again;
+  words_are = cache_grammar.words_are;
+  words_again = cache_grammar.words_again;
+  plain = cache_grammar.plain;
+  short = short_line;
+}
+
+goes_on : (before : List Line) → has_ended cache_single before ≡ false → has_ended cache before ≡ false
+goes_on [] going = refl
+goes_on (line ∷ before) going = going
+
+-- a line whose origin is new is read as a line of a cache's text
+line_read : (before : List Line) (line : Line) → is_repeated before line ≡ false → IsReadAfter cache_single before line → IsReadAfter cache before line
+line_read before line new one =
+    let is = is_read cache_single FitsLine Placed single_grammar before one.bytes line one.is in
+    record {
+      going = goes_on before one.going;
+      bytes = one.bytes;
+      short = one.short;
+      is = rw (← is.bytes_are) (read_again cache FitsLine Placed cache_grammar before line is.fits is.placed (all_passed before line new is.passes));
+    }
+
+pub lines_read : (lines : List Line) → AreReadSoFar cache_single lines → OriginsDiffer lines → AreReadSoFar cache lines
+lines_read [] are new = tt
+lines_read (line ∷ before) are new = (line_read before line new.0 are.0, lines_read before are.1 new.1)
+
+pub lines_mean : (lines : List Line) → AreReadSoFar cache_single lines → has_ended cache lines ≡ true → OriginsDiffer lines → (m : CacheMeaning) × MeansCache (in_order lines []) m
+lines_mean lines are ended new = read_lines_mean cache MeansCache FitsLine Placed cache_language lines (lines_read lines are new) ended
+
+-- a line whose origin is new is one more before the text stops
+stopped-line : (line : Line) (before : List Line) (rest : Reading Line) → is_repeated before line ≡ false
+    → stopped repeated_test before (with_line line rest) ≡ with_line line (stopped repeated_test (line ∷ before) rest)
+stopped-line line [] rest new = refl
+stopped-line line (newest ∷ before) rest new = rw new refl
+
+stopped_later : (before : List Line) (rest : Reading Line) → OriginsDiffer before
+    → stopped repeated_test [] (with_lines before rest) ≡ with_lines before (stopped repeated_test before rest)
+stopped_later [] rest new = refl
+stopped_later (line ∷ before) rest new =
+    stopped_later before (with_line line rest) new.1 ∙ ap (with_lines before) (stopped-line line before rest new.0)
+
+-- a text with lines of which no origin repeats goes on after them
+pub front_lines : (text : List ℕ) (before : List Line) (rest : Reading Line) → reading cache_single text ≡ with_lines before rest → OriginsDiffer before
+    → reading cache text ≡ with_lines before (stopped repeated_test before rest)
+front_lines text before rest is new =
+    one_test_more repeated_test cache_single text ∙ ap (stopped repeated_test []) is ∙ stopped_later before rest new
+
+stopped-refused : (before : List Line) (cause : TextCause) → stopped repeated_test before (refused before cause) ≡ refused before cause
+stopped-refused [] cause = refl
+stopped-refused (line ∷ before) cause = refl
+
+stopped-whole : (before : List Line) → stopped repeated_test before (whole []) ≡ whole []
+stopped-whole [] = refl
+stopped-whole (line ∷ before) = refl
+
+refused_of : (text : List ℕ) (before : List Line) (fault : TextFault) → reading cache text ≡ with_lines before (refused before fault.cause) → fault.line ≡ number_after before
+    → IsRefusedAfter cache text before fault
+refused_of text before fault is number = record {
+  is = is;
+  number = number;
+  refusal = rw number (ap (λ (r : Reading Line). r.refusal) is);
+}
+
+-- what is refused there is refused
+pub refused_text : (text : List ℕ) (before : List Line) (fault : TextFault) → IsRefusedAfter cache_single text before fault → OriginsDiffer before → IsRefusedAfter cache text before fault
+refused_text text before fault is new =
+    refused_of text before fault (front_lines text before (refused before fault.cause) is.is new ∙ ap (with_lines before) (stopped-refused before fault.cause)) is.number
+
+stopped-repeated : (line : Line) (before : List Line) (rest : Reading Line) → 1 ≤ length before → is_repeated before line ≡ true
+    → stopped repeated_test before (with_line line rest) ≡ refused before Repeated
+stopped-repeated line [] rest some old = absurd (omega arith)
+stopped-repeated line (newest ∷ before) rest some old = rw old refl
+
+-- and the first line that repeats an origin
+pub repeated_text : (text : List ℕ) (before : List Line) (line : Line) (rest : Reading Line) → reading cache_single text ≡ with_lines (line ∷ before) rest
+    → 1 ≤ length before → OriginsDiffer before → is_repeated before line ≡ true
+    → IsRefusedAfter cache text before (record { line = number_after before; cause = Repeated })
+repeated_text text before line rest is some new old =
+    refused_of text before (record { line = number_after before; cause = Repeated })
+    (front_lines text before (with_line line rest) is new ∙ ap (with_lines before) (stopped-repeated line before rest some old)) refl
+
+-- a text of which no line is refused, and no origin repeats
+pub whole_single : (text : List ℕ) (lines : List Line) → reading cache_single text ≡ whole (in_order lines []) → OriginsDiffer lines
+    → (m : CacheMeaning) × (MeansCache (in_order lines []) m × SpellsCache text m)
+whole_single text lines is new =
+    whole_spells cache MeansCache FitsLine Placed cache_language text (in_order lines [])
+    (front_lines text lines (whole []) is new ∙ ap (with_lines lines) (stopped-whole lines))
+
+-- the lines of entries
+entry_lines : (entries : List CacheEntry) → text_of_lines cache (map row_of entries) ≡ entries_text entries
+entry_lines [] = refl
+entry_lines (e ∷ entries) = ap (λ (xs : List ℕ). text_of_line cache (row_of e) ++ xs) (entry_lines entries)
+
+pub cache_lines : (m : CacheMeaning) → text_of_cache m ≡ first_text Cache ++ (text_of_line cache (cache_line (head_of m)) ++ (entries_text m.entries ++ end_text))
+unfolding text_of_cache
+cache_lines m =
+    let rows = map row_of m.entries in
+    let body : text_of_lines cache (rows ++ (end_line ∷ [])) ≡ entries_text m.entries ++ end_text =
+    flat_map-append (text_of_line cache) rows (end_line ∷ []) ∙ ap (λ (xs : List ℕ). xs ++ end_text) (entry_lines m.entries) in
+    ap (λ (xs : List ℕ). first_text Cache ++ (text_of_line cache (cache_line (head_of m)) ++ xs)) body

@@ -1,0 +1,7 @@
+pub mod CacheLine
+pub mod CacheWords
+pub mod CacheState
+pub mod CacheEnds
+pub mod CacheNext
+pub mod CachePrinted
+pub mod Origins

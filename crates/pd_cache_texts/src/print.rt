@@ -1,0 +1,146 @@
+//! The lines of a cache's text, printed.
+
+ghost use Rattle.std.specs.Prelude.{◌≡◌, ◌≤◌, ◌+◌, ◌++◌, ◌∷◌, ℕ, List, Option, OnOk, OnErr, length, decimal, codes, slice_index, []};
+ghost use Rattle.uuid.specs.Text.{hyphenated_text, simple_text, lower};
+ghost use Rattle.pd_kinds.specs.Objects.{CountsFault, Appends, AppendsFront};
+ghost use Rattle.pd_image.specs.Sink.{KeepsSink};
+ghost use Rattle.pd_lines.specs.Pieces.{Gathers};
+ghost use Rattle.pd_spells.specs.CacheText.{cache, flag_number, map_line};
+ghost use Rattle.pd_texts.specs.Printed.{text_of_line};
+ghost use Rattle.pd_cache_texts.specs.CacheLine.{line_of};
+
+use crate::line::CacheLine;
+use pd_image::{Failed, Sink};
+use pd_lines::{LineBuffer, Pieces};
+use pd_texts::{add_uuid, add_word};
+use uuid::Uuid;
+
+/// Prints a line. It takes no memory.
+pub fn print_cache<K: Sink>(line: &CacheLine, out: &mut K) -> Result<(), Failed>
+    requires { (K.state out.old).access ≡ 1 }
+    ensures whole { OnOk result (Appends (text_of_line cache (line_of line.now)) (K.state out.old).written (K.state out.new).written) }
+    ensures front { AppendsFront (text_of_line cache (line_of line.now)) (K.state out.old).written (K.state out.new).written }
+    ensures kept { KeepsSink (K.state out.old) (K.state out.new) }
+    ensures faults { CountsFault result (K.state out.old).faults (K.state out.new).faults }
+{
+    out.put(line_text(line).as_bytes())
+}
+
+/// Gathers a line. What is gathered ends with `Pieces::put`.
+pub fn add_cache<K: Sink>(line: &CacheLine, pieces: &mut Pieces, out: &mut K) -> Result<(), Failed>
+    requires { (K.state out.old).access ≡ 1 }
+    ensures gathered { (total : List ℕ) (start : Option (List ℕ)) → Gathers total pieces.old start (K.state out.old).written
+        → OnOk result (Gathers (total ++ text_of_line cache (line_of line.now)) pieces.new start (K.state out.new).written) }
+    ensures front { (total : List ℕ) (start : Option (List ℕ)) → Gathers total pieces.old start (K.state out.old).written
+        → AppendsFront total start (K.state out.new).written }
+    ensures access { (K.state out.new).access ≡ (K.state out.old).access }
+    ensures path { (K.state out.new).path ≡ (K.state out.old).path }
+    ensures faults { CountsFault result (K.state out.old).faults (K.state out.new).faults }
+    ensures failed { OnErr result (pieces.new ≡ pieces.old) }
+{
+    pieces.add(line_text(line).as_bytes(), out)
+}
+
+/// The bytes of a line.
+fn line_text(line: &CacheLine) -> LineBuffer
+    ensures bytes { result ≡ text_of_line cache (line_of line.now) }
+{
+    match line {
+        CacheLine::Cache {
+            uuid,
+            block_size,
+            blocks,
+            clean,
+            policy,
+            versions,
+            hint_size,
+        } => {
+            let mut text = head_text(*uuid, *block_size, *blocks, *clean);
+            add_policy_words(&mut text, *policy, *versions, *hint_size);
+            text
+        }
+        CacheLine::Map {
+            block,
+            origin,
+            dirty,
+            hint,
+        } => map_text(*block, *origin, *dirty, *hint),
+    }
+}
+
+/// The bytes of a cache line up to its policy name.
+fn head_text(uuid: [u8; 16], block_size: u32, blocks: u32, clean: bool) -> LineBuffer
+    ensures bytes { result ≡ codes "cache " ++ (hyphenated_text lower uuid
+        ++ (32 ∷ decimal block_size ++ (32 ∷ decimal blocks ++ (32 ∷ decimal (flag_number clean))))) }
+    ensures len { length result ≤ 66 }
+{
+    let mut line = LineBuffer::new();
+    line.add(b"cache ");
+    add_uuid(&mut line, uuid);
+    add_small(&mut line, block_size);
+    add_small(&mut line, blocks);
+    add_flag(&mut line, clean);
+    line
+}
+
+/// Adds the rest of a cache line.
+fn add_policy_words(line: &mut LineBuffer, policy: [u8; 16], versions: [u32; 3], hint_size: u32)
+    requires { length line.old ≤ 66 }
+    ensures bytes { line.new ≡ line.old ++ (32 ∷ simple_text lower policy ++ (32 ∷ decimal (slice_index versions 0)
+        ++ (32 ∷ decimal (slice_index versions 1) ++ (32 ∷ decimal (slice_index versions 2) ++ (32 ∷ decimal hint_size ++ (10 ∷ [])))))) }
+{
+    add_policy(line, policy);
+    add_small(line, versions[0]);
+    add_small(line, versions[1]);
+    add_small(line, versions[2]);
+    add_small(line, hint_size);
+    line.add(b"\n");
+}
+
+/// The bytes of a map line.
+fn map_text(block: u32, origin: u64, dirty: bool, hint: u32) -> LineBuffer
+    ensures bytes { result ≡ text_of_line cache (map_line (record { block = block; origin = origin; dirty = flag_number dirty; hint = hint })) }
+{
+    let mut line = LineBuffer::new();
+    line.add(b"map");
+    add_small(&mut line, block);
+    add_word(&mut line, origin);
+    add_flag(&mut line, dirty);
+    add_small(&mut line, hint);
+    line.add(b"\n");
+    line
+}
+
+/// Adds a space and a number below 2^32.
+fn add_small(line: &mut LineBuffer, number: u32)
+    requires { length line.old + 21 ≤ 161 }
+    ensures bytes { line.new ≡ line.old ++ (32 ∷ decimal number) }
+    ensures len { length line.new ≤ length line.old + 11 }
+{
+    add_word(line, number as u64);
+}
+
+/// Adds a space and a flag, 0 or 1.
+fn add_flag(line: &mut LineBuffer, flag: bool)
+    requires { length line.old + 2 ≤ 161 }
+    ensures bytes { line.new ≡ line.old ++ (32 ∷ decimal (flag_number flag)) }
+    ensures len { length line.new ≡ length line.old + 2 }
+{
+    if flag {
+        line.add(b" 1");
+    } else {
+        line.add(b" 0");
+    }
+}
+
+/// Adds a space and a policy name, as 32 hexadecimal digits in lower case.
+fn add_policy(line: &mut LineBuffer, policy: [u8; 16])
+    requires { length line.old + 33 ≤ 161 }
+    ensures bytes { line.new ≡ line.old ++ (32 ∷ simple_text lower policy) }
+    ensures len { length line.new ≡ length line.old + 33 }
+{
+    let mut buffer = Uuid::encode_buffer();
+    let text = Uuid::from_bytes(policy).simple().encode_lower(&mut buffer);
+    line.add(b" ");
+    line.add(text.as_bytes());
+}

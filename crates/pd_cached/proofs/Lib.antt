@@ -1,0 +1,4 @@
+pub mod TakeLemmas
+pub mod BitLemmas
+pub mod EntryLemmas
+pub mod SoundCache

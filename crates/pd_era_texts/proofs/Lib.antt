@@ -1,0 +1,4 @@
+pub mod EraWordLemmas
+pub mod EraLemmas
+pub mod EraNextLemmas
+pub mod RunLemmas

@@ -1,0 +1,82 @@
+//! The lines of an era target's text, printed.
+
+ghost use Rattle.std.specs.Prelude.{◌≡◌, ◌++◌, ℕ, List, Option, OnOk, OnErr};
+ghost use Rattle.pd_kinds.specs.Objects.{CountsFault, Appends, AppendsFront};
+ghost use Rattle.pd_image.specs.Sink.{KeepsSink};
+ghost use Rattle.pd_lines.specs.Pieces.{Gathers};
+ghost use Rattle.pd_spells.specs.EraText.{era, era_line, run_line};
+ghost use Rattle.pd_texts.specs.Printed.{text_of_line};
+ghost use Rattle.pd_era_texts.specs.EraLine.{line_of};
+
+use crate::line::EraLine;
+use pd_image::{Failed, Sink};
+use pd_lines::{LineBuffer, Pieces};
+use pd_texts::{add_uuid, add_word};
+
+/// Prints a line. It takes no memory.
+pub fn print_era<K: Sink>(line: &EraLine, out: &mut K) -> Result<(), Failed>
+    requires { (K.state out.old).access ≡ 1 }
+    ensures whole { OnOk result (Appends (text_of_line era (line_of line.now)) (K.state out.old).written (K.state out.new).written) }
+    ensures front { AppendsFront (text_of_line era (line_of line.now)) (K.state out.old).written (K.state out.new).written }
+    ensures kept { KeepsSink (K.state out.old) (K.state out.new) }
+    ensures faults { CountsFault result (K.state out.old).faults (K.state out.new).faults }
+{
+    out.put(line_text(line).as_bytes())
+}
+
+/// Gathers a line. What is gathered ends with `Pieces::put`.
+pub fn add_era<K: Sink>(line: &EraLine, pieces: &mut Pieces, out: &mut K) -> Result<(), Failed>
+    requires { (K.state out.old).access ≡ 1 }
+    ensures gathered { (total : List ℕ) (start : Option (List ℕ)) → Gathers total pieces.old start (K.state out.old).written
+        → OnOk result (Gathers (total ++ text_of_line era (line_of line.now)) pieces.new start (K.state out.new).written) }
+    ensures front { (total : List ℕ) (start : Option (List ℕ)) → Gathers total pieces.old start (K.state out.old).written
+        → AppendsFront total start (K.state out.new).written }
+    ensures access { (K.state out.new).access ≡ (K.state out.old).access }
+    ensures path { (K.state out.new).path ≡ (K.state out.old).path }
+    ensures faults { CountsFault result (K.state out.old).faults (K.state out.new).faults }
+    ensures failed { OnErr result (pieces.new ≡ pieces.old) }
+{
+    pieces.add(line_text(line).as_bytes(), out)
+}
+
+/// The bytes of a line.
+fn line_text(line: &EraLine) -> LineBuffer
+    ensures bytes { result ≡ text_of_line era (line_of line.now) }
+{
+    match line {
+        EraLine::Era {
+            uuid,
+            block_size,
+            blocks,
+            era,
+        } => head_text(*uuid, *block_size, *blocks, *era),
+        EraLine::Run { first, length, era } => run_text(*first, *length, *era),
+    }
+}
+
+/// The bytes of an era line.
+fn head_text(uuid: [u8; 16], block_size: u32, blocks: u32, current: u32) -> LineBuffer
+    ensures bytes { result ≡ text_of_line era (era_line (record { uuid = uuid; block_size = block_size; blocks = blocks; era = current })) }
+{
+    let mut line = LineBuffer::new();
+    line.add(b"era ");
+    add_uuid(&mut line, uuid);
+    add_word(&mut line, block_size as u64);
+    add_word(&mut line, blocks as u64);
+    add_word(&mut line, current as u64);
+    line.add(b"\n");
+    line
+}
+
+/// The bytes of a run line.
+fn run_text(first: u32, count: u32, last: u32) -> LineBuffer
+    ensures bytes { result ≡ text_of_line era (run_line (record { first = first; length = count; era = last })) }
+{
+    let mut line = LineBuffer::new();
+    line.add(b"run");
+    add_word(&mut line, first as u64);
+    add_word(&mut line, count as u64);
+    add_word(&mut line, last as u64);
+    line.add(b"\n");
+    line
+}

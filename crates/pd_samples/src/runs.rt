@@ -1,0 +1,183 @@
+//! Runs of the tools over objects in memory.
+
+ghost use Rattle.std.specs.Prelude.{◌≡◌, IfOk};
+ghost use Rattle.pd_image.specs.Blocks.{block_bytes};
+ghost use Rattle.pd_image.specs.MemDevice.{mem_device_state, unattached_device};
+ghost use Rattle.pd_image.specs.MemSink.{mem_sink_state, unattached_sink};
+ghost use Rattle.pd_image.specs.MemSource.{mem_source_state, unattached_source};
+
+use pd_image::{Device, MemDevice, MemSink, MemSource, Pick};
+use pd_kinds::Block;
+use pd_tools::run_tool;
+use std::alloc::{AllocError, Global};
+
+/// The status of a call, and its objects after it.
+#[derive(Drop)]
+pub struct Ran {
+    pub status: u8,
+    pub source: MemSource,
+    pub out: MemSink,
+    pub notes: MemSink,
+    pub input: MemDevice,
+    pub output: MemDevice,
+    pub third: MemDevice,
+}
+
+/// What the objects of a call hold before it.
+#[derive(Clone, Copy)]
+pub struct Held<'a> {
+    pub text: &'a [u8],
+    pub input: &'a [Block],
+    pub output: &'a [Block],
+}
+
+/// The number of the call that fails, of each of these objects, and of the first calls of the output that are
+/// done before it stops.
+#[derive(Clone, Copy)]
+pub struct Failing {
+    pub source: Option<u64>,
+    pub out: Option<u64>,
+    pub notes: Option<u64>,
+    pub input: Option<u64>,
+    pub output: Option<u64>,
+    pub output_stops_after: u64,
+}
+
+pub const NOTHING_FAILS: Failing = Failing {
+    source: None,
+    out: None,
+    notes: None,
+    input: None,
+    output: None,
+    output_stops_after: u64::MAX,
+};
+
+/// Runs a tool over an image.
+pub fn run(
+    alloc: Global,
+    words: &[&str],
+    image: &[Block],
+    failing: Failing,
+) -> Result<Ran, AllocError> {
+    let held = Held {
+        text: b"",
+        input: image,
+        output: &[],
+    };
+    run_over(alloc, words, held, failing)
+}
+
+/// Restores a text onto a device that holds these blocks.
+pub fn restore(
+    alloc: Global,
+    text: &[u8],
+    base: &[Block],
+    failing: Failing,
+) -> Result<Ran, AllocError> {
+    let held = Held {
+        text,
+        input: &[],
+        output: base,
+    };
+    let words = ["thin_restore", "-i", "text", "-o", "image"];
+    run_over(alloc, &words, held, failing)
+}
+
+/// Runs a tool over objects that hold this.
+pub fn run_over(
+    alloc: Global,
+    words: &[&str],
+    held: Held<'_>,
+    failing: Failing,
+) -> Result<Ran, AllocError> {
+    let texts = texts_of(alloc, words)?;
+    let mut source = source(alloc, held.text, failing.source)?;
+    let mut out = sink(alloc, failing.out)?;
+    let mut notes = sink(alloc, failing.notes)?;
+    let mut input = device(alloc, held.input, failing.input)?;
+    let mut output = device(alloc, held.output, failing.output)?;
+    output.stop_after(failing.output_stops_after);
+    let mut third = device(alloc, &[], None)?;
+    let status = run_tool(
+        alloc,
+        texts.as_slice(),
+        &mut source,
+        &mut out,
+        &mut notes,
+        &mut input,
+        &mut output,
+        &mut third,
+    );
+    Ok(Ran {
+        status,
+        source,
+        out,
+        notes,
+        input,
+        output,
+        third,
+    })
+}
+
+/// The words as texts of their own.
+fn texts_of(alloc: Global, words: &[&str]) -> Result<Vec<String>, AllocError> {
+    let mut texts = Vec::new(alloc);
+    for word in words {
+        texts.push(String::from_str(alloc, word)?)?;
+    }
+    Ok(texts)
+}
+
+/// A source of these bytes, seven in a piece, of which this call fails.
+fn source(alloc: Global, text: &[u8], failing: Option<u64>) -> Result<MemSource, AllocError>
+    ensures { IfOk result (λ source. mem_source_state source ≡ unattached_source text.now) }
+{
+    let mut source = MemSource::of(alloc, text, 7)?;
+    if let Some(call) = failing {
+        source.fail_at(call)?;
+    }
+    Ok(source)
+}
+
+/// A sink of which this call fails.
+fn sink(alloc: Global, failing: Option<u64>) -> Result<MemSink, AllocError>
+    ensures { IfOk result (λ sink. mem_sink_state sink ≡ unattached_sink) }
+{
+    let mut sink = MemSink::new(alloc);
+    if let Some(call) = failing {
+        sink.fail_at(call)?;
+    }
+    Ok(sink)
+}
+
+/// A device of these blocks, of which this call fails.
+fn device(alloc: Global, image: &[Block], failing: Option<u64>) -> Result<MemDevice, AllocError>
+    ensures { IfOk result (λ device. mem_device_state device ≡ unattached_device (block_bytes image.now)) }
+{
+    let mut device = MemDevice::of(alloc, image)?;
+    if let Some(call) = failing {
+        device.fail_at(call)?;
+    }
+    Ok(device)
+}
+
+/// The blocks that a device holds.
+pub fn blocks_of(alloc: Global, device: &MemDevice) -> Result<Vec<Block>, AllocError> {
+    blocks_after_crash(alloc, device, Pick::New)
+}
+
+/// The blocks that a crash leaves where each block that isn't synced has what the pick says.
+pub fn blocks_after_crash(
+    alloc: Global,
+    device: &MemDevice,
+    pick: Pick,
+) -> Result<Vec<Block>, AllocError> {
+    let mut left = device.after_crash(alloc, pick)?;
+    let mut blocks = Vec::new(alloc);
+    if left.attach("image", false).is_ok() {
+        for b in 0..left.blocks() {
+            blocks.push(left.block(b))?;
+        }
+    }
+    Ok(blocks)
+}
