@@ -12,13 +12,13 @@ use Rattle.pd_refs.specs.Refs.{number_in}
 use Rattle.pd_arrays.specs.Reads.{is_at, is_under, number_where}
 
 -- one number more
-where_more : (f : ℕ → Bool) (n : ℕ) → number_where f (n + 1) ≡ number_where f n + cond (f n) 1 0
+pub where_more : (f : ℕ → Bool) (n : ℕ) → number_where f (n + 1) ≡ number_where f n + cond (f n) 1 0
 unfolding number_where
 where_more f n =
     let more : range_with_len 0 (n + 1) ≡ range_with_len 0 n ++ (n ∷ []) = rw (add-one n) (range_more 0 n n (omega arith)) in
     ap (count_by f) more ∙ sum_by-append (λ k. cond (f k) 1 0) (range_with_len 0 n) (n ∷ []) ∙ omega arith
 
-where_zero : (f : ℕ → Bool) → number_where f 0 ≡ 0
+pub where_zero : (f : ℕ → Bool) → number_where f 0 ≡ 0
 unfolding number_where
 where_zero f = refl
 
@@ -34,7 +34,7 @@ fewer_one true b more = rw (more refl) (omega arith)
 fewer_one false true more = omega arith
 fewer_one false false more = omega arith
 
-where_fewer : (f g : ℕ → Bool) (n : ℕ) → ((b : ℕ) → f b ≡ true → g b ≡ true) → number_where f n ≤ number_where g n
+pub where_fewer : (f g : ℕ → Bool) (n : ℕ) → ((b : ℕ) → f b ≡ true → g b ≡ true) → number_where f n ≤ number_where g n
 where_fewer f g zero more = omega (arith, where_zero f, where_zero g)
 where_fewer f g (suc n) more =
     let next : suc n ≡ n + 1 = omega arith in
@@ -71,7 +71,7 @@ met_of : (met other : Bool) → (met && other) ≡ true → met ≡ true
 met_of true other both = refl
 met_of false other both = both
 
-in_role : (audit : Audit) (role n : ℕ) → number_where (λ b. has_bit (roles_at audit b) role) n ≡ number_in audit role n
+pub in_role : (audit : Audit) (role n : ℕ) → number_where (λ b. has_bit (roles_at audit b) role) n ≡ number_in audit role n
 unfolding number_where number_in
 in_role audit role n = refl
 

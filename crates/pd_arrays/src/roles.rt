@@ -15,8 +15,8 @@ pub struct ArrayRoles {
     pub word: Word,
 }
 
-/// Whether the role is in the set.
-pub(crate) fn has_role(roles: u16, role: u8) -> bool
+/// Whether the role, below 16, is in the set of an audit's `roles`: bit r stands for role r.
+pub fn has_role(roles: u16, role: u8) -> bool
     requires { role < 16 }
     ensures { result ≡ has_bit roles role }
 {

@@ -1,0 +1,3 @@
+pub mod RepeatLemmas
+pub mod WordLemmas
+pub mod MeetLemmas

@@ -1,1 +1,4 @@
 pub mod Copies
+pub mod Words
+pub mod Origins
+pub mod Meeting

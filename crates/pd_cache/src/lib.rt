@@ -2,5 +2,7 @@
 #![tactic(auto)]
 
 mod format;
+mod mapping;
+mod origins;
 
 pub use format::{CacheFormat, CacheTable};

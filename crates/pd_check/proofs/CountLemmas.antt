@@ -35,7 +35,7 @@ use Rattle.pd_laws.proofs.SoundLemmas.{IsSound, tests_after_two}
 use Rattle.pd_graph.specs.declared.audit.Audit.{Audit}
 use Rattle.pd_graph.specs.Audit.{count_at}
 use Rattle.pd_graph.specs.Walk.{IsWalked}
-use Rattle.pd_graph.proofs.AnyLemmas.{if_both}
+use Rattle.pd_graph.proofs.AnyLemmas.{if_any, if_both}
 use Rattle.pd_tree.specs.Roots.{HasCacheRoots, HasEraRoots, HasThinRoots}
 use Rattle.pd_tree.specs.Sound.{IsSoundTree}
 use Rattle.pd_tree.specs.TreeRoles.{HasCacheTrees, HasEraTrees, HasThinTrees, IsTreeRole}
@@ -47,7 +47,7 @@ use Rattle.pd_smap.specs.Reports.{Adds}
 use Rattle.pd_whole.specs.Known.{IsKnown}
 use Rattle.pd_check.specs.declared.data_space.DataSpace.{DataSpace}
 use Rattle.pd_check.specs.ByKind.{data_space_of, graph_of_super, meta_map_of, super_bad_of}
-use Rattle.pd_check.specs.Counts.{count_reads, data_faults, data_reads, meta_faults, meta_reads}
+use Rattle.pd_check.specs.Counts.{count_reads, data_faults, meta_faults, meta_reads, space_reads}
 use Rattle.pd_check.specs.Whole.{IsWhole}
 use Rattle.pd_check.proofs.CheckLemmas.{same_graph}
 use Rattle.pd_check.proofs.WalkReport.{flat_map-same}
@@ -336,7 +336,14 @@ both_faults : (kind : Kind) (image : List (List ℕ)) → count_faults (checked_
 unfolding count_faults meta_faults data_faults
 both_faults kind image = refl
 
--- the report of both, and that of metadata blocks alone
+-- nothing is added where there are none
+pub none_added : (held : Option (List (List ℕ))) (kind : Kind) (first : List ℕ) (audit : Audit) (report : Reported) → data_space_of kind first ≡ None
+    → IfSome held (λ image. IsWhole kind first image audit → Adds (data_faults (checked_of kind image) image) report report)
+none_added held kind first audit report nothing =
+    if_any held (λ image whole before is.
+    is ∙ ap (λ (list : List Fault). report_of list) (sym (ap (λ (list : List Fault). before ++ list) (no_data kind image first nothing) ∙ append-nil before)))
+
+-- the report of both
 pub both_told : (held later : Option (List (List ℕ))) (kind : Kind) (first : List ℕ) (audit : Audit) (start mid last : Reported) → later ≡ held → start ≡ report_of []
     → IfSome held (λ image. IsWhole kind first image audit → Adds (meta_faults (checked_of kind image) image) start mid)
     → IfSome later (λ image. IsWhole kind first image audit → Adds (data_faults (checked_of kind image) image) mid last)
@@ -347,26 +354,17 @@ both_told held later kind first audit start mid last stays none meta data_added 
     next whole (meta_faults (checked_of kind image) image) one ∙ ap (λ (list : List Fault). report_of list) (sym (both_faults kind image)))
     meta (subst (λ (o : Option (List (List ℕ))). IfSome o (λ image. IsWhole kind first image audit → Adds (data_faults (checked_of kind image) image) mid last)) stays data_added)
 
-pub meta_alone : (held : Option (List (List ℕ))) (kind : Kind) (first : List ℕ) (audit : Audit) (start mid : Reported) → start ≡ report_of [] → data_space_of kind first ≡ None
-    → IfSome held (λ image. IsWhole kind first image audit → Adds (meta_faults (checked_of kind image) image) start mid)
-    → IfSome held (λ image. IsWhole kind first image audit → mid ≡ report_of (count_faults (checked_of kind image) image))
-meta_alone held kind first audit start mid none nothing meta =
-    IfSome_then held meta (λ image leads whole.
-    let one : mid ≡ report_of (meta_faults (checked_of kind image) image) = leads whole [] none in
-    one ∙ ap (λ (list : List Fault). report_of list)
-    (sym (both_faults kind image ∙ (ap (λ (list : List Fault). meta_faults (checked_of kind image) image ++ list) (no_data kind image first nothing) ∙ append-nil (meta_faults (checked_of kind image) image)))))
-
 -- and what was read for both
 pub meta_few : (held : Option (List (List ℕ))) (kind : Kind) (first : List ℕ) (audit : Audit) (old mid : ℕ)
     → IfSome held (λ image. mid ≤ old + meta_reads (meta_map_of kind first) image) → IfSome held (λ image. mid ≤ old + count_reads kind first audit image)
 unfolding count_reads
 meta_few held kind first audit old mid most = IfSome_then held most (λ image few. omega (arith, few))
 
-pub both_few : (held later : Option (List (List ℕ))) (kind : Kind) (first : List ℕ) (audit : Audit) (space : DataSpace) (old mid new : ℕ) → later ≡ held → data_space_of kind first ≡ Some space
+pub both_few : (held later : Option (List (List ℕ))) (kind : Kind) (first : List ℕ) (audit : Audit) (old mid new : ℕ) → later ≡ held
     → IfSome held (λ image. mid ≤ old + meta_reads (meta_map_of kind first) image)
-    → IfSome later (λ image. new ≤ mid + data_reads space audit (graph_of_super kind first).nr image)
+    → IfSome later (λ image. new ≤ mid + space_reads (data_space_of kind first) audit (graph_of_super kind first).nr image)
     → IfSome held (λ image. new ≤ old + count_reads kind first audit image)
 unfolding count_reads
-both_few held later kind first audit space old mid new stays is one two =
-    if_both held (λ image few more. rw is (omega (arith, few, more))) one
-    (subst (λ (o : Option (List (List ℕ))). IfSome o (λ image. new ≤ mid + data_reads space audit (graph_of_super kind first).nr image)) stays two)
+both_few held later kind first audit old mid new stays one two =
+    if_both held (λ image few more. omega (arith, few, more)) one
+    (subst (λ (o : Option (List (List ℕ))). IfSome o (λ image. new ≤ mid + space_reads (data_space_of kind first) audit (graph_of_super kind first).nr image)) stays two)

@@ -12,7 +12,7 @@ ghost use Rattle.pd_graph.specs.Audit.{blocks_of};
 ghost use Rattle.pd_smap.specs.Reports.{Adds};
 ghost use Rattle.pd_check.specs.ByKind.{data_space_of, graph_of_super, meta_map_of, super_bad_of};
 ghost use Rattle.pd_check.specs.Check.{IsFirstBlock};
-ghost use Rattle.pd_check.specs.Counts.{count_reads, data_faults, data_reads, meta_faults, meta_reads};
+ghost use Rattle.pd_check.specs.Counts.{count_reads, data_faults, data_reads, meta_faults, meta_reads, space_reads};
 ghost use Rattle.pd_check.specs.Whole.{IsWhole};
 
 use crate::data_space::DataSpace;
@@ -51,13 +51,8 @@ pub(crate) fn count_report<M: Metadata, D: Device>(
 {
     let mut report = Report::new();
     add_meta_faults::<M, D>(alloc, dev, first, audit, &mut report)?;
-    match M::data_space(first) {
-        None => Ok(report),
-        Some(space) => {
-            add_data_faults::<M, D>(alloc, dev, format, first, &space, audit, &mut report)?;
-            Ok(report)
-        }
-    }
+    add_space_faults::<M, D>(alloc, dev, format, first, audit, &mut report)?;
+    Ok(report)
 }
 
 /// Adds the faults of the counts of metadata blocks.
@@ -72,10 +67,10 @@ fn add_meta_faults<M: Metadata, D: Device>(
     requires few { (graph_of_super M.kind first.now.0).nr ≤ MAX_META_BLOCKS }
     requires number { blocks_of audit.now ≡ (graph_of_super M.kind first.now.0).nr }
     requires within { (graph_of_super M.kind first.now.0).nr ≤ (D.state dev.old).blocks }
-    requires none { report.old.total ≡ 0 }
+    requires room { report.old.total + (graph_of_super M.kind first.now.0).nr < 2 ^ 64 }
     ensures added { OnOk result (IfSome (D.state dev.old).held (λ image. IsWhole M.kind first.now.0 image audit.now
         → Adds (meta_faults (checked_of M.kind image) image) report.old report.new)) }
-    ensures total { report.new.total ≤ (graph_of_super M.kind first.now.0).nr }
+    ensures total { report.new.total ≤ report.old.total + (graph_of_super M.kind first.now.0).nr }
     ensures reads { IfSome (D.state dev.old).held (λ image. (D.state dev.new).reads ≤ (D.state dev.old).reads + meta_reads (meta_map_of M.kind first.now.0) image) }
     ensures kept { OnlyReads (D.state dev.old) (D.state dev.new) }
     ensures faults { CountsCheckFault result (D.state dev.old).faults (D.state dev.new).faults }
@@ -90,6 +85,33 @@ fn add_meta_faults<M: Metadata, D: Device>(
         return compare_meta(alloc, dev, &root, audit, report);
     }
     Ok(())
+}
+
+/// Adds the faults of the counts of data blocks, where this kind counts any.
+fn add_space_faults<M: Metadata, D: Device>(
+    alloc: Global,
+    dev: &mut D,
+    format: &M::Format,
+    first: &Block,
+    audit: &Audit,
+    report: &mut Report,
+) -> Result<(), CheckFault>
+    requires attached { IsAttached (D.state dev.old) }
+    requires graph { M.Format.graph format.now ≡ graph_of_super M.kind first.now.0 }
+    requires number { blocks_of audit.now ≡ (graph_of_super M.kind first.now.0).nr }
+    requires within { (graph_of_super M.kind first.now.0).nr ≤ (D.state dev.old).blocks }
+    requires room { IfSome (data_space_of M.kind first.now.0) (λ space. report.old.total + space.root.blocks < 2 ^ 64) }
+    ensures added { OnOk result (IfSome (D.state dev.old).held (λ image. IsWhole M.kind first.now.0 image audit.now
+        → Adds (data_faults (checked_of M.kind image) image) report.old report.new)) }
+    ensures reads { IfSome (D.state dev.old).held (λ image. (D.state dev.new).reads ≤ (D.state dev.old).reads
+        + space_reads (data_space_of M.kind first.now.0) audit.now (graph_of_super M.kind first.now.0).nr image) }
+    ensures kept { OnlyReads (D.state dev.old) (D.state dev.new) }
+    ensures faults { CountsCheckFault result (D.state dev.old).faults (D.state dev.new).faults }
+{
+    match M::data_space(first) {
+        None => Ok(()),
+        Some(space) => add_data_faults::<M, D>(alloc, dev, format, first, &space, audit, report),
+    }
 }
 
 /// Counts the references to data blocks, and adds the faults of their counts.

@@ -1,20 +1,21 @@
 -- A whole array.
-use Rattle.std.proofs.Common.{◌≡◌, ◌⊎◌, inl, inr, ℕ, zero, suc, ◌+◌, ◌-◌, ◌*◌, ◌^◌, ◌<◌, ◌≤◌, ◌≢◌, nat_eq, true, false, not, ◌||◌, eq-eqb, List, [], ◌∷◌, ◌++◌, length, map, refl, sym, ◌∙◌, ap, ap₂, arith}
+use Rattle.std.proofs.Common.{◌≡◌, ◌⊎◌, inl, inr, ℕ, zero, suc, ◌+◌, ◌-◌, ◌*◌, ◌^◌, ◌<◌, ◌≤◌, ◌≢◌, nat_eq, true, false, not, ◌&&◌, ◌||◌, eq-eqb, List, [], ◌∷◌, ◌++◌, length, map, refl, sym, ◌∙◌, ap, ap₂, arith}
 use Rattle.std.specs.List.{AllByRecursion, flat_map, range_with_len}
 use Rattle.std.specs.Str.{bytes_eq}
 use Rattle.std.proofs.Math.Nat.{div-mul-le_self, lt-div-mul-add, suc-mul}
-use Rattle.std.proofs.lemmas.Bool.{and_from, cases_eq, ne_eqb, not_from_true, or_from}
+use Rattle.std.proofs.lemmas.Bool.{and_from, and_right, cases_eq, ne_eqb, not_from_true, or_from}
 use Rattle.std.proofs.lemmas.List.{length-append, length-map, map-id}
 use Rattle.std.proofs.lemmas.List.FromFn.{length-map-range_with_len}
 use Rattle.std.proofs.lemmas.Nat.{le-div}
+use Rattle.pd_kinds.specs.declared.rule.Rule.TheVariants as r
 use Rattle.pd_kinds.specs.Edge.{Edge, edge_of}
 use Rattle.pd_kinds.specs.Array.{array_block, max_words, word_count}
 use Rattle.pd_kinds.specs.Graph.{Graph, block_at}
 use Rattle.pd_kinds.specs.Layout.{Layout, Tree, array, graph_of, tree_to}
 use Rattle.pd_kinds.specs.Node.{Entry}
 use Rattle.pd_kinds.specs.Trees.{block_words, entries_below, keys_of, words_of}
-use Rattle.pd_kinds.specs.Whole.{Array, are_full, array_words, is_array_index_bad}
-use Rattle.pd_laws.proofs.AllLemmas.{all_append, all_from, all_map, all_of}
+use Rattle.pd_kinds.specs.Whole.{Array, WholeTest, are_full, array_whole, array_words, is_array_index_bad}
+use Rattle.pd_laws.proofs.AllLemmas.{all_append, all_from, all_map, all_mapped, all_of}
 use Rattle.pd_spells.specs.Need.{nodes_for}
 use Rattle.pd_laid.specs.Array.{array_items, array_pieces, array_root, laid_array, laid_words, pieces}
 use Rattle.pd_laid.specs.Laid.{LaidBlock, laid_tree, tree_of}
@@ -248,3 +249,15 @@ array_names_none other role size place words first second =
     (laid_tree role t (place + length list) (array_items place (length list)))
     (all_map (laid_words (role + 1) size) (λ (x : LaidBlock). AllByRecursion (λ (e : Edge). nat_eq e.role other ≡ false) x.edges) (λ ws. tt) list)
     (tree_names_none other role t (place + length list) (array_items place (length list)) first (λ e. (ne_eqb (role + 1) other second, tt)))
+
+-- the rules of a whole array hold, where its lengths are the number of its words
+pub array_holds : (graph : Graph) (image : List (List ℕ)) (a : Array) (words : List ℕ) → is_array_index_bad graph image a ≡ false → array_words graph image a ≡ words
+    → AllByRecursion (λ n. length words ≡ n) a.lengths → AllByRecursion (λ (t : WholeTest). t.fails ≡ false) (array_whole graph image a)
+unfolding array_whole
+array_holds graph image a words whole words_are lengths_are = (
+  whole,
+  all_mapped (λ (n : ℕ). record { block = a.root; rule = r.Length; fails = not (is_array_index_bad graph image a) && not (nat_eq (length (array_words graph image a)) n) })
+      (λ (t : WholeTest). t.fails ≡ false) a.lengths
+      (all_from (λ n. length words ≡ n) (λ n. (not (is_array_index_bad graph image a) && not (nat_eq (length (array_words graph image a)) n)) ≡ false)
+      (λ n is. and_right _ _ (not_from_true _ (eq-eqb _ n (ap length words_are ∙ is)))) a.lengths lengths_are),
+)

@@ -25,7 +25,8 @@ pub record IsWordSize (size : ℕ) : Type 0 where
   pub some : 1 ≤ size
   pub fits : size ≤ 4072
 
-at_index : (limit : ℕ) (words : List ℕ) → AllByRecursion (λ w. w < limit) words → (i : ℕ) → i < length words → get_or words i 0 < limit
+-- a word of a list below a limit
+pub at_index : (limit : ℕ) (words : List ℕ) → AllByRecursion (λ w. w < limit) words → (i : ℕ) → i < length words → get_or words i 0 < limit
 at_index limit [] all i h = absurd (omega arith)
 at_index limit (w ∷ words) all zero h = all.0
 at_index limit (w ∷ words) all (suc i) h = at_index limit words all.1 i (omega arith)

@@ -18,7 +18,7 @@ module _ (m : EraMeaning) (n : ℕ) where
   pub references_count : meta_map_number 7 n (meta_map_at m) (era_named m) ≤ 4161600 → (b : ℕ) → count_in (0 ∷ named_by (era_all m n)) b ≡ meta_counts 7 n (meta_map_at m) (era_named m) b
   unfolding era_all era_named meta_map_blocks
   references_count few b =
-      references_are (era_super_block (era_laid_fields m n)) (super_edges m n) (era_parts m) (writesets_root m ∷ array_root_of m ∷ []) 7 n (meta_map_at m) b few refl
+      references_are (era_super_block (era_laid_fields m n)) (super_edges m n) (era_parts m) (writesets_root m ∷ array_root_of m ∷ []) (era_named m) 7 n (meta_map_at m) b refl few refl
 
   -- the array and the tree of writesets name no bitmap
   eras_none : NameNone 8 (era_blocks m)

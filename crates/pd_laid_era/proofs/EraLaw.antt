@@ -1,8 +1,8 @@
 -- A laid era target is clean, and means the target.
-use Rattle.std.proofs.Common.{◌≡◌, ◌⊎◌, inl, inr, ℕ, ◌+◌, ◌<◌, ◌≤◌, max, false, eq-eqb, nat_eq, get_or, List, [], ◌∷◌, ◌++◌, length, map, filter, refl, sym, subst, ◌∙◌, ap, ap₂, arith, zero-le}
+use Rattle.std.proofs.Common.{◌≡◌, ◌⊎◌, inl, inr, ℕ, ◌+◌, ◌<◌, ◌≤◌, max, false, nat_eq, get_or, List, [], ◌∷◌, ◌++◌, length, map, filter, refl, sym, subst, ◌∙◌, ap, ap₂, arith, zero-le}
 use Rattle.std.specs.declared.option.Option.TheVariants.{None, Some}
 use Rattle.std.specs.List.{AllByRecursion, flat_map, fold, range_with_len}
-use Rattle.std.proofs.lemmas.Bool.{and_right, eqb-true, not_from_true}
+use Rattle.std.proofs.lemmas.Bool.{eqb-true}
 use Rattle.std.proofs.lemmas.List.FromFn.{fill_by_all}
 use Rattle.pd_kinds.specs.declared.kind.Kind.TheVariants.{Era}
 use Rattle.pd_kinds.specs.declared.limits.TheConstants.{MAX_META_BLOCKS}
@@ -30,7 +30,7 @@ use Rattle.pd_laid_graph.proofs.LaidLemmas.{laid_in_order}
 use Rattle.pd_laid_trees.proofs.Names.{tree_roles}
 use Rattle.pd_laid_maps.proofs.Formats.{at_roles, bitmaps_hold, laid_out_of, referred_few}
 use Rattle.pd_laid_maps.proofs.MapNames.{length-meta_map}
-use Rattle.pd_laid_arrays.proofs.Arrays.{array_roles}
+use Rattle.pd_laid_arrays.proofs.Arrays.{array_holds, array_roles}
 use Rattle.pd_kinds.specs.Limits.{room_of}
 use Rattle.pd_laid_era.specs.CleanEra.{IsCleanEra}
 use Rattle.pd_laid_era.proofs.EraCounts.{bitmap_once, references_count}
@@ -163,19 +163,17 @@ module _ (m : EraMeaning) (n : ℕ) (image : List (List ℕ)) (few : n ≤ 41616
         ap (λ (root : ℕ). array_words this image (record { role = 5; root = root; size = 4; lengths = lengths })) root_is ∙ seen.words_are lengths,
       )
 
-  array_holds : AllByRecursion (λ (t : WholeTest). t.fails ≡ false) (array_whole (graph_of 10 n 0 (era_layout n)) image (record { role = 5; root = (era_fields (block_at image 0)).array_root; size = 4; lengths = (era_fields (block_at image 0)).blocks ∷ [] }))
-  unfolding array_whole
-  array_holds =
+  era_holds : AllByRecursion (λ (t : WholeTest). t.fails ≡ false) (array_whole (graph_of 10 n 0 (era_layout n)) image (record { role = 5; root = (era_fields (block_at image 0)).array_root; size = 4; lengths = (era_fields (block_at image 0)).blocks ∷ [] }))
+  era_holds =
       let read = era_read (fields_at.blocks ∷ []) in
-      let words : length (array_words this image (era_array fields_at.array_root fields_at.blocks)) ≡ fields_at.blocks = ap length read.1 ∙ sym blocks_are in
-      (read.0, (and_right _ _ (not_from_true _ (eq-eqb _ _ words)), tt))
+      array_holds this image (era_array fields_at.array_root fields_at.blocks) m.eras read.0 read.1 (sym blocks_are, tt)
 
   whole_tests : AllByRecursion (λ (t : WholeTest). t.fails ≡ false) (era_whole (graph_of 10 n 0 (era_layout n)) image)
   unfolding era_whole
   whole_tests =
       rw arrays_are
       (all_append Holds (bitmap_tests this image (λ role. nat_eq role 8)) _ one_edge
-      (all_append Holds (array_whole this image (era_array fields_at.array_root fields_at.blocks)) [] array_holds tt))
+      (all_append Holds (array_whole this image (era_array fields_at.array_root fields_at.blocks)) [] era_holds tt))
 
   -- what is looked at in the image
   abbrev looked_at : Graph → ℕ → List Entry → Checked

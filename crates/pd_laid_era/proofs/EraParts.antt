@@ -8,7 +8,6 @@ use Rattle.pd_kinds.specs.Graph.{Graph, block_at, block_of, pair}
 use Rattle.pd_kinds.specs.Lawful.{IsLawful}
 use Rattle.pd_kinds.specs.Layout.{array, bitmap, graph_of, index, leaf_entries, plain_tree, tree, tree_to}
 use Rattle.pd_kinds.specs.Meaning.{EraMeaning}
-use Rattle.pd_kinds.specs.Node.{is_ascending}
 use Rattle.pd_laws.proofs.EraTable.{era_table}
 use Rattle.pd_spells.specs.Lawful.{IsLawfulEra}
 use Rattle.pd_laid.specs.Laid.{IsLaid, LaidBlock, laid_leaf, laid_number, laid_tree, tree_of}
@@ -19,12 +18,12 @@ use Rattle.pd_laid_graph.specs.LaidOut.{AllFrom, IsFitting, IsInPlace, LeadsBelo
 use Rattle.pd_laid_graph.proofs.FitLemmas.{few_named, named_lower}
 use Rattle.pd_laid_graph.proofs.FromLemmas.{from_back, from_both, from_front}
 use Rattle.pd_laid_graph.proofs.PlaceLemmas.{laid_in_place}
-use Rattle.pd_laid_trees.specs.Items.{AreItems, IsTreeSeen}
+use Rattle.pd_laid_trees.specs.Items.{IsTreeSeen}
 use Rattle.pd_laid_trees.proofs.Names.{root_leads}
 use Rattle.pd_laid_trees.proofs.Nodes.{leaf_seen}
 use Rattle.pd_laid_trees.proofs.Trees.{tree_seen}
 use Rattle.pd_laid_maps.specs.MetaMap.{IsMetaMapSeen}
-use Rattle.pd_laid_maps.proofs.Formats.{leads_more}
+use Rattle.pd_laid_maps.proofs.Formats.{leads_more, no_items}
 use Rattle.pd_laid_maps.proofs.MetaMap.{map_seen}
 use Rattle.pd_laid_arrays.specs.ArraySeen.{IsArraySeen}
 use Rattle.pd_laid_arrays.proofs.Arrays.{array_seen}
@@ -103,10 +102,6 @@ pub one_leaf : (m : EraMeaning) → writeset_blocks m ≡ laid_leaf 2 (tree_of w
 unfolding writeset_blocks laid_tree tree_leaves spread levels_above heads
 one_leaf m = refl
 
-none_are : (blocks : List LaidBlock) (limit : ℕ) → AreItems blocks limit (tree_of writesets_tree) []
-unfolding is_ascending
-none_are blocks limit = record { ascending = refl; keys_fit = tt; values_fit = tt; in_range = tt; leads = tt }
-
 module _ (m : EraMeaning) (n : ℕ) (image : List (List ℕ)) (few : n ≤ 4161600) (lawful : IsLawfulEra m)
     (room : meta_map_at m + length (meta_map_blocks m n) ≤ n) (stand : AllFrom (IsInPlace image (era_all m n)) 0 (era_all m n)) where
   abbrev this : Graph
@@ -153,7 +148,7 @@ module _ (m : EraMeaning) (n : ℕ) (image : List (List ℕ)) (few : n ≤ 41616
   unfolding writeset_blocks
   writesets_are =
       tree_seen 10 n 0 (era_layout n) image blocks (meta_map_at m) 2 (tree_of writesets_tree) (writesets_role n) (omega arith) (omega arith) (omega arith) few within
-      (writesets_at m) [] (omega arith) (omega arith) (none_are blocks (meta_map_at m)) writesets_stand super_stands.names.0
+      (writesets_at m) [] (omega arith) (omega arith) (no_items blocks (meta_map_at m) (tree_of writesets_tree)) writesets_stand super_stands.names.0
 
   pub writesets_lead : LeadsBelow (era_all m n) (meta_map_at m) (edge_of 2 (writesets_root m))
   unfolding writeset_blocks
@@ -193,7 +188,7 @@ module _ (m : EraMeaning) (n : ℕ) (image : List (List ℕ)) (few : n ≤ 41616
       let e : block_of (pair (writesets_at m) 2) ≡ writesets_at m = omega arith in
       let stands = leaf_stands (writeset_blocks m) (one_leaf m) writesets_stand in
       let seen = leaf_seen 10 n 0 (era_layout n) image 2 (tree_of writesets_tree) (writesets_role n) (omega arith) (writesets_at m) [] (omega (arith, ap length (one_leaf m))) (omega arith) (omega arith)
-      stands.stands blocks (meta_map_at m) within (omega arith) (none_are blocks (meta_map_at m)) tt in
+      stands.stands blocks (meta_map_at m) within (omega arith) (no_items blocks (meta_map_at m) (tree_of writesets_tree)) tt in
       sym (ap (λ (b : ℕ). leaf_entries 12 (block_at image b)) e) ∙ seen.at.entries_are
     where
       leaf_stands : (xs : List LaidBlock) → xs ≡ laid_leaf 2 (tree_of writesets_tree) [] ∷ [] → AllFrom (IsInPlace image (era_all m n)) (writesets_at m) xs

@@ -31,10 +31,7 @@ pub roles_at : (blocks : List LaidBlock) → AllFrom (λ q (x : LaidBlock). role
 unfolding role_at
 roles_at blocks = mapped_at (λ (x : LaidBlock). x.role) [] blocks
 
--- a pair's parts
-block_of_pair : (b r : ℕ) → r < 16 → block_of (pair b r) ≡ b
-block_of_pair b r small = omega arith
-
+-- the role of a pair
 role_of_pair : (b r : ℕ) → r < 16 → role_of (pair b r) ≡ r
 role_of_pair b r small = omega arith
 

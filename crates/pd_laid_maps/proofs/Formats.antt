@@ -7,7 +7,9 @@ use Rattle.std.proofs.lemmas.List.{length-append}
 use Rattle.pd_kinds.specs.declared.rule.Rule.TheVariants as r
 use Rattle.pd_kinds.specs.Edge.{Edge}
 use Rattle.pd_kinds.specs.Graph.{Graph, block_of, meta_count, nodes, pair, role_of}
+use Rattle.pd_kinds.specs.Layout.{Tree}
 use Rattle.pd_kinds.specs.Limits.{is_meta_size_bad}
+use Rattle.pd_kinds.specs.Node.{is_ascending}
 use Rattle.pd_kinds.specs.Whole.{WholeTest, bitmap_tests}
 use Rattle.pd_laws.proofs.AllLemmas.{all_from, all_mapped}
 use Rattle.pd_laid.specs.Laid.{LaidBlock, count_in, named_by}
@@ -17,6 +19,7 @@ use Rattle.pd_laid_graph.proofs.CheckLemmas.{all_filtered}
 use Rattle.pd_laid_graph.proofs.FitLemmas.{fits_more}
 use Rattle.pd_laid_graph.proofs.FromLemmas.{from_both}
 use Rattle.pd_laid_graph.proofs.ListLemmas.{count_append}
+use Rattle.pd_laid_trees.specs.Items.{AreItems}
 use Rattle.pd_laid_trees.proofs.Names.{blocks_of, named-append}
 use Rattle.pd_laid_maps.proofs.MapNames.{meta_names}
 use Rattle.pd_laid_maps.proofs.MetaMap.{one_more, other_more}
@@ -29,6 +32,11 @@ size_good device_blocks n some few limit = grind (arith, nat_tests)
 -- an edge that leads below a place leads below a later one
 pub leads_more : (blocks : List LaidBlock) (limit more : ℕ) → limit ≤ more → (edge : Edge) → LeadsBelow blocks limit edge → LeadsBelow blocks more edge
 leads_more blocks limit more within edge is = record { from_one = is.from_one; below = omega (arith, is.below); role_is = is.role_is }
+
+-- a tree of no items can be laid anywhere
+pub no_items : (blocks : List LaidBlock) (limit : ℕ) (t : Tree) → AreItems blocks limit t []
+unfolding is_ascending
+no_items blocks limit t = record { ascending = refl; keys_fit = tt; values_fit = tt; in_range = tt; leads = tt }
 
 -- where a superblock, parts up to a place and what stands from there on fit among one another, they are laid out
 pub laid_out_of : (graph : Graph) (image : List (List ℕ)) (super : List ℕ) (edges : List Edge) (parts rest : List LaidBlock) (place end : ℕ) → 1 + length parts ≡ place → place + length rest ≡ end → end ≤ graph.nr
@@ -92,36 +100,33 @@ named-first : (x : LaidBlock) (xs : List LaidBlock) → named_by (x ∷ xs) ≡ 
 unfolding named_by
 named-first x xs = refl
 
--- How often all blocks name a block, with block 0, is its count in the metadata map: that map counts what block 0
--- names, the map's own roots left out, and what the parts name.
-pub references_are : (super : List ℕ) (edges : List Edge) (parts : List LaidBlock) (roots : List ℕ) (role n place b : ℕ)
-    → meta_map_number role n place (0 ∷ (roots ++ named_by parts)) ≤ 4161600
-    → count_in (blocks_of edges) b ≡ count_in (roots ++ (place ∷ meta_overflow_root n place (0 ∷ (roots ++ named_by parts)) ∷ [])) b
-    → count_in (0 ∷ named_by (laid_super super edges ∷ (parts ++ laid_meta_map role n place (0 ∷ (roots ++ named_by parts))))) b ≡ meta_counts role n place (0 ∷ (roots ++ named_by parts)) b
+-- How often all blocks name a block, with block 0, is its count in the metadata map: that map counts block 0, what
+-- the superblock names but for the map's own roots, and what the parts name.
+pub references_are : (super : List ℕ) (edges : List Edge) (parts : List LaidBlock) (roots named : List ℕ) (role n place b : ℕ)
+    → named ≡ 0 ∷ (roots ++ named_by parts) → meta_map_number role n place named ≤ 4161600
+    → count_in (blocks_of edges) b ≡ count_in (roots ++ (place ∷ meta_overflow_root n place named ∷ [])) b
+    → count_in (0 ∷ named_by (laid_super super edges ∷ (parts ++ laid_meta_map role n place named))) b ≡ meta_counts role n place named b
 unfolding meta_counts
-references_are super edges parts roots role n place b few same =
-    let named = 0 ∷ (roots ++ named_by parts) in
-    let over = meta_overflow_root n place named in
+references_are super edges parts roots named role n place b is few same =
     let front = named_by parts in
     let back = named_by (laid_meta_map role n place named) in
     let whole : named_by (laid_super super edges ∷ (parts ++ laid_meta_map role n place named)) ≡ blocks_of edges ++ (front ++ back) =
     named-first (laid_super super edges) (parts ++ laid_meta_map role n place named)
     ∙ ap (λ (rest : List ℕ). blocks_of edges ++ rest) (named-append parts (laid_meta_map role n place named)) in
     ap (λ (all : List ℕ). count_in (0 ∷ all) b) whole
-    ∙ (sides (blocks_of edges) roots front back over same ∙ ap (λ (own : List ℕ). count_in (named ++ own) b) (meta_names role n place named few))
+    ∙ (sides (blocks_of edges) front back (meta_overflow_root n place named) is same ∙ ap (λ (own : List ℕ). count_in (named ++ own) b) (meta_names role n place named few))
   where
-    sides : (all roots front back : List ℕ) (over : ℕ) → count_in all b ≡ count_in (roots ++ (place ∷ over ∷ [])) b
-        → count_in (0 ∷ (all ++ (front ++ back))) b ≡ count_in ((0 ∷ (roots ++ front)) ++ (place ∷ (back ++ (over ∷ [])))) b
-    sides all roots front back over same =
+    sides : (all front back : List ℕ) (over : ℕ) → named ≡ 0 ∷ (roots ++ front) → count_in all b ≡ count_in (roots ++ (place ∷ over ∷ [])) b
+        → count_in (0 ∷ (all ++ (front ++ back))) b ≡ count_in (named ++ (place ∷ (back ++ (over ∷ [])))) b
+    sides all front back over is same =
         let passes = λ (r : ℕ). nat_eq r b in
-        let own = place ∷ (back ++ (over ∷ [])) in
         let l1 = one_more 0 b (all ++ (front ++ back)) in
         let l2 = count_append passes all (front ++ back) in
         let l3 = count_append passes front back in
         let s1 = count_append passes roots (place ∷ over ∷ []) in
         let s2 = one_more place b (over ∷ []) in
-        let r1 = count_append passes (0 ∷ (roots ++ front)) own in
-        let r2 = one_more 0 b (roots ++ front) in
+        let r1 = count_append passes named (place ∷ (back ++ (over ∷ []))) in
+        let r2 = ap (λ (xs : List ℕ). count_in xs b) is ∙ one_more 0 b (roots ++ front) in
         let r3 = count_append passes roots front in
         let r4 = one_more place b (back ++ (over ∷ [])) in
         let r5 = count_append passes back (over ∷ []) in

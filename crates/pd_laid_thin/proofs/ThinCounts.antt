@@ -29,7 +29,7 @@ module _ (w : ThinShape) (n : ℕ) (few : meta_map_number 8 n (meta_map_at w) (p
   unfolding pool_blocks pool_named meta_map_blocks
   references_count b =
       let roots = mapping_root w ∷ tree_root 24 (details_at w) (details_items w.devices) ∷ tree_root 16 (index_at w) (data_index w) ∷ tree_root 4 (overflow_at w) (data_overflow w) ∷ [] in
-      references_are (thin_super_block (pool_fields w n)) (super_edges w n) (pool_parts w) roots 8 n (meta_map_at w) b few refl
+      references_are (thin_super_block (pool_fields w n)) (super_edges w n) (pool_parts w) roots (pool_named w) 8 n (meta_map_at w) b refl few refl
 
 data-append : (xs ys : List LaidBlock) → data_named_by (xs ++ ys) ≡ data_named_by xs ++ data_named_by ys
 unfolding data_named_by

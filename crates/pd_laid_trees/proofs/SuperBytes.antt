@@ -21,7 +21,7 @@ bytes_both xs ys front back = record {
   ];
 }
 
-bytes_put_bytes : (b : List ℕ) (o : ℕ) (bytes : List ℕ) → AreBytes b → AreBytes bytes → AreBytes (put_bytes b o bytes)
+pub bytes_put_bytes : (b : List ℕ) (o : ℕ) (bytes : List ℕ) → AreBytes b → AreBytes bytes → AreBytes (put_bytes b o bytes)
 unfolding put_bytes
 bytes_put_bytes b o bytes whole small =
     bytes_both (take o b) (bytes ++ drop (o + length bytes) b)

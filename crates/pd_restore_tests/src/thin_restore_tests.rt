@@ -5,6 +5,7 @@ ghost use Rattle.std.specs.Prelude.{◌≤◌};
 use pd_bitmap::{new_bitmap, seal_bitmap, set_two_bits};
 use pd_image::{MemDevice, Pick};
 use pd_kinds::{BLOCK_SIZE, Block};
+use pd_samples::pool::{empty_pool, pool_of_one_mapping};
 use pd_samples::runs::{Failing, NOTHING_FAILS, Ran, blocks_after_crash, blocks_of, restore, run};
 use std::alloc::{AllocError, Global};
 use std::test::Fail;
@@ -194,6 +195,27 @@ fn restores_come_to_their_status(rt: HostRuntime) -> Result<(), Fail> {
         let image = blocks_of(rt.alloc(), &restored.output)?;
         assert!(rt; left_of(image.as_slice()) == leaves, "{text}");
     }
+    Ok(())
+}
+
+#[test]
+fn restored_pools_are_those_put_together_by_hand(rt: HostRuntime) -> Result<(), Fail> {
+    let empty = restore(
+        rt.alloc(),
+        EMPTY.as_bytes(),
+        &[Block::zeros(); 8],
+        NOTHING_FAILS,
+    )?;
+    let one = restore(
+        rt.alloc(),
+        ONE.as_bytes(),
+        &[Block::zeros(); 16],
+        NOTHING_FAILS,
+    )?;
+    let found = blocks_of(rt.alloc(), &empty.output)?;
+    assert!(rt; found.as_slice() == empty_pool().as_slice());
+    let found = blocks_of(rt.alloc(), &one.output)?;
+    assert!(rt; found.as_slice() == pool_of_one_mapping().as_slice());
     Ok(())
 }
 

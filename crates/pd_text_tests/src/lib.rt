@@ -1,7 +1,13 @@
-//! Tests of lines and texts: refused texts in pieces, hostile ones, the text of a real pool, and a small copy of a text that
-//! is proved from the contracts alone.
+//! Tests of lines and texts: refused texts in pieces, hostile ones, the texts of a real pool, cache and era target, and a small
+//! copy of a text that is proved from the contracts alone.
 #![tactic(auto)]
 
+#[cfg(test)]
+mod cache_text_tests;
+#[cfg(test)]
+mod era_text_tests;
+#[cfg(test)]
+mod objects;
 pub mod small_copy;
 #[cfg(test)]
 mod text_tests;

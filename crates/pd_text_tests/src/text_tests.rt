@@ -1,9 +1,9 @@
 //! Lines, and the texts of pools: what they give, where they are refused, and that they are printed again.
 
-ghost use Rattle.std.specs.Prelude.{◌≡◌, ◌≤◌, IfOk};
-ghost use Rattle.pd_image.specs.MemSink.{mem_sink_state};
+ghost use Rattle.std.specs.Prelude.{◌≡◌, ◌≤◌};
 ghost use Rattle.pd_image.specs.MemSource.{mem_source_state};
 
+use crate::objects::{PIECES, sink_of, source_of};
 use crate::small_copy::copy;
 use crate::thin_pool_text::thin_pool_text;
 use pd_grammar::TextCause;
@@ -15,9 +15,6 @@ use pd_texts::{
 };
 use pd_value::Details;
 use std::test::Fail;
-
-/// How the texts are cut.
-const PIECES: [usize; 3] = [1, 7, 4096];
 
 /// The pool with one mapping.
 fn one_mapping() -> &'static str {
@@ -184,25 +181,6 @@ fn refusal_of(reader: &mut ThinText, source: &mut MemSource) -> Result<(), ReadF
         }
     }
     Ok(())
-}
-
-/// A source of this text, of which so many bytes come at a time.
-fn source_of(rt: &HostRuntime, text: &[u8], piece: usize) -> Result<MemSource, Fail>
-    requires { 1 ≤ piece }
-    ensures { IfOk result (λ source. (mem_source_state source).access ≡ 1) }
-{
-    let mut source = MemSource::of(rt.alloc(), text, piece)?;
-    source.attach("pool.txt")?;
-    Ok(source)
-}
-
-/// A sink that is attached.
-fn sink_of(rt: &HostRuntime) -> Result<MemSink, Fail>
-    ensures { IfOk result (λ sink. (mem_sink_state sink).access ≡ 1) }
-{
-    let mut sink = MemSink::new(rt.alloc());
-    sink.attach(None)?;
-    Ok(sink)
 }
 
 /// What a text of which so many bytes come at a time is refused for.

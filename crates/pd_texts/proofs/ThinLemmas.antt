@@ -4,10 +4,17 @@ use Rattle.std.specs.List.{flat_map}
 use Rattle.std.proofs.lemmas.Grind.{flat_map-append}
 use Rattle.pd_kinds.specs.Meaning.{ThinPool, ThinDevice}
 use Rattle.pd_kinds.specs.declared.kind.Kind.TheVariants.{Thin}
-use Rattle.pd_grammar.specs.Texts.{text_of_lines}
-use Rattle.pd_spells.specs.ThinText.{end_line, pool_line, device_line, map_line, Run, head_of, thin, joined_part, lines_of_part, text_of_pool}
+use Rattle.pd_grammar.specs.Texts.{reading, text_of_lines, whole}
+use Rattle.pd_grammar.proofs.GrammarLemmas.{is_reader}
+use Rattle.pd_spells.specs.ThinText.{Line, end_line, pool_line, device_line, map_line, Run, head_of, thin, joined_part, lines_of_part, text_of_pool}
 use Rattle.pd_texts.specs.Printed.{text_of_line, first_text, end_text}
+use Rattle.pd_spells.proofs.ThinRead.{FitsLine, Placed, thin_grammar}
 use Rattle.pd_texts.specs.ThinPrinted.{runs_text, device_text}
+use Rattle.pd_texts.proofs.LawLemmas as any
+
+-- a text of which no line is refused is that of its lines
+pub whole_bytes : (text : List ℕ) (lines : List Line) → reading thin text ≡ whole lines → text ≡ text_of_lines thin lines
+whole_bytes = any.whole_bytes thin (is_reader thin FitsLine Placed thin_grammar)
 
 -- the lines of runs, of a device and of devices
 runs_lines : (runs : List Run) → text_of_lines thin (map map_line runs) ≡ runs_text runs

@@ -1,11 +1,19 @@
 -- What lines of a pool's text that were read say and mean.
-use Rattle.std.proofs.Common.{◌≡◌, ℕ, ◌+◌, ◌^◌, ◌≤◌, ◌<◌, false, not, ◌&&◌, ltb, leb, List, [], ◌∷◌, length, arith}
+use Rattle.std.proofs.Common.{◌≡◌, ℕ, ◌+◌, ◌^◌, ◌≤◌, ◌<◌, true, false, not, ◌&&◌, ltb, leb, List, [], ◌∷◌, length, arith}
 use Rattle.std.proofs.lemmas.Bool.Decides.{nat_tests}
+use Rattle.pd_kinds.specs.Meaning.{ThinPool}
+use Rattle.pd_grammar.specs.Texts.{has_ended}
 use Rattle.pd_grammar.proofs.GrammarLemmas.{Passes, is_read}
-use Rattle.pd_spells.specs.ThinText.{Line, pool_line, device_line, map_line, end_line, Head, Details, Run, thin, thin_tests, data_blocks_of, least_id, run_end, unmapped, has_number_out_of_range, is_out_of_order, is_mapped_otherwise}
+use Rattle.pd_spells.specs.ThinText.{Line, pool_line, device_line, map_line, end_line, Head, Details, Run, thin, thin_tests, data_blocks_of, least_id, run_end, unmapped, has_number_out_of_range, is_out_of_order, is_mapped_otherwise, MeansPool}
 use Rattle.pd_spells.proofs.ThinRead.{FitsLine, Placed, thin_grammar}
-use Rattle.pd_texts.specs.Reader.{IsReadAfter}
+use Rattle.pd_spells.proofs.ThinLaws.{thin_language}
+use Rattle.pd_texts.specs.Reader.{IsReadAfter, AreReadSoFar, in_order}
 use Rattle.pd_texts.specs.ThinNext.{IsPoolLine, IsDeviceLine, IsMapLine, IsEndLine}
+use Rattle.pd_texts.proofs.LawLemmas as any
+
+-- lines that were read up to the last one mean a pool
+pub read_lines_mean : (lines : List Line) → AreReadSoFar thin lines → has_ended thin lines ≡ true → (m : ThinPool) × MeansPool (in_order lines []) m
+read_lines_mean = any.read_lines_mean thin MeansPool FitsLine Placed thin_language
 
 -- the tests that a line has passed
 record HasPassed (before : List Line) (line : Line) : Type 0 where

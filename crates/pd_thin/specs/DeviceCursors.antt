@@ -1,5 +1,5 @@
 -- What is left of a mapping tree and the details tree beside it.
-use Rattle.std.specs.Prelude.{ℕ, ◌+◌, List, length}
+use Rattle.std.specs.Prelude.{◌≡◌, ℕ, ◌+◌, List, length, None}
 use Rattle.pd_thin.specs.declared.turns.DeviceCursors.{DeviceCursors}
 use Rattle.pd_thin.specs.Ahead.{ahead_nodes, ahead_number}
 
@@ -10,3 +10,8 @@ cursors_reads image cursors = length (ahead_nodes 8 image cursors.tops) + length
 -- a number that falls with each turn
 abbrev pub cursors_number : DeviceCursors → ℕ
 cursors_number cursors = ahead_number 8 cursors.tops + ahead_number 24 cursors.details
+
+-- no entry of either tree is at hand
+pub record HaveNoEntry (cursors : DeviceCursors) : Type 0 where
+  pub tops : cursors.tops.first ≡ None
+  pub details : cursors.details.first ≡ None

@@ -14,7 +14,7 @@ pub(crate) struct Ahead<V> {
 }
 
 impl<V: Value> Ahead<V> {
-    ghost use Rattle.std.specs.Prelude.{◌≡◌, ℕ, ◌+◌, ◌<◌, ◌≤◌, ◌++◌, [], List, length, IsSome, IfNone, IfSome, OnOk};
+    ghost use Rattle.std.specs.Prelude.{◌≡◌, ℕ, ◌+◌, ◌<◌, ◌≤◌, ◌++◌, [], List, length, IsSome, IfNone, IfSome, IfOk, OnOk};
     ghost use Rattle.std.specs.Option.{option_to_list};
     ghost use Rattle.pd_kinds.specs.Objects.{DeviceState, CountsFault};
     ghost use Rattle.pd_image.specs.Device.{IsAttached, OnlyReads};
@@ -22,7 +22,9 @@ impl<V: Value> Ahead<V> {
     ghost use Rattle.pd_thin.specs.Ahead.{ahead_items, ahead_nodes, ahead_number, ahead_room};
 
     /// A cursor that has no tree yet. It takes all memory that it needs; want of it is the only error.
-    pub(crate) fn new(alloc: Global) -> Result<Ahead<V>, AllocError> {
+    pub(crate) fn new(alloc: Global) -> Result<Ahead<V>, AllocError>
+        ensures { IfOk result (λ ahead. ahead.first ≡ None) }
+    {
         Ok(Ahead {
             cursor: Cursor::start(alloc, 0)?,
             first: None,

@@ -8,7 +8,7 @@ ghost use Rattle.pd_graph.specs.Audit.{blocks_of, note_at, KeepsButRules};
 ghost use Rattle.pd_tree.specs.Items.{root_of};
 ghost use Rattle.pd_whole.specs.Charges.{Charges};
 ghost use Rattle.pd_thin.specs.Ahead.{ahead_items, ahead_nodes, ahead_number, ahead_room};
-ghost use Rattle.pd_thin.specs.DeviceCursors.{cursors_number, cursors_reads};
+ghost use Rattle.pd_thin.specs.DeviceCursors.{HaveNoEntry, cursors_number, cursors_reads};
 ghost use Rattle.pd_thin.specs.Turns.{details_of, firsts, found_same, mapped_of, mapped_test, turn_of, IsLeft, IsOnWay};
 
 use crate::ahead::Ahead;
@@ -63,7 +63,9 @@ pub struct DeviceCursors {
 impl DeviceCursors {
     /// Both cursors, with no tree yet: they take all memory that they need, about 530 KiB. Want of it is the only
     /// error.
-    pub fn new(alloc: Global) -> Result<DeviceCursors, AllocError> {
+    pub fn new(alloc: Global) -> Result<DeviceCursors, AllocError>
+        ensures { IfOk result HaveNoEntry }
+    {
         Ok(DeviceCursors {
             tops: Ahead::new(alloc)?,
             details: Ahead::new(alloc)?,

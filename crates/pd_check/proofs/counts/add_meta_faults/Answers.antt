@@ -7,6 +7,11 @@ pub compare_meta-requires-clause-number : goal.compare_meta-requires-clause-numb
 compare_meta-requires-clause-number g c =
     ap (λ (m : SmRoot). m.blocks) c.meta_map-root.ensures ∙ (map_number g.M.Metadata.kind c.args.first.now.0 ∙ sym c.requires.number)
 
+pub compare_meta-requires-clause-room : goal.compare_meta-requires-clause-room
+compare_meta-requires-clause-room g c =
+    let e = ap (λ (m : SmRoot). m.blocks) c.meta_map-root.ensures ∙ map_number g.M.Metadata.kind c.args.first.now.0 in
+    let room = c.requires.room in omega (arith, e, room)
+
 pub compare_meta-requires-clause-few : goal.compare_meta-requires-clause-few
 compare_meta-requires-clause-few g c =
     let e = ap (λ (m : SmRoot). m.blocks) c.meta_map-root.ensures ∙ map_number g.M.Metadata.kind c.args.first.now.0 in
@@ -24,6 +29,5 @@ returns-then-inside-clause-added g c = on_ok c.compare_meta.result
 pub returns-then-inside-clause-total : goal.returns-then-inside-clause-total
 returns-then-inside-clause-total g c =
     let e = ap (λ (m : SmRoot). m.blocks) c.meta_map-root.ensures ∙ map_number g.M.Metadata.kind c.args.first.now.0 in
-    let none = c.requires.none in
     let few = c.compare_meta.ensures.total in
-    omega (arith, e, none, few)
+    omega (arith, e, few)

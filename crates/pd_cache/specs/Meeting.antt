@@ -1,0 +1,65 @@
+-- What is known of the blocks of a mapping array that were met, and what is left of them.
+use Rattle.std.specs.Prelude.{◌≡◌, ℕ, ◌<◌, ◌≤◌, ◌==◌, ◌||◌, nat_lt, Bool, true, false, List, [], ◌++◌, length, map, None, Some, is_some}
+use Rattle.std.specs.List.{count_by}
+use Rattle.pd_kinds.specs.Graph.{block_at}
+use Rattle.pd_kinds.specs.Whole.{has_repeat}
+use Rattle.pd_value.specs.declared.thin.Root.{Root}
+use Rattle.pd_graph.specs.declared.audit.Audit.{Audit}
+use Rattle.pd_graph.specs.Audit.{blocks_of, roles_at}
+use Rattle.pd_graph.specs.Roles.{has_bit}
+use Rattle.pd_tree.specs.declared.cursor.Cursor.{Cursor}
+use Rattle.pd_tree.specs.Cursor.{cursor_items}
+use Rattle.pd_tree.specs.Items.{root_of}
+use Rattle.pd_arrays.specs.Reads.{number_where}
+use Rattle.pd_cache.specs.declared.origins.Origins.{Origins}
+use Rattle.pd_cache.specs.Origins.{is_again, met_of, places_of, seen_at}
+use Rattle.pd_cache.specs.Words.{block_origins, origins_in}
+
+-- how often a number comes
+abbrev pub count_of : ℕ → List ℕ → ℕ
+count_of x xs = count_by (λ y. y == x) xs
+
+-- a block that was met before: its origins are among those of the blocks, and whether it has any
+pub record IsSeen (image : List (List ℕ)) (blocks : List ℕ) (b : ℕ) (valid : Bool) : Type 0 where
+  pub among : (x : ℕ) → count_of x (block_origins (block_at image b)) ≤ count_of x (origins_in image blocks)
+  pub some : valid ≡ nat_lt 0 (length (block_origins (block_at image b)))
+
+-- these blocks were met, one after another: an origin came twice exactly where a block with a valid word was met again
+-- or two origins that were kept are equal, and each origin was kept
+pub record AreMet (image : List (List ℕ)) (blocks : List ℕ) (origins : Origins) : Type 0 where
+  pub repeats : has_repeat (origins_in image blocks) ≡ (is_again origins || has_repeat (met_of origins))
+  pub kept : (x : ℕ) → 1 ≤ count_of x (origins_in image blocks) → 1 ≤ count_of x (met_of origins)
+  pub only : (x : ℕ) → count_of x (met_of origins) ≤ count_of x (origins_in image blocks)
+  pub seen : (b : ℕ) (valid : Bool) → seen_at origins b ≡ Some valid → IsSeen image blocks b valid
+
+-- no block was met
+pub record IsFresh (origins : Origins) : Type 0 where
+  pub met : met_of origins ≡ []
+  pub seen : (b : ℕ) → seen_at origins b ≡ None
+  pub again : is_again origins ≡ false
+
+-- some of the blocks were met, and these are left
+pub record IsPartMet (image : List (List ℕ)) (all left : List ℕ) (origins : Origins) : Type 0 where
+  pub blocks : List ℕ
+  pub parts : all ≡ blocks ++ left
+  pub met : AreMet image blocks origins
+
+-- a block that the walk met as one of the mapping array, in role 2
+pub record IsMapBlock (audit : Audit) (b : ℕ) : Type 0 where
+  pub within : b < blocks_of audit
+  pub met : has_bit (roles_at audit b) 2 ≡ true
+
+-- only such blocks were met
+pub record AreMapBlocks (audit : Audit) (origins : Origins) : Type 0 where
+  pub each : (b : ℕ) → is_some (seen_at origins b) ≡ true → has_bit (roles_at audit b) 2 ≡ true
+
+-- how many were
+abbrev pub seen_number : Origins → ℕ
+seen_number origins = number_where (λ b. is_some (seen_at origins b)) (places_of origins)
+
+-- the blocks that are left
+abbrev pub blocks_named : List (ℕ × Root) → List ℕ
+blocks_named items = map (λ (item : ℕ × Root). item.1.0) items
+
+abbrev pub blocks_left : List (List ℕ) → Cursor Root → List ℕ
+blocks_left image entries = blocks_named (cursor_items 8 root_of image entries)

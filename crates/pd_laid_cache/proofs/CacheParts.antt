@@ -1,0 +1,295 @@
+-- The parts of a laid cache fit among one another.
+use Rattle.std.proofs.Common.{◌≡◌, ℕ, ◌+◌, ◌^◌, ◌<◌, ◌≤◌, true, List, [], ◌∷◌, ◌++◌, length, refl, ◌∙◌, ap, arith}
+use Rattle.std.specs.List.{AllByRecursion}
+use Rattle.std.proofs.lemmas.List.{length-append}
+use Rattle.pd_kinds.specs.Edge.{Edge, edge_of, optional_edge}
+use Rattle.pd_kinds.specs.CacheFormat.{cache_layout, cache_super_block, cache_super_edges, has_dirty_bits}
+use Rattle.pd_kinds.specs.Graph.{Graph}
+use Rattle.pd_kinds.specs.Lawful.{IsLawful}
+use Rattle.pd_kinds.specs.Layout.{array, bitmap, graph_of, index, plain_tree, tree_to}
+use Rattle.pd_kinds.specs.Meaning.{CacheMeaning}
+use Rattle.pd_laws.proofs.AllLemmas.{all_append, all_from}
+use Rattle.pd_laws.proofs.CacheTable.{cache_table}
+use Rattle.pd_spells.specs.Lawful.{IsLawfulCache}
+use Rattle.pd_laid.specs.Array.{array_root}
+use Rattle.pd_laid.specs.Laid.{IsLaid, LaidBlock, laid_number, named_by, tree_of}
+use Rattle.pd_laid.specs.LaidCache.{cache_laid_fields, cache_named, cache_parts, dirty_at, dirty_blocks, dirty_root, dirty_words, discard_blocks, discard_root, discards_at, has_hints, hint_blocks, hint_root, hint_words, hints_at, laid_cache, mapping_blocks, mapping_root, mapping_words, meta_map_at, meta_map_blocks}
+use Rattle.pd_laid.specs.Map.{meta_overflow_root}
+use Rattle.pd_laid_graph.specs.LaidOut.{AllFrom, IsFitting, IsInPlace, IsNamed, LeadsBelow, laid_super}
+use Rattle.pd_laid_graph.proofs.FitLemmas.{few_named, named_lower}
+use Rattle.pd_laid_graph.proofs.FromLemmas.{from_back, from_both, from_front}
+use Rattle.pd_laid_graph.proofs.ListLemmas.{all_back, all_front}
+use Rattle.pd_laid_graph.proofs.PlaceLemmas.{laid_in_place}
+use Rattle.pd_laid_trees.specs.Items.{IsTreeSeen}
+use Rattle.pd_laid_trees.proofs.Names.{root_leads}
+use Rattle.pd_laid_trees.proofs.Trees.{tree_seen}
+use Rattle.pd_laid_maps.specs.MetaMap.{IsMetaMapSeen}
+use Rattle.pd_laid_maps.proofs.Formats.{leads_more, no_items}
+use Rattle.pd_laid_maps.proofs.MetaMap.{map_seen}
+use Rattle.pd_laid_arrays.specs.ArraySeen.{IsArraySeen}
+use Rattle.pd_laid_arrays.proofs.Arrays.{array_seen}
+use Rattle.pd_laid_cache.proofs.Optional.{MayBeSeen, all_if, below_if, edge_if, length-one_if, may_see, one_if, root_if}
+use Rattle.pd_laid_cache.proofs.CacheWords.{dirty_words_fit, hint_words_fit, mapping_words_fit}
+
+-- the edges of the superblock, of which two arrays may lack
+abbrev pub hint_edges : CacheMeaning → ℕ → List Edge
+hint_edges m version = one_if (has_hints m) (edge_of 3 (array_root 4 (hints_at m version) (hint_words m)))
+
+abbrev pub dirty_edges : CacheMeaning → ℕ → List Edge
+dirty_edges m version = one_if (has_dirty_bits version) (edge_of 10 (array_root 8 (dirty_at m version) (dirty_words m)))
+
+abbrev pub behind_hints : CacheMeaning → ℕ → ℕ → List Edge
+behind_hints m version n =
+    edge_of 5 (discard_root m version)
+    ∷ edge_of 7 (meta_map_at m version)
+    ∷ edge_of 9 (meta_overflow_root n (meta_map_at m version) (cache_named m version))
+    ∷ dirty_edges m version
+
+abbrev pub super_edges : CacheMeaning → ℕ → ℕ → List Edge
+super_edges m version n = edge_of 1 (mapping_root m version) ∷ (hint_edges m version ++ behind_hints m version n)
+
+-- all that is laid, in its places, the superblock first
+unfoldable pub cache_all : CacheMeaning → ℕ → ℕ → List LaidBlock
+cache_all m version n = laid_super (cache_super_block (cache_laid_fields m version n)) (super_edges m version n) ∷ (cache_parts m version ++ meta_map_blocks m version n)
+
+super_first : (P : ℕ → LaidBlock → Type 0) (m : CacheMeaning) (version n : ℕ) → AllFrom P 0 (cache_all m version n)
+    → P 0 (laid_super (cache_super_block (cache_laid_fields m version n)) (super_edges m version n)) × AllFrom P 1 (cache_parts m version ++ meta_map_blocks m version n)
+unfolding cache_all
+super_first P m version n all = all
+
+pub cache_in_place : (m : CacheMeaning) (version n : ℕ) (base image : List (List ℕ)) → IsLaid (laid_cache m version n) base image
+    → AllFrom (IsInPlace image (cache_all m version n)) 0 (cache_all m version n)
+unfolding laid_cache cache_all
+cache_in_place m version n base image is = laid_in_place (laid_cache m version n) (super_edges m version n) base image is
+
+pub parts_end : (m : CacheMeaning) (version : ℕ) → 1 + length (cache_parts m version) ≡ meta_map_at m version
+unfolding cache_parts
+parts_end m version =
+    let behind_dirty = dirty_blocks m version ++ discard_blocks m version in
+    omega (arith, length-append (mapping_blocks m version) (hint_blocks m version ++ behind_dirty), length-append (hint_blocks m version) behind_dirty, length-append (dirty_blocks m version) (discard_blocks m version))
+
+pub cache_number : (m : CacheMeaning) (version n : ℕ) → laid_number (laid_cache m version n) ≡ meta_map_at m version + length (meta_map_blocks m version n)
+unfolding laid_cache
+cache_number m version n = omega (arith, parts_end m version, length-append (cache_parts m version) (meta_map_blocks m version n))
+
+-- the roles
+module _ (n : ℕ) where
+  mapping_role : cache_layout n 1 ≡ tree_to 8 2 (λ v. v)
+  unfolding cache_layout
+  mapping_role = refl
+
+  mapping_words_role : cache_layout n 2 ≡ array 8
+  unfolding cache_layout
+  mapping_words_role = refl
+
+  hint_role : cache_layout n 3 ≡ tree_to 8 4 (λ v. v)
+  unfolding cache_layout
+  hint_role = refl
+
+  hint_words_role : cache_layout n 4 ≡ array 4
+  unfolding cache_layout
+  hint_words_role = refl
+
+  discard_role : cache_layout n 5 ≡ tree_to 8 6 (λ v. v)
+  unfolding cache_layout
+  discard_role = refl
+
+  index_role : cache_layout n 7 ≡ index 8
+  unfolding cache_layout
+  index_role = refl
+
+  bitmap_role : cache_layout n 8 ≡ bitmap
+  unfolding cache_layout
+  bitmap_role = refl
+
+  overflow_role : cache_layout n 9 ≡ plain_tree 4
+  unfolding cache_layout
+  overflow_role = refl
+
+  dirty_role : cache_layout n 10 ≡ tree_to 8 11 (λ v. v)
+  unfolding cache_layout
+  dirty_role = refl
+
+  dirty_words_role : cache_layout n 11 ≡ array 8
+  unfolding cache_layout
+  dirty_words_role = refl
+
+module _ (m : CacheMeaning) (version n : ℕ) (image : List (List ℕ)) (few : n ≤ 4161600) (lawful : IsLawfulCache m)
+    (room : meta_map_at m version + length (meta_map_blocks m version n) ≤ n) (stand : AllFrom (IsInPlace image (cache_all m version n)) 0 (cache_all m version n)) where
+  abbrev this : Graph
+  this = graph_of 12 n 0 (cache_layout n)
+
+  abbrev blocks : List LaidBlock
+  blocks = cache_all m version n
+
+  abbrev Placed : ℕ → LaidBlock → Type 0
+  Placed q x = IsInPlace image blocks q x
+
+  abbrev Named : Edge → Type 0
+  Named edge = IsNamed blocks edge.block
+
+  within : meta_map_at m version ≤ n
+  within = omega arith
+
+  pub lawful_graph : IsLawful (graph_of 12 n 0 (cache_layout n))
+  lawful_graph = cache_table n 0 (omega arith) few
+
+  pub super_stands : IsInPlace image (cache_all m version n) 0 (laid_super (cache_super_block (cache_laid_fields m version n)) (super_edges m version n))
+  super_stands = (super_first Placed m version n stand).0
+
+  -- where each part stands
+  parts_stand : AllFrom Placed 1 (cache_parts m version)
+  parts_stand = from_front Placed 1 (cache_parts m version) (meta_map_blocks m version n) (super_first Placed m version n stand).1
+
+  meta_stands : AllFrom Placed (meta_map_at m version) (meta_map_blocks m version n)
+  meta_stands =
+      let e = parts_end m version in
+      rw e at (from_back Placed 1 (cache_parts m version) (meta_map_blocks m version n) (super_first Placed m version n stand).1)
+
+  abbrev behind_mapping : List LaidBlock
+  behind_mapping = hint_blocks m version ++ (dirty_blocks m version ++ discard_blocks m version)
+
+  mapping_stands : AllFrom Placed 1 (mapping_blocks m version)
+  unfolding cache_parts
+  mapping_stands = from_front Placed 1 (mapping_blocks m version) behind_mapping parts_stand
+
+  behind_stand : AllFrom Placed (hints_at m version) (hint_blocks m version ++ (dirty_blocks m version ++ discard_blocks m version))
+  unfolding cache_parts
+  behind_stand = from_back Placed 1 (mapping_blocks m version) behind_mapping parts_stand
+
+  hints_stand : AllFrom Placed (hints_at m version) (hint_blocks m version)
+  hints_stand = from_front Placed (hints_at m version) (hint_blocks m version) (dirty_blocks m version ++ discard_blocks m version) behind_stand
+
+  last_stand : AllFrom Placed (dirty_at m version) (dirty_blocks m version ++ discard_blocks m version)
+  last_stand = from_back Placed (hints_at m version) (hint_blocks m version) (dirty_blocks m version ++ discard_blocks m version) behind_stand
+
+  dirty_stand : AllFrom Placed (dirty_at m version) (dirty_blocks m version)
+  dirty_stand = from_front Placed (dirty_at m version) (dirty_blocks m version) (discard_blocks m version) last_stand
+
+  discards_stand : AllFrom Placed (discards_at m version) (discard_blocks m version)
+  discards_stand = from_back Placed (dirty_at m version) (dirty_blocks m version) (discard_blocks m version) last_stand
+
+  -- what the superblock names is named
+  hints_named : AllByRecursion Named (hint_edges m version)
+  hints_named = all_front Named (hint_edges m version) (behind_hints m version n) super_stands.names.1
+
+  rest_named : AllByRecursion Named (behind_hints m version n)
+  rest_named = all_back Named (hint_edges m version) (behind_hints m version n) super_stands.names.1
+
+  -- each part as the graph sees it
+  pub mapping_is : IsArraySeen (graph_of 12 n 0 (cache_layout n)) image (cache_all m version n) (meta_map_at m version) 1 8 1 (mapping_words m version)
+  unfolding mapping_blocks
+  mapping_is =
+      array_seen 12 n 0 (cache_layout n) image blocks (meta_map_at m version) 1 8 1 (mapping_words m version) (mapping_role n) (mapping_words_role n) (omega arith) (omega arith) (omega arith) (omega arith)
+      few within (omega arith) (omega arith) (mapping_words_fit m lawful version) mapping_stands super_stands.names.0
+
+  pub hints_are : MayBeSeen (graph_of 12 n 0 (cache_layout n)) image (cache_all m version n) (meta_map_at m version) (has_hints m) 3 4 (hints_at m version) (hint_words m)
+  unfolding hint_blocks
+  hints_are =
+      may_see 12 n 0 (cache_layout n) image blocks (meta_map_at m version) 3 4 (hints_at m version) (hint_words m) (hint_role n) (hint_words_role n) (omega arith) (omega arith) (omega arith) (omega arith)
+      few within (omega arith) (hint_words_fit m lawful) (has_hints m) (omega arith) hints_stand hints_named
+
+  pub dirty_is : MayBeSeen (graph_of 12 n 0 (cache_layout n)) image (cache_all m version n) (meta_map_at m version) (has_dirty_bits version) 10 8 (dirty_at m version) (dirty_words m)
+  unfolding dirty_blocks
+  dirty_is =
+      may_see 12 n 0 (cache_layout n) image blocks (meta_map_at m version) 10 8 (dirty_at m version) (dirty_words m) (dirty_role n) (dirty_words_role n) (omega arith) (omega arith) (omega arith) (omega arith)
+      few within (omega arith) (dirty_words_fit m lawful) (has_dirty_bits version) (omega arith) dirty_stand rest_named.1.1.1
+
+  pub discards_are : IsTreeSeen (graph_of 12 n 0 (cache_layout n)) image (cache_all m version n) (meta_map_at m version) 5 (tree_of (tree_to 8 6 (λ v. v))) (discards_at m version) []
+  unfolding discard_blocks
+  discards_are =
+      tree_seen 12 n 0 (cache_layout n) image blocks (meta_map_at m version) 5 (tree_of (tree_to 8 6 (λ v. v))) (discard_role n) (omega arith) (omega arith) (omega arith) few within
+      (discards_at m version) [] (omega arith) (omega arith) (no_items blocks (meta_map_at m version) (tree_of (tree_to 8 6 (λ v. v)))) discards_stand rest_named.0
+
+  pub discards_lead : LeadsBelow (cache_all m version n) (meta_map_at m version) (edge_of 5 (discard_root m version))
+  unfolding discard_blocks
+  discards_lead = root_leads image blocks (meta_map_at m version) 5 (tree_of (tree_to 8 6 (λ v. v))) (discards_at m version) [] (omega arith) (omega arith) (omega arith) discards_stand
+
+  pub parts_fitting : AllFrom (IsFitting (graph_of 12 n 0 (cache_layout n)) image (cache_all m version n) (meta_map_at m version)) 1 (cache_parts m version)
+  unfolding cache_parts mapping_blocks hint_blocks dirty_blocks discard_blocks
+  parts_fitting =
+      let fits = IsFitting this image blocks (meta_map_at m version) in
+      from_both fits 1 (mapping_blocks m version) behind_mapping mapping_is.fitting
+      (from_both fits (hints_at m version) (hint_blocks m version) (dirty_blocks m version ++ discard_blocks m version) hints_are.fitting
+      (from_both fits (dirty_at m version) (dirty_blocks m version) (discard_blocks m version) dirty_is.fitting discards_are.fitting))
+
+  -- the roots of the arrays that are there
+  pub hint_from : has_hints m ≡ true → 1 ≤ array_root 4 (hints_at m version) (hint_words m)
+  hint_from there = (hints_are.seen there).leads.from_one
+
+  pub hint_below : hint_root m version < meta_map_at m version
+  hint_below = below_if (has_hints m) (array_root 4 (hints_at m version) (hint_words m)) (meta_map_at m version) (omega arith) (λ there. (hints_are.seen there).leads.below)
+
+  pub dirty_below : dirty_root m version < meta_map_at m version
+  dirty_below = below_if (has_dirty_bits version) (array_root 8 (dirty_at m version) (dirty_words m)) (meta_map_at m version) (omega arith) (λ there. (dirty_is.seen there).leads.below)
+
+  abbrev hint_roots : List ℕ
+  hint_roots = one_if (has_hints m) (hint_root m version)
+
+  abbrev dirty_roots : List ℕ
+  dirty_roots = one_if (has_dirty_bits version) (dirty_root m version)
+
+  abbrev last_named : List ℕ
+  last_named = discard_root m version ∷ named_by (cache_parts m version)
+
+  -- what is named before the metadata map
+  named_before : AllByRecursion (λ r. r < meta_map_at m version) (cache_named m version)
+  unfolding cache_named
+  named_before =
+      let below = λ (r : ℕ). r < meta_map_at m version in (
+        omega arith,
+        (
+          mapping_is.leads.below,
+          all_append below hint_roots (dirty_roots ++ last_named) (all_if below (has_hints m) (hint_root m version) (λ there. hint_below))
+              (all_append below dirty_roots last_named (all_if below (has_dirty_bits version) (dirty_root m version) (λ there. dirty_below))
+              (discards_lead.below, named_lower this image blocks (meta_map_at m version) 1 (cache_parts m version) parts_fitting)),
+        ),
+      )
+
+  few_named_before : length (cache_named m version) < 2 ^ 32
+  unfolding cache_named
+  few_named_before =
+      omega (
+        arith,
+        few_named this image blocks (meta_map_at m version) lawful_graph 1 (cache_parts m version) parts_fitting,
+        parts_end m version,
+        length-append hint_roots (dirty_roots ++ last_named),
+        length-append dirty_roots last_named,
+        length-one_if (has_hints m) (hint_root m version),
+        length-one_if (has_dirty_bits version) (dirty_root m version),
+      )
+
+  pub meta_is : IsMetaMapSeen (graph_of 12 n 0 (cache_layout n)) image (cache_all m version n) (meta_map_at m version + length (meta_map_blocks m version n)) 7 n (meta_map_at m version) (cache_named m version)
+  unfolding meta_map_blocks
+  meta_is =
+      map_seen 12 n 0 (cache_layout n) image blocks (meta_map_at m version + length (meta_map_blocks m version n)) 7 (meta_map_at m version) (cache_named m version)
+      (index_role n) (bitmap_role n) (overflow_role n) (omega arith) (omega arith) few room (omega arith) (omega arith)
+      named_before few_named_before meta_stands rest_named.1.0 rest_named.1.1.0
+
+  pub meta_fitting : AllFrom (IsFitting (graph_of 12 n 0 (cache_layout n)) image (cache_all m version n) (meta_map_at m version + length (meta_map_blocks m version n))) (meta_map_at m version) (meta_map_blocks m version n)
+  unfolding meta_map_blocks
+  meta_fitting = meta_is.fitting
+
+  -- the edges of the superblock lead to laid blocks
+  pub super_leads : AllByRecursion (LeadsBelow (cache_all m version n) (meta_map_at m version + length (meta_map_blocks m version n))) (super_edges m version n)
+  super_leads =
+      let end = meta_map_at m version + length (meta_map_blocks m version n) in
+      let more = leads_more blocks (meta_map_at m version) end (omega arith) in
+      let all = all_from (LeadsBelow blocks (meta_map_at m version)) (LeadsBelow blocks end) more in (
+        more (edge_of 1 (mapping_root m version)) mapping_is.leads,
+        all_append (LeadsBelow blocks end) (hint_edges m version) (behind_hints m version n) (all (hint_edges m version) hints_are.leads)
+            (more (edge_of 5 (discard_root m version)) discards_lead, (meta_is.index_leads, (meta_is.overflow_leads, all (dirty_edges m version) dirty_is.leads))),
+      )
+
+  pub super_edges_are : cache_super_edges (cache_laid_fields m version n) ≡ super_edges m version n
+  unfolding cache_laid_fields
+  super_edges_are =
+      let first = edge_of 1 (mapping_root m version) in
+      let seventh = edge_of 7 (meta_map_at m version) in
+      let ninth = edge_of 9 (meta_overflow_root n (meta_map_at m version) (cache_named m version)) in
+      let told = one_if (has_dirty_bits version) (edge_of 10 (dirty_root m version)) in
+      ap (λ (hints : List Edge). first ∷ (hints ++ (optional_edge 5 (discard_root m version) ++ (seventh ∷ ninth ∷ told))))
+      (edge_if 3 (has_hints m) (array_root 4 (hints_at m version) (hint_words m)) hint_from)
+      ∙ (ap (λ (discards : List Edge). first ∷ (hint_edges m version ++ (discards ++ (seventh ∷ ninth ∷ told)))) (edge_if 5 true (discard_root m version) (λ there. discards_lead.from_one))
+      ∙ ap (λ (dirty : List Edge). first ∷ (hint_edges m version ++ (edge_of 5 (discard_root m version) ∷ seventh ∷ ninth ∷ dirty)))
+      (root_if (edge_of 10) (has_dirty_bits version) (array_root 8 (dirty_at m version) (dirty_words m))))

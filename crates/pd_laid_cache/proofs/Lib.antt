@@ -1,0 +1,7 @@
+mod Optional
+mod CacheWords
+mod CacheEntries
+mod CacheParts
+mod CacheSuper
+mod CacheCounts
+mod CacheLaw
