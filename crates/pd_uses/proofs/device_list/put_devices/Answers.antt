@@ -4,7 +4,7 @@ use Rattle.pd_uses.proofs.device_list.put_devices.Goals as goal
 
 pub returns-in-Ok-put-clause-text : goal.returns-in-Ok-put-clause-text
 returns-in-Ok-put-clause-text g c =
-    text_put (g.D.Device.state c.args.dev.now).held (rw c.new-pieces.ensures.none at c.in-Ok.ensures.lines) c.in-Ok-put.ensures.whole
+    text_put (g.D.Device.state c.args.dev.now).held tt (rw c.new-pieces.ensures.none at c.in-Ok.ensures.lines) c.in-Ok-put.ensures.whole
 
 pub returns-in-Err-put-clause-text : goal.returns-in-Err-put-clause-text
 returns-in-Err-put-clause-text g c =
