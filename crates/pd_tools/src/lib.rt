@@ -2,6 +2,7 @@
 #![tactic(auto)]
 
 mod check;
+mod clear;
 mod notes;
 mod query;
 mod refusals;
