@@ -1,5 +1,5 @@
 -- What the flag "needs check" of a thin pool is, and what clearing it leaves of a device.
-use Rattle.std.specs.Prelude.{◌≡◌, ◌≢◌, ◌⊎◌, ℕ, ◌-◌, ◌%◌, Bool, false, ◌==◌, if◌then◌else◌, List, [], ◌∷◌, IfSome}
+use Rattle.std.specs.Prelude.{◌≡◌, ◌≢◌, ◌⊎◌, ℕ, ◌-◌, ◌%◌, Bool, false, ◌==◌, if◌then◌else◌, List, [], ◌∷◌, drop, IfSome}
 use Rattle.pd_kinds.specs.declared.kind.Kind.TheVariants.{Thin}
 use Rattle.pd_kinds.specs.Field.{le, put}
 use Rattle.pd_kinds.specs.Super.{salt_of}
@@ -22,10 +22,11 @@ unfoldable pub cleared : List (List ℕ) → List (List ℕ)
 cleared [] = []
 cleared (block ∷ blocks) = if needs_check (block ∷ blocks) then cleared_super block ∷ blocks else block ∷ blocks
 
--- by no chance, the image is the old one, has the flag cleared where nothing was reported, or has no valid superblock
+-- by no chance, the image is the old one, has the flag cleared where nothing was reported, or is the old one with a
+-- block 0 that is no valid superblock
 abbrev pub IsOldOrCleared : Reported → List (List ℕ) → List (List ℕ) → List (List ℕ) → Type 0
 IsOldOrCleared report old image firsts =
-    Chance image firsts → (image ≡ old) ⊎ (((report.total ≡ 0) × (image ≡ cleared old)) ⊎ HasNoSuper image)
+    Chance image firsts → (image ≡ old) ⊎ (((report.total ≡ 0) × (image ≡ cleared old)) ⊎ (HasNoSuper image × (drop 1 image ≡ drop 1 old)))
 
 -- the device of a check that clears the flag
 pub record LeavesCleared (report : Reported) (status : ℕ) (old new : DeviceState) : Type 0 where

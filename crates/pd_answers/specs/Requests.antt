@@ -35,6 +35,7 @@ is_built (check Thin Walk false image) = true
 is_built (check Thin Order false image) = true
 is_built (check Thin Whole false image) = true
 is_built (check Thin Counts false image) = true
+is_built (check Thin Counts true image) = true
 is_built (dump Thin false file image) = true
 is_built (restore Thin version text image) = true
 is_built (rmap first end file image) = true

@@ -4,8 +4,7 @@ use Rattle.std.specs.Option.{option_map_or}
 use Rattle.std.proofs.lemmas.Bool.{true≢false, cases_Bool}
 use Rattle.pd_kinds.specs.declared.kind.Kind.{Kind}
 use Rattle.pd_kinds.specs.declared.kind.Kind.TheVariants.{Thin, Cache, Era}
-use Rattle.pd_kinds.specs.declared.kind.Stage.{Stage}
-use Rattle.pd_kinds.specs.declared.kind.Stage.TheVariants.{Super, Walk, Order, Whole, Counts}
+use Rattle.pd_kinds.specs.declared.kind.Stage.TheVariants.{Whole}
 use Rattle.pd_kinds.specs.Objects.{SinkState}
 use Rattle.pd_kinds.specs.Meaning.{thin_meaning}
 use Rattle.pd_kinds.specs.Report.{report_of}
@@ -20,21 +19,11 @@ use Rattle.pd_spells.specs.ThinNeed.{IsThinVerdict}
 use Rattle.pd_laid.specs.LaidThin.{laid_pool}
 use Rattle.pd_tools.specs.Restore.{HaveVerdicts}
 use Rattle.pd_tools.proofs.Checks.{told}
+use Rattle.pd_tools.proofs.Clears.{clearing_at_rest}
 use Rattle.pd_tools.proofs.Queries.{query_at_rest}
 use Rattle.pd_tools.proofs.Restores.{restore_at_rest}
 
--- the flag isn't built
-pub no_flag : (kind : Kind) (until : Stage) (path : List ℕ) → is_built (check kind until true path) ≡ false
-unfolding is_built
-no_flag Thin Super path = refl
-no_flag Thin Walk path = refl
-no_flag Thin Order path = refl
-no_flag Thin Whole path = refl
-no_flag Thin Counts path = refl
-no_flag Cache until path = refl
-no_flag Era until path = refl
-
--- nor are shared leaves
+-- shared leaves aren't built
 pub no_shared : (kind : Kind) (file : Option (List ℕ)) (path : List ℕ) → is_built (dump kind true file path) ≡ false
 unfolding is_built
 no_shared Thin file path = refl
@@ -62,7 +51,7 @@ at_rest (Some (check kind until false path)) before notes fresh verdicts is = (
   told before.input.held (λ image. report_of (faults kind until image)) (report_of []),
   tt,
 )
-at_rest (Some (check kind until true path)) before notes fresh verdicts is = absurd (true≢false (sym is ∙ no_flag kind until path))
+at_rest (Some (check kind until true path)) before notes fresh verdicts is = clearing_at_rest path before notes fresh.input.2
 at_rest (Some (restore Thin version file path)) before notes fresh verdicts is =
     restore_at_rest IsThinVerdict is_pool_early laid_pool file path before (record before { notes = notes }) before.source before.output fresh.output.2 verdicts fresh.output.0
 at_rest (Some (dump kind false file path)) before notes fresh verdicts is = query_at_rest kind (image_text kind) before.input.held

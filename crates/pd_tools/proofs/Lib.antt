@@ -1,5 +1,6 @@
 pub mod Answered
 pub mod Checks
+pub mod Clears
 pub mod AtRest
 pub mod Queries
 pub mod Restores

@@ -5,6 +5,7 @@ ghost use Rattle.pd_kinds.specs.Objects.{CountsFault, Appends, AppendsFront, Sin
 ghost use Rattle.pd_kinds.specs.Report.{report_of};
 ghost use Rattle.pd_kinds.specs.Stages.{faults};
 ghost use Rattle.pd_kinds.specs.Crash.{IsUntouched};
+ghost use Rattle.pd_image.specs.Device.{IsAttached};
 ghost use Rattle.pd_spells.specs.Lines.{reported_lines};
 ghost use Rattle.pd_answers.specs.Answer.{Objects, IsUsed, reading};
 ghost use Rattle.pd_answers.specs.Promises.{check};
@@ -94,16 +95,16 @@ pub fn read_report<A: Device>(
 }
 
 /// Checks what a device that is attached holds.
-fn check_attached<A: Device>(
+pub(crate) fn check_attached<A: Device>(
     alloc: Global,
     kind: Kind,
     until: Stage,
     input: &mut A,
 ) -> Result<Report, Stop>
     requires built { IsBuiltCheck kind until }
-    requires input { (A.state input.old).access ≡ 1 }
+    requires attached { IsAttached (A.state input.old) }
     ensures report { IfOk result (λ report. IfSome (A.state input.old).held (λ image. report ≡ report_of (faults kind until image))) }
-    ensures access { (A.state input.new).access ≡ 1 }
+    ensures access { (A.state input.new).access ≡ (A.state input.old).access }
     ensures path { (A.state input.new).path ≡ (A.state input.old).path }
     ensures untouched { IsUntouched (A.state input.old) (A.state input.new) }
     ensures kept { OnOk result ((A.state input.new).faults ≡ (A.state input.old).faults) }
@@ -124,7 +125,7 @@ fn check_attached<A: Device>(
 }
 
 /// Attaches the standard output, and puts the report to it.
-fn put_report<K: Sink>(report: &Report, out: &mut K) -> Result<(), Failed>
+pub(crate) fn put_report<K: Sink>(report: &Report, out: &mut K) -> Result<(), Failed>
     requires { (K.state out.old).access ≡ 0 }
     ensures whole { OnOk result (Appends (reported_lines report.now) (K.state out.old).written (K.state out.new).written) }
     ensures front { AppendsFront (reported_lines report.now) (K.state out.old).written (K.state out.new).written }

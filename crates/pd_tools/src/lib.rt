@@ -2,6 +2,7 @@
 #![tactic(auto)]
 
 mod check;
+mod clear;
 mod generate;
 mod notes;
 mod query;

@@ -10,7 +10,7 @@ ghost use Rattle.std.specs.Option.{option_copied};
 ghost use Rattle.pd_words.specs.Words.{AreNames, IsNameIfAny, request_as, words_of};
 ghost use Rattle.pd_tools.specs.Work.{Answers};
 
-use crate::check::run_check;
+use crate::clear::run_any_check;
 use crate::generate::run_generate;
 use crate::notes::{USAGE_LINE, put_line};
 use crate::query::{Query, run_query};
@@ -87,9 +87,18 @@ fn run_request<S: Source, K: Sink, E: Sink, A: Device, B: Device>(
         Request::Check {
             kind,
             until,
-            clear: _,
+            clear,
             image,
-        } => run_check(alloc, kind, until, image.word_in(words), out, notes, input),
+        } => run_any_check(
+            alloc,
+            kind,
+            until,
+            clear,
+            image.word_in(words),
+            out,
+            notes,
+            input,
+        ),
         Request::Dump {
             kind,
             image,

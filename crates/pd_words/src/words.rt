@@ -73,7 +73,7 @@ fn is_built(request: &Request) -> bool
                 Stage::Walk => !clear,
                 Stage::Order => !clear,
                 Stage::Whole => !clear,
-                Stage::Counts => !clear,
+                Stage::Counts => true,
             },
             _ => false,
         },

@@ -6,7 +6,7 @@ use Rattle.pd_kinds.specs.Objects.{SinkState}
 use Rattle.pd_answers.specs.Requests as request
 use Rattle.pd_answers.specs.Requests.{is_built}
 use Rattle.pd_answers.specs.Answer.{Objects}
-use Rattle.pd_answers.specs.Promises.{check, generate, terms_of}
+use Rattle.pd_answers.specs.Promises.{generate, terms_of}
 use Rattle.pd_answers.specs.Restores.{restore}
 use Rattle.std.specs.Option.{option_copied}
 use Rattle.pd_words.specs.Words.{word_of, words_of}
@@ -14,16 +14,14 @@ use Rattle.pd_tools.specs.declared.query.Query.{Query}
 use Rattle.pd_tools.specs.declared.query.Query.TheVariants.{Dump, ReverseMap, DeviceList}
 use Rattle.pd_tools.specs.Query.{terms_of_query}
 use Rattle.pd_tools.specs.Work.{Answers}
-use Rattle.pd_tools.proofs.AtRest.{no_flag, no_shared}
+use Rattle.pd_tools.proofs.AtRest.{no_shared}
 use Rattle.pd_tools.proofs.run.run_request.Goals as goal
 
 -- the check of these words is the one that is asked
-as_asked : (kind : Kind) (until : Stage) (clear : Bool) (path word : List ℕ) (attached : SinkState) (before after : Objects) (status : ℕ)
-    → is_built (request.check kind until clear path) ≡ true → word ≡ path
-    → Answers (check kind until word) attached before after status
+as_asked : (kind : Kind) (until : Stage) (clear : Bool) (path word : List ℕ) (attached : SinkState) (before after : Objects) (status : ℕ) → word ≡ path
+    → Answers (terms_of (Some (request.check kind until clear word))) attached before after status
     → Answers (terms_of (Some (request.check kind until clear path))) attached before after status
-as_asked kind until false path word attached before after status is same answers = rw same at answers
-as_asked kind until true path word attached before after status is same answers = absurd (true≢false (sym is ∙ no_flag kind until path))
+as_asked kind until clear path word attached before after status same answers = rw same at answers
 
 -- so with the dump
 dump_as_asked : (kind : Kind) (shared : Bool) (file given : Option (List ℕ)) (path word : List ℕ) (attached : SinkState) (before after : Objects) (status : ℕ)
@@ -36,9 +34,8 @@ dump_as_asked kind true file given path word attached before after status is fil
 pub returns-in-Check : goal.returns-in-Check
 returns-in-Check g c others =
     let words = map string_bytes c.args.words.now in
-    rw c.in-Check.is (as_asked c.in-Check.kind c.in-Check.until c.in-Check.clear (word_of words c.in-Check.image) c.word_in.result.now _ _ _ _
-    (rw c.in-Check.is at c.requires.built) c.word_in.ensures
-    (c.run_check.ensures (record others { source = g.S.Source.state c.args.source.now; output = g.B.Device.state c.args.output.now })))
+    rw c.in-Check.is (as_asked c.in-Check.kind c.in-Check.until c.in-Check.clear (word_of words c.in-Check.image) c.word_in.result.now _ _ _ _ c.word_in.ensures
+    (c.run_any_check.ensures (record others { source = g.S.Source.state c.args.source.now; output = g.B.Device.state c.args.output.now })))
 
 pub returns-in-Dump : goal.returns-in-Dump
 returns-in-Dump g c others =

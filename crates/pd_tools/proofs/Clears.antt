@@ -1,0 +1,232 @@
+-- What the work of a check that clears the flag comes to, over plain variables.
+use Rattle.std.proofs.Common.{◌≡◌, ◌≢◌, ◌⊎◌, inl, inr, ⊎_elim, ℕ, suc, ◌<◌, ◌≤◌, ◌==◌, Bool, true, false, IsTrue, if◌then◌else◌, List, [], ◌∷◌, drop, length, get_or, Option, IfSome, refl, sym, ap, subst, ◌∙◌, arith, lit≤}
+use Rattle.std.specs.Option.{option_map_or}
+use Rattle.std.proofs.lemmas.List.{ext_get_or}
+use Rattle.std.proofs.lemmas.Option.{IfSome_then, get_or_from_slice_get, slice_get-get_or}
+use Rattle.pd_kinds.specs.declared.kind.Kind.TheVariants.{Thin}
+use Rattle.pd_kinds.specs.declared.kind.Stage.TheVariants.{Counts}
+use Rattle.pd_kinds.specs.Moments.{History}
+use Rattle.pd_kinds.specs.Objects.{DeviceState, SinkState, Appends, AppendsFront, Rose}
+use Rattle.pd_kinds.specs.Report.{Reported, report_of}
+use Rattle.pd_kinds.specs.Stages.{faults}
+use Rattle.pd_kinds.specs.Crash.{LeavesOnly, HoldsSynced, IsSynced, IsUntouched}
+use Rattle.pd_kinds.proofs.AppendLemmas.{front_none, front_from_whole}
+use Rattle.pd_kinds.proofs.CrashLemmas.{and_then, stays, weaken}
+use Rattle.pd_image.specs.Device.{IsWritable, MayChange}
+use Rattle.pd_image.proofs.CrashLemmas.{at_some}
+use Rattle.pd_draft.specs.Replaced.{IsReplaced}
+use Rattle.pd_draft.proofs.DraftLemmas.{replaced_here}
+use Rattle.pd_spells.specs.Lines.{reported_lines}
+use Rattle.pd_answers.specs.Answer.{Objects, IsUsed, reading, writing}
+use Rattle.pd_answers.specs.Terms.{is_one_of, is_possible}
+use Rattle.pd_answers.specs.Flag.{IsOldOrCleared, LeavesCleared, cleared, needs_check}
+use Rattle.pd_answers.specs.Promises.{check_and_clear}
+use Rattle.pd_tools.specs.declared.stop.Stop.{Stop}
+use Rattle.pd_tools.specs.declared.stop.Stop.TheVariants.{Device, Stream, Memory}
+use Rattle.pd_tools.specs.Read.{IsUnread}
+use Rattle.pd_tools.specs.Work.{IsWork, IsFinished, IsStopped}
+use Rattle.pd_tools.proofs.Checks.{not_yet, told}
+
+abbrev Image : Type 0
+Image = List (List ℕ)
+
+-- where block 0 alone may have changed, the blocks behind it stay
+behind : (old new : Image) → MayChange 0 old new → drop 1 new ≡ drop 1 old
+behind [] [] changes = refl
+behind [] (block ∷ blocks) changes = absurd (omega (arith, changes.number))
+behind (block ∷ blocks) [] changes = absurd (omega (arith, changes.number))
+behind (block ∷ blocks) (other ∷ others) changes =
+    let number : length others ≡ length blocks = omega (arith, changes.number) in
+    ext_get_or [] others blocks number (λ i within.
+    let within' : i < length blocks = omega arith in
+    get_or_from_slice_get others i (get_or blocks i []) [] (changes.others (suc i) (λ no. absurd (omega arith)) ∙ slice_get-get_or blocks i [] within'))
+
+-- what is left where block 0 alone was being replaced
+outcome : (report : Reported) (image made left firsts : Image) → (left ≡ made → (left ≡ image) ⊎ ((report.total ≡ 0) × (left ≡ cleared image)))
+    → IsReplaced image made left firsts → IsOldOrCleared report image left firsts
+outcome report image made left firsts of_made was chance =
+    ⊎_elim (λ old. inl old)
+    (λ rest. ⊎_elim
+    (λ is. ⊎_elim (λ old. inl old) (λ both. inr (inl both)) (of_made is))
+    (λ torn. inr (inr (torn.0, behind image left torn.1)))
+    rest)
+    (was chance)
+
+module _ (report : Reported) (old new : DeviceState) (synced : IsSynced old) where
+  -- a device that was left alone
+  pub untouched_left : (status : ℕ) → status ≢ 0 → IsUntouched old new → LeavesCleared report status old new
+  untouched_left status some same = record {
+    crash = IfSome_then old.held synced (λ image s.
+        weaken (stays same.held same.history (replaced_here image image old s)) (λ left firsts. outcome report image image left firsts (λ is. inl is)));
+    done = λ zero. absurd (some zero);
+    unset = IfSome_then old.held synced (λ image s unset. same);
+    reported = λ _. same;
+    kept = λ _ _. same;
+  }
+
+  -- a device of which the flag was being cleared, after a report without a fault
+  pub cleared_left : report.total ≡ 0 → ((image : Image) → HoldsSynced image old → LeavesOnly (IsReplaced image (cleared image)) old new)
+      → IfSome old.held (λ image. needs_check image ≡ false → IsUntouched old new)
+      → (status : ℕ) → (status ≡ 0 → (image : Image) → HoldsSynced image old → HoldsSynced (cleared image) new)
+      → (status ≢ 0 → new.faults ≡ old.faults → IsUntouched old new)
+      → LeavesCleared report status old new
+  cleared_left none crash unset status done kept = record {
+    crash = IfSome_then old.held synced (λ image s.
+        weaken (crash image s) (λ left firsts. outcome report image (cleared image) left firsts (λ is. inr (none, is))));
+    done = λ zero. IfSome_then old.held synced (done zero);
+    unset = unset;
+    reported = λ some. absurd (some none);
+    kept = kept;
+  }
+
+-- what is left of a device that was attached and read before
+pub left_before : (report : Reported) (status : ℕ) (old read new : DeviceState) → IsSynced old → IsUntouched old read → read.faults ≡ old.faults
+    → LeavesCleared report status read new → LeavesCleared report status old new
+left_before report status old read new synced same faults left = record {
+  crash = IfSome_then old.held synced (λ image s.
+      and_then (stays same.held same.history (λ left firsts leaves. outcome report image image left firsts (λ is. inl is) (replaced_here image image old s left firsts leaves)))
+      (at_some read.held (λ (i : Image). LeavesOnly (IsOldOrCleared report i) read new) image (same.held ∙ s.held) left.crash));
+  done = λ zero. IfSome_then old.held synced (λ image s.
+      at_some read.held (λ (i : Image). HoldsSynced (cleared i) new) image (same.held ∙ s.held) (left.done zero));
+  unset = IfSome_then old.held synced (λ image s unset.
+      and_same (at_some read.held (λ (i : Image). needs_check i ≡ false → IsUntouched read new) image (same.held ∙ s.held) left.unset unset));
+  reported = λ some. and_same (left.reported some);
+  kept = λ some no_fault. and_same (left.kept some (no_fault ∙ sym faults));
+}
+  where
+    and_same : IsUntouched read new → IsUntouched old new
+    and_same next = record { held = next.held ∙ same.held; history = next.history ∙ same.history }
+
+-- a device that was left alone is as synced as before
+pub synced_too : (old read : DeviceState) → IsSynced old → IsUntouched old read → IsSynced read
+synced_too old read synced same =
+    subst (λ (h : Option Image). IfSome h (λ image. HoldsSynced image read)) (sym same.held)
+    (IfSome_then old.held synced (λ image s. record {
+      held = same.held ∙ s.held;
+      unsynced = ap (λ (h : History). h.unsynced) same.history ∙ s.unsynced;
+      firsts = ap (λ (h : History). h.firsts) same.history ∙ s.firsts;
+    }))
+
+-- the report of what is held, or some report
+report_in : Option Image → Reported
+report_in held = option_map_or (λ image. report_of (faults Thin Counts image)) held (report_of [])
+
+-- before anything was done
+pub clearing_at_rest : (path : List ℕ) (before : Objects) (notes : SinkState) → IsSynced before.input
+    → (report : Reported) × ((check_and_clear path).finds before (record before { notes = notes }) report)
+    × ((check_and_clear path).leaves report before (record before { notes = notes }) 6)
+unfolding report_in
+clearing_at_rest path before notes synced = (
+  report_in before.input.held,
+  told before.input.held (λ image. report_of (faults Thin Counts image)) (report_of []),
+  untouched_left (report_in before.input.held) before.input before.input synced 6 (λ e. omega arith) (record { held = refl; history = refl }),
+)
+
+-- the image was not read to a report
+pub clearing_unread : (path : List ℕ) (others : Objects) (notes out : SinkState) (input input' : DeviceState) (stop : Stop)
+    → out.access ≡ 0 → IsSynced input → IsUsed (writing path) input'.access input'.path → IsUntouched input input' → IsUnread Thin Counts input input' stop
+    → IsStopped (check_and_clear path) (record others { out = out; input = input }) (record others { out = out; notes = notes; input = input' }) stop
+unfolding report_in
+clearing_unread path others notes out input input' Stream none synced used untouched unread = absurd unread
+clearing_unread path others notes out input input' Device none synced used untouched unread = record {
+  finding = report_in input.held;
+  work = record {
+    found = told input.held (λ image. report_of (faults Thin Counts image)) (report_of []);
+    possible = refl;
+    followed = record { source = tt; out = not_yet [] out.access out.path none; input = used; output = tt; third = tt };
+    kept = record { source = refl; out = tt; input = tt; output = refl; third = refl };
+    silent = λ _. refl;
+    leaves = untouched_left (report_in input.held) input input' synced 5 (λ e. omega arith) untouched;
+  };
+  cause = inl unread;
+  front = front_none _ out.written;
+  lost = untouched_left (report_in input.held) input input' synced 6 (λ e. omega arith) untouched;
+}
+clearing_unread path others notes out input input' Memory none synced used untouched unread = record {
+  finding = report_in input.held;
+  work = record {
+    found = told input.held (λ image. report_of (faults Thin Counts image)) (report_of []);
+    possible = refl;
+    followed = record { source = tt; out = not_yet [] out.access out.path none; input = used; output = tt; third = tt };
+    kept = record { source = refl; out = tt; input = tt; output = refl; third = refl };
+    silent = λ _. refl;
+    leaves = untouched_left (report_in input.held) input input' synced 7 (λ e. omega arith) untouched;
+  };
+  cause = unread;
+  front = front_none _ out.written;
+  lost = untouched_left (report_in input.held) input input' synced 6 (λ e. omega arith) untouched;
+}
+
+-- the image was read to this report, and `out` was attached for it
+module _ (path : List ℕ) (others : Objects) (notes out out' : SinkState) (input input' : DeviceState) (report : Reported)
+    (found : IfSome input.held (λ image. report ≡ report_of (faults Thin Counts image)))
+    (out_used : IsUsed (reading []) out'.access out'.path) (writable : IsWritable input') (named : IfSome input'.path (λ told. told ≡ path)) where
+  abbrev before : Objects
+  before = record others { out = out; input = input }
+
+  abbrev after : Objects
+  after = record others { out = out'; notes = notes; input = input' }
+
+  -- what is done by then, with any status under which `out` isn't left alone
+  reported_work : (status : ℕ) → IsTrue (is_possible (check_and_clear path) status) → (IsTrue (is_one_of (7 ∷ []) status) → after.out ≡ before.out)
+      → LeavesCleared report status input input' → IsWork (check_and_clear path) report before after status
+  reported_work status possible silent leaves = record {
+    found = found;
+    possible = possible;
+    followed = record { source = tt; out = out_used; input = record { allowed = inr (inl writable); named = λ _. named }; output = tt; third = tt };
+    kept = record { source = refl; out = tt; input = tt; output = refl; third = refl };
+    silent = silent;
+    leaves = leaves;
+  }
+
+  -- the report was put, and the flag cleared where nothing was reported
+  pub clearing_done : (clean : Bool) → clean ≡ (report.total == 0) → Appends (reported_lines report) out.written out'.written → out'.access ≡ 1
+      → LeavesCleared report (if clean then 0 else 1) input input'
+      → IsFinished (check_and_clear path) before after (if clean then 0 else 1) []
+  clearing_done clean is whole attached leaves = record {
+    finding = report;
+    work = reported_work (if clean then 0 else 1) (possible clean) (loud clean) leaves;
+    low = low clean;
+    same_status = rw is refl;
+    same_line = refl;
+    out = whole;
+    open_devices = record { source = tt; input = writable; output = tt; third = tt };
+    open_out = λ _. attached;
+    read = λ _. tt;
+  }
+    where
+      possible : (clean : Bool) → IsTrue (is_possible (check_and_clear path) (if clean then 0 else 1))
+      possible true = refl
+      possible false = refl
+
+      loud : {P : Type 0} (clean : Bool) → IsTrue (is_one_of (7 ∷ []) (if clean then 0 else 1)) → P
+      loud true e = absurd cc
+      loud false e = absurd cc
+
+      low : (clean : Bool) → (if clean then 0 else 1) ≤ 4
+      low true = lit≤ tt
+      low false = lit≤ tt
+
+  -- the report wasn't put
+  pub clearing_unput : AppendsFront (reported_lines report) out.written out'.written → Rose out.faults out'.faults
+      → LeavesCleared report 6 input input'
+      → IsStopped (check_and_clear path) before after Stream
+  clearing_unput front rose left = record {
+    finding = report;
+    work = reported_work 6 refl (λ e. absurd cc) left;
+    cause = inr rose;
+    front = front;
+    lost = left;
+  }
+
+  -- the report was put, and the device failed then
+  pub clearing_failed : Appends (reported_lines report) out.written out'.written → Rose input.faults input'.faults
+      → ((status : ℕ) → status ≢ 0 → LeavesCleared report status input input')
+      → IsStopped (check_and_clear path) before after Device
+  clearing_failed whole rose left = record {
+    finding = report;
+    work = reported_work 5 refl (λ e. absurd cc) (left 5 (λ e. omega arith));
+    cause = inl rose;
+    front = front_from_whole _ _ _ whole;
+    lost = left 6 (λ e. omega arith);
+  }

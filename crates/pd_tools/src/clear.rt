@@ -1,0 +1,134 @@
+//! A check as it is asked: with the flag, a pool's "needs check" is cleared where nothing was found.
+
+ghost use Rattle.std.specs.Prelude.{◌≡◌, ◌≢◌, ◌==◌, ℕ, [], Some, OnOk, IfOk, IfErr, IfSome, MatchResult, if◌then◌else◌};
+ghost use Rattle.pd_kinds.specs.declared.kind.Kind.TheVariants.{Thin};
+ghost use Rattle.pd_kinds.specs.declared.kind.Stage.TheVariants.{Counts};
+ghost use Rattle.pd_kinds.specs.Objects.{CountsFault, SinkState};
+ghost use Rattle.pd_kinds.specs.Report.{report_of};
+ghost use Rattle.pd_kinds.specs.Stages.{faults};
+ghost use Rattle.pd_kinds.specs.Crash.{IsSynced, IsUntouched};
+ghost use Rattle.pd_image.specs.Device.{IsWritable, KeepsPlace};
+ghost use Rattle.pd_answers.specs.Answer.{Objects, IsUsed, writing};
+ghost use Rattle.pd_answers.specs.Flag.{LeavesCleared};
+ghost use Rattle.pd_answers.specs.Promises.{check_and_clear, terms_of};
+ghost use Rattle.pd_answers.specs.Requests.{check as asked_check};
+ghost use Rattle.pd_tools.specs.Read.{IsBuiltCheck, IsUnread};
+ghost use Rattle.pd_tools.specs.Work.{IsFinished, IsStopped, Answers};
+
+use crate::check::{check_attached, put_report, run_check};
+use crate::stop::Stop;
+use pd_flag::clear_needs_check;
+use pd_image::{Device, Failed, Sink};
+use pd_kinds::{Kind, Report, Stage};
+use std::alloc::Global;
+
+/// Checks the metadata in the image at the path up to a stage, with or without clearing the flag, and puts the report.
+/// The flag is asked for in checks of pools to the end alone.
+pub fn run_any_check<K: Sink, E: Sink, A: Device>(
+    alloc: Global,
+    kind: Kind,
+    until: Stage,
+    clear: bool,
+    image: &str,
+    out: &mut K,
+    notes: &mut E,
+    input: &mut A,
+) -> u8
+    requires built { IsBuiltCheck kind until }
+    requires out { (K.state out.old).access ≡ 0 }
+    requires notes { (E.state notes.old).access ≡ 1 }
+    requires input { (A.state input.old).access ≡ 0 }
+    ensures { (others : Objects) → Answers (terms_of (Some (asked_check kind until clear image.now))) (E.state notes.old)
+        (record others { out = K.state out.old; input = A.state input.old })
+        (record others { out = K.state out.new; notes = E.state notes.new; input = A.state input.new }) result }
+{
+    if clear {
+        run_clearing_check(alloc, image, out, notes, input)
+    } else {
+        run_check(alloc, kind, until, image, out, notes, input)
+    }
+}
+
+/// Checks the pool in the image at the path to the end, puts the report, and then clears the flag where it is set and
+/// nothing was reported.
+fn run_clearing_check<K: Sink, E: Sink, A: Device>(
+    alloc: Global,
+    image: &str,
+    out: &mut K,
+    notes: &mut E,
+    input: &mut A,
+) -> u8
+    requires out { (K.state out.old).access ≡ 0 }
+    requires notes { (E.state notes.old).access ≡ 1 }
+    requires input { (A.state input.old).access ≡ 0 }
+    ensures { (others : Objects) → Answers (check_and_clear image.now) (E.state notes.old)
+        (record others { out = K.state out.old; input = A.state input.old })
+        (record others { out = K.state out.new; notes = E.state notes.new; input = A.state input.new }) result }
+{
+    match check_and_clear(alloc, image, out, input) {
+        Ok(clean) => { if clean { 0 } else { 1 } }
+        Err(stop) => stop.put(notes),
+    }
+}
+
+/// Checks the image, puts the report, and clears the flag after that: whether the image is clean.
+fn check_and_clear<K: Sink, A: Device>(
+    alloc: Global,
+    image: &str,
+    out: &mut K,
+    input: &mut A,
+) -> Result<bool, Stop>
+    requires out { (K.state out.old).access ≡ 0 }
+    requires input { (A.state input.old).access ≡ 0 }
+    ensures { (others : Objects) (notes : SinkState) → (A.state input.old).faults ≡ 0 →
+        let before = record others { out = K.state out.old; input = A.state input.old } in
+        let after = record others { out = K.state out.new; notes = notes; input = A.state input.new } in
+        MatchResult result (λ clean. IsFinished (check_and_clear image.now) before after (if clean then 0 else 1) [])
+        (IsStopped (check_and_clear image.now) before after) }
+{
+    let report = match open_report(alloc, image, input) {
+        Ok(report) => report,
+        Err(stop) => return Err(stop),
+    };
+    match put_report(&report, out) {
+        Ok(()) => match clear_if_clean(&report, input) {
+            Ok(clean) => Ok(clean),
+            Err(_) => Err(Stop::Device),
+        },
+        Err(_) => Err(Stop::Stream),
+    }
+}
+
+/// Attaches the device for writing, and checks what it holds.
+fn open_report<A: Device>(alloc: Global, image: &str, input: &mut A) -> Result<Report, Stop>
+    requires { (A.state input.old).access ≡ 0 }
+    ensures report { IfOk result (λ report. IfSome (A.state input.old).held (λ image. report ≡ report_of (faults Thin Counts image))) }
+    ensures access { OnOk result ((A.state input.new).access ≡ 2) }
+    ensures used { IsUsed (writing image.now) (A.state input.new).access (A.state input.new).path }
+    ensures untouched { IsUntouched (A.state input.old) (A.state input.new) }
+    ensures kept { OnOk result ((A.state input.new).faults ≡ (A.state input.old).faults) }
+    ensures stopped { IfErr result (IsUnread Thin Counts (A.state input.old) (A.state input.new)) }
+{
+    if input.attach(image, true).is_err() {
+        return Err(Stop::Device);
+    }
+    check_attached(alloc, Kind::Thin, Stage::Counts, input)
+}
+
+/// Clears the flag where nothing was reported: whether nothing was.
+fn clear_if_clean<A: Device>(report: &Report, input: &mut A) -> Result<bool, Failed>
+    requires { IsWritable (A.state input.old) }
+    ensures clean { IfOk result (λ clean. clean ≡ (report.now.total == 0)) }
+    ensures left { MatchResult result (λ clean. IsSynced (A.state input.old) → LeavesCleared report.now (if clean then 0 else 1) (A.state input.old) (A.state input.new))
+        (λ _. IsSynced (A.state input.old) → (A.state input.old).faults ≡ 0 → (status : ℕ) → status ≢ 0 → LeavesCleared report.now status (A.state input.old) (A.state input.new)) }
+    ensures kept { KeepsPlace (A.state input.old) (A.state input.new) }
+    ensures faults { CountsFault result (A.state input.old).faults (A.state input.new).faults }
+{
+    if !report.is_empty() {
+        return Ok(false);
+    }
+    match clear_needs_check(input) {
+        Ok(()) => Ok(true),
+        Err(fault) => Err(fault),
+    }
+}
