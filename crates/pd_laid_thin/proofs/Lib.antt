@@ -8,3 +8,4 @@ pub mod ThinCounts
 pub mod ThinWhole
 pub mod ThinLaw
 pub mod ThinNamed
+pub mod ThinUsed
