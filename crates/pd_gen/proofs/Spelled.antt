@@ -9,31 +9,31 @@ use Rattle.std.proofs.lemmas.List.FromFn.{length-map-range_with_len}
 use Rattle.pd_kinds.specs.Meaning.{ThinDevice, Mapping}
 use Rattle.pd_grammar.specs.Texts.{text_of_lines, written}
 use Rattle.pd_spells.specs.Lawful.{AreMappings, IsDevice, IsLawfulPool}
-use Rattle.pd_spells.specs.ThinText.{Run, Part, Line, first_line, pool_line, device_line, map_line, end_line, thin, mappings_of, device_of_part, head_of, lines_of_parts, SpellsPool}
+use Rattle.pd_spells.specs.ThinText.{Run, Part, Line, first_line, pool_line, device_line, map_line, end_line, thin, mappings_of, device_of_part, head_of, lines_of_parts, MeansPool, SpellsPool}
 use Rattle.pd_answers.specs.Generated.{generated_text, generated_mapped, device_map, numbers_line, snapshot_map}
 use Rattle.pd_gen.specs.Lines.{device_text, end_text, first_text, pool_text}
 use Rattle.pd_gen.specs.Pool.{device_mapping, snapshot_mapping, generated_device, generated_pool}
 
 -- the run of one mapping
-abbrev run_of : Mapping → Run
+abbrev pub run_of : Mapping → Run
 run_of m = record { virtual_block = m.virtual_block; data_block = m.data_block; length = 1; time = m.time }
 
 -- a device, with a run for each mapping
-abbrev part_of : ThinDevice → Part
+abbrev pub part_of : ThinDevice → Part
 part_of d = record {
   details = record { id = d.id; mapped = d.mapped; transaction = d.transaction; created = d.created; snapped = d.snapped };
   runs = map run_of d.mappings;
 }
 
 -- the runs written out are the mappings
-written_out : (ms : List Mapping) → flat_map mappings_of (map run_of ms) ≡ ms
+pub written_out : (ms : List Mapping) → flat_map mappings_of (map run_of ms) ≡ ms
 written_out [] = refl
 written_out (m ∷ ms) = ap (λ (xs : List Mapping). m ∷ xs) (written_out ms)
 
 same_device : (d : ThinDevice) → device_of_part (part_of d) ≡ d
 same_device d = rw (written_out d.mappings) refl
 
-have_mappings : (ms : List Mapping) → AllByRecursion (λ (r : Run). 1 ≤ r.length) (map run_of ms)
+pub have_mappings : (ms : List Mapping) → AllByRecursion (λ (r : Run). 1 ≤ r.length) (map run_of ms)
 have_mappings [] = tt
 have_mappings (m ∷ ms) = (lit≤ tt, have_mappings ms)
 
@@ -170,19 +170,22 @@ text_is number =
     refl (pool_line_is number) (device_line_is number 0 device_mapping) (map_texts device_mapping device_map device_map_is vs)
     (device_line_is number 1 snapshot_mapping) (map_texts snapshot_mapping snapshot_map snapshot_map_is vs) refl)
 
-pub generated_spells : (number : ℕ) → number ≤ 10000 → SpellsPool (generated_text number) (generated_pool number)
+-- its lines
+abbrev pub generated_lines : ℕ → List Line
+generated_lines number = lines_of_parts (head_of (generated_pool number)) (map part_of (generated_pool number).devices)
+
+pub generated_means : (number : ℕ) → number ≤ 10000 → MeansPool (generated_lines number) (generated_pool number)
 unfolding generated_pool
-generated_spells number few = record {
-  lines = lines_of_parts (head_of (generated_pool number)) (map part_of (generated_pool number).devices);
-  bytes = text_is number;
-  means = record {
-    parts = map part_of (generated_pool number).devices;
-    lines_are = refl;
-    devices = rw (same_device (generated_device number 0 device_mapping), same_device (generated_device number 1 snapshot_mapping)) refl;
-    runs = (
-      have_mappings (map device_mapping (range_with_len 0 (generated_mapped number))),
-      (have_mappings (map snapshot_mapping (range_with_len 0 (generated_mapped number))), tt),
-    );
-    lawful = pool_lawful number few;
-  };
+generated_means number few = record {
+  parts = map part_of (generated_pool number).devices;
+  lines_are = refl;
+  devices = rw (same_device (generated_device number 0 device_mapping), same_device (generated_device number 1 snapshot_mapping)) refl;
+  runs = (
+    have_mappings (map device_mapping (range_with_len 0 (generated_mapped number))),
+    (have_mappings (map snapshot_mapping (range_with_len 0 (generated_mapped number))), tt),
+  );
+  lawful = pool_lawful number few;
 }
+
+pub generated_spells : (number : ℕ) → number ≤ 10000 → SpellsPool (generated_text number) (generated_pool number)
+generated_spells number few = record { lines = generated_lines number; bytes = text_is number; means = generated_means number few }

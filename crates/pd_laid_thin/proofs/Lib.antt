@@ -7,3 +7,4 @@ pub mod ThinSuper
 pub mod ThinCounts
 pub mod ThinWhole
 pub mod ThinLaw
+pub mod ThinUsed

@@ -123,6 +123,7 @@ unwritten fault from to old v early right answer = record {
   answer = answer;
   crash = λ image synced. at_rest image (Makes laid_pool (room_of old.blocks) v image) old synced;
   made = tt;
+  still_told = tt;
   kept = λ _. kept_same old.held;
   untouched = λ _. record { held = refl; history = refl };
   ended = tt;
@@ -219,6 +220,7 @@ module _ (p : Pool) (text : TextReader ThinState ThinLine) (mid_left : Option (L
       answer = answer;
       crash = crash;
       made = tt;
+      still_told = tt;
       kept = kept;
       untouched = λ e. absurd (not_early e);
       ended = tt;
@@ -276,6 +278,7 @@ module _ (p : Pool) (text : TextReader ThinState ThinLine) (mid_left : Option (L
                 let s = done.done (set image 0 zeros) (closed_at image synced) in
                 at_made new.held (λ (made : Image). IsLaid (laid_pool m room) image made) (made_of m room (set image 0 zeros)) s s.held
                 (λ made is. made_laid m done.commits.lawful done.commits.fits image made synced is);
+            still_told = λ image synced. rw (done.done (set image 0 zeros) (closed_at image synced)).held refl;
             kept = tt;
             untouched = λ e. absurd (not_early e);
             ended = where_told from.left (λ t. to.left ≡ Some []) (λ t is. (done.commits.told t (told t is)).1);

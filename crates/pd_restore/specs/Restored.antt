@@ -1,5 +1,5 @@
 -- What a restore promises, for any kind.
-use Rattle.std.specs.Prelude.{◌≡◌, ◌⊎◌, ℕ, ◌≤◌, true, Bool, List, [], Result, OnOk, IfSome, MatchResult, Some}
+use Rattle.std.specs.Prelude.{◌≡◌, ◌⊎◌, ℕ, ◌≤◌, true, Bool, List, [], Result, OnOk, IfSome, IsSome, MatchResult, Some}
 use Rattle.pd_kinds.specs.Limits.{room_of}
 use Rattle.pd_kinds.specs.Objects.{SourceState, DeviceState, Rose}
 use Rattle.pd_kinds.specs.Crash.{HasNoSuper, HoldsSynced, IsOldNoneOrMade, IsUntouched, LeavesOnly}
@@ -66,6 +66,8 @@ pub record IsRestored {M : Type 0} (Lawful : M → Type 0) (IsVerdictOn : List �
   -- a crash at any moment of the call, whatever its result, leaves the old image, no valid superblock, or what is made
   pub crash : (image : List (List ℕ)) → HoldsSynced image old → LeavesOnly (IsOldNoneOrMade image (Makes laid (room_of old.blocks) verdict image)) old new
   pub made : OnOk result ((image : List (List ℕ)) → HoldsSynced image old → IfSome new.held (λ now. Makes laid (room_of old.blocks) verdict image now × HoldsSynced now new))
+  -- a device that tells what it holds still does
+  pub still_told : OnOk result ((image : List (List ℕ)) → HoldsSynced image old → IsSome new.held)
   pub kept : MatchResult result (λ done. Unit {0}) (λ fault. IsRefusal fault → IfSome old.held (λ image. IfSome new.held (λ now. (now ≡ image) ⊎ HasNoSuper now)))
   pub untouched : early ≡ true → IsUntouched old new
   pub ended : OnOk result (IfSome from.left (λ text. to.left ≡ Some []))
