@@ -1,14 +1,17 @@
 -- How many blocks are read, height after height.
-use Rattle.std.proofs.Common.{◌≡◌, inl, inr, ℕ, zero, suc, ◌+◌, ◌-◌, ◌≤◌, Bool, true, false, ◌&&◌, cond, nat_eq, nat_lt, [], ◌∷◌, ◌++◌, refl, ap, subst, ◌∙◌, arith, eq-eqb, add-one}
+use Rattle.std.proofs.Common.{◌≡◌, inl, inr, ℕ, zero, suc, ◌+◌, ◌-◌, ◌≤◌, Bool, true, false, ◌&&◌, cond, nat_eq, nat_lt, [], ◌∷◌, ◌++◌, refl, sym, ap, subst, ◌∙◌, arith, eq-eqb, add-one}
 use Rattle.std.specs.List.{count_by, range_with_len}
 use Rattle.std.proofs.lemmas.Bool.{cases_eq, cases_lt, lt-ltb, le-ltb, ne_eqb}
 use Rattle.std.proofs.lemmas.List.Sums.{sum_by-append}
 use Rattle.pd_graph.specs.declared.audit.Audit.{Audit}
 use Rattle.pd_graph.specs.declared.notes.Note.{Note}
-use Rattle.pd_graph.specs.Audit.{note_at, roles_at}
+use Rattle.pd_graph.specs.Audit.{blocks_of, note_at, roles_at, KeepsButRules}
 use Rattle.pd_graph.specs.Roles.{has_bit}
 use Rattle.pd_graph.proofs.BitLemmas.{range_more}
 use Rattle.pd_refs.specs.Refs.{number_in}
+use Rattle.pd_refs.proofs.RefsLemmas.{number_more, number_none}
+use Rattle.pd_arrays.specs.declared.roles.ArrayRoles.{ArrayRoles}
+use Rattle.pd_arrays.specs.KindReads.{kind_reads}
 use Rattle.pd_arrays.specs.Reads.{is_at, is_under, number_where}
 
 -- one number more
@@ -100,3 +103,18 @@ pub where_all : (f : ℕ → Bool) (n m : ℕ) → n ≤ m → number_where f n 
 where_all f n m less =
     let all : n + (m - n) ≡ m = omega arith in
     subst (λ (k : ℕ). number_where f n ≤ number_where f k) all (where_grows f n (m - n))
+
+-- rules that are added change no number
+pub number_stays : (old new : Audit) (role n : ℕ) → KeepsButRules old new → number_in new role n ≡ number_in old role n
+number_stays old new role zero kept = number_none new role ∙ sym (number_none old role)
+number_stays old new role (suc n) kept =
+    let next : suc n ≡ n + 1 = omega arith in
+    rw next (number_more new role n
+    ∙ (ap (λ (m : ℕ). m + cond (has_bit (roles_at new n) role) 1 0) (number_stays old new role n kept)
+    ∙ (ap (λ (r : ℕ). number_in old role n + cond (has_bit r role) 1 0) (kept.roles n) ∙ sym (number_more old role n))))
+
+pub kind_stays : (old new : Audit) (roles : ArrayRoles) → KeepsButRules old new → kind_reads new roles ≡ kind_reads old roles
+kind_stays old new roles kept =
+    ap (λ (n : ℕ). number_in new roles.blocks n + number_in new roles.nodes n) kept.number
+    ∙ (ap (λ (m : ℕ). m + number_in new roles.nodes (blocks_of old)) (number_stays old new roles.blocks (blocks_of old) kept)
+    ∙ ap (λ (m : ℕ). number_in old roles.blocks (blocks_of old) + m) (number_stays old new roles.nodes (blocks_of old) kept))

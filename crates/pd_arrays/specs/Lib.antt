@@ -2,3 +2,4 @@ pub mod ArrayMark
 pub mod ArrayMarks
 pub mod Arrays
 pub mod Reads
+pub mod KindReads

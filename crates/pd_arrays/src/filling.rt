@@ -6,6 +6,7 @@ ghost use Rattle.pd_image.specs.Device.{IsAttached, OnlyReads};
 ghost use Rattle.pd_graph.specs.Audit.{blocks_of};
 ghost use Rattle.pd_refs.specs.Refs.{number_in};
 ghost use Rattle.pd_arrays.specs.ArrayMarks.{places_of};
+ghost use Rattle.pd_arrays.specs.KindReads.{kind_reads};
 ghost use Rattle.pd_arrays.specs.Arrays.{AreCountedTo, AreMarked, HasArrays};
 
 use crate::mark::ArrayMark;
@@ -89,8 +90,7 @@ pub fn fill_marks<F: Format, D: Device>(
     ensures places { places_of marks.new ≡ places_of marks.old }
 
     // Each block of an array and each node is read once at most, also where a read failed.
-    ensures reads { (D.state dev.new).reads ≤ (D.state dev.old).reads
-        + (number_in audit.now roles.blocks (blocks_of audit.now) + number_in audit.now roles.nodes (blocks_of audit.now)) }
+    ensures reads { (D.state dev.new).reads ≤ (D.state dev.old).reads + kind_reads audit.now roles }
     ensures kept { OnlyReads (D.state dev.old) (D.state dev.new) }
     ensures faults { CountsFault result (D.state dev.old).faults (D.state dev.new).faults }
 {

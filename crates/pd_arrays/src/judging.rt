@@ -1,19 +1,25 @@
 //! The rules Index and Length at the root of an array.
 
-ghost use Rattle.std.specs.Prelude.{◌≡◌, ℕ, ◌+◌, ◌-◌, ◌*◌, ◌<◌, ◌==◌, false, List, length, Option};
+ghost use Rattle.std.specs.Prelude.{◌≡◌, ℕ, ◌+◌, ◌-◌, ◌*◌, ◌<◌, ◌==◌, ◌≤◌, false, List, length, Option, IfSome, OnOk};
+ghost use Rattle.pd_kinds.specs.Objects.{CountsFault};
 ghost use Rattle.pd_kinds.specs.Graph.{Graph};
 ghost use Rattle.pd_kinds.specs.Stages.{IsReached};
 ghost use Rattle.pd_kinds.specs.Whole.{array_whole, array_words, is_array_index_bad};
 ghost use Rattle.pd_array.specs.Word.{size_of};
+ghost use Rattle.pd_image.specs.Device.{IsAttached, OnlyReads};
 ghost use Rattle.pd_graph.specs.Audit.{blocks_of, KeepsButRules};
 ghost use Rattle.pd_whole.specs.Charges.{Charges};
 ghost use Rattle.pd_arrays.specs.declared.roles.ArrayRoles.{ArrayRoles as Kind};
+ghost use Rattle.pd_arrays.specs.ArrayMarks.{places_of};
+ghost use Rattle.pd_arrays.specs.KindReads.{kind_reads};
 ghost use Rattle.pd_arrays.specs.Arrays.{AreMarked, HasArrays, array_of, lengths_of};
 
+use crate::filling::fill_marks;
 use crate::marks::ArrayMarks;
 use crate::roles::ArrayRoles;
 use pd_array::Word;
-use pd_graph::Audit;
+use pd_graph::{Audit, Format};
+use pd_image::{Device, Failed};
 use pd_kinds::Rule;
 use pd_whole::{charge, is_counting};
 
@@ -75,4 +81,40 @@ pub fn check_array(
         let right = has_words(marks, audit, root, roles.word, number);
         charge(audit, root, Rule::Length, !index_bad & !right);
     }
+}
+
+/// Marks the arrays of one kind, and gives the root of one of them the rules Index and Length, where it breaks them: it
+/// must have so many words, where a number is given. It takes no memory.
+///
+/// What it says of content holds where the audit knows what the device holds, and nothing there is out of order; over
+/// any other device or audit it is safe.
+pub fn mark_array<F: Format, D: Device>(
+    marks: &mut ArrayMarks,
+    audit: &mut Audit,
+    format: &F,
+    dev: &mut D,
+    roles: ArrayRoles,
+    root: u64,
+    words: Option<u64>,
+) -> Result<(), Failed>
+    requires attached { IsAttached (D.state dev.old) }
+    requires number { blocks_of audit.old ≡ (F.graph format.now).nr }
+    requires places { places_of marks.old ≡ blocks_of audit.old }
+    requires within { blocks_of audit.old ≤ (D.state dev.old).blocks }
+    requires nodes { roles.nodes < F.ROLES }
+    requires blocks { roles.blocks < F.ROLES }
+    ensures charges { OnOk result (IfSome (D.state dev.old).held (λ image. HasArrays (F.graph format.now) image audit.old roles
+        → IsReached (F.graph format.now) image root roles.nodes
+        → Charges (array_whole (F.graph format.now) image (array_of roles root (lengths_of words))) audit.old audit.new)) }
+    ensures places { places_of marks.new ≡ places_of marks.old }
+
+    // Each block of an array and each node is read once at most, also where a read failed.
+    ensures reads { (D.state dev.new).reads ≤ (D.state dev.old).reads + kind_reads audit.old roles }
+    ensures rules { KeepsButRules audit.old audit.new }
+    ensures kept { OnlyReads (D.state dev.old) (D.state dev.new) }
+    ensures faults { CountsFault result (D.state dev.old).faults (D.state dev.new).faults }
+{
+    fill_marks(marks, audit, format, dev, roles)?;
+    check_array(audit, marks, roles, root, words);
+    Ok(())
 }

@@ -10,7 +10,7 @@ mod nodes;
 mod roles;
 
 pub use filling::fill_marks;
-pub use judging::{check_array, has_words, is_index_bad};
+pub use judging::{check_array, has_words, is_index_bad, mark_array};
 pub use mark::ArrayMark;
 pub use marks::ArrayMarks;
 pub use roles::{ArrayRoles, has_role};

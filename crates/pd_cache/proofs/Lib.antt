@@ -1,3 +1,5 @@
 pub mod RepeatLemmas
 pub mod WordLemmas
 pub mod MeetLemmas
+pub mod WholeLemmas
+pub mod ReadyLemmas

@@ -1,8 +1,15 @@
-//! A cache's metadata, versions 1 and 2: its format, as a walk sees it.
+//! A cache's metadata, versions 1 and 2: its format, as a walk sees it, and its check.
 #![tactic(auto)]
 
+mod cache;
+mod check;
 mod format;
 mod mapping;
 mod origins;
+mod room;
+mod whole;
 
+pub use check::check_cache;
 pub use format::{CacheFormat, CacheTable};
+pub use pd_kinds::CheckFault;
+pub use room::CacheRoom;

@@ -1,4 +1,4 @@
-ghost use Rattle.std.specs.Prelude.{◌≡◌, ◌≤◌, ◌+◌, ◌*◌, ◌<◌, false, length, OnOk, IfSome};
+ghost use Rattle.std.specs.Prelude.{◌≡◌, ◌≤◌, ◌+◌, ◌*◌, ◌<◌, ℕ, List, false, length, IfOk, OnOk, IfSome};
 ghost use Rattle.pd_kinds.specs.declared.kind.Kind.{Kind};
 ghost use Rattle.pd_kinds.specs.declared.rule.Rule.{Rule as BrokenRule};
 ghost use Rattle.pd_kinds.specs.Objects.{CountsFault};
@@ -29,6 +29,9 @@ pub trait Metadata {
     /// Which kind it is.
     ghost kind: { Kind };
 
+    /// The memory is enough for metadata with this block 0.
+    ghost is_enough: { Self.Room → List ℕ → Type 0 } = { λ _ _. Unit {0} };
+
     /// The rules that block 0 breaks, on a device of so many blocks.
     fn super_rules(b: &Block, device_blocks: u64) -> Rules
         ensures { (rule : BrokenRule) → has_rule result rule ≡ super_bad_of kind device_blocks b.now.0 rule };
@@ -50,7 +53,8 @@ pub trait Metadata {
 
     /// Takes the memory that the rules of the whole image need, where this is block 0. Want of it is the only
     /// error.
-    fn room(alloc: Global, b: &Block) -> Result<Self::Room, AllocError>;
+    fn room(alloc: Global, b: &Block) -> Result<Self::Room, AllocError>
+        ensures { IfOk result (λ room. is_enough room b.now.0) };
 
     /// Gives each block the rules of the whole image that it breaks, where this is block 0 and no block has a
     /// rule up to the order of the trees. It takes no memory.
@@ -63,6 +67,7 @@ pub trait Metadata {
         audit: &mut Audit,
         dev: &mut D,
     ) -> Result<(), Failed>
+        requires enough { is_enough room b.now.0 }
         requires attached { IsAttached (D.state dev.old) }
         requires number { blocks_of audit.old ≡ (graph_of_super kind b.now.0).nr }
         requires within { (graph_of_super kind b.now.0).nr ≤ (D.state dev.old).blocks }

@@ -131,6 +131,7 @@ fn whole_report<M: Metadata, D: Device>(
     audit: &mut Audit,
     dev: &mut D,
 ) -> Result<Report, Failed>
+    requires enough { M.is_enough room first.now.0 }
     requires attached { IsAttached (D.state dev.old) }
     requires number { blocks_of audit.old ≡ (graph_of_super M.kind first.now.0).nr }
     requires within { (graph_of_super M.kind first.now.0).nr ≤ (D.state dev.old).blocks }

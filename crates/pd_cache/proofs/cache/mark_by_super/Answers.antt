@@ -1,0 +1,44 @@
+use Rattle.std.proofs.Common.{◌≡◌, ℕ, sym, ap, ◌∙◌, subst, arith}
+use Rattle.pd_kinds.specs.CacheFormat.{CacheFields, cache_fields, cache_graph}
+use Rattle.pd_kinds.specs.Graph.{Graph}
+use Rattle.pd_refs.proofs.RefsLemmas.{if_maps, ok_maps}
+use Rattle.pd_graph.specs.Audit.{blocks_of}
+use Rattle.pd_cache.specs.Room.{IsRoomFor}
+use Rattle.pd_cache.specs.Whole.{origin_reads}
+use Rattle.pd_cache.proofs.ReadyLemmas.{blocks_are, graph_is, super_charged}
+use Rattle.pd_cache.proofs.cache.mark_by_super.Goals as goal
+
+pub of-format-requires-clause-some : goal.of-format-requires-clause-some
+of-format-requires-clause-some g c =
+    omega (arith, c.nr-nr.ensures.number, c.nr-nr.ensures.some, c.requires.number, blocks_are c.args.b.now.0, ap (λ (f : CacheFields). f.meta_map.blocks) c.read_cache_super-fields.ensures)
+
+pub of-format-requires-clause-few : goal.of-format-requires-clause-few
+of-format-requires-clause-few g c =
+    omega (arith, c.nr-nr.ensures.number, c.nr-nr.ensures.few, c.requires.number, blocks_are c.args.b.now.0, ap (λ (f : CacheFields). f.meta_map.blocks) c.read_cache_super-fields.ensures)
+
+pub mark_cache-requires-clause-number : goal.mark_cache-requires-clause-number
+mark_cache-requires-clause-number g c =
+    c.requires.number
+    ∙ ap (λ (graph : Graph). graph.nr) (sym (c.of-format.ensures ∙ graph_is c.args.b.now.0 c.read_cache_super-fields.result c.read_cache_super-fields.ensures))
+
+pub mark_cache-requires-clause-room : goal.mark_cache-requires-clause-room
+mark_cache-requires-clause-room g c =
+    let same : blocks_of c.args.audit.now ≡ (cache_fields c.args.b.now.0).meta_map.blocks = c.requires.number ∙ blocks_are c.args.b.now.0 in
+    subst (λ (n : ℕ). IsRoomFor n c.args.room.now) (sym same) (c.requires.enough (omega (arith, same, c.nr-nr.ensures.number, c.nr-nr.ensures.few)))
+
+pub returns-clause-charges : goal.returns-clause-charges
+returns-clause-charges g c =
+    let first = c.args.b.now.0 in
+    ok_maps c.mark_cache.result _ _ (λ charges.
+    if_maps (g.D.Device.state c.args.dev.now).held _ _ (λ image charged ordered.
+    super_charged image first c.read_cache_super-fields.result _ c.args.audit.now c.mark_cache.new.audit c.read_cache_super-fields.ensures
+    (c.of-format.ensures ∙ graph_is first c.read_cache_super-fields.result c.read_cache_super-fields.ensures) c.ordered_caches_are_ready.ensures charged ordered)
+    charges) c.mark_cache.ensures.charges
+
+pub returns-clause-reads : goal.returns-clause-reads
+returns-clause-reads g c =
+    let first = c.args.b.now.0 in
+    let audit = c.args.audit.now in
+    if_maps (g.D.Device.state c.args.dev.now).held _ _ (λ image reads ordered.
+    let few = c.rules_read_each_pair_twice.ensures (cache_graph first) image audit (cache_fields first) (c.ordered_caches_are_ready.ensures first image audit ordered) in
+    omega (arith, reads, few, ap (λ (f : CacheFields). origin_reads audit image f.mapping_root) c.read_cache_super-fields.ensures)) c.mark_cache.ensures.reads
