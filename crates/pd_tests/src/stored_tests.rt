@@ -67,6 +67,20 @@ fn sound_pools_are_clean(rt: HostRuntime) -> Result<(), Fail> {
 }
 
 #[test]
+fn trees_that_the_held_copy_names_have_two_references(rt: HostRuntime) -> Result<(), Fail> {
+    let mut image = pool_with_held_copy();
+    image[6] = with_count(6, 9, 2, 2);
+    expect_counts(
+        &rt,
+        rt.alloc(),
+        "the mapping tree has one",
+        &image,
+        "fault meta 1 short stored 1 references 2\nfaults 1\n",
+    )?;
+    Ok(())
+}
+
+#[test]
 fn counts_that_differ_from_the_references(rt: HostRuntime) -> Result<(), Fail> {
     let cases: [(&str, usize, Block, &str); 5] = [
         (

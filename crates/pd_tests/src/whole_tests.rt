@@ -2,6 +2,7 @@
 
 ghost use Rattle.std.specs.Prelude.{◌+◌, ◌*◌, ◌≤◌};
 
+use pd_bitmap::{seal_bitmap, set_two_bits};
 use pd_crc::seal;
 use pd_kinds::{Block, put_u32, put_u64};
 use pd_node::{write_inner, write_leaf};
@@ -11,7 +12,7 @@ use pd_samples::pool::{
 };
 use pd_samples::runs::{Failing, NOTHING_FAILS, blocks_of, run};
 use pd_supers::{ThinSuper, write_thin_super};
-use pd_value::{Details, IndexEntry, Root};
+use pd_value::{Count, Details, IndexEntry, Root};
 use std::alloc::{AllocError, Global};
 use std::process::Abort;
 use std::test::Fail;
@@ -233,14 +234,22 @@ fn two_hundred_devices_over_one_leaf(rt: HostRuntime) -> Result<(), Fail> {
     image[11] = write_leaf(11, &[(101, details(1))]);
     fill(&mut image[11], 101, 100, 32 + 8 * 126, 24);
 
-    // There are twelve blocks in their roles, so at most 61 reads follow the call that attaches the image: a
-    // failure of the next call shows nowhere.
-    let failing = Failing {
-        input: Some(63),
-        ..NOTHING_FAILS
-    };
-    let ran = run(rt.alloc(), &WHOLE, &image, failing)?;
-    assert!(rt; ran.out.bytes() == "clean\n".as_bytes());
-    assert_eq!(rt; ran.status, 0);
+    image[8] = bitmap(8, 12);
+    set_two_bits(&mut image[8], 1, 3);
+    seal_bitmap(&mut image[8], 8);
+    image[9] = write_leaf(9, &[(1, Count(200))]);
+
+    // There are twelve blocks in their roles, so at most 61 reads follow the call that attaches the image, and 73 of
+    // the whole check: a failure of the next call shows nowhere.
+    let cases: [(&[&str], u64); 2] = [(&WHOLE, 63), (&["thin_check", "thin.img"], 75)];
+    for (words, call) in cases {
+        let failing = Failing {
+            input: Some(call),
+            ..NOTHING_FAILS
+        };
+        let ran = run(rt.alloc(), words, &image, failing)?;
+        assert!(rt; ran.out.bytes() == "clean\n".as_bytes());
+        assert_eq!(rt; ran.status, 0);
+    }
     Ok(())
 }
