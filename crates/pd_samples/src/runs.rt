@@ -31,8 +31,8 @@ pub struct Held<'a> {
     pub output: &'a [Block],
 }
 
-/// The number of the call that fails, of each of these objects, and of the first calls of the output that are
-/// done before it stops.
+/// The number of the call that fails, of each of these objects, and how many calls of each device are done before it
+/// stops.
 #[derive(Clone, Copy)]
 pub struct Failing {
     pub source: Option<u64>,
@@ -40,6 +40,7 @@ pub struct Failing {
     pub notes: Option<u64>,
     pub input: Option<u64>,
     pub output: Option<u64>,
+    pub input_stops_after: u64,
     pub output_stops_after: u64,
 }
 
@@ -49,6 +50,7 @@ pub const NOTHING_FAILS: Failing = Failing {
     notes: None,
     input: None,
     output: None,
+    input_stops_after: u64::MAX,
     output_stops_after: u64::MAX,
 };
 
@@ -95,6 +97,7 @@ pub fn run_over(
     let mut out = sink(alloc, failing.out)?;
     let mut notes = sink(alloc, failing.notes)?;
     let mut input = device(alloc, held.input, failing.input)?;
+    input.stop_after(failing.input_stops_after);
     let mut output = device(alloc, held.output, failing.output)?;
     output.stop_after(failing.output_stops_after);
     let mut third = device(alloc, &[], None)?;
