@@ -38,6 +38,7 @@ is_built (check Thin Counts false image) = true
 is_built (dump Thin false file image) = true
 is_built (restore Thin version text image) = true
 is_built (generate number file) = true
+is_built (rehearse number image) = true
 is_built _ = false
 
 -- whether a restore reads the second version of a pool's text, too

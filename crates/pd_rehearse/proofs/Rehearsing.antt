@@ -28,7 +28,7 @@ use Rattle.pd_rehearse.specs.declared.fault.RehearseFault.{RehearseFault}
 use Rattle.pd_rehearse.specs.declared.fault.RehearseFault.TheVariants as f
 use Rattle.pd_rehearse.specs.declared.run.Rehearsal.{Rehearsal}
 use Rattle.pd_rehearse.specs.Counted.{IsCountOfPool}
-use Rattle.pd_rehearse.specs.Failing.{FindsFaults, HasFaults, IsFaulty, IsTurnedDown}
+use Rattle.pd_rehearse.specs.Failing.{FindsFaults, HasFaults, IsFaulty, IsReported, IsTurnedDown}
 use Rattle.pd_rehearse.specs.Rehearsed.{Rehearses, found_of}
 use Rattle.pd_rehearse.specs.Restoring.{AnswersFault, RestoresText}
 use Rattle.pd_rehearse.proofs.Numbers.{numbers_of}
@@ -168,6 +168,33 @@ module _ (number : ℕ) (laws : Laws number) (result : Result Rehearsal Rehearse
       untouched = λ early. untouched (restored.untouched early);
     }
 
+-- a report of faults has some
+reported : (fault : RehearseFault) → HasFaults fault → IsReported fault
+reported f.Memory has = tt
+reported f.Device has = tt
+reported (f.NoRoom need blocks) has = tt
+reported (f.Faulty report) has = has
+
+-- what isn't a report of faults
+pub unreported : (fault : RehearseFault) → (IsFaulty fault → ⊥) → IsReported fault
+unreported f.Memory none = tt
+unreported f.Device none = tt
+unreported (f.NoRoom need blocks) none = tt
+unreported (f.Faulty report) none = absurd (none tt)
+
+-- a restore that failed
+pub restores_not : (number : ℕ) (fault : RehearseFault) (old new : DeviceState) → RestoresText {T = Unit {0}} number (Err fault) old new → RestoresText {T = Rehearsal} number (Err fault) old new
+restores_not number fault old new restored = record {
+  verdict = restored.verdict;
+  right = restored.right;
+  answer = restored.answer;
+  crash = restored.crash;
+  made = tt;
+  still_told = tt;
+  kept = restored.kept;
+  untouched = restored.untouched;
+}
+
 pub rehearses : (number : ℕ) (laws : Laws number) (result : Result Rehearsal RehearseFault) (old mid new : DeviceState) → IfSome old.held (λ image. length image ≡ old.blocks)
     → RestoresText number done old mid → OnlyReads mid new
     → ((m : ThinPool) (image : Image) → mid.held ≡ Some image → IsCleanPool image m → MatchResult result (IsCountOfPool image m) (λ fault. IsFaulty fault → ⊥))
@@ -176,8 +203,10 @@ unfolding restores
 rehearses number laws (Ok r) old mid new measured restored kept counted finds = record {
   restores = restores number laws (Ok r) old mid new measured restored kept counted (Ok r) finds;
   numbers = numbers number laws (Ok r) old mid new measured restored kept counted;
+  reported = tt;
 }
 rehearses number laws (Err fault) old mid new measured restored kept counted finds = record {
   restores = restores number laws (Err fault) old mid new measured restored kept counted (Err fault) finds;
   numbers = numbers number laws (Err fault) old mid new measured restored kept counted;
+  reported = reported fault finds;
 }

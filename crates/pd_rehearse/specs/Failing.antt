@@ -28,6 +28,13 @@ IsFaulty Device = ⊥
 IsFaulty (NoRoom need blocks) = ⊥
 IsFaulty (Faulty report) = Unit {0}
 
+-- a report of faults has some
+abbrev pub IsReported : RehearseFault → Type 0
+IsReported Memory = Unit {0}
+IsReported Device = Unit {0}
+IsReported (NoRoom need blocks) = Unit {0}
+IsReported (Faulty report) = report.total ≢ 0
+
 -- what comes of a restored pool: the device failed, memory was wanting, or there are faults
 abbrev pub HasFaults : RehearseFault → Type 0
 HasFaults Memory = Unit {0}

@@ -1,5 +1,5 @@
 -- What a rehearsal promises.
-use Rattle.std.specs.Prelude.{ℕ, List, [], Result, MatchResult}
+use Rattle.std.specs.Prelude.{ℕ, List, [], Result, MatchResult, IfErr}
 use Rattle.pd_kinds.specs.Crash.{HoldsSynced}
 use Rattle.pd_kinds.specs.Limits.{room_of}
 use Rattle.pd_kinds.specs.Meaning.{ThinPool}
@@ -9,7 +9,7 @@ use Rattle.pd_grammar.specs.Spelling.{Verdict}
 use Rattle.pd_answers.specs.Rehearsals.{AreNumbers, Rehearsed}
 use Rattle.pd_rehearse.specs.declared.fault.RehearseFault.{RehearseFault}
 use Rattle.pd_rehearse.specs.declared.run.Rehearsal.{Rehearsal}
-use Rattle.pd_rehearse.specs.Failing.{IsFaulty}
+use Rattle.pd_rehearse.specs.Failing.{IsFaulty, IsReported}
 use Rattle.pd_rehearse.specs.Restoring.{RestoresText}
 
 -- what was found, where the check found nothing
@@ -29,3 +29,4 @@ pub record Rehearses (number : ℕ) (result : Result Rehearsal RehearseFault) (o
   pub numbers : MatchResult result
       (λ rehearsal. (image : List (List ℕ)) → HoldsSynced image old → AreNumbers restores.verdict (found_of (room_of old.blocks) restores.verdict rehearsal))
       (λ fault. (image : List (List ℕ)) → HoldsSynced image old → IsFaulty fault → ⊥)
+  pub reported : IfErr result IsReported

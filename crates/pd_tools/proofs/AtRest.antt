@@ -10,7 +10,7 @@ use Rattle.pd_kinds.specs.Objects.{SinkState}
 use Rattle.pd_kinds.specs.Report.{report_of}
 use Rattle.pd_kinds.specs.Stages.{faults}
 use Rattle.pd_answers.specs.Answer.{Objects, AreFresh}
-use Rattle.pd_answers.specs.Requests.{Request, check, dump, restore, generate, is_built}
+use Rattle.pd_answers.specs.Requests.{Request, check, dump, restore, generate, rehearse, is_built}
 use Rattle.pd_answers.specs.Words.{built, spelled, asked}
 use Rattle.pd_answers.specs.Promises.{image_text, terms_of}
 use Rattle.pd_spells.specs.Early.{is_pool_early}
@@ -19,6 +19,7 @@ use Rattle.pd_laid.specs.LaidThin.{laid_pool}
 use Rattle.pd_tools.specs.Restore.{HaveVerdicts}
 use Rattle.pd_tools.proofs.Checks.{told}
 use Rattle.pd_tools.proofs.Queries.{both_told, told_or}
+use Rattle.pd_tools.proofs.Rehearses.{rehearse_at_rest}
 use Rattle.pd_tools.proofs.Restores.{restore_at_rest}
 
 -- the flag isn't built
@@ -70,4 +71,5 @@ at_rest (Some (dump kind false file path)) before notes fresh verdicts is = (
 )
 at_rest (Some (dump kind true file path)) before notes fresh verdicts is = absurd (true≢false (sym is ∙ no_shared kind file path))
 at_rest (Some (generate number file)) before notes fresh verdicts is = (tt, tt, tt)
+at_rest (Some (rehearse number path)) before notes fresh verdicts is = rehearse_at_rest number path before (record before { notes = notes }) before.output fresh.output.2 verdicts fresh.output.0
 at_rest (Some _) before notes fresh verdicts is = absurd (true≢false (sym is))

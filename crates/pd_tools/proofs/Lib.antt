@@ -4,3 +4,4 @@ pub mod AtRest
 pub mod Queries
 pub mod Restores
 pub mod Generates
+pub mod Rehearses
