@@ -41,6 +41,7 @@ is_built (restore Thin version text image) = true
 is_built (rmap first end file image) = true
 is_built (list_devices file image) = true
 is_built (generate number file) = true
+is_built (rehearse number image) = true
 is_built _ = false
 
 -- whether a restore reads the second version of a pool's text, too

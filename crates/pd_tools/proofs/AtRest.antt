@@ -10,7 +10,7 @@ use Rattle.pd_kinds.specs.Meaning.{thin_meaning}
 use Rattle.pd_kinds.specs.Report.{report_of}
 use Rattle.pd_kinds.specs.Stages.{faults}
 use Rattle.pd_answers.specs.Answer.{Objects, AreFresh}
-use Rattle.pd_answers.specs.Requests.{Request, check, dump, restore, rmap, list_devices, generate, is_built}
+use Rattle.pd_answers.specs.Requests.{Request, check, dump, restore, rmap, list_devices, generate, rehearse, is_built}
 use Rattle.pd_answers.specs.QueryLines.{list_lines, rmap_lines}
 use Rattle.pd_answers.specs.Words.{built, spelled, asked}
 use Rattle.pd_answers.specs.Promises.{image_text, terms_of}
@@ -21,6 +21,7 @@ use Rattle.pd_tools.specs.Restore.{HaveVerdicts}
 use Rattle.pd_tools.proofs.Checks.{told}
 use Rattle.pd_tools.proofs.Clears.{clearing_at_rest}
 use Rattle.pd_tools.proofs.Queries.{query_at_rest}
+use Rattle.pd_tools.proofs.Rehearses.{rehearse_at_rest}
 use Rattle.pd_tools.proofs.Restores.{restore_at_rest}
 
 -- shared leaves aren't built
@@ -59,4 +60,5 @@ at_rest (Some (dump kind true file path)) before notes fresh verdicts is = absur
 at_rest (Some (rmap first end file path)) before notes fresh verdicts is = query_at_rest Thin (λ image. rmap_lines first end (thin_meaning image)) before.input.held
 at_rest (Some (list_devices file path)) before notes fresh verdicts is = query_at_rest Thin (λ image. list_lines (thin_meaning image)) before.input.held
 at_rest (Some (generate number file)) before notes fresh verdicts is = (tt, tt, tt)
+at_rest (Some (rehearse number path)) before notes fresh verdicts is = rehearse_at_rest number path before (record before { notes = notes }) before.output fresh.output.2 verdicts fresh.output.0
 at_rest (Some _) before notes fresh verdicts is = absurd (true≢false (sym is))

@@ -5,3 +5,4 @@ pub mod AtRest
 pub mod Queries
 pub mod Restores
 pub mod Generates
+pub mod Rehearses

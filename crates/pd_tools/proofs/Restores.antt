@@ -40,7 +40,7 @@ use Rattle.pd_tools.specs.Stop.{stop_status}
 use Rattle.pd_tools.specs.Restore.{HaveVerdicts, TextsHaveVerdicts, IsRestoredAs, AreAttached, AreUnattached, FailedToAttach, outcome_status, outcome_line}
 use Rattle.pd_tools.specs.Work.{IsStopped, IsFinished, HasCause}
 
-abbrev Image : Type 0
+abbrev pub Image : Type 0
 Image = List (List ℕ)
 
 -- the verdicts of all kinds
@@ -51,12 +51,12 @@ all_kinds thin cache era Cache version = cache version
 all_kinds thin cache era Era version = era
 
 -- what is there before the first call, where nothing is unsynced
-here : (image : Image) (Made : Image → Type 0) (device : DeviceState) → HoldsSynced image device → LeavesNow (IsOldNoneOrMade image Made) device
+pub here : (image : Image) (Made : Image → Type 0) (device : DeviceState) → HoldsSynced image device → LeavesNow (IsOldNoneOrMade image Made) device
 here image Made device synced left firsts leaves chance =
     inl (left_synced image left (now image device.history) refl synced.unsynced (left_now device image left firsts synced.held leaves).0)
 
 -- a device that was left alone still holds its image, with nothing unsynced
-still_synced : (image : Image) (old new : DeviceState) → IsUntouched old new → HoldsSynced image old → HoldsSynced image new
+pub still_synced : (image : Image) (old new : DeviceState) → IsUntouched old new → HoldsSynced image old → HoldsSynced image new
 still_synced image old new same synced = record {
   held = same.held ∙ synced.held;
   unsynced = ap (λ (h : History). h.unsynced) same.history ∙ synced.unsynced;
@@ -80,10 +80,10 @@ untouched_output Made unwritten status old new synced same not_made = record {
     if_same (Some now) image is = inl (same_Some now image is)
 
 -- the room of an output, and the text that is left
-room_in : Option Image → ℕ
+pub room_in : Option Image → ℕ
 room_in held = option_map_or (λ (image : Image). room_of (length image)) held 0
 
-room-told : (held : Option Image) → IfSome held (λ image. room_in held ≡ room_of (length image))
+pub room-told : (held : Option Image) → IfSome held (λ image. room_in held ≡ room_of (length image))
 unfolding room_in
 room-told None = tt
 room-told (Some image) = refl
@@ -98,7 +98,7 @@ verdict-told P early None room v is = tt
 verdict-told P early (Some text) room v is = (is, refl)
 
 -- the answer to a verdict, by the result
-answer_accepted : {M : Type 0} (Lawful : M → Type 0) (v : Verdict M) → IsAccepted Lawful v → restore_answer v ≡ record { status = 0; out = []; notes = [] }
+pub answer_accepted : {M : Type 0} (Lawful : M → Type 0) (v : Verdict M) → IsAccepted Lawful v → restore_answer v ≡ record { status = 0; out = []; notes = [] }
 answer_accepted Lawful (accepted m) is = refl
 answer_accepted Lawful (refused why) is = absurd is
 answer_accepted Lawful (no_room needed blocks) is = absurd is
@@ -109,7 +109,7 @@ answer_refused why (accepted m) is = absurd is
 answer_refused why (refused refusal) is = rw is refl
 answer_refused why (no_room needed blocks) is = absurd is
 
-answer_no_room : {M : Type 0} (need room : ℕ) (v : Verdict M) → IsWithoutRoom need room v
+pub answer_no_room : {M : Type 0} (need room : ℕ) (v : Verdict M) → IsWithoutRoom need room v
     → restore_answer v ≡ record { status = 4; out = []; notes = outcome_line (NoRoom need room) }
 answer_no_room need room (accepted m) is = absurd is
 answer_no_room need room (refused refusal) is = absurd is
@@ -170,7 +170,7 @@ at_held None P image is all = absurd (none is)
 at_held (Some other) P image is all = subst P (same_Some other image is) all
 
 -- the room of a device that tells how many blocks it has
-room-held : (held opened_held : Option Image) (blocks : ℕ) → opened_held ≡ held → IfSome opened_held (λ image. length image ≡ blocks)
+pub room-held : (held opened_held : Option Image) (blocks : ℕ) → opened_held ≡ held → IfSome opened_held (λ image. length image ≡ blocks)
     → IfSome held (λ image. room_of blocks ≡ room_of (length image))
 room-held held opened_held blocks same measured =
     IfSome_then held (subst (λ (h : Option Image). IfSome h (λ image. length image ≡ blocks)) same measured) (λ image is. ap room_of (sym is))
@@ -375,7 +375,7 @@ not_attached_as Cache version file path others notes source last_source output l
 not_attached_as Era version file path others notes source last_source output last_output synced = not_attached IsLawfulEra IsEraVerdict is_era_early laid_era file path others notes source last_source output last_output synced
 
 -- what is left where the line of a refusal is lost
-left_lost : (Made : Image → Image → Type 0) (unwritten : Bool) (status : ℕ) (old new : DeviceState) → LeavesMade Made unwritten status old new → LeavesMade Made unwritten 6 old new
+pub left_lost : (Made : Image → Image → Type 0) (unwritten : Bool) (status : ℕ) (old new : DeviceState) → LeavesMade Made unwritten status old new → LeavesMade Made unwritten 6 old new
 left_lost Made unwritten status old new left = record {
   output = record {
     crash = left.output.crash;

@@ -4,3 +4,4 @@ pub mod Read
 pub mod Restore
 pub mod Work
 pub mod Query
+pub mod Rehearse

@@ -7,6 +7,7 @@ mod generate;
 mod notes;
 mod query;
 mod refusals;
+mod rehearse;
 mod restore;
 mod run;
 mod stop;

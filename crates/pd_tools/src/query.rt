@@ -73,7 +73,7 @@ pub fn run_query<K: Sink, E: Sink, A: Device>(
 }
 
 /// Puts the report of an image with faults to `notes`, and answers the status 1, or 6 where `notes` fails.
-fn put_faults<E: Sink>(report: &Report, notes: &mut E) -> u8
+pub fn put_faults<E: Sink>(report: &Report, notes: &mut E) -> u8
     requires { (E.state notes.old).access ≡ 1 }
     ensures { PutsLine (reported_lines report.now) 1 result (E.state notes.old) (E.state notes.new) }
 {

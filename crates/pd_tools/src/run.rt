@@ -14,6 +14,7 @@ use crate::clear::run_any_check;
 use crate::generate::run_generate;
 use crate::notes::{USAGE_LINE, put_line};
 use crate::query::{Query, run_query};
+use crate::rehearse::run_rehearse;
 use crate::restore::{run_restore, texts_have_verdicts};
 use pd_image::{Device, Sink, Source};
 use pd_words::{Name, Request, read_words};
@@ -157,7 +158,14 @@ fn run_request<S: Source, K: Sink, E: Sink, A: Device, B: Device>(
         Request::Generate { number, out: file } => {
             run_generate(number, file_in(words, file), out, notes)
         }
-        Request::Rehearse { .. } => unreachable!(),
+        Request::Rehearse { number, image } => run_rehearse(
+            alloc,
+            number,
+            image.word_in(words),
+            out,
+            notes,
+            output,
+        ),
     }
 }
 

@@ -1,5 +1,5 @@
 -- What a request that was read means.
-use Rattle.std.specs.Prelude.{ℕ, ◌<◌, Bool, List, Option, Some, None, IfSome, Result, Ok, Err}
+use Rattle.std.specs.Prelude.{ℕ, ◌<◌, ◌≤◌, Bool, List, Option, Some, None, IfSome, Result, Ok, Err}
 use Rattle.std.specs.Option.{option_map}
 use Rattle.pd_kinds.specs.declared.kind.Kind.{Kind}
 use Rattle.pd_words.specs.declared.request.Name.{Name}
@@ -53,7 +53,11 @@ IsName number name = name.0 < number
 abbrev pub IsNameIfAny : ℕ → Option Name → Type 0
 IsNameIfAny number name = IfSome name (IsName number)
 
--- each name of a request is
+-- a number of the generator
+abbrev pub IsGenerated : ℕ → Type 0
+IsGenerated number = number ≤ 10000
+
+-- each name of a request is, and the generator's number is one
 abbrev pub AreNames : ℕ → Request → Type 0
 AreNames number (Check kind until clear image) = IsName number image
 AreNames number (Dump kind image out shared) = IsName number image × IsNameIfAny number out
@@ -63,5 +67,5 @@ AreNames number (Search input output transaction block_size blocks) = IsName num
 AreNames number (Rmap first end image out) = IsName number image × IsNameIfAny number out
 AreNames number (ListDevices image out) = IsName number image × IsNameIfAny number out
 AreNames number (Since era image out) = IsName number image × IsNameIfAny number out
-AreNames number (Generate number' out) = IsNameIfAny number out
-AreNames number (Rehearse number' image) = IsName number image
+AreNames number (Generate generated out) = IsNameIfAny number out × IsGenerated generated
+AreNames number (Rehearse generated image) = IsName number image × IsGenerated generated

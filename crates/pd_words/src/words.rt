@@ -5,7 +5,7 @@ ghost use Rattle.pd_answers.specs.Words as words_spec;
 ghost use Rattle.pd_answers.specs.Requests.{is_built};
 ghost use Rattle.pd_words.specs.Items.{given_as, IsGivenWithin, tool_as};
 ghost use Rattle.pd_words.specs.Numbers.{region_as};
-ghost use Rattle.pd_words.specs.Words.{request_as, read_as, answer_as, dump_as, word_of, words_of, AreNames, IsName, IsNameIfAny};
+ghost use Rattle.pd_words.specs.Words.{request_as, read_as, answer_as, dump_as, word_of, words_of, AreNames, IsGenerated, IsName, IsNameIfAny};
 
 use crate::items::{Given, IMAGE, Tool, are_items, given_for, tool_named};
 use crate::numbers::{Region, number_below, read_region};
@@ -103,6 +103,10 @@ fn is_built(request: &Request) -> bool
         } => true,
         Request::List { image: _, out: _ } => true,
         Request::Generate { number: _, out: _ } => true,
+        Request::Rehearse {
+            number: _,
+            image: _,
+        } => true,
         _ => false,
     }
 }
@@ -271,7 +275,8 @@ fn read_rehearse(words: &[String]) -> Option<Request>
 #[tactic(auto, unfolding(pd_answers::specs::Words::generated_number))]
 fn generated_number(words: &[String], name: Name) -> Option<u32>
     requires { IsName (length words.now) name }
-    ensures { result ≡ generated_number (word_of (map string_bytes words.now) name) }
+    ensures number { result ≡ generated_number (word_of (map string_bytes words.now) name) }
+    ensures within { IfSome result IsGenerated }
 {
     match number_below(10001, name.word_in(words)) {
         None => None,

@@ -7,6 +7,7 @@ use Rattle.pd_answers.specs.Requests as request
 use Rattle.pd_answers.specs.Requests.{is_built}
 use Rattle.pd_answers.specs.Answer.{Objects}
 use Rattle.pd_answers.specs.Promises.{generate, terms_of}
+use Rattle.pd_answers.specs.Rehearsals.{rehearse}
 use Rattle.pd_answers.specs.Restores.{restore}
 use Rattle.std.specs.Option.{option_copied}
 use Rattle.pd_words.specs.Words.{word_of, words_of}
@@ -86,3 +87,15 @@ returns-in-Generate g c others =
     rw w.is (generated_as_asked w.number (words_of (map string_bytes c.args.words.now) w.file) (option_copied c.file_in-in-Generate.result) _ _ _ _
     c.file_in-in-Generate.ensures
     (c.run_generate.ensures (record others { source = g.S.Source.state c.args.source.now; input = g.A.Device.state c.args.input.now; output = g.B.Device.state c.args.output.now })))
+
+-- so with the image of a rehearsal
+rehearsed_as_asked : (number : ℕ) (path image : List ℕ) (attached : SinkState) (before after : Objects) (status : ℕ)
+    → image ≡ path → Answers (rehearse number image) attached before after status → Answers (rehearse number path) attached before after status
+rehearsed_as_asked number path image attached before after status same answers = rw same at answers
+
+pub returns-in-Rehearse : goal.returns-in-Rehearse
+returns-in-Rehearse g c others =
+    let w = c.in-Rehearse in
+    rw w.is (rehearsed_as_asked w.number (word_of (map string_bytes c.args.words.now) w.image) c.word_in-in-Rehearse.result.now _ _ _ _
+    c.word_in-in-Rehearse.ensures
+    (c.run_rehearse.ensures (record others { source = g.S.Source.state c.args.source.now; input = g.A.Device.state c.args.input.now })))

@@ -13,16 +13,16 @@ returns-in_err-number-clause-asked c =
     let words = map string_bytes c.args.words.now in
     rw c.from_residual-in_err-number.ensures
     (no_rehearse_number (items_of (drop 1 words)) (given_as words c.given_for.result) (word_of words c.in_ok-required.field-0)
-    c.given_for.ensures.given (c.in_ok-required.ensures.value words) c.in_err-number.ensures)
+    c.given_for.ensures.given (c.in_ok-required.ensures.value words) c.in_err-number.ensures.number)
 
 pub returns-clause-asked : goal.returns-clause-asked
 returns-clause-asked c =
     let words = map string_bytes c.args.words.now in
     rehearse_given (items_of (drop 1 words)) (given_as words c.given_for.result) (given_as words c.given_for-2.result)
     (word_of words c.in_ok-required.field-0) c.in_ok-number.number (word_of words c.in_ok-image.image) _
-    c.given_for.ensures.given (c.in_ok-required.ensures.value words) c.in_ok-number.ensures
+    c.given_for.ensures.given (c.in_ok-required.ensures.value words) c.in_ok-number.ensures.number
     c.given_for-2.ensures.given (c.in_ok-image.ensures.value words)
     refl
 
 pub returns-clause-names : goal.returns-clause-names
-returns-clause-names c = c.in_ok-image.ensures.within (length c.args.words.now) c.given_for-2.ensures.within
+returns-clause-names c = (c.in_ok-image.ensures.within (length c.args.words.now) c.given_for-2.ensures.within, c.in_ok-number.ensures.within)

@@ -1,0 +1,212 @@
+-- What a rehearsal comes to: the restore, and then the check and the dump, which only read.
+use Rattle.std.proofs.Common.{◌≡◌, ℕ, ◌≤◌, ◌<◌, inl, inr, List, length, Option, Some, None, IfSome, IsSome, Result, Ok, Err, refl, sym, ap, subst, ◌∙◌, arith}
+use Rattle.std.specs.Prelude.{MatchResult}
+use Rattle.std.proofs.lemmas.Bool.{cases_lt}
+use Rattle.pd_kinds.specs.declared.limits.TheConstants.{MAX_META_BLOCKS}
+use Rattle.pd_kinds.specs.Crash.{HoldsSynced, IsOldNoneOrMade, IsUntouched, LeavesOnly}
+use Rattle.pd_kinds.specs.Graph.{block_at}
+use Rattle.pd_kinds.specs.Limits.{room_of}
+use Rattle.pd_kinds.specs.Meaning.{ThinPool}
+use Rattle.pd_kinds.specs.Moments.{History}
+use Rattle.pd_kinds.specs.Objects.{DeviceState}
+use Rattle.pd_kinds.specs.ThinSuper.{thin_fields}
+use Rattle.pd_kinds.proofs.CrashLemmas.{and_then, stays}
+use Rattle.pd_grammar.specs.Spelling.{Verdict, accepted, refused, no_room}
+use Rattle.pd_spells.specs.Lawful.{IsLawfulPool}
+use Rattle.pd_spells.specs.ThinNeed.{thin_need, IsThinVerdict}
+use Rattle.pd_spells.specs.ThinText.{SpellsPool}
+use Rattle.pd_image.specs.Device.{OnlyReads}
+use Rattle.pd_laid.specs.Laid.{IsLaid, laid_number}
+use Rattle.pd_laid.specs.LaidThin.{laid_pool}
+use Rattle.pd_laid.specs.Made.{Makes}
+use Rattle.pd_laid_thin.specs.CleanPool.{IsCleanPool}
+use Rattle.pd_answers.specs.Generated.{generated_text}
+use Rattle.pd_answers.specs.Rehearsals.{AreNumbers}
+use Rattle.pd_gen.specs.Pool.{generated_pool}
+use Rattle.pd_restore.specs.Restored.{IsAccepted}
+use Rattle.pd_rehearse.specs.declared.fault.RehearseFault.{RehearseFault}
+use Rattle.pd_rehearse.specs.declared.fault.RehearseFault.TheVariants as f
+use Rattle.pd_rehearse.specs.declared.run.Rehearsal.{Rehearsal}
+use Rattle.pd_rehearse.specs.Counted.{IsCountOfPool}
+use Rattle.pd_rehearse.specs.Failing.{FindsFaults, HasFaults, IsFaulty, IsReported, IsTurnedDown}
+use Rattle.pd_rehearse.specs.Rehearsed.{Rehearses, found_of}
+use Rattle.pd_rehearse.specs.Restoring.{AnswersFault, RestoresText}
+use Rattle.pd_rehearse.proofs.Numbers.{numbers_of}
+
+abbrev Image : Type 0
+Image = List (List ℕ)
+
+-- the laws of texts and of laid pools
+pub record Laws (number : ℕ) : Type 0 where
+  pub few : number ≤ 10000
+  pub spells : SpellsPool (generated_text number) (generated_pool number)
+  pub one : (text : List ℕ) (m n : ThinPool) → SpellsPool text m → SpellsPool text n → m ≡ n
+  pub verdict : (text : List ℕ) (room : ℕ) (v w : Verdict ThinPool) → IsThinVerdict text room v → IsThinVerdict text room w → v ≡ w
+  pub above : (text : List ℕ) (m : ThinPool) (room : ℕ) → SpellsPool text m → room < thin_need m room
+      → (needed : ℕ) × (IsThinVerdict text room (no_room needed room) × ((room < needed) × (needed ≤ thin_need m room)))
+  pub clean : (m : ThinPool) (base image : Image) → IsLawfulPool m → thin_need m (room_of (length base)) ≤ room_of (length base)
+      → IsLaid (laid_pool m (room_of (length base))) base image → IsCleanPool image m
+  pub need : (m : ThinPool) (n : ℕ) → IsLawfulPool m → n ≤ MAX_META_BLOCKS → thin_need m n ≤ n → laid_number (laid_pool m n) ≡ thin_need m n
+  pub used : (m : ThinPool) (base image : Image) → IsLawfulPool m → laid_number (laid_pool m (room_of (length base))) ≤ room_of (length base)
+      → IsLaid (laid_pool m (room_of (length base))) base image → (thin_fields (block_at image 0)).meta_map.allocated ≡ laid_number (laid_pool m (room_of (length base)))
+
+-- the restore came to its end
+abbrev pub done : Result (Unit {0}) RehearseFault
+done = Ok tt
+
+-- what is right of the result, by the numbers of a pool
+abbrev Finds : Result Rehearsal RehearseFault → ℕ → Verdict ThinPool → Type 0
+Finds result room v = MatchResult result (λ r. AreNumbers v (found_of room v r)) (λ fault. IsFaulty fault → ⊥)
+
+module _ (number : ℕ) (laws : Laws number) (result : Result Rehearsal RehearseFault) where
+  -- an accepted pool has room
+  enough : (m : ThinPool) (room : ℕ) → IsThinVerdict (generated_text number) room (accepted m) → thin_need m room ≤ room
+  enough m room is = elim (cases_lt room (thin_need m room)) [
+    | inr some ↦ some
+    | inl less ↦
+        let other = laws.above (generated_text number) m room is.1 less in
+        absurd (apart (laws.verdict (generated_text number) room (accepted m) (no_room other.0 room) is other.1.0))
+  ]
+    where
+      apart : {needed blocks : ℕ} → accepted m ≡ no_room needed blocks → ⊥
+      apart e = cc
+
+  finds_pool : (m : ThinPool) (room : ℕ) (now : Image) → m ≡ generated_pool number → (thin_fields (block_at now 0)).meta_map.allocated ≡ thin_need m room
+      → (result : Result Rehearsal RehearseFault) → MatchResult result (IsCountOfPool now m) (λ fault. IsFaulty fault → ⊥) → Finds result room (accepted m)
+  finds_pool m room now is used (Ok r) counted = numbers_of number laws.few m is room (accepted m) r (counted.used ∙ used) counted.counts
+  finds_pool m room now is used (Err fault) counted = counted
+
+  -- what was made of the text is found
+  finds_made : (image now : Image) (v : Verdict ThinPool) → IsThinVerdict (generated_text number) (room_of (length image)) v → IsAccepted IsLawfulPool v
+      → Makes laid_pool (room_of (length image)) v image now
+      → ((m : ThinPool) → IsCleanPool now m → MatchResult result (IsCountOfPool now m) (λ fault. IsFaulty fault → ⊥))
+      → Finds result (room_of (length image)) v
+  finds_made image now (accepted m) right lawful laid counted =
+      let room = room_of (length image) in
+      let some = enough m room right in
+      let limit : room ≤ MAX_META_BLOCKS = omega arith in
+      let need = laws.need m room lawful limit some in
+      let used = laws.used m image now lawful (omega arith) laid in
+      finds_pool m room now (laws.one (generated_text number) m (generated_pool number) right.1 laws.spells) (used ∙ need) result (counted m (laws.clean m image now lawful some laid))
+  finds_made image now (refused why) right lawful laid counted = absurd laid
+  finds_made image now (no_room needed blocks) right lawful laid counted = absurd laid
+
+  finds_in : (image now : Image) (blocks : ℕ) (v : Verdict ThinPool) → length image ≡ blocks → IsThinVerdict (generated_text number) (room_of blocks) v → IsAccepted IsLawfulPool v
+      → Makes laid_pool (room_of blocks) v image now
+      → ((m : ThinPool) → IsCleanPool now m → MatchResult result (IsCountOfPool now m) (λ fault. IsFaulty fault → ⊥))
+      → Finds result (room_of blocks) v
+  finds_in image now blocks v same right lawful laid counted =
+      rw (← same) (finds_made image now v (rw (← same) at right) lawful (rw (← same) at laid) counted)
+
+  module _ (old mid new : DeviceState) (measured : IfSome old.held (λ image. length image ≡ old.blocks)) (restored : RestoresText number done old mid) (kept : OnlyReads mid new)
+      (counted : (m : ThinPool) (image : Image) → mid.held ≡ Some image → IsCleanPool image m → MatchResult result (IsCountOfPool image m) (λ fault. IsFaulty fault → ⊥)) where
+    -- what was held is told, and what is made is held then
+    told_in : (o : Option Image) (P : Image → Type 0) → IsSome o → IfSome o P → (now : Image) × ((o ≡ Some now) × P now)
+    told_in None P some all = absurd (cc)
+    told_in (Some now) P some all = (now, (refl, all))
+
+    numbers : (image : Image) → HoldsSynced image old → Finds result (room_of old.blocks) restored.verdict
+    numbers image synced =
+        let now = told_in mid.held (λ now. Makes laid_pool (room_of old.blocks) restored.verdict image now × HoldsSynced now mid) (restored.still_told image synced) (restored.made image synced) in
+        let blocks : length image ≡ old.blocks = rw synced.held at measured in
+        finds_in image now.0 old.blocks restored.verdict blocks restored.right restored.answer now.1.1.0 (λ m clean. counted m now.0 now.1.0 clean)
+
+    -- the device after the check and the dump
+    crash : (image : Image) → HoldsSynced image old → LeavesOnly (IsOldNoneOrMade image (Makes laid_pool (room_of old.blocks) restored.verdict image)) old new
+    crash image synced = let first = restored.crash image synced in and_then first (stays {old = mid} {new = new} kept.held kept.history first.now)
+
+    still_synced : (image : Image) → HoldsSynced image mid → HoldsSynced image new
+    still_synced image synced = record {
+      held = kept.held ∙ synced.held;
+      unsynced = ap (λ (h : History). h.unsynced) kept.history ∙ synced.unsynced;
+      firsts = ap (λ (h : History). h.firsts) kept.history ∙ synced.firsts;
+    }
+
+    made_in : (o : Option Image) (P Q : Image → Type 0) → ((x : Image) → P x → Q x) → IfSome o P → IfSome o Q
+    made_in None P Q each all = tt
+    made_in (Some x) P Q each all = each x all
+
+    made : (image : Image) → HoldsSynced image old → IfSome new.held (λ now. Makes laid_pool (room_of old.blocks) restored.verdict image now × HoldsSynced now new)
+    made image synced =
+        subst (λ (o : Option Image). IfSome o (λ now. Makes laid_pool (room_of old.blocks) restored.verdict image now × HoldsSynced now new)) (sym kept.held)
+        (made_in mid.held (λ now. Makes laid_pool (room_of old.blocks) restored.verdict image now × HoldsSynced now mid) _ (λ now is. (is.0, still_synced now is.1)) (restored.made image synced))
+
+    untouched : IsUntouched old mid → IsUntouched old new
+    untouched same = record { held = kept.held ∙ same.held; history = kept.history ∙ same.history }
+
+    answer : (fault : RehearseFault) → HasFaults fault → AnswersFault fault restored.verdict
+    answer f.Memory has = tt
+    answer f.Device has = tt
+    answer (f.NoRoom need blocks) has = absurd has
+    answer (f.Faulty report) has = restored.answer
+
+    not_down : (fault : RehearseFault) → HasFaults fault → IsTurnedDown fault → ⊥
+    not_down f.Memory has down = down
+    not_down f.Device has down = down
+    not_down (f.NoRoom need blocks) has down = has
+    not_down (f.Faulty report) has down = down
+
+    restores : (result : Result Rehearsal RehearseFault) → FindsFaults result → RestoresText number result old new
+    restores (Ok r) finds = record {
+      verdict = restored.verdict;
+      right = restored.right;
+      answer = restored.answer;
+      crash = crash;
+      made = made;
+      still_told = λ image synced. rw kept.held (restored.still_told image synced);
+      kept = tt;
+      untouched = λ early. untouched (restored.untouched early);
+    }
+    restores (Err fault) finds = record {
+      verdict = restored.verdict;
+      right = restored.right;
+      answer = answer fault finds;
+      crash = crash;
+      made = tt;
+      still_told = tt;
+      kept = λ down. absurd (not_down fault finds down);
+      untouched = λ early. untouched (restored.untouched early);
+    }
+
+-- a report of faults has some
+reported : (fault : RehearseFault) → HasFaults fault → IsReported fault
+reported f.Memory has = tt
+reported f.Device has = tt
+reported (f.NoRoom need blocks) has = tt
+reported (f.Faulty report) has = has
+
+-- what isn't a report of faults
+pub unreported : (fault : RehearseFault) → (IsFaulty fault → ⊥) → IsReported fault
+unreported f.Memory none = tt
+unreported f.Device none = tt
+unreported (f.NoRoom need blocks) none = tt
+unreported (f.Faulty report) none = absurd (none tt)
+
+-- a restore that failed
+pub restores_not : (number : ℕ) (fault : RehearseFault) (old new : DeviceState) → RestoresText {T = Unit {0}} number (Err fault) old new → RestoresText {T = Rehearsal} number (Err fault) old new
+restores_not number fault old new restored = record {
+  verdict = restored.verdict;
+  right = restored.right;
+  answer = restored.answer;
+  crash = restored.crash;
+  made = tt;
+  still_told = tt;
+  kept = restored.kept;
+  untouched = restored.untouched;
+}
+
+pub rehearses : (number : ℕ) (laws : Laws number) (result : Result Rehearsal RehearseFault) (old mid new : DeviceState) → IfSome old.held (λ image. length image ≡ old.blocks)
+    → RestoresText number done old mid → OnlyReads mid new
+    → ((m : ThinPool) (image : Image) → mid.held ≡ Some image → IsCleanPool image m → MatchResult result (IsCountOfPool image m) (λ fault. IsFaulty fault → ⊥))
+    → FindsFaults result → Rehearses number result old new
+unfolding restores
+rehearses number laws (Ok r) old mid new measured restored kept counted finds = record {
+  restores = restores number laws (Ok r) old mid new measured restored kept counted (Ok r) finds;
+  numbers = numbers number laws (Ok r) old mid new measured restored kept counted;
+  reported = tt;
+}
+rehearses number laws (Err fault) old mid new measured restored kept counted finds = record {
+  restores = restores number laws (Err fault) old mid new measured restored kept counted (Err fault) finds;
+  numbers = numbers number laws (Err fault) old mid new measured restored kept counted;
+  reported = reported fault finds;
+}

@@ -1,0 +1,308 @@
+-- What the work of a rehearsal comes to, over plain variables.
+use Rattle.std.proofs.Common.{◌≡◌, ◌≢◌, ◌⊎◌, inl, inr, ℕ, ◌≤◌, true, false, nat_eq, Bool, List, [], ◌∷◌, length, Option, None, Some, IfSome, IsTrue, Result, Ok, Err, refl, sym, ap, ◌∙◌, subst, arith, lit≤}
+use Rattle.std.specs.Prelude.{MatchResult, OnOk, count_by, sum_by}
+use Rattle.std.proofs.lemmas.Bool.{ne_eqb}
+use Rattle.std.proofs.lemmas.Option.{IfSome_then}
+use Rattle.pd_kinds.specs.Objects.{DeviceState, SinkState, Rose, Appends, AppendsFront}
+use Rattle.pd_kinds.specs.Crash.{IsSynced, HoldsSynced, HasNoSuper, IsUntouched}
+use Rattle.pd_kinds.specs.Limits.{room_of}
+use Rattle.pd_kinds.specs.Meaning.{ThinPool, ThinDevice}
+use Rattle.pd_kinds.specs.Report.{Reported, report_of}
+use Rattle.pd_kinds.proofs.AppendLemmas.{appends_none, front_none}
+use Rattle.pd_kinds.proofs.CrashLemmas.{and_then, stays}
+use Rattle.pd_grammar.specs.Spelling.{Verdict, accepted, refused, no_room}
+use Rattle.pd_spells.specs.Early.{is_pool_early}
+use Rattle.pd_spells.specs.Lawful.{IsLawfulPool}
+use Rattle.pd_spells.specs.Lines.{no_room_line, reported_lines}
+use Rattle.pd_spells.specs.ThinNeed.{thin_need, IsThinVerdict}
+use Rattle.pd_spells.specs.ThinText.{text_of_pool}
+use Rattle.pd_laid.specs.LaidThin.{laid_pool}
+use Rattle.pd_laid.specs.Made.{Makes}
+use Rattle.pd_image.specs.Device.{AttachesDevice, KeepsPlace}
+use Rattle.pd_answers.specs.Answer.{Objects, IsUsed, reading, writing}
+use Rattle.pd_answers.specs.Generated.{generated_text}
+use Rattle.pd_answers.specs.Outputs.{LeavesMade}
+use Rattle.pd_answers.specs.Rehearsals.{AreNumbers, Rehearsed, rehearse, rehearsal_answer}
+use Rattle.pd_answers.specs.Restores.{restore_answer}
+use Rattle.pd_answers.specs.Terms.{is_one_of, is_possible}
+use Rattle.pd_restore.specs.Restored.{IsAccepted}
+use Rattle.pd_rehearse.specs.declared.fault.RehearseFault.{RehearseFault}
+use Rattle.pd_rehearse.specs.declared.fault.RehearseFault.TheVariants as f
+use Rattle.pd_rehearse.specs.declared.run.Rehearsal.{Rehearsal}
+use Rattle.pd_rehearse.specs.Failing.{IsTurnedDown}
+use Rattle.pd_rehearse.specs.Rehearsed.{Rehearses, found_of}
+use Rattle.pd_tools.specs.declared.rehearse.Rehearsed.TheVariants.{Clean, NoRoom, Faulty}
+use Rattle.pd_tools.specs.declared.stop.Stop.{Stop}
+use Rattle.pd_tools.specs.declared.stop.Stop.TheVariants.{Device, Stream, Memory}
+use Rattle.pd_tools.specs.Rehearse.{line_of}
+use Rattle.pd_tools.specs.Restore.{HaveVerdicts}
+use Rattle.pd_tools.specs.Stop.{stop_status}
+use Rattle.pd_tools.specs.Work.{IsFinished, IsStopped, IsWork}
+use Rattle.pd_tools.proofs.Checks.{not_yet}
+use Rattle.pd_tools.proofs.Restores.{Image, answer_accepted, answer_no_room, here, room-held, room-told, room_in, still_synced, untouched_output}
+
+-- the numbers of a verdict
+abbrev used_in : Verdict ThinPool → ℕ → ℕ
+used_in (accepted m) room = thin_need m room
+used_in (refused why) room = 0
+used_in (no_room needed blocks) room = 0
+
+abbrev mappings_in : Verdict ThinPool → ℕ
+mappings_in (accepted m) = sum_by (λ (d : ThinDevice). length d.mappings) m.devices
+mappings_in (refused why) = 0
+mappings_in (no_room needed blocks) = 0
+
+abbrev lines_in : Verdict ThinPool → ℕ
+lines_in (accepted m) = count_by (λ (byte : ℕ). nat_eq byte 10) (text_of_pool m)
+lines_in (refused why) = 0
+lines_in (no_room needed blocks) = 0
+
+-- what would have been found
+abbrev meant : ℕ → Verdict ThinPool → Rehearsed
+meant room v = record { room = room; verdict = v; report = report_of []; used = used_in v room; mappings = mappings_in v; lines = lines_in v }
+
+meant_numbers : (room : ℕ) (v : Verdict ThinPool) → AreNumbers v (meant room v)
+meant_numbers room (accepted m) = record { used = refl; mappings = refl; lines = refl }
+meant_numbers room (refused why) = tt
+meant_numbers room (no_room needed blocks) = tt
+
+all_told : (held : Option Image) (P : Type 0) → P → IfSome held (λ image. P)
+all_told None P p = tt
+all_told (Some image) P p = p
+
+-- a fault that is known
+pub known : (fault is : RehearseFault) → fault ≡ is → ◌≡◌ {A = Result Rehearsal RehearseFault} (Err fault) (Err is)
+known fault is same = ap (λ (f : RehearseFault). Err f) same
+
+-- what holds of a result that is known
+match_ok : {T E : Type 0} (P : T → Type 0) (Q : E → Type 0) (result : Result T E) (value : T) → result ≡ Ok value → MatchResult result P Q → P value
+match_ok P Q result value is all = rw is at all
+
+match_err : {T E : Type 0} (P : T → Type 0) (Q : E → Type 0) (result : Result T E) (fault : E) → result ≡ Err fault → MatchResult result P Q → Q fault
+match_err P Q result fault is all = rw is at all
+
+-- a result without a fault, and one that was turned down
+abbrev IsDone : Result Rehearsal RehearseFault → Type 0
+IsDone (Ok r) = Unit {0}
+IsDone (Err fault) = ⊥
+
+abbrev IsDown : Result Rehearsal RehearseFault → Type 0
+IsDown (Ok r) = ⊥
+IsDown (Err fault) = IsTurnedDown fault
+
+where_done : (result : Result Rehearsal RehearseFault) {P : Type 0} → OnOk result P → IsDone result → P
+where_done (Ok r) p is = p
+where_done (Err fault) p is = absurd is
+
+where_down : (result : Result Rehearsal RehearseFault) {P : Type 0} → MatchResult result (λ _. Unit {0}) (λ fault. IsTurnedDown fault → P) → IsDown result → P
+where_down (Ok r) kept is = absurd is
+where_down (Err fault) kept is = kept is
+
+-- before anything was done
+pub rehearse_at_rest : (number : ℕ) (path : List ℕ) (before after : Objects) (output : DeviceState) → IsSynced output → HaveVerdicts IsThinVerdict → output.access ≡ 0
+    → (finding : Rehearsed) × ((rehearse number path).finds (record before { output = output }) (record after { output = output }) finding)
+    × ((rehearse number path).leaves finding (record before { output = output }) (record after { output = output }) 6)
+rehearse_at_rest number path before after output synced verdicts closed =
+    let room = room_in output.held in
+    let v = verdicts (generated_text number) room in (
+      meant room v.0,
+      (
+        record { told = room-told output.held; attached = λ e. absurd (omega arith) },
+        (v.1, all_told output.held _ (refl, meant_numbers room v.0)),
+      ),
+      untouched_output (Makes laid_pool room v.0) (is_pool_early (generated_text number) room) 6 output output synced (record { held = refl; history = refl }) (λ e. omega arith),
+    )
+
+module _ (number : ℕ) (path : List ℕ) (others : Objects) (notes out : SinkState) (output : DeviceState) (synced : IsSynced output) (fresh : out.access ≡ 0) where
+  -- the image couldn't be attached
+  pub rehearse_unattached : (last : DeviceState) → HaveVerdicts IsThinVerdict → AttachesDevice path true false output last → Rose output.faults last.faults
+      → IsStopped (rehearse number path) (record others { out = out; output = output }) (record others { out = out; notes = notes; output = last }) Device
+  rehearse_unattached last verdicts attached rose =
+      let room = room_in output.held in
+      let v = verdicts (generated_text number) room in
+      let same : IsUntouched output last = record { held = attached.held; history = attached.history } in
+      let leaves = λ (status : ℕ) (some : status ≢ 0). untouched_output (Makes laid_pool room v.0) (is_pool_early (generated_text number) room) status output last synced same some in
+      record {
+        finding = meant room v.0;
+        work = record {
+          found = (
+            record { told = room-told output.held; attached = λ e. absurd (omega (arith, attached.access, e)) },
+            (v.1, all_told output.held _ (refl, meant_numbers room v.0)),
+          );
+          possible = refl;
+          followed = record { source = tt; out = not_yet [] out.access out.path fresh; input = tt; output = record { allowed = inr (inr attached.access); named = λ _. attached.path }; third = tt };
+          kept = record { source = refl; out = tt; input = refl; output = tt; third = refl };
+          silent = λ _. refl;
+          leaves = leaves 5 (λ e. omega arith);
+        };
+        cause = inr (inl rose);
+        front = front_none _ out.written;
+        lost = leaves 6 (λ e. omega arith);
+      }
+
+  module _ (opened last : DeviceState) (attached : AttachesDevice path true true output opened) (unfailed : opened.faults ≡ output.faults)
+      (measured : IfSome opened.held (λ image. length image ≡ opened.blocks)) (place : KeepsPlace opened last)
+      (result : Result Rehearsal RehearseFault) (done : Rehearses number result opened last) where
+    abbrev room : ℕ
+    room = room_of opened.blocks
+
+    abbrev verdict : Verdict ThinPool
+    verdict = done.restores.verdict
+
+    untouched : IsUntouched output opened
+    untouched = record { held = attached.held; history = attached.history }
+
+    -- a finding with this report and these numbers
+    abbrev finding_of : Reported → ℕ → ℕ → ℕ → Rehearsed
+    finding_of report used mappings lines = record { room = room; verdict = verdict; report = report; used = used; mappings = mappings; lines = lines }
+
+    -- what it is right to find
+    abbrev IsRight : Reported → ℕ → ℕ → ℕ → Type 0
+    IsRight report used mappings lines = (image : Image) → HoldsSynced image opened → (report ≡ report_of []) × AreNumbers verdict (finding_of report used mappings lines)
+
+    found : (report : Reported) (used mappings lines : ℕ) → IsRight report used mappings lines → (out' : SinkState)
+        → (rehearse number path).finds (record others { out = out; output = output }) (record others { out = out'; notes = notes; output = last }) (finding_of report used mappings lines)
+    found report used mappings lines right out' = (
+      record { told = room-held output.held opened.held opened.blocks attached.held measured; attached = λ _. ap room_of (sym place.blocks) },
+      (done.restores.right, IfSome_then output.held synced (λ image s. right image (still_synced image output opened untouched s))),
+    )
+
+    output_used : IsUsed (writing path) last.access last.path
+    output_used = record { allowed = inr (inl (place.access ∙ attached.access)); named = λ _. rw place.path attached.path }
+
+    -- what the output holds
+    leaves : (status : ℕ) → (status ≡ 0 → IsDone result) → ((status ≡ 3) ⊎ (status ≡ 4) → IsDown result)
+        → LeavesMade (Makes laid_pool room verdict) (is_pool_early (generated_text number) room) status output last
+    leaves status is_done is_down = record {
+      output = record {
+        crash = IfSome_then output.held synced (λ image s.
+            and_then (stays {old = output} {new = opened} attached.held attached.history (here image (Makes laid_pool room verdict image) output s))
+            (done.restores.crash image (still_synced image output opened untouched s)));
+        made = λ zero. IfSome_then output.held synced (λ image s.
+            where_done result done.restores.made (is_done zero) image (still_synced image output opened untouched s));
+        refused = λ either. subst (λ (h : Option Image). IfSome h (λ image. IfSome last.held (λ now. (now ≡ image) ⊎ HasNoSuper now))) attached.held (where_down result done.restores.kept (is_down either));
+      };
+      untouched = λ early. let same = done.restores.untouched early in record { held = same.held ∙ attached.held; history = same.history ∙ attached.history };
+    }
+
+    no_status : (status : ℕ) → status ≢ 0 → status ≢ 3 → status ≢ 4 → LeavesMade (Makes laid_pool room verdict) (is_pool_early (generated_text number) room) status output last
+    no_status status zero three four = leaves status (λ e. absurd (zero e)) (λ either. absurd (elim either [ inl e ↦ three e | inr e ↦ four e ]))
+
+    -- the work without its line
+    quiet : (report : Reported) (used mappings lines : ℕ) → IsRight report used mappings lines → (status : ℕ) → IsTrue (is_possible (rehearse number path) status)
+        → LeavesMade (Makes laid_pool room verdict) (is_pool_early (generated_text number) room) status output last
+        → IsWork (rehearse number path) (finding_of report used mappings lines) (record others { out = out; output = output }) (record others { out = out; notes = notes; output = last }) status
+    quiet report used mappings lines right status possible left = record {
+      found = found report used mappings lines right out;
+      possible = possible;
+      followed = record { source = tt; out = not_yet [] out.access out.path fresh; input = tt; output = output_used; third = tt };
+      kept = record { source = refl; out = tt; input = refl; output = tt; third = refl };
+      silent = λ _. refl;
+      leaves = left;
+    }
+
+    -- memory was wanting, or the device failed
+    pub rehearse_memory : IsStopped (rehearse number path) (record others { out = out; output = output }) (record others { out = out; notes = notes; output = last }) Memory
+    rehearse_memory = record {
+      finding = meant room verdict;
+      work = quiet (report_of []) (used_in verdict room) (mappings_in verdict) (lines_in verdict) (λ image s. (refl, meant_numbers room verdict)) 7 refl
+          (no_status 7 (λ e. omega arith) (λ e. omega arith) (λ e. omega arith));
+      cause = tt;
+      front = front_none _ out.written;
+      lost = no_status 6 (λ e. omega arith) (λ e. omega arith) (λ e. omega arith);
+    }
+
+    pub rehearse_device : Rose opened.faults last.faults → IsStopped (rehearse number path) (record others { out = out; output = output }) (record others { out = out; notes = notes; output = last }) Device
+    rehearse_device rose = record {
+      finding = meant room verdict;
+      work = quiet (report_of []) (used_in verdict room) (mappings_in verdict) (lines_in verdict) (λ image s. (refl, meant_numbers room verdict)) 5 refl
+          (no_status 5 (λ e. omega arith) (λ e. omega arith) (λ e. omega arith));
+      cause = inr (inl (rw unfailed at rose));
+      front = front_none _ out.written;
+      lost = no_status 6 (λ e. omega arith) (λ e. omega arith) (λ e. omega arith);
+    }
+
+    -- there was no room
+    pub rehearse_no_room : (need blocks : ℕ) → result ≡ Err (f.NoRoom need blocks)
+        → IsFinished (rehearse number path) (record others { out = out; output = output }) (record others { out = out; notes = notes; output = last }) 4 (no_room_line need blocks)
+    rehearse_no_room need blocks is =
+        let answer = answer_no_room need blocks verdict (match_err _ _ result (f.NoRoom need blocks) is done.restores.answer) in
+        let down : IsDown result = rw is tt in
+        record {
+          finding = meant room verdict;
+          work = quiet (report_of []) (used_in verdict room) (mappings_in verdict) (lines_in verdict) (λ image s. (refl, meant_numbers room verdict)) 4 refl
+              (leaves 4 (λ e. absurd (omega arith)) (λ _. down));
+          low = lit≤ tt;
+          same_status = rw answer refl;
+          same_line = rw answer refl;
+          out = rw answer (appends_none out.written);
+          open_devices = record { source = tt; input = tt; output = place.access ∙ attached.access; third = tt };
+          open_out = λ e. absurd (omega arith);
+          read = λ _. tt;
+        }
+
+    -- the check found faults
+    pub rehearse_faulty : (report : Reported) → result ≡ Err (f.Faulty report) → report.total ≢ 0
+        → IsFinished (rehearse number path) (record others { out = out; output = output }) (record others { out = out; notes = notes; output = last }) 1 (reported_lines report)
+    rehearse_faulty report is some =
+        let answer = answer_accepted IsLawfulPool verdict (match_err _ _ result (f.Faulty report) is done.restores.answer) in
+        let never = match_err _ _ result (f.Faulty report) is done.numbers in
+        let faulty : nat_eq report.total 0 ≡ false = ne_eqb report.total 0 some in
+        record {
+          finding = finding_of report 0 0 0;
+          work = quiet report 0 0 0 (λ image s. absurd (never image s tt)) 1 refl (no_status 1 (λ e. omega arith) (λ e. omega arith) (λ e. omega arith));
+          low = lit≤ tt;
+          same_status = rw (answer, faulty) refl;
+          same_line = rw (answer, faulty) refl;
+          out = rw (answer, faulty) (appends_none out.written);
+          open_devices = record { source = tt; input = tt; output = place.access ∙ attached.access; third = tt };
+          open_out = λ e. absurd (omega arith);
+          read = λ _. tt;
+        }
+
+    module _ (r : Rehearsal) (is : result ≡ Ok r) (out' : SinkState) (used : IsUsed (reading []) out'.access out'.path) where
+      right : IsRight (report_of []) r.used r.counts.mappings r.counts.lines
+      right image s = (refl, match_ok _ _ result r is done.numbers image s)
+
+      answer : restore_answer verdict ≡ record { status = 0; out = []; notes = [] }
+      answer = answer_accepted IsLawfulPool verdict (match_ok _ _ result r is done.restores.answer)
+
+      loud : (status : ℕ) → IsTrue (is_possible (rehearse number path) status) → (IsTrue (is_one_of (rehearse number path).silent status) → ⊥)
+          → LeavesMade (Makes laid_pool room verdict) (is_pool_early (generated_text number) room) status output last
+          → IsWork (rehearse number path) (found_of room verdict r) (record others { out = out; output = output }) (record others { out = out'; notes = notes; output = last }) status
+      loud status possible heard left = record {
+        found = found (report_of []) r.used r.counts.mappings r.counts.lines right out';
+        possible = possible;
+        followed = record { source = tt; out = used; input = tt; output = output_used; third = tt };
+        kept = record { source = refl; out = tt; input = refl; output = tt; third = refl };
+        silent = λ quiet. absurd (heard quiet);
+        leaves = left;
+      }
+
+      -- the line was put
+      pub rehearse_done : out'.access ≡ 1 → Appends (line_of number r) out.written out'.written
+          → IsFinished (rehearse number path) (record others { out = out; output = output }) (record others { out = out'; notes = notes; output = last }) 0 []
+      rehearse_done access whole =
+          let ended : IsDone result = rw is tt in
+          record {
+            finding = found_of room verdict r;
+            work = loud 0 refl (λ e. cc) (leaves 0 (λ _. ended) (λ either. absurd (elim either [ inl e ↦ omega arith | inr e ↦ omega arith ])));
+            low = lit≤ tt;
+            same_status = rw answer refl;
+            same_line = rw answer refl;
+            out = rw answer whole;
+            open_devices = record { source = tt; input = tt; output = place.access ∙ attached.access; third = tt };
+            open_out = λ _. access;
+            read = λ _. tt;
+          }
+
+      -- or a front of it, since `out` failed
+      pub rehearse_unput : AppendsFront (line_of number r) out.written out'.written → Rose out.faults out'.faults
+          → IsStopped (rehearse number path) (record others { out = out; output = output }) (record others { out = out'; notes = notes; output = last }) Stream
+      rehearse_unput front rose = record {
+        finding = found_of room verdict r;
+        work = loud 6 refl (λ e. cc) (no_status 6 (λ e. omega arith) (λ e. omega arith) (λ e. omega arith));
+        cause = inr rose;
+        front = rw answer front;
+        lost = no_status 6 (λ e. omega arith) (λ e. omega arith) (λ e. omega arith);
+      }

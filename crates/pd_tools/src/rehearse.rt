@@ -1,0 +1,126 @@
+//! A rehearsal, from a number and the path of an image to the line.
+
+ghost use Rattle.std.specs.Prelude.{◌≡◌, ◌≤◌, [], OnOk, MatchResult};
+ghost use Rattle.pd_kinds.specs.Objects.{CountsFault, Appends, AppendsFront, SinkState};
+ghost use Rattle.pd_answers.specs.Answer.{Objects, IsUsed, reading};
+ghost use Rattle.pd_answers.specs.Rehearsals.{rehearse};
+ghost use Rattle.pd_tools.specs.Rehearse.{line_of, rehearsed_line, rehearsed_status};
+ghost use Rattle.pd_tools.specs.Work.{IsFinished, IsStopped, Answers};
+
+use crate::notes::put_line;
+use crate::query::put_faults;
+use crate::refusals::no_room_line;
+use crate::stop::Stop;
+use pd_image::{Device, Failed, Sink};
+use pd_kinds::Report;
+use pd_lines::LineBuffer;
+use pd_rehearse::{Rehearsal, RehearseFault, rehearse};
+use pd_spells::thin_text_has_one_verdict;
+use std::alloc::Global;
+
+/// What becomes of a rehearsal.
+#[derive(Drop)]
+pub enum Rehearsed {
+    /// Its line was put.
+    Clean,
+    /// So many blocks are needed, and so many are there.
+    NoRoom { need: u64, blocks: u64 },
+    /// What was restored has faults.
+    Faulty(Report),
+}
+
+/// Rehearses with the generator's text of the number, over the image at the path.
+pub fn run_rehearse<K: Sink, E: Sink, B: Device>(
+    alloc: Global,
+    number: u32,
+    image: &str,
+    out: &mut K,
+    notes: &mut E,
+    output: &mut B,
+) -> u8
+    requires few { number ≤ 10000 }
+    requires out { (K.state out.old).access ≡ 0 }
+    requires notes { (E.state notes.old).access ≡ 1 }
+    requires output { (B.state output.old).access ≡ 0 }
+    ensures { (others : Objects) → Answers (rehearse number image.now) (E.state notes.old)
+        (record others { out = K.state out.old; output = B.state output.old })
+        (record others { out = K.state out.new; notes = E.state notes.new; output = B.state output.new }) result }
+{
+    match rehearse_image(alloc, number, image, out, output) {
+        Ok(rehearsed) => match rehearsed {
+            Rehearsed::Clean => 0,
+            Rehearsed::NoRoom { need, blocks } => {
+                put_line(notes, no_room_line(need, blocks).as_bytes(), 4)
+            }
+            Rehearsed::Faulty(report) => put_faults(&report, notes),
+        },
+        Err(stop) => stop.put(notes),
+    }
+}
+
+/// Attaches the image, rehearses over it, and puts the line.
+fn rehearse_image<K: Sink, B: Device>(
+    alloc: Global,
+    number: u32,
+    image: &str,
+    out: &mut K,
+    output: &mut B,
+) -> Result<Rehearsed, Stop>
+    requires few { number ≤ 10000 }
+    requires out { (K.state out.old).access ≡ 0 }
+    requires output { (B.state output.old).access ≡ 0 }
+    ensures { (others : Objects) (notes : SinkState) →
+        let before = record others { out = K.state out.old; output = B.state output.old } in
+        let after = record others { out = K.state out.new; notes = notes; output = B.state output.new } in
+        MatchResult result (λ rehearsed. IsFinished (rehearse number image.now) before after (rehearsed_status rehearsed) (rehearsed_line rehearsed))
+        (IsStopped (rehearse number image.now) before after) }
+{
+    thin_text_has_one_verdict();
+    match output.attach(image, true) {
+        Ok(()) => {}
+        Err(_) => return Err(Stop::Device),
+    }
+    let rehearsal = match rehearse(alloc, number, output) {
+        Ok(rehearsal) => rehearsal,
+        Err(fault) => match fault {
+            RehearseFault::Memory => return Err(Stop::Memory),
+            RehearseFault::Device => return Err(Stop::Device),
+            RehearseFault::NoRoom { need, blocks } => return Ok(Rehearsed::NoRoom { need, blocks }),
+            RehearseFault::Faulty(report) => return Ok(Rehearsed::Faulty(report)),
+        },
+    };
+    match put_rehearsal(number, &rehearsal, out) {
+        Ok(()) => Ok(Rehearsed::Clean),
+        Err(_) => Err(Stop::Stream),
+    }
+}
+
+/// Attaches the standard output, and puts the line to it.
+fn put_rehearsal<K: Sink>(number: u32, rehearsal: &Rehearsal, out: &mut K) -> Result<(), Failed>
+    requires { (K.state out.old).access ≡ 0 }
+    ensures whole { OnOk result (Appends (line_of number rehearsal.now) (K.state out.old).written (K.state out.new).written) }
+    ensures front { AppendsFront (line_of number rehearsal.now) (K.state out.old).written (K.state out.new).written }
+    ensures access { OnOk result ((K.state out.new).access ≡ 1) }
+    ensures used { IsUsed (reading []) (K.state out.new).access (K.state out.new).path }
+    ensures faults { CountsFault result (K.state out.old).faults (K.state out.new).faults }
+{
+    out.attach(None)?;
+    out.put(rehearsal_line(number, rehearsal).as_bytes())
+}
+
+/// The line of a rehearsal.
+fn rehearsal_line(number: u32, rehearsal: &Rehearsal) -> LineBuffer
+    ensures { result ≡ line_of number rehearsal.now }
+{
+    let mut line = LineBuffer::new();
+    line.add(b"rehearsal ");
+    line.add_number(number as u64);
+    line.add(b" used ");
+    line.add_number(rehearsal.used);
+    line.add(b" mappings ");
+    line.add_number(rehearsal.counts.mappings);
+    line.add(b" lines ");
+    line.add_number(rehearsal.counts.lines);
+    line.add(b" clean\n");
+    line
+}
