@@ -4,7 +4,6 @@ use Rattle.std.specs.List.{count_by, range_with_len}
 use Rattle.std.proofs.lemmas.Bool.{cases_eq, cases_lt, lt-ltb, le-ltb, ne_eqb}
 use Rattle.std.proofs.lemmas.List.Sums.{sum_by-append}
 use Rattle.pd_graph.specs.declared.audit.Audit.{Audit}
-use Rattle.pd_graph.specs.declared.notes.Note.{Note}
 use Rattle.pd_graph.specs.Audit.{blocks_of, note_at, roles_at, KeepsButRules}
 use Rattle.pd_graph.specs.Roles.{has_bit}
 use Rattle.pd_graph.proofs.BitLemmas.{range_more}
@@ -83,13 +82,6 @@ where_in audit role height n =
     let fewer = where_fewer (is_under audit role height) (λ b. has_bit (roles_at audit b) role) n
     (λ b under. met_of (has_bit (roles_at audit b) role) (nat_lt (note_at audit b).height height) under) in
     omega (arith, fewer, in_role audit role n)
-
--- the test that a node is at a height, by what the audit gave
-pub at_by : (audit : Audit) (role height b roles : ℕ) (met : Bool) (note : Note) → roles ≡ roles_at audit b → met ≡ has_bit roles role → note ≡ note_at audit b
-    → (met && nat_eq note.height height) ≡ is_at audit role height b
-at_by audit role height b roles met note is_roles is_met is_note =
-    ap (λ (m : Bool). m && nat_eq note.height height) (is_met ∙ ap (λ (n : ℕ). has_bit n role) is_roles)
-    ∙ ap (λ (h : ℕ). has_bit (roles_at audit b) role && nat_eq h height) (ap (λ (n : Note). n.height) is_note)
 
 -- one block was read where it is at the height, and none elsewhere
 pub read_one : (f : ℕ → Bool) (b old new : ℕ) → f b ≡ true → new ≤ old + 1 → new + number_where f b ≤ old + number_where f (b + 1)

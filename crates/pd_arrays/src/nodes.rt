@@ -29,13 +29,11 @@ fn levels_at(audit: &Audit, role: u8, b: u64) -> u64
     ensures few { result ≤ 65 }
     ensures above { has_bit (roles_at audit.now b) role ≡ true → (note_at audit.now b).height ≤ 64 → (note_at audit.now b).height < result }
 {
-    let height = audit.note(b).height;
-    let met = has_role(audit.roles(b), role);
-    if met & (height <= MAX_HEIGHT) {
-        height + 1
-    } else {
-        0
+    if !has_role(audit.roles(b), role) {
+        return 0;
     }
+    let height = audit.note(b).height;
+    if height <= MAX_HEIGHT { height + 1 } else { 0 }
 }
 
 /// One more than the greatest height of the blocks that were met in the role and aren't deep.
@@ -80,6 +78,19 @@ fn mark_below<F: Format>(
     mark
 }
 
+/// Whether block b was met in the role, with a note of this height.
+fn is_node_at(audit: &Audit, role: u8, height: u64, b: u64) -> bool
+    requires role { role < 16 }
+    requires block { b < blocks_of audit.now }
+    ensures { result ≡ is_at audit.now role height b }
+{
+    if has_role(audit.roles(b), role) {
+        audit.note(b).height == height
+    } else {
+        false
+    }
+}
+
 /// Marks block b, where it is a node of an array's tree of this height: all blocks that it names were marked before.
 fn mark_node<F: Format, D: Device>(
     marks: &mut ArrayMarks,
@@ -108,9 +119,7 @@ fn mark_node<F: Format, D: Device>(
 {
     edges_lead_to_reached_pairs();
     reached_trees_are_sound();
-    let met = has_role(audit.roles(b), roles.nodes);
-    let is_at = audit.note(b).height == height;
-    if met & is_at {
+    if is_node_at(audit, roles.nodes, height, b) {
         let mut block = Block::zeros();
         dev.read(b, &mut block)?;
         let mark = mark_below(marks, format, roles.nodes, &block, roles.word.max_words());

@@ -137,7 +137,8 @@ fn mark_dirty_bits<F: Format, D: Device>(
     ensures kept { OnlyReads (D.state dev.old) (D.state dev.new) }
     ensures faults { CountsFault result (D.state dev.old).faults (D.state dev.new).faults }
 {
-    if fields.version == 2 {
+    let has_bits = fields.version == 2;
+    if has_bits {
         let words = dirty_words(fields.blocks);
         return mark_array(
             marks,
