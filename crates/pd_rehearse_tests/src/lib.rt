@@ -3,5 +3,8 @@
 
 #[cfg(test)]
 mod generate_tests;
+pub mod hidden;
+#[cfg(test)]
+mod hidden_tests;
 #[cfg(test)]
 mod rehearse_tests;

@@ -123,7 +123,7 @@ pub fn run_over(
 }
 
 /// The words as texts of their own.
-fn texts_of(alloc: Global, words: &[&str]) -> Result<Vec<String>, AllocError> {
+pub fn texts_of(alloc: Global, words: &[&str]) -> Result<Vec<String>, AllocError> {
     let mut texts = Vec::new(alloc);
     for word in words {
         texts.push(String::from_str(alloc, word)?)?;
