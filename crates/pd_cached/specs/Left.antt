@@ -1,8 +1,8 @@
 -- What is left of the words and of the bits of an array.
-use Rattle.std.specs.Prelude.{◌≡◌, ℕ, zero, suc, ◌/◌, ◌%◌, List, [], ◌∷◌, ◌++◌, drop, slice_index}
+use Rattle.std.specs.Prelude.{◌≡◌, ℕ, zero, suc, ◌+◌, ◌/◌, ◌%◌, List, [], ◌∷◌, ◌++◌, drop, length, slice_index}
 use Rattle.std.specs.List.{flat_map}
 use Rattle.pd_tree.specs.ArrayCursor.{array_reads, array_room, array_words}
-use Rattle.pd_tree.specs.Below.{items_below}
+use Rattle.pd_tree.specs.Below.{items_below, nodes_below}
 use Rattle.pd_tree.specs.Items.{root_of}
 use Rattle.pd_tree.specs.Words.{words_of_items}
 use Rattle.pd_cached.specs.declared.bits.Bits.{Bits}
@@ -16,6 +16,10 @@ pub record Takes (taken : ℕ) (old new : List ℕ) : Type 0 where
 -- the words of this size of the array with this root
 abbrev pub words_below : ℕ → List (List ℕ) → ℕ → List ℕ
 words_below size image root = words_of_items size image (items_below 8 root_of image 63 root)
+
+-- how many blocks a cursor over the array with this root reads at most: the nodes of its tree, and a block an entry
+abbrev pub reads_of_root : List (List ℕ) → ℕ → ℕ
+reads_of_root image root = length (nodes_below 8 image 63 root) + length (items_below 8 root_of image 63 root)
 
 -- the lowest bits of a word, from bit 0 on
 abbrev pub low_bits : ℕ → ℕ → List ℕ

@@ -4,7 +4,7 @@ use Rattle.pd_kinds.specs.CacheFormat.{CacheFields, has_dirty_bits}
 use Rattle.pd_tree.specs.ArrayCursor.{array_number, array_reads, array_room, array_words}
 use Rattle.pd_cached.specs.declared.beside.CacheRow.{CacheRow}
 use Rattle.pd_cached.specs.declared.rows.CacheMaps.{CacheMaps}
-use Rattle.pd_cached.specs.Left.{bits_below, words_below}
+use Rattle.pd_cached.specs.Left.{bits_below, reads_of_root, words_below}
 use Rattle.pd_cached.specs.Beside.{beside_reads, beside_room, rows_beside, rows_of}
 
 -- whether a cache has hints that are to be looked at
@@ -21,6 +21,13 @@ dirty_below image fields = if has_dirty_bits fields.version then Some (bits_belo
 -- the rows of the cache with this superblock
 abbrev pub rows_below : List (List ℕ) → CacheFields → List CacheRow
 rows_below image fields = rows_of 0 (words_below 8 image fields.mapping_root) (hints_below image fields) (dirty_below image fields)
+
+-- how many blocks a cursor over them reads at most
+abbrev pub hints_reads_below : List (List ℕ) → CacheFields → ℕ
+hints_reads_below image fields = if has_hints fields then reads_of_root image fields.hint_root else 0
+
+abbrev pub dirty_reads_below : List (List ℕ) → CacheFields → ℕ
+dirty_reads_below image fields = if has_dirty_bits fields.version then reads_of_root image fields.dirty_root else 0
 
 -- the rows that are left, how many reads they take at most, and a number that falls
 abbrev pub rows_left : List (List ℕ) → CacheMaps → List CacheRow

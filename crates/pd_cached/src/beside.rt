@@ -34,11 +34,12 @@ impl Beside {
     ghost use Rattle.pd_kinds.specs.Objects.{DeviceState, CountsFault};
     ghost use Rattle.pd_image.specs.Device.{IsAttached, OnlyReads};
     ghost use Rattle.pd_cached.specs.Beside.{beside_reads, beside_room, given_of, rows_beside, rows_of};
-    ghost use Rattle.pd_cached.specs.Rows.{RootsBelow, dirty_below, hints_below};
+    ghost use Rattle.pd_cached.specs.Rows.{RootsBelow, dirty_below, dirty_reads_below, hints_below, hints_reads_below};
 
     /// What stands beside the first word of the cache with this superblock. It takes all memory that is needed.
     pub(crate) fn start(alloc: Global, s: &CacheSuper) -> Result<Beside, AllocError>
         ensures rows { (image : List (List ℕ)) (words : List ℕ) → IfOk result (λ beside. rows_beside image beside words ≡ rows_of 0 words (hints_below image s.now) (dirty_below image s.now)) }
+        ensures reads { (image : List (List ℕ)) → IfOk result (λ beside. beside_reads image beside ≡ hints_reads_below image s.now + dirty_reads_below image s.now) }
         ensures room { (blocks : ℕ) → RootsBelow blocks s.now → IfOk result (λ beside. beside_room beside ≤ blocks) }
     {
         let hints = hints_of(alloc, s)?;

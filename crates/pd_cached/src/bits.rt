@@ -16,17 +16,15 @@ pub(crate) struct Bits {
 }
 
 impl Bits {
-    ghost use Rattle.std.specs.Prelude.{◌≡◌, ℕ, ◌+◌, ◌≤◌, List, length, IfOk, IfSome, OnOk};
+    ghost use Rattle.std.specs.Prelude.{◌≡◌, ℕ, ◌+◌, ◌≤◌, List, IfOk, IfSome, OnOk};
     ghost use Rattle.pd_kinds.specs.Objects.{DeviceState, CountsFault};
     ghost use Rattle.pd_image.specs.Device.{IsAttached, OnlyReads};
-    ghost use Rattle.pd_tree.specs.Below.{items_below, nodes_below};
-    ghost use Rattle.pd_tree.specs.Items.{root_of};
-    ghost use Rattle.pd_cached.specs.Left.{Takes, bits_below, bits_left, bits_reads, bits_room};
+    ghost use Rattle.pd_cached.specs.Left.{Takes, bits_below, bits_left, bits_reads, bits_room, reads_of_root};
 
     /// The bits of the array with this root. It takes all memory that they need.
     pub(crate) fn start(alloc: Global, root: u64) -> Result<Bits, AllocError>
         ensures bits { (image : List (List ℕ)) → IfOk result (λ bits. bits_left image bits ≡ bits_below image root) }
-        ensures reads { (image : List (List ℕ)) → IfOk result (λ bits. bits_reads image bits ≡ length (nodes_below 8 image 63 root) + length (items_below 8 root_of image 63 root)) }
+        ensures reads { (image : List (List ℕ)) → IfOk result (λ bits. bits_reads image bits ≡ reads_of_root image root) }
         ensures room { IfOk result (λ bits. bits_room bits ≡ root + 1) }
     {
         let words = ArrayCursor::start(alloc, root, Word::Eight)?;

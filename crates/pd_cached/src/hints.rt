@@ -16,17 +16,15 @@ ghost use Rattle.std.specs.Prelude.{◌≡◌};
 ghost use Rattle.pd_array.specs.declared.word.Word.TheVariants.{Four};
 
 impl Hints {
-    ghost use Rattle.std.specs.Prelude.{◌≡◌, ℕ, ◌+◌, ◌≤◌, List, length, IfOk, IfSome, OnOk};
+    ghost use Rattle.std.specs.Prelude.{◌≡◌, ℕ, ◌+◌, ◌≤◌, List, IfOk, IfSome, OnOk};
     ghost use Rattle.pd_kinds.specs.Objects.{DeviceState, CountsFault};
     ghost use Rattle.pd_image.specs.Device.{IsAttached, OnlyReads};
-    ghost use Rattle.pd_tree.specs.Below.{items_below, nodes_below};
-    ghost use Rattle.pd_tree.specs.Items.{root_of};
-    ghost use Rattle.pd_cached.specs.Left.{Takes, words_below, hints_left, hints_reads, hints_room};
+    ghost use Rattle.pd_cached.specs.Left.{Takes, words_below, hints_left, hints_reads, hints_room, reads_of_root};
 
     /// The words of the array with this root. It takes all memory that they need.
     pub(crate) fn start(alloc: Global, root: u64) -> Result<Hints, AllocError>
         ensures hints { (image : List (List ℕ)) → IfOk result (λ hints. hints_left image hints ≡ words_below 4 image root) }
-        ensures reads { (image : List (List ℕ)) → IfOk result (λ hints. hints_reads image hints ≡ length (nodes_below 8 image 63 root) + length (items_below 8 root_of image 63 root)) }
+        ensures reads { (image : List (List ℕ)) → IfOk result (λ hints. hints_reads image hints ≡ reads_of_root image root) }
         ensures room { IfOk result (λ hints. hints_room hints ≡ root + 1) }
     {
         let words = ArrayCursor::start(alloc, root, Word::Four)?;

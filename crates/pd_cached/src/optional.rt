@@ -6,7 +6,7 @@ ghost use Rattle.pd_kinds.specs.CacheFormat.{has_dirty_bits};
 ghost use Rattle.pd_image.specs.Device.{IsAttached, OnlyReads};
 ghost use Rattle.pd_cached.specs.Left.{Takes};
 ghost use Rattle.pd_cached.specs.Beside.{behind_first, bits_in, bits_in_reads, bits_in_room, hints_in, hints_in_reads, hints_in_room, is_dirty_by};
-ghost use Rattle.pd_cached.specs.Rows.{dirty_below, has_hints, hints_below};
+ghost use Rattle.pd_cached.specs.Rows.{dirty_below, dirty_reads_below, has_hints, hints_below, hints_reads_below};
 
 use crate::bits::Bits;
 use crate::hints::Hints;
@@ -17,6 +17,7 @@ use std::alloc::{AllocError, Global};
 /// The hints of the cache with this superblock.
 pub(crate) fn hints_of(alloc: Global, s: &CacheSuper) -> Result<Option<Hints>, AllocError>
     ensures hints { (image : List (List ℕ)) → IfOk result (λ hints. hints_in image hints ≡ hints_below image s.now) }
+    ensures reads { (image : List (List ℕ)) → IfOk result (λ hints. hints_in_reads image hints ≡ hints_reads_below image s.now) }
     ensures room { (blocks : ℕ) → (has_hints s.now ≡ true → s.now.hint_root < blocks) → IfOk result (λ hints. hints_in_room hints ≤ blocks) }
 {
     if s.hint_size == 4 && s.hint_root != 0 {
@@ -29,6 +30,7 @@ pub(crate) fn hints_of(alloc: Global, s: &CacheSuper) -> Result<Option<Hints>, A
 /// Its dirty bits.
 pub(crate) fn bits_of(alloc: Global, s: &CacheSuper) -> Result<Option<Bits>, AllocError>
     ensures bits { (image : List (List ℕ)) → IfOk result (λ bits. bits_in image bits ≡ dirty_below image s.now) }
+    ensures reads { (image : List (List ℕ)) → IfOk result (λ bits. bits_in_reads image bits ≡ dirty_reads_below image s.now) }
     ensures room { (blocks : ℕ) → (has_dirty_bits s.now.version ≡ true → s.now.dirty_root < blocks) → IfOk result (λ bits. bits_in_room bits ≤ blocks) }
 {
     if s.version == 2 {

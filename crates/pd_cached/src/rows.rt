@@ -4,7 +4,8 @@ ghost use Rattle.std.specs.Prelude.{◌≡◌, ℕ, ◌+◌, ◌<◌, ◌≤◌,
 ghost use Rattle.pd_kinds.specs.Objects.{DeviceState, CountsFault};
 ghost use Rattle.pd_image.specs.Device.{IsAttached, OnlyReads};
 ghost use Rattle.pd_tree.specs.Next.{IsNext};
-ghost use Rattle.pd_cached.specs.Rows.{rows_below, rows_left, rows_number, rows_reads, rows_room, RootsBelow};
+ghost use Rattle.pd_cached.specs.Left.{reads_of_root};
+ghost use Rattle.pd_cached.specs.Rows.{rows_below, rows_left, rows_number, rows_reads, rows_room, RootsBelow, dirty_reads_below, hints_reads_below};
 
 use crate::beside::{Beside, CacheRow};
 use pd_array::Word;
@@ -30,6 +31,8 @@ impl CacheMaps {
     /// Fails with `AllocError` where that memory wasn't found.
     pub fn start(alloc: Global, s: &CacheSuper) -> Result<CacheMaps, AllocError>
         ensures rows { (image : List (List ℕ)) → IfOk result (λ maps. rows_left image maps ≡ rows_below image s.now) }
+        ensures reads { (image : List (List ℕ)) → IfOk result (λ maps. rows_reads image maps
+            ≡ reads_of_root image s.now.mapping_root + (hints_reads_below image s.now + dirty_reads_below image s.now)) }
         ensures room { (blocks : ℕ) → RootsBelow blocks s.now → IfOk result (λ maps. rows_room maps ≤ blocks) }
     {
         let words = ArrayCursor::start(alloc, s.mapping_root, Word::Eight)?;
