@@ -198,24 +198,18 @@ fn restores_come_to_their_status(rt: HostRuntime) -> Result<(), Fail> {
     Ok(())
 }
 
+/// Whether a text is restored to just these blocks, where the device had zeros.
+fn is_restored_as(alloc: Global, text: &str, wanted: &[Block]) -> Result<bool, AllocError> {
+    let base = vec![in alloc; Block::zeros(); wanted.len()]?;
+    let made = restore(alloc, text.as_bytes(), base.as_slice(), NOTHING_FAILS)?;
+    let found = blocks_of(alloc, &made.output)?;
+    Ok(found.as_slice() == wanted)
+}
+
 #[test]
 fn restored_pools_are_those_put_together_by_hand(rt: HostRuntime) -> Result<(), Fail> {
-    let empty = restore(
-        rt.alloc(),
-        EMPTY.as_bytes(),
-        &[Block::zeros(); 8],
-        NOTHING_FAILS,
-    )?;
-    let one = restore(
-        rt.alloc(),
-        ONE.as_bytes(),
-        &[Block::zeros(); 16],
-        NOTHING_FAILS,
-    )?;
-    let found = blocks_of(rt.alloc(), &empty.output)?;
-    assert!(rt; found.as_slice() == empty_pool().as_slice());
-    let found = blocks_of(rt.alloc(), &one.output)?;
-    assert!(rt; found.as_slice() == pool_of_one_mapping().as_slice());
+    assert!(rt; is_restored_as(rt.alloc(), EMPTY, &empty_pool())?);
+    assert!(rt; is_restored_as(rt.alloc(), ONE, &pool_of_one_mapping())?);
     Ok(())
 }
 
