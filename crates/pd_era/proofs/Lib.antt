@@ -1,0 +1,3 @@
+pub mod SetLemmas
+pub mod WholeLemmas
+pub mod ReadyLemmas

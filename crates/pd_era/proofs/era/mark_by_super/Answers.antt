@@ -1,0 +1,43 @@
+use Rattle.std.proofs.Common.{◌≡◌, sym, ap, ◌∙◌, arith}
+use Rattle.pd_kinds.specs.EraFormat.{EraFields, era_fields, era_graph}
+use Rattle.pd_kinds.specs.Graph.{Graph}
+use Rattle.pd_refs.proofs.RefsLemmas.{if_all, ok_maps, if_maps}
+use Rattle.pd_graph.specs.Audit.{blocks_of}
+use Rattle.pd_era.specs.Whole.{whole_reads}
+use Rattle.pd_era.proofs.ReadyLemmas.{blocks_are, graph_is, super_charged}
+use Rattle.pd_era.proofs.era.mark_by_super.Goals as goal
+
+pub of-format-requires-clause-some : goal.of-format-requires-clause-some
+of-format-requires-clause-some g c =
+    omega (arith, c.nr-nr.ensures.number, c.nr-nr.ensures.some, c.requires.number, blocks_are c.args.b.now.0, ap (λ (f : EraFields). f.meta_map.blocks) c.read_era_super-fields.ensures)
+
+pub of-format-requires-clause-few : goal.of-format-requires-clause-few
+of-format-requires-clause-few g c =
+    omega (arith, c.nr-nr.ensures.number, c.nr-nr.ensures.few, c.requires.number, blocks_are c.args.b.now.0, ap (λ (f : EraFields). f.meta_map.blocks) c.read_era_super-fields.ensures)
+
+pub mark_era-requires-clause-number : goal.mark_era-requires-clause-number
+mark_era-requires-clause-number g c =
+    c.requires.number
+    ∙ ap (λ (graph : Graph). graph.nr) (sym (c.of-format.ensures ∙ graph_is c.args.b.now.0 c.read_era_super-fields.result c.read_era_super-fields.ensures))
+
+pub mark_era-requires-clause-places : goal.mark_era-requires-clause-places
+mark_era-requires-clause-places g c =
+    let same : blocks_of c.args.audit.now ≡ (era_fields c.args.b.now.0).meta_map.blocks = c.requires.number ∙ blocks_are c.args.b.now.0 in
+    c.requires.enough (omega (arith, same, c.nr-nr.ensures.number, c.nr-nr.ensures.few)) ∙ sym same
+
+pub returns-clause-charges : goal.returns-clause-charges
+returns-clause-charges g c =
+    let first = c.args.b.now.0 in
+    ok_maps c.mark_era.result _ _ (λ charges.
+    if_maps (g.D.Device.state c.args.dev.now).held _ _ (λ image charged ordered.
+    super_charged image first c.read_era_super-fields.result _ c.args.audit.now c.mark_era.new.audit c.read_era_super-fields.ensures
+    (c.of-format.ensures ∙ graph_is first c.read_era_super-fields.result c.read_era_super-fields.ensures) c.ordered_eras_are_ready.ensures charged ordered)
+    charges) c.mark_era.ensures.charges
+
+pub returns-clause-reads : goal.returns-clause-reads
+returns-clause-reads g c =
+    let first = c.args.b.now.0 in
+    let audit = c.args.audit.now in
+    if_all (g.D.Device.state c.args.dev.now).held _ (λ image ordered.
+    let few = c.rules_read_each_pair_once.ensures (era_graph first) image audit (era_fields first) (c.ordered_eras_are_ready.ensures first image audit ordered) in
+    omega (arith, c.mark_era.ensures.reads, few, ap (λ (f : EraFields). whole_reads audit f) c.read_era_super-fields.ensures))

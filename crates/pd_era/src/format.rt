@@ -1,0 +1,77 @@
+use pd_array::Word;
+use pd_kinds::{Block, Edges, EraSuper, Rules};
+use pd_layouts::{Layout, LeafValue, Names, Table, Tabled};
+use pd_supers::{era_snap_edges, era_snap_rules, era_super_edges, era_super_rules, read_era_super};
+
+/// The table of an era target's metadata, as "drivers/md/dm-era-target.c" and
+/// "drivers/md/persistent-data/dm-bitset.c" use it.
+#[derive(Clone, Copy)]
+pub struct EraTable;
+
+/// The format of an era target's metadata.
+pub type EraFormat = Tabled<EraTable>;
+
+impl Table for EraTable {
+    ghost use Rattle.pd_kinds.specs.EraFormat.{era_layout};
+    ghost use Rattle.pd_laws.proofs.EraTable.{era_table};
+    ghost use Rattle.pd_era.specs.Copies.{copy_edges, copy_rules};
+
+    const ROLES: u8 = 10;
+
+    type Super = EraSuper;
+
+    ghost ROLES = { 10 };
+
+    ghost meta_blocks_of = { λ s. s.meta_map.blocks };
+
+    ghost data_blocks_of = { λ s. 0 };
+
+    ghost layout = { λ nr data_blocks. era_layout nr };
+
+    ghost copy_bad = { copy_rules };
+
+    ghost copy_edges = { copy_edges };
+
+    fn meta_blocks_of(s: &EraSuper) -> u64 {
+        s.meta_map.blocks
+    }
+
+    fn data_blocks_of(_s: &EraSuper) -> u64 {
+        0
+    }
+
+    #[tactic(auto, unfolding(pd_kinds::specs::EraFormat::era_layout))]
+    fn layout(role: u8, _data_blocks: u64) -> Layout {
+        match role {
+            0 => Layout::Copy,
+            1 => Layout::Copy,
+            2 => Layout::Tree(LeafValue::Writeset, Names::MetadataByEra(3)),
+            3 => Layout::Tree(LeafValue::Root, Names::Metadata(4)),
+            4 => Layout::Array(Word::Eight),
+            5 => Layout::Tree(LeafValue::Root, Names::Metadata(6)),
+            6 => Layout::Array(Word::Four),
+            7 => Layout::Index(8),
+            8 => Layout::Bitmap,
+            _ => Layout::Tree(LeafValue::Count, Names::Nothing),
+        }
+    }
+
+    fn copy_rules(role: u8, place: u64, b: &Block, nr: u64) -> Rules {
+        if role == 0 {
+            era_super_rules(b, nr)
+        } else {
+            era_snap_rules(b, place, nr)
+        }
+    }
+
+    fn copy_edges(role: u8, b: &Block) -> Edges {
+        let fields = read_era_super(b);
+        if role == 0 {
+            era_super_edges(&fields)
+        } else {
+            era_snap_edges(&fields)
+        }
+    }
+
+    ghost lawful = { era_table };
+}

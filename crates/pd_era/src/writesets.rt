@@ -1,0 +1,119 @@
+//! The bits of the archived writesets, those of a metadata snapshot too.
+
+ghost use Rattle.std.specs.Prelude.{◌≡◌, ℕ, ◌+◌, ◌/◌, ◌<◌, ◌≤◌, List, IfSome, OnOk};
+ghost use Rattle.std.specs.List.{AllByRecursion};
+ghost use Rattle.pd_kinds.specs.EraFormat.{writeset_root};
+ghost use Rattle.pd_kinds.specs.Objects.{CountsFault};
+ghost use Rattle.pd_kinds.specs.Graph.{Graph};
+ghost use Rattle.pd_kinds.specs.Layout.{leaf_entries};
+ghost use Rattle.pd_kinds.specs.Node.{Entry};
+ghost use Rattle.pd_kinds.specs.Stages.{IsReached};
+ghost use Rattle.pd_kinds.specs.Whole.{array_whole, reached_writesets, writeset_array};
+ghost use Rattle.pd_image.specs.Device.{IsAttached, OnlyReads};
+ghost use Rattle.pd_graph.specs.Audit.{blocks_of, KeepsButRules};
+ghost use Rattle.pd_refs.specs.Refs.{number_in};
+ghost use Rattle.pd_tree.specs.TreeRoles.{HasEraTrees};
+ghost use Rattle.pd_whole.specs.Charges.{Charges};
+ghost use Rattle.pd_arrays.specs.Arrays.{AreMarked, HasArrays};
+ghost use Rattle.pd_era.specs.Whole.{bits as bits_of, set_tests, sets_at};
+
+use crate::whole::bits;
+use pd_arrays::{ArrayMarks, check_array, has_role};
+use pd_graph::Audit;
+use pd_image::{Device, Failed};
+use pd_kinds::Block;
+use pd_node::{entries, is_inner, value};
+use pd_tree::edges_lead_to_reached_pairs;
+use pd_value::Writeset;
+
+/// The number of bits in a word.
+const WORD_BITS: u64 = 64;
+
+/// The role of the nodes of the trees of archived writesets.
+const WRITESETS: u8 = 2;
+
+/// How many words hold so many bits.
+fn words_for(bits: u32) -> u64
+    ensures { result ≡ (bits + 63) / 64 }
+{
+    (u64::from(bits) + (WORD_BITS - 1)) / WORD_BITS
+}
+
+/// Gives the root of a writeset's bits, of which there are so many, the rules Index and Length, where it breaks them. It
+/// reads nothing.
+pub(crate) fn check_writeset(marks: &ArrayMarks, audit: &mut Audit, number: u32, root: u64)
+    ensures charges { (graph : Graph) (image : List (List ℕ)) → HasArrays graph image audit.old bits_of
+        → AreMarked graph image bits_of marks.now → IsReached graph image root 3
+        → Charges (array_whole graph image (writeset_array number root)) audit.old audit.new }
+    ensures rules { KeepsButRules audit.old audit.new }
+{
+    check_array(audit, marks, bits(), root, Some(words_for(number)));
+}
+
+/// Does so for each entry of a leaf of archived writesets.
+fn check_leaf(marks: &ArrayMarks, audit: &mut Audit, block: &Block)
+    ensures charges { (graph : Graph) (image : List (List ℕ)) → HasArrays graph image audit.old bits_of
+        → AreMarked graph image bits_of marks.now
+        → AllByRecursion (λ (e : Entry). IsReached graph image (writeset_root e.value) 3) (leaf_entries 12 block.now.0)
+        → Charges (set_tests graph image (leaf_entries 12 block.now.0)) audit.old audit.new }
+    ensures rules { KeepsButRules audit.old audit.new }
+{
+    if is_inner(block) {
+        return;
+    }
+    let count = entries::<Writeset>(block);
+    for i in 0..count {
+        let set = value::<Writeset>(block, i);
+        check_writeset(marks, audit, set.bits, set.root);
+    }
+}
+
+/// Does so for block b, where it was met as a node of a tree of archived writesets.
+fn mark_node<D: Device>(
+    marks: &ArrayMarks,
+    audit: &mut Audit,
+    dev: &mut D,
+    b: u64,
+) -> Result<(), Failed>
+    requires attached { IsAttached (D.state dev.old) }
+    requires block { b < blocks_of audit.old }
+    requires within { blocks_of audit.old ≤ (D.state dev.old).blocks }
+    ensures charges { OnOk result (IfSome (D.state dev.old).held (λ image. (graph : Graph) → HasArrays graph image audit.old bits_of
+        → HasEraTrees graph → AreMarked graph image bits_of marks.now
+        → Charges (set_tests graph image (sets_at graph image b)) audit.old audit.new)) }
+    ensures reads { (D.state dev.new).reads + number_in audit.old 2 b ≤ (D.state dev.old).reads + number_in audit.old 2 (b + 1) }
+    ensures rules { KeepsButRules audit.old audit.new }
+    ensures kept { OnlyReads (D.state dev.old) (D.state dev.new) }
+    ensures faults { CountsFault result (D.state dev.old).faults (D.state dev.new).faults }
+{
+    edges_lead_to_reached_pairs();
+    if has_role(audit.roles(b), WRITESETS) {
+        let mut block = Block::zeros();
+        dev.read(b, &mut block)?;
+        check_leaf(marks, audit, &block);
+    }
+    Ok(())
+}
+
+/// Gives the roots of the bits of all archived writesets the rules Index and Length that they break. Each node of the
+/// trees of archived writesets is read once.
+pub(crate) fn mark_writesets<D: Device>(
+    marks: &ArrayMarks,
+    audit: &mut Audit,
+    dev: &mut D,
+) -> Result<(), Failed>
+    requires attached { IsAttached (D.state dev.old) }
+    requires within { blocks_of audit.old ≤ (D.state dev.old).blocks }
+    ensures charges { OnOk result (IfSome (D.state dev.old).held (λ image. (graph : Graph) → HasArrays graph image audit.old bits_of
+        → HasEraTrees graph → AreMarked graph image bits_of marks.now
+        → Charges (set_tests graph image (reached_writesets graph image)) audit.old audit.new)) }
+    ensures reads { (D.state dev.new).reads ≤ (D.state dev.old).reads + number_in audit.old 2 (blocks_of audit.old) }
+    ensures rules { KeepsButRules audit.old audit.new }
+    ensures kept { OnlyReads (D.state dev.old) (D.state dev.new) }
+    ensures faults { CountsFault result (D.state dev.old).faults (D.state dev.new).faults }
+{
+    for b in 0..audit.nr() {
+        mark_node(marks, audit, dev, b)?;
+    }
+    Ok(())
+}
