@@ -1,0 +1,2 @@
+pub mod CacheRowLemmas
+pub mod CacheMeaningLemmas

@@ -1,0 +1,2 @@
+pub mod CacheLines
+pub mod CacheDump

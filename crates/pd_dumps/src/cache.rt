@@ -1,0 +1,92 @@
+//! The dump of a cache.
+
+use crate::cache_lines::{add_first_lines, maps_of};
+use crate::first_block::read_first;
+use crate::laws::given_cache_lines_are_the_text;
+use pd_cached::CacheMaps;
+use pd_image::{Device, Sink};
+use pd_kinds::CacheSuper;
+use pd_lines::Pieces;
+use pd_query::QueryFault;
+use pd_supers::read_cache_super;
+use std::alloc::{AllocError, Global};
+
+/// The dump of a cache, with the memory that it takes.
+#[derive(Drop)]
+pub struct CacheDump {
+    s: CacheSuper,
+    /// The valid mappings; none where a root is outside of the device.
+    maps: Option<CacheMaps>,
+}
+
+impl CacheDump {
+    ghost use Rattle.std.specs.Prelude.{◌≡◌, ◌<◌, ◌≤◌, ◌^◌, [], ℕ, List, IfOk, IfSome, length};
+    ghost use Rattle.pd_kinds.specs.declared.kind.Kind.TheVariants.{Cache};
+    ghost use Rattle.pd_kinds.specs.declared.kind.Stage.TheVariants.{Whole};
+    ghost use Rattle.pd_kinds.specs.CacheFormat.{cache_fields};
+    ghost use Rattle.pd_kinds.specs.Graph.{block_at};
+    ghost use Rattle.pd_kinds.specs.Meaning.{cache_meaning};
+    ghost use Rattle.pd_kinds.specs.Stages.{faults};
+    ghost use Rattle.pd_image.specs.Device.{IsAttached, OnlyReads};
+    ghost use Rattle.pd_image.specs.Sink.{KeepsSink};
+    ghost use Rattle.pd_spells.specs.CacheText.{text_of_cache};
+    ghost use Rattle.pd_query.specs.Adds.{PutsText};
+    ghost use Rattle.pd_query.specs.Failing.{Fails, StartFails};
+    ghost use Rattle.pd_dumps.specs.CacheDump.{dump_room, text_left};
+    ghost use Rattle.pd_dumps.specs.CacheLines.{cache_dump_text};
+
+    /// Reads the superblock of a cache, and takes the memory for its dump: at most three cursors over arrays.
+    ///
+    /// Fails with `Device` where a read failed, and with `Memory` where that memory wasn't found.
+    pub fn start<D: Device>(alloc: Global, dev: &mut D) -> Result<CacheDump, QueryFault>
+        requires { IsAttached (D.state dev.old) }
+        ensures text { IfOk result (λ dump. IfSome (D.state dev.old).held (λ image. 1 ≤ length image → text_left image dump ≡ cache_dump_text image (cache_fields (block_at image 0)))) }
+        ensures means { IfOk result (λ dump. IfSome (D.state dev.old).held (λ image. faults Cache Whole image ≡ [] → text_left image dump ≡ text_of_cache (cache_meaning image))) }
+        ensures room { IfOk result (λ dump. dump_room dump ≤ (D.state dev.old).blocks) }
+        ensures kept { OnlyReads (D.state dev.old) (D.state dev.new) }
+        ensures faults { StartFails result (D.state dev.old).faults (D.state dev.new).faults }
+    {
+        given_cache_lines_are_the_text();
+        let block = match read_first(dev) {
+            Ok(block) => block,
+            Err(_) => return Err(QueryFault::Device),
+        };
+        let s = read_cache_super(&block);
+        match CacheDump::over(alloc, s, dev.blocks()) {
+            Ok(dump) => Ok(dump),
+            Err(_) => Err(QueryFault::Memory),
+        }
+    }
+
+    /// Takes the memory for the dump of the cache with this superblock, in a device of so many blocks.
+    fn over(alloc: Global, s: CacheSuper, blocks: u64) -> Result<CacheDump, AllocError>
+        ensures text { (image : List (List ℕ)) → length image ≡ blocks → IfOk result (λ dump. text_left image dump ≡ cache_dump_text image s) }
+        ensures few { s.blocks < 2 ^ 32 }
+        ensures room { IfOk result (λ dump. dump_room dump ≤ blocks) }
+    {
+        let maps = maps_of(alloc, &s, blocks)?;
+        Ok(CacheDump { s, maps })
+    }
+
+    /// Puts the cache's text, once. It takes no memory.
+    ///
+    /// Fails with `Device` where a read failed, and with `Sink` where `out` did; then a front of the text was put.
+    pub fn put<D: Device, K: Sink>(&mut self, dev: &mut D, out: &mut K) -> Result<(), QueryFault>
+        requires dev { IsAttached (D.state dev.old) }
+        requires out { (K.state out.old).access ≡ 1 }
+        requires within { dump_room self.old ≤ (D.state dev.old).blocks }
+        ensures text { PutsText (D.state dev.old).held (λ image. text_left image self.old) result (K.state out.old).written (K.state out.new).written }
+        ensures kept { OnlyReads (D.state dev.old) (D.state dev.new) }
+        ensures sink { KeepsSink (K.state out.old) (K.state out.new) }
+        ensures faults { Fails result (D.state dev.old).faults (D.state dev.new).faults (K.state out.old).faults (K.state out.new).faults }
+    {
+        let mut pieces = Pieces::new();
+        match add_first_lines(&self.s, &mut self.maps, dev, &mut pieces, out) {
+            Ok(()) => match pieces.put(out) {
+                Ok(()) => Ok(()),
+                Err(_) => Err(QueryFault::Sink),
+            },
+            Err(fault) => Err(fault),
+        }
+    }
+}

@@ -1,0 +1,24 @@
+//! What the texts over bytes come to for images without faults: those of their meanings.
+
+ghost use Rattle.std.specs.Prelude.{◌≡◌, ◌<◌, ◌^◌, ℕ, List, []};
+ghost use Rattle.pd_kinds.specs.declared.kind.Kind.TheVariants.{Cache};
+ghost use Rattle.pd_kinds.specs.declared.kind.Stage.TheVariants.{Whole};
+ghost use Rattle.pd_kinds.specs.CacheFormat.{cache_fields};
+ghost use Rattle.pd_kinds.specs.Graph.{block_at};
+ghost use Rattle.pd_kinds.specs.Meaning.{cache_meaning};
+ghost use Rattle.pd_kinds.specs.Stages.{faults};
+ghost use Rattle.pd_spells.specs.CacheText.{text_of_cache};
+ghost use Rattle.pd_dumps.specs.CacheLines.{cache_dump_text};
+
+use pd_cached::rows_are_the_entries;
+use pd_tree::superblocks_lead_to_reached_roots;
+
+/// The lines of what the cursor gives of a cache without faults up to the stage Whole, whose number of blocks fits its
+/// field, are its text.
+pub fn given_cache_lines_are_the_text()
+    ensures { (image : List (List ℕ)) → faults Cache Whole image ≡ [] → (cache_fields (block_at image 0)).blocks < 2 ^ 32
+        → cache_dump_text image (cache_fields (block_at image 0)) ≡ text_of_cache (cache_meaning image) }
+{
+    rows_are_the_entries();
+    superblocks_lead_to_reached_roots();
+}
