@@ -1,0 +1,6 @@
+pub mod MapLemmas
+pub mod ReadingLemmas
+pub mod BeginLemmas
+pub mod MadeLemmas
+pub mod CrashLemmas
+pub mod RestoreLemmas

@@ -1,0 +1,106 @@
+-- A text that is read and restored, line by line.
+use Rattle.std.proofs.Common.{◌≡◌, ⊎_elim, ℕ, ◌<◌, ◌≤◌, Bool, true, false, not, eqb, ◌&&◌, List, [], ◌∷◌, ◌++◌, length, refl, sym, ◌∙◌, ap, append_assoc, arith, Option, None, Some, Result, Ok, Err}
+use Rattle.std.specs.Prelude.{IfErr}
+use Rattle.std.proofs.lemmas.Bool.Decides.{nat_tests}
+use Rattle.std.proofs.lemmas.Bool.{lt-ltb, le-ltb}
+use Rattle.pd_kinds.specs.Objects.{SourceState}
+use Rattle.pd_image.specs.Source.{KeepsSource}
+use Rattle.pd_grammar.specs.Texts as Texts
+use Rattle.pd_grammar.specs.Texts.{TextFormat, text_of_lines, whole}
+use Rattle.pd_grammar.specs.Spelling.{need_above_room, accepted, IsVerdict}
+use Rattle.pd_texts.specs.declared.fault.TextFault.{TextFault}
+use Rattle.pd_texts.specs.declared.fault.ReadFault.{ReadFault}
+use Rattle.pd_texts.specs.declared.fault.ReadFault.TheVariants as c
+use Rattle.pd_texts.specs.declared.reader.TextReader.{TextReader}
+use Rattle.pd_texts.specs.Reader.{in_order, AreReadSoFar, ReadsOn, LeavesOf, GivesLine, GivesOf, IsWhole, IsRefusedAfter, RefusesNext, begun}
+use Rattle.pd_restoring.specs.declared.fault.RestoreFault.{RestoreFault}
+use Rattle.pd_restoring.specs.declared.fault.RestoreFault.TheVariants as r
+use Rattle.pd_restoring.specs.Faults.{read_fault}
+use Rattle.pd_restoring.specs.Reading.{NoneAbove, SaysOf, IsOfBuild}
+
+-- no line so far is above the room, also with one more that isn't
+and_false : (b : Bool) → (b && false) ≡ false
+and_false true = refl
+and_false false = refl
+
+pub above_next : {L : Type 0} (need : ℕ → List L → ℕ) (room : ℕ) (before : List L) (line : L) → NoneAbove need room before → need room (line ∷ before) ≤ room → NoneAbove need room (line ∷ before)
+above_next need room before line above fits lines =
+    above (line ∷ lines) ∙ rw (le-ltb room (need room (line ∷ before)) fits, and_false (not (eqb (length before) 0))) refl
+
+some_lines : (n : ℕ) → 1 ≤ n → eqb n 0 ≡ false
+some_lines n some = grind (arith, nat_tests)
+
+-- the first one that is, is what is needed
+pub above_here : {L : Type 0} (need : ℕ → List L → ℕ) (room : ℕ) (before lines : List L) (line : L) → NoneAbove need room before → 1 ≤ length before → room < need room (line ∷ before)
+    → need_above_room (need room) room [] (in_order before (line ∷ lines)) ≡ Some (need room (line ∷ before))
+above_here need room before lines line above some more =
+    above (line ∷ lines) ∙ rw (some_lines (length before) some, lt-ltb room (need room (line ∷ before)) more) refl
+
+-- what a reader gives after lines
+begun_same : {L : Type 0} (first : L) (before : List L) → 1 ≤ length before → begun first before ≡ before
+begun_same first [] some = absurd (omega arith)
+begun_same first (line ∷ before) some = refl
+
+module _ {P V L : Type 0} (format : TextFormat L) (Stands : P → List L → Type 0) (first : L) (meant : Option V → L) where
+  pub line_given : (next : Option V) (line : V) (before : List L) (new : TextReader P V) → next ≡ Some line → 1 ≤ length before
+      → GivesLine format Stands first meant (Ok next) before new → ReadsOn format Stands (meant (Some line) ∷ before) new
+  line_given next line before new is some gives = rw (begun_same first before some) at (rw is at gives)
+
+  pub line_told : (next : Option V) (line : V) (t : List ℕ) (before : List L) (new : TextReader P V) (left : Option (List ℕ)) → next ≡ Some line → 1 ≤ length before
+      → GivesOf format first meant (Ok next) t before new left → LeavesOf format t (meant (Some line) ∷ before) new left
+  line_told next line t before new left is some gives = rw (begun_same first before some) at (rw is at gives)
+
+  pub end_given : (next : Option V) (before : List L) (new : TextReader P V) → next ≡ None → 1 ≤ length before
+      → GivesLine format Stands first meant (Ok next) before new → AreReadSoFar format (meant None ∷ before)
+  end_given next before new is some gives = rw (begun_same first before some) at (rw is at gives)
+
+  pub end_told : (next : Option V) (t : List ℕ) (before : List L) (new : TextReader P V) (left : Option (List ℕ)) → next ≡ None → 1 ≤ length before
+      → GivesOf format first meant (Ok next) t before new left → IsWhole format t (meant None ∷ before) left
+  end_told next t before new left is some gives = rw (begun_same first before some) at (rw is at gives)
+
+-- a failure at the end says nothing of the text
+pub end_says : {T L : Type 0} (format : TextFormat L) (need : ℕ → List L → ℕ) (result : Result T RestoreFault) (room : ℕ) (t : List ℕ) → IfErr result IsOfBuild → IfErr result (SaysOf format need room t)
+end_says format need (Ok more) room t of = tt
+end_says format need (Err r.Memory) room t of = tt
+end_says format need (Err r.Source) room t of = tt
+end_says format need (Err r.Device) room t of = tt
+end_says format need (Err (r.Text fault)) room t of = absurd of
+end_says format need (Err (r.NoRoom needed blocks)) room t of = absurd of
+
+-- a refusal after lines that have room
+module _ {L : Type 0} (format : TextFormat L) (need : ℕ → List L → ℕ) where
+  pub refused_says : (room : ℕ) (t : List ℕ) (lines : List L) (fault : TextFault) → NoneAbove need room lines → IsRefusedAfter format t lines fault → SaysOf format need room t (r.Text fault)
+  refused_says room t lines fault above is =
+      (ap (λ (reading : Texts.Reading L). need_above_room (need room) room [] reading.lines) is.is ∙ above [], is.refusal)
+
+  -- what a fault of the reader says after them, where they have room with the last line too
+  pub next_says : (first last : L) (fault : ReadFault) (room : ℕ) (t : List ℕ) (before : List L) → 1 ≤ length before → NoneAbove need room before → need room (last ∷ before) ≤ room
+      → RefusesNext format first last t before fault → SaysOf format need room t (read_fault fault)
+  next_says first last c.Memory room t before some above fits refuses = tt
+  next_says first last c.Source room t before some above fits refuses = tt
+  next_says first last (c.Text fault) room t before some above fits refuses =
+      let same = begun_same first before some in
+      ⊎_elim (λ here. refused_says room t before fault above here)
+      (⊎_elim (λ second. refused_says room t before fault above (rw same at second))
+      (λ end. refused_says room t (last ∷ before) fault (above_next need room before last above fits) (rw same at end))) refuses
+
+  -- a text whose lines are these spells what they mean, and has room
+  pub accepted_whole : {M : Type 0} (Means : List L → M → Type 0) → ((text : List ℕ) (lines : List L) → Texts.reading format text ≡ whole lines → text ≡ text_of_lines format lines)
+      → (t : List ℕ) (lines : List L) (room : ℕ) (m : M) (left : Option (List ℕ)) → Means (in_order lines []) m → NoneAbove need room lines → IsWhole format t lines left
+      → IsVerdict format Means (need room) t room (accepted m) × (left ≡ Some [])
+  accepted_whole Means bytes t lines room m left means above is = (
+    (
+      ap (λ (reading : Texts.Reading L). need_above_room (need room) room [] reading.lines) is.0 ∙ above [],
+      record { lines = in_order lines []; bytes = bytes t (in_order lines []) is.0; means = means },
+    ),
+    is.1,
+  )
+
+-- a line more behind others
+pub one_later : {L : Type 0} (before lines later : List L) (line : L) → ((others : List L) → in_order lines others ≡ in_order before (later ++ others))
+    → (others : List L) → in_order (line ∷ lines) others ≡ in_order before ((later ++ line ∷ []) ++ others)
+one_later {L} before lines later line front others = front (line ∷ others) ∙ ap (λ (xs : List L). in_order before xs) (sym (append_assoc later (line ∷ []) others))
+
+-- what stays of a source over two calls
+pub keeps_source : {a b c : SourceState} → KeepsSource a b → KeepsSource b c → KeepsSource a c
+keeps_source p q = record { access = q.access ∙ p.access; path = q.path ∙ p.path }

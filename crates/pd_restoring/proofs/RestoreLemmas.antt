@@ -1,0 +1,285 @@
+-- A restore, put together from its first two lines, the closing of block 0 and the rest.
+use Rattle.std.proofs.Common.{◌≡◌, ◌⊎◌, inl, inr, ⊎_elim, ℕ, ◌<◌, ◌≤◌, Bool, true, set, List, [], ◌∷◌, length, Option, Some, None, IfSome, Result, Ok, Err, refl, sym, ap, ◌∙◌, subst, arith}
+use Rattle.std.specs.Prelude.{MatchResult, nat_lt, IfErr}
+use Rattle.std.specs.Option.{option_map_or}
+use Rattle.std.proofs.lemmas.Bool.{both_ways, le-ltb}
+use Rattle.std.proofs.lemmas.Option.{IfSome_then, same_Some}
+use Rattle.pd_kinds.specs.Crash.{HasNoSuper, HoldsSynced, IsOldNoneOrMade, IsOldOrNone, LeavesOnly}
+use Rattle.pd_kinds.specs.Field.{zeros}
+use Rattle.pd_kinds.specs.Limits.{room_of}
+use Rattle.pd_kinds.specs.Moments.{now}
+use Rattle.pd_kinds.specs.Objects.{DeviceState, SourceState}
+use Rattle.pd_kinds.proofs.CrashLemmas.{and_then, weaken, stays, left_now, left_synced, left_held}
+use Rattle.pd_image.proofs.CrashLemmas.{at_some}
+use Rattle.pd_draft.specs.Closed.{StaysClosed}
+use Rattle.pd_draft.proofs.DraftLemmas.{zeros_none}
+use Rattle.pd_grammar.specs.Texts as Texts
+use Rattle.pd_grammar.specs.Spelling.{Verdict, accepted, refused, no_room, need_above_room}
+use Rattle.pd_spells.specs.Early.{is_decided_early}
+use Rattle.pd_laid.specs.Laid.{IsLaid, laid_number}
+use Rattle.pd_laid.specs.Made.{Makes}
+use Rattle.pd_restoring.specs.declared.fault.RestoreFault.{RestoreFault}
+use Rattle.pd_restoring.specs.declared.fault.RestoreFault.TheVariants as r
+use Rattle.pd_restoring.specs.Begin.{BeginsOf, BeginsWith, BlamesSource}
+use Rattle.pd_restoring.specs.Reading.{SaysOf}
+use Rattle.pd_restoring.specs.Restored.{IsRefusal, AnswersFault}
+use Rattle.pd_restoring.specs.Subject.{Subject, IsVerdictOf, HasVerdicts}
+use Rattle.pd_restoring.specs.Whole.{made_of, Commits, CommitsSynced, Tries, ShutBy, Restores}
+use Rattle.pd_restoring.proofs.MadeLemmas.{made_of_closed}
+use Rattle.pd_restoring.proofs.ReadingLemmas.{above_here}
+
+abbrev Image : Type 0
+Image = List (List ℕ)
+
+-- a text that is told
+text_in : Option (List ℕ) → List ℕ
+text_in left = option_map_or (λ (text : List ℕ). text) left []
+
+at_text : (left : Option (List ℕ)) (P : List ℕ → Type 0) → P (text_in left) → IfSome left P
+unfolding text_in
+at_text None P is = tt
+at_text (Some text) P is = is
+
+where_told : (left : Option (List ℕ)) (P : List ℕ → Type 0) → ((t : List ℕ) → left ≡ Some t → P t) → IfSome left P
+where_told None P told = tt
+where_told (Some text) P told = told text refl
+
+both_told : (left : Option (List ℕ)) (P Q : List ℕ → Type 0) → IfSome left P → IfSome left Q → IfSome left (λ t. P t × Q t)
+both_told None P Q p q = tt
+both_told (Some text) P Q p q = (p, q)
+
+-- the device as it was
+at_rest : (image : Image) (Made : Image → Type 0) (device : DeviceState) → HoldsSynced image device → LeavesOnly (IsOldNoneOrMade image Made) device device
+at_rest image Made device synced =
+    stays refl refl (λ left firsts leaves chance. inl (left_synced image left (now image device.history) refl synced.unsynced (left_now device image left firsts synced.held leaves).0))
+
+kept_same : (held : Option Image) → IfSome held (λ image. IfSome held (λ now. (now ≡ image) ⊎ HasNoSuper now))
+kept_same None = tt
+kept_same (Some image) = inl refl
+
+-- a fault that says nothing of the text
+IsSilent : RestoreFault → Type 0
+IsSilent r.Memory = Unit {0}
+IsSilent r.Source = Unit {0}
+IsSilent r.Device = Unit {0}
+IsSilent (r.Text fault) = ⊥
+IsSilent (r.NoRoom need blocks) = ⊥
+
+silent_answer : {M : Type 0} (fault : RestoreFault) (v : Verdict M) → IsSilent fault → AnswersFault fault v
+unfolding IsSilent
+silent_answer r.Memory v is = tt
+silent_answer r.Source v is = tt
+silent_answer r.Device v is = tt
+silent_answer (r.Text fault) v is = absurd is
+silent_answer (r.NoRoom need blocks) v is = absurd is
+
+-- what is said of an old image and no superblock
+abbrev older : {image : Image} {Made : Image → Type 0} {a b : DeviceState} → LeavesOnly (IsOldOrNone image) a b → LeavesOnly (IsOldNoneOrMade image Made) a b
+older first = weaken first (λ left firsts outcome chance. ⊎_elim (λ old. inl old) (λ none. inr (inl none)) (outcome chance))
+
+module _ {L M : Type 0} (k : Subject L M) where
+  -- whether the first two lines decide
+  abbrev is_early : List ℕ → ℕ → Bool
+  is_early text room = is_decided_early (k.need room) room (Texts.reading k.format text).lines
+
+  -- a fault before the device is written
+  unwritten : (fault : RestoreFault) (from to : SourceState) (old : DeviceState) (v : Verdict M) (early : Bool)
+      → IfSome from.left (λ t. IsVerdictOf k t (room_of old.blocks) v × (early ≡ is_early t (room_of old.blocks))) → AnswersFault fault v → Restores k (Err fault) from to old old
+  unwritten fault from to old v early right answer = record {
+    verdict = v;
+    early = early;
+    right = right;
+    answer = answer;
+    crash = λ image synced. at_rest image (Makes k.laid (room_of old.blocks) v image) old synced;
+    made = tt;
+    still_told = tt;
+    kept = λ _. kept_same old.held;
+    untouched = λ _. record { held = refl; history = refl };
+    ended = tt;
+  }
+
+  early_told : (left : Option (List ℕ)) (room : ℕ) → IfSome left (λ t. is_early (text_in left) room ≡ is_early t room)
+  early_told left room = at_text left (λ t. is_early (text_in left) room ≡ is_early t room) refl
+
+  silent_unwritten : HasVerdicts k → (fault : RestoreFault) (from to : SourceState) (old : DeviceState) → IsSilent fault → Restores k (Err fault) from to old old
+  silent_unwritten verdicts fault from to old silent =
+      let room = room_of old.blocks in
+      let found = verdicts (text_in from.left) room in
+      unwritten fault from to old found.0 (is_early (text_in from.left) room)
+      (both_told from.left (λ t. IsVerdictOf k t room found.0) (λ t. is_early (text_in from.left) room ≡ is_early t room)
+      (at_text from.left (λ t. IsVerdictOf k t room found.0) found.1) (early_told from.left room)) (silent_answer fault found.0 silent)
+
+  -- the first two lines weren't read
+  pub never_begun : HasVerdicts k → (fault : RestoreFault) (from to : SourceState) (old : DeviceState) → BlamesSource fault from.faults to.faults
+      → ((t : List ℕ) → from.left ≡ Some t → (room : ℕ) → BeginsOf k.format k.need room t fault) → Restores k (Err fault) from to old old
+  unfolding IsSilent
+  never_begun verdicts r.Memory from to old blames told = silent_unwritten verdicts r.Memory from to old tt
+  never_begun verdicts r.Device from to old blames told = absurd blames
+  never_begun verdicts (r.NoRoom need blocks) from to old blames told = absurd blames
+  never_begun verdicts r.Source from to old blames told = silent_unwritten verdicts r.Source from to old tt
+  never_begun verdicts (r.Text fault) from to old blames told =
+      let room = room_of old.blocks in
+      let why : Texts.Refusal = record { line = fault.line; cause = fault.cause } in
+      unwritten (r.Text fault) from to old (refused why) (is_early (text_in from.left) room)
+      (both_told from.left (λ t. IsVerdictOf k t room (refused why)) (λ t. is_early (text_in from.left) room ≡ is_early t room)
+      (where_told from.left (λ t. IsVerdictOf k t room (refused why)) (λ t is. told t is room)) (early_told from.left room)) refl
+
+  -- a text that begins with these lines
+  module _ (room : ℕ) (t : List ℕ) (lines : List L) (begins : BeginsWith k.format t lines) where
+    early_is : nat_lt room (k.need room lines) ≡ is_early t room
+    early_is =
+        ap (λ (ls : List L). nat_lt room (k.need room ls)) begins.are ∙ ap (λ (ls : List L). is_decided_early (k.need room) room ls) (sym begins.is)
+
+    over_says : room < k.need room lines → need_above_room (k.need room) room [] (Texts.reading k.format t).lines ≡ Some (k.need room lines)
+    over_says less =
+        let same = ap (k.need room) begins.are in
+        ap (λ (ls : List L). need_above_room (k.need room) room [] ls) begins.is
+        ∙ (above_here k.need room (begins.first ∷ []) begins.rest begins.second (λ lines. refl) (omega arith) (omega arith) ∙ ap (λ (n : ℕ). Some n) (sym same))
+
+  -- once the first two lines were read
+  module _ (lines : List L) (IsOf : List ℕ → Type 0) (from to : SourceState) (old : DeviceState) (begins : (t : List ℕ) → from.left ≡ Some t → BeginsWith k.format t lines) where
+    abbrev room : ℕ
+    room = room_of old.blocks
+
+    abbrev need : ℕ
+    need = k.need room lines
+
+    abbrev early : Bool
+    early = nat_lt room need
+
+    early_right : IfSome from.left (λ t. early ≡ is_early t room)
+    early_right = where_told from.left (λ t. early ≡ is_early t room) (λ t is. early_is room t lines (begins t is))
+
+    right_of : (v : Verdict M) → IfSome from.left (λ t. IsVerdictOf k t room v) → IfSome from.left (λ t. IsVerdictOf k t room v × (early ≡ is_early t room))
+    right_of v is = both_told from.left (λ t. IsVerdictOf k t room v) (λ t. early ≡ is_early t room) is early_right
+
+    -- there is no room for them
+    pub begun_no_room : (needed : ℕ) → needed ≡ need → room < needed → Restores k (Err (r.NoRoom needed room)) from to old old
+    begun_no_room needed is less =
+        unwritten (r.NoRoom needed room) from to old (no_room needed room) early
+        (right_of (no_room needed room) (where_told from.left (λ t. IsVerdictOf k t room (no_room needed room))
+        (λ t told. (over_says room t lines (begins t told) (omega arith) ∙ ap (λ n. Some n) (sym is), refl)))) (refl, refl)
+
+    module _ (told : (t : List ℕ) → from.left ≡ Some t → IsOf t) (fits : need ≤ room) (mid new : DeviceState) where
+      not_early : early ≡ true → ⊥
+      not_early e = absurd (both_ways early (le-ltb room need fits) e)
+
+      -- the device was written, and a fault came
+      begun_fault : (fault : RestoreFault) (v : Verdict M) → IfSome from.left (λ t. IsVerdictOf k t room v) → AnswersFault fault v
+          → ((image : Image) → HoldsSynced image old → LeavesOnly (IsOldNoneOrMade image (Makes k.laid room v image)) old new)
+          → (IsRefusal fault → IfSome old.held (λ image. IfSome new.held (λ now. (now ≡ image) ⊎ HasNoSuper now)))
+          → Restores k (Err fault) from to old new
+      begun_fault fault v is answer crash kept = record {
+        verdict = v;
+        early = early;
+        right = right_of v is;
+        answer = answer;
+        crash = crash;
+        made = tt;
+        still_told = tt;
+        kept = kept;
+        untouched = λ e. absurd (not_early e);
+        ended = tt;
+      }
+
+      -- block 0 wasn't closed
+      pub begun_unclosed : HasVerdicts k → ((image : Image) → HoldsSynced image old → LeavesOnly (IsOldOrNone image) old new) → Restores k (Err r.Device) from to old new
+      begun_unclosed verdicts first =
+          let found = verdicts (text_in from.left) room in
+          begun_fault r.Device found.0 (at_text from.left (λ t. IsVerdictOf k t room found.0) found.1) tt (λ image synced. older (first image synced)) (λ none. absurd none)
+
+      module _ (first : (image : Image) → HoldsSynced image old → LeavesOnly (IsOldOrNone image) old mid)
+          (content : IfSome old.held (λ image. mid.held ≡ Some (set image 0 zeros))) (measured : IfSome old.held (λ image. length image ≡ old.blocks)) where
+        -- block 0 stayed closed
+        closed_crash : StaysClosed mid new → (Made : Image → Image → Type 0) → (image : Image) → HoldsSynced image old → LeavesOnly (IsOldNoneOrMade image (Made image)) old new
+        closed_crash stays Made image synced =
+            and_then (older (first image synced)) (weaken stays.crash (λ left firsts zeroed chance. inr (inl (zeros_none left firsts zeroed))))
+
+        closed_kept : StaysClosed mid new → IfSome old.held (λ image. IfSome new.held (λ now. (now ≡ image) ⊎ HasNoSuper now))
+        closed_kept stays =
+            IfSome_then old.held measured (λ image number.
+            each_told new.held (λ now. (now ≡ image) ⊎ HasNoSuper now) (λ now is. inr (zeros_none now new.history.firsts (stays.crash.now now new.history.firsts (left_held new now is)))))
+          where
+            each_told : (o : Option Image) (P : Image → Type 0) → ((x : Image) → o ≡ Some x → P x) → IfSome o P
+            each_told None P all = tt
+            each_told (Some x) P all = all x refl
+
+        closed_at : (image : Image) → HoldsSynced image old → mid.held ≡ Some (set image 0 zeros)
+        closed_at image synced = at_some old.held (λ (i : Image). mid.held ≡ Some (set i 0 zeros)) image synced.held content
+
+        -- what is made is laid
+        made_laid : (m : M) → laid_number (k.laid m room) ≤ room → (image made : Image) → HoldsSynced image old → made ≡ made_of (k.laid m room) (set image 0 zeros)
+            → IsLaid (k.laid m room) image made
+        made_laid m enough image made synced is =
+            let number : length image ≡ old.blocks = at_some old.held (λ (i : Image). length i ≡ old.blocks) image synced.held measured in
+            rw is (made_of_closed (k.laid m room) image zeros (omega arith))
+
+        commit_crash : {left : Option (List ℕ)} → (done : Commits k room IsOf left mid new) → (image : Image) → HoldsSynced image old
+            → LeavesOnly (IsOldNoneOrMade image (Makes k.laid room (accepted done.meaning) image)) old new
+        commit_crash done image synced =
+            and_then (older (first image synced)) (weaken (done.crash (set image 0 zeros) (closed_at image synced))
+            (λ left firsts outcome chance. ⊎_elim (λ none. inr (inl none)) (λ made. inr (inr (made_laid done.meaning done.fits image left synced made))) (outcome chance)))
+
+        -- all was committed
+        begun_done : CommitsSynced k room IsOf to.left mid new → Restores k (Ok tt) from to old new
+        begun_done done =
+            let m = done.commits.meaning in record {
+              verdict = accepted m;
+              early = early;
+              right = right_of (accepted m) (where_told from.left (λ t. IsVerdictOf k t room (accepted m)) (λ t is. (done.commits.told t (told t is)).0));
+              answer = done.commits.lawful;
+              crash = λ image synced. commit_crash done.commits image synced;
+              made = λ image synced.
+                  let s = done.done (set image 0 zeros) (closed_at image synced) in
+                  at_made new.held (λ (made : Image). IsLaid (k.laid m room) image made) (made_of (k.laid m room) (set image 0 zeros)) s s.held
+                  (λ made is. made_laid m done.commits.fits image made synced is);
+              still_told = λ image synced. rw (done.done (set image 0 zeros) (closed_at image synced)).held refl;
+              kept = tt;
+              untouched = λ e. absurd (not_early e);
+              ended = where_told from.left (λ t. to.left ≡ Some []) (λ t is. (done.commits.told t (told t is)).1);
+            }
+          where
+            at_made : (o : Option Image) (P : Image → Type 0) (image : Image) → HoldsSynced image new → o ≡ Some image → ((made : Image) → made ≡ image → P made)
+                → IfSome o (λ now. P now × HoldsSynced now new)
+            at_made None P image s is laid = tt
+            at_made (Some now) P image s is laid =
+                let same : now ≡ image = same_Some now image is in (laid now same, subst (λ (j : Image). HoldsSynced j new) (sym same) s)
+
+        silent_closed : HasVerdicts k → (fault : RestoreFault) → IsSilent fault → StaysClosed mid new → Restores k (Err fault) from to old new
+        silent_closed verdicts fault silent stays =
+            let found = verdicts (text_in from.left) room in
+            begun_fault fault found.0 (at_text from.left (λ t. IsVerdictOf k t room found.0) found.1) (silent_answer fault found.0 silent)
+            (closed_crash stays (Makes k.laid room found.0)) (λ _. closed_kept stays)
+
+        -- it wasn't
+        begun_failed : HasVerdicts k → (fault : RestoreFault) → Tries k room IsOf to.left mid new → ShutBy fault mid new
+            → ((t : List ℕ) → from.left ≡ Some t → SaysOf k.format k.need room t fault) → Restores k (Err fault) from to old new
+        unfolding IsSilent
+        begun_failed verdicts r.Memory tries shut says = silent_closed verdicts r.Memory tt shut
+        begun_failed verdicts r.Source tries shut says = silent_closed verdicts r.Source tt shut
+        begun_failed verdicts r.Device (inl closed) shut says = silent_closed verdicts r.Device tt closed
+        begun_failed verdicts r.Device (inr done) shut says =
+            begun_fault r.Device (accepted done.meaning) (where_told from.left (λ t. IsVerdictOf k t room (accepted done.meaning)) (λ t is. (done.told t (told t is)).0)) tt
+            (λ image synced. commit_crash done image synced) (λ none. absurd none)
+        begun_failed verdicts (r.Text fault) tries shut says =
+            let why : Texts.Refusal = record { line = fault.line; cause = fault.cause } in
+            begun_fault (r.Text fault) (refused why) (where_told from.left (λ t. IsVerdictOf k t room (refused why)) (λ t is. says t is)) refl
+            (closed_crash shut (Makes k.laid room (refused why))) (λ _. closed_kept shut)
+        begun_failed verdicts (r.NoRoom needed blocks) tries shut says =
+            begun_fault (r.NoRoom needed blocks) (no_room needed blocks) (where_told from.left (λ t. IsVerdictOf k t room (no_room needed blocks)) (λ t is. says t is)) (refl, refl)
+            (closed_crash shut (Makes k.laid room (no_room needed blocks))) (λ _. closed_kept shut)
+
+        -- by the result
+        pub begun_result : HasVerdicts k → (result : Result (Unit {0}) RestoreFault)
+            → MatchResult result (λ _. CommitsSynced k room IsOf to.left mid new) (λ _. Tries k room IsOf to.left mid new)
+            → IfErr result (λ fault. ShutBy fault mid new) → ((t : List ℕ) → from.left ≡ Some t → IfErr result (SaysOf k.format k.need room t)) → Restores k result from to old new
+        begun_result verdicts (Ok done) tries shut says = begun_done tries
+        begun_result verdicts (Err fault) tries shut says = begun_failed verdicts fault tries shut says
+
+-- a fault after which block 0 stayed closed
+pub shut_by : (fault : RestoreFault) (old new : DeviceState) → StaysClosed old new → ShutBy fault old new
+shut_by r.Memory old new stays = stays
+shut_by r.Source old new stays = stays
+shut_by r.Device old new stays = tt
+shut_by (r.Text fault) old new stays = stays
+shut_by (r.NoRoom needed blocks) old new stays = stays

@@ -1,0 +1,6 @@
+pub mod Subject
+pub mod Faults
+pub mod Restored
+pub mod Reading
+pub mod Begin
+pub mod Whole

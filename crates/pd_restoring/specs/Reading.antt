@@ -1,0 +1,41 @@
+-- A text that is read and restored, line by line; of lines the newest comes first.
+use Rattle.std.specs.Prelude.{◌≡◌, ℕ, ◌≤◌, List, [], None, Some, Result, MatchResult}
+use Rattle.pd_kinds.specs.Objects.{Rose}
+use Rattle.pd_grammar.specs.Texts.{TextFormat, reading, refusal}
+use Rattle.pd_grammar.specs.Spelling.{need_above_room}
+use Rattle.pd_texts.specs.Reader.{in_order}
+use Rattle.pd_restoring.specs.declared.fault.RestoreFault.{RestoreFault}
+use Rattle.pd_restoring.specs.declared.fault.RestoreFault.TheVariants as r
+
+-- no line so far, from line 2 on, needs more than the room
+abbrev pub NoneAbove : {L : Type 0} → (ℕ → List L → ℕ) → ℕ → List L → Type 0
+NoneAbove {L} need room before = (lines : List L) → need_above_room (need room) room [] (in_order before lines) ≡ need_above_room (need room) room before lines
+
+-- what a fault says of a text: a line is refused, and none before it needs more than the room; or there is no room, and
+-- so much is needed
+abbrev pub SaysOf : {L : Type 0} → TextFormat L → (ℕ → List L → ℕ) → ℕ → List ℕ → RestoreFault → Type 0
+SaysOf format need room t r.Memory = Unit {0}
+SaysOf format need room t r.Source = Unit {0}
+SaysOf format need room t r.Device = Unit {0}
+SaysOf format need room t (r.Text fault) =
+    (need_above_room (need room) room [] (reading format t).lines ≡ None) × (refusal format t ≡ Some (record { line = fault.line; cause = fault.cause }))
+SaysOf format need room t (r.NoRoom needed blocks) = (need_above_room (need room) room [] (reading format t).lines ≡ Some needed) × (blocks ≡ room)
+
+-- a fault of what builds
+abbrev pub IsOfBuild : RestoreFault → Type 0
+IsOfBuild (r.NoRoom need blocks) = ⊥
+IsOfBuild r.Memory = Unit {0}
+IsOfBuild r.Source = ⊥
+IsOfBuild r.Device = Unit {0}
+IsOfBuild (r.Text fault) = ⊥
+
+-- the device's count of failures rose where it is blamed, and else stayed
+abbrev pub BlamesDevice : RestoreFault → ℕ → ℕ → Type 0
+BlamesDevice r.Device old new = Rose old new × (old ≤ new)
+BlamesDevice r.Memory old new = new ≡ old
+BlamesDevice r.Source old new = ⊥
+BlamesDevice (r.Text fault) old new = ⊥
+BlamesDevice (r.NoRoom need blocks) old new = new ≡ old
+
+abbrev pub CountsTake : {T : Type 0} → Result T RestoreFault → ℕ → ℕ → Type 0
+CountsTake result old new = MatchResult result (λ done. new ≡ old) (λ fault. BlamesDevice fault old new)

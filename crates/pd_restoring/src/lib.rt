@@ -1,0 +1,10 @@
+//! What all restores share: the trait over the kinds of metadata, and the map that counts the metadata blocks.
+#![tactic(auto)]
+
+mod fault;
+mod own_map;
+mod restoring;
+
+pub use fault::{RestoreFault, of_build, of_read};
+pub use own_map::write_own_map;
+pub use restoring::Restoring;
