@@ -275,11 +275,3 @@ module _ {L M : Type 0} (k : Subject L M) where
             → IfErr result (λ fault. ShutBy fault mid new) → ((t : List ℕ) → from.left ≡ Some t → IfErr result (SaysOf k.format k.need room t)) → Restores k result from to old new
         begun_result verdicts (Ok done) tries shut says = begun_done tries
         begun_result verdicts (Err fault) tries shut says = begun_failed verdicts fault tries shut says
-
--- a fault after which block 0 stayed closed
-pub shut_by : (fault : RestoreFault) (old new : DeviceState) → StaysClosed old new → ShutBy fault old new
-shut_by r.Memory old new stays = stays
-shut_by r.Source old new stays = stays
-shut_by r.Device old new stays = tt
-shut_by (r.Text fault) old new stays = stays
-shut_by (r.NoRoom needed blocks) old new stays = stays

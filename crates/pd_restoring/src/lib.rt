@@ -4,7 +4,9 @@
 mod fault;
 mod own_map;
 mod restoring;
+mod whole;
 
 pub use fault::{RestoreFault, of_build, of_read};
 pub use own_map::write_own_map;
 pub use restoring::Restoring;
+pub use whole::restore;
