@@ -23,7 +23,7 @@ use Rattle.pd_laid_thin.specs.CleanPool.{IsCleanPool}
 use Rattle.pd_answers.specs.Generated.{generated_text}
 use Rattle.pd_answers.specs.Rehearsals.{AreNumbers}
 use Rattle.pd_gen.specs.Pool.{generated_pool}
-use Rattle.pd_restore.specs.Restored.{IsAccepted}
+use Rattle.pd_restoring.specs.Restored.{IsAccepted}
 use Rattle.pd_rehearse.specs.declared.fault.RehearseFault.{RehearseFault}
 use Rattle.pd_rehearse.specs.declared.fault.RehearseFault.TheVariants as f
 use Rattle.pd_rehearse.specs.declared.run.Rehearsal.{Rehearsal}

@@ -11,7 +11,7 @@ use Rattle.pd_spells.specs.ThinNeed.{IsThinVerdict}
 use Rattle.pd_laid.specs.LaidThin.{laid_pool}
 use Rattle.pd_laid.specs.Made.{Makes}
 use Rattle.pd_answers.specs.Generated.{generated_text}
-use Rattle.pd_restore.specs.Restored.{IsAccepted, IsWithoutRoom}
+use Rattle.pd_restoring.specs.Restored.{IsAccepted, IsWithoutRoom}
 use Rattle.pd_rehearse.specs.declared.fault.RehearseFault.{RehearseFault}
 use Rattle.pd_rehearse.specs.declared.fault.RehearseFault.TheVariants.{Memory, Device, NoRoom, Faulty}
 use Rattle.pd_rehearse.specs.Failing.{IsTurnedDown}

@@ -1,10 +1,7 @@
-pub mod MapLemmas
 pub mod OrderLemmas
 pub mod PartLemmas
 pub mod LineLemmas
 pub mod ReadingLemmas
 pub mod PoolLemmas
-pub mod MadeLemmas
 pub mod BeginLemmas
-pub mod CrashLemmas
-pub mod ThinLemmas
+pub mod NeedLemmas

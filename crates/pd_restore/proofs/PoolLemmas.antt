@@ -1,20 +1,19 @@
 -- A pool from its own line on.
-use Rattle.std.proofs.Common.{◌≡◌, ℕ, List, [], refl, ◌∙◌, ap, Option, Some}
+use Rattle.std.proofs.Common.{◌≡◌, ℕ, ◌≤◌, refl, ap, arith}
 use Rattle.pd_kinds.specs.Meaning.{ThinPool}
-use Rattle.pd_grammar.specs.Texts as Texts
-use Rattle.pd_grammar.specs.Spelling.{need_above_room, accepted}
-use Rattle.pd_spells.specs.ThinText.{Line, Head, head_of, MeansPool}
-use Rattle.pd_spells.specs.ThinNeed.{thin_need_so_far, IsThinVerdict}
-use Rattle.pd_spells.specs.ThinText.{thin}
-use Rattle.pd_laid.specs.LaidThin.{pool_fields}
+use Rattle.pd_kinds.specs.ThinSuper.{thin_super_block}
+use Rattle.pd_spells.specs.Lawful.{IsLawfulPool}
+use Rattle.pd_spells.specs.ThinNeed.{thin_need}
+use Rattle.pd_spells.specs.ThinText.{Head, head_of}
+use Rattle.pd_laid.specs.Laid.{laid_number, written_from}
+use Rattle.pd_laid.specs.LaidThin.{laid_pool, laid_shape, pool_fields}
 use Rattle.pd_laid.specs.Shape.{shape_of}
-use Rattle.pd_texts.specs.Reader.{in_order, IsWhole}
-use Rattle.pd_texts.proofs.ThinLemmas.{whole_bytes}
+use Rattle.pd_laid_once.proofs.Need.{laid_need}
 use Rattle.pd_restore.specs.declared.parts.Parts.{Parts}
 use Rattle.pd_restore.specs.declared.pool.Pool.{Pool}
 use Rattle.pd_restore.specs.Parts.{AreParts}
-use Rattle.pd_restore.specs.Reading.{NoneAbove}
 use Rattle.pd_restore.specs.Whole.{head_of_pool, fields_of}
+use Rattle.pd_restore.specs.Written.{pool_behind}
 
 -- the superblock's fields are those of the laid pool
 pub fields_are : (p : Pool) (parts : Parts) (room : ℕ) (m : ThinPool) → head_of_pool p ≡ head_of m → AreParts m room parts → fields_of p parts room ≡ pool_fields (shape_of m) room
@@ -26,13 +25,14 @@ fields_are p parts room m head are =
     let size : p.block_size ≡ m.block_size = ap (λ (h : Head). h.block_size) head in
     rw (uuid, time, transaction, size, are.mapping_root, are.details_root, are.data_map, are.meta_map) refl
 
--- a text whose lines are these spells their pool, and has room
-pub accepted_whole : (t : List ℕ) (lines : List Line) (room : ℕ) (m : ThinPool) (left : Option (List ℕ)) → MeansPool (in_order lines []) m → NoneAbove room lines → IsWhole thin t lines left
-    → IsThinVerdict t room (accepted m) × (left ≡ Some [])
-accepted_whole t lines room m left means above is = (
-  (
-    ap (λ (reading : Texts.Reading Line). need_above_room (thin_need_so_far room) room [] reading.lines) is.0 ∙ above [],
-    record { lines = in_order lines []; bytes = whole_bytes t (in_order lines []) is.0; means = means },
-  ),
-  is.1,
-)
+-- a pool that is written but for its superblock is laid so
+pub laid_fits : (m : ThinPool) (room : ℕ) → IsLawfulPool m → thin_need m room ≤ room → room ≤ 4161600 → laid_number (laid_pool m room) ≤ room
+laid_fits m room lawful fits most = omega (arith, laid_need m lawful room (omega arith))
+
+pub super_is : (m : ThinPool) (room : ℕ) → (laid_pool m room).super_block ≡ thin_super_block (pool_fields (shape_of m) room)
+unfolding laid_pool laid_shape
+super_is m room = refl
+
+pub behind_is : (m : ThinPool) (room : ℕ) → written_from 1 (laid_pool m room).blocks ≡ pool_behind m room
+unfolding laid_pool laid_shape
+behind_is m room = refl

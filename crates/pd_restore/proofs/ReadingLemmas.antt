@@ -1,8 +1,7 @@
 -- A text that is read and restored, line by line.
-use Rattle.std.proofs.Common.{◌≡◌, inl, inr, ⊎_elim, ℕ, zero, suc, ◌-◌, ◌*◌, ◌<◌, ◌≤◌, ◌^◌, min, max, Bool, true, false, not, leb, eqb, ◌&&◌, List, [], ◌∷◌, ◌++◌, length, sum_by, refl, sym, ◌∙◌, ap, append_assoc, arith, Option, None, Some, Result, Ok, Err}
+use Rattle.std.proofs.Common.{◌≡◌, inl, inr, ℕ, zero, suc, ◌-◌, ◌*◌, ◌<◌, ◌≤◌, ◌^◌, min, max, Bool, true, false, leb, eqb, List, [], ◌∷◌, ◌++◌, length, sum_by, refl, sym, ◌∙◌, ap, arith, Option, Some, Result, Ok, Err}
 use Rattle.std.specs.Prelude.{MatchResult, IfOk, IfErr, OnOk}
 use Rattle.std.specs.List.{count_by, flat_map, range_with_len}
-use Rattle.std.proofs.lemmas.Bool.Decides.{nat_tests}
 use Rattle.std.proofs.lemmas.List.FromFn.{length-range_with_len}
 use Rattle.pd_grammar.specs.Words.{split}
 use Rattle.pd_grammar.specs.Texts as Texts
@@ -23,23 +22,21 @@ use Rattle.pd_spells.specs.ThinNeed.{data_of_line, thin_need_so_far, need_of_dev
 use Rattle.pd_texts.specs.declared.thin_line.ThinLine.{ThinLine}
 use Rattle.pd_texts.specs.declared.thin_line.ThinLine.TheVariants as v
 use Rattle.pd_texts.specs.declared.thin_line.Run2.{Run2}
-use Rattle.pd_texts.specs.Reader.{in_order, IsReadAfter, AreReadSoFar, ReadsOn, LeavesOf, GivesLine, GivesOf, IsWhole, IsRefusedAfter, RefusesNext, begun}
-use Rattle.pd_texts.specs.ThinLine.{line_of, details_of, run_of, thin_meant}
+use Rattle.pd_texts.specs.Reader.{IsReadAfter, AreReadSoFar, ReadsOn, LeavesOf, IsWhole, RefusesNext}
+use Rattle.pd_texts.specs.ThinLine.{line_of, details_of, run_of}
 use Rattle.pd_texts.proofs.ThinNextLemmas.{pool_read, device_read, map_read, end_read}
 use Rattle.pd_devices.specs.declared.devices.Devices.{Devices}
-use Rattle.pd_kinds.specs.Objects.{SourceState}
-use Rattle.pd_image.specs.Source.{KeepsSource}
 use Rattle.pd_devices.proofs.TreeLemmas.{sum_few}
 use Rattle.pd_devices.proofs.GatherLemmas.{trees_within}
 use Rattle.pd_devices.specs.Devices.{MayFollow}
 use Rattle.pd_devices.specs.Gathered.{HasGathered, mapped_in}
-use Rattle.pd_restore.specs.declared.fault.RestoreFault.{RestoreFault}
-use Rattle.pd_restore.specs.declared.fault.RestoreFault.TheVariants as r
-use Rattle.pd_restore.specs.Reading.{NoneAbove, Reading, Steps, SaysOf, IsShort, IsOver, IsOfBuild, progress}
-use Rattle.pd_restore.specs.Faults.{read_fault}
-use Rattle.pd_texts.specs.declared.fault.TextFault.{TextFault}
+use Rattle.pd_restoring.specs.declared.fault.RestoreFault.{RestoreFault}
+use Rattle.pd_restoring.specs.declared.fault.RestoreFault.TheVariants as r
+use Rattle.pd_restoring.specs.Reading.{SaysOf}
+use Rattle.pd_restoring.specs.Faults.{read_fault}
+use Rattle.pd_restoring.proofs.ReadingLemmas.{above_next, above_here, next_says}
+use Rattle.pd_restore.specs.Reading.{Reading, Steps, IsShort, IsOver, progress}
 use Rattle.pd_texts.specs.declared.fault.ReadFault.{ReadFault}
-use Rattle.pd_texts.specs.declared.fault.ReadFault.TheVariants as c
 
 -- want of room is what is said of the room
 pub over_if_short : (P : Type 0) (room need : ℕ) (result : Result Bool RestoreFault) → MatchResult result (λ more. P) (IsShort room need) → MatchResult result (λ more. P) (IsOver room need)
@@ -134,45 +131,7 @@ progress_more before (v.Map run) old new later after g h =
     let m = map_read before (run_of run) after in
     omega (arith, g.total, h.total, g.number, h.number, m.some, m.mapped)
 
--- no line so far is above the room, also with one more that isn't
-and_false : (b : Bool) → (b && false) ≡ false
-and_false true = refl
-and_false false = refl
-
-pub above_next : (room : ℕ) (before : List Line) (line : Line) → NoneAbove room before → thin_need_so_far room (line ∷ before) ≤ room → NoneAbove room (line ∷ before)
-above_next room before line above need lines =
-    above (line ∷ lines) ∙ rw (le-ltb room (thin_need_so_far room (line ∷ before)) need, and_false (not (eqb (length before) 0))) refl
-
-some_lines : (n : ℕ) → 1 ≤ n → eqb n 0 ≡ false
-some_lines n some = grind (arith, nat_tests)
-
--- the first one that is, is what is needed
-pub above_here : (room : ℕ) (before lines : List Line) (line : Line) → NoneAbove room before → 1 ≤ length before → room < thin_need_so_far room (line ∷ before)
-    → need_above_room (thin_need_so_far room) room [] (in_order before (line ∷ lines)) ≡ Some (thin_need_so_far room (line ∷ before))
-above_here room before lines line above some need =
-    above (line ∷ lines) ∙ rw (some_lines (length before) some, lt-ltb room (thin_need_so_far room (line ∷ before)) need) refl
-
--- what a reader gives after lines
-begun_same : (before : List Line) → 1 ≤ length before → begun first_line before ≡ before
-begun_same [] some = absurd (omega arith)
-begun_same (line ∷ before) some = refl
-
-pub line_given : (next : Option ThinLine) (line : ThinLine) (before : List Line) (new : TextReader ThinState ThinLine) → next ≡ Some line → 1 ≤ length before
-    → GivesLine thin ThinStands first_line thin_meant (Ok next) before new → ReadsOn thin ThinStands (line_of line ∷ before) new
-line_given next line before new is some gives = rw (begun_same before some) at (rw is at gives)
-
-pub line_told : (next : Option ThinLine) (line : ThinLine) (t : List ℕ) (before : List Line) (new : TextReader ThinState ThinLine) (left : Option (List ℕ)) → next ≡ Some line → 1 ≤ length before
-    → GivesOf thin first_line thin_meant (Ok next) t before new left → LeavesOf thin t (line_of line ∷ before) new left
-line_told next line t before new left is some gives = rw (begun_same before some) at (rw is at gives)
-
-pub end_given : (next : Option ThinLine) (before : List Line) (new : TextReader ThinState ThinLine) → next ≡ None → 1 ≤ length before
-    → GivesLine thin ThinStands first_line thin_meant (Ok next) before new → AreReadSoFar thin (end_line ∷ before)
-end_given next before new is some gives = rw (begun_same before some) at (rw is at gives)
-
-pub end_told : (next : Option ThinLine) (t : List ℕ) (before : List Line) (new : TextReader ThinState ThinLine) (left : Option (List ℕ)) → next ≡ None → 1 ≤ length before
-    → GivesOf thin first_line thin_meant (Ok next) t before new left → IsWhole thin t (end_line ∷ before) left
-end_told next t before new left is some gives = rw (begun_same before some) at (rw is at gives)
-
+-- no device waits for a line at the end
 pub no_later_need : (before : List Line) → IsReadAfter thin before end_line → unmapped before ≡ 0
 no_later_need before after = (end_read before after).complete
 
@@ -194,7 +153,7 @@ stepped (Ok more) before line room old text was left s t start now to h blocks r
           later = omega (arith, h.later);
           gathered = gathered;
           need = within;
-          above = above_next room before (line_of line) h.above within;
+          above = above_next thin_need_so_far room before (line_of line) h.above within;
           most = h.most;
           there = omega (arith, h.there, blocks);
         },
@@ -206,7 +165,7 @@ stepped (Ok more) before line room old text was left s t start now to h blocks r
 pub lacking : (result : Result Bool RestoreFault) (before : List Line) (line : ThinLine) (room : ℕ) (old text : TextReader ThinState ThinLine) (left : Option (List ℕ)) (s : Devices) (start now : Stand) (t : List ℕ)
     → Reading before room old s start now → IsReadAfter thin before (line_of line) → LeavesOf thin t (line_of line ∷ before) text left
     → MatchResult result (λ more. min (thin_need_so_far room (line_of line ∷ before)) top ≤ room) (IsOver room (min (thin_need_so_far room (line_of line ∷ before)) top))
-    → IfErr result (SaysOf room t)
+    → IfErr result (SaysOf thin thin_need_so_far room t)
 lacking (Ok more) before line room old text left s start now t h after told over = tt
 lacking (Err r.Memory) before line room old text left s start now t h after told over = tt
 lacking (Err r.Source) before line room old text left s start now t h after told over = tt
@@ -218,7 +177,7 @@ lacking (Err (r.NoRoom needed blocks)) before line room old text left s start no
     let is : needed ≡ need = omega (arith, over.0) in
     let more = (lines_after thin (line_of line ∷ before) (split 10 (held_of text.reader ++ told.rest))).lines in (
       ap (λ (reading : Texts.Reading Line). need_above_room (thin_need_so_far room) room [] reading.lines) told.is
-          ∙ (above_here room before more (line_of line) h.above (omega (arith, h.later)) (omega (arith, over.1.1)) ∙ ap (λ n. Some n) (sym is)),
+          ∙ (above_here thin_need_so_far room before more (line_of line) h.above (omega (arith, h.later)) (omega (arith, over.1.1)) ∙ ap (λ n. Some n) (sym is)),
       over.1.0,
     )
 
@@ -237,7 +196,7 @@ came_to_end (Ok more) before room old text was left s t start now to h reads tol
         ended = refl;
         gathered = gathered;
         need = h.need;
-        above = above_next room before end_line h.above h.need;
+        above = above_next thin_need_so_far room before end_line h.above h.need;
       },
       told,
     )
@@ -257,39 +216,11 @@ pub progress_most : {s : Devices} {start now : Stand} (before : List Line) (room
 progress_most before room text h =
     omega (arith, h.gathered.total, h.gathered.number, sum_few (mapped_in before), trees_some (mapped_in before), trees_within room before, h.need)
 
--- what stays of a source over two calls
-pub keeps_source : {a b c : SourceState} → KeepsSource a b → KeepsSource b c → KeepsSource a c
-keeps_source p q = record { access = q.access ∙ p.access; path = q.path ∙ p.path }
-
--- a failure at the end says nothing of the text
-pub end_says : (result : Result Bool RestoreFault) (room : ℕ) (t : List ℕ) → IfErr result IsOfBuild → IfErr result (SaysOf room t)
-end_says (Ok more) room t of = tt
-end_says (Err r.Memory) room t of = tt
-end_says (Err r.Source) room t of = tt
-end_says (Err r.Device) room t of = tt
-end_says (Err (r.Text fault)) room t of = absurd of
-end_says (Err (r.NoRoom need blocks)) room t of = absurd of
-
--- a refusal after lines that have room
-refused_says : (room : ℕ) (t : List ℕ) (lines : List Line) (fault : TextFault) → NoneAbove room lines → IsRefusedAfter thin t lines fault → SaysOf room t (r.Text fault)
-refused_says room t lines fault above is =
-    (ap (λ (reading : Texts.Reading Line). need_above_room (thin_need_so_far room) room [] reading.lines) is.is ∙ above [], is.refusal)
-
-pub next_says : {s : Devices} {start now : Stand} (fault : ReadFault) (room : ℕ) (t : List ℕ) (before : List Line) (text : TextReader ThinState ThinLine) → Reading before room text s start now
-    → RefusesNext thin first_line end_line t before fault → SaysOf room t (read_fault fault)
+-- what a fault of the reader says after lines that have room
+pub line_says : {s : Devices} {start now : Stand} (fault : ReadFault) (room : ℕ) (t : List ℕ) (before : List Line) (text : TextReader ThinState ThinLine) → Reading before room text s start now
+    → RefusesNext thin first_line end_line t before fault → SaysOf thin thin_need_so_far room t (read_fault fault)
 unfolding thin_need_so_far
-next_says c.Memory room t before text h refuses = tt
-next_says c.Source room t before text h refuses = tt
-next_says (c.Text fault) room t before text h refuses =
-    let same = begun_same before (omega (arith, h.later)) in
-    ⊎_elim (λ first. refused_says room t before fault h.above first)
-    (⊎_elim (λ second. refused_says room t before fault h.above (rw same at second))
-    (λ last. refused_says room t (end_line ∷ before) fault (above_next room before end_line h.above h.need) (rw same at last))) refuses
-
--- a line more behind others
-pub one_later : (before lines later : List Line) (line : Line) → ((others : List Line) → in_order lines others ≡ in_order before (later ++ others))
-    → (others : List Line) → in_order (line ∷ lines) others ≡ in_order before ((later ++ line ∷ []) ++ others)
-one_later before lines later line front others = front (line ∷ others) ∙ ap (in_order before) (sym (append_assoc later (line ∷ []) others))
+line_says fault room t before text h refuses = next_says thin thin_need_so_far first_line end_line fault room t before (omega (arith, h.later)) h.above h.need refuses
 
 -- the first two lines were read
 pub begun_reading : (p : d.Head) (room : ℕ) (text : TextReader ThinState ThinLine) (s : Devices) (start : Stand) → ReadsOn thin ThinStands (pool_line p ∷ first_line ∷ []) text
@@ -300,7 +231,7 @@ begun_reading p room text s start reads gathered need most there = record {
   later = omega arith;
   gathered = gathered;
   need = need;
-  above = above_next room (first_line ∷ []) (pool_line p) (λ lines. refl) need;
+  above = above_next thin_need_so_far room (first_line ∷ []) (pool_line p) (λ lines. refl) need;
   most = most;
   there = there;
 }

@@ -1,10 +1,8 @@
 -- A text that is read and restored, line by line; of lines the newest comes first.
-use Rattle.std.specs.Prelude.{◌≡◌, ℕ, ◌+◌, ◌<◌, ◌≤◌, Bool, true, false, List, [], ◌∷◌, ◌++◌, length, Option, None, Some, Result, MatchResult}
-use Rattle.pd_kinds.specs.Objects.{Rose}
+use Rattle.std.specs.Prelude.{◌≡◌, ℕ, ◌+◌, ◌<◌, ◌≤◌, Bool, true, false, List, ◌∷◌, ◌++◌, length, Option}
 use Rattle.pd_kinds.specs.declared.limits.TheConstants.{MAX_META_BLOCKS}
 use Rattle.pd_draft.specs.Placed.{Stand}
-use Rattle.pd_grammar.specs.Texts.{has_ended, reading, refusal}
-use Rattle.pd_grammar.specs.Spelling.{need_above_room}
+use Rattle.pd_grammar.specs.Texts.{has_ended}
 use Rattle.pd_spells.specs.ThinText.{Line, end_line, thin}
 use Rattle.pd_spells.specs.ThinNeed.{thin_need_so_far}
 use Rattle.pd_texts.specs.declared.reader.TextReader.{TextReader}
@@ -15,13 +13,9 @@ use Rattle.pd_texts.specs.ThinLine.{line_of}
 use Rattle.pd_texts.specs.ThinState.{ThinStands}
 use Rattle.pd_devices.specs.declared.devices.Devices.{Devices}
 use Rattle.pd_devices.specs.Gathered.{HasGathered, Gathered}
-use Rattle.pd_restore.specs.declared.fault.RestoreFault.{RestoreFault}
-use Rattle.pd_restore.specs.declared.fault.RestoreFault.TheVariants as r
-
--- no line so far, from line 2 on, needs more than the room
-abbrev pub NoneAbove : ℕ → List Line → Type 0
-NoneAbove room before = (lines : List Line)
-    → need_above_room (thin_need_so_far room) room [] (in_order before lines) ≡ need_above_room (thin_need_so_far room) room before lines
+use Rattle.pd_restoring.specs.declared.fault.RestoreFault.{RestoreFault}
+use Rattle.pd_restoring.specs.declared.fault.RestoreFault.TheVariants as r
+use Rattle.pd_restoring.specs.Reading.{NoneAbove}
 
 -- these lines were read and restored, and have room
 pub record Reading (before : List Line) (room : ℕ) (text : TextReader ThinState ThinLine) (s : Devices) (start now : Stand) : Type 0 where
@@ -29,7 +23,7 @@ pub record Reading (before : List Line) (room : ℕ) (text : TextReader ThinStat
   pub later : 2 ≤ length before
   pub gathered : HasGathered before s start now
   pub need : thin_need_so_far room before ≤ room
-  pub above : NoneAbove room before
+  pub above : NoneAbove thin_need_so_far room before
   pub most : room ≤ MAX_META_BLOCKS
   pub there : room ≤ now.device.blocks
 
@@ -45,7 +39,7 @@ pub record HasReadAll (lines : List Line) (room : ℕ) (s : Devices) (start now 
   pub ended : has_ended thin lines ≡ true
   pub gathered : HasGathered lines s start now
   pub need : thin_need_so_far room lines ≤ room
-  pub above : NoneAbove room lines
+  pub above : NoneAbove thin_need_so_far room lines
 
 -- a line may be put after what was gathered
 pub record CanPut (s : Devices) (line : ThinLine) (now : Stand) : Type 0 where
@@ -77,16 +71,6 @@ pub record Went (before : List Line) (room : ℕ) (old : TextReader ThinState Th
   pub so_far : Reading lines room text s start now
   pub told : (t : List ℕ) → LeavesOf thin t before old was → LeavesOf thin t lines text left
 
--- what a fault says of a text: a line is refused, and none before it needs more than the room; or there is no room, and
--- so much is needed
-abbrev pub SaysOf : ℕ → List ℕ → RestoreFault → Type 0
-SaysOf room t r.Memory = Unit {0}
-SaysOf room t r.Source = Unit {0}
-SaysOf room t r.Device = Unit {0}
-SaysOf room t (r.Text fault) =
-    (need_above_room (thin_need_so_far room) room [] (reading thin t).lines ≡ None) × (refusal thin t ≡ Some (record { line = fault.line; cause = fault.cause }))
-SaysOf room t (r.NoRoom need blocks) = (need_above_room (thin_need_so_far room) room [] (reading thin t).lines ≡ Some need) × (blocks ≡ room)
-
 -- how far a text has come: each line adds a mapping or a device
 abbrev pub progress : Devices → ℕ
 progress s = s.counts.total + length s.details.items
@@ -107,28 +91,10 @@ IsOver room need r.Source = ⊥
 IsOver room need r.Device = Unit {0}
 IsOver room need (r.Text fault) = ⊥
 
--- which faults those are
+-- which faults the first ones are
 abbrev pub IsNoRoom : RestoreFault → Type 0
 IsNoRoom (r.NoRoom need blocks) = Unit {0}
 IsNoRoom r.Memory = ⊥
 IsNoRoom r.Source = ⊥
 IsNoRoom r.Device = ⊥
 IsNoRoom (r.Text fault) = ⊥
-
-abbrev pub IsOfBuild : RestoreFault → Type 0
-IsOfBuild (r.NoRoom need blocks) = ⊥
-IsOfBuild r.Memory = Unit {0}
-IsOfBuild r.Source = ⊥
-IsOfBuild r.Device = Unit {0}
-IsOfBuild (r.Text fault) = ⊥
-
--- the device's count of failures rose where it is blamed, and else stayed
-abbrev pub BlamesDevice : RestoreFault → ℕ → ℕ → Type 0
-BlamesDevice r.Device old new = Rose old new × (old ≤ new)
-BlamesDevice r.Memory old new = new ≡ old
-BlamesDevice r.Source old new = ⊥
-BlamesDevice (r.Text fault) old new = ⊥
-BlamesDevice (r.NoRoom need blocks) old new = new ≡ old
-
-abbrev pub CountsTake : {T : Type 0} → Result T RestoreFault → ℕ → ℕ → Type 0
-CountsTake result old new = MatchResult result (λ done. new ≡ old) (λ fault. BlamesDevice fault old new)

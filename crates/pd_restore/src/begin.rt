@@ -6,13 +6,22 @@ ghost use Rattle.pd_spells.specs.ThinText.{pool_line, thin};
 ghost use Rattle.pd_texts.specs.Reader.{LeavesOf, ReadsOn};
 ghost use Rattle.pd_texts.specs.ThinLine.{thin_meant};
 ghost use Rattle.pd_texts.specs.ThinState.{ThinStands};
-ghost use Rattle.pd_restore.specs.Begin.{BeginsOf, CountsBegin, IsOfPool};
+ghost use Rattle.pd_spells.specs.ThinNeed.{thin_need_so_far};
+ghost use Rattle.pd_restoring.specs.Begin.{BeginsOf, CountsBegin};
+ghost use Rattle.pd_restore.specs.Begin.{IsOfPool};
 ghost use Rattle.pd_restore.specs.Whole.{begun_lines, head_of_pool};
 
-use crate::fault::{RestoreFault, of_read};
 use crate::pool::Pool;
 use pd_image::Source;
+use pd_restoring::{RestoreFault, of_read};
 use pd_texts::{ThinLine, ThinText};
+
+/// A text whose first two lines were read.
+#[derive(Drop)]
+pub(crate) struct Begun {
+    pub(crate) text: ThinText,
+    pub(crate) pool: Pool,
+}
 
 /// Reads the first line and the pool line.
 pub(crate) fn read_pool<S: Source>(
@@ -24,7 +33,7 @@ pub(crate) fn read_pool<S: Source>(
     ensures reads { IfOk result (λ pool. ReadsOn thin ThinStands (begun_lines pool) text.new) }
     ensures small { IfOk result (λ pool. pool.blocks ≤ 2 ^ 40) }
     ensures told { (t : List ℕ) → LeavesOf thin t [] text.old (S.state source.old).left
-        → MatchResult result (λ pool. LeavesOf thin t (begun_lines pool) text.new (S.state source.new).left) (λ fault. (room : ℕ) → BeginsOf room t fault) }
+        → MatchResult result (λ pool. LeavesOf thin t (begun_lines pool) text.new (S.state source.new).left) (λ fault. (room : ℕ) → BeginsOf thin thin_need_so_far room t fault) }
     ensures source { KeepsSource (S.state source.old) (S.state source.new) }
     ensures faults { CountsBegin result (S.state source.old).faults (S.state source.new).faults }
 {

@@ -2,12 +2,11 @@
 #![tactic(auto)]
 
 mod begin;
-mod fault;
 mod lines;
 mod parts;
 mod pool;
 mod thin;
 
-pub use fault::RestoreFault;
 pub use pd_devices::need_thin;
+pub use pd_restoring::RestoreFault;
 pub use thin::restore_thin;

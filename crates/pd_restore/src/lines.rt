@@ -12,14 +12,15 @@ ghost use Rattle.pd_texts.specs.Reader.{IsReadAfter, LeavesOf};
 ghost use Rattle.pd_texts.specs.ThinLine.{line_of};
 ghost use Rattle.pd_devices.specs.Gathered.{HasGathered, CanEnd};
 ghost use Rattle.pd_build.specs.Causes.{CountsBuildFault};
-ghost use Rattle.pd_restore.specs.Restored.{CountsRestore};
-ghost use Rattle.pd_restore.specs.Reading.{Reading, CanRead, CanPut, Steps, Ends, SaysOf, progress, IsShort, IsOver, IsNoRoom, IsOfBuild, CountsTake};
+ghost use Rattle.pd_restoring.specs.Restored.{CountsRestore};
+ghost use Rattle.pd_restoring.specs.Reading.{SaysOf, IsOfBuild, CountsTake};
+ghost use Rattle.pd_restore.specs.Reading.{Reading, CanRead, CanPut, Steps, Ends, progress, IsShort, IsOver, IsNoRoom};
 
-use crate::fault::{RestoreFault, of_build, of_read};
 use pd_build::BuildFault;
 use pd_devices::{Devices, Run};
 use pd_draft::Draft;
 use pd_image::{Device, Source};
+use pd_restoring::{RestoreFault, of_build, of_read};
 use pd_texts::{ThinLine, ThinText};
 
 /// Reads the lines of a text after these ones up to its end, and restores them.
@@ -38,7 +39,7 @@ pub(crate) fn restore_lines<S: Source, D: Device>(
     ensures all { (before : List Line) (start : Stand) → Reading before room text.old devices.old start (stand draft.old)
         → OnOk result (Ends before room text.old (S.state source.old).left (S.state source.new).left devices.new start (stand draft.new)) }
     ensures room { (before : List Line) (start : Stand) → Reading before room text.old devices.old start (stand draft.old)
-        → (t : List ℕ) → LeavesOf thin t before text.old (S.state source.old).left → IfErr result (SaysOf room t) }
+        → (t : List ℕ) → LeavesOf thin t before text.old (S.state source.old).left → IfErr result (SaysOf thin thin_need_so_far room t) }
     ensures source { KeepsSource (S.state source.old) (S.state source.new) }
     ensures closed { StaysClosed (stand draft.old).device (stand draft.new).device }
     ensures faults { CountsRestore result (S.state source.old).faults (S.state source.new).faults (stand draft.old).device.faults (stand draft.new).device.faults }
@@ -63,7 +64,7 @@ pub(crate) fn step<S: Source, D: Device>(
     ensures steps { (before : List Line) (start : Stand) → Reading before room text.old devices.old start (stand draft.old)
         → IfOk result (λ more. Steps more before room text.old (S.state source.old).left text.new (S.state source.new).left devices.new start (stand draft.new)) }
     ensures room { (before : List Line) (start : Stand) → Reading before room text.old devices.old start (stand draft.old)
-        → (t : List ℕ) → LeavesOf thin t before text.old (S.state source.old).left → IfErr result (SaysOf room t) }
+        → (t : List ℕ) → LeavesOf thin t before text.old (S.state source.old).left → IfErr result (SaysOf thin thin_need_so_far room t) }
     ensures grows { IfOk result (λ more. more ≡ true → progress devices.old < progress devices.new) }
     ensures source { KeepsSource (S.state source.old) (S.state source.new) }
     ensures closed { StaysClosed (stand draft.old).device (stand draft.new).device }

@@ -1,27 +1,23 @@
 //! The parts of a pool behind its devices.
 
-ghost use Rattle.std.specs.Prelude.{◌≡◌, ◌+◌, ◌<◌, ◌≤◌, ◌^◌, ℕ, IfOk, IfErr, OnOk};
+ghost use Rattle.std.specs.Prelude.{◌≡◌, IfOk, OnOk};
 ghost use Rattle.pd_image.specs.Device.{IsWritable};
 ghost use Rattle.pd_kinds.specs.Meaning.{ThinPool};
 ghost use Rattle.pd_draft.specs.Closed.{IsClosed, StaysClosed};
 ghost use Rattle.pd_draft.specs.Placed.{Stand, Wrote};
 ghost use Rattle.pd_draft.specs.Stand.{stand};
-ghost use Rattle.pd_count.specs.Counted.{count_of};
-ghost use Rattle.pd_spells.specs.Need.{need_meta_map};
-ghost use Rattle.pd_laid_once.specs.Once.{ones_below};
 ghost use Rattle.pd_build.specs.Causes.{CountsBuildFault};
-ghost use Rattle.pd_smwrite.specs.Map.{meta_map_blocks, meta_map_root};
 ghost use Rattle.pd_restore.specs.Written.{HasDevices, CanWrite, pool_behind};
 ghost use Rattle.pd_restore.specs.Parts.{AreParts};
 
 use pd_build::{BuildFault, write_tree};
-use pd_count::Counts;
 use pd_devices::Devices;
 use pd_draft::Draft;
 use pd_image::Device;
 use pd_kinds::SmRoot;
-use pd_smwrite::{write_data_map, write_meta_map};
-use std::alloc::{AllocError, Global};
+use pd_restoring::write_own_map;
+use pd_smwrite::write_data_map;
+use std::alloc::Global;
 
 /// The roots that the superblock of a pool names.
 #[derive(Clone, Copy, Debug, PartialEq, Eq)]
@@ -60,41 +56,4 @@ pub(crate) fn write_parts<D: Device>(
         data_map,
         meta_map,
     })
-}
-
-/// Writes the map of so many metadata blocks, of which each up to the map's end is named once.
-fn write_own_map<D: Device>(
-    alloc: Global,
-    draft: &mut Draft<'_, D>,
-    room: u64,
-) -> Result<SmRoot, BuildFault>
-    requires few { room ≤ 4161600 }
-    requires within { draft.old.next + need_meta_map room ≤ room }
-    requires writable { IsWritable (stand draft.old).device }
-    requires room { room ≤ (stand draft.old).device.blocks }
-    requires closed { IsClosed (stand draft.old).device }
-    ensures same_reference { draft.new.dev.ghost_name ≡ draft.old.dev.ghost_name }
-    ensures wrote { OnOk result (Wrote (meta_map_blocks (ones_below (draft.old.next + need_meta_map room)) room draft.old.next) (stand draft.old) (stand draft.new)) }
-    ensures root { IfOk result (λ root. root ≡ meta_map_root (ones_below (draft.old.next + need_meta_map room)) room draft.old.next) }
-    ensures closed { StaysClosed (stand draft.old).device (stand draft.new).device }
-    ensures faults { CountsBuildFault result (stand draft.old).device.faults (stand draft.new).device.faults }
-{
-    let mut counts = match counts_of_ones(alloc, room, draft.next()) {
-        Ok(counts) => counts,
-        Err(_) => return Err(BuildFault::Memory),
-    };
-    write_meta_map(alloc, draft, &mut counts)
-}
-
-/// The counts of so many blocks, where each below `end` was counted once.
-fn counts_of_ones(alloc: Global, size: u64, end: u64) -> Result<Counts, AllocError>
-    requires { end ≤ size }
-    ensures size { IfOk result (λ counts. counts.size ≡ size) }
-    ensures ones { IfOk result (λ counts. (b : ℕ) → count_of counts b ≡ ones_below end b) }
-{
-    let mut counts = Counts::new(alloc, size)?;
-    for b in 0..end {
-        counts.add(b)?;
-    }
-    Ok(counts)
 }

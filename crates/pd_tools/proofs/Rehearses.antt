@@ -25,7 +25,7 @@ use Rattle.pd_answers.specs.Outputs.{LeavesMade}
 use Rattle.pd_answers.specs.Rehearsals.{AreNumbers, Rehearsed, rehearse, rehearsal_answer}
 use Rattle.pd_answers.specs.Restores.{restore_answer}
 use Rattle.pd_answers.specs.Terms.{is_one_of, is_possible}
-use Rattle.pd_restore.specs.Restored.{IsAccepted}
+use Rattle.pd_restoring.specs.Restored.{IsAccepted}
 use Rattle.pd_rehearse.specs.declared.fault.RehearseFault.{RehearseFault}
 use Rattle.pd_rehearse.specs.declared.fault.RehearseFault.TheVariants as f
 use Rattle.pd_rehearse.specs.declared.run.Rehearsal.{Rehearsal}

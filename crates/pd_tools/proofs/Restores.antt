@@ -28,9 +28,9 @@ use Rattle.pd_answers.specs.Outputs.{LeavesMade}
 use Rattle.pd_answers.specs.Restores.{Judged, restore_answer, restore_by, restore}
 use Rattle.pd_spells.specs.Early.{is_pool_early, is_cache_early, is_era_early}
 use Rattle.pd_laid.specs.Made.{Makes}
-use Rattle.pd_restore.specs.declared.fault.RestoreFault.{RestoreFault}
-use Rattle.pd_restore.specs.declared.fault.RestoreFault.TheVariants as fault
-use Rattle.pd_restore.specs.Restored.{IsRestored, Answers, IsAccepted, IsRefused, IsWithoutRoom, IsRefusal}
+use Rattle.pd_restoring.specs.declared.fault.RestoreFault.{RestoreFault}
+use Rattle.pd_restoring.specs.declared.fault.RestoreFault.TheVariants as fault
+use Rattle.pd_restoring.specs.Restored.{IsRestored, Answers, IsAccepted, IsRefused, IsWithoutRoom, IsRefusal}
 use Rattle.pd_tools.specs.declared.restore.Outcome.TheVariants.{Refused, NoRoom}
 use Rattle.pd_texts.specs.declared.fault.TextFault.{TextFault}
 use Rattle.pd_tools.proofs.Answered.{stop_status-low}

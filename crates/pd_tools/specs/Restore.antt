@@ -15,8 +15,8 @@ use Rattle.pd_laid.specs.LaidCache.{laid_cache}
 use Rattle.pd_laid.specs.LaidEra.{laid_era}
 use Rattle.pd_answers.specs.Answer.{IsUsed, reading, writing}
 use Rattle.pd_spells.specs.Early.{is_pool_early, is_cache_early, is_era_early}
-use Rattle.pd_restore.specs.declared.fault.RestoreFault.{RestoreFault}
-use Rattle.pd_restore.specs.Restored.{IsRestored}
+use Rattle.pd_restoring.specs.declared.fault.RestoreFault.{RestoreFault}
+use Rattle.pd_restoring.specs.Restored.{IsRestored}
 use Rattle.pd_tools.specs.declared.restore.Outcome.{Outcome}
 use Rattle.pd_tools.specs.declared.restore.Outcome.TheVariants.{Made, Refused, NoRoom}
 use Rattle.pd_tools.specs.declared.stop.Stop.{Stop}

@@ -8,7 +8,7 @@ ghost use Rattle.pd_image.specs.Device.{IsWritable, KeepsPlace};
 ghost use Rattle.pd_image.specs.Source.{KeepsSource};
 ghost use Rattle.pd_answers.specs.Answer.{Objects};
 ghost use Rattle.pd_answers.specs.Restores.{restore};
-ghost use Rattle.pd_restore.specs.Restored.{CountsRestore};
+ghost use Rattle.pd_restoring.specs.Restored.{CountsRestore};
 ghost use Rattle.pd_tools.specs.Restore.{AreAttached, AreUnattached, IsBuiltRestore, IsRestoredAs, TextsHaveVerdicts, outcome_line, outcome_status};
 ghost use Rattle.pd_tools.specs.Work.{IsFinished, IsStopped, Answers};
 

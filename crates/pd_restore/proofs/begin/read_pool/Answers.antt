@@ -1,5 +1,8 @@
 use Rattle.std.proofs.Common.{[]}
-use Rattle.pd_restore.proofs.BeginLemmas.{given_pool, begins, pool_reads, pool_told, pool_small}
+use Rattle.pd_spells.specs.ThinText.{thin, first_line, end_line}
+use Rattle.pd_spells.specs.ThinNeed.{thin_need_so_far}
+use Rattle.pd_restore.proofs.BeginLemmas.{given_pool, no_end, pool_reads, pool_told, pool_small}
+use Rattle.pd_restoring.proofs.BeginLemmas.{begins}
 use Rattle.pd_restore.proofs.begin.read_pool.Goals as goal
 
 pub pool_of-requires : goal.pool_of-requires
@@ -23,4 +26,4 @@ returns-in-Ok-clause-told g c t leaves =
 
 pub returns-in-Err-clause-told : goal.returns-in-Err-clause-told
 returns-in-Err-clause-told g c t leaves room =
-    rw c.of_read.ensures (begins c.in-Err.fault t (c.in-Err.ensures.text t [] c.requires.start leaves) room)
+    rw c.of_read.ensures (begins thin first_line end_line no_end thin_need_so_far c.in-Err.fault t (c.in-Err.ensures.text t [] c.requires.start leaves) room)

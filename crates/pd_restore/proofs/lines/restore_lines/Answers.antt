@@ -2,7 +2,8 @@ use Rattle.std.proofs.Common.{rules, [], ◌∷◌, ◌++◌, refl, true, false,
 use Rattle.pd_draft.specs.Stand.{stand}
 use Rattle.pd_draft.proofs.StaysLemmas.{closed_start, closed_then}
 use Rattle.pd_spells.specs.ThinText.{end_line}
-use Rattle.pd_restore.proofs.ReadingLemmas.{steps_as, one_later, progress_most, keeps_source}
+use Rattle.pd_restore.proofs.ReadingLemmas.{steps_as, progress_most}
+use Rattle.pd_restoring.proofs.ReadingLemmas.{one_later, keeps_source}
 use Rattle.pd_restore.proofs.lines.restore_lines.Goals as goal
 
 pub returns-in_err-step-clause-room : goal.returns-in_err-step-clause-room
