@@ -1,7 +1,7 @@
 -- What can be asked of the tools, and what of it is built.
 use Rattle.std.specs.Prelude.{ℕ, Bool, true, false, List, Option}
 use Rattle.pd_kinds.specs.declared.kind.Kind.{Kind}
-use Rattle.pd_kinds.specs.declared.kind.Kind.TheVariants.{Thin}
+use Rattle.pd_kinds.specs.declared.kind.Kind.TheVariants.{Thin, Cache, Era}
 use Rattle.pd_kinds.specs.declared.kind.Stage.{Stage}
 use Rattle.pd_kinds.specs.declared.kind.Stage.TheVariants.{Super, Walk, Order, Whole, Counts}
 
@@ -36,10 +36,14 @@ is_built (check Thin Order false image) = true
 is_built (check Thin Whole false image) = true
 is_built (check Thin Counts false image) = true
 is_built (check Thin Counts true image) = true
-is_built (dump Thin false file image) = true
-is_built (restore Thin version text image) = true
+is_built (check Cache until false image) = true
+is_built (check Era until false image) = true
+is_built (dump kind false file image) = true
+is_built (restore kind version text image) = true
+is_built (repair input output) = true
 is_built (rmap first end file image) = true
 is_built (list_devices file image) = true
+is_built (since era file image) = true
 is_built (generate number file) = true
 is_built (rehearse number image) = true
 is_built _ = false

@@ -115,11 +115,11 @@ module _ (image : List (List ℕ)) (none : faults Cache Whole image ≡ []) (roo
     text_is gives = ap (λ (lines : List Line). text_of_lines cache (first_line ∷ (cache_line (super_head fields) ∷ (lines ++ (end_line ∷ []))))) (rows_are gives)
 
 -- the text of a dump over the superblock that was read
-pub text_means : (held : Option (List (List ℕ))) (block : List ℕ) (s : CacheFields) (dump : CacheDump) → s ≡ cache_fields block → s.blocks < 2 ^ 32
-    → IfSome held (λ image. 1 ≤ length image → block ≡ block_at image 0) → IfSome held (λ image. text_left image dump ≡ cache_dump_text image s)
+pub text_means : (held : Option (List (List ℕ))) (s : CacheFields) (dump : CacheDump) → s.blocks < 2 ^ 32
+    → IfSome held (λ image. 1 ≤ length image → s ≡ cache_fields (block_at image 0)) → IfSome held (λ image. text_left image dump ≡ cache_dump_text image s)
     → ((image : List (List ℕ)) → faults Cache Whole image ≡ [] → (cache_fields (block_at image 0)).blocks < 2 ^ 32
     → cache_dump_text image (cache_fields (block_at image 0)) ≡ text_of_cache (cache_meaning image))
     → IfSome held (λ image. faults Cache Whole image ≡ [] → text_left image dump ≡ text_of_cache (cache_meaning image))
-text_means held block s dump own few read text law = two_told held (λ image read text none.
-    let same : s ≡ cache_fields (block_at image 0) = own ∙ ap cache_fields (read (has_some image none)) in
+text_means held s dump few read text law = two_told held (λ image read text none.
+    let same = read (has_some image none) in
     text ∙ (ap (λ (fields : CacheFields). cache_dump_text image fields) same ∙ law image none (subst (λ (fields : CacheFields). fields.blocks < 2 ^ 32) same few))) read text

@@ -1,2 +1,5 @@
 pub mod CacheRowLemmas
 pub mod CacheMeaningLemmas
+pub mod KnownLemmas
+pub mod EraLemmas
+pub mod SinceLemmas

@@ -1,2 +1,7 @@
 pub mod CacheLines
 pub mod CacheDump
+pub mod Known
+pub mod EraGiven
+pub mod EraLines
+pub mod EraDump
+pub mod SinceLines

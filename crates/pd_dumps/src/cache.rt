@@ -1,14 +1,13 @@
 //! The dump of a cache.
 
 use crate::cache_lines::{add_first_lines, maps_of};
-use crate::first_block::read_first;
 use crate::laws::given_cache_lines_are_the_text;
+use crate::supers::read_cache;
 use pd_cached::CacheMaps;
 use pd_image::{Device, Sink};
 use pd_kinds::CacheSuper;
 use pd_lines::Pieces;
 use pd_query::QueryFault;
-use pd_supers::read_cache_super;
 use std::alloc::{AllocError, Global};
 
 /// The dump of a cache, with the memory that it takes.
@@ -47,11 +46,10 @@ impl CacheDump {
         ensures faults { StartFails result (D.state dev.old).faults (D.state dev.new).faults }
     {
         given_cache_lines_are_the_text();
-        let block = match read_first(dev) {
-            Ok(block) => block,
+        let s = match read_cache(dev) {
+            Ok(s) => s,
             Err(_) => return Err(QueryFault::Device),
         };
-        let s = read_cache_super(&block);
         match CacheDump::over(alloc, s, dev.blocks()) {
             Ok(dump) => Ok(dump),
             Err(_) => Err(QueryFault::Memory),

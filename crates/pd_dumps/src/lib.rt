@@ -1,4 +1,5 @@
-//! What is asked of a cache or of an era target that was found sound, and put as text: its own text.
+//! What is asked of a cache or of an era target that was found sound, and put as text: its own text, and which blocks of
+//! an era target were written since an era.
 //!
 //! What is put is said over the bytes of any image that the device tells. The laws say what that comes to in an
 //! image without faults.
@@ -6,9 +7,19 @@
 
 mod cache;
 mod cache_lines;
-mod first_block;
+mod era;
+mod era_lines;
+mod eras_given;
 mod laws;
 mod lines;
+mod since;
+mod since_lines;
+mod supers;
 
 pub use cache::CacheDump;
-pub use laws::given_cache_lines_are_the_text;
+pub use era::EraDump;
+pub use laws::{
+    given_cache_lines_are_the_text, given_era_lines_are_the_text, given_eras_are_the_eras,
+};
+pub use since::written_since;
+pub use supers::read_era;

@@ -1,13 +1,13 @@
 -- What an answered check to its end says of the image.
-use Rattle.std.proofs.Common.{◌≡◌, ◌↔◌, ◌⊎◌, inl, inr, ℕ, ◌≤◌, Bool, false, nat_eq, cond, List, [], ◌∷◌, length, IfSome, refl, sym, ap, subst, ◌∙◌, arith, eq-eqb}
+use Rattle.std.proofs.Common.{◌≡◌, ◌↔◌, ◌⊎◌, ℕ, Bool, false, nat_eq, cond, List, [], ◌∷◌, length, IfSome, refl, sym, ap, subst, ◌∙◌, arith}
 use Rattle.std.proofs.Math.Dec.{eqb-suc-zero}
 use Rattle.std.proofs.lemmas.Option.{IfSome_then}
 use Rattle.pd_kinds.specs.declared.kind.Kind.{Kind}
 use Rattle.pd_kinds.specs.declared.kind.Stage.TheVariants.{Counts}
 use Rattle.pd_kinds.specs.declared.fault.Fault.{Fault}
-use Rattle.pd_kinds.specs.Report.{Reported, report_of}
+use Rattle.pd_kinds.specs.Report.{Reported}
 use Rattle.pd_kinds.specs.Stages.{IsClean, faults}
-use Rattle.pd_answers.specs.Answer.{Objects, NoFaults}
+use Rattle.pd_answers.specs.Answer.{Objects}
 use Rattle.pd_answers.specs.Promises.{check_answer}
 use Rattle.pd_exact.specs.Exact.{IsCheckAnswered, TellsClean}
 

@@ -1,52 +1,95 @@
--- What a restore of a pool leaves, where the objects tell what they hold.
+-- What restores leave and what checks tell, where the objects tell what they hold.
 use Rattle.std.specs.Prelude.{◌≡◌, ◌⊎◌, ℕ, ◌≤◌, false, List, [], Some, IfSome, length}
 use Rattle.std.specs.List.{All}
 use Rattle.pd_kinds.specs.declared.kind.Kind.{Kind}
-use Rattle.pd_kinds.specs.declared.kind.Kind.TheVariants.{Thin}
+use Rattle.pd_kinds.specs.declared.kind.Kind.TheVariants.{Thin, Cache, Era}
 use Rattle.pd_kinds.specs.declared.kind.Stage.TheVariants.{Counts, Whole}
+use Rattle.pd_kinds.specs.CacheFormat.{cache_fields}
 use Rattle.pd_kinds.specs.Crash.{HoldsSynced, IsOldNoneOrMade, LeavesOnly}
-use Rattle.pd_kinds.specs.Meaning.{ThinPool, thin_meaning}
+use Rattle.pd_kinds.specs.Graph.{block_at}
+use Rattle.pd_kinds.specs.Meaning.{CacheMeaning, thin_meaning, cache_meaning, era_meaning}
 use Rattle.pd_kinds.specs.Stages.{IsClean, faults}
 use Rattle.pd_spells.specs.ThinNeed.{thin_need}
-use Rattle.pd_spells.specs.ThinText.{SpellsPool, text_of_pool}
+use Rattle.pd_spells.specs.ThinText.{SpellsPool}
+use Rattle.pd_spells.specs.CacheNeed.{cache_need}
+use Rattle.pd_spells.specs.CacheText.{SpellsCache}
+use Rattle.pd_spells.specs.EraNeed.{era_need}
+use Rattle.pd_spells.specs.EraText.{SpellsEra}
 use Rattle.pd_laid.specs.Salvage.{HasBytes}
 use Rattle.pd_kinds.specs.Limits.{room_of}
 use Rattle.pd_laid_thin.specs.CleanPool.{IsCleanPool}
+use Rattle.pd_laid_cache.specs.CleanCache.{IsCleanCache}
+use Rattle.pd_laid_era.specs.CleanEra.{IsCleanEra}
 use Rattle.pd_answers.specs.Answer.{NoFaults, Objects}
-use Rattle.pd_answers.specs.Promises.{terms_of}
+use Rattle.pd_answers.specs.Promises.{image_text, terms_of}
 use Rattle.pd_answers.specs.Requests.{check, restore}
 use Rattle.pd_answers.specs.Terms.{IsAnswered}
 
--- a restore of a pool was asked, and was answered with this status
-abbrev pub IsRestoreAnswered : List ℕ → List ℕ → Objects → Objects → ℕ → Type 0
-IsRestoreAnswered file path = IsAnswered (terms_of (Some (restore Thin 1 file path)))
+-- a restore of this kind, in this version of its metadata, was asked, and was answered with this status
+abbrev pub IsRestoreAnswered : Kind → ℕ → List ℕ → List ℕ → Objects → Objects → ℕ → Type 0
+IsRestoreAnswered kind version file path = IsAnswered (terms_of (Some (restore kind version file path)))
 
--- the text spells a pool, and the image is clean and means that pool
-pub record IsPoolOfText (text : List ℕ) (image : List (List ℕ)) : Type 0 where
-  pub pool : ThinPool
-  pub spells : SpellsPool text pool
-  pub clean : IsCleanPool image pool
+-- the text spells something, and the image is a clean one of it
+pub record IsOfText {M : Type 0} (Spells : List ℕ → M → Type 0) (IsCleanOf : List (List ℕ) → M → Type 0) (text : List ℕ) (image : List (List ℕ)) : Type 0 where
+  pub meaning : M
+  pub spells : Spells text meaning
+  pub clean : IsCleanOf image meaning
 
 -- the output holds such an image, and nothing of it is unsynced
-abbrev pub HoldsPoolOfText : Objects → Objects → Type 0
-HoldsPoolOfText before after =
+abbrev pub HoldsOfText : {M : Type 0} → (List ℕ → M → Type 0) → (List (List ℕ) → M → Type 0) → Objects → Objects → Type 0
+HoldsOfText Spells IsCleanOf before after =
     IfSome before.source.left (λ text. IfSome before.output.held (λ base.
-    IfSome after.output.held (λ image. IsPoolOfText text image × HoldsSynced image after.output)))
+    IfSome after.output.held (λ image. IsOfText Spells IsCleanOf text image × HoldsSynced image after.output)))
 
 -- a crash at any moment leaves, by no chance, the old image, no valid superblock, or such an image
-abbrev pub LeavesPoolOfText : Objects → Objects → Type 0
-LeavesPoolOfText before after =
+abbrev pub LeavesOfText : {M : Type 0} → (List ℕ → M → Type 0) → (List (List ℕ) → M → Type 0) → Objects → Objects → Type 0
+LeavesOfText Spells IsCleanOf before after =
     IfSome before.source.left (λ text. IfSome before.output.held (λ base.
-    LeavesOnly (IsOldNoneOrMade base (IsPoolOfText text)) before.output after.output))
+    LeavesOnly (IsOldNoneOrMade base (IsOfText Spells IsCleanOf text)) before.output after.output))
 
--- a sound pool's dump is to be restored, and there is room for it
-pub record IsDumpOf (image base : List (List ℕ)) (before : Objects) : Type 0 where
+-- the output holds an image that is clean and means the pool of the text
+abbrev pub HoldsPoolOfText : Objects → Objects → Type 0
+HoldsPoolOfText = HoldsOfText SpellsPool IsCleanPool
+
+-- a crash leaves no other pool
+abbrev pub LeavesPoolOfText : Objects → Objects → Type 0
+LeavesPoolOfText = LeavesOfText SpellsPool IsCleanPool
+
+-- the image is clean, means the cache, and its superblock gives this version
+pub record IsCleanCacheIn (version : ℕ) (image : List (List ℕ)) (m : CacheMeaning) : Type 0 where
+  pub cache : IsCleanCache image m
+  pub version_is : (cache_fields (block_at image 0)).version ≡ version
+
+-- the output holds such an image of the cache of the text
+abbrev pub HoldsCacheOfText : ℕ → Objects → Objects → Type 0
+HoldsCacheOfText version = HoldsOfText SpellsCache (IsCleanCacheIn version)
+
+-- a crash leaves no other cache, and none in another version
+abbrev pub LeavesCacheOfText : ℕ → Objects → Objects → Type 0
+LeavesCacheOfText version = LeavesOfText SpellsCache (IsCleanCacheIn version)
+
+-- the output holds an image that is clean and means the era target of the text
+abbrev pub HoldsTargetOfText : Objects → Objects → Type 0
+HoldsTargetOfText = HoldsOfText SpellsEra IsCleanEra
+
+-- a crash leaves no other era target
+abbrev pub LeavesTargetOfText : Objects → Objects → Type 0
+LeavesTargetOfText = LeavesOfText SpellsEra IsCleanEra
+
+-- how many blocks the meaning of an image needs in this version of the metadata, in so many metadata blocks
+abbrev pub image_need : Kind → ℕ → List (List ℕ) → ℕ → ℕ
+image_need Thin version image room = thin_need (thin_meaning image) room
+image_need Cache version image room = cache_need version (cache_meaning image) room
+image_need Era version image room = era_need (era_meaning image) room
+
+-- a sound image's dump is to be restored in this version, and there is room for it
+pub record IsDumpOf (kind : Kind) (version : ℕ) (image base : List (List ℕ)) (before : Objects) : Type 0 where
   pub bytes : HasBytes image
   pub blocks : All (λ block. length block ≡ 4096) image
-  pub sound : faults Thin Whole image ≡ []
-  pub text : before.source.left ≡ Some (text_of_pool (thin_meaning image))
+  pub sound : faults kind Whole image ≡ []
+  pub text : before.source.left ≡ Some (image_text kind image)
   pub held : before.output.held ≡ Some base
-  pub room : thin_need (thin_meaning image) (room_of (length base)) ≤ room_of (length base)
+  pub room : image_need kind version image (room_of (length base)) ≤ room_of (length base)
 
 -- a check of this kind of metadata to its end was asked, and was answered with this status
 abbrev pub IsCheckAnswered : Kind → List ℕ → Objects → Objects → ℕ → Type 0

@@ -1,5 +1,6 @@
 ghost use Rattle.std.specs.Prelude.{◌≡◌, ◌⊎◌, ℕ, List, IfSome};
 ghost use Rattle.pd_kinds.specs.declared.kind.Kind.{Kind};
+ghost use Rattle.pd_kinds.specs.declared.kind.Kind.TheVariants.{Thin};
 ghost use Rattle.pd_kinds.specs.Meaning.{thin_meaning};
 ghost use Rattle.pd_answers.specs.Answer.{NoFaults, Objects};
 ghost use Rattle.pd_exact.specs.Exact.{HoldsPoolOfText, IsCheckAnswered, IsDumpOf, IsRestoreAnswered, LeavesPoolOfText, TellsClean};
@@ -15,7 +16,7 @@ use pd_spells::{
 /// At status 0 the text that was restored spells a pool, and the output holds, with nothing unsynced, an image
 /// that is clean and means that pool.
 pub fn restored_pool_is_clean()
-    ensures { (file path : List ℕ) (before after : Objects) → IsRestoreAnswered file path before after 0 → HoldsPoolOfText before after }
+    ensures { (file path : List ℕ) (before after : Objects) → IsRestoreAnswered Thin 1 file path before after 0 → HoldsPoolOfText before after }
 {
     laid_pool_is_clean();
     thin_text_has_one_verdict();
@@ -25,7 +26,7 @@ pub fn restored_pool_is_clean()
 /// Under every status a crash at any moment of the call leaves, by no chance, the old image, no valid superblock,
 /// or an image that is clean and means the pool of the text.
 pub fn crashed_restore_leaves_no_other_pool()
-    ensures { (file path : List ℕ) (before after : Objects) (status : ℕ) → IsRestoreAnswered file path before after status → LeavesPoolOfText before after }
+    ensures { (file path : List ℕ) (before after : Objects) (status : ℕ) → IsRestoreAnswered Thin 1 file path before after status → LeavesPoolOfText before after }
 {
     laid_pool_is_clean();
     thin_text_has_one_verdict();
@@ -35,12 +36,13 @@ pub fn crashed_restore_leaves_no_other_pool()
 /// The dump of a pool without faults up to the stage Whole is restored, where there is room for it, nothing fails
 /// and memory isn't wanting; and what is restored of it means the same pool.
 pub fn restored_dump_means_the_same()
-    ensures restored { (image base : List (List ℕ)) (file path : List ℕ) (before after : Objects) (status : ℕ) → IsDumpOf image base before
-        → IsRestoreAnswered file path before after status → NoFaults before after → (status ≡ 0) ⊎ (status ≡ 7) }
-    ensures same { (image base : List (List ℕ)) (file path : List ℕ) (before after : Objects) → IsDumpOf image base before
-        → IsRestoreAnswered file path before after 0 → IfSome after.output.held (λ restored. thin_meaning restored ≡ thin_meaning image) }
+    ensures restored { (image base : List (List ℕ)) (file path : List ℕ) (before after : Objects) (status : ℕ) → IsDumpOf Thin 1 image base before
+        → IsRestoreAnswered Thin 1 file path before after status → NoFaults before after → (status ≡ 0) ⊎ (status ≡ 7) }
+    ensures same { (image base : List (List ℕ)) (file path : List ℕ) (before after : Objects) → IsDumpOf Thin 1 image base before
+        → IsRestoreAnswered Thin 1 file path before after 0 → IfSome after.output.held (λ restored. thin_meaning restored ≡ thin_meaning image) }
 {
     restored_pool_is_clean();
+    laid_pool_is_clean();
     sound_pools_are_lawful();
     thin_text_spells();
     thin_text_has_one_meaning();

@@ -1,12 +1,22 @@
-//! What a restored pool is, and what a check says of an image: the laws of laid images, of sound pools, of texts and of
-//! clean images, in the terms of the tools.
+//! What a restored pool, cache or era target is, and what a check says of an image: the laws of laid images, of sound
+//! images, of texts and of clean images, in the terms of the tools.
 #![tactic(auto)]
 
+mod caches;
 mod laws;
+mod targets;
 mod words;
 
+pub use caches::{
+    crashed_restore_leaves_no_other_cache, restored_cache_dump_means_the_same,
+    restored_cache_is_clean, sound_caches_are_lawful,
+};
 pub use laws::{
     checks_tell_clean_images, crashed_restore_leaves_no_other_pool, restored_dump_means_the_same,
     restored_pool_is_clean,
+};
+pub use targets::{
+    crashed_restore_leaves_no_other_target, restored_target_dump_means_the_same,
+    restored_target_is_clean, sound_targets_are_lawful,
 };
 pub use words::thin_restore_is_asked;

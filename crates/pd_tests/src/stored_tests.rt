@@ -5,8 +5,12 @@ ghost use Rattle.std.specs.Prelude.{◌<◌, ◌≤◌};
 use pd_bitmap::{seal_bitmap, set_two_bits};
 use pd_kinds::Block;
 use pd_node::write_leaf;
-use pd_samples::pool::{bitmap, empty_leaf, empty_pool, pool_of_one_mapping, pool_with_held_copy};
+use pd_samples::pool::{
+    bitmap, empty_leaf, empty_pool, empty_super, index, index_entry, index_leaf, map_root,
+    mapping_leaf, pool_of_one_mapping, pool_with_held_copy,
+};
 use pd_samples::runs::{NOTHING_FAILS, blocks_of, run};
+use pd_supers::write_thin_super;
 use pd_value::{Count, Details, Root};
 use std::alloc::{AllocError, Global};
 use std::process::Abort;
@@ -171,5 +175,79 @@ fn leaves_that_devices_share(rt: HostRuntime) -> Result<(), Fail> {
         three[9] = overflow;
         expect_counts(&rt, rt.alloc(), shows, &three, report)?;
     }
+    Ok(())
+}
+
+/// Sixteen blocks, of which twelve are used: three devices, each with a leaf of its own, have the one data block, whose
+/// count stands in this overflow tree in block 8.
+#[tactic(auto, unfolding(pd_kinds::specs::Node::is_ascending))]
+fn pool_of_three_devices(overflow: Block) -> [Block; 16] {
+    let mut fields = empty_super();
+    fields.data_map = map_root(1, 1, 7, 8);
+    fields.meta_map = map_root(16, 12, 9, 11);
+    fields.mapping_root = 4;
+    fields.details_root = 5;
+    fields.meta_blocks = 16;
+    let mut image = [Block::zeros(); 16];
+    image[0] = write_thin_super(&fields);
+    image[1] = mapping_leaf(1, 0);
+    image[2] = mapping_leaf(2, 0);
+    image[3] = mapping_leaf(3, 0);
+    image[4] = write_leaf(4, &[(1, Root(1)), (2, Root(2)), (3, Root(3))]);
+    image[5] = write_leaf(5, &[(1, ONE), (2, ONE), (3, ONE)]);
+    image[6] = with_count(6, 1, 0, 3);
+    image[7] = index_leaf(7, 6);
+    image[8] = overflow;
+    image[9] = index(9, &[index_entry(10, 4)]);
+    image[10] = bitmap(10, 12);
+    image[11] = empty_leaf::<Count>(11);
+    image
+}
+
+#[test]
+fn data_blocks_with_three_references(rt: HostRuntime) -> Result<(), Fail> {
+    let cases: [(&str, Block, &str); 4] = [
+        ("3", write_leaf(8, &[(0, Count(3))]), "clean\n"),
+        (
+            "no entry",
+            empty_leaf::<Count>(8),
+            "fault data 0 overflow\nfaults 1\n",
+        ),
+        (
+            "the greatest count",
+            write_leaf(8, &[(0, Count(u32::MAX))]),
+            "fault data 0 leak stored 4294967295 references 3\nfaults 1\n",
+        ),
+        (
+            "2",
+            write_leaf(8, &[(0, Count(2))]),
+            "fault data 0 short stored 2 references 3\nfaults 1\n",
+        ),
+    ];
+    for (shows, overflow, report) in cases {
+        let image = pool_of_three_devices(overflow);
+        expect_counts(&rt, rt.alloc(), shows, &image, report)?;
+    }
+    Ok(())
+}
+
+#[test]
+fn data_maps_that_an_index_is_too_short_for(rt: HostRuntime) -> Result<(), Fail> {
+    // The greatest number of data blocks, over the index of one bitmap: no count of it is looked at.
+    let mut fields = empty_super();
+    fields.data_map = map_root(1 << 40, 1, 5, 6);
+    fields.meta_map = map_root(16, 10, 7, 9);
+    fields.mapping_root = 2;
+    fields.details_root = 3;
+    fields.meta_blocks = 16;
+    let mut image = pool_of_one_mapping();
+    image[0] = write_thin_super(&fields);
+    expect_counts(
+        &rt,
+        rt.alloc(),
+        "2 ^ 40 data blocks",
+        &image,
+        "fault meta 5 index\nfaults 1\n",
+    )?;
     Ok(())
 }

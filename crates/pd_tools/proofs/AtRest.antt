@@ -6,22 +6,27 @@ use Rattle.pd_kinds.specs.declared.kind.Kind.{Kind}
 use Rattle.pd_kinds.specs.declared.kind.Kind.TheVariants.{Thin, Cache, Era}
 use Rattle.pd_kinds.specs.declared.kind.Stage.TheVariants.{Whole}
 use Rattle.pd_kinds.specs.Objects.{SinkState}
-use Rattle.pd_kinds.specs.Meaning.{thin_meaning}
+use Rattle.pd_kinds.specs.Meaning.{thin_meaning, era_meaning}
 use Rattle.pd_kinds.specs.Report.{report_of}
 use Rattle.pd_kinds.specs.Stages.{faults}
 use Rattle.pd_answers.specs.Answer.{Objects, AreFresh}
-use Rattle.pd_answers.specs.Requests.{Request, check, dump, restore, rmap, list_devices, generate, rehearse, is_built}
-use Rattle.pd_answers.specs.QueryLines.{list_lines, rmap_lines}
+use Rattle.pd_answers.specs.Requests.{Request, check, dump, restore, repair, rmap, list_devices, since, generate, rehearse, is_built}
+use Rattle.pd_answers.specs.QueryLines.{list_lines, rmap_lines, since_lines}
 use Rattle.pd_answers.specs.Words.{built, spelled, asked}
 use Rattle.pd_answers.specs.Promises.{image_text, terms_of}
-use Rattle.pd_spells.specs.Early.{is_pool_early}
+use Rattle.pd_spells.specs.Early.{is_pool_early, is_cache_early, is_era_early}
 use Rattle.pd_spells.specs.ThinNeed.{IsThinVerdict}
+use Rattle.pd_spells.specs.CacheNeed.{IsCacheVerdict}
+use Rattle.pd_spells.specs.EraNeed.{IsEraVerdict}
 use Rattle.pd_laid.specs.LaidThin.{laid_pool}
-use Rattle.pd_tools.specs.Restore.{HaveVerdicts}
+use Rattle.pd_laid.specs.LaidCache.{laid_cache}
+use Rattle.pd_laid.specs.LaidEra.{laid_era}
+use Rattle.pd_tools.specs.Restore.{TextsHaveVerdicts}
 use Rattle.pd_tools.proofs.Checks.{told}
 use Rattle.pd_tools.proofs.Clears.{clearing_at_rest}
 use Rattle.pd_tools.proofs.Queries.{query_at_rest}
 use Rattle.pd_tools.proofs.Rehearses.{rehearse_at_rest}
+use Rattle.pd_tools.proofs.Repairs.{repair_at_rest}
 use Rattle.pd_tools.proofs.Restores.{restore_at_rest}
 
 -- shared leaves aren't built
@@ -41,7 +46,7 @@ unfolding asked
 asked_alone words = built_alone (spelled words)
 
 -- something is right to find, and nothing was written
-pub at_rest : (request : Option Request) (before : Objects) (notes : SinkState) → AreFresh before → HaveVerdicts IsThinVerdict
+pub at_rest : (request : Option Request) (before : Objects) (notes : SinkState) → AreFresh before → ((kind : Kind) (version : ℕ) → TextsHaveVerdicts kind version)
     → IfSome request (λ r. is_built r ≡ true)
     → (finding : (terms_of request).Finding) × ((terms_of request).finds before (record before { notes = notes }) finding)
     × ((terms_of request).leaves finding before (record before { notes = notes }) 6)
@@ -54,11 +59,18 @@ at_rest (Some (check kind until false path)) before notes fresh verdicts is = (
 )
 at_rest (Some (check kind until true path)) before notes fresh verdicts is = clearing_at_rest path before notes fresh.input.2
 at_rest (Some (restore Thin version file path)) before notes fresh verdicts is =
-    restore_at_rest IsThinVerdict is_pool_early laid_pool file path before (record before { notes = notes }) before.source before.output fresh.output.2 verdicts fresh.output.0
+    restore_at_rest IsThinVerdict is_pool_early laid_pool file path before (record before { notes = notes }) before.source before.output fresh.output.2 (verdicts Thin version) fresh.output.0
+at_rest (Some (restore Cache version file path)) before notes fresh verdicts is =
+    restore_at_rest (IsCacheVerdict version) (is_cache_early version) (λ m room. laid_cache m version room) file path before (record before { notes = notes }) before.source before.output fresh.output.2 (verdicts Cache version) fresh.output.0
+at_rest (Some (restore Era version file path)) before notes fresh verdicts is =
+    restore_at_rest IsEraVerdict is_era_early laid_era file path before (record before { notes = notes }) before.source before.output fresh.output.2 (verdicts Era version) fresh.output.0
+at_rest (Some (repair from to)) before notes fresh verdicts is =
+    repair_at_rest from to before (record before { notes = notes }) before.input before.output fresh.output.2 fresh.output.0
 at_rest (Some (dump kind false file path)) before notes fresh verdicts is = query_at_rest kind (image_text kind) before.input.held
 at_rest (Some (dump kind true file path)) before notes fresh verdicts is = absurd (true≢false (sym is ∙ no_shared kind file path))
 at_rest (Some (rmap first end file path)) before notes fresh verdicts is = query_at_rest Thin (λ image. rmap_lines first end (thin_meaning image)) before.input.held
 at_rest (Some (list_devices file path)) before notes fresh verdicts is = query_at_rest Thin (λ image. list_lines (thin_meaning image)) before.input.held
+at_rest (Some (since era file path)) before notes fresh verdicts is = query_at_rest Era (λ image. since_lines era (era_meaning image)) before.input.held
 at_rest (Some (generate number file)) before notes fresh verdicts is = (tt, tt, tt)
-at_rest (Some (rehearse number path)) before notes fresh verdicts is = rehearse_at_rest number path before (record before { notes = notes }) before.output fresh.output.2 verdicts fresh.output.0
+at_rest (Some (rehearse number path)) before notes fresh verdicts is = rehearse_at_rest number path before (record before { notes = notes }) before.output fresh.output.2 (verdicts Thin 1) fresh.output.0
 at_rest (Some _) before notes fresh verdicts is = absurd (true≢false (sym is))

@@ -6,3 +6,4 @@ pub mod Queries
 pub mod Restores
 pub mod Generates
 pub mod Rehearses
+pub mod Repairs

@@ -1,13 +1,16 @@
 -- What the work of a query comes to, over plain variables.
 use Rattle.std.proofs.Common.{◌≡◌, inl, inr, ℕ, true, false, nat_eq, nat_lt, IsTrue, List, [], ◌∷◌, length, Option, Some, None, IfSome, refl, sym, ap, ◌∙◌, lit≤, arith, unwrap_or, Result, Ok, Err}
+use Rattle.std.specs.Prelude.{OnOk}
 use Rattle.std.proofs.lemmas.Bool.{cases_Bool, eqb-true}
 use Rattle.pd_kinds.specs.declared.kind.Kind.{Kind}
-use Rattle.pd_kinds.specs.declared.kind.Kind.TheVariants.{Thin}
+use Rattle.pd_kinds.specs.declared.kind.Kind.TheVariants.{Thin, Era}
 use Rattle.pd_kinds.specs.declared.kind.Stage.{Stage}
 use Rattle.pd_kinds.specs.declared.kind.Stage.TheVariants as stages
 use Rattle.pd_kinds.specs.declared.thin_super.ThinSuper.{ThinSuper}
+use Rattle.pd_kinds.specs.declared.era_super.EraSuper.{EraSuper}
+use Rattle.pd_kinds.specs.EraFormat.{era_fields}
 use Rattle.pd_kinds.specs.Graph.{block_at}
-use Rattle.pd_kinds.specs.Meaning.{ThinPool, thin_meaning}
+use Rattle.pd_kinds.specs.Meaning.{ThinPool, EraMeaning, thin_meaning, era_meaning}
 use Rattle.pd_kinds.specs.ThinSuper.{thin_fields}
 use Rattle.pd_kinds.specs.Objects.{DeviceState, SinkState, Appends, AppendsFront}
 use Rattle.pd_kinds.specs.Report.{Reported, report_of}
@@ -16,9 +19,10 @@ use Rattle.pd_kinds.specs.Crash.{IsUntouched}
 use Rattle.pd_kinds.proofs.AppendLemmas.{appends_none, front_none}
 use Rattle.pd_image.specs.Device.{OnlyReads}
 use Rattle.pd_answers.specs.Answer.{Objects, IsUsed, reading}
-use Rattle.pd_answers.specs.Promises.{Queried, image_text}
+use Rattle.pd_answers.specs.Promises.{Queried}
 use Rattle.pd_answers.specs.Terms.{is_one_of, is_possible}
 use Rattle.pd_query.specs.Adds.{PutsText}
+use Rattle.pd_dumps.specs.SinceLines.{PutsLines as PutsEras}
 use Rattle.pd_uses.specs.UseLines.{PutsLines}
 use Rattle.pd_query.specs.declared.fault.QueryFault.{QueryFault}
 use Rattle.pd_tools.specs.declared.query.Query.{Query}
@@ -54,7 +58,7 @@ none_at_super : (kind : Kind) (image : List (List ℕ)) → faults kind stages.W
 unfolding faults
 none_at_super kind image none = none_first (checked_of kind image) image stages.Super (stages.Walk ∷ stages.Order ∷ stages.Whole ∷ []) none
 
-two_told : {X : Type 0} {P Q R : X → Type 0} → (o : Option X) → ((x : X) → P x → Q x → R x) → IfSome o P → IfSome o Q → IfSome o R
+pub two_told : {X : Type 0} {P Q R : X → Type 0} → (o : Option X) → ((x : X) → P x → Q x → R x) → IfSome o P → IfSome o Q → IfSome o R
 two_told None join p q = tt
 two_told (Some x) join p q = join x p q
 
@@ -222,36 +226,29 @@ answer_none kind f stop held before after same = record {
   front = rw same (front_none _ before);
 }
 
+-- some text was put, which answers where the device tells an image without faults
+pub answered_by : (kind : Kind) (f : List (List ℕ) → List ℕ) (result : Result (Unit {0}) QueryFault) (held : Option (List (List ℕ))) (before after : Option (List ℕ)) (text : List ℕ)
+    → IfSome held (λ image. faults kind stages.Whole image ≡ [] → text ≡ f image) → OnOk result (Appends text before after) → AppendsFront text before after
+    → PutsAnswer kind f (stopped_as result) held before after
+answered_by kind f (Ok done) held before after text told whole front = record { text = text; told = told; whole = whole; front = front }
+answered_by kind f (Err fault) held before after text told whole front = record { text = text; told = told; whole = tt; front = front }
+
 -- a dump's text, where its law holds
-pub answer_put : (result : Result (Unit {0}) QueryFault) (held : Option (List (List ℕ))) (left : List (List ℕ) → List ℕ) (before after : Option (List ℕ))
-    → PutsText held left result before after → IfSome held (λ image. faults Thin stages.Whole image ≡ [] → left image ≡ image_text Thin image)
-    → PutsAnswer Thin (image_text Thin) (stopped_as result) held before after
-answer_put (Ok done) held left before after puts law = record {
-  text = puts.text;
-  told = two_told held (λ image is same none. is ∙ same none) puts.told law;
-  whole = puts.whole;
-  front = puts.front;
-}
-answer_put (Err fault) held left before after puts law = record {
-  text = puts.text;
-  told = two_told held (λ image is same none. is ∙ same none) puts.told law;
-  whole = tt;
-  front = puts.front;
-}
+pub answer_put : (kind : Kind) (f : List (List ℕ) → List ℕ) (result : Result (Unit {0}) QueryFault) (held : Option (List (List ℕ))) (left : List (List ℕ) → List ℕ) (before after : Option (List ℕ))
+    → PutsText held left result before after → IfSome held (λ image. faults kind stages.Whole image ≡ [] → left image ≡ f image)
+    → PutsAnswer kind f (stopped_as result) held before after
+answer_put kind f result held left before after puts law =
+    answered_by kind f result held before after puts.text (two_told held (λ image is same none. is ∙ same none) puts.told law) puts.whole puts.front
 
 -- the lines of a query over the meaning, where the superblock is that of the image
 pub answer_lines : (lines : ThinPool → List ℕ) (s : ThinSuper) (result : Result (Unit {0}) QueryFault) (held : Option (List (List ℕ))) (before after : Option (List ℕ))
     → PutsLines lines s result held before after → IfSome held (λ image. faults Thin stages.Whole image ≡ [] → s ≡ thin_fields (block_at image 0))
     → PutsAnswer Thin (λ image. lines (thin_meaning image)) (stopped_as result) held before after
-answer_lines lines s (Ok done) held before after puts own = record {
-  text = puts.text;
-  told = two_told held (λ image is same none. is (same none) none) puts.told own;
-  whole = puts.whole;
-  front = puts.front;
-}
-answer_lines lines s (Err fault) held before after puts own = record {
-  text = puts.text;
-  told = two_told held (λ image is same none. is (same none) none) puts.told own;
-  whole = tt;
-  front = puts.front;
-}
+answer_lines lines s result held before after puts own =
+    answered_by Thin (λ image. lines (thin_meaning image)) result held before after puts.text (two_told held (λ image is same none. is (same none) none) puts.told own) puts.whole puts.front
+
+pub answer_eras : (lines : EraMeaning → List ℕ) (s : EraSuper) (result : Result (Unit {0}) QueryFault) (held : Option (List (List ℕ))) (before after : Option (List ℕ))
+    → PutsEras lines s result held before after → IfSome held (λ image. faults Era stages.Whole image ≡ [] → s ≡ era_fields (block_at image 0))
+    → PutsAnswer Era (λ image. lines (era_meaning image)) (stopped_as result) held before after
+answer_eras lines s result held before after puts own =
+    answered_by Era (λ image. lines (era_meaning image)) result held before after puts.text (two_told held (λ image is same none. is (same none) none) puts.told own) puts.whole puts.front

@@ -5,3 +5,4 @@ pub mod Restore
 pub mod Work
 pub mod Query
 pub mod Rehearse
+pub mod Repair

@@ -1,20 +1,20 @@
 -- What a query of an image does.
 use Rattle.std.specs.Prelude.{◌≡◌, ℕ, ◌==◌, if◌then◌else◌, List, [], Option, IfSome, Result, Ok, Err, OnOk}
 use Rattle.pd_kinds.specs.declared.kind.Kind.{Kind}
-use Rattle.pd_kinds.specs.declared.kind.Kind.TheVariants.{Thin}
+use Rattle.pd_kinds.specs.declared.kind.Kind.TheVariants.{Thin, Era}
 use Rattle.pd_kinds.specs.declared.kind.Stage.TheVariants.{Whole}
-use Rattle.pd_kinds.specs.Meaning.{thin_meaning}
+use Rattle.pd_kinds.specs.Meaning.{thin_meaning, era_meaning}
 use Rattle.pd_kinds.specs.Objects.{Appends, AppendsFront, Rose}
 use Rattle.pd_kinds.specs.Report.{Reported}
 use Rattle.pd_kinds.specs.Stages.{faults}
 use Rattle.pd_spells.specs.Lines.{reported_lines}
 use Rattle.pd_answers.specs.Promises.{image_text, query}
-use Rattle.pd_answers.specs.QueryLines.{list_lines, rmap_lines}
+use Rattle.pd_answers.specs.QueryLines.{list_lines, rmap_lines, since_lines}
 use Rattle.pd_answers.specs.Terms.{Terms}
 use Rattle.pd_query.specs.declared.fault.QueryFault.{QueryFault}
 use Rattle.pd_query.specs.declared.fault.QueryFault.TheVariants as f
 use Rattle.pd_tools.specs.declared.query.Query.{Query}
-use Rattle.pd_tools.specs.declared.query.Query.TheVariants.{Dump, ReverseMap, DeviceList}
+use Rattle.pd_tools.specs.declared.query.Query.TheVariants.{Dump, ReverseMap, DeviceList, Since}
 use Rattle.pd_tools.specs.declared.stop.Stop.{Stop}
 use Rattle.pd_tools.specs.declared.stop.Stop.TheVariants.{Device, Stream, Memory}
 
@@ -23,11 +23,13 @@ abbrev pub kind_of : Query → Kind
 kind_of (Dump kind) = kind
 kind_of (ReverseMap first end) = Thin
 kind_of DeviceList = Thin
+kind_of (Since era) = Era
 
 abbrev pub text_of : Query → List (List ℕ) → List ℕ
 text_of (Dump kind) image = image_text kind image
 text_of (ReverseMap first end) image = rmap_lines first end (thin_meaning image)
 text_of DeviceList image = list_lines (thin_meaning image)
+text_of (Since era) image = since_lines era (era_meaning image)
 
 abbrev pub terms_of_query : Query → Option (List ℕ) → List ℕ → Terms
 terms_of_query q file path = query (kind_of q) (text_of q) file path

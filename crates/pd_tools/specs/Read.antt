@@ -1,17 +1,10 @@
 -- What reading an image to a report does to the device.
 use Rattle.pd_kinds.specs.declared.kind.Kind.{Kind}
-use Rattle.pd_kinds.specs.declared.kind.Kind.TheVariants.{Thin, Cache, Era}
 use Rattle.pd_kinds.specs.declared.kind.Stage.{Stage}
 use Rattle.pd_kinds.specs.Objects.{DeviceState, Rose}
 use Rattle.pd_kinds.specs.Stages.{CanWantMemory}
 use Rattle.pd_tools.specs.declared.stop.Stop.{Stop}
 use Rattle.pd_tools.specs.declared.stop.Stop.TheVariants.{Device, Stream, Memory}
-
--- the checks that are built: those of thin pools
-abbrev pub IsBuiltCheck : Kind → Stage → Type 0
-IsBuiltCheck Thin until = Unit {0}
-IsBuiltCheck Cache until = ⊥
-IsBuiltCheck Era until = ⊥
 
 -- why the device was not read to a report
 abbrev pub IsUnread : Kind → Stage → DeviceState → DeviceState → Stop → Type 0

@@ -22,12 +22,6 @@ use Rattle.pd_tools.specs.declared.restore.Outcome.TheVariants.{Made, Refused, N
 use Rattle.pd_tools.specs.declared.stop.Stop.{Stop}
 use Rattle.pd_tools.specs.declared.stop.Stop.TheVariants.{Device, Stream, Memory}
 
--- the restores that are built
-abbrev pub IsBuiltRestore : Kind → Type 0
-IsBuiltRestore Thin = Unit {0}
-IsBuiltRestore Cache = ⊥
-IsBuiltRestore Era = ⊥
-
 -- each text of the kind has a verdict, whatever the room
 abbrev pub HaveVerdicts : {M : Type 0} → (List ℕ → ℕ → Verdict M → Type 0) → Type 0
 HaveVerdicts {M} IsVerdictOn = (text : List ℕ) (room : ℕ) → (v : Verdict M) × IsVerdictOn text room v

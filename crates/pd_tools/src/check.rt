@@ -9,14 +9,16 @@ ghost use Rattle.pd_image.specs.Device.{IsAttached};
 ghost use Rattle.pd_spells.specs.Lines.{reported_lines};
 ghost use Rattle.pd_answers.specs.Answer.{Objects, IsUsed, reading};
 ghost use Rattle.pd_answers.specs.Promises.{check};
-ghost use Rattle.pd_tools.specs.Read.{IsBuiltCheck, IsUnread};
+ghost use Rattle.pd_tools.specs.Read.{IsUnread};
 ghost use Rattle.pd_tools.specs.Work.{IsFinished, IsStopped, Answers};
 
 use crate::stop::Stop;
+use pd_cache::check_cache;
+use pd_era::check_era;
 use pd_image::{Device, Failed, Sink};
-use pd_kinds::{Kind, Report, Stage};
+use pd_kinds::{CheckFault, Kind, Report, Stage};
 use pd_lines::print_report;
-use pd_thin::{CheckFault, check_thin};
+use pd_thin::check_thin;
 use std::alloc::Global;
 
 /// Checks the metadata of this kind in the image at the path up to a stage, and puts the report.
@@ -29,7 +31,6 @@ pub fn run_check<K: Sink, E: Sink, A: Device>(
     notes: &mut E,
     input: &mut A,
 ) -> u8
-    requires built { IsBuiltCheck kind until }
     requires out { (K.state out.old).access ≡ 0 }
     requires notes { (E.state notes.old).access ≡ 1 }
     requires input { (A.state input.old).access ≡ 0 }
@@ -52,7 +53,6 @@ fn check_image<K: Sink, A: Device>(
     out: &mut K,
     input: &mut A,
 ) -> Result<bool, Stop>
-    requires built { IsBuiltCheck kind until }
     requires out { (K.state out.old).access ≡ 0 }
     requires input { (A.state input.old).access ≡ 0 }
     ensures { (others : Objects) (notes : SinkState) →
@@ -79,7 +79,6 @@ pub fn read_report<A: Device>(
     image: &str,
     input: &mut A,
 ) -> Result<Report, Stop>
-    requires built { IsBuiltCheck kind until }
     requires input { (A.state input.old).access ≡ 0 }
     ensures report { IfOk result (λ report. IfSome (A.state input.old).held (λ image. report ≡ report_of (faults kind until image))) }
     ensures access { OnOk result ((A.state input.new).access ≡ 1) }
@@ -101,7 +100,6 @@ pub(crate) fn check_attached<A: Device>(
     until: Stage,
     input: &mut A,
 ) -> Result<Report, Stop>
-    requires built { IsBuiltCheck kind until }
     requires attached { IsAttached (A.state input.old) }
     ensures report { IfOk result (λ report. IfSome (A.state input.old).held (λ image. report ≡ report_of (faults kind until image))) }
     ensures access { (A.state input.new).access ≡ (A.state input.old).access }
@@ -112,8 +110,8 @@ pub(crate) fn check_attached<A: Device>(
 {
     let checked = match kind {
         Kind::Thin => check_thin(alloc, input, until),
-        Kind::Cache => unreachable!(),
-        Kind::Era => unreachable!(),
+        Kind::Cache => check_cache(alloc, input, until),
+        Kind::Era => check_era(alloc, input, until),
     };
     match checked {
         Ok(report) => Ok(report),

@@ -12,7 +12,7 @@ ghost use Rattle.pd_answers.specs.Answer.{Objects, IsUsed, writing};
 ghost use Rattle.pd_answers.specs.Flag.{LeavesCleared};
 ghost use Rattle.pd_answers.specs.Promises.{check_and_clear, terms_of};
 ghost use Rattle.pd_answers.specs.Requests.{check as asked_check};
-ghost use Rattle.pd_tools.specs.Read.{IsBuiltCheck, IsUnread};
+ghost use Rattle.pd_tools.specs.Read.{IsUnread};
 ghost use Rattle.pd_tools.specs.Work.{IsFinished, IsStopped, Answers};
 
 use crate::check::{check_attached, put_report, run_check};
@@ -34,7 +34,6 @@ pub fn run_any_check<K: Sink, E: Sink, A: Device>(
     notes: &mut E,
     input: &mut A,
 ) -> u8
-    requires built { IsBuiltCheck kind until }
     requires out { (K.state out.old).access ≡ 0 }
     requires notes { (E.state notes.old).access ≡ 1 }
     requires input { (A.state input.old).access ≡ 0 }

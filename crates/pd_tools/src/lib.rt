@@ -3,11 +3,13 @@
 
 mod check;
 mod clear;
+mod dumps;
 mod generate;
 mod notes;
 mod query;
 mod refusals;
 mod rehearse;
+mod repair;
 mod restore;
 mod run;
 mod stop;

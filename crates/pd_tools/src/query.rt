@@ -17,10 +17,10 @@ ghost use Rattle.pd_answers.specs.Promises.{image_text};
 ghost use Rattle.pd_answers.specs.QueryLines.{list_lines, rmap_lines};
 ghost use Rattle.pd_tools.specs.Notes.{PutsLine};
 ghost use Rattle.pd_tools.specs.Query.{IsUnput, PutsAnswer, kind_of, query_line, query_status, stop_as, terms_of_query, text_of};
-ghost use Rattle.pd_tools.specs.Read.{IsBuiltCheck};
 ghost use Rattle.pd_tools.specs.Work.{IsFinished, IsStopped, Answers};
 
 use crate::check::read_report;
+use crate::dumps::{put_cache_dump, put_era_dump, put_since};
 use crate::stop::Stop;
 use pd_image::{Device, Sink};
 use pd_kinds::{Kind, Report, Stage, ThinSuper};
@@ -39,6 +39,8 @@ pub enum Query {
     ReverseMap { first: u64, end: u64 },
     /// The thin devices of a pool.
     DeviceList,
+    /// The blocks of an era target that were written in this era or later.
+    Since { era: u32 },
 }
 
 /// Checks the image at the path up to the stage Whole, and puts the text that answers the query to the file, or to the
@@ -52,7 +54,6 @@ pub fn run_query<K: Sink, E: Sink, A: Device>(
     notes: &mut E,
     input: &mut A,
 ) -> u8
-    requires built { IsBuiltCheck (kind_of query) Whole }
     requires out { (K.state out.old).access ≡ 0 }
     requires notes { (E.state notes.old).access ≡ 1 }
     requires input { (A.state input.old).access ≡ 0 }
@@ -92,7 +93,6 @@ fn query_image<K: Sink, A: Device>(
     out: &mut K,
     input: &mut A,
 ) -> Result<Report, Stop>
-    requires built { IsBuiltCheck (kind_of query) Whole }
     requires out { (K.state out.old).access ≡ 0 }
     requires input { (A.state input.old).access ≡ 0 }
     ensures { (others : Objects) (notes : SinkState) →
@@ -122,6 +122,7 @@ fn kind_of(query: Query) -> Kind
         Query::Dump(kind) => kind,
         Query::ReverseMap { first: _, end: _ } => Kind::Thin,
         Query::DeviceList => Kind::Thin,
+        Query::Since { era: _ } => Kind::Era,
     }
 }
 
@@ -133,7 +134,6 @@ fn put_text<K: Sink, A: Device>(
     out: &mut K,
     input: &mut A,
 ) -> Result<(), Stop>
-    requires built { IsBuiltCheck (kind_of query) Whole }
     requires out { (K.state out.old).access ≡ 0 }
     requires input { (A.state input.old).access ≡ 1 }
     ensures text { PutsAnswer (kind_of query) (text_of query) result (A.state input.old).held (K.state out.old).written (K.state out.new).written }
@@ -144,10 +144,11 @@ fn put_text<K: Sink, A: Device>(
 {
     match query {
         Query::Dump(Kind::Thin) => put_thin_dump(alloc, file, out, input),
-        Query::Dump(Kind::Cache) => unreachable!(),
-        Query::Dump(Kind::Era) => unreachable!(),
+        Query::Dump(Kind::Cache) => put_cache_dump(alloc, file, out, input),
+        Query::Dump(Kind::Era) => put_era_dump(alloc, file, out, input),
         Query::ReverseMap { first, end } => put_rmap(alloc, first, end, file, out, input),
         Query::DeviceList => put_list(alloc, file, out, input),
+        Query::Since { era } => put_since(alloc, era, file, out, input),
     }
 }
 
@@ -261,7 +262,7 @@ fn super_to_ask<K: Sink, A: Device>(
 }
 
 /// What a query's fault stops.
-fn stop_of(fault: QueryFault) -> Stop
+pub(crate) fn stop_of(fault: QueryFault) -> Stop
     ensures { result ≡ stop_as fault }
 {
     match fault {

@@ -9,7 +9,8 @@ ghost use Rattle.pd_image.specs.Source.{KeepsSource};
 ghost use Rattle.pd_answers.specs.Answer.{Objects};
 ghost use Rattle.pd_answers.specs.Restores.{restore};
 ghost use Rattle.pd_restoring.specs.Restored.{CountsRestore};
-ghost use Rattle.pd_tools.specs.Restore.{AreAttached, AreUnattached, IsBuiltRestore, IsRestoredAs, TextsHaveVerdicts, outcome_line, outcome_status};
+ghost use Rattle.pd_words.specs.Words.{IsVersion};
+ghost use Rattle.pd_tools.specs.Restore.{AreAttached, AreUnattached, IsRestoredAs, TextsHaveVerdicts, outcome_line, outcome_status};
 ghost use Rattle.pd_tools.specs.Work.{IsFinished, IsStopped, Answers};
 
 use crate::notes::put_line;
@@ -17,7 +18,10 @@ use crate::refusals::{no_room_line, refusal_line};
 use crate::stop::Stop;
 use pd_image::{Device, Sink, Source};
 use pd_kinds::Kind;
-use pd_restore::{RestoreFault, restore_thin};
+use pd_restore::restore_thin;
+use pd_restore_cache::restore_cache;
+use pd_restore_era::restore_era;
+use pd_restoring::RestoreFault;
 use pd_spells::{cache_text_has_one_verdict, era_text_has_one_verdict, thin_text_has_one_verdict};
 use pd_texts::TextFault;
 use std::alloc::Global;
@@ -44,7 +48,7 @@ pub fn run_restore<S: Source, E: Sink, B: Device>(
     notes: &mut E,
     output: &mut B,
 ) -> u8
-    requires built { IsBuiltRestore kind }
+    requires version { IsVersion version }
     requires source { (S.state source.old).access ≡ 0 }
     requires notes { (E.state notes.old).access ≡ 1 }
     requires output { (B.state output.old).access ≡ 0 }
@@ -74,7 +78,7 @@ fn restore_image<S: Source, B: Device>(
     source: &mut S,
     output: &mut B,
 ) -> Result<Outcome, Stop>
-    requires built { IsBuiltRestore kind }
+    requires version { IsVersion version }
     requires source { (S.state source.old).access ≡ 0 }
     requires output { (B.state output.old).access ≡ 0 }
     ensures { (others : Objects) (notes : SinkState) →
@@ -129,7 +133,7 @@ fn restore_attached<S: Source, B: Device>(
     source: &mut S,
     output: &mut B,
 ) -> Result<Outcome, Stop>
-    requires built { IsBuiltRestore kind }
+    requires version { IsVersion version }
     requires source { (S.state source.old).access ≡ 1 }
     requires output { IsWritable (B.state output.old) }
     ensures { (file path : List ℕ) (before_source : SourceState) (before_output : DeviceState) (others : Objects) (notes : SinkState) →
@@ -160,7 +164,7 @@ fn restore_kind<S: Source, B: Device>(
     source: &mut S,
     output: &mut B,
 ) -> Result<(), RestoreFault>
-    requires built { IsBuiltRestore kind }
+    requires version { IsVersion version }
     requires source { (S.state source.old).access ≡ 1 }
     requires output { IsWritable (B.state output.old) }
     ensures restored { IsRestoredAs kind version result (S.state source.old) (S.state source.new) (B.state output.old) (B.state output.new) }
@@ -170,7 +174,7 @@ fn restore_kind<S: Source, B: Device>(
 {
     match kind {
         Kind::Thin => restore_thin(alloc, source, output),
-        Kind::Cache => unreachable!(),
-        Kind::Era => unreachable!(),
+        Kind::Cache => restore_cache(alloc, source, output, version),
+        Kind::Era => restore_era(alloc, source, output),
     }
 }

@@ -15,6 +15,7 @@ use crate::generate::run_generate;
 use crate::notes::{USAGE_LINE, put_line};
 use crate::query::{Query, run_query};
 use crate::rehearse::run_rehearse;
+use crate::repair::run_repair;
 use crate::restore::{run_restore, texts_have_verdicts};
 use pd_image::{Device, Sink, Source};
 use pd_words::{Name, Request, read_words};
@@ -129,7 +130,17 @@ fn run_request<S: Source, K: Sink, E: Sink, A: Device, B: Device>(
             notes,
             output,
         ),
-        Request::Repair { .. } => unreachable!(),
+        Request::Repair {
+            input: from,
+            output: to,
+        } => run_repair(
+            alloc,
+            from.word_in(words),
+            to.word_in(words),
+            notes,
+            input,
+            output,
+        ),
         Request::Search { .. } => unreachable!(),
         Request::Rmap {
             first,
@@ -154,7 +165,19 @@ fn run_request<S: Source, K: Sink, E: Sink, A: Device, B: Device>(
             notes,
             input,
         ),
-        Request::Since { .. } => unreachable!(),
+        Request::Since {
+            era,
+            image,
+            out: file,
+        } => run_query(
+            alloc,
+            Query::Since { era },
+            file_in(words, file),
+            image.word_in(words),
+            out,
+            notes,
+            input,
+        ),
         Request::Generate { number, out: file } => {
             run_generate(number, file_in(words, file), out, notes)
         }

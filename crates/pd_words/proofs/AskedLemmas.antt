@@ -1,14 +1,13 @@
 -- What is asked, by the tool and its items.
-use Rattle.std.proofs.Common.{◌≡◌, inl, inr, ℕ, ◌==◌, Bool, true, false, List, [], ◌∷◌, length, get_or, map, drop, Option, Some, None, IfSome, is_some, codes, refl, ap, sym, ◌∙◌}
+use Rattle.std.proofs.Common.{◌≡◌, inl, inr, ℕ, ◌==◌, Bool, true, false, List, [], ◌∷◌, length, get_or, map, drop, ◌^◌, Option, Some, None, IfSome, is_some, codes, refl, ap, sym, ◌∙◌}
 use Rattle.std.specs.List.{list_all}
 use Rattle.std.specs.Option.{option_and_then}
 use Rattle.std.proofs.lemmas.Bool.{cases_Bool, true≢false}
 use Rattle.std.proofs.Math.Dec.{eqb-suc-zero}
 use Rattle.pd_kinds.specs.declared.kind.Kind.{Kind}
 use Rattle.pd_kinds.specs.declared.kind.Stage.{Stage}
-use Rattle.pd_answers.specs.Requests.{Request, dump, restore, rmap, list_devices, generate, rehearse, is_built}
-use Rattle.pd_answers.specs.Words.{Item, items_of, Given, given, sole, at_most_one, is_set, last_stage, version_of, Region, region_of, generated_number, image_word, clear_word, shared_word, until_word, check_with, repair_with, Tool, check_tool, dump_tool, restore_tool, repair_tool, rmap_tool, list_tool, since_tool, generate_tool, rehearse_tool, tool_of, request_of, is_known, known, spelled, built, asked}
-use Rattle.pd_words.specs.Items.{is_read, read}
+use Rattle.pd_answers.specs.Requests.{Request, dump, restore, rmap, list_devices, since, generate, rehearse}
+use Rattle.pd_answers.specs.Words.{Item, items_of, Given, given, sole, at_most_one, is_set, last_stage, version_of, Region, region_of, generated_number, number_below, image_word, clear_word, shared_word, until_word, check_with, repair_with, Tool, check_tool, dump_tool, restore_tool, repair_tool, rmap_tool, list_tool, since_tool, generate_tool, rehearse_tool, tool_of, request_of, is_known, known, spelled, built, asked}
 use Rattle.pd_words.specs.Words.{dump_as}
 
 pub asked_nothing : {X : Type 0} (f : X → List ℕ) (xs : List X) → (length xs == 0) ≡ true → None ≡ asked (map f xs)
@@ -27,53 +26,9 @@ asked_first f [] x word some at is = absurd (true≢false some)
 asked_first f (y ∷ ys) x word some at is =
     let same : word ≡ f y = is ∙ ap f at in rw same refl
 
--- steps of which none ends in a request that is built
-never : {A : Type 0} (o : Option A) (next : A → Option Request) → ((x : A) → built (next x) ≡ None) → built (option_and_then next o) ≡ None
-never None next all = refl
-never (Some x) next all = all x
-
-repair-never : (input output : List ℕ) (transaction size blocks : Option (List ℕ)) → built (repair_with input output transaction size blocks) ≡ None
-unfolding is_built
-repair-never input output None None None = refl
-repair-never input output None None (Some b) = refl
-repair-never input output None (Some s) blocks = refl
-repair-never input output (Some t) None blocks = refl
-repair-never input output (Some t) (Some s) None = refl
-repair-never input output (Some t) (Some s) (Some b) = search never
-
--- a tool of which nothing is built, whatever its items are
-unbuilt-items : (tool : Tool) (items : List Item) → is_read tool ≡ false → built (request_of tool items) ≡ None
-unfolding request_of is_built
-unbuilt-items (check_tool kind) items none = absurd (true≢false none)
-unbuilt-items (dump_tool kind) items none = absurd (true≢false none)
-unbuilt-items (restore_tool kind) items none = absurd (true≢false none)
-unbuilt-items repair_tool items none = search (never, repair-never) depth 8
-unbuilt-items rmap_tool items none = absurd (true≢false none)
-unbuilt-items list_tool items none = absurd (true≢false none)
-unbuilt-items since_tool items none = search never
-unbuilt-items generate_tool items none = absurd (true≢false none)
-unbuilt-items rehearse_tool items none = absurd (true≢false none)
-
-pub unbuilt : (tool : Option Tool) (items : Option (List Item)) → None ≡ read tool → asked_of tool items ≡ None
-unbuilt None items none = refl
-unbuilt (Some tool) items none = elim (cases_Bool (is_read tool)) [
-  | inl e ↦ absurd (some (rw e at none))
-  | inr e ↦ never (known tool items) (request_of tool) (λ all. unbuilt-items tool all e)
-]
-  where
-    some : None ≡ Some tool → ⊥
-    some e = cc
-
--- a tool of which something is built
-pub is_tool : (named : Option Tool) (tool : Tool) → Some tool ≡ read named → named ≡ Some tool
-is_tool None tool some = absurd cc
-is_tool (Some other) tool some = elim (cases_Bool (is_read other)) [
-  | inl e ↦ sym (rw e at some)
-  | inr e ↦ absurd (none (rw e at some))
-]
-  where
-    none : Some tool ≡ None → ⊥
-    none e = cc
+-- no tool, so nothing is asked
+pub no_tool_asked : (items : Option (List Item)) → asked_of None items ≡ None
+no_tool_asked items = refl
 
 -- the items can be given to the tool
 pub all_known : (named : Option Tool) (tool : Tool) (items : Option (List Item)) (request : Option Request) → named ≡ Some tool → is_some (known tool items) ≡ true
@@ -198,6 +153,40 @@ unfolding request_of
 rmap_given None named file image word region path of request named_is one region_is file_is at_most image_is one_image is = tt
 rmap_given (Some items) named file image word region path of request named_is one region_is file_is at_most image_is one_image is =
     rw (← named_is, ← one, ← region_is, ← file_is, ← at_most, ← image_is, ← one_image) is
+
+-- a repair, by what was given for both images and for the numbers of a superblock that is wanting
+pub repair_given : (items : Option (List Item)) (from to transaction block_size blocks : Given) (input output : List ℕ) (t s b : Option (List ℕ)) (request : Option Request)
+    → IfSome items (λ all. from ≡ given (codes "-i") all) → Some input ≡ sole from
+    → IfSome items (λ all. to ≡ given (codes "-o") all) → Some output ≡ sole to
+    → IfSome items (λ all. transaction ≡ given (codes "--transaction-id") all) → Some t ≡ at_most_one transaction
+    → IfSome items (λ all. block_size ≡ given (codes "--data-block-size") all) → Some s ≡ at_most_one block_size
+    → IfSome items (λ all. blocks ≡ given (codes "--nr-data-blocks") all) → Some b ≡ at_most_one blocks
+    → request ≡ repair_with input output t s b
+    → IfSome items (λ all. request ≡ request_of repair_tool all)
+unfolding request_of
+repair_given None from to transaction block_size blocks input output t s b request from_is one to_is one_to t_is most_t s_is most_s b_is most_b is = tt
+repair_given (Some items) from to transaction block_size blocks input output t s b request from_is one to_is one_to t_is most_t s_is most_s b_is most_b is =
+    rw (← from_is, ← one, ← to_is, ← one_to, ← t_is, ← most_t, ← s_is, ← most_s, ← b_is, ← most_b) is
+
+-- no era was given
+pub no_era : (items : Option (List Item)) (named : Given) (word : List ℕ)
+    → IfSome items (λ all. named ≡ given (codes "--written-since") all) → Some word ≡ sole named → None ≡ number_below (2 ^ 32) word
+    → IfSome items (λ all. None ≡ request_of since_tool all)
+unfolding request_of
+no_era None named word named_is one none = tt
+no_era (Some items) named word named_is one none = rw (← named_is, ← one, ← none) refl
+
+-- what was written since an era, by what was given for the era, for the file and for the image
+pub since_given : (items : Option (List Item)) (named file image : Given) (word : List ℕ) (era : ℕ) (path : Option (List ℕ)) (of : List ℕ) (request : Option Request)
+    → IfSome items (λ all. named ≡ given (codes "--written-since") all) → Some word ≡ sole named → Some era ≡ number_below (2 ^ 32) word
+    → IfSome items (λ all. file ≡ given (codes "-o") all) → Some path ≡ at_most_one file
+    → IfSome items (λ all. image ≡ given image_word all) → Some of ≡ sole image
+    → request ≡ Some (since era path of)
+    → IfSome items (λ all. request ≡ request_of since_tool all)
+unfolding request_of
+since_given None named file image word era path of request named_is one era_is file_is at_most image_is one_image is = tt
+since_given (Some items) named file image word era path of request named_is one era_is file_is at_most image_is one_image is =
+    rw (← named_is, ← one, ← era_is, ← file_is, ← at_most, ← image_is, ← one_image) is
 
 -- the list of devices, by what was given for the file and for the image
 pub list_given : (items : Option (List Item)) (file image : Given) (path : Option (List ℕ)) (of : List ℕ) (request : Option Request)

@@ -1,5 +1,5 @@
 -- What was read of the words, as the definitions speak of it.
-use Rattle.std.specs.Prelude.{◌≡◌, ℕ, ◌<◌, ◌≤◌, Bool, true, false, if◌then◌else◌, List, [], ◌∷◌, drop, get_or, Option, Some, None, IfSome}
+use Rattle.std.specs.Prelude.{◌≡◌, ℕ, ◌<◌, ◌≤◌, List, [], ◌∷◌, drop, get_or, Option, Some, None, IfSome}
 use Rattle.std.specs.List.{filter_map}
 use Rattle.std.specs.Option.{option_map}
 use Rattle.pd_answers.specs.Words as asked
@@ -8,7 +8,7 @@ use Rattle.pd_words.specs.declared.items.Place.{Place}
 use Rattle.pd_words.specs.declared.items.Given.{Given}
 use Rattle.pd_words.specs.declared.items.Given.TheVariants.{Never, Once, Often}
 use Rattle.pd_words.specs.declared.items.Tool.{Tool}
-use Rattle.pd_words.specs.declared.items.Tool.TheVariants.{Check, Dump, Restore, ReverseMap, DeviceList, Generate, Rehearse}
+use Rattle.pd_words.specs.declared.items.Tool.TheVariants.{Check, Dump, Restore, Repair, ReverseMap, DeviceList, Since, Generate, Rehearse}
 
 -- the word that a name stands for
 abbrev pub word_at : List (List ℕ) → ℕ → List ℕ
@@ -53,27 +53,13 @@ abbrev pub tool_as : Tool → asked.Tool
 tool_as (Check kind) = asked.check_tool kind
 tool_as (Dump kind) = asked.dump_tool kind
 tool_as (Restore kind) = asked.restore_tool kind
+tool_as Repair = asked.repair_tool
 tool_as ReverseMap = asked.rmap_tool
 tool_as DeviceList = asked.list_tool
+tool_as Since = asked.since_tool
 tool_as Generate = asked.generate_tool
 tool_as Rehearse = asked.rehearse_tool
 
 abbrev pub found_tool : Option Tool → Option asked.Tool
 found_tool None = None
 found_tool (Some tool) = Some (tool_as tool)
-
--- whether something of a tool is built
-abbrev pub is_read : asked.Tool → Bool
-is_read (asked.check_tool kind) = true
-is_read (asked.dump_tool kind) = true
-is_read (asked.restore_tool kind) = true
-is_read asked.rmap_tool = true
-is_read asked.list_tool = true
-is_read asked.generate_tool = true
-is_read asked.rehearse_tool = true
-is_read _ = false
-
--- the tools of which something is built
-abbrev pub read : Option asked.Tool → Option asked.Tool
-read None = None
-read (Some tool) = if is_read tool then Some tool else None

@@ -1,5 +1,5 @@
 -- What a request that was read means.
-use Rattle.std.specs.Prelude.{ℕ, ◌<◌, ◌≤◌, Bool, List, Option, Some, None, IfSome, Result, Ok, Err}
+use Rattle.std.specs.Prelude.{◌≡◌, ◌⊎◌, ℕ, ◌<◌, ◌≤◌, Bool, List, Option, Some, None, IfSome, Result, Ok, Err}
 use Rattle.std.specs.Option.{option_map}
 use Rattle.pd_kinds.specs.declared.kind.Kind.{Kind}
 use Rattle.pd_words.specs.declared.request.Name.{Name}
@@ -8,6 +8,7 @@ use Rattle.pd_words.specs.declared.request.Request.TheVariants.{Check, Dump, Res
 use Rattle.pd_words.specs.declared.request.WordFault.{WordFault}
 use Rattle.pd_words.specs.Items.{word_at}
 use Rattle.pd_answers.specs.Requests as requests
+use Rattle.pd_answers.specs.Words as asked
 
 -- the word of a name, and of one that may be left out
 abbrev pub word_of : List (List ℕ) → Name → List ℕ
@@ -46,6 +47,11 @@ dump_as kind (Some shared) (Some file) None = None
 dump_as kind (Some shared) None image = None
 dump_as kind None file image = None
 
+-- a repair of what was given: with all three numbers of the superblock that is wanting, or none
+abbrev pub repair_as : List (List ℕ) → Name → Name → Option Name → Option Name → Option Name → Option requests.Request
+repair_as words input output transaction block_size blocks =
+    asked.repair_with (word_of words input) (word_of words output) (words_of words transaction) (words_of words block_size) (words_of words blocks)
+
 -- a name is the index of one of so many words
 abbrev pub IsName : ℕ → Name → Type 0
 IsName number name = name.0 < number
@@ -57,11 +63,15 @@ IsNameIfAny number name = IfSome name (IsName number)
 abbrev pub IsGenerated : ℕ → Type 0
 IsGenerated number = number ≤ 10000
 
--- each name of a request is, and the generator's number is one
+-- a version of a cache's metadata
+abbrev pub IsVersion : ℕ → Type 0
+IsVersion version = (version ≡ 1) ⊎ (version ≡ 2)
+
+-- each name of a request is, its version is one, and so is the generator's number
 abbrev pub AreNames : ℕ → Request → Type 0
 AreNames number (Check kind until clear image) = IsName number image
 AreNames number (Dump kind image out shared) = IsName number image × IsNameIfAny number out
-AreNames number (Restore kind text image version) = IsName number text × IsName number image
+AreNames number (Restore kind text image version) = IsName number text × IsName number image × IsVersion version
 AreNames number (Repair input output) = IsName number input × IsName number output
 AreNames number (Search input output transaction block_size blocks) = IsName number input × IsName number output
 AreNames number (Rmap first end image out) = IsName number image × IsNameIfAny number out

@@ -4,12 +4,12 @@ ghost use Rattle.std.specs.Prelude.{◌≡◌, ◌<◌, ◌≤◌, length, map, 
 ghost use Rattle.std.specs.List.{list_any};
 ghost use Rattle.std.specs.Str.{bytes_eq};
 ghost use Rattle.pd_answers.specs.Words.{is_value, is_flag, items_of, given, known, purposes_of, tool_of};
-ghost use Rattle.pd_words.specs.Items.{with_item, IsItemWithin, values_from, with_found, given_as, IsGivenWithin, tool_as, found_tool, read};
+ghost use Rattle.pd_words.specs.Items.{with_item, IsItemWithin, values_from, with_found, given_as, IsGivenWithin, tool_as, found_tool};
 
 use crate::request::Name;
 use pd_kinds::Kind;
 
-/// The tools of which something is built.
+/// The tools.
 #[derive(Clone, Copy)]
 pub enum Tool {
     /// thin_check, cache_check, era_check
@@ -18,10 +18,14 @@ pub enum Tool {
     Dump(Kind),
     /// thin_restore, cache_restore, era_restore
     Restore(Kind),
+    /// thin_repair
+    Repair,
     /// thin_rmap
     ReverseMap,
     /// thin_ls
     DeviceList,
+    /// era_invalidate
+    Since,
     /// thin_generate
     Generate,
     /// thin_rehearse
@@ -61,9 +65,9 @@ struct Place {
 /// What the operand is given for.
 pub const IMAGE: &str = "IMAGE";
 
-/// The tool of this name, if something of it is built.
+/// The tool of this name.
 pub fn tool_named(word: &str) -> Option<Tool>
-    ensures { found_tool result ≡ read (tool_of word.now) }
+    ensures { found_tool result ≡ tool_of word.now }
 {
     match word {
         "thin_check" => Some(Tool::Check(Kind::Thin)),
@@ -75,8 +79,10 @@ pub fn tool_named(word: &str) -> Option<Tool>
         "thin_restore" => Some(Tool::Restore(Kind::Thin)),
         "cache_restore" => Some(Tool::Restore(Kind::Cache)),
         "era_restore" => Some(Tool::Restore(Kind::Era)),
+        "thin_repair" => Some(Tool::Repair),
         "thin_rmap" => Some(Tool::ReverseMap),
         "thin_ls" => Some(Tool::DeviceList),
+        "era_invalidate" => Some(Tool::Since),
         "thin_generate" => Some(Tool::Generate),
         "thin_rehearse" => Some(Tool::Rehearse),
         _ => None,
@@ -105,8 +111,16 @@ pub fn is_purpose(tool: Tool, word: &str) -> bool
             Kind::Cache => word == "--metadata-version" || word == "-i" || word == "-o",
             Kind::Era => word == "-i" || word == "-o",
         },
+        Tool::Repair => {
+            word == "-i"
+                || word == "-o"
+                || word == "--transaction-id"
+                || word == "--data-block-size"
+                || word == "--nr-data-blocks"
+        }
         Tool::ReverseMap => word == "--region" || word == "-o" || word == "IMAGE",
         Tool::DeviceList => word == "-o" || word == "IMAGE",
+        Tool::Since => word == "--written-since" || word == "-o" || word == "IMAGE",
         Tool::Generate => word == "--number" || word == "-o",
         Tool::Rehearse => word == "--number" || word == "-o",
     }

@@ -1,14 +1,14 @@
-ghost use Rattle.std.specs.Prelude.{◌≡◌, ℕ, List, true, map, drop, string_bytes, length, IfSome, IfOk};
+ghost use Rattle.std.specs.Prelude.{◌≡◌, ◌^◌, ℕ, List, Some, true, map, drop, string_bytes, length, IfSome, IfOk};
 ghost use Rattle.std.specs.Option.{option_map};
 ghost use Rattle.pd_answers.specs.Words.{asked, stage_of, last_stage, version_of, region_of, generated_number, items_of, sole, at_most_one, is_set, check_with};
 ghost use Rattle.pd_answers.specs.Words as words_spec;
 ghost use Rattle.pd_answers.specs.Requests.{is_built};
 ghost use Rattle.pd_words.specs.Items.{given_as, IsGivenWithin, tool_as};
 ghost use Rattle.pd_words.specs.Numbers.{region_as};
-ghost use Rattle.pd_words.specs.Words.{request_as, read_as, answer_as, dump_as, word_of, words_of, AreNames, IsGenerated, IsName, IsNameIfAny};
+ghost use Rattle.pd_words.specs.Words.{request_as, read_as, answer_as, dump_as, repair_as, word_of, words_of, AreNames, IsGenerated, IsName, IsNameIfAny, IsVersion};
 
 use crate::items::{Given, IMAGE, Tool, are_items, given_for, tool_named};
-use crate::numbers::{Region, number_below, read_region};
+use crate::numbers::{Region, number, number_below, read_region};
 use crate::request::{Name, Request, WordFault};
 use pd_kinds::{Kind, Stage};
 
@@ -75,26 +75,25 @@ fn is_built(request: &Request) -> bool
                 Stage::Whole => !clear,
                 Stage::Counts => true,
             },
-            _ => false,
+            Kind::Cache => !clear,
+            Kind::Era => !clear,
         },
         Request::Dump {
-            kind,
+            kind: _,
             image: _,
             out: _,
             shared,
-        } => match kind {
-            Kind::Thin => !shared,
-            _ => false,
-        },
+        } => !shared,
         Request::Restore {
-            kind,
+            kind: _,
             text: _,
             image: _,
             version: _,
-        } => match kind {
-            Kind::Thin => true,
-            _ => false,
-        },
+        } => true,
+        Request::Repair {
+            input: _,
+            output: _,
+        } => true,
         Request::Rmap {
             first: _,
             end: _,
@@ -102,6 +101,11 @@ fn is_built(request: &Request) -> bool
             out: _,
         } => true,
         Request::List { image: _, out: _ } => true,
+        Request::Since {
+            era: _,
+            image: _,
+            out: _,
+        } => true,
         Request::Generate { number: _, out: _ } => true,
         Request::Rehearse {
             number: _,
@@ -120,8 +124,10 @@ fn read_request(tool: Tool, words: &[String]) -> Option<Request>
         Tool::Check(kind) => read_check(kind, words),
         Tool::Dump(kind) => read_dump(kind, words),
         Tool::Restore(kind) => read_restore(kind, words),
+        Tool::Repair => read_repair(words),
         Tool::ReverseMap => read_rmap(words),
         Tool::DeviceList => read_list(words),
+        Tool::Since => read_since(words),
         Tool::Generate => read_generate(words),
         Tool::Rehearse => read_rehearse(words),
     }
@@ -213,6 +219,84 @@ fn read_restore(kind: Kind, words: &[String]) -> Option<Request>
     })
 }
 
+/// What the words ask of a repair.
+#[tactic(auto, unfolding(pd_answers::specs::Words::request_of))]
+fn read_repair(words: &[String]) -> Option<Request>
+    ensures asked { IfSome (items_of (drop 1 (map string_bytes words.now))) (λ items. read_as (map string_bytes words.now) result ≡ words_spec.request_of words_spec.repair_tool items) }
+    ensures names { IfSome result (AreNames (length words.now)) }
+{
+    let input = required(given_for(words, 1, "-i"))?;
+    let output = required(given_for(words, 1, "-o"))?;
+    let transaction = optional(given_for(words, 1, "--transaction-id"))?;
+    let block_size = optional(given_for(words, 1, "--data-block-size"))?;
+    let blocks = optional(given_for(words, 1, "--nr-data-blocks"))?;
+    repair_with(words, input, output, transaction, block_size, blocks)
+}
+
+/// A repair of what was given: with all three numbers of the superblock that is wanting, or none.
+fn repair_with(
+    words: &[String],
+    input: Name,
+    output: Name,
+    transaction: Option<Name>,
+    block_size: Option<Name>,
+    blocks: Option<Name>,
+) -> Option<Request>
+    requires input { IsName (length words.now) input }
+    requires output { IsName (length words.now) output }
+    requires transaction { IsNameIfAny (length words.now) transaction }
+    requires block_size { IsNameIfAny (length words.now) block_size }
+    requires blocks { IsNameIfAny (length words.now) blocks }
+    ensures asked { read_as (map string_bytes words.now) result ≡ repair_as (map string_bytes words.now) input output transaction block_size blocks }
+    ensures names { IfSome result (AreNames (length words.now)) }
+{
+    match transaction {
+        None => match block_size {
+            None => match blocks {
+                None => Some(Request::Repair { input, output }),
+                Some(_) => None,
+            },
+            Some(_) => None,
+        },
+        Some(transaction) => match block_size {
+            None => None,
+            Some(block_size) => match blocks {
+                None => None,
+                Some(blocks) => search_of(words, input, output, transaction, block_size, blocks),
+            },
+        },
+    }
+}
+
+/// A repair with the numbers that these words are.
+fn search_of(
+    words: &[String],
+    input: Name,
+    output: Name,
+    transaction: Name,
+    block_size: Name,
+    blocks: Name,
+) -> Option<Request>
+    requires input { IsName (length words.now) input }
+    requires output { IsName (length words.now) output }
+    requires transaction { IsName (length words.now) transaction }
+    requires block_size { IsName (length words.now) block_size }
+    requires blocks { IsName (length words.now) blocks }
+    ensures asked { read_as (map string_bytes words.now) result ≡ repair_as (map string_bytes words.now) input output (Some transaction) (Some block_size) (Some blocks) }
+    ensures names { IfSome result (AreNames (length words.now)) }
+{
+    let transaction = number(transaction.word_in(words))?;
+    let block_size = number_below(1 << 32, block_size.word_in(words))?;
+    let blocks = number_below((1 << 40) + 1, blocks.word_in(words))?;
+    Some(Request::Search {
+        input,
+        output,
+        transaction,
+        block_size: block_size as u32,
+        blocks,
+    })
+}
+
 /// What the words ask of the reverse map.
 #[tactic(auto, unfolding(pd_answers::specs::Words::request_of))]
 fn read_rmap(words: &[String]) -> Option<Request>
@@ -239,6 +323,29 @@ fn read_list(words: &[String]) -> Option<Request>
     let out = optional(given_for(words, 1, "-o"))?;
     let image = required(given_for(words, 1, IMAGE))?;
     Some(Request::List { image, out })
+}
+
+/// What the words ask of the blocks that were written since an era.
+#[tactic(auto, unfolding(pd_answers::specs::Words::request_of))]
+fn read_since(words: &[String]) -> Option<Request>
+    ensures asked { IfSome (items_of (drop 1 (map string_bytes words.now))) (λ items. read_as (map string_bytes words.now) result ≡ words_spec.request_of words_spec.since_tool items) }
+    ensures names { IfSome result (AreNames (length words.now)) }
+{
+    let era = era_named(words, required(given_for(words, 1, "--written-since"))?)?;
+    let out = optional(given_for(words, 1, "-o"))?;
+    let image = required(given_for(words, 1, IMAGE))?;
+    Some(Request::Since { era, image, out })
+}
+
+/// The era that a word names.
+fn era_named(words: &[String], name: Name) -> Option<u32>
+    requires { IsName (length words.now) name }
+    ensures { result ≡ words_spec.number_below (2 ^ 32) (word_of (map string_bytes words.now) name) }
+{
+    match number_below(1 << 32, name.word_in(words)) {
+        None => None,
+        Some(era) => Some(era as u32),
+    }
 }
 
 /// The region that a word names.
@@ -354,7 +461,8 @@ fn stage_named(word: &str) -> Option<Stage>
 #[tactic(auto, unfolding(pd_answers::specs::Words::version_of))]
 fn version_named(words: &[String], name: Option<Name>) -> Option<u32>
     requires { IsNameIfAny (length words.now) name }
-    ensures { result ≡ version_of (words_of (map string_bytes words.now) name) }
+    ensures version { result ≡ version_of (words_of (map string_bytes words.now) name) }
+    ensures within { IfSome result IsVersion }
 {
     match name {
         None => Some(1),
@@ -365,7 +473,8 @@ fn version_named(words: &[String], name: Option<Name>) -> Option<u32>
 /// The version that a word is.
 #[tactic(auto, unfolding(pd_answers::specs::Words::version_of))]
 fn version_number(word: &str) -> Option<u32>
-    ensures { result ≡ version_of (Some word.now) }
+    ensures version { result ≡ version_of (Some word.now) }
+    ensures within { IfSome result IsVersion }
 {
     match word {
         "1" => Some(1),

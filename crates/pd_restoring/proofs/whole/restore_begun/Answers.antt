@@ -1,4 +1,4 @@
-use Rattle.std.proofs.Common.{◌≤◌, ℕ, List, arith}
+use Rattle.std.proofs.Common.{◌<◌, ◌≤◌, ℕ, List, arith}
 use Rattle.pd_restoring.proofs.RestoreLemmas.{begun_no_room, begun_unclosed, begun_result}
 use Rattle.pd_restoring.proofs.whole.restore_begun.Goals as goal
 
@@ -11,7 +11,7 @@ returns-then-need-room-clause-restored g c from told =
     let old = g.D.Device.state c.args.dev.now in
     let same = c.requires.room in
     let exact = c.need-need.ensures.need in
-    let less = c.if-need-room.true in
+    let less : c.args.room < c.need-need.result = omega (arith, c.if-need-room.true) in
     rw same (begun_no_room k lines IsOf from source old (λ t is. g.K.Restoring.goes_on c.args.kind.now t c.args.begun source.left (told t is)) c.need-need.result (rw same at exact) (rw same at less))
 
 pub returns-in-Ok-clause-restored : goal.returns-in-Ok-clause-restored

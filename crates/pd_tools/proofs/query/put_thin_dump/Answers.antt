@@ -14,7 +14,7 @@ returns-then-is_err-clause-text g c = answer_none Thin (image_text Thin) Stream 
 
 pub returns-in-Ok-put-clause-text : goal.returns-in-Ok-put-clause-text
 returns-in-Ok-put-clause-text g c =
-    answer_put (Ok tt) (g.A.Device.state c.args.input.now).held (λ image. text_left image c.in-Ok.dump) (g.K.Sink.state c.args.out.now).written (g.K.Sink.state c.put.new.out).written
+    answer_put Thin (image_text Thin) (Ok tt) (g.A.Device.state c.args.input.now).held (λ image. text_left image c.in-Ok.dump) (g.K.Sink.state c.args.out.now).written (g.K.Sink.state c.put.new.out).written
     (rw (c.in-Ok.ensures.kept.held, c.attach.ensures.attached.written) at c.in-Ok-put.ensures.text)
     (one_told (g.A.Device.state c.args.input.now).held
     (λ image is none. let root = (c.rows_are_the_devices.ensures image none).mapping_root in let some : 1 ≤ length image = omega arith in is some ∙ c.given_lines_are_the_text.ensures image none)

@@ -8,11 +8,12 @@ use Rattle.pd_answers.specs.Requests.{is_built}
 use Rattle.pd_answers.specs.Answer.{Objects}
 use Rattle.pd_answers.specs.Promises.{generate, terms_of}
 use Rattle.pd_answers.specs.Rehearsals.{rehearse}
+use Rattle.pd_answers.specs.Repairs.{repair}
 use Rattle.pd_answers.specs.Restores.{restore}
 use Rattle.std.specs.Option.{option_copied}
 use Rattle.pd_words.specs.Words.{word_of, words_of}
 use Rattle.pd_tools.specs.declared.query.Query.{Query}
-use Rattle.pd_tools.specs.declared.query.Query.TheVariants.{Dump, ReverseMap, DeviceList}
+use Rattle.pd_tools.specs.declared.query.Query.TheVariants.{Dump, ReverseMap, DeviceList, Since}
 use Rattle.pd_tools.specs.Query.{terms_of_query}
 use Rattle.pd_tools.specs.Work.{Answers}
 use Rattle.pd_tools.proofs.AtRest.{no_shared}
@@ -63,6 +64,13 @@ returns-in-List g c others =
     rw w.is (query_as_asked DeviceList (words_of words w.file) (option_copied c.file_in-in-List.result) (word_of words w.image) c.word_in-in-List.result.now _ _ _ _
     c.file_in-in-List.ensures c.word_in-in-List.ensures (c.run_query-in-List.ensures (record others { source = g.S.Source.state c.args.source.now; output = g.B.Device.state c.args.output.now })))
 
+pub returns-in-Since : goal.returns-in-Since
+returns-in-Since g c others =
+    let words = map string_bytes c.args.words.now in
+    let w = c.in-Since in
+    rw w.is (query_as_asked (Since w.era) (words_of words w.file) (option_copied c.file_in-in-Since.result) (word_of words w.image) c.word_in-in-Since.result.now _ _ _ _
+    c.file_in-in-Since.ensures c.word_in-in-Since.ensures (c.run_query-in-Since.ensures (record others { source = g.S.Source.state c.args.source.now; output = g.B.Device.state c.args.output.now })))
+
 -- the restore of these words is the one that is asked
 restored_as_asked : (kind : Kind) (version : ℕ) (file path text image : List ℕ) (attached : SinkState) (before after : Objects) (status : ℕ)
     → text ≡ file → image ≡ path → Answers (restore kind version text image) attached before after status → Answers (restore kind version file path) attached before after status
@@ -75,6 +83,19 @@ returns-in-Restore g c others =
     rw w.is (restored_as_asked w.kind w.version (word_of words w.text) (word_of words w.image) c.word_in-in-Restore.result.now c.word_in-in-Restore-2.result.now _ _ _ _
     c.word_in-in-Restore.ensures c.word_in-in-Restore-2.ensures
     (c.run_restore.ensures (record others { out = g.K.Sink.state c.args.out.now; input = g.A.Device.state c.args.input.now })))
+
+-- so with the images of a repair
+repaired_as_asked : (from to given_from given_to : List ℕ) (attached : SinkState) (before after : Objects) (status : ℕ)
+    → given_from ≡ from → given_to ≡ to → Answers (repair given_from given_to) attached before after status → Answers (repair from to) attached before after status
+repaired_as_asked from to given_from given_to attached before after status same_from same_to answers = rw (same_from, same_to) at answers
+
+pub returns-in-Repair : goal.returns-in-Repair
+returns-in-Repair g c others =
+    let words = map string_bytes c.args.words.now in
+    let w = c.in-Repair in
+    rw w.is (repaired_as_asked (word_of words w.from) (word_of words w.to) c.word_in-in-Repair.result.now c.word_in-in-Repair-2.result.now _ _ _ _
+    c.word_in-in-Repair.ensures c.word_in-in-Repair-2.ensures
+    (c.run_repair.ensures (record others { source = g.S.Source.state c.args.source.now; out = g.K.Sink.state c.args.out.now })))
 
 -- the generator's file of these words is the one that is asked
 generated_as_asked : (number : ℕ) (file given : Option (List ℕ)) (attached : SinkState) (before after : Objects) (status : ℕ)

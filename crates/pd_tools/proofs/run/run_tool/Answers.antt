@@ -1,5 +1,4 @@
 use Rattle.std.proofs.Common.{sym, refl, lit≤, map, string_bytes}
-use Rattle.pd_kinds.specs.declared.kind.Kind.TheVariants.{Thin}
 use Rattle.pd_spells.specs.Lines.{usage_line}
 use Rattle.pd_answers.specs.Answer.{objects}
 use Rattle.pd_answers.specs.Words.{asked}
@@ -53,6 +52,6 @@ returns-in-Err g c =
     let before = objects (g.S.Source.state c.args.source.now) (g.K.Sink.state c.args.out.now) (g.E.Sink.state c.args.notes.now)
     (g.A.Device.state c.args.input.now) (g.B.Device.state c.args.output.now) (g.C.Device.state c.args.third.now) in
     let request = asked (map string_bytes c.args.words.now) in
-    let rest = at_rest request before (g.E.Sink.state c.attach.new.self) c.requires (c.texts_have_verdicts.ensures Thin 1) (asked_alone (map string_bytes c.args.words.now)) in
+    let rest = at_rest request before (g.E.Sink.state c.attach.new.self) c.requires c.texts_have_verdicts.ensures (asked_alone (map string_bytes c.args.words.now)) in
     answered_unattached (terms_of request) before (g.E.Sink.state c.attach.new.self) rest.0 c.requires rest.1 rest.2
     c.in-Err.ensures.attached.access c.in-Err.ensures.attached.path c.in-Err.ensures.attached.written c.in-Err.ensures.faults.0

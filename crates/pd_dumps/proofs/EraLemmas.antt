@@ -1,0 +1,109 @@
+-- The lines of an era target: its runs, and what they come to without faults.
+use Rattle.std.proofs.Common.{◌≡◌, ℕ, ◌<◌, ◌≤◌, nat_lt, nat_eq, true, ◌&&◌, ◌||◌, List, [], ◌∷◌, ◌++◌, length, Option, IfSome, refl, sym, ap, ◌∙◌, append_assoc, arith, inl, inr}
+use Rattle.std.proofs.lemmas.Bool.{and_parts, cases_Bool, eqb-false, lt-ltb, ltb-true, ne_eqb}
+use Rattle.std.proofs.lemmas.List.{append-nil}
+use Rattle.std.proofs.lemmas.List.Concat.{flat_map-append}
+use Rattle.pd_kinds.specs.declared.kind.Kind.TheVariants.{Era}
+use Rattle.pd_kinds.specs.declared.kind.Stage.TheVariants.{Order, Walk, Whole}
+use Rattle.pd_kinds.specs.EraFormat.{EraFields, era_fields}
+use Rattle.pd_kinds.specs.Graph.{block_at}
+use Rattle.pd_kinds.specs.Meaning.{era_meaning}
+use Rattle.pd_kinds.specs.Stages.{HasCleanSuper, era_checked, faults}
+use Rattle.pd_laws.proofs.CleanLemmas.{clean_super_where_none}
+use Rattle.pd_grammar.specs.Texts.{written}
+use Rattle.pd_spells.specs.EraText.{Line, end_line, era, joined_eras, run_lines, text_of_era}
+use Rattle.pd_texts.specs.Printed.{end_text, text_of_line}
+use Rattle.pd_eras.specs.Eras.{GivesEras, RootsBelow}
+use Rattle.pd_query.specs.Adds.{Adds, StopsAt}
+use Rattle.pd_query.proofs.AddsLemmas.{one_told, two_told}
+use Rattle.pd_dumps.specs.EraGiven.{are_roots_below, given_eras}
+use Rattle.pd_dumps.specs.EraLines.{era_dump_text, rest_text, runs_text}
+use Rattle.pd_dumps.specs.Known.{Begins}
+use Rattle.pd_dumps.proofs.KnownLemmas.{adds_both, adds_none, begins_after, begins_at}
+
+-- the lines of the runs, and the last one
+pub last_line : (eras : List ℕ) → rest_text eras ≡ runs_text (run_lines 0 (joined_eras eras)) ++ end_text
+last_line eras = flat_map-append (λ (line : Line). written era line ++ (10 ∷ [])) (run_lines 0 (joined_eras eras)) (end_line ∷ [])
+
+-- so far the lines of some runs were gathered, which with the others are all
+pub record RunsSoFar (whole left : List Line) (old new : List ℕ) (before after : Option (List ℕ)) : Type 0 where
+  pub lines : List Line
+  pub split : whole ≡ lines ++ left
+  pub adds : Adds (runs_text lines) old new before after
+
+pub runs_none : (whole : List Line) (old : List ℕ) (before : Option (List ℕ)) → RunsSoFar whole whole old old before before
+runs_none whole old before = record { lines = []; split = refl; adds = adds_none old before }
+
+pub runs_more : {whole left : List Line} (line : Line) (later : List Line) {old mid new : List ℕ} {before between after : Option (List ℕ)} → RunsSoFar whole left old mid before between
+    → left ≡ line ∷ later → Adds (text_of_line era line) mid new between after → RunsSoFar whole later old new before after
+runs_more line later so_far is adds = record {
+  lines = so_far.lines ++ (line ∷ []);
+  split = so_far.split ∙ (ap (λ (xs : List Line). so_far.lines ++ xs) is ∙ sym (append_assoc so_far.lines (line ∷ []) later));
+  adds = rw (flat_map-append (λ (line : Line). written era line ++ (10 ∷ [])) so_far.lines (line ∷ []), append-nil (text_of_line era line)) (adds_both so_far.adds adds);
+}
+
+pub runs_all : {whole left : List Line} {old new : List ℕ} {before after : Option (List ℕ)} → RunsSoFar whole left old new before after → left ≡ [] → Adds (runs_text whole) old new before after
+runs_all so_far none = rw (so_far.split ∙ (ap (λ (xs : List Line). so_far.lines ++ xs) none ∙ append-nil so_far.lines)) so_far.adds
+
+pub runs_stopped : {whole left : List Line} {old mid : List ℕ} {before between after : Option (List ℕ)} → RunsSoFar whole left old mid before between → StopsAt mid between after
+    → Begins (runs_text whole) old before after
+runs_stopped {whole} {left} so_far stopped =
+    rw (so_far.split, flat_map-append (λ (line : Line). written era line ++ (10 ∷ [])) so_far.lines left) (begins_after so_far.adds (begins_at (runs_text left) stopped))
+
+-- a root that is read is below, where it is none or tested
+some_below : (root blocks : ℕ) → (nat_eq root 0 || nat_lt root blocks) ≡ true → (root ≡ 0 → ⊥) → root < blocks
+some_below root blocks either some = ltb-true root blocks (rw (ne_eqb root 0 some) at either)
+
+some_test : (root blocks : ℕ) → ((root ≡ 0 → ⊥) → root < blocks) → (nat_eq root 0 || nat_lt root blocks) ≡ true
+some_test root blocks below = elim (cases_Bool (nat_eq root 0)) [
+  | inl none ↦ rw none refl
+  | inr some ↦ rw (some, lt-ltb root blocks (below (eqb-false root 0 some))) refl
+]
+
+-- the roots are below where the test says so
+pub roots_below : (blocks : ℕ) (fields : EraFields) → are_roots_below blocks fields ≡ true → RootsBelow blocks fields
+roots_below blocks fields are =
+    let first = and_parts (nat_lt fields.array_root blocks) (nat_lt fields.writesets_root blocks && (nat_eq fields.current_root 0 || nat_lt fields.current_root blocks)) are in
+    let second = and_parts (nat_lt fields.writesets_root blocks) (nat_eq fields.current_root 0 || nat_lt fields.current_root blocks) first.1 in
+    record {
+      eras = ltb-true fields.array_root blocks first.0;
+      writesets = ltb-true fields.writesets_root blocks second.0;
+      current = some_below fields.current_root blocks second.1;
+    }
+
+-- and only there
+pub are_below : (blocks : ℕ) (fields : EraFields) → RootsBelow blocks fields → are_roots_below blocks fields ≡ true
+are_below blocks fields below =
+    rw (lt-ltb fields.array_root blocks below.eras, lt-ltb fields.writesets_root blocks below.writesets, some_test fields.current_root blocks below.current) refl
+
+-- an image without faults has a block
+some_if_clean : (image : List (List ℕ)) → HasCleanSuper (era_checked image) image → 1 ≤ length image
+some_if_clean [] clean = absurd clean
+some_if_clean (block ∷ blocks) clean = let more : 0 ≤ length blocks = omega arith in omega arith
+
+has_some : (image : List (List ℕ)) → faults Era Whole image ≡ [] → 1 ≤ length image
+unfolding faults
+has_some image none = some_if_clean image (clean_super_where_none (era_checked image) image (Walk ∷ Order ∷ Whole ∷ []) none)
+
+-- the eras that are given are those of the meaning
+pub eras_are : (image : List (List ℕ)) → GivesEras image → given_eras image (era_fields (block_at image 0)) ≡ (era_meaning image).eras
+eras_are image gives = rw (are_below (length image) (era_fields (block_at image 0)) gives.roots) (sym gives.eras)
+
+-- and the text is that of the meaning
+pub text_is : (image : List (List ℕ)) → given_eras image (era_fields (block_at image 0)) ≡ (era_meaning image).eras
+    → era_dump_text (era_fields (block_at image 0)) (given_eras image (era_fields (block_at image 0))) ≡ text_of_era (era_meaning image)
+unfolding text_of_era era_meaning
+text_is image same = ap (λ (eras : List ℕ). era_dump_text (era_fields (block_at image 0)) eras) same
+
+-- the text over the superblock that was read, and the eras that are given of it
+pub text_given : (held : Option (List (List ℕ))) (s : EraFields) (eras : List ℕ)
+    → IfSome held (λ image. 1 ≤ length image → s ≡ era_fields (block_at image 0)) → IfSome held (λ image. eras ≡ given_eras image s)
+    → IfSome held (λ image. 1 ≤ length image → era_dump_text s eras ≡ era_dump_text (era_fields (block_at image 0)) (given_eras image (era_fields (block_at image 0))))
+text_given held s eras read given = two_told held (λ image read given some.
+    ap (λ (es : List ℕ). era_dump_text s es) given ∙ ap (λ (fields : EraFields). era_dump_text fields (given_eras image fields)) (read some)) read given
+
+pub text_means : (held : Option (List (List ℕ))) (text : List ℕ)
+    → IfSome held (λ image. 1 ≤ length image → text ≡ era_dump_text (era_fields (block_at image 0)) (given_eras image (era_fields (block_at image 0))))
+    → ((image : List (List ℕ)) → faults Era Whole image ≡ [] → era_dump_text (era_fields (block_at image 0)) (given_eras image (era_fields (block_at image 0))) ≡ text_of_era (era_meaning image))
+    → IfSome held (λ image. faults Era Whole image ≡ [] → text ≡ text_of_era (era_meaning image))
+text_means held text given law = one_told held (λ image given none. given (has_some image none) ∙ law image none) given

@@ -1,0 +1,17 @@
+use Rattle.pd_kinds.proofs.AppendLemmas.{front_from_whole}
+use Rattle.pd_dumps.specs.EraLines.{era_dump_text}
+use Rattle.pd_dumps.proofs.KnownLemmas.{all_begun, all_lost, all_put}
+use Rattle.pd_dumps.proofs.era_lines.put_eras.Goals as goal
+
+pub returns-in-Ok-put-clause-whole : goal.returns-in-Ok-put-clause-whole
+returns-in-Ok-put-clause-whole g c = all_put (rw c.new-pieces.ensures.none at c.in-Ok.ensures.lines) c.in-Ok-put.ensures.whole
+
+pub returns-in-Ok-put-clause-front : goal.returns-in-Ok-put-clause-front
+returns-in-Ok-put-clause-front g c =
+    front_from_whole (era_dump_text c.args.s.now c.args.eras.now) _ _ (all_put (rw c.new-pieces.ensures.none at c.in-Ok.ensures.lines) c.in-Ok-put.ensures.whole)
+
+pub returns-in-Err-put-clause-front : goal.returns-in-Err-put-clause-front
+returns-in-Err-put-clause-front g c = all_lost (rw c.new-pieces.ensures.none at c.in-Ok.ensures.lines) c.in-Err-put.ensures.front
+
+pub returns-in-Err-clause-front : goal.returns-in-Err-clause-front
+returns-in-Err-clause-front g c = all_begun (rw c.new-pieces.ensures.none at c.in-Err.ensures.lines)

@@ -1,0 +1,74 @@
+//! The dump of an era target.
+
+use crate::era_lines::put_eras;
+use crate::eras_given::eras_of;
+use crate::laws::given_era_lines_are_the_text;
+use crate::supers::read_era;
+use pd_image::{Device, Sink};
+use pd_kinds::EraSuper;
+use pd_query::QueryFault;
+use std::alloc::Global;
+
+/// The dump of an era target, with the era of each block.
+#[derive(Drop)]
+pub struct EraDump {
+    s: EraSuper,
+    /// The eras; none where a root is outside of the device.
+    eras: Vec<u32>,
+    ghost few: { length eras.items < 2 ^ 32 },
+}
+
+ghost use Rattle.std.specs.Prelude.{◌<◌, ◌^◌, length};
+
+impl EraDump {
+    ghost use Rattle.std.specs.Prelude.{◌≡◌, ◌≤◌, [], IfOk, IfSome, OnOk, length};
+    ghost use Rattle.pd_kinds.specs.declared.kind.Kind.TheVariants.{Era};
+    ghost use Rattle.pd_kinds.specs.declared.kind.Stage.TheVariants.{Whole};
+    ghost use Rattle.pd_kinds.specs.EraFormat.{era_fields};
+    ghost use Rattle.pd_kinds.specs.Graph.{block_at};
+    ghost use Rattle.pd_kinds.specs.Meaning.{era_meaning};
+    ghost use Rattle.pd_kinds.specs.Objects.{Appends, AppendsFront};
+    ghost use Rattle.pd_kinds.specs.Stages.{faults};
+    ghost use Rattle.pd_image.specs.Device.{IsAttached, OnlyReads};
+    ghost use Rattle.pd_image.specs.Sink.{KeepsSink};
+    ghost use Rattle.pd_spells.specs.EraText.{text_of_era};
+    ghost use Rattle.pd_query.specs.Failing.{SinkFails, StartFails};
+    ghost use Rattle.pd_dumps.specs.EraDump.{text_left};
+    ghost use Rattle.pd_dumps.specs.EraGiven.{given_eras};
+    ghost use Rattle.pd_dumps.specs.EraLines.{era_dump_text};
+
+    /// Reads the superblock of an era target, and the era of each block, in four bytes a block.
+    ///
+    /// Fails with `Device` where a read failed, and with `Memory` where memory wasn't found.
+    pub fn start<D: Device>(alloc: Global, dev: &mut D) -> Result<EraDump, QueryFault>
+        requires { IsAttached (D.state dev.old) }
+        ensures text { IfOk result (λ dump. IfSome (D.state dev.old).held (λ image. 1 ≤ length image
+            → text_left dump ≡ era_dump_text (era_fields (block_at image 0)) (given_eras image (era_fields (block_at image 0))))) }
+        ensures means { IfOk result (λ dump. IfSome (D.state dev.old).held (λ image. faults Era Whole image ≡ [] → text_left dump ≡ text_of_era (era_meaning image))) }
+        ensures kept { OnlyReads (D.state dev.old) (D.state dev.new) }
+        ensures faults { StartFails result (D.state dev.old).faults (D.state dev.new).faults }
+    {
+        given_era_lines_are_the_text();
+        let s = match read_era(dev) {
+            Ok(s) => s,
+            Err(_) => return Err(QueryFault::Device),
+        };
+        match eras_of(alloc, dev, &s) {
+            Ok(eras) => Ok(EraDump { s, eras }),
+            Err(fault) => Err(fault),
+        }
+    }
+
+    /// Puts the target's text. It takes no memory.
+    ///
+    /// Fails with `Sink` where `out` did; then a front of the text was put.
+    pub fn put<K: Sink>(&self, out: &mut K) -> Result<(), QueryFault>
+        requires { (K.state out.old).access ≡ 1 }
+        ensures whole { OnOk result (Appends (text_left self.now) (K.state out.old).written (K.state out.new).written) }
+        ensures front { AppendsFront (text_left self.now) (K.state out.old).written (K.state out.new).written }
+        ensures sink { KeepsSink (K.state out.old) (K.state out.new) }
+        ensures faults { SinkFails result (K.state out.old).faults (K.state out.new).faults }
+    {
+        put_eras(&self.s, self.eras.as_slice(), out)
+    }
+}

@@ -1,0 +1,46 @@
+//! What was written since an era.
+
+ghost use Rattle.std.specs.Prelude.{◌≡◌};
+ghost use Rattle.pd_image.specs.Device.{IsAttached, OnlyReads};
+ghost use Rattle.pd_image.specs.Sink.{KeepsSink};
+ghost use Rattle.pd_answers.specs.QueryLines.{since_lines};
+ghost use Rattle.pd_query.specs.Adds.{PutsText};
+ghost use Rattle.pd_dumps.specs.EraGiven.{given_eras};
+ghost use Rattle.pd_dumps.specs.Known.{Ends};
+ghost use Rattle.pd_dumps.specs.SinceLines.{PutsLines, since_text};
+
+use crate::eras_given::eras_of;
+use crate::laws::given_eras_are_the_eras;
+use crate::since_lines::put_since;
+use pd_image::{Device, Sink};
+use pd_kinds::EraSuper;
+use pd_query::QueryFault;
+use std::alloc::Global;
+
+/// Puts a line for each longest run of blocks whose era is the given one or a later one, by ascending block, of the era
+/// target with this superblock. It holds the era of each block, in four bytes.
+///
+/// Fails with `Device` where a read failed, with `Memory` where memory wasn't found, and with `Sink` where `out` failed;
+/// then a front of the lines was put. Nothing is put before all eras were read.
+pub fn written_since<D: Device, K: Sink>(
+    alloc: Global,
+    dev: &mut D,
+    s: &EraSuper,
+    era: u32,
+    out: &mut K,
+) -> Result<(), QueryFault>
+    requires dev { IsAttached (D.state dev.old) }
+    requires out { (K.state out.old).access ≡ 1 }
+    ensures text { PutsText (D.state dev.old).held (λ image. since_text era (given_eras image s.now)) result (K.state out.old).written (K.state out.new).written }
+    ensures lines { PutsLines (since_lines era) s.now result (D.state dev.old).held (K.state out.old).written (K.state out.new).written }
+    ensures kept { OnlyReads (D.state dev.old) (D.state dev.new) }
+    ensures sink { KeepsSink (K.state out.old) (K.state out.new) }
+    ensures faults { Ends result (D.state dev.old).faults (D.state dev.new).faults (K.state out.old).faults (K.state out.new).faults }
+{
+    given_eras_are_the_eras();
+    let eras = match eras_of(alloc, dev, s) {
+        Ok(eras) => eras,
+        Err(fault) => return Err(fault),
+    };
+    put_since(era, eras.as_slice(), out)
+}

@@ -1,0 +1,134 @@
+//! Era targets in memory, put together from written blocks, and tools over them.
+
+ghost use Rattle.std.specs.Prelude.{◌≡◌, IfOk, length};
+
+use pd_array::{Word, write_array};
+use pd_kinds::{Block, EraSuper, SmRoot};
+use pd_node::write_leaf;
+use pd_samples::pool::{bitmap, empty_leaf, index, index_entry};
+use pd_samples::runs::{Failing, Held, NOTHING_FAILS, Ran, blocks_of, run, run_over};
+use pd_supers::write_era_super;
+use pd_value::{Count, Root, Writeset};
+use std::alloc::{AllocError, Global};
+use std::process::Abort;
+
+/// A hundred blocks, of which block 64 was written in the current era, and block 3 in the eras 3 and 5.
+pub(crate) const WRITTEN: &str =
+    "era 1\nera 00000000-0000-0000-0000-000000000000 128 100 9\nrun 0 3 0\nrun 3 1 5\nrun 4 60 0\nrun 64 1 9\nrun 65 35 0\nend\n";
+
+/// No block.
+pub(crate) const EMPTY: &str = "era 1\nera 00000000-0000-0000-0000-000000000000 128 0 1\nend\n";
+
+/// The superblock of those blocks, whose writesets have trees of their own.
+pub(crate) const SUPER: EraSuper = EraSuper {
+    flags: 0,
+    uuid: [0; 16],
+    version: 1,
+    meta_map: SmRoot {
+        blocks: 16,
+        allocated: 13,
+        bitmap_root: 4,
+        overflow_root: 6,
+    },
+    block_size: 128,
+    meta_block_size: 8,
+    blocks: 100,
+    era: 9,
+    current_bits: 100,
+    current_root: 11,
+    writesets_root: 3,
+    array_root: 2,
+    snap_root: 0,
+};
+
+/// A writeset of a hundred blocks with this root.
+pub(crate) fn writeset(root: u64) -> Writeset {
+    Writeset { bits: 100, root }
+}
+
+/// The sixteen blocks of that target, of which thirteen are used: the era array's words are 0, and there are two archived
+/// writesets and the current one.
+#[tactic(auto, unfolding(pd_kinds::specs::Node::is_ascending))]
+pub(crate) fn written_target() -> [Block; 16] {
+    let mut image = [Block::zeros(); 16];
+    image[0] = write_era_super(&SUPER);
+    image[1] = write_array(1, Word::Four, &[0; 100]);
+    image[2] = write_leaf(2, &[(0, Root(1))]);
+    image[3] = write_leaf(3, &[(3, writeset(7)), (5, writeset(9))]);
+    image[4] = index(4, &[index_entry(5, 3)]);
+    image[5] = bitmap(5, 13);
+    image[6] = empty_leaf::<Count>(6);
+    image[7] = write_leaf(7, &[(0, Root(8))]);
+    image[8] = write_array(8, Word::Eight, &[8, 0]);
+    image[9] = write_leaf(9, &[(0, Root(10))]);
+    image[10] = write_array(10, Word::Eight, &[8, 0]);
+    image[11] = write_leaf(11, &[(0, Root(12))]);
+    image[12] = write_array(12, Word::Eight, &[0, 1]);
+    image
+}
+
+/// Restores a text over these blocks.
+pub(crate) fn restore(
+    alloc: Global,
+    text: &str,
+    base: &[Block],
+    failing: Failing,
+) -> Result<Ran, AllocError> {
+    let held = Held {
+        text: text.as_bytes(),
+        input: &[],
+        output: base,
+    };
+    run_over(
+        alloc,
+        &["era_restore", "-i", "text", "-o", "image"],
+        held,
+        failing,
+    )
+}
+
+/// The blocks that a text makes of so many blocks of ones.
+pub(crate) fn made(
+    rt: &impl Abort,
+    alloc: Global,
+    text: &str,
+    blocks: usize,
+) -> Result<Vec<Block>, AllocError>
+    ensures { IfOk result (λ image. length image.items ≡ blocks) }
+{
+    let base = vec![in alloc; Block([1; 4096]); blocks]?;
+    let restored = restore(alloc, text, base.as_slice(), NOTHING_FAILS)?;
+    assert_eq!(rt; restored.status, 0, "{text}");
+    assert!(rt; restored.notes.bytes().is_empty());
+    let image = blocks_of(alloc, &restored.output)?;
+    assert_eq!(rt; image.len(), blocks);
+    Ok(image)
+}
+
+/// Runs a tool over an image, where this must be the status and what is put.
+pub(crate) fn expect(
+    rt: &impl Abort,
+    alloc: Global,
+    words: &[&str],
+    image: &[Block],
+    status: u8,
+    text: &str,
+) -> Result<(), AllocError> {
+    let ran = run(alloc, words, image, NOTHING_FAILS)?;
+    assert!(rt; ran.out.bytes() == text.as_bytes(), "{text}");
+    assert_eq!(rt; ran.status, status, "{text}");
+    assert!(rt; ran.notes.bytes().is_empty());
+    assert!(rt; blocks_of(alloc, &ran.input)?.as_slice() == image);
+    Ok(())
+}
+
+/// Checks an image to the end, where this must be the report.
+pub(crate) fn expect_report(
+    rt: &impl Abort,
+    alloc: Global,
+    image: &[Block],
+    report: &str,
+) -> Result<(), AllocError> {
+    let status = if report == "clean\n" { 0 } else { 1 };
+    expect(rt, alloc, &["era_check", "image"], image, status, report)
+}

@@ -1,0 +1,5 @@
+pub mod HeldLemmas
+pub mod TakeLemmas
+pub mod RaiseLemmas
+pub mod SetLemmas
+pub mod SoundEra

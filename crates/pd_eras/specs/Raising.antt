@@ -1,0 +1,24 @@
+-- Eras that are raised where a writeset holds their blocks.
+use Rattle.std.specs.Prelude.{◌≡◌, ℕ, ◌/◌, ◌%◌, ◌<◌, ◌==◌, ◌&&◌, nat_lt, max, Bool, if◌then◌else◌, List, length, slice_index}
+use Rattle.std.specs.Int.{bit_at}
+use Rattle.pd_kinds.specs.Meaning.{is_bit_set}
+
+-- an era that a writeset raises, where it holds the block
+abbrev pub raised : ℕ → Bool → ℕ → ℕ
+raised era held x = max x (if held then era else 0)
+
+-- the eras of the blocks that are held are at least this one, and all others stay
+pub record Raises (era : ℕ) (held : ℕ → Bool) (old new : List ℕ) : Type 0 where
+  pub number : length new ≡ length old
+  pub each : (b : ℕ) → b < length old → slice_index new b ≡ raised era (held b) (slice_index old b)
+
+-- whether the words of a writeset's bits hold a block: a bit counts only below its number of bits
+abbrev pub holds : ℕ → List ℕ → ℕ → Bool
+holds bits words b = nat_lt b bits && is_bit_set words b
+
+-- whether the word with this number does, and whether the words before it do
+abbrev pub holds_in_word : ℕ → ℕ → ℕ → ℕ → Bool
+holds_in_word bits number word b = nat_lt b bits && ((b / 64 == number) && (bit_at word (b % 64) == 1))
+
+abbrev pub holds_before : ℕ → List ℕ → ℕ → ℕ → Bool
+holds_before bits words number b = nat_lt (b / 64) number && holds bits words b

@@ -1,0 +1,75 @@
+-- Entries of a cache at blocks that ascend, of which no two have one origin.
+use Rattle.std.proofs.Common.{◌≡◌, inl, inr, ℕ, zero, suc, ◌+◌, ◌^◌, ◌<◌, ◌≤◌, Bool, false, nat_eq, List, [], ◌∷◌, length, get_or, drop, map, filter, refl, sym, ap, ap₂, ◌∙◌, arith}
+use Rattle.std.specs.List.{AllByRecursion, list_any, range_with_len}
+use Rattle.std.proofs.lemmas.Bool.{cases_Bool, eqb-false, ne_eqb, or_parts}
+use Rattle.pd_kinds.specs.Meaning.{cache_entry}
+use Rattle.pd_kinds.specs.Whole.{has_repeat, is_valid_word, origin_of_word}
+use Rattle.pd_spells.specs.Lawful.{AreEntries}
+use Rattle.pd_cached.proofs.EntryLemmas.{drop_next, first_left}
+
+-- numbers that ascend, from the least one on and below an end
+abbrev pub DoAscend : ℕ → ℕ → List ℕ → Type 0
+DoAscend end least [] = Unit {0}
+DoAscend end least (i ∷ is) = (least ≤ i) × ((i < end) × DoAscend end (i + 1) is)
+
+pub filter_ascends : (p : ℕ → Bool) (end least a n : ℕ) → least ≤ a → a + n ≤ end → DoAscend end least (filter p (range_with_len a n))
+filter_ascends p end least a zero from to = tt
+filter_ascends p end least a (suc n) from to = elim (cases_Bool (p a)) [
+  | inl is ↦ rw is (from, (omega arith, filter_ascends p end (a + 1) (a + 1) n (omega arith) (omega arith)))
+  | inr other ↦ rw other (filter_ascends p end least (a + 1) n (omega arith) (omega arith))
+]
+
+-- the origin of a block, and whether it is valid
+abbrev pub origin_at : List ℕ → ℕ → ℕ
+origin_at all i = origin_of_word (get_or all i 0)
+
+abbrev pub is_valid_at : List ℕ → ℕ → Bool
+is_valid_at all i = is_valid_word (get_or all i 0)
+
+-- the origins of the valid words are those of the valid blocks
+pub origins_are : (all words : List ℕ) (i : ℕ) → words ≡ drop i all
+    → map origin_of_word (filter is_valid_word words) ≡ map (origin_at all) (filter (is_valid_at all) (range_with_len i (length words)))
+origins_are all [] i is = refl
+origins_are all (word ∷ words) i is =
+    let here : word ≡ get_or all i 0 = ap (λ (xs : List ℕ). get_or xs 0 0) is ∙ first_left i all in
+    let rest : words ≡ drop (suc i) all = ap (drop 1) is ∙ drop_next i all in
+    let one_more : suc i ≡ i + 1 = omega arith in
+    let later =
+    origins_are all words (suc i) rest
+    ∙ ap (λ (j : ℕ). map (origin_at all) (filter (is_valid_at all) (range_with_len j (length words)))) one_more in
+    rw (← here) (elim (cases_Bool (is_valid_word word)) [
+      | inl valid ↦ rw valid (ap₂ (λ (x : ℕ) (xs : List ℕ). x ∷ xs) (ap origin_of_word here) later)
+      | inr other ↦ rw other later
+    ])
+
+-- a number isn't among these origins
+abbrev pub IsNew : List ℕ → ℕ → Type 0
+IsNew earlier origin = list_any (λ o. nat_eq o origin) earlier ≡ false
+
+module _ (blocks hint_size version : ℕ) (words hints bits : List ℕ)
+    (origin_fits : (i : ℕ) → origin_at words i < 2 ^ 48) (hint_fits : (i : ℕ) → get_or hints i 0 < 2 ^ 32) (no_hint : hint_size ≡ 0 → (i : ℕ) → get_or hints i 0 ≡ 0) where
+  -- an origin that doesn't come again stays new
+  still_new : (i : ℕ) (earlier is : List ℕ) → list_any (λ o. nat_eq o (origin_at words i)) (map (origin_at words) is) ≡ false
+      → AllByRecursion (λ j. IsNew earlier (origin_at words j)) is → AllByRecursion (λ j. IsNew (origin_at words i ∷ earlier) (origin_at words j)) is
+  still_new i earlier [] none new = tt
+  still_new i earlier (j ∷ js) none new =
+      let parts = or_parts (nat_eq (origin_at words j) (origin_at words i)) (list_any (λ o. nat_eq o (origin_at words i)) (map (origin_at words) js)) none in
+      let apart : nat_eq (origin_at words i) (origin_at words j) ≡ false = ne_eqb (origin_at words i) (origin_at words j) (λ same. eqb-false (origin_at words j) (origin_at words i) parts.0 (sym same)) in
+      (rw apart new.0, still_new i earlier js parts.1 new.1)
+
+  pub entries_lawful : (is : List ℕ) (least : ℕ) (earlier : List ℕ) → DoAscend blocks least is → has_repeat (map (origin_at words) is) ≡ false
+      → AllByRecursion (λ i. IsNew earlier (origin_at words i)) is → AreEntries blocks hint_size least earlier (map (cache_entry version words hints bits) is)
+  unfolding has_repeat
+  entries_lawful [] least earlier ascend single new = tt
+  entries_lawful (i ∷ is) least earlier ascend single new =
+      let parts = or_parts (list_any (λ o. nat_eq o (origin_at words i)) (map (origin_at words) is)) (has_repeat (map (origin_at words) is)) single in (
+        record {
+          above = ascend.0;
+          within = ascend.1.0;
+          origin_fits = origin_fits i;
+          hint_fits = hint_fits i;
+          no_hint = λ none. no_hint none i;
+          new = new.0;
+        },
+        entries_lawful is (i + 1) (origin_at words i ∷ earlier) ascend.1.1 parts.1 (still_new i earlier is parts.0 new.1),
+      )

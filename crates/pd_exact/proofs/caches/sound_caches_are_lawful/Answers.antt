@@ -1,0 +1,6 @@
+use Rattle.pd_kinds.specs.declared.kind.Stage.TheVariants.{Whole}
+use Rattle.pd_exact.proofs.CacheLawful.{cache_lawful}
+use Rattle.pd_exact.proofs.caches.sound_caches_are_lawful.Goals as goal
+
+pub returns : goal.returns
+returns c = λ image bytes whole none. cache_lawful image bytes none (c.superblocks_lead_to_reached_roots.ensures.cache Whole image tt none) whole

@@ -1,0 +1,6 @@
+pub mod Filling
+pub mod TextLemmas
+pub mod ThriceLemmas
+pub mod NeedLemmas
+pub mod MadeLemmas
+pub mod SuperLemmas

@@ -1,0 +1,13 @@
+//! The repair of a thin pool: what can be saved of one image is written to another device.
+#![tactic(auto)]
+
+mod fault;
+mod lines;
+mod need;
+mod place;
+mod repair;
+mod source;
+mod thrice;
+
+pub use fault::RepairFault;
+pub use repair::{repair_from, repair_thin};

@@ -1,0 +1,159 @@
+//! A repair.
+
+ghost use Rattle.std.specs.Prelude.{◌≡◌, ◌+◌, ◌≤◌, ◌^◌, IfErr, IfSome};
+ghost use Rattle.pd_image.specs.Device.{IsAttached, IsWritable, KeepsPlace, OnlyReads};
+ghost use Rattle.pd_kinds.specs.Limits.{room_of};
+ghost use Rattle.pd_salvage.specs.Saved.{pool_of};
+ghost use Rattle.pd_spells.specs.ThinNeed.{thin_need};
+ghost use Rattle.pd_repair.specs.Repaired.{CountsRepair, HasSuper, IsFirst, IsMadeOf, IsRepaired, IsRepairedFrom, NamesRules, ReadsFew};
+
+use crate::fault::RepairFault;
+use crate::need::need_of_saved;
+use crate::source::SalvageSource;
+use pd_image::Device;
+use pd_kinds::{Block, MAX_META_BLOCKS, ThinSuper};
+use pd_restore::restore_thin;
+use pd_restoring::RestoreFault;
+use pd_salvage::{Salvage, SalvageFault, salvage};
+use pd_spells::{thin_text_has_one_verdict, thin_text_is_accepted_where_there_is_room};
+use pd_supers::{missing_super, read_thin_super, thin_super_rules};
+use std::alloc::Global;
+
+/// Writes what can be saved of a pool to another device.
+///
+/// Fails with `RepairFault::NoSuper` exactly where the superblock of the input breaks rules, and names these; else as
+/// `repair_from`.
+pub fn repair_thin<A: Device, B: Device>(
+    alloc: Global,
+    input: &mut A,
+    output: &mut B,
+) -> Result<(), RepairFault>
+    requires attached { IsAttached (A.state input.old) }
+    requires writable { IsWritable (B.state output.old) }
+    ensures repaired { IsRepaired result (A.state input.old) (B.state output.old) (B.state output.new) }
+    ensures named { IfErr result NamesRules }
+    ensures reads { IfErr result (λ fault. ReadsFew fault ((A.state input.old).reads + 1) (A.state input.new).reads) }
+    ensures input { OnlyReads (A.state input.old) (A.state input.new) }
+    ensures place { KeepsPlace (B.state output.old) (B.state output.new) }
+    ensures causes { CountsRepair result (A.state input.old).faults (A.state input.new).faults (B.state output.old).faults (B.state output.new).faults }
+{
+    let blocks = input.blocks();
+    if blocks == 0 {
+        return Err(RepairFault::NoSuper(missing_super()));
+    }
+    let mut first = Block::zeros();
+    match input.read(0, &mut first) {
+        Ok(()) => repair_read(alloc, input, output, &first, blocks),
+        Err(_) => Err(RepairFault::Input),
+    }
+}
+
+/// The rest of a repair, where block 0 of so many blocks was read.
+fn repair_read<A: Device, B: Device>(
+    alloc: Global,
+    input: &mut A,
+    output: &mut B,
+    first: &Block,
+    blocks: u64,
+) -> Result<(), RepairFault>
+    requires attached { IsAttached (A.state input.old) }
+    requires number { blocks ≡ (A.state input.old).blocks }
+    requires first { IfSome (A.state input.old).held (IsFirst blocks first.now.0) }
+    requires writable { IsWritable (B.state output.old) }
+    ensures repaired { IsRepaired result (A.state input.old) (B.state output.old) (B.state output.new) }
+    ensures named { IfErr result NamesRules }
+    ensures reads { IfErr result (λ fault. ReadsFew fault (A.state input.old).reads (A.state input.new).reads) }
+    ensures input { OnlyReads (A.state input.old) (A.state input.new) }
+    ensures place { KeepsPlace (B.state output.old) (B.state output.new) }
+    ensures causes { CountsRepair result (A.state input.old).faults (A.state input.new).faults (B.state output.old).faults (B.state output.new).faults }
+{
+    let rules = thin_super_rules(first, blocks);
+    if rules.is_empty() {
+        repair_from(alloc, input, output, &read_thin_super(first))
+    } else {
+        Err(RepairFault::NoSuper(rules))
+    }
+}
+
+/// Writes what can be saved of the pool with this superblock to another device.
+///
+/// The input is only read. The room is looked at before the output is written, of which at most 4161600 blocks are used.
+/// It takes the memory of what is saved, that of counts of the data blocks, and then that of a restore.
+///
+/// Fails with `RepairFault::NoRoom` where what was saved needs more blocks than there are, with `RepairFault::Memory`
+/// where memory wasn't found, or the need isn't below 2^64 - 1, and with `RepairFault::Input` or `RepairFault::Output`
+/// where that device failed. After any fault but these of the output and of memory the output is as it was.
+pub fn repair_from<A: Device, B: Device>(
+    alloc: Global,
+    input: &mut A,
+    output: &mut B,
+    s: &ThinSuper,
+) -> Result<(), RepairFault>
+    requires attached { IsAttached (A.state input.old) }
+    requires writable { IsWritable (B.state output.old) }
+    requires some { 1 ≤ s.now.meta_map.blocks }
+    requires there { s.now.meta_map.blocks ≤ (A.state input.old).blocks }
+    requires few { s.now.meta_map.blocks ≤ 4161600 }
+    requires data { s.now.data_map.blocks ≤ 2 ^ 40 }
+    ensures repaired { IsRepairedFrom s.now result (A.state input.old) (B.state output.old) (B.state output.new) }
+    ensures sound { HasSuper result }
+    ensures input { OnlyReads (A.state input.old) (A.state input.new) }
+    ensures place { KeepsPlace (B.state output.old) (B.state output.new) }
+    ensures causes { CountsRepair result (A.state input.old).faults (A.state input.new).faults (B.state output.old).faults (B.state output.new).faults }
+{
+    match salvage(alloc, input, s) {
+        Ok(saved) => write_saved(alloc, saved, output),
+        Err(fault) => match fault {
+            SalvageFault::Memory => Err(RepairFault::Memory),
+            SalvageFault::Device => Err(RepairFault::Input),
+        },
+    }
+}
+
+/// Writes a saved pool, where there is room.
+fn write_saved<B: Device>(alloc: Global, saved: Salvage, output: &mut B) -> Result<(), RepairFault>
+    requires writable { IsWritable (B.state output.old) }
+    ensures made { IsMadeOf (pool_of saved) result (B.state output.old) (B.state output.new) }
+    ensures sound { HasSuper result }
+    ensures place { KeepsPlace (B.state output.old) (B.state output.new) }
+    ensures causes { CountsRepair result 0 0 (B.state output.old).faults (B.state output.new).faults }
+{
+    let room = output.blocks().min(MAX_META_BLOCKS);
+    let Some(need) = need_of_saved(alloc, &saved, room) else {
+        return Err(RepairFault::Memory);
+    };
+    if need > room {
+        return Err(RepairFault::NoRoom { need, blocks: room });
+    }
+    restore_saved(alloc, saved, output)
+}
+
+/// Writes a saved pool for which there is room.
+fn restore_saved<B: Device>(
+    alloc: Global,
+    saved: Salvage,
+    output: &mut B,
+) -> Result<(), RepairFault>
+    requires writable { IsWritable (B.state output.old) }
+    requires room { thin_need (pool_of saved) (room_of (B.state output.old).blocks) ≤ room_of (B.state output.old).blocks }
+    ensures made { IsMadeOf (pool_of saved) result (B.state output.old) (B.state output.new) }
+    ensures sound { HasSuper result }
+    ensures place { KeepsPlace (B.state output.old) (B.state output.new) }
+    ensures causes { CountsRepair result 0 0 (B.state output.old).faults (B.state output.new).faults }
+{
+    thin_text_is_accepted_where_there_is_room();
+    thin_text_has_one_verdict();
+    // What was saved is a lawful pool.
+    let _ = saved.head();
+    let mut source = SalvageSource::new(saved);
+    match restore_thin(alloc, &mut source, output) {
+        Ok(()) => Ok(()),
+        Err(fault) => match fault {
+            RestoreFault::Memory => Err(RepairFault::Memory),
+            RestoreFault::Device => Err(RepairFault::Output),
+            RestoreFault::Source => unreachable!(),
+            RestoreFault::Text(_) => unreachable!(),
+            RestoreFault::NoRoom { .. } => unreachable!(),
+        },
+    }
+}

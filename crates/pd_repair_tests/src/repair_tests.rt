@@ -1,0 +1,239 @@
+//! Repairs of damaged pools: what is kept, what is refused, and what the output holds then.
+
+ghost use Rattle.std.specs.Prelude.{◌≡◌, IfOk, length};
+
+use pd_image::Pick;
+use pd_kinds::Block;
+use pd_node::write_inner;
+use pd_samples::pool::{damaged, device_leaf, inner, pool_of_one_mapping};
+use pd_samples::runs::{
+    Failing, Held, NOTHING_FAILS, Ran, blocks_after_crash, blocks_of, restore, run, run_over,
+};
+use std::alloc::{AllocError, Global};
+use std::process::Abort;
+use std::test::Fail;
+
+/// A device with one mapping, whose transaction isn't the pool's.
+const ONE: &str =
+    "thin 1\npool 00000000-0000-0000-0000-000000000000 0 7 128 1\ndevice 1 1 3 0 0\nmap 0 0 1 0\nend\n";
+
+/// A device whose mappings stand in three leaves.
+const THREE_LEAVES: &str =
+    "thin 1\npool 00000000-0000-0000-0000-000000000000 0 0 128 600\ndevice 1 600 0 0 0\nmap 0 0 600 0\nend\n";
+
+/// The blocks of the pool that a text makes of so many blocks.
+fn pool_of(
+    rt: &impl Abort,
+    alloc: Global,
+    text: &str,
+    blocks: usize,
+) -> Result<Vec<Block>, AllocError>
+    ensures { IfOk result (λ image. length image.items ≡ blocks) }
+{
+    let base = vec![in alloc; Block::zeros(); blocks]?;
+    let made = restore(alloc, text.as_bytes(), base.as_slice(), NOTHING_FAILS)?;
+    assert_eq!(rt; made.status, 0, "{text}");
+    let image = blocks_of(alloc, &made.output)?;
+    assert_eq!(rt; image.len(), blocks);
+    Ok(image)
+}
+
+/// Repairs an image onto these blocks.
+fn repair(
+    alloc: Global,
+    image: &[Block],
+    base: &[Block],
+    failing: Failing,
+) -> Result<Ran, AllocError> {
+    let held = Held {
+        text: b"",
+        input: image,
+        output: base,
+    };
+    run_over(
+        alloc,
+        &["thin_repair", "-i", "image", "-o", "repaired"],
+        held,
+        failing,
+    )
+}
+
+/// Repairs an image onto sixteen blocks of ones, where this must be the text of the pool that is made.
+fn expect_saved(
+    rt: &impl Abort,
+    alloc: Global,
+    image: &[Block],
+    text: &str,
+) -> Result<(), AllocError> {
+    let repaired = repair(alloc, image, &[Block([1; 4096]); 16], NOTHING_FAILS)?;
+    assert_eq!(rt; repaired.status, 0, "{text}");
+    assert!(rt; repaired.notes.bytes().is_empty());
+    assert!(rt; blocks_of(alloc, &repaired.input)?.as_slice() == image);
+    let made = blocks_of(alloc, &repaired.output)?;
+    let made = made.as_slice();
+    let checked = run(alloc, &["thin_check", "image"], made, NOTHING_FAILS)?;
+    assert!(rt; checked.out.bytes() == b"clean\n".as_slice(), "{text}");
+    let dumped = run(alloc, &["thin_dump", "image"], made, NOTHING_FAILS)?;
+    assert!(rt; dumped.out.bytes() == text.as_bytes(), "{text}");
+    Ok(())
+}
+
+#[test]
+fn sound_pools_are_kept_whole(rt: HostRuntime) -> Result<(), Fail> {
+    for text in [ONE, THREE_LEAVES] {
+        let image = pool_of(&rt, rt.alloc(), text, 16)?;
+        expect_saved(&rt, rt.alloc(), image.as_slice(), text)?;
+    }
+    Ok(())
+}
+
+#[test]
+fn a_device_without_details_has_the_transaction_of_its_pool(rt: HostRuntime) -> Result<(), Fail> {
+    let mut image = pool_of(&rt, rt.alloc(), ONE, 16)?;
+    image[3] = damaged(image[3], 100);
+    let text =
+        "thin 1\npool 00000000-0000-0000-0000-000000000000 0 7 128 1\ndevice 1 1 7 0 0\nmap 0 0 1 0\nend\n";
+    expect_saved(&rt, rt.alloc(), image.as_slice(), text)?;
+    Ok(())
+}
+
+#[test]
+fn nothing_is_kept_below_a_damaged_mapping_tree(rt: HostRuntime) -> Result<(), Fail> {
+    let mut image = pool_of(&rt, rt.alloc(), ONE, 16)?;
+    image[2] = damaged(image[2], 100);
+    let text = "thin 1\npool 00000000-0000-0000-0000-000000000000 0 7 128 1\nend\n";
+    expect_saved(&rt, rt.alloc(), image.as_slice(), text)?;
+    Ok(())
+}
+
+#[test]
+fn the_other_leaves_of_a_device_are_kept(rt: HostRuntime) -> Result<(), Fail> {
+    let mut image = pool_of(&rt, rt.alloc(), THREE_LEAVES, 16)?;
+    image[2] = damaged(image[2], 100);
+    let text =
+        "thin 1\npool 00000000-0000-0000-0000-000000000000 0 0 128 600\ndevice 1 400 0 0 0\nmap 0 0 200 0\nmap 400 400 200 0\nend\n";
+    expect_saved(&rt, rt.alloc(), image.as_slice(), text)?;
+    // The need is looked at before anything is written.
+    let base = [Block([1; 4096]); 11];
+    let refused = repair(rt.alloc(), image.as_slice(), &base, NOTHING_FAILS)?;
+    assert_eq!(rt; refused.status, 4);
+    assert_eq!(rt;
+        refused.notes.bytes(),
+        b"pdata_tools: no room: need 12, blocks 11\n".as_slice()
+    );
+    assert!(rt; blocks_of(rt.alloc(), &refused.output)?.as_slice() == base.as_slice());
+    Ok(())
+}
+
+#[test]
+fn a_superblock_with_faults_is_reported(rt: HostRuntime) -> Result<(), Fail> {
+    let mut image = pool_of(&rt, rt.alloc(), THREE_LEAVES, 16)?;
+    image[0] = damaged(image[0], 100);
+    let base = [Block([1; 4096]); 16];
+    let refused = repair(rt.alloc(), image.as_slice(), &base, NOTHING_FAILS)?;
+    assert_eq!(rt; refused.status, 1);
+    assert_eq!(rt;
+        refused.notes.bytes(),
+        b"fault meta 0 checksum\nfaults 1\n".as_slice()
+    );
+    assert!(rt; blocks_of(rt.alloc(), &refused.output)?.as_slice() == base.as_slice());
+    let none = repair(rt.alloc(), &[], &base, NOTHING_FAILS)?;
+    assert_eq!(rt; none.status, 1);
+    assert_eq!(rt;
+        none.notes.bytes(),
+        b"fault meta 0 size\nfaults 1\n".as_slice()
+    );
+    Ok(())
+}
+
+/// The pool of a device without mappings.
+const NO_MAPPING: &str =
+    "thin 1\npool 00000000-0000-0000-0000-000000000000 0 0 128 1\ndevice 1 0 0 0 0\nend\n";
+
+/// The pool of one mapping.
+const ONE_MAPPING: &str =
+    "thin 1\npool 00000000-0000-0000-0000-000000000000 0 0 128 1\ndevice 1 1 0 0 0\nmap 0 0 1 0\nend\n";
+
+#[test]
+#[tactic(auto, unfolding(pd_kinds::specs::Node::is_ascending))]
+fn a_node_below_itself_gives_nothing(rt: HostRuntime) -> Result<(), Fail> {
+    let mut image = pool_of_one_mapping();
+    image[2] = device_leaf(2, 10);
+    image[10] = write_inner(10, &[(0, 10), (5, 10)]);
+    expect_saved(&rt, rt.alloc(), &image, NO_MAPPING)?;
+    Ok(())
+}
+
+#[test]
+fn paths_of_64_nodes_are_followed_and_no_longer_ones(rt: HostRuntime) -> Result<(), Fail> {
+    // 63 inner nodes above the leaf, each with one child, in blocks of their own behind the pool's.
+    let small =
+        "thin 1\npool 00000000-0000-0000-0000-000000000000 0 0 128 1\ndevice 1 1 0 0 0\nmap 0 0 1 0\nend\n";
+    let mut image = pool_of(&rt, rt.alloc(), small, 128)?;
+    for b in 20..82 {
+        image[b] = inner(b as u64, b as u64 + 1);
+    }
+    image[82] = inner(82, 1);
+    image[19] = inner(19, 20);
+    image[2] = device_leaf(2, 20);
+    expect_saved(&rt, rt.alloc(), image.as_slice(), ONE_MAPPING)?;
+    image[2] = device_leaf(2, 19);
+    expect_saved(&rt, rt.alloc(), image.as_slice(), NO_MAPPING)?;
+    Ok(())
+}
+
+/// How many calls of a device a repair makes at most.
+const MANY: u64 = 100;
+
+#[test]
+fn each_call_of_the_input_may_fail(rt: HostRuntime) -> Result<(), Fail> {
+    let image = pool_of(&rt, rt.alloc(), THREE_LEAVES, 16)?;
+    let base = [Block([1; 4096]); 16];
+    for call in 0..MANY {
+        let failing = Failing {
+            input: Some(call),
+            ..NOTHING_FAILS
+        };
+        let ran = repair(rt.alloc(), image.as_slice(), &base, failing)?;
+        if ran.status == 0 {
+            assert!(rt; call > 6);
+            return Ok(());
+        }
+        assert_eq!(rt; ran.status, 5, "{call}");
+        assert!(rt;
+            blocks_of(rt.alloc(), &ran.output)?.as_slice() == base.as_slice(),
+            "{call}"
+        );
+    }
+    assert!(rt; false, "no end");
+    Ok(())
+}
+
+#[test]
+fn each_call_of_the_output_may_fail(rt: HostRuntime) -> Result<(), Fail> {
+    let image = pool_of(&rt, rt.alloc(), THREE_LEAVES, 16)?;
+    let base = [Block([1; 4096]); 16];
+    let made = repair(rt.alloc(), image.as_slice(), &base, NOTHING_FAILS)?;
+    let new = blocks_of(rt.alloc(), &made.output)?;
+    for call in 0..MANY {
+        let failing = Failing {
+            output: Some(call),
+            ..NOTHING_FAILS
+        };
+        let ran = repair(rt.alloc(), image.as_slice(), &base, failing)?;
+        if ran.status == 0 {
+            assert!(rt; call > 14);
+            return Ok(());
+        }
+        assert_eq!(rt; ran.status, 5, "{call}");
+        for pick in [Pick::Old, Pick::New, Pick::Other(0)] {
+            let found = blocks_after_crash(rt.alloc(), &ran.output, pick)?;
+            let found = found.as_slice();
+            let is_closed = found.first() == Some(&Block::zeros());
+            let may_be = is_closed || found == base.as_slice() || found == new.as_slice();
+            assert!(rt; may_be, "{call}");
+        }
+    }
+    assert!(rt; false, "no end");
+    Ok(())
+}

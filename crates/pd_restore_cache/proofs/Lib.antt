@@ -1,0 +1,9 @@
+pub mod RowLemmas
+pub mod WordLemmas
+pub mod GatherLemmas
+pub mod LineLemmas
+pub mod PartLemmas
+pub mod NeedLemmas
+pub mod BeginLemmas
+pub mod MeaningLemmas
+pub mod WriteLemmas

@@ -1,0 +1,13 @@
+use Rattle.std.proofs.Common.{◌≡◌, ◌*◌, drop}
+use Rattle.pd_draft.specs.Stand.{stand}
+use Rattle.pd_build.specs.Building.{IsFilling}
+use Rattle.pd_restore_cache.specs.Rows.{StandsAt}
+use Rattle.pd_restore_cache.specs.Words.{bytes_of, span, words_of}
+use Rattle.pd_restore_cache.proofs.array.write_words.Given as goal
+
+abbrev pub invariant-loop-i : goal.invariant-loop-i
+invariant-loop-i g l = record {
+  same_reference : l.draft.dev.ghost_name ≡ l.initial.draft.dev.ghost_name;
+  stands : StandsAt l.rows l.at (span l.words * l.i);
+  filling : IsFilling (bytes_of l.words) (words_of l.words l.rows l.count) (drop l.i (words_of l.words l.rows l.count)) l.builder (stand l.initial.draft) (stand l.draft);
+}

@@ -1,0 +1,29 @@
+use Rattle.std.proofs.Common.{false, arith}
+use Rattle.pd_restore_cache.specs.declared.row.Row.{Row}
+use Rattle.pd_restore_cache.proofs.RowLemmas.{found_here, none_here, none_past, small_here, stands_next, stands_past, stands_still}
+use Rattle.pd_restore_cache.proofs.row.next_row.Goals as goal
+
+-- the row of no place
+abbrev none : Row
+none = record { block = 0; dirty = false; hint = 0; origin = 0 }
+
+pub returns-then-row-block-clause-row : goal.returns-then-row-block-clause-row
+returns-then-row-block-clause-row c = found_here c.args.rows.now c.args.at c.args.block c.requires none c.if-at-rows.true c.if-row-block.true
+
+pub returns-then-row-block-clause-next : goal.returns-then-row-block-clause-next
+returns-then-row-block-clause-next c = stands_next c.args.rows.now c.args.at c.args.block c.requires none c.if-at-rows.true c.if-row-block.true
+
+pub returns-then-row-block-clause-fits : goal.returns-then-row-block-clause-fits
+returns-then-row-block-clause-fits c = small_here c.args.rows.now c.args.at c.args.block c.requires none c.if-at-rows.true
+
+pub returns-else-row-block-clause-row : goal.returns-else-row-block-clause-row
+returns-else-row-block-clause-row c = none_here c.args.rows.now c.args.at c.args.block c.requires none c.if-at-rows.true c.if-row-block.false
+
+pub returns-else-row-block-clause-next : goal.returns-else-row-block-clause-next
+returns-else-row-block-clause-next c = stands_still c.args.rows.now c.args.at c.args.block c.requires none c.if-at-rows.true c.if-row-block.false
+
+pub returns-else-at-rows-clause-row : goal.returns-else-at-rows-clause-row
+returns-else-at-rows-clause-row c = none_past c.args.rows.now c.args.at c.args.block c.requires (omega (arith, c.if-at-rows.false))
+
+pub returns-else-at-rows-clause-next : goal.returns-else-at-rows-clause-next
+returns-else-at-rows-clause-next c = stands_past c.args.rows.now c.args.at c.args.block c.requires (omega (arith, c.if-at-rows.false))

@@ -1,0 +1,35 @@
+use Rattle.std.proofs.Common.{◌≡◌, List, length, sym, ◌∙◌, subst}
+use Rattle.pd_draft.specs.Stand.{stand}
+use Rattle.pd_spells.specs.CacheText.{Line, cache_single}
+use Rattle.pd_texts.specs.Reader.{LeavesOf}
+use Rattle.pd_restore_cache.specs.declared.gather.Cache.{Cache}
+use Rattle.pd_restore_cache.specs.Reading.{SaysAfter}
+use Rattle.pd_restore_cache.proofs.MeaningLemmas.{gathered_lawful}
+use Rattle.pd_restore_cache.proofs.WriteLemmas.{gathered_need, none_gathered, says_of, writes_of}
+use Rattle.pd_restore_cache.proofs.write.write_cache.Goals as goal
+
+pub write_gathered-requires-clause-lawful : goal.write_gathered-requires-clause-lawful
+write_gathered-requires-clause-lawful g c =
+    let e = c.in-Ok.ensures.ends in
+    gathered_lawful c.gather_lines.new.gathered
+    (subst (λ (cache : Cache). length cache.versions ≡ 3) (sym (e.cache_is ∙ c.new-gathered.ensures.cache)) c.requires.stands.small.versions) e.all
+
+pub returns-in-Ok-clause-writes : goal.returns-in-Ok-clause-writes
+returns-in-Ok-clause-writes g c =
+    let e = c.in-Ok.ensures.ends in
+    let was = (g.S.Source.state c.args.source.now).left in
+    let left = (g.S.Source.state c.gather_lines.new.source).left in
+    let same = e.cache_is ∙ c.new-gathered.ensures.cache in
+    let lines = none_gathered c.new-gathered.result c.args.begun c.new-gathered.ensures.cache c.new-gathered.ensures.none in
+    writes_of (stand c.args.draft.now) (stand c.write_gathered.new.draft) c.write_gathered.result c.args.begun c.gather_lines.new.gathered c.args.version c.args.room was left
+    (subst (λ (cache : Cache). length cache.versions ≡ 3) (sym same) c.requires.stands.small.versions) e.all (gathered_need c.gather_lines.new.gathered c.args.begun c.args.version c.args.room same c.requires.need) c.requires.most
+    (λ t leaves. e.told t (subst (λ (ls : List Line). LeavesOf cache_single t ls c.args.begun.text was) (sym lines) leaves))
+    c.write_gathered.ensures.super_is c.write_gathered.ensures.wrote
+
+pub returns-clause-says : goal.returns-clause-says
+returns-clause-says g c t leaves =
+    let was = (g.S.Source.state c.args.source.now).left in
+    let lines = none_gathered c.new-gathered.result c.args.begun c.new-gathered.ensures.cache c.new-gathered.ensures.none in
+    says_of c.args.begun.cache c.args.version c.args.room t c.in-Err.fault c.requires.need
+    (subst (λ (cache : Cache). SaysAfter cache t c.in-Err.fault) c.new-gathered.ensures.cache
+    (c.in-Err.ensures.says t (subst (λ (ls : List Line). LeavesOf cache_single t ls c.args.begun.text was) (sym lines) leaves)))

@@ -1,0 +1,75 @@
+//! The lines of a cache's text after the cache line.
+
+ghost use Rattle.std.specs.Prelude.{◌≡◌, ℕ, List, IfOk, IfErr, OnOk, true};
+ghost use Rattle.pd_image.specs.Source.{KeepsSource};
+ghost use Rattle.pd_spells.specs.CacheText.{cache_single};
+ghost use Rattle.pd_texts.specs.Reader.{LeavesOf};
+ghost use Rattle.pd_restoring.specs.Begin.{CountsBegin};
+ghost use Rattle.pd_restore_cache.specs.Gathered.{lines_of};
+ghost use Rattle.pd_restore_cache.specs.Reading.{Reads, CanTake, Takes, IsNotTaken, Steps, Ends, SaysAfter};
+
+use crate::gather::Gathered;
+use crate::row::Row;
+use pd_cache_texts::{CacheLine, CacheText};
+use pd_image::Source;
+use pd_restoring::{RestoreFault, of_read};
+
+/// Gathers the lines of a text after the cache line, up to its end.
+pub(crate) fn gather_lines<S: Source>(
+    text: &mut CacheText,
+    source: &mut S,
+    gathered: &mut Gathered,
+) -> Result<(), RestoreFault>
+    requires attached { (S.state source.old).access ≡ 1 }
+    requires reads { Reads text.old gathered.old }
+    ensures ends { OnOk result (Ends text.old (S.state source.old).left (S.state source.new).left gathered.old gathered.new) }
+    ensures says { (t : List ℕ) → LeavesOf cache_single t (lines_of gathered.old) text.old (S.state source.old).left → IfErr result (SaysAfter gathered.old.cache t) }
+    ensures source { KeepsSource (S.state source.old) (S.state source.new) }
+    ensures faults { CountsBegin result (S.state source.old).faults (S.state source.new).faults }
+{
+    'lines: while step(text, source, gathered)? {}
+    Ok(())
+}
+
+/// Gathers a line, and answers whether it wasn't the last one.
+fn step<S: Source>(
+    text: &mut CacheText,
+    source: &mut S,
+    gathered: &mut Gathered,
+) -> Result<bool, RestoreFault>
+    requires attached { (S.state source.old).access ≡ 1 }
+    requires reads { Reads text.old gathered.old }
+    ensures steps { IfOk result (λ more. Steps more text.old (S.state source.old).left text.new (S.state source.new).left gathered.old gathered.new) }
+    ensures says { (t : List ℕ) → LeavesOf cache_single t (lines_of gathered.old) text.old (S.state source.old).left → IfErr result (SaysAfter gathered.old.cache t) }
+    ensures source { KeepsSource (S.state source.old) (S.state source.new) }
+    ensures faults { CountsBegin result (S.state source.old).faults (S.state source.new).faults }
+{
+    match text.next(source) {
+        Ok(Some(line)) => take(gathered, line),
+        Ok(None) => Ok(false),
+        Err(fault) => Err(of_read(fault)),
+    }
+}
+
+/// Gathers a map line.
+fn take(gathered: &mut Gathered, line: CacheLine) -> Result<bool, RestoreFault>
+    requires take { CanTake gathered.old line }
+    ensures more { IfOk result (λ more. more ≡ true) }
+    ensures takes { IfOk result (λ more. Takes line gathered.old gathered.new) }
+    ensures repeated { IfErr result (IsNotTaken line gathered.old) }
+{
+    match line {
+        CacheLine::Cache { .. } => unreachable!(),
+        CacheLine::Map {
+            block,
+            origin,
+            dirty,
+            hint,
+        } => gathered.add(Row {
+            block,
+            dirty,
+            hint,
+            origin,
+        }),
+    }
+}

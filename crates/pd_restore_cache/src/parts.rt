@@ -1,0 +1,124 @@
+//! The parts of a cache behind its superblock.
+
+ghost use Rattle.std.specs.Prelude.{◌≡◌, ◌+◌, ◌^◌, ◌≤◌, [], if◌then◌else◌, IfOk, OnOk};
+ghost use Rattle.pd_image.specs.Device.{IsWritable};
+ghost use Rattle.pd_draft.specs.Closed.{IsClosed, StaysClosed};
+ghost use Rattle.pd_draft.specs.Placed.{Wrote};
+ghost use Rattle.pd_draft.specs.Stand.{stand};
+ghost use Rattle.pd_spells.specs.Lawful.{IsLawfulCache};
+ghost use Rattle.pd_spells.specs.CacheNeed.{cache_need};
+ghost use Rattle.pd_spells.specs.Need.{need_array, need_tree};
+ghost use Rattle.pd_laid.specs.Array.{array_root};
+ghost use Rattle.pd_laid.specs.Laid.{written_from};
+ghost use Rattle.pd_laid.specs.LaidCache.{laid_cache};
+ghost use Rattle.pd_laid.specs.Tree.{tree_blocks, tree_root};
+ghost use Rattle.pd_build.specs.Array.{array_blocks};
+ghost use Rattle.pd_build.specs.Causes.{CountsBuildFault};
+ghost use Rattle.pd_restore_cache.specs.Meaning.{cache_meaning};
+ghost use Rattle.pd_restore_cache.specs.Parts.{AreParts};
+ghost use Rattle.pd_restore_cache.specs.Rows.{AreRows};
+ghost use Rattle.pd_restore_cache.specs.Words.{bytes_of, words_of};
+
+use crate::array::write_words;
+use crate::gather::Cache;
+use crate::need::dirty_words;
+use crate::row::Row;
+use crate::words::Words;
+use pd_build::{BuildFault, write_tree};
+use pd_draft::Draft;
+use pd_image::Device;
+use pd_kinds::SmRoot;
+use pd_restoring::write_own_map;
+use pd_value::Root;
+use std::alloc::Global;
+
+/// The roots that the superblock of a cache names; 0 is none.
+#[derive(Clone, Copy, Debug, PartialEq, Eq)]
+pub(crate) struct Parts {
+    pub(crate) mapping_root: u64,
+    pub(crate) hint_root: u64,
+    pub(crate) dirty_root: u64,
+    pub(crate) discard_root: u64,
+    pub(crate) meta_map: SmRoot,
+}
+
+/// Writes all blocks of a cache but the superblock, where there are so many blocks for metadata.
+pub(crate) fn write_parts<D: Device>(
+    alloc: Global,
+    draft: &mut Draft<'_, D>,
+    cache: &Cache,
+    rows: &[Row],
+    version: u32,
+    room: u64,
+) -> Result<Parts, BuildFault>
+    requires lawful { IsLawfulCache (cache_meaning cache.now rows.now) }
+    requires place { (stand draft.old).place ≡ 1 }
+    requires need { cache_need version (cache_meaning cache.now rows.now) room ≤ room }
+    requires most { room ≤ 4161600 }
+    requires there { room ≤ (stand draft.old).device.blocks }
+    requires writable { IsWritable (stand draft.old).device }
+    requires closed { IsClosed (stand draft.old).device }
+    ensures same_reference { draft.new.dev.ghost_name ≡ draft.old.dev.ghost_name }
+    ensures wrote { OnOk result (Wrote (written_from 1 (laid_cache (cache_meaning cache.now rows.now) version room).blocks) (stand draft.old) (stand draft.new)) }
+    ensures parts { IfOk result (AreParts (cache_meaning cache.now rows.now) version room) }
+    ensures closed { StaysClosed (stand draft.old).device (stand draft.new).device }
+    ensures faults { CountsBuildFault result (stand draft.old).device.faults (stand draft.new).device.faults }
+{
+    let blocks = cache.blocks as u64;
+    let mapping_root = write_words(alloc, draft, Words::Mapping(version), rows, blocks)?;
+    let hints = cache.hint_size == 4;
+    let hint_root = write_where(hints, alloc, draft, Words::Hints, rows, blocks)?;
+    let words = dirty_words(blocks);
+    let dirty_root = write_where(version == 2, alloc, draft, Words::Dirty, rows, words)?;
+    let discard_root = write_none(alloc, draft)?;
+    let meta_map = write_own_map(alloc, draft, room)?;
+    Ok(Parts {
+        mapping_root,
+        hint_root,
+        dirty_root,
+        discard_root,
+        meta_map,
+    })
+}
+
+/// Writes an array of so many words where there is to be one, and answers the place of its root, or 0.
+fn write_where<D: Device>(
+    there: bool,
+    alloc: Global,
+    draft: &mut Draft<'_, D>,
+    words: Words,
+    rows: &[Row],
+    count: u64,
+) -> Result<u64, BuildFault>
+    requires rows { AreRows 0 rows.now }
+    requires few { count ≤ 2 ^ 32 }
+    requires writable { IsWritable (stand draft.old).device }
+    requires room { draft.old.next + (if there then need_array (bytes_of words) count else 0) ≤ (stand draft.old).device.blocks }
+    requires closed { IsClosed (stand draft.old).device }
+    ensures same_reference { draft.new.dev.ghost_name ≡ draft.old.dev.ghost_name }
+    ensures wrote { OnOk result (Wrote (if there then array_blocks (bytes_of words) draft.old.next (words_of words rows.now count) else []) (stand draft.old) (stand draft.new)) }
+    ensures root { IfOk result (λ root. root ≡ (if there then array_root (bytes_of words) draft.old.next (words_of words rows.now count) else 0)) }
+    ensures closed { StaysClosed (stand draft.old).device (stand draft.new).device }
+    ensures faults { CountsBuildFault result (stand draft.old).device.faults (stand draft.new).device.faults }
+{
+    if there {
+        write_words(alloc, draft, words, rows, count)
+    } else {
+        Ok(0)
+    }
+}
+
+/// Writes the tree of a discard bitset without words, and answers the place of its root.
+fn write_none<D: Device>(alloc: Global, draft: &mut Draft<'_, D>) -> Result<u64, BuildFault>
+    requires writable { IsWritable (stand draft.old).device }
+    requires room { draft.old.next + need_tree 8 0 ≤ (stand draft.old).device.blocks }
+    requires closed { IsClosed (stand draft.old).device }
+    ensures same_reference { draft.new.dev.ghost_name ≡ draft.old.dev.ghost_name }
+    ensures wrote { OnOk result (Wrote (tree_blocks 8 draft.old.next []) (stand draft.old) (stand draft.new)) }
+    ensures root { IfOk result (λ root. root ≡ tree_root 8 draft.old.next []) }
+    ensures closed { StaysClosed (stand draft.old).device (stand draft.new).device }
+    ensures faults { CountsBuildFault result (stand draft.old).device.faults (stand draft.new).device.faults }
+{
+    let none: [(u64, Root); 0] = [];
+    write_tree(alloc, draft, &none)
+}

@@ -1,0 +1,6 @@
+pub mod PutLemmas
+pub mod ReadingLemmas
+pub mod PartLemmas
+pub mod LineLemmas
+pub mod BeginLemmas
+pub mod NeedLemmas

@@ -1,0 +1,63 @@
+use Rattle.std.proofs.Common.{arith}
+use Rattle.pd_draft.specs.Stand.{stand}
+use Rattle.pd_spells.specs.EraText.{first_line, end_line, era}
+use Rattle.pd_spells.specs.EraNeed.{era_need_so_far}
+use Rattle.pd_era_texts.specs.EraLine.{era_meant}
+use Rattle.pd_era_texts.specs.EraState.{EraStands}
+use Rattle.pd_restoring.proofs.ReadingLemmas.{line_given, line_told, end_given, end_told, end_says, next_says}
+use Rattle.pd_restore_era.proofs.ReadingLemmas.{stepped, came_to_end, falls_where}
+use Rattle.pd_restore_era.proofs.lines.step.Goals as goal
+
+pub take-requires-clause-take : goal.take-requires-clause-take
+take-requires-clause-take g c =
+    let r = c.requires.reading in
+    let s = r.so_far in
+    let n = c.in-Ok-Some in
+    let reads = line_given era EraStands first_line era_meant n.field-0 n.line r.before c.next.new.self n.field-0-is (omega (arith, s.later)) (n.ensures.lines r.before s.reads) in
+    record {
+      before = r.before;
+      start = r.start;
+      room = r.room;
+      gathered = s.gathered;
+      later = s.later;
+      after = reads.so_far.lines.0;
+      begin = s.begin;
+      need = s.need;
+      there = s.there;
+    }
+
+pub returns-in-Ok-Some-clause-steps : goal.returns-in-Ok-Some-clause-steps
+returns-in-Ok-Some-clause-steps g c before room start h =
+    let n = c.in-Ok-Some in
+    let was = (g.S.Source.state c.args.source.now).left in
+    let left = (g.S.Source.state c.next.new.source).left in
+    let reads = line_given era EraStands first_line era_meant n.field-0 n.line before c.next.new.self n.field-0-is (omega (arith, h.later)) (n.ensures.lines before h.reads) in
+    stepped c.take.result before n.line room c.args.text.now c.next.new.self was left c.args.array.now c.take.new.array start (stand c.args.draft.now) (stand c.take.new.draft) h
+    c.take.ensures.closed.kept.blocks reads
+    (λ t leaves. line_told era EraStands first_line era_meant n.field-0 n.line t before c.next.new.self left n.field-0-is (omega (arith, h.later)) (n.ensures.text t before h.reads leaves))
+    c.take.ensures.more (c.take.ensures.gathered before start h.gathered h.later reads.so_far.lines.0)
+
+pub returns-in-Ok-Some-clause-says : goal.returns-in-Ok-Some-clause-says
+returns-in-Ok-Some-clause-says g c before room start h t leaves = end_says era era_need_so_far c.take.result room t c.take.ensures.fault
+
+pub returns-in-Ok-Some-clause-falls : goal.returns-in-Ok-Some-clause-falls
+returns-in-Ok-Some-clause-falls g c =
+    let r = c.requires.reading in
+    let s = r.so_far in
+    let n = c.in-Ok-Some in
+    let reads = line_given era EraStands first_line era_meant n.field-0 n.line r.before c.next.new.self n.field-0-is (omega (arith, s.later)) (n.ensures.lines r.before s.reads) in
+    falls_where c.take.result r.before n.line c.args.array.now c.take.new.array r.start (stand c.args.draft.now) (stand c.take.new.draft) s.later reads.so_far.lines.0 s.gathered
+    (c.take.ensures.gathered r.before r.start s.gathered s.later reads.so_far.lines.0)
+
+pub returns-in-Ok-None-clause-steps : goal.returns-in-Ok-None-clause-steps
+returns-in-Ok-None-clause-steps g c before room start h =
+    let n = c.in-Ok-None in
+    let was = (g.S.Source.state c.args.source.now).left in
+    let left = (g.S.Source.state c.next.new.source).left in
+    let reads = end_given era EraStands first_line era_meant n.field-0 before c.next.new.self n.field-0-is (omega (arith, h.later)) (n.ensures.lines before h.reads) in
+    came_to_end before room c.args.text.now c.next.new.self was left c.args.array.now start (stand c.args.draft.now) h reads
+    (λ t leaves. end_told era EraStands first_line era_meant n.field-0 t before c.next.new.self left n.field-0-is (omega (arith, h.later)) (n.ensures.text t before h.reads leaves))
+
+pub returns-in-Err-clause-says : goal.returns-in-Err-clause-says
+returns-in-Err-clause-says g c before room start h t leaves =
+    rw c.of_read.ensures (next_says era era_need_so_far first_line end_line c.in-Err.fault room t before (omega (arith, h.later)) h.above h.need (c.in-Err.ensures.text t before h.reads leaves))

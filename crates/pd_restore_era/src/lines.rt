@@ -1,0 +1,104 @@
+//! The lines of an era target's text, restored as they are read.
+
+ghost use Rattle.std.specs.Prelude.{◌≡◌, ◌<◌, ◌≤◌, ℕ, List, ◌∷◌, length, true, IfOk, IfErr, OnOk};
+ghost use Rattle.pd_image.specs.Device.{IsWritable};
+ghost use Rattle.pd_image.specs.Source.{KeepsSource};
+ghost use Rattle.pd_draft.specs.Closed.{IsClosed, StaysClosed};
+ghost use Rattle.pd_draft.specs.Placed.{Stand};
+ghost use Rattle.pd_draft.specs.Stand.{stand};
+ghost use Rattle.pd_spells.specs.EraText.{Line, era};
+ghost use Rattle.pd_spells.specs.EraNeed.{era_need_so_far};
+ghost use Rattle.pd_texts.specs.Reader.{IsReadAfter, LeavesOf};
+ghost use Rattle.pd_era_texts.specs.EraLine.{line_of};
+ghost use Rattle.pd_restoring.specs.Restored.{CountsRestore};
+ghost use Rattle.pd_restoring.specs.Reading.{CountsTake, IsOfBuild, SaysOf};
+ghost use Rattle.pd_restore_era.specs.Reading.{HasGathered, Reading, CanRead, CanTake, Steps, Ends};
+
+use crate::runs::put_run;
+use pd_build::ArrayBuilder;
+use pd_draft::Draft;
+use pd_era_texts::{EraLine, EraText};
+use pd_image::{Device, Source};
+use pd_restoring::{RestoreFault, of_build, of_read};
+
+/// Reads the lines of a text after these ones up to its end, and restores them.
+pub(crate) fn restore_lines<S: Source, D: Device>(
+    text: &mut EraText,
+    source: &mut S,
+    draft: &mut Draft<'_, D>,
+    array: &mut ArrayBuilder,
+) -> Result<(), RestoreFault>
+    requires attached { (S.state source.old).access ≡ 1 }
+    requires reading { CanRead text.old array.old (stand draft.old) }
+    requires writable { IsWritable (stand draft.old).device }
+    requires closed { IsClosed (stand draft.old).device }
+    ensures same_reference { draft.new.dev.ghost_name ≡ draft.old.dev.ghost_name }
+    ensures all { (before : List Line) (room : ℕ) (start : Stand) → Reading before room text.old array.old start (stand draft.old)
+        → OnOk result (Ends before room text.old (S.state source.old).left (S.state source.new).left array.new start (stand draft.new)) }
+    ensures says { (before : List Line) (room : ℕ) (start : Stand) → Reading before room text.old array.old start (stand draft.old)
+        → (t : List ℕ) → LeavesOf era t before text.old (S.state source.old).left → IfErr result (SaysOf era era_need_so_far room t) }
+    ensures source { KeepsSource (S.state source.old) (S.state source.new) }
+    ensures closed { StaysClosed (stand draft.old).device (stand draft.new).device }
+    ensures faults { CountsRestore result (S.state source.old).faults (S.state source.new).faults (stand draft.old).device.faults (stand draft.new).device.faults }
+{
+    'lines: while step(text, source, draft, array)? {}
+    Ok(())
+}
+
+/// Reads a line and restores it, and answers whether it wasn't the end.
+pub(crate) fn step<S: Source, D: Device>(
+    text: &mut EraText,
+    source: &mut S,
+    draft: &mut Draft<'_, D>,
+    array: &mut ArrayBuilder,
+) -> Result<bool, RestoreFault>
+    requires attached { (S.state source.old).access ≡ 1 }
+    requires reading { CanRead text.old array.old (stand draft.old) }
+    requires writable { IsWritable (stand draft.old).device }
+    requires closed { IsClosed (stand draft.old).device }
+    ensures same_reference { draft.new.dev.ghost_name ≡ draft.old.dev.ghost_name }
+    ensures steps { (before : List Line) (room : ℕ) (start : Stand) → Reading before room text.old array.old start (stand draft.old)
+        → IfOk result (λ more. Steps more before room text.old (S.state source.old).left text.new (S.state source.new).left array.new start (stand draft.new)) }
+    ensures says { (before : List Line) (room : ℕ) (start : Stand) → Reading before room text.old array.old start (stand draft.old)
+        → (t : List ℕ) → LeavesOf era t before text.old (S.state source.old).left → IfErr result (SaysOf era era_need_so_far room t) }
+    ensures falls { IfOk result (λ more. more ≡ true → array.new.words.left < array.old.words.left) }
+    ensures source { KeepsSource (S.state source.old) (S.state source.new) }
+    ensures closed { StaysClosed (stand draft.old).device (stand draft.new).device }
+    ensures faults { CountsRestore result (S.state source.old).faults (S.state source.new).faults (stand draft.old).device.faults (stand draft.new).device.faults }
+{
+    match text.next(source) {
+        Ok(Some(line)) => take(draft, array, line),
+        Ok(None) => Ok(false),
+        Err(fault) => Err(of_read(fault)),
+    }
+}
+
+/// Puts the eras of a run line.
+fn take<D: Device>(
+    draft: &mut Draft<'_, D>,
+    array: &mut ArrayBuilder,
+    line: EraLine,
+) -> Result<bool, RestoreFault>
+    requires take { CanTake array.old line (stand draft.old) }
+    requires writable { IsWritable (stand draft.old).device }
+    requires closed { IsClosed (stand draft.old).device }
+    ensures same_reference { draft.new.dev.ghost_name ≡ draft.old.dev.ghost_name }
+    ensures more { IfOk result (λ more. more ≡ true) }
+    ensures gathered { (before : List Line) (start : Stand) → HasGathered before array.old start (stand draft.old) → 2 ≤ length before → IsReadAfter era before (line_of line)
+        → OnOk result (HasGathered (line_of line ∷ before) array.new start (stand draft.new)) }
+    ensures fault { IfErr result IsOfBuild }
+    ensures closed { StaysClosed (stand draft.old).device (stand draft.new).device }
+    ensures faults { CountsTake result (stand draft.old).device.faults (stand draft.new).device.faults }
+{
+    match line {
+        EraLine::Era { .. } => Ok(true),
+        EraLine::Run {
+            first: _,
+            length,
+            era,
+        } => match put_run(draft, array, length, era) {
+            Ok(()) => Ok(true),
+            Err(fault) => Err(of_build(fault)),
+        },
+    }
+}

@@ -1,0 +1,157 @@
+-- The entries that are given ascend, so that none of them is left out of those that ascend.
+use Rattle.std.proofs.Common.{◌≡◌, inl, inr, ℕ, zero, suc, ◌+◌, ◌^◌, ◌<◌, ◌≤◌, true, false, not, ◌&&◌, ◌||◌, nat_lt, nat_eq, List, [], ◌∷◌, ◌++◌, map, filter, refl, ap, arith, max, min, Option, None, eq-eqb}
+use Rattle.std.specs.List.{flat_map, range_with_len}
+use Rattle.std.proofs.lemmas.List.{append-nil}
+use Rattle.std.proofs.lemmas.Bool.{cases_Bool, cases_lt, or_parts, not-false, lt-ltb, le-ltb, ne_eqb}
+use Rattle.pd_kinds.specs.Edge.{is_outside}
+use Rattle.pd_kinds.specs.Graph.{block_at}
+use Rattle.pd_kinds.specs.Layout.{leaf_entries, node_entries_of}
+use Rattle.pd_kinds.specs.Node.{Entry, entry_count, is_ascending, is_inner_node, key_at, value_at, child_at, node_bad, node_keys, node_tests}
+use Rattle.pd_laid.specs.Salvage.{give, given, is_damaged, child_low, child_high}
+use Rattle.pd_laws.proofs.SoundLemmas.{none_broken, tests_after_one}
+use Rattle.pd_tree.specs.Items.{item_of}
+use Rattle.pd_tree.specs.Search.{KeysAscend}
+use Rattle.pd_tree.proofs.OrderLemmas.{keys_say}
+use Rattle.pd_tree.specs.Next.{IsNext}
+use Rattle.pd_salvage.specs.Ascending.{IsNextFrom, ascending_from}
+use Rattle.pd_salvage.specs.Cursor.{root_child, root_left}
+use Rattle.pd_salvage.specs.Place.{saved_below}
+use Rattle.pd_salvage.specs.declared.place.Child.{Child}
+
+-- keys ascend, from one number on and below another
+abbrev pub AreAscending : ℕ → ℕ → List Entry → Type 0
+AreAscending low high [] = Unit {0}
+AreAscending low high (e ∷ es) = (low ≤ e.key) × (e.key < high) × AreAscending (e.key + 1) high es
+
+from_less : (low less high : ℕ) (es : List Entry) → less ≤ low → AreAscending low high es → AreAscending less high es
+from_less low less high [] below are = tt
+from_less low less high (e ∷ es) below are = let first = are.0 in (omega arith, are.1, are.2)
+
+-- two ranges after each other
+joined : (a b c high : ℕ) (xs ys : List Entry) → a ≤ c → b ≤ c → b ≤ high → AreAscending a b xs → AreAscending c high ys → AreAscending a high (xs ++ ys)
+joined a b c high [] ys before apart within first last = from_less c a high ys before last
+joined a b c high (x ∷ xs) ys before apart within first last =
+    let below = first.1 in
+    (first.0, omega arith, joined (x.key + 1) b c high xs ys (omega arith) apart within first.2 last)
+
+-- keys ascend in an undamaged node
+order_holds : (size place : ℕ) (block : List ℕ) → is_damaged size place block ≡ false → KeysAscend size block
+unfolding is_damaged node_bad node_tests
+order_holds size place block sound =
+    keys_say size block
+    (not-false (is_ascending (node_keys size block))
+    (tests_after_one _ _ (node_tests size place block) (none_broken (node_bad size place block) sound)).0)
+
+module _ (size : ℕ) (block : List ℕ) (ordered : KeysAscend size block) where
+  abbrev count : ℕ
+  count = entry_count size block
+
+  next_key : (i : ℕ) → i + 1 < count → key_at block i < key_at block (i + 1)
+  unfolding KeysAscend
+  next_key i within = ordered i (i + 1) (omega arith) within
+
+  -- the entries of a leaf that are in a range, from one on
+  abbrev entry : ℕ → Entry
+  entry i = record { key = key_at block i; value = value_at size block i }
+
+  abbrev kept : ℕ → ℕ → List Entry → List Entry
+  kept low high es = filter (λ (e : Entry). not (nat_lt e.key low) && nat_lt e.key high) es
+
+  leaf_from : (low high least i n : ℕ) → i + n ≡ count → (1 ≤ n → least ≤ key_at block i) → AreAscending (max least low) high (kept low high (map entry (range_with_len i n)))
+  leaf_from low high least i zero whole from = tt
+  leaf_from low high least i (suc n) whole from =
+      let here = from (omega arith) in
+      let later : 1 ≤ n → key_at block i + 1 ≤ key_at block (i + 1) = λ more. let next = next_key i (omega arith) in omega arith in
+      let rest = leaf_from low high (key_at block i + 1) (i + 1) n (omega arith) later in
+      elim (cases_lt (key_at block i) low) [
+        | inl below ↦
+            rw (lt-ltb (key_at block i) low below)
+            (leaf_from low high least (i + 1) n (omega arith) (λ more. let next = next_key i (omega arith) in omega arith))
+        | inr above ↦ elim (cases_lt (key_at block i) high) [
+          | inl within ↦
+              rw (le-ltb (key_at block i) low above, lt-ltb (key_at block i) high within)
+              (omega arith, within, from_less (max (key_at block i + 1) low) (key_at block i + 1) high _ (omega arith) rest)
+          | inr out ↦
+              rw (le-ltb (key_at block i) low above, le-ltb (key_at block i) high out)
+              (leaf_from low high least (i + 1) n (omega arith) (λ more. let next = next_key i (omega arith) in omega arith))
+        ]
+      ]
+
+  -- what is given below the children of an inner node, from one on
+  inner_from : (low high : ℕ) (f : ℕ → List Entry) → ((i : ℕ) → AreAscending (child_low block low i) (child_high size block high i) (f i))
+      → (i n : ℕ) → i + n ≡ count → 1 ≤ n → AreAscending (max (key_at block i) low) high (flat_map f (range_with_len i n))
+  inner_from low high f each i zero whole some = absurd (omega arith)
+  inner_from low high f each i (suc zero) whole some =
+      let last : nat_eq (i + 1) count ≡ true = eq-eqb (i + 1) count (omega arith) in
+      joined (max (key_at block i) low) high (max (max (key_at block i) low) high) high (f i) [] (omega arith) (omega arith) (omega arith) (rw last at (each i)) tt
+  inner_from low high f each i (suc (suc n)) whole some =
+      let more : nat_eq (i + 1) count ≡ false = ne_eqb (i + 1) count (λ same. omega arith) in
+      let next = next_key i (omega arith) in
+      joined (max (key_at block i) low) (min (key_at block (i + 1)) high) (max (key_at block (i + 1)) low) high (f i) _
+      (omega arith) (omega arith) (omega arith) (rw more at (each i)) (inner_from low high f each (i + 1) (suc n) (omega arith) (omega arith))
+
+  -- below all of them
+  inner_all : (low high : ℕ) (f : ℕ → List Entry) → ((i : ℕ) → AreAscending (child_low block low i) (child_high size block high i) (f i))
+      → AreAscending low high (flat_map f (range_with_len 0 count))
+  inner_all low high f each = elim (cases_lt 0 count) [
+    | inl some ↦ from_less (max (key_at block 0) low) low high _ (omega arith) (inner_from low high f each 0 count (omega arith) (omega arith))
+    | inr none ↦ let is : count ≡ 0 = omega arith in rw is tt
+  ]
+
+-- what is given ascends, and lies in the range
+pub give_ascends : (size nr : ℕ) (image : List (List ℕ)) (j place low high : ℕ) → AreAscending low high (give size nr image j place low high)
+unfolding give leaf_entries node_entries_of
+give_ascends size nr image zero place low high = tt
+give_ascends size nr image (suc j) place low high = elim (cases_Bool (is_outside nr place || is_damaged size place (block_at image place))) [
+  | inl out ↦ rw out tt
+  | inr sound ↦
+      let ordered = order_holds size place (block_at image place) (or_parts (is_outside nr place) (is_damaged size place (block_at image place)) sound).1 in
+      elim (cases_Bool (is_inner_node (block_at image place))) [
+        | inl inner ↦ rw (sound, inner)
+            (inner_all size (block_at image place) ordered low high _ (λ i.
+            give_ascends size nr image j (child_at (block_at image place) i) (child_low (block_at image place) low i) (child_high size (block_at image place) high i)))
+        | inr leaf ↦ rw (sound, leaf)
+            (from_less (max 0 low) low high _ (omega arith)
+            (leaf_from size (block_at image place) ordered low high 0 0 (entry_count size (block_at image place)) (omega arith) (λ some. omega arith)))
+      ]
+]
+
+-- entries that ascend are all kept
+pub all_ascend : {X : Type 0} (decoded : ℕ → X) (low high : ℕ) (es : List Entry) → AreAscending low high es
+    → ascending_from low (map (item_of decoded) es) ≡ map (item_of decoded) es
+unfolding ascending_from
+all_ascend {X} decoded low high [] are = refl
+all_ascend {X} decoded low high (e ∷ es) are =
+    rw (le-ltb e.key low are.0) (ap (λ (xs : List (ℕ × X)). (e.key, decoded e.value) ∷ xs) (all_ascend decoded (e.key + 1) high es are.2))
+
+-- entries whose keys ascend are kept from a lesser key on
+pub ascending_less : {X : Type 0} (least : ℕ) (key : ℕ) (value : X) (items : List (ℕ × X)) → key < least
+    → ascending_from least ((key, value) ∷ items) ≡ ascending_from least items
+unfolding ascending_from
+ascending_less {X} least key value items less = rw (lt-ltb key least less) refl
+
+pub ascending_first : {X : Type 0} (least : ℕ) (key : ℕ) (value : X) (items : List (ℕ × X)) → least ≤ key
+    → ascending_from least ((key, value) ∷ items) ≡ (key, value) ∷ ascending_from (key + 1) items
+unfolding ascending_from
+ascending_first {X} least key value items from = rw (le-ltb key least from) refl
+
+pub ascending_none : {X : Type 0} (least : ℕ) → ascending_from {X = X} least [] ≡ []
+unfolding ascending_from
+ascending_none {X} least = refl
+
+-- a cursor at its start, before a root that wasn't read
+pub started : {X : Type 0} (size : ℕ) (decoded : ℕ → X) (nr : ℕ) (image : List (List ℕ)) (root : ℕ) (left : List (ℕ × X)) → left ≡ []
+    → ascending_from 0 (saved_below size decoded nr image 64 (root_child root) ++ left) ≡ map (item_of decoded) (given size nr image root)
+unfolding saved_below given
+started {X} size decoded nr image root left none =
+    rw (none, append-nil (map (item_of decoded) (give size nr image 64 root 0 (2 ^ 64))))
+    (all_ascend decoded 0 (2 ^ 64) (give size nr image 64 root 0 (2 ^ 64)) (give_ascends size nr image 64 root 0 (2 ^ 64)))
+
+-- nothing is left below a root that was read
+pub none_below : {X : Type 0} (below : Child → List X) (root : Option ℕ) → root ≡ None → root_left below root ≡ []
+none_below below root none = rw none refl
+
+-- nothing is left where nothing was left from the least key on
+pub none_answer : {X : Type 0} (least same : ℕ) (before old root new : List (ℕ × X)) → same ≡ least → old ≡ before → root ≡ [] → IsNextFrom same None old new
+    → IsNext None (ascending_from least before) (ascending_from same (root ++ new))
+none_answer {X} least same before old root new is was none next = (rw (← is, ← was) next.0, rw (none, next.1) (ascending_none same))

@@ -1,0 +1,82 @@
+use Rattle.std.proofs.Common.{◌≤◌, ℕ, None, Some, IfSome, subst, ◌∙◌, arith}
+use Rattle.std.proofs.lemmas.Option.{IfSome_then}
+use Rattle.pd_value.specs.declared.thin.BlockTime.{BlockTime}
+use Rattle.pd_pool.specs.Items.{block_time_of}
+use Rattle.pd_image.proofs.ReadLemmas.{only_reads_both}
+use Rattle.pd_tree.specs.Next.{IsNext}
+use Rattle.pd_salvage.specs.Cursor.{saved_least, saved_left}
+use Rattle.pd_salvage.specs.Gather.{to_come}
+use Rattle.pd_salvage.proofs.GatherLemmas.{all_gathered, comes_kept, comes_none, comes_skipped, skips_mapping, takes_mapping, time_below}
+use Rattle.pd_salvage.proofs.gather.gather.Goals as goal
+
+pub loop-virt-preserved-in-Ok : goal.loop-virt-preserved-in-Ok
+loop-virt-preserved-in-Ok g c =
+    let now = c.loop-virt.mappings in
+    let later = c.next.new.self in
+    let blocks = c.args.blocks in
+    let virt = c.in-Ok-Some.virt in
+    let value = c.in-Ok-Some.mapping in
+    let gathers = c.loop-virt.invariant.gathers in
+    let ascends = rw c.in-Ok-Some.field-0-is at c.in-Ok-Some.ensures.ascends in
+    let kept = c.loop-virt.invariant.kept in
+    let reads = c.in-Ok-Some.ensures.kept in
+    let taken = c.in-Ok.ensures.takes c.args.runs.now.items gathers.ms gathers.gathered in
+    let comes =
+    IfSome_then (g.D.Device.state c.args.dev.now).held
+    (subst (λ o. IfSome o (λ image. IsNext (Some (virt, value)) (saved_left 8 block_time_of image now) (saved_left 8 block_time_of image later))) kept.held (rw c.in-Ok-Some.field-0-is at c.in-Ok-Some.ensures.next))
+    (λ image next. comes_kept blocks virt value (saved_left 8 block_time_of image now) (saved_left 8 block_time_of image later) next c.if-mapping-blocks.true) in
+    record {
+      gathers =
+          takes_mapping blocks (saved_least c.args.mappings.now) (g.D.Device.state c.args.dev.now).held
+          (λ image. to_come blocks image c.args.mappings.now) (λ image. to_come blocks image now) (λ image. to_come blocks image later)
+          (saved_least now) (saved_least later) c.args.runs.now.items c.loop-virt.runs.items c.loop-virt.gathering gathers virt value
+          ascends.0 ascends.1
+          c.take.new.runs.items c.take.new.self taken
+          c.in-Ok.ensures.fits c.if-mapping-blocks.true (time_below value (rw c.in-Ok-Some.field-0-is at c.in-Ok-Some.ensures.fits)) comes;
+      room = c.in-Ok-Some.ensures.room ∙ c.loop-virt.invariant.room;
+      kept = only_reads_both kept reads;
+      faults = c.in-Ok-Some.ensures.faults ∙ c.loop-virt.invariant.faults;
+    }
+
+pub loop-virt-preserved : goal.loop-virt-preserved
+loop-virt-preserved g c =
+    let now = c.loop-virt.mappings in
+    let later = c.next.new.self in
+    let blocks = c.args.blocks in
+    let virt = c.in-Ok-Some.virt in
+    let value = c.in-Ok-Some.mapping in
+    let gathers = c.loop-virt.invariant.gathers in
+    let ascends = rw c.in-Ok-Some.field-0-is at c.in-Ok-Some.ensures.ascends in
+    let kept = c.loop-virt.invariant.kept in
+    let reads = c.in-Ok-Some.ensures.kept in
+    let out : blocks ≤ value.block = omega arith in
+    let comes =
+    IfSome_then (g.D.Device.state c.args.dev.now).held
+    (subst (λ o. IfSome o (λ image. IsNext (Some (virt, value)) (saved_left 8 block_time_of image now) (saved_left 8 block_time_of image later))) kept.held (rw c.in-Ok-Some.field-0-is at c.in-Ok-Some.ensures.next))
+    (λ image next. comes_skipped blocks virt value (saved_left 8 block_time_of image now) (saved_left 8 block_time_of image later) next out) in
+    record {
+      gathers =
+          skips_mapping blocks (saved_least c.args.mappings.now) (g.D.Device.state c.args.dev.now).held
+          (λ image. to_come blocks image c.args.mappings.now) (λ image. to_come blocks image now) (λ image. to_come blocks image later)
+          (saved_least now) (saved_least later) c.args.runs.now.items c.loop-virt.runs.items c.loop-virt.gathering gathers virt value
+          ascends.0 ascends.1 comes;
+      room = c.in-Ok-Some.ensures.room ∙ c.loop-virt.invariant.room;
+      kept = only_reads_both kept reads;
+      faults = c.in-Ok-Some.ensures.faults ∙ c.loop-virt.invariant.faults;
+    }
+
+pub returns-in-Ok-end-clause-gathered : goal.returns-in-Ok-end-clause-gathered
+returns-in-Ok-end-clause-gathered g c =
+    let now = c.loop-virt.mappings in
+    let later = c.next.new.self in
+    let blocks = c.args.blocks in
+    let gathers = c.loop-virt.invariant.gathers in
+    let kept = c.loop-virt.invariant.kept in
+    let ends =
+    IfSome_then (g.D.Device.state c.args.dev.now).held
+    (subst (λ o. IfSome o (λ image. IsNext {X = ℕ × BlockTime} None (saved_left 8 block_time_of image now) (saved_left 8 block_time_of image later))) kept.held (rw c.in-Ok-None.field-0-is at c.in-Ok-None.ensures.next))
+    (λ image next. comes_none blocks (saved_left 8 block_time_of image now) (saved_left 8 block_time_of image later) next) in
+    all_gathered blocks (saved_least c.args.mappings.now) (g.D.Device.state c.args.dev.now).held
+    (λ image. to_come blocks image c.args.mappings.now) (λ image. to_come blocks image now) (saved_least now)
+    c.args.runs.now.items c.loop-virt.runs.items c.end.new.runs.items c.loop-virt.gathering c.end.new.self.mapped gathers
+    (c.in-Ok-end.ensures.ends c.args.runs.now.items gathers.ms gathers.gathered) c.in-Ok-end.ensures.same ends

@@ -1,0 +1,75 @@
+use Rattle.std.proofs.Common.{◌≡◌, ℕ, None, Some, IfSome, sym, subst, ◌∙◌}
+use Rattle.std.proofs.lemmas.Bool.{not-false, not-true}
+use Rattle.pd_image.proofs.ReadLemmas.{only_reads_both}
+use Rattle.pd_kinds.specs.Edge.{is_outside}
+use Rattle.pd_value.specs.declared.thin.Root.{Root}
+use Rattle.pd_tree.specs.Items.{root_of}
+use Rattle.pd_tree.specs.Next.{IsNext}
+use Rattle.pd_laid.specs.Salvage.{salvage_from}
+use Rattle.pd_salvage.specs.Saved.{pool_of}
+use Rattle.pd_salvage.specs.Saving.{head_of}
+use Rattle.pd_salvage.specs.Cursor.{saved_least, saved_left}
+use Rattle.pd_salvage.proofs.SavingLemmas.{all_sound, all_told, one_sound, one_told, skipped_sound, skipped_told}
+use Rattle.pd_salvage.proofs.saving.Saving.save_all.Goals as goal
+
+pub loop-id-preserved-in-Continue-1 : goal.loop-id-preserved-in-Continue-1
+loop-id-preserved-in-Continue-1 g c =
+    let inv = c.loop-id.invariant in
+    let old = c.loop-id.self in
+    let tops = c.next.new.self in
+    let new = c.save_device.new.self in
+    let held = (g.D.Device.state c.args.dev.now).held in
+    let id = c.in-Ok-Some.id in
+    let root = c.in-Ok-Some.root.0 in
+    let ascends = rw c.in-Ok-Some.field-0-is at c.in-Ok-Some.ensures.ascends in
+    let next =
+    subst (λ o. IfSome o (λ image. IsNext (Some (id, root_of root)) (saved_left 8 root_of image old.tops) (saved_left 8 root_of image tops))) inv.kept.held
+    (rw c.in-Ok-Some.field-0-is at c.in-Ok-Some.ensures.next) in
+    let inside = not-true (is_outside old.s.meta_map.blocks root) (sym c.if-is_inside.ensures) in
+    let kept = only_reads_both inv.kept c.in-Ok-Some.ensures.kept in
+    let saves = rw kept.held at c.in_ok-save_device-in-Ok-Some.ensures.saves in
+    let same = c.in_ok-save_device-in-Ok-Some.ensures.same in
+    record {
+      saving = one_sound held id root old new tops ascends.0 ascends.1 next inv.saving inv.told same.0 same.1 inside saves;
+      told = one_told held id root old new tops ascends.0 ascends.1 next inv.saving inv.told same.0 same.1 inside saves;
+      ready = c.in_ok-save_device-in-Ok-Some.ensures.ready;
+      same = same.0 ∙ inv.same;
+      kept = only_reads_both kept c.in_ok-save_device-in-Ok-Some.ensures.kept;
+      faults = c.in_ok-save_device-in-Ok-Some.ensures.faults ∙ (c.in-Ok-Some.ensures.faults ∙ inv.faults);
+    }
+
+pub loop-id-preserved : goal.loop-id-preserved
+loop-id-preserved g c =
+    let inv = c.loop-id.invariant in
+    let old = c.loop-id.self in
+    let tops = c.next.new.self in
+    let held = (g.D.Device.state c.args.dev.now).held in
+    let id = c.in-Ok-Some.id in
+    let root = c.in-Ok-Some.root.0 in
+    let ascends = rw c.in-Ok-Some.field-0-is at c.in-Ok-Some.ensures.ascends in
+    let next =
+    subst (λ o. IfSome o (λ image. IsNext (Some (id, root_of root)) (saved_left 8 root_of image old.tops) (saved_left 8 root_of image tops))) inv.kept.held
+    (rw c.in-Ok-Some.field-0-is at c.in-Ok-Some.ensures.next) in
+    let outside = not-false (is_outside old.s.meta_map.blocks root) (sym c.if-is_inside.ensures) in
+    record {
+      saving = skipped_sound held id root old old tops ascends.0 ascends.1 next inv.saving inv.told outside;
+      told = skipped_told held id root old old tops ascends.0 ascends.1 next inv.saving inv.told outside;
+      ready = record { tops = c.in-Ok-Some.ensures.room ∙ inv.ready.tops; details = inv.ready.details };
+      same = inv.same;
+      kept = only_reads_both inv.kept c.in-Ok-Some.ensures.kept;
+      faults = c.in-Ok-Some.ensures.faults ∙ inv.faults;
+    }
+
+pub returns-in-Ok-None-clause-sound : goal.returns-in-Ok-None-clause-sound
+returns-in-Ok-None-clause-sound g c =
+    all_sound c.loop-id.self.s.data_map.blocks (saved_least c.loop-id.self.tops) c.loop-id.self.devices.items c.loop-id.self.runs.items c.loop-id.invariant.saving
+
+pub returns-in-Ok-None-clause-saved : goal.returns-in-Ok-None-clause-saved
+returns-in-Ok-None-clause-saved g c =
+    let inv = c.loop-id.invariant in
+    let old = c.loop-id.self in
+    let held = (g.D.Device.state c.args.dev.now).held in
+    subst (λ s. IfSome held (λ image. pool_of (record { head = head_of old.s; devices = old.devices.items; runs = old.runs.items }) ≡ salvage_from s image)) inv.same
+    (all_told held old c.next.new.self inv.told
+    (subst (λ o. IfSome o (λ image. IsNext {X = ℕ × Root} None (saved_left 8 root_of image old.tops) (saved_left 8 root_of image c.next.new.self))) inv.kept.held
+    (rw c.in-Ok-None.field-0-is at c.in-Ok-None.ensures.next)))

@@ -1,0 +1,10 @@
+pub mod Place
+pub mod Way
+pub mod Steps
+pub mod Ascending
+pub mod Cursor
+pub mod Saved
+pub mod Faults
+pub mod Details
+pub mod Gather
+pub mod Saving

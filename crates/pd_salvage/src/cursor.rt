@@ -1,0 +1,124 @@
+//! A cursor over the entries that are saved of a tree.
+
+ghost use Rattle.std.specs.Prelude.{◌≡◌};
+ghost use Rattle.std.specs.Option.{ForSome};
+
+use crate::place::Child;
+use crate::walk::next_entry;
+use crate::way::Way;
+use pd_image::{Device, Failed};
+use pd_value::Value;
+use std::alloc::{AllocError, Global};
+use std::marker::PhantomData;
+
+/// The end of all keys.
+const KEYS_END: u128 = 18446744073709551616;
+
+/// The entries of a tree, whose leaves hold values of one type, that a path of at most 64 undamaged nodes leads to
+/// from its root, where they lie in each range of keys on that path, by ascending key.
+///
+/// It holds the nodes on the way to the next entry, in 64 places with room for a block each. The entry that a call
+/// gives, and then what is left after it, are what was left before it. Over any device the keys ascend.
+#[derive(Drop)]
+pub struct SavedCursor<V> {
+    way: Way,
+    /// The root, until it was read.
+    root: Option<u64>,
+    /// The least key that may come: one above that of the last entry.
+    least: u128,
+    of: PhantomData<V>,
+    ghost fresh: { ForSome root (λ _. way.depth ≡ 0) },
+}
+
+impl<V: Value> SavedCursor<V> {
+    ghost use Rattle.std.specs.Prelude.{◌≡◌, ℕ, ◌+◌, ◌<◌, ◌≤◌, List, ◌++◌, true, map, None, OnOk, IfOk, IfSome};
+    ghost use Rattle.pd_kinds.specs.Objects.{DeviceState, CountsFault};
+    ghost use Rattle.pd_image.specs.Device.{IsAttached, OnlyReads};
+    ghost use Rattle.pd_laid.specs.Salvage.{given};
+    ghost use Rattle.pd_tree.specs.Items.{item_of};
+    ghost use Rattle.pd_tree.specs.Next.{IsNext};
+    ghost use Rattle.pd_salvage.specs.Cursor.{root_left, saved_left, saved_least, saved_number, saved_room};
+    ghost use Rattle.pd_salvage.specs.Place.{saved_below};
+    ghost use Rattle.pd_salvage.specs.Way.{way_left, way_number};
+
+    /// A cursor before the first entry of the tree with this root, of a pool with so many metadata blocks. It takes
+    /// all memory that the cursor needs: 64 places of about 4136 bytes.
+    ///
+    /// Fails with `AllocError` where that memory wasn't found.
+    pub fn start(alloc: Global, nr: u64, root: u64) -> Result<SavedCursor<V>, AllocError>
+        ensures left { (image : List (List ℕ)) → IfOk result (λ cursor. saved_left V.SIZE V.decoded image cursor ≡ map (item_of V.decoded) (given V.SIZE nr image root)) }
+        ensures least { IfOk result (λ cursor. saved_least cursor ≡ 0) }
+        ensures room { IfOk result (λ cursor. saved_room cursor ≡ nr) }
+    {
+        Ok(SavedCursor {
+            way: Way::new(alloc, nr)?,
+            root: Some(root),
+            least: 0,
+            of: PhantomData,
+        })
+    }
+
+    /// Goes before the first entry of the tree with this root, of a pool with so many metadata blocks, in the memory
+    /// that the cursor has.
+    pub fn restart(&mut self, nr: u64, root: u64)
+        ensures left { (image : List (List ℕ)) → saved_left V.SIZE V.decoded image self.new ≡ map (item_of V.decoded) (given V.SIZE nr image root) }
+        ensures least { saved_least self.new ≡ 0 }
+        ensures room { saved_room self.new ≡ nr }
+    {
+        self.way.clear(nr);
+        self.root = Some(root);
+        self.least = 0;
+    }
+
+    /// The next entry: its key and its value, or `None` after the last one. It takes no memory.
+    ///
+    /// Over any device and tree the keys ascend, and the cursor's number falls with each entry.
+    ///
+    /// Fails with `Failed` where a read failed; then nothing is said of what is left.
+    pub fn next<D: Device>(&mut self, dev: &mut D) -> Result<Option<(u64, V)>, Failed>
+        requires attached { IsAttached (D.state dev.old) }
+        requires within { saved_room self.old ≤ (D.state dev.old).blocks }
+        ensures next { IfOk result (λ entry. IfSome (D.state dev.old).held (λ image.
+            IsNext entry (saved_left V.SIZE V.decoded image self.old) (saved_left V.SIZE V.decoded image self.new))) }
+        ensures ascends { IfOk result (λ entry. IfSome entry (λ item. (saved_least self.old ≤ item.0) × (saved_least self.new ≡ item.0 + 1))) }
+        ensures fits { IfOk result (λ entry. IfSome entry (λ item. V.fitting item.1 ≡ true)) }
+        ensures number { IfOk result (λ entry. IfSome entry (λ _. saved_number V.SIZE self.new < saved_number V.SIZE self.old)) }
+        ensures room { saved_room self.new ≡ saved_room self.old }
+        ensures kept { OnlyReads (D.state dev.old) (D.state dev.new) }
+        ensures faults { CountsFault result (D.state dev.old).faults (D.state dev.new).faults }
+    {
+        self.enter_root(dev)?;
+        match next_entry(&mut self.way, dev, self.least)? {
+            Some((key, value)) => {
+                self.least = key as u128 + 1;
+                Ok(Some((key, value)))
+            }
+            None => Ok(None),
+        }
+    }
+
+    /// Reads the root, if it wasn't read yet.
+    fn enter_root<D: Device>(&mut self, dev: &mut D) -> Result<(), Failed>
+        requires attached { IsAttached (D.state dev.old) }
+        requires within { saved_room self.old ≤ (D.state dev.old).blocks }
+        ensures left { OnOk result (IfSome (D.state dev.old).held (λ image. way_left V.SIZE V.decoded image self.new.way
+            ≡ root_left (saved_below V.SIZE V.decoded self.old.way.nr image 64) self.old.root ++ way_left V.SIZE V.decoded image self.old.way)) }
+        ensures number { OnOk result (way_number V.SIZE self.new.way ≤ saved_number V.SIZE self.old) }
+        ensures entered { self.new.root ≡ None }
+        ensures same { (self.new.least ≡ self.old.least) × (saved_room self.new ≡ saved_room self.old) }
+        ensures kept { OnlyReads (D.state dev.old) (D.state dev.new) }
+        ensures faults { CountsFault result (D.state dev.old).faults (D.state dev.new).faults }
+    {
+        match self.root.take() {
+            Some(root) => {
+                let child = Child {
+                    place: root,
+                    low: 0,
+                    high: KEYS_END,
+                };
+                self.way.enter::<V, D>(dev, child)
+            }
+            None => Ok(()),
+        }
+    }
+}

@@ -1,0 +1,131 @@
+//! The mappings of a device, joined to runs.
+
+ghost use Rattle.std.specs.Prelude.{◌≡◌, ◌^◌, ◌<◌, ◌≤◌, IfOk};
+ghost use Rattle.pd_kinds.specs.Objects.{DeviceState};
+ghost use Rattle.pd_image.specs.Device.{IsAttached, OnlyReads};
+ghost use Rattle.pd_salvage.specs.Cursor.{saved_least, saved_room};
+ghost use Rattle.pd_salvage.specs.Faults.{CountsSalvage};
+ghost use Rattle.pd_salvage.specs.Gather.{is_followed_by, IsGathered, run_of_mapping, to_come};
+
+use crate::cursor::SavedCursor;
+use crate::saved::SalvageFault;
+use pd_image::Device;
+use pd_pool::Run;
+use pd_value::BlockTime;
+use std::alloc::AllocError;
+
+/// The run that may still become longer, and how many mappings were taken.
+#[derive(Clone, Copy)]
+pub(crate) struct Gathering {
+    pub(crate) begun: Option<Run>,
+    pub(crate) mapped: u64,
+}
+
+/// The run of one mapping.
+fn run_of(virt: u64, mapping: BlockTime) -> Run
+    ensures { result ≡ run_of_mapping virt mapping }
+{
+    Run {
+        virt,
+        target: mapping.block,
+        length: 1,
+        time: mapping.time,
+    }
+}
+
+/// Whether the mapping follows the run's last one.
+fn follows(run: &Run, virt: u64, mapping: BlockTime) -> bool
+    ensures { result ≡ is_followed_by run.now virt mapping }
+{
+    let next_virtual = virt >= run.virt && virt - run.virt == run.length;
+    let next_data = mapping.block >= run.target && mapping.block - run.target == run.length;
+    let same_time = mapping.time == run.time;
+    next_virtual & next_data & same_time
+}
+
+impl Gathering {
+    ghost use Rattle.std.specs.Prelude.{◌≡◌, ◌^◌, ◌<◌, ◌++◌, ◌∷◌, [], List, OnOk};
+    ghost use Rattle.pd_kinds.specs.Meaning.{Mapping};
+    ghost use Rattle.pd_pool.specs.Joined.{mapping_of};
+    ghost use Rattle.pd_salvage.specs.Gather.{HasRuns, IsGathering};
+
+    /// Takes the next mapping, and adds the run before it where the mapping doesn't follow that.
+    fn take(&mut self, runs: &mut Vec<Run>, virt: u64, mapping: BlockTime) -> Result<(), AllocError>
+        requires { mapping.block < 2 ^ 40 }
+        ensures fits { virt < 2 ^ 64 }
+        ensures takes { OnOk result ((before : List Run) (ms : List Mapping) → IsGathering before runs.old.items self.old ms
+            → IsGathering before runs.new.items self.new (ms ++ mapping_of (virt, mapping) ∷ [])) }
+    {
+        if self.mapped == u64::MAX {
+            return Err(AllocError);
+        }
+        self.mapped += 1;
+        match self.begun {
+            Some(mut begun) => {
+                if follows(&begun, virt, mapping) {
+                    begun.length = mapping.block - begun.target + 1;
+                    self.begun = Some(begun);
+                } else {
+                    runs.push(begun)?;
+                    self.begun = Some(run_of(virt, mapping));
+                }
+            }
+            None => self.begun = Some(run_of(virt, mapping)),
+        }
+        Ok(())
+    }
+
+    /// Adds the last run, if there is any.
+    fn end(&mut self, runs: &mut Vec<Run>) -> Result<(), AllocError>
+        ensures same { self.new.mapped ≡ self.old.mapped }
+        ensures ends { OnOk result ((before : List Run) (ms : List Mapping) → IsGathering before runs.old.items self.old ms
+            → HasRuns before runs.new.items ms) }
+    {
+        if let Some(begun) = self.begun {
+            runs.push(begun)?;
+            self.begun = None;
+        }
+        Ok(())
+    }
+}
+
+/// Adds the runs of the mappings that are left, whose data blocks are below this number, and answers how many
+/// mappings they have.
+pub(crate) fn gather<D: Device>(
+    mappings: &mut SavedCursor<BlockTime>,
+    dev: &mut D,
+    blocks: u64,
+    runs: &mut Vec<Run>,
+) -> Result<u64, SalvageFault>
+    requires attached { IsAttached (D.state dev.old) }
+    requires within { saved_room mappings.old ≤ (D.state dev.old).blocks }
+    requires few { blocks ≤ 2 ^ 40 }
+    ensures gathered { IfOk result (λ mapped. IsGathered blocks (saved_least mappings.old) mapped (D.state dev.old).held (λ image. to_come blocks image mappings.old) runs.old.items runs.new.items) }
+    ensures room { saved_room mappings.new ≡ saved_room mappings.old }
+    ensures kept { OnlyReads (D.state dev.old) (D.state dev.new) }
+    ensures faults { CountsSalvage result (D.state dev.old).faults (D.state dev.new).faults }
+{
+    let mut gathering = Gathering {
+        begun: None,
+        mapped: 0,
+    };
+    loop {
+        match mappings.next(dev) {
+            Ok(Some((virt, mapping))) => {
+                if mapping.block < blocks {
+                    match gathering.take(runs, virt, mapping) {
+                        Ok(()) => {}
+                        Err(_) => return Err(SalvageFault::Memory),
+                    }
+                }
+            }
+            Ok(None) => {
+                return match gathering.end(runs) {
+                    Ok(()) => Ok(gathering.mapped),
+                    Err(_) => Err(SalvageFault::Memory),
+                };
+            }
+            Err(_) => return Err(SalvageFault::Device),
+        }
+    }
+}

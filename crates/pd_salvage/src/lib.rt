@@ -1,0 +1,19 @@
+//! What can be saved of a damaged thin pool: the entries that a path of undamaged nodes leads to from the roots
+//! of a superblock, where they lie in every range of keys on that path.
+//!
+//! What is saved is said over the bytes of any image that the device tells; over any device it is a lawful pool.
+#![tactic(auto)]
+
+mod cursor;
+mod details;
+mod gather;
+mod place;
+mod pool;
+mod saved;
+mod saving;
+mod walk;
+mod way;
+
+pub use cursor::SavedCursor;
+pub use pool::salvage;
+pub use saved::{Salvage, SalvageFault, SavedDevice, SavedHead};

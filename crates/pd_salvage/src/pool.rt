@@ -1,0 +1,41 @@
+//! The salvage of a pool.
+
+ghost use Rattle.std.specs.Prelude.{◌≡◌, ℕ, ◌^◌, ◌≤◌, List, IfOk, IfSome};
+ghost use Rattle.pd_kinds.specs.Objects.{DeviceState};
+ghost use Rattle.pd_image.specs.Device.{IsAttached, OnlyReads};
+ghost use Rattle.pd_laid.specs.Salvage.{salvage_from};
+ghost use Rattle.pd_salvage.specs.Faults.{CountsSalvage};
+ghost use Rattle.pd_salvage.specs.Saved.{pool_of};
+
+use crate::saved::{Salvage, SalvageFault};
+use crate::saving::Saving;
+use pd_image::Device;
+use pd_kinds::ThinSuper;
+use std::alloc::Global;
+
+/// All that can be saved of the pool with this superblock.
+///
+/// It takes the memory of three cursors over trees, 40 bytes a device and 32 a run of mappings.
+///
+/// Fails with `Device` where a read failed, and with `Memory` where that memory wasn't found.
+pub fn salvage<D: Device>(
+    alloc: Global,
+    dev: &mut D,
+    s: &ThinSuper,
+) -> Result<Salvage, SalvageFault>
+    requires attached { IsAttached (D.state dev.old) }
+    requires some { 1 ≤ s.now.meta_map.blocks }
+    requires within { s.now.meta_map.blocks ≤ (D.state dev.old).blocks }
+    requires few { s.now.meta_map.blocks ≤ 4161600 }
+    requires data { s.now.data_map.blocks ≤ 2 ^ 40 }
+    ensures saved { IfOk result (λ saved. IfSome (D.state dev.old).held (λ image. pool_of saved ≡ salvage_from s.now image)) }
+    ensures kept { OnlyReads (D.state dev.old) (D.state dev.new) }
+    ensures faults { CountsSalvage result (D.state dev.old).faults (D.state dev.new).faults }
+{
+    let mut saving = match Saving::start(alloc, s) {
+        Ok(saving) => saving,
+        Err(_) => return Err(SalvageFault::Memory),
+    };
+    saving.save_all(dev)?;
+    Ok(saving.saved())
+}

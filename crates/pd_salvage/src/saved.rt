@@ -1,0 +1,89 @@
+//! What was saved of a pool.
+
+ghost use Rattle.std.specs.Prelude.{◌≡◌};
+
+use pd_pool::Run;
+use pd_value::Details;
+use std::marker::Model;
+
+/// Why there is no answer.
+#[derive(Clone, Copy, Debug, PartialEq, Eq)]
+pub enum SalvageFault {
+    /// Memory wasn't found.
+    Memory,
+    /// A read of the device failed.
+    Device,
+}
+
+/// What the superblock says of a pool.
+#[derive(Clone, Copy, Debug, PartialEq, Eq)]
+pub struct SavedHead {
+    /// The pool's identifier.
+    pub uuid: [u8; 16],
+    /// The pool's snapshot count.
+    pub time: u32,
+    /// The transaction id.
+    pub transaction: u64,
+    /// The size of a data block in sectors of 512 bytes.
+    pub block_size: u32,
+    /// The number of data blocks.
+    pub blocks: u64,
+}
+
+/// A thin device that was saved, and how many of the runs are its.
+#[derive(Clone, Copy, Debug, PartialEq, Eq)]
+pub struct SavedDevice {
+    /// The number of the device.
+    pub id: u64,
+    /// Its details, of which the mapped number was counted again.
+    pub details: Details,
+    /// How many runs its mappings are.
+    pub runs: usize,
+}
+
+/// What was saved of a pool, held in memory: 40 bytes a device and 32 a run.
+///
+/// It is a lawful pool: ids and virtual blocks ascend, and each number fits its place.
+#[derive(Drop)]
+pub struct Salvage {
+    pub(crate) head: SavedHead,
+    pub(crate) devices: Vec<SavedDevice>,
+    pub(crate) runs: Vec<Run>,
+}
+
+impl Model for Salvage {
+    ghost use Rattle.pd_salvage.specs.Saved.{IsSavedPool, SavedPool};
+
+    ghost Value = { SavedPool };
+
+    ghost view = { λ s. record { head = s.head; devices = s.devices.items; runs = s.runs.items } };
+
+    ghost invariant = { λ s. IsSavedPool (record { head = s.head; devices = s.devices.items; runs = s.runs.items }) };
+}
+
+impl Salvage {
+    ghost use Rattle.pd_salvage.specs.Saved.{IsSavedPool};
+
+    /// What the superblock says of the pool.
+    pub fn head(&self) -> &SavedHead
+        ensures head { result.now ≡ self.now.head }
+        // What was saved is a lawful pool, and its runs are as long as can be.
+        ensures sound { IsSavedPool self.now }
+    {
+        &self.head
+    }
+
+    /// The devices, by ascending id.
+    pub fn devices(&self) -> &[SavedDevice]
+        ensures { result.now ≡ self.now.devices }
+    {
+        &self.devices
+    }
+
+    /// The runs of all devices, by ascending virtual block, those of the first device first.
+    pub fn runs(&self) -> &[Run]
+        ensures { result.now ≡ self.now.runs }
+    {
+        &self.runs
+    }
+}

@@ -1,0 +1,204 @@
+//! A pool that is being saved.
+
+ghost use Rattle.std.specs.Prelude.{◌≡◌, ◌<◌, ◌++◌, ◌∷◌, [], not, OnOk};
+ghost use Rattle.std.specs.List.{All};
+ghost use Rattle.pd_kinds.specs.Edge.{is_outside};
+ghost use Rattle.pd_salvage.specs.Saving.{FitsDevice, FitsHead, head_of, saved_device};
+
+use crate::cursor::SavedCursor;
+use crate::details::SavedDetails;
+use crate::gather::gather;
+use crate::saved::{Salvage, SalvageFault, SavedDevice, SavedHead};
+use pd_image::Device;
+use pd_kinds::ThinSuper;
+use pd_pool::Run;
+use pd_value::{BlockTime, Details, Root};
+use std::alloc::{AllocError, Global};
+
+/// The devices and runs that were saved, and the cursors over what is left.
+#[derive(Drop)]
+pub(crate) struct Saving {
+    s: ThinSuper,
+    tops: SavedCursor<Root>,
+    details: SavedDetails,
+    mappings: SavedCursor<BlockTime>,
+    devices: Vec<SavedDevice>,
+    runs: Vec<Run>,
+}
+
+impl Saving {
+    ghost use Rattle.std.specs.Prelude.{◌≡◌, ◌^◌, ◌≤◌, IfOk, OnOk, IfSome};
+    ghost use Rattle.pd_kinds.specs.Objects.{DeviceState};
+    ghost use Rattle.pd_image.specs.Device.{IsAttached, OnlyReads};
+    ghost use Rattle.pd_laid.specs.Salvage.{salvage_from};
+    ghost use Rattle.pd_salvage.specs.Faults.{CountsSalvage};
+    ghost use Rattle.pd_salvage.specs.Saved.{pool_of};
+    ghost use Rattle.pd_salvage.specs.Saving.{HasReadyCursors, IsSaved, IsStarted, SavesDevice, saved_pool};
+
+    /// No device, and cursors before the first one.
+    pub(crate) fn start(alloc: Global, s: &ThinSuper) -> Result<Saving, AllocError>
+        ensures { IfOk result (IsStarted s.now) }
+    {
+        let nr = s.meta_map.blocks;
+        let tops = SavedCursor::start(alloc, nr, s.mapping_root)?;
+        let details = SavedDetails::start(alloc, nr, s.details_root)?;
+        let mappings = SavedCursor::start(alloc, nr, s.mapping_root)?;
+        Ok(Saving {
+            s: *s,
+            tops,
+            details,
+            mappings,
+            devices: Vec::new(alloc),
+            runs: Vec::new(alloc),
+        })
+    }
+
+    /// Saves the devices that are left.
+    pub(crate) fn save_all<D: Device>(&mut self, dev: &mut D) -> Result<(), SalvageFault>
+        requires attached { IsAttached (D.state dev.old) }
+        requires within { self.old.s.meta_map.blocks ≤ (D.state dev.old).blocks }
+        requires few { self.old.s.data_map.blocks ≤ 2 ^ 40 }
+        requires started { IsStarted self.old.s self.old }
+        ensures sound { OnOk result (IsSaved self.new.s.data_map.blocks self.new.devices.items self.new.runs.items) }
+        ensures saved { OnOk result (IfSome (D.state dev.old).held (λ image. pool_of (saved_pool self.new) ≡ salvage_from self.old.s image)) }
+        ensures same { self.new.s ≡ self.old.s }
+        ensures kept { OnlyReads (D.state dev.old) (D.state dev.new) }
+        ensures faults { CountsSalvage result (D.state dev.old).faults (D.state dev.new).faults }
+    {
+        loop {
+            match self.tops.next(dev) {
+                Ok(Some((id, root))) => {
+                    if is_inside(root.0, self.s.meta_map.blocks) {
+                        self.save_device(dev, id, root.0)?;
+                    }
+                }
+                Ok(None) => return Ok(()),
+                Err(_) => return Err(SalvageFault::Device),
+            }
+        }
+    }
+
+    /// Saves the device with this id and root.
+    fn save_device<D: Device>(
+        &mut self,
+        dev: &mut D,
+        id: u64,
+        root: u64,
+    ) -> Result<(), SalvageFault>
+        requires attached { IsAttached (D.state dev.old) }
+        requires ready { HasReadyCursors self.old }
+        requires within { self.old.s.meta_map.blocks ≤ (D.state dev.old).blocks }
+        requires few { self.old.s.data_map.blocks ≤ 2 ^ 40 }
+        ensures saves { OnOk result (SavesDevice (D.state dev.old).held id root self.old self.new) }
+        ensures ready { HasReadyCursors self.new }
+        ensures same { (self.new.s ≡ self.old.s) × (self.new.tops ≡ self.old.tops) }
+        ensures kept { OnlyReads (D.state dev.old) (D.state dev.new) }
+        ensures faults { CountsSalvage result (D.state dev.old).faults (D.state dev.new).faults }
+    {
+        let details = match self.details.find_or(dev, id, self.s.transaction) {
+            Ok(details) => details,
+            Err(_) => return Err(SalvageFault::Device),
+        };
+        let first = self.runs.len();
+        self.mappings.restart(self.s.meta_map.blocks, root);
+        let mapped = gather(
+            &mut self.mappings,
+            dev,
+            self.s.data_map.blocks,
+            &mut self.runs,
+        )?;
+        let runs = self.runs.len() - first;
+        match add_device(&mut self.devices, id, details, mapped, runs) {
+            Ok(()) => Ok(()),
+            Err(_) => Err(SalvageFault::Memory),
+        }
+    }
+
+    /// What was saved.
+    pub(crate) fn saved(self) -> Salvage
+        requires few { self.s.data_map.blocks ≤ 2 ^ 40 }
+        requires sound { IsSaved self.s.data_map.blocks self.devices.items self.runs.items }
+        ensures { result ≡ saved_pool self }
+    {
+        let head = head_of(&self.s);
+        let Saving {
+            s: _,
+            tops: _,
+            details: _,
+            mappings: _,
+            devices,
+            runs,
+        } = self;
+        Salvage {
+            head,
+            devices,
+            runs,
+        }
+    }
+}
+
+/// What the superblock says of the pool.
+fn head_of(s: &ThinSuper) -> SavedHead
+    ensures head { result ≡ head_of s.now }
+    ensures fits { FitsHead result }
+{
+    head(
+        s.uuid,
+        s.time,
+        s.transaction,
+        s.block_size,
+        s.data_map.blocks,
+    )
+}
+
+/// The head with these fields.
+fn head(uuid: [u8; 16], time: u32, transaction: u64, block_size: u32, blocks: u64) -> SavedHead
+    ensures head { result ≡ record { uuid = uuid; time = time; transaction = transaction; block_size = block_size; blocks = blocks } }
+    ensures fits { FitsHead result }
+{
+    show_bytes(&uuid);
+    SavedHead {
+        uuid,
+        time,
+        transaction,
+        block_size,
+        blocks,
+    }
+}
+
+/// Whether a root lies in the metadata, of so many blocks.
+fn is_inside(root: u64, nr: u64) -> bool
+    ensures { result ≡ not (is_outside nr root) }
+{
+    (root != 0) & (root < nr)
+}
+
+/// Each byte is below 256: reading it shows its range.
+fn show_bytes(bytes: &[u8; 16])
+    ensures { All (λ b. b < 256) bytes.now }
+{
+    for i in 0..16 {
+        let _byte = bytes[i];
+    }
+}
+
+/// Adds a device with these details, but for their mapped number.
+fn add_device(
+    devices: &mut Vec<SavedDevice>,
+    id: u64,
+    details: Details,
+    mapped: u64,
+    runs: usize,
+) -> Result<(), AllocError>
+    ensures added { OnOk result (devices.new.items ≡ devices.old.items ++ saved_device id details mapped runs ∷ []) }
+    ensures fits { OnOk result (FitsDevice (saved_device id details mapped runs)) }
+{
+    let details = Details {
+        mapped,
+        transaction: details.transaction,
+        created: details.created,
+        snapped: details.snapped,
+    };
+    devices.push(SavedDevice { id, details, runs })?;
+    Ok(())
+}

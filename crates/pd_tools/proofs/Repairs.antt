@@ -1,0 +1,322 @@
+-- What the work of a repair comes to, over plain variables.
+use Rattle.std.proofs.Common.{◌≡◌, ◌≢◌, ◌⊎◌, inl, inr, ℕ, ◌≤◌, ◌<◌, true, false, not, nat_eq, IsTrue, List, [], ◌∷◌, length, Option, Some, None, IfSome, Result, Ok, Err, refl, sym, ap, ◌∙◌, subst, arith, lit≤}
+use Rattle.std.specs.Prelude.{OnOk, MatchResult}
+use Rattle.std.specs.Option.{option_map_or}
+use Rattle.std.proofs.lemmas.Bool.{cases_lt, lt-ltb, le-ltb}
+use Rattle.std.proofs.lemmas.Option.{IfSome_then}
+use Rattle.std.proofs.Math.Dec.{eqb-suc-zero}
+use Rattle.pd_kinds.specs.declared.fault.Fault.{Fault}
+use Rattle.pd_kinds.specs.declared.kind.Kind.TheVariants.{Thin}
+use Rattle.pd_kinds.specs.declared.kind.Stage.TheVariants.{Super}
+use Rattle.pd_kinds.specs.declared.rule.Rule.{Rule}
+use Rattle.pd_kinds.specs.declared.rules.Rules.{Rules}
+use Rattle.pd_kinds.specs.Objects.{DeviceState, SinkState, Rose}
+use Rattle.pd_kinds.specs.Crash.{IsSynced, IsUntouched}
+use Rattle.pd_kinds.specs.Faults.{faults_at}
+use Rattle.pd_kinds.specs.Limits.{room_of}
+use Rattle.pd_kinds.specs.Meaning.{ThinPool}
+use Rattle.pd_kinds.specs.Report.{Reported, report_of}
+use Rattle.pd_kinds.specs.RuleSet.{has_rule}
+use Rattle.pd_kinds.specs.Stages.{faults}
+use Rattle.pd_kinds.proofs.AppendLemmas.{appends_none, front_none}
+use Rattle.pd_kinds.proofs.CrashLemmas.{and_then, stays, weaken}
+use Rattle.pd_laws.proofs.CleanLemmas.{no_rule_broken}
+use Rattle.pd_spells.specs.Lines.{no_room_line, reported_lines}
+use Rattle.pd_spells.specs.ThinNeed.{thin_need}
+use Rattle.pd_laid.specs.Salvage.{salvage}
+use Rattle.pd_image.specs.Device.{KeepsPlace, OnlyReads}
+use Rattle.pd_answers.specs.Answer.{Answer, Objects}
+use Rattle.pd_answers.specs.Outputs.{LeavesMade}
+use Rattle.pd_answers.specs.Repairs.{LaysPool, Salvaged, repair, repair_answer}
+use Rattle.pd_answers.specs.Terms.{is_possible}
+use Rattle.pd_repair.specs.declared.fault.RepairFault.{RepairFault}
+use Rattle.pd_repair.specs.declared.fault.RepairFault.TheVariants as fault
+use Rattle.pd_repair.specs.Repaired.{Answers, AnswersSuper, IsRepaired, MakesPool}
+use Rattle.pd_tools.specs.declared.stop.Stop.{Stop}
+use Rattle.pd_tools.specs.declared.stop.Stop.TheVariants.{Device, Memory}
+use Rattle.pd_tools.specs.Repair.{AreOpened, AreUnopened}
+use Rattle.pd_tools.specs.Stop.{stop_status}
+use Rattle.pd_tools.specs.Work.{HasCause, IsFinished, IsStopped, IsWork}
+use Rattle.pd_tools.proofs.Queries.{two_told}
+use Rattle.pd_tools.proofs.Restores.{Image, here, room-held, room-told, room_in, still_synced, untouched_output}
+
+-- what is found in what the input tells
+report_in : Option Image → Reported
+report_in held = option_map_or (λ (image : Image). report_of (faults Thin Super image)) held (report_of [])
+
+pool_in : Option Image → ThinPool
+pool_in held = option_map_or (λ (image : Image). salvage image) held (salvage [])
+
+report-told : (held : Option Image) → IfSome held (λ image. report_in held ≡ report_of (faults Thin Super image))
+unfolding report_in
+report-told None = tt
+report-told (Some image) = refl
+
+pool-told : (held : Option Image) → IfSome held (λ image. pool_in held ≡ salvage image)
+unfolding pool_in
+pool-told None = tt
+pool-told (Some image) = refl
+
+abbrev found_of : Reported → ThinPool → ℕ → Salvaged
+found_of report pool room = record { report = report; pool = pool; room = room }
+
+-- where a rule is named there is a fault
+named_some : (rules : Rules) (list : List Fault) → faults_at 0 (has_rule rules) ≡ list → (((rule : Rule) → has_rule rules rule ≡ false) → ⊥) → nat_eq (length list) 0 ≡ false
+named_some rules [] is named = absurd (named (no_rule_broken 0 (has_rule rules) is))
+named_some rules (fault ∷ list) is named = eqb-suc-zero (length list)
+
+-- the answer to what was found
+answer_made : (pool : ThinPool) (room : ℕ) → thin_need pool room ≤ room
+    → repair_answer (found_of (report_of []) pool room) ≡ record { status = 0; out = []; notes = [] }
+answer_made pool room fits = rw (le-ltb room (thin_need pool room) fits) refl
+
+answer_small : (pool : ThinPool) (room : ℕ) → room < thin_need pool room
+    → repair_answer (found_of (report_of []) pool room) ≡ record { status = 4; out = []; notes = no_room_line (thin_need pool room) room }
+answer_small pool room small = rw (lt-ltb room (thin_need pool room) small) refl
+
+answer_faulty : (report : Reported) (pool : ThinPool) (room : ℕ) → nat_eq report.total 0 ≡ false
+    → repair_answer (found_of report pool room) ≡ record { status = 1; out = []; notes = reported_lines report }
+answer_faulty report pool room faulty = rw faulty refl
+
+-- an output that was left alone, under each status but 0
+left_alone : (answer : Answer) (pool : ThinPool) (room status : ℕ) (output last : DeviceState) → IsSynced output → IsUntouched output last → status ≢ 0
+    → LeavesMade (LaysPool answer pool room) (not (nat_eq answer.status 0)) status output last
+left_alone answer pool room status output last synced same some =
+    untouched_output (LaysPool answer pool room) (not (nat_eq answer.status 0)) status output last synced same some
+
+-- before anything was done
+pub repair_at_rest : (from to : List ℕ) (before after : Objects) (input output : DeviceState) → IsSynced output → output.access ≡ 0
+    → (finding : Salvaged) × ((repair from to).finds (record before { input = input; output = output }) (record after { input = input; output = output }) finding)
+    × ((repair from to).leaves finding (record before { input = input; output = output }) (record after { input = input; output = output }) 6)
+repair_at_rest from to before after input output synced closed =
+    let room = room_in output.held in
+    let finding = found_of (report_in input.held) (pool_in input.held) room in (
+      finding,
+      (
+        record { told = room-told output.held; attached = λ e. absurd (omega arith) },
+        two_told input.held (λ image report pool. (report, pool)) (report-told input.held) (pool-told input.held),
+      ),
+      left_alone (repair_answer finding) (pool_in input.held) room 6 output output synced (record { held = refl; history = refl }) (λ e. omega arith),
+    )
+
+-- a device couldn't be attached
+pub repair_unopened : (from to : List ℕ) (others : Objects) (notes : SinkState) (input last_input output last : DeviceState) → IsSynced output
+    → AreUnopened from to input last_input output last
+    → IsStopped (repair from to) (record others { input = input; output = output }) (record others { notes = notes; input = last_input; output = last }) Device
+repair_unopened from to others notes input last_input output last synced un =
+    let room = room_in output.held in
+    let finding = found_of (report_in input.held) (pool_in input.held) room in
+    let leaves = λ (status : ℕ) (some : status ≢ 0). left_alone (repair_answer finding) (pool_in input.held) room status output last synced un.output_untouched some in
+    record {
+      finding = finding;
+      work = record {
+        found = (
+          record { told = room-told output.held; attached = λ e. absurd (un.closed e) },
+          two_told input.held (λ image report pool. (report, pool)) (report-told input.held) (pool-told input.held),
+        );
+        possible = refl;
+        followed = record { source = tt; out = tt; input = un.input_used; output = un.output_used; third = tt };
+        kept = record { source = refl; out = refl; input = un.input_untouched; output = tt; third = refl };
+        silent = λ _. refl;
+        leaves = leaves 5 (λ e. omega arith);
+      };
+      cause = elim un.cause [ inl rose ↦ inl rose | inr rose ↦ inr (inl rose) ];
+      front = front_none _ others.out.written;
+      lost = leaves 6 (λ e. omega arith);
+    }
+
+-- a result without a fault
+abbrev IsDone : Result (Unit {0}) RepairFault → Type 0
+IsDone (Ok done) = Unit {0}
+IsDone (Err fault) = ⊥
+
+where_done : (result : Result (Unit {0}) RepairFault) {P : Type 0} → OnOk result P → IsDone result → P
+where_done (Ok done) p is = p
+where_done (Err fault) p is = absurd is
+
+-- what holds of a fault that is known
+of_fault : (P : RepairFault → Type 0) (Q : Type 0) (result : Result (Unit {0}) RepairFault) (fault : RepairFault) → result ≡ Err fault
+    → MatchResult result (λ done. Q) P → P fault
+of_fault P Q result fault is all = rw is at all
+
+module _ (from to : List ℕ) (others : Objects) (notes : SinkState) (input opened last_input output writable last : DeviceState)
+    (synced : IsSynced output) (both : AreOpened from to input opened output writable)
+    (measured : IfSome writable.held (λ image. length image ≡ writable.blocks))
+    (reads : OnlyReads opened last_input) (place : KeepsPlace writable last)
+    (result : Result (Unit {0}) RepairFault) (done : IsRepaired result opened writable last) where
+  abbrev room : ℕ
+  room = room_of writable.blocks
+
+  abbrev pool : ThinPool
+  pool = done.pool
+
+  abbrev finding : Reported → Salvaged
+  finding report = found_of report pool room
+
+  abbrev before : Objects
+  before = record others { input = input; output = output }
+
+  abbrev after : Objects
+  after = record others { notes = notes; input = last_input; output = last }
+
+  -- what is right to report
+  abbrev IsRight : Reported → Type 0
+  IsRight report = IfSome input.held (λ image. report ≡ report_of (faults Thin Super image))
+
+  -- what is left of the output
+  abbrev Leaves : Reported → ℕ → Type 0
+  Leaves report status = LeavesMade (LaysPool (repair_answer (finding report)) pool room) (not (nat_eq (repair_answer (finding report)).status 0)) status output last
+
+  -- what was found is right
+  found : (report : Reported) → IsRight report → (repair from to).finds before after (finding report)
+  found report right = (
+    record {
+      told = room-held output.held writable.held writable.blocks both.output_untouched.held measured;
+      attached = λ _. ap room_of (sym place.blocks);
+    },
+    two_told input.held (λ image is saved. (is, saved)) right
+        (subst (λ (h : Option Image). IfSome h (λ image. pool ≡ salvage image)) both.input_untouched.held done.right),
+  )
+
+  -- what the faults of the superblock are answered by
+  of_super : (P : List Fault → Type 0) → IfSome opened.held (λ image. P (faults Thin Super image)) → IfSome input.held (λ image. P (faults Thin Super image))
+  of_super P told = subst (λ (h : Option Image). IfSome h (λ image. P (faults Thin Super image))) both.input_untouched.held told
+
+  -- there are none
+  none_right : IfSome opened.held (λ image. faults Thin Super image ≡ []) → IsRight (report_of [])
+  none_right none = IfSome_then input.held (of_super (λ list. list ≡ []) none) (λ image is. ap (λ (list : List Fault). report_of list) (sym is))
+
+  fault_answer : (f : RepairFault) → result ≡ Err f → IfSome opened.held (λ image. AnswersSuper (Err f) (faults Thin Super image))
+  fault_answer f is = subst (λ (r : Result (Unit {0}) RepairFault). IfSome opened.held (λ image. AnswersSuper r (faults Thin Super image))) is done.rules
+
+  -- the work, up to what it leaves
+  work : (report : Reported) → IsRight report → (status : ℕ) → IsTrue (is_possible (repair from to) status) → Leaves report status
+      → IsWork (repair from to) (finding report) before after status
+  work report right status possible left = record {
+    found = found report right;
+    possible = possible;
+    followed = record {
+      source = tt;
+      out = tt;
+      input = record { allowed = inr (inl (reads.access ∙ both.input_access)); named = λ _. rw reads.path both.input_path };
+      output = record { allowed = inr (inl (place.access ∙ both.output_access)); named = λ _. rw place.path both.output_path };
+      third = tt;
+    };
+    kept = record {
+      source = refl;
+      out = refl;
+      input = record { held = reads.held ∙ both.input_untouched.held; history = reads.history ∙ both.input_untouched.history };
+      output = tt;
+      third = refl;
+    };
+    silent = λ _. refl;
+    leaves = left;
+  }
+
+  -- an output that the repair left alone
+  alone : IsUntouched writable last → (report : Reported) (status : ℕ) → status ≢ 0 → Leaves report status
+  alone same report status some =
+      left_alone (repair_answer (finding report)) pool room status output last synced
+      (record { held = same.held ∙ both.output_untouched.held; history = same.history ∙ both.output_untouched.history }) some
+
+  -- an output that may have been written
+  written : (answer : Answer) → answer.status ≡ 0 → (status : ℕ) → (status ≡ 0 → IsDone result) → ((status ≡ 3) ⊎ (status ≡ 4) → ⊥)
+      → LeavesMade (LaysPool answer pool room) (not (nat_eq answer.status 0)) status output last
+  written answer zero status is_done other = record {
+    output = record {
+      crash = IfSome_then output.held synced (λ image s.
+          weaken
+          (and_then (stays {old = output} {new = writable} both.output_untouched.held both.output_untouched.history (here image (MakesPool pool room image) output s))
+          (done.output.crash image (still_synced image output writable both.output_untouched s)))
+          (λ left firsts is chance. elim (is chance) [
+            | inl old ↦ inl old
+            | inr none ↦ elim none [ inl torn ↦ inr (inl torn) | inr made ↦ inr (inr (zero, made.1)) ]
+          ]));
+      made = λ e. IfSome_then output.held synced (λ image s.
+          IfSome_then last.held (where_done result done.output.made (is_done e) image (still_synced image output writable both.output_untouched s))
+          (λ now is. ((zero, is.0), is.1)));
+      refused = λ either. absurd (other either);
+    };
+    untouched = λ unwritten. absurd (never unwritten);
+  }
+    where
+      never : not (nat_eq answer.status 0) ≡ true → ⊥
+      never e = let f : false ≡ true = rw zero at e in cc
+
+  -- whatever there is room for, where no faults are reported
+  either_way : (status : ℕ) → status ≢ 0 → status ≢ 3 → status ≢ 4 → Leaves (report_of []) status
+  either_way status some three four = elim (cases_lt room (thin_need pool room)) [
+    | inl small ↦ alone (done.output.untouched small) (report_of []) status some
+    | inr fits ↦ written (repair_answer (finding (report_of []))) (ap (λ (a : Answer). a.status) (answer_made pool room fits)) status
+        (λ e. absurd (some e)) (λ either. elim either [ inl e ↦ three e | inr e ↦ four e ])
+  ]
+
+  -- it came to an answer
+  finished : (report : Reported) → IsRight report → (status : ℕ) (line : List ℕ) → status ≤ 4 → IsTrue (is_possible (repair from to) status)
+      → repair_answer (finding report) ≡ record { status = status; out = []; notes = line } → Leaves report status
+      → IsFinished (repair from to) before after status line
+  finished report right status line low possible answer left = record {
+    finding = finding report;
+    work = work report right status possible left;
+    low = low;
+    same_status = sym (ap (λ (a : Answer). a.status) answer);
+    same_line = sym (ap (λ (a : Answer). a.notes) answer);
+    out = rw answer (appends_none others.out.written);
+    open_devices = record { source = tt; input = reads.access ∙ both.input_access; output = place.access ∙ both.output_access; third = tt };
+    open_out = λ _. tt;
+    read = λ _. tt;
+  }
+
+  pub repair_made : result ≡ Ok tt → IsFinished (repair from to) before after 0 []
+  repair_made is =
+      let fits : thin_need pool room ≤ room = subst (λ (r : Result (Unit {0}) RepairFault). Answers r pool room) is done.output.answer in
+      let none = subst (λ (r : Result (Unit {0}) RepairFault). IfSome opened.held (λ image. AnswersSuper r (faults Thin Super image))) is done.rules in
+      finished (report_of []) (none_right none) 0 [] (lit≤ tt) refl (answer_made pool room fits)
+      (written (repair_answer (finding (report_of []))) (ap (λ (a : Answer). a.status) (answer_made pool room fits)) 0
+      (λ _. rw is tt) (λ either. elim either [ inl e ↦ omega arith | inr e ↦ omega arith ]))
+
+  pub repair_no_room : (need blocks : ℕ) → result ≡ Err (fault.NoRoom need blocks) → IsFinished (repair from to) before after 4 (no_room_line need blocks)
+  repair_no_room need blocks is =
+      let answer = of_fault _ _ result (fault.NoRoom need blocks) is done.output.answer in
+      let small : room < thin_need pool room = subst (λ (n : ℕ). room < n) answer.0 answer.1.1 in
+      let same = of_fault _ _ result (fault.NoRoom need blocks) is done.output.early tt in
+      finished (report_of []) (none_right (fault_answer (fault.NoRoom need blocks) is)) 4 (no_room_line need blocks) (lit≤ tt) refl
+      (rw (answer.0, answer.1.0) (answer_small pool room small)) (alone same (report_of []) 4 (λ e. omega arith))
+
+  pub repair_faulty : (rules : Rules) → result ≡ Err (fault.NoSuper rules) → (((rule : Rule) → has_rule rules rule ≡ false) → ⊥)
+      → (report : Reported) → report ≡ report_of (faults_at 0 (has_rule rules)) → IsFinished (repair from to) before after 1 (reported_lines report)
+  repair_faulty rules is named report reported =
+      let same = of_fault _ _ result (fault.NoSuper rules) is done.output.early tt in
+      let right = IfSome_then input.held (of_super (λ list. (list ≢ []) × (faults_at 0 (has_rule rules) ≡ list)) (fault_answer (fault.NoSuper rules) is))
+      (λ image broken. reported ∙ ap (λ (list : List Fault). report_of list) broken.1) in
+      let faulty : nat_eq report.total 0 ≡ false = ap (λ (r : Reported). nat_eq r.total 0) reported ∙ named_some rules (faults_at 0 (has_rule rules)) refl named in
+      finished report right 1 (reported_lines report) (lit≤ tt) refl (answer_faulty report pool room faulty) (alone same report 1 (λ e. omega arith))
+
+  stopped : (report : Reported) → IsRight report → (stop : Stop) → IsTrue (is_possible (repair from to) (stop_status stop)) → HasCause (repair from to) before after stop
+      → ((status : ℕ) → status ≢ 0 → status ≢ 3 → status ≢ 4 → Leaves report status) → (stop_status stop ≢ 0) → (stop_status stop ≢ 3) → (stop_status stop ≢ 4)
+      → IsStopped (repair from to) before after stop
+  stopped report right stop possible cause leaves zero three four = record {
+    finding = finding report;
+    work = work report right (stop_status stop) possible (leaves (stop_status stop) zero three four);
+    cause = cause;
+    front = front_none _ others.out.written;
+    lost = leaves 6 (λ e. omega arith) (λ e. omega arith) (λ e. omega arith);
+  }
+
+  pub repair_memory : result ≡ Err fault.Memory → IsStopped (repair from to) before after Memory
+  repair_memory is =
+      let none = fault_answer fault.Memory is in
+      stopped (report_of []) (none_right none) Memory refl (of_super (λ list. list ≡ []) none) either_way
+      (λ e. omega arith) (λ e. omega arith) (λ e. omega arith)
+
+  pub repair_output : result ≡ Err fault.Output → Rose writable.faults last.faults → IsStopped (repair from to) before after Device
+  repair_output is rose =
+      stopped (report_of []) (none_right (fault_answer fault.Output is)) Device refl (inr (inl (rw both.output_faults at rose))) either_way
+      (λ e. omega arith) (λ e. omega arith) (λ e. omega arith)
+
+  pub repair_input : result ≡ Err fault.Input → Rose opened.faults last_input.faults → IsStopped (repair from to) before after Device
+  repair_input is rose =
+      let same = of_fault _ _ result fault.Input is done.output.early tt in
+      stopped (report_in input.held) (report-told input.held) Device refl (inl (rw both.input_faults at rose))
+      (λ status some three four. alone same (report_in input.held) status some)
+      (λ e. omega arith) (λ e. omega arith) (λ e. omega arith)

@@ -1,0 +1,39 @@
+-- What a repair does to its objects.
+use Rattle.std.specs.Prelude.{◌≡◌, ◌≢◌, ◌⊎◌, ℕ, List, [], IfSome}
+use Rattle.pd_kinds.specs.Objects.{DeviceState, Rose}
+use Rattle.pd_kinds.specs.Crash.{IsUntouched}
+use Rattle.pd_spells.specs.Lines.{no_room_line, reported_lines}
+use Rattle.pd_answers.specs.Answer.{IsUsed, reading, writing}
+use Rattle.pd_tools.specs.declared.repair.Repaired.{Repaired}
+use Rattle.pd_tools.specs.declared.repair.Repaired.TheVariants.{Made, Faulty, NoRoom}
+
+-- the status of what became of a repair, and what goes to `notes`
+abbrev pub repaired_status : Repaired → ℕ
+repaired_status Made = 0
+repaired_status (Faulty report) = 1
+repaired_status (NoRoom need blocks) = 4
+
+abbrev pub repaired_line : Repaired → List ℕ
+repaired_line Made = []
+repaired_line (Faulty report) = reported_lines report
+repaired_line (NoRoom need blocks) = no_room_line need blocks
+
+-- both devices were attached, under these paths, and otherwise left alone
+pub record AreOpened (from to : List ℕ) (input opened output writable : DeviceState) : Type 0 where
+  pub input_access : opened.access ≡ 1
+  pub input_path : IfSome opened.path (λ told. told ≡ from)
+  pub input_untouched : IsUntouched input opened
+  pub input_faults : opened.faults ≡ input.faults
+  pub output_access : writable.access ≡ 2
+  pub output_path : IfSome writable.path (λ told. told ≡ to)
+  pub output_untouched : IsUntouched output writable
+  pub output_faults : writable.faults ≡ output.faults
+
+-- one of them couldn't be attached, since it failed, and both were left alone
+pub record AreUnopened (from to : List ℕ) (input opened output writable : DeviceState) : Type 0 where
+  pub input_used : IsUsed (reading from) opened.access opened.path
+  pub output_used : IsUsed (writing to) writable.access writable.path
+  pub closed : writable.access ≢ 2
+  pub input_untouched : IsUntouched input opened
+  pub output_untouched : IsUntouched output writable
+  pub cause : Rose input.faults opened.faults ⊎ Rose output.faults writable.faults
