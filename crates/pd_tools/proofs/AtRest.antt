@@ -4,7 +4,6 @@ use Rattle.std.specs.Option.{option_map_or}
 use Rattle.std.proofs.lemmas.Bool.{true≢false, cases_Bool}
 use Rattle.pd_kinds.specs.declared.kind.Kind.{Kind}
 use Rattle.pd_kinds.specs.declared.kind.Kind.TheVariants.{Thin, Cache, Era}
-use Rattle.pd_kinds.specs.declared.kind.Stage.TheVariants.{Whole}
 use Rattle.pd_kinds.specs.Objects.{SinkState}
 use Rattle.pd_kinds.specs.Meaning.{thin_meaning, era_meaning}
 use Rattle.pd_kinds.specs.Report.{report_of}

@@ -1,11 +1,11 @@
 -- What the work of the generator comes to, over plain variables.
-use Rattle.std.proofs.Common.{◌≡◌, ℕ, List, [], Option, refl, lit≤, inr, unwrap_or, true, false}
+use Rattle.std.proofs.Common.{◌≡◌, ℕ, List, [], Option, refl, lit≤, inr, unwrap_or}
 use Rattle.pd_kinds.specs.Objects.{SinkState, Rose, Appends, AppendsFront}
 use Rattle.pd_answers.specs.Answer.{Objects, IsUsed, reading}
 use Rattle.pd_answers.specs.Generated.{generated_text}
 use Rattle.pd_answers.specs.Promises.{generate}
 use Rattle.pd_tools.specs.declared.stop.Stop.TheVariants.{Stream}
-use Rattle.pd_tools.specs.Work.{IsFinished, IsStopped, IsWork}
+use Rattle.pd_tools.specs.Work.{IsFinished, IsStopped}
 
 module _ (number : ℕ) (file : Option (List ℕ)) (others : Objects) (notes out out' : SinkState) (used : IsUsed (reading (unwrap_or file [])) out'.access out'.path) where
   -- the text was put

@@ -1,5 +1,5 @@
 -- What the work of a rehearsal comes to, over plain variables.
-use Rattle.std.proofs.Common.{◌≡◌, ◌≢◌, ◌⊎◌, inl, inr, ℕ, ◌≤◌, true, false, nat_eq, Bool, List, [], ◌∷◌, length, Option, None, Some, IfSome, IsTrue, Result, Ok, Err, refl, sym, ap, ◌∙◌, subst, arith, lit≤}
+use Rattle.std.proofs.Common.{◌≡◌, ◌≢◌, ◌⊎◌, inl, inr, ℕ, true, false, nat_eq, List, [], length, Option, None, Some, IfSome, IsTrue, Result, Ok, Err, refl, sym, ap, ◌∙◌, subst, arith, lit≤}
 use Rattle.std.specs.Prelude.{MatchResult, OnOk, count_by, sum_by}
 use Rattle.std.proofs.lemmas.Bool.{ne_eqb}
 use Rattle.std.proofs.lemmas.Option.{IfSome_then}
@@ -22,21 +22,17 @@ use Rattle.pd_image.specs.Device.{AttachesDevice, KeepsPlace}
 use Rattle.pd_answers.specs.Answer.{Objects, IsUsed, reading, writing}
 use Rattle.pd_answers.specs.Generated.{generated_text}
 use Rattle.pd_answers.specs.Outputs.{LeavesMade}
-use Rattle.pd_answers.specs.Rehearsals.{AreNumbers, Rehearsed, rehearse, rehearsal_answer}
+use Rattle.pd_answers.specs.Rehearsals.{AreNumbers, Rehearsed, rehearse}
 use Rattle.pd_answers.specs.Restores.{restore_answer}
 use Rattle.pd_answers.specs.Terms.{is_one_of, is_possible}
-use Rattle.pd_restoring.specs.Restored.{IsAccepted}
 use Rattle.pd_rehearse.specs.declared.fault.RehearseFault.{RehearseFault}
 use Rattle.pd_rehearse.specs.declared.fault.RehearseFault.TheVariants as f
 use Rattle.pd_rehearse.specs.declared.run.Rehearsal.{Rehearsal}
 use Rattle.pd_rehearse.specs.Failing.{IsTurnedDown}
 use Rattle.pd_rehearse.specs.Rehearsed.{Rehearses, found_of}
-use Rattle.pd_tools.specs.declared.rehearse.Rehearsed.TheVariants.{Clean, NoRoom, Faulty}
-use Rattle.pd_tools.specs.declared.stop.Stop.{Stop}
 use Rattle.pd_tools.specs.declared.stop.Stop.TheVariants.{Device, Stream, Memory}
 use Rattle.pd_tools.specs.Rehearse.{line_of}
 use Rattle.pd_tools.specs.Restore.{HaveVerdicts}
-use Rattle.pd_tools.specs.Stop.{stop_status}
 use Rattle.pd_tools.specs.Work.{IsFinished, IsStopped, IsWork}
 use Rattle.pd_tools.proofs.Checks.{not_yet}
 use Rattle.pd_tools.proofs.Restores.{Image, answer_accepted, answer_no_room, here, room-held, room-told, room_in, still_synced, untouched_output}

@@ -269,7 +269,8 @@ module _ (from to : List ℕ) (others : Objects) (notes : SinkState) (input open
 
   pub repair_made : result ≡ Ok tt → IsFinished (repair from to) before after 0 []
   repair_made is =
-      let fits : thin_need pool room ≤ room = subst (λ (r : Result (Unit {0}) RepairFault). Answers r pool room) is done.output.answer in
+      let answer : Answers (Ok tt) pool room = subst (λ (r : Result (Unit {0}) RepairFault). Answers r pool room) is done.output.answer in
+      let fits : thin_need pool room ≤ room = answer.1 in
       let none = subst (λ (r : Result (Unit {0}) RepairFault). IfSome opened.held (λ image. AnswersSuper r (faults Thin Super image))) is done.rules in
       finished (report_of []) (none_right none) 0 [] (lit≤ tt) refl (answer_made pool room fits)
       (written (repair_answer (finding (report_of []))) (ap (λ (a : Answer). a.status) (answer_made pool room fits)) 0
