@@ -17,12 +17,12 @@ abbrev pub Image : Type 0
 Image = List (List ℕ)
 
 -- two facts of what is told
-both_told : {X : Type 0} (o : Option X) (P Q : X → Type 0) → IfSome o P → IfSome o Q → IfSome o (λ x. P x × Q x)
+pub both_told : {X : Type 0} (o : Option X) (P Q : X → Type 0) → IfSome o P → IfSome o Q → IfSome o (λ x. P x × Q x)
 both_told None P Q p q = tt
 both_told (Some x) P Q p q = (p, q)
 
 -- what holds where something is told
-at_told : {X : Type 0} (o : Option X) (x : X) (P : X → Type 0) → o ≡ Some x → IfSome o P → P x
+pub at_told : {X : Type 0} (o : Option X) (x : X) (P : X → Type 0) → o ≡ Some x → IfSome o P → P x
 at_told o x P is all = rw is at all
 
 -- What is known of a kind: each text has one verdict, an accepted one spells its meaning, one that has no room isn't

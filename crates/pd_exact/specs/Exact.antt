@@ -15,14 +15,14 @@ use Rattle.pd_spells.specs.CacheNeed.{cache_need}
 use Rattle.pd_spells.specs.CacheText.{SpellsCache}
 use Rattle.pd_spells.specs.EraNeed.{era_need}
 use Rattle.pd_spells.specs.EraText.{SpellsEra}
-use Rattle.pd_laid.specs.Salvage.{HasBytes}
+use Rattle.pd_laid.specs.Salvage.{HasBytes, salvage}
 use Rattle.pd_kinds.specs.Limits.{room_of}
 use Rattle.pd_laid_thin.specs.CleanPool.{IsCleanPool}
 use Rattle.pd_laid_cache.specs.CleanCache.{IsCleanCache}
 use Rattle.pd_laid_era.specs.CleanEra.{IsCleanEra}
 use Rattle.pd_answers.specs.Answer.{NoFaults, Objects}
 use Rattle.pd_answers.specs.Promises.{image_text, terms_of}
-use Rattle.pd_answers.specs.Requests.{check, restore}
+use Rattle.pd_answers.specs.Requests.{check, repair, restore}
 use Rattle.pd_answers.specs.Terms.{IsAnswered}
 
 -- a restore of this kind, in this version of its metadata, was asked, and was answered with this status
@@ -101,3 +101,31 @@ pub record TellsClean (kind : Kind) (before after : Objects) (status : ℕ) (ima
   pub clean : status ≡ 0 → IsClean kind image
   pub unclean : status ≡ 1 → IsClean kind image → ⊥
   pub found : IsClean kind image → NoFaults before after → (status ≡ 0) ⊎ (status ≡ 7)
+
+-- a repair of one image onto another was asked, and was answered with this status
+abbrev pub IsRepairAnswered : List ℕ → List ℕ → Objects → Objects → ℕ → Type 0
+IsRepairAnswered from to = IsAnswered (terms_of (Some (repair from to)))
+
+-- what a device holds: bytes, in blocks of 4096
+pub record IsImage (image : List (List ℕ)) : Type 0 where
+  pub bytes : HasBytes image
+  pub blocks : All (λ block. length block ≡ 4096) image
+
+-- the output holds an image that is clean and means what is saved of the input, and nothing of it is unsynced
+abbrev pub HoldsSalvage : Objects → Objects → Type 0
+HoldsSalvage before after =
+    IfSome before.input.held (λ image. IsImage image → IfSome before.output.held (λ base.
+    IfSome after.output.held (λ repaired. IsCleanPool repaired (salvage image) × HoldsSynced repaired after.output)))
+
+-- a crash at any moment leaves, by no chance, the old image, no valid superblock, or such an image
+abbrev pub LeavesSalvage : Objects → Objects → Type 0
+LeavesSalvage before after =
+    IfSome before.input.held (λ image. IsImage image → IfSome before.output.held (λ base.
+    LeavesOnly (IsOldNoneOrMade base (λ left. IsCleanPool left (salvage image))) before.output after.output))
+
+-- a sound pool is to be repaired, onto an output that tells what it holds
+pub record IsSoundRepair (image base : List (List ℕ)) (before : Objects) : Type 0 where
+  pub is : IsImage image
+  pub sound : faults Thin Whole image ≡ []
+  pub read : before.input.held ≡ Some image
+  pub held : before.output.held ≡ Some base

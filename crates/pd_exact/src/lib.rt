@@ -1,9 +1,10 @@
-//! What a restored pool, cache or era target is, and what a check says of an image: the laws of laid images, of sound
-//! images, of texts and of clean images, in the terms of the tools.
+//! What a restored pool, cache or era target is, what a repaired pool is, and what a check says of an image: the laws of
+//! laid images, of sound images, of what is saved, of texts and of clean images, in the terms of the tools.
 #![tactic(auto)]
 
 mod caches;
 mod laws;
+mod repairs;
 mod targets;
 mod words;
 
@@ -14,6 +15,10 @@ pub use caches::{
 pub use laws::{
     checks_tell_clean_images, crashed_restore_leaves_no_other_pool, restored_dump_means_the_same,
     restored_pool_is_clean,
+};
+pub use repairs::{
+    crashed_repair_leaves_no_other_pool, repaired_pool_is_clean,
+    repaired_sound_pool_means_the_same, saved_pools_are_lawful,
 };
 pub use targets::{
     crashed_restore_leaves_no_other_target, restored_target_dump_means_the_same,

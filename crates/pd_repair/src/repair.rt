@@ -10,7 +10,7 @@ ghost use Rattle.pd_repair.specs.Repaired.{CountsRepair, HasSuper, IsFirst, IsMa
 use crate::fault::RepairFault;
 use crate::need::need_of_saved;
 use crate::source::SalvageSource;
-use pd_image::Device;
+use pd_image::{Device, Source};
 use pd_kinds::{Block, MAX_META_BLOCKS, ThinSuper};
 use pd_restore::restore_thin;
 use pd_restoring::RestoreFault;
@@ -146,6 +146,9 @@ fn restore_saved<B: Device>(
     // What was saved is a lawful pool.
     let _ = saved.head();
     let mut source = SalvageSource::new(saved);
+    if source.attach("").is_err() {
+        unreachable!();
+    }
     match restore_thin(alloc, &mut source, output) {
         Ok(()) => Ok(()),
         Err(fault) => match fault {

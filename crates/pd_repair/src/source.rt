@@ -8,8 +8,7 @@ use pd_image::{Failed, Source};
 use pd_lines::LineBuffer;
 use pd_salvage::Salvage;
 
-/// A source whose text is that of a saved pool. It is attached from the start, never fails, and takes no memory: it holds
-/// one line at a time.
+/// A source whose text is that of a saved pool. It never fails, and takes no memory: it holds one line at a time.
 #[derive(Drop)]
 pub(crate) struct SalvageSource {
     saved: Salvage,
@@ -18,6 +17,7 @@ pub(crate) struct SalvageSource {
     /// How many of its bytes were given.
     given: usize,
     next: Place,
+    attached: bool,
     ghost within: { given ≤ length line },
 }
 
@@ -25,15 +25,17 @@ impl SalvageSource {
     ghost use Rattle.pd_repair.specs.SalvageSource.{text_left};
     ghost use Rattle.pd_repair.specs.Texts.{saved_text};
 
-    /// The text of the pool.
+    /// The text of the pool, which isn't attached yet.
     pub(crate) fn new(saved: Salvage) -> SalvageSource
-        ensures { text_left result ≡ saved_text saved }
+        ensures text { text_left result ≡ saved_text saved }
+        ensures unattached { result.attached ≡ false }
     {
         SalvageSource {
             saved,
             line: LineBuffer::new(),
             given: 0,
             next: Place::First,
+            attached: false,
         }
     }
 
@@ -43,6 +45,7 @@ impl SalvageSource {
         ensures within { result ≤ length into.new }
         ensures moved { take result into.new ++ text_left self.new ≡ text_left self.old }
         ensures end { result ≡ 0 → text_left self.new ≡ [] }
+        ensures kept { self.new.attached ≡ self.old.attached }
     {
         let mut filled = 0;
         while filled < into.len() {
@@ -59,6 +62,7 @@ impl SalvageSource {
         ensures more { result ≡ true → self.new.given < length self.new.line }
         ensures end { result ≡ false → text_left self.new ≡ [] }
         ensures left { text_left self.new ≡ text_left self.old }
+        ensures kept { self.new.attached ≡ self.old.attached }
     {
         if self.given < self.line.as_bytes().len() {
             return true;
@@ -81,6 +85,7 @@ impl SalvageSource {
         ensures some { 0 < result }
         ensures within { result ≤ length into.new }
         ensures moved { take result into.new ++ text_left self.new ≡ text_left self.old }
+        ensures kept { self.new.attached ≡ self.old.attached }
     {
         let n = copy_front(&self.line.as_bytes()[self.given..], into);
         self.given += n;
@@ -97,7 +102,8 @@ impl Source for SalvageSource {
     ghost unnamed = { λ _ _. refl };
 
     fn attach(&mut self, _path: &str) -> Result<(), Failed> {
-        unreachable!()
+        self.attached = true;
+        Ok(())
     }
 
     fn take(&mut self, into: &mut [u8]) -> Result<usize, Failed> {

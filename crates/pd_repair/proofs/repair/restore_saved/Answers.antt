@@ -1,4 +1,4 @@
-use Rattle.std.proofs.Common.{List, ℕ, ap, Some}
+use Rattle.std.proofs.Common.{List, ℕ, ap, ◌∙◌, Some}
 use Rattle.pd_salvage.specs.Saved.{pool_of}
 use Rattle.pd_repair.specs.SalvageSource.{salvage_source_state}
 use Rattle.pd_repair.specs.Texts.{saved_text}
@@ -10,33 +10,33 @@ pub returns-in-Ok-clause-made : goal.returns-in-Ok-clause-made
 returns-in-Ok-clause-made g c =
     let saved = c.args.saved in
     restored_made c.thin_text_is_accepted_where_there_is_room.ensures.accepted c.thin_text_has_one_verdict.ensures.one (pool_of saved) (saved_text saved)
-    (saved_spells saved c.head.ensures.sound) (salvage_source_state c.new-source.result) (salvage_source_state c.restore_thin.new.source) (ap (λ (t : List ℕ). Some t) c.new-source.ensures)
+    (saved_spells saved c.head.ensures.sound) (salvage_source_state c.attach.new.self) (salvage_source_state c.restore_thin.new.source) (c.attach.ensures.attached.left ∙ ap (λ (t : List ℕ). Some t) c.new-source.ensures.text)
     (g.B.Device.state c.args.output.now) (g.B.Device.state c.restore_thin.new.dev) c.requires.room c.in-Ok.ensures.restored
 
 pub returns-in-Memory-clause-made : goal.returns-in-Memory-clause-made
 returns-in-Memory-clause-made g c =
     let saved = c.args.saved in
     restored_memory c.thin_text_is_accepted_where_there_is_room.ensures.accepted c.thin_text_has_one_verdict.ensures.one (pool_of saved) (saved_text saved)
-    (saved_spells saved c.head.ensures.sound) (salvage_source_state c.new-source.result) (salvage_source_state c.restore_thin.new.source) (ap (λ (t : List ℕ). Some t) c.new-source.ensures)
+    (saved_spells saved c.head.ensures.sound) (salvage_source_state c.attach.new.self) (salvage_source_state c.restore_thin.new.source) (c.attach.ensures.attached.left ∙ ap (λ (t : List ℕ). Some t) c.new-source.ensures.text)
     (g.B.Device.state c.args.output.now) (g.B.Device.state c.restore_thin.new.dev) c.requires.room (rw c.in-Memory.is at c.in-Err.ensures.restored)
 
 pub returns-in-Device-clause-made : goal.returns-in-Device-clause-made
 returns-in-Device-clause-made g c =
     let saved = c.args.saved in
     restored_output c.thin_text_is_accepted_where_there_is_room.ensures.accepted c.thin_text_has_one_verdict.ensures.one (pool_of saved) (saved_text saved)
-    (saved_spells saved c.head.ensures.sound) (salvage_source_state c.new-source.result) (salvage_source_state c.restore_thin.new.source) (ap (λ (t : List ℕ). Some t) c.new-source.ensures)
+    (saved_spells saved c.head.ensures.sound) (salvage_source_state c.attach.new.self) (salvage_source_state c.restore_thin.new.source) (c.attach.ensures.attached.left ∙ ap (λ (t : List ℕ). Some t) c.new-source.ensures.text)
     (g.B.Device.state c.args.output.now) (g.B.Device.state c.restore_thin.new.dev) c.requires.room (rw c.in-Device.is at c.in-Err.ensures.restored)
 
 pub unreachable-requires-in-Text : goal.unreachable-requires-in-Text
 unreachable-requires-in-Text g c =
     let saved = c.args.saved in
     not_refused c.thin_text_is_accepted_where_there_is_room.ensures.accepted c.thin_text_has_one_verdict.ensures.one (pool_of saved) (saved_text saved)
-    (saved_spells saved c.head.ensures.sound) (salvage_source_state c.new-source.result) (salvage_source_state c.restore_thin.new.source) (ap (λ (t : List ℕ). Some t) c.new-source.ensures)
+    (saved_spells saved c.head.ensures.sound) (salvage_source_state c.attach.new.self) (salvage_source_state c.restore_thin.new.source) (c.attach.ensures.attached.left ∙ ap (λ (t : List ℕ). Some t) c.new-source.ensures.text)
     (g.B.Device.state c.args.output.now) (g.B.Device.state c.restore_thin.new.dev) c.requires.room c.in-Text.field-0 (rw c.in-Text.is at c.in-Err.ensures.restored)
 
 pub unreachable-requires-in-NoRoom : goal.unreachable-requires-in-NoRoom
 unreachable-requires-in-NoRoom g c =
     let saved = c.args.saved in
     has_room c.thin_text_is_accepted_where_there_is_room.ensures.accepted c.thin_text_has_one_verdict.ensures.one (pool_of saved) (saved_text saved)
-    (saved_spells saved c.head.ensures.sound) (salvage_source_state c.new-source.result) (salvage_source_state c.restore_thin.new.source) (ap (λ (t : List ℕ). Some t) c.new-source.ensures)
+    (saved_spells saved c.head.ensures.sound) (salvage_source_state c.attach.new.self) (salvage_source_state c.restore_thin.new.source) (c.attach.ensures.attached.left ∙ ap (λ (t : List ℕ). Some t) c.new-source.ensures.text)
     (g.B.Device.state c.args.output.now) (g.B.Device.state c.restore_thin.new.dev) c.requires.room c.in-NoRoom.need c.in-NoRoom.blocks (rw c.in-NoRoom.is at c.in-Err.ensures.restored)

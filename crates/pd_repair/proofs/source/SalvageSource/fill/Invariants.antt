@@ -3,7 +3,7 @@ use Rattle.pd_repair.specs.SalvageSource.{text_left}
 use Rattle.pd_repair.proofs.source.SalvageSource.fill.Given as goal
 
 abbrev pub invariant-loop-filled : goal.invariant-loop-filled
-invariant-loop-filled l = (l.filled ≤ length l.into) × (take l.filled l.into ++ text_left l.self ≡ text_left l.initial.self)
+invariant-loop-filled l = (l.filled ≤ length l.into) × ((take l.filled l.into ++ text_left l.self ≡ text_left l.initial.self) × (l.self.attached ≡ l.initial.self.attached))
 
 abbrev pub decreases-loop-filled : goal.decreases-loop-filled
 decreases-loop-filled l = length l.initial.into - l.filled
