@@ -435,8 +435,5 @@ rm "$prefix/sbin/thin_ls"
 what='after uninstall'
 [ -z "$(find "$prefix" ! -type d)" ] || bad "there is $(find "$prefix" ! -type d)"
 
-if [ "$wrong" -ne 0 ]; then
-    printf 'wrappers: %s wrong in %s tries\n' "$wrong" "$tries" >&2
-    exit 1
-fi
-printf 'wrappers: %s tries, all as they should be\n' "$tries"
+printf 'wrappers: %s tries, %s wrong\n' "$tries" "$wrong"
+[ "$wrong" -eq 0 ]
