@@ -89,7 +89,7 @@ fn dirty_is_what_the_version_says(rt: HostRuntime) -> Result<(), Fail> {
     let bits = resealed(second[6], ARRAY_SALT, WORDS_AT + 56, 0);
     let undone = with_block(rt.alloc(), second.as_slice(), 6, bits)?;
     expect_text(&rt, rt.alloc(), undone.as_slice(), clean)?;
-    let word = resealed(undone[2], ARRAY_SALT, WORDS_AT, 524291);
+    let word = resealed(second[2], ARRAY_SALT, WORDS_AT, 524291);
     let marked = with_block(rt.alloc(), undone.as_slice(), 2, word)?;
     expect_text(&rt, rt.alloc(), marked.as_slice(), clean)?;
     // In the first one it is.

@@ -1,6 +1,10 @@
 //! Checks, dumps and queries of era targets, sound and broken ones.
 
-use crate::made::{EMPTY, SUPER, WRITTEN, expect, expect_report, made, writeset, written_target};
+ghost use Rattle.std.specs.Prelude.{◌<◌};
+
+use crate::made::{
+    EMPTY, SUPER, WRITTEN, expect, expect_report, made, writeset, written_target, zero_words,
+};
 use pd_array::{Word, write_array};
 use pd_bitmap::{seal_bitmap, set_two_bits};
 use pd_crc::seal;
@@ -88,7 +92,7 @@ fn rules_that_targets_break(rt: HostRuntime) -> Result<(), Fail> {
     let short = Writeset { bits: 60, root: 7 };
     let cases: [([Block; 16], &str); 7] = [
         (
-            with_block(1, write_array(1, Word::Four, &[0; 99])),
+            with_block(1, zero_words(1, 99)),
             "fault meta 2 length\nfaults 1\n",
         ),
         (

@@ -3,7 +3,8 @@
 ghost use Rattle.std.specs.Prelude.{◌≡◌, IfOk, length};
 
 use pd_array::{Word, write_array};
-use pd_kinds::{Block, EraSuper, SmRoot};
+use pd_crc::seal;
+use pd_kinds::{Block, EraSuper, SmRoot, put_u32, put_u64};
 use pd_node::write_leaf;
 use pd_samples::pool::{bitmap, empty_leaf, index, index_entry};
 use pd_samples::runs::{Failing, Held, NOTHING_FAILS, Ran, blocks_of, run, run_over};
@@ -11,6 +12,9 @@ use pd_supers::write_era_super;
 use pd_value::{Count, Root, Writeset};
 use std::alloc::{AllocError, Global};
 use std::process::Abort;
+
+/// The salt of the checksums of array blocks (drivers/md/persistent-data/dm-array.c).
+const ARRAY_SALT: u32 = 595846735;
 
 /// A hundred blocks, of which block 64 was written in the current era, and block 3 in the eras 3 and 5.
 pub(crate) const WRITTEN: &str =
@@ -46,13 +50,24 @@ pub(crate) fn writeset(root: u64) -> Writeset {
     Writeset { bits: 100, root }
 }
 
+/// A block of an array, of so many words of four bytes that are all 0.
+pub(crate) fn zero_words(place: u64, words: u32) -> Block {
+    let mut block = Block::zeros();
+    put_u32(&mut block.0, 4, 1018);
+    put_u32(&mut block.0, 8, words);
+    put_u32(&mut block.0, 12, 4);
+    put_u64(&mut block.0, 16, place);
+    seal(&mut block, ARRAY_SALT);
+    block
+}
+
 /// The sixteen blocks of that target, of which thirteen are used: the era array's words are 0, and there are two archived
 /// writesets and the current one.
 #[tactic(auto, unfolding(pd_kinds::specs::Node::is_ascending))]
 pub(crate) fn written_target() -> [Block; 16] {
     let mut image = [Block::zeros(); 16];
     image[0] = write_era_super(&SUPER);
-    image[1] = write_array(1, Word::Four, &[0; 100]);
+    image[1] = zero_words(1, 100);
     image[2] = write_leaf(2, &[(0, Root(1))]);
     image[3] = write_leaf(3, &[(3, writeset(7)), (5, writeset(9))]);
     image[4] = index(4, &[index_entry(5, 3)]);
