@@ -205,6 +205,7 @@ fn pool_of_three_devices(overflow: Block) -> [Block; 16] {
 }
 
 #[test]
+#[tactic(auto, unfolding(pd_kinds::specs::Node::is_ascending))]
 fn data_blocks_with_three_references(rt: HostRuntime) -> Result<(), Fail> {
     let cases: [(&str, Block, &str); 4] = [
         ("3", write_leaf(8, &[(0, Count(3))]), "clean\n"),
