@@ -173,6 +173,7 @@ fn trees_of_a_snapshot_are_checked_and_do_not_count(rt: HostRuntime) -> Result<(
 }
 
 /// A leaf of two hundred writesets of the root 7, of the eras from this one on.
+#[tactic(auto, unfolding(pd_kinds::specs::Node::is_ascending))]
 fn two_hundred_writesets(place: u64, first: u64) -> Block
     requires { first < 2000 }
 {
