@@ -2,6 +2,7 @@
 
 ghost use Rattle.std.specs.Prelude.{◌≡◌, IfOk, length};
 
+use pd_bitmap::{seal_bitmap, set_two_bits};
 use pd_image::Pick;
 use pd_kinds::Block;
 use pd_node::write_inner;
@@ -75,6 +76,18 @@ fn expect_saved(
     assert!(rt; checked.out.bytes() == b"clean\n".as_slice(), "{text}");
     let dumped = run(alloc, &["thin_dump", "image"], made, NOTHING_FAILS)?;
     assert!(rt; dumped.out.bytes() == text.as_bytes(), "{text}");
+    Ok(())
+}
+
+/// Checks an image to the end, where this must be the report.
+fn expect_report(
+    rt: &impl Abort,
+    alloc: Global,
+    image: &[Block],
+    report: &str,
+) -> Result<(), AllocError> {
+    let checked = run(alloc, &["thin_check", "image"], image, NOTHING_FAILS)?;
+    assert!(rt; checked.out.bytes() == report.as_bytes(), "{report}");
     Ok(())
 }
 
@@ -160,6 +173,8 @@ fn a_node_below_itself_gives_nothing(rt: HostRuntime) -> Result<(), Fail> {
     let mut image = pool_of_one_mapping();
     image[2] = device_leaf(2, 10);
     image[10] = write_inner(10, &[(0, 10), (5, 10)]);
+    let report = "fault meta 10 level\nfaults 1\n";
+    expect_report(&rt, rt.alloc(), &image, report)?;
     expect_saved(&rt, rt.alloc(), &image, NO_MAPPING)?;
     Ok(())
 }
@@ -167,17 +182,20 @@ fn a_node_below_itself_gives_nothing(rt: HostRuntime) -> Result<(), Fail> {
 #[test]
 fn paths_of_64_nodes_are_followed_and_no_longer_ones(rt: HostRuntime) -> Result<(), Fail> {
     // 63 inner nodes above the leaf, each with one child, in blocks of their own behind the pool's.
-    let small =
-        "thin 1\npool 00000000-0000-0000-0000-000000000000 0 0 128 1\ndevice 1 1 0 0 0\nmap 0 0 1 0\nend\n";
-    let mut image = pool_of(&rt, rt.alloc(), small, 128)?;
-    for b in 20..82 {
-        image[b] = inner(b as u64, b as u64 + 1);
+    let mut image = pool_of(&rt, rt.alloc(), ONE_MAPPING, 128)?;
+    for b in 20..83 {
+        let child = if b < 82 { b as u64 + 1 } else { 1 };
+        image[b] = inner(b as u64, child);
+        set_two_bits(&mut image[8], b, 1);
     }
-    image[82] = inner(82, 1);
-    image[19] = inner(19, 20);
+    seal_bitmap(&mut image[8], 8);
     image[2] = device_leaf(2, 20);
+    expect_report(&rt, rt.alloc(), image.as_slice(), "clean\n")?;
     expect_saved(&rt, rt.alloc(), image.as_slice(), ONE_MAPPING)?;
+    image[19] = inner(19, 20);
     image[2] = device_leaf(2, 19);
+    let report = "fault meta 19 level\nfaults 1\n";
+    expect_report(&rt, rt.alloc(), image.as_slice(), report)?;
     expect_saved(&rt, rt.alloc(), image.as_slice(), NO_MAPPING)?;
     Ok(())
 }

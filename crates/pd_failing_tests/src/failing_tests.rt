@@ -1,0 +1,218 @@
+//! Each call of each object of each request, failing in turn.
+
+use crate::requests::{Asked, blocks, readings, writings};
+use pd_crc::any_valid;
+use pd_image::{MemDevice, Pick};
+use pd_kinds::Block;
+use pd_samples::runs::{
+    Failing, Held, NOTHING_FAILS, Ran, blocks_after_crash, blocks_of, run_over,
+};
+use std::alloc::{AllocError, Global};
+use std::process::Abort;
+use std::test::Fail;
+
+/// What fails of a request.
+#[derive(Clone, Copy, Debug, PartialEq, Eq)]
+enum Trouble {
+    Source,
+    Out,
+    Notes,
+    Input,
+    Output,
+    InputStops,
+    OutputStops,
+}
+
+impl Trouble {
+    /// This at a call, from 0. Call 0 is the one that attaches the object. A device stops in front of this call.
+    fn at(self, call: u64) -> Failing {
+        let mut failing = NOTHING_FAILS;
+        match self {
+            Trouble::Source => failing.source = Some(call),
+            Trouble::Out => failing.out = Some(call),
+            Trouble::Notes => failing.notes = Some(call),
+            Trouble::Input => failing.input = Some(call),
+            Trouble::Output => failing.output = Some(call),
+            Trouble::InputStops => failing.input_stops_after = call,
+            Trouble::OutputStops => failing.output_stops_after = call,
+        }
+        failing
+    }
+
+    /// The status that it comes to.
+    fn status(self) -> u8 {
+        match self {
+            Trouble::Source | Trouble::Out | Trouble::Notes => 6,
+            Trouble::Input | Trouble::Output | Trouble::InputStops | Trouble::OutputStops => 5,
+        }
+    }
+}
+
+const TROUBLES: [Trouble; 7] = [
+    Trouble::Source,
+    Trouble::Out,
+    Trouble::Notes,
+    Trouble::Input,
+    Trouble::Output,
+    Trouble::InputStops,
+    Trouble::OutputStops,
+];
+
+/// More calls than an object of a request gets.
+const MANY: u64 = 90;
+
+/// Whether a request puts nothing to `out` before all that it reads was read: a check that writes nothing.
+fn puts_at_the_end(words: &str) -> bool {
+    words.contains("_check") && !words.contains("--clear")
+}
+
+/// Whether each crash of a device now leaves what it held before, what a call without trouble leaves, or, where these differ,
+/// no valid superblock.
+fn is_outcome(
+    alloc: Global,
+    device: &MemDevice,
+    old: &[Block],
+    new: &[Block],
+) -> Result<bool, AllocError> {
+    let mut may_be = true;
+    for pick in [Pick::Old, Pick::New, Pick::Other(0)] {
+        let left = blocks_after_crash(alloc, device, pick)?;
+        let is_closed = match left.as_slice() {
+            [] => false,
+            [first, ..] => old != new && !any_valid(first),
+        };
+        may_be &= is_closed || left.as_slice() == old || left.as_slice() == new;
+    }
+    Ok(may_be)
+}
+
+/// Whether a run came to just what another one came to.
+fn is_alike(alloc: Global, ran: &Ran, whole: &Ran) -> Result<bool, AllocError> {
+    Ok(
+        ran.status == whole.status
+            && ran.out.bytes() == whole.out.bytes()
+            && ran.notes.bytes() == whole.notes.bytes()
+            && blocks_of(alloc, &ran.input)? == blocks_of(alloc, &whole.input)?
+            && blocks_of(alloc, &ran.output)? == blocks_of(alloc, &whole.output)?,
+    )
+}
+
+/// What a failed run must have put, where `whole` is the run without trouble.
+fn expect_fronts(rt: &impl Abort, words: &str, trouble: Trouble, ran: &Ran, whole: &Ran) {
+    assert_eq!(rt; ran.status, trouble.status(), "{words}");
+    assert!(rt; whole.out.bytes().starts_with(ran.out.bytes()), "{words}");
+    if puts_at_the_end(words) && ran.status == 5 {
+        assert!(rt; ran.out.bytes().is_empty(), "{words}");
+    }
+    let notes = ran.notes.bytes();
+    match trouble {
+        Trouble::Notes => assert!(rt; whole.notes.bytes().starts_with(notes), "{words}"),
+        Trouble::Source | Trouble::Out => {
+            assert!(rt;
+                notes == b"pdata_tools: source or sink fault\n".as_slice(),
+                "{words}"
+            );
+        }
+        _ => assert!(rt;
+            notes == b"pdata_tools: device fault\n".as_slice(),
+            "{words}"
+        ),
+    }
+}
+
+/// A request whose objects hold this, and the run of it without trouble.
+#[derive(Clone, Copy)]
+struct Tried<'a> {
+    words: &'static str,
+    held: Held<'a>,
+    whole: &'a Ran,
+}
+
+impl Tried<'_> {
+    /// Makes the request with this trouble at a call: whether nothing differs, since the call isn't made.
+    fn is_alike_at(
+        &self,
+        rt: &impl Abort,
+        alloc: Global,
+        trouble: Trouble,
+        call: u64,
+    ) -> Result<bool, AllocError> {
+        let words = self.words;
+        let list: Vec<&str> = words.split_whitespace().collect(alloc)?;
+        let ran = run_over(alloc, list.as_slice(), self.held, trouble.at(call))?;
+        let read = blocks_of(alloc, &self.whole.input)?;
+        let is_kept = is_outcome(alloc, &ran.input, self.held.input, read.as_slice())?;
+        assert!(rt; is_kept, "{words}: {call}");
+        let written = blocks_of(alloc, &self.whole.output)?;
+        let is_safe = is_outcome(alloc, &ran.output, self.held.output, written.as_slice())?;
+        assert!(rt; is_safe, "{words}: {call}");
+        if is_alike(alloc, &ran, self.whole)? {
+            return Ok(true);
+        }
+        expect_fronts(rt, words, trouble, &ran, self.whole);
+        Ok(false)
+    }
+
+    /// Makes the request with this trouble at each call, up to three in a row that aren't made.
+    fn expect_each(
+        &self,
+        rt: &impl Abort,
+        alloc: Global,
+        trouble: Trouble,
+    ) -> Result<(), AllocError> {
+        let mut alike: u8 = 0;
+        for call in 0..MANY {
+            if self.is_alike_at(rt, alloc, trouble, call)? {
+                alike = alike.saturating_add(1);
+            } else {
+                assert_eq!(rt; alike, 0, "{}: {call}", self.words);
+            }
+            if alike == 3 {
+                return Ok(());
+            }
+        }
+        assert!(rt; false, "{} makes many calls", self.words);
+        Ok(())
+    }
+}
+
+/// Makes a request without trouble, and then with each trouble at each call.
+fn expect_all(rt: &impl Abort, alloc: Global, asked: &Asked) -> Result<(), AllocError> {
+    let (words, text, input, output, status) = *asked;
+    let (input, output) = (blocks(rt, alloc, input)?, blocks(rt, alloc, output)?);
+    let held = Held {
+        text: text.as_bytes(),
+        input: input.as_slice(),
+        output: output.as_slice(),
+    };
+    let list: Vec<&str> = words.split_whitespace().collect(alloc)?;
+    let whole = run_over(alloc, list.as_slice(), held, NOTHING_FAILS)?;
+    assert_eq!(rt; whole.status, status, "{words}");
+    let tried = Tried {
+        words,
+        held,
+        whole: &whole,
+    };
+    for trouble in TROUBLES {
+        tried.expect_each(rt, alloc, trouble)?;
+    }
+    Ok(())
+}
+
+#[test]
+fn a_request_that_reads_tells_each_call_that_fails(rt: HostRuntime) -> Result<(), Fail> {
+    for asked in &readings() {
+        expect_all(&rt, rt.alloc(), asked)?;
+    }
+    Ok(())
+}
+
+#[test]
+fn a_request_that_writes_leaves_no_other_image_where_a_call_fails(
+    rt: HostRuntime,
+) -> Result<(), Fail> {
+    for asked in &writings() {
+        expect_all(&rt, rt.alloc(), asked)?;
+    }
+    Ok(())
+}

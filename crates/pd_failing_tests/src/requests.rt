@@ -1,0 +1,169 @@
+//! Requests of every tool, and the images that they are made over.
+
+use pd_kinds::Block;
+use pd_samples::pool::{damaged, pool_of_one_mapping};
+use pd_samples::runs::{Held, NOTHING_FAILS, blocks_of, run_over};
+use pd_supers::{read_thin_super, write_thin_super};
+use std::alloc::{AllocError, Global};
+use std::process::Abort;
+
+/// What a device holds before a request.
+#[derive(Clone, Copy, PartialEq, Eq)]
+pub(crate) enum Image {
+    /// No block.
+    Nothing,
+    /// Sixteen blocks whose bytes are all 1.
+    Ones,
+    /// The pool of one mapping, on sixteen blocks.
+    Pool,
+    /// The same pool with the flag "needs check".
+    FlaggedPool,
+    /// The same pool with a leaf of mappings whose checksum is wrong.
+    DamagedPool,
+    /// The same pool with a superblock whose checksum is wrong.
+    NoPool,
+    /// A cache with two mapped blocks, in the second version of the metadata.
+    Cache,
+    /// An era target of a hundred blocks.
+    Target,
+}
+
+/// The words of a request, the text that its source has, what its input and its output hold, and its status.
+pub(crate) type Asked = (&'static str, &'static str, Image, Image, u8);
+
+/// The text of the pool of one mapping.
+pub(crate) const POOL_TEXT: &str =
+    "thin 1\npool 00000000-0000-0000-0000-000000000000 0 0 128 1\ndevice 1 1 0 0 0\nmap 0 0 1 0\nend\n";
+
+/// The text of the cache.
+pub(crate) const CACHE_TEXT: &str =
+    "cache 1\ncache 00000000-0000-0000-0000-000000000000 128 510 1 736d7100000000000000000000000000 2 0 0 4\nmap 0 7 0 5\nmap 509 8 1 6\nend\n";
+
+/// The text of the era target.
+pub(crate) const TARGET_TEXT: &str =
+    "era 1\nera 00000000-0000-0000-0000-000000000000 128 100 9\nrun 0 3 0\nrun 3 1 5\nrun 4 60 0\nrun 64 1 9\nrun 65 35 0\nend\n";
+
+/// A text whose fourth line is refused.
+const REFUSED: &str =
+    "thin 1\npool 00000000-0000-0000-0000-000000000000 0 0 128 1\ndevice 1 1 0 0 0\nmap 0 1 1 0\nend\n";
+
+/// A text that needs more blocks than sixteen, from its second line on.
+const LARGE: &str = "era 1\nera 00000000-0000-0000-0000-000000000000 128 100000 9\nend\n";
+
+/// A check that clears the flag.
+const CLEAR: &str = "thin_check --clear-needs-check-flag x";
+
+/// A restore of the second version of a cache.
+const CACHE_2: &str = "cache_restore --metadata-version 2 -i t -o x";
+
+/// A request that reads this image, and comes to this status.
+fn reading(words: &'static str, image: Image, status: u8) -> Asked {
+    (words, "", image, Image::Nothing, status)
+}
+
+/// Checks, dumps and queries, with each status that comes where nothing fails.
+pub(crate) fn readings() -> [Asked; 22] {
+    use Image::{Cache, DamagedPool, NoPool, Nothing, Pool, Target};
+    [
+        reading("thin_check --until super x", Pool, 0),
+        reading("thin_check --until walk x", Pool, 0),
+        reading("thin_check --until order x", Pool, 0),
+        reading("thin_check --until whole x", Pool, 0),
+        reading("thin_check x", Pool, 0),
+        reading("thin_check x", DamagedPool, 1),
+        reading("thin_check x", NoPool, 1),
+        reading("thin_check x", Nothing, 1),
+        reading("cache_check x", Cache, 0),
+        reading("cache_check x", Pool, 1),
+        reading("era_check x", Target, 0),
+        reading("era_check x", Cache, 1),
+        reading("thin_dump x", Pool, 0),
+        reading("thin_dump -o f x", DamagedPool, 1),
+        reading("cache_dump -o f x", Cache, 0),
+        reading("era_dump x", Target, 0),
+        reading("thin_rmap --region 0..1 x", Pool, 0),
+        reading("thin_ls x", Pool, 0),
+        reading("thin_ls -o f x", NoPool, 1),
+        reading("era_invalidate --written-since 5 x", Target, 0),
+        reading("thin_generate --number 1", Nothing, 0),
+        reading("thin_check", Pool, 2),
+    ]
+}
+
+/// Requests that may write a device, with each status that comes where nothing fails.
+pub(crate) fn writings() -> [Asked; 12] {
+    use Image::{Cache, DamagedPool, FlaggedPool, NoPool, Nothing, Ones, Pool, Target};
+    [
+        (CLEAR, "", FlaggedPool, Nothing, 0),
+        (CLEAR, "", DamagedPool, Nothing, 1),
+        ("thin_restore -i t -o x", POOL_TEXT, Nothing, Ones, 0),
+        ("thin_restore -i t -o x", REFUSED, Nothing, Pool, 3),
+        ("thin_restore -i t -o x", CACHE_TEXT, Nothing, Cache, 3),
+        ("cache_restore -i t -o x", CACHE_TEXT, Nothing, Cache, 0),
+        (CACHE_2, CACHE_TEXT, Nothing, Pool, 0),
+        ("era_restore -i t -o x", TARGET_TEXT, Nothing, Cache, 0),
+        ("era_restore -i t -o x", LARGE, Nothing, Target, 4),
+        ("thin_repair -i x -o y", "", DamagedPool, Target, 0),
+        ("thin_repair -i x -o y", "", NoPool, Target, 1),
+        ("thin_repair -i x -o y", "", Pool, Nothing, 4),
+    ]
+}
+
+/// The blocks of an image.
+pub(crate) fn blocks(
+    rt: &impl Abort,
+    alloc: Global,
+    image: Image,
+) -> Result<Vec<Block>, AllocError> {
+    let mut pool = pool_of_one_mapping();
+    match image {
+        Image::Nothing => return Ok(Vec::new(alloc)),
+        Image::Ones => pool = [Block([1; 4096]); 16],
+        Image::Pool => {}
+        Image::FlaggedPool => {
+            let mut fields = read_thin_super(&pool[0]);
+            fields.flags = 1;
+            pool[0] = write_thin_super(&fields);
+        }
+        Image::DamagedPool => pool[1] = damaged(pool[1], 100),
+        Image::NoPool => pool[0] = damaged(pool[0], 100),
+        Image::Cache => {
+            let words = [
+                "cache_restore",
+                "--metadata-version",
+                "2",
+                "-i",
+                "t",
+                "-o",
+                "x",
+            ];
+            return restored(rt, alloc, &words, CACHE_TEXT);
+        }
+        Image::Target => {
+            return restored(
+                rt,
+                alloc,
+                &["era_restore", "-i", "t", "-o", "x"],
+                TARGET_TEXT,
+            );
+        }
+    }
+    Vec::from_slice(alloc, &pool)
+}
+
+/// The sixteen blocks that a restore of a text makes of ones.
+fn restored(
+    rt: &impl Abort,
+    alloc: Global,
+    words: &[&str],
+    text: &str,
+) -> Result<Vec<Block>, AllocError> {
+    let held = Held {
+        text: text.as_bytes(),
+        input: &[],
+        output: &[Block([1; 4096]); 16],
+    };
+    let made = run_over(alloc, words, held, NOTHING_FAILS)?;
+    assert_eq!(rt; made.status, 0, "{text}");
+    blocks_of(alloc, &made.output)
+}
