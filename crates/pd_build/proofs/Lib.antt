@@ -1,4 +1,5 @@
 pub mod ArrayLemmas
+pub mod BegunLemmas
 pub mod BuildingLemmas
 pub mod CountLemmas
 pub mod NeedLemmas

@@ -7,7 +7,12 @@ use Rattle.std.proofs.lemmas.List.Elements.{All-append, All-cons, All-nil}
 use Rattle.pd_kinds.specs.Node.{Entry, is_ascending}
 use Rattle.pd_laid.specs.Tree.{heads}
 use Rattle.pd_node.specs.Items.{keys_of}
-use Rattle.pd_build.specs.Leaves.{AreInOrder}
+use Rattle.pd_build.specs.Leaves.{AreInOrder, low_after}
+
+-- the least key above a last entry
+pub low_after-last : (low : ℕ) (entries : List Entry) (e : Entry) → low_after low (entries ++ e ∷ []) ≡ e.key + 1
+low_after-last low [] e = refl
+low_after-last low (x ∷ entries) e = low_after-last (x.key + 1) entries e
 
 -- the keys of entries
 abbrev pub keys : List Entry → List ℕ

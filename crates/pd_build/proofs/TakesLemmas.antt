@@ -1,7 +1,7 @@
 -- What an item does to a builder of leaves.
-use Rattle.std.proofs.Common.{◌≡◌, ℕ, suc, ◌+◌, ◌-◌, ◌*◌, ◌/◌, ◌<◌, ◌≤◌, List, [], ◌∷◌, ◌++◌, length, map, refl, sym, ◌∙◌, ap, ap₂, arith, Some, None, length-append, get_or, subst, inl, inr}
+use Rattle.std.proofs.Common.{◌≡◌, ℕ, suc, ◌+◌, ◌-◌, ◌*◌, ◌/◌, ◌<◌, ◌≤◌, List, [], ◌∷◌, ◌++◌, length, map, refl, sym, ◌∙◌, ap, ap₂, arith, Some, None, length-append, inl, inr}
 use Rattle.std.specs.Prelude.{sum, max, nat_eq}
-use Rattle.std.proofs.lemmas.List.{append_assoc, map-append, length-map}
+use Rattle.std.proofs.lemmas.List.{append_assoc, length-map}
 use Rattle.std.proofs.lemmas.Bool.{cases_eq, ne_eqb}
 use Rattle.pd_node.specs.Items.{entries_of, keys_of}
 use Rattle.pd_kinds.specs.Node.{Entry, leaf_block, max_entries}
@@ -44,6 +44,10 @@ first_even {most} {leaves} {items} {first} {begun} c one =
     let is : leaves ≡ suc k = omega arith in
     let sized : (items + k) / suc k ≡ first = sym (c.sized one ∙ nodes_at leaves k items is) in
     ap (λ (m : ℕ). even_sizes m items) is ∙ (first_size k items ∙ ap (λ (c : ℕ). c ∷ even_sizes k (items - c)) sized)
+
+-- the first size
+pub first_is : {most leaves items first begun : ℕ} → AreCounts most leaves items first begun → 1 ≤ leaves → size_of_first (even_sizes leaves items) ≡ first
+first_is c one = ap size_of_first (first_even c one)
 
 -- the item ends a leaf
 pub takes_one : {most leaves items first begun : ℕ} (size : ℕ) (e : Entry) (head : ℕ × ℕ) (old new : LeavesLeft) (from to : Stand)
@@ -127,46 +131,6 @@ some_left leaves items b sizes more = elim (cases_eq leaves 0) [
       absurd (omega arith)
   | inr some ↦ omega arith
 ]
-
-first_of_all : {X : Type 0} → (code : X → ℕ) (all : List (ℕ × X)) → 1 ≤ length all → get_or (keys_of all) 0 0 ≡ first_key (entries_of code all)
-first_of_all code [] some = absurd (omega arith)
-first_of_all code (item ∷ all) some = refl
-
-module _ {X : Type 0} (code : X → ℕ) (put all : List (ℕ × X)) (key : ℕ) (value : X) (is : all ≡ put ++ (key, value) ∷ []) where
-  more_begun : entries_of code all ≡ entries_of code put ++ record { key = key; value = code value } ∷ []
-  more_begun = ap (entries_of code) is ∙ map-append (λ (item : ℕ × X). record { key = item.0; value = code item.1 }) put ((key, value) ∷ [])
-
-  pub takes_more : {most leaves items first begun : ℕ} (size low : ℕ) (stand : Stand) → IsClosed stand.device
-      → AreCounts most leaves items first begun → 1 ≤ leaves → length put + 1 < first
-      → 1 ≤ items_to_come (record { sizes = even_sizes leaves items; begun = entries_of code put; low = low })
-      → Takes size (record { key = key; value = code value }) None
-      (record { sizes = even_sizes leaves items; begun = entries_of code put; low = low })
-      (record { sizes = even_sizes leaves items; begun = entries_of code all; low = key + 1 }) stand stand
-  takes_more {most} {leaves} {items} {first} {begun} size low stand closed c one ends more =
-      let count : length (entries_of code put) ≡ length put = length-map put (λ (item : ℕ × X). record { key = item.0; value = code item.1 }) in
-      let first_is : size_of_first (even_sizes leaves items) ≡ first = ap size_of_first (first_even c one) in
-      takes_none size (record { key = key; value = code value })
-      (record { sizes = even_sizes leaves items; begun = entries_of code put; low = low })
-      (record { sizes = even_sizes leaves items; begun = entries_of code all; low = key + 1 }) stand closed refl more_begun refl more
-      (omega arith)
-
-  pub takes_end : {most leaves items first begun : ℕ} (size low least place : ℕ) (block : List ℕ) (nothing : List (ℕ × X)) (from to : Stand)
-      → AreCounts most leaves items first begun → 1 ≤ leaves → begun ≡ length put → begun + 1 ≡ first → nothing ≡ []
-      → place ≡ from.place → block ≡ leaf_block size place (entries_of code all) → Wrote (block ∷ []) from to → least ≡ get_or (keys_of all) 0 0
-      → Takes size (record { key = key; value = code value }) (Some (least, place))
-      (record { sizes = even_sizes leaves items; begun = entries_of code put; low = low })
-      (record { sizes = even_sizes (leaves - 1) (items - first); begun = entries_of code nothing; low = key + 1 }) from to
-  takes_end {most} {leaves} {items} {first} {begun} size low least place block nothing from to c one count ends none at is_block wrote first_is =
-      let e : Entry = record { key = key; value = code value } in
-      let part = entries_of code put ++ e ∷ [] in
-      let is_leaf : block ≡ leaf_block size from.place part = is_block ∙ ap₂ (λ (p : ℕ) (es : List Entry). leaf_block size p es) at more_begun in
-      let some : 1 ≤ length all = (let n = length-append put ((key, value) ∷ []) in let m = ap length is in omega arith) in
-      takes_one size e (least, place)
-      (record { sizes = even_sizes leaves items; begun = entries_of code put; low = low })
-      (record { sizes = even_sizes (leaves - 1) (items - first); begun = entries_of code nothing; low = key + 1 }) from to
-      c one refl (length-map put (λ (item : ℕ × X). record { key = item.0; value = code item.1 }) ∙ sym count) ends refl (ap (entries_of code) none) refl
-      (subst (λ (b : List ℕ). Wrote (b ∷ []) from to) is_leaf wrote)
-      (first_is ∙ (first_of_all code all some ∙ ap first_key more_begun)) at
 
 -- all items were put just where no leaf is left
 pub done_is : {most leaves items size begun : ℕ} → AreCounts most leaves items size begun → sum (even_sizes leaves items) - begun ≡ 0 → leaves ≡ 0

@@ -157,6 +157,11 @@ order_takes {size} {e} (Some head) {old} {new} {from} {to} hs next takes order a
     (λ same. rw same (order_cut old new hs order takes.begun_is (omega (arith, takes.raised))))
     added
 
+-- no item was put
+pub order_start : (leaves : LeavesLeft) (hs : List Entry) → leaves.begun ≡ [] → hs ≡ [] → AreKeysInOrder leaves hs
+unfolding is_ascending
+order_start leaves hs begun none = record { ascending = rw (none, begun) refl; below = rw (none, begun) tt }
+
 pub order_loses : (e : Entry) {old new : LeavesLeft} (hs : List Entry) → Loses old e new → AreKeysInOrder old hs → old.low ≤ e.key → AreKeysInOrder new hs
 order_loses e {old} {new} hs loses order above =
     ⊎_elim

@@ -68,6 +68,11 @@ abbrev pub low_of : Option ℕ → ℕ
 low_of None = 0
 low_of (Some last) = last + 1
 
+-- the least key above the last of these entries, and `low` where there is none
+abbrev pub low_after : ℕ → List Entry → ℕ
+low_after low [] = low
+low_after low (e ∷ entries) = low_after (e.key + 1) entries
+
 -- the numbers of a builder: so many leaves of at most so many items, and the size of the first
 pub record AreCounts (most leaves items size begun : ℕ) : Type 0 where
   pub some : leaves ≤ items

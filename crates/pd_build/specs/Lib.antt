@@ -1,4 +1,5 @@
 pub mod Array
+pub mod Begun
 pub mod Building
 pub mod Causes
 pub mod Leaves

@@ -8,7 +8,7 @@ ghost use Rattle.pd_draft.specs.Placed.{Wrote};
 ghost use Rattle.pd_draft.specs.Stand.{stand};
 ghost use Rattle.pd_laid.specs.Tree.{tree_blocks, tree_root};
 ghost use Rattle.pd_spells.specs.Need.{need_tree};
-ghost use Rattle.pd_build.specs.Leaves.{items_to_come, answered};
+ghost use Rattle.pd_build.specs.Leaves.{items_to_come, size_of_first, answered};
 ghost use Rattle.pd_build.specs.Tree.{TreeLeft, Grows, AreKeysInOrder, blocks_left, root_left, number_left};
 ghost use Rattle.pd_build.specs.Causes.{CountsBuildFault};
 
@@ -21,7 +21,7 @@ use pd_value::Value;
 use std::alloc::{AllocError, Global};
 use std::marker::Model;
 
-/// Writes a tree, as the items come: its leaves and then the levels above them. It holds the items of one leaf, and the
+/// Writes a tree, as the items come: its leaves and then the levels above them. It holds the block of one leaf, and the
 /// least key and the place of each leaf.
 #[derive(Drop)]
 pub struct Builder<V: Value> {
@@ -54,6 +54,7 @@ impl<V: Value> Builder<V> {
     }
 
     /// Takes an item, whose key is above the last one.
+    #[inline]
     pub fn put<D: Device>(
         &mut self,
         draft: &mut Draft<'_, D>,
@@ -71,7 +72,33 @@ impl<V: Value> Builder<V> {
         ensures closed { StaysClosed (stand draft.old).device (stand draft.new).device }
         ensures faults { CountsBuildFault result (stand draft.old).device.faults (stand draft.new).device.faults }
     {
-        let head = self.leaves.put(draft, key, value)?;
+        if self.leaves.hold(key, value) {
+            return Ok(());
+        }
+        self.end_leaf(draft, key, value)
+    }
+
+    /// Takes the last item of the leaf that has begun, and writes that leaf.
+    #[inline(never)]
+    fn end_leaf<D: Device>(
+        &mut self,
+        draft: &mut Draft<'_, D>,
+        key: u64,
+        value: V,
+    ) -> Result<(), BuildFault>
+        requires low { self.old.leaves.low ≤ key }
+        requires fits { V.fitting value ≡ true }
+        requires more { 1 ≤ items_to_come self.old.leaves }
+        requires last { length self.old.leaves.begun + 1 ≡ size_of_first self.old.leaves.sizes }
+        requires writable { IsWritable (stand draft.old).device }
+        requires room { draft.old.next + number_left self.old ≤ (stand draft.old).device.blocks }
+        requires closed { IsClosed (stand draft.old).device }
+        ensures same_reference { draft.new.dev.ghost_name ≡ draft.old.dev.ghost_name }
+        ensures grows { OnOk result (Grows V.SIZE (record { key = key; value = V.code value }) self.old self.new (stand draft.old) (stand draft.new)) }
+        ensures closed { StaysClosed (stand draft.old).device (stand draft.new).device }
+        ensures faults { CountsBuildFault result (stand draft.old).device.faults (stand draft.new).device.faults }
+    {
+        let head = self.leaves.end_leaf(draft, key, value)?;
         add_head(&mut self.upper, head)
     }
 

@@ -1,28 +1,30 @@
 //! The leaves of a tree.
 
-ghost use Rattle.std.specs.Prelude.{◌≡◌, ℕ, ◌+◌, ◌-◌, ◌*◌, ◌<◌, ◌≤◌, ◌^◌, List, [], ◌∷◌, ◌++◌, length, map, true, OnOk, OnErr, IfOk, max, vec_len, nat_eq};
-ghost use Rattle.std.specs.List.{All};
-ghost use Rattle.pd_kinds.specs.Node.{Entry, is_ascending, max_entries};
-ghost use Rattle.pd_node.specs.Items.{entries_of, keys_of};
+ghost use Rattle.std.specs.Prelude.{◌≡◌, ℕ, ◌+◌, ◌-◌, ◌*◌, ◌<◌, ◌≤◌, ◌^◌, List, [], ◌∷◌, ◌++◌, length, map, true, false, None, OnOk, OnErr, IfOk, nat_eq};
+ghost use Rattle.pd_kinds.specs.Node.{Entry, max_entries};
 ghost use Rattle.pd_image.specs.Device.{IsWritable};
 ghost use Rattle.pd_draft.specs.Closed.{IsClosed, StaysClosed};
+ghost use Rattle.pd_draft.specs.Placed.{Stand};
 ghost use Rattle.pd_draft.specs.Stand.{stand};
 ghost use Rattle.pd_spells.specs.Need.{nodes_for};
 ghost use Rattle.pd_laid.specs.Tree.{tree_leaves};
 ghost use Rattle.pd_build.specs.Parts.{even_sizes};
-ghost use Rattle.pd_build.specs.Leaves.{LeavesLeft, items_to_come, leaves_to_come, Takes, AreCounts, AreInOrder, low_of, Loses};
+ghost use Rattle.pd_build.specs.Begun.{entries_in, begun_block};
+ghost use Rattle.pd_build.specs.Leaves.{LeavesLeft, items_to_come, leaves_to_come, size_of_first, Takes, AreCounts, low_of, low_after, Loses};
 ghost use Rattle.pd_build.specs.Causes.{CountsBuildFault};
 
 use crate::BuildFault;
-use crate::steps::{append, least_of, parts, put_block};
+use crate::begun::{end_block, least_of, put_item};
+use crate::steps::{parts, put_block};
 use pd_draft::Draft;
 use pd_image::Device;
-use pd_node::{max_entries_of, write_leaf};
+use pd_kinds::Block;
+use pd_node::max_entries_of;
 use pd_value::Value;
 use std::alloc::{AllocError, Global};
-use std::marker::Model;
+use std::marker::{Model, PhantomData};
 
-/// Writes the leaves of a tree, as the items come: the fewest that hold them, spread evenly. It holds the items of one
+/// Writes the leaves of a tree, as the items come: the fewest that hold them, spread evenly. It holds the block of one
 /// leaf.
 #[derive(Drop)]
 pub struct LeafBuilder<V: Value> {
@@ -32,19 +34,22 @@ pub struct LeafBuilder<V: Value> {
     items: u64,
     /// How many items the first of them has.
     size: u64,
-    /// The items of the first of them that were put.
-    begun: Vec<(u64, V)>,
-    /// The last key that was put.
+    /// How many items of the first of them were put.
+    count: u64,
+    /// The leaf that has begun: those items in their places, and zeros elsewhere.
+    block: Box<Block>,
+    /// The last key of the leaves before that one.
     last: Option<u64>,
+    values: PhantomData<V>,
 }
 
 impl<V: Value> Model for LeafBuilder<V> {
     ghost Value = { LeavesLeft };
 
-    ghost view = { λ b. record { sizes = even_sizes b.leaves b.items; begun = entries_of V.code b.begun.items; low = low_of b.last } };
+    ghost view = { λ b. record { sizes = even_sizes b.leaves b.items; begun = entries_in V.SIZE b.block.value.0 b.count; low = low_after (low_of b.last) (entries_in V.SIZE b.block.value.0 b.count) } };
 
-    ghost invariant = { λ b. AreCounts (max_entries V.SIZE) b.leaves b.items b.size (vec_len b.begun)
-        × AreInOrder V.fitting b.begun.items (low_of b.last) };
+    ghost invariant = { λ b. AreCounts (max_entries V.SIZE) b.leaves b.items b.size b.count
+        × (b.block.value.0 ≡ begun_block V.SIZE (entries_in V.SIZE b.block.value.0 b.count)) };
 }
 
 impl<V: Value> LeafBuilder<V> {
@@ -58,13 +63,15 @@ impl<V: Value> LeafBuilder<V> {
     {
         let most = max_entries_of(V::SIZE) as u64;
         let leaves = parts(n, most);
-        let begun = Vec::with_capacity(alloc, most as usize)?;
+        let block = Box::new(alloc, Block::zeros())?;
         Ok(LeafBuilder {
             leaves,
             items: n,
             size: first_of(leaves, n),
-            begun,
+            count: 0,
+            block,
             last: None,
+            values: PhantomData,
         })
     }
 
@@ -77,6 +84,7 @@ impl<V: Value> LeafBuilder<V> {
     }
 
     /// Takes an item. Where it ends a leaf, that is written, and its least key and place are answered.
+    #[inline]
     pub fn put<D: Device>(
         &mut self,
         draft: &mut Draft<'_, D>,
@@ -95,19 +103,62 @@ impl<V: Value> LeafBuilder<V> {
         ensures closed { StaysClosed (stand draft.old).device (stand draft.new).device }
         ensures faults { CountsBuildFault result (stand draft.old).device.faults (stand draft.new).device.faults }
     {
-        append(&mut self.begun, key, value)?;
-        self.last = Some(key);
-        if (self.begun.len() as u64) < self.size {
+        if self.hold(key, value) {
             return Ok(None);
         }
+        self.end_leaf(draft, key, value)
+    }
+
+    /// Takes an item where it doesn't end a leaf, and answers whether it did: else all stays as it was.
+    #[inline]
+    pub(crate) fn hold(&mut self, key: u64, value: V) -> bool
+        requires fits { V.fitting value ≡ true }
+        requires more { 1 ≤ items_to_come self.old }
+        ensures held { result ≡ true → (now : Stand) → IsClosed now.device → Takes V.SIZE (record { key = key; value = V.code value }) None self.old self.new now now }
+        ensures kept { result ≡ false → self.new ≡ self.old }
+        ensures last { result ≡ false → length self.old.begun + 1 ≡ size_of_first self.old.sizes }
+    {
+        let count = self.count + 1;
+        if count < self.size {
+            put_item(&mut self.block, self.count as usize, key, value);
+            self.count = count;
+            return true;
+        }
+        false
+    }
+
+    /// Takes the last item of the leaf that has begun, and writes that leaf.
+    #[inline(never)]
+    pub(crate) fn end_leaf<D: Device>(
+        &mut self,
+        draft: &mut Draft<'_, D>,
+        key: u64,
+        value: V,
+    ) -> Result<Option<(u64, u64)>, BuildFault>
+        requires fits { V.fitting value ≡ true }
+        requires more { 1 ≤ items_to_come self.old }
+        requires last { length self.old.begun + 1 ≡ size_of_first self.old.sizes }
+        requires writable { IsWritable (stand draft.old).device }
+        requires room { draft.old.next + length self.old.sizes ≤ (stand draft.old).device.blocks }
+        requires closed { IsClosed (stand draft.old).device }
+        ensures same_reference { draft.new.dev.ghost_name ≡ draft.old.dev.ghost_name }
+        ensures takes { IfOk result (λ head. Takes V.SIZE (record { key = key; value = V.code value }) head self.old self.new (stand draft.old) (stand draft.new)) }
+        ensures lost { OnErr result (Loses self.old (record { key = key; value = V.code value }) self.new) }
+        ensures closed { StaysClosed (stand draft.old).device (stand draft.new).device }
+        ensures faults { CountsBuildFault result (stand draft.old).device.faults (stand draft.new).device.faults }
+    {
+        put_item(&mut self.block, self.count as usize, key, value);
         let place = draft.next();
-        let least = least_of(&self.begun);
-        let block = write_leaf(place, &self.begun);
-        self.begun.clear();
+        let least = least_of(&self.block);
+        end_block(&mut self.block, V::SIZE, place, self.size);
+        let written = put_block(draft, &self.block);
+        *self.block = Block::zeros();
+        self.count = 0;
+        self.last = Some(key);
         self.leaves -= 1;
         self.items -= self.size;
         self.size = first_of(self.leaves, self.items);
-        put_block(draft, &block)?;
+        written?;
         Ok(Some((least, place)))
     }
 }

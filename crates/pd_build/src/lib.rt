@@ -2,11 +2,12 @@
 //!
 //! What is written is what the laid image says: leaves of the fewest, spread evenly, then each level above. A
 //! builder can't hold the items that have passed, so its model says what is still to be written for the items that
-//! are still to come, and a call says what it wrote of that. It holds the items of one leaf, and the least key and
+//! are still to come, and a call says what it wrote of that. It holds the block of one leaf, and the least key and
 //! the place of each leaf.
 #![tactic(auto)]
 
 mod array;
+mod begun;
 mod build;
 mod fault;
 mod leaves;

@@ -1,7 +1,6 @@
 //! Steps that the builders share.
 
-ghost use Rattle.std.specs.Prelude.{◌≡◌, ◌+◌, ◌<◌, ◌≤◌, [], ◌∷◌, ◌++◌, OnOk, OnErr, IfErr, vec_len, length, slice_index};
-ghost use Rattle.pd_node.specs.Items.{keys_of};
+ghost use Rattle.std.specs.Prelude.{◌≡◌, ◌+◌, ◌<◌, ◌≤◌, [], ◌∷◌, OnOk, IfErr};
 ghost use Rattle.pd_image.specs.Device.{IsWritable};
 ghost use Rattle.pd_draft.specs.Closed.{IsClosed, StaysClosed};
 ghost use Rattle.pd_draft.specs.Placed.{Wrote};
@@ -13,33 +12,6 @@ use crate::BuildFault;
 use pd_draft::Draft;
 use pd_image::Device;
 use pd_kinds::Block;
-
-/// Adds an item at the end.
-pub(crate) fn append<T: Copy>(
-    items: &mut Vec<(u64, T)>,
-    key: u64,
-    value: T,
-) -> Result<(), BuildFault>
-    ensures items { OnOk result (items.new.items ≡ items.old.items ++ (key, value) ∷ []) }
-    ensures len { OnOk result (vec_len items.new ≡ vec_len items.old + 1) }
-    ensures kept { OnErr result (items.new.items ≡ items.old.items) }
-    ensures same { OnErr result (vec_len items.new ≡ vec_len items.old) }
-    ensures fault { IfErr result (λ fault. fault ≡ BuildFault.Memory) }
-{
-    match items.push((key, value)) {
-        Ok(()) => Ok(()),
-        Err(_) => Err(BuildFault::Memory),
-    }
-}
-
-/// The key of the first item.
-pub(crate) fn least_of<T: Copy>(items: &[(u64, T)]) -> u64
-    requires { 1 ≤ length items.now }
-    ensures { result ≡ slice_index (keys_of items.now) 0 }
-{
-    let (key, _) = items[0];
-    key
-}
 
 /// Puts a block at the draft's next place.
 pub fn put_block<D: Device>(draft: &mut Draft<'_, D>, block: &Block) -> Result<(), BuildFault>

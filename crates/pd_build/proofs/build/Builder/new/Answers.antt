@@ -1,6 +1,9 @@
 use Rattle.pd_build.proofs.CountLemmas.{room_some}
-use Rattle.pd_build.proofs.TreeLemmas.{start_blocks, start_tree, start_root, start_number}
+use Rattle.pd_build.proofs.TreeLemmas.{order_start, start_blocks, start_tree, start_root, start_number}
 use Rattle.pd_build.proofs.build.Builder.new.Goals as goal
+
+pub invariant_of-result : goal.invariant_of-result
+invariant_of-result g c = order_start c.in_ok-leaves.leaves c.new-2.result c.in_ok-leaves.ensures.begun c.new-2.ensures
 
 pub returns-clause-blocks : goal.returns-clause-blocks
 returns-clause-blocks g c place items count =

@@ -1,10 +1,9 @@
-use Rattle.std.proofs.Common.{◌≡◌, ◌≤◌, ℕ, refl, ◌∙◌, ap, arith}
+use Rattle.std.proofs.Common.{◌≡◌, ◌≤◌, ℕ, [], refl, ◌∙◌, ap, arith}
 use Rattle.pd_kinds.specs.Node.{max_entries}
-use Rattle.pd_node.specs.Items.{entries_of}
 use Rattle.pd_spells.specs.Need.{nodes_for}
 use Rattle.pd_build.specs.Parts.{even_sizes}
+use Rattle.pd_build.proofs.BegunLemmas.{begun_none}
 use Rattle.pd_build.proofs.CountLemmas.{room_some, parts_some}
-use Rattle.pd_build.proofs.OrderLemmas.{in_order_none}
 use Rattle.pd_build.proofs.TakesLemmas.{start_items, start_leaves, started, none_then}
 use Rattle.pd_build.proofs.PartLemmas.{length-even}
 use Rattle.pd_build.proofs.leaves.LeafBuilder.new.Goals as goal
@@ -19,24 +18,21 @@ room g = room_some g.V.Value.SIZE g.met.V.Value.size_most
 
 pub invariant_of-result : goal.invariant_of-result
 invariant_of-result g c =
-    let items = c.in_ok-begun.ensures.items in (
-      started (max_entries g.V.Value.SIZE) c.args.n (room g) (most_is g c) c.first_of.ensures c.in_ok-begun.ensures.len,
-      rw items (in_order_none g.V.Value.fitting 0),
+    let block = c.in_ok-block.ensures.ok in (
+      started (max_entries g.V.Value.SIZE) c.args.n (room g) (most_is g c) c.first_of.ensures refl,
+      rw block (c.zeros.ensures ∙ begun_none g.V.Value.SIZE),
     )
 
 pub returns-clause-leaves : goal.returns-clause-leaves
 returns-clause-leaves g c some items count =
     let is = parts_some (max_entries g.V.Value.SIZE) c.args.n (room g) some in
-    start_leaves g.V.Value.SIZE c.parts-leaves.result (record { sizes = even_sizes c.parts-leaves.result c.args.n; begun = entries_of g.V.Value.code c.in_ok-begun.begun.items; low = 0 }) items (rw count (most_is g c)) (omega (arith, most_is g c))
-    (rw count refl) (ap (entries_of g.V.Value.code) c.in_ok-begun.ensures.items)
+    start_leaves g.V.Value.SIZE c.parts-leaves.result (record { sizes = even_sizes c.parts-leaves.result c.args.n; begun = []; low = 0 }) items (rw count (most_is g c)) (omega (arith, most_is g c))
+    (rw count refl) refl
 
 pub returns-clause-items : goal.returns-clause-items
 returns-clause-items g c =
-    start_items c.parts-leaves.result c.args.n (record { sizes = even_sizes c.parts-leaves.result c.args.n; begun = entries_of g.V.Value.code c.in_ok-begun.begun.items; low = 0 })
-    (none_then (max_entries g.V.Value.SIZE) c.args.n (room g) (most_is g c)) refl (ap (entries_of g.V.Value.code) c.in_ok-begun.ensures.items)
+    start_items c.parts-leaves.result c.args.n (record { sizes = even_sizes c.parts-leaves.result c.args.n; begun = []; low = 0 })
+    (none_then (max_entries g.V.Value.SIZE) c.args.n (room g) (most_is g c)) refl refl
 
 pub returns-clause-number : goal.returns-clause-number
 returns-clause-number g c = length-even c.parts-leaves.result c.args.n ∙ most_is g c
-
-pub returns-clause-begun : goal.returns-clause-begun
-returns-clause-begun g c = ap (entries_of g.V.Value.code) c.in_ok-begun.ensures.items
