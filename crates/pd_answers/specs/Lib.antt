@@ -5,6 +5,7 @@ pub mod Generated
 pub mod SearchLines
 pub mod Flag
 pub mod Answer
+pub mod Reads
 pub mod Terms
 pub mod Outputs
 pub mod Restores

@@ -18,6 +18,7 @@ use Rattle.pd_answers.specs.QueryLines.{rmap_lines, list_lines, since_lines}
 use Rattle.pd_answers.specs.Generated.{generated_text}
 use Rattle.pd_answers.specs.Flag.{LeavesCleared}
 use Rattle.pd_answers.specs.Answer.{Answer, reading, writing}
+use Rattle.pd_answers.specs.Reads.{few_reads, any_reads}
 use Rattle.pd_answers.specs.Terms.{Terms, unnamed, nothing}
 use Rattle.pd_answers.specs.Restores.{restore}
 use Rattle.pd_answers.specs.Repairs.{repair, search}
@@ -33,6 +34,7 @@ refused = record {
   statuses = 2 ∷ [];
   memory = λ before. ⊥;
   silent = [];
+  reads = any_reads;
   leaves = nothing;
 }
 
@@ -58,6 +60,7 @@ check kind until path = record {
   statuses = 0 ∷ 1 ∷ 5 ∷ wanting_of until;
   memory = λ before. CanWantMemory kind until before.input.held;
   silent = 5 ∷ 7 ∷ [];
+  reads = few_reads kind;
   leaves = nothing;
 }
 
@@ -71,6 +74,7 @@ check_and_clear path = record {
   statuses = 0 ∷ 1 ∷ 5 ∷ 7 ∷ [];
   memory = λ before. CanWantMemory Thin Counts before.input.held;
   silent = 7 ∷ [];
+  reads = few_reads Thin;
   leaves = λ report before after status. LeavesCleared report status before.input after.input;
 }
 
@@ -97,6 +101,7 @@ query kind text_of file path = record {
   statuses = 0 ∷ 1 ∷ 5 ∷ 7 ∷ [];
   memory = λ before. CanWantMemory kind Whole before.input.held;
   silent = 1 ∷ [];
+  reads = any_reads;
   leaves = nothing;
 }
 
@@ -120,6 +125,7 @@ generate number file = record {
   statuses = 0 ∷ [];
   memory = λ before. ⊥;
   silent = [];
+  reads = any_reads;
   leaves = nothing;
 }
 

@@ -11,6 +11,7 @@ use Rattle.pd_spells.specs.Early.{is_pool_early}
 use Rattle.pd_laid.specs.Made.{Makes}
 use Rattle.pd_answers.specs.Generated.{generated_text, rehearsal_line}
 use Rattle.pd_answers.specs.Answer.{Answer, reading, writing}
+use Rattle.pd_answers.specs.Reads.{any_reads}
 use Rattle.pd_answers.specs.Terms.{Terms, unnamed}
 use Rattle.pd_answers.specs.Outputs.{IsRoom, LeavesMade}
 use Rattle.pd_answers.specs.Restores.{restore_answer}
@@ -59,6 +60,7 @@ rehearse number path = record {
   statuses = 0 ∷ 1 ∷ 4 ∷ 5 ∷ 7 ∷ [];
   memory = λ before. Unit {0};
   silent = 1 ∷ 4 ∷ 5 ∷ 7 ∷ [];
+  reads = any_reads;
   leaves = λ rehearsed before after status. LeavesMade (Makes laid_pool rehearsed.room rehearsed.verdict)
       (is_pool_early (generated_text number) rehearsed.room) status before.output after.output;
 }

@@ -13,6 +13,7 @@ use Rattle.pd_laid.specs.Salvage.{salvage}
 use Rattle.pd_laid.specs.FoundRoots.{FoundRoots, lost_graph, IsFound, found_pool}
 use Rattle.pd_answers.specs.SearchLines.{roots_line, no_roots_line}
 use Rattle.pd_answers.specs.Answer.{Answer, reading, writing}
+use Rattle.pd_answers.specs.Reads.{any_reads}
 use Rattle.pd_answers.specs.Terms.{Terms, unnamed}
 use Rattle.pd_answers.specs.Outputs.{IsRoom, LeavesMade}
 
@@ -49,6 +50,7 @@ repair from to = record {
   statuses = 0 ∷ 1 ∷ 4 ∷ 5 ∷ 7 ∷ [];
   memory = λ before. IfSome before.input.held (λ image. faults Thin Super image ≡ []);
   silent = [];
+  reads = any_reads;
   leaves = λ saved before after status. LeavesMade (LaysPool (repair_answer saved) saved.pool saved.room)
       (not ((repair_answer saved).status == 0)) status before.output after.output;
 }
@@ -81,6 +83,7 @@ search from to transaction block_size blocks = record {
   statuses = 0 ∷ 1 ∷ 4 ∷ 5 ∷ 7 ∷ [];
   memory = λ before. Unit {0};
   silent = 1 ∷ 4 ∷ 5 ∷ 7 ∷ [];
+  reads = any_reads;
   leaves = λ searched before after status. LeavesMade (LaysPool (searched_answer searched) searched.pool searched.room)
       (not ((searched_answer searched).status == 0)) status before.output after.output;
 }

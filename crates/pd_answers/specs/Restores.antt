@@ -18,6 +18,7 @@ use Rattle.pd_shapes.specs.SharedText.{shared_format}
 use Rattle.pd_shapes.specs.SharedNeed.{shape_need_so_far}
 use Rattle.pd_shapes.specs.PoolText.{is_second_version, IsPoolTextVerdict}
 use Rattle.pd_answers.specs.Answer.{Answer, reading, writing}
+use Rattle.pd_answers.specs.Reads.{any_reads}
 use Rattle.pd_answers.specs.Terms.{Terms, unnamed}
 use Rattle.pd_answers.specs.Outputs.{IsRoom, LeavesMade}
 use Rattle.pd_answers.specs.Requests.{reads_second_version}
@@ -46,6 +47,7 @@ restore_by {M} IsVerdictOn is_early laid file path = record {
   statuses = 0 ∷ 3 ∷ 4 ∷ 5 ∷ 7 ∷ [];
   memory = λ before. Unit {0};
   silent = [];
+  reads = any_reads;
   leaves = λ judged before after status.
       LeavesMade (Makes laid judged.room judged.verdict) judged.is_early status before.output after.output;
 }

@@ -34,6 +34,8 @@ pub record Terms : Type 1 where
   pub memory : Objects → Type 0
   -- the statuses under which `out` is left alone
   pub silent : List ℕ
+  -- how often it reads its devices
+  pub reads : Objects → Objects → Type 0
   -- what it leaves, under a status, of what it writes: what these devices hold, and what a crash leaves of them
   pub leaves : Finding → Objects → Objects → ℕ → Type 0
 
@@ -123,5 +125,7 @@ pub record IsAnswered (terms : Terms) (before after : Objects) (status : ℕ) : 
   pub open_out : status ≡ 0 → IsOpen terms.uses.out after.out.access
   -- at status 0 a text was read to its end
   pub read : status ≡ 0 → IsReadWhole terms.uses.source before.source.left after.source.left
+  -- how often the devices were read, under every status
+  pub reads : terms.reads before after
   -- what the devices that are written hold, and what a crash leaves of them
   pub leaves : terms.leaves finding before after status

@@ -118,6 +118,7 @@ module _ (terms : Terms) (before after : Objects) (fresh : AreFresh before) wher
     open_notes = λ ne. absurd (ne refl);
     open_out = λ e. absurd (omega arith);
     read = λ e. absurd (omega arith);
+    reads = work.reads;
     leaves = lost;
   }
 
@@ -134,10 +135,11 @@ still Same (writing path) state same = tt
 
 -- `notes` couldn't be attached, before all else
 pub answered_unattached : (terms : Terms) (before : Objects) (notes' : SinkState) (finding : terms.Finding) → AreFresh before → terms.finds before (record before { notes = notes' }) finding
+    → terms.reads before (record before { notes = notes' })
     → terms.leaves finding before (record before { notes = notes' }) 6
     → notes'.access ≡ 3 → IfSome notes'.path (λ told. told ≡ []) → notes'.written ≡ before.notes.written → Rose before.notes.faults notes'.faults
     → IsAnswered terms before (record before { notes = notes' }) 6
-answered_unattached terms before notes' finding fresh found leaves access path written rose =
+answered_unattached terms before notes' finding fresh found reads leaves access path written rose =
     answered_lost terms before (record before { notes = notes' }) fresh finding 6 (record {
       found = found;
       possible = refl;
@@ -156,6 +158,7 @@ answered_unattached terms before notes' finding fresh found leaves access path w
         third = still IsUntouched terms.uses.third before.third (record { held = refl; history = refl });
       };
       silent = λ _. refl;
+      reads = reads;
       leaves = leaves;
     }) leaves (front_none _ before.out.written) (inl (rw written (front_none _ before.notes.written))) rose
     (record { allowed = inr (inr access); named = λ _. path })
@@ -188,6 +191,7 @@ module _ (terms : Terms) (before after : Objects) (attached : SinkState) (fresh 
         open_notes = λ _. access;
         open_out = done.open_out;
         read = done.read;
+        reads = done.work.reads;
         leaves = done.work.leaves;
       }
 
@@ -240,6 +244,7 @@ module _ (terms : Terms) (before after : Objects) (attached : SinkState) (fresh 
               open_notes = λ _. puts.access ∙ was.access;
               open_out = λ e. absurd (omega arith);
               read = λ e. absurd (omega arith);
+              reads = stopped.work.reads;
               leaves = stopped.work.leaves;
             })
         | inr lost ↦ rw lost.status (answered_lost terms before after fresh stopped.finding (stop_status stop) stopped.work stopped.lost stopped.front notes_front (rw was.faults at lost.faults) notes)

@@ -22,6 +22,7 @@ use Rattle.pd_laid.specs.LaidCache.{laid_cache}
 use Rattle.pd_laid.specs.LaidEra.{laid_era}
 use Rattle.pd_tools.specs.Restore.{TextsHaveVerdicts}
 use Rattle.pd_tools.proofs.Checks.{told}
+use Rattle.pd_tools.proofs.FewReads.{unread}
 use Rattle.pd_tools.proofs.Clears.{clearing_at_rest}
 use Rattle.pd_tools.proofs.Queries.{query_at_rest}
 use Rattle.pd_tools.proofs.Rehearses.{rehearse_at_rest}
@@ -73,3 +74,23 @@ at_rest (Some (since era file path)) before notes fresh verdicts is = query_at_r
 at_rest (Some (generate number file)) before notes fresh verdicts is = (tt, tt, tt)
 at_rest (Some (rehearse number path)) before notes fresh verdicts is = rehearse_at_rest number path before (record before { notes = notes }) before.output fresh.output.2 (verdicts Thin 1) fresh.output.0
 at_rest (Some _) before notes fresh verdicts is = absurd (true≢false (sym is))
+
+-- and nothing was read
+pub reads_at_rest : (request : Option Request) (before : Objects) (notes : SinkState) → IfSome request (λ r. is_built r ≡ true)
+    → (terms_of request).reads before (record before { notes = notes })
+unfolding is_built
+reads_at_rest None before notes is = tt
+reads_at_rest (Some (check kind until false path)) before notes is = unread kind before.input.held before.input.reads
+reads_at_rest (Some (check kind until true path)) before notes is = unread Thin before.input.held before.input.reads
+reads_at_rest (Some (restore Thin version file path)) before notes is = tt
+reads_at_rest (Some (restore Cache version file path)) before notes is = tt
+reads_at_rest (Some (restore Era version file path)) before notes is = tt
+reads_at_rest (Some (repair from to)) before notes is = tt
+reads_at_rest (Some (dump kind false file path)) before notes is = tt
+reads_at_rest (Some (dump kind true file path)) before notes is = absurd (true≢false (sym is ∙ no_shared kind file path))
+reads_at_rest (Some (rmap first end file path)) before notes is = tt
+reads_at_rest (Some (list_devices file path)) before notes is = tt
+reads_at_rest (Some (since era file path)) before notes is = tt
+reads_at_rest (Some (generate number file)) before notes is = tt
+reads_at_rest (Some (rehearse number path)) before notes is = tt
+reads_at_rest (Some _) before notes is = absurd (true≢false (sym is))

@@ -1,5 +1,5 @@
 -- What the work of a check comes to, over plain variables.
-use Rattle.std.proofs.Common.{◌≡◌, ◌≢◌, inl, ℕ, IsTrue, List, [], Option, Some, None, IfSome, refl}
+use Rattle.std.proofs.Common.{◌≡◌, ◌≢◌, inl, ℕ, ◌+◌, IsTrue, List, [], Option, Some, None, IfSome, refl}
 use Rattle.std.specs.Option.{option_map_or}
 use Rattle.pd_kinds.specs.declared.kind.Kind.{Kind}
 use Rattle.pd_kinds.specs.declared.kind.Stage.{Stage}
@@ -12,6 +12,8 @@ use Rattle.pd_answers.specs.Answer.{Objects, IsUsed, reading}
 use Rattle.pd_kinds.proofs.AppendLemmas.{front_none}
 use Rattle.pd_answers.specs.Terms.{is_possible}
 use Rattle.pd_answers.specs.Promises.{check}
+use Rattle.pd_check.specs.Check as check_reads
+use Rattle.pd_tools.proofs.FewReads.{few}
 use Rattle.pd_tools.specs.declared.stop.Stop.{Stop}
 use Rattle.pd_tools.specs.declared.stop.Stop.TheVariants.{Device, Stream, Memory}
 use Rattle.pd_tools.specs.Read.{IsUnread}
@@ -36,10 +38,11 @@ wanting_possible kind Counts path past = refl
 
 -- a check whose image was not read
 pub check_unread : (kind : Kind) (until : Stage) (path : List ℕ) (others : Objects) (notes out : SinkState) (input input' : DeviceState) (stop : Stop)
-    → out.access ≡ 0 → IsUsed (reading path) input'.access input'.path → IsUntouched input input' → IsUnread kind until input input' stop
+    → out.access ≡ 0 → IsUsed (reading path) input'.access input'.path → IsUntouched input input'
+    → IfSome input.held (λ image. check_reads.ReadsFew kind until image (input.reads + 1) input'.reads) → IsUnread kind until input input' stop
     → IsStopped (check kind until path) (record others { out = out; input = input }) (record others { out = out; notes = notes; input = input' }) stop
-check_unread kind until path others notes out input input' Stream none used untouched unread = absurd unread
-check_unread kind until path others notes out input input' Device none used untouched unread = record {
+check_unread kind until path others notes out input input' Stream none used untouched reads unread = absurd unread
+check_unread kind until path others notes out input input' Device none used untouched reads unread = record {
   finding = option_map_or (λ image. report_of (faults kind until image)) input.held (report_of []);
   work = record {
     found = told input.held (λ image. report_of (faults kind until image)) (report_of []);
@@ -47,13 +50,14 @@ check_unread kind until path others notes out input input' Device none used unto
     followed = record { source = tt; out = not_yet [] out.access out.path none; input = used; output = tt; third = tt };
     kept = record { source = refl; out = tt; input = untouched; output = refl; third = refl };
     silent = λ _. refl;
+    reads = few kind until input.held input.reads input'.reads reads;
     leaves = tt;
   };
   cause = inl unread;
   front = front_none _ out.written;
   lost = tt;
 }
-check_unread kind until path others notes out input input' Memory none used untouched unread = record {
+check_unread kind until path others notes out input input' Memory none used untouched reads unread = record {
   finding = option_map_or (λ image. report_of (faults kind until image)) input.held (report_of []);
   work = record {
     found = told input.held (λ image. report_of (faults kind until image)) (report_of []);
@@ -61,6 +65,7 @@ check_unread kind until path others notes out input input' Memory none used unto
     followed = record { source = tt; out = not_yet [] out.access out.path none; input = used; output = tt; third = tt };
     kept = record { source = refl; out = tt; input = untouched; output = refl; third = refl };
     silent = λ _. refl;
+    reads = few kind until input.held input.reads input'.reads reads;
     leaves = tt;
   };
   cause = unread;

@@ -24,6 +24,9 @@ use Rattle.pd_answers.specs.Promises.{check_and_clear}
 use Rattle.pd_tools.specs.declared.stop.Stop.{Stop}
 use Rattle.pd_tools.specs.declared.stop.Stop.TheVariants.{Device, Stream, Memory}
 use Rattle.pd_tools.specs.Read.{IsUnread}
+use Rattle.pd_check.specs.Check as check_reads
+use Rattle.pd_answers.specs.Reads.{ReadsFew}
+use Rattle.pd_tools.proofs.FewReads.{few}
 use Rattle.pd_tools.specs.Work.{IsWork, IsFinished, IsStopped}
 use Rattle.pd_tools.proofs.Checks.{not_yet, told}
 
@@ -124,11 +127,12 @@ clearing_at_rest path before notes synced = (
 
 -- the image was not read to a report
 pub clearing_unread : (path : List ℕ) (others : Objects) (notes out : SinkState) (input input' : DeviceState) (stop : Stop)
-    → out.access ≡ 0 → IsSynced input → IsUsed (writing path) input'.access input'.path → IsUntouched input input' → IsUnread Thin Counts input input' stop
+    → out.access ≡ 0 → IsSynced input → IsUsed (writing path) input'.access input'.path → IsUntouched input input'
+    → IfSome input.held (λ image. check_reads.ReadsFew Thin Counts image (input.reads + 1) input'.reads) → IsUnread Thin Counts input input' stop
     → IsStopped (check_and_clear path) (record others { out = out; input = input }) (record others { out = out; notes = notes; input = input' }) stop
 unfolding report_in
-clearing_unread path others notes out input input' Stream none synced used untouched unread = absurd unread
-clearing_unread path others notes out input input' Device none synced used untouched unread = record {
+clearing_unread path others notes out input input' Stream none synced used untouched reads unread = absurd unread
+clearing_unread path others notes out input input' Device none synced used untouched reads unread = record {
   finding = report_in input.held;
   work = record {
     found = told input.held (λ image. report_of (faults Thin Counts image)) (report_of []);
@@ -136,13 +140,14 @@ clearing_unread path others notes out input input' Device none synced used untou
     followed = record { source = tt; out = not_yet [] out.access out.path none; input = used; output = tt; third = tt };
     kept = record { source = refl; out = tt; input = tt; output = refl; third = refl };
     silent = λ _. refl;
+    reads = few Thin Counts input.held input.reads input'.reads reads;
     leaves = untouched_left (report_in input.held) input input' synced 5 (λ e. omega arith) untouched;
   };
   cause = inl unread;
   front = front_none _ out.written;
   lost = untouched_left (report_in input.held) input input' synced 6 (λ e. omega arith) untouched;
 }
-clearing_unread path others notes out input input' Memory none synced used untouched unread = record {
+clearing_unread path others notes out input input' Memory none synced used untouched reads unread = record {
   finding = report_in input.held;
   work = record {
     found = told input.held (λ image. report_of (faults Thin Counts image)) (report_of []);
@@ -150,6 +155,7 @@ clearing_unread path others notes out input input' Memory none synced used untou
     followed = record { source = tt; out = not_yet [] out.access out.path none; input = used; output = tt; third = tt };
     kept = record { source = refl; out = tt; input = tt; output = refl; third = refl };
     silent = λ _. refl;
+    reads = few Thin Counts input.held input.reads input'.reads reads;
     leaves = untouched_left (report_in input.held) input input' synced 7 (λ e. omega arith) untouched;
   };
   cause = unread;
@@ -160,7 +166,8 @@ clearing_unread path others notes out input input' Memory none synced used untou
 -- the image was read to this report, and `out` was attached for it
 module _ (path : List ℕ) (others : Objects) (notes out out' : SinkState) (input input' : DeviceState) (report : Reported)
     (found : IfSome input.held (λ image. report ≡ report_of (faults Thin Counts image)))
-    (out_used : IsUsed (reading []) out'.access out'.path) (writable : IsWritable input') (named : IfSome input'.path (λ told. told ≡ path)) where
+    (out_used : IsUsed (reading []) out'.access out'.path) (writable : IsWritable input') (named : IfSome input'.path (λ told. told ≡ path))
+    (reads : IfSome input.held (λ image. ReadsFew Thin image input.reads input'.reads)) where
   abbrev before : Objects
   before = record others { out = out; input = input }
 
@@ -176,6 +183,7 @@ module _ (path : List ℕ) (others : Objects) (notes out out' : SinkState) (inpu
     followed = record { source = tt; out = out_used; input = record { allowed = inr (inl writable); named = λ _. named }; output = tt; third = tt };
     kept = record { source = refl; out = tt; input = tt; output = refl; third = refl };
     silent = silent;
+    reads = reads;
     leaves = leaves;
   }
 

@@ -19,6 +19,7 @@ module _ (number : ℕ) (file : Option (List ℕ)) (others : Objects) (notes out
       followed = record { source = tt; out = used; input = tt; output = tt; third = tt };
       kept = record { source = refl; out = tt; input = refl; output = refl; third = refl };
       silent = λ e. absurd cc;
+      reads = tt;
       leaves = tt;
     };
     low = lit≤ tt;
@@ -41,6 +42,7 @@ module _ (number : ℕ) (file : Option (List ℕ)) (others : Objects) (notes out
       followed = record { source = tt; out = used; input = tt; output = tt; third = tt };
       kept = record { source = refl; out = tt; input = refl; output = refl; third = refl };
       silent = λ e. absurd cc;
+      reads = tt;
       leaves = tt;
     };
     cause = inr rose;

@@ -97,6 +97,7 @@ module _ (q : Query) (file : Option (List ℕ)) (path : List ℕ) (others : Obje
       followed = record { source = tt; out = not_yet (unwrap_or file []) out.access out.path fresh; input = used; output = tt; third = tt };
       kept = record { source = refl; out = tt; input = untouched; output = refl; third = refl };
       silent = λ _. refl;
+      reads = tt;
       leaves = tt;
     };
     cause = inl unread;
@@ -111,6 +112,7 @@ module _ (q : Query) (file : Option (List ℕ)) (path : List ℕ) (others : Obje
       followed = record { source = tt; out = not_yet (unwrap_or file []) out.access out.path fresh; input = used; output = tt; third = tt };
       kept = record { source = refl; out = tt; input = untouched; output = refl; third = refl };
       silent = λ _. refl;
+      reads = tt;
       leaves = tt;
     };
     cause = unread;
@@ -132,6 +134,7 @@ module _ (q : Query) (file : Option (List ℕ)) (path : List ℕ) (others : Obje
             followed = record { source = tt; out = not_yet (unwrap_or file []) out.access out.path fresh; input = used; output = tt; third = tt };
             kept = record { source = refl; out = tt; input = untouched; output = refl; third = refl };
             silent = λ _. refl;
+            reads = tt;
             leaves = tt;
           };
           low = lit≤ tt;
@@ -160,6 +163,7 @@ module _ (q : Query) (file : Option (List ℕ)) (path : List ℕ) (others : Obje
               followed = record { source = tt; out = out_used; input = used; output = tt; third = tt };
               kept = record { source = refl; out = tt; input = untouched; output = refl; third = refl };
               silent = λ e. absurd cc;
+              reads = tt;
               leaves = tt;
             };
             low = lit≤ tt;
@@ -180,6 +184,7 @@ module _ (q : Query) (file : Option (List ℕ)) (path : List ℕ) (others : Obje
         followed = record { source = tt; out = out_used; input = used; output = tt; third = tt };
         kept = record { source = refl; out = tt; input = untouched; output = refl; third = refl };
         silent = λ e. absurd (loud e);
+        reads = tt;
         leaves = tt;
       }
 

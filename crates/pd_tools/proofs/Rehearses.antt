@@ -129,6 +129,7 @@ module _ (number : ℕ) (path : List ℕ) (others : Objects) (notes out : SinkSt
           followed = record { source = tt; out = not_yet [] out.access out.path fresh; input = tt; output = record { allowed = inr (inr attached.access); named = λ _. attached.path }; third = tt };
           kept = record { source = refl; out = tt; input = refl; output = tt; third = refl };
           silent = λ _. refl;
+          reads = tt;
           leaves = leaves 5 (λ e. omega arith);
         };
         cause = inr (inl rose);
@@ -194,6 +195,7 @@ module _ (number : ℕ) (path : List ℕ) (others : Objects) (notes out : SinkSt
       followed = record { source = tt; out = not_yet [] out.access out.path fresh; input = tt; output = output_used; third = tt };
       kept = record { source = refl; out = tt; input = refl; output = tt; third = refl };
       silent = λ _. refl;
+      reads = tt;
       leaves = left;
     }
 
@@ -272,6 +274,7 @@ module _ (number : ℕ) (path : List ℕ) (others : Objects) (notes out : SinkSt
         followed = record { source = tt; out = used; input = tt; output = output_used; third = tt };
         kept = record { source = refl; out = tt; input = refl; output = tt; third = refl };
         silent = λ quiet. absurd (heard quiet);
+        reads = tt;
         leaves = left;
       }
 

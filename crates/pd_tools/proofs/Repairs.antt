@@ -118,6 +118,7 @@ repair_unopened from to others notes input last_input output last synced un =
         followed = record { source = tt; out = tt; input = un.input_used; output = un.output_used; third = tt };
         kept = record { source = refl; out = refl; input = un.input_untouched; output = tt; third = refl };
         silent = λ _. refl;
+        reads = tt;
         leaves = leaves 5 (λ e. omega arith);
       };
       cause = elim un.cause [ inl rose ↦ inl rose | inr rose ↦ inr (inl rose) ];
@@ -210,6 +211,7 @@ module _ (from to : List ℕ) (others : Objects) (notes : SinkState) (input open
       third = refl;
     };
     silent = λ _. refl;
+    reads = tt;
     leaves = left;
   }
 

@@ -139,6 +139,7 @@ module _ {M : Type 0} (Lawful : M → Type 0) (IsVerdictOn : List ℕ → ℕ �
           followed = record { source = un.source_used; out = tt; input = tt; output = un.output_used; third = tt };
           kept = record { source = tt; out = refl; input = refl; output = tt; third = refl };
           silent = λ _. refl;
+          reads = tt;
           leaves = leaves (stop_status stop) (some_stop stop);
         };
         cause = failed stop un.cause;
@@ -260,6 +261,7 @@ module _ {M : Type 0} (Lawful : M → Type 0) (IsVerdictOn : List ℕ → ℕ �
       followed = record { source = source_used; out = tt; input = tt; output = output_used; third = tt };
       kept = record { source = tt; out = refl; input = refl; output = tt; third = refl };
       silent = λ _. refl;
+      reads = tt;
       leaves = leaves status is_done is_refusal;
     };
     low = low;
@@ -304,6 +306,7 @@ module _ {M : Type 0} (Lawful : M → Type 0) (IsVerdictOn : List ℕ → ℕ �
       followed = record { source = source_used; out = tt; input = tt; output = output_used; third = tt };
       kept = record { source = tt; out = refl; input = refl; output = tt; third = refl };
       silent = λ _. refl;
+      reads = tt;
       leaves = high (stop_status stop) (stop_status-low stop);
     };
     cause = cause;

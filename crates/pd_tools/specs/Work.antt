@@ -28,6 +28,7 @@ pub record IsWork (terms : Terms) (finding : terms.Finding) (before after : Obje
   pub followed : AreFollowed terms.uses after
   pub kept : AreKept terms.uses before after
   pub silent : IsTrue (is_one_of terms.silent wanted) → after.out ≡ before.out
+  pub reads : terms.reads before after
   pub leaves : terms.leaves finding before after wanted
 
 -- the work came to the answer, of which this line is still to be put

@@ -1,6 +1,6 @@
 //! A check, from the path of the image to the report and the status.
 
-ghost use Rattle.std.specs.Prelude.{◌≡◌, [], OnOk, IfOk, IfErr, IfSome, MatchResult, if◌then◌else◌};
+ghost use Rattle.std.specs.Prelude.{◌≡◌, ◌+◌, [], OnOk, IfOk, IfErr, IfSome, MatchResult, if◌then◌else◌};
 ghost use Rattle.pd_kinds.specs.Objects.{CountsFault, Appends, AppendsFront, SinkState};
 ghost use Rattle.pd_kinds.specs.Report.{report_of};
 ghost use Rattle.pd_kinds.specs.Stages.{faults};
@@ -9,6 +9,7 @@ ghost use Rattle.pd_image.specs.Device.{IsAttached};
 ghost use Rattle.pd_spells.specs.Lines.{reported_lines};
 ghost use Rattle.pd_answers.specs.Answer.{Objects, IsUsed, reading};
 ghost use Rattle.pd_answers.specs.Promises.{check};
+ghost use Rattle.pd_check.specs.Check.{ReadsFew};
 ghost use Rattle.pd_tools.specs.Read.{IsUnread};
 ghost use Rattle.pd_tools.specs.Work.{IsFinished, IsStopped, Answers};
 
@@ -85,6 +86,7 @@ pub fn read_report<A: Device>(
     ensures used { IsUsed (reading image.now) (A.state input.new).access (A.state input.new).path }
     ensures untouched { IsUntouched (A.state input.old) (A.state input.new) }
     ensures kept { OnOk result ((A.state input.new).faults ≡ (A.state input.old).faults) }
+    ensures reads { IfSome (A.state input.old).held (λ image. ReadsFew kind until image ((A.state input.old).reads + 1) (A.state input.new).reads) }
     ensures stopped { IfErr result (IsUnread kind until (A.state input.old) (A.state input.new)) }
 {
     if input.attach(image, false).is_err() {
@@ -106,6 +108,7 @@ pub(crate) fn check_attached<A: Device>(
     ensures path { (A.state input.new).path ≡ (A.state input.old).path }
     ensures untouched { IsUntouched (A.state input.old) (A.state input.new) }
     ensures kept { OnOk result ((A.state input.new).faults ≡ (A.state input.old).faults) }
+    ensures reads { IfSome (A.state input.old).held (λ image. ReadsFew kind until image ((A.state input.old).reads + 1) (A.state input.new).reads) }
     ensures stopped { IfErr result (IsUnread kind until (A.state input.old) (A.state input.new)) }
 {
     let checked = match kind {

@@ -1,6 +1,6 @@
 //! A check as it is asked: with the flag, a pool's "needs check" is cleared where nothing was found.
 
-ghost use Rattle.std.specs.Prelude.{◌≡◌, ◌≢◌, ◌==◌, ℕ, [], Some, OnOk, IfOk, IfErr, IfSome, MatchResult, if◌then◌else◌};
+ghost use Rattle.std.specs.Prelude.{◌≡◌, ◌≢◌, ◌==◌, ◌+◌, ◌≤◌, ℕ, [], Some, OnOk, IfOk, IfErr, IfSome, MatchResult, if◌then◌else◌};
 ghost use Rattle.pd_kinds.specs.declared.kind.Kind.TheVariants.{Thin};
 ghost use Rattle.pd_kinds.specs.declared.kind.Stage.TheVariants.{Counts};
 ghost use Rattle.pd_kinds.specs.Objects.{CountsFault, SinkState};
@@ -12,6 +12,7 @@ ghost use Rattle.pd_answers.specs.Answer.{Objects, IsUsed, writing};
 ghost use Rattle.pd_answers.specs.Flag.{LeavesCleared};
 ghost use Rattle.pd_answers.specs.Promises.{check_and_clear, terms_of};
 ghost use Rattle.pd_answers.specs.Requests.{check as asked_check};
+ghost use Rattle.pd_check.specs.Check.{ReadsFew};
 ghost use Rattle.pd_tools.specs.Read.{IsUnread};
 ghost use Rattle.pd_tools.specs.Work.{IsFinished, IsStopped, Answers};
 
@@ -106,6 +107,7 @@ fn open_report<A: Device>(alloc: Global, image: &str, input: &mut A) -> Result<R
     ensures used { IsUsed (writing image.now) (A.state input.new).access (A.state input.new).path }
     ensures untouched { IsUntouched (A.state input.old) (A.state input.new) }
     ensures kept { OnOk result ((A.state input.new).faults ≡ (A.state input.old).faults) }
+    ensures reads { IfSome (A.state input.old).held (λ image. ReadsFew Thin Counts image ((A.state input.old).reads + 1) (A.state input.new).reads) }
     ensures stopped { IfErr result (IsUnread Thin Counts (A.state input.old) (A.state input.new)) }
 {
     if input.attach(image, true).is_err() {
@@ -120,6 +122,8 @@ fn clear_if_clean<A: Device>(report: &Report, input: &mut A) -> Result<bool, Fai
     ensures clean { IfOk result (λ clean. clean ≡ (report.now.total == 0)) }
     ensures left { MatchResult result (λ clean. IsSynced (A.state input.old) → LeavesCleared report.now (if clean then 0 else 1) (A.state input.old) (A.state input.new))
         (λ _. IsSynced (A.state input.old) → (A.state input.old).faults ≡ 0 → (status : ℕ) → status ≢ 0 → LeavesCleared report.now status (A.state input.old) (A.state input.new)) }
+    ensures reads { (A.state input.new).reads ≤ (A.state input.old).reads + 1 }
+    ensures unread { (report.now.total ≢ 0) → (A.state input.new).reads ≡ (A.state input.old).reads }
     ensures kept { KeepsPlace (A.state input.old) (A.state input.new) }
     ensures faults { CountsFault result (A.state input.old).faults (A.state input.new).faults }
 {

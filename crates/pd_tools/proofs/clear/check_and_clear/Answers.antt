@@ -1,11 +1,12 @@
 use Rattle.std.proofs.Common.{arith, ◌∙◌}
 use Rattle.pd_tools.proofs.Clears.{untouched_left, left_before, synced_too, clearing_unread, clearing_done, clearing_unput, clearing_failed}
+use Rattle.pd_tools.proofs.FewReads.{few, few_clearing}
 use Rattle.pd_tools.proofs.clear.check_and_clear.Goals as goal
 
 pub returns-in-Err : goal.returns-in-Err
 returns-in-Err g c others notes fresh =
     clearing_unread c.args.image.now others notes (g.K.Sink.state c.args.out.now) (g.A.Device.state c.args.input.now) (g.A.Device.state c.open_report.new.input) c.in-Err.stop
-    c.requires.out (g.met.A.Device.unwritten c.args.input.now c.requires.input) c.in-Err.ensures.used c.in-Err.ensures.untouched c.in-Err.ensures.stopped
+    c.requires.out (g.met.A.Device.unwritten c.args.input.now c.requires.input) c.in-Err.ensures.used c.in-Err.ensures.untouched c.in-Err.ensures.reads c.in-Err.ensures.stopped
 
 pub returns-in-Ok-clear_if_clean : goal.returns-in-Ok-clear_if_clean
 returns-in-Ok-clear_if_clean g c others notes fresh =
@@ -16,6 +17,7 @@ returns-in-Ok-clear_if_clean g c others notes fresh =
     let kept = c.clear_if_clean.ensures.kept in
     clearing_done c.args.image.now others notes (g.K.Sink.state c.args.out.now) (g.K.Sink.state c.put_report.new.out) old new c.in-Ok.report
     c.in-Ok.ensures.report c.put_report.ensures.used (kept.access ∙ c.in-Ok.ensures.access) (rw kept.path (c.in-Ok.ensures.used.named (λ e. omega (arith, c.in-Ok.ensures.access))))
+    (few_clearing c.in-Ok.report old.held old.reads read.reads new.reads c.in-Ok.ensures.report c.in-Ok.ensures.reads c.clear_if_clean.ensures.reads c.clear_if_clean.ensures.unread)
     c.in-Ok-clear_if_clean.clean c.in-Ok-clear_if_clean.ensures.clean c.in-Ok-put_report.ensures.whole c.in-Ok-put_report.ensures.access
     (left_before c.in-Ok.report _ old read new synced c.in-Ok.ensures.untouched c.in-Ok.ensures.kept
     (c.in-Ok-clear_if_clean.ensures.left (synced_too old read synced c.in-Ok.ensures.untouched)))
@@ -29,6 +31,7 @@ returns-in-Err-clear_if_clean g c others notes fresh =
     let kept = c.clear_if_clean.ensures.kept in
     clearing_failed c.args.image.now others notes (g.K.Sink.state c.args.out.now) (g.K.Sink.state c.put_report.new.out) old new c.in-Ok.report
     c.in-Ok.ensures.report c.put_report.ensures.used (kept.access ∙ c.in-Ok.ensures.access) (rw kept.path (c.in-Ok.ensures.used.named (λ e. omega (arith, c.in-Ok.ensures.access))))
+    (few_clearing c.in-Ok.report old.held old.reads read.reads new.reads c.in-Ok.ensures.report c.in-Ok.ensures.reads c.clear_if_clean.ensures.reads c.clear_if_clean.ensures.unread)
     c.in-Ok-put_report.ensures.whole (rw c.in-Ok.ensures.kept at c.in-Err-clear_if_clean.ensures.faults.0)
     (λ status some. left_before c.in-Ok.report status old read new synced c.in-Ok.ensures.untouched c.in-Ok.ensures.kept
     (c.in-Err-clear_if_clean.ensures.left (synced_too old read synced c.in-Ok.ensures.untouched) (c.in-Ok.ensures.kept ∙ fresh) status some))
@@ -40,5 +43,6 @@ returns-in-Err-put_report g c others notes fresh =
     let synced = g.met.A.Device.unwritten c.args.input.now c.requires.input in
     clearing_unput c.args.image.now others notes (g.K.Sink.state c.args.out.now) (g.K.Sink.state c.put_report.new.out) old read c.in-Ok.report
     c.in-Ok.ensures.report c.put_report.ensures.used c.in-Ok.ensures.access (c.in-Ok.ensures.used.named (λ e. omega (arith, c.in-Ok.ensures.access)))
+    (few Thin Counts old.held old.reads read.reads c.in-Ok.ensures.reads)
     c.put_report.ensures.front c.in-Err-put_report.ensures.faults.0
     (untouched_left c.in-Ok.report old read synced 6 (λ e. omega arith) c.in-Ok.ensures.untouched)

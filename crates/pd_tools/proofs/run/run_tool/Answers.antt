@@ -6,7 +6,7 @@ use Rattle.pd_answers.specs.Promises.{refused, terms_of}
 use Rattle.pd_kinds.proofs.AppendLemmas.{appends_none}
 use Rattle.pd_tools.specs.Notes.{IsAttachedNotes}
 use Rattle.pd_tools.proofs.Answered.{answered_put, answered_unattached}
-use Rattle.pd_tools.proofs.AtRest.{asked_alone, at_rest}
+use Rattle.pd_tools.proofs.AtRest.{asked_alone, at_rest, reads_at_rest}
 use Rattle.pd_tools.proofs.run.run_tool.Goals as goal
 
 pub returns-in-Err-read_words : goal.returns-in-Err-read_words
@@ -25,6 +25,7 @@ returns-in-Err-read_words g c =
         followed = record { source = tt; out = tt; input = tt; output = tt; third = tt };
         kept = record { source = refl; out = refl; input = refl; output = refl; third = refl };
         silent = λ _. refl;
+        reads = tt;
         leaves = tt;
       };
       low = lit≤ tt;
@@ -53,5 +54,6 @@ returns-in-Err g c =
     (g.A.Device.state c.args.input.now) (g.B.Device.state c.args.output.now) (g.C.Device.state c.args.third.now) in
     let request = asked (map string_bytes c.args.words.now) in
     let rest = at_rest request before (g.E.Sink.state c.attach.new.self) c.requires c.texts_have_verdicts.ensures (asked_alone (map string_bytes c.args.words.now)) in
-    answered_unattached (terms_of request) before (g.E.Sink.state c.attach.new.self) rest.0 c.requires rest.1 rest.2
+    answered_unattached (terms_of request) before (g.E.Sink.state c.attach.new.self) rest.0 c.requires rest.1
+    (reads_at_rest request before (g.E.Sink.state c.attach.new.self) (asked_alone (map string_bytes c.args.words.now))) rest.2
     c.in-Err.ensures.attached.access c.in-Err.ensures.attached.path c.in-Err.ensures.attached.written c.in-Err.ensures.faults.0
