@@ -1,4 +1,6 @@
 use Rattle.std.proofs.Common.{arith, ◌∙◌}
+use Rattle.pd_kinds.specs.declared.kind.Kind.TheVariants.{Thin}
+use Rattle.pd_kinds.specs.declared.kind.Stage.TheVariants.{Counts}
 use Rattle.pd_tools.proofs.Clears.{untouched_left, left_before, synced_too, clearing_unread, clearing_done, clearing_unput, clearing_failed}
 use Rattle.pd_tools.proofs.FewReads.{few, few_clearing}
 use Rattle.pd_tools.proofs.clear.check_and_clear.Goals as goal
