@@ -1,4 +1,4 @@
-//! Tests of what every tool does where an object fails or a device stops, at each of its calls in turn, and over texts that
+//! Tests of what the tools do where an object fails or a device stops, at each of its calls in turn, and over texts that
 //! never end.
 #![tactic(auto)]
 

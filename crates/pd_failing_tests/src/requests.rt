@@ -1,4 +1,4 @@
-//! Requests of every tool, and the images that they are made over.
+//! Requests of all tools but the rehearsal, and the images that they are made over.
 
 use pd_kinds::Block;
 use pd_samples::pool::{damaged, pool_of_one_mapping};
