@@ -4,7 +4,7 @@ use Rattle.std.specs.List.{range_with_len}
 use Rattle.std.proofs.lemmas.List.FromFn.{get_or-map-range_with_len}
 use Rattle.pd_kinds.specs.Checksum.{crc_bit}
 use Rattle.pd_crc.specs.Steps.{byte_step, byte_steps}
-use Rattle.pd_crc.specs.declared.tables.TheConstants.{AFTER_ONE, AFTER_TWO, AFTER_THREE, AFTER_FOUR, AFTER_FIVE, AFTER_SIX, AFTER_SEVEN, AFTER_EIGHT}
+use Rattle.pd_crc.specs.declared.tables.TheConstants.{AFTER_ONE, AFTER_TWO, AFTER_THREE, AFTER_FOUR, AFTER_THIRTEEN, AFTER_FOURTEEN, AFTER_FIFTEEN, AFTER_SIXTEEN}
 
 -- each of the 256 entries of a table that is computed from the index
 entry_of : (f : ℕ → ℕ) (table : List ℕ) → table ≡ map f (range_with_len 0 256) → (i : ℕ) → i < 256 → get_or table i 0 ≡ f i
@@ -26,18 +26,18 @@ pub after_four : (i : ℕ) → i < 256 → get_or AFTER_FOUR i 0 ≡ byte_steps 
 unfolding byte_steps byte_step crc_bit
 after_four = entry_of (byte_steps 4) AFTER_FOUR refl
 
-pub after_five : (i : ℕ) → i < 256 → get_or AFTER_FIVE i 0 ≡ byte_steps 5 i
+pub after_thirteen : (i : ℕ) → i < 256 → get_or AFTER_THIRTEEN i 0 ≡ byte_steps 13 i
 unfolding byte_steps byte_step crc_bit
-after_five = entry_of (byte_steps 5) AFTER_FIVE refl
+after_thirteen = entry_of (byte_steps 13) AFTER_THIRTEEN refl
 
-pub after_six : (i : ℕ) → i < 256 → get_or AFTER_SIX i 0 ≡ byte_steps 6 i
+pub after_fourteen : (i : ℕ) → i < 256 → get_or AFTER_FOURTEEN i 0 ≡ byte_steps 14 i
 unfolding byte_steps byte_step crc_bit
-after_six = entry_of (byte_steps 6) AFTER_SIX refl
+after_fourteen = entry_of (byte_steps 14) AFTER_FOURTEEN refl
 
-pub after_seven : (i : ℕ) → i < 256 → get_or AFTER_SEVEN i 0 ≡ byte_steps 7 i
+pub after_fifteen : (i : ℕ) → i < 256 → get_or AFTER_FIFTEEN i 0 ≡ byte_steps 15 i
 unfolding byte_steps byte_step crc_bit
-after_seven = entry_of (byte_steps 7) AFTER_SEVEN refl
+after_fifteen = entry_of (byte_steps 15) AFTER_FIFTEEN refl
 
-pub after_eight : (i : ℕ) → i < 256 → get_or AFTER_EIGHT i 0 ≡ byte_steps 8 i
+pub after_sixteen : (i : ℕ) → i < 256 → get_or AFTER_SIXTEEN i 0 ≡ byte_steps 16 i
 unfolding byte_steps byte_step crc_bit
-after_eight = entry_of (byte_steps 8) AFTER_EIGHT refl
+after_sixteen = entry_of (byte_steps 16) AFTER_SIXTEEN refl

@@ -1,6 +1,6 @@
 -- The steps of the checksum are linear over exclusive or, and halve an even number.
-use Rattle.std.proofs.Common.{◌≡◌, ℕ, zero, suc, ◌+◌, ◌*◌, ◌/◌, ◌%◌, ◌^◌, ◌<◌, ◌==◌, if◌then◌else◌, refl, ap, ap₂, sym, ◌∙◌, arith, add_comm}
-use Rattle.std.proofs.Math.Nat.{pow-suc}
+use Rattle.std.proofs.Common.{◌≡◌, ℕ, zero, suc, ◌+◌, ◌*◌, ◌/◌, ◌%◌, ◌^◌, ◌<◌, ◌==◌, if◌then◌else◌, refl, ap, ap₂, sym, ◌∙◌, arith, add_comm, zero-add}
+use Rattle.std.proofs.Math.Nat.{pow-suc, suc-add}
 use Rattle.std.specs.Int.Bits.{bit_xor, xor_zero_r, xor_assoc, xor_shifted}
 use Rattle.std.proofs.lemmas.Nat.{xor_comm, xor_shr, xor_mod, pow-add}
 use Rattle.pd_kinds.specs.Checksum.{crc_bit}
@@ -29,7 +29,7 @@ polynomial_if-xor zero (suc (suc b)) _ h = absurd (omega arith)
 polynomial_if-xor (suc zero) (suc (suc b)) _ h = absurd (omega arith)
 polynomial_if-xor (suc (suc a)) b h _ = absurd (omega arith)
 
-xor_regroup : (a b c d : ℕ) → bit_xor (bit_xor a b) (bit_xor c d) ≡ bit_xor (bit_xor a c) (bit_xor b d)
+pub xor_regroup : (a b c d : ℕ) → bit_xor (bit_xor a b) (bit_xor c d) ≡ bit_xor (bit_xor a c) (bit_xor b d)
 xor_regroup a b c d =
     xor_assoc a b (bit_xor c d)
     ∙ ap (λ (x : ℕ). bit_xor a x) (sym (xor_assoc b c d) ∙ ap (λ (x : ℕ). bit_xor x d) (xor_comm b c) ∙ xor_assoc c b d)
@@ -106,3 +106,18 @@ byte_steps-split count x =
     ap (byte_steps (suc count)) (split_byte x)
     ∙ byte_steps-xor (suc count) (x % 256) (x / 256 * 256)
     ∙ ap (λ (y : ℕ). bit_xor (byte_steps (suc count) (x % 256)) y) (byte_steps-shift_one count (x / 256))
+
+-- so many steps, and then so many more
+pub byte_steps-add : (more count x : ℕ) → byte_steps (more + count) x ≡ byte_steps more (byte_steps count x)
+unfolding byte_steps
+byte_steps-add zero count x = ap (λ (n : ℕ). byte_steps n x) (zero-add count)
+byte_steps-add (suc more) count x = ap (λ (n : ℕ). byte_steps n x) (suc-add more count) ∙ ap byte_step (byte_steps-add more count x)
+
+none_of_none : byte_step 0 ≡ 0
+unfolding byte_step crc_bit
+none_of_none = refl
+
+pub byte_steps-none : (count : ℕ) → byte_steps count 0 ≡ 0
+unfolding byte_steps
+byte_steps-none zero = refl
+byte_steps-none (suc count) = ap byte_step (byte_steps-none count) ∙ none_of_none

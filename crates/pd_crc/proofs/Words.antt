@@ -39,13 +39,13 @@ fold-le bytes below at (suc count) h crc =
     ∙ ap₂ crc_byte before byte
     ∙ byte_step-above count (le bytes at count) (get_or bytes (at + count) 0) (le-lt bytes at count below) crc
 
--- the checksum over eight bytes more
-pub fold-eight_more : (bytes : List ℕ) → ((i : ℕ) → get_or bytes i 0 < 256) → (at start crc : ℕ) → at + 8 ≤ length bytes → crc ≡ fold crc_byte start (take at bytes) → byte_steps 8 (bit_xor crc (le bytes at 8)) ≡ fold crc_byte start (take (at + 8) bytes)
-fold-eight_more bytes below at start crc h e =
-    sym (fold-le bytes below at 8 h crc)
-    ∙ ap (λ (x : ℕ). fold crc_byte x (take 8 (drop at bytes))) e
-    ∙ sym (fold-append crc_byte start (take at bytes) (take 8 (drop at bytes)))
-    ∙ ap (fold crc_byte start) (sym (take-add at 8 bytes))
+-- the checksum over so many bytes more
+pub fold-more : (bytes : List ℕ) → ((i : ℕ) → get_or bytes i 0 < 256) → (count at next start crc : ℕ) → at + count ≡ next → next ≤ length bytes → crc ≡ fold crc_byte start (take at bytes) → byte_steps count (bit_xor crc (le bytes at count)) ≡ fold crc_byte start (take next bytes)
+fold-more bytes below count at next start crc is_next h e =
+    sym (fold-le bytes below at count (omega arith) crc)
+    ∙ ap (λ (x : ℕ). fold crc_byte x (take count (drop at bytes))) e
+    ∙ sym (fold-append crc_byte start (take at bytes) (take count (drop at bytes)))
+    ∙ ap (fold crc_byte start) (sym (take-add at count bytes) ∙ ap (λ (n : ℕ). take n bytes) is_next)
 
 -- the checksum over the rest
 pub fold-rest : (bytes : List ℕ) (at start crc : ℕ) → crc ≡ fold crc_byte start (take at bytes) → fold crc_byte crc (take (length bytes - at) (drop at bytes)) ≡ fold crc_byte start bytes

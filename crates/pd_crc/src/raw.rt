@@ -1,24 +1,60 @@
-//! CRC-32C of bytes, eight bytes at a time.
+//! CRC-32C of bytes, in four streams.
+//!
+//! The words of four bytes are dealt out to four streams in turn, and each stream is advanced by look-ups
+//! of its own, so that no look-up waits for another stream's. At the end the streams are joined.
 
-ghost use Rattle.std.specs.Prelude.{◌≡◌, ◌%◌, fold, slice_index};
+ghost use Rattle.std.specs.Prelude.{◌≡◌, ◌%◌, ◌≤◌, fold, length, slice_index};
 ghost use Rattle.pd_kinds.specs.Checksum.{crc_byte, crc32c};
 ghost use Rattle.pd_crc.specs.Steps.{byte_steps};
 
 use crate::tables::{
-    AFTER_EIGHT, AFTER_FIVE, AFTER_FOUR, AFTER_ONE, AFTER_SEVEN, AFTER_SIX, AFTER_THREE, AFTER_TWO,
+    AFTER_FIFTEEN, AFTER_FOUR, AFTER_FOURTEEN, AFTER_ONE, AFTER_SIXTEEN, AFTER_THIRTEEN,
+    AFTER_THREE, AFTER_TWO,
 };
-use pd_kinds::u64_at;
+use pd_kinds::u32_at;
 
 /// The checksum of the bytes: reflected polynomial 0x82F63B78, from a start of all ones, with no
 /// inversion at the end.
 pub fn crc32c_raw(bytes: &[u8]) -> u32
     ensures { result ≡ crc32c bytes.now }
 {
-    let mut crc = u32::MAX;
+    if bytes.len() < 16 {
+        by_words(u32::MAX, bytes)
+    } else {
+        in_streams(u32::MAX, bytes)
+    }
+}
+
+/// The checksum so far taken over the bytes, of which there are sixteen and maybe more.
+fn in_streams(start: u32, bytes: &[u8]) -> u32
+    requires { 16 ≤ length bytes.now }
+    ensures { result ≡ fold crc_byte start bytes.now }
+{
+    let mut first = start ^ u32_at(bytes, 0);
+    let mut second = u32_at(bytes, 4);
+    let mut third = u32_at(bytes, 8);
+    let mut fourth = u32_at(bytes, 12);
+    let mut at = 16;
+    while bytes.len() - at >= 16 {
+        first = after_sixteen(first) ^ u32_at(bytes, at);
+        second = after_sixteen(second) ^ u32_at(bytes, at + 4);
+        third = after_sixteen(third) ^ u32_at(bytes, at + 8);
+        fourth = after_sixteen(fourth) ^ u32_at(bytes, at + 12);
+        at += 16;
+    }
+    let crc = after_four(after_four(after_four(after_four(first) ^ second) ^ third) ^ fourth);
+    by_words(crc, &bytes[at..])
+}
+
+/// The checksum so far taken over the bytes, four at a time.
+fn by_words(start: u32, bytes: &[u8]) -> u32
+    ensures { result ≡ fold crc_byte start bytes.now }
+{
+    let mut crc = start;
     let mut at = 0;
-    while bytes.len() - at >= 8 {
-        crc = after_eight(u64::from(crc) ^ u64_at(bytes, at));
-        at += 8;
+    while bytes.len() - at >= 4 {
+        crc = after_four(crc ^ u32_at(bytes, at));
+        at += 4;
     }
     one_by_one(crc, &bytes[at..])
 }
@@ -39,27 +75,34 @@ fn one_by_one(start: u32, bytes: &[u8]) -> u32
 fn after_one(crc: u32) -> u32
     ensures { result ≡ byte_steps 1 crc }
 {
-    entry(&AFTER_ONE, u64::from(crc)) ^ (crc >> 8)
+    entry(&AFTER_ONE, crc) ^ (crc >> 8)
 }
 
-/// Eight bytes' steps, of a checksum that the eight bytes are already XORed into.
+/// Four bytes' steps, of a checksum that the four bytes are already XORed into.
 #[inline]
-fn after_eight(word: u64) -> u32
-    ensures { result ≡ byte_steps 8 word }
+fn after_four(word: u32) -> u32
+    ensures { result ≡ byte_steps 4 word }
 {
-    entry(&AFTER_EIGHT, word)
-        ^ entry(&AFTER_SEVEN, word >> 8)
-        ^ entry(&AFTER_SIX, word >> 16)
-        ^ entry(&AFTER_FIVE, word >> 24)
-        ^ entry(&AFTER_FOUR, word >> 32)
-        ^ entry(&AFTER_THREE, word >> 40)
-        ^ entry(&AFTER_TWO, word >> 48)
-        ^ entry(&AFTER_ONE, word >> 56)
+    entry(&AFTER_FOUR, word)
+        ^ entry(&AFTER_THREE, word >> 8)
+        ^ entry(&AFTER_TWO, word >> 16)
+        ^ entry(&AFTER_ONE, word >> 24)
+}
+
+/// Sixteen bytes' steps, of a checksum that four bytes are already XORed into.
+#[inline]
+fn after_sixteen(word: u32) -> u32
+    ensures { result ≡ byte_steps 16 word }
+{
+    entry(&AFTER_SIXTEEN, word)
+        ^ entry(&AFTER_FIFTEEN, word >> 8)
+        ^ entry(&AFTER_FOURTEEN, word >> 16)
+        ^ entry(&AFTER_THIRTEEN, word >> 24)
 }
 
 /// The table's entry at the low byte of the word.
 #[inline]
-fn entry(table: &[u32; 256], word: u64) -> u32
+fn entry(table: &[u32; 256], word: u32) -> u32
     ensures { result ≡ slice_index table.now (word % 256) }
 {
     table[(word % 256) as usize]

@@ -3,7 +3,7 @@
 ghost use Rattle.std.specs.Prelude.{◌≡◌, IfOk, length};
 
 use pd_bitmap::{seal_bitmap, set_two_bits};
-use pd_image::Pick;
+use pd_image::{MemDevice, Pick};
 use pd_kinds::Block;
 use pd_node::write_inner;
 use pd_samples::pool::{damaged, device_leaf, inner, pool_of_one_mapping};
@@ -33,9 +33,9 @@ fn pool_of(
 {
     let base = vec![in alloc; Block::zeros(); blocks]?;
     let made = restore(alloc, text.as_bytes(), base.as_slice(), NOTHING_FAILS)?;
-    assert_eq!(rt; made.status, 0, "{text}");
+    assert!(rt; made.status == 0, "{text}");
     let image = blocks_of(alloc, &made.output)?;
-    assert_eq!(rt; image.len(), blocks);
+    assert!(rt; image.len() == blocks);
     Ok(image)
 }
 
@@ -67,7 +67,7 @@ fn expect_saved(
     text: &str,
 ) -> Result<(), AllocError> {
     let repaired = repair(alloc, image, &[Block([1; 4096]); 16], NOTHING_FAILS)?;
-    assert_eq!(rt; repaired.status, 0, "{text}");
+    assert!(rt; repaired.status == 0, "{text}");
     assert!(rt; repaired.notes.bytes().is_empty());
     assert!(rt; blocks_of(alloc, &repaired.input)?.as_slice() == image);
     let made = blocks_of(alloc, &repaired.output)?;
@@ -76,6 +76,25 @@ fn expect_saved(
     assert!(rt; checked.out.bytes() == b"clean\n".as_slice(), "{text}");
     let dumped = run(alloc, &["thin_dump", "image"], made, NOTHING_FAILS)?;
     assert!(rt; dumped.out.bytes() == text.as_bytes(), "{text}");
+    Ok(())
+}
+
+/// Repairs an image onto these blocks, which the repair refuses by this status and notes, with nothing written.
+fn expect_refused(
+    rt: &impl Abort,
+    alloc: Global,
+    image: &[Block],
+    base: &[Block],
+    status: u8,
+    notes: &str,
+) -> Result<(), AllocError> {
+    let refused = repair(alloc, image, base, NOTHING_FAILS)?;
+    assert!(rt; refused.status == status, "{notes}");
+    assert!(rt; refused.notes.bytes() == notes.as_bytes(), "{notes}");
+    assert!(rt;
+        blocks_of(alloc, &refused.output)?.as_slice() == base,
+        "{notes}"
+    );
     Ok(())
 }
 
@@ -128,13 +147,8 @@ fn the_other_leaves_of_a_device_are_kept(rt: HostRuntime) -> Result<(), Fail> {
     expect_saved(&rt, rt.alloc(), image.as_slice(), text)?;
     // The need is looked at before anything is written.
     let base = [Block([1; 4096]); 11];
-    let refused = repair(rt.alloc(), image.as_slice(), &base, NOTHING_FAILS)?;
-    assert_eq!(rt; refused.status, 4);
-    assert_eq!(rt;
-        refused.notes.bytes(),
-        b"pdata_tools: no room: need 12, blocks 11\n".as_slice()
-    );
-    assert!(rt; blocks_of(rt.alloc(), &refused.output)?.as_slice() == base.as_slice());
+    let notes = "pdata_tools: no room: need 12, blocks 11\n";
+    expect_refused(&rt, rt.alloc(), image.as_slice(), &base, 4, notes)?;
     Ok(())
 }
 
@@ -143,19 +157,10 @@ fn a_superblock_with_faults_is_reported(rt: HostRuntime) -> Result<(), Fail> {
     let mut image = pool_of(&rt, rt.alloc(), THREE_LEAVES, 16)?;
     image[0] = damaged(image[0], 100);
     let base = [Block([1; 4096]); 16];
-    let refused = repair(rt.alloc(), image.as_slice(), &base, NOTHING_FAILS)?;
-    assert_eq!(rt; refused.status, 1);
-    assert_eq!(rt;
-        refused.notes.bytes(),
-        b"fault meta 0 checksum\nfaults 1\n".as_slice()
-    );
-    assert!(rt; blocks_of(rt.alloc(), &refused.output)?.as_slice() == base.as_slice());
-    let none = repair(rt.alloc(), &[], &base, NOTHING_FAILS)?;
-    assert_eq!(rt; none.status, 1);
-    assert_eq!(rt;
-        none.notes.bytes(),
-        b"fault meta 0 size\nfaults 1\n".as_slice()
-    );
+    let notes = "fault meta 0 checksum\nfaults 1\n";
+    expect_refused(&rt, rt.alloc(), image.as_slice(), &base, 1, notes)?;
+    let notes = "fault meta 0 size\nfaults 1\n";
+    expect_refused(&rt, rt.alloc(), &[], &base, 1, notes)?;
     Ok(())
 }
 
@@ -203,28 +208,76 @@ fn paths_of_64_nodes_are_followed_and_no_longer_ones(rt: HostRuntime) -> Result<
 /// How many calls of a device a repair makes at most.
 const MANY: u64 = 100;
 
+/// Whether a repair has no such call of the input. Where it has, it fails in that call, with nothing written.
+fn is_past_input(
+    rt: &impl Abort,
+    alloc: Global,
+    image: &[Block],
+    base: &[Block],
+    call: u64,
+) -> Result<bool, AllocError> {
+    let failing = Failing {
+        input: Some(call),
+        ..NOTHING_FAILS
+    };
+    let ran = repair(alloc, image, base, failing)?;
+    if ran.status == 0 {
+        return Ok(true);
+    }
+    assert!(rt; ran.status == 5, "{call}");
+    assert!(rt; blocks_of(alloc, &ran.output)?.as_slice() == base, "{call}");
+    Ok(false)
+}
+
 #[test]
 fn each_call_of_the_input_may_fail(rt: HostRuntime) -> Result<(), Fail> {
     let image = pool_of(&rt, rt.alloc(), THREE_LEAVES, 16)?;
     let base = [Block([1; 4096]); 16];
     for call in 0..MANY {
-        let failing = Failing {
-            input: Some(call),
-            ..NOTHING_FAILS
-        };
-        let ran = repair(rt.alloc(), image.as_slice(), &base, failing)?;
-        if ran.status == 0 {
+        if is_past_input(&rt, rt.alloc(), image.as_slice(), &base, call)? {
             assert!(rt; call > 6);
             return Ok(());
         }
-        assert_eq!(rt; ran.status, 5, "{call}");
-        assert!(rt;
-            blocks_of(rt.alloc(), &ran.output)?.as_slice() == base.as_slice(),
-            "{call}"
-        );
     }
     assert!(rt; false, "no end");
     Ok(())
+}
+
+/// Whether a crash by this pick leaves of a device the old blocks, no pool, or the new blocks.
+fn may_be_left(
+    alloc: Global,
+    output: &MemDevice,
+    pick: Pick,
+    old: &[Block],
+    new: &[Block],
+) -> Result<bool, AllocError> {
+    let found = blocks_after_crash(alloc, output, pick)?;
+    let found = found.as_slice();
+    Ok(found.first() == Some(&Block::zeros()) || found == old || found == new)
+}
+
+/// Whether a repair has no such call of the output. Where it has, it fails in that call.
+fn is_past_output(
+    rt: &impl Abort,
+    alloc: Global,
+    image: &[Block],
+    base: &[Block],
+    new: &[Block],
+    call: u64,
+) -> Result<bool, AllocError> {
+    let failing = Failing {
+        output: Some(call),
+        ..NOTHING_FAILS
+    };
+    let ran = repair(alloc, image, base, failing)?;
+    if ran.status == 0 {
+        return Ok(true);
+    }
+    assert!(rt; ran.status == 5, "{call}");
+    for pick in [Pick::Old, Pick::New, Pick::Other(0)] {
+        assert!(rt; may_be_left(alloc, &ran.output, pick, base, new)?, "{call}");
+    }
+    Ok(false)
 }
 
 #[test]
@@ -234,22 +287,16 @@ fn each_call_of_the_output_may_fail(rt: HostRuntime) -> Result<(), Fail> {
     let made = repair(rt.alloc(), image.as_slice(), &base, NOTHING_FAILS)?;
     let new = blocks_of(rt.alloc(), &made.output)?;
     for call in 0..MANY {
-        let failing = Failing {
-            output: Some(call),
-            ..NOTHING_FAILS
-        };
-        let ran = repair(rt.alloc(), image.as_slice(), &base, failing)?;
-        if ran.status == 0 {
+        if is_past_output(
+            &rt,
+            rt.alloc(),
+            image.as_slice(),
+            &base,
+            new.as_slice(),
+            call,
+        )? {
             assert!(rt; call > 14);
             return Ok(());
-        }
-        assert_eq!(rt; ran.status, 5, "{call}");
-        for pick in [Pick::Old, Pick::New, Pick::Other(0)] {
-            let found = blocks_after_crash(rt.alloc(), &ran.output, pick)?;
-            let found = found.as_slice();
-            let is_closed = found.first() == Some(&Block::zeros());
-            let may_be = is_closed || found == base.as_slice() || found == new.as_slice();
-            assert!(rt; may_be, "{call}");
         }
     }
     assert!(rt; false, "no end");

@@ -1,13 +1,11 @@
 //! Whole runs of `thin_restore` over objects in memory: what is restored, what is refused, and what the output holds then.
 
-ghost use Rattle.std.specs.Prelude.{◌≤◌};
-
-use pd_bitmap::{new_bitmap, seal_bitmap, set_two_bits};
 use pd_image::{MemDevice, Pick};
 use pd_kinds::{BLOCK_SIZE, Block};
-use pd_samples::pool::{empty_pool, pool_of_one_mapping};
+use pd_samples::pool::{bitmap, empty_pool, pool_of_one_mapping};
 use pd_samples::runs::{Failing, NOTHING_FAILS, Ran, blocks_after_crash, blocks_of, restore, run};
 use std::alloc::{AllocError, Global};
+use std::process::Abort;
 use std::test::Fail;
 
 /// What the output holds afterwards in block 0, whose bytes were all 1.
@@ -62,113 +60,111 @@ const LONG: &str =
     "thin 1\npool 00000000-0000-0000-0000-000000000000 0 0 128 0\nxxxxxxxxxxxxxxxxxxxxxxxxxxxxxxxxxxxxxxxxxxxxxxxxxxxxxxxxxxxxxxxxxxxxxxxxxxxxxxxxxxxxxxxxxxxxxxxxxxxxxxxxxxxxxxxxxxxxxxxxxxxxxxxxxxxxxxxxxxxxxxxxxxxxxxxxxxxxxxxxx\n";
 
 /// Restores, with what they come to.
-fn rows() -> [Row; 19] {
-    [
-        (TWO_LEAVES, 12, 0, "", Left::Made),
-        (
-            TWO_LEAVES,
-            11,
-            4,
-            "pdata_tools: no room: need 12, blocks 11\n",
-            Left::Closed,
-        ),
-        (FULL_LEAF, 10, 0, "", Left::Made),
-        (
-            FULL_LEAF,
-            9,
-            4,
-            "pdata_tools: no room: need 10, blocks 9\n",
-            Left::Closed,
-        ),
-        (
-            EMPTY,
-            0,
-            4,
-            "pdata_tools: no room: need 7, blocks 0\n",
-            Left::Untouched,
-        ),
-        (
-            WIDE,
-            6173,
-            4,
-            "pdata_tools: no room: need 6174, blocks 6173\n",
-            Left::Closed,
-        ),
-        (EMPTY, 8, 0, "", Left::Made),
-        (
-            EMPTY,
-            7,
-            4,
-            "pdata_tools: no room: need 8, blocks 7\n",
-            Left::Untouched,
-        ),
-        (ONE, 16, 0, "", Left::Made),
-        (
-            ONE,
-            9,
-            4,
-            "pdata_tools: no room: need 10, blocks 9\n",
-            Left::Closed,
-        ),
-        (
-            "thin 1\npool 00000000-0000-0000-0000-000000000000 0 0 128 1099511627776\ndevice 1 1099511627776 0 0 0\nmap 0 0 1099511627776 0\nend\n",
-            100,
-            4,
-            "pdata_tools: no room: need 67774669, blocks 100\n",
-            Left::Untouched,
-        ),
-        (
-            "thin 1\npool 00000000-0000-0000-0000-000000000000 0 0 128 0\n",
-            100,
-            3,
-            "pdata_tools: line 3: no end\n",
-            Left::Closed,
-        ),
-        (
-            LONG,
-            100,
-            3,
-            "pdata_tools: line 3: too long\n",
-            Left::Closed,
-        ),
-        (
-            "thin 1\npool 00000000-0000-0000-0000-000000000000 0 0 128 0\nend\nx",
-            100,
-            3,
-            "pdata_tools: line 4: after end\n",
-            Left::Closed,
-        ),
-        (
-            "thin 1\npool 00000000-0000-0000-0000-000000000000 0 0 128 2\ndevice 1 2 0 0 0\nmap 0 0 1 0\nend\n",
-            100,
-            3,
-            "pdata_tools: line 5: mapped differs\n",
-            Left::Closed,
-        ),
-        (
-            "thin 1\npool 00000000-0000-0000-0000-000000000000 0 0 128 1\ndevice 1 1 0 0 0\nmap 0 0 01 0\nend\n",
-            100,
-            3,
-            "pdata_tools: line 4: number\n",
-            Left::Closed,
-        ),
-        ("", 100, 3, "pdata_tools: line 1: no end\n", Left::Untouched),
-        (
-            "thin 3\n",
-            100,
-            3,
-            "pdata_tools: line 1: header\n",
-            Left::Untouched,
-        ),
-        (
-            "thin 1\npool 00000000-0000-0000-0000-000000000000 0 0 128 x\n",
-            100,
-            3,
-            "pdata_tools: line 2: number\n",
-            Left::Untouched,
-        ),
-    ]
-}
+const ROWS: &[Row] = &[
+    (TWO_LEAVES, 12, 0, "", Left::Made),
+    (
+        TWO_LEAVES,
+        11,
+        4,
+        "pdata_tools: no room: need 12, blocks 11\n",
+        Left::Closed,
+    ),
+    (FULL_LEAF, 10, 0, "", Left::Made),
+    (
+        FULL_LEAF,
+        9,
+        4,
+        "pdata_tools: no room: need 10, blocks 9\n",
+        Left::Closed,
+    ),
+    (
+        EMPTY,
+        0,
+        4,
+        "pdata_tools: no room: need 7, blocks 0\n",
+        Left::Untouched,
+    ),
+    (
+        WIDE,
+        6173,
+        4,
+        "pdata_tools: no room: need 6174, blocks 6173\n",
+        Left::Closed,
+    ),
+    (EMPTY, 8, 0, "", Left::Made),
+    (
+        EMPTY,
+        7,
+        4,
+        "pdata_tools: no room: need 8, blocks 7\n",
+        Left::Untouched,
+    ),
+    (ONE, 16, 0, "", Left::Made),
+    (
+        ONE,
+        9,
+        4,
+        "pdata_tools: no room: need 10, blocks 9\n",
+        Left::Closed,
+    ),
+    (
+        "thin 1\npool 00000000-0000-0000-0000-000000000000 0 0 128 1099511627776\ndevice 1 1099511627776 0 0 0\nmap 0 0 1099511627776 0\nend\n",
+        100,
+        4,
+        "pdata_tools: no room: need 67774669, blocks 100\n",
+        Left::Untouched,
+    ),
+    (
+        "thin 1\npool 00000000-0000-0000-0000-000000000000 0 0 128 0\n",
+        100,
+        3,
+        "pdata_tools: line 3: no end\n",
+        Left::Closed,
+    ),
+    (
+        LONG,
+        100,
+        3,
+        "pdata_tools: line 3: too long\n",
+        Left::Closed,
+    ),
+    (
+        "thin 1\npool 00000000-0000-0000-0000-000000000000 0 0 128 0\nend\nx",
+        100,
+        3,
+        "pdata_tools: line 4: after end\n",
+        Left::Closed,
+    ),
+    (
+        "thin 1\npool 00000000-0000-0000-0000-000000000000 0 0 128 2\ndevice 1 2 0 0 0\nmap 0 0 1 0\nend\n",
+        100,
+        3,
+        "pdata_tools: line 5: mapped differs\n",
+        Left::Closed,
+    ),
+    (
+        "thin 1\npool 00000000-0000-0000-0000-000000000000 0 0 128 1\ndevice 1 1 0 0 0\nmap 0 0 01 0\nend\n",
+        100,
+        3,
+        "pdata_tools: line 4: number\n",
+        Left::Closed,
+    ),
+    ("", 100, 3, "pdata_tools: line 1: no end\n", Left::Untouched),
+    (
+        "thin 3\n",
+        100,
+        3,
+        "pdata_tools: line 1: header\n",
+        Left::Untouched,
+    ),
+    (
+        "thin 1\npool 00000000-0000-0000-0000-000000000000 0 0 128 x\n",
+        100,
+        3,
+        "pdata_tools: line 2: number\n",
+        Left::Untouched,
+    ),
+];
 
 /// What is left of block 0.
 fn left_of(blocks: &[Block]) -> Left {
@@ -186,14 +182,21 @@ fn left_of(blocks: &[Block]) -> Left {
     }
 }
 
+/// Restores a text as a row says, where it comes to what the row says.
+fn expect_row(rt: &impl Abort, alloc: Global, row: Row) -> Result<(), AllocError> {
+    let (text, blocks, status, notes, leaves) = row;
+    let restored = restore_to_ones(alloc, text, blocks, NOTHING_FAILS)?;
+    assert!(rt; restored.status == status, "{text}");
+    assert!(rt; restored.notes.bytes() == notes.as_bytes(), "{text}");
+    let image = blocks_of(alloc, &restored.output)?;
+    assert!(rt; left_of(image.as_slice()) == leaves, "{text}");
+    Ok(())
+}
+
 #[test]
 fn restores_come_to_their_status(rt: HostRuntime) -> Result<(), Fail> {
-    for (text, blocks, status, notes, leaves) in rows() {
-        let restored = restore_to_ones(rt.alloc(), text, blocks, NOTHING_FAILS)?;
-        assert_eq!(rt; restored.status, status, "{text}");
-        assert_eq!(rt; restored.notes.bytes(), notes.as_bytes(), "{text}");
-        let image = blocks_of(rt.alloc(), &restored.output)?;
-        assert!(rt; left_of(image.as_slice()) == leaves, "{text}");
+    for row in ROWS {
+        expect_row(&rt, rt.alloc(), *row)?;
     }
     Ok(())
 }
@@ -213,6 +216,23 @@ fn restored_pools_are_those_put_together_by_hand(rt: HostRuntime) -> Result<(), 
     Ok(())
 }
 
+/// Restores a text to so many blocks of ones, and runs a tool over them, which has status 0 and writes this.
+fn expect_written(
+    rt: &impl Abort,
+    alloc: Global,
+    tool: &str,
+    text: &str,
+    blocks: usize,
+    written: &str,
+) -> Result<(), AllocError> {
+    let restored = restore_to_ones(alloc, text, blocks, NOTHING_FAILS)?;
+    let image = blocks_of(alloc, &restored.output)?;
+    let ran = run(alloc, &[tool, "image"], image.as_slice(), NOTHING_FAILS)?;
+    assert!(rt; ran.status == 0, "{text}");
+    assert!(rt; ran.out.bytes() == written.as_bytes(), "{text}");
+    Ok(())
+}
+
 #[test]
 fn restored_pools_are_clean(rt: HostRuntime) -> Result<(), Fail> {
     for (text, blocks) in [
@@ -222,16 +242,7 @@ fn restored_pools_are_clean(rt: HostRuntime) -> Result<(), Fail> {
         (FULL_LEAF, 10),
         (WIDE, 8192),
     ] {
-        let restored = restore_to_ones(rt.alloc(), text, blocks, NOTHING_FAILS)?;
-        let image = blocks_of(rt.alloc(), &restored.output)?;
-        let ran = run(
-            rt.alloc(),
-            &["thin_check", "image"],
-            image.as_slice(),
-            NOTHING_FAILS,
-        )?;
-        assert_eq!(rt; ran.status, 0);
-        assert_eq!(rt; ran.out.bytes(), b"clean\n".as_slice());
+        expect_written(&rt, rt.alloc(), "thin_check", text, blocks, "clean\n")?;
     }
     Ok(())
 }
@@ -245,17 +256,23 @@ fn restored_pools_are_dumped_with_their_runs_joined(rt: HostRuntime) -> Result<(
     let cut =
         "thin 1\npool 00000000-0000-0000-0000-000000000000 0 0 128 2\ndevice 1 2 0 0 0\nmap 0 0 1 0\nmap 1 1 1 0\nend\n";
     for (text, dump) in [(ONE, ONE), (joined, joined), (cut, joined), (apart, apart)] {
-        let restored = restore_to_ones(rt.alloc(), text, 16, NOTHING_FAILS)?;
-        let image = blocks_of(rt.alloc(), &restored.output)?;
-        let ran = run(
-            rt.alloc(),
-            &["thin_dump", "image"],
-            image.as_slice(),
-            NOTHING_FAILS,
-        )?;
-        assert_eq!(rt; ran.status, 0);
-        assert!(rt; ran.out.bytes() == dump.as_bytes(), "{text}");
+        expect_written(&rt, rt.alloc(), "thin_dump", text, 16, dump)?;
     }
+    Ok(())
+}
+
+/// Restores a pool from a source of which this call fails, which is blamed.
+fn expect_blame(rt: &impl Abort, alloc: Global, call: u64) -> Result<(), AllocError> {
+    let failing = Failing {
+        source: Some(call),
+        ..NOTHING_FAILS
+    };
+    let restored = restore_to_ones(alloc, ONE, 16, failing)?;
+    assert!(rt; restored.status == 6, "{call}");
+    let notes = "pdata_tools: source or sink fault\n";
+    assert!(rt; restored.notes.bytes() == notes.as_bytes(), "{call}");
+    let image = blocks_of(alloc, &restored.output)?;
+    assert!(rt; left_of(image.as_slice()) != Left::Made, "{call}");
     Ok(())
 }
 
@@ -263,19 +280,23 @@ fn restored_pools_are_dumped_with_their_runs_joined(rt: HostRuntime) -> Result<(
 #[test]
 fn a_source_that_fails_is_blamed(rt: HostRuntime) -> Result<(), Fail> {
     for call in 0..14 {
-        let failing = Failing {
-            source: Some(call),
-            ..NOTHING_FAILS
-        };
-        let restored = restore_to_ones(rt.alloc(), ONE, 16, failing)?;
-        assert_eq!(rt; restored.status, 6, "{call}");
-        assert_eq!(rt;
-            restored.notes.bytes(),
-            b"pdata_tools: source or sink fault\n".as_slice()
-        );
-        let image = blocks_of(rt.alloc(), &restored.output)?;
-        assert!(rt; left_of(image.as_slice()) != Left::Made, "{call}");
+        expect_blame(&rt, rt.alloc(), call)?;
     }
+    Ok(())
+}
+
+/// Restores the front of a text onto these blocks, which is refused at its last line.
+fn expect_no_end(
+    rt: &impl Abort,
+    alloc: Global,
+    front: &[u8],
+    base: &[Block],
+) -> Result<(), AllocError> {
+    let restored = restore(alloc, front, base, NOTHING_FAILS)?;
+    let line = 1 + front.iter().filter(|b| **b == b'\n').count();
+    let notes = format!(in alloc; "pdata_tools: line {line}: no end\n")?;
+    assert!(rt; restored.status == 3, "{line}");
+    assert!(rt; restored.notes.bytes() == notes.as_bytes(), "{line}");
     Ok(())
 }
 
@@ -284,14 +305,21 @@ fn a_text_that_ends_early_has_no_end(rt: HostRuntime) -> Result<(), Fail> {
     let text = ONE.as_bytes();
     let base = [ones(); 16];
     for end in 0..text.len() {
-        let front = &text[..end];
-        let restored = restore(rt.alloc(), front, &base, NOTHING_FAILS)?;
-        let line = 1 + front.iter().filter(|b| **b == b'\n').count();
-        let notes = format!(in rt.alloc(); "pdata_tools: line {line}: no end\n")?;
-        assert_eq!(rt; restored.status, 3, "{end}");
-        assert_eq!(rt; restored.notes.bytes(), notes.as_bytes(), "{end}");
+        expect_no_end(&rt, rt.alloc(), &text[..end], &base)?;
     }
     Ok(())
+}
+
+/// The sixteen blocks that a text is restored to, where the device had ones.
+fn pool_over_ones(alloc: Global, text: &str) -> Result<Vec<Block>, AllocError> {
+    let restored = restore_to_ones(alloc, text, 16, NOTHING_FAILS)?;
+    blocks_of(alloc, &restored.output)
+}
+
+/// The blocks that a text is restored to, where the device had these.
+fn pool_over(alloc: Global, text: &str, base: &[Block]) -> Result<Vec<Block>, AllocError> {
+    let restored = restore(alloc, text.as_bytes(), base, NOTHING_FAILS)?;
+    blocks_of(alloc, &restored.output)
 }
 
 #[test]
@@ -299,16 +327,10 @@ fn leaves_are_written_as_their_lines_come(rt: HostRuntime) -> Result<(), Fail> {
     let text =
         "thin 1\npool 00000000-0000-0000-0000-000000000000 0 0 128 1\ndevice 1 1 0 0 0\nmap 0 0 1 0\nx\n";
     let refused = restore_to_ones(rt.alloc(), text, 16, NOTHING_FAILS)?;
-    assert_eq!(rt; refused.status, 3);
-    assert_eq!(rt;
-        refused.notes.bytes(),
-        b"pdata_tools: line 5: word\n".as_slice()
-    );
+    assert!(rt; refused.status == 3);
+    assert!(rt; refused.notes.bytes() == "pdata_tools: line 5: word\n".as_bytes());
     let found = blocks_of(rt.alloc(), &refused.output)?;
-    let whole = blocks_of(
-        rt.alloc(),
-        &restore_to_ones(rt.alloc(), ONE, 16, NOTHING_FAILS)?.output,
-    )?;
+    let whole = pool_over_ones(rt.alloc(), ONE)?;
     assert!(rt; left_of(found.as_slice()) == Left::Closed);
     assert!(rt; found.get(1) == whole.get(1));
     Ok(())
@@ -344,95 +366,85 @@ fn left_by(
     })
 }
 
+/// Whether a device that stops after so many calls may hold this.
+fn may_be_left(calls: u64, found: Stopped) -> bool {
+    match calls {
+        0..=2 => found == Stopped::Old || found == Stopped::Closed,
+        3..=13 => found == Stopped::Closed,
+        14 => found == Stopped::Closed || found == Stopped::New,
+        _ => found == Stopped::New,
+    }
+}
+
+/// Restores a pool onto an output that stops after so many calls.
+fn expect_stopped(
+    rt: &impl Abort,
+    alloc: Global,
+    calls: u64,
+    old: &[Block],
+    new: &[Block],
+) -> Result<(), AllocError> {
+    let failing = Failing {
+        output_stops_after: calls,
+        ..NOTHING_FAILS
+    };
+    let restored = restore(alloc, ONE.as_bytes(), old, failing)?;
+    let status = if calls < 15 { 5 } else { 0 };
+    assert!(rt; restored.status == status, "{calls}");
+    for pick in [Pick::Old, Pick::New, Pick::Other(0)] {
+        let found = left_by(alloc, &restored.output, pick, old, new)?;
+        assert!(rt; may_be_left(calls, found), "{calls}");
+    }
+    Ok(())
+}
+
 #[test]
 fn a_stop_leaves_the_old_pool_none_or_the_new_one(rt: HostRuntime) -> Result<(), Fail> {
-    let old = blocks_of(
-        rt.alloc(),
-        &restore_to_ones(rt.alloc(), EMPTY, 16, NOTHING_FAILS)?.output,
-    )?;
-    let new = blocks_of(
-        rt.alloc(),
-        &restore(rt.alloc(), ONE.as_bytes(), old.as_slice(), NOTHING_FAILS)?.output,
-    )?;
+    let old = pool_over_ones(rt.alloc(), EMPTY)?;
+    let new = pool_over(rt.alloc(), ONE, old.as_slice())?;
     for calls in 0..17 {
-        let failing = Failing {
-            output_stops_after: calls,
-            ..NOTHING_FAILS
-        };
-        let restored = restore(rt.alloc(), ONE.as_bytes(), old.as_slice(), failing)?;
-        assert_eq!(rt; restored.status, if calls < 15 { 5 } else { 0 }, "{calls}");
-        for pick in [Pick::Old, Pick::New, Pick::Other(0)] {
-            let found = left_by(
-                rt.alloc(),
-                &restored.output,
-                pick,
-                old.as_slice(),
-                new.as_slice(),
-            )?;
-            let may_be = match calls {
-                0..=2 => found == Stopped::Old || found == Stopped::Closed,
-                3..=13 => found == Stopped::Closed,
-                14 => found == Stopped::Closed || found == Stopped::New,
-                _ => found == Stopped::New,
-            };
-            assert!(rt; may_be, "{calls}");
-        }
+        expect_stopped(&rt, rt.alloc(), calls, old.as_slice(), new.as_slice())?;
+    }
+    Ok(())
+}
+
+/// Restores a pool onto an output of which this call fails.
+fn expect_failed(
+    rt: &impl Abort,
+    alloc: Global,
+    call: u64,
+    old: &[Block],
+    new: &[Block],
+) -> Result<(), AllocError> {
+    let failing = Failing {
+        output: Some(call),
+        ..NOTHING_FAILS
+    };
+    let restored = restore(alloc, ONE.as_bytes(), old, failing)?;
+    assert!(rt; restored.status == 5, "{call}");
+    for pick in [Pick::Old, Pick::New, Pick::Other(0)] {
+        let found = left_by(alloc, &restored.output, pick, old, new)?;
+        assert!(rt; found != Stopped::Other, "{call}");
     }
     Ok(())
 }
 
 #[test]
 fn a_failed_call_leaves_the_old_pool_none_or_the_new_one(rt: HostRuntime) -> Result<(), Fail> {
-    let old = blocks_of(
-        rt.alloc(),
-        &restore_to_ones(rt.alloc(), EMPTY, 16, NOTHING_FAILS)?.output,
-    )?;
-    let new = blocks_of(
-        rt.alloc(),
-        &restore(rt.alloc(), ONE.as_bytes(), old.as_slice(), NOTHING_FAILS)?.output,
-    )?;
+    let old = pool_over_ones(rt.alloc(), EMPTY)?;
+    let new = pool_over(rt.alloc(), ONE, old.as_slice())?;
     for call in 0..15 {
-        let failing = Failing {
-            output: Some(call),
-            ..NOTHING_FAILS
-        };
-        let restored = restore(rt.alloc(), ONE.as_bytes(), old.as_slice(), failing)?;
-        assert_eq!(rt; restored.status, 5, "{call}");
-        for pick in [Pick::Old, Pick::New, Pick::Other(0)] {
-            let found = left_by(
-                rt.alloc(),
-                &restored.output,
-                pick,
-                old.as_slice(),
-                new.as_slice(),
-            )?;
-            assert!(rt; found != Stopped::Other, "{call}");
-        }
+        expect_failed(&rt, rt.alloc(), call, old.as_slice(), new.as_slice())?;
     }
     Ok(())
-}
-
-/// A data bitmap with so many counts of 1.
-fn leaking(place: u64, counts: usize) -> Block
-    requires { counts ≤ 16320 }
-{
-    let mut bitmap = new_bitmap();
-    for i in 0..counts {
-        set_two_bits(&mut bitmap, i, 1);
-    }
-    seal_bitmap(&mut bitmap, place);
-    bitmap
 }
 
 #[test]
 fn a_thousand_and_one_leaks_are_counted(rt: HostRuntime) -> Result<(), Fail> {
     let text = "thin 1\npool 00000000-0000-0000-0000-000000000000 0 0 128 1001\nend\n";
-    let mut image = blocks_of(
-        rt.alloc(),
-        &restore_to_ones(rt.alloc(), text, 16, NOTHING_FAILS)?.output,
-    )?;
-    assert_eq!(rt; image.len(), 16);
-    image[3] = leaking(3, 1001);
+    let mut image = pool_over_ones(rt.alloc(), text)?;
+    assert!(rt; image.len() == 16);
+    image[3] = bitmap(3, 1001);
     let ran = run(
         rt.alloc(),
         &["thin_check", "image"],
@@ -444,7 +456,7 @@ fn a_thousand_and_one_leaks_are_counted(rt: HostRuntime) -> Result<(), Fail> {
         writeln!(report, "fault data {d} leak stored 1 references 0")?;
     }
     writeln!(report, "faults 1001")?;
-    assert_eq!(rt; ran.status, 1);
+    assert!(rt; ran.status == 1);
     assert!(rt; ran.out.bytes() == report.as_bytes());
     let dumped = run(
         rt.alloc(),
@@ -452,7 +464,7 @@ fn a_thousand_and_one_leaks_are_counted(rt: HostRuntime) -> Result<(), Fail> {
         image.as_slice(),
         NOTHING_FAILS,
     )?;
-    assert_eq!(rt; dumped.status, 0);
+    assert!(rt; dumped.status == 0);
     assert!(rt; dumped.out.bytes() == text.as_bytes());
     Ok(())
 }

@@ -11,9 +11,13 @@ use pd_kinds::Block;
 use pd_tools::run_tool;
 use std::alloc::{AllocError, Global};
 
+/// A call that was made. It's boxed, since a value of these objects that goes out of scope is then one call of a proved
+/// function: dropped in place, it is a path for each optional part of each object, at each `?` behind it.
+pub type Ran = Box<Call>;
+
 /// The status of a call, and its objects after it.
 #[derive(Drop)]
-pub struct Ran {
+pub struct Call {
     pub status: u8,
     pub source: MemSource,
     pub out: MemSink,
@@ -111,7 +115,7 @@ pub fn run_over(
         &mut output,
         &mut third,
     );
-    Ok(Ran {
+    let call = Call {
         status,
         source,
         out,
@@ -119,7 +123,8 @@ pub fn run_over(
         input,
         output,
         third,
-    })
+    };
+    Ok(Box::new(alloc, call)?)
 }
 
 /// The words as texts of their own.

@@ -1,0 +1,73 @@
+-- Four streams of words, and the checksum that they are joined to.
+use Rattle.std.proofs.Common.{◌≡◌, ℕ, ◌+◌, ◌<◌, ◌≤◌, List, length, take, get_or, refl, ap, ap₂, sym, ◌∙◌, arith}
+use Rattle.std.specs.List.{fold}
+use Rattle.std.specs.Int.Bits.{bit_xor, xor_assoc}
+use Rattle.pd_kinds.specs.Field.{le}
+use Rattle.pd_kinds.specs.Checksum.{crc_byte}
+use Rattle.pd_crc.specs.Steps.{byte_steps}
+use Rattle.pd_crc.specs.Streams.{joined}
+use Rattle.pd_crc.proofs.Linear.{byte_steps-xor, byte_steps-add, xor_regroup}
+use Rattle.pd_crc.proofs.Words.{fold-more}
+
+-- word by word, each from what the words before it left
+pub word_by_word : (a b c d : ℕ) → byte_steps 4 (bit_xor (byte_steps 4 (bit_xor (byte_steps 4 (bit_xor (byte_steps 4 a) b)) c)) d) ≡ joined a b c d
+unfolding joined
+word_by_word a b c d =
+    let eight : (x : ℕ) → byte_steps 4 (byte_steps 4 x) ≡ byte_steps 8 x = λ (x : ℕ). sym (byte_steps-add 4 4 x) in
+    let twelve : (x : ℕ) → byte_steps 4 (byte_steps 8 x) ≡ byte_steps 12 x = λ (x : ℕ). sym (byte_steps-add 4 8 x) in
+    let sixteen : (x : ℕ) → byte_steps 4 (byte_steps 12 x) ≡ byte_steps 16 x = λ (x : ℕ). sym (byte_steps-add 4 12 x) in
+    simp (byte_steps-xor 4, eight, twelve, sixteen)
+
+-- the order of steps does not matter
+steps_swap : (m n x : ℕ) → byte_steps m (byte_steps n x) ≡ byte_steps n (byte_steps m x)
+steps_swap m n x =
+    let same : m + n ≡ n + m = omega arith in
+    sym (byte_steps-add m n x) ∙ ap (λ (k : ℕ). byte_steps k x) same ∙ byte_steps-add n m x
+
+-- a word that is taken into a stream, apart from what the stream was
+one_stream : (count x p : ℕ) → byte_steps count (bit_xor (byte_steps 16 x) p) ≡ bit_xor (byte_steps 16 (byte_steps count x)) (byte_steps count p)
+one_stream count x p =
+    byte_steps-xor count (byte_steps 16 x) p ∙ ap (λ (y : ℕ). bit_xor y (byte_steps count p)) (steps_swap count 16 x)
+
+pub joined-xor : (a b c d p q r s : ℕ) → joined (bit_xor (byte_steps 16 a) p) (bit_xor (byte_steps 16 b) q) (bit_xor (byte_steps 16 c) r) (bit_xor (byte_steps 16 d) s) ≡ bit_xor (byte_steps 16 (joined a b c d)) (joined p q r s)
+unfolding joined
+joined-xor a b c d p q r s =
+    let a' = byte_steps 16 (byte_steps 16 a) in
+    let b' = byte_steps 16 (byte_steps 12 b) in
+    let c' = byte_steps 16 (byte_steps 8 c) in
+    let d' = byte_steps 16 (byte_steps 4 d) in
+    let p' = byte_steps 16 p in
+    let q' = byte_steps 12 q in
+    let r' = byte_steps 8 r in
+    let s' = byte_steps 4 s in
+    ap₂ bit_xor (ap₂ bit_xor (ap₂ bit_xor (one_stream 16 a p) (one_stream 12 b q)) (one_stream 8 c r)) (one_stream 4 d s)
+    ∙ ap (λ (x : ℕ). bit_xor (bit_xor x (bit_xor c' r')) (bit_xor d' s')) (xor_regroup a' p' b' q')
+    ∙ ap (λ (x : ℕ). bit_xor x (bit_xor d' s')) (xor_regroup (bit_xor a' b') (bit_xor p' q') c' r')
+    ∙ xor_regroup (bit_xor (bit_xor a' b') c') (bit_xor (bit_xor p' q') r') d' s'
+    ∙ ap (λ (x : ℕ). bit_xor x (bit_xor (bit_xor (bit_xor p' q') r') s'))
+    (sym (simp (byte_steps-xor 16)))
+
+-- a checksum that is XORed into the first word
+joined-first : (crc a b c d : ℕ) → joined (bit_xor crc a) b c d ≡ bit_xor (byte_steps 16 crc) (joined a b c d)
+unfolding joined
+joined-first crc a b c d = simp (byte_steps-xor 16, xor_assoc)
+
+-- the checksum over four words more
+pub fold-four_words : (bytes : List ℕ) → ((i : ℕ) → get_or bytes i 0 < 256) → (at start crc : ℕ) → at + 16 ≤ length bytes → crc ≡ fold crc_byte start (take at bytes) → joined (bit_xor crc (le bytes at 4)) (le bytes (at + 4) 4) (le bytes (at + 8) 4) (le bytes (at + 12) 4) ≡ fold crc_byte start (take (at + 16) bytes)
+fold-four_words bytes below at start crc h e =
+    let after_one = fold-more bytes below 4 at (at + 4) start crc refl (omega arith) e in
+    let after_two = fold-more bytes below 4 (at + 4) (at + 8) start (byte_steps 4 (bit_xor crc (le bytes at 4))) (omega arith) (omega arith) after_one in
+    let after_three = fold-more bytes below 4 (at + 8) (at + 12) start (byte_steps 4 (bit_xor (byte_steps 4 (bit_xor crc (le bytes at 4))) (le bytes (at + 4) 4))) (omega arith) (omega arith) after_two in
+    let after_four = fold-more bytes below 4 (at + 12) (at + 16) start (byte_steps 4 (bit_xor (byte_steps 4 (bit_xor (byte_steps 4 (bit_xor crc (le bytes at 4))) (le bytes (at + 4) 4))) (le bytes (at + 8) 4))) (omega arith) h after_three in
+    sym (word_by_word (bit_xor crc (le bytes at 4)) (le bytes (at + 4) 4) (le bytes (at + 8) 4) (le bytes (at + 12) 4)) ∙ after_four
+
+-- the streams after a word more in each
+pub fold-streams : (bytes : List ℕ) → ((i : ℕ) → get_or bytes i 0 < 256) → (at start a b c d : ℕ) → at + 16 ≤ length bytes → joined a b c d ≡ fold crc_byte start (take at bytes) → joined (bit_xor (byte_steps 16 a) (le bytes at 4)) (bit_xor (byte_steps 16 b) (le bytes (at + 4) 4)) (bit_xor (byte_steps 16 c) (le bytes (at + 8) 4)) (bit_xor (byte_steps 16 d) (le bytes (at + 12) 4)) ≡ fold crc_byte start (take (at + 16) bytes)
+fold-streams bytes below at start a b c d h e =
+    joined-xor a b c d (le bytes at 4) (le bytes (at + 4) 4) (le bytes (at + 8) 4) (le bytes (at + 12) 4)
+    ∙ sym (joined-first (joined a b c d) (le bytes at 4) (le bytes (at + 4) 4) (le bytes (at + 8) 4) (le bytes (at + 12) 4))
+    ∙ fold-four_words bytes below at start (joined a b c d) h e
+
+-- the streams after their first words
+pub fold-first : (bytes : List ℕ) → ((i : ℕ) → get_or bytes i 0 < 256) → (start : ℕ) → 16 ≤ length bytes → joined (bit_xor start (le bytes 0 4)) (le bytes 4 4) (le bytes 8 4) (le bytes 12 4) ≡ fold crc_byte start (take 16 bytes)
+fold-first bytes below start h = fold-four_words bytes below 0 start start h refl
