@@ -2,6 +2,7 @@
 use Rattle.std.proofs.Common.{◌≡◌, ℕ, ◌+◌, ◌<◌, ◌≤◌, List, length, take, get_or, refl, ap, ap₂, sym, ◌∙◌, arith}
 use Rattle.std.specs.List.{fold}
 use Rattle.std.specs.Int.Bits.{bit_xor, xor_assoc}
+use Rattle.std.proofs.lemmas.Nat.{xor_comm}
 use Rattle.pd_kinds.specs.Field.{le}
 use Rattle.pd_kinds.specs.Checksum.{crc_byte}
 use Rattle.pd_crc.specs.Steps.{byte_steps}
@@ -10,9 +11,9 @@ use Rattle.pd_crc.proofs.Linear.{byte_steps-xor, byte_steps-add, xor_regroup}
 use Rattle.pd_crc.proofs.Words.{fold-more}
 
 -- word by word, each from what the words before it left
-pub word_by_word : (a b c d : ℕ) → byte_steps 4 (bit_xor (byte_steps 4 (bit_xor (byte_steps 4 (bit_xor (byte_steps 4 a) b)) c)) d) ≡ joined a b c d
+pub word_by_word : (first second third fourth : ℕ) → byte_steps 4 (bit_xor (byte_steps 4 (bit_xor (byte_steps 4 (bit_xor (byte_steps 4 first) second)) third)) fourth) ≡ joined first second third fourth
 unfolding joined
-word_by_word a b c d =
+word_by_word first second third fourth =
     let eight : (x : ℕ) → byte_steps 4 (byte_steps 4 x) ≡ byte_steps 8 x = λ (x : ℕ). sym (byte_steps-add 4 4 x) in
     let twelve : (x : ℕ) → byte_steps 4 (byte_steps 8 x) ≡ byte_steps 12 x = λ (x : ℕ). sym (byte_steps-add 4 8 x) in
     let sixteen : (x : ℕ) → byte_steps 4 (byte_steps 12 x) ≡ byte_steps 16 x = λ (x : ℕ). sym (byte_steps-add 4 12 x) in
@@ -25,35 +26,37 @@ steps_swap m n x =
     sym (byte_steps-add m n x) ∙ ap (λ (k : ℕ). byte_steps k x) same ∙ byte_steps-add n m x
 
 -- a word that is taken into a stream, apart from what the stream was
-one_stream : (count x p : ℕ) → byte_steps count (bit_xor (byte_steps 16 x) p) ≡ bit_xor (byte_steps 16 (byte_steps count x)) (byte_steps count p)
-one_stream count x p =
-    byte_steps-xor count (byte_steps 16 x) p ∙ ap (λ (y : ℕ). bit_xor y (byte_steps count p)) (steps_swap count 16 x)
+one_stream : (count word stream : ℕ) → byte_steps count (bit_xor word (byte_steps 16 stream)) ≡ bit_xor (byte_steps count word) (byte_steps 16 (byte_steps count stream))
+one_stream count word stream =
+    byte_steps-xor count word (byte_steps 16 stream) ∙ ap (λ (x : ℕ). bit_xor (byte_steps count word) x) (steps_swap count 16 stream)
 
-pub joined-xor : (a b c d p q r s : ℕ) → joined (bit_xor (byte_steps 16 a) p) (bit_xor (byte_steps 16 b) q) (bit_xor (byte_steps 16 c) r) (bit_xor (byte_steps 16 d) s) ≡ bit_xor (byte_steps 16 (joined a b c d)) (joined p q r s)
+-- words a to d that are taken into streams p to s
+joined-xor : (a b c d p q r s : ℕ) → joined (bit_xor a (byte_steps 16 p)) (bit_xor b (byte_steps 16 q)) (bit_xor c (byte_steps 16 r)) (bit_xor d (byte_steps 16 s)) ≡ bit_xor (joined a b c d) (byte_steps 16 (joined p q r s))
 unfolding joined
 joined-xor a b c d p q r s =
-    let a' = byte_steps 16 (byte_steps 16 a) in
-    let b' = byte_steps 16 (byte_steps 12 b) in
-    let c' = byte_steps 16 (byte_steps 8 c) in
-    let d' = byte_steps 16 (byte_steps 4 d) in
-    let p' = byte_steps 16 p in
-    let q' = byte_steps 12 q in
-    let r' = byte_steps 8 r in
-    let s' = byte_steps 4 s in
+    let a' = byte_steps 16 a in
+    let b' = byte_steps 12 b in
+    let c' = byte_steps 8 c in
+    let d' = byte_steps 4 d in
+    let p' = byte_steps 16 (byte_steps 16 p) in
+    let q' = byte_steps 16 (byte_steps 12 q) in
+    let r' = byte_steps 16 (byte_steps 8 r) in
+    let s' = byte_steps 16 (byte_steps 4 s) in
     ap₂ bit_xor (ap₂ bit_xor (ap₂ bit_xor (one_stream 16 a p) (one_stream 12 b q)) (one_stream 8 c r)) (one_stream 4 d s)
     ∙ ap (λ (x : ℕ). bit_xor (bit_xor x (bit_xor c' r')) (bit_xor d' s')) (xor_regroup a' p' b' q')
     ∙ ap (λ (x : ℕ). bit_xor x (bit_xor d' s')) (xor_regroup (bit_xor a' b') (bit_xor p' q') c' r')
     ∙ xor_regroup (bit_xor (bit_xor a' b') c') (bit_xor (bit_xor p' q') r') d' s'
-    ∙ ap (λ (x : ℕ). bit_xor x (bit_xor (bit_xor (bit_xor p' q') r') s'))
-    (sym (simp (byte_steps-xor 16)))
+    ∙ ap (λ (x : ℕ). bit_xor (bit_xor (bit_xor (bit_xor a' b') c') d') x) (sym (simp (byte_steps-xor 16)))
 
 -- a checksum that is XORed into the first word
-joined-first : (crc a b c d : ℕ) → joined (bit_xor crc a) b c d ≡ bit_xor (byte_steps 16 crc) (joined a b c d)
+joined-first : (crc a b c d : ℕ) → joined (bit_xor crc a) b c d ≡ bit_xor (joined a b c d) (byte_steps 16 crc)
 unfolding joined
-joined-first crc a b c d = simp (byte_steps-xor 16, xor_assoc)
+joined-first crc a b c d =
+    let apart : joined (bit_xor crc a) b c d ≡ bit_xor (byte_steps 16 crc) (joined a b c d) = simp (byte_steps-xor 16, xor_assoc) in
+    apart ∙ xor_comm (byte_steps 16 crc) (joined a b c d)
 
 -- the checksum over four words more
-pub fold-four_words : (bytes : List ℕ) → ((i : ℕ) → get_or bytes i 0 < 256) → (at start crc : ℕ) → at + 16 ≤ length bytes → crc ≡ fold crc_byte start (take at bytes) → joined (bit_xor crc (le bytes at 4)) (le bytes (at + 4) 4) (le bytes (at + 8) 4) (le bytes (at + 12) 4) ≡ fold crc_byte start (take (at + 16) bytes)
+fold-four_words : (bytes : List ℕ) → ((i : ℕ) → get_or bytes i 0 < 256) → (at start crc : ℕ) → at + 16 ≤ length bytes → crc ≡ fold crc_byte start (take at bytes) → joined (bit_xor crc (le bytes at 4)) (le bytes (at + 4) 4) (le bytes (at + 8) 4) (le bytes (at + 12) 4) ≡ fold crc_byte start (take (at + 16) bytes)
 fold-four_words bytes below at start crc h e =
     let after_one = fold-more bytes below 4 at (at + 4) start crc refl (omega arith) e in
     let after_two = fold-more bytes below 4 (at + 4) (at + 8) start (byte_steps 4 (bit_xor crc (le bytes at 4))) (omega arith) (omega arith) after_one in
@@ -62,11 +65,11 @@ fold-four_words bytes below at start crc h e =
     sym (word_by_word (bit_xor crc (le bytes at 4)) (le bytes (at + 4) 4) (le bytes (at + 8) 4) (le bytes (at + 12) 4)) ∙ after_four
 
 -- the streams after a word more in each
-pub fold-streams : (bytes : List ℕ) → ((i : ℕ) → get_or bytes i 0 < 256) → (at start a b c d : ℕ) → at + 16 ≤ length bytes → joined a b c d ≡ fold crc_byte start (take at bytes) → joined (bit_xor (byte_steps 16 a) (le bytes at 4)) (bit_xor (byte_steps 16 b) (le bytes (at + 4) 4)) (bit_xor (byte_steps 16 c) (le bytes (at + 8) 4)) (bit_xor (byte_steps 16 d) (le bytes (at + 12) 4)) ≡ fold crc_byte start (take (at + 16) bytes)
-fold-streams bytes below at start a b c d h e =
-    joined-xor a b c d (le bytes at 4) (le bytes (at + 4) 4) (le bytes (at + 8) 4) (le bytes (at + 12) 4)
-    ∙ sym (joined-first (joined a b c d) (le bytes at 4) (le bytes (at + 4) 4) (le bytes (at + 8) 4) (le bytes (at + 12) 4))
-    ∙ fold-four_words bytes below at start (joined a b c d) h e
+pub fold-streams : (bytes : List ℕ) → ((i : ℕ) → get_or bytes i 0 < 256) → (at start first second third fourth : ℕ) → at + 16 ≤ length bytes → joined first second third fourth ≡ fold crc_byte start (take at bytes) → joined (bit_xor (le bytes at 4) (byte_steps 16 first)) (bit_xor (le bytes (at + 4) 4) (byte_steps 16 second)) (bit_xor (le bytes (at + 8) 4) (byte_steps 16 third)) (bit_xor (le bytes (at + 12) 4) (byte_steps 16 fourth)) ≡ fold crc_byte start (take (at + 16) bytes)
+fold-streams bytes below at start first second third fourth h e =
+    joined-xor (le bytes at 4) (le bytes (at + 4) 4) (le bytes (at + 8) 4) (le bytes (at + 12) 4) first second third fourth
+    ∙ sym (joined-first (joined first second third fourth) (le bytes at 4) (le bytes (at + 4) 4) (le bytes (at + 8) 4) (le bytes (at + 12) 4))
+    ∙ fold-four_words bytes below at start (joined first second third fourth) h e
 
 -- the streams after their first words
 pub fold-first : (bytes : List ℕ) → ((i : ℕ) → get_or bytes i 0 < 256) → (start : ℕ) → 16 ≤ length bytes → joined (bit_xor start (le bytes 0 4)) (le bytes 4 4) (le bytes 8 4) (le bytes 12 4) ≡ fold crc_byte start (take 16 bytes)

@@ -1,7 +1,11 @@
 //! CRC-32C of bytes, in four streams.
 //!
-//! The words of four bytes are dealt out to four streams in turn, and each stream is advanced by look-ups
-//! of its own, so that no look-up waits for another stream's. At the end the streams are joined.
+//! A checksum's next look-ups wait for its last ones. So the words of four bytes are dealt out to four
+//! streams, each with look-ups of its own, which the processor makes side by side; at the end the streams
+//! are joined.
+//!
+//! The streams are braided: they take words in turn, and not four long parts of the bytes. So the bytes are
+//! read in order, which is as fast where the block isn't in the processor's cache.
 
 ghost use Rattle.std.specs.Prelude.{◌≡◌, ◌%◌, ◌≤◌, fold, length, slice_index};
 ghost use Rattle.pd_kinds.specs.Checksum.{crc_byte, crc32c};
@@ -25,7 +29,7 @@ pub fn crc32c_raw(bytes: &[u8]) -> u32
     }
 }
 
-/// The checksum so far taken over the bytes, of which there are sixteen and maybe more.
+/// The checksum so far taken over the bytes, sixteen at a time: a word for each of the four streams.
 fn in_streams(start: u32, bytes: &[u8]) -> u32
     requires { 16 ≤ length bytes.now }
     ensures { result ≡ fold crc_byte start bytes.now }
@@ -36,10 +40,11 @@ fn in_streams(start: u32, bytes: &[u8]) -> u32
     let mut fourth = u32_at(bytes, 12);
     let mut at = 16;
     while bytes.len() - at >= 16 {
-        first = after_sixteen(first) ^ u32_at(bytes, at);
-        second = after_sixteen(second) ^ u32_at(bytes, at + 4);
-        third = after_sixteen(third) ^ u32_at(bytes, at + 8);
-        fourth = after_sixteen(fourth) ^ u32_at(bytes, at + 12);
+        // The look-ups stand last in each XOR: they wait for the stream, and the word does not.
+        first = u32_at(bytes, at) ^ after_sixteen(first);
+        second = u32_at(bytes, at + 4) ^ after_sixteen(second);
+        third = u32_at(bytes, at + 8) ^ after_sixteen(third);
+        fourth = u32_at(bytes, at + 12) ^ after_sixteen(fourth);
         at += 16;
     }
     let crc = after_four(after_four(after_four(after_four(first) ^ second) ^ third) ^ fourth);

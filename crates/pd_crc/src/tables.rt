@@ -1,5 +1,5 @@
-//! What each byte becomes by one to four, and by thirteen to sixteen, byte steps of CRC-32C (reflected
-//! polynomial 0x82F63B78).
+//! What each byte becomes by byte steps of CRC-32C (reflected polynomial 0x82F63B78): by one to four for
+//! the four bytes of a word, and by thirteen to sixteen where a word of each of four streams is stepped over.
 //!
 //! Entry `i` of a table follows from `i` by eight bit steps a byte; the proofs compute each of them
 //! again.

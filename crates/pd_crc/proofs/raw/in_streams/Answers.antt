@@ -20,7 +20,7 @@ loop-at-preserved c =
     record {
       within = within;
       so_far =
-          rw (c.after_sixteen.ensures, c.u32_at-in-loop-at.ensures, c.after_sixteen-in-loop-at.ensures, c.u32_at-in-loop-at-2.ensures, c.after_sixteen-in-loop-at-2.ensures, c.u32_at-in-loop-at-3.ensures, c.after_sixteen-in-loop-at-3.ensures, c.u32_at-in-loop-at-4.ensures)
+          rw (c.u32_at-in-loop-at.ensures, c.after_sixteen.ensures, c.u32_at-in-loop-at-2.ensures, c.after_sixteen-in-loop-at.ensures, c.u32_at-in-loop-at-3.ensures, c.after_sixteen-in-loop-at-2.ensures, c.u32_at-in-loop-at-4.ensures, c.after_sixteen-in-loop-at-3.ensures)
           (fold-streams c.args.bytes.now (λ i. (c.type_inv.bytes i).fits) c.loop-at.at c.args.start c.loop-at.first c.loop-at.second c.loop-at.third c.loop-at.fourth within c.loop-at.invariant.so_far);
     }
 
