@@ -5,7 +5,6 @@ ghost use Rattle.pd_kinds.specs.Objects.{CountsFault};
 ghost use Rattle.pd_kinds.specs.Graph.{Graph};
 ghost use Rattle.pd_kinds.specs.Stages.{IsReached};
 ghost use Rattle.pd_kinds.specs.Whole.{array_whole, array_words, is_array_index_bad};
-ghost use Rattle.pd_array.specs.Word.{size_of};
 ghost use Rattle.pd_image.specs.Device.{IsAttached, OnlyReads};
 ghost use Rattle.pd_graph.specs.Audit.{blocks_of, KeepsButRules};
 ghost use Rattle.pd_whole.specs.Charges.{Charges};

@@ -74,9 +74,6 @@ pub building_at_item : {X : Type 0} → (code : X → ℕ) {size : ℕ} {t : Tre
 building_at_item {X} code {size} {t} {from} {to} xs i x b within is =
     subst (λ (rest : List Entry). IsBuilding size (entries_of code xs) rest t from to) (split ∙ ap (λ (n : ℕ). record { key = x.0; value = code x.1 } ∷ drop n (entries_of code xs)) (sym (add-one i))) b
   where
-    entry : ℕ × X → Entry
-    entry x = record { key = x.0; value = code x.1 }
-
     split : drop i (entries_of code xs) ≡ record { key = x.0; value = code x.1 } ∷ drop (suc i) (entries_of code xs)
     split = drop-map (λ (x : ℕ × X). record { key = x.0; value = code x.1 }) i xs
         ∙ (ap (entries_of code) (drop-cons xs i x within)

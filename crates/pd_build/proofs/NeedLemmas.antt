@@ -1,8 +1,6 @@
 -- How many nodes stand above so many, counted level by level.
-use Rattle.std.proofs.Common.{◌≡◌, inl, inr, ℕ, zero, suc, ◌+◌, ◌-◌, ◌*◌, ◌/◌, ◌^◌, ◌<◌, ◌≤◌, refl, ◌∙◌, ap, arith}
-use Rattle.std.proofs.lemmas.Bool.{lt-ltb, le-ltb, cases_eq}
-use Rattle.std.proofs.Math.Nat.{div-mul-le_self, mul-le-mul_left}
-use Rattle.pd_build.proofs.CountLemmas.{parts_some, parts_none}
+use Rattle.std.proofs.Common.{◌≡◌, ℕ, zero, suc, ◌+◌, ◌-◌, ◌*◌, ◌^◌, ◌<◌, ◌≤◌, refl, arith}
+use Rattle.std.proofs.lemmas.Bool.{lt-ltb, le-ltb}
 use Rattle.pd_spells.specs.Need.{need_above, nodes_for}
 
 pub record IsCounting (all nodes need : ℕ) : Type 0 where
@@ -40,14 +38,3 @@ counting_next {all} {nodes} {need} c many = counting_by c.fuel all nodes need c.
 
 pub counting_end : {all nodes need : ℕ} → IsCounting all nodes need → nodes ≤ 1 → need ≡ need_above 10 all
 counting_end {all} {nodes} {need} c few = omega (arith, c.whole, need_one c.fuel nodes few)
-
--- where a node has at least two entries, there are at most half as many nodes
-pub half_of : (most n : ℕ) → 2 ≤ most → nodes_for most n * 2 ≤ n + 1
-half_of most n some = elim (cases_eq n 0) [
-  | inl none ↦ let is : nodes_for most n ≡ 0 = ap (nodes_for most) none ∙ parts_none most (omega arith) in omega arith
-  | inr more ↦
-      let is = parts_some most n (omega arith) (omega arith) in
-      let whole : (n - 1) / most * most ≤ n - 1 = div-mul-le_self (n - 1) most in
-      let scaled : (n - 1) / most * 2 ≤ (n - 1) / most * most = mul-le-mul_left ((n - 1) / most) some in
-      omega arith
-]

@@ -1,6 +1,6 @@
 //! Arrays.
 
-ghost use Rattle.std.specs.Prelude.{◌≡◌, ℕ, ◌+◌, ◌-◌, ◌*◌, ◌<◌, ◌≤◌, ◌^◌, List, [], ◌∷◌, ◌++◌, length, OnOk, OnErr, IfOk, IfErr, vec_len, IsTrue, ◌↔◌, ◌⊎◌};
+ghost use Rattle.std.specs.Prelude.{◌≡◌, ℕ, ◌+◌, ◌-◌, ◌<◌, ◌≤◌, ◌^◌, List, [], ◌∷◌, ◌++◌, length, OnOk, OnErr, IfOk, IfErr, vec_len, IsTrue, ◌↔◌, ◌⊎◌};
 ghost use Rattle.std.specs.List.{All};
 ghost use Rattle.pd_kinds.specs.Array.{max_words};
 ghost use Rattle.pd_array.specs.Word.{size_of};

@@ -1,7 +1,7 @@
 //! The block of a leaf whose items come one by one: each goes into its place at once, so that it is stored a single
 //! time. Where all items are there, pd_node writes the leaf.
 
-ghost use Rattle.std.specs.Prelude.{◌≡◌, ◌+◌, ◌<◌, ◌≤◌, ◌^◌, true};
+ghost use Rattle.std.specs.Prelude.{◌≡◌, ◌+◌, ◌<◌, ◌≤◌, true};
 ghost use Rattle.pd_kinds.specs.Checksum.{sealed};
 ghost use Rattle.pd_kinds.specs.Field.{le, written};
 ghost use Rattle.pd_kinds.specs.Node.{max_entries, node_rows, node_salt};

@@ -1,6 +1,6 @@
 //! The levels above a row of nodes.
 
-ghost use Rattle.std.specs.Prelude.{◌≡◌, ℕ, ◌+◌, ◌-◌, ◌*◌, ◌<◌, ◌≤◌, List, [], ◌∷◌, ◌++◌, length, map, take, true, OnOk, OnErr, IfOk, IfErr, nat_eq};
+ghost use Rattle.std.specs.Prelude.{◌≡◌, ◌+◌, ◌-◌, ◌*◌, ◌<◌, ◌≤◌, List, [], ◌∷◌, ◌++◌, length, map, take, true, OnOk, OnErr, IfOk, IfErr, nat_eq};
 ghost use Rattle.pd_kinds.specs.Node.{Entry, is_ascending, inner_block};
 ghost use Rattle.pd_node.specs.Items.{keys_of};
 ghost use Rattle.pd_image.specs.Device.{IsWritable};

@@ -1,6 +1,6 @@
 //! A tree of items in memory.
 
-ghost use Rattle.std.specs.Prelude.{◌≡◌, ℕ, ◌+◌, ◌≤◌, List, length, true, OnOk, IfOk};
+ghost use Rattle.std.specs.Prelude.{◌≡◌, ◌+◌, ◌≤◌, length, true, OnOk, IfOk};
 ghost use Rattle.std.specs.List.{All};
 ghost use Rattle.pd_kinds.specs.Node.{is_ascending};
 ghost use Rattle.pd_node.specs.Items.{entries_of, keys_of};

@@ -1,6 +1,6 @@
 //! The rules of a whole cache, where no block has a rule up to the order of the trees.
 
-ghost use Rattle.std.specs.Prelude.{◌≡◌, ℕ, ◌+◌, ◌*◌, ◌/◌, ◌<◌, ◌≤◌, ◌==◌, [], ◌∷◌, List, length, IfSome, OnOk};
+ghost use Rattle.std.specs.Prelude.{◌≡◌, ◌+◌, ◌/◌, ◌<◌, ◌≤◌, ◌==◌, [], ◌∷◌, IfSome, OnOk};
 ghost use Rattle.std.specs.List.{flat_map};
 ghost use Rattle.pd_kinds.specs.Objects.{CountsFault};
 ghost use Rattle.pd_kinds.specs.Graph.{Graph, nodes};
@@ -11,11 +11,11 @@ ghost use Rattle.pd_array.specs.Word.{size_of};
 ghost use Rattle.pd_graph.specs.Audit.{blocks_of, KeepsButRules};
 ghost use Rattle.pd_whole.specs.Charges.{Charges};
 ghost use Rattle.pd_arrays.specs.ArrayMarks.{places_of as marks_of};
-ghost use Rattle.pd_arrays.specs.Arrays.{HasArrays, lengths_of};
+ghost use Rattle.pd_arrays.specs.Arrays.{HasArrays};
 ghost use Rattle.pd_arrays.specs.KindReads.{kind_reads};
 ghost use Rattle.pd_cache.specs.Origins.{places_of};
 ghost use Rattle.pd_cache.specs.Meeting.{IsFresh};
-ghost use Rattle.pd_cache.specs.Whole.{IsKnownCache, IsReady, arrays_named, arrays_reads, dirty_arrays, dirty_bits as dirty_bits_of, discards as discards_of, hints as hints_of, mappings as mappings_of, origin_reads, origin_test, tests_named};
+ghost use Rattle.pd_cache.specs.Whole.{IsReady, arrays_named, arrays_reads, dirty_arrays, dirty_bits as dirty_bits_of, discards as discards_of, hints as hints_of, mappings as mappings_of, origin_reads, origin_test, tests_named};
 ghost use Rattle.pd_cache.specs.Room.{IsRoomFor};
 
 use crate::mapping::is_origin_repeated;

@@ -68,11 +68,6 @@ unfolding cache_read_of
 head_err word name uuid policy a b c words cause is named rest =
     rw (← is, ← named) (sym (front_err 4 7 (cache_of uuid policy) (a ∷ b ∷ c ∷ []) words cause refl rest))
 
--- the words after `cache`
-pub cache_cut : (word name a b c : List ℕ) (w₀ w₁ w₂ w₃ w₄ w₅ : List (List ℕ)) (r : Result Line TextCause)
-    → w₀ ≡ word ∷ w₁ → w₁ ≡ a ∷ w₂ → w₂ ≡ b ∷ w₃ → w₃ ≡ c ∷ w₄ → w₄ ≡ name ∷ w₅ → r ≡ cache_read_of word name (a ∷ b ∷ c ∷ w₅) → r ≡ cache_read w₀
-cache_cut word name a b c w₀ w₁ w₂ w₃ w₄ w₅ r e₀ e₁ e₂ e₃ e₄ is = rw (e₀, e₁, e₂, e₃, e₄) is
-
 -- a place's words
 later : (n : ℕ) → 2 ≤ n → eqb n 1 ≡ false
 later n some = grind (arith, nat_tests)

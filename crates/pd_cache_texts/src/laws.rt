@@ -1,6 +1,6 @@
 //! What the lines of a cache's text come to, read and printed.
 
-ghost use Rattle.std.specs.Prelude.{◌≡◌, ◌≤◌, ◌++◌, ◌∷◌, [], ℕ, List, length, true, false};
+ghost use Rattle.std.specs.Prelude.{◌≡◌, ◌≤◌, ◌++◌, ◌∷◌, [], ℕ, List, length, true};
 ghost use Rattle.pd_kinds.specs.Meaning.{CacheMeaning};
 ghost use Rattle.pd_kinds.specs.declared.kind.Kind.TheVariants.{Cache};
 ghost use Rattle.pd_grammar.specs.declared.cause.TextCause.TheVariants.{Repeated};

@@ -1,6 +1,6 @@
 //! What the lines so far of a cache's text say of the next one.
 
-ghost use Rattle.std.specs.Prelude.{◌≡◌, ℕ, ◌≤◌, List, ◌∷◌, length, IfOk, OnOk, true, false};
+ghost use Rattle.std.specs.Prelude.{◌≡◌, ◌≤◌, List, ◌∷◌, length, IfOk, OnOk, true, false};
 ghost use Rattle.pd_grammar.specs.Words.{split};
 ghost use Rattle.pd_grammar.specs.Texts.{tested};
 ghost use Rattle.pd_spells.specs.CacheText.{Line, single_tests, words_read, has_number_out_of_range, is_out_of_order};

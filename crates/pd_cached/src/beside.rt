@@ -31,7 +31,7 @@ pub(crate) struct Beside {
 
 impl Beside {
     ghost use Rattle.std.specs.Prelude.{◌≡◌, ℕ, ◌+◌, ◌≤◌, ◌∷◌, ◌++◌, List, IfOk, IfSome, OnOk};
-    ghost use Rattle.pd_kinds.specs.Objects.{DeviceState, CountsFault};
+    ghost use Rattle.pd_kinds.specs.Objects.{CountsFault};
     ghost use Rattle.pd_image.specs.Device.{IsAttached, OnlyReads};
     ghost use Rattle.pd_cached.specs.Beside.{beside_reads, beside_room, given_of, rows_beside, rows_of};
     ghost use Rattle.pd_cached.specs.Rows.{RootsBelow, dirty_below, dirty_reads_below, hints_below, hints_reads_below};

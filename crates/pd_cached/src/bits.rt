@@ -17,7 +17,7 @@ pub(crate) struct Bits {
 
 impl Bits {
     ghost use Rattle.std.specs.Prelude.{◌≡◌, ℕ, ◌+◌, ◌≤◌, List, IfOk, IfSome, OnOk};
-    ghost use Rattle.pd_kinds.specs.Objects.{DeviceState, CountsFault};
+    ghost use Rattle.pd_kinds.specs.Objects.{CountsFault};
     ghost use Rattle.pd_image.specs.Device.{IsAttached, OnlyReads};
     ghost use Rattle.pd_cached.specs.Left.{Takes, bits_below, bits_left, bits_reads, bits_room, reads_of_root};
 

@@ -17,7 +17,7 @@ ghost use Rattle.pd_array.specs.declared.word.Word.TheVariants.{Four};
 
 impl Hints {
     ghost use Rattle.std.specs.Prelude.{◌≡◌, ℕ, ◌+◌, ◌≤◌, List, IfOk, IfSome, OnOk};
-    ghost use Rattle.pd_kinds.specs.Objects.{DeviceState, CountsFault};
+    ghost use Rattle.pd_kinds.specs.Objects.{CountsFault};
     ghost use Rattle.pd_image.specs.Device.{IsAttached, OnlyReads};
     ghost use Rattle.pd_cached.specs.Left.{Takes, words_below, hints_left, hints_reads, hints_room, reads_of_root};
 

@@ -1,7 +1,7 @@
 //! Hints and dirty bits, where a cache has them.
 
-ghost use Rattle.std.specs.Prelude.{◌≡◌, ℕ, ◌+◌, ◌<◌, ◌≤◌, true, drop, slice_index, List, IfOk, IfSome, OnOk};
-ghost use Rattle.pd_kinds.specs.Objects.{DeviceState, CountsFault};
+ghost use Rattle.std.specs.Prelude.{◌≡◌, ℕ, ◌+◌, ◌<◌, ◌≤◌, true, List, IfOk, IfSome, OnOk};
+ghost use Rattle.pd_kinds.specs.Objects.{CountsFault};
 ghost use Rattle.pd_kinds.specs.CacheFormat.{has_dirty_bits};
 ghost use Rattle.pd_image.specs.Device.{IsAttached, OnlyReads};
 ghost use Rattle.pd_cached.specs.Left.{Takes};

@@ -1,7 +1,7 @@
 //! A cursor over the valid mappings of a cache.
 
 ghost use Rattle.std.specs.Prelude.{◌≡◌, ℕ, ◌+◌, ◌<◌, ◌≤◌, List, IfOk, IfSome, OnOk};
-ghost use Rattle.pd_kinds.specs.Objects.{DeviceState, CountsFault};
+ghost use Rattle.pd_kinds.specs.Objects.{CountsFault};
 ghost use Rattle.pd_image.specs.Device.{IsAttached, OnlyReads};
 ghost use Rattle.pd_tree.specs.Next.{IsNext};
 ghost use Rattle.pd_cached.specs.Left.{reads_of_root};

@@ -19,7 +19,7 @@ use Rattle.pd_kinds.specs.Report.{Reported, report_of}
 use Rattle.pd_kinds.specs.Faults.{faults_at}
 use Rattle.pd_kinds.specs.Graph.{Graph, block_at, nodes}
 use Rattle.std.proofs.lemmas.Option.{IfSome_then}
-use Rattle.pd_graph.proofs.AnyLemmas.{if_any, if_both}
+use Rattle.pd_graph.proofs.AnyLemmas.{if_both}
 use Rattle.pd_laws.proofs.CleanLemmas.{no_rule_broken, no_faults_at}
 use Rattle.pd_laws.proofs.SuperStage.{chosen, first_stage, faults_at-same}
 use Rattle.pd_check.specs.ByKind.{super_bad_of, graph_of_super}
@@ -118,10 +118,6 @@ missing_report (Some (block ∷ rest)) kind until blocks rules report none hones
 -- the block at the first place
 pub first_at : (blocks : ℕ) (first : List ℕ) (image : List (List ℕ)) → IsFirstBlock blocks first image → block_at image 0 ≡ first
 first_at blocks first image found = rw found.content refl
-
--- where nothing is read
-pub none_read : (held : Option (List (List ℕ))) (kind : Kind) (until : Stage) (old new : ℕ) → new ≤ old → IfSome held (λ image. ReadsFew kind until image old new)
-none_read held kind until old new few = if_any held (λ image. record { nodes = omega (arith, few); none = λ some. few })
 
 -- one read more before the others
 pub later_read : (before held : Option (List (List ℕ))) (kind : Kind) (until : Stage) (old later new : ℕ) → before ≡ held → old ≤ later

@@ -1,17 +1,14 @@
 //! The stage of the counts, after the rules of the whole image.
 
-ghost use Rattle.std.specs.Prelude.{◌≡◌, ℕ, ◌+◌, ◌*◌, ◌^◌, ◌<◌, ◌≤◌, false, length, Some, IfOk, IfSome, OnOk};
-ghost use Rattle.pd_kinds.specs.declared.kind.Stage.TheVariants.{Whole, Counts};
+ghost use Rattle.std.specs.Prelude.{◌≡◌, ◌+◌, ◌^◌, ◌<◌, ◌≤◌, Some, IfOk, IfSome, OnOk};
 ghost use Rattle.pd_kinds.specs.declared.limits.TheConstants.{MAX_META_BLOCKS};
-ghost use Rattle.pd_kinds.specs.declared.rule.Rule.{Rule};
 ghost use Rattle.pd_kinds.specs.CheckFault.{CountsCheckFault};
 ghost use Rattle.pd_kinds.specs.Report.{report_of};
 ghost use Rattle.pd_kinds.specs.Stages.{checked_of, count_faults, faults};
 ghost use Rattle.pd_image.specs.Device.{IsAttached, OnlyReads};
 ghost use Rattle.pd_graph.specs.Audit.{blocks_of};
 ghost use Rattle.pd_smap.specs.Reports.{Adds};
-ghost use Rattle.pd_check.specs.ByKind.{data_space_of, graph_of_super, meta_map_of, super_bad_of};
-ghost use Rattle.pd_check.specs.Check.{IsFirstBlock};
+ghost use Rattle.pd_check.specs.ByKind.{data_space_of, graph_of_super, meta_map_of};
 ghost use Rattle.pd_check.specs.Counts.{count_reads, data_faults, data_reads, meta_faults, meta_reads, space_reads};
 ghost use Rattle.pd_check.specs.Whole.{IsWhole};
 

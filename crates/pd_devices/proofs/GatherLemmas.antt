@@ -111,33 +111,6 @@ closed_here : (o : Option Growing) (from to : Stand) → IsOpen [] 0 0 o from to
 closed_here None from to is = is
 closed_here (Some o) from to is = absurd is
 
--- all lists are as they were, and no tree is begun
-pub gathered_still : {start now : Stand} (before : List Line) (old new : Devices) → HasGathered before old start now → unmapped before ≡ 0
-    → old.growing ≡ None → new ≡ old → HasGathered (end_line ∷ before) new start now
-gathered_still {start} {now} before old new h none growing same = rw same (ended (opened_none (open_device before) (run_end before) (unmapped before) h.behind now (rw growing at h.growing)))
-  where
-    ended : (open_device before ≡ []) × (h.behind ≡ now) → HasGathered (end_line ∷ before) old start now
-    ended (closed, here) =
-        let devices : whole_devices before ++ open_device before ≡ whole_devices before =
-        ap (λ (ds : List ThinDevice). whole_devices before ++ ds) closed ∙ append-nil (whole_devices before) in
-        record {
-          begin = h.begin;
-          behind = now;
-          written = rw (devices, ← here) h.written;
-          growing = rw growing refl;
-          roots = rw devices h.roots;
-          details = h.details ∙ ap device_details (sym (append-nil (whole_devices before ++ open_device before)));
-          roots_fit = h.roots_fit;
-          details_fit = h.details_fit;
-          counted = h.counted;
-          size = h.size;
-          small = h.small;
-          total = omega (arith, h.total, none);
-          trees = h.trees;
-          number = h.number;
-          place = omega (arith, h.place, ap open_need closed, ap (λ (stand : Stand). stand.place) here);
-        }
-
 -- the tree of the open device was ended
 pub gathered_ended : {start mid now : Stand} (before : List Line) (old new : Devices) (o : Growing) (root : ℕ) → HasGathered before old start mid → unmapped before ≡ 0
     → old.growing ≡ Some o → new.growing ≡ None → new.details ≡ old.details → new.counts ≡ old.counts → new.trees ≡ old.trees
@@ -278,12 +251,6 @@ gathered_room {s} {start} {now} before room o h growing need =
   where
     within : (d : ThinDevice) × ((open_device before ≡ d ∷ []) × Grown d (run_end before) (unmapped before) o h.behind now) → now.place + number_left o.builder ≤ room
     within (d, (opened, g)) = omega (arith, g.grows.room, g.begun.room, h.place, ap open_need opened, trees_within room before, need)
-
--- the facts on the open tree
-pub gathered_low : {s : Devices} {start now : Stand} (before : List Line) (o : Growing) → HasGathered before s start now → s.growing ≡ Some o
-    → (o.builder.leaves.low ≤ run_end before) × (items_to_come o.builder.leaves ≡ unmapped before)
-gathered_low {s} {start} {now} before o h growing =
-    let found = opened_some (open_device before) (run_end before) (unmapped before) o h.behind now (rw growing at h.growing) in (found.1.1.low, found.1.1.left)
 
 -- where mappings are to come, a tree is open
 pub gathered_some : {s : Devices} {start now : Stand} (before : List Line) → HasGathered before s start now → s.growing ≡ None → 1 ≤ unmapped before → ⊥

@@ -2,7 +2,7 @@
 
 ghost use Rattle.std.specs.Prelude.{◌≡◌, ℕ, ◌+◌, ◌-◌, ◌^◌, ◌<◌, ◌≤◌, List, [], ◌++◌, IfOk, OnOk};
 ghost use Rattle.std.specs.List.{range_with_len};
-ghost use Rattle.pd_count.specs.Counted.{Counted, count_of, CountsOneMore, HasCounted};
+ghost use Rattle.pd_count.specs.Counted.{count_of, CountsOneMore, HasCounted};
 ghost use Rattle.pd_devices.specs.Counts.{overflows_of};
 
 use pd_count::Counts;

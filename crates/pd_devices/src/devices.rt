@@ -1,6 +1,6 @@
 //! The devices of a pool.
 
-ghost use Rattle.std.specs.Prelude.{◌≡◌, ℕ, ◌+◌, ◌-◌, ◌<◌, ◌≤◌, ◌^◌, List, [], ◌∷◌, ◌++◌, min, IfOk, IfErr, OnOk, OnErr};
+ghost use Rattle.std.specs.Prelude.{◌≡◌, ℕ, ◌+◌, ◌-◌, ◌<◌, ◌≤◌, ◌^◌, List, [], ◌∷◌, ◌++◌, min, IfOk, IfErr, OnOk};
 ghost use Rattle.pd_image.specs.Device.{IsWritable};
 ghost use Rattle.pd_draft.specs.Closed.{IsClosed, StaysClosed};
 ghost use Rattle.pd_draft.specs.Placed.{Stand};

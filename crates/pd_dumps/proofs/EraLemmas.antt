@@ -1,6 +1,6 @@
 -- The lines of an era target: its runs, and what they come to without faults.
-use Rattle.std.proofs.Common.{◌≡◌, ℕ, ◌<◌, ◌≤◌, nat_lt, nat_eq, true, ◌&&◌, ◌||◌, List, [], ◌∷◌, ◌++◌, length, Option, IfSome, refl, sym, ap, ◌∙◌, append_assoc, arith, inl, inr}
-use Rattle.std.proofs.lemmas.Bool.{and_parts, cases_Bool, eqb-false, lt-ltb, ltb-true, ne_eqb}
+use Rattle.std.proofs.Common.{◌≡◌, ℕ, ◌<◌, ◌≤◌, nat_lt, nat_eq, true, ◌||◌, List, [], ◌∷◌, ◌++◌, length, Option, IfSome, refl, sym, ap, ◌∙◌, append_assoc, arith, inl, inr}
+use Rattle.std.proofs.lemmas.Bool.{cases_Bool, eqb-false, lt-ltb}
 use Rattle.std.proofs.lemmas.List.{append-nil}
 use Rattle.std.proofs.lemmas.List.Concat.{flat_map-append}
 use Rattle.pd_kinds.specs.declared.kind.Kind.TheVariants.{Era}
@@ -19,7 +19,7 @@ use Rattle.pd_query.proofs.AddsLemmas.{one_told, two_told}
 use Rattle.pd_dumps.specs.EraGiven.{are_roots_below, given_eras}
 use Rattle.pd_dumps.specs.EraLines.{era_dump_text, rest_text, runs_text}
 use Rattle.pd_dumps.specs.Known.{Begins}
-use Rattle.pd_dumps.proofs.KnownLemmas.{adds_both, adds_none, begins_after, begins_at}
+use Rattle.pd_dumps.proofs.KnownLemmas.{adds_both, begins_after, begins_at}
 
 -- the lines of the runs, and the last one
 pub last_line : (eras : List ℕ) → rest_text eras ≡ runs_text (run_lines 0 (joined_eras eras)) ++ end_text
@@ -30,9 +30,6 @@ pub record RunsSoFar (whole left : List Line) (old new : List ℕ) (before after
   pub lines : List Line
   pub split : whole ≡ lines ++ left
   pub adds : Adds (runs_text lines) old new before after
-
-pub runs_none : (whole : List Line) (old : List ℕ) (before : Option (List ℕ)) → RunsSoFar whole whole old old before before
-runs_none whole old before = record { lines = []; split = refl; adds = adds_none old before }
 
 pub runs_more : {whole left : List Line} (line : Line) (later : List Line) {old mid new : List ℕ} {before between after : Option (List ℕ)} → RunsSoFar whole left old mid before between
     → left ≡ line ∷ later → Adds (text_of_line era line) mid new between after → RunsSoFar whole later old new before after
@@ -50,26 +47,11 @@ pub runs_stopped : {whole left : List Line} {old mid : List ℕ} {before between
 runs_stopped {whole} {left} so_far stopped =
     rw (so_far.split, flat_map-append (λ (line : Line). written era line ++ (10 ∷ [])) so_far.lines left) (begins_after so_far.adds (begins_at (runs_text left) stopped))
 
--- a root that is read is below, where it is none or tested
-some_below : (root blocks : ℕ) → (nat_eq root 0 || nat_lt root blocks) ≡ true → (root ≡ 0 → ⊥) → root < blocks
-some_below root blocks either some = ltb-true root blocks (rw (ne_eqb root 0 some) at either)
-
 some_test : (root blocks : ℕ) → ((root ≡ 0 → ⊥) → root < blocks) → (nat_eq root 0 || nat_lt root blocks) ≡ true
 some_test root blocks below = elim (cases_Bool (nat_eq root 0)) [
   | inl none ↦ rw none refl
   | inr some ↦ rw (some, lt-ltb root blocks (below (eqb-false root 0 some))) refl
 ]
-
--- the roots are below where the test says so
-pub roots_below : (blocks : ℕ) (fields : EraFields) → are_roots_below blocks fields ≡ true → RootsBelow blocks fields
-roots_below blocks fields are =
-    let first = and_parts (nat_lt fields.array_root blocks) (nat_lt fields.writesets_root blocks && (nat_eq fields.current_root 0 || nat_lt fields.current_root blocks)) are in
-    let second = and_parts (nat_lt fields.writesets_root blocks) (nat_eq fields.current_root 0 || nat_lt fields.current_root blocks) first.1 in
-    record {
-      eras = ltb-true fields.array_root blocks first.0;
-      writesets = ltb-true fields.writesets_root blocks second.0;
-      current = some_below fields.current_root blocks second.1;
-    }
 
 -- and only there
 pub are_below : (blocks : ℕ) (fields : EraFields) → RootsBelow blocks fields → are_roots_below blocks fields ≡ true

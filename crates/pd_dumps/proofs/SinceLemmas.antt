@@ -5,7 +5,6 @@ use Rattle.std.proofs.lemmas.Bool.{le-ltb, lt-ltb}
 use Rattle.std.proofs.lemmas.List.{append-nil}
 use Rattle.std.proofs.lemmas.List.Concat.{flat_map-append}
 use Rattle.std.proofs.lemmas.List.Folds.{length-prefix_len}
-use Rattle.std.proofs.lemmas.List.Sums.{prefix_len-drop_all}
 use Rattle.std.proofs.lemmas.List.Elements.{filter-append}
 use Rattle.pd_kinds.specs.declared.era_super.EraSuper.{EraSuper}
 use Rattle.pd_kinds.specs.declared.kind.Kind.TheVariants.{Era}
@@ -36,12 +35,6 @@ pub count_stops : (p : ℕ → Bool) (xs : List ℕ) (i : ℕ) → i < length xs
 count_stops p xs i within stops counted =
     let here : prefix_len p (drop i xs) ≡ 0 = rw (drop-cons xs i 0 within, stops) refl in
     let whole : prefix_len p xs ≡ i = omega arith in
-    sym (length-prefix_len p xs ∙ whole)
-
-pub count_all : (p : ℕ → Bool) (xs : List ℕ) → prefix_len p xs ≡ length xs + prefix_len p (drop (length xs) xs) → length xs ≡ length (take_while p xs)
-count_all p xs counted =
-    let none = prefix_len-drop_all p xs (length xs) (omega arith) in
-    let whole : prefix_len p xs ≡ length xs = omega arith in
     sym (length-prefix_len p xs ∙ whole)
 
 -- whether a block was written in an era or later

@@ -1,6 +1,6 @@
 //! The lines of an era target, gathered.
 
-ghost use Rattle.std.specs.Prelude.{◌≡◌, ◌<◌, ◌^◌, ◌++◌, ◌∷◌, [], MatchResult, OnOk, length};
+ghost use Rattle.std.specs.Prelude.{◌≡◌, ◌<◌, ◌^◌, ◌++◌, MatchResult, OnOk, length};
 ghost use Rattle.pd_kinds.specs.Objects.{Appends, AppendsFront};
 ghost use Rattle.pd_image.specs.Sink.{KeepsSink};
 ghost use Rattle.pd_spells.specs.EraText as e;

@@ -1,6 +1,6 @@
 //! The rules of a whole era target, by its superblock.
 
-ghost use Rattle.std.specs.Prelude.{◌≡◌, ℕ, ◌+◌, ◌*◌, ◌≤◌, List, length, IfSome, OnOk};
+ghost use Rattle.std.specs.Prelude.{◌≡◌, ℕ, ◌+◌, ◌≤◌, List, length, IfSome, OnOk};
 ghost use Rattle.pd_kinds.specs.declared.kind.Kind.TheVariants.{Era};
 ghost use Rattle.pd_kinds.specs.EraFormat.{EraFields, era_fields, era_graph};
 ghost use Rattle.pd_kinds.specs.Graph.{Graph, nodes};

@@ -1,11 +1,11 @@
 //! The rules of a whole era target, where no block has a rule up to the order of the trees.
 
-ghost use Rattle.std.specs.Prelude.{◌≡◌, ℕ, ◌+◌, ◌/◌, ◌<◌, ◌≤◌, ◌++◌, [], ◌∷◌, List, IfSome, OnOk};
+ghost use Rattle.std.specs.Prelude.{◌≡◌, ℕ, ◌+◌, ◌<◌, ◌≤◌, ◌++◌, [], ◌∷◌, List, IfSome, OnOk};
 ghost use Rattle.std.specs.List.{flat_map};
 ghost use Rattle.pd_kinds.specs.Objects.{CountsFault};
 ghost use Rattle.pd_kinds.specs.Graph.{Graph};
 ghost use Rattle.pd_kinds.specs.Stages.{IsReached};
-ghost use Rattle.pd_kinds.specs.Whole.{array_whole, reached_writesets, writeset_array};
+ghost use Rattle.pd_kinds.specs.Whole.{array_whole, reached_writesets};
 ghost use Rattle.pd_image.specs.Device.{IsAttached, OnlyReads};
 ghost use Rattle.pd_graph.specs.Audit.{blocks_of, KeepsButRules};
 ghost use Rattle.pd_refs.specs.Refs.{number_in};

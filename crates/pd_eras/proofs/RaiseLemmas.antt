@@ -1,8 +1,7 @@
 -- Eras that are raised bit after bit, and word after word.
-use Rattle.std.proofs.Common.{◌≡◌, inl, inr, ℕ, ◌+◌, ◌*◌, ◌/◌, ◌%◌, ◌<◌, ◌≤◌, Bool, true, false, cond, ◌&&◌, ◌||◌, nat_eq, nat_lt, max, List, [], length, get_or, refl, ap, ◌∙◌, arith, eq-eqb}
+use Rattle.std.proofs.Common.{◌≡◌, inl, inr, ℕ, ◌+◌, ◌*◌, ◌/◌, ◌%◌, ◌<◌, ◌≤◌, Bool, true, false, cond, ◌&&◌, ◌||◌, nat_eq, nat_lt, max, List, length, get_or, refl, ap, ◌∙◌, arith, eq-eqb}
 use Rattle.std.specs.Int.{bit_at}
 use Rattle.std.proofs.lemmas.Bool.{cases_eq, cases_lt, lt-ltb, le-ltb, ne_eqb}
-use Rattle.std.proofs.lemmas.Nat.Bits.{bit_at-zero}
 use Rattle.pd_eras.specs.Raising.{Raises, holds, holds_before, holds_in_word, raised as raised_by}
 
 -- tests that say the same of each block
@@ -92,11 +91,3 @@ same_end bits end number words b fewer most inside = elim (cases_lt b bits) [
   | inl below ↦ rw (lt-ltb b bits below, lt-ltb b end (most below inside)) refl
   | inr past ↦ rw (le-ltb b bits past, le-ltb b end (omega arith)) refl
 ]
-
--- without words no block is held
-pub none_held : (bits b : ℕ) → holds bits [] b ≡ false
-none_held bits b = rw (bit_at-zero (b % 64)) (none (nat_lt b bits))
-  where
-    none : (t : Bool) → (t && false) ≡ false
-    none true = refl
-    none false = refl

@@ -1,6 +1,6 @@
 //! Eras that are raised where a bit is set.
 
-ghost use Rattle.std.specs.Prelude.{◌≡◌, ◌+◌, ◌*◌, ◌/◌, ◌%◌, ◌<◌, ◌≤◌, ◌==◌, ◌&&◌, nat_lt, length};
+ghost use Rattle.std.specs.Prelude.{◌+◌, ◌*◌, ◌<◌, ◌≤◌, ◌==◌, ◌&&◌, nat_lt, length};
 ghost use Rattle.std.specs.Int.{bit_at};
 ghost use Rattle.pd_eras.specs.Raising.{Raises, holds_in_word};
 

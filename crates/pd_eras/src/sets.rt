@@ -1,6 +1,6 @@
 //! The eras that writesets give their blocks.
 
-ghost use Rattle.std.specs.Prelude.{◌≡◌, ℕ, ◌+◌, ◌^◌, ◌<◌, ◌≤◌, List, length, map, slice_index, IfOk, IfSome, OnOk};
+ghost use Rattle.std.specs.Prelude.{◌≡◌, ℕ, ◌<◌, ◌≤◌, length, map, slice_index, IfOk, IfSome, OnOk};
 ghost use Rattle.std.specs.List.{range_with_len};
 ghost use Rattle.pd_kinds.specs.CheckFault.{CountsCheckFault};
 ghost use Rattle.pd_image.specs.Device.{IsAttached, OnlyReads};

@@ -1,6 +1,6 @@
 //! The lines of the generator's text.
 
-ghost use Rattle.std.specs.Prelude.{◌≡◌, ◌+◌, ◌*◌, ◌^◌, ◌<◌, ◌≤◌, ◌++◌, ◌∷◌, [], length, decimal};
+ghost use Rattle.std.specs.Prelude.{◌≡◌, ◌+◌, ◌*◌, ◌^◌, ◌<◌, ◌≤◌, ◌++◌, ◌∷◌, length, decimal};
 ghost use Rattle.pd_answers.specs.Generated.{device_map, snapshot_map};
 ghost use Rattle.pd_gen.specs.Lines.{device_text, end_text, first_text, map_text, pool_text};
 

@@ -1,7 +1,6 @@
 //! The generator's text as a source.
 
-ghost use Rattle.std.specs.Prelude.{true, false, ◌≡◌, ◌+◌, ◌<◌, ◌≤◌, ◌++◌, List, [], None, length, take, min, IfOk, IsOk};
-ghost use Rattle.pd_image.specs.Source.{Takes};
+ghost use Rattle.std.specs.Prelude.{true, false, ◌≡◌, ◌+◌, ◌<◌, ◌≤◌, ◌++◌, [], None, length, take, min};
 
 use crate::place::{Place, step_at};
 use pd_image::{Failed, Source};

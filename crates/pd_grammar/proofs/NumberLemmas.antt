@@ -6,7 +6,6 @@ use Rattle.std.proofs.lemmas.Option.{none-some, same_Some, cond_some}
 use Rattle.std.proofs.lemmas.Fmt.{decimal-digits_value, digits_decimal, digits_value-decimal, decimal_nonempty, first_decimal, decimal_digit}
 use Rattle.std.proofs.lemmas.Str.Parse.{IsNumeralModel, numerals_by_value, tells_all_ascii_digits}
 use Rattle.std.specs.Str.{all_ascii_digits}
-use Rattle.std.specs.Char.{is_ascii_digit}
 use Rattle.std.proofs.lemmas.List.{length-map}
 use Rattle.std.specs.Str.Parse.{digits_value}
 use Rattle.std.specs.List.{AllByRecursion}
@@ -14,7 +13,6 @@ use Rattle.std.specs.Option.{option_map}
 use Rattle.pd_grammar.specs.declared.cause.TextCause.{TextCause}
 use Rattle.pd_grammar.specs.declared.cause.TextCause.TheVariants.{Number}
 use Rattle.pd_grammar.specs.Words.{is_canonical, number_of, numbers_of, of_numbers, with_number, or_cause}
-use Rattle.pd_grammar.proofs.SplitLemmas.{Lacks}
 
 abbrev pub own : IsNumeralModel (λ ds. all_ascii_digits ds ≡ true) (digits_value 10)
 own = numerals_by_value (λ ds. all_ascii_digits ds ≡ true) tells_all_ascii_digits
@@ -101,21 +99,6 @@ unfolding numbers_of
 numbers_again [] fit = refl
 numbers_again (n ∷ ns) fit = ap (λ (o : Option ℕ). with_number o (numbers_of (map decimal ns))) (number_again n fit.0)
     ∙ ap (λ (o : Option (List ℕ)). with_number (Some n) o) (numbers_again ns fit.1)
-
--- the digits of a number have no byte that isn't a digit
-digits_lack : (at : ℕ) (bytes : List ℕ) → at < 48 → all_ascii_digits bytes ≡ true → Lacks at bytes
-digits_lack at [] low digits = tt
-digits_lack at (b ∷ bytes) low digits =
-    let parts = both (is_ascii_digit b) (all_ascii_digits bytes) digits in
-    let here : is_ascii_digit b ≡ true = parts.0 in
-    (grind (arith, nat_tests), digits_lack at bytes low parts.1)
-
-pub decimal_lacks : (at n : ℕ) → at < 48 → n < 2 ^ 64 → Lacks at (decimal n)
-decimal_lacks at n low fits = digits_lack at (decimal n) low (digits_decimal own n fits)
-
-pub decimals_lack : (at : ℕ) (ns : List ℕ) → at < 48 → Fit ns → AllByRecursion (Lacks at) (map decimal ns)
-decimals_lack at [] low fit = tt
-decimals_lack at (n ∷ ns) low fit = (decimal_lacks at n low fit.0, decimals_lack at ns low fit.1)
 
 -- what is read of so many numbers
 pub of_numbers_are : {L : Type 0} → (k : ℕ) (make : List ℕ → L) (words : List (List ℕ)) (line : L) → of_numbers k make words ≡ Ok line

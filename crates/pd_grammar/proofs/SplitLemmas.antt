@@ -56,15 +56,3 @@ pub split_join : (at : ℕ) (word : List ℕ) (words : List (List ℕ)) → AllB
 split_join at word [] lacks = split-one at word lacks.0
 split_join at word (next ∷ words) lacks =
     split-cut at word (join_with_byte at (next ∷ words)) lacks.0 ∙ rw (split_join at next words lacks.1) refl
-
-pub Lacks-append : (at : ℕ) (xs ys : List ℕ) → Lacks at xs → Lacks at ys → Lacks at (xs ++ ys)
-Lacks-append at [] ys p q = q
-Lacks-append at (x ∷ xs) ys p q = (p.0, Lacks-append at xs ys p.1 q)
-
--- a byte that is in no word and isn't the one between them is not in their join
-pub Lacks-join : (at other : ℕ) (words : List (List ℕ)) → eqb at other ≡ false → AllByRecursion (Lacks other) words
-    → Lacks other (join_with_byte at words)
-Lacks-join at other [] differ lacks = tt
-Lacks-join at other (w ∷ []) differ lacks = lacks.0
-Lacks-join at other (w ∷ v ∷ words) differ lacks =
-    Lacks-append other w (at ∷ join_with_byte at (v ∷ words)) lacks.0 (differ, Lacks-join at other (v ∷ words) differ lacks.1)

@@ -1,22 +1,15 @@
 -- The edges of a block, one after another.
-use Rattle.std.proofs.Common.{◌≡◌, ℕ, zero, suc, ◌+◌, ◌<◌, Bool, false, ◌||◌, cond, nat_eq, get_or, drop, map, List, [], ◌∷◌, length, Some, refl, ap, sym, ◌∙◌, arith}
+use Rattle.std.proofs.Common.{◌≡◌, ℕ, ◌+◌, Bool, false, ◌||◌, cond, nat_eq, drop, map, List, [], ◌∷◌, Some, refl, ap, sym, ◌∙◌, arith}
 use Rattle.std.proofs.Math.Bool.{or_assoc, or_comm, or-false}
-use Rattle.std.specs.List.{AllByRecursion, list_any, count_by, slice_get}
+use Rattle.std.specs.List.{list_any, count_by, slice_get}
 use Rattle.std.proofs.lemmas.List.{drop_more}
 use Rattle.std.proofs.lemmas.List.Sums.{sum_by-append}
 use Rattle.std.proofs.lemmas.Option.{get_or_from_slice_get, slice_get_within}
 use Rattle.pd_kinds.specs.Edge.{Edge}
-use Rattle.pd_kinds.specs.Graph.{Graph, pair}
-use Rattle.pd_kinds.specs.Lawful.{IsWithin}
+use Rattle.pd_kinds.specs.Graph.{pair}
 use Rattle.pd_graph.specs.Roles.{is_in}
 use Rattle.pd_graph.specs.Marks.{Follows, seen_of}
 use Rattle.pd_graph.specs.declared.marks.Marks.{Marks}
-
--- an edge of a list of which each is within
-pub edge_within : (graph : Graph) (edges : List Edge) (i : ℕ) (d : Edge) → AllByRecursion (IsWithin graph) edges → i < length edges → IsWithin graph (get_or edges i d)
-edge_within graph [] i d all small = absurd (omega arith)
-edge_within graph (x ∷ xs) zero d all small = all.0
-edge_within graph (x ∷ xs) (suc i) d all small = edge_within graph xs i d all.1 (omega arith)
 
 -- no edge was followed
 pub follows_none : (marks : Marks) → Follows [] marks marks

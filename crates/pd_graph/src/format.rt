@@ -1,10 +1,10 @@
 ghost use Rattle.std.specs.Prelude.{◌≡◌, ℕ, ◌<◌, Some, false, length, slice_get};
 ghost use Rattle.pd_kinds.specs.declared.rule.Rule.{Rule};
 ghost use Rattle.pd_kinds.specs.RuleSet.{has_rule};
-ghost use Rattle.pd_kinds.specs.Edge.{Edge, edge_of};
+ghost use Rattle.pd_kinds.specs.Edge.{edge_of};
 ghost use Rattle.pd_kinds.specs.Graph.{Graph};
 ghost use Rattle.pd_kinds.specs.Lawful.{IsLawful};
-ghost use Rattle.pd_graph.specs.Format.{Contents, AreContents, IsSound};
+ghost use Rattle.pd_graph.specs.Format.{Contents, AreContents};
 
 use pd_kinds::{Block, Rules};
 

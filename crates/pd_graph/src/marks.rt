@@ -3,7 +3,6 @@ ghost use Rattle.std.specs.Prelude.{◌≡◌, ℕ, ◌<◌, ◌==◌, ◌||◌,
 ghost use Rattle.pd_kinds.specs.declared.rule.Rule.{Rule as BrokenRule};
 ghost use Rattle.pd_kinds.specs.Rule.{same_rule};
 ghost use Rattle.pd_kinds.specs.RuleSet.{has_rule};
-ghost use Rattle.pd_kinds.specs.Graph.{Graph};
 ghost use Rattle.pd_graph.specs.Roles.{IsUnreadAt, IsAllRead};
 ghost use Rattle.pd_kinds.specs.Edge.{edge_of};
 ghost use Rattle.pd_graph.specs.Format.{IsSound};

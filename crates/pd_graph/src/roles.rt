@@ -1,6 +1,6 @@
 //! Sets of roles as the bits of a number: bit r stands for role r, below 16.
 
-ghost use Rattle.std.specs.Prelude.{◌≡◌, ℕ, ◌<◌, ◌==◌, ◌||◌, true, false, length, slice_index, IfSome, IfNone};
+ghost use Rattle.std.specs.Prelude.{◌≡◌, ℕ, ◌<◌, ◌==◌, ◌||◌, true, length, slice_index, IfSome, IfNone};
 ghost use Rattle.pd_kinds.specs.Graph.{pair};
 ghost use Rattle.pd_graph.specs.Roles.{has_bit, has_several, is_in, IsUnread, IsUnreadAt, IsAllRead};
 

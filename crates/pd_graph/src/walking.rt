@@ -1,6 +1,6 @@
 ghost use Rattle.std.specs.Prelude.{◌≡◌, ℕ, ◌+◌, ◌<◌, ◌≤◌, length, is_ok, OnOk, IfSome};
-ghost use Rattle.pd_kinds.specs.Objects.{DeviceState, CountsFault};
-ghost use Rattle.pd_kinds.specs.Graph.{Graph, nodes};
+ghost use Rattle.pd_kinds.specs.Objects.{CountsFault};
+ghost use Rattle.pd_kinds.specs.Graph.{nodes};
 ghost use Rattle.pd_image.specs.Device.{IsAttached, OnlyReads};
 ghost use Rattle.pd_graph.specs.Marks.{HasPlaces};
 ghost use Rattle.pd_graph.specs.Notes.{no_note};

@@ -1,6 +1,6 @@
 //! The numbered calls of an object in memory, of which any can be set to fail.
 
-ghost use Rattle.std.specs.Prelude.{◌≡◌, ◌≤◌, [], is_ok, not, OnOk, OnErr, if◌then◌else◌};
+ghost use Rattle.std.specs.Prelude.{◌≡◌, ◌≤◌, is_ok, not, OnOk, OnErr, if◌then◌else◌};
 ghost use Rattle.pd_kinds.specs.Objects.{CountsFault, Rose};
 ghost use Rattle.pd_image.specs.Calls.{counted, calls_made, calls_failed, calls_stop, is_stopped, next_fails, IsUncalled, CountsCall, SetsToFail, Stops, KeepsCalls};
 

@@ -1,6 +1,6 @@
 //! A sink in memory, which tells what was written.
 
-ghost use Rattle.std.specs.Prelude.{is_none, true, false, None, ◌≡◌, ◌++◌, [], take, is_ok, not, Some, IsTrue, IsErr, IsSome, OnOk, OnErr, unwrap_or, if◌then◌else◌};
+ghost use Rattle.std.specs.Prelude.{is_none, true, false, None, ◌≡◌, [], is_ok, Some, IsTrue, IsErr, IsSome, OnOk, OnErr, unwrap_or, if◌then◌else◌};
 ghost use Rattle.std.specs.Option.{option_copied};
 ghost use Rattle.pd_kinds.specs.Objects.{CountsFault, Appends, AppendsFront};
 ghost use Rattle.pd_image.specs.Sink.{AttachesSink, KeepsSink};

@@ -1,6 +1,6 @@
 //! A source of text in memory, which tells what is left of it.
 
-ghost use Rattle.std.specs.Prelude.{is_none, true, false, None, ◌≡◌, ℕ, ◌<◌, ◌≤◌, [], List, length, take, drop, min, is_ok, not, Some, IsTrue, IsErr, IsSome, IfOk, OnOk, OnErr, IfSome, if◌then◌else◌};
+ghost use Rattle.std.specs.Prelude.{is_none, true, false, None, ◌≡◌, ◌<◌, ◌≤◌, length, take, drop, min, is_ok, not, Some, IsTrue, IsErr, IsSome, IfOk, OnOk, OnErr, IfSome, if◌then◌else◌};
 ghost use Rattle.std.specs.Option.{option_copied};
 ghost use Rattle.pd_kinds.specs.Objects.{CountsFault};
 ghost use Rattle.pd_image.specs.Access.{access_number, untold};

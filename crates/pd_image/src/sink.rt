@@ -1,4 +1,4 @@
-ghost use Rattle.std.specs.Prelude.{None, ◌≡◌, ℕ, List, [], length, is_ok, OnOk, OnErr, unwrap_or};
+ghost use Rattle.std.specs.Prelude.{None, ◌≡◌, [], is_ok, OnOk, unwrap_or};
 ghost use Rattle.std.specs.Option.{option_copied};
 ghost use Rattle.pd_kinds.specs.Objects.{SinkState, CountsFault, Appends, AppendsFront};
 ghost use Rattle.pd_image.specs.Sink.{AttachesSink, KeepsSink};

@@ -1,4 +1,4 @@
-ghost use Rattle.std.specs.Prelude.{None, ◌≡◌, ℕ, ◌<◌, ◌≤◌, List, length, take, drop, is_ok, OnOk, OnErr, IfOk, IfSome, Some};
+ghost use Rattle.std.specs.Prelude.{None, ◌≡◌, ◌<◌, ◌≤◌, length, take, is_ok, OnErr, IfOk, IfSome};
 ghost use Rattle.pd_kinds.specs.Objects.{SourceState, CountsFault};
 ghost use Rattle.pd_image.specs.Source.{AttachesSource, KeepsSource, Takes};
 

@@ -3,7 +3,7 @@ use Rattle.std.proofs.Common.{◌≡◌, ℕ, zero, suc, ◌+◌, ◌-◌, ◌<�
 use Rattle.std.specs.List.{slice_get}
 use Rattle.std.proofs.lemmas.List.{get_or-set_other}
 use Rattle.std.proofs.lemmas.Grind.{get_or-set_at}
-use Rattle.pd_kinds.specs.Edge.{Edge, edge_of}
+use Rattle.pd_kinds.specs.Edge.{edge_of}
 use Rattle.pd_kinds.specs.Edges.{edge_in, edges_down}
 
 -- their number

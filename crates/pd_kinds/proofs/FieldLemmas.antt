@@ -4,7 +4,7 @@ use Rattle.std.proofs.Math.Nat.{pow-suc, pow-succ', div-div-eq-div-mul, mod-eq_o
 use Rattle.std.proofs.Math.Arith.{mod-mul}
 use Rattle.std.proofs.lemmas.Bool.{cases_eq}
 use Rattle.std.proofs.lemmas.Nat.{pow-add, mod_below, div-mul-add}
-use Rattle.std.proofs.lemmas.List.{length-set, get_or-set_same, get_or-set_other, set-get_or, drop-set-lt, take-set-le, get_or-take, get_or-drop, set-append_left, set-append_right, take-append-drop, drop-drop, length-take-le, length-drop}
+use Rattle.std.proofs.lemmas.List.{length-set, get_or-set_same, get_or-set_other, set-get_or, drop-set-lt, get_or-take, get_or-drop, set-append_left, set-append_right, take-append-drop, drop-drop, length-take-le, length-drop}
 use Rattle.pd_kinds.specs.Field.{le, put}
 
 -- the number of values of k bytes isn't 0
@@ -156,13 +156,6 @@ unfolding put
 drop-put b o zero v n within = refl
 drop-put b o (suc k) v n within =
     drop-set-lt n (put b o k v) (o + k) (v / 256 ^ k % 256) (omega arith) ∙ drop-put b o k v n (omega arith)
-
--- what stands before a write stays
-pub take-put : (b : List ℕ) (o k v n : ℕ) → n ≤ o → take n (put b o k v) ≡ take n b
-unfolding put
-take-put b o zero v n within = refl
-take-put b o (suc k) v n within =
-    take-set-le n (put b o k v) (o + k) (v / 256 ^ k % 256) (omega arith) ∙ take-put b o k v n within
 
 -- a write into the first of two parts
 pub put-append_left : (b c : List ℕ) (o k v : ℕ) → o + k ≤ length b → put (b ++ c) o k v ≡ put b o k v ++ c

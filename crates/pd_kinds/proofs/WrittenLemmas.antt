@@ -36,12 +36,6 @@ length-written b [] = refl
 length-written b (row ∷ rows) =
     length-written (put b row.offset row.size row.value) rows ∙ length-put b row.offset row.size row.value
 
--- a table in two parts, the first one written first
-pub written-append : (b : List ℕ) (rows more : List Row) → written b (rows ++ more) ≡ written (written b rows) more
-unfolding written
-written-append b [] more = refl
-written-append b (row ∷ rows) more = written-append (put b row.offset row.size row.value) rows more
-
 -- one row of a table
 le-row : (b : List ℕ) (p n o k v : ℕ)
     → cond (nat_eq o p && nat_eq k n) (nat_le (p + n) (length b)) (nat_le (p + n) o || nat_le (o + k) p) ≡ true

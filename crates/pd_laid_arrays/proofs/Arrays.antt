@@ -22,9 +22,9 @@ use Rattle.pd_laid.specs.Laid.{LaidBlock, laid_tree, tree_of}
 use Rattle.pd_laid_graph.specs.LaidOut.{AllFrom, IsFitting, IsInPlace, IsNamed, LeadsBelow, role_at}
 use Rattle.pd_laid_graph.proofs.CheckLemmas.{same_bytes}
 use Rattle.pd_laid_graph.proofs.FromLemmas.{by_place, from_back, from_both, from_front}
-use Rattle.pd_laid_trees.specs.Items.{AreItems}
-use Rattle.pd_laid_trees.proofs.Names.{root_leads, tree_roles}
-use Rattle.pd_laid_trees.proofs.Trees.{tree_seen}
+use Rattle.pd_laid_graph.specs.Items.{AreItems}
+use Rattle.pd_laid_graph.proofs.Names.{root_leads, tree_roles}
+use Rattle.pd_laid_graph.proofs.Trees.{tree_seen}
 use Rattle.pd_laid_maps.proofs.MapItems.{made_all, made_keys, range_ascends, range_within}
 use Rattle.pd_laid_maps.proofs.Plain.{plain_seen}
 use Rattle.pd_laid_maps.proofs.RoleCounts.{NameNone, tree_names_none}

@@ -14,7 +14,7 @@ use Rattle.pd_kinds.proofs.WrittenLemmas.{length-written_zeros}
 use Rattle.pd_node.proofs.Sound.{read_back}
 use Rattle.pd_array.proofs.ArrayWritten.{count_met, entries_read, max_read, place_read, rules_met, shape_met, size_read, word_read}
 use Rattle.pd_laid.specs.Array.{pieces}
-use Rattle.pd_laid_trees.proofs.Bytes.{bytes_puts, bytes_written, bytes_zeros, valid_sealed}
+use Rattle.pd_laid_graph.proofs.Bytes.{bytes_puts, bytes_written, bytes_zeros, valid_sealed}
 
 -- what fits an array's block
 pub record IsPiece (size : ℕ) (words : List ℕ) : Type 0 where

@@ -13,7 +13,7 @@ use Rattle.pd_laid.specs.Laid.{LaidBlock, count_in, named_by, tree_of}
 use Rattle.pd_laid.specs.LaidCache.{cache_laid_fields, cache_named, cache_parts, dirty_at, dirty_blocks, dirty_root, dirty_words, discard_blocks, discard_root, discards_at, has_hints, hint_blocks, hint_root, hint_words, hints_at, mapping_blocks, mapping_root, mapping_words, meta_map_at, meta_map_blocks}
 use Rattle.pd_laid.specs.Map.{meta_counts, meta_map_number, meta_overflow_root}
 use Rattle.pd_laid_graph.proofs.ListLemmas.{count_append}
-use Rattle.pd_laid_trees.proofs.Names.{blocks_of}
+use Rattle.pd_laid_graph.proofs.Names.{blocks_of}
 use Rattle.pd_laid_maps.proofs.Formats.{references_are}
 use Rattle.pd_laid_maps.proofs.MetaMap.{one_more}
 use Rattle.pd_laid_maps.proofs.RoleCounts.{NameNone, both_count, edges_in, meta_map_once, no_edges, none_count, role_count, tree_names_none}

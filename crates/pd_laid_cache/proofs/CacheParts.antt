@@ -20,9 +20,9 @@ use Rattle.pd_laid_graph.proofs.FitLemmas.{few_named, named_lower}
 use Rattle.pd_laid_graph.proofs.FromLemmas.{from_back, from_both, from_front}
 use Rattle.pd_laid_graph.proofs.ListLemmas.{all_back, all_front}
 use Rattle.pd_laid_graph.proofs.PlaceLemmas.{laid_in_place}
-use Rattle.pd_laid_trees.specs.Items.{IsTreeSeen}
-use Rattle.pd_laid_trees.proofs.Names.{root_leads}
-use Rattle.pd_laid_trees.proofs.Trees.{tree_seen}
+use Rattle.pd_laid_graph.specs.Items.{IsTreeSeen}
+use Rattle.pd_laid_graph.proofs.Names.{root_leads}
+use Rattle.pd_laid_graph.proofs.Trees.{tree_seen}
 use Rattle.pd_laid_maps.specs.MetaMap.{IsMetaMapSeen}
 use Rattle.pd_laid_maps.proofs.Formats.{leads_more, no_items}
 use Rattle.pd_laid_maps.proofs.MetaMap.{map_seen}

@@ -17,9 +17,9 @@ use Rattle.pd_supers.proofs.CacheWritten.{reads_back}
 use Rattle.pd_spells.specs.Lawful.{IsLawfulCache}
 use Rattle.pd_laid.specs.LaidCache.{cache_laid_fields, meta_map_at, meta_map_blocks}
 use Rattle.pd_laid_graph.specs.LaidOut.{AllFrom, IsInPlace, IsSeen, laid_super}
-use Rattle.pd_laid_trees.proofs.Bytes.{bytes_written, bytes_zeros}
-use Rattle.pd_laid_trees.proofs.Nodes.{none_outside}
-use Rattle.pd_laid_trees.proofs.SuperBytes.{all_bytes, bytes_put_bytes, is_super_written}
+use Rattle.pd_laid_graph.proofs.Bytes.{bytes_written, bytes_zeros}
+use Rattle.pd_laid_graph.proofs.Nodes.{none_outside}
+use Rattle.pd_laid_graph.proofs.SuperBytes.{all_bytes, bytes_put_bytes, is_super_written}
 use Rattle.pd_laid_maps.proofs.Formats.{size_good}
 use Rattle.pd_laid_maps.proofs.Plain.{plain_seen}
 use Rattle.pd_laid_arrays.proofs.Pieces.{at_index}

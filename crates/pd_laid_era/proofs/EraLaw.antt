@@ -27,7 +27,7 @@ use Rattle.pd_laid_graph.specs.LaidOut.{AllFrom, AreLaidInOrder, IsInPlace, IsLa
 use Rattle.pd_laid_graph.proofs.CheckLemmas.{clean_super, whole_holds}
 use Rattle.pd_laid_graph.proofs.FromLemmas.{by_place, from_both, from_follows, from_pairs}
 use Rattle.pd_laid_graph.proofs.LaidLemmas.{laid_in_order}
-use Rattle.pd_laid_trees.proofs.Names.{tree_roles}
+use Rattle.pd_laid_graph.proofs.Names.{tree_roles}
 use Rattle.pd_laid_maps.proofs.Formats.{at_roles, bitmaps_hold, laid_out_of, referred_few}
 use Rattle.pd_laid_maps.proofs.MapNames.{length-meta_map}
 use Rattle.pd_laid_arrays.proofs.Arrays.{array_holds, array_roles}

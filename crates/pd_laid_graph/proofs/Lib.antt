@@ -5,3 +5,13 @@ pub mod LaidLemmas
 pub mod PlaceLemmas
 pub mod FitLemmas
 pub mod CheckLemmas
+pub mod Bytes
+pub mod Spread
+pub mod Levels
+pub mod Ascending
+pub mod Rows
+pub mod Roots
+pub mod Nodes
+pub mod Trees
+pub mod Names
+pub mod SuperBytes

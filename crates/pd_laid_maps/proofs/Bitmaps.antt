@@ -15,7 +15,7 @@ use Rattle.pd_bitmap.proofs.Placed.{place-placed, bitmap_met}
 use Rattle.pd_laid.specs.Laid.{LaidBlock}
 use Rattle.pd_laid.specs.Map.{coded, count_byte, bitmap_of, laid_bitmap, laid_bitmaps}
 use Rattle.pd_laid_graph.specs.LaidOut.{AllFrom, IsFitting, IsInPlace, IsNamed}
-use Rattle.pd_laid_trees.proofs.Bytes.{AreBytes, bytes_put, valid_sealed}
+use Rattle.pd_laid_graph.proofs.Bytes.{AreBytes, bytes_put, valid_sealed}
 use Rattle.pd_laid_maps.proofs.Counts.{coded_small}
 use Rattle.pd_laid_maps.proofs.Plain.{plain_seen}
 

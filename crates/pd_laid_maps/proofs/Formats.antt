@@ -19,8 +19,8 @@ use Rattle.pd_laid_graph.proofs.CheckLemmas.{all_filtered}
 use Rattle.pd_laid_graph.proofs.FitLemmas.{fits_more}
 use Rattle.pd_laid_graph.proofs.FromLemmas.{from_both}
 use Rattle.pd_laid_graph.proofs.ListLemmas.{count_append}
-use Rattle.pd_laid_trees.specs.Items.{AreItems}
-use Rattle.pd_laid_trees.proofs.Names.{blocks_of, named-append}
+use Rattle.pd_laid_graph.specs.Items.{AreItems}
+use Rattle.pd_laid_graph.proofs.Names.{blocks_of, named-append}
 use Rattle.pd_laid_maps.proofs.MapNames.{meta_names}
 use Rattle.pd_laid_maps.proofs.MetaMap.{one_more, other_more}
 use Rattle.pd_laid_maps.proofs.RoleCounts.{blocks_count, edges_in, fitting_lead, role_count}

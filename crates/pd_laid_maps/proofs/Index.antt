@@ -18,7 +18,7 @@ use Rattle.pd_bitmap.proofs.IndexRow.{block_of_code}
 use Rattle.pd_laid.specs.Map.{free_in, index_entry_of, laid_index}
 use Rattle.pd_laid_graph.specs.LaidOut.{IsSeen}
 use Rattle.pd_laid_graph.proofs.ListLemmas.{map_twice}
-use Rattle.pd_laid_trees.proofs.Bytes.{bytes_puts, bytes_zeros}
+use Rattle.pd_laid_graph.proofs.Bytes.{bytes_puts, bytes_zeros}
 use Rattle.pd_laid_maps.proofs.Bitmaps.{valid_placed}
 use Rattle.pd_laid_maps.proofs.MapItems.{code_small, code_block, free_few}
 use Rattle.pd_laid_maps.proofs.Plain.{plain_seen}

@@ -16,8 +16,8 @@ use Rattle.pd_laid.specs.Laid.{LaidBlock, tree_of}
 use Rattle.pd_laid.specs.Map.{free_in, index_entry_of, index_items, overflow_items}
 use Rattle.pd_laid_graph.specs.LaidOut.{LeadsBelow, role_at}
 use Rattle.pd_laid_graph.proofs.ListLemmas.{map_twice}
-use Rattle.pd_laid_trees.specs.Items.{AreItems}
-use Rattle.pd_laid_trees.proofs.Ascending.{asc_cons}
+use Rattle.pd_laid_graph.specs.Items.{AreItems}
+use Rattle.pd_laid_graph.proofs.Ascending.{asc_cons}
 
 -- entries that are made from a list
 pub made_keys : {X : Type 0} → (key value : X → ℕ) (xs : List X) → keys_of (map (λ (x : X). record { key = key x; value = value x }) xs) ≡ map key xs

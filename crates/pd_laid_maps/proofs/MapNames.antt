@@ -12,7 +12,7 @@ use Rattle.pd_laid.specs.Map.{laid_bitmap, laid_bitmaps, laid_index, laid_meta_m
 use Rattle.pd_laid.specs.Tree.{tree_inners, tree_leaves}
 use Rattle.pd_laid.proofs.NeedLemmas.{length-bitmaps}
 use Rattle.pd_laid_graph.proofs.ListLemmas.{map_twice, range_on}
-use Rattle.pd_laid_trees.proofs.Names.{named-append, tree_names}
+use Rattle.pd_laid_graph.proofs.Names.{named-append, tree_names}
 use Rattle.pd_laid_maps.proofs.Index.{range_of}
 
 pub no_edges_of : (items : List Entry) → flat_map {X = Entry} {A = Edge} (λ e. []) items ≡ []

@@ -17,8 +17,8 @@ use Rattle.pd_laid.proofs.NeedLemmas.{length-bitmaps}
 use Rattle.pd_laid_graph.specs.LaidOut.{AllFrom, IsFitting, IsInPlace, IsNamed, LeadsBelow}
 use Rattle.pd_laid_graph.proofs.ListLemmas.{count_append}
 use Rattle.pd_laid_graph.proofs.FromLemmas.{from_front, from_back, from_both}
-use Rattle.pd_laid_trees.proofs.Names.{root_leads}
-use Rattle.pd_laid_trees.proofs.Trees.{tree_seen}
+use Rattle.pd_laid_graph.proofs.Names.{root_leads}
+use Rattle.pd_laid_graph.proofs.Trees.{tree_seen}
 use Rattle.pd_laid_maps.specs.MetaMap.{IsMetaMapSeen}
 use Rattle.pd_laid_maps.proofs.Bitmaps.{bitmap_stands, bitmaps_fit}
 use Rattle.pd_laid_maps.proofs.Counts.{stored_laid}

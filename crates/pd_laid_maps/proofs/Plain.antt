@@ -8,8 +8,8 @@ use Rattle.pd_kinds.specs.Graph.{Graph, block_at, pair, is_inner_pair}
 use Rattle.pd_kinds.specs.Order.{is_deep}
 use Rattle.pd_laid.specs.Laid.{LaidBlock}
 use Rattle.pd_laid_graph.specs.LaidOut.{IsSeen}
-use Rattle.pd_laid_trees.proofs.Levels.{no_chain}
-use Rattle.pd_laid_trees.proofs.Nodes.{at_pair, none_broken}
+use Rattle.pd_laid_graph.proofs.Levels.{no_chain}
+use Rattle.pd_laid_graph.proofs.Nodes.{at_pair, none_broken}
 
 module _ (roles nr data_blocks : ℕ) (table : ℕ → Layout) (image : List (List ℕ)) where
   abbrev pub this : Graph

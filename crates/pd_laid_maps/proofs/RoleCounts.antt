@@ -16,8 +16,8 @@ use Rattle.pd_laid.specs.Map.{laid_bitmap, laid_bitmaps, laid_index, laid_meta_m
 use Rattle.pd_laid.specs.Tree.{tree_inners, tree_leaves}
 use Rattle.pd_laid_graph.specs.LaidOut.{AllFrom, IsFitting, LeadsBelow, role_at}
 use Rattle.pd_laid_graph.proofs.ListLemmas.{count_append, map_flat, map_twice}
-use Rattle.pd_laid_trees.proofs.Rows.{flat_joined}
-use Rattle.pd_laid_trees.proofs.Trees.{leaves_are}
+use Rattle.pd_laid_graph.proofs.Rows.{flat_joined}
+use Rattle.pd_laid_graph.proofs.Trees.{leaves_are}
 use Rattle.pd_laid_maps.proofs.Index.{range_of}
 use Rattle.pd_laid_maps.proofs.MetaMap.{once_at_most}
 

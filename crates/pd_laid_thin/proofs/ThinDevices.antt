@@ -18,10 +18,10 @@ use Rattle.pd_laid.specs.Tree.{heads, inners_above}
 use Rattle.pd_laid.proofs.NeedLemmas.{length-heads}
 use Rattle.pd_laid_graph.specs.LaidOut.{AllFrom, IsFitting, IsInPlace, IsNamed, role_at}
 use Rattle.pd_laid_graph.proofs.FromLemmas.{from_back, from_both, from_follows, from_front}
-use Rattle.pd_laid_trees.specs.Items.{AreItems}
-use Rattle.pd_laid_trees.proofs.Names.{root_has}
-use Rattle.pd_laid_trees.proofs.Roots.{AreLeavesAt, leaves_both}
-use Rattle.pd_laid_trees.proofs.Trees.{IsRow, SeenLeaf, leaf_roles, leaves_are, leaves_fit, leaves_seen, parts_items, row_above, seen_at}
+use Rattle.pd_laid_graph.specs.Items.{AreItems}
+use Rattle.pd_laid_graph.proofs.Names.{root_has}
+use Rattle.pd_laid_graph.proofs.Roots.{AreLeavesAt, leaves_both}
+use Rattle.pd_laid_graph.proofs.Trees.{IsRow, SeenLeaf, leaf_roles, leaves_are, leaves_fit, leaves_seen, parts_items, row_above, seen_at}
 use Rattle.pd_laid_thin.proofs.ThinItems.{DeviceFits, mapping_items_are}
 use Rattle.pd_laid_thin.proofs.ThinRoles.{mappings_role}
 use Rattle.pd_laid_thin.proofs.ThinRows.{PieceFits, all_by_index, from_by_index, groups_filled, groups_joined, holds_among, own_most, own_part, piece_groups, pieces_fit, row_all, row_own, row_uses, shared_part, some_mappings, uses_fit}

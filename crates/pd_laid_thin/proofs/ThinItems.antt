@@ -13,8 +13,8 @@ use Rattle.pd_laid.specs.Laid.{LaidBlock, tree_of}
 use Rattle.pd_laid.specs.LaidThin.{details_items, mapping_items}
 use Rattle.pd_laid.specs.Shape.{ShapeDevice, device_of, piece_mappings}
 use Rattle.pd_laid_graph.specs.LaidOut.{LeadsBelow}
-use Rattle.pd_laid_trees.specs.Items.{AreItems}
-use Rattle.pd_laid_trees.proofs.Ascending.{asc_cons}
+use Rattle.pd_laid_graph.specs.Items.{AreItems}
+use Rattle.pd_laid_graph.proofs.Ascending.{asc_cons}
 use Rattle.pd_laid_maps.proofs.MapItems.{made_all, made_keys}
 
 -- what each mapping keeps

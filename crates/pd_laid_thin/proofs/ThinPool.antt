@@ -26,10 +26,10 @@ use Rattle.pd_laid_graph.specs.LaidOut.{AllFrom, IsFitting, IsInPlace, IsNamed, 
 use Rattle.pd_laid_graph.proofs.FitLemmas.{few_data, few_named, named_lower}
 use Rattle.pd_laid_graph.proofs.FromLemmas.{from_back, from_both, from_front}
 use Rattle.pd_laid_graph.proofs.PlaceLemmas.{from_places, laid_in_place, role_of_places}
-use Rattle.pd_laid_trees.specs.Items.{AreItems, IsTreeSeen}
-use Rattle.pd_laid_trees.proofs.Names.{root_leads}
-use Rattle.pd_laid_trees.proofs.Rows.{by_keys}
-use Rattle.pd_laid_trees.proofs.Trees.{SeenLeaf, leaf_roles, leaves_fit, leaves_seen, tree_seen}
+use Rattle.pd_laid_graph.specs.Items.{AreItems, IsTreeSeen}
+use Rattle.pd_laid_graph.proofs.Names.{root_leads}
+use Rattle.pd_laid_graph.proofs.Rows.{by_keys}
+use Rattle.pd_laid_graph.proofs.Trees.{SeenLeaf, leaf_roles, leaves_fit, leaves_seen, tree_seen}
 use Rattle.pd_laid_maps.specs.MetaMap.{IsMetaMapSeen}
 use Rattle.pd_laid_maps.proofs.Bitmaps.{bitmap_stands, bitmaps_fit}
 use Rattle.pd_laid_maps.proofs.MapItems.{index_are, index_edges, overflow_are}

@@ -14,7 +14,7 @@ use Rattle.pd_laid.specs.Tree.{heads}
 use Rattle.pd_laid_graph.specs.LaidOut.{AllFrom}
 use Rattle.pd_laid_graph.proofs.ListLemmas.{all_back, all_front}
 use Rattle.pd_laid_graph.proofs.FromLemmas.{from_back, from_both, from_front}
-use Rattle.pd_laid_trees.proofs.Trees.{from_heads, heads_from, leaves_are}
+use Rattle.pd_laid_graph.proofs.Trees.{from_heads, heads_from, leaves_are}
 
 -- what holds of each number of a list holds of one that is found
 pub holds_among : (P : ℕ → Type 0) (xs : List ℕ) (p : ℕ) → AllByRecursion P xs → list_any (λ t. nat_eq t p) xs ≡ true → P p

@@ -16,7 +16,7 @@ use Rattle.pd_kinds.specs.Value.{details_code, mapping_code}
 use Rattle.pd_kinds.specs.Whole.{WholeTest, mapped_number, mapping_entries}
 use Rattle.pd_laid.specs.LaidThin.{details_items, laid_device, mapping_items, top_items}
 use Rattle.pd_laid.specs.Shape.{ShapeDevice, device_of, piece_mappings}
-use Rattle.pd_laid_trees.proofs.Ascending.{asc_tail, first_less}
+use Rattle.pd_laid_graph.proofs.Ascending.{asc_tail, first_less}
 use Rattle.pd_laid_thin.proofs.ThinDevices.{AreRead}
 use Rattle.pd_laid_thin.proofs.ThinItems.{DeviceFits, MappingFits, details_value, mappings_fit}
 use Rattle.pd_laid_thin.proofs.ThinRows.{length-items}

@@ -1,7 +1,7 @@
 -- The table of a thin pool's roles keeps the laws.
 use Rattle.pd_kinds.specs.declared.limits.TheConstants.{MAX_META_BLOCKS}
-use Rattle.std.proofs.Common.{inl, inr, ℕ, ◌%◌, ◌^◌, ◌<◌, ◌≤◌, false, nat_eq, nat_lt, List, refl, arith}
-use Rattle.std.proofs.lemmas.Bool.{or_parts, or_from, not-false, ltb-true}
+use Rattle.std.proofs.Common.{inl, inr, ℕ, ◌%◌, ◌^◌, ◌<◌, ◌≤◌, false, List, refl, arith}
+use Rattle.std.proofs.lemmas.Bool.{or_parts, not-false, ltb-true}
 use Rattle.pd_kinds.specs.Edge.{Edge}
 use Rattle.pd_kinds.specs.ThinSuper.{thin_fields, thin_super_edges, thin_super_tests, thin_super_bad, are_thin_sizes_bad}
 use Rattle.pd_kinds.specs.ThinFormat.{held_edges, thin_held_bad, mapped_block, mappings_tree, thin_layout}

@@ -1,4 +1,4 @@
-ghost use Rattle.std.specs.Prelude.{◌≡◌, ◌==◌, false, ℕ, ◌+◌, ◌≤◌, ◌++◌, ◌∷◌, [], List, Option, OnOk, MatchResult, length, codes, decimal};
+ghost use Rattle.std.specs.Prelude.{◌≡◌, ◌==◌, false, ℕ, ◌+◌, ◌≤◌, ◌++◌, ◌∷◌, [], List, Option, OnOk, length, codes, decimal};
 ghost use Rattle.std.specs.List.{flat_map};
 ghost use Rattle.pd_kinds.specs.Objects.{CountsFault, Appends, AppendsFront};
 ghost use Rattle.pd_spells.specs.Lines.{fault_line, space_name, counts_text, lines_of};

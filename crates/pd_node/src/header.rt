@@ -2,8 +2,8 @@
 //! "drivers/md/persistent-data/dm-btree-internal.h": checksum, flags, place, number of entries,
 //! greatest number of entries, size of a value.
 
-ghost use Rattle.std.specs.Prelude.{◌≡◌, ◌+◌, ◌*◌, ◌<◌, ◌≤◌, false, true};
-ghost use Rattle.pd_kinds.specs.Node.{are_flags_bad, entry_count, is_inner_node, is_shape_bad, node_max, node_value_size};
+ghost use Rattle.std.specs.Prelude.{◌≡◌, ◌+◌, ◌*◌, ◌<◌, true};
+ghost use Rattle.pd_kinds.specs.Node.{are_flags_bad, entry_count, is_inner_node, is_shape_bad, node_max};
 
 use pd_kinds::{BLOCK_SIZE, Block, u32_at};
 use pd_value::Value;

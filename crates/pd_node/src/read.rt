@@ -1,6 +1,6 @@
 //! The entries of a node, read where they lie.
 
-ghost use Rattle.std.specs.Prelude.{◌≡◌, ◌+◌, ◌*◌, ◌<◌, ◌≤◌, Bool, false, true};
+ghost use Rattle.std.specs.Prelude.{◌≡◌, ◌+◌, ◌*◌, ◌<◌, ◌≤◌, false, true};
 ghost use Rattle.pd_kinds.specs.Node.{child_at, entry_count, is_inner_node, key_at, node_max, value_at};
 
 use crate::header::{HEADER_SIZE, KEY_SIZE, max_of};

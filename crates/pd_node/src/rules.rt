@@ -3,7 +3,7 @@
 ghost use Rattle.std.specs.Prelude.{◌≡◌, ℕ, ◌+◌, ◌*◌, ◌<◌, ◌≤◌, ◌↔◌, List, length, map, slice_index, true};
 ghost use Rattle.std.specs.List.{range_with_len};
 ghost use Rattle.pd_kinds.specs.declared.rule.Rule.{Rule as BrokenRule};
-ghost use Rattle.pd_kinds.specs.Node.{entry_count, is_ascending, key_at, node_bad, node_keys, node_tests};
+ghost use Rattle.pd_kinds.specs.Node.{is_ascending, key_at, node_bad, node_keys, node_tests};
 ghost use Rattle.pd_kinds.specs.RuleSet.{failing, has_rule};
 
 use crate::header::{HEADER_SIZE, KEY_SIZE, PLACE_AT, entries, has_bad_flags, has_bad_shape};

@@ -1,7 +1,7 @@
 //! What the lists over bytes come to for a pool without faults: its meaning, and its text.
 
-ghost use Rattle.std.specs.Prelude.{◌≡◌, ℕ, ◌<◌, List, [], map, length};
-ghost use Rattle.std.specs.List.{All, AllByRecursion};
+ghost use Rattle.std.specs.Prelude.{◌≡◌, ℕ, List, [], length};
+ghost use Rattle.std.specs.List.{All};
 ghost use Rattle.pd_kinds.specs.declared.kind.Kind.TheVariants.{Thin};
 ghost use Rattle.pd_kinds.specs.declared.kind.Stage.TheVariants.{Whole};
 ghost use Rattle.pd_kinds.specs.Graph.{block_at};
@@ -11,10 +11,8 @@ ghost use Rattle.pd_kinds.specs.ThinSuper.{thin_fields};
 ghost use Rattle.pd_grammar.specs.Texts.{text_of_lines};
 ghost use Rattle.pd_laid.specs.Salvage.{HasBytes};
 ghost use Rattle.pd_spells.specs.Lawful.{IsLawfulPool};
-ghost use Rattle.pd_spells.specs.ThinText.{joined_runs, text_of_pool, thin};
+ghost use Rattle.pd_spells.specs.ThinText.{text_of_pool, thin};
 ghost use Rattle.pd_pool.specs.Given.{GivesPool, super_lines};
-ghost use Rattle.pd_pool.specs.Joined.{spelled};
-ghost use Rattle.pd_pool.specs.Runs.{mappings_below, runs_below};
 
 use pd_laid::sound_pool_is_saved;
 use pd_laws::trees_are_in_order;

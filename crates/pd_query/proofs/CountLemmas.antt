@@ -92,10 +92,6 @@ counts_all held old new whole rest so_far none =
 pub counts_nothing : (held : Option (List (List ℕ))) (lines : List (List ℕ) → List Line) (now : DumpCounts) → IfSome held (λ image. lines image ≡ []) → CountsSome held lines now now
 counts_nothing held lines now none = one_told held (λ image e. rw e (counted_none now)) none
 
--- nothing was counted yet
-pub counts_start : (held : Option (List (List ℕ))) (whole : List (List ℕ) → List Line) (now : DumpCounts) → CountsSoFar held whole whole now now
-counts_start held whole now = each_told held (λ image. record { lines = []; split = refl; counted = counted_none now })
-
 -- a line that is counted, whatever the device tells
 pub counts_line : (held : Option (List (List ℕ))) (line : Line) {old new : DumpCounts} → Counted old new (line ∷ []) → CountsSome held (λ image. line ∷ []) old new
 counts_line held line {old} {new} counted = each_told held (λ image. counted)

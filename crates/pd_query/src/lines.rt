@@ -1,7 +1,6 @@
 //! A line of a text, gathered.
 
 ghost use Rattle.std.specs.Prelude.{◌≡◌, ◌∷◌, [], MatchResult, OnOk};
-ghost use Rattle.pd_kinds.specs.Objects.{Rose};
 ghost use Rattle.pd_image.specs.Sink.{KeepsSink};
 ghost use Rattle.pd_spells.specs.ThinText.{end_line, first_line, thin};
 ghost use Rattle.pd_texts.specs.Printed.{text_of_line};

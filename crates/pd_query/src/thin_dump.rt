@@ -19,8 +19,7 @@ pub struct ThinDump {
 }
 
 impl ThinDump {
-    ghost use Rattle.std.specs.Prelude.{◌≡◌, ◌≤◌, ℕ, List, MatchResult, IfOk, IfSome, length};
-    ghost use Rattle.pd_kinds.specs.Objects.{DeviceState};
+    ghost use Rattle.std.specs.Prelude.{◌≡◌, ◌≤◌, ℕ, List, IfOk, IfSome, length};
     ghost use Rattle.pd_kinds.specs.Graph.{block_at};
     ghost use Rattle.pd_kinds.specs.ThinSuper.{thin_fields};
     ghost use Rattle.pd_image.specs.Device.{IsAttached, OnlyReads};

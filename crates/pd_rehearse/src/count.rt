@@ -1,6 +1,6 @@
 //! The dump of what was restored, and what it counts.
 
-ghost use Rattle.std.specs.Prelude.{◌≡◌, ◌≤◌, IfOk, IfSome, length};
+ghost use Rattle.std.specs.Prelude.{◌≤◌, IfOk, IfSome, length};
 ghost use Rattle.pd_image.specs.Device.{IsAttached, OnlyReads};
 ghost use Rattle.pd_rehearse.specs.Counted.{IsCountedIn};
 ghost use Rattle.pd_rehearse.specs.Failing.{CountsRehearsal, OnlyFails};

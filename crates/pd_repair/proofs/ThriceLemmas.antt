@@ -1,56 +1,17 @@
 -- Counting up to three.
-use Rattle.std.proofs.Common.{◌≡◌, inl, inr, ℕ, ◌+◌, ◌<◌, ◌≤◌, Bool, cond, leb, eqb, min, List, [], ◌∷◌, ◌++◌, refl, sym, ◌∙◌, ap, append_assoc, arith}
+use Rattle.std.proofs.Common.{◌≡◌, ℕ, ◌+◌, Bool, cond, leb, eqb, min, List, [], ◌∷◌, ◌++◌, refl, sym, ◌∙◌, ap, append_assoc, arith}
 use Rattle.std.specs.List.{count_by, range_with_len}
-use Rattle.std.proofs.lemmas.Bool.{cases_eq, eq-eqb, ne_eqb}
 use Rattle.std.proofs.lemmas.Bool.Decides.{nat_tests}
 use Rattle.std.proofs.lemmas.List.FromFn.{map-range_with_len_more}
 use Rattle.std.proofs.lemmas.List.{map-id}
-use Rattle.std.proofs.lemmas.List.Sums.{sum_by-cons, sum_by_push}
-use Rattle.pd_count.specs.Counted.{Counted, count_of, CountsOneMore, HasCounted}
+use Rattle.std.proofs.lemmas.List.Sums.{sum_by-cons}
+use Rattle.pd_count.specs.Counted.{Counted, count_of}
 use Rattle.pd_spells.specs.ThinNeed.{overflows_in}
 use Rattle.pd_devices.specs.Counts.{overflows_of}
 use Rattle.pd_repair.specs.Thrice.{HasCountedThrice}
 
 abbrev times : ℕ → List ℕ → ℕ
 times b blocks = count_by (λ r. eqb r b) blocks
-
--- one block more stands in a list
-times_more : (b c : ℕ) (before : List ℕ) → times c (before ++ b ∷ []) ≡ times c before + cond (eqb b c) 1 0
-times_more b c before = sum_by_push (λ r. cond (eqb r c) 1 0) before b
-
-capped_more : (n m k : ℕ) → n ≡ min m 3 → n ≤ 2 → k ≡ n + 1 → k ≡ min (m + 1) 3
-capped_more n m k is few more = omega arith
-
-capped_full : (n m : ℕ) → n ≡ min m 3 → 2 < n → n ≡ min (m + 1) 3
-capped_full n m is full = omega arith
-
--- a block was counted once more
-pub counted_one : (b : ℕ) (old new : Counted) (before : List ℕ) → HasCountedThrice old before → count_of old b ≤ 2 → CountsOneMore b old new → HasCountedThrice new (before ++ b ∷ [])
-counted_one b old new before counted few adds c =
-    elim (cases_eq c b) [
-      | inl same ↦
-          rw same
-          (capped_more (count_of old b) (times b before) (count_of new b) (counted b) few adds.counted
-          ∙ ap (λ (n : ℕ). min n 3) (sym (times_more b b before ∙ ap (λ (t : Bool). times b before + cond t 1 0) (eq-eqb b b refl))))
-      | inr other ↦
-          adds.others c other ∙ counted c
-          ∙ ap (λ (n : ℕ). min n 3)
-          (sym (times_more b c before ∙ ap (λ (t : Bool). times c before + cond t 1 0) (ne_eqb b c (λ e. other (sym e))) ∙ omega arith))
-    ]
-
--- or it was counted three times before
-pub counted_full : (b : ℕ) (counts : Counted) (before : List ℕ) → HasCountedThrice counts before → 2 < count_of counts b → HasCountedThrice counts (before ++ b ∷ [])
-counted_full b counts before counted full c =
-    elim (cases_eq c b) [
-      | inl same ↦
-          rw same
-          (capped_full (count_of counts b) (times b before) (counted b) full
-          ∙ ap (λ (n : ℕ). min n 3) (sym (times_more b b before ∙ ap (λ (t : Bool). times b before + cond t 1 0) (eq-eqb b b refl))))
-      | inr other ↦
-          counted c
-          ∙ ap (λ (n : ℕ). min n 3)
-          (sym (times_more b c before ∙ ap (λ (t : Bool). times c before + cond t 1 0) (ne_eqb b c (λ e. other (sym e))) ∙ omega arith))
-    ]
 
 -- a row with one block more
 pub row_more : (first n : ℕ) (before : List ℕ) → (before ++ range_with_len first n) ++ (first + n) ∷ [] ≡ before ++ range_with_len first (n + 1)
@@ -79,7 +40,3 @@ unfolding overflows_of overflows_in
 over_listed counts blocks n counted =
     same_tests (λ d. leb 3 (count_of counts d)) (λ d. leb 3 (count_by (λ b. eqb b d) blocks)) (range_with_len 0 n)
     (λ d. at_three (count_of counts d) (times d blocks) (counted d))
-
--- nothing counted is nothing counted up to three
-pub none_counted : (counts : Counted) → HasCounted counts [] → HasCountedThrice counts []
-none_counted counts counted b = counted b

@@ -1,6 +1,6 @@
 //! Where a source of a saved pool's text stands, and the lines from there on.
 
-ghost use Rattle.std.specs.Prelude.{◌≡◌, ◌<◌, ◌++◌, [], length, IfNone, IfSome};
+ghost use Rattle.std.specs.Prelude.{◌≡◌, ◌<◌, [], IfNone, IfSome};
 ghost use Rattle.pd_repair.specs.Place.{Gives, text_from};
 
 use crate::lines::{device_line, end_line, first_line, head_line, map_line};

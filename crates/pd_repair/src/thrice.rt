@@ -2,7 +2,6 @@
 
 ghost use Rattle.std.specs.Prelude.{◌≡◌, ℕ, ◌+◌, ◌<◌, ◌≤◌, List, [], ◌∷◌, ◌++◌, IfOk, OnOk};
 ghost use Rattle.std.specs.List.{range_with_len};
-ghost use Rattle.pd_count.specs.Counted.{count_of};
 ghost use Rattle.pd_devices.specs.Counts.{overflows_of};
 ghost use Rattle.pd_repair.specs.Thrice.{HasCountedThrice};
 

@@ -15,7 +15,7 @@ use Rattle.pd_laid.specs.Laid.{laid_blocks}
 use Rattle.pd_laid.specs.Tree.{tree_blocks, tree_root}
 use Rattle.pd_laid.specs.Map.{index_items, index_entry_of, overflow_items, meta_overflow, meta_overflow_at, meta_counts}
 use Rattle.pd_laid.specs.LaidThin as laid
-use Rattle.pd_laid.specs.LaidThin.{laid_shape, laid_pool, pool_fields, pool_named, meta_map_at, tops, tops_at, details_at, bitmaps_at, data_counts, data_index, data_overflow, details_items}
+use Rattle.pd_laid.specs.LaidThin.{laid_shape, laid_pool, pool_fields, pool_named, meta_map_at, tops, tops_at, details_at, bitmaps_at, data_counts, data_index, data_overflow}
 use Rattle.pd_laid.specs.Shape.{shape_of}
 use Rattle.pd_laid.proofs.LaidLemmas.{length-blocks_from}
 use Rattle.pd_laid.proofs.NeedLemmas.{length-map_blocks}

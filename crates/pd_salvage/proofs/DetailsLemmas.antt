@@ -1,5 +1,5 @@
 -- What is found of the details of devices, asked by ascending id.
-use Rattle.std.proofs.Common.{◌≡◌, inl, inr, ℕ, ◌+◌, ◌<◌, ◌≤◌, List, [], ◌∷◌, ◌++◌, Option, Some, None, refl, sym, ap, ◌∙◌, arith, eq-eqb}
+use Rattle.std.proofs.Common.{◌≡◌, inl, inr, ℕ, ◌+◌, ◌<◌, ◌≤◌, List, [], ◌∷◌, ◌++◌, Some, None, refl, sym, ap, ◌∙◌, arith, eq-eqb}
 use Rattle.std.proofs.lemmas.Bool.{cases_lt, lt-ltb, le-ltb}
 use Rattle.pd_value.specs.declared.thin.Details.{Details}
 use Rattle.pd_tree.specs.Next.{IsNext}
@@ -43,20 +43,11 @@ pub finds_later : (id key : ℕ) (details : Details) (left : List (ℕ × Detail
 finds_later id key details left less other after =
     sym (lookup_other other (key, details) left (λ equal. let so : key ≡ other = equal in omega arith))
 
--- what is found in what is left is found in all
-pub found_from : (id : ℕ) (found : Option Details) (start old new : List (ℕ × Details)) → FindsSame id start old → IsFound id found old new → IsFound id found start new
-found_from id found start old new same is =
-    record { here = is.here ∙ same id (omega arith); later = λ key after. is.later key after ∙ same key (omega arith) }
-
 -- the end
 pub found_none : (id : ℕ) (start old new : List (ℕ × Details)) → FindsSame id start old → (old ≡ []) × (new ≡ []) → IsFound id None start new
 unfolding lookup
 found_none id start old new same none =
     record { here = sym (ap (lookup id) none.0) ∙ same id (omega arith); later = λ key after. rw none.1 (sym (ap (lookup key) none.0) ∙ same key (omega arith)) }
-
--- what is left is the entry that was read and those that are left then
-pub finds_next : (id : ℕ) (start old more : List (ℕ × Details)) → FindsSame id start old → old ≡ more → FindsSame id start more
-finds_next id start old more same is key after = rw is at (same key after)
 
 pub joined_same : (id : ℕ) (start old new : List (ℕ × Details)) → FindsSame id start old → FindsSame id old new → FindsSame id start new
 joined_same id start old new first last key after = last key after ∙ first key after

@@ -1,5 +1,5 @@
 -- Mappings that are joined to runs as they come.
-use Rattle.std.proofs.Common.{◌≡◌, ℕ, zero, suc, ◌+◌, ◌-◌, ◌^◌, ◌<◌, ◌≤◌, Bool, true, false, cond, ◌&&◌, nat_eq, nat_lt, List, [], ◌∷◌, ◌++◌, length, map, filter, Option, Some, None, IfSome, refl, sym, ap, ◌∙◌, arith, append_assoc}
+use Rattle.std.proofs.Common.{◌≡◌, ℕ, zero, suc, ◌+◌, ◌-◌, ◌^◌, ◌<◌, ◌≤◌, Bool, true, false, cond, ◌&&◌, nat_eq, nat_lt, List, [], ◌∷◌, ◌++◌, length, map, filter, Option, Some, IfSome, refl, sym, ap, ◌∙◌, arith, append_assoc}
 use Rattle.std.proofs.lemmas.List.{append-nil, length-append, map-append}
 use Rattle.std.proofs.lemmas.Bool.{and_parts, eqb-true, lt-ltb, le-ltb, ltb-true}
 use Rattle.pd_kinds.specs.Meaning.{Mapping}
@@ -97,15 +97,6 @@ runs_more (r ∷ given) begun =
 one_more : (ms : List Mapping) (m : Mapping) → length (ms ++ m ∷ []) ≡ length ms + 1
 one_more ms m = length-append ms (m ∷ [])
 
--- no mapping was taken
-pub nothing_gathered : (before : List Run) → IsGathering before before (record { begun = None; mapped = 0 }) []
-nothing_gathered before = record {
-  given = [];
-  runs_are = sym (append-nil before);
-  some = tt;
-  mapped = refl;
-  written = refl;
-  joined = λ rest. refl;
 }
 
 module _ (before runs : List Run) (gathering : Gathering) (virt : ℕ) (value : BlockTime) (ms : List Mapping) (is : IsGathering before runs gathering ms) where
@@ -158,21 +149,6 @@ module _ (before runs : List Run) (gathering : Gathering) (virt : ℕ) (value : 
             ∙ ap (λ (rs : List text.Run). rs ++ joined_runs (m ∷ rest)) (sym (map-append spelled is.given (begun ∷ []))))));
       }
 
-  -- the first one
-  pub gathers_first : gathering.begun ≡ None → IsGathering before runs (record { begun = Some (run_of_mapping virt value); mapped = gathering.mapped + 1 }) (ms ++ m ∷ [])
-  gathers_first none =
-      let written = rw none at is.written in
-      let joined = rw none at is.joined in
-      let count = is.mapped in
-      record {
-        given = is.given;
-        runs_are = is.runs_are;
-        some = omega arith;
-        mapped = omega (arith, one_more ms m);
-        written = ap (λ (xs : List Mapping). xs ++ m ∷ []) (written ∙ append-nil (mappings_of_runs is.given));
-        joined = λ rest. ap joined_runs (append_assoc ms (m ∷ []) rest) ∙ joined (m ∷ rest);
-      }
-
 -- the end
 module _ (before runs : List Run) (gathering : Gathering) (ms : List Mapping) (is : IsGathering before runs gathering ms) where
   pub ends_with : (begun : Run) (new : List Run) → gathering.begun ≡ Some begun → new ≡ runs ++ begun ∷ [] → HasRuns before new ms
@@ -190,17 +166,6 @@ module _ (before runs : List Run) (gathering : Gathering) (ms : List Mapping) (i
             ∙ (ap (λ (xs : List Mapping). map spelled is.given ++ joined_runs xs) (append-nil (begun_mappings (Some begun)))
             ∙ (ap (λ (rs : List text.Run). map spelled is.given ++ rs) (taken_last begun some)
             ∙ sym (map-append spelled is.given (begun ∷ [])))));
-      }
-
-  pub ends_without : gathering.begun ≡ None → HasRuns before runs ms
-  ends_without none =
-      let written = rw none at is.written in
-      let joined = rw none at is.joined in
-      record {
-        given = is.given;
-        runs_are = is.runs_are;
-        written = written ∙ append-nil (mappings_of_runs is.given);
-        joined = ap joined_runs (sym (append-nil ms)) ∙ (joined [] ∙ append-nil (map spelled is.given));
       }
 
 -- what a loop over mappings keeps

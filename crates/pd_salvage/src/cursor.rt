@@ -32,7 +32,7 @@ pub struct SavedCursor<V> {
 
 impl<V: Value> SavedCursor<V> {
     ghost use Rattle.std.specs.Prelude.{◌≡◌, ℕ, ◌+◌, ◌<◌, ◌≤◌, List, ◌++◌, true, map, None, OnOk, IfOk, IfSome};
-    ghost use Rattle.pd_kinds.specs.Objects.{DeviceState, CountsFault};
+    ghost use Rattle.pd_kinds.specs.Objects.{CountsFault};
     ghost use Rattle.pd_image.specs.Device.{IsAttached, OnlyReads};
     ghost use Rattle.pd_laid.specs.Salvage.{given};
     ghost use Rattle.pd_tree.specs.Items.{item_of};

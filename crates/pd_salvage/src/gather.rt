@@ -1,7 +1,6 @@
 //! The mappings of a device, joined to runs.
 
 ghost use Rattle.std.specs.Prelude.{◌≡◌, ◌^◌, ◌<◌, ◌≤◌, IfOk};
-ghost use Rattle.pd_kinds.specs.Objects.{DeviceState};
 ghost use Rattle.pd_image.specs.Device.{IsAttached, OnlyReads};
 ghost use Rattle.pd_salvage.specs.Cursor.{saved_least, saved_room};
 ghost use Rattle.pd_salvage.specs.Faults.{CountsSalvage};

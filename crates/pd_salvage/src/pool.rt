@@ -1,7 +1,6 @@
 //! The salvage of a pool.
 
-ghost use Rattle.std.specs.Prelude.{◌≡◌, ℕ, ◌^◌, ◌≤◌, List, IfOk, IfSome};
-ghost use Rattle.pd_kinds.specs.Objects.{DeviceState};
+ghost use Rattle.std.specs.Prelude.{◌≡◌, ◌^◌, ◌≤◌, IfOk, IfSome};
 ghost use Rattle.pd_image.specs.Device.{IsAttached, OnlyReads};
 ghost use Rattle.pd_laid.specs.Salvage.{salvage_from};
 ghost use Rattle.pd_salvage.specs.Faults.{CountsSalvage};

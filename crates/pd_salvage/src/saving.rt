@@ -28,7 +28,6 @@ pub(crate) struct Saving {
 
 impl Saving {
     ghost use Rattle.std.specs.Prelude.{◌≡◌, ◌^◌, ◌≤◌, IfOk, OnOk, IfSome};
-    ghost use Rattle.pd_kinds.specs.Objects.{DeviceState};
     ghost use Rattle.pd_image.specs.Device.{IsAttached, OnlyReads};
     ghost use Rattle.pd_laid.specs.Salvage.{salvage_from};
     ghost use Rattle.pd_salvage.specs.Faults.{CountsSalvage};

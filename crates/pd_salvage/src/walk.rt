@@ -1,7 +1,7 @@
 //! The search for the next entry that is saved.
 
-ghost use Rattle.std.specs.Prelude.{◌≡◌, ℕ, ◌<◌, ◌≤◌, true, List, IfOk, IfSome};
-ghost use Rattle.pd_kinds.specs.Objects.{DeviceState, CountsFault};
+ghost use Rattle.std.specs.Prelude.{◌≡◌, ◌<◌, ◌≤◌, true, IfOk, IfSome};
+ghost use Rattle.pd_kinds.specs.Objects.{CountsFault};
 ghost use Rattle.pd_image.specs.Device.{IsAttached, OnlyReads};
 ghost use Rattle.pd_salvage.specs.Ascending.{IsNextFrom};
 ghost use Rattle.pd_salvage.specs.Way.{way_left, way_number};

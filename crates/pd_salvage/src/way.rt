@@ -38,8 +38,8 @@ pub(crate) enum Step<V> {
 }
 
 impl Way {
-    ghost use Rattle.std.specs.Prelude.{◌≡◌, ℕ, ◌+◌, ◌-◌, ◌<◌, ◌≤◌, List, ◌++◌, ◌↔◌, IsTrue, OnOk, IfOk, IfSome};
-    ghost use Rattle.pd_kinds.specs.Objects.{DeviceState, CountsFault};
+    ghost use Rattle.std.specs.Prelude.{◌≡◌, ◌+◌, ◌-◌, ◌<◌, ◌≤◌, ◌++◌, ◌↔◌, IsTrue, OnOk, IfOk, IfSome};
+    ghost use Rattle.pd_kinds.specs.Objects.{CountsFault};
     ghost use Rattle.pd_image.specs.Device.{IsAttached, OnlyReads};
     ghost use Rattle.pd_salvage.specs.Place.{saved_below};
     ghost use Rattle.pd_salvage.specs.Way.{unit, way_left, way_number};

@@ -1,8 +1,8 @@
 //! The descent from one node: down to its unknown children first, each once.
 
-ghost use Rattle.std.specs.Prelude.{◌≡◌, ℕ, ◌+◌, ◌<◌, ◌≤◌, true, OnOk, IfSome};
-ghost use Rattle.pd_kinds.specs.Objects.{DeviceState, CountsFault};
-ghost use Rattle.pd_kinds.specs.Graph.{Graph, pair};
+ghost use Rattle.std.specs.Prelude.{◌≡◌, ◌+◌, ◌<◌, ◌≤◌, true, OnOk, IfSome};
+ghost use Rattle.pd_kinds.specs.Objects.{CountsFault};
+ghost use Rattle.pd_kinds.specs.Graph.{pair};
 ghost use Rattle.pd_image.specs.Device.{IsAttached, OnlyReads};
 ghost use Rattle.pd_graph.specs.Audit.{blocks_of, note_at};
 ghost use Rattle.pd_settle.specs.Stepping.{KeepsWalk};

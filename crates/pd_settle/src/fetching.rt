@@ -2,7 +2,7 @@
 
 ghost use Rattle.pd_kinds.specs.declared.limits.TheConstants.{MAX_META_BLOCKS};
 ghost use Rattle.std.specs.Prelude.{◌≡◌, ◌+◌, ◌<◌, ◌≤◌, Some, OnOk, IfSome, slice_get, List, ℕ};
-ghost use Rattle.pd_kinds.specs.Objects.{DeviceState, CountsFault};
+ghost use Rattle.pd_kinds.specs.Objects.{CountsFault};
 ghost use Rattle.pd_image.specs.Device.{IsAttached, OnlyReads};
 ghost use Rattle.pd_settle.specs.Kept.{IsKept};
 

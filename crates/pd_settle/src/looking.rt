@@ -1,6 +1,6 @@
 //! A look at a node: its own keys, or what the notes of its children say.
 
-ghost use Rattle.std.specs.Prelude.{◌≡◌, ℕ, ◌+◌, ◌<◌, ◌≤◌, true, length, nat_lt, slice_get, Some, None};
+ghost use Rattle.std.specs.Prelude.{◌≡◌, ◌+◌, ◌<◌, true, length, nat_lt, slice_get, Some, None};
 ghost use Rattle.std.specs.List.{list_all};
 ghost use Rattle.pd_graph.specs.Audit.{blocks_of, note_at};
 ghost use Rattle.pd_settle.specs.Looking.{blocks_of_edges, is_low, IsFound, IsShallow};

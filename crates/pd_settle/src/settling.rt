@@ -2,8 +2,8 @@
 
 ghost use Rattle.std.specs.Prelude.{◌≡◌, ℕ, ◌+◌, ◌*◌, ◌<◌, ◌≤◌, true, false, length, is_ok, OnOk, IfSome, IfNone};
 ghost use Rattle.pd_kinds.specs.declared.rule.Rule.{Rule};
-ghost use Rattle.pd_kinds.specs.Objects.{DeviceState, CountsFault};
-ghost use Rattle.pd_kinds.specs.Graph.{Graph, nodes};
+ghost use Rattle.pd_kinds.specs.Objects.{CountsFault};
+ghost use Rattle.pd_kinds.specs.Graph.{nodes};
 ghost use Rattle.pd_image.specs.Device.{IsAttached, OnlyReads};
 ghost use Rattle.pd_graph.specs.Roles.{has_bit};
 ghost use Rattle.pd_graph.specs.Notes.{no_note};

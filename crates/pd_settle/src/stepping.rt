@@ -1,6 +1,6 @@
 //! One step of settling.
 
-ghost use Rattle.std.specs.Prelude.{◌≡◌, ◌⊎◌, ℕ, ◌+◌, ◌<◌, ◌≤◌, ◌==◌, true, Some, None, if◌then◌else◌};
+ghost use Rattle.std.specs.Prelude.{◌≡◌, ◌⊎◌, ℕ, ◌+◌, ◌<◌, ◌==◌, Some, None, if◌then◌else◌};
 ghost use Rattle.pd_kinds.specs.declared.rule.Rule.TheVariants as r;
 ghost use Rattle.pd_graph.specs.Audit.{blocks_of, note_at, KeepsButNotes};
 ghost use Rattle.pd_settle.specs.Looking.{blocks_of_edges};

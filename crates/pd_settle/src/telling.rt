@@ -1,6 +1,6 @@
 //! What settling found below a node of a tree.
 
-ghost use Rattle.std.specs.Prelude.{◌≡◌, ℕ, ◌<◌, not, nat_lt};
+ghost use Rattle.std.specs.Prelude.{◌≡◌, ◌<◌, not, nat_lt};
 ghost use Rattle.pd_graph.specs.Audit.{blocks_of, note_at};
 
 use pd_graph::Audit;

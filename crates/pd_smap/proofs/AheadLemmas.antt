@@ -62,11 +62,6 @@ pass_ahead b over None next old new behind moves ahead = absurd (cc)
 pass_ahead b over (Some entry) next old new behind moves ahead =
     next_ahead b over next old new moves (ahead_rest b over entry old (ltb-true entry.0 b behind) ahead)
 
--- the number falls
-pub pass_number : (b : ℕ) (entry : Option (ℕ × Count)) → is_entry_behind b entry ≡ true → (x : ℕ × Count) × (entry ≡ Some x)
-pass_number b None behind = absurd (cc)
-pass_number b (Some entry) behind = (entry, refl)
-
 -- a fact over a told image follows from another one
 pub if_maps : {X : Type 0} → (o : Option X) (P Q : X → Type 0) → ((x : X) → P x → Q x) → IfSome o P → IfSome o Q
 if_maps None P Q f p = tt

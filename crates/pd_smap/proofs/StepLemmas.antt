@@ -77,9 +77,6 @@ adds_front_more fs gs a b front before is =
     let more = front_more fs gs found.0 in
     (more.0, found.1 ∙ ap (λ (xs : List Fault). report_of (before ++ xs)) (sym more.1))
 
-pub adds_all_front : (fs : List Fault) (a b : Reported) → Adds fs a b → AddsFront fs a b
-adds_all_front fs a b adds before is = (length fs, adds before is ∙ ap (λ (xs : List Fault). report_of (before ++ xs)) (sym (take-length fs)))
-
 only_then : (a b c : DeviceState) → OnlyReads a b → OnlyReads b c → OnlyReads a c
 only_then a b c first next = record {
   held = next.held ∙ first.held;

@@ -1,6 +1,6 @@
 //! The counts of data blocks: the entries of a tree name the bitmaps.
 
-ghost use Rattle.std.specs.Prelude.{◌≡◌, ℕ, ◌+◌, ◌*◌, ◌-◌, ◌^◌, ◌<◌, ◌≤◌, List, length, IfOk, IfSome, OnOk, OnErr};
+ghost use Rattle.std.specs.Prelude.{◌≡◌, ℕ, ◌+◌, ◌-◌, ◌^◌, ◌<◌, ◌≤◌, length, IfOk, IfSome, OnOk, OnErr};
 ghost use Rattle.pd_kinds.specs.declared.fault.Space.TheVariants.{DataBlock};
 ghost use Rattle.pd_kinds.specs.Objects.{CountsFault};
 ghost use Rattle.pd_kinds.specs.CheckFault.{CountsCheckFault};
@@ -10,11 +10,11 @@ ghost use Rattle.pd_image.specs.Device.{IsAttached, OnlyReads};
 ghost use Rattle.pd_count.specs.Counted.{count_of};
 ghost use Rattle.pd_tree.specs.Below.{nodes_below};
 ghost use Rattle.pd_tree.specs.Cursor.{cursor_items, cursor_nodes, cursor_room};
-ghost use Rattle.pd_smap.specs.Entries.{IsIndex, IsOverflow, data_place, index_from, index_of, overflow_of, place_in};
+ghost use Rattle.pd_smap.specs.Entries.{IsIndex, IsOverflow, index_from, index_of, overflow_of, place_in};
 ghost use Rattle.pd_smap.specs.Counted.{faults_from};
 ghost use Rattle.pd_smap.specs.Reports.{Adds, AddsFront};
 ghost use Rattle.pd_smap.specs.Overflow.{stand};
-ghost use Rattle.pd_smap.specs.Steps.{Went, Stopped, bits_by, with_nodes, with_reads};
+ghost use Rattle.pd_smap.specs.Steps.{Went, Stopped, bits_by, with_nodes};
 
 use crate::bitmaps::{BITMAP_COUNTS, compare_at};
 use crate::overflow::Overflow;

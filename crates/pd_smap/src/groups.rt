@@ -1,6 +1,6 @@
 //! Runs of equal counts, which are compared 32 at a time.
 
-ghost use Rattle.std.specs.Prelude.{◌≡◌, ℕ, ◌+◌, ◌*◌, ◌%◌, ◌<◌, ◌≤◌, true, length, IfSome};
+ghost use Rattle.std.specs.Prelude.{◌≡◌, ◌+◌, ◌*◌, ◌%◌, ◌<◌, ◌≤◌, true, length, IfSome};
 ghost use Rattle.pd_smap.specs.Groups.{AreAll, AreRefs};
 
 use crate::references::References;

@@ -2,7 +2,6 @@
 
 ghost use Rattle.std.specs.Prelude.{◌≡◌, ◌+◌, ◌*◌, ◌<◌, ◌≤◌, ℕ, IfOk, MatchOption, OnOk, length, slice_index};
 ghost use Rattle.pd_image.specs.Device.{IsWritable};
-ghost use Rattle.pd_kinds.specs.Bitmap.{bitmaps_for};
 ghost use Rattle.pd_draft.specs.Closed.{IsClosed, StaysClosed};
 ghost use Rattle.pd_draft.specs.Placed.{Wrote};
 ghost use Rattle.pd_draft.specs.Stand.{stand};

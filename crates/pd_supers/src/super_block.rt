@@ -1,11 +1,10 @@
 //! What the superblocks of the three kinds share: texts of sixteen bytes, the head, and the rules that come alone.
 
-ghost use Rattle.std.specs.Prelude.{◌≡◌, ℕ, ◌+◌, ◌≤◌, List, take, drop, true};
-ghost use Rattle.pd_kinds.specs.Field.{bytes_at, put_bytes, written};
+ghost use Rattle.std.specs.Prelude.{◌≡◌, ◌+◌, ◌≤◌, List, true};
+ghost use Rattle.pd_kinds.specs.Field.{bytes_at, put_bytes};
 ghost use Rattle.pd_kinds.specs.RuleSet.{Test, failing, has_rule};
-ghost use Rattle.pd_kinds.specs.Super.{head_rows, is_super_of, super_block, super_rules};
+ghost use Rattle.pd_kinds.specs.Super.{is_super_of, super_block, super_rules};
 ghost use Rattle.pd_kinds.specs.declared.rule.Rule.{Rule as BrokenRule};
-ghost use Rattle.pd_supers.specs.Table.{row_of};
 
 use crate::table::{Number, put_rows};
 use pd_crc::{is_sealed, seal};

@@ -1,8 +1,7 @@
 //! What the lines so far of a pool's text say of the next one.
 
-ghost use Rattle.std.specs.Prelude.{◌≡◌, ◌==◌, ℕ, ◌≤◌, List, [], ◌∷◌, length, IfOk, OnOk, true, false};
-ghost use Rattle.std.specs.List.{list_all};
-ghost use Rattle.pd_grammar.specs.Words.{split, is_printable};
+ghost use Rattle.std.specs.Prelude.{◌≡◌, ◌==◌, ◌≤◌, List, ◌∷◌, length, IfOk, OnOk, true, false};
+ghost use Rattle.pd_grammar.specs.Words.{split};
 ghost use Rattle.pd_grammar.specs.Texts.{read, tested};
 ghost use Rattle.pd_spells.specs.ThinText.{Line, thin_tests, words_read, has_number_out_of_range, is_out_of_order, is_mapped_otherwise};
 ghost use Rattle.pd_texts.specs.Seen.{seen_by};

@@ -1,7 +1,7 @@
 //! The words of a pool's text, as numbers.
 
 ghost use Rattle.std.specs.Prelude.{◌≡◌, ℕ, List, Result, Ok, Err};
-ghost use Rattle.pd_grammar.specs.Words.{uuid_of, of_numbers};
+ghost use Rattle.pd_grammar.specs.Words.{of_numbers};
 ghost use Rattle.pd_spells.specs.ThinText.{end_line, device_of, map_of, pool_read};
 ghost use Rattle.pd_texts.specs.Seen.{seen_by};
 ghost use Rattle.pd_texts.specs.Words.{words_in};

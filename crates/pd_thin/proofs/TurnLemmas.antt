@@ -72,12 +72,6 @@ more_keys key low keys (first ∷ others) less up =
     rw (ne_eqb key first (λ same. omega arith)) refl
 
 module _ (below : ℕ → ℕ) where
-  -- nothing was taken
-  pub way_none : (audit : Audit) (first : Option (ℕ × Root)) (second : Option (ℕ × Details)) (tops : List (ℕ × Root)) (details : List (ℕ × Details))
-      → IsLeft first tops → IsLeft second details → IsOnWay below audit audit first second tops tops details details true
-  way_none audit first second tops details left_tops left_details =
-      record { left_tops = left_tops; left_details = left_details; charged = λ b wanted within. refl; keys = refl; kept = keeps_none audit }
-
   -- one turn after others
   pub way_both : (a b c : Audit) (first first' : Option (ℕ × Root)) (second second' : Option (ℕ × Details)) (tops tops' tops'' : List (ℕ × Root))
       (details details' details'' : List (ℕ × Details)) (same more : Bool)

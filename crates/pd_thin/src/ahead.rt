@@ -14,9 +14,9 @@ pub(crate) struct Ahead<V> {
 }
 
 impl<V: Value> Ahead<V> {
-    ghost use Rattle.std.specs.Prelude.{◌≡◌, ℕ, ◌+◌, ◌<◌, ◌≤◌, ◌++◌, [], List, length, IsSome, IfNone, IfSome, IfOk, OnOk};
+    ghost use Rattle.std.specs.Prelude.{◌≡◌, ◌+◌, ◌<◌, ◌≤◌, ◌++◌, [], length, IsSome, IfNone, IfSome, IfOk, OnOk};
     ghost use Rattle.std.specs.Option.{option_to_list};
-    ghost use Rattle.pd_kinds.specs.Objects.{DeviceState, CountsFault};
+    ghost use Rattle.pd_kinds.specs.Objects.{CountsFault};
     ghost use Rattle.pd_image.specs.Device.{IsAttached, OnlyReads};
     ghost use Rattle.pd_tree.specs.Below.{items_below, nodes_below};
     ghost use Rattle.pd_thin.specs.Ahead.{ahead_items, ahead_nodes, ahead_number, ahead_room};

@@ -1,13 +1,13 @@
 //! The devices of a mapping tree and of the details tree beside it, one after another.
 
-ghost use Rattle.std.specs.Prelude.{◌≡◌, ℕ, ◌+◌, ◌<◌, ◌≤◌, ◌==◌, not, [], ◌∷◌, length, IfNone, IfSome, IfOk, OnOk};
+ghost use Rattle.std.specs.Prelude.{◌≡◌, ℕ, ◌+◌, ◌<◌, ◌≤◌, ◌==◌, not, [], ◌∷◌, IfNone, IfSome, IfOk, OnOk};
 ghost use Rattle.std.specs.Str.{bytes_eq};
 ghost use Rattle.pd_kinds.specs.Objects.{CountsFault};
 ghost use Rattle.pd_image.specs.Device.{IsAttached, OnlyReads};
 ghost use Rattle.pd_graph.specs.Audit.{blocks_of, note_at, KeepsButRules};
 ghost use Rattle.pd_tree.specs.Items.{root_of};
 ghost use Rattle.pd_whole.specs.Charges.{Charges};
-ghost use Rattle.pd_thin.specs.Ahead.{ahead_items, ahead_nodes, ahead_number, ahead_room};
+ghost use Rattle.pd_thin.specs.Ahead.{ahead_items, ahead_room};
 ghost use Rattle.pd_thin.specs.DeviceCursors.{HaveNoEntry, cursors_number, cursors_reads};
 ghost use Rattle.pd_thin.specs.Turns.{details_of, firsts, found_same, mapped_of, mapped_test, turn_of, IsLeft, IsOnWay};
 

@@ -50,11 +50,6 @@ pub unread : (kind : Kind) (held : Option (List (List ℕ))) (old : ℕ) → IfS
 unread kind None old = tt
 unread kind (Some image) old = record { pairs = omega arith; faulty = λ some. omega arith }
 
--- no read before a check
-pub none_read : (kind : Kind) (until : Stage) (held : Option (List (List ℕ))) (old : ℕ) → IfSome held (λ image. check.ReadsFew kind until image (old + 1) old)
-none_read kind until None old = tt
-none_read kind until (Some image) old = record { nodes = omega arith; none = λ some. omega arith }
-
 -- faults of the first stage are faults up to each
 chosen_some : (list rest : List Fault) → (list ≢ []) → length (cond (nat_lt 0 (length list)) list rest) ≢ 0
 chosen_some [] rest some = absurd (some refl)

@@ -162,14 +162,6 @@ module _ {M : Type 0} (Lawful : M → Type 0) (IsVerdictOn : List ℕ → ℕ �
       failed Stream rose = inl rose
       failed Memory none = absurd none
 
--- a fact of the image that a device holds
-at_held : (o : Option Image) (P : Image → Type 0) (image : Image) → o ≡ Some image → IfSome o P → P image
-at_held None P image is all = absurd (none is)
-  where
-    none : None ≡ Some image → ⊥
-    none e = cc
-at_held (Some other) P image is all = subst P (same_Some other image is) all
-
 -- the room of a device that tells how many blocks it has
 pub room-held : (held opened_held : Option Image) (blocks : ℕ) → opened_held ≡ held → IfSome opened_held (λ image. length image ≡ blocks)
     → IfSome held (λ image. room_of blocks ≡ room_of (length image))

@@ -1,10 +1,9 @@
 //! A query of an image: the check of it, and then the text that answers the query.
 
-ghost use Rattle.std.specs.Prelude.{◌≡◌, ◌==◌, [], ℕ, List, IfOk, IfErr, IfSome, OnOk, MatchResult, if◌then◌else◌, unwrap_or};
+ghost use Rattle.std.specs.Prelude.{◌≡◌, [], IfOk, IfErr, IfSome, OnOk, MatchResult, unwrap_or};
 ghost use Rattle.std.specs.Option.{option_copied};
 ghost use Rattle.pd_kinds.specs.declared.kind.Stage.TheVariants.{Whole};
 ghost use Rattle.pd_kinds.specs.Objects.{SinkState};
-ghost use Rattle.pd_kinds.specs.Crash.{IsUntouched};
 ghost use Rattle.pd_kinds.specs.Graph.{block_at};
 ghost use Rattle.pd_kinds.specs.Meaning.{thin_meaning};
 ghost use Rattle.pd_kinds.specs.Stages.{faults};

@@ -52,13 +52,6 @@ module _ {T : Type 0} (has_taken : T → List DataUse → T → Type 0) (held : 
     taken = so_far.taken;
   }
 
-  -- the same uses, said otherwise
-  pub takes_as : {uses_of others : List (List ℕ) → List DataUse} {old new : T} → Takes has_taken held uses_of old new → IfSome held (λ image. uses_of image ≡ others image)
-      → Takes has_taken held others old new
-  takes_as some same = record {
-    uses = some.uses;
-    told = two_told held (λ image is same. is ∙ same) some.told same;
-    taken = some.taken;
   }
 
 -- an entry before others

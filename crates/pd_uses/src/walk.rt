@@ -1,6 +1,6 @@
 //! All mappings of a pool, as uses of its data blocks, given to what takes them.
 
-ghost use Rattle.std.specs.Prelude.{◌≡◌, ◌≤◌, OnOk};
+ghost use Rattle.std.specs.Prelude.{◌≤◌, OnOk};
 ghost use Rattle.pd_image.specs.Device.{IsAttached, OnlyReads};
 ghost use Rattle.pd_tree.specs.Cursor.{cursor_room};
 ghost use Rattle.pd_pool.specs.Devices.{rows_left, rows_room};

@@ -1,4 +1,4 @@
-ghost use Rattle.std.specs.Prelude.{◌≡◌, ℕ, ◌*◌, ◌/◌, ◌%◌, ◌^◌, ◌&&◌, nat_lt};
+ghost use Rattle.std.specs.Prelude.{◌*◌, ◌/◌, ◌%◌, ◌^◌, ◌&&◌, nat_lt};
 ghost use Rattle.std.proofs.Common.{rules};
 ghost use Rattle.pd_kinds.specs.Value.{mapping_code, details_code};
 

@@ -1,11 +1,10 @@
 //! Blocks that more than one reference leads to, where one alone may.
 
 ghost use Rattle.std.specs.Prelude.{◌≡◌, ℕ, ◌<◌, ◌==◌, List};
-ghost use Rattle.pd_kinds.specs.declared.rule.Rule.{Rule as BrokenRule};
 ghost use Rattle.pd_kinds.specs.Graph.{Graph};
 ghost use Rattle.pd_kinds.specs.Whole.{bitmap_tests};
 ghost use Rattle.pd_graph.specs.Roles.{has_bit};
-ghost use Rattle.pd_graph.specs.Audit.{blocks_of, roles_at, count_at};
+ghost use Rattle.pd_graph.specs.Audit.{blocks_of};
 ghost use Rattle.pd_whole.specs.Charges.{Charges};
 ghost use Rattle.pd_whole.specs.Known.{IsKnown};
 ghost use Rattle.pd_whole.specs.Shared.{is_shared, shared_tests};

@@ -1,12 +1,10 @@
 -- The items of words, from an index on.
-use Rattle.std.proofs.Common.{◌≡◌, inl, inr, ℕ, zero, suc, ◌+◌, ◌<◌, ◌≤◌, Bool, true, false, ◌&&◌, List, [], ◌∷◌, length, get_or, map, drop, Option, Some, None, IfSome, is_some, refl, ap, sym, ◌∙◌, arith, if◌then◌else◌}
-use Rattle.std.specs.List.{list_any, list_all}
+use Rattle.std.proofs.Common.{◌≡◌, ℕ, zero, suc, ◌+◌, ◌<◌, ◌≤◌, Bool, true, false, List, [], ◌∷◌, length, get_or, map, drop, Option, Some, None, IfSome, is_some, refl, ap, sym, ◌∙◌, arith, if◌then◌else◌}
 use Rattle.std.specs.Str.{bytes_eq}
 use Rattle.std.specs.Option.{option_map}
-use Rattle.std.proofs.lemmas.Bool.{cases_Bool}
 use Rattle.std.proofs.lemmas.Option.{same_Some}
 use Rattle.std.proofs.lemmas.List.{drop_more, drop_all}
-use Rattle.pd_answers.specs.Words.{is_value, is_flag, Item, image_word, more, items_of, never, once, often, given, given_of, Tool, is_known, known, purposes_of}
+use Rattle.pd_answers.specs.Words.{is_value, is_flag, Item, image_word, more, items_of, never, once, often, given, given_of, Tool, known}
 use Rattle.pd_words.specs.Items.{values_in, values_from}
 
 -- the word of an element
@@ -55,15 +53,6 @@ module _ (words : List (List ℕ)) (i : ℕ) (less : i < length words) (word : L
       let two : i + 1 + 1 ≡ i + 2 = omega arith in
       rw (drop_more words i [] less, drop_more words (i + 1) [] some, is, ← value, two)
       (items-option word (get_or words (i + 1) []) (drop (i + 2) words) e flag)
-
--- one item more is known, where it can be given and the others are known
-pub known-more : (tool : Tool) (purpose value : List ℕ) (items : Option (List Item))
-    → is_some (known tool (more purpose value items)) ≡ (list_any (bytes_eq purpose) (purposes_of tool) && is_some (known tool items))
-known-more tool purpose value None = elim (cases_Bool (list_any (bytes_eq purpose) (purposes_of tool))) [ inl e ↦ simp e | inr e ↦ simp e ]
-known-more tool purpose value (Some items) = elim (cases_Bool (list_any (bytes_eq purpose) (purposes_of tool))) [
-  | inl e ↦ elim (cases_Bool (list_all (is_known tool) items)) [ inl f ↦ simp (e, f) | inr f ↦ simp (e, f) ]
-  | inr e ↦ simp e
-]
 
 -- what is known at the end of the words
 pub known_end : (tool : Tool) (words : List (List ℕ)) (i : ℕ) → length words ≤ i → true ≡ is_some (known tool (items_of (drop i words)))

@@ -1,6 +1,6 @@
 //! The items of a command line: options with their values, flags, and the operand.
 
-ghost use Rattle.std.specs.Prelude.{◌≡◌, ◌<◌, ◌≤◌, length, map, drop, string_bytes, IfSome, is_some};
+ghost use Rattle.std.specs.Prelude.{◌≡◌, ◌<◌, length, map, drop, string_bytes, IfSome, is_some};
 ghost use Rattle.std.specs.List.{list_any};
 ghost use Rattle.std.specs.Str.{bytes_eq};
 ghost use Rattle.pd_answers.specs.Words.{is_value, is_flag, items_of, given, known, purposes_of, tool_of};

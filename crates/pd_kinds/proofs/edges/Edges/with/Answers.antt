@@ -1,4 +1,4 @@
-use Rattle.std.proofs.Common.{arith, ◌<◌, length}
+use Rattle.std.proofs.Common.{arith}
 use Rattle.pd_kinds.proofs.EdgesLemmas.{length-down, down_more}
 use Rattle.pd_kinds.proofs.edges.Edges.with.Goals as goal
 

@@ -14,12 +14,8 @@ use Rattle.pd_laid.proofs.SpreadLemmas.{length-spread, joined_spread}
 use Rattle.pd_laid_graph.specs.LaidOut.{AllFrom}
 use Rattle.pd_laid_graph.proofs.ListLemmas.{all_front, all_back, range_on}
 use Rattle.pd_laid_graph.proofs.FromLemmas.{from_both}
-use Rattle.pd_laid_trees.proofs.Ascending.{firsts_ascend, firsts_keep, parts_ascend}
-use Rattle.pd_laid_trees.proofs.Spread.{spread_some, spread_most}
-
--- lists in a row
-abbrev pub joined : {X : Type 0} → List (List X) → List X
-joined {X} xss = flat_map (λ (xs : List X). xs) xss
+use Rattle.pd_laid_graph.proofs.Ascending.{firsts_ascend, firsts_keep, parts_ascend}
+use Rattle.pd_laid_graph.proofs.Spread.{spread_some, spread_most}
 
 pub all_parts : {X : Type 0} → (P : X → Type 0) (xss : List (List X)) → AllByRecursion P (flat_map (λ (xs : List X). xs) xss) → AllByRecursion (AllByRecursion P) xss
 all_parts P [] all = tt

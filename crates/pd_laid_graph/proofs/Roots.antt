@@ -11,10 +11,10 @@ use Rattle.pd_laid.specs.Tree.{first_key, first_place, heads, levels_above}
 use Rattle.pd_laid.proofs.NeedLemmas.{length-heads}
 use Rattle.pd_laid_graph.specs.LaidOut.{AllFrom}
 use Rattle.pd_laid_graph.proofs.FromLemmas.{from_front, from_back, from_both}
-use Rattle.pd_laid_trees.specs.Items.{IsRoot}
-use Rattle.pd_laid_trees.proofs.Ascending.{BeginsWith, asc_left, asc_right}
-use Rattle.pd_laid_trees.proofs.Levels.{IsInnerAt, IsLeafAt, IsSettled, AreSettled, AreLeast, below, leaf_settled, inner_settled, inner_in_range}
-use Rattle.pd_laid_trees.proofs.Rows.{all_parts, flat_joined, level_of, upper_of, level_spread, levels_one, levels_more, root_of, root_more}
+use Rattle.pd_laid_graph.specs.Items.{IsRoot}
+use Rattle.pd_laid_graph.proofs.Ascending.{BeginsWith, asc_left, asc_right}
+use Rattle.pd_laid_graph.proofs.Levels.{IsInnerAt, IsLeafAt, IsSettled, AreSettled, AreLeast, below, leaf_settled, inner_settled, inner_in_range}
+use Rattle.pd_laid_graph.proofs.Rows.{all_parts, flat_joined, level_of, upper_of, level_spread, levels_one, levels_more, root_of, root_more}
 
 -- a node that isn't deep, and whose children are in range
 pub record IsOrdered (graph : Graph) (image : List (List ℕ)) (role place : ℕ) : Type 0 where

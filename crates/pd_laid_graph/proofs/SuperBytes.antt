@@ -10,7 +10,7 @@ use Rattle.pd_kinds.specs.Field.{Row, put_bytes, written, zeros}
 use Rattle.pd_kinds.specs.Super.{head_rows, is_super_of, salt_of, super_block}
 use Rattle.pd_kinds.proofs.SuperLemmas.{is_super}
 use Rattle.pd_kinds.proofs.WrittenLemmas.{length-put_bytes, length-written, length-written_zeros}
-use Rattle.pd_laid_trees.proofs.Bytes.{AreBytes, bytes_written, bytes_zeros, valid_sealed}
+use Rattle.pd_laid_graph.proofs.Bytes.{AreBytes, bytes_written, bytes_zeros, valid_sealed}
 
 -- bytes in a row
 bytes_both : (xs ys : List ℕ) → AreBytes xs → AreBytes ys → AreBytes (xs ++ ys)

@@ -20,10 +20,10 @@ use Rattle.pd_laid.specs.Laid.{LaidBlock}
 use Rattle.pd_laid.proofs.NodeFacts.{any-map}
 use Rattle.pd_laid_graph.specs.LaidOut.{LeadsBelow}
 use Rattle.pd_laid_graph.proofs.ListLemmas.{any_none, map_twice}
-use Rattle.pd_laid_trees.specs.Items.{AreItems}
-use Rattle.pd_laid_trees.proofs.Bytes.{valid_node}
-use Rattle.pd_laid_trees.proofs.Levels.{IsInnerAt, IsLeafAt}
-use Rattle.pd_laid_trees.proofs.Rows.{IsInnerNode}
+use Rattle.pd_laid_graph.specs.Items.{AreItems}
+use Rattle.pd_laid_graph.proofs.Bytes.{valid_node}
+use Rattle.pd_laid_graph.proofs.Levels.{IsInnerAt, IsLeafAt}
+use Rattle.pd_laid_graph.proofs.Rows.{IsInnerNode}
 
 -- a fact on each key, or each value, by its index
 all_at_index : (f : Entry → ℕ) (limit : ℕ) (entries : List Entry) → AllByRecursion (λ (e : Entry). f e < limit) entries

@@ -21,13 +21,13 @@ use Rattle.pd_laid.proofs.NodeFacts as facts
 use Rattle.pd_laid_graph.specs.LaidOut.{AllFrom, role_at, IsFitting, IsInPlace, IsNamed, LeadsBelow}
 use Rattle.pd_laid_graph.proofs.ListLemmas.{all_front, all_back}
 use Rattle.pd_laid_graph.proofs.FromLemmas.{from_front, from_back, from_both}
-use Rattle.pd_laid_trees.specs.Items.{AreItems, IsRoot, IsTreeSeen}
-use Rattle.pd_laid_trees.proofs.Ascending.{firsts_ascend, firsts_keep, parts_ascend}
-use Rattle.pd_laid_trees.proofs.Levels.{IsInnerAt, no_chain}
-use Rattle.pd_laid_trees.proofs.Nodes.{IsSeenInner, IsSeenLeaf, inner_seen, leaf_seen}
-use Rattle.pd_laid_trees.proofs.Roots.{AreLeavesAt, IsOrdered, all_above, leaves_keys, leaves_least, leaves_settled}
-use Rattle.pd_laid_trees.proofs.Rows.{IsInnerNode, all_parts, by_keys, by_values, heads_inside, inners_are, inners_name, levels_one, row_few, values_of}
-use Rattle.pd_laid_trees.proofs.Spread.{spread_most, spread_some}
+use Rattle.pd_laid_graph.specs.Items.{AreItems, IsRoot, IsTreeSeen}
+use Rattle.pd_laid_graph.proofs.Ascending.{firsts_ascend, firsts_keep, parts_ascend}
+use Rattle.pd_laid_graph.proofs.Levels.{IsInnerAt, no_chain}
+use Rattle.pd_laid_graph.proofs.Nodes.{IsSeenInner, IsSeenLeaf, inner_seen, leaf_seen}
+use Rattle.pd_laid_graph.proofs.Roots.{AreLeavesAt, IsOrdered, all_above, leaves_keys, leaves_least, leaves_settled}
+use Rattle.pd_laid_graph.proofs.Rows.{IsInnerNode, all_parts, by_keys, by_values, heads_inside, inners_are, inners_name, levels_one, row_few, values_of}
+use Rattle.pd_laid_graph.proofs.Spread.{spread_most, spread_some}
 
 -- the leaves of a tree
 pub record AreLeaves (size : ℕ) (items : List Entry) (leaves : List (List Entry)) : Type 0 where

@@ -11,7 +11,7 @@ use Rattle.pd_kinds.specs.Trees.{keys_of}
 use Rattle.pd_laws.proofs.AllLemmas.{all_from}
 use Rattle.pd_laid.proofs.NodeFacts.{any-map}
 use Rattle.pd_laid_graph.proofs.ListLemmas.{any_none, map_flat}
-use Rattle.pd_laid_trees.proofs.Ascending.{BeginsWith, in_range_by_heads}
+use Rattle.pd_laid_graph.proofs.Ascending.{BeginsWith, in_range_by_heads}
 
 -- lists in a row
 pub flat_agree : {X Y : Type 0} → (f g : X → List Y) (xs : List X) → AllByRecursion (λ x. f x ≡ g x) xs → flat_map f xs ≡ flat_map g xs

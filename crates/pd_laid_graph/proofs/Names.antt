@@ -15,8 +15,8 @@ use Rattle.pd_laws.proofs.AllLemmas.{all_append, all_map}
 use Rattle.pd_laid_graph.specs.LaidOut.{AllFrom, IsInPlace, LeadsBelow}
 use Rattle.pd_laid_graph.proofs.PlaceLemmas.{role_of_places}
 use Rattle.pd_laid_graph.proofs.ListLemmas.{map_flat, map_twice, range_on}
-use Rattle.pd_laid_trees.proofs.Rows.{flat_joined, inners_name, row_few, values-heads, values_of}
-use Rattle.pd_laid_trees.proofs.Trees.{heads_from, leaves_are}
+use Rattle.pd_laid_graph.proofs.Rows.{flat_joined, inners_name, row_few, values-heads, values_of}
+use Rattle.pd_laid_graph.proofs.Trees.{heads_from, leaves_are}
 
 -- the blocks of edges
 abbrev pub blocks_of : List Edge → List ℕ

@@ -1,5 +1,5 @@
-use Rattle.pd_laid_trees.proofs.Trees.{tree_seen}
-use Rattle.pd_laid_trees.proofs.laid_tree_is_seen.Goals as goal
+use Rattle.pd_laid_graph.proofs.Trees.{tree_seen}
+use Rattle.pd_laid_graph.proofs.laid_tree_is_seen.Goals as goal
 
 pub returns : goal.returns
 returns c roles nr data_blocks table image blocks limit role t place items is known few_roles wide few within from room items_are stand named =
