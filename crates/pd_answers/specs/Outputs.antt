@@ -1,8 +1,8 @@
 -- What is left of the output of a request that makes an image of it.
-use Rattle.std.specs.Prelude.{◌≡◌, ℕ, Bool, true, List, length, IfSome}
+use Rattle.std.specs.Prelude.{◌≡◌, ◌≢◌, ℕ, Bool, true, List, length, IfSome}
 use Rattle.pd_kinds.specs.Limits.{room_of}
 use Rattle.pd_kinds.specs.Objects.{DeviceState}
-use Rattle.pd_kinds.specs.Crash.{IsOutput, IsUntouched}
+use Rattle.pd_kinds.specs.Crash.{HoldsOldOrNone, IsOutput, IsUntouched}
 
 -- the room of an output: that of the image that it tells, and that of its blocks where it was attached
 pub record IsRoom (before after : DeviceState) (room : ℕ) : Type 0 where
@@ -15,3 +15,9 @@ pub record LeavesMade (Made : List (List ℕ) → List (List ℕ) → Type 0) (u
   pub output : IsOutput Made status old new
   -- what is refused before the output is written leaves it alone, under every status
   pub untouched : unwritten ≡ true → IsUntouched old new
+
+-- what is left of it where making the image is the last that the request does
+pub record LeavesMadeLast (Made : List (List ℕ) → List (List ℕ) → Type 0) (unwritten : Bool) (status : ℕ) (old new : DeviceState) : Type 0 where
+  pub made : LeavesMade Made unwritten status old new
+  -- at any status but 0 it is as it was, or has no valid superblock, unless it failed itself
+  pub kept : status ≢ 0 → new.faults ≡ old.faults → HoldsOldOrNone old new

@@ -2,6 +2,8 @@
 use Rattle.std.specs.Prelude.{◌≡◌, ℕ, nat_lt, Bool, not, ◌==◌, if◌then◌else◌, List, [], ◌∷◌, Option, Some, None, IfSome}
 use Rattle.pd_kinds.specs.declared.kind.Kind.TheVariants.{Thin}
 use Rattle.pd_kinds.specs.declared.kind.Stage.TheVariants.{Super}
+use Rattle.pd_kinds.specs.Crash.{IsUntouched}
+use Rattle.pd_kinds.specs.Objects.{DeviceState}
 use Rattle.pd_kinds.specs.Report.{Reported, report_of}
 use Rattle.pd_kinds.specs.Stages.{faults}
 use Rattle.pd_kinds.specs.Meaning.{ThinPool}
@@ -15,7 +17,7 @@ use Rattle.pd_answers.specs.SearchLines.{roots_line, no_roots_line}
 use Rattle.pd_answers.specs.Answer.{Answer, reading, writing}
 use Rattle.pd_answers.specs.Reads.{any_reads}
 use Rattle.pd_answers.specs.Terms.{Terms, unnamed}
-use Rattle.pd_answers.specs.Outputs.{IsRoom, LeavesMade}
+use Rattle.pd_answers.specs.Outputs.{IsRoom, LeavesMade, LeavesMadeLast}
 
 -- what a repair finds: the report of the input's superblock, what can be saved, and how many blocks there are for it
 pub record Salvaged : Type 0 where
@@ -39,6 +41,12 @@ repair_answer saved =
 abbrev pub LaysPool : Answer → ThinPool → ℕ → List (List ℕ) → List (List ℕ) → Type 0
 LaysPool answer pool room old new = (answer.status ≡ 0) × IsLaid (laid_pool pool room) old new
 
+-- what a repair leaves of its output
+pub record LeavesRepaired (saved : Salvaged) (status : ℕ) (old new : DeviceState) : Type 0 where
+  pub output : LeavesMadeLast (LaysPool (repair_answer saved) saved.pool saved.room) (not ((repair_answer saved).status == 0)) status old new
+  -- the input is read before the output is written: its fault leaves the output alone
+  pub input_failed : status ≡ 5 → new.faults ≡ old.faults → IsUntouched old new
+
 -- a repair reads one image and writes another; memory isn't wanting where the superblock is told and has a fault
 abbrev pub repair : List ℕ → List ℕ → Terms
 repair from to = record {
@@ -51,8 +59,7 @@ repair from to = record {
   memory = λ before. IfSome before.input.held (λ image. faults Thin Super image ≡ []);
   silent = [];
   reads = any_reads;
-  leaves = λ saved before after status. LeavesMade (LaysPool (repair_answer saved) saved.pool saved.room)
-      (not ((repair_answer saved).status == 0)) status before.output after.output;
+  leaves = λ saved before after status. LeavesRepaired saved status before.output after.output;
 }
 
 -- what a search finds: the best roots, if there are any, the pool that they have, and how many blocks there are for it

@@ -1,7 +1,9 @@
 -- The terms of a restore, for each kind.
-use Rattle.std.specs.Prelude.{◌≡◌, ℕ, Bool, true, false, if◌then◌else◌, List, [], ◌∷◌, IfSome}
+use Rattle.std.specs.Prelude.{◌≡◌, ℕ, ◌≤◌, Bool, true, false, if◌then◌else◌, List, [], ◌∷◌, IfSome}
 use Rattle.pd_kinds.specs.declared.kind.Kind.{Kind}
 use Rattle.pd_kinds.specs.declared.kind.Kind.TheVariants.{Thin, Cache, Era}
+use Rattle.pd_kinds.specs.Crash.{IsUntouched}
+use Rattle.pd_kinds.specs.Objects.{DeviceState}
 use Rattle.pd_grammar.specs.Texts.{reading as lines_read}
 use Rattle.pd_grammar.specs.Spelling.{Verdict, accepted, refused, no_room}
 use Rattle.pd_spells.specs.Early.{is_decided_early, is_pool_early, is_cache_early, is_era_early}
@@ -20,7 +22,7 @@ use Rattle.pd_shapes.specs.PoolText.{is_second_version, IsPoolTextVerdict}
 use Rattle.pd_answers.specs.Answer.{Answer, reading, writing}
 use Rattle.pd_answers.specs.Reads.{any_reads}
 use Rattle.pd_answers.specs.Terms.{Terms, unnamed}
-use Rattle.pd_answers.specs.Outputs.{IsRoom, LeavesMade}
+use Rattle.pd_answers.specs.Outputs.{IsRoom, LeavesMadeLast}
 use Rattle.pd_answers.specs.Requests.{reads_second_version}
 
 -- what a restore finds: how many blocks there are for metadata, the verdict on the text, and whether the first two
@@ -36,6 +38,18 @@ restore_answer (accepted m) = record { status = 0; out = []; notes = [] }
 restore_answer (refused why) = record { status = 3; out = []; notes = refusal_line why }
 restore_answer (no_room needed blocks) = record { status = 4; out = []; notes = no_room_line needed blocks }
 
+-- line 1 or 2 is refused
+abbrev pub IsRefusedEarly : {M : Type 0} → Verdict M → Type 0
+IsRefusedEarly (accepted m) = ⊥
+IsRefusedEarly (refused why) = why.line ≤ 2
+IsRefusedEarly (no_room needed blocks) = ⊥
+
+-- what a restore leaves of its output
+pub record LeavesRestored {M : Type 0} (laid : M → ℕ → Laid) (judged : Judged M) (status : ℕ) (old new : DeviceState) : Type 0 where
+  pub output : LeavesMadeLast (Makes laid judged.room judged.verdict) judged.is_early status old new
+  -- the refusal of line 1 or 2 leaves it alone, also where the source doesn't tell its text
+  pub first_lines : status ≡ 3 → IsRefusedEarly judged.verdict → IsUntouched old new
+
 -- a restore from a file: the verdict rests on its text, and on the room of the output
 abbrev pub restore_by : {M : Type 0} → (List ℕ → ℕ → Verdict M → Type 0) → (List ℕ → ℕ → Bool) → (M → ℕ → Laid) → List ℕ → List ℕ → Terms
 restore_by {M} IsVerdictOn is_early laid file path = record {
@@ -48,8 +62,7 @@ restore_by {M} IsVerdictOn is_early laid file path = record {
   memory = λ before. Unit {0};
   silent = [];
   reads = any_reads;
-  leaves = λ judged before after status.
-      LeavesMade (Makes laid judged.room judged.verdict) judged.is_early status before.output after.output;
+  leaves = λ judged before after status. LeavesRestored laid judged status before.output after.output;
 }
 
 -- whether the first two lines of a pool's text decide, of version 2 and of either version

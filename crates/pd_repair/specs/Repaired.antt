@@ -4,7 +4,7 @@ use Rattle.pd_kinds.specs.declared.fault.Fault.{Fault}
 use Rattle.pd_kinds.specs.declared.rule.Rule.{Rule}
 use Rattle.pd_kinds.specs.declared.kind.Kind.TheVariants.{Thin}
 use Rattle.pd_kinds.specs.declared.kind.Stage.TheVariants.{Super}
-use Rattle.pd_kinds.specs.Crash.{HoldsSynced, IsOldNoneOrMade, IsUntouched, LeavesOnly}
+use Rattle.pd_kinds.specs.Crash.{HoldsOldOrNone, HoldsSynced, IsOldNoneOrMade, IsUntouched, LeavesOnly, StillTells}
 use Rattle.pd_kinds.specs.Faults.{faults_at}
 use Rattle.pd_kinds.specs.Limits.{room_of}
 use Rattle.pd_kinds.specs.Meaning.{ThinPool}
@@ -31,6 +31,14 @@ AnswersFault (NoRoom need blocks) pool room = (need ≡ thin_need pool room) × 
 abbrev pub Answers : Result (Unit {0}) RepairFault → ThinPool → ℕ → Type 0
 Answers result pool room = MatchResult result (λ done. IsLawfulPool pool × (thin_need pool room ≤ room)) (λ fault. AnswersFault fault pool room)
 
+-- the output isn't blamed
+abbrev pub IsOfOthers : RepairFault → Type 0
+IsOfOthers Memory = Unit {0}
+IsOfOthers Input = Unit {0}
+IsOfOthers Output = ⊥
+IsOfOthers (NoSuper rules) = Unit {0}
+IsOfOthers (NoRoom need blocks) = Unit {0}
+
 -- the faults that come before the output is written
 abbrev pub IsEarly : RepairFault → Type 0
 IsEarly Memory = ⊥
@@ -48,10 +56,12 @@ pub record IsMadeOf (pool : ThinPool) (result : Result (Unit {0}) RepairFault) (
   pub answer : Answers result pool (room_of old.blocks)
   -- a crash at any moment of the call, whatever its result, leaves the old image, no valid superblock, or what is made
   pub crash : (image : List (List ℕ)) → HoldsSynced image old → LeavesOnly (IsOldNoneOrMade image (MakesPool pool (room_of old.blocks) image)) old new
-  pub made : OnOk result ((image : List (List ℕ)) → HoldsSynced image old
-      → IfSome new.held (λ now. IsLaid (laid_pool pool (room_of old.blocks)) image now × HoldsSynced now new))
-  -- a device that tells what it holds still does
-  pub still_told : OnOk result ((image : List (List ℕ)) → HoldsSynced image old → IsSome new.held)
+  -- what was made holds of any device that tells what it held, also where something was unsynced
+  pub made : OnOk result (IfSome old.held (λ image.
+      IfSome new.held (λ now. IsLaid (laid_pool pool (room_of old.blocks)) image now × HoldsSynced now new)))
+  pub told : StillTells old new
+  -- only a fault of the output itself may leave more than what it held, or no valid superblock
+  pub kept : MatchResult result (λ done. Unit {0}) (λ fault. IsOfOthers fault → HoldsOldOrNone old new)
   -- the room is looked at before the first write
   pub untouched : room_of old.blocks < thin_need pool (room_of old.blocks) → IsUntouched old new
   pub early : MatchResult result (λ done. Unit {0}) (λ fault. IsEarly fault → IsUntouched old new)

@@ -2,7 +2,7 @@
 use Rattle.std.specs.Prelude.{◌≡◌, ◌⊎◌, ℕ, ◌≤◌, true, Bool, List, [], Result, OnOk, IfSome, IsSome, MatchResult, Some}
 use Rattle.pd_kinds.specs.Limits.{room_of}
 use Rattle.pd_kinds.specs.Objects.{SourceState, DeviceState, Rose}
-use Rattle.pd_kinds.specs.Crash.{HasNoSuper, HoldsSynced, IsOldNoneOrMade, IsUntouched, LeavesOnly}
+use Rattle.pd_kinds.specs.Crash.{HoldsOldOrNone, HoldsSynced, IsOldNoneOrMade, IsUntouched, LeavesOnly, StillTells}
 use Rattle.pd_grammar.specs.Spelling.{Verdict, accepted, refused, no_room}
 use Rattle.pd_laid.specs.Laid.{Laid}
 use Rattle.pd_laid.specs.Made.{Makes}
@@ -36,6 +36,22 @@ AnswersFault (r.NoRoom need blocks) verdict = IsWithoutRoom need blocks verdict
 abbrev pub Answers : {M : Type 0} → (M → Type 0) → Result (Unit {0}) RestoreFault → Verdict M → Type 0
 Answers Lawful result verdict = MatchResult result (λ done. IsAccepted Lawful verdict) (λ fault. AnswersFault fault verdict)
 
+-- the device isn't blamed
+abbrev pub IsOfOthers : RestoreFault → Type 0
+IsOfOthers r.Memory = Unit {0}
+IsOfOthers r.Source = Unit {0}
+IsOfOthers r.Device = ⊥
+IsOfOthers (r.Text fault) = Unit {0}
+IsOfOthers (r.NoRoom need blocks) = Unit {0}
+
+-- line 1 or 2 is refused
+abbrev pub IsOfFirstLines : RestoreFault → Type 0
+IsOfFirstLines r.Memory = ⊥
+IsOfFirstLines r.Source = ⊥
+IsOfFirstLines r.Device = ⊥
+IsOfFirstLines (r.Text fault) = fault.line ≤ 2
+IsOfFirstLines (r.NoRoom need blocks) = ⊥
+
 -- the text was refused, or there is no room for it
 abbrev pub IsRefusal : RestoreFault → Type 0
 IsRefusal r.Memory = ⊥
@@ -65,9 +81,12 @@ pub record IsRestored {M : Type 0} (Lawful : M → Type 0) (IsVerdictOn : List �
   pub answer : Answers Lawful result verdict
   -- a crash at any moment of the call, whatever its result, leaves the old image, no valid superblock, or what is made
   pub crash : (image : List (List ℕ)) → HoldsSynced image old → LeavesOnly (IsOldNoneOrMade image (Makes laid (room_of old.blocks) verdict image)) old new
-  pub made : OnOk result ((image : List (List ℕ)) → HoldsSynced image old → IfSome new.held (λ now. Makes laid (room_of old.blocks) verdict image now × HoldsSynced now new))
-  -- a device that tells what it holds still does
-  pub still_told : OnOk result ((image : List (List ℕ)) → HoldsSynced image old → IsSome new.held)
-  pub kept : MatchResult result (λ done. Unit {0}) (λ fault. IsRefusal fault → IfSome old.held (λ image. IfSome new.held (λ now. (now ≡ image) ⊎ HasNoSuper now)))
+  -- what was made holds of any device that tells what it held, also where something was unsynced
+  pub made : OnOk result (IfSome old.held (λ image. IfSome new.held (λ now. Makes laid (room_of old.blocks) verdict image now × HoldsSynced now new)))
+  pub told : StillTells old new
+  -- only a fault of the device itself may leave more than what it held, or no valid superblock
+  pub kept : MatchResult result (λ done. Unit {0}) (λ fault. IsOfOthers fault → HoldsOldOrNone old new)
+  -- the refusal of line 1 or 2 leaves the device alone, also where the source doesn't tell its text
+  pub first_lines : MatchResult result (λ done. Unit {0}) (λ fault. IsOfFirstLines fault → IsUntouched old new)
   pub untouched : early ≡ true → IsUntouched old new
   pub ended : OnOk result (IfSome from.left (λ text. to.left ≡ Some []))
