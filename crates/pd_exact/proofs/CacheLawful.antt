@@ -18,7 +18,7 @@ use Rattle.pd_kinds.proofs.FieldLemmas.{le-lt}
 use Rattle.pd_laws.proofs.AllLemmas.{all_of}
 use Rattle.pd_laws.proofs.CleanLemmas.{clean_super_where_none, whole_where_none}
 use Rattle.pd_laws.proofs.SoundLemmas.{IsSound, tests_after_two}
-use Rattle.pd_laid.specs.Salvage.{HasBytes}
+use Rattle.pd_kinds.specs.Image.{HasBytes}
 use Rattle.pd_spells.specs.Lawful.{AreEntries, IsLawfulCache}
 use Rattle.pd_tree.specs.Roots.{HasCacheRoots}
 use Rattle.pd_cached.proofs.SoundCache.{roots_inside}

@@ -7,7 +7,7 @@ use Rattle.pd_kinds.specs.Graph.{block_at}
 use Rattle.pd_kinds.specs.Meaning.{era_meaning, era_of}
 use Rattle.pd_kinds.proofs.FieldLemmas.{le-lt}
 use Rattle.pd_laws.proofs.AllLemmas.{all_map}
-use Rattle.pd_laid.specs.Salvage.{HasBytes}
+use Rattle.pd_kinds.specs.Image.{HasBytes}
 use Rattle.pd_spells.specs.Lawful.{IsLawfulEra}
 use Rattle.pd_tree.specs.Below.{items_below}
 use Rattle.pd_tree.specs.Items.{root_of}

@@ -13,7 +13,8 @@ use Rattle.pd_kinds.specs.Node.{Entry, child_at, entry_count, is_inner_node, key
 use Rattle.pd_kinds.proofs.FieldLemmas.{le-lt}
 use Rattle.pd_laws.proofs.AllLemmas.{all_flat_map, all_map, all_of}
 use Rattle.pd_laws.proofs.SoundLemmas.{inside_from}
-use Rattle.pd_laid.specs.Salvage.{HasBytes, child_high, child_low, give, given, is_damaged}
+use Rattle.pd_kinds.specs.Image.{HasBytes}
+use Rattle.pd_laid.specs.Salvage.{child_high, child_low, give, given, is_damaged}
 use Rattle.pd_laid.specs.Saved.{Has}
 use Rattle.pd_salvage.proofs.AscendLemmas.{AreAscending, give_ascends}
 

@@ -15,13 +15,14 @@ use Rattle.pd_kinds.specs.Stages.{Checked, checked_of, faults, first_failing, st
 use Rattle.pd_kinds.proofs.CrashLemmas.{weaken}
 use Rattle.pd_laid.specs.Laid.{IsLaid}
 use Rattle.pd_laid.specs.LaidThin.{laid_pool}
-use Rattle.pd_laid.specs.Salvage.{HasBytes, salvage}
+use Rattle.pd_kinds.specs.Image.{HasBytes, IsImage}
+use Rattle.pd_laid.specs.Salvage.{salvage}
 use Rattle.pd_laid_thin.specs.CleanPool.{IsCleanPool}
 use Rattle.pd_spells.specs.Lawful.{IsLawfulPool}
 use Rattle.pd_spells.specs.ThinNeed.{thin_need}
 use Rattle.pd_answers.specs.Answer.{NoFaults, Objects}
 use Rattle.pd_answers.specs.Repairs.{LaysPool, Salvaged, is_too_small, repair_answer}
-use Rattle.pd_exact.specs.Exact.{HoldsSalvage, IsImage, IsRepairAnswered, IsSoundRepair, LeavesSalvage}
+use Rattle.pd_exact.specs.Exact.{HoldsSalvage, IsRepairAnswered, IsSoundRepair, LeavesSalvage}
 use Rattle.pd_exact.proofs.Restored.{Image, at_told, both_told}
 
 -- at the answer's status 0 nothing was refused: the report is empty, and there is room

@@ -21,7 +21,8 @@ use Rattle.pd_kinds.proofs.FieldLemmas.{le-lt}
 use Rattle.pd_laws.proofs.CleanLemmas.{clean_super_where_none}
 use Rattle.pd_laws.proofs.SoundLemmas.{IsSound, tests_after_two}
 use Rattle.pd_laws.proofs.ThinTable.{super_sound}
-use Rattle.pd_laid.specs.Salvage.{HasBytes, give, given, given_details, given_device, given_mappings, salvage, salvage_from}
+use Rattle.pd_kinds.specs.Image.{HasBytes}
+use Rattle.pd_laid.specs.Salvage.{give, given, given_details, given_device, given_mappings, salvage, salvage_from}
 use Rattle.pd_spells.specs.Lawful.{AreDevices, AreMappings, IsDevice, IsLawfulPool}
 use Rattle.pd_salvage.proofs.AscendLemmas.{AreAscending, give_ascends}
 use Rattle.pd_exact.proofs.GivenLemmas.{few_given, give_all, no_more_kept, values_fit}

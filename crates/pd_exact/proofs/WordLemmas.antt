@@ -9,7 +9,7 @@ use Rattle.pd_kinds.specs.Node.{Entry}
 use Rattle.pd_kinds.specs.Trees.{block_words, words_of}
 use Rattle.pd_kinds.proofs.FieldLemmas.{le-lt}
 use Rattle.pd_laws.proofs.AllLemmas.{all_flat_map, all_map, all_of}
-use Rattle.pd_laid.specs.Salvage.{HasBytes}
+use Rattle.pd_kinds.specs.Image.{HasBytes}
 use Rattle.pd_tree.specs.Words.{words_from, words_of_items}
 use Rattle.pd_value.specs.declared.thin.Root.{Root}
 

@@ -15,7 +15,8 @@ use Rattle.pd_spells.specs.CacheNeed.{cache_need}
 use Rattle.pd_spells.specs.CacheText.{SpellsCache}
 use Rattle.pd_spells.specs.EraNeed.{era_need}
 use Rattle.pd_spells.specs.EraText.{SpellsEra}
-use Rattle.pd_laid.specs.Salvage.{HasBytes, salvage}
+use Rattle.pd_kinds.specs.Image.{HasBytes, IsImage}
+use Rattle.pd_laid.specs.Salvage.{salvage}
 use Rattle.pd_kinds.specs.Limits.{room_of}
 use Rattle.pd_laid_thin.specs.CleanPool.{IsCleanPool}
 use Rattle.pd_laid_cache.specs.CleanCache.{IsCleanCache}
@@ -105,11 +106,6 @@ pub record TellsClean (kind : Kind) (before after : Objects) (status : ℕ) (ima
 -- a repair of one image onto another was asked, and was answered with this status
 abbrev pub IsRepairAnswered : List ℕ → List ℕ → Objects → Objects → ℕ → Type 0
 IsRepairAnswered from to = IsAnswered (terms_of (Some (repair from to)))
-
--- what a device holds: bytes, in blocks of 4096
-pub record IsImage (image : List (List ℕ)) : Type 0 where
-  pub bytes : HasBytes image
-  pub blocks : All (λ block. length block ≡ 4096) image
 
 -- the output holds an image that is clean and means what is saved of the input, and nothing of it is unsynced
 abbrev pub HoldsSalvage : Objects → Objects → Type 0

@@ -6,7 +6,7 @@ ghost use Rattle.pd_kinds.specs.CacheFormat.{cache_fields};
 ghost use Rattle.pd_kinds.specs.Graph.{block_at};
 ghost use Rattle.pd_kinds.specs.Meaning.{cache_meaning};
 ghost use Rattle.pd_kinds.specs.Stages.{faults};
-ghost use Rattle.pd_laid.specs.Salvage.{HasBytes};
+ghost use Rattle.pd_kinds.specs.Image.{HasBytes};
 ghost use Rattle.pd_spells.specs.Lawful.{IsLawfulCache};
 ghost use Rattle.pd_answers.specs.Answer.{NoFaults, Objects};
 ghost use Rattle.pd_exact.specs.Exact.{HoldsCacheOfText, IsDumpOf, IsRestoreAnswered, LeavesCacheOfText};

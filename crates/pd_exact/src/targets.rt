@@ -4,7 +4,7 @@ ghost use Rattle.pd_kinds.specs.declared.kind.Kind.TheVariants.{Era};
 ghost use Rattle.pd_kinds.specs.declared.kind.Stage.TheVariants.{Whole};
 ghost use Rattle.pd_kinds.specs.Meaning.{era_meaning};
 ghost use Rattle.pd_kinds.specs.Stages.{faults};
-ghost use Rattle.pd_laid.specs.Salvage.{HasBytes};
+ghost use Rattle.pd_kinds.specs.Image.{HasBytes};
 ghost use Rattle.pd_spells.specs.Lawful.{IsLawfulEra};
 ghost use Rattle.pd_answers.specs.Answer.{NoFaults, Objects};
 ghost use Rattle.pd_exact.specs.Exact.{HoldsTargetOfText, IsDumpOf, IsRestoreAnswered, LeavesTargetOfText};

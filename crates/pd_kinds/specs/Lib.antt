@@ -19,6 +19,7 @@ pub mod Node
 pub mod Array
 pub mod Bitmap
 pub mod Graph
+pub mod Image
 pub mod Order
 pub mod Layout
 pub mod ThinFormat

@@ -23,7 +23,8 @@ use Rattle.pd_laws.proofs.SoundLemmas.{IsSound, tests_after_one, inside_from}
 use Rattle.pd_laws.proofs.PathLemmas.{path_from_reached, reached_from_path, passes_below}
 use Rattle.pd_kinds.specs.Trees.{entries_below}
 use Rattle.pd_kinds.proofs.FieldLemmas.{le-lt}
-use Rattle.pd_laid.specs.Salvage.{HasBytes, is_damaged, child_low, child_high, give, given}
+use Rattle.pd_kinds.specs.Image.{HasBytes}
+use Rattle.pd_laid.specs.Salvage.{is_damaged, child_low, child_high, give, given}
 use Rattle.pd_laid.proofs.GatherLemmas.{AreFrom, AreBelow, from_test, below_test, kept_in_range, all_first, all_last, all_at, all_joined, same_joined, gathered_leaf, gathered_inner, stable, child_range}
 
 -- no element passes

@@ -27,7 +27,8 @@ use Rattle.pd_laws.proofs.CleanLemmas.{whole_where_none}
 use Rattle.pd_laws.proofs.SoundLemmas.{inside_from}
 use Rattle.pd_laws.proofs.PathLemmas.{reached_start}
 use Rattle.pd_laid.specs.Laid.{tree_of}
-use Rattle.pd_laid.specs.Salvage.{HasBytes, given, given_mappings, given_device, salvage_from, salvage}
+use Rattle.pd_kinds.specs.Image.{HasBytes}
+use Rattle.pd_laid.specs.Salvage.{given, given_mappings, given_device, salvage_from, salvage}
 use Rattle.pd_laid.proofs.GatherLemmas.{all_first, all_last}
 use Rattle.pd_laid.proofs.NodeFacts.{all_parts, among_mapped, none_pass, reached_next, given_root, under_all, leaf_named, within_at, block_pair}
 

@@ -1,6 +1,6 @@
 -- What can be saved of a damaged thin pool: the entries that a path of sound nodes leads to from the roots of a
 -- superblock, where they lie in every range on that path.
-use Rattle.std.specs.Prelude.{ℕ, zero, suc, ◌+◌, ◌/◌, ◌%◌, ◌^◌, max, min, ◌&&◌, ◌||◌, ◌==◌, Bool, not, nat_lt, if◌then◌else◌, List, [], length, map, filter, slice_index, ◌<◌}
+use Rattle.std.specs.Prelude.{ℕ, zero, suc, ◌+◌, ◌/◌, ◌%◌, ◌^◌, max, min, ◌&&◌, ◌||◌, ◌==◌, Bool, not, nat_lt, if◌then◌else◌, List, [], length, map, filter}
 use Rattle.std.specs.List.{list_any, flat_map, range_with_len}
 use Rattle.std.specs.Option.{unwrap_or}
 use Rattle.pd_kinds.specs.Rule.{all_rules}
@@ -13,10 +13,6 @@ use Rattle.pd_kinds.specs.Trees.{value_of_key}
 use Rattle.pd_kinds.specs.ThinSuper.{ThinFields, thin_fields}
 use Rattle.pd_kinds.specs.ThinFormat.{mapped_block, mapped_time}
 use Rattle.pd_kinds.specs.Meaning.{Mapping, ThinDevice, ThinPool}
-
--- what a device holds are bytes
-abbrev pub HasBytes : List (List ℕ) → Type 0
-HasBytes image = (b i : ℕ) → slice_index (block_at image b) i < 256
 
 -- whether a node breaks a rule of its own, whatever its entries name: any but Pointer and Beyond
 unfoldable pub is_damaged : ℕ → ℕ → List ℕ → Bool

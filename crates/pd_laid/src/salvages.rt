@@ -4,7 +4,8 @@ ghost use Rattle.pd_kinds.specs.declared.kind.Stage.TheVariants.{Whole};
 ghost use Rattle.pd_kinds.specs.Meaning.{thin_meaning};
 ghost use Rattle.pd_kinds.specs.Node.{Entry};
 ghost use Rattle.pd_kinds.specs.Stages.{faults};
-ghost use Rattle.pd_laid.specs.Salvage.{HasBytes, give, salvage};
+ghost use Rattle.pd_kinds.specs.Image.{HasBytes};
+ghost use Rattle.pd_laid.specs.Salvage.{give, salvage};
 ghost use Rattle.pd_laid.specs.Saved.{Has, IsSaved};
 
 use pd_laws::trees_are_in_order;

@@ -9,7 +9,8 @@ use Rattle.pd_kinds.specs.Meaning.{Mapping, ThinDevice, thin_meaning}
 use Rattle.pd_kinds.specs.ThinSuper.{thin_fields}
 use Rattle.pd_kinds.proofs.FieldLemmas.{le-lt}
 use Rattle.pd_laws.proofs.AllLemmas.{all_append, all_flat_map, all_from_two, all_map, all_mapped, all_of}
-use Rattle.pd_laid.specs.Salvage.{HasBytes, given_device, salvage, salvage_from}
+use Rattle.pd_kinds.specs.Image.{HasBytes}
+use Rattle.pd_laid.specs.Salvage.{given_device, salvage, salvage_from}
 use Rattle.pd_spells.specs.Lawful.{AreDevices, AreMappings, IsLawfulPool}
 use Rattle.pd_tree.specs.Below.{gather, items_below, items_from, kids_from}
 use Rattle.pd_tree.specs.Items.{root_of}

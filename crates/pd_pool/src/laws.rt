@@ -9,7 +9,7 @@ ghost use Rattle.pd_kinds.specs.Meaning.{thin_meaning};
 ghost use Rattle.pd_kinds.specs.Stages.{faults};
 ghost use Rattle.pd_kinds.specs.ThinSuper.{thin_fields};
 ghost use Rattle.pd_grammar.specs.Texts.{text_of_lines};
-ghost use Rattle.pd_laid.specs.Salvage.{HasBytes};
+ghost use Rattle.pd_kinds.specs.Image.{HasBytes};
 ghost use Rattle.pd_spells.specs.Lawful.{IsLawfulPool};
 ghost use Rattle.pd_spells.specs.ThinText.{text_of_pool, thin};
 ghost use Rattle.pd_pool.specs.Given.{GivesPool, super_lines};

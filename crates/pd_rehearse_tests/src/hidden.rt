@@ -88,6 +88,8 @@ impl Device for Hidden {
 
     ghost whole = { λ _. tt };
 
+    ghost bytes = { λ _. tt };
+
     fn attach(&mut self, _path: &str, write: bool) -> Result<(), Failed> {
         self.begin_call();
         self.access = if write { 2 } else { 1 };
