@@ -8,6 +8,8 @@ use Rattle.pd_kinds.specs.declared.rule.Rule.{Rule}
 use Rattle.pd_kinds.specs.declared.rule.Rule.TheVariants as r
 use Rattle.pd_kinds.specs.Rule.{same_rule}
 use Rattle.pd_kinds.specs.CacheFormat.{CacheFields, cache_fields, cache_graph, has_dirty_bits}
+use Rattle.pd_kinds.specs.Image.{HasBytes}
+use Rattle.pd_kinds.proofs.FieldLemmas.{le-lt}
 use Rattle.pd_kinds.specs.Graph.{Graph, block_at}
 use Rattle.pd_kinds.specs.Layout.{graph_of}
 use Rattle.pd_kinds.specs.Meaning.{cache_dirty_bits, cache_hints, cache_meaning, is_bit_set, is_dirty_block}
@@ -60,6 +62,10 @@ within_if_clean (block ∷ blocks) clean = (super_sound (length (block ∷ block
 pub within : (image : List (List ℕ)) → faults Cache stages.Whole image ≡ [] → (cache_fields (block_at image 0)).meta_map.blocks ≤ length image
 unfolding faults
 within image none = within_if_clean image (clean_super_where_none (cache_checked image) image (stages.Walk ∷ stages.Order ∷ stages.Whole ∷ []) none)
+
+-- the number of blocks fits its field
+pub blocks_fit : (image : List (List ℕ)) → HasBytes image → (cache_fields (block_at image 0)).blocks < 2 ^ 32
+blocks_fit image bytes = le-lt (block_at image 0) 240 4 (bytes 0)
 
 module _ (image : List (List ℕ)) (none : faults Cache stages.Whole image ≡ []) (roots : HasCacheRoots (cache_graph (block_at image 0)) image (cache_fields (block_at image 0))) where
   abbrev fields : CacheFields

@@ -1,10 +1,9 @@
 //! What the lists over bytes come to for a cache without faults: its meaning.
 
-ghost use Rattle.std.specs.Prelude.{◌≡◌, ℕ, ◌<◌, ◌^◌, List, []};
+ghost use Rattle.std.specs.Prelude.{◌≡◌, ℕ, List, []};
 ghost use Rattle.pd_kinds.specs.declared.kind.Kind.TheVariants.{Cache};
 ghost use Rattle.pd_kinds.specs.declared.kind.Stage.TheVariants.{Whole};
-ghost use Rattle.pd_kinds.specs.CacheFormat.{cache_fields};
-ghost use Rattle.pd_kinds.specs.Graph.{block_at};
+ghost use Rattle.pd_kinds.specs.Image.{HasBytes};
 ghost use Rattle.pd_kinds.specs.Stages.{faults};
 ghost use Rattle.pd_cached.specs.Given.{GivesCache};
 
@@ -13,10 +12,9 @@ use pd_tree::{
     superblocks_lead_to_reached_roots,
 };
 
-/// In a cache without faults up to the stage Whole, whose number of blocks fits its field, the rows are the entries
-/// of its meaning.
+/// In a cache without faults up to the stage Whole the rows are the entries of its meaning.
 pub fn rows_are_the_entries()
-    ensures { (image : List (List ℕ)) → faults Cache Whole image ≡ [] → (cache_fields (block_at image 0)).blocks < 2 ^ 32 → GivesCache image }
+    ensures { (image : List (List ℕ)) → HasBytes image → faults Cache Whole image ≡ [] → GivesCache image }
 {
     formats_have_trees();
     superblocks_lead_to_reached_roots();

@@ -8,6 +8,7 @@ use Rattle.pd_kinds.specs.declared.rule.Rule.{Rule}
 use Rattle.pd_kinds.specs.declared.rule.Rule.TheVariants as r
 use Rattle.pd_kinds.specs.Rule.{same_rule}
 use Rattle.pd_kinds.specs.CacheFormat.{CacheFields, cache_fields, cache_graph}
+use Rattle.pd_kinds.specs.Image.{HasBytes}
 use Rattle.pd_kinds.specs.Graph.{block_at}
 use Rattle.pd_kinds.specs.Meaning.{CacheEntry, cache_dirty_bits, cache_entry, cache_hints, cache_meaning}
 use Rattle.pd_kinds.specs.Stages.{HasCleanSuper, cache_checked, faults}
@@ -115,11 +116,11 @@ module _ (image : List (List ℕ)) (none : faults Cache Whole image ≡ []) (roo
     text_is gives = ap (λ (lines : List Line). text_of_lines cache (first_line ∷ (cache_line (super_head fields) ∷ (lines ++ (end_line ∷ []))))) (rows_are gives)
 
 -- the text of a dump over the superblock that was read
-pub text_means : (held : Option (List (List ℕ))) (s : CacheFields) (dump : CacheDump) → s.blocks < 2 ^ 32
+pub text_means : (held : Option (List (List ℕ))) (s : CacheFields) (dump : CacheDump) → IfSome held HasBytes
     → IfSome held (λ image. 1 ≤ length image → s ≡ cache_fields (block_at image 0)) → IfSome held (λ image. text_left image dump ≡ cache_dump_text image s)
-    → ((image : List (List ℕ)) → faults Cache Whole image ≡ [] → (cache_fields (block_at image 0)).blocks < 2 ^ 32
+    → ((image : List (List ℕ)) → HasBytes image → faults Cache Whole image ≡ []
     → cache_dump_text image (cache_fields (block_at image 0)) ≡ text_of_cache (cache_meaning image))
     → IfSome held (λ image. faults Cache Whole image ≡ [] → text_left image dump ≡ text_of_cache (cache_meaning image))
-text_means held s dump few read text law = two_told held (λ image read text none.
-    let same = read (has_some image none) in
-    text ∙ (ap (λ (fields : CacheFields). cache_dump_text image fields) same ∙ law image none (subst (λ (fields : CacheFields). fields.blocks < 2 ^ 32) same few))) read text
+text_means held s dump bytes read text law =
+    two_told held (λ image bytes is none. is.1 ∙ (ap (λ (fields : CacheFields). cache_dump_text image fields) (is.0 (has_some image none)) ∙ law image bytes none)) bytes
+    (two_told held (λ image read text. (read, text)) read text)

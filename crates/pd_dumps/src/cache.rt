@@ -59,7 +59,6 @@ impl CacheDump {
     /// Takes the memory for the dump of the cache with this superblock, in a device of so many blocks.
     fn over(alloc: Global, s: CacheSuper, blocks: u64) -> Result<CacheDump, AllocError>
         ensures text { (image : List (List ℕ)) → length image ≡ blocks → IfOk result (λ dump. text_left image dump ≡ cache_dump_text image s) }
-        ensures few { s.blocks < 2 ^ 32 }
         ensures room { IfOk result (λ dump. dump_room dump ≤ blocks) }
     {
         let maps = maps_of(alloc, &s, blocks)?;

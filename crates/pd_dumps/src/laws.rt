@@ -1,11 +1,12 @@
 //! What the texts over bytes come to for images without faults: those of their meanings.
 
-ghost use Rattle.std.specs.Prelude.{◌≡◌, ◌<◌, ◌^◌, ℕ, List, []};
+ghost use Rattle.std.specs.Prelude.{◌≡◌, ℕ, List, []};
 ghost use Rattle.pd_kinds.specs.declared.kind.Kind.TheVariants.{Cache, Era};
 ghost use Rattle.pd_kinds.specs.declared.kind.Stage.TheVariants.{Whole};
 ghost use Rattle.pd_kinds.specs.CacheFormat.{cache_fields};
 ghost use Rattle.pd_kinds.specs.EraFormat.{era_fields};
 ghost use Rattle.pd_kinds.specs.Graph.{block_at};
+ghost use Rattle.pd_kinds.specs.Image.{HasBytes};
 ghost use Rattle.pd_kinds.specs.Meaning.{cache_meaning, era_meaning};
 ghost use Rattle.pd_kinds.specs.Stages.{faults};
 ghost use Rattle.pd_spells.specs.CacheText.{text_of_cache};
@@ -18,10 +19,9 @@ use pd_cached::rows_are_the_entries;
 use pd_eras::lists_are_the_eras;
 use pd_tree::superblocks_lead_to_reached_roots;
 
-/// The lines of what the cursor gives of a cache without faults up to the stage Whole, whose number of blocks fits its
-/// field, are its text.
+/// The lines of what the cursor gives of a cache without faults up to the stage Whole are its text.
 pub fn given_cache_lines_are_the_text()
-    ensures { (image : List (List ℕ)) → faults Cache Whole image ≡ [] → (cache_fields (block_at image 0)).blocks < 2 ^ 32
+    ensures { (image : List (List ℕ)) → HasBytes image → faults Cache Whole image ≡ []
         → cache_dump_text image (cache_fields (block_at image 0)) ≡ text_of_cache (cache_meaning image) }
 {
     rows_are_the_entries();

@@ -50,7 +50,7 @@ none_counted : (list : List Fault) → length list ≡ 0 → list ≡ []
 none_counted [] counted = refl
 none_counted (fault ∷ list) counted = absurd (omega arith)
 
-module _ (lawful : (image : Image) → HasBytes image → All (λ block. length block ≡ 4096) image → faults Thin stages.Super image ≡ [] → IsLawfulPool (salvage image))
+module _ (lawful : (image : Image) → IsImage image → faults Thin stages.Super image ≡ [] → IsLawfulPool (salvage image))
     (clean : (m : ThinPool) (base image : Image) → IsLawfulPool m → thin_need m (room_of (length base)) ≤ room_of (length base)
     → IsLaid (laid_pool m (room_of (length base))) base image → IsCleanPool image m) where
   -- what is laid of what was saved is a clean image of it
@@ -61,7 +61,7 @@ module _ (lawful : (image : Image) → HasBytes image → All (λ block. length 
       let given = not_refused saved laid.0 in
       let counted : length (faults Thin stages.Super image) ≡ 0 = sym (ap (λ (r : Reported). r.total) right.0) ∙ given.none in
       let none = none_counted (faults Thin stages.Super image) counted in
-      clean (salvage image) base made (lawful image is.bytes is.blocks none) (rw (right.1, room) at given.room) (rw (right.1, room) at laid.1)
+      clean (salvage image) base made (lawful image is none) (rw (right.1, room) at given.room) (rw (right.1, room) at laid.1)
 
   module _ (from to : List ℕ) (before after : Objects) where
     -- what the output holds at status 0

@@ -1,6 +1,5 @@
 -- What restores leave and what checks tell, where the objects tell what they hold.
 use Rattle.std.specs.Prelude.{◌≡◌, ◌⊎◌, ℕ, ◌≤◌, false, List, [], Some, IfSome, length}
-use Rattle.std.specs.List.{All}
 use Rattle.pd_kinds.specs.declared.kind.Kind.{Kind}
 use Rattle.pd_kinds.specs.declared.kind.Kind.TheVariants.{Thin, Cache, Era}
 use Rattle.pd_kinds.specs.declared.kind.Stage.TheVariants.{Counts, Whole}
@@ -15,7 +14,7 @@ use Rattle.pd_spells.specs.CacheNeed.{cache_need}
 use Rattle.pd_spells.specs.CacheText.{SpellsCache}
 use Rattle.pd_spells.specs.EraNeed.{era_need}
 use Rattle.pd_spells.specs.EraText.{SpellsEra}
-use Rattle.pd_kinds.specs.Image.{HasBytes, IsImage}
+use Rattle.pd_kinds.specs.Image.{IsImage}
 use Rattle.pd_laid.specs.Salvage.{salvage}
 use Rattle.pd_kinds.specs.Limits.{room_of}
 use Rattle.pd_laid_thin.specs.CleanPool.{IsCleanPool}
@@ -85,8 +84,7 @@ image_need Era version image room = era_need (era_meaning image) room
 
 -- a sound image's dump is to be restored in this version, and there is room for it
 pub record IsDumpOf (kind : Kind) (version : ℕ) (image base : List (List ℕ)) (before : Objects) : Type 0 where
-  pub bytes : HasBytes image
-  pub blocks : All (λ block. length block ≡ 4096) image
+  pub is : IsImage image
   pub sound : faults kind Whole image ≡ []
   pub text : before.source.left ≡ Some (image_text kind image)
   pub held : before.output.held ≡ Some base

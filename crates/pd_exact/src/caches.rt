@@ -1,12 +1,11 @@
-ghost use Rattle.std.specs.Prelude.{◌≡◌, ◌⊎◌, ℕ, List, [], IfSome, length};
-ghost use Rattle.std.specs.List.{All};
+ghost use Rattle.std.specs.Prelude.{◌≡◌, ◌⊎◌, ℕ, List, [], IfSome};
 ghost use Rattle.pd_kinds.specs.declared.kind.Kind.TheVariants.{Cache};
 ghost use Rattle.pd_kinds.specs.declared.kind.Stage.TheVariants.{Whole};
 ghost use Rattle.pd_kinds.specs.CacheFormat.{cache_fields};
 ghost use Rattle.pd_kinds.specs.Graph.{block_at};
 ghost use Rattle.pd_kinds.specs.Meaning.{cache_meaning};
 ghost use Rattle.pd_kinds.specs.Stages.{faults};
-ghost use Rattle.pd_kinds.specs.Image.{HasBytes};
+ghost use Rattle.pd_kinds.specs.Image.{IsImage};
 ghost use Rattle.pd_spells.specs.Lawful.{IsLawfulCache};
 ghost use Rattle.pd_answers.specs.Answer.{NoFaults, Objects};
 ghost use Rattle.pd_exact.specs.Exact.{HoldsCacheOfText, IsDumpOf, IsRestoreAnswered, LeavesCacheOfText};
@@ -42,7 +41,7 @@ pub fn crashed_restore_leaves_no_other_cache()
 
 /// The meaning of a cache without faults up to the stage Whole is lawful: a text spells it.
 pub fn sound_caches_are_lawful()
-    ensures { (image : List (List ℕ)) → HasBytes image → All (λ block. length block ≡ 4096) image → faults Cache Whole image ≡ []
+    ensures { (image : List (List ℕ)) → IsImage image → faults Cache Whole image ≡ []
         → IsLawfulCache (cache_meaning image) }
 {
     superblocks_lead_to_reached_roots();

@@ -1,11 +1,10 @@
 ghost use Rattle.std.specs.Prelude.{◌≡◌, ◌⊎◌, ◌≤◌, ℕ, List, [], IfSome, length};
-ghost use Rattle.std.specs.List.{All};
 ghost use Rattle.pd_kinds.specs.declared.kind.Kind.TheVariants.{Thin};
 ghost use Rattle.pd_kinds.specs.declared.kind.Stage.TheVariants.{Super};
 ghost use Rattle.pd_kinds.specs.Limits.{room_of};
 ghost use Rattle.pd_kinds.specs.Meaning.{thin_meaning};
 ghost use Rattle.pd_kinds.specs.Stages.{faults};
-ghost use Rattle.pd_kinds.specs.Image.{HasBytes};
+ghost use Rattle.pd_kinds.specs.Image.{IsImage};
 ghost use Rattle.pd_laid.specs.Salvage.{salvage};
 ghost use Rattle.pd_spells.specs.Lawful.{IsLawfulPool};
 ghost use Rattle.pd_spells.specs.ThinNeed.{thin_need};
@@ -17,7 +16,7 @@ use pd_laid_thin::laid_pool_is_clean;
 
 /// What is saved of a pool whose superblock has no fault is lawful, whatever else is damaged: a text spells it.
 pub fn saved_pools_are_lawful()
-    ensures { (image : List (List ℕ)) → HasBytes image → All (λ block. length block ≡ 4096) image → faults Thin Super image ≡ []
+    ensures { (image : List (List ℕ)) → IsImage image → faults Thin Super image ≡ []
         → IsLawfulPool (salvage image) }
 {}
 

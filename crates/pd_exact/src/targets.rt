@@ -1,10 +1,9 @@
-ghost use Rattle.std.specs.Prelude.{◌≡◌, ◌⊎◌, ℕ, List, [], IfSome, length};
-ghost use Rattle.std.specs.List.{All};
+ghost use Rattle.std.specs.Prelude.{◌≡◌, ◌⊎◌, ℕ, List, [], IfSome};
 ghost use Rattle.pd_kinds.specs.declared.kind.Kind.TheVariants.{Era};
 ghost use Rattle.pd_kinds.specs.declared.kind.Stage.TheVariants.{Whole};
 ghost use Rattle.pd_kinds.specs.Meaning.{era_meaning};
 ghost use Rattle.pd_kinds.specs.Stages.{faults};
-ghost use Rattle.pd_kinds.specs.Image.{HasBytes};
+ghost use Rattle.pd_kinds.specs.Image.{IsImage};
 ghost use Rattle.pd_spells.specs.Lawful.{IsLawfulEra};
 ghost use Rattle.pd_answers.specs.Answer.{NoFaults, Objects};
 ghost use Rattle.pd_exact.specs.Exact.{HoldsTargetOfText, IsDumpOf, IsRestoreAnswered, LeavesTargetOfText};
@@ -38,7 +37,7 @@ pub fn crashed_restore_leaves_no_other_target()
 
 /// The meaning of an era target without faults up to the stage Whole is lawful: a text spells it.
 pub fn sound_targets_are_lawful()
-    ensures { (image : List (List ℕ)) → HasBytes image → All (λ block. length block ≡ 4096) image → faults Era Whole image ≡ []
+    ensures { (image : List (List ℕ)) → IsImage image → faults Era Whole image ≡ []
         → IsLawfulEra (era_meaning image) }
 {
     lists_are_the_eras();

@@ -1,7 +1,6 @@
 //! What the lists over bytes come to for a pool without faults: its meaning, and its text.
 
-ghost use Rattle.std.specs.Prelude.{◌≡◌, ℕ, List, [], length};
-ghost use Rattle.std.specs.List.{All};
+ghost use Rattle.std.specs.Prelude.{◌≡◌, ℕ, List, []};
 ghost use Rattle.pd_kinds.specs.declared.kind.Kind.TheVariants.{Thin};
 ghost use Rattle.pd_kinds.specs.declared.kind.Stage.TheVariants.{Whole};
 ghost use Rattle.pd_kinds.specs.Graph.{block_at};
@@ -9,7 +8,7 @@ ghost use Rattle.pd_kinds.specs.Meaning.{thin_meaning};
 ghost use Rattle.pd_kinds.specs.Stages.{faults};
 ghost use Rattle.pd_kinds.specs.ThinSuper.{thin_fields};
 ghost use Rattle.pd_grammar.specs.Texts.{text_of_lines};
-ghost use Rattle.pd_kinds.specs.Image.{HasBytes};
+ghost use Rattle.pd_kinds.specs.Image.{IsImage};
 ghost use Rattle.pd_spells.specs.Lawful.{IsLawfulPool};
 ghost use Rattle.pd_spells.specs.ThinText.{text_of_pool, thin};
 ghost use Rattle.pd_pool.specs.Given.{GivesPool, super_lines};
@@ -43,7 +42,7 @@ pub fn given_lines_are_the_text()
 
 /// The meaning of a pool without faults up to the stage Whole is lawful: a text spells it.
 pub fn sound_pools_are_lawful()
-    ensures { (image : List (List ℕ)) → HasBytes image → All (λ block. length block ≡ 4096) image → faults Thin Whole image ≡ []
+    ensures { (image : List (List ℕ)) → IsImage image → faults Thin Whole image ≡ []
         → IsLawfulPool (thin_meaning image) }
 {
     rows_are_the_devices();

@@ -3,4 +3,4 @@ use Rattle.pd_exact.proofs.CacheLawful.{cache_lawful}
 use Rattle.pd_exact.proofs.caches.sound_caches_are_lawful.Goals as goal
 
 pub returns : goal.returns
-returns c = λ image bytes whole none. cache_lawful image bytes none (c.superblocks_lead_to_reached_roots.ensures.cache Whole image tt none) whole
+returns c = λ image is none. cache_lawful image is.bytes none (c.superblocks_lead_to_reached_roots.ensures.cache Whole image tt none) is.blocks

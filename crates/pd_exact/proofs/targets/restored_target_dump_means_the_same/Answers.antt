@@ -12,7 +12,7 @@ use Rattle.pd_exact.proofs.targets.restored_target_dump_means_the_same.Goals as 
 pub returns-clause-restored : goal.returns-clause-restored
 returns-clause-restored c image base file path before after status dump answered none =
     let m = era_meaning image in
-    let spells = c.era_text_spells.ensures m (c.sound_targets_are_lawful.ensures image dump.bytes dump.blocks dump.sound) in
+    let spells = c.era_text_spells.ensures m (c.sound_targets_are_lawful.ensures image dump.is dump.sound) in
     let accepted = c.era_text_is_accepted_where_there_is_room.ensures in
     dump_restored IsEraVerdict is_era_early laid_era SpellsEra era_need IsCleanEra
     (target_laws c.era_text_has_one_verdict.ensures.one accepted.no_room c.laid_era_is_clean.ensures.clean)
@@ -21,7 +21,7 @@ returns-clause-restored c image base file path before after status dump answered
 pub returns-clause-same : goal.returns-clause-same
 returns-clause-same c image base file path before after dump answered =
     let m = era_meaning image in
-    let spells = c.era_text_spells.ensures m (c.sound_targets_are_lawful.ensures image dump.bytes dump.blocks dump.sound) in
+    let spells = c.era_text_spells.ensures m (c.sound_targets_are_lawful.ensures image dump.is dump.sound) in
     IfSome_then after.output.held
     (dump_same SpellsEra IsCleanEra before after (text_of_era m) m base dump.text dump.held spells c.era_text_has_one_meaning.ensures
     (c.restored_target_is_clean.ensures file path before after answered))
