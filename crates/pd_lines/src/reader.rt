@@ -7,6 +7,7 @@ ghost use Rattle.pd_grammar.specs.Words.{is_printable};
 ghost use Rattle.pd_image.specs.Source.{KeepsSource};
 ghost use Rattle.pd_lines.specs.Moves.{Moves, IsUnbroken, EndsLine};
 ghost use Rattle.pd_lines.specs.LineText.{LineText};
+ghost use Rattle.pd_lines.specs.Numbered.{IsNumbered};
 
 use crate::buffer::Buffer;
 use crate::fault::LineFault;
@@ -115,6 +116,8 @@ impl LineReader {
         ensures reads { (left : List ℕ) → (S.state source.old).left ≡ Some left
             → Reads (answered (lines_of self.new) (line_of self.new) result) (next_number self.old) (held_of self.old ++ left) (held_of self.new) (S.state source.new).left }
         ensures counted { (result ≢ Err LineFault.Source) → lines_of self.new ≡ next_number self.old }
+        ensures onward { lines_of self.old ≤ lines_of self.new }
+        ensures numbered { IfErr result (IsNumbered (next_number self.old)) }
         ensures source { result ≡ Err LineFault.Source → Rose (S.state source.old).faults (S.state source.new).faults }
         ensures faults { (S.state source.old).faults ≤ (S.state source.new).faults }
         ensures quiet { (result ≢ Err LineFault.Source) → (S.state source.new).faults ≡ (S.state source.old).faults }
@@ -233,6 +236,7 @@ fn end_of(held: &[u8], number: u64) -> Result<bool, LineFault>
     ensures long { 160 < length held.now → result ≡ Err (LineFault.TooLong number) }
     ensures unended { 1 ≤ length held.now → length held.now ≤ 160 → result ≡ Err (LineFault.Unended number) }
     ensures end { held.now ≡ [] → result ≡ Ok false }
+    ensures numbered { IfErr result (IsNumbered number) }
 {
     if held.len() > 160 {
         Err(LineFault::TooLong(number))
