@@ -1,5 +1,5 @@
 -- An output that has no superblock at a crash.
-use Rattle.std.specs.Prelude.{◌≡◌, ℕ, List, Some}
+use Rattle.std.specs.Prelude.{◌≡◌, ℕ, List, Some, is_some}
 use Rattle.std.specs.List.{slice_get}
 use Rattle.pd_kinds.specs.Field.{zeros}
 use Rattle.pd_kinds.specs.Objects.{DeviceState}
@@ -17,4 +17,5 @@ IsClosed device = LeavesNow HasZeros device
 -- calls of a draft: a crash since old leaves zeros in block 0
 pub record StaysClosed (old new : DeviceState) : Type 0 where
   pub crash : LeavesOnly HasZeros old new
+  pub told : is_some new.held ≡ is_some old.held
   pub kept : KeepsPlace old new

@@ -1,6 +1,6 @@
 //! An image that is changed where it stands.
 
-ghost use Rattle.std.specs.Prelude.{◌≡◌, ◌+◌, ◌<◌, ◌≤◌, List, ℕ, Some, OnOk, IfOk, IfSome, slice_get, slice_set};
+ghost use Rattle.std.specs.Prelude.{◌≡◌, ◌+◌, ◌<◌, ◌≤◌, List, ℕ, Some, OnOk, IfOk, IfSome, is_some, slice_get, slice_set};
 ghost use Rattle.pd_kinds.specs.Field.{zeros};
 ghost use Rattle.pd_kinds.specs.Objects.{CountsFault};
 ghost use Rattle.pd_kinds.specs.Crash.{LeavesOnly, HoldsSynced, IsOldOrNone, IsNoneOrNew};
@@ -95,6 +95,7 @@ impl<'a, D: Device> Rewrite<'a, D> {
 
         // A crash leaves no valid superblock or the result.
         ensures crash { (image : List (List ℕ)) → (D.state self.entry.dev.now).held ≡ Some image → LeavesOnly (IsNoneOrNew (slice_set image 0 super_block.now.0)) (D.state self.entry.dev.now) (D.state self.exit.0.now) }
+        ensures told { is_some (D.state self.exit.0.now).held ≡ is_some (D.state self.entry.dev.now).held }
         ensures kept { KeepsPlace (D.state self.entry.dev.now) (D.state self.exit.0.now) }
         ensures reads { (D.state self.exit.0.now).reads ≡ (D.state self.entry.dev.now).reads }
         ensures faults { CountsFault result (D.state self.entry.dev.now).faults (D.state self.exit.0.now).faults }

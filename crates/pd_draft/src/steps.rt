@@ -1,6 +1,6 @@
 //! The steps of a draft, over the device itself.
 
-ghost use Rattle.std.specs.Prelude.{◌≡◌, ◌<◌, ◌≤◌, List, ℕ, Some, OnOk, IfSome, slice_set};
+ghost use Rattle.std.specs.Prelude.{◌≡◌, ◌<◌, ◌≤◌, List, ℕ, Some, OnOk, IfSome, is_some, slice_set};
 ghost use Rattle.pd_kinds.specs.Field.{zeros};
 ghost use Rattle.pd_kinds.specs.Objects.{CountsFault};
 ghost use Rattle.pd_kinds.specs.Crash.{LeavesOnly, HoldsSynced, IsOldOrNone, IsNoneOrNew};
@@ -23,6 +23,7 @@ pub fn clear<D: Device>(dev: &mut D) -> Result<(), Failed>
 
     // Where nothing was unsynced, a crash leaves the old image or no valid superblock.
     ensures crash { (image : List (List ℕ)) → HoldsSynced image (D.state dev.old) → LeavesOnly (IsOldOrNone image) (D.state dev.old) (D.state dev.new) }
+    ensures told { is_some (D.state dev.new).held ≡ is_some (D.state dev.old).held }
     ensures kept { KeepsPlace (D.state dev.old) (D.state dev.new) }
     ensures reads { (D.state dev.new).reads ≡ (D.state dev.old).reads }
     ensures faults { CountsFault result (D.state dev.old).faults (D.state dev.new).faults }
@@ -40,6 +41,7 @@ pub(crate) fn place<D: Device>(dev: &mut D, b: u64, block: &Block) -> Result<(),
 
     // A crash leaves zeros in block 0.
     ensures crash { LeavesOnly HasZeros (D.state dev.old) (D.state dev.new) }
+    ensures told { is_some (D.state dev.new).held ≡ is_some (D.state dev.old).held }
     ensures kept { KeepsPlace (D.state dev.old) (D.state dev.new) }
     ensures reads { (D.state dev.new).reads ≡ (D.state dev.old).reads }
     ensures faults { CountsFault result (D.state dev.old).faults (D.state dev.new).faults }
@@ -56,6 +58,7 @@ pub(crate) fn finish<D: Device>(dev: &mut D, super_block: &Block) -> Result<(), 
 
     // A crash leaves no valid superblock or the result.
     ensures crash { (image : List (List ℕ)) → (D.state dev.old).held ≡ Some image → LeavesOnly (IsNoneOrNew (slice_set image 0 super_block.now.0)) (D.state dev.old) (D.state dev.new) }
+    ensures told { is_some (D.state dev.new).held ≡ is_some (D.state dev.old).held }
     ensures kept { KeepsPlace (D.state dev.old) (D.state dev.new) }
     ensures reads { (D.state dev.new).reads ≡ (D.state dev.old).reads }
     ensures faults { CountsFault result (D.state dev.old).faults (D.state dev.new).faults }

@@ -8,4 +8,4 @@ returns-clause-wrote g c =
     wrote_one c.args.block.now.0
     (record { device = state c.args.self.now.dev.now; place = c.args.self.now.next })
     (record { device = state c.place.new.dev; place = c.args.self.now.next + 1 })
-    refl c.in_ok-place.ensures.content (record { crash = c.place.ensures.crash; kept = c.place.ensures.kept }) (search rules)
+    refl c.in_ok-place.ensures.content (record { crash = c.place.ensures.crash; told = c.place.ensures.told; kept = c.place.ensures.kept }) (search rules)
