@@ -2,6 +2,7 @@ pub mod WordLemmas
 pub mod NumberWords
 pub mod ReadLemmas
 pub mod TextLemmas
+pub mod PastLemmas
 pub mod GivesLemmas
 pub mod LawLemmas
 pub mod ThinWordLemmas

@@ -1,5 +1,5 @@
 -- Why a text isn't read on.
-use Rattle.std.specs.Prelude.{◌≡◌, ℕ, ◌≤◌, Result, MatchResult}
+use Rattle.std.specs.Prelude.{◌≡◌, ℕ, ◌+◌, ◌-◌, ◌^◌, ◌≤◌, min, Result, MatchResult}
 use Rattle.pd_kinds.specs.Objects.{Rose}
 use Rattle.pd_grammar.specs.declared.cause.TextCause.{TextCause}
 use Rattle.pd_grammar.specs.declared.cause.TextCause.TheVariants as c
@@ -35,3 +35,9 @@ CountsRead (r.Text fault) old new = new ≡ old
 -- a call fails for the source only where the count of its failures rose, and leaves it as it was elsewhere
 abbrev pub CountsReads : {T : Type 0} → Result T ReadFault → ℕ → ℕ → Type 0
 CountsReads result old new = MatchResult result (λ _. new ≡ old) (λ fault. CountsRead fault old new)
+
+-- a refusal is that of a line past so many, up to the end of a `u64`
+abbrev pub IsPast : ℕ → ReadFault → Type 0
+IsPast lines r.Memory = Unit {0}
+IsPast lines r.Source = Unit {0}
+IsPast lines (r.Text fault) = min (lines + 1) (2 ^ 64 - 1) ≤ fault.line

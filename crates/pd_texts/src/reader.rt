@@ -1,8 +1,8 @@
 //! The reader of a text of any kind.
 
-ghost use Rattle.std.specs.Prelude.{◌≡◌, ◌≤◌, ℕ, List, [], ◌∷◌, length, IfOk, OnOk, Some, None, MatchResult};
+ghost use Rattle.std.specs.Prelude.{◌≡◌, ◌≤◌, ℕ, List, [], ◌∷◌, length, IfOk, OnOk, Some, None, MatchResult, IfErr};
 ghost use Rattle.pd_image.specs.Source.{KeepsSource};
-ghost use Rattle.pd_texts.specs.Faults.{CountsReads};
+ghost use Rattle.pd_texts.specs.Faults.{CountsReads, IsPast};
 
 use crate::fault::{ReadFault, fault_after_end, fault_of, text_fault};
 use crate::state::TextState;
@@ -19,6 +19,7 @@ pub struct TextReader<P: TextState> {
 }
 
 impl<P: TextState> TextReader<P> {
+    ghost use Rattle.pd_lines.specs.Reader.{lines_of};
     ghost use Rattle.pd_texts.specs.Reader.{HasRead, ReadsOn, LeavesOf, GivesLine, GivesOf, EndsOf, RefusesAfter, begun};
 
     /// No line was read. It takes memory for 32 KiB, and `next` takes none.
@@ -40,6 +41,7 @@ impl<P: TextState> TextReader<P> {
             → GivesLine P.format P.Stands P.first_line P.meant result before self.new }
         ensures text { (text : List ℕ) (before : List P.Meant) → ReadsOn P.format P.Stands before self.old → LeavesOf P.format text before self.old (S.state source.old).left
             → GivesOf P.format P.first_line P.meant result text before self.new (S.state source.new).left }
+        ensures past { IfErr result (IsPast (lines_of self.old.reader)) }
         ensures kept { KeepsSource (S.state source.old) (S.state source.new) }
         ensures faults { CountsReads result (S.state source.old).faults (S.state source.new).faults }
     {
@@ -55,6 +57,8 @@ impl<P: TextState> TextReader<P> {
         ensures lines { (before : List P.Meant) → ReadsOn P.format P.Stands before self.old → OnOk result (ReadsOn P.format P.Stands (begun P.first_line before) self.new) }
         ensures text { (text : List ℕ) (before : List P.Meant) → ReadsOn P.format P.Stands before self.old → LeavesOf P.format text before self.old (S.state source.old).left
             → MatchResult result (λ _. LeavesOf P.format text (begun P.first_line before) self.new (S.state source.new).left) (RefusesAfter P.format text before) }
+        ensures past { IfErr result (IsPast (lines_of self.old.reader)) }
+        ensures onward { lines_of self.old.reader ≤ lines_of self.new.reader }
         ensures kept { KeepsSource (S.state source.old) (S.state source.new) }
         ensures faults { CountsReads result (S.state source.old).faults (S.state source.new).faults }
     {
@@ -71,6 +75,8 @@ impl<P: TextState> TextReader<P> {
         ensures lines { ReadsOn P.format P.Stands [] self.old → OnOk result (ReadsOn P.format P.Stands (P.first_line ∷ []) self.new) }
         ensures text { (text : List ℕ) → ReadsOn P.format P.Stands [] self.old → LeavesOf P.format text [] self.old (S.state source.old).left
             → MatchResult result (λ _. LeavesOf P.format text (P.first_line ∷ []) self.new (S.state source.new).left) (RefusesAfter P.format text []) }
+        ensures past { IfErr result (IsPast (lines_of self.old.reader)) }
+        ensures onward { lines_of self.old.reader ≤ lines_of self.new.reader }
         ensures kept { KeepsSource (S.state source.old) (S.state source.new) }
         ensures faults { CountsReads result (S.state source.old).faults (S.state source.new).faults }
     {
@@ -95,6 +101,7 @@ impl<P: TextState> TextReader<P> {
         ensures text { (text : List ℕ) (before : List P.Meant) → 1 ≤ length before → ReadsOn P.format P.Stands before self.old
             → LeavesOf P.format text before self.old (S.state source.old).left
             → GivesOf P.format P.first_line P.meant result text before self.new (S.state source.new).left }
+        ensures past { IfErr result (IsPast (lines_of self.old.reader)) }
         ensures kept { KeepsSource (S.state source.old) (S.state source.new) }
         ensures faults { CountsReads result (S.state source.old).faults (S.state source.new).faults }
     {
@@ -113,6 +120,8 @@ impl<P: TextState> TextReader<P> {
         ensures text { (text : List ℕ) (before : List P.Meant) → 1 ≤ length before → ReadsOn P.format P.Stands before self.old
             → LeavesOf P.format text before self.old (S.state source.old).left
             → MatchResult result (λ line. LeavesOf P.format text (P.meant line ∷ before) self.new (S.state source.new).left) (RefusesAfter P.format text before) }
+        ensures past { IfErr result (IsPast (lines_of self.old.reader)) }
+        ensures onward { lines_of self.old.reader ≤ lines_of self.new.reader }
         ensures kept { KeepsSource (S.state source.old) (S.state source.new) }
         ensures faults { CountsReads result (S.state source.old).faults (S.state source.new).faults }
     {
@@ -133,6 +142,7 @@ impl<P: TextState> TextReader<P> {
         ensures text { (text : List ℕ) (before : List P.Meant) → HasRead P.format P.Stands (P.meant None ∷ before) self.old
             → LeavesOf P.format text (P.meant None ∷ before) self.old (S.state source.old).left
             → EndsOf P.format result text (P.meant None ∷ before) (S.state source.new).left }
+        ensures past { IfErr result (IsPast (lines_of self.old.reader)) }
         ensures kept { KeepsSource (S.state source.old) (S.state source.new) }
         ensures faults { CountsReads result (S.state source.old).faults (S.state source.new).faults }
     {

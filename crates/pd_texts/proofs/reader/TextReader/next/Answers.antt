@@ -1,6 +1,7 @@
 use Rattle.std.proofs.Common.{inl}
 use Rattle.pd_texts.specs.Reader.{begun}
 use Rattle.pd_texts.proofs.GivesLemmas.{some_begun, line_begun, text_begun}
+use Rattle.pd_texts.proofs.PastLemmas.{past_before}
 use Rattle.pd_texts.proofs.reader.TextReader.next.Goals as goal
 
 pub returns-in-Ok-clause-lines : goal.returns-in-Ok-clause-lines
@@ -17,3 +18,6 @@ returns-in-Ok-clause-text g c = λ text before on leaves.
 
 pub returns-in-Err-clause-text : goal.returns-in-Err-clause-text
 returns-in-Err-clause-text g c = λ text before on leaves. inl (c.in-Err.ensures.text text before on leaves)
+
+pub returns-in-Ok-clause-past : goal.returns-in-Ok-clause-past
+returns-in-Ok-clause-past g c = past_before c.next_value.result _ _ c.begin.ensures.onward c.next_value.ensures.past

@@ -1,5 +1,6 @@
 use Rattle.std.proofs.Common.{inl, Some}
 use Rattle.pd_texts.proofs.GivesLemmas.{gives_line, gives_last, gives_more, gives_end}
+use Rattle.pd_texts.proofs.PastLemmas.{past_before}
 use Rattle.pd_texts.proofs.reader.TextReader.next_value.Goals as goal
 
 pub returns-in-Ok-Some-clause-lines : goal.returns-in-Ok-Some-clause-lines
@@ -30,3 +31,6 @@ returns-in-Ok-None-clause-text g c = λ text before some on leaves.
 
 pub returns-in-Err-clause-text : goal.returns-in-Err-clause-text
 returns-in-Err-clause-text g c = λ text before some on leaves. inl (c.in-Err.ensures.text text before some on leaves)
+
+pub returns-in-Ok-None-clause-past : goal.returns-in-Ok-None-clause-past
+returns-in-Ok-None-clause-past g c = past_before c.read_end.result _ _ c.read_later.ensures.onward c.read_end.ensures.past

@@ -1,8 +1,9 @@
-use Rattle.std.proofs.Common.{◌∙◌, ◌++◌, ◌∷◌, None}
+use Rattle.std.proofs.Common.{arith, ◌∙◌, ◌++◌, ◌∷◌, None}
 use Rattle.pd_grammar.proofs.NumberLemmas.{ok-err}
 use Rattle.pd_lines.specs.declared.fault.LineFault.TheVariants.{Source}
 use Rattle.pd_lines.specs.Reader.{line_of, next_number}
 use Rattle.pd_texts.proofs.TextLemmas.{line_after, end_after, fault_after, count_is}
+use Rattle.pd_texts.proofs.PastLemmas.{past_end}
 use Rattle.pd_texts.proofs.reader.TextReader.read_end.Goals as goal
 
 pub returns-in-Ok-true-clause-text : goal.returns-in-Ok-true-clause-text
@@ -28,3 +29,11 @@ returns-in-Err-clause-text g c = λ text before read leaves.
     rw c.fault_after_end.ensures
     (fault_after t.format text (old.buffer ++ leaves.rest) c.advance.new.self.buffer (g.S.Source.state c.advance.new.source).left (t.meant None ∷ before) (next_number old) c.in-Err.fault
     leaves.is (g.met.P.TextState.ends None) (count_is (t.meant None ∷ before) old.lines read.count) (c.in-Err.ensures.reads leaves.rest leaves.left_is))
+
+pub returns-in-Ok-true-clause-past : goal.returns-in-Ok-true-clause-past
+returns-in-Ok-true-clause-past g c =
+    let counted = c.in-Ok-true.ensures.counted (ok-err c.in-Ok-true.field-0 Source) in
+    rw c.text_fault.ensures (omega (arith, c.lines.ensures))
+
+pub returns-in-Err-clause-past : goal.returns-in-Err-clause-past
+returns-in-Err-clause-past g c = rw c.fault_after_end.ensures (past_end c.args.self.now.reader.lines c.in-Err.fault c.in-Err.ensures.numbered)

@@ -1,4 +1,4 @@
-use Rattle.std.proofs.Common.{◌≡◌, ◌∙◌, ◌++◌, [], Ok}
+use Rattle.std.proofs.Common.{arith, ◌≡◌, ◌∙◌, ◌++◌, [], Ok}
 use Rattle.pd_grammar.specs.declared.cause.TextCause.TheVariants.{Header}
 use Rattle.pd_grammar.specs.Texts.{read}
 use Rattle.pd_grammar.proofs.NumberLemmas.{ok-err}
@@ -7,6 +7,7 @@ use Rattle.pd_lines.specs.Reader.{line_of, next_number}
 use Rattle.pd_texts.specs.declared.reader.TextReader.{TextReader}
 use Rattle.pd_texts.proofs.ReadLemmas.{first_ok, first_err}
 use Rattle.pd_texts.proofs.TextLemmas.{line_refuses, end_refuses, fault_refuses, count_is, has_read_more, leaves_more}
+use Rattle.pd_texts.proofs.PastLemmas.{past_of}
 use Rattle.pd_texts.proofs.reader.TextReader.read_first.Goals as goal
 
 pub returns-then-read_first-clause-lines : goal.returns-then-read_first-clause-lines
@@ -61,3 +62,16 @@ returns-in-Err-clause-text g c = λ text on leaves.
     (fault_refuses t.format text (old.buffer ++ leaves.rest) c.advance.new.self.buffer (g.S.Source.state c.advance.new.source).left [] (next_number old) Header c.in-Err.fault
     leaves.is on.going (count_is {M = t.Meant} [] old.lines on.so_far.count) (λ bytes other. first_err t.format bytes (g.met.P.TextState.header bytes other))
     (c.in-Err.ensures.reads leaves.rest leaves.left_is))
+
+pub returns-else-read_first-clause-past : goal.returns-else-read_first-clause-past
+returns-else-read_first-clause-past g c =
+    let counted = c.in-Ok-true.ensures.counted (ok-err c.in-Ok-true.field-0 Source) in
+    rw c.text_fault.ensures (omega (arith, c.lines.ensures))
+
+pub returns-in-Ok-false-clause-past : goal.returns-in-Ok-false-clause-past
+returns-in-Ok-false-clause-past g c =
+    let counted = c.in-Ok-false.ensures.counted (ok-err c.in-Ok-false.field-0 Source) in
+    rw c.text_fault-in-Ok-false.ensures (omega (arith, c.lines-in-Ok-false.ensures))
+
+pub returns-in-Err-clause-past : goal.returns-in-Err-clause-past
+returns-in-Err-clause-past g c = rw c.fault_of.ensures (past_of c.args.self.now.reader.lines Header c.in-Err.fault c.in-Err.ensures.numbered)

@@ -1,4 +1,4 @@
-use Rattle.std.proofs.Common.{◌≡◌, ◌∙◌, ◌++◌, sym, Ok, Err}
+use Rattle.std.proofs.Common.{arith, ◌≡◌, ◌∙◌, ◌++◌, sym, Ok, Err}
 use Rattle.pd_grammar.specs.declared.cause.TextCause.TheVariants.{Word}
 use Rattle.pd_grammar.specs.Texts.{read}
 use Rattle.pd_grammar.proofs.NumberLemmas.{ok-err}
@@ -7,6 +7,7 @@ use Rattle.pd_lines.specs.Reader.{line_of, next_number}
 use Rattle.pd_texts.specs.declared.reader.TextReader.{TextReader}
 use Rattle.pd_texts.proofs.ReadLemmas.{other_bytes}
 use Rattle.pd_texts.proofs.TextLemmas.{line_refuses, end_refuses, fault_refuses, count_is, has_read_more, leaves_more}
+use Rattle.pd_texts.proofs.PastLemmas.{past_of}
 use Rattle.pd_texts.proofs.reader.TextReader.read_later.Goals as goal
 
 pub returns-in-Ok-clause-lines : goal.returns-in-Ok-clause-lines
@@ -58,3 +59,16 @@ returns-in-Err-clause-text g c = λ text before some on leaves.
     (fault_refuses t.format text (old.buffer ++ leaves.rest) c.advance.new.self.buffer (g.S.Source.state c.advance.new.source).left before (next_number old) Word c.in-Err.fault
     leaves.is on.going (count_is before old.lines on.so_far.count) (λ bytes other. other_bytes t.format before bytes some other)
     (c.in-Err.ensures.reads leaves.rest leaves.left_is))
+
+pub returns-in-Err-read-clause-past : goal.returns-in-Err-read-clause-past
+returns-in-Err-read-clause-past g c =
+    let counted = c.in-Ok-true.ensures.counted (ok-err c.in-Ok-true.field-0 Source) in
+    rw c.text_fault.ensures (omega (arith, c.lines.ensures))
+
+pub returns-in-Ok-false-clause-past : goal.returns-in-Ok-false-clause-past
+returns-in-Ok-false-clause-past g c =
+    let counted = c.in-Ok-false.ensures.counted (ok-err c.in-Ok-false.field-0 Source) in
+    rw c.text_fault-in-Ok-false.ensures (omega (arith, c.lines-in-Ok-false.ensures))
+
+pub returns-in-Err-clause-past : goal.returns-in-Err-clause-past
+returns-in-Err-clause-past g c = rw c.fault_of.ensures (past_of c.args.self.now.reader.lines Word c.in-Err.fault c.in-Err.ensures.numbered)
