@@ -1,5 +1,5 @@
 -- The terms of each request: what the tools promise.
-use Rattle.std.specs.Prelude.{◌≡◌, ℕ, true, false, ◌==◌, if◌then◌else◌, List, [], ◌∷◌, Option, Some, None, IfSome, unwrap_or}
+use Rattle.std.specs.Prelude.{◌≡◌, ◌≢◌, ℕ, true, false, ◌==◌, if◌then◌else◌, List, [], ◌∷◌, Option, Some, None, IfSome, unwrap_or}
 use Rattle.pd_kinds.specs.declared.kind.Kind.{Kind}
 use Rattle.pd_kinds.specs.declared.kind.Kind.TheVariants.{Thin, Cache, Era}
 use Rattle.pd_kinds.specs.declared.kind.Stage.{Stage}
@@ -34,6 +34,7 @@ refused = record {
   statuses = 2 ∷ [];
   memory = λ before. ⊥;
   silent = [];
+  spared = λ _. ⊥;
   reads = any_reads;
   leaves = nothing;
 }
@@ -60,6 +61,7 @@ check kind until path = record {
   statuses = 0 ∷ 1 ∷ 5 ∷ wanting_of until;
   memory = λ before. CanWantMemory kind until before.input.held;
   silent = 5 ∷ 7 ∷ [];
+  spared = λ _. ⊥;
   reads = few_reads kind;
   leaves = nothing;
 }
@@ -74,6 +76,7 @@ check_and_clear path = record {
   statuses = 0 ∷ 1 ∷ 5 ∷ 7 ∷ [];
   memory = λ before. CanWantMemory Thin Counts before.input.held;
   silent = 7 ∷ [];
+  spared = λ _. ⊥;
   reads = few_reads Thin;
   leaves = λ report before after status. LeavesCleared report status before.input after.input;
 }
@@ -101,6 +104,7 @@ query kind text_of file path = record {
   statuses = 0 ∷ 1 ∷ 5 ∷ 7 ∷ [];
   memory = λ before. CanWantMemory kind Whole before.input.held;
   silent = 1 ∷ [];
+  spared = λ queried. queried.report.total ≢ 0;
   reads = any_reads;
   leaves = nothing;
 }
@@ -125,6 +129,7 @@ generate number file = record {
   statuses = 0 ∷ [];
   memory = λ before. ⊥;
   silent = [];
+  spared = λ _. ⊥;
   reads = any_reads;
   leaves = nothing;
 }

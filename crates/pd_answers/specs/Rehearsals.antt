@@ -1,5 +1,5 @@
 -- The terms of a rehearsal: the restore, check and dump of the generator's text.
-use Rattle.std.specs.Prelude.{◌≡◌, ℕ, not, ◌==◌, if◌then◌else◌, List, [], ◌∷◌, length, sum_by, count_by, IfSome}
+use Rattle.std.specs.Prelude.{◌≡◌, ◌≢◌, ℕ, not, ◌==◌, if◌then◌else◌, List, [], ◌∷◌, length, sum_by, count_by, IfSome}
 use Rattle.pd_kinds.specs.Report.{Reported, report_of}
 use Rattle.pd_kinds.specs.Meaning.{ThinPool, ThinDevice}
 use Rattle.pd_grammar.specs.Spelling.{Verdict, accepted, refused, no_room}
@@ -60,6 +60,7 @@ rehearse number path = record {
   statuses = 0 ∷ 1 ∷ 4 ∷ 5 ∷ 7 ∷ [];
   memory = λ before. Unit {0};
   silent = 1 ∷ 4 ∷ 5 ∷ 7 ∷ [];
+  spared = λ rehearsed. (rehearsal_answer number rehearsed).status ≢ 0;
   reads = any_reads;
   leaves = λ rehearsed before after status. LeavesMade (Makes laid_pool rehearsed.room rehearsed.verdict)
       (is_pool_early (generated_text number) rehearsed.room) status before.output after.output;

@@ -1,5 +1,5 @@
 -- The terms of a repair, and of a search: a repair without a superblock.
-use Rattle.std.specs.Prelude.{◌≡◌, ℕ, nat_lt, Bool, not, ◌==◌, if◌then◌else◌, List, [], ◌∷◌, Option, Some, None, IfSome}
+use Rattle.std.specs.Prelude.{◌≡◌, ◌≢◌, ℕ, nat_lt, Bool, not, ◌==◌, if◌then◌else◌, List, [], ◌∷◌, Option, Some, None, IfSome}
 use Rattle.pd_kinds.specs.declared.kind.Kind.TheVariants.{Thin}
 use Rattle.pd_kinds.specs.declared.kind.Stage.TheVariants.{Super}
 use Rattle.pd_kinds.specs.Crash.{IsUntouched}
@@ -58,6 +58,7 @@ repair from to = record {
   statuses = 0 ∷ 1 ∷ 4 ∷ 5 ∷ 7 ∷ [];
   memory = λ before. IfSome before.input.held (λ image. faults Thin Super image ≡ []);
   silent = [];
+  spared = λ _. ⊥;
   reads = any_reads;
   leaves = λ saved before after status. LeavesRepaired saved status before.output after.output;
 }
@@ -90,6 +91,7 @@ search from to transaction block_size blocks = record {
   statuses = 0 ∷ 1 ∷ 4 ∷ 5 ∷ 7 ∷ [];
   memory = λ before. Unit {0};
   silent = 1 ∷ 4 ∷ 5 ∷ 7 ∷ [];
+  spared = λ searched. (searched_answer searched).status ≢ 0;
   reads = any_reads;
   leaves = λ searched before after status. LeavesMade (LaysPool (searched_answer searched) searched.pool searched.room)
       (not ((searched_answer searched).status == 0)) status before.output after.output;

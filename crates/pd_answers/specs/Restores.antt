@@ -61,6 +61,7 @@ restore_by {M} IsVerdictOn is_early laid file path = record {
   statuses = 0 ∷ 3 ∷ 4 ∷ 5 ∷ 7 ∷ [];
   memory = λ before. Unit {0};
   silent = [];
+  spared = λ _. ⊥;
   reads = any_reads;
   leaves = λ judged before after status. LeavesRestored laid judged status before.output after.output;
 }

@@ -34,6 +34,8 @@ pub record Terms : Type 1 where
   pub memory : Objects → Type 0
   -- the statuses under which `out` is left alone
   pub silent : List ℕ
+  -- and what is found under which it is, whatever the status
+  pub spared : Finding → Type 0
   -- how often it reads its devices
   pub reads : Objects → Objects → Type 0
   -- what it leaves, under a status, of what it writes: what these devices hold, and what a crash leaves of them
@@ -76,6 +78,20 @@ pub record AreOpen (uses : Uses) (after : Objects) : Type 0 where
   pub output : IsOpen uses.output after.output.access
   pub third : IsOpen uses.third after.third.access
 
+-- an object that is named is attached only once all that comes before it is open
+abbrev pub ComesAfter : Use → ℕ → Type 0 → Type 0
+ComesAfter unused access Earlier = Unit {0}
+ComesAfter (reading path) access Earlier = access ≢ 0 → Earlier
+ComesAfter (writing path) access Earlier = access ≢ 0 → Earlier
+
+-- the objects are attached one after another: the source, `input`, `output`, `third`, and `out` last
+pub record AreInOrder (uses : Uses) (after : Objects) : Type 0 where
+  pub input : ComesAfter uses.input after.input.access (IsOpen uses.source after.source.access)
+  pub output : ComesAfter uses.output after.output.access (IsOpen uses.source after.source.access × IsOpen uses.input after.input.access)
+  pub third : ComesAfter uses.third after.third.access
+      (IsOpen uses.source after.source.access × (IsOpen uses.input after.input.access × IsOpen uses.output after.output.access))
+  pub out : ComesAfter uses.out after.out.access (AreOpen uses after)
+
 -- a source that is named was read to its end, where it tells what is left
 abbrev pub IsReadWhole : Use → Option (List ℕ) → Option (List ℕ) → Type 0
 IsReadWhole unused old new = Unit {0}
@@ -104,6 +120,8 @@ pub record IsAnswered (terms : Terms) (before after : Objects) (status : ℕ) : 
   pub front : AppendsFront (terms.answer finding).out before.out.written after.out.written
   -- under some there are none: `out` isn't even attached
   pub silent : IsTrue (is_one_of terms.silent status) → status ≢ 6 → after.out ≡ before.out
+  -- and whatever the status, where that follows from what is found
+  pub spared : terms.spared finding → after.out ≡ before.out
   -- a status from 5 to 7 has just its line on `notes`, if `notes` didn't fail
   pub own_line : 5 ≤ status → after.notes.faults ≡ before.notes.faults
       → Appends (failure_line status) before.notes.written after.notes.written
@@ -119,6 +137,7 @@ pub record IsAnswered (terms : Terms) (before after : Objects) (status : ℕ) : 
   pub memory_wanting : status ≡ 7 → terms.memory before
   -- what is attached, and what isn't touched
   pub used : AreUsed terms.uses after
+  pub order : AreInOrder terms.uses after
   pub kept : AreKept terms.uses before after
   pub open_devices : status ≤ 4 → AreOpen terms.uses after
   pub open_notes : status ≢ 6 → after.notes.access ≡ 1

@@ -5,7 +5,7 @@ use Rattle.pd_kinds.specs.Crash.{IsUntouched}
 use Rattle.pd_spells.specs.Lines.{device_line, sink_line, memory_line}
 use Rattle.pd_answers.specs.Answer.{Objects, AreFresh, NoFaults, DeviceRose, StreamRose, failure_line, Use, unused, reading, writing, IsUsed, AppendsFrontOfOne}
 use Rattle.pd_kinds.proofs.AppendLemmas.{appends_none, front_none, front_from_whole}
-use Rattle.pd_answers.specs.Terms.{Terms, Uses, AreKept, AreUsed, IsKept, Changes, IsAnswered}
+use Rattle.pd_answers.specs.Terms.{Terms, Uses, AreKept, AreUsed, ComesAfter, IsKept, Changes, IsAnswered}
 use Rattle.pd_tools.specs.declared.stop.Stop.{Stop}
 use Rattle.pd_tools.specs.declared.stop.Stop.TheVariants.{Device, Stream, Memory}
 use Rattle.pd_tools.specs.Stop.{stop_line, stop_status}
@@ -106,6 +106,7 @@ module _ (terms : Terms) (before after : Objects) (fresh : AreFresh before) wher
     possible = refl;
     front = front;
     silent = λ _ ne. absurd (ne refl);
+    spared = work.spared;
     own_line = λ _ same. absurd (not_risen before.notes.faults after.notes.faults fresh.notes.1 same rose);
     notes_front = notes_front;
     device_failed = λ e. absurd (omega arith);
@@ -113,6 +114,7 @@ module _ (terms : Terms) (before after : Objects) (fresh : AreFresh before) wher
     notes_failed = λ _. refl;
     memory_wanting = λ e. absurd (omega arith);
     used = all_used terms.uses before after fresh work.kept work.followed notes;
+    order = work.order;
     kept = work.kept;
     open_devices = λ h. absurd (omega arith);
     open_notes = λ ne. absurd (ne refl);
@@ -121,6 +123,12 @@ module _ (terms : Terms) (before after : Objects) (fresh : AreFresh before) wher
     reads = work.reads;
     leaves = lost;
   }
+
+-- what isn't attached is in order
+no_turn : (given : Use) (access : ℕ) (Earlier : Type 0) → access ≡ 0 → ComesAfter given access Earlier
+no_turn unused access Earlier none = tt
+no_turn (reading path) access Earlier none = λ ne. absurd (ne none)
+no_turn (writing path) access Earlier none = λ ne. absurd (ne none)
 
 -- what isn't attached yet
 not_yet : (given : Use) (access : ℕ) (told : Option (List ℕ)) → access ≡ 0 → IsFollowed given (λ as_named. IsUsed as_named access told)
@@ -157,7 +165,14 @@ answered_unattached terms before notes' finding fresh found reads leaves access 
         output = still IsUntouched terms.uses.output before.output (record { held = refl; history = refl });
         third = still IsUntouched terms.uses.third before.third (record { held = refl; history = refl });
       };
+      order = record {
+        input = no_turn terms.uses.input before.input.access _ fresh.input.0;
+        output = no_turn terms.uses.output before.output.access _ fresh.output.0;
+        third = no_turn terms.uses.third before.third.access _ fresh.third.0;
+        out = no_turn terms.uses.out before.out.access _ fresh.out.0;
+      };
       silent = λ _. refl;
+      spared = λ _. refl;
       reads = reads;
       leaves = leaves;
     }) leaves (front_none _ before.out.written) (inl (rw written (front_none _ before.notes.written))) rose
@@ -179,6 +194,7 @@ module _ (terms : Terms) (before after : Objects) (attached : SinkState) (fresh 
         possible = done.work.possible;
         front = front_from_whole _ _ _ done.out;
         silent = λ quiet _. done.work.silent quiet;
+        spared = done.work.spared;
         own_line = λ high. absurd (omega arith);
         notes_front = inl (front_from_whole _ _ _ whole_line);
         device_failed = λ e. absurd (omega arith);
@@ -186,6 +202,7 @@ module _ (terms : Terms) (before after : Objects) (attached : SinkState) (fresh 
         notes_failed = λ rose. absurd (not_risen before.notes.faults after.notes.faults fresh.notes.1 same rose);
         memory_wanting = λ e. absurd (omega arith);
         used = all_used terms.uses before after fresh done.work.kept done.work.followed notes;
+        order = done.work.order;
         kept = done.work.kept;
         open_devices = λ _. done.open_devices;
         open_notes = λ _. access;
@@ -232,6 +249,7 @@ module _ (terms : Terms) (before after : Objects) (attached : SinkState) (fresh 
               possible = stopped.work.possible;
               front = stopped.front;
               silent = λ quiet _. stopped.work.silent quiet;
+              spared = stopped.work.spared;
               own_line = λ _ _. rw (stop_status-line stop, ← was.written) put.whole;
               notes_front = notes_front;
               device_failed = cause_5 terms before after stop stopped.cause;
@@ -239,6 +257,7 @@ module _ (terms : Terms) (before after : Objects) (attached : SinkState) (fresh 
               notes_failed = λ rose. absurd (not_risen before.notes.faults after.notes.faults fresh.notes.1 same rose);
               memory_wanting = cause_7 terms before after stop stopped.cause;
               used = all_used terms.uses before after fresh stopped.work.kept stopped.work.followed notes;
+              order = stopped.work.order;
               kept = stopped.work.kept;
               open_devices = λ h. absurd (omega arith);
               open_notes = λ _. puts.access ∙ was.access;

@@ -49,7 +49,9 @@ check_unread kind until path others notes out input input' Device none used unto
     possible = refl;
     followed = record { source = tt; out = not_yet [] out.access out.path none; input = used; output = tt; third = tt };
     kept = record { source = refl; out = tt; input = untouched; output = refl; third = refl };
+    order = record { input = λ _. tt; output = tt; third = tt; out = λ ne. absurd (ne none) };
     silent = λ _. refl;
+    spared = λ no. absurd no;
     reads = few kind until input.held input.reads input'.reads reads;
     leaves = tt;
   };
@@ -64,7 +66,9 @@ check_unread kind until path others notes out input input' Memory none used unto
     possible = wanting_possible kind until path unread.past_super;
     followed = record { source = tt; out = not_yet [] out.access out.path none; input = used; output = tt; third = tt };
     kept = record { source = refl; out = tt; input = untouched; output = refl; third = refl };
+    order = record { input = λ _. tt; output = tt; third = tt; out = λ ne. absurd (ne none) };
     silent = λ _. refl;
+    spared = λ no. absurd no;
     reads = few kind until input.held input.reads input'.reads reads;
     leaves = tt;
   };

@@ -139,7 +139,9 @@ clearing_unread path others notes out input input' Device none synced used untou
     possible = refl;
     followed = record { source = tt; out = not_yet [] out.access out.path none; input = used; output = tt; third = tt };
     kept = record { source = refl; out = tt; input = tt; output = refl; third = refl };
+    order = record { input = λ _. tt; output = tt; third = tt; out = λ ne. absurd (ne none) };
     silent = λ _. refl;
+    spared = λ no. absurd no;
     reads = few Thin Counts input.held input.reads input'.reads reads;
     leaves = untouched_left (report_in input.held) input input' synced 5 (λ e. omega arith) untouched;
   };
@@ -154,7 +156,9 @@ clearing_unread path others notes out input input' Memory none synced used untou
     possible = refl;
     followed = record { source = tt; out = not_yet [] out.access out.path none; input = used; output = tt; third = tt };
     kept = record { source = refl; out = tt; input = tt; output = refl; third = refl };
+    order = record { input = λ _. tt; output = tt; third = tt; out = λ ne. absurd (ne none) };
     silent = λ _. refl;
+    spared = λ no. absurd no;
     reads = few Thin Counts input.held input.reads input'.reads reads;
     leaves = untouched_left (report_in input.held) input input' synced 7 (λ e. omega arith) untouched;
   };
@@ -182,7 +186,9 @@ module _ (path : List ℕ) (others : Objects) (notes out out' : SinkState) (inpu
     possible = possible;
     followed = record { source = tt; out = out_used; input = record { allowed = inr (inl writable); named = λ _. named }; output = tt; third = tt };
     kept = record { source = refl; out = tt; input = tt; output = refl; third = refl };
+    order = record { input = λ _. tt; output = tt; third = tt; out = λ _. record { source = tt; input = writable; output = tt; third = tt } };
     silent = silent;
+    spared = λ no. absurd no;
     reads = reads;
     leaves = leaves;
   }

@@ -18,7 +18,9 @@ module _ (number : ℕ) (file : Option (List ℕ)) (others : Objects) (notes out
       possible = refl;
       followed = record { source = tt; out = used; input = tt; output = tt; third = tt };
       kept = record { source = refl; out = tt; input = refl; output = refl; third = refl };
+      order = record { input = tt; output = tt; third = tt; out = λ _. record { source = tt; input = tt; output = tt; third = tt } };
       silent = λ e. absurd cc;
+      spared = λ no. absurd no;
       reads = tt;
       leaves = tt;
     };
@@ -41,7 +43,9 @@ module _ (number : ℕ) (file : Option (List ℕ)) (others : Objects) (notes out
       possible = refl;
       followed = record { source = tt; out = used; input = tt; output = tt; third = tt };
       kept = record { source = refl; out = tt; input = refl; output = refl; third = refl };
+      order = record { input = tt; output = tt; third = tt; out = λ _. record { source = tt; input = tt; output = tt; third = tt } };
       silent = λ e. absurd cc;
+      spared = λ no. absurd no;
       reads = tt;
       leaves = tt;
     };

@@ -96,7 +96,9 @@ module _ (q : Query) (file : Option (List ℕ)) (path : List ℕ) (others : Obje
       possible = refl;
       followed = record { source = tt; out = not_yet (unwrap_or file []) out.access out.path fresh; input = used; output = tt; third = tt };
       kept = record { source = refl; out = tt; input = untouched; output = refl; third = refl };
+      order = record { input = λ _. tt; output = tt; third = tt; out = λ ne. absurd (ne fresh) };
       silent = λ _. refl;
+      spared = λ _. refl;
       reads = tt;
       leaves = tt;
     };
@@ -111,7 +113,9 @@ module _ (q : Query) (file : Option (List ℕ)) (path : List ℕ) (others : Obje
       possible = refl;
       followed = record { source = tt; out = not_yet (unwrap_or file []) out.access out.path fresh; input = used; output = tt; third = tt };
       kept = record { source = refl; out = tt; input = untouched; output = refl; third = refl };
+      order = record { input = λ _. tt; output = tt; third = tt; out = λ ne. absurd (ne fresh) };
       silent = λ _. refl;
+      spared = λ _. refl;
       reads = tt;
       leaves = tt;
     };
@@ -133,7 +137,9 @@ module _ (q : Query) (file : Option (List ℕ)) (path : List ℕ) (others : Obje
             possible = refl;
             followed = record { source = tt; out = not_yet (unwrap_or file []) out.access out.path fresh; input = used; output = tt; third = tt };
             kept = record { source = refl; out = tt; input = untouched; output = refl; third = refl };
+            order = record { input = λ _. tt; output = tt; third = tt; out = λ ne. absurd (ne fresh) };
             silent = λ _. refl;
+            spared = λ _. refl;
             reads = tt;
             leaves = tt;
           };
@@ -162,7 +168,9 @@ module _ (q : Query) (file : Option (List ℕ)) (path : List ℕ) (others : Obje
               possible = refl;
               followed = record { source = tt; out = out_used; input = used; output = tt; third = tt };
               kept = record { source = refl; out = tt; input = untouched; output = refl; third = refl };
+              order = record { input = λ _. tt; output = tt; third = tt; out = λ _. record { source = tt; input = opened; output = tt; third = tt } };
               silent = λ e. absurd cc;
+              spared = λ some. absurd (some (eqb-true report.total 0 clean));
               reads = tt;
               leaves = tt;
             };
@@ -183,7 +191,9 @@ module _ (q : Query) (file : Option (List ℕ)) (path : List ℕ) (others : Obje
         possible = possible;
         followed = record { source = tt; out = out_used; input = used; output = tt; third = tt };
         kept = record { source = refl; out = tt; input = untouched; output = refl; third = refl };
+        order = record { input = λ _. tt; output = tt; third = tt; out = λ _. record { source = tt; input = opened; output = tt; third = tt } };
         silent = λ e. absurd (loud e);
+        spared = λ some. absurd (some (eqb-true report.total 0 clean));
         reads = tt;
         leaves = tt;
       }

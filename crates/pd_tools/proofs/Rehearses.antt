@@ -128,7 +128,9 @@ module _ (number : ℕ) (path : List ℕ) (others : Objects) (notes out : SinkSt
           possible = refl;
           followed = record { source = tt; out = not_yet [] out.access out.path fresh; input = tt; output = record { allowed = inr (inr attached.access); named = λ _. attached.path }; third = tt };
           kept = record { source = refl; out = tt; input = refl; output = tt; third = refl };
+          order = record { input = tt; output = λ _. (tt, tt); third = tt; out = λ ne. absurd (ne fresh) };
           silent = λ _. refl;
+          spared = λ _. refl;
           reads = tt;
           leaves = leaves 5 (λ e. omega arith);
         };
@@ -194,7 +196,9 @@ module _ (number : ℕ) (path : List ℕ) (others : Objects) (notes out : SinkSt
       possible = possible;
       followed = record { source = tt; out = not_yet [] out.access out.path fresh; input = tt; output = output_used; third = tt };
       kept = record { source = refl; out = tt; input = refl; output = tt; third = refl };
+      order = record { input = tt; output = λ _. (tt, tt); third = tt; out = λ ne. absurd (ne fresh) };
       silent = λ _. refl;
+      spared = λ _. refl;
       reads = tt;
       leaves = left;
     }
@@ -273,7 +277,9 @@ module _ (number : ℕ) (path : List ℕ) (others : Objects) (notes out : SinkSt
         possible = possible;
         followed = record { source = tt; out = used; input = tt; output = output_used; third = tt };
         kept = record { source = refl; out = tt; input = refl; output = tt; third = refl };
+        order = record { input = tt; output = λ _. (tt, tt); third = tt; out = λ _. record { source = tt; input = tt; output = place.access ∙ attached.access; third = tt } };
         silent = λ quiet. absurd (heard quiet);
+        spared = λ some. absurd (some (rw answer refl));
         reads = tt;
         leaves = left;
       }

@@ -117,7 +117,9 @@ repair_unopened from to others notes input last_input output last synced un =
         possible = refl;
         followed = record { source = tt; out = tt; input = un.input_used; output = un.output_used; third = tt };
         kept = record { source = refl; out = refl; input = un.input_untouched; output = tt; third = refl };
+        order = record { input = λ _. tt; output = λ ne. (tt, un.order ne); third = tt; out = tt };
         silent = λ _. refl;
+        spared = λ no. absurd no;
         reads = tt;
         leaves = leaves 5 (λ e. omega arith);
       };
@@ -210,7 +212,9 @@ module _ (from to : List ℕ) (others : Objects) (notes : SinkState) (input open
       output = tt;
       third = refl;
     };
+    order = record { input = λ _. tt; output = λ _. (tt, reads.access ∙ both.input_access); third = tt; out = tt };
     silent = λ _. refl;
+    spared = λ no. absurd no;
     reads = tt;
     leaves = left;
   }

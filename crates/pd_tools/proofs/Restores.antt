@@ -138,7 +138,9 @@ module _ {M : Type 0} (Lawful : M → Type 0) (IsVerdictOn : List ℕ → ℕ �
           possible = possible_stop stop;
           followed = record { source = un.source_used; out = tt; input = tt; output = un.output_used; third = tt };
           kept = record { source = tt; out = refl; input = refl; output = tt; third = refl };
+          order = record { input = tt; output = λ ne. (un.order ne, tt); third = tt; out = tt };
           silent = λ _. refl;
+          spared = λ no. absurd no;
           reads = tt;
           leaves = leaves (stop_status stop) (some_stop stop);
         };
@@ -252,7 +254,9 @@ module _ {M : Type 0} (Lawful : M → Type 0) (IsVerdictOn : List ℕ → ℕ �
       possible = possible;
       followed = record { source = source_used; out = tt; input = tt; output = output_used; third = tt };
       kept = record { source = tt; out = refl; input = refl; output = tt; third = refl };
+      order = record { input = tt; output = λ _. (keeps.access ∙ both.source_access, tt); third = tt; out = tt };
       silent = λ _. refl;
+      spared = λ no. absurd no;
       reads = tt;
       leaves = leaves status is_done is_refusal;
     };
@@ -297,7 +301,9 @@ module _ {M : Type 0} (Lawful : M → Type 0) (IsVerdictOn : List ℕ → ℕ �
       possible = possible_stop stop;
       followed = record { source = source_used; out = tt; input = tt; output = output_used; third = tt };
       kept = record { source = tt; out = refl; input = refl; output = tt; third = refl };
+      order = record { input = tt; output = λ _. (keeps.access ∙ both.source_access, tt); third = tt; out = tt };
       silent = λ _. refl;
+      spared = λ no. absurd no;
       reads = tt;
       leaves = high (stop_status stop) (stop_status-low stop);
     };

@@ -34,6 +34,7 @@ pub record AreUnopened (from to : List ℕ) (input opened output writable : Devi
   pub input_used : IsUsed (reading from) opened.access opened.path
   pub output_used : IsUsed (writing to) writable.access writable.path
   pub closed : writable.access ≢ 2
+  pub order : writable.access ≢ 0 → opened.access ≡ 1
   pub input_untouched : IsUntouched input opened
   pub output_untouched : IsUntouched output writable
   pub cause : Rose input.faults opened.faults ⊎ Rose output.faults writable.faults

@@ -71,5 +71,6 @@ pub record AreUnattached (file path : List ℕ) (source attached : SourceState) 
   pub source_used : IsUsed (reading file) attached.access attached.path
   pub output_used : IsUsed (writing path) opened.access opened.path
   pub closed : opened.access ≢ 2
+  pub order : opened.access ≢ 0 → attached.access ≡ 1
   pub untouched : IsUntouched output opened
   pub cause : FailedToAttach source attached output opened stop

@@ -2,7 +2,7 @@
 use Rattle.std.specs.Prelude.{◌≡◌, ℕ, ◌≤◌, IsTrue, List}
 use Rattle.pd_kinds.specs.Objects.{SinkState, Appends, AppendsFront}
 use Rattle.pd_answers.specs.Answer.{Objects, Use, unused, reading, writing, IsUsed, IsOpen, AreFresh, DeviceRose, StreamRose}
-use Rattle.pd_answers.specs.Terms.{Terms, Uses, AreKept, AreOpen, IsReadWhole, is_one_of, is_possible, IsAnswered}
+use Rattle.pd_answers.specs.Terms.{Terms, Uses, AreInOrder, AreKept, AreOpen, IsReadWhole, is_one_of, is_possible, IsAnswered}
 use Rattle.pd_tools.specs.declared.stop.Stop.{Stop}
 use Rattle.pd_tools.specs.declared.stop.Stop.TheVariants.{Device, Stream, Memory}
 use Rattle.pd_tools.specs.Stop.{stop_status}
@@ -26,8 +26,10 @@ pub record IsWork (terms : Terms) (finding : terms.Finding) (before after : Obje
   pub found : terms.finds before after finding
   pub possible : IsTrue (is_possible terms wanted)
   pub followed : AreFollowed terms.uses after
+  pub order : AreInOrder terms.uses after
   pub kept : AreKept terms.uses before after
   pub silent : IsTrue (is_one_of terms.silent wanted) → after.out ≡ before.out
+  pub spared : terms.spared finding → after.out ≡ before.out
   pub reads : terms.reads before after
   pub leaves : terms.leaves finding before after wanted
 

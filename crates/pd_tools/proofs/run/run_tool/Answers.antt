@@ -24,7 +24,9 @@ returns-in-Err-read_words g c =
         possible = refl;
         followed = record { source = tt; out = tt; input = tt; output = tt; third = tt };
         kept = record { source = refl; out = refl; input = refl; output = refl; third = refl };
+        order = record { input = tt; output = tt; third = tt; out = tt };
         silent = λ _. refl;
+        spared = λ no. absurd no;
         reads = tt;
         leaves = tt;
       };
