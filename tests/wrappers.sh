@@ -281,6 +281,13 @@ out 'rehearsal 1 used 19 mappings 2000 lines 2005 clean'
 try 0 thin_check spare.img
 try 0 thin_dump spare.img
 same out generated.txt
+zeros spare.img 4096
+try 0 thin_rehearse --number 100 -o spare.img
+out 'rehearsal 100 used 870 mappings 200000 lines 200005 clean'
+zeros spare.img 869
+try 4 thin_rehearse --number 100 -o spare.img
+out
+notes 'pdata_tools: no room: need 870, blocks 869'
 
 # Repairs
 

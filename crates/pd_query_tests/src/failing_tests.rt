@@ -1,72 +1,123 @@
 //! Queries whose objects fail, or whose image has faults.
 
-use crate::asked::{TWICE, ask, pool_of_text};
+use crate::asked::{TWICE, ask};
+use pd_kinds::Block;
 use pd_samples::pool::damaged;
-use pd_samples::runs::{Failing, NOTHING_FAILS, run};
+use pd_samples::runs::{Failing, NOTHING_FAILS, restored, run};
+use std::alloc::{AllocError, Global};
+use std::process::Abort;
 use std::test::Fail;
 
 /// The words of the two queries.
-const RMAP: [&str; 4] = ["thin_rmap", "--region", "4..6", "thin.img"];
+const QUERIES: &[&[&str]] = &[
+    &["thin_rmap", "--region", "4..6", "thin.img"],
+    &["thin_ls", "thin.img"],
+];
 
-const LIST: [&str; 2] = ["thin_ls", "thin.img"];
+/// Asks with this call of `out` failing.
+fn expect_front(
+    rt: &impl Abort,
+    alloc: Global,
+    words: &[&str],
+    call: u64,
+) -> Result<(), AllocError> {
+    let failing = Failing {
+        out: Some(call),
+        ..NOTHING_FAILS
+    };
+    let whole = ask(alloc, TWICE, words, NOTHING_FAILS)?;
+    let ran = ask(alloc, TWICE, words, failing)?;
+    let notes = "pdata_tools: source or sink fault\n";
+    assert!(rt; ran.status == 6, "{call}");
+    assert!(rt; whole.out.bytes().starts_with(ran.out.bytes()), "{call}");
+    assert!(rt; ran.notes.bytes() == notes.as_bytes(), "{call}");
+    Ok(())
+}
 
 // The calls of `out` are 0 for attaching, and one for the piece that all lines are in.
 #[test]
 fn a_failed_put_leaves_a_front_of_the_lines(rt: HostRuntime) -> Result<(), Fail> {
-    let queries: [&[&str]; 2] = [&RMAP, &LIST];
-    for words in queries {
-        let whole = ask(rt.alloc(), TWICE.as_bytes(), words, NOTHING_FAILS)?;
-        for call in 0..2 {
-            let failing = Failing {
-                out: Some(call),
-                ..NOTHING_FAILS
-            };
-            let ran = ask(rt.alloc(), TWICE.as_bytes(), words, failing)?;
-            assert_eq!(rt; ran.status, 6);
-            assert!(rt; whole.out.bytes().starts_with(ran.out.bytes()));
-            assert!(rt; ran.notes.bytes() == b"pdata_tools: source or sink fault\n".as_slice());
-        }
+    for words in QUERIES {
+        expect_front(&rt, rt.alloc(), words, 0)?;
+        expect_front(&rt, rt.alloc(), words, 1)?;
     }
     Ok(())
 }
 
+/// Whether a query has no such call of the image. Where it has, it fails in that call.
+fn is_past_input(
+    rt: &impl Abort,
+    alloc: Global,
+    words: &[&str],
+    image: &[Block],
+    call: u64,
+) -> Result<bool, AllocError> {
+    let failing = Failing {
+        input: Some(call),
+        ..NOTHING_FAILS
+    };
+    let ran = run(alloc, words, image, failing)?;
+    if ran.status == 0 {
+        return Ok(true);
+    }
+    let notes = "pdata_tools: device fault\n";
+    assert!(rt; ran.status == 5, "{call}");
+    assert!(rt; ran.notes.bytes() == notes.as_bytes(), "{call}");
+    Ok(false)
+}
+
+/// How many calls of the image a query makes, each of which fails once. Past the first one that it doesn't make it makes
+/// none, up to a hundred.
+fn calls_of(
+    rt: &impl Abort,
+    alloc: Global,
+    words: &[&str],
+    image: &[Block],
+) -> Result<u64, AllocError> {
+    let mut calls = 0;
+    for call in 0..100 {
+        if is_past_input(rt, alloc, words, image, call)? {
+            continue;
+        }
+        assert!(rt; calls == call, "{call}");
+        calls = call + 1;
+    }
+    Ok(calls)
+}
+
 #[test]
 fn a_failed_read_is_never_lines(rt: HostRuntime) -> Result<(), Fail> {
-    let queries: [&[&str]; 2] = [&RMAP, &LIST];
-    let image = pool_of_text(rt.alloc(), TWICE.as_bytes())?;
-    for words in queries {
-        let mut ended = false;
-        for call in 0..100 {
-            let failing = Failing {
-                input: Some(call),
-                ..NOTHING_FAILS
-            };
-            let ran = run(rt.alloc(), words, image.as_slice(), failing)?;
-            if ran.status == 0 {
-                ended = true;
-            } else {
-                assert_eq!(rt; ran.status, 5);
-                assert!(rt; !ended, "call {call}");
-                assert!(rt; ran.notes.bytes() == b"pdata_tools: device fault\n".as_slice());
-            }
-        }
-        assert!(rt; ended, "a query makes a hundred calls");
+    let image = restored(rt.alloc(), TWICE, 16)?;
+    for words in QUERIES {
+        let calls = calls_of(&rt, rt.alloc(), words, image.as_slice())?;
+        assert!(rt; calls < 100, "a query makes a hundred calls");
     }
+    Ok(())
+}
+
+/// Asks of an image whose block 1 is damaged.
+fn expect_faults(
+    rt: &impl Abort,
+    alloc: Global,
+    words: &[&str],
+    image: &[Block],
+) -> Result<(), AllocError> {
+    let ran = run(alloc, words, image, NOTHING_FAILS)?;
+    let notes = "fault meta 1 checksum\nfaults 1\n";
+    assert!(rt; ran.status == 1);
+    assert!(rt; ran.notes.bytes() == notes.as_bytes());
+    assert!(rt; ran.out.bytes().is_empty());
+    assert!(rt; ran.out.path().is_none());
     Ok(())
 }
 
 #[test]
 fn faults_of_an_image_go_to_notes(rt: HostRuntime) -> Result<(), Fail> {
-    let queries: [&[&str]; 2] = [&RMAP, &LIST];
-    let mut image = pool_of_text(rt.alloc(), TWICE.as_bytes())?;
+    let mut image = restored(rt.alloc(), TWICE, 16)?;
     assert!(rt; image.len() > 1);
     image[1] = damaged(image[1], 100);
-    for words in queries {
-        let ran = run(rt.alloc(), words, image.as_slice(), NOTHING_FAILS)?;
-        assert_eq!(rt; ran.status, 1);
-        assert!(rt; ran.notes.bytes() == b"fault meta 1 checksum\nfaults 1\n".as_slice());
-        assert!(rt; ran.out.bytes().is_empty());
-        assert_eq!(rt; ran.out.path(), None);
+    for words in QUERIES {
+        expect_faults(&rt, rt.alloc(), words, image.as_slice())?;
     }
     Ok(())
 }

@@ -89,6 +89,13 @@ pub fn restore(
     run_over(alloc, &words, held, failing)
 }
 
+/// The blocks that a restore of a text makes of so many blocks of zeros.
+pub fn restored(alloc: Global, text: &str, blocks: usize) -> Result<Vec<Block>, AllocError> {
+    let base = vec![in alloc; Block::zeros(); blocks]?;
+    let made = restore(alloc, text.as_bytes(), base.as_slice(), NOTHING_FAILS)?;
+    blocks_of(alloc, &made.output)
+}
+
 /// Runs a tool over objects that hold this.
 pub fn run_over(
     alloc: Global,

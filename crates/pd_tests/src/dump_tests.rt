@@ -2,6 +2,7 @@
 
 ghost use Rattle.std.specs.Prelude.{◌<◌, ◌^◌};
 
+use crate::stored_tests::pool_of_two_devices;
 use crate::whole_tests::{details_leaf, superblock};
 use pd_kinds::Block;
 use pd_node::write_leaf;
@@ -14,14 +15,11 @@ use std::process::Abort;
 use std::test::Fail;
 
 /// The words of a dump to standard output.
-const DUMP: [&str; 2] = ["thin_dump", "thin.img"];
+const DUMP: &[&str] = &["thin_dump", "thin.img"];
 
 /// The text of the pool of one mapping.
 const ONE_MAPPING: &str =
     "thin 1\npool 00000000-0000-0000-0000-000000000000 0 0 128 1\ndevice 1 1 0 0 0\nmap 0 0 1 0\nend\n";
-
-/// An image: what it shows, its blocks, and its text.
-type Case = (&'static str, [Block; 16], &'static str);
 
 /// The same pool with two data blocks: the second one is mapped after the first, at this time.
 #[tactic(auto, unfolding(pd_kinds::specs::Node::is_ascending))]
@@ -64,110 +62,139 @@ fn leaking_pool() -> [Block; 16] {
 }
 
 /// Dumps an image, of which this must be the text.
-fn expect_text(rt: &impl Abort, alloc: Global, case: &Case) -> Result<(), AllocError> {
-    let (shows, image, text) = case;
-    let ran = run(alloc, &DUMP, image, NOTHING_FAILS)?;
-    assert!(rt; ran.out.bytes() == text.as_bytes(), "{shows}");
-    assert_eq!(rt; ran.status, 0, "{shows}");
-    assert!(rt; ran.notes.bytes().is_empty());
-    assert!(rt; blocks_of(alloc, &ran.input)?.as_slice() == image.as_slice());
+fn expect_text(
+    rt: &impl Abort,
+    alloc: Global,
+    image: &[Block],
+    text: &str,
+) -> Result<(), AllocError> {
+    let ran = run(alloc, DUMP, image, NOTHING_FAILS)?;
+    assert!(rt; ran.out.bytes() == text.as_bytes(), "{text}");
+    assert!(rt; ran.status == 0, "{text}");
+    assert!(rt; ran.notes.bytes().is_empty(), "{text}");
+    assert!(rt; blocks_of(alloc, &ran.input)?.as_slice() == image, "{text}");
     Ok(())
 }
 
+/// The texts of the pools of two mappings: runs join, but not where their times differ.
+const JOINED: &str =
+    "thin 1\npool 00000000-0000-0000-0000-000000000000 0 0 128 2\ndevice 1 2 0 0 0\nmap 0 0 2 0\nend\n";
+
+const APART: &str =
+    "thin 1\npool 00000000-0000-0000-0000-000000000000 0 0 128 2\ndevice 1 2 0 0 0\nmap 0 0 1 0\nmap 1 1 1 1\nend\n";
+
+/// The text of the pool of a leaf of two devices.
+const ONE_LEAF: &str =
+    "thin 1\npool 00000000-0000-0000-0000-000000000000 0 0 128 1\ndevice 1 1 7 2 3\nmap 0 0 1 0\ndevice 2 1 7 2 3\nmap 0 0 1 0\nend\n";
+
 #[test]
 fn pools_are_dumped_as_their_texts(rt: HostRuntime) -> Result<(), Fail> {
-    let cases: [Case; 5] = [
-        ("one mapping", pool_of_one_mapping(), ONE_MAPPING),
-        ("counts aren't looked at", leaking_pool(), ONE_MAPPING),
-        (
-            "runs join",
-            pool_of_two_mappings(0),
-            "thin 1\npool 00000000-0000-0000-0000-000000000000 0 0 128 2\ndevice 1 2 0 0 0\nmap 0 0 2 0\nend\n",
-        ),
-        (
-            "runs of two times don't join",
-            pool_of_two_mappings(1),
-            "thin 1\npool 00000000-0000-0000-0000-000000000000 0 0 128 2\ndevice 1 2 0 0 0\nmap 0 0 1 0\nmap 1 1 1 1\nend\n",
-        ),
-        (
-            "a leaf of two devices",
-            two_devices_on_one_leaf(),
-            "thin 1\npool 00000000-0000-0000-0000-000000000000 0 0 128 1\ndevice 1 1 7 2 3\nmap 0 0 1 0\ndevice 2 1 7 2 3\nmap 0 0 1 0\nend\n",
-        ),
-    ];
-    for case in &cases {
-        expect_text(&rt, rt.alloc(), case)?;
-    }
+    let alloc = rt.alloc();
+    expect_text(&rt, alloc, &pool_of_one_mapping(), ONE_MAPPING)?;
+    // Counts aren't looked at.
+    expect_text(&rt, alloc, &leaking_pool(), ONE_MAPPING)?;
+    expect_text(&rt, alloc, &pool_of_two_mappings(0), JOINED)?;
+    expect_text(&rt, alloc, &pool_of_two_mappings(1), APART)?;
+    expect_text(&rt, alloc, &two_devices_on_one_leaf(), ONE_LEAF)?;
     Ok(())
 }
+
+/// The words of a dump to a file.
+const DUMP_TO_FILE: &[&str] = &["thin_dump", "-o", "pool.txt", "thin.img"];
 
 #[test]
 fn faults_of_an_image_go_to_notes(rt: HostRuntime) -> Result<(), Fail> {
     let mut image = pool_of_one_mapping();
     image[1] = damaged(image[1], 100);
-    let ran = run(
-        rt.alloc(),
-        &["thin_dump", "-o", "pool.txt", "thin.img"],
-        &image,
-        NOTHING_FAILS,
-    )?;
-    assert_eq!(rt; ran.status, 1);
-    assert!(rt; ran.notes.bytes() == b"fault meta 1 checksum\nfaults 1\n".as_slice());
+    let ran = run(rt.alloc(), DUMP_TO_FILE, &image, NOTHING_FAILS)?;
+    assert!(rt; ran.status == 1);
+    assert!(rt; ran.notes.bytes() == "fault meta 1 checksum\nfaults 1\n".as_bytes());
     assert!(rt; ran.out.bytes().is_empty());
-    assert_eq!(rt; ran.out.path(), None);
+    assert!(rt; ran.out.path().is_none());
     Ok(())
 }
 
 #[test]
 fn a_dump_goes_to_the_named_file(rt: HostRuntime) -> Result<(), Fail> {
-    let image = pool_of_one_mapping();
     let ran = run(
         rt.alloc(),
-        &["thin_dump", "-o", "pool.txt", "thin.img"],
-        &image,
+        DUMP_TO_FILE,
+        &pool_of_one_mapping(),
         NOTHING_FAILS,
     )?;
-    assert_eq!(rt; ran.status, 0);
+    assert!(rt; ran.status == 0);
     assert!(rt; ran.out.bytes() == ONE_MAPPING.as_bytes());
-    assert_eq!(rt; ran.out.path(), Some(b"pool.txt".as_slice()));
+    assert!(rt; ran.out.path() == Some("pool.txt".as_bytes()));
+    Ok(())
+}
+
+/// Dumps the pool of one mapping with this call of `out` failing.
+fn expect_front(rt: &impl Abort, alloc: Global, call: u64) -> Result<(), AllocError> {
+    let image = pool_of_one_mapping();
+    let failing = Failing {
+        out: Some(call),
+        ..NOTHING_FAILS
+    };
+    let ran = run(alloc, DUMP, &image, failing)?;
+    let notes = "pdata_tools: source or sink fault\n";
+    assert!(rt; ran.status == 6, "{call}");
+    assert!(rt;
+        ONE_MAPPING.as_bytes().starts_with(ran.out.bytes()),
+        "{call}"
+    );
+    assert!(rt; ran.notes.bytes() == notes.as_bytes(), "{call}");
+    assert!(rt;
+        blocks_of(alloc, &ran.input)?.as_slice() == image.as_slice(),
+        "{call}"
+    );
     Ok(())
 }
 
 // The calls of `out` are 0 for attaching, and one for each piece.
 #[test]
 fn a_failed_put_leaves_a_front_of_the_text(rt: HostRuntime) -> Result<(), Fail> {
-    let image = pool_of_one_mapping();
-    for call in 0..2 {
-        let failing = Failing {
-            out: Some(call),
-            ..NOTHING_FAILS
-        };
-        let ran = run(rt.alloc(), &DUMP, &image, failing)?;
-        assert_eq!(rt; ran.status, 6);
-        assert!(rt; ONE_MAPPING.as_bytes().starts_with(ran.out.bytes()));
-        assert!(rt; ran.notes.bytes() == b"pdata_tools: source or sink fault\n".as_slice());
-        assert!(rt; blocks_of(rt.alloc(), &ran.input)?.as_slice() == image.as_slice());
-    }
+    expect_front(&rt, rt.alloc(), 0)?;
+    expect_front(&rt, rt.alloc(), 1)?;
     Ok(())
+}
+
+/// Whether a dump has no such call of the image. Where it has, it fails in that call, with nothing put.
+fn is_past_input(rt: &impl Abort, alloc: Global, call: u64) -> Result<bool, AllocError> {
+    let failing = Failing {
+        input: Some(call),
+        ..NOTHING_FAILS
+    };
+    let ran = run(alloc, DUMP, &pool_of_one_mapping(), failing)?;
+    if ran.status == 0 {
+        return Ok(true);
+    }
+    assert!(rt; ran.status == 5, "{call}");
+    assert!(rt; ran.out.bytes().is_empty(), "{call}");
+    assert!(rt;
+        ran.notes.bytes() == "pdata_tools: device fault\n".as_bytes(),
+        "{call}"
+    );
+    Ok(false)
 }
 
 #[test]
 fn a_failed_read_is_never_text(rt: HostRuntime) -> Result<(), Fail> {
-    let image = pool_of_one_mapping();
     for call in 0..100 {
-        let failing = Failing {
-            input: Some(call),
-            ..NOTHING_FAILS
-        };
-        let ran = run(rt.alloc(), &DUMP, &image, failing)?;
-        if ran.status == 0 {
+        if is_past_input(&rt, rt.alloc(), call)? {
             assert!(rt; 20 < call, "calls: {call}");
             return Ok(());
         }
-        assert_eq!(rt; ran.status, 5);
-        assert!(rt; ran.out.bytes().is_empty());
-        assert!(rt; ran.notes.bytes() == b"pdata_tools: device fault\n".as_slice());
     }
     assert!(rt; false, "a dump makes a hundred calls");
+    Ok(())
+}
+
+#[test]
+fn a_leaf_of_two_devices_is_mapped_back(rt: HostRuntime) -> Result<(), Fail> {
+    let words = &["thin_rmap", "--region", "0..1", "thin.img"];
+    let ran = run(rt.alloc(), words, &pool_of_two_devices(2), NOTHING_FAILS)?;
+    let lines = "block 0 device 1 virtual 0\nblock 0 device 2 virtual 0\n";
+    assert!(rt; ran.status == 0);
+    assert!(rt; ran.out.bytes() == lines.as_bytes());
     Ok(())
 }

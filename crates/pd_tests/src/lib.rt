@@ -8,6 +8,8 @@ mod dump_tests;
 #[cfg(test)]
 mod order_tests;
 #[cfg(test)]
+mod reports;
+#[cfg(test)]
 mod stored_tests;
 #[cfg(test)]
 mod super_tests;

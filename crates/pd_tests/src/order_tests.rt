@@ -2,14 +2,14 @@
 
 ghost use Rattle.std.specs.Prelude.{◌≡◌, ◌<◌, ◌≤◌, ◌^◌, IfOk, vec_len};
 
+use crate::reports::{WHOLE_CHECK, expect_report, expect_restored};
 use pd_crc::seal;
 use pd_kinds::{Block, put_u64};
 use pd_node::{write_inner, write_leaf};
 use pd_samples::pool::{
-    NODE_SALT, bitmap, device_leaf, empty_leaf, empty_super, index, index_entry, index_leaf, inner,
-    map_root, mapping_leaf, pool_of_one_mapping, resealed,
+    NODE_SALT, bitmap, device_leaf, empty_leaf, empty_super, index, index_entry, inner, map_root,
+    mapping_leaf, pool_of_one_mapping, resealed,
 };
-use pd_samples::runs::{NOTHING_FAILS, blocks_of, run};
 use pd_supers::write_thin_super;
 use pd_value::{BlockTime, Count, Details, Root};
 use std::alloc::{AllocError, Global};
@@ -17,7 +17,7 @@ use std::process::Abort;
 use std::test::Fail;
 
 /// The words of the check up to the order of the trees.
-const ORDER: [&str; 4] = ["thin_check", "--until", "order", "thin.img"];
+const ORDER: &[&str] = &["thin_check", "--until", "order", "thin.img"];
 
 /// The number of metadata blocks of a pool of chains.
 const BLOCKS: usize = 256;
@@ -34,39 +34,26 @@ type Blocks = (u64, u64);
 /// What a case shows, the two roots, the chains, and the blocks that are too deep.
 type Case = (&'static str, [u64; 2], [Chain; 2], [Blocks; 2]);
 
-/// Checks an image up to the order, where this must be the report. The status is 0 where it is clean.
-fn expect_order(
-    rt: &impl Abort,
-    alloc: Global,
-    shows: &str,
-    image: &[Block],
-    report: &str,
-) -> Result<(), AllocError> {
-    let ran = run(alloc, &ORDER, image, NOTHING_FAILS)?;
-    assert!(rt; ran.out.bytes() == report.as_bytes(), "{shows}");
-    let status = if report == "clean\n" { 0 } else { 1 };
-    assert_eq!(rt; ran.status, status, "{shows}");
-    assert!(rt; ran.notes.bytes().is_empty());
-    assert!(rt; blocks_of(alloc, &ran.input)?.as_slice() == image);
+/// Puts a line for each of these blocks, which are too deep.
+fn put_levels(report: &mut String, blocks: Blocks) -> Result<(), Fail> {
+    let (first, number) = blocks;
+    for b in first..first.saturating_add(number) {
+        writeln!(report, "fault meta {b} level")?;
+    }
     Ok(())
 }
 
 /// The report where these blocks, ascending, are too deep.
-fn levels(alloc: Global, deep: &[Blocks; 2]) -> Result<String, AllocError> {
+fn levels(alloc: Global, deep: [Blocks; 2]) -> Result<String, Fail> {
     let mut report = String::new(alloc);
-    let mut total = 0u64;
-    for (first, number) in deep {
-        for b in *first..first.saturating_add(*number) {
-            let line = format!(in alloc; "fault meta {b} level\n")?;
-            report.push_str(line.as_str())?;
-            total = total.saturating_add(1);
-        }
-    }
+    let total = deep[0].1.saturating_add(deep[1].1);
     if total == 0 {
-        return String::from_str(alloc, "clean\n");
+        writeln!(report, "clean")?;
+        return Ok(report);
     }
-    let line = format!(in alloc; "faults {total}\n")?;
-    report.push_str(line.as_str())?;
+    put_levels(&mut report, deep[0])?;
+    put_levels(&mut report, deep[1])?;
+    writeln!(report, "faults {total}")?;
     Ok(report)
 }
 
@@ -97,141 +84,143 @@ fn pool_of_two(alloc: Global, first: u64, second: u64) -> Result<Vec<Block>, All
     Ok(image)
 }
 
-/// Puts these chains into an image.
-fn put_chains(rt: &impl Abort, image: &mut [Block], chains: &[Chain; 2]) {
-    for (first, number, end) in chains {
-        for i in 0..*number {
-            let place = first.saturating_add(i);
-            let child = if i + 1 == *number {
-                *end
-            } else {
-                place.saturating_add(1)
-            };
-            let b = place as usize;
-            assert!(rt; b < image.len());
-            image[b] = inner(place, child);
-        }
+/// Puts a chain into an image.
+fn put_chain(rt: &impl Abort, image: &mut [Block], chain: Chain) {
+    let (first, number, end) = chain;
+    let last = first.saturating_add(number).saturating_sub(1);
+    for place in first..first.saturating_add(number) {
+        let child = if place == last {
+            end
+        } else {
+            place.saturating_add(1)
+        };
+        let b = place as usize;
+        assert!(rt; b < image.len());
+        image[b] = inner(place, child);
     }
 }
 
 /// Checks a pool of chains, where just these blocks must be too deep.
-fn expect_levels(rt: &impl Abort, alloc: Global, case: &Case) -> Result<(), AllocError> {
+fn expect_levels(rt: &impl Abort, alloc: Global, case: &Case) -> Result<(), Fail> {
     let (shows, roots, chains, deep) = *case;
     let mut image = pool_of_two(alloc, roots[0], roots[1])?;
-    put_chains(rt, image.as_mut_slice(), &chains);
-    let report = levels(alloc, &deep)?;
-    expect_order(rt, alloc, shows, image.as_slice(), report.as_str())
+    put_chain(rt, image.as_mut_slice(), chains[0]);
+    put_chain(rt, image.as_mut_slice(), chains[1]);
+    let report = levels(alloc, deep)?;
+    expect_report(rt, alloc, ORDER, shows, image.as_slice(), report.as_str())?;
+    Ok(())
 }
+
+/// Chains, most of them of about 64 nodes.
+const CASES: &[Case] = &[
+    (
+        "63 alone",
+        [20, 20],
+        [(20, 63, LEAF), (20, 0, 0)],
+        [(20, 0), (0, 0)],
+    ),
+    (
+        "64 alone",
+        [20, 20],
+        [(20, 64, LEAF), (20, 0, 0)],
+        [(20, 1), (0, 0)],
+    ),
+    (
+        "65 alone",
+        [20, 20],
+        [(20, 65, LEAF), (20, 0, 0)],
+        [(20, 2), (0, 0)],
+    ),
+    (
+        "63 behind another",
+        [100, 100],
+        [(20, 63, LEAF), (100, 3, 20)],
+        [(20, 0), (100, 3)],
+    ),
+    (
+        "64 behind another",
+        [100, 100],
+        [(20, 64, LEAF), (100, 3, 20)],
+        [(20, 1), (100, 3)],
+    ),
+    (
+        "65 behind another",
+        [100, 100],
+        [(20, 65, LEAF), (100, 3, 20)],
+        [(20, 2), (100, 3)],
+    ),
+    (
+        "behind an earlier one",
+        [10, 10],
+        [(10, 3, 20), (20, 63, LEAF)],
+        [(10, 3), (20, 0)],
+    ),
+    (
+        "63 shared",
+        [20, 100],
+        [(20, 63, LEAF), (100, 1, 20)],
+        [(20, 0), (100, 1)],
+    ),
+    (
+        "63 shared, turned round",
+        [100, 20],
+        [(20, 63, LEAF), (100, 1, 20)],
+        [(20, 0), (100, 1)],
+    ),
+    (
+        "63 shared by an earlier one",
+        [10, 20],
+        [(10, 1, 20), (20, 63, LEAF)],
+        [(10, 1), (20, 0)],
+    ),
+    (
+        "64 shared",
+        [20, 100],
+        [(20, 64, LEAF), (100, 1, 20)],
+        [(20, 1), (100, 1)],
+    ),
+    (
+        "65 shared in its middle",
+        [20, 100],
+        [(20, 65, LEAF), (100, 1, 22)],
+        [(20, 2), (100, 1)],
+    ),
+    (
+        "62 left of 65",
+        [20, 100],
+        [(20, 65, LEAF), (100, 1, 23)],
+        [(20, 2), (100, 0)],
+    ),
+    (
+        "far too many",
+        [20, 20],
+        [(20, 200, LEAF), (20, 0, 0)],
+        [(20, 137), (0, 0)],
+    ),
+    (
+        "a node in itself",
+        [20, 20],
+        [(20, 1, 20), (20, 0, 0)],
+        [(20, 1), (0, 0)],
+    ),
+    (
+        "a cycle of two",
+        [20, 21],
+        [(20, 2, 20), (20, 0, 0)],
+        [(20, 2), (0, 0)],
+    ),
+    (
+        "a cycle behind a chain",
+        [10, 20],
+        [(10, 5, 20), (20, 100, 30)],
+        [(10, 5), (20, 100)],
+    ),
+];
 
 #[test]
 fn chains_of_64_inner_nodes_are_too_deep(rt: HostRuntime) -> Result<(), Fail> {
-    let alloc = rt.alloc();
-    let cases: [Case; 17] = [
-        (
-            "63 alone",
-            [20, 20],
-            [(20, 63, LEAF), (20, 0, 0)],
-            [(20, 0), (0, 0)],
-        ),
-        (
-            "64 alone",
-            [20, 20],
-            [(20, 64, LEAF), (20, 0, 0)],
-            [(20, 1), (0, 0)],
-        ),
-        (
-            "65 alone",
-            [20, 20],
-            [(20, 65, LEAF), (20, 0, 0)],
-            [(20, 2), (0, 0)],
-        ),
-        (
-            "63 behind another",
-            [100, 100],
-            [(20, 63, LEAF), (100, 3, 20)],
-            [(20, 0), (100, 3)],
-        ),
-        (
-            "64 behind another",
-            [100, 100],
-            [(20, 64, LEAF), (100, 3, 20)],
-            [(20, 1), (100, 3)],
-        ),
-        (
-            "65 behind another",
-            [100, 100],
-            [(20, 65, LEAF), (100, 3, 20)],
-            [(20, 2), (100, 3)],
-        ),
-        (
-            "behind an earlier one",
-            [10, 10],
-            [(10, 3, 20), (20, 63, LEAF)],
-            [(10, 3), (20, 0)],
-        ),
-        (
-            "63 shared",
-            [20, 100],
-            [(20, 63, LEAF), (100, 1, 20)],
-            [(20, 0), (100, 1)],
-        ),
-        (
-            "63 shared, turned round",
-            [100, 20],
-            [(20, 63, LEAF), (100, 1, 20)],
-            [(20, 0), (100, 1)],
-        ),
-        (
-            "63 shared by an earlier one",
-            [10, 20],
-            [(10, 1, 20), (20, 63, LEAF)],
-            [(10, 1), (20, 0)],
-        ),
-        (
-            "64 shared",
-            [20, 100],
-            [(20, 64, LEAF), (100, 1, 20)],
-            [(20, 1), (100, 1)],
-        ),
-        (
-            "65 shared in its middle",
-            [20, 100],
-            [(20, 65, LEAF), (100, 1, 22)],
-            [(20, 2), (100, 1)],
-        ),
-        (
-            "62 left of 65",
-            [20, 100],
-            [(20, 65, LEAF), (100, 1, 23)],
-            [(20, 2), (100, 0)],
-        ),
-        (
-            "far too many",
-            [20, 20],
-            [(20, 200, LEAF), (20, 0, 0)],
-            [(20, 137), (0, 0)],
-        ),
-        (
-            "a node in itself",
-            [20, 20],
-            [(20, 1, 20), (20, 0, 0)],
-            [(20, 1), (0, 0)],
-        ),
-        (
-            "a cycle of two",
-            [20, 21],
-            [(20, 2, 20), (20, 0, 0)],
-            [(20, 2), (0, 0)],
-        ),
-        (
-            "a cycle behind a chain",
-            [10, 20],
-            [(10, 5, 20), (20, 100, 30)],
-            [(10, 5), (20, 100)],
-        ),
-    ];
-    for case in &cases {
-        expect_levels(&rt, alloc, case)?;
+    for case in CASES {
+        expect_levels(&rt, rt.alloc(), case)?;
     }
     Ok(())
 }
@@ -239,10 +228,10 @@ fn chains_of_64_inner_nodes_are_too_deep(rt: HostRuntime) -> Result<(), Fail> {
 #[test]
 fn a_node_that_is_its_own_child_is_too_deep(rt: HostRuntime) -> Result<(), Fail> {
     let mut pool = pool_of_one_mapping();
-    expect_order(&rt, rt.alloc(), "one mapping", &pool, "clean\n")?;
+    expect_report(&rt, rt.alloc(), ORDER, "one mapping", &pool, "clean\n")?;
     pool[1] = inner(1, 1);
     let report = "fault meta 1 level\nfaults 1\n";
-    expect_order(&rt, rt.alloc(), "a node in itself", &pool, report)?;
+    expect_report(&rt, rt.alloc(), ORDER, "a node in itself", &pool, report)?;
     Ok(())
 }
 
@@ -275,38 +264,63 @@ fn a_shared_leaf_is_out_of_range_under_one_of_two_parents(rt: HostRuntime) -> Re
     image[20] = write_inner(20, &[(0, 10), (100, 11)]);
     image[21] = write_inner(21, &[(0, 10), (50, 12)]);
     let report = "fault meta 21 range\nfaults 1\n";
-    expect_order(&rt, alloc, "key 50 twice", image.as_slice(), report)?;
-    image[21] = write_inner(21, &[(0, 10), (51, 12)]);
-    expect_order(
+    expect_report(&rt, alloc, ORDER, "key 50 twice", image.as_slice(), report)?;
+    expect_report(
         &rt,
         alloc,
+        WHOLE_CHECK,
+        "a whole check",
+        image.as_slice(),
+        report,
+    )?;
+    image[21] = write_inner(21, &[(0, 10), (51, 12)]);
+    expect_report(
+        &rt,
+        alloc,
+        ORDER,
         "up to the next key",
         image.as_slice(),
         "clean\n",
     )?;
     image[21] = write_inner(21, &[(1, 10), (51, 12)]);
-    expect_order(&rt, alloc, "below its key", image.as_slice(), report)?;
+    expect_report(&rt, alloc, ORDER, "below its key", image.as_slice(), report)?;
     image[21] = write_inner(21, &[(0, 10), (61, 12)]);
-    expect_order(
+    expect_report(
         &rt,
         alloc,
+        ORDER,
         "the last below its key",
         image.as_slice(),
         report,
     )?;
     image[12] = empty_leaf::<BlockTime>(12);
     image[21] = write_inner(21, &[(0, 10), (51, 12)]);
-    expect_order(&rt, alloc, "a child without keys", image.as_slice(), report)?;
-    // Both children are one leaf, whose key 0 isn't in the range of the second.
-    image[21] = write_inner(21, &[(0, LEAF), (1, LEAF)]);
-    expect_order(&rt, alloc, "one leaf twice", image.as_slice(), report)?;
-    // A child that is too deep makes the node too deep, and then nothing is said of its range.
-    put_chains(&rt, image.as_mut_slice(), &[(30, 64, LEAF), (0, 0, LEAF)]);
-    image[21] = write_inner(21, &[(0, 30), (7, 30)]);
-    let report = "fault meta 21 level\nfault meta 30 level\nfaults 2\n";
-    expect_order(
+    expect_report(
         &rt,
         alloc,
+        ORDER,
+        "a child without keys",
+        image.as_slice(),
+        report,
+    )?;
+    // Both children are one leaf, whose key 0 isn't in the range of the second.
+    image[21] = write_inner(21, &[(0, LEAF), (1, LEAF)]);
+    expect_report(
+        &rt,
+        alloc,
+        ORDER,
+        "one leaf twice",
+        image.as_slice(),
+        report,
+    )?;
+    // A child that is too deep makes the node too deep, and then nothing is said of its range.
+    put_chain(&rt, image.as_mut_slice(), (30, 64, LEAF));
+    image[21] = write_inner(21, &[(0, 30), (7, 30)]);
+    let report = "fault meta 21 level\nfault meta 30 level\nfaults 2\n";
+    expect_report(
+        &rt,
+        alloc,
+        ORDER,
         "children that are too deep",
         image.as_slice(),
         report,
@@ -340,7 +354,7 @@ fn pool_of_two_leaves(alloc: Global) -> Result<Vec<Block>, AllocError>
     image[4] = device_leaf(4, 3);
     image[5] = write_leaf(5, &[(1, details)]);
     image[6] = bitmap(6, 253);
-    image[7] = index_leaf(7, 6);
+    image[7] = write_leaf(7, &[(0, index_entry(6, 47))]);
     image[8] = empty_leaf::<Count>(8);
     image[9] = index(9, &[index_entry(10, 4)]);
     image[10] = bitmap(10, 12);
@@ -348,14 +362,27 @@ fn pool_of_two_leaves(alloc: Global) -> Result<Vec<Block>, AllocError>
     Ok(image)
 }
 
+/// The text of that pool.
+const TWO_LEAVES: &str =
+    "thin 1\npool 00000000-0000-0000-0000-000000000000 0 0 128 300\ndevice 1 253 0 0 0\nmap 0 0 253 0\nend\n";
+
 #[test]
 fn swapped_keys_break_order_at_the_walk(rt: HostRuntime) -> Result<(), Fail> {
     let alloc = rt.alloc();
     let mut image = pool_of_two_leaves(alloc)?;
-    expect_order(&rt, alloc, "two leaves", image.as_slice(), "clean\n")?;
+    expect_restored(&rt, alloc, TWO_LEAVES, image.as_slice())?;
+    expect_report(&rt, alloc, ORDER, "two leaves", image.as_slice(), "clean\n")?;
     // The first two keys stand at 32 and 40.
     image[1] = resealed(resealed(image[1], NODE_SALT, 32, 1), NODE_SALT, 40, 0);
     let report = "fault meta 1 order\nfaults 1\n";
-    expect_order(&rt, alloc, "swapped keys", image.as_slice(), report)?;
+    expect_report(&rt, alloc, ORDER, "swapped keys", image.as_slice(), report)?;
+    expect_report(
+        &rt,
+        alloc,
+        WHOLE_CHECK,
+        "swapped keys",
+        image.as_slice(),
+        report,
+    )?;
     Ok(())
 }

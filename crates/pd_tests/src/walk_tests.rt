@@ -1,52 +1,38 @@
+//! Checks up to the walk: the rules of each block by itself, and its roles.
+
+use crate::reports::expect_report;
 use pd_kinds::{Block, Kind};
 use pd_samples::pool::{
     NODE_SALT, bitmap, damaged, device_leaf, empty_pool, empty_super, held_copy, index,
     index_entry, index_leaf, inner, map_root, mapping_leaf, pool_of_one_mapping,
     pool_with_held_copy, resealed, zeros_behind,
 };
-use pd_samples::runs::{Failing, NOTHING_FAILS, blocks_of, run};
+use pd_samples::runs::{Failing, NOTHING_FAILS, run};
 use pd_supers::write_thin_super;
 use std::alloc::{AllocError, Global};
 use std::process::Abort;
 use std::test::Fail;
 
 /// The words of the check up to the walk.
-const WALK: [&str; 4] = ["thin_check", "--until", "walk", "thin.img"];
+const WALK: &[&str] = &["thin_check", "--until", "walk", "thin.img"];
 
 /// An image that differs from another one in one block: what it shows, the number of the block and the
 /// block, and the block that breaks rules then, and the words for these rules in their order.
 type Case = (&'static str, usize, Block, u64, &'static str);
 
-/// Checks an image up to the walk, where this must be the report. The status is 0 where it is clean.
-fn expect_walk(
-    rt: &impl Abort,
-    alloc: Global,
-    shows: &str,
-    image: &[Block],
-    report: &str,
-) -> Result<(), AllocError> {
-    let ran = run(alloc, &WALK, image, NOTHING_FAILS)?;
-    assert!(rt; ran.out.bytes() == report.as_bytes(), "{shows}");
-    let status = if report == "clean\n" { 0 } else { 1 };
-    assert_eq!(rt; ran.status, status, "{shows}");
-    assert!(rt; ran.notes.bytes().is_empty());
-    assert!(rt; blocks_of(alloc, &ran.input)?.as_slice() == image);
-    Ok(())
-}
-
 /// The printed report where this block breaks these rules.
-fn report_on(alloc: Global, b: u64, rules: &str) -> Result<String, AllocError> {
-    if rules.is_empty() {
-        return String::from_str(alloc, "clean\n");
-    }
-    let rules: Vec<&str> = rules.split_whitespace().collect(alloc)?;
+fn report_on(alloc: Global, b: u64, rules: &str) -> Result<String, Fail> {
     let mut report = String::new(alloc);
-    for rule in &rules {
-        let line = format!(in alloc; "fault meta {b} {rule}\n")?;
-        report.push_str(line.as_str())?;
+    let mut total: u64 = 0;
+    for rule in rules.split_whitespace() {
+        writeln!(report, "fault meta {b} {rule}")?;
+        total = total.saturating_add(1);
     }
-    let total = format!(in alloc; "faults {}\n", rules.len())?;
-    report.push_str(total.as_str())?;
+    if total == 0 {
+        writeln!(report, "clean")?;
+    } else {
+        writeln!(report, "faults {total}")?;
+    }
     Ok(report)
 }
 
@@ -55,19 +41,26 @@ fn first_counts(bitmap: &Block) -> [u8; 3] {
     [bitmap.0[16], bitmap.0[17], bitmap.0[18]]
 }
 
+/// Checks an image with one block changed.
+fn expect_case(rt: &impl Abort, alloc: Global, image: &[Block], case: &Case) -> Result<(), Fail> {
+    let (shows, b, block, at, rules) = case;
+    let mut changed = Vec::from_slice(alloc, image)?;
+    assert!(rt; *b < changed.len());
+    changed[*b] = *block;
+    let report = report_on(alloc, *at, rules)?;
+    expect_report(rt, alloc, WALK, shows, changed.as_slice(), report.as_str())?;
+    Ok(())
+}
+
 /// Checks each image that differs from this one in one block.
 fn expect_each(
     rt: &impl Abort,
     alloc: Global,
     image: &[Block],
     cases: &[Case],
-) -> Result<(), AllocError> {
-    for (shows, b, block, at, rules) in cases {
-        let mut changed = Vec::from_slice(alloc, image)?;
-        assert!(rt; *b < changed.len());
-        changed[*b] = *block;
-        let report = report_on(alloc, *at, rules)?;
-        expect_walk(rt, alloc, shows, changed.as_slice(), report.as_str())?;
+) -> Result<(), Fail> {
+    for case in cases {
+        expect_case(rt, alloc, image, case)?;
     }
     Ok(())
 }
@@ -83,9 +76,9 @@ fn a_sound_pool_is_clean(rt: HostRuntime) -> Result<(), Fail> {
     assert!(rt; first_counts(&pool[4]) == [0x02, 0, 0]);
     assert!(rt; first_counts(&pool[8]) == [0xaa, 0xaa, 0x0a]);
     assert!(rt; first_counts(&held[6]) == [0x96, 0xaa, 0x02]);
-    expect_walk(&rt, alloc, "an empty pool", &empty, "clean\n")?;
-    expect_walk(&rt, alloc, "one mapping", &pool, "clean\n")?;
-    expect_walk(&rt, alloc, "a held copy", &held, "clean\n")?;
+    expect_report(&rt, alloc, WALK, "an empty pool", &empty, "clean\n")?;
+    expect_report(&rt, alloc, WALK, "one mapping", &pool, "clean\n")?;
+    expect_report(&rt, alloc, WALK, "a held copy", &held, "clean\n")?;
     Ok(())
 }
 
@@ -96,12 +89,12 @@ fn zeros_break_checksum_where_they_are_reached(rt: HostRuntime) -> Result<(), Fa
     let report = "fault meta 1 checksum\nfault meta 2 checksum\nfault meta 3 checksum\n\
                   fault meta 4 checksum\nfault meta 5 checksum\nfault meta 7 checksum\nfaults 6\n";
     let image = zeros_behind(&fields);
-    expect_walk(&rt, rt.alloc(), "a sound superblock", &image, report)?;
+    expect_report(&rt, rt.alloc(), WALK, "a sound superblock", &image, report)?;
     // What the superblock breaks is told alone: it has nine blocks, on a device of eight.
     fields.meta_map.blocks = 9;
     let report = "fault meta 0 size\nfaults 1\n";
     let image = zeros_behind(&fields);
-    expect_walk(&rt, rt.alloc(), "a broken superblock", &image, report)?;
+    expect_report(&rt, rt.alloc(), WALK, "a broken superblock", &image, report)?;
     Ok(())
 }
 
@@ -137,27 +130,36 @@ fn reports_what_a_block_of_a_pool_breaks(rt: HostRuntime) -> Result<(), Fail> {
     Ok(())
 }
 
+/// What a changed leaf shows, an offset in it and the eight bytes from there, and what they break.
+type Field = (&'static str, usize, u64, &'static str);
+
+const FIELDS: &[Field] = &[
+    ("neither inner nor leaf", 0, 3 << 32, "flags"),
+    ("another place", 8, 2, "place"),
+    // The second of two entries has key 0 too.
+    ("equal keys", 16, 2 + (252 << 32), "order"),
+    ("more entries than room", 16, 253 + (252 << 32), "shape"),
+    // 32 + 254 * (8 + 8) is 4096. The value stands further behind then, and is 0 there too.
+    ("room for a whole block", 16, 1 + (254 << 32), ""),
+    ("room for more", 16, 1 + (255 << 32), "shape"),
+    ("values of four bytes", 24, 4, "shape"),
+    // An inner node with the child 0.
+    ("an inner node", 0, 1 << 32, "pointer"),
+];
+
+/// Checks the pool of one mapping with this field of its leaf changed.
+fn expect_field(rt: &impl Abort, alloc: Global, field: Field) -> Result<(), Fail> {
+    let (shows, offset, value, rules) = field;
+    let pool = pool_of_one_mapping();
+    assert!(rt; offset < 4088);
+    let leaf = resealed(pool[1], NODE_SALT, offset, value);
+    expect_case(rt, alloc, &pool, &(shows, 1, leaf, 1, rules))
+}
+
 #[test]
 fn reports_what_fields_of_a_leaf_break(rt: HostRuntime) -> Result<(), Fail> {
-    let pool = pool_of_one_mapping();
-    // What it shows, an offset in the leaf and the eight bytes from there, and what they break.
-    let cases: [(&'static str, usize, u64, &'static str); 8] = [
-        ("neither inner nor leaf", 0, 3 << 32, "flags"),
-        ("another place", 8, 2, "place"),
-        // The second of two entries has key 0 too.
-        ("equal keys", 16, 2 + (252 << 32), "order"),
-        ("more entries than room", 16, 253 + (252 << 32), "shape"),
-        // 32 + 254 * (8 + 8) is 4096. The value stands further behind then, and is 0 there too.
-        ("room for a whole block", 16, 1 + (254 << 32), ""),
-        ("room for more", 16, 1 + (255 << 32), "shape"),
-        ("values of four bytes", 24, 4, "shape"),
-        // An inner node with the child 0.
-        ("an inner node", 0, 1 << 32, "pointer"),
-    ];
-    for (shows, offset, field, rules) in cases {
-        assert!(rt; offset < 4088);
-        let leaf = resealed(pool[1], NODE_SALT, offset, field);
-        expect_each(&rt, rt.alloc(), &pool, &[(shows, 1, leaf, 1, rules)])?;
+    for field in FIELDS {
+        expect_field(&rt, rt.alloc(), *field)?;
     }
     Ok(())
 }
@@ -228,18 +230,30 @@ fn follows_inner_nodes(rt: HostRuntime) -> Result<(), Fail> {
     Ok(())
 }
 
+/// Checks the pool of one mapping with this call of the image failing.
+fn expect_failure(rt: &impl Abort, alloc: Global, call: u64) -> Result<(), AllocError> {
+    let failing = Failing {
+        input: Some(call),
+        ..NOTHING_FAILS
+    };
+    let ran = run(alloc, WALK, &pool_of_one_mapping(), failing)?;
+    let status = if call < 12 { 5 } else { 0 };
+    assert!(rt; ran.status == status, "{call}");
+    assert!(rt; ran.out.bytes().is_empty() == (call < 12), "{call}");
+    let notes = if call < 12 {
+        "pdata_tools: device fault\n"
+    } else {
+        ""
+    };
+    assert!(rt; ran.notes.bytes() == notes.as_bytes(), "{call}");
+    Ok(())
+}
+
 #[test]
 fn answers_no_report_where_the_device_fails(rt: HostRuntime) -> Result<(), Fail> {
-    let image = pool_of_one_mapping();
     // The calls are `attach`, a read of block 0, and then a read of each of ten blocks in its one role.
     for call in 0..13 {
-        let failing = Failing {
-            input: Some(call),
-            ..NOTHING_FAILS
-        };
-        let ran = run(rt.alloc(), &WALK, &image, failing)?;
-        assert_eq!(rt; ran.status, if call < 12 { 5 } else { 0 }, "{call}");
-        assert_eq!(rt; ran.out.bytes().is_empty(), call < 12);
+        expect_failure(&rt, rt.alloc(), call)?;
     }
     Ok(())
 }

@@ -2,6 +2,7 @@
 
 ghost use Rattle.std.specs.Prelude.{◌+◌, ◌*◌, ◌≤◌};
 
+use crate::reports::{WHOLE_CHECK, expect_report};
 use pd_bitmap::{seal_bitmap, set_two_bits};
 use pd_crc::seal;
 use pd_kinds::{Block, put_u32, put_u64};
@@ -10,7 +11,7 @@ use pd_samples::pool::{
     NODE_SALT, bitmap, empty_leaf, empty_super, held_copy, index_entry, map_root,
     pool_of_one_mapping,
 };
-use pd_samples::runs::{Failing, NOTHING_FAILS, blocks_of, run};
+use pd_samples::runs::{Failing, NOTHING_FAILS, run};
 use pd_supers::{ThinSuper, write_thin_super};
 use pd_value::{Count, Details, IndexEntry, Root};
 use std::alloc::{AllocError, Global};
@@ -18,14 +19,10 @@ use std::process::Abort;
 use std::test::Fail;
 
 /// The words of the check up to the whole pool.
-const WHOLE: [&str; 4] = ["thin_check", "--until", "whole", "thin.img"];
+const WHOLE: &[&str] = &["thin_check", "--until", "whole", "thin.img"];
 
-/// An image that differs from the pool of one mapping in these blocks: what it shows, the blocks with their
-/// numbers, and the report.
-type Case = (&'static str, [(usize, Block); 3], &'static str);
-
-/// A change that changes nothing.
-const SAME: usize = 15;
+/// A block with its number.
+type Change = (usize, Block);
 
 /// The details of a device with so many mapped blocks.
 fn details(mapped: u64) -> Details {
@@ -62,101 +59,92 @@ pub(crate) fn details_leaf(place: u64, id: u64, mapped: u64) -> Block {
     write_leaf(place, &[(id, details(mapped))])
 }
 
-/// Checks an image up to the whole pool, where this must be the report. The status is 0 where it is clean.
-fn expect_whole(rt: &impl Abort, alloc: Global, case: &Case) -> Result<(), AllocError> {
-    let (shows, changes, report) = *case;
+/// Checks the pool of one mapping with these blocks changed, up to the whole pool.
+fn expect_changed(
+    rt: &impl Abort,
+    alloc: Global,
+    shows: &str,
+    changes: &[Change],
+    report: &str,
+) -> Result<(), AllocError> {
     let mut image = pool_of_one_mapping();
-    for (b, block) in &changes {
+    for (b, block) in changes {
         assert!(rt; *b < 16);
         image[*b] = *block;
     }
-    let ran = run(alloc, &WHOLE, &image, NOTHING_FAILS)?;
-    assert!(rt; ran.out.bytes() == report.as_bytes(), "{shows}");
-    let status = if report == "clean\n" { 0 } else { 1 };
-    assert_eq!(rt; ran.status, status, "{shows}");
-    assert!(rt; ran.notes.bytes().is_empty());
-    assert!(rt; blocks_of(alloc, &ran.input)?.as_slice() == image.as_slice());
-    Ok(())
+    expect_report(rt, alloc, WHOLE, shows, &image, report)
 }
 
 #[test]
 fn devices_and_their_numbers_of_mapped_blocks(rt: HostRuntime) -> Result<(), Fail> {
     let alloc = rt.alloc();
-    let none = (SAME, Block::zeros());
-    let cases: [Case; 4] = [
-        ("as it is", [none, none, none], "clean\n"),
-        (
-            "a number that is too great",
-            [(3, details_leaf(3, 1, 2)), none, none],
-            "fault meta 1 mapped\nfaults 1\n",
-        ),
-        (
-            "another device",
-            [(3, details_leaf(3, 2, 1)), none, none],
-            "fault meta 3 device\nfaults 1\n",
-        ),
-        (
-            "no details",
-            [(3, empty_leaf::<Details>(3)), none, none],
-            "fault meta 3 device\nfaults 1\n",
-        ),
-    ];
-    for case in &cases {
-        expect_whole(&rt, alloc, case)?;
-    }
+    let wrong = "fault meta 1 mapped\nfaults 1\n";
+    let other = "fault meta 3 device\nfaults 1\n";
+    expect_changed(&rt, alloc, "as it is", &[], "clean\n")?;
+    let great = [(3, details_leaf(3, 1, 2))];
+    expect_changed(&rt, alloc, "a number that is too great", &great, wrong)?;
+    let another = [(3, details_leaf(3, 2, 1))];
+    expect_changed(&rt, alloc, "another device", &another, other)?;
+    let none = [(3, empty_leaf::<Details>(3))];
+    expect_changed(&rt, alloc, "no details", &none, other)?;
     Ok(())
 }
 
-#[test]
+/// Checks a pool whose devices 1 and 2 have one root, and details with these numbers of mapped blocks.
 #[tactic(auto, unfolding(pd_kinds::specs::Node::is_ascending))]
+fn expect_shared(
+    rt: &impl Abort,
+    alloc: Global,
+    one: u64,
+    two: u64,
+    report: &str,
+) -> Result<(), AllocError> {
+    let roots = write_leaf(2, &[(1, Root(1)), (2, Root(1))]);
+    let numbers = write_leaf(3, &[(1, details(one)), (2, details(two))]);
+    expect_changed(
+        rt,
+        alloc,
+        "two devices",
+        &[(2, roots), (3, numbers)],
+        report,
+    )
+}
+
+#[test]
 fn devices_that_share_a_root(rt: HostRuntime) -> Result<(), Fail> {
-    let alloc = rt.alloc();
-    let none = (SAME, Block::zeros());
-    let both = (2, write_leaf(2, &[(1, Root(1)), (2, Root(1))]));
-    let numbers = [(1, 1), (1, 2), (2, 2)];
-    let reports = [
-        "clean\n",
-        "fault meta 1 mapped\nfaults 1\n",
-        "fault meta 1 mapped\nfaults 1\n",
-    ];
-    for i in 0..3 {
-        let (one, two) = numbers[i];
-        let leaf = write_leaf(3, &[(1, details(one)), (2, details(two))]);
-        expect_whole(
-            &rt,
-            alloc,
-            &("two devices", [both, (3, leaf), none], reports[i]),
-        )?;
-    }
+    let wrong = "fault meta 1 mapped\nfaults 1\n";
+    expect_shared(&rt, rt.alloc(), 1, 1, "clean\n")?;
+    expect_shared(&rt, rt.alloc(), 1, 2, wrong)?;
+    expect_shared(&rt, rt.alloc(), 2, 2, wrong)?;
     Ok(())
+}
+
+/// Checks a pool with a held copy in block 10, whose details are the tree with this root, and maybe this leaf in block 11.
+fn expect_held(
+    rt: &impl Abort,
+    alloc: Global,
+    details_root: u64,
+    leaf: Block,
+    report: &str,
+) -> Result<(), AllocError> {
+    let changes = [
+        (0, write_thin_super(&superblock(1, 10))),
+        (10, copy_with_details(details_root)),
+        (11, leaf),
+    ];
+    expect_changed(rt, alloc, "a held copy", &changes, report)
 }
 
 #[test]
 fn the_held_copy_has_devices_of_its_own(rt: HostRuntime) -> Result<(), Fail> {
     let alloc = rt.alloc();
-    let none = (SAME, Block::zeros());
-    let super_block = (0, write_thin_super(&superblock(1, 10)));
-    let copy = (10, copy_with_details(11));
-    let cases: [Case; 3] = [
-        (
-            "the same details",
-            [super_block, (10, copy_with_details(3)), none],
-            "clean\n",
-        ),
-        (
-            "another device",
-            [super_block, copy, (11, details_leaf(11, 2, 1))],
-            "fault meta 11 device\nfaults 1\n",
-        ),
-        (
-            "another number of mapped blocks",
-            [super_block, copy, (11, details_leaf(11, 1, 0))],
-            "fault meta 1 mapped\nfaults 1\n",
-        ),
-    ];
-    for case in &cases {
-        expect_whole(&rt, alloc, case)?;
-    }
+    expect_held(&rt, alloc, 3, Block::zeros(), "clean\n")?;
+    let another = details_leaf(11, 2, 1);
+    let report = "fault meta 11 device\nfaults 1\n";
+    expect_held(&rt, alloc, 11, another, report)?;
+    let other_number = details_leaf(11, 1, 0);
+    let report = "fault meta 1 mapped\nfaults 1\n";
+    expect_held(&rt, alloc, 11, other_number, report)?;
     Ok(())
 }
 
@@ -164,47 +152,21 @@ fn the_held_copy_has_devices_of_its_own(rt: HostRuntime) -> Result<(), Fail> {
 #[tactic(auto, unfolding(pd_kinds::specs::Node::is_ascending))]
 fn the_index_of_the_data_bitmaps(rt: HostRuntime) -> Result<(), Fail> {
     let alloc = rt.alloc();
-    let none = (SAME, Block::zeros());
-    let twice = write_leaf(5, &[(0, index_entry(4, 0)), (1, index_entry(4, 0))]);
+    let report = "fault meta 5 index\nfaults 1\n";
+    let late = [(5, write_leaf(5, &[(1, index_entry(4, 0))]))];
+    expect_changed(&rt, alloc, "not from 0", &late, report)?;
+    let none = [(5, empty_leaf::<IndexEntry>(5))];
+    expect_changed(&rt, alloc, "empty", &none, report)?;
     let two = write_leaf(5, &[(0, index_entry(4, 0)), (1, index_entry(10, 0))]);
-    let cases: [Case; 5] = [
-        (
-            "not from 0",
-            [(5, write_leaf(5, &[(1, index_entry(4, 0))])), none, none],
-            "fault meta 5 index\nfaults 1\n",
-        ),
-        (
-            "empty",
-            [(5, empty_leaf::<IndexEntry>(5)), none, none],
-            "fault meta 5 index\nfaults 1\n",
-        ),
-        (
-            "one too long",
-            [(5, two), (10, bitmap(10, 0)), none],
-            "fault meta 5 index\nfaults 1\n",
-        ),
-        (
-            "a bitmap that is named twice",
-            [
-                (0, write_thin_super(&superblock(16321, 0))),
-                (5, twice),
-                none,
-            ],
-            "fault meta 4 index\nfaults 1\n",
-        ),
-        (
-            "another device besides",
-            [
-                (5, empty_leaf::<IndexEntry>(5)),
-                (3, details_leaf(3, 2, 1)),
-                none,
-            ],
-            "fault meta 3 device\nfault meta 5 index\nfaults 2\n",
-        ),
-    ];
-    for case in &cases {
-        expect_whole(&rt, alloc, case)?;
-    }
+    let long = [(5, two), (10, bitmap(10, 0))];
+    expect_changed(&rt, alloc, "one too long", &long, report)?;
+    let twice = write_leaf(5, &[(0, index_entry(4, 0)), (1, index_entry(4, 0))]);
+    let named_twice = [(0, write_thin_super(&superblock(16321, 0))), (5, twice)];
+    let report = "fault meta 4 index\nfaults 1\n";
+    expect_changed(&rt, alloc, "a bitmap named twice", &named_twice, report)?;
+    let besides = [(5, empty_leaf::<IndexEntry>(5)), (3, details_leaf(3, 2, 1))];
+    let report = "fault meta 3 device\nfault meta 5 index\nfaults 2\n";
+    expect_changed(&rt, alloc, "another device besides", &besides, report)?;
     Ok(())
 }
 
@@ -222,9 +184,9 @@ fn fill(block: &mut Block, first: u64, number: usize, values: usize, size: usize
     seal(block, NODE_SALT);
 }
 
-#[test]
+/// Two hundred devices over the leaf of one mapping, whose details take two leaves.
 #[tactic(auto, unfolding(pd_kinds::specs::Node::is_ascending))]
-fn two_hundred_devices_over_one_leaf(rt: HostRuntime) -> Result<(), Fail> {
+fn pool_of_two_hundred_devices() -> [Block; 16] {
     let mut image = pool_of_one_mapping();
     image[2] = write_leaf(2, &[(1, Root(1))]);
     fill(&mut image[2], 1, 200, 32 + 8 * 252, 8);
@@ -233,23 +195,35 @@ fn two_hundred_devices_over_one_leaf(rt: HostRuntime) -> Result<(), Fail> {
     fill(&mut image[10], 1, 100, 32 + 8 * 126, 24);
     image[11] = write_leaf(11, &[(101, details(1))]);
     fill(&mut image[11], 101, 100, 32 + 8 * 126, 24);
-
     image[8] = bitmap(8, 12);
     set_two_bits(&mut image[8], 1, 3);
     seal_bitmap(&mut image[8], 8);
     image[9] = write_leaf(9, &[(1, Count(200))]);
+    image
+}
 
-    // There are twelve blocks in their roles, so at most 61 reads follow the call that attaches the image, and 73 of
-    // the whole check: a failure of the next call shows nowhere.
-    let cases: [(&[&str], u64); 2] = [(&WHOLE, 63), (&["thin_check", "thin.img"], 75)];
-    for (words, call) in cases {
-        let failing = Failing {
-            input: Some(call),
-            ..NOTHING_FAILS
-        };
-        let ran = run(rt.alloc(), words, &image, failing)?;
-        assert!(rt; ran.out.bytes() == "clean\n".as_bytes());
-        assert_eq!(rt; ran.status, 0);
-    }
+/// Checks that pool with this call of the image failing, which isn't made.
+fn expect_no_such_call(
+    rt: &impl Abort,
+    alloc: Global,
+    words: &[&str],
+    call: u64,
+) -> Result<(), AllocError> {
+    let failing = Failing {
+        input: Some(call),
+        ..NOTHING_FAILS
+    };
+    let ran = run(alloc, words, &pool_of_two_hundred_devices(), failing)?;
+    assert!(rt; ran.status == 0, "{call}");
+    assert!(rt; ran.out.bytes() == "clean\n".as_bytes(), "{call}");
+    Ok(())
+}
+
+// There are twelve blocks in their roles, so at most 61 reads follow the call that attaches the image, and 73 of the
+// whole check.
+#[test]
+fn two_hundred_devices_over_one_leaf(rt: HostRuntime) -> Result<(), Fail> {
+    expect_no_such_call(&rt, rt.alloc(), WHOLE, 63)?;
+    expect_no_such_call(&rt, rt.alloc(), WHOLE_CHECK, 75)?;
     Ok(())
 }

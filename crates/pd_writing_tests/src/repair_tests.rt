@@ -1,15 +1,11 @@
 //! Repairs of damaged pools: what is kept, what is refused, and what the output holds then.
 
-ghost use Rattle.std.specs.Prelude.{◌≡◌, IfOk, length};
-
+use crate::made::{Left, PICKS, left_by, ones, pool_of};
 use pd_bitmap::{seal_bitmap, set_two_bits};
-use pd_image::{MemDevice, Pick};
 use pd_kinds::Block;
 use pd_node::write_inner;
 use pd_samples::pool::{damaged, device_leaf, inner, pool_of_one_mapping};
-use pd_samples::runs::{
-    Failing, Held, NOTHING_FAILS, Ran, blocks_after_crash, blocks_of, restore, run, run_over,
-};
+use pd_samples::runs::{Failing, Held, NOTHING_FAILS, Ran, blocks_of, run, run_over};
 use std::alloc::{AllocError, Global};
 use std::process::Abort;
 use std::test::Fail;
@@ -21,23 +17,6 @@ const ONE: &str =
 /// A device whose mappings stand in three leaves.
 const THREE_LEAVES: &str =
     "thin 1\npool 00000000-0000-0000-0000-000000000000 0 0 128 600\ndevice 1 600 0 0 0\nmap 0 0 600 0\nend\n";
-
-/// The blocks of the pool that a text makes of so many blocks.
-fn pool_of(
-    rt: &impl Abort,
-    alloc: Global,
-    text: &str,
-    blocks: usize,
-) -> Result<Vec<Block>, AllocError>
-    ensures { IfOk result (λ image. length image.items ≡ blocks) }
-{
-    let base = vec![in alloc; Block::zeros(); blocks]?;
-    let made = restore(alloc, text.as_bytes(), base.as_slice(), NOTHING_FAILS)?;
-    assert!(rt; made.status == 0, "{text}");
-    let image = blocks_of(alloc, &made.output)?;
-    assert!(rt; image.len() == blocks);
-    Ok(image)
-}
 
 /// Repairs an image onto these blocks.
 fn repair(
@@ -66,14 +45,17 @@ fn expect_saved(
     image: &[Block],
     text: &str,
 ) -> Result<(), AllocError> {
-    let repaired = repair(alloc, image, &[Block([1; 4096]); 16], NOTHING_FAILS)?;
+    let repaired = repair(alloc, image, &[ones(); 16], NOTHING_FAILS)?;
     assert!(rt; repaired.status == 0, "{text}");
-    assert!(rt; repaired.notes.bytes().is_empty());
-    assert!(rt; blocks_of(alloc, &repaired.input)?.as_slice() == image);
+    assert!(rt; repaired.notes.bytes().is_empty(), "{text}");
+    assert!(rt;
+        blocks_of(alloc, &repaired.input)?.as_slice() == image,
+        "{text}"
+    );
     let made = blocks_of(alloc, &repaired.output)?;
     let made = made.as_slice();
     let checked = run(alloc, &["thin_check", "image"], made, NOTHING_FAILS)?;
-    assert!(rt; checked.out.bytes() == b"clean\n".as_slice(), "{text}");
+    assert!(rt; checked.out.bytes() == "clean\n".as_bytes(), "{text}");
     let dumped = run(alloc, &["thin_dump", "image"], made, NOTHING_FAILS)?;
     assert!(rt; dumped.out.bytes() == text.as_bytes(), "{text}");
     Ok(())
@@ -146,7 +128,7 @@ fn the_other_leaves_of_a_device_are_kept(rt: HostRuntime) -> Result<(), Fail> {
         "thin 1\npool 00000000-0000-0000-0000-000000000000 0 0 128 600\ndevice 1 400 0 0 0\nmap 0 0 200 0\nmap 400 400 200 0\nend\n";
     expect_saved(&rt, rt.alloc(), image.as_slice(), text)?;
     // The need is looked at before anything is written.
-    let base = [Block([1; 4096]); 11];
+    let base = [ones(); 11];
     let notes = "pdata_tools: no room: need 12, blocks 11\n";
     expect_refused(&rt, rt.alloc(), image.as_slice(), &base, 4, notes)?;
     Ok(())
@@ -156,7 +138,7 @@ fn the_other_leaves_of_a_device_are_kept(rt: HostRuntime) -> Result<(), Fail> {
 fn a_superblock_with_faults_is_reported(rt: HostRuntime) -> Result<(), Fail> {
     let mut image = pool_of(&rt, rt.alloc(), THREE_LEAVES, 16)?;
     image[0] = damaged(image[0], 100);
-    let base = [Block([1; 4096]); 16];
+    let base = [ones(); 16];
     let notes = "fault meta 0 checksum\nfaults 1\n";
     expect_refused(&rt, rt.alloc(), image.as_slice(), &base, 1, notes)?;
     let notes = "fault meta 0 size\nfaults 1\n";
@@ -232,7 +214,7 @@ fn is_past_input(
 #[test]
 fn each_call_of_the_input_may_fail(rt: HostRuntime) -> Result<(), Fail> {
     let image = pool_of(&rt, rt.alloc(), THREE_LEAVES, 16)?;
-    let base = [Block([1; 4096]); 16];
+    let base = [ones(); 16];
     for call in 0..MANY {
         if is_past_input(&rt, rt.alloc(), image.as_slice(), &base, call)? {
             assert!(rt; call > 6);
@@ -241,19 +223,6 @@ fn each_call_of_the_input_may_fail(rt: HostRuntime) -> Result<(), Fail> {
     }
     assert!(rt; false, "no end");
     Ok(())
-}
-
-/// Whether a crash by this pick leaves of a device the old blocks, no pool, or the new blocks.
-fn may_be_left(
-    alloc: Global,
-    output: &MemDevice,
-    pick: Pick,
-    old: &[Block],
-    new: &[Block],
-) -> Result<bool, AllocError> {
-    let found = blocks_after_crash(alloc, output, pick)?;
-    let found = found.as_slice();
-    Ok(found.first() == Some(&Block::zeros()) || found == old || found == new)
 }
 
 /// Whether a repair has no such call of the output. Where it has, it fails in that call.
@@ -274,8 +243,9 @@ fn is_past_output(
         return Ok(true);
     }
     assert!(rt; ran.status == 5, "{call}");
-    for pick in [Pick::Old, Pick::New, Pick::Other(0)] {
-        assert!(rt; may_be_left(alloc, &ran.output, pick, base, new)?, "{call}");
+    for pick in PICKS {
+        let left = left_by(alloc, &ran.output, *pick, base, new)?;
+        assert!(rt; left != Left::Other, "{call}");
     }
     Ok(false)
 }
@@ -283,7 +253,7 @@ fn is_past_output(
 #[test]
 fn each_call_of_the_output_may_fail(rt: HostRuntime) -> Result<(), Fail> {
     let image = pool_of(&rt, rt.alloc(), THREE_LEAVES, 16)?;
-    let base = [Block([1; 4096]); 16];
+    let base = [ones(); 16];
     let made = repair(rt.alloc(), image.as_slice(), &base, NOTHING_FAILS)?;
     let new = blocks_of(rt.alloc(), &made.output)?;
     for call in 0..MANY {

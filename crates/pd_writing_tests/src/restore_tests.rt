@@ -1,16 +1,16 @@
 //! Whole runs of `thin_restore` over objects in memory: what is restored, what is refused, and what the output holds then.
 
-use pd_image::{MemDevice, Pick};
-use pd_kinds::{BLOCK_SIZE, Block};
+use crate::made::{Left, PICKS, left_by, ones};
+use pd_kinds::Block;
 use pd_samples::pool::{bitmap, empty_pool, pool_of_one_mapping};
-use pd_samples::runs::{Failing, NOTHING_FAILS, Ran, blocks_after_crash, blocks_of, restore, run};
+use pd_samples::runs::{Failing, NOTHING_FAILS, Ran, blocks_of, restore, restored, run};
 use std::alloc::{AllocError, Global};
 use std::process::Abort;
 use std::test::Fail;
 
 /// What the output holds afterwards in block 0, whose bytes were all 1.
 #[derive(Clone, Copy, PartialEq, Eq)]
-enum Left {
+enum First {
     /// It isn't written.
     Untouched,
     /// It is zeros.
@@ -20,12 +20,7 @@ enum Left {
 }
 
 /// A text, the blocks of the output, and the status, the notes and what is left.
-type Row = (&'static str, usize, u8, &'static str, Left);
-
-/// A block whose bytes are all 1.
-fn ones() -> Block {
-    Block([1; BLOCK_SIZE])
-}
+type Row = (&'static str, usize, u8, &'static str, First);
 
 /// Restores a text to so many blocks of ones.
 fn restore_to_ones(
@@ -61,122 +56,128 @@ const LONG: &str =
 
 /// Restores, with what they come to.
 const ROWS: &[Row] = &[
-    (TWO_LEAVES, 12, 0, "", Left::Made),
+    (TWO_LEAVES, 12, 0, "", First::Made),
     (
         TWO_LEAVES,
         11,
         4,
         "pdata_tools: no room: need 12, blocks 11\n",
-        Left::Closed,
+        First::Closed,
     ),
-    (FULL_LEAF, 10, 0, "", Left::Made),
+    (FULL_LEAF, 10, 0, "", First::Made),
     (
         FULL_LEAF,
         9,
         4,
         "pdata_tools: no room: need 10, blocks 9\n",
-        Left::Closed,
+        First::Closed,
     ),
     (
         EMPTY,
         0,
         4,
         "pdata_tools: no room: need 7, blocks 0\n",
-        Left::Untouched,
+        First::Untouched,
     ),
     (
         WIDE,
         6173,
         4,
         "pdata_tools: no room: need 6174, blocks 6173\n",
-        Left::Closed,
+        First::Closed,
     ),
-    (EMPTY, 8, 0, "", Left::Made),
+    (EMPTY, 8, 0, "", First::Made),
     (
         EMPTY,
         7,
         4,
         "pdata_tools: no room: need 8, blocks 7\n",
-        Left::Untouched,
+        First::Untouched,
     ),
-    (ONE, 16, 0, "", Left::Made),
+    (ONE, 16, 0, "", First::Made),
     (
         ONE,
         9,
         4,
         "pdata_tools: no room: need 10, blocks 9\n",
-        Left::Closed,
+        First::Closed,
     ),
     (
         "thin 1\npool 00000000-0000-0000-0000-000000000000 0 0 128 1099511627776\ndevice 1 1099511627776 0 0 0\nmap 0 0 1099511627776 0\nend\n",
-        100,
+        1000,
         4,
-        "pdata_tools: no room: need 67774669, blocks 100\n",
-        Left::Untouched,
+        "pdata_tools: no room: need 67774669, blocks 1000\n",
+        First::Untouched,
     ),
     (
         "thin 1\npool 00000000-0000-0000-0000-000000000000 0 0 128 0\n",
         100,
         3,
         "pdata_tools: line 3: no end\n",
-        Left::Closed,
+        First::Closed,
     ),
     (
         LONG,
         100,
         3,
         "pdata_tools: line 3: too long\n",
-        Left::Closed,
+        First::Closed,
     ),
     (
         "thin 1\npool 00000000-0000-0000-0000-000000000000 0 0 128 0\nend\nx",
         100,
         3,
         "pdata_tools: line 4: after end\n",
-        Left::Closed,
+        First::Closed,
     ),
     (
         "thin 1\npool 00000000-0000-0000-0000-000000000000 0 0 128 2\ndevice 1 2 0 0 0\nmap 0 0 1 0\nend\n",
         100,
         3,
         "pdata_tools: line 5: mapped differs\n",
-        Left::Closed,
+        First::Closed,
     ),
     (
         "thin 1\npool 00000000-0000-0000-0000-000000000000 0 0 128 1\ndevice 1 1 0 0 0\nmap 0 0 01 0\nend\n",
         100,
         3,
         "pdata_tools: line 4: number\n",
-        Left::Closed,
+        First::Closed,
     ),
-    ("", 100, 3, "pdata_tools: line 1: no end\n", Left::Untouched),
+    (
+        "",
+        100,
+        3,
+        "pdata_tools: line 1: no end\n",
+        First::Untouched,
+    ),
     (
         "thin 3\n",
         100,
         3,
         "pdata_tools: line 1: header\n",
-        Left::Untouched,
+        First::Untouched,
     ),
     (
         "thin 1\npool 00000000-0000-0000-0000-000000000000 0 0 128 x\n",
         100,
         3,
         "pdata_tools: line 2: number\n",
-        Left::Untouched,
+        First::Untouched,
     ),
 ];
 
 /// What is left of block 0.
-fn left_of(blocks: &[Block]) -> Left {
+fn left_of(blocks: &[Block]) -> First {
     match blocks {
-        [] => Left::Untouched,
+        [] => First::Untouched,
         [first, ..] => {
             if *first == ones() {
-                Left::Untouched
+                First::Untouched
             } else if *first == Block::zeros() {
-                Left::Closed
+                First::Closed
             } else {
-                Left::Made
+                First::Made
             }
         }
     }
@@ -201,18 +202,12 @@ fn restores_come_to_their_status(rt: HostRuntime) -> Result<(), Fail> {
     Ok(())
 }
 
-/// Whether a text is restored to just these blocks, where the device had zeros.
-fn is_restored_as(alloc: Global, text: &str, wanted: &[Block]) -> Result<bool, AllocError> {
-    let base = vec![in alloc; Block::zeros(); wanted.len()]?;
-    let made = restore(alloc, text.as_bytes(), base.as_slice(), NOTHING_FAILS)?;
-    let found = blocks_of(alloc, &made.output)?;
-    Ok(found.as_slice() == wanted)
-}
-
 #[test]
 fn restored_pools_are_those_put_together_by_hand(rt: HostRuntime) -> Result<(), Fail> {
-    assert!(rt; is_restored_as(rt.alloc(), EMPTY, &empty_pool())?);
-    assert!(rt; is_restored_as(rt.alloc(), ONE, &pool_of_one_mapping())?);
+    let empty = restored(rt.alloc(), EMPTY, 8)?;
+    assert!(rt; empty.as_slice() == empty_pool().as_slice());
+    let one = restored(rt.alloc(), ONE, 16)?;
+    assert!(rt; one.as_slice() == pool_of_one_mapping().as_slice());
     Ok(())
 }
 
@@ -233,29 +228,39 @@ fn expect_written(
     Ok(())
 }
 
+/// Texts, with the blocks of a device that has room for them.
+const TEXTS: &[(&str, usize)] = &[
+    (EMPTY, 8),
+    (ONE, 16),
+    (TWO_LEAVES, 12),
+    (FULL_LEAF, 10),
+    (WIDE, 8192),
+];
+
 #[test]
 fn restored_pools_are_clean(rt: HostRuntime) -> Result<(), Fail> {
-    for (text, blocks) in [
-        (EMPTY, 8),
-        (ONE, 16),
-        (TWO_LEAVES, 12),
-        (FULL_LEAF, 10),
-        (WIDE, 8192),
-    ] {
-        expect_written(&rt, rt.alloc(), "thin_check", text, blocks, "clean\n")?;
+    for (text, blocks) in TEXTS {
+        expect_written(&rt, rt.alloc(), "thin_check", text, *blocks, "clean\n")?;
     }
     Ok(())
 }
 
+/// Two mappings in one line, in two that join, and in two of different times, which don't.
+const JOINED: &str =
+    "thin 1\npool 00000000-0000-0000-0000-000000000000 0 0 128 2\ndevice 1 2 0 0 0\nmap 0 0 2 0\nend\n";
+
+const CUT: &str =
+    "thin 1\npool 00000000-0000-0000-0000-000000000000 0 0 128 2\ndevice 1 2 0 0 0\nmap 0 0 1 0\nmap 1 1 1 0\nend\n";
+
+const APART: &str =
+    "thin 1\npool 00000000-0000-0000-0000-000000000000 0 0 128 2\ndevice 1 2 0 0 0\nmap 0 0 1 0\nmap 1 1 1 1\nend\n";
+
+/// Texts, with what is dumped of the pools that are restored from them.
+const DUMPS: &[(&str, &str)] = &[(ONE, ONE), (JOINED, JOINED), (CUT, JOINED), (APART, APART)];
+
 #[test]
 fn restored_pools_are_dumped_with_their_runs_joined(rt: HostRuntime) -> Result<(), Fail> {
-    let joined =
-        "thin 1\npool 00000000-0000-0000-0000-000000000000 0 0 128 2\ndevice 1 2 0 0 0\nmap 0 0 2 0\nend\n";
-    let apart =
-        "thin 1\npool 00000000-0000-0000-0000-000000000000 0 0 128 2\ndevice 1 2 0 0 0\nmap 0 0 1 0\nmap 1 1 1 1\nend\n";
-    let cut =
-        "thin 1\npool 00000000-0000-0000-0000-000000000000 0 0 128 2\ndevice 1 2 0 0 0\nmap 0 0 1 0\nmap 1 1 1 0\nend\n";
-    for (text, dump) in [(ONE, ONE), (joined, joined), (cut, joined), (apart, apart)] {
+    for (text, dump) in DUMPS {
         expect_written(&rt, rt.alloc(), "thin_dump", text, 16, dump)?;
     }
     Ok(())
@@ -272,7 +277,13 @@ fn expect_blame(rt: &impl Abort, alloc: Global, call: u64) -> Result<(), AllocEr
     let notes = "pdata_tools: source or sink fault\n";
     assert!(rt; restored.notes.bytes() == notes.as_bytes(), "{call}");
     let image = blocks_of(alloc, &restored.output)?;
-    assert!(rt; left_of(image.as_slice()) != Left::Made, "{call}");
+    // The first two lines are 59 bytes, which take nine pieces.
+    let wanted = if call < 10 {
+        First::Untouched
+    } else {
+        First::Closed
+    };
+    assert!(rt; left_of(image.as_slice()) == wanted, "{call}");
     Ok(())
 }
 
@@ -331,48 +342,18 @@ fn leaves_are_written_as_their_lines_come(rt: HostRuntime) -> Result<(), Fail> {
     assert!(rt; refused.notes.bytes() == "pdata_tools: line 5: word\n".as_bytes());
     let found = blocks_of(rt.alloc(), &refused.output)?;
     let whole = pool_over_ones(rt.alloc(), ONE)?;
-    assert!(rt; left_of(found.as_slice()) == Left::Closed);
+    assert!(rt; left_of(found.as_slice()) == First::Closed);
     assert!(rt; found.get(1) == whole.get(1));
     Ok(())
 }
 
-/// What a stop leaves.
-#[derive(Clone, Copy, PartialEq, Eq)]
-enum Stopped {
-    Old,
-    Closed,
-    New,
-    Other,
-}
-
-/// What a crash by this pick leaves of a device that held these blocks, and may hold the others.
-fn left_by(
-    alloc: Global,
-    output: &MemDevice,
-    pick: Pick,
-    old: &[Block],
-    new: &[Block],
-) -> Result<Stopped, AllocError> {
-    let blocks = blocks_after_crash(alloc, output, pick)?;
-    let found = blocks.as_slice();
-    Ok(if found == old {
-        Stopped::Old
-    } else if found == new {
-        Stopped::New
-    } else if left_of(found) == Left::Closed {
-        Stopped::Closed
-    } else {
-        Stopped::Other
-    })
-}
-
 /// Whether a device that stops after so many calls may hold this.
-fn may_be_left(calls: u64, found: Stopped) -> bool {
+fn may_be_left(calls: u64, found: Left) -> bool {
     match calls {
-        0..=2 => found == Stopped::Old || found == Stopped::Closed,
-        3..=13 => found == Stopped::Closed,
-        14 => found == Stopped::Closed || found == Stopped::New,
-        _ => found == Stopped::New,
+        0..=2 => found == Left::Old || found == Left::Closed,
+        3..=13 => found == Left::Closed,
+        14 => found == Left::Closed || found == Left::New,
+        _ => found == Left::New,
     }
 }
 
@@ -391,8 +372,8 @@ fn expect_stopped(
     let restored = restore(alloc, ONE.as_bytes(), old, failing)?;
     let status = if calls < 15 { 5 } else { 0 };
     assert!(rt; restored.status == status, "{calls}");
-    for pick in [Pick::Old, Pick::New, Pick::Other(0)] {
-        let found = left_by(alloc, &restored.output, pick, old, new)?;
+    for pick in PICKS {
+        let found = left_by(alloc, &restored.output, *pick, old, new)?;
         assert!(rt; may_be_left(calls, found), "{calls}");
     }
     Ok(())
@@ -422,9 +403,9 @@ fn expect_failed(
     };
     let restored = restore(alloc, ONE.as_bytes(), old, failing)?;
     assert!(rt; restored.status == 5, "{call}");
-    for pick in [Pick::Old, Pick::New, Pick::Other(0)] {
-        let found = left_by(alloc, &restored.output, pick, old, new)?;
-        assert!(rt; found != Stopped::Other, "{call}");
+    for pick in PICKS {
+        let found = left_by(alloc, &restored.output, *pick, old, new)?;
+        assert!(rt; found != Left::Other, "{call}");
     }
     Ok(())
 }

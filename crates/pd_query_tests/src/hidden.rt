@@ -46,7 +46,7 @@ pub struct Hidden {
 
 impl Hidden {
     ghost use Rattle.std.specs.Prelude.{◌≡◌};
-    ghost use Rattle.pd_rehearse_tests.specs.Hidden.{hidden_state};
+    ghost use Rattle.pd_query_tests.specs.Hidden.{hidden_state};
 
     /// A device of these blocks, which shows something else from this call on.
     pub fn new(blocks: Vec<Block>, shows_from: u64, shown: Shown) -> Hidden
@@ -64,6 +64,11 @@ impl Hidden {
         }
     }
 
+    /// The blocks that it holds.
+    pub fn held(&self) -> &[Block] {
+        self.blocks.as_slice()
+    }
+
     /// The number of the call that begins.
     fn begin_call(&mut self) -> u64
         ensures { hidden_state self.new ≡ hidden_state self.old }
@@ -76,7 +81,7 @@ impl Hidden {
 
 impl Device for Hidden {
     ghost use Rattle.std.specs.Prelude.{refl};
-    ghost use Rattle.pd_rehearse_tests.specs.Hidden.{hidden_state};
+    ghost use Rattle.pd_query_tests.specs.Hidden.{hidden_state};
 
     ghost state = { hidden_state };
 

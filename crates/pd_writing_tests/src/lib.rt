@@ -1,0 +1,12 @@
+//! Tests of whole runs that write a pool, over objects in memory: restores, repairs, and checks that clear the flag
+//! "needs check".
+#![tactic(auto)]
+
+#[cfg(test)]
+mod flag_tests;
+#[cfg(test)]
+mod made;
+#[cfg(test)]
+mod repair_tests;
+#[cfg(test)]
+mod restore_tests;
