@@ -12,11 +12,15 @@ use Rattle.pd_texts.specs.declared.fault.TextFault.{TextFault}
 use Rattle.pd_texts.specs.declared.fault.ReadFault.{ReadFault}
 use Rattle.pd_texts.specs.declared.fault.ReadFault.TheVariants as c
 use Rattle.pd_texts.specs.declared.reader.TextReader.{TextReader}
+use Rattle.pd_lines.specs.Reader.{lines_of}
+use Rattle.pd_texts.specs.Faults.{IsPast}
+use Rattle.pd_build.specs.declared.fault.BuildFault.{BuildFault}
+use Rattle.pd_build.specs.declared.fault.BuildFault.TheVariants as b
 use Rattle.pd_texts.specs.Reader.{in_order, AreReadSoFar, ReadsOn, LeavesOf, GivesLine, GivesOf, IsWhole, IsRefusedAfter, RefusesNext, begun}
 use Rattle.pd_restoring.specs.declared.fault.RestoreFault.{RestoreFault}
 use Rattle.pd_restoring.specs.declared.fault.RestoreFault.TheVariants as r
-use Rattle.pd_restoring.specs.Faults.{read_fault}
-use Rattle.pd_restoring.specs.Reading.{NoneAbove, SaysOf, IsOfBuild}
+use Rattle.pd_restoring.specs.Faults.{read_fault, build_fault}
+use Rattle.pd_restoring.specs.Reading.{NoneAbove, SaysOf, IsOfBuild, IsOfLater, CountsTake}
 
 -- no line so far is above the room, also with one more that isn't
 and_false : (b : Bool) → (b && false) ≡ false
@@ -66,6 +70,26 @@ end_says format need (Err r.Source) room t of = tt
 end_says format need (Err r.Device) room t of = tt
 end_says format need (Err (r.Text fault)) room t of = absurd of
 end_says format need (Err (r.NoRoom needed blocks)) room t of = absurd of
+
+-- what is refused after two lines is none of them
+pub later_read : {P V L : Type 0} (format : TextFormat L) (Stands : P → List L → Type 0) (before : List L) (reader : TextReader P V) (fault : ReadFault)
+    → ReadsOn format Stands before reader → 2 ≤ length before → IsPast (lines_of reader.reader) fault → IsOfLater (read_fault fault)
+later_read format Stands before reader c.Memory on some past = tt
+later_read format Stands before reader c.Source on some past = tt
+later_read format Stands before reader (c.Text fault) on some past = omega (arith, on.so_far.count)
+
+-- nor does what is taken or built refuse one
+pub later_take : {T : Type 0} (result : Result T RestoreFault) (old new : ℕ) → CountsTake result old new → IfErr result IsOfLater
+later_take (Ok more) old new counts = tt
+later_take (Err r.Memory) old new counts = tt
+later_take (Err r.Source) old new counts = tt
+later_take (Err r.Device) old new counts = tt
+later_take (Err (r.Text fault)) old new counts = absurd counts
+later_take (Err (r.NoRoom needed blocks)) old new counts = tt
+
+pub later_build : (fault : BuildFault) → IsOfLater (build_fault fault)
+later_build b.Memory = tt
+later_build b.Device = tt
 
 -- a refusal after lines that have room
 module _ {L : Type 0} (format : TextFormat L) (need : ℕ → List L → ℕ) where

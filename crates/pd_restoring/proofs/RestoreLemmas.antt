@@ -1,15 +1,15 @@
 -- A restore, put together from its first two lines, the closing of block 0 and the rest.
 use Rattle.std.proofs.Common.{◌≡◌, ◌⊎◌, inl, inr, ⊎_elim, ℕ, ◌<◌, ◌≤◌, Bool, true, set, List, [], ◌∷◌, length, Option, Some, None, IfSome, Result, Ok, Err, refl, sym, ap, ◌∙◌, subst, arith}
-use Rattle.std.specs.Prelude.{MatchResult, nat_lt, IfErr}
+use Rattle.std.specs.Prelude.{MatchResult, nat_lt, IfErr, is_some}
 use Rattle.std.specs.Option.{option_map_or}
 use Rattle.std.proofs.lemmas.Bool.{both_ways, le-ltb}
 use Rattle.std.proofs.lemmas.Option.{IfSome_then, same_Some}
-use Rattle.pd_kinds.specs.Crash.{HasNoSuper, HoldsSynced, IsOldNoneOrMade, IsOldOrNone, LeavesOnly}
+use Rattle.pd_kinds.specs.Crash.{HasNoSuper, HoldsOldOrNone, HoldsSynced, IsOldNoneOrMade, IsOldOrNone, IsUntouched, LeavesOnly, StillTells}
 use Rattle.pd_kinds.specs.Field.{zeros}
 use Rattle.pd_kinds.specs.Limits.{room_of}
 use Rattle.pd_kinds.specs.Moments.{now}
 use Rattle.pd_kinds.specs.Objects.{DeviceState, SourceState}
-use Rattle.pd_kinds.proofs.CrashLemmas.{and_then, weaken, stays, left_now, left_synced, left_held}
+use Rattle.pd_kinds.proofs.CrashLemmas.{and_then, weaken, stays, still_tells, left_now, left_synced, left_held}
 use Rattle.pd_image.proofs.CrashLemmas.{at_some}
 use Rattle.pd_draft.specs.Closed.{StaysClosed}
 use Rattle.pd_draft.proofs.DraftLemmas.{zeros_none}
@@ -21,8 +21,8 @@ use Rattle.pd_laid.specs.Made.{Makes}
 use Rattle.pd_restoring.specs.declared.fault.RestoreFault.{RestoreFault}
 use Rattle.pd_restoring.specs.declared.fault.RestoreFault.TheVariants as r
 use Rattle.pd_restoring.specs.Begin.{BeginsOf, BeginsWith, BlamesSource}
-use Rattle.pd_restoring.specs.Reading.{SaysOf}
-use Rattle.pd_restoring.specs.Restored.{IsRefusal, AnswersFault}
+use Rattle.pd_restoring.specs.Reading.{IsOfLater, SaysOf}
+use Rattle.pd_restoring.specs.Restored.{AnswersFault, IsOfFirstLines, IsOfOthers}
 use Rattle.pd_restoring.specs.Subject.{Subject, IsVerdictOf, HasVerdicts}
 use Rattle.pd_restoring.specs.Whole.{made_of, Commits, CommitsSynced, Tries, ShutBy, Restores}
 use Rattle.pd_restoring.proofs.MadeLemmas.{made_of_closed}
@@ -40,7 +40,7 @@ unfolding text_in
 at_text None P is = tt
 at_text (Some text) P is = is
 
-where_told : (left : Option (List ℕ)) (P : List ℕ → Type 0) → ((t : List ℕ) → left ≡ Some t → P t) → IfSome left P
+where_told : {X : Type 0} (left : Option X) (P : X → Type 0) → ((t : X) → left ≡ Some t → P t) → IfSome left P
 where_told None P told = tt
 where_told (Some text) P told = told text refl
 
@@ -56,6 +56,14 @@ at_rest image Made device synced =
 kept_same : (held : Option Image) → IfSome held (λ image. IfSome held (λ now. (now ≡ image) ⊎ HasNoSuper now))
 kept_same None = tt
 kept_same (Some image) = inl refl
+
+-- a later line is none of the first two
+not_first : (fault : RestoreFault) → IsOfLater fault → IsOfFirstLines fault → ⊥
+not_first r.Memory later first = first
+not_first r.Source later first = first
+not_first r.Device later first = first
+not_first (r.Text fault) later first = omega arith
+not_first (r.NoRoom need blocks) later first = first
 
 -- a fault that says nothing of the text
 IsSilent : RestoreFault → Type 0
@@ -92,8 +100,9 @@ module _ {L M : Type 0} (k : Subject L M) where
     answer = answer;
     crash = λ image synced. at_rest image (Makes k.laid (room_of old.blocks) v image) old synced;
     made = tt;
-    still_told = tt;
+    told = still_tells old old refl;
     kept = λ _. kept_same old.held;
+    first_lines = λ _. record { held = refl; history = refl };
     untouched = λ _. record { held = refl; history = refl };
     ended = tt;
   }
@@ -160,24 +169,25 @@ module _ {L M : Type 0} (k : Subject L M) where
         (right_of (no_room needed room) (where_told from.left (λ t. IsVerdictOf k t room (no_room needed room))
         (λ t told. (over_says room t lines (begins t told) (omega arith) ∙ ap (λ n. Some n) (sym is), refl)))) (refl, refl)
 
-    module _ (told : (t : List ℕ) → from.left ≡ Some t → IsOf t) (fits : need ≤ room) (mid new : DeviceState) where
+    module _ (told : (t : List ℕ) → from.left ≡ Some t → IsOf t) (fits : need ≤ room) (mid new : DeviceState)
+        (as_told : is_some new.held ≡ is_some old.held) where
       not_early : early ≡ true → ⊥
       not_early e = absurd (both_ways early (le-ltb room need fits) e)
 
       -- the device was written, and a fault came
       begun_fault : (fault : RestoreFault) (v : Verdict M) → IfSome from.left (λ t. IsVerdictOf k t room v) → AnswersFault fault v
           → ((image : Image) → HoldsSynced image old → LeavesOnly (IsOldNoneOrMade image (Makes k.laid room v image)) old new)
-          → (IsRefusal fault → IfSome old.held (λ image. IfSome new.held (λ now. (now ≡ image) ⊎ HasNoSuper now)))
-          → Restores k (Err fault) from to old new
-      begun_fault fault v is answer crash kept = record {
+          → (IsOfOthers fault → HoldsOldOrNone old new) → IsOfLater fault → Restores k (Err fault) from to old new
+      begun_fault fault v is answer crash kept later = record {
         verdict = v;
         early = early;
         right = right_of v is;
         answer = answer;
         crash = crash;
         made = tt;
-        still_told = tt;
+        told = still_tells old new as_told;
         kept = kept;
+        first_lines = λ first. absurd (not_first fault later first);
         untouched = λ e. absurd (not_early e);
         ended = tt;
       }
@@ -186,7 +196,7 @@ module _ {L M : Type 0} (k : Subject L M) where
       pub begun_unclosed : HasVerdicts k → ((image : Image) → HoldsSynced image old → LeavesOnly (IsOldOrNone image) old new) → Restores k (Err r.Device) from to old new
       begun_unclosed verdicts first =
           let found = verdicts (text_in from.left) room in
-          begun_fault r.Device found.0 (at_text from.left (λ t. IsVerdictOf k t room found.0) found.1) tt (λ image synced. older (first image synced)) (λ none. absurd none)
+          begun_fault r.Device found.0 (at_text from.left (λ t. IsVerdictOf k t room found.0) found.1) tt (λ image synced. older (first image synced)) (λ none. absurd none) tt
 
       module _ (first : (image : Image) → HoldsSynced image old → LeavesOnly (IsOldOrNone image) old mid)
           (content : IfSome old.held (λ image. mid.held ≡ Some (set image 0 zeros))) (measured : IfSome old.held (λ image. length image ≡ old.blocks)) where
@@ -195,30 +205,26 @@ module _ {L M : Type 0} (k : Subject L M) where
         closed_crash stays Made image synced =
             and_then (older (first image synced)) (weaken stays.crash (λ left firsts zeroed chance. inr (inl (zeros_none left firsts zeroed))))
 
-        closed_kept : StaysClosed mid new → IfSome old.held (λ image. IfSome new.held (λ now. (now ≡ image) ⊎ HasNoSuper now))
+        closed_kept : StaysClosed mid new → HoldsOldOrNone old new
         closed_kept stays =
             IfSome_then old.held measured (λ image number.
-            each_told new.held (λ now. (now ≡ image) ⊎ HasNoSuper now) (λ now is. inr (zeros_none now new.history.firsts (stays.crash.now now new.history.firsts (left_held new now is)))))
-          where
-            each_told : (o : Option Image) (P : Image → Type 0) → ((x : Image) → o ≡ Some x → P x) → IfSome o P
-            each_told None P all = tt
-            each_told (Some x) P all = all x refl
+            where_told new.held (λ now. (now ≡ image) ⊎ HasNoSuper now) (λ now is. inr (zeros_none now new.history.firsts (stays.crash.now now new.history.firsts (left_held new now is)))))
 
-        closed_at : (image : Image) → HoldsSynced image old → mid.held ≡ Some (set image 0 zeros)
-        closed_at image synced = at_some old.held (λ (i : Image). mid.held ≡ Some (set i 0 zeros)) image synced.held content
+        closed_at : (image : Image) → old.held ≡ Some image → mid.held ≡ Some (set image 0 zeros)
+        closed_at image held = at_some old.held (λ (i : Image). mid.held ≡ Some (set i 0 zeros)) image held content
 
         -- what is made is laid
-        made_laid : (m : M) → laid_number (k.laid m room) ≤ room → (image made : Image) → HoldsSynced image old → made ≡ made_of (k.laid m room) (set image 0 zeros)
+        made_laid : (m : M) → laid_number (k.laid m room) ≤ room → (image made : Image) → old.held ≡ Some image → made ≡ made_of (k.laid m room) (set image 0 zeros)
             → IsLaid (k.laid m room) image made
-        made_laid m enough image made synced is =
-            let number : length image ≡ old.blocks = at_some old.held (λ (i : Image). length i ≡ old.blocks) image synced.held measured in
+        made_laid m enough image made held is =
+            let number : length image ≡ old.blocks = at_some old.held (λ (i : Image). length i ≡ old.blocks) image held measured in
             rw is (made_of_closed (k.laid m room) image zeros (omega arith))
 
         commit_crash : {left : Option (List ℕ)} → (done : Commits k room IsOf left mid new) → (image : Image) → HoldsSynced image old
             → LeavesOnly (IsOldNoneOrMade image (Makes k.laid room (accepted done.meaning) image)) old new
         commit_crash done image synced =
-            and_then (older (first image synced)) (weaken (done.crash (set image 0 zeros) (closed_at image synced))
-            (λ left firsts outcome chance. ⊎_elim (λ none. inr (inl none)) (λ made. inr (inr (made_laid done.meaning done.fits image left synced made))) (outcome chance)))
+            and_then (older (first image synced)) (weaken (done.crash (set image 0 zeros) (closed_at image synced.held))
+            (λ left firsts outcome chance. ⊎_elim (λ none. inr (inl none)) (λ made. inr (inr (made_laid done.meaning done.fits image left synced.held made))) (outcome chance)))
 
         -- all was committed
         begun_done : CommitsSynced k room IsOf to.left mid new → Restores k (Ok tt) from to old new
@@ -229,12 +235,13 @@ module _ {L M : Type 0} (k : Subject L M) where
               right = right_of (accepted m) (where_told from.left (λ t. IsVerdictOf k t room (accepted m)) (λ t is. (done.commits.told t (told t is)).0));
               answer = done.commits.lawful;
               crash = λ image synced. commit_crash done.commits image synced;
-              made = λ image synced.
-                  let s = done.done (set image 0 zeros) (closed_at image synced) in
+              made = where_told old.held (λ image. IfSome new.held (λ now. Makes k.laid room (accepted m) image now × HoldsSynced now new)) (λ image held.
+                  let s = done.done (set image 0 zeros) (closed_at image held) in
                   at_made new.held (λ (made : Image). IsLaid (k.laid m room) image made) (made_of (k.laid m room) (set image 0 zeros)) s s.held
-                  (λ made is. made_laid m done.commits.fits image made synced is);
-              still_told = λ image synced. rw (done.done (set image 0 zeros) (closed_at image synced)).held refl;
+                  (λ made is. made_laid m done.commits.fits image made held is));
+              told = still_tells old new as_told;
               kept = tt;
+              first_lines = tt;
               untouched = λ e. absurd (not_early e);
               ended = where_told from.left (λ t. to.left ≡ Some []) (λ t is. (done.commits.told t (told t is)).1);
             }
@@ -245,33 +252,33 @@ module _ {L M : Type 0} (k : Subject L M) where
             at_made (Some now) P image s is laid =
                 let same : now ≡ image = same_Some now image is in (laid now same, subst (λ (j : Image). HoldsSynced j new) (sym same) s)
 
-        silent_closed : HasVerdicts k → (fault : RestoreFault) → IsSilent fault → StaysClosed mid new → Restores k (Err fault) from to old new
-        silent_closed verdicts fault silent stays =
+        silent_closed : HasVerdicts k → (fault : RestoreFault) → IsSilent fault → IsOfLater fault → StaysClosed mid new → Restores k (Err fault) from to old new
+        silent_closed verdicts fault silent later stays =
             let found = verdicts (text_in from.left) room in
             begun_fault fault found.0 (at_text from.left (λ t. IsVerdictOf k t room found.0) found.1) (silent_answer fault found.0 silent)
-            (closed_crash stays (Makes k.laid room found.0)) (λ _. closed_kept stays)
+            (closed_crash stays (Makes k.laid room found.0)) (λ _. closed_kept stays) later
 
         -- it wasn't
         begun_failed : HasVerdicts k → (fault : RestoreFault) → Tries k room IsOf to.left mid new → ShutBy fault mid new
-            → ((t : List ℕ) → from.left ≡ Some t → SaysOf k.format k.need room t fault) → Restores k (Err fault) from to old new
+            → ((t : List ℕ) → from.left ≡ Some t → SaysOf k.format k.need room t fault) → IsOfLater fault → Restores k (Err fault) from to old new
         unfolding IsSilent
-        begun_failed verdicts r.Memory tries shut says = silent_closed verdicts r.Memory tt shut
-        begun_failed verdicts r.Source tries shut says = silent_closed verdicts r.Source tt shut
-        begun_failed verdicts r.Device (inl closed) shut says = silent_closed verdicts r.Device tt closed
-        begun_failed verdicts r.Device (inr done) shut says =
+        begun_failed verdicts r.Memory tries shut says later = silent_closed verdicts r.Memory tt tt shut
+        begun_failed verdicts r.Source tries shut says later = silent_closed verdicts r.Source tt tt shut
+        begun_failed verdicts r.Device (inl closed) shut says later = silent_closed verdicts r.Device tt tt closed
+        begun_failed verdicts r.Device (inr done) shut says later =
             begun_fault r.Device (accepted done.meaning) (where_told from.left (λ t. IsVerdictOf k t room (accepted done.meaning)) (λ t is. (done.told t (told t is)).0)) tt
-            (λ image synced. commit_crash done image synced) (λ none. absurd none)
-        begun_failed verdicts (r.Text fault) tries shut says =
+            (λ image synced. commit_crash done image synced) (λ none. absurd none) tt
+        begun_failed verdicts (r.Text fault) tries shut says later =
             let why : Texts.Refusal = record { line = fault.line; cause = fault.cause } in
             begun_fault (r.Text fault) (refused why) (where_told from.left (λ t. IsVerdictOf k t room (refused why)) (λ t is. says t is)) refl
-            (closed_crash shut (Makes k.laid room (refused why))) (λ _. closed_kept shut)
-        begun_failed verdicts (r.NoRoom needed blocks) tries shut says =
+            (closed_crash shut (Makes k.laid room (refused why))) (λ _. closed_kept shut) later
+        begun_failed verdicts (r.NoRoom needed blocks) tries shut says later =
             begun_fault (r.NoRoom needed blocks) (no_room needed blocks) (where_told from.left (λ t. IsVerdictOf k t room (no_room needed blocks)) (λ t is. says t is)) (refl, refl)
-            (closed_crash shut (Makes k.laid room (no_room needed blocks))) (λ _. closed_kept shut)
+            (closed_crash shut (Makes k.laid room (no_room needed blocks))) (λ _. closed_kept shut) tt
 
         -- by the result
         pub begun_result : HasVerdicts k → (result : Result (Unit {0}) RestoreFault)
             → MatchResult result (λ _. CommitsSynced k room IsOf to.left mid new) (λ _. Tries k room IsOf to.left mid new)
-            → IfErr result (λ fault. ShutBy fault mid new) → ((t : List ℕ) → from.left ≡ Some t → IfErr result (SaysOf k.format k.need room t)) → Restores k result from to old new
-        begun_result verdicts (Ok done) tries shut says = begun_done tries
-        begun_result verdicts (Err fault) tries shut says = begun_failed verdicts fault tries shut says
+            → IfErr result (λ fault. ShutBy fault mid new) → ((t : List ℕ) → from.left ≡ Some t → IfErr result (SaysOf k.format k.need room t)) → IfErr result IsOfLater → Restores k result from to old new
+        begun_result verdicts (Ok done) tries shut says later = begun_done tries
+        begun_result verdicts (Err fault) tries shut says later = begun_failed verdicts fault tries shut says later

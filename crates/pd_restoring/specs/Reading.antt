@@ -39,3 +39,11 @@ BlamesDevice (r.NoRoom need blocks) old new = new ≡ old
 
 abbrev pub CountsTake : {T : Type 0} → Result T RestoreFault → ℕ → ℕ → Type 0
 CountsTake result old new = MatchResult result (λ done. new ≡ old) (λ fault. BlamesDevice fault old new)
+
+-- where a line is refused, it isn't one of the first two
+abbrev pub IsOfLater : RestoreFault → Type 0
+IsOfLater r.Memory = Unit {0}
+IsOfLater r.Source = Unit {0}
+IsOfLater r.Device = Unit {0}
+IsOfLater (r.Text fault) = 3 ≤ fault.line
+IsOfLater (r.NoRoom need blocks) = Unit {0}

@@ -1,5 +1,5 @@
 -- What a restore promises, for any kind.
-use Rattle.std.specs.Prelude.{◌≡◌, ◌⊎◌, ℕ, ◌≤◌, true, Bool, List, [], Result, OnOk, IfSome, IsSome, MatchResult, Some}
+use Rattle.std.specs.Prelude.{◌≡◌, ◌⊎◌, ℕ, ◌≤◌, true, Bool, List, [], Result, OnOk, IfSome, MatchResult, Some}
 use Rattle.pd_kinds.specs.Limits.{room_of}
 use Rattle.pd_kinds.specs.Objects.{SourceState, DeviceState, Rose}
 use Rattle.pd_kinds.specs.Crash.{HoldsOldOrNone, HoldsSynced, IsOldNoneOrMade, IsUntouched, LeavesOnly, StillTells}
@@ -51,14 +51,6 @@ IsOfFirstLines r.Source = ⊥
 IsOfFirstLines r.Device = ⊥
 IsOfFirstLines (r.Text fault) = fault.line ≤ 2
 IsOfFirstLines (r.NoRoom need blocks) = ⊥
-
--- the text was refused, or there is no room for it
-abbrev pub IsRefusal : RestoreFault → Type 0
-IsRefusal r.Memory = ⊥
-IsRefusal r.Source = ⊥
-IsRefusal r.Device = ⊥
-IsRefusal (r.Text fault) = Unit {0}
-IsRefusal (r.NoRoom need blocks) = Unit {0}
 
 -- the counts of failures: that of the source rose where it is blamed, that of the device where that is, and else none
 abbrev pub BlamesOne : RestoreFault → ℕ → ℕ → ℕ → ℕ → Type 0

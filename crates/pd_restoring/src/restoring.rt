@@ -4,7 +4,7 @@ ghost use Rattle.pd_image.specs.Source.{KeepsSource};
 ghost use Rattle.pd_draft.specs.Closed.{IsClosed, StaysClosed};
 ghost use Rattle.pd_draft.specs.Stand.{stand};
 ghost use Rattle.pd_restoring.specs.Begin.{BeginsOf, BeginsWith, CountsBegin};
-ghost use Rattle.pd_restoring.specs.Reading.{SaysOf};
+ghost use Rattle.pd_restoring.specs.Reading.{IsOfLater, SaysOf};
 ghost use Rattle.pd_restoring.specs.Restored.{CountsRestore};
 ghost use Rattle.pd_restoring.specs.Subject.{Subject, HasVerdicts};
 ghost use Rattle.pd_restoring.specs.Whole.{Writes};
@@ -81,6 +81,7 @@ pub trait Restoring {
         ensures same_reference { draft.new.dev.ghost_name ≡ draft.old.dev.ghost_name }
         ensures writes { IfOk result (Writes (subject self.now) room (λ t. Leaves t begun (S.state source.old).left) (S.state source.new).left (stand draft.old) (stand draft.new)) }
         ensures says { (t : List ℕ) → Leaves t begun (S.state source.old).left → IfErr result (SaysOf (subject self.now).format (subject self.now).need room t) }
+        ensures later { IfErr result IsOfLater }
         ensures source { KeepsSource (S.state source.old) (S.state source.new) }
         ensures closed { StaysClosed (stand draft.old).device (stand draft.new).device }
         ensures faults { CountsRestore result (S.state source.old).faults (S.state source.new).faults (stand draft.old).device.faults (stand draft.new).device.faults };

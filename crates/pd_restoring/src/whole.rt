@@ -1,12 +1,12 @@
 //! A restore of any kind.
 
-ghost use Rattle.std.specs.Prelude.{◌≡◌, ◌≤◌, ℕ, List, Some, IfErr, MatchResult};
+ghost use Rattle.std.specs.Prelude.{◌≡◌, ◌≤◌, ℕ, List, Some, IfErr, MatchResult, is_some};
 ghost use Rattle.pd_kinds.specs.Limits.{room_of};
 ghost use Rattle.pd_kinds.specs.Objects.{SourceState};
 ghost use Rattle.pd_image.specs.Device.{IsWritable, KeepsPlace};
 ghost use Rattle.pd_image.specs.Source.{KeepsSource};
 ghost use Rattle.pd_draft.specs.Closed.{IsClosed};
-ghost use Rattle.pd_restoring.specs.Reading.{SaysOf};
+ghost use Rattle.pd_restoring.specs.Reading.{IsOfLater, SaysOf};
 ghost use Rattle.pd_restoring.specs.Restored.{CountsRestore};
 ghost use Rattle.pd_restoring.specs.Whole.{CommitsSynced, Restores, ShutBy, Tries};
 
@@ -20,7 +20,8 @@ use std::alloc::Global;
 /// Restores what a text spells onto a device.
 ///
 /// The device isn't written before the first two lines were accepted and have room. A line's own refusal comes before
-/// the want of room after it. Of the blocks of the device 4161600 at most are used.
+/// the want of room after it. Of the blocks of the device 4161600 at most are used. After any fault but the device's
+/// own the device is as it was, or has no valid superblock.
 pub fn restore<K: Restoring, S: Source, D: Device>(
     kind: &K,
     alloc: Global,
@@ -92,6 +93,8 @@ fn restore_closed<K: Restoring, S: Source, D: Device>(
         (λ _. Tries (K.subject kind.now) room (λ t. K.Leaves t begun (S.state source.old).left) (S.state source.new).left (D.state dev.old) (D.state dev.new)) }
     ensures shut { IfErr result (λ fault. ShutBy fault (D.state dev.old) (D.state dev.new)) }
     ensures says { (t : List ℕ) → K.Leaves t begun (S.state source.old).left → IfErr result (SaysOf (K.subject kind.now).format (K.subject kind.now).need room t) }
+    ensures later { IfErr result IsOfLater }
+    ensures told { is_some (D.state dev.new).held ≡ is_some (D.state dev.old).held }
     ensures source { KeepsSource (S.state source.old) (S.state source.new) }
     ensures kept { KeepsPlace (D.state dev.old) (D.state dev.new) }
     ensures faults { CountsRestore result (S.state source.old).faults (S.state source.new).faults (D.state dev.old).faults (D.state dev.new).faults }

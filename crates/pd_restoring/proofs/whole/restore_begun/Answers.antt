@@ -1,4 +1,4 @@
-use Rattle.std.proofs.Common.{◌<◌, ◌≤◌, ℕ, List, arith}
+use Rattle.std.proofs.Common.{◌∙◌, ◌<◌, ◌≤◌, ℕ, List, arith}
 use Rattle.pd_restoring.proofs.RestoreLemmas.{begun_no_room, begun_unclosed, begun_result}
 use Rattle.pd_restoring.proofs.whole.restore_begun.Goals as goal
 
@@ -25,9 +25,9 @@ returns-in-Ok-clause-restored g c from told =
     let fits : k.need c.args.room lines ≤ c.args.room = omega (arith, c.need-need.ensures.need, c.if-need-room.false) in
     begun_result k lines IsOf from (g.S.Source.state c.restore_closed.new.source) old
     (λ t is. g.K.Restoring.goes_on c.args.kind.now t c.args.begun source.left (told t is)) told (rw same at fits)
-    (g.D.Device.state c.clear.new.dev) (g.D.Device.state c.restore_closed.new.dev) c.clear.ensures.crash c.in-Ok.ensures.content (g.met.D.Device.measured c.args.dev.now)
+    (g.D.Device.state c.clear.new.dev) (g.D.Device.state c.restore_closed.new.dev) (c.restore_closed.ensures.told ∙ c.clear.ensures.told) c.clear.ensures.crash c.in-Ok.ensures.content (g.met.D.Device.measured c.args.dev.now)
     (g.K.Restoring.verdicts c.args.kind.now) c.restore_closed.result (rw same at c.restore_closed.ensures.tries) c.restore_closed.ensures.shut
-    (λ t is. rw same at (c.restore_closed.ensures.says t (told t is)))
+    (λ t is. rw same at (c.restore_closed.ensures.says t (told t is))) c.restore_closed.ensures.later
 
 pub returns-in-Err-clause-restored : goal.returns-in-Err-clause-restored
 returns-in-Err-clause-restored g c from told =
@@ -39,5 +39,5 @@ returns-in-Err-clause-restored g c from told =
     let same = c.requires.room in
     let fits : k.need c.args.room lines ≤ c.args.room = omega (arith, c.need-need.ensures.need, c.if-need-room.false) in
     begun_unclosed k lines IsOf from source old
-    (λ t is. g.K.Restoring.goes_on c.args.kind.now t c.args.begun source.left (told t is)) told (rw same at fits) old (g.D.Device.state c.clear.new.dev)
+    (λ t is. g.K.Restoring.goes_on c.args.kind.now t c.args.begun source.left (told t is)) told (rw same at fits) old (g.D.Device.state c.clear.new.dev) c.clear.ensures.told
     (g.K.Restoring.verdicts c.args.kind.now) c.clear.ensures.crash
