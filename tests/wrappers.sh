@@ -111,14 +111,30 @@ PATH=$prefix/sbin:$prefix/bin:$PATH
 # Words
 
 usage='pdata_tools: the words spell no request'
+release=$(cat "$here/VERSION")
 for tool in $tools; do
-    try 2 "$tool"
-    out
-    notes "$usage"
-    try 2 "$tool" --no-such-word
-    notes "$usage"
+    try 0 "$tool" -h
+    notes
+    cp out synopsis
+    grep -q "^usage: $tool " synopsis || bad 'no synopsis'
+    try 0 "$tool" --help
+    same out synopsis
+    for word in -V --version; do
+        try 0 "$tool" "$word"
+        out "$tool (pdata_tools) $release"
+        notes
+    done
+    for word in '' --no-such-word; do
+        try 2 "$tool" ${word:+"$word"}
+        out
+        [ "$(sed 1q notes)" = "$usage" ] || bad 'the program was to say it first'
+        sed 1d notes >rest
+        same rest synopsis
+    done
 done
 try 2 pdata_tools
+notes "$usage"
+try 2 pdata_tools -V
 notes "$usage"
 try 2 thin_check thin-pool.img thin-pool.img
 try 2 thin_check --until all thin-pool.img
@@ -147,6 +163,8 @@ for kind in thin cache era; do
     done
     try 5 ${kind}_check missing.img
     out
+    notes 'pdata_tools: device fault' "${kind}_check: missing.img isn't there"
+    try 5 pdata_tools ${kind}_check missing.img
     notes 'pdata_tools: device fault'
     cp $image lost.img
     poke lost.img 200 '\377\377'
@@ -205,7 +223,9 @@ for kind in thin cache era; do
     out
     same dumped.txt $name.txt
     try 6 ${kind}_dump -o missing/dumped.txt $name.img
-    notes 'pdata_tools: source or sink fault'
+    notes 'pdata_tools: source or sink fault' "${kind}_dump: the folder missing/ isn't there"
+    try 6 ${kind}_dump -o "$here" $name.img
+    notes 'pdata_tools: source or sink fault' "${kind}_dump: $here is a folder"
     zeros new.img 1024
     try 0 ${kind}_restore -i $name.txt -o new.img
     out
@@ -219,8 +239,13 @@ for kind in thin cache era; do
     out
     notes_have 'pdata_tools: no room: need '
     notes_have ', blocks 2'
+    notes_have "${kind}_restore: a block has 4 KiB: "
     try 5 ${kind}_restore -i $name.txt -o missing.img
+    notes 'pdata_tools: device fault' "${kind}_restore: missing.img isn't there"
+    try 5 ${kind}_restore -i $name.txt -o "$here"
+    notes 'pdata_tools: device fault' "${kind}_restore: $here is a folder"
     try 6 ${kind}_restore -i missing.txt -o new.img
+    notes 'pdata_tools: source or sink fault' "${kind}_restore: missing.txt isn't there"
     echo "$kind 7" >refused.txt
     cp new.img before.img
     try 3 ${kind}_restore -i refused.txt -o new.img
@@ -330,12 +355,44 @@ zeros small.img 2
 try 4 thin_repair -i leak.img -o small.img
 notes_have 'pdata_tools: no room: need '
 
+# no file of standard input, and a text from there
+zeros fresh.img 1024
+try 0 sh -c 'thin_restore -i /dev/stdin -o fresh.img <thin-pool.txt'
+try 0 sh -c 'thin_check thin-pool.img <&-'
+out clean
+# what ends the command ends the program, too
+if command -v mkfifo >/dev/null; then
+    what='a stopped command'
+    tries=$((tries + 1))
+    mkfifo stopped
+    thin_dump -o stopped thin-pool.img &
+    sleep 1
+    kill $!
+    wait $! && bad 'status 0'
+    # a reader that comes too late would be waited for, if the program were there
+    if command -v pgrep >/dev/null; then
+        ! pgrep -f "$prefix/bin/pdata_tools thin_dump -o stopped" >/dev/null || bad 'the program goes on'
+    fi
+fi
+if [ "$(id -u)" -ne 0 ]; then
+    cp thin-pool.img closed.img
+    chmod 0 closed.img
+    try 5 thin_check closed.img
+    notes_have 'thin_check: there is no permission to read closed.img'
+else
+    skip 'what may not be read, as root may read all'
+fi
+
 # The commands for LVM, which end with 0 or 1 alone
 
+page='see pdata_tools-lvm(8)'
+PDATA_TOOLS_STOCK=$tmp/stock
+export PDATA_TOOLS_STOCK
 for tool in thin_check cache_check thin_repair thin_dump; do
     try 0 "$lvm/$tool" -V
-    out '0.9.0 pdata_tools'
+    out "0.9.0 pdata_tools $release"
     try 1 "$lvm/$tool" --no-such-word
+    notes "$tool: --no-such-word isn't taken; $page"
     try 1 "$lvm/$tool"
 done
 try 0 "$lvm/thin_check" -q --clear-needs-check-flag thin-pool.img
@@ -343,39 +400,255 @@ out
 notes
 try 0 "$lvm/thin_check" thin-pool.img
 out clean
-try 0 "$lvm/thin_check" -q --clear-needs-check-flag set.img
-same set.img thin-pool.img
+cp set.img flagged.img
+try 0 "$lvm/thin_check" -q flagged.img
+notes "thin_check: flagged.img: the flag \"needs check\" is set, and stays without --clear-needs-check-flag; $page"
+same flagged.img set.img
+try 0 "$lvm/thin_check" -q --clear-needs-check-flag flagged.img
+notes
+same flagged.img thin-pool.img
 try 0 "$lvm/thin_check" -q --skip-mappings --ignore-non-fatal-errors '' thin-pool.img
 try 0 "$lvm/thin_check" -q --super-block-only damaged.img
+try 1 "$lvm/thin_check" -q --super-block-only --clear-needs-check-flag thin-pool.img
 try 0 "$lvm/thin_check" -q --clear-needs-check-flag leak.img
 out
 notes 'thin_check: leak.img has leaked blocks, and no other fault: 1'
 try 0 "$lvm/thin_check" leak.img
 out 'fault data 15 leak stored 1 references 0' 'faults 1'
 try 1 "$lvm/thin_check" -q short.img
-notes 'thin_check: short.img has faults: 1'
+notes "thin_check: short.img has faults: 1; the first is \"fault data 10 short stored 0 references 1\"; $page"
 try 1 "$lvm/thin_check" -q --clear-needs-check-flag damaged.img
 out
-notes 'thin_check: damaged.img has faults: 1'
+notes "thin_check: damaged.img has faults: 1; the first is \"fault meta 183 checksum\"; $page"
 try 1 "$lvm/thin_check" -q missing.img
-notes 'pdata_tools: device fault'
+notes 'pdata_tools: device fault' "thin_check: missing.img isn't there" "thin_check: $page"
+try 1 "$lvm/thin_check" -q "$here"
+notes_have "thin_check: $here is a folder"
 try 1 "$lvm/thin_check" -q thin-pool.img leak.img
 try 0 "$lvm/cache_check" -q --clear-needs-check-flag cache.img
 out
 notes
 cp cache.img flag.img
 poke flag.img 0 '\147\241\230\174\003'
+cp flag.img set-cache.img
+try 0 "$lvm/cache_check" -q flag.img
+notes "cache_check: flag.img: the flag \"needs check\" is set, and stays without --clear-needs-check-flag; $page"
 try 0 "$lvm/cache_check" -q --clear-needs-check-flag flag.img
-notes 'cache_check: flag.img: the flag "needs check" is set and stays'
+notes_have 'cache_check: flag.img: the flag "needs check" is set and stays'
+notes_have 'cache_check:   cache_dump -o text flag.img'
+notes_have 'cache_check:   cache_restore --metadata-version 1 -i text -o /dev/VG/FRESH'
+same flag.img set-cache.img
 try 1 "$lvm/cache_check" -q thin-pool.img
 zeros fresh.img 1024
 try 0 "$lvm/thin_repair" '' -i leak.img -o fresh.img
+notes
 try 0 thin_check fresh.img
 try 1 "$lvm/thin_repair" -i lost.img -o fresh.img
+notes 'fault meta 0 checksum' 'faults 1' \
+    "thin_repair: the superblock of lost.img has faults, so nothing can be kept; $page"
 try 1 "$lvm/thin_repair" -i leak.img -o missing.img
+notes_have "thin_repair: missing.img isn't there"
+try 1 "$lvm/thin_repair" -i leak.img -o small.img
+need=$(sed -n '1s/^pdata_tools: no room: need \([0-9]*\), blocks 2$/\1/p' notes)
+notes_have "lvcreate -L $(((need + 255) / 256))M; $page"
 try 0 "$lvm/thin_dump" thin-pool.img
 out 'transaction="5"'
+notes
 try 1 "$lvm/thin_dump" damaged.img
+notes 'fault meta 183 checksum' 'faults 1' "thin_dump: damaged.img isn't dumped; $page"
+# a program that isn't there, and one that is no program
+for fake in missing "$here/VERSION"; do
+    for tool in thin_check cache_check thin_repair thin_dump; do
+        sed "s|^program=.*|program=$fake|" "$lvm/$tool" >"$tool.fake"
+        try 1 sh "$tool.fake" -i leak.img -o fresh.img
+        try 1 sh "$tool.fake" leak.img
+    done
+done
+
+# More than a thousand leaks: of a pool of 4000 data blocks, of which none is mapped, the first 1200 or 1000 are allocated
+cat >none.txt <<'END'
+thin 1
+pool 00000000-0000-0000-0000-000000000000 0 0 128 4000
+end
+END
+zeros many.img 256
+try 0 thin_restore -i none.txt -o many.img
+cp many.img thousand.img
+dd if=/dev/zero bs=1 count=300 2>/dev/null | tr '\000' '\252' | dd of=many.img bs=1 seek=12304 conv=notrunc 2>/dev/null
+poke many.img 12288 '\131\135\300\307'
+dd if=/dev/zero bs=1 count=250 2>/dev/null | tr '\000' '\252' | dd of=thousand.img bs=1 seek=12304 conv=notrunc 2>/dev/null
+poke thousand.img 12288 '\232\055\232\353'
+try 0 "$lvm/thin_check" -q thousand.img
+notes 'thin_check: thousand.img has leaked blocks, and no other fault: 1000'
+try 1 "$lvm/thin_check" -q many.img
+notes "thin_check: many.img has faults: 1200; the first thousand are leaks, and of the others nothing is known; $page" \
+    'thin_check: what cures it: lvconvert --repair, or thin_dump, and thin_restore onto a second volume'
+try 1 "$lvm/thin_check" many.img
+[ "$(tail -n 1 out)" = 'faults 1200' ] || bad 'the report was to be printed'
+
+# What thin-provisioning-tools are asked: here a command that says what it was called for, ends with the status in the
+# file of that name, and puts the bytes of the file cleared, if there is one, over the superblock's first ones
+mkdir "$PDATA_TOOLS_STOCK"
+cat >"$PDATA_TOOLS_STOCK/thin_check" <<'END'
+#!/bin/sh
+if [ "$1" = -V ]; then
+    cat answer
+    exit 0
+fi
+echo "${0##*/} $*" >&2
+for image do :; done
+case $* in
+*--clear-needs-check-flag*) [ ! -e cleared ] || dd if=cleared of="$image" conv=notrunc 2>/dev/null ;;
+esac
+exit "$(cat status)"
+END
+chmod +x "$PDATA_TOOLS_STOCK/thin_check"
+cp "$PDATA_TOOLS_STOCK/thin_check" "$PDATA_TOOLS_STOCK/cache_check"
+echo 0.9.0 >answer
+echo 0 >status
+cp many.img before.img
+try 0 "$lvm/thin_check" -q many.img
+notes 'thin_check -q --ignore-non-fatal-errors many.img' "thin_check: many.img has faults: 1200; the first thousand \
+are leaks, and $PDATA_TOOLS_STOCK/thin_check passes it, so it passes; $page"
+same many.img before.img
+echo 1 >status
+try 1 "$lvm/thin_check" -q many.img
+notes 'thin_check -q --ignore-non-fatal-errors many.img' "thin_check: many.img has faults: 1200; the first thousand \
+are leaks, and $PDATA_TOOLS_STOCK/thin_check refuses it; $page" \
+    'thin_check: what cures it: lvconvert --repair, or thin_dump, and thin_restore onto a second volume'
+# it isn't asked of anything else, nor where it is a command of pdata_tools
+try 1 "$lvm/thin_check" -q damaged.img
+notes_have 'the first is "fault meta 183 checksum"'
+echo "thin_check (pdata_tools) $release" >answer
+try 1 "$lvm/thin_check" -q many.img
+notes_have 'of the others nothing is known'
+echo 0.9.0 >answer
+# the flag, of a pool that has leaks alone
+cp thousand.img flagged.img
+poke flagged.img 0 '\024\112\024\004\001'
+cp flagged.img before.img
+try 0 "$lvm/thin_check" -q flagged.img
+notes 'thin_check: flagged.img has leaked blocks, and no other fault: 1000' \
+    "thin_check: flagged.img: the flag \"needs check\" is set, and stays without --clear-needs-check-flag; $page"
+try 0 "$lvm/thin_check" -q --clear-needs-check-flag flagged.img
+notes_have 'thin_check -q --clear-needs-check-flag flagged.img'
+notes_have 'thin_check: flagged.img: the flag "needs check" is set and stays'
+notes_have 'lvconvert --repair'
+same flagged.img before.img
+echo 0 >status
+dd if=thousand.img of=cleared bs=8 count=1 2>/dev/null
+try 0 "$lvm/thin_check" -q --clear-needs-check-flag flagged.img
+notes 'thin_check: flagged.img has leaked blocks, and no other fault: 1000' \
+    'thin_check -q --clear-needs-check-flag flagged.img' \
+    "thin_check: flagged.img: $PDATA_TOOLS_STOCK/thin_check cleared the flag \"needs check\""
+same flagged.img thousand.img
+# and of a cache
+dd if=cache.img of=cleared bs=8 count=1 2>/dev/null
+try 0 "$lvm/cache_check" -q --clear-needs-check-flag set-cache.img
+notes 'cache_check -q --clear-needs-check-flag set-cache.img' \
+    "cache_check: set-cache.img: $PDATA_TOOLS_STOCK/cache_check cleared the flag \"needs check\""
+same set-cache.img cache.img
+# a superblock that isn't valid after it
+cp flag.img set-cache.img
+printf '\000\000\000\000\001' >cleared
+try 0 "$lvm/cache_check" -q --clear-needs-check-flag set-cache.img
+notes_have 'cache_check: set-cache.img: the flag "needs check" is set and stays'
+# no word of it where there is damage
+try 1 "$lvm/thin_check" -q --clear-needs-check-flag damaged.img
+notes "thin_check: damaged.img has faults: 1; the first is \"fault meta 183 checksum\"; $page"
+
+# The same with thin-provisioning-tools themselves
+PDATA_TOOLS_STOCK=/usr/sbin
+if [ "$(/usr/sbin/thin_check -V 2>/dev/null)" = 0.9.0 ] && /usr/sbin/thin_check -q thin-pool.img; then
+    try 0 "$lvm/thin_check" -q many.img
+    notes_have '/usr/sbin/thin_check passes it'
+    cp before.img flagged.img
+    try 0 "$lvm/thin_check" -q --clear-needs-check-flag flagged.img
+    same flagged.img thousand.img
+    cp flag.img set-cache.img
+    try 0 "$lvm/cache_check" -q --clear-needs-check-flag set-cache.img
+    notes 'cache_check: set-cache.img: /usr/sbin/cache_check cleared the flag "needs check"'
+    # (version 0.9.0 sets the size of the hints to 0)
+    sed -e '2s/ 4$/ 0/' -e 's/^\(map .*\) [0-9]*$/\1 0/' cache.txt >kept.txt
+    try 0 cache_dump set-cache.img
+    same out kept.txt
+else
+    skip 'thin-provisioning-tools 0.9.0, which is not there or opens no file here'
+fi
+
+# A device in use: a block device that nothing is behind, and what the kernel would say of it
+if mknod held b 250 250 2>/dev/null && [ -b held ]; then
+    sys=$tmp/sys/250:250
+    mkdir -p "$sys/holders" "$sys/slaves"
+    : >mounts
+    looking() {
+        sed -e "s|/sys/dev/block|$tmp/sys|g" -e "s|/proc/self/mountinfo|$tmp/mounts|" "$1" >"looking/${1##*/}"
+        chmod +x "looking/${1##*/}"
+    }
+    mkdir looking sbin-looking
+    for tool in $tools; do
+        looking "$prefix/sbin/$tool"
+    done
+    mv looking/* sbin-looking
+    for tool in thin_check cache_check thin_repair thin_dump; do
+        looking "$lvm/$tool"
+    done
+    # it isn't in use: the program can't open it
+    try 5 sbin-looking/thin_restore -i thin-pool.txt -o held
+    notes 'pdata_tools: device fault'
+    in_use='in use by dm-7 (vg-pool-tpool)'
+    for way in holder mount; do
+        if [ $way = holder ]; then
+            mkdir -p "$sys/holders/dm-7/dm"
+            echo vg-pool-tpool >"$sys/holders/dm-7/dm/name"
+        else
+            rm -r "$sys/holders/dm-7"
+            echo '35 1 250:250 / /mnt/there rw - ext4 /dev/held rw' >mounts
+            in_use='in use by the mount at /mnt/there'
+        fi
+        for tool in thin_restore cache_restore era_restore; do
+            try 5 sbin-looking/$tool -i thin-pool.txt -o held
+            notes "$tool: held is $in_use: nothing is written"
+        done
+        try 5 sbin-looking/thin_repair -i leak.img -o held
+        notes "thin_repair: held is $in_use: nothing is written"
+        try 5 sbin-looking/thin_rehearse --number 1 -o held
+        notes "thin_rehearse: held is $in_use: nothing is written"
+        try 5 sbin-looking/thin_check --clear-needs-check-flag held
+        notes "thin_check: held is $in_use: nothing is written"
+        try 5 sbin-looking/thin_dump -o held thin-pool.img
+        notes "thin_dump: held is $in_use: nothing is written"
+        try 5 sbin-looking/thin_check held
+        notes "thin_check: held is $in_use: it changes while it is read" 'pdata_tools: device fault'
+        try 5 sbin-looking/thin_repair -i held -o fresh.img
+        notes "thin_repair: held is $in_use: it changes while it is read" 'pdata_tools: device fault'
+        try 1 looking/thin_check -q --clear-needs-check-flag held
+        notes "thin_check: held is $in_use: nothing is written"
+        try 1 looking/thin_check -q held
+        notes_have "thin_check: held is $in_use: it changes while it is read"
+        try 1 looking/thin_repair -i leak.img -o held
+        notes "thin_repair: held is $in_use: nothing is written" "thin_repair: nothing is repaired; $page"
+        try 1 looking/thin_dump held
+        notes_have "thin_dump: held is $in_use: it changes while it is read"
+    done
+    # a partition of it that is in use
+    : >mounts
+    mkdir -p "$sys/held1/holders/dm-8"
+    echo 1 >"$sys/held1/partition"
+    echo 250:251 >"$sys/held1/dev"
+    try 5 sbin-looking/thin_restore -i thin-pool.txt -o held
+    notes 'thin_restore: held is in use by dm-8: nothing is written'
+    rm -r "$sys/held1/holders/dm-8"
+    echo '35 1 250:251 / /mnt/there rw - ext4 /dev/held1 rw' >mounts
+    try 5 sbin-looking/thin_restore -i thin-pool.txt -o held
+    notes 'thin_restore: held is in use by the mount at /mnt/there: nothing is written'
+    : >mounts
+    echo 1 >"$sys/ro"
+    try 5 sbin-looking/thin_restore -i thin-pool.txt -o held
+    notes 'pdata_tools: device fault' 'thin_restore: held is a read-only device'
+else
+    skip 'a device in use, as only root makes block devices'
+fi
 
 # Completion
 
@@ -393,8 +666,14 @@ END
     out thin_restore thin_repair thin_rmap thin_rehearse
     try 0 bash complete.bash "$complete" thin_check --until w
     out walk whole
-    try 0 bash complete.bash "$complete" pdata_tools thin_check --until walk -
+    try 0 bash complete.bash "$complete" pdata_tools thin_check --until counts -
     out --clear-needs-check-flag
+    for stage in super walk order whole; do
+        try 0 bash complete.bash "$complete" thin_check --until $stage -
+        out ''
+    done
+    try 0 bash complete.bash "$complete" thin_check --clear-needs-check-flag --until ''
+    out counts
     try 0 bash complete.bash "$complete" cache_restore -i cache.txt ''
     out --metadata-version -o
     try 0 bash complete.bash "$complete" thin_dump thin-pool.i
@@ -439,8 +718,135 @@ echo '# changed' >>"$prefix/sbin/thin_ls"
 try 0 "$here/install" uninstall
 notes "install: $prefix/sbin/thin_ls was changed, and stays"
 rm "$prefix/sbin/thin_ls"
-what='after uninstall'
-[ -z "$(find "$prefix" ! -type d)" ] || bad "there is $(find "$prefix" ! -type d)"
+is_gone() {
+    [ -z "$(find "$prefix" ! -type d)" ] || bad "there is $(find "$prefix" ! -type d)"
+}
+is_gone
+
+# Installs that go wrong, with a program that is quickly copied
+
+printf '#!/bin/sh\nexec %s "$@"\n' "$PROGRAM" >program
+PROGRAM=$tmp/program
+mkdir copy
+for name in VERSION install commands completion lvm man; do
+    cp -R "$here/$name" copy
+done
+# a text that is missing, is empty, or is no script: nothing is installed
+for text in VERSION commands/common commands/tool completion/pdata_tools lvm/check lvm/thin_dump lvm/initramfs-hook man/thin_ls.8; do
+    for harm in missing empty; do
+        mv "copy/$text" kept
+        [ $harm = missing ] || : >"copy/$text"
+        try 1 copy/install
+        is_gone
+        rm -f "copy/$text"
+        mv kept "copy/$text"
+    done
+done
+cp copy/lvm/check kept
+echo 'if true' >>copy/lvm/check
+try 1 copy/install
+is_gone
+cp kept copy/lvm/check
+: >empty
+PROGRAM=$tmp/empty try 1 "$here/install"
+is_gone
+# by a link to it
+ln -s "$here/install" linked
+mkdir deeper
+ln -s ../linked deeper/linked
+try 0 deeper/linked
+try 0 "$prefix/sbin/thin_check" thin-pool.img
+try 0 deeper/linked uninstall
+is_gone
+# a prefix with slashes at its end, one within /usr/local, and one that is the root
+for last in "$prefix//" /usr/local/there/ /; do
+    case $last in
+    "$prefix"*) DESTDIR='' ;;
+    *) DESTDIR=$prefix ;;
+    esac
+    PREFIX=$last try 0 "$here/install"
+    [ "$last" = / ] || last=${last%/}
+    last=${last%/}
+    what="a prefix $last"
+    grep -qx "program=$last/bin/pdata_tools" "$DESTDIR$last/libexec/pdata_tools/thin_check" || bad 'another program'
+    grep -qF "\"$last/libexec/pdata_tools/thin_check\"" "$DESTDIR$last/share/man/man8/pdata_tools-lvm.8" || bad 'another page'
+    PREFIX=$last/ try 0 "$here/install" uninstall
+    is_gone
+done
+DESTDIR=''
+try 1 env PREFIX=relative "$here/install"
+try 1 env STOCK=relative "$here/install"
+STOCK=/opt/stock try 0 "$here/install"
+what='another folder of thin-provisioning-tools'
+grep -qF '{PDATA_TOOLS_STOCK-/opt/stock}' "$prefix/libexec/pdata_tools/cache_check" || bad 'it is not there'
+
+# an upgrade: a file of the earlier version that this one lacks, one of them changed, and commands that only the mark tells
+for name in old changed; do
+    echo $name >"$prefix/share/man/man8/$name.8"
+    printf '%s share/man/man8/%s.8\n' "$(cksum <"$prefix/share/man/man8/$name.8")" $name >>"$prefix/share/pdata_tools/installed"
+done
+echo more >>"$prefix/share/man/man8/changed.8"
+printf '#!/bin/sh\nexec /bin/true "$@" # installed with pdata_tools\n' >"$prefix/sbin/thin_ls"
+try 0 "$here/install"
+notes "install: $prefix/share/man/man8/changed.8 was changed, and stays"
+[ ! -e "$prefix/share/man/man8/old.8" ] || bad 'the old page is there'
+[ "$(sed 1q "$prefix/share/pdata_tools/installed")" = "# pdata_tools $release" ] || bad 'the list has no version'
+! grep -q -e old -e changed "$prefix/share/pdata_tools/installed" || bad 'the list has the old page'
+rm "$prefix/share/man/man8/changed.8"
+try 0 "$here/install" uninstall
+is_gone
+
+# Stopped before each step that it does by cp or mv. What stands there at each step is kept aside, and is uninstalled then:
+# of a first install, and of an upgrade, where each file is another one than before. Some are installed again.
+mkdir stopping steps quick
+for name in cp mv; do
+    cat >stopping/$name <<END
+#!/bin/sh
+PATH=$PATH
+step=\$(find '$tmp/steps' -mindepth 1 -maxdepth 1 | wc -l)
+cp -pR '$prefix' "$tmp/steps/\$step"
+exec $name "\$@"
+END
+done
+printf '#!/bin/sh\n' >quick/sync
+chmod +x stopping/* quick/*
+for kind in first upgrade; do
+    if [ $kind = upgrade ]; then
+        mkdir older
+        cp -R copy/* older
+        for text in commands/tool completion/pdata_tools lvm/check lvm/thin_repair lvm/thin_dump lvm/initramfs-hook man/*.8; do
+            echo '# of an older version' >>"older/$text"
+        done
+        try 0 older/install
+    fi
+    try 0 env PATH="$tmp/stopping:$tmp/quick:$PATH" "$here/install"
+    try 0 "$here/install" uninstall
+    is_gone
+    rmdir "$prefix"/*/*/*/* "$prefix"/*/*/* "$prefix"/*/* "$prefix"/* 2>/dev/null
+    step=0
+    while [ -d steps/$step ]; do
+        rm -rf "$prefix"
+        mv steps/$step "$prefix"
+        what="the $kind install, stopped at step $step"
+        tries=$((tries + 1))
+        for file in "$prefix"/sbin/* "$prefix"/libexec/pdata_tools/*; do
+            [ ! -e "$file" ] || [ -s "$file" ] || bad "$file is empty"
+        done
+        if [ $((step % 16)) -eq 0 ]; then
+            try 0 env PATH="$tmp/quick:$PATH" "$here/install"
+            [ -z "$(find "$prefix" -name '*.pdata_tools-new')" ] || bad 'something is left'
+        fi
+        if [ -n "$(find "$prefix" ! -type d)" ]; then
+            try 0 "$here/install" uninstall
+            notes
+        fi
+        what="the $kind install, stopped at step $step"
+        is_gone
+        step=$((step + 1))
+    done
+    [ "$step" -gt 100 ] || bad "only $step steps"
+    rm -rf steps/*
+done
 
 printf 'wrappers: %s tries, %s wrong\n' "$tries" "$wrong"
 [ "$wrong" -eq 0 ]
