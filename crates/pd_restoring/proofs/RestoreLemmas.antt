@@ -4,7 +4,7 @@ use Rattle.std.specs.Prelude.{MatchResult, nat_lt, IfErr, is_some}
 use Rattle.std.specs.Option.{option_map_or}
 use Rattle.std.proofs.lemmas.Bool.{both_ways, le-ltb}
 use Rattle.std.proofs.lemmas.Option.{IfSome_then, same_Some}
-use Rattle.pd_kinds.specs.Crash.{HasNoSuper, HoldsOldOrNone, HoldsSynced, IsOldNoneOrMade, IsOldOrNone, IsUntouched, LeavesOnly, StillTells}
+use Rattle.pd_kinds.specs.Crash.{HasNoSuper, HoldsOldOrNone, HoldsSynced, IsOldNoneOrMade, IsOldOrNone, LeavesOnly}
 use Rattle.pd_kinds.specs.Field.{zeros}
 use Rattle.pd_kinds.specs.Limits.{room_of}
 use Rattle.pd_kinds.specs.Moments.{now}

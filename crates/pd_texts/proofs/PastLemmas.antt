@@ -1,5 +1,5 @@
 -- A refusal tells a line past those that were read.
-use Rattle.std.proofs.Common.{◌≡◌, ℕ, ◌+◌, ◌-◌, ◌^◌, ◌≤◌, min, Result, Ok, Err, arith}
+use Rattle.std.proofs.Common.{ℕ, ◌+◌, ◌-◌, ◌^◌, ◌≤◌, min, Result, Ok, Err, arith}
 use Rattle.std.specs.Prelude.{IfErr}
 use Rattle.pd_grammar.specs.declared.cause.TextCause.{TextCause}
 use Rattle.pd_lines.specs.declared.fault.LineFault.{LineFault}
