@@ -13,7 +13,7 @@ ghost use Rattle.pd_texts.specs.ThinLine.{line_of};
 ghost use Rattle.pd_devices.specs.Gathered.{HasGathered, CanEnd};
 ghost use Rattle.pd_build.specs.Causes.{CountsBuildFault};
 ghost use Rattle.pd_restoring.specs.Restored.{CountsRestore};
-ghost use Rattle.pd_restoring.specs.Reading.{SaysOf, IsOfBuild, CountsTake};
+ghost use Rattle.pd_restoring.specs.Reading.{CountsTake, IsOfBuild, IsOfLater, SaysOf};
 ghost use Rattle.pd_restore.specs.Reading.{Reading, CanRead, CanPut, Steps, Ends, progress, IsShort, IsOver, IsNoRoom};
 
 use pd_build::BuildFault;
@@ -40,6 +40,7 @@ pub(crate) fn restore_lines<S: Source, D: Device>(
         → OnOk result (Ends before room text.old (S.state source.old).left (S.state source.new).left devices.new start (stand draft.new)) }
     ensures room { (before : List Line) (start : Stand) → Reading before room text.old devices.old start (stand draft.old)
         → (t : List ℕ) → LeavesOf thin t before text.old (S.state source.old).left → IfErr result (SaysOf thin thin_need_so_far room t) }
+    ensures later { IfErr result IsOfLater }
     ensures source { KeepsSource (S.state source.old) (S.state source.new) }
     ensures closed { StaysClosed (stand draft.old).device (stand draft.new).device }
     ensures faults { CountsRestore result (S.state source.old).faults (S.state source.new).faults (stand draft.old).device.faults (stand draft.new).device.faults }
@@ -66,6 +67,7 @@ pub(crate) fn step<S: Source, D: Device>(
     ensures room { (before : List Line) (start : Stand) → Reading before room text.old devices.old start (stand draft.old)
         → (t : List ℕ) → LeavesOf thin t before text.old (S.state source.old).left → IfErr result (SaysOf thin thin_need_so_far room t) }
     ensures grows { IfOk result (λ more. more ≡ true → progress devices.old < progress devices.new) }
+    ensures later { IfErr result IsOfLater }
     ensures source { KeepsSource (S.state source.old) (S.state source.new) }
     ensures closed { StaysClosed (stand draft.old).device (stand draft.new).device }
     ensures faults { CountsRestore result (S.state source.old).faults (S.state source.new).faults (stand draft.old).device.faults (stand draft.new).device.faults }

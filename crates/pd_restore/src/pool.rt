@@ -9,7 +9,7 @@ ghost use Rattle.pd_draft.specs.Stand.{stand};
 ghost use Rattle.pd_spells.specs.ThinNeed.{thin_need_so_far};
 ghost use Rattle.pd_spells.specs.ThinText.{thin};
 ghost use Rattle.pd_texts.specs.Reader.{LeavesOf};
-ghost use Rattle.pd_restoring.specs.Reading.{SaysOf};
+ghost use Rattle.pd_restoring.specs.Reading.{IsOfLater, SaysOf};
 ghost use Rattle.pd_restoring.specs.Restored.{CountsRestore};
 ghost use Rattle.pd_restoring.specs.Whole.{Writes};
 ghost use Rattle.pd_restore.specs.Pools.{pools};
@@ -56,6 +56,7 @@ pub(crate) fn write_pool<S: Source, D: Device>(
         → IfOk result (Writes pools room (λ t. LeavesOf thin t (begun_lines pool.now) text.old (S.state source.old).left) (S.state source.new).left start (stand draft.new)) }
     ensures says { (start : Stand) → Reading (begun_lines pool.now) room text.old devices.old start (stand draft.old)
         → (t : List ℕ) → LeavesOf thin t (begun_lines pool.now) text.old (S.state source.old).left → IfErr result (SaysOf thin thin_need_so_far room t) }
+    ensures later { IfErr result IsOfLater }
     ensures source { KeepsSource (S.state source.old) (S.state source.new) }
     ensures closed { StaysClosed (stand draft.old).device (stand draft.new).device }
     ensures faults { CountsRestore result (S.state source.old).faults (S.state source.new).faults (stand draft.old).device.faults (stand draft.new).device.faults }

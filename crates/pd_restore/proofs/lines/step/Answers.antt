@@ -4,7 +4,7 @@ use Rattle.pd_spells.specs.ThinText.{first_line, thin}
 use Rattle.pd_spells.specs.ThinNeed.{thin_need_so_far}
 use Rattle.pd_texts.specs.ThinLine.{thin_meant}
 use Rattle.pd_texts.specs.ThinState.{ThinStands}
-use Rattle.pd_restoring.proofs.ReadingLemmas.{line_given, line_told, end_given, end_told, end_says}
+use Rattle.pd_restoring.proofs.ReadingLemmas.{line_given, line_told, end_given, end_told, end_says, later_read, later_take}
 use Rattle.pd_restore.proofs.ReadingLemmas.{no_later_need, stepped, lacking, came_to_end, grows_where, line_says}
 use Rattle.pd_restore.proofs.lines.step.Goals as goal
 
@@ -76,3 +76,14 @@ returns-in-Ok-None-clause-room g c before start h t leaves = end_says thin thin_
 pub returns-in-Err-clause-room : goal.returns-in-Err-clause-room
 returns-in-Err-clause-room g c before start h t leaves =
     rw c.of_read.ensures (line_says c.in-Err.fault c.args.room t before c.args.text.now h (c.in-Err.ensures.text t before h.reads leaves))
+
+pub returns-in-Ok-Some-clause-later : goal.returns-in-Ok-Some-clause-later
+returns-in-Ok-Some-clause-later g c = later_take c.take.result _ _ c.take.ensures.faults
+
+pub returns-in-Ok-None-clause-later : goal.returns-in-Ok-None-clause-later
+returns-in-Ok-None-clause-later g c = later_take c.end.result _ _ c.end.ensures.faults
+
+pub returns-in-Err-clause-later : goal.returns-in-Err-clause-later
+returns-in-Err-clause-later g c =
+    let r = c.requires.reading in
+    rw c.of_read.ensures (later_read thin ThinStands r.before c.args.text.now c.in-Err.fault r.so_far.reads r.so_far.later c.in-Err.ensures.past)

@@ -4,7 +4,7 @@ use Rattle.pd_spells.specs.ThinNeed.{thin_need_so_far}
 use Rattle.pd_spells.specs.ThinText.{thin, MeansPool}
 use Rattle.pd_texts.proofs.ThinLemmas.{whole_bytes}
 use Rattle.pd_texts.proofs.ThinNextLemmas.{read_lines_mean}
-use Rattle.pd_restoring.proofs.ReadingLemmas.{accepted_whole}
+use Rattle.pd_restoring.proofs.ReadingLemmas.{accepted_whole, later_build}
 use Rattle.pd_restore.specs.Whole.{begun_lines, head_of_pool}
 use Rattle.pd_restore.proofs.LineLemmas.{devices_of_lines, head_is, whole_need}
 use Rattle.pd_restore.proofs.PoolLemmas.{fields_are, laid_fits, super_is, behind_is}
@@ -45,3 +45,6 @@ returns-in-Ok-clause-writes g c start h =
       wrote = rw (behind_is m.0 room) (c.in-Ok.ensures.wrote m.0 start devices);
       told = λ t leaves. accepted_whole thin thin_need_so_far MeansPool whole_bytes t e.lines room m.0 (g.S.Source.state c.restore_lines.new.source).left m.1 e.all.above (e.told t leaves);
     }
+
+pub returns-in-Err-clause-later : goal.returns-in-Err-clause-later
+returns-in-Err-clause-later g c = rw c.of_build.ensures (later_build c.in-Err.fault)
