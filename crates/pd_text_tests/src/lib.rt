@@ -1,5 +1,5 @@
-//! Tests of lines and texts: refused texts in pieces, hostile ones, the texts of a real pool, cache and era target, and a small
-//! copy of a text that is proved from the contracts alone.
+//! Tests of lines and texts: refused texts in pieces, hostile ones, texts that are printed again, and a small copy of a text
+//! that is proved from the contracts alone.
 #![tactic(auto)]
 
 #[cfg(test)]
@@ -8,8 +8,8 @@ mod cache_text_tests;
 mod era_text_tests;
 #[cfg(test)]
 mod objects;
+#[cfg(test)]
+mod refusals;
 pub mod small_copy;
 #[cfg(test)]
 mod text_tests;
-#[cfg(test)]
-mod thin_pool_text;

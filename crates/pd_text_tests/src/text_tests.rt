@@ -1,347 +1,321 @@
 //! Lines, and the texts of pools: what they give, where they are refused, and that they are printed again.
 
 ghost use Rattle.std.specs.Prelude.{◌≡◌, ◌≤◌};
+ghost use Rattle.pd_image.specs.MemSink.{mem_sink_state};
 ghost use Rattle.pd_image.specs.MemSource.{mem_source_state};
 
-use crate::objects::{PIECES, sink_of, source_of};
+use crate::objects::{sink_of, source_of};
+use crate::refusals::{Refused, expect_refused, expect_refused_after};
 use crate::small_copy::copy;
-use crate::thin_pool_text::thin_pool_text;
 use pd_grammar::TextCause;
 use pd_image::{Failed, MemSink, MemSource, Sink, Source};
 use pd_kinds::Kind;
 use pd_lines::{LineFault, LineReader, put_number};
 use pd_texts::{
-    ReadFault, Run2, TextFault, ThinLine, ThinText, print_end, print_first, print_thin,
+    ReadFault, Run2, TextFault, ThinLine, ThinState, ThinText, print_end, print_first, print_thin,
 };
 use pd_value::Details;
+use std::alloc::Global;
+use std::process::Abort;
 use std::test::Fail;
 
 /// The pool with one mapping.
-fn one_mapping() -> &'static str {
-    "thin 1\npool 00000000-0000-0000-0000-000000000000 0 0 128 1\ndevice 1 1 0 0 0\nmap 0 0 1 0\nend\n"
-}
+const ONE_MAPPING: &str =
+    "thin 1\npool 00000000-0000-0000-0000-000000000000 0 0 128 1\ndevice 1 1 0 0 0\nmap 0 0 1 0\nend\n";
 
-/// What follows the first line and the pool line, the line that is refused, and why.
-fn refused_bodies() -> [(&'static str, u64, TextCause); 40] {
-    [
-        ("", 3, TextCause::NoEnd),
-        ("end", 3, TextCause::NoEnd),
-        ("end\nx", 4, TextCause::AfterEnd),
-        ("end\n\n", 4, TextCause::AfterEnd),
-        ("end\nend\n", 4, TextCause::AfterEnd),
-        ("end\n\x00\n", 4, TextCause::AfterEnd),
-        ("end \n", 3, TextCause::Word),
-        ("\n", 3, TextCause::Word),
-        ("ende\n", 3, TextCause::Word),
-        (
-            "pool 00000000-0000-0000-0000-000000000000 0 0 128 1\n",
-            3,
-            TextCause::Word,
-        ),
-        ("thin 1\n", 3, TextCause::Word),
-        ("map 0 0 1 0\n", 3, TextCause::Word),
-        ("device 1 1 0 0\n", 3, TextCause::Word),
-        ("device 1 1 0 0 0 0\n", 3, TextCause::Word),
-        ("device 1 1 0 0 0 \n", 3, TextCause::Word),
-        ("device 1  0 0 0\n", 3, TextCause::Number),
-        ("device 1 1 0 0 \n", 3, TextCause::Number),
-        ("device +1 1 0 0 0\n", 3, TextCause::Number),
-        ("device -1 1 0 0 0\n", 3, TextCause::Number),
-        ("device 01 1 0 0 0\n", 3, TextCause::Number),
-        ("device 00 1 0 0 0\n", 3, TextCause::Number),
-        (
-            "device 18446744073709551616 1 0 0 0\n",
-            3,
-            TextCause::Number,
-        ),
-        (
-            "device 99999999999999999999999 1 0 0 0\n",
-            3,
-            TextCause::Number,
-        ),
-        (
-            "device 18446744073709551615 1 0 0 0\nend\n",
-            4,
-            TextCause::MappedDiffers,
-        ),
-        ("device 1 1 0 4294967296 0\n", 3, TextCause::OutOfRange),
-        ("device 1 1 0 0 4294967296\n", 3, TextCause::OutOfRange),
-        ("device 1 0 0 0 0\ndevice 1 0 0 0 0\n", 4, TextCause::Order),
-        (
-            "device 1 0 0 0 0\ndevice 0 0 0 0 4294967296\n",
-            4,
-            TextCause::OutOfRange,
-        ),
-        (
-            "device 1 2 0 0 0\nmap 0 0 1 0\ndevice 1 0 0 0 0\n",
-            5,
-            TextCause::Order,
-        ),
-        (
-            "device 1 2 0 0 0\nmap 0 0 1 0\ndevice 2 0 0 0 0\n",
-            5,
-            TextCause::MappedDiffers,
-        ),
-        (
-            "device 1 2 0 0 0\nmap 0 0 1 0\nend\n",
-            5,
-            TextCause::MappedDiffers,
-        ),
-        ("device 1 1 0 0 0\nmap 0 0 01 0\n", 4, TextCause::Number),
-        ("device 1 1 0 0 0\nmap 0 0 0 0\n", 4, TextCause::OutOfRange),
-        ("device 1 9 0 0 0\nmap 0 0 9 0\n", 4, TextCause::OutOfRange),
-        (
-            "device 1 1 0 0 0\nmap 0 0 1 16777216\n",
-            4,
-            TextCause::OutOfRange,
-        ),
-        (
-            "device 1 2 0 0 0\nmap 18446744073709551615 0 2 0\n",
-            4,
-            TextCause::OutOfRange,
-        ),
-        (
-            "device 1 2 0 0 0\nmap 0 18446744073709551615 2 0\n",
-            4,
-            TextCause::OutOfRange,
-        ),
-        (
-            "device 1 3 0 0 0\nmap 0 0 2 0\nmap 1 0 1 0\n",
-            5,
-            TextCause::Order,
-        ),
-        (
-            "device 1 1 0 0 0\nmap 0 0 2 0\n",
-            4,
-            TextCause::MappedDiffers,
-        ),
-        ("device 1 1 0 0 0\x7F\n", 3, TextCause::Word),
-    ]
-}
+/// A pool with devices that share blocks, and with one that has none.
+const SHARED: &str =
+    "thin 1\npool 01234567-89ab-cdef-0123-456789abcdef 5 7 128 300\ndevice 0 3 0 0 3\nmap 0 10 2 0\nmap 9 299 1 4\ndevice 1 2 6 3 3\nmap 0 10 2 0\ndevice 16777215 0 7 5 5\nend\n";
+
+/// What comes before the refused bodies.
+const FRONT: &str = "thin 1\npool 00000000-0000-0000-0000-000000000000 0 0 128 8\n";
+
+/// What follows those lines, the line that is refused, and why.
+const REFUSED_BODIES: &[Refused] = &[
+    ("", 3, TextCause::NoEnd),
+    ("end", 3, TextCause::NoEnd),
+    ("end\nx", 4, TextCause::AfterEnd),
+    ("end\n\n", 4, TextCause::AfterEnd),
+    ("end\nend\n", 4, TextCause::AfterEnd),
+    ("end\n\x00\n", 4, TextCause::AfterEnd),
+    ("end \n", 3, TextCause::Word),
+    ("\n", 3, TextCause::Word),
+    ("ende\n", 3, TextCause::Word),
+    (
+        "pool 00000000-0000-0000-0000-000000000000 0 0 128 1\n",
+        3,
+        TextCause::Word,
+    ),
+    ("thin 1\n", 3, TextCause::Word),
+    ("map 0 0 1 0\n", 3, TextCause::Word),
+    ("device 1 1 0 0\n", 3, TextCause::Word),
+    ("device 1 1 0 0 0 0\n", 3, TextCause::Word),
+    ("device 1 1 0 0 0 \n", 3, TextCause::Word),
+    ("device 1  0 0 0\n", 3, TextCause::Number),
+    ("device 1 1 0 0 \n", 3, TextCause::Number),
+    ("device +1 1 0 0 0\n", 3, TextCause::Number),
+    ("device -1 1 0 0 0\n", 3, TextCause::Number),
+    ("device 01 1 0 0 0\n", 3, TextCause::Number),
+    ("device 00 1 0 0 0\n", 3, TextCause::Number),
+    (
+        "device 18446744073709551616 1 0 0 0\n",
+        3,
+        TextCause::Number,
+    ),
+    (
+        "device 99999999999999999999999 1 0 0 0\n",
+        3,
+        TextCause::Number,
+    ),
+    (
+        "device 18446744073709551615 1 0 0 0\nend\n",
+        4,
+        TextCause::MappedDiffers,
+    ),
+    ("device 1 1 0 4294967296 0\n", 3, TextCause::OutOfRange),
+    ("device 1 1 0 0 4294967296\n", 3, TextCause::OutOfRange),
+    ("device 1 0 0 0 0\ndevice 1 0 0 0 0\n", 4, TextCause::Order),
+    (
+        "device 1 0 0 0 0\ndevice 0 0 0 0 4294967296\n",
+        4,
+        TextCause::OutOfRange,
+    ),
+    (
+        "device 1 2 0 0 0\nmap 0 0 1 0\ndevice 1 0 0 0 0\n",
+        5,
+        TextCause::Order,
+    ),
+    (
+        "device 1 2 0 0 0\nmap 0 0 1 0\ndevice 2 0 0 0 0\n",
+        5,
+        TextCause::MappedDiffers,
+    ),
+    (
+        "device 1 2 0 0 0\nmap 0 0 1 0\nend\n",
+        5,
+        TextCause::MappedDiffers,
+    ),
+    ("device 1 1 0 0 0\nmap 0 0 01 0\n", 4, TextCause::Number),
+    ("device 1 1 0 0 0\nmap 0 0 0 0\n", 4, TextCause::OutOfRange),
+    ("device 1 9 0 0 0\nmap 0 0 9 0\n", 4, TextCause::OutOfRange),
+    (
+        "device 1 1 0 0 0\nmap 0 0 1 16777216\n",
+        4,
+        TextCause::OutOfRange,
+    ),
+    (
+        "device 1 2 0 0 0\nmap 18446744073709551615 0 2 0\n",
+        4,
+        TextCause::OutOfRange,
+    ),
+    (
+        "device 1 2 0 0 0\nmap 0 18446744073709551615 2 0\n",
+        4,
+        TextCause::OutOfRange,
+    ),
+    (
+        "device 1 3 0 0 0\nmap 0 0 2 0\nmap 1 0 1 0\n",
+        5,
+        TextCause::Order,
+    ),
+    (
+        "device 1 1 0 0 0\nmap 0 0 2 0\n",
+        4,
+        TextCause::MappedDiffers,
+    ),
+    ("device 1 1 0 0 0\x7F\n", 3, TextCause::Word),
+];
 
 /// Whole texts that are refused.
-fn refused_texts() -> [(&'static str, u64, TextCause); 18] {
-    [
-        ("", 1, TextCause::NoEnd),
-        ("thin 1", 1, TextCause::NoEnd),
-        ("thin 3\n", 1, TextCause::Header),
-        ("thin 1 \n", 1, TextCause::Header),
-        ("thin  1\n", 1, TextCause::Header),
-        ("cache 1\n", 1, TextCause::Header),
-        ("\n", 1, TextCause::Header),
-        ("thin\x001\n", 1, TextCause::Header),
-        ("thin 1\n", 2, TextCause::NoEnd),
-        ("thin 1\nend\n", 2, TextCause::Word),
-        ("thin 1\npool\n", 2, TextCause::Word),
-        (
-            "thin 1\npool 00000000000000000000000000000000 0 0 128 1\n",
-            2,
-            TextCause::Word,
-        ),
-        (
-            "thin 1\npool 0000000A-0000-0000-0000-000000000000 0 0 128 1\n",
-            2,
-            TextCause::Word,
-        ),
-        (
-            "thin 1\npool 00000000-0000-0000-0000-000000000000 0 0 128\n",
-            2,
-            TextCause::Word,
-        ),
-        (
-            "thin 1\npool 00000000-0000-0000-0000-000000000000 0 0 x 1\n",
-            2,
-            TextCause::Number,
-        ),
-        (
-            "thin 1\npool 00000000-0000-0000-0000-000000000000 4294967296 0 128 1\n",
-            2,
-            TextCause::OutOfRange,
-        ),
-        (
-            "thin 1\npool 00000000-0000-0000-0000-000000000000 0 0 4294967296 1\n",
-            2,
-            TextCause::OutOfRange,
-        ),
-        (
-            "thin 1\npool 00000000-0000-0000-0000-000000000000 0 0 128 1099511627777\n",
-            2,
-            TextCause::OutOfRange,
-        ),
-    ]
-}
-
-/// Reads a text to its end, or to what is refused.
-fn refusal_of(reader: &mut ThinText, source: &mut MemSource) -> Result<(), ReadFault>
-    requires { (mem_source_state source.old).access ≡ 1 }
-{
-    for _ in 0..10000u32 {
-        if reader.next(source)?.is_none() {
-            return Ok(());
-        }
-    }
-    Ok(())
-}
-
-/// What a text of which so many bytes come at a time is refused for.
-fn refusal_in_pieces(rt: &HostRuntime, text: &[u8], piece: usize) -> Result<Option<TextFault>, Fail>
-    requires { 1 ≤ piece }
-{
-    let mut source = source_of(rt, text, piece)?;
-    let mut reader = ThinText::new(rt.alloc())?;
-    match refusal_of(&mut reader, &mut source) {
-        Ok(()) => Ok(None),
-        Err(ReadFault::Text(fault)) => Ok(Some(fault)),
-        Err(fault) => {
-            Err(fault)?;
-            Ok(None)
-        }
-    }
-}
+const REFUSED_TEXTS: &[Refused] = &[
+    ("", 1, TextCause::NoEnd),
+    ("thin 1", 1, TextCause::NoEnd),
+    ("thin 3\n", 1, TextCause::Header),
+    ("thin 1 \n", 1, TextCause::Header),
+    ("thin  1\n", 1, TextCause::Header),
+    ("cache 1\n", 1, TextCause::Header),
+    ("\n", 1, TextCause::Header),
+    ("thin\x001\n", 1, TextCause::Header),
+    ("thin 1\n", 2, TextCause::NoEnd),
+    ("thin 1\nend\n", 2, TextCause::Word),
+    ("thin 1\npool\n", 2, TextCause::Word),
+    (
+        "thin 1\npool 00000000000000000000000000000000 0 0 128 1\n",
+        2,
+        TextCause::Word,
+    ),
+    (
+        "thin 1\npool 0000000A-0000-0000-0000-000000000000 0 0 128 1\n",
+        2,
+        TextCause::Word,
+    ),
+    (
+        "thin 1\npool 00000000-0000-0000-0000-000000000000 0 0 128\n",
+        2,
+        TextCause::Word,
+    ),
+    (
+        "thin 1\npool 00000000-0000-0000-0000-000000000000 0 0 x 1\n",
+        2,
+        TextCause::Number,
+    ),
+    (
+        "thin 1\npool 00000000-0000-0000-0000-000000000000 4294967296 0 128 1\n",
+        2,
+        TextCause::OutOfRange,
+    ),
+    (
+        "thin 1\npool 00000000-0000-0000-0000-000000000000 0 0 4294967296 1\n",
+        2,
+        TextCause::OutOfRange,
+    ),
+    (
+        "thin 1\npool 00000000-0000-0000-0000-000000000000 0 0 128 1099511627777\n",
+        2,
+        TextCause::OutOfRange,
+    ),
+];
 
 #[test]
 fn texts_are_refused_at_their_line_for_their_cause(rt: HostRuntime) -> Result<(), Fail> {
-    for (text, line, cause) in refused_texts() {
-        for piece in PIECES {
-            let refusal = refusal_in_pieces(&rt, text.as_bytes(), piece)?;
-            assert_eq!(rt; refusal, Some(TextFault { line, cause }), "{text}");
-        }
+    for row in REFUSED_TEXTS {
+        let (text, line, cause) = *row;
+        expect_refused::<ThinState>(&rt, rt.alloc(), text.as_bytes(), line, cause, text)?;
     }
     Ok(())
 }
 
 #[test]
 fn bodies_are_refused_at_their_line_for_their_cause(rt: HostRuntime) -> Result<(), Fail> {
-    for (body, line, cause) in refused_bodies() {
-        for piece in PIECES {
-            let text = format!(in rt.alloc();
-                "thin 1\npool 00000000-0000-0000-0000-000000000000 0 0 128 8\n{body}"
-            )?;
-            let refusal = refusal_in_pieces(&rt, text.as_bytes(), piece)?;
-            assert_eq!(rt; refusal, Some(TextFault { line, cause }), "{body}");
-        }
+    for row in REFUSED_BODIES {
+        expect_refused_after::<ThinState>(&rt, rt.alloc(), FRONT, *row)?;
     }
     Ok(())
+}
+
+/// A third line of so many letters is refused for this cause.
+fn expect_long_line_refused(
+    rt: &impl Abort,
+    alloc: Global,
+    length: usize,
+    cause: TextCause,
+    shown: &str,
+) -> Result<(), Fail> {
+    let mut text = Vec::from_slice(alloc, FRONT.as_bytes())?;
+    let line = vec![in alloc; b'x'; length]?;
+    text.extend_from_slice(line.as_slice())?;
+    text.push(b'\n')?;
+    expect_refused::<ThinState>(rt, alloc, text.as_slice(), 3, cause, shown)
 }
 
 #[test]
 fn lines_of_161_bytes_are_too_long(rt: HostRuntime) -> Result<(), Fail> {
-    for (length, cause) in [
-        (160, TextCause::Word),
-        (161, TextCause::TooLong),
-        (1000000, TextCause::TooLong),
-    ] {
-        let mut text = Vec::from_slice(
-            rt.alloc(),
-            b"thin 1\npool 00000000-0000-0000-0000-000000000000 0 0 128 8\n",
-        )?;
-        let line = vec![in rt.alloc(); b'x'; length]?;
-        text.extend_from_slice(line.as_slice())?;
-        text.push(b'\n')?;
-        for piece in PIECES {
-            let refusal = refusal_in_pieces(&rt, text.as_slice(), piece)?;
-            assert_eq!(rt; refusal, Some(TextFault { line: 3, cause }), "{length}");
-        }
-    }
+    expect_long_line_refused(&rt, rt.alloc(), 160, TextCause::Word, "160")?;
+    expect_long_line_refused(&rt, rt.alloc(), 161, TextCause::TooLong, "161")?;
+    expect_long_line_refused(&rt, rt.alloc(), 1000000, TextCause::TooLong, "1000000")?;
     Ok(())
+}
+
+/// A third line that is the last one with this byte behind it is refused.
+fn expect_byte_refused(rt: &impl Abort, alloc: Global, byte: u8) -> Result<(), Fail> {
+    let mut text = Vec::from_slice(alloc, FRONT.as_bytes())?;
+    text.extend_from_slice(&[b'e', b'n', b'd', byte, b'\n'])?;
+    expect_refused::<ThinState>(rt, alloc, text.as_slice(), 3, TextCause::Word, "a byte")
 }
 
 #[test]
 fn a_byte_above_126_is_no_text(rt: HostRuntime) -> Result<(), Fail> {
-    for byte in [0, 31, 127, 255] {
-        let mut text = Vec::from_slice(
-            rt.alloc(),
-            b"thin 1\npool 00000000-0000-0000-0000-000000000000 0 0 128 8\nend",
-        )?;
-        text.push(byte)?;
-        text.push(b'\n')?;
-        let refusal = refusal_in_pieces(&rt, text.as_slice(), 7)?;
-        assert_eq!(rt;
-            refusal,
-            Some(TextFault {
-                line: 3,
-                cause: TextCause::Word
-            }),
-            "{byte}"
-        );
-    }
+    expect_byte_refused(&rt, rt.alloc(), 0)?;
+    expect_byte_refused(&rt, rt.alloc(), 31)?;
+    expect_byte_refused(&rt, rt.alloc(), 127)?;
+    expect_byte_refused(&rt, rt.alloc(), 255)?;
+    Ok(())
+}
+
+/// The line of the pool with one mapping.
+const POOL: ThinLine = ThinLine::Pool {
+    uuid: [0; 16],
+    time: 0,
+    transaction: 0,
+    block_size: 128,
+    blocks: 1,
+};
+
+/// The line of its device.
+const DEVICE: ThinLine = ThinLine::Device {
+    id: 1,
+    details: Details {
+        mapped: 1,
+        transaction: 0,
+        created: 0,
+        snapped: 0,
+    },
+};
+
+/// The line of its mapping.
+const MAP: ThinLine = ThinLine::Map(Run2 {
+    virt: 0,
+    target: 0,
+    length: 1,
+    time: 0,
+});
+
+/// Reads the pool with one mapping, of which so many bytes come at a time.
+fn expect_one_mapping(rt: &impl Abort, alloc: Global, piece: usize) -> Result<(), Fail>
+    requires { 1 ≤ piece }
+{
+    let mut source = source_of(alloc, ONE_MAPPING.as_bytes(), piece)?;
+    let mut text = ThinText::new(alloc)?;
+    assert!(rt; text.next(&mut *source) == Ok(Some(POOL)));
+    assert!(rt; text.next(&mut *source) == Ok(Some(DEVICE)));
+    assert!(rt; text.next(&mut *source) == Ok(Some(MAP)));
+    assert!(rt; text.next(&mut *source) == Ok(None));
     Ok(())
 }
 
 #[test]
 fn one_mapping_is_a_pool_a_device_and_a_map(rt: HostRuntime) -> Result<(), Fail> {
-    for piece in PIECES {
-        let mut source = source_of(&rt, one_mapping().as_bytes(), piece)?;
-        let mut text = ThinText::new(rt.alloc())?;
-        let pool = ThinLine::Pool {
-            uuid: [0; 16],
-            time: 0,
-            transaction: 0,
-            block_size: 128,
-            blocks: 1,
-        };
-        let details = Details {
-            mapped: 1,
-            transaction: 0,
-            created: 0,
-            snapped: 0,
-        };
-        let run = Run2 {
-            virt: 0,
-            target: 0,
-            length: 1,
-            time: 0,
-        };
-        assert!(rt; text.next(&mut source)? == Some(pool));
-        assert!(rt; text.next(&mut source)? == Some(ThinLine::Device { id: 1, details }));
-        assert!(rt; text.next(&mut source)? == Some(ThinLine::Map(run)));
-        assert!(rt; text.next(&mut source)? == None);
-    }
+    expect_one_mapping(&rt, rt.alloc(), 1)?;
+    expect_one_mapping(&rt, rt.alloc(), 7)?;
+    expect_one_mapping(&rt, rt.alloc(), 4096)?;
     Ok(())
+}
+
+/// Prints the pool with one mapping, line by line.
+fn print_one_mapping(sink: &mut MemSink) -> Result<(), Failed>
+    requires { (mem_sink_state sink.old).access ≡ 1 }
+{
+    print_first(Kind::Thin, sink)?;
+    print_thin(&POOL, sink)?;
+    print_thin(&DEVICE, sink)?;
+    print_thin(&MAP, sink)?;
+    print_end(sink)
 }
 
 #[test]
 fn lines_are_printed_one_by_one(rt: HostRuntime) -> Result<(), Fail> {
-    let mut sink = sink_of(&rt)?;
-    print_first(Kind::Thin, &mut sink)?;
-    print_thin(
-        &ThinLine::Pool {
-            uuid: [0; 16],
-            time: 0,
-            transaction: 0,
-            block_size: 128,
-            blocks: 1,
-        },
-        &mut sink,
-    )?;
-    let details = Details {
-        mapped: 1,
-        transaction: 0,
-        created: 0,
-        snapped: 0,
-    };
-    print_thin(&ThinLine::Device { id: 1, details }, &mut sink)?;
-    print_thin(
-        &ThinLine::Map(Run2 {
-            virt: 0,
-            target: 0,
-            length: 1,
-            time: 0,
-        }),
-        &mut sink,
-    )?;
-    print_end(&mut sink)?;
-    assert!(rt; sink.bytes() == one_mapping().as_bytes());
+    let mut sink = sink_of(rt.alloc())?;
+    assert!(rt; print_one_mapping(&mut *sink).is_ok());
+    assert!(rt; sink.bytes() == ONE_MAPPING.as_bytes());
+    Ok(())
+}
+
+/// Puts numbers with a space behind each.
+fn put_numbers(numbers: &[u128], sink: &mut MemSink) -> Result<(), Failed>
+    requires { (mem_sink_state sink.old).access ≡ 1 }
+{
+    for number in numbers {
+        put_number(*number, sink)?;
+        sink.put(b" ")?;
+    }
     Ok(())
 }
 
 #[test]
 fn numbers_are_put_in_decimal(rt: HostRuntime) -> Result<(), Fail> {
-    let mut sink = sink_of(&rt)?;
-    for number in [0, 7, 10, u64::MAX as u128, u128::MAX] {
-        put_number(number, &mut sink)?;
-        sink.put(b" ")?;
-    }
+    let mut sink = sink_of(rt.alloc())?;
+    let numbers = [0, 7, 10, u64::MAX as u128, u128::MAX];
+    assert!(rt; put_numbers(&numbers, &mut *sink).is_ok());
     assert!(rt;
         sink.bytes()
             == b"0 7 10 18446744073709551615 340282366920938463463374607431768211455 ".as_slice()
@@ -349,55 +323,92 @@ fn numbers_are_put_in_decimal(rt: HostRuntime) -> Result<(), Fail> {
     Ok(())
 }
 
-#[test]
-fn lines_are_those_of_the_bytes(rt: HostRuntime) -> Result<(), Fail> {
-    for piece in PIECES {
-        let mut source = source_of(&rt, b"ab\n\nc d\nx", piece)?;
-        let mut lines = LineReader::new(rt.alloc())?;
-        for (number, text) in [(1, "ab"), (2, ""), (3, "c d")] {
-            match lines.next(&mut source) {
-                Ok(Some(line)) => {
-                    assert_eq!(rt; line.number(), number);
-                    assert!(rt; line.text() == text.as_bytes());
-                }
-                _ => assert!(rt; false),
+/// Reads these lines.
+fn expect_lines(rt: &impl Abort, lines: &mut LineReader, source: &mut MemSource, texts: &[&str])
+    requires { (mem_source_state source.old).access ≡ 1 }
+    ensures { (mem_source_state source.new).access ≡ 1 }
+{
+    let mut number: u64 = 0;
+    for text in texts {
+        number = number.saturating_add(1);
+        match lines.next(source) {
+            Ok(Some(line)) => {
+                assert!(rt; line.number() == number);
+                assert!(rt; line.text() == text.as_bytes());
             }
-        }
-        match lines.next(&mut source) {
-            Err(fault) => assert_eq!(rt; fault, LineFault::Unended(4)),
-            Ok(_) => assert!(rt; false),
+            _ => assert!(rt; false, "no line {number}"),
         }
     }
+}
+
+/// Reads three lines, of which so many bytes come at a time, up to this end.
+fn expect_three_lines(
+    rt: &impl Abort,
+    alloc: Global,
+    text: &str,
+    piece: usize,
+    end: Result<(), LineFault>,
+) -> Result<(), Fail>
+    requires { 1 ≤ piece }
+{
+    let mut source = source_of(alloc, text.as_bytes(), piece)?;
+    let mut lines = LineReader::new(alloc)?;
+    expect_lines(rt, &mut lines, &mut *source, &["ab", "", "c d"]);
+    match lines.next(&mut *source) {
+        Ok(Some(_)) => assert!(rt; false, "a fourth line"),
+        Ok(None) => assert!(rt; end == Ok(())),
+        Err(fault) => assert!(rt; end == Err(fault)),
+    }
+    Ok(())
+}
+
+#[test]
+fn lines_are_those_of_the_bytes(rt: HostRuntime) -> Result<(), Fail> {
+    let unended = Err(LineFault::Unended(4));
+    expect_three_lines(&rt, rt.alloc(), "ab\n\nc d\nx", 1, unended)?;
+    expect_three_lines(&rt, rt.alloc(), "ab\n\nc d\nx", 7, unended)?;
+    expect_three_lines(&rt, rt.alloc(), "ab\n\nc d\nx", 4096, unended)?;
+    Ok(())
+}
+
+/// Copies a text whose source fails at this call.
+fn expect_failed_source(rt: &impl Abort, alloc: Global, call: u64) -> Result<(), Fail> {
+    let mut source = source_of(alloc, ONE_MAPPING.as_bytes(), 40)?;
+    let mut sink = sink_of(alloc)?;
+    source.fail_at(call)?;
+    assert!(rt; copy(alloc, &mut *source, &mut *sink).is_err());
+    assert!(rt; sink.bytes().is_empty());
     Ok(())
 }
 
 #[test]
 fn a_failing_source_and_a_failing_sink_end_a_copy(rt: HostRuntime) -> Result<(), Fail> {
-    for call in 1..4 {
-        let mut source = source_of(&rt, one_mapping().as_bytes(), 40)?;
-        source.fail_at(call)?;
-        let mut sink = sink_of(&rt)?;
-        assert!(rt; copy(rt.alloc(), &mut source, &mut sink).is_err());
-        assert!(rt; sink.bytes().is_empty());
-    }
-    let mut source = MemSource::of(rt.alloc(), one_mapping().as_bytes(), 40)?;
-    source.attach("pool.txt")?;
-    let mut sink = MemSink::new(rt.alloc());
+    expect_failed_source(&rt, rt.alloc(), 1)?;
+    expect_failed_source(&rt, rt.alloc(), 2)?;
+    expect_failed_source(&rt, rt.alloc(), 3)?;
+    let mut source = source_of(rt.alloc(), ONE_MAPPING.as_bytes(), 40)?;
+    let mut sink = sink_of(rt.alloc())?;
     sink.fail_at(1)?;
-    sink.attach(None)?;
-    assert!(rt; copy(rt.alloc(), &mut source, &mut sink).is_err());
+    assert!(rt; copy(rt.alloc(), &mut *source, &mut *sink).is_err());
+    Ok(())
+}
+
+/// Copies a text, of which so many bytes come at a time.
+fn expect_copied(rt: &impl Abort, alloc: Global, text: &str, piece: usize) -> Result<(), Fail>
+    requires { 1 ≤ piece }
+{
+    let mut source = source_of(alloc, text.as_bytes(), piece)?;
+    let mut sink = sink_of(alloc)?;
+    assert!(rt; copy(alloc, &mut *source, &mut *sink).is_ok());
+    assert!(rt; sink.bytes() == text.as_bytes());
     Ok(())
 }
 
 #[test]
-fn the_text_of_a_real_pool_is_printed_again(rt: HostRuntime) -> Result<(), Fail> {
-    for piece in PIECES {
-        let text = thin_pool_text();
-        let mut source = source_of(&rt, text.as_bytes(), piece)?;
-        let mut sink = sink_of(&rt)?;
-        copy(rt.alloc(), &mut source, &mut sink)?;
-        assert!(rt; sink.bytes() == text.as_bytes());
-    }
+fn a_text_is_printed_again_however_it_is_cut(rt: HostRuntime) -> Result<(), Fail> {
+    expect_copied(&rt, rt.alloc(), SHARED, 1)?;
+    expect_copied(&rt, rt.alloc(), SHARED, 7)?;
+    expect_copied(&rt, rt.alloc(), SHARED, 4096)?;
     Ok(())
 }
 
@@ -428,16 +439,24 @@ impl Source for Endless {
     }
 }
 
+/// A text of this byte for ever is refused at its first line.
+fn expect_endless_refused(
+    rt: &impl Abort,
+    alloc: Global,
+    byte: u8,
+    cause: TextCause,
+) -> Result<(), Fail> {
+    let mut source = Endless { byte, access: 0 };
+    source.attach("x")?;
+    let mut text = ThinText::new(alloc)?;
+    let wanted = Err(ReadFault::Text(TextFault { line: 1, cause }));
+    assert!(rt; text.next(&mut source) == wanted);
+    Ok(())
+}
+
 #[test]
 fn bytes_for_ever_are_refused_at_once(rt: HostRuntime) -> Result<(), Fail> {
-    for (byte, cause) in [(b'x', TextCause::TooLong), (b'\n', TextCause::Header)] {
-        let mut source = Endless { byte, access: 0 };
-        source.attach("x")?;
-        let mut text = ThinText::new(rt.alloc())?;
-        match text.next(&mut source) {
-            Err(fault) => assert_eq!(rt; fault, ReadFault::Text(TextFault { line: 1, cause })),
-            Ok(_) => assert!(rt; false),
-        }
-    }
+    expect_endless_refused(&rt, rt.alloc(), b'x', TextCause::TooLong)?;
+    expect_endless_refused(&rt, rt.alloc(), b'\n', TextCause::Header)?;
     Ok(())
 }

@@ -1,6 +1,6 @@
 use Rattle.std.proofs.Common.{◌≡◌}
 use Rattle.pd_image.specs.MemSink.{mem_sink_state}
-use Rattle.pd_text_tests.proofs.text_tests.numbers_are_put_in_decimal.Given as goal
+use Rattle.pd_text_tests.proofs.text_tests.put_numbers.Given as goal
 
 abbrev pub invariant-loop-number : goal.invariant-loop-number
-invariant-loop-number g l = (mem_sink_state l.sink).access ≡ 1
+invariant-loop-number l = (mem_sink_state l.sink).access ≡ 1

@@ -1,0 +1,83 @@
+//! What a text of any kind is refused for, however it is cut.
+
+ghost use Rattle.std.specs.Prelude.{◌≡◌, ◌≤◌};
+ghost use Rattle.pd_image.specs.MemSource.{mem_source_state};
+
+use crate::objects::source_of;
+use pd_grammar::TextCause;
+use pd_image::MemSource;
+use pd_texts::{ReadFault, TextFault, TextReader, TextState};
+use std::alloc::Global;
+use std::process::Abort;
+use std::test::Fail;
+
+/// A text, the line that is refused, and why.
+pub(crate) type Refused = (&'static str, u64, TextCause);
+
+/// Reads a text to its end, or to what is refused.
+fn refusal_of<P: TextState>(reader: &mut TextReader<P>, source: &mut MemSource) -> Option<ReadFault>
+where
+    P::Line: Drop,
+    requires { (mem_source_state source.old).access ≡ 1 }
+{
+    for _ in 0..10000u32 {
+        match reader.next(source) {
+            Ok(Some(_)) => {}
+            Ok(None) => return None,
+            Err(fault) => return Some(fault),
+        }
+    }
+    None
+}
+
+/// What a text of which so many bytes come at a time is refused for.
+pub(crate) fn refusal_in_pieces<P: TextState>(
+    alloc: Global,
+    text: &[u8],
+    piece: usize,
+) -> Result<Option<ReadFault>, Fail>
+where
+    P::Line: Drop,
+    requires { 1 ≤ piece }
+{
+    let mut source = source_of(alloc, text, piece)?;
+    let mut reader = TextReader::<P>::new(alloc)?;
+    Ok(refusal_of(&mut reader, &mut *source))
+}
+
+/// Reads a text in pieces of 1, 7 and 4096 bytes: each time this line is refused for this cause.
+pub(crate) fn expect_refused<P: TextState>(
+    rt: &impl Abort,
+    alloc: Global,
+    text: &[u8],
+    line: u64,
+    cause: TextCause,
+    shown: &str,
+) -> Result<(), Fail>
+where
+    P::Line: Drop,
+{
+    let wanted = Some(ReadFault::Text(TextFault { line, cause }));
+    let by_bytes = refusal_in_pieces::<P>(alloc, text, 1)?;
+    let by_sevens = refusal_in_pieces::<P>(alloc, text, 7)?;
+    let whole = refusal_in_pieces::<P>(alloc, text, 4096)?;
+    assert!(rt; by_bytes == wanted, "{shown}");
+    assert!(rt; by_sevens == wanted, "{shown}");
+    assert!(rt; whole == wanted, "{shown}");
+    Ok(())
+}
+
+/// The same of what follows these first lines.
+pub(crate) fn expect_refused_after<P: TextState>(
+    rt: &impl Abort,
+    alloc: Global,
+    front: &str,
+    (body, line, cause): Refused,
+) -> Result<(), Fail>
+where
+    P::Line: Drop,
+{
+    let mut text = Vec::from_slice(alloc, front.as_bytes())?;
+    text.extend_from_slice(body.as_bytes())?;
+    expect_refused::<P>(rt, alloc, text.as_slice(), line, cause, body)
+}
