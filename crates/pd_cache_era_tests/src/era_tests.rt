@@ -2,9 +2,10 @@
 
 ghost use Rattle.std.specs.Prelude.{◌<◌};
 
-use crate::made::{
-    EMPTY, SUPER, WRITTEN, expect, expect_report, made, writeset, written_target, zero_words,
+use crate::expected::{
+    ERA, expect, expect_device_faults, expect_fault_in_notes, expect_out_fault, expect_report, made,
 };
+use crate::targets::{EMPTY, SUPER, WRITTEN, writeset, written_target, zero_words};
 use pd_array::{Word, write_array};
 use pd_bitmap::{seal_bitmap, set_two_bits};
 use pd_crc::seal;
@@ -18,38 +19,51 @@ use std::alloc::{AllocError, Global};
 use std::process::Abort;
 use std::test::Fail;
 
+/// The tool that checks.
+const CHECK: &str = "era_check";
+
+/// The words of a dump.
+const DUMP: &[&str] = &["era_dump", "image"];
+
 #[test]
 fn eras_are_the_greatest_of_all_writesets(rt: HostRuntime) -> Result<(), Fail> {
     let image = written_target();
-    expect_report(&rt, rt.alloc(), &image, "clean\n")?;
-    expect(&rt, rt.alloc(), &["era_dump", "image"], &image, 0, WRITTEN)?;
+    expect_report(&rt, rt.alloc(), CHECK, &image, "clean\n")?;
+    expect(&rt, rt.alloc(), DUMP, &image, 0, WRITTEN)?;
     Ok(())
+}
+
+/// Asks for the blocks of that target that were written since an era.
+fn expect_since(rt: &impl Abort, alloc: Global, era: &str, lines: &str) -> Result<(), AllocError> {
+    let words = ["era_invalidate", "--written-since", era, "image"];
+    expect(rt, alloc, &words, &written_target(), 0, lines)
 }
 
 #[test]
 fn blocks_that_were_written_since_an_era(rt: HostRuntime) -> Result<(), Fail> {
-    let image = written_target();
-    let cases: [(&str, &str); 4] = [
-        ("3", "written 3 1\nwritten 64 1\n"),
-        ("9", "written 64 1\n"),
-        ("10", ""),
-        ("0", "written 0 100\n"),
-    ];
-    for (era, lines) in cases {
-        let words = ["era_invalidate", "--written-since", era, "image"];
-        expect(&rt, rt.alloc(), &words, &image, 0, lines)?;
-    }
+    expect_since(&rt, rt.alloc(), "3", "written 3 1\nwritten 64 1\n")?;
+    expect_since(&rt, rt.alloc(), "9", "written 64 1\n")?;
+    expect_since(&rt, rt.alloc(), "10", "")?;
+    expect_since(&rt, rt.alloc(), "0", "written 0 100\n")?;
     Ok(())
+}
+
+/// Restores a text onto so many blocks, and checks and dumps the target.
+fn expect_dumped(
+    rt: &impl Abort,
+    alloc: Global,
+    text: &str,
+    blocks: usize,
+) -> Result<(), AllocError> {
+    let image = made(rt, alloc, ERA, text, blocks)?;
+    expect_report(rt, alloc, CHECK, image.as_slice(), "clean\n")?;
+    expect(rt, alloc, DUMP, image.as_slice(), 0, text)
 }
 
 #[test]
 fn a_dump_is_restored_to_a_target_that_dumps_the_same(rt: HostRuntime) -> Result<(), Fail> {
-    for (text, blocks) in [(WRITTEN, 7), (EMPTY, 6)] {
-        let image = made(&rt, rt.alloc(), text, blocks)?;
-        let image = image.as_slice();
-        expect_report(&rt, rt.alloc(), image, "clean\n")?;
-        expect(&rt, rt.alloc(), &["era_dump", "image"], image, 0, text)?;
-    }
+    expect_dumped(&rt, rt.alloc(), WRITTEN, 7)?;
+    expect_dumped(&rt, rt.alloc(), EMPTY, 6)?;
     Ok(())
 }
 
@@ -62,13 +76,19 @@ fn bits_past_those_of_a_writeset_do_not_count(rt: HostRuntime) -> Result<(), Fai
         ..SUPER
     });
     image[12] = write_array(12, Word::Eight, &[0, 65537]);
-    expect_report(&rt, rt.alloc(), &image, "clean\n")?;
-    expect(&rt, rt.alloc(), &["era_dump", "image"], &image, 0, WRITTEN)?;
+    expect_report(&rt, rt.alloc(), CHECK, &image, "clean\n")?;
+    expect(&rt, rt.alloc(), DUMP, &image, 0, WRITTEN)?;
     image[0] = write_era_super(&EraSuper {
         current_bits: 60,
         ..SUPER
     });
-    expect_report(&rt, rt.alloc(), &image, "fault meta 11 length\nfaults 1\n")?;
+    expect_report(
+        &rt,
+        rt.alloc(),
+        CHECK,
+        &image,
+        "fault meta 11 length\nfaults 1\n",
+    )?;
     Ok(())
 }
 
@@ -81,57 +101,48 @@ fn with_block(b: usize, block: Block) -> [Block; 16]
     image
 }
 
-/// A target with another superblock.
-fn with_super(fields: &EraSuper) -> [Block; 16] {
-    with_block(0, write_era_super(fields))
+/// Checks a target of which block b is another one.
+fn expect_broken(
+    rt: &impl Abort,
+    alloc: Global,
+    b: usize,
+    block: Block,
+    report: &str,
+) -> Result<(), AllocError>
+    requires { b < 16 }
+{
+    expect_report(rt, alloc, CHECK, &with_block(b, block), report)
 }
 
 #[test]
 #[tactic(auto, unfolding(pd_kinds::specs::Node::is_ascending))]
 fn rules_that_targets_break(rt: HostRuntime) -> Result<(), Fail> {
+    let alloc = rt.alloc();
+    let words = zero_words(1, 99);
+    expect_broken(&rt, alloc, 1, words, "fault meta 2 length\nfaults 1\n")?;
     let short = Writeset { bits: 60, root: 7 };
-    let cases: [([Block; 16], &str); 7] = [
-        (
-            with_block(1, zero_words(1, 99)),
-            "fault meta 2 length\nfaults 1\n",
-        ),
-        (
-            with_block(3, write_leaf(3, &[(3, short), (5, writeset(9))])),
-            "fault meta 7 length\nfaults 1\n",
-        ),
-        (
-            with_block(7, write_leaf(7, &[(1, Root(8))])),
-            "fault meta 7 index\nfaults 1\n",
-        ),
-        (
-            with_block(
-                3,
-                write_leaf(3, &[(3, writeset(7)), (4294967296, writeset(9))]),
-            ),
-            "fault meta 3 beyond\nfaults 1\n",
-        ),
-        (
-            with_block(12, damaged(write_array(12, Word::Eight, &[0, 1]), 100)),
-            "fault meta 12 checksum\nfaults 1\n",
-        ),
-        (
-            with_super(&EraSuper {
-                version: 2,
-                ..SUPER
-            }),
-            "fault meta 0 version\nfaults 1\n",
-        ),
-        (
-            with_super(&EraSuper {
-                current_root: 0,
-                ..SUPER
-            }),
-            "fault meta 11 leak stored 1 references 0\nfault meta 12 leak stored 1 references 0\nfaults 2\n",
-        ),
-    ];
-    for (image, report) in cases {
-        expect_report(&rt, rt.alloc(), &image, report)?;
-    }
+    let writesets = write_leaf(3, &[(3, short), (5, writeset(9))]);
+    expect_broken(&rt, alloc, 3, writesets, "fault meta 7 length\nfaults 1\n")?;
+    let index = write_leaf(7, &[(1, Root(8))]);
+    expect_broken(&rt, alloc, 7, index, "fault meta 7 index\nfaults 1\n")?;
+    let writesets = write_leaf(3, &[(3, writeset(7)), (4294967296, writeset(9))]);
+    expect_broken(&rt, alloc, 3, writesets, "fault meta 3 beyond\nfaults 1\n")?;
+    let words = damaged(write_array(12, Word::Eight, &[0, 1]), 100);
+    expect_broken(&rt, alloc, 12, words, "fault meta 12 checksum\nfaults 1\n")?;
+    Ok(())
+}
+
+#[test]
+fn rules_of_the_superblock_of_a_target(rt: HostRuntime) -> Result<(), Fail> {
+    let mut fields = SUPER;
+    fields.version = 2;
+    let report = "fault meta 0 version\nfaults 1\n";
+    expect_broken(&rt, rt.alloc(), 0, write_era_super(&fields), report)?;
+    fields = SUPER;
+    fields.current_root = 0;
+    let report =
+        "fault meta 11 leak stored 1 references 0\nfault meta 12 leak stored 1 references 0\nfaults 2\n";
+    expect_broken(&rt, rt.alloc(), 0, write_era_super(&fields), report)?;
     Ok(())
 }
 
@@ -165,10 +176,16 @@ fn target_with_snapshot(bits: u32) -> [Block; 18] {
 #[test]
 fn trees_of_a_snapshot_are_checked_and_do_not_count(rt: HostRuntime) -> Result<(), Fail> {
     let image = target_with_snapshot(100);
-    expect_report(&rt, rt.alloc(), &image, "clean\n")?;
-    expect(&rt, rt.alloc(), &["era_dump", "image"], &image, 0, WRITTEN)?;
+    expect_report(&rt, rt.alloc(), CHECK, &image, "clean\n")?;
+    expect(&rt, rt.alloc(), DUMP, &image, 0, WRITTEN)?;
     let image = target_with_snapshot(60);
-    expect_report(&rt, rt.alloc(), &image, "fault meta 7 length\nfaults 1\n")?;
+    expect_report(
+        &rt,
+        rt.alloc(),
+        CHECK,
+        &image,
+        "fault meta 7 length\nfaults 1\n",
+    )?;
     Ok(())
 }
 
@@ -188,9 +205,9 @@ fn two_hundred_writesets(place: u64, first: u64) -> Block
     block
 }
 
-#[test]
+/// A target with a thousand archived writesets over one array.
 #[tactic(auto, unfolding(pd_kinds::specs::Node::is_ascending))]
-fn a_thousand_writesets_over_one_array(rt: HostRuntime) -> Result<(), Fail> {
+fn thousand_writesets() -> [Block; 16] {
     let mut image = written_target();
     image[3] = write_inner(3, &[(1, 9), (201, 10), (401, 11), (601, 12), (801, 13)]);
     image[9] = two_hundred_writesets(9, 1);
@@ -208,87 +225,48 @@ fn a_thousand_writesets_over_one_array(rt: HostRuntime) -> Result<(), Fail> {
     fields.current_root = 0;
     fields.meta_map.allocated = 14;
     image[0] = write_era_super(&fields);
+    image
+}
+
+#[test]
+fn a_thousand_writesets_over_one_array(rt: HostRuntime) -> Result<(), Fail> {
+    let image = thousand_writesets();
     // Fourteen blocks are in one role each, so at most 85 reads follow the call that attaches the image: a failure of the
     // next call shows nowhere.
     let failing = Failing {
         input: Some(87),
         ..NOTHING_FAILS
     };
-    let ran = run(rt.alloc(), &["era_check", "image"], &image, failing)?;
-    assert_eq!(rt; ran.out.bytes(), b"clean\n".as_slice());
-    assert_eq!(rt; ran.status, 0);
+    let ran = run(rt.alloc(), &[CHECK, "image"], &image, failing)?;
+    assert!(rt; ran.out.bytes() == b"clean\n".as_slice());
+    assert!(rt; ran.status == 0);
     let text =
         "era 1\nera 00000000-0000-0000-0000-000000000000 128 100 2000\nrun 0 3 0\nrun 3 1 1000\nrun 4 96 0\nend\n";
-    expect(&rt, rt.alloc(), &["era_dump", "image"], &image, 0, text)?;
+    expect(&rt, rt.alloc(), DUMP, &image, 0, text)?;
     Ok(())
 }
 
-/// How many calls of the device a run makes at most.
-const MANY: u64 = 300;
-
-/// Runs a tool with each call of its device failing in turn, until one run makes fewer calls.
-fn expect_device_faults(
-    rt: &impl Abort,
-    alloc: Global,
-    words: &[&str],
-    image: &[Block],
-) -> Result<(), AllocError> {
-    for call in 0..MANY {
-        let failing = Failing {
-            input: Some(call),
-            ..NOTHING_FAILS
-        };
-        let ran = run(alloc, words, image, failing)?;
-        if ran.status == 0 {
-            assert!(rt; call > 10);
-            return Ok(());
-        }
-        assert_eq!(rt; ran.status, 5, "{call}");
-        assert!(rt;
-            ran.notes.bytes() == b"pdata_tools: device fault\n".as_slice(),
-            "{call}"
-        );
-    }
-    assert!(rt; false, "no end");
-    Ok(())
-}
+/// The words of a query.
+const SINCE: &[&str] = &["era_invalidate", "--written-since", "5", "image"];
 
 #[test]
-fn each_call_of_the_device_may_fail(rt: HostRuntime) -> Result<(), Fail> {
+fn each_call_of_the_device_of_a_target_may_fail(rt: HostRuntime) -> Result<(), Fail> {
     let image = written_target();
-    let tools: [&[&str]; 3] = [
-        &["era_check", "image"],
-        &["era_dump", "image"],
-        &["era_invalidate", "--written-since", "5", "image"],
-    ];
-    for words in tools {
-        expect_device_faults(&rt, rt.alloc(), words, &image)?;
-    }
+    expect_device_faults(&rt, rt.alloc(), &[CHECK, "image"], &image)?;
+    expect_device_faults(&rt, rt.alloc(), DUMP, &image)?;
+    expect_device_faults(&rt, rt.alloc(), SINCE, &image)?;
     Ok(())
 }
 
 #[test]
 fn a_query_reports_faults_and_says_that_out_failed(rt: HostRuntime) -> Result<(), Fail> {
+    let alloc = rt.alloc();
     let image = written_target();
     let broken = with_block(12, damaged(image[12], 100));
-    let tools: [&[&str]; 2] = [
-        &["era_dump", "image"],
-        &["era_invalidate", "--written-since", "5", "image"],
-    ];
-    for words in tools {
-        let ran = run(rt.alloc(), words, &broken, NOTHING_FAILS)?;
-        assert_eq!(rt; ran.status, 1);
-        assert!(rt; ran.out.bytes().is_empty());
-        assert_eq!(rt;
-            ran.notes.bytes(),
-            b"fault meta 12 checksum\nfaults 1\n".as_slice()
-        );
-        let failing = Failing {
-            out: Some(1),
-            ..NOTHING_FAILS
-        };
-        let ran = run(rt.alloc(), words, &image, failing)?;
-        assert_eq!(rt; ran.status, 6);
-    }
+    let report = "fault meta 12 checksum\nfaults 1\n";
+    expect_fault_in_notes(&rt, alloc, DUMP, &broken, report)?;
+    expect_fault_in_notes(&rt, alloc, SINCE, &broken, report)?;
+    expect_out_fault(&rt, alloc, DUMP, &image)?;
+    expect_out_fault(&rt, alloc, SINCE, &image)?;
     Ok(())
 }

@@ -1,17 +1,12 @@
-//! Era targets in memory, put together from written blocks, and tools over them.
-
-ghost use Rattle.std.specs.Prelude.{◌≡◌, IfOk, length};
+//! Era targets in memory, put together from written blocks.
 
 use pd_array::{Word, write_array};
 use pd_crc::seal;
 use pd_kinds::{Block, EraSuper, SmRoot, put_u32, put_u64};
 use pd_node::write_leaf;
 use pd_samples::pool::{bitmap, empty_leaf, index, index_entry};
-use pd_samples::runs::{Failing, Held, NOTHING_FAILS, Ran, blocks_of, run, run_over};
 use pd_supers::write_era_super;
 use pd_value::{Count, Root, Writeset};
-use std::alloc::{AllocError, Global};
-use std::process::Abort;
 
 /// The salt of the checksums of array blocks (drivers/md/persistent-data/dm-array.c).
 const ARRAY_SALT: u32 = 595846735;
@@ -80,70 +75,4 @@ pub(crate) fn written_target() -> [Block; 16] {
     image[11] = write_leaf(11, &[(0, Root(12))]);
     image[12] = write_array(12, Word::Eight, &[0, 1]);
     image
-}
-
-/// Restores a text over these blocks.
-pub(crate) fn restore(
-    alloc: Global,
-    text: &str,
-    base: &[Block],
-    failing: Failing,
-) -> Result<Ran, AllocError> {
-    let held = Held {
-        text: text.as_bytes(),
-        input: &[],
-        output: base,
-    };
-    run_over(
-        alloc,
-        &["era_restore", "-i", "text", "-o", "image"],
-        held,
-        failing,
-    )
-}
-
-/// The blocks that a text makes of so many blocks of ones.
-pub(crate) fn made(
-    rt: &impl Abort,
-    alloc: Global,
-    text: &str,
-    blocks: usize,
-) -> Result<Vec<Block>, AllocError>
-    ensures { IfOk result (λ image. length image.items ≡ blocks) }
-{
-    let base = vec![in alloc; Block([1; 4096]); blocks]?;
-    let restored = restore(alloc, text, base.as_slice(), NOTHING_FAILS)?;
-    assert_eq!(rt; restored.status, 0, "{text}");
-    assert!(rt; restored.notes.bytes().is_empty());
-    let image = blocks_of(alloc, &restored.output)?;
-    assert_eq!(rt; image.len(), blocks);
-    Ok(image)
-}
-
-/// Runs a tool over an image, where this must be the status and what is put.
-pub(crate) fn expect(
-    rt: &impl Abort,
-    alloc: Global,
-    words: &[&str],
-    image: &[Block],
-    status: u8,
-    text: &str,
-) -> Result<(), AllocError> {
-    let ran = run(alloc, words, image, NOTHING_FAILS)?;
-    assert!(rt; ran.out.bytes() == text.as_bytes(), "{text}");
-    assert_eq!(rt; ran.status, status, "{text}");
-    assert!(rt; ran.notes.bytes().is_empty());
-    assert!(rt; blocks_of(alloc, &ran.input)?.as_slice() == image);
-    Ok(())
-}
-
-/// Checks an image to the end, where this must be the report.
-pub(crate) fn expect_report(
-    rt: &impl Abort,
-    alloc: Global,
-    image: &[Block],
-    report: &str,
-) -> Result<(), AllocError> {
-    let status = if report == "clean\n" { 0 } else { 1 };
-    expect(rt, alloc, &["era_check", "image"], image, status, report)
 }
