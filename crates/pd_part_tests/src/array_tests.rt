@@ -17,12 +17,12 @@ fn a_full_block_has_as_many_words_as_there_is_room_for(rt: HostRuntime) {
     let mut words = [7; 509];
     fill_with_zeros(&mut words);
     let eights = write_array(3, Word::Eight, &words);
-    assert_eq!(rt; array_len(&eights, Word::Eight), 509);
+    assert!(rt; array_len(&eights, Word::Eight) == 509);
     let mut words = [7; 1018];
     fill_with_zeros(&mut words);
     let fours = write_array(3, Word::Four, &words);
-    assert_eq!(rt; array_len(&fours, Word::Four), 1018);
-    assert_eq!(rt; array_len(&fours, Word::Eight), 0);
+    assert!(rt; array_len(&fours, Word::Four) == 1018);
+    assert!(rt; array_len(&fours, Word::Eight) == 0);
 }
 
 #[test]
@@ -32,10 +32,9 @@ fn a_block_has_its_header_and_its_words(rt: HostRuntime) {
     assert!(rt; &block.0[4..24] == header.as_slice());
     let words = [5, 0, 0, 0, 4, 3, 2, 1];
     assert!(rt; &block.0[24..32] == words.as_slice());
-    assert_eq!(rt; array_word(&block, Word::Four, 1), 0x0102_0304);
-    assert_eq!(rt; array_rules(&block, 3, Word::Four), Rules::none());
-    assert_eq!(rt;
-        array_rules(&block, 4, Word::Eight),
-        Rules::none().with(Rule::Place).with(Rule::Shape)
+    assert!(rt; array_word(&block, Word::Four, 1) == 0x0102_0304);
+    assert!(rt; array_rules(&block, 3, Word::Four) == Rules::none());
+    assert!(rt;
+        array_rules(&block, 4, Word::Eight) == Rules::none().with(Rule::Place).with(Rule::Shape)
     );
 }

@@ -1,11 +1,14 @@
-ghost use Rattle.std.specs.Prelude.{◌≤◌, IfOk};
+ghost use Rattle.std.specs.Prelude.{◌≤◌};
 ghost use Rattle.pd_image.specs.Device.{IsWritable};
 ghost use Rattle.pd_image.specs.MemDevice.{mem_device_state};
 
+use crate::objects::{NEVER, device_of, three_left};
 use crate::small_restore;
 use pd_draft::{Rewrite, rewrite_super};
 use pd_image::{Device, Failed, MemDevice, Pick};
 use pd_kinds::{BLOCK_SIZE, Block};
+use std::alloc::Global;
+use std::process::Abort;
 use std::test::Fail;
 
 const OLD: [Block; 3] = [
@@ -19,8 +22,6 @@ const NEW: [Block; 3] = [
     Block([2; BLOCK_SIZE]),
     Block([3; BLOCK_SIZE]),
 ];
-
-const PICKS: [Pick; 3] = [Pick::Old, Pick::New, Pick::Other(0)];
 
 /// Makes the new image: seven calls of the device.
 fn restore<D: Device>(dev: &mut D) -> Result<(), Failed>
@@ -41,84 +42,101 @@ enum Found {
 }
 
 /// What a crash now leaves by the pick.
-fn crash(rt: &HostRuntime, dev: &MemDevice, pick: Pick) -> Result<Found, Fail> {
-    let mut after = dev.after_crash(rt.alloc(), pick)?;
-    after.attach("x", false)?;
-    if after.blocks() != 3 {
-        return Ok(Found::Other);
-    }
-    let blocks = [after.block(0), after.block(1), after.block(2)];
-    if blocks == OLD {
-        Ok(Found::Old)
-    } else if blocks == NEW {
-        Ok(Found::New)
-    } else if blocks[0] == Block::zeros() {
-        Ok(Found::Closed)
-    } else {
-        Ok(Found::Other)
+fn crash(alloc: Global, dev: &MemDevice, pick: Pick) -> Result<Found, Fail> {
+    match three_left(alloc, dev, pick)? {
+        None => Ok(Found::Other),
+        Some(blocks) => Ok(found_in(&blocks)),
     }
 }
 
-/// A device of the old image, attached, of which the calls from the second number on fail, and the first.
-fn failing(rt: &HostRuntime, call: u64, stop: u64) -> Result<MemDevice, Fail>
-    ensures { IfOk result (λ dev. IsWritable (mem_device_state dev) × (3 ≤ (mem_device_state dev).blocks)) }
-{
-    let mut dev = MemDevice::of(rt.alloc(), &OLD)?;
-    dev.fail_at(call)?;
-    dev.stop_after(stop);
-    dev.attach("x", true)?;
-    Ok(dev)
+/// What these blocks are.
+fn found_in(blocks: &[Block; 3]) -> Found {
+    if *blocks == OLD {
+        Found::Old
+    } else if *blocks == NEW {
+        Found::New
+    } else if blocks[0] == Block::zeros() {
+        Found::Closed
+    } else {
+        Found::Other
+    }
+}
+
+/// Makes the new image over the old one, with this call failing, and each from the second number on: whether it is made, and
+/// what a crash leaves then by each pick.
+fn outcomes(alloc: Global, call: u64, stop: u64) -> Result<(bool, [Found; 3]), Fail> {
+    let mut dev = device_of(alloc, &OLD, true, call, stop)?;
+    let done = restore(&mut *dev).is_ok();
+    let old = crash(alloc, &dev, Pick::Old)?;
+    let new = crash(alloc, &dev, Pick::New)?;
+    let other = crash(alloc, &dev, Pick::Other(0))?;
+    Ok((done, [old, new, other]))
+}
+
+/// Makes the new image with this call failing.
+fn expect_outcome(rt: &impl Abort, alloc: Global, call: u64) -> Result<(), Fail> {
+    let (done, found) = outcomes(alloc, call, NEVER)?;
+    assert!(rt; done == (call > 7), "{call}");
+    assert!(rt; !found.contains(&Found::Other), "{call}");
+    assert!(rt; call <= 7 || found == [Found::New; 3], "{call}");
+    Ok(())
 }
 
 #[test]
 fn a_failing_call_leaves_an_outcome(rt: HostRuntime) -> Result<(), Fail> {
     for call in 1..10 {
-        let mut dev = failing(&rt, call, 100)?;
-        let done = restore(&mut dev).is_ok();
-        assert_eq!(rt; done, call > 7);
-        for pick in PICKS {
-            let found = crash(&rt, &dev, pick)?;
-            assert!(rt; found != Found::Other);
-            assert!(rt; call <= 7 || found == Found::New);
-        }
+        expect_outcome(&rt, rt.alloc(), call)?;
     }
+    Ok(())
+}
+
+/// What a stop after so many calls leaves: one of these two.
+fn left_by(calls: u64) -> (Found, Found) {
+    match calls {
+        1 => (Found::Old, Found::Old),
+        2 => (Found::Old, Found::Closed),
+        3..=6 => (Found::Closed, Found::Closed),
+        7 => (Found::Closed, Found::New),
+        _ => (Found::New, Found::New),
+    }
+}
+
+/// Makes the new image with a stop after so many calls.
+fn expect_stopped(rt: &impl Abort, alloc: Global, calls: u64) -> Result<(), Fail> {
+    let (done, found) = outcomes(alloc, NEVER, calls)?;
+    let (one, two) = left_by(calls);
+    assert!(rt; done == (calls == 8), "{calls}");
+    assert!(rt; found.iter().all(|f| *f == one || *f == two), "{calls}");
     Ok(())
 }
 
 #[test]
 fn a_stop_leaves_an_outcome(rt: HostRuntime) -> Result<(), Fail> {
     for calls in 1..9 {
-        let mut dev = failing(&rt, 100, calls)?;
-        let done = restore(&mut dev).is_ok();
-        assert_eq!(rt; done, calls == 8);
-        for pick in PICKS {
-            let found = crash(&rt, &dev, pick)?;
-            let may_be = match calls {
-                1 => found == Found::Old,
-                2 => found == Found::Old || found == Found::Closed,
-                3..=6 => found == Found::Closed,
-                7 => found == Found::Closed || found == Found::New,
-                _ => found == Found::New,
-            };
-            assert!(rt; may_be);
-        }
+        expect_stopped(&rt, rt.alloc(), calls)?;
     }
     Ok(())
 }
 
-#[test]
-fn an_image_is_changed_where_it_stands(rt: HostRuntime) -> Result<(), Fail> {
-    let mut dev = failing(&rt, 100, 100)?;
-    let mut rewrite = Rewrite::start(&mut dev)?;
+/// Replaces block 2 by block 1, and the superblock.
+fn replace(dev: &mut MemDevice) -> Result<(), Failed>
+    requires writable { IsWritable (mem_device_state dev.old) }
+    requires room { 3 ≤ (mem_device_state dev.old).blocks }
+{
+    let mut rewrite = Rewrite::start(dev)?;
     let mut block = Block::zeros();
     rewrite.read(1, &mut block)?;
     rewrite.replace(2, &block)?;
-    rewrite.commit(&NEW[0])?;
-    assert!(rt; dev.block(0) == NEW[0]);
-    assert!(rt; dev.block(1) == OLD[1]);
-    assert!(rt; dev.block(2) == OLD[1]);
-    rewrite_super(&mut dev, &NEW[1])?;
-    assert!(rt; dev.block(0) == NEW[1]);
-    assert!(rt; dev.block(2) == OLD[1]);
+    rewrite.commit(&NEW[0])
+}
+
+#[test]
+fn an_image_is_changed_where_it_stands(rt: HostRuntime) -> Result<(), Fail> {
+    let mut dev = device_of(rt.alloc(), &OLD, true, NEVER, NEVER)?;
+    assert!(rt; replace(&mut *dev).is_ok());
+    assert!(rt; three_left(rt.alloc(), &dev, Pick::New)? == Some([NEW[0], OLD[1], OLD[1]]));
+    let mut dev = device_of(rt.alloc(), &OLD, true, NEVER, NEVER)?;
+    assert!(rt; rewrite_super(&mut *dev, &NEW[1]).is_ok());
+    assert!(rt; three_left(rt.alloc(), &dev, Pick::New)? == Some([NEW[1], OLD[1], OLD[2]]));
     Ok(())
 }

@@ -1,3 +1,4 @@
+use crate::objects::{NEVER, device_of, three_left};
 use pd_image::{
     Device, FileDevice, MemDevice, MemSink, MemSource, Pick, Sink, Source, StdSink, StdSource,
 };
@@ -13,12 +14,11 @@ const THREES: Block = Block([3; BLOCK_SIZE]);
 
 #[test]
 fn memory_device_keeps_what_is_written(rt: HostRuntime) -> Result<(), Fail> {
-    let mut device = MemDevice::of(rt.alloc(), &[ONES, TWOS])?;
-    device.attach("thin.img", true)?;
+    let mut device = device_of(rt.alloc(), &[ONES, TWOS], true, NEVER, NEVER)?;
     let mut block = ONES;
-    device.read(1, &mut block)?;
-    device.write(0, &block)?;
-    device.sync()?;
+    assert!(rt; device.read(1, &mut block).is_ok());
+    assert!(rt; device.write(0, &block).is_ok());
+    assert!(rt; device.sync().is_ok());
     assert!(rt; device.path() == Some("thin.img".as_bytes()));
     assert!(rt; device.block(0) == TWOS);
     Ok(())
@@ -26,18 +26,16 @@ fn memory_device_keeps_what_is_written(rt: HostRuntime) -> Result<(), Fail> {
 
 #[test]
 fn memory_device_is_made_of_zeros(rt: HostRuntime) -> Result<(), Fail> {
-    let mut device = MemDevice::new(rt.alloc(), 3)?;
+    let mut device = Box::new(rt.alloc(), MemDevice::new(rt.alloc(), 3)?)?;
     device.attach("thin.img", false)?;
-    assert_eq!(rt; device.blocks(), 3);
+    assert!(rt; device.blocks() == 3);
     assert!(rt; device.block(2) == Block([0; BLOCK_SIZE]));
     Ok(())
 }
 
 #[test]
 fn memory_device_fails_where_it_is_set_to(rt: HostRuntime) -> Result<(), Fail> {
-    let mut device = MemDevice::new(rt.alloc(), 1)?;
-    device.fail_at(2)?;
-    device.attach("thin.img", true)?;
+    let mut device = device_of(rt.alloc(), &[THREES], true, 2, NEVER)?;
     assert!(rt; device.write(0, &ONES).is_ok());
     assert!(rt; device.write(0, &TWOS).is_err());
     assert!(rt; device.block(0) == ONES);
@@ -47,32 +45,21 @@ fn memory_device_fails_where_it_is_set_to(rt: HostRuntime) -> Result<(), Fail> {
 
 #[test]
 fn memory_device_leaves_what_is_picked_at_a_crash(rt: HostRuntime) -> Result<(), Fail> {
-    let mut device = MemDevice::of(rt.alloc(), &[ONES, ONES, ONES])?;
-    device.attach("thin.img", true)?;
-    for b in 0..3 {
-        assert!(rt; device.after_crash(rt.alloc(), Pick::Old)?.block(b) == ONES);
-    }
-    device.write(0, &TWOS)?;
-    device.sync()?;
-    device.write(1, &TWOS)?;
-    for (pick, left) in [
-        (Pick::Old, ONES),
-        (Pick::New, TWOS),
-        (Pick::Other(3), THREES),
-    ] {
-        let after = device.after_crash(rt.alloc(), pick)?;
-        assert!(rt; after.block(0) == TWOS);
-        assert!(rt; after.block(1) == left);
-        assert!(rt; after.block(2) == ONES);
-    }
+    let alloc = rt.alloc();
+    let mut device = device_of(alloc, &[ONES; 3], true, NEVER, NEVER)?;
+    assert!(rt; three_left(alloc, &device, Pick::Old)? == Some([ONES; 3]));
+    assert!(rt; device.write(0, &TWOS).is_ok());
+    assert!(rt; device.sync().is_ok());
+    assert!(rt; device.write(1, &TWOS).is_ok());
+    assert!(rt; three_left(alloc, &device, Pick::Old)? == Some([TWOS, ONES, ONES]));
+    assert!(rt; three_left(alloc, &device, Pick::New)? == Some([TWOS, TWOS, ONES]));
+    assert!(rt; three_left(alloc, &device, Pick::Other(3))? == Some([TWOS, THREES, ONES]));
     Ok(())
 }
 
 #[test]
 fn memory_device_fails_from_its_stop_on(rt: HostRuntime) -> Result<(), Fail> {
-    let mut device = MemDevice::new(rt.alloc(), 1)?;
-    device.stop_after(2);
-    device.attach("thin.img", true)?;
+    let mut device = device_of(rt.alloc(), &[THREES], true, NEVER, 2)?;
     assert!(rt; device.write(0, &ONES).is_ok());
     assert!(rt; device.write(0, &TWOS).is_err());
     assert!(rt; device.sync().is_err());
@@ -82,7 +69,7 @@ fn memory_device_fails_from_its_stop_on(rt: HostRuntime) -> Result<(), Fail> {
 
 #[test]
 fn memory_source_fails_where_it_is_set_to(rt: HostRuntime) -> Result<(), Fail> {
-    let mut source = MemSource::of(rt.alloc(), b"abc", 2)?;
+    let mut source = Box::new(rt.alloc(), MemSource::of(rt.alloc(), b"abc", 2)?)?;
     source.fail_at(2)?;
     source.attach("text")?;
     let mut room = [0; 3];
@@ -96,7 +83,7 @@ fn memory_source_fails_where_it_is_set_to(rt: HostRuntime) -> Result<(), Fail> {
 
 #[test]
 fn memory_sink_fails_where_it_is_set_to(rt: HostRuntime) -> Result<(), Fail> {
-    let mut sink = MemSink::new(rt.alloc());
+    let mut sink = Box::new(rt.alloc(), MemSink::new(rt.alloc()))?;
     sink.fail_at(2)?;
     sink.attach(None)?;
     assert!(rt; sink.put(b"ab").is_ok());
@@ -107,20 +94,28 @@ fn memory_sink_fails_where_it_is_set_to(rt: HostRuntime) -> Result<(), Fail> {
     Ok(())
 }
 
+/// Writes block 1 of a file of two blocks, and answers block 0, or none where a call failed or there aren't two.
+fn change_file(rt: &HostRuntime, path: &str) -> Result<Option<Block>, Fail> {
+    let mut device = Box::new(rt.alloc(), FileDevice::new(rt))?;
+    device.attach(path, true)?;
+    if device.blocks() != 2 {
+        return Ok(None);
+    }
+    let mut block = TWOS;
+    let is_written = device.write(1, &TWOS).is_ok();
+    let is_read = device.read(0, &mut block).is_ok();
+    let is_synced = device.sync().is_ok();
+    let is_done = is_written & is_read & is_synced;
+    Ok(is_done.then_some(block))
+}
+
 #[test]
 fn file_device_reads_and_writes_whole_blocks(rt: HostRuntime) -> Result<(), Fail> {
-    let mut image = vec![in rt.alloc(); 1; 2 * BLOCK_SIZE + 100]?;
-    fs::write(&rt, "whole_blocks.img", image.as_slice())?;
-    let mut device = FileDevice::new(&rt);
-    device.attach("whole_blocks.img", true)?;
-    assert_eq!(rt; device.blocks(), 2);
-    device.write(1, &TWOS)?;
-    let mut block = TWOS;
-    device.read(0, &mut block)?;
-    device.sync()?;
-    assert!(rt; block == ONES);
+    let mut image = [1; 2 * BLOCK_SIZE + 100];
+    fs::write(&rt, "whole_blocks.img", &image)?;
+    assert!(rt; change_file(&rt, "whole_blocks.img")? == Some(ONES));
     image[BLOCK_SIZE..2 * BLOCK_SIZE].fill(2);
-    assert!(rt; fs::read(&rt, "whole_blocks.img")? == image);
+    assert!(rt; fs::read(&rt, "whole_blocks.img")?.as_slice() == image.as_slice());
     fs::remove_file(&rt, "whole_blocks.img")?;
     Ok(())
 }
@@ -150,12 +145,12 @@ fn file_device_needs_a_file_that_it_may_write(rt: HostRuntime) {
 fn file_device_fails_past_the_end_of_a_file_cut_short(rt: HostRuntime) -> Result<(), Fail> {
     let image = [1; 2 * 4096];
     fs::write(&rt, "cut_short.img", &image)?;
-    let mut device = FileDevice::new(&rt);
+    let mut device = Box::new(rt.alloc(), FileDevice::new(&rt))?;
     device.attach("cut_short.img", false)?;
-    assert_eq!(rt; device.blocks(), 2);
+    assert!(rt; device.blocks() == 2);
     fs::write(&rt, "cut_short.img", &image[..4097])?;
     let mut block = TWOS;
-    device.read(0, &mut block)?;
+    assert!(rt; device.read(0, &mut block).is_ok());
     assert!(rt; block == ONES);
     assert!(rt; device.read(1, &mut block).is_err());
     fs::remove_file(&rt, "cut_short.img")?;
@@ -165,7 +160,7 @@ fn file_device_fails_past_the_end_of_a_file_cut_short(rt: HostRuntime) -> Result
 #[test]
 fn std_source_gives_a_file(rt: HostRuntime) -> Result<(), Fail> {
     fs::write(&rt, "source.txt", "abc")?;
-    let mut source = StdSource::new(&rt);
+    let mut source = Box::new(rt.alloc(), StdSource::new(&rt))?;
     source.attach("source.txt")?;
     let mut room = [0; 2];
     assert!(rt; source.take(&mut room) == Ok(2));
@@ -184,10 +179,10 @@ fn std_source_needs_a_file_that_is_there(rt: HostRuntime) {
 #[test]
 fn std_sink_makes_and_cuts_its_file(rt: HostRuntime) -> Result<(), Fail> {
     fs::write(&rt, "sink.txt", "what was there")?;
-    let mut sink = StdSink::out(&rt);
+    let mut sink = Box::new(rt.alloc(), StdSink::out(&rt))?;
     sink.attach(Some("sink.txt"))?;
-    sink.put(b"ab")?;
-    sink.put(b"\xff")?;
+    assert!(rt; sink.put(b"ab").is_ok());
+    assert!(rt; sink.put(b"\xff").is_ok());
     assert!(rt; fs::read(&rt, "sink.txt")?.as_slice() == b"ab\xff".as_slice());
     assert!(rt; StdSink::out(&rt).attach(Some("missing/sink.txt")).is_err());
     fs::remove_file(&rt, "sink.txt")?;
@@ -196,17 +191,17 @@ fn std_sink_makes_and_cuts_its_file(rt: HostRuntime) -> Result<(), Fail> {
 
 #[test]
 fn std_sink_writes_any_bytes_to_the_standard_output(rt: HostRuntime) -> Result<(), Fail> {
-    let mut out = StdSink::out(&rt);
+    let mut out = Box::new(rt.alloc(), StdSink::out(&rt))?;
     out.attach(None)?;
-    out.put(b"\xff\n")?;
+    assert!(rt; out.put(b"\xff\n").is_ok());
     Ok(())
 }
 
 #[test]
 fn std_sink_writes_text_to_the_standard_error(rt: HostRuntime) -> Result<(), Fail> {
-    let mut notes = StdSink::err(&rt);
+    let mut notes = Box::new(rt.alloc(), StdSink::err(&rt))?;
     notes.attach(None)?;
-    notes.put(b"a note\n")?;
+    assert!(rt; notes.put(b"a note\n").is_ok());
     assert!(rt; notes.put(b"\xff\n").is_err());
     Ok(())
 }

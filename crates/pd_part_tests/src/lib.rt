@@ -16,6 +16,8 @@ mod image_tests;
 #[cfg(test)]
 mod node_tests;
 #[cfg(test)]
+mod objects;
+#[cfg(test)]
 mod small_restore;
 #[cfg(test)]
 mod supers_tests;

@@ -9,16 +9,10 @@ use pd_value::{BlockTime, Details};
 #[tactic(auto, unfolding(pd_kinds::specs::Node::is_ascending))]
 fn an_empty_leaf_breaks_only_what_its_reader_asks(rt: HostRuntime) {
     let leaf = write_leaf::<BlockTime>(7, &[]);
-    assert_eq!(rt; node_rules::<BlockTime>(&leaf, 7), Rules::none());
-    assert_eq!(rt;
-        node_rules::<BlockTime>(&leaf, 8),
-        Rules::none().with(Rule::Place)
-    );
-    assert_eq!(rt;
-        node_rules::<Details>(&leaf, 7),
-        Rules::none().with(Rule::Shape)
-    );
-    assert_eq!(rt; entries::<BlockTime>(&leaf), 0);
+    assert!(rt; node_rules::<BlockTime>(&leaf, 7) == Rules::none());
+    assert!(rt; node_rules::<BlockTime>(&leaf, 8) == Rules::none().with(Rule::Place));
+    assert!(rt; node_rules::<Details>(&leaf, 7) == Rules::none().with(Rule::Shape));
+    assert!(rt; entries::<BlockTime>(&leaf) == 0);
 }
 
 #[test]
@@ -27,41 +21,38 @@ fn a_leaf_is_read_back(rt: HostRuntime) {
     let first = BlockTime { block: 5, time: 3 };
     let second = BlockTime { block: 1, time: 0 };
     let leaf = write_leaf::<BlockTime>(7, &[(2, first), (9, second)]);
-    assert_eq!(rt; node_rules::<BlockTime>(&leaf, 7), Rules::none());
-    assert_eq!(rt; entries::<BlockTime>(&leaf), 2);
+    assert!(rt; node_rules::<BlockTime>(&leaf, 7) == Rules::none());
+    assert!(rt; entries::<BlockTime>(&leaf) == 2);
     assert!(rt; !is_inner(&leaf));
-    assert_eq!(rt; key::<BlockTime>(&leaf, 1), 9);
-    assert_eq!(rt; value::<BlockTime>(&leaf, 0), first);
-    assert_eq!(rt; value::<BlockTime>(&leaf, 1), second);
+    assert!(rt; key::<BlockTime>(&leaf, 1) == 9);
+    assert!(rt; value::<BlockTime>(&leaf, 0) == first);
+    assert!(rt; value::<BlockTime>(&leaf, 1) == second);
 }
 
 #[test]
 #[tactic(auto, unfolding(pd_kinds::specs::Node::is_ascending))]
 fn an_inner_node_is_read_back(rt: HostRuntime) {
     let node = write_inner(3, &[(0, 4), (126, 6)]);
-    assert_eq!(rt; node_rules::<Details>(&node, 3), Rules::none());
+    assert!(rt; node_rules::<Details>(&node, 3) == Rules::none());
     assert!(rt; is_inner(&node));
-    assert_eq!(rt; entries::<Details>(&node), 2);
-    assert_eq!(rt; key::<Details>(&node, 1), 126);
-    assert_eq!(rt; child::<Details>(&node, 0), 4);
-    assert_eq!(rt; child::<Details>(&node, 1), 6);
+    assert!(rt; entries::<Details>(&node) == 2);
+    assert!(rt; key::<Details>(&node, 1) == 126);
+    assert!(rt; child::<Details>(&node, 0) == 4);
+    assert!(rt; child::<Details>(&node, 1) == 6);
 }
 
 #[test]
 fn blocks_of_one_byte_break_checksum_alone(rt: HostRuntime) {
     for byte in [0, 0xFF] {
         let block = Block([byte; 4096]);
-        assert_eq!(rt;
-            node_rules::<BlockTime>(&block, 0),
-            Rules::none().with(Rule::Checksum)
-        );
+        assert!(rt; node_rules::<BlockTime>(&block, 0) == Rules::none().with(Rule::Checksum));
     }
 }
 
 #[test]
 fn room_is_a_multiple_of_three(rt: HostRuntime) {
     for (size, most) in [(8, 252), (24, 126), (4, 336), (16, 168), (12, 201)] {
-        assert_eq!(rt; max_entries_of(size), most);
+        assert!(rt; max_entries_of(size) == most);
     }
     keys_ascend();
 }

@@ -54,41 +54,32 @@ fn rules_after(at: usize, value: u64, then_at: usize, then_value: u64) -> Rules
 #[test]
 fn gives_the_rules_of_changed_superblocks(rt: HostRuntime) {
     let none = Rules::none();
-    assert_eq!(rt; rules_after(320, 1, 328, 2), none);
-    assert_eq!(rt; rules_after(320, 8, 328, 2), none.with(Rule::Pointer));
-    assert_eq!(rt;
-        rules_after(40, 1, 360, 1),
-        none.with(Rule::Version).with(Rule::Features)
-    );
-    assert_eq!(rt; rules_after(192, 9, 320, 1), none.with(Rule::Size));
-    assert_eq!(rt; rules_after(8, 3, 320, 1), none.with(Rule::Place));
-    assert_eq!(rt; rules_after(32, 5, 40, 7), none.with(Rule::Magic));
-    assert_eq!(rt; missing_super(), none.with(Rule::Size));
+    assert!(rt; rules_after(320, 1, 328, 2) == none);
+    assert!(rt; rules_after(320, 8, 328, 2) == none.with(Rule::Pointer));
+    assert!(rt; rules_after(40, 1, 360, 1) == none.with(Rule::Version).with(Rule::Features));
+    assert!(rt; rules_after(192, 9, 320, 1) == none.with(Rule::Size));
+    assert!(rt; rules_after(8, 3, 320, 1) == none.with(Rule::Place));
+    assert!(rt; rules_after(32, 5, 40, 7) == none.with(Rule::Magic));
+    assert!(rt; missing_super() == none.with(Rule::Size));
 }
 
 #[test]
 fn gives_a_wrong_checksum_alone(rt: HostRuntime) {
     let mut block = write_thin_super(&empty_pool());
-    assert_eq!(rt; thin_super_rules(&block, 8), Rules::none());
+    assert!(rt; thin_super_rules(&block, 8) == Rules::none());
     block.0[100] = 1;
-    assert_eq!(rt;
-        thin_super_rules(&block, 8),
-        Rules::none().with(Rule::Checksum)
-    );
+    assert!(rt; thin_super_rules(&block, 8) == Rules::none().with(Rule::Checksum));
 }
 
 #[test]
 fn wants_a_held_copy_in_its_place(rt: HostRuntime) {
     let block = write_thin_super(&empty_pool());
-    assert_eq!(rt; thin_held_rules(&block, 0, 8), Rules::none());
-    assert_eq!(rt;
-        thin_held_rules(&block, 6, 8),
-        Rules::none().with(Rule::Place)
-    );
+    assert!(rt; thin_held_rules(&block, 0, 8) == Rules::none());
+    assert!(rt; thin_held_rules(&block, 6, 8) == Rules::none().with(Rule::Place));
 }
 
 #[test]
 fn reads_what_it_wrote(rt: HostRuntime) {
     let pool = empty_pool();
-    assert_eq!(rt; read_thin_super(&write_thin_super(&pool)), pool);
+    assert!(rt; read_thin_super(&write_thin_super(&pool)) == pool);
 }

@@ -1,13 +1,18 @@
 //! Lookup in trees, and cursors over their entries and over the words of arrays, on devices in memory.
 
-ghost use Rattle.std.specs.Prelude.{◌≡◌, EachIndex, slice_index};
+ghost use Rattle.std.specs.Prelude.{◌≡◌, ◌≤◌, EachIndex, slice_index};
+ghost use Rattle.pd_image.specs.Device.{IsAttached};
+ghost use Rattle.pd_image.specs.MemDevice.{mem_device_state};
+ghost use Rattle.pd_tree.specs.ArrayCursor.{array_room};
 
+use crate::objects::{NEVER, device_of};
 use pd_array::{Word, write_array};
-use pd_image::{Device, MemDevice};
+use pd_image::MemDevice;
 use pd_kinds::Block;
 use pd_node::{write_inner, write_leaf};
 use pd_tree::{ArrayCursor, Cursor, find};
 use pd_value::Root;
+use std::process::Abort;
 use std::test::Fail;
 
 /// A tree of three levels, whose root is block 0.
@@ -27,26 +32,29 @@ fn three_levels() -> [Block; 6] {
 #[tactic(auto, unfolding(pd_kinds::specs::Node::is_ascending))]
 fn a_lookup_finds_the_keys_that_there_are(rt: HostRuntime) -> Result<(), Fail> {
     let leaf = write_leaf::<Root>(2, &[(1, Root(1))]);
-    let mut device = MemDevice::of(rt.alloc(), &[Block::zeros(), Block::zeros(), leaf])?;
-    device.attach("thin.img", false)?;
-    assert!(rt; find::<Root, MemDevice>(&mut device, 2, 1) == Ok(Some(Root(1))));
-    assert!(rt; find::<Root, MemDevice>(&mut device, 2, 2) == Ok(None));
-    assert!(rt; find::<Root, MemDevice>(&mut device, 2, 0) == Ok(None));
+    let mut device = device_of(
+        rt.alloc(),
+        &[Block::zeros(), Block::zeros(), leaf],
+        false,
+        NEVER,
+        NEVER,
+    )?;
+    assert!(rt; find::<Root, MemDevice>(&mut *device, 2, 1) == Ok(Some(Root(1))));
+    assert!(rt; find::<Root, MemDevice>(&mut *device, 2, 2) == Ok(None));
+    assert!(rt; find::<Root, MemDevice>(&mut *device, 2, 0) == Ok(None));
     Ok(())
 }
 
 #[test]
 fn a_lookup_goes_down_three_levels_with_one_read_each(rt: HostRuntime) -> Result<(), Fail> {
-    let mut device = MemDevice::of(rt.alloc(), &three_levels())?;
     // The calls are 0 for attaching, and three for each lookup.
-    device.fail_at(13)?;
-    device.attach("thin.img", false)?;
-    assert!(rt; find::<Root, MemDevice>(&mut device, 0, 5) == Ok(Some(Root(15))));
-    assert!(rt; find::<Root, MemDevice>(&mut device, 0, 10) == Ok(None));
-    assert!(rt; find::<Root, MemDevice>(&mut device, 0, 11) == Ok(Some(Root(21))));
-    assert!(rt; find::<Root, MemDevice>(&mut device, 0, 20) == Ok(Some(Root(30))));
-    assert!(rt; find::<Root, MemDevice>(&mut device, 0, 20).is_err());
-    assert!(rt; find::<Root, MemDevice>(&mut device, 0, 2) == Ok(Some(Root(12))));
+    let mut device = device_of(rt.alloc(), &three_levels(), false, 13, NEVER)?;
+    assert!(rt; find::<Root, MemDevice>(&mut *device, 0, 5) == Ok(Some(Root(15))));
+    assert!(rt; find::<Root, MemDevice>(&mut *device, 0, 10) == Ok(None));
+    assert!(rt; find::<Root, MemDevice>(&mut *device, 0, 11) == Ok(Some(Root(21))));
+    assert!(rt; find::<Root, MemDevice>(&mut *device, 0, 20) == Ok(Some(Root(30))));
+    assert!(rt; find::<Root, MemDevice>(&mut *device, 0, 20).is_err());
+    assert!(rt; find::<Root, MemDevice>(&mut *device, 0, 2) == Ok(Some(Root(12))));
     Ok(())
 }
 
@@ -54,14 +62,19 @@ fn a_lookup_goes_down_three_levels_with_one_read_each(rt: HostRuntime) -> Result
 #[tactic(auto, unfolding(pd_kinds::specs::Node::is_ascending))]
 fn a_cursor_gives_one_leaf_and_an_empty_one(rt: HostRuntime) -> Result<(), Fail> {
     let leaf = write_leaf::<Root>(0, &[(1, Root(7)), (4, Root(8))]);
-    let mut device = MemDevice::of(rt.alloc(), &[leaf, write_leaf::<Root>(1, &[])])?;
-    device.attach("thin.img", false)?;
+    let mut device = device_of(
+        rt.alloc(),
+        &[leaf, write_leaf::<Root>(1, &[])],
+        false,
+        NEVER,
+        NEVER,
+    )?;
     let mut cursor = Cursor::<Root>::start(rt.alloc(), 0)?;
-    assert!(rt; cursor.next(&mut device) == Ok(Some((1, Root(7)))));
-    assert!(rt; cursor.next(&mut device) == Ok(Some((4, Root(8)))));
-    assert!(rt; cursor.next(&mut device) == Ok(None));
+    assert!(rt; cursor.next(&mut *device) == Ok(Some((1, Root(7)))));
+    assert!(rt; cursor.next(&mut *device) == Ok(Some((4, Root(8)))));
+    assert!(rt; cursor.next(&mut *device) == Ok(None));
     let mut cursor = Cursor::<Root>::start(rt.alloc(), 1)?;
-    assert!(rt; cursor.next(&mut device) == Ok(None));
+    assert!(rt; cursor.next(&mut *device) == Ok(None));
     Ok(())
 }
 
@@ -74,26 +87,23 @@ fn a_cursor_goes_on_behind_an_empty_leaf_and_a_block_outside(rt: HostRuntime) ->
         write_leaf::<Root>(2, &[]),
         write_leaf::<Root>(3, &[(9, Root(19))]),
     ];
-    let mut device = MemDevice::of(rt.alloc(), &image)?;
-    device.attach("thin.img", false)?;
+    let mut device = device_of(rt.alloc(), &image, false, NEVER, NEVER)?;
     let mut cursor = Cursor::<Root>::start(rt.alloc(), 0)?;
-    assert!(rt; cursor.next(&mut device) == Ok(Some((1, Root(11)))));
-    assert!(rt; cursor.next(&mut device) == Ok(Some((2, Root(12)))));
-    assert!(rt; cursor.next(&mut device) == Ok(Some((9, Root(19)))));
-    assert!(rt; cursor.next(&mut device) == Ok(None));
+    assert!(rt; cursor.next(&mut *device) == Ok(Some((1, Root(11)))));
+    assert!(rt; cursor.next(&mut *device) == Ok(Some((2, Root(12)))));
+    assert!(rt; cursor.next(&mut *device) == Ok(Some((9, Root(19)))));
+    assert!(rt; cursor.next(&mut *device) == Ok(None));
     Ok(())
 }
 
 #[test]
 fn a_cursor_reads_each_node_of_three_levels_once(rt: HostRuntime) -> Result<(), Fail> {
-    let mut device = MemDevice::of(rt.alloc(), &three_levels())?;
     // The calls are 0 for attaching, and six for the nodes.
-    device.fail_at(7)?;
-    device.attach("thin.img", false)?;
+    let mut device = device_of(rt.alloc(), &three_levels(), false, 7, NEVER)?;
     let mut cursor = Cursor::<Root>::start(rt.alloc(), 0)?;
-    assert!(rt; cursor.next(&mut device) == Ok(Some((2, Root(12)))));
-    assert!(rt; cursor.count(&mut device) == Ok(4));
-    assert!(rt; find::<Root, MemDevice>(&mut device, 0, 2).is_err());
+    assert!(rt; cursor.next(&mut *device) == Ok(Some((2, Root(12)))));
+    assert!(rt; cursor.count(&mut *device) == Ok(4));
+    assert!(rt; find::<Root, MemDevice>(&mut *device, 0, 2).is_err());
     Ok(())
 }
 
@@ -105,16 +115,14 @@ fn a_read_that_fails_in_the_middle_is_answered(rt: HostRuntime) -> Result<(), Fa
         write_leaf::<Root>(1, &[(1, Root(11))]),
         write_leaf::<Root>(2, &[(9, Root(19))]),
     ];
-    let mut device = MemDevice::of(rt.alloc(), &image)?;
-    device.fail_at(3)?;
-    device.attach("thin.img", false)?;
+    let mut device = device_of(rt.alloc(), &image, false, 3, NEVER)?;
     let mut cursor = Cursor::<Root>::start(rt.alloc(), 0)?;
-    assert!(rt; cursor.next(&mut device) == Ok(Some((1, Root(11)))));
-    assert!(rt; cursor.next(&mut device).is_err());
+    assert!(rt; cursor.next(&mut *device) == Ok(Some((1, Root(11)))));
+    assert!(rt; cursor.next(&mut *device).is_err());
     let mut again = Cursor::<Root>::start(rt.alloc(), 0)?;
-    assert!(rt; again.next(&mut device) == Ok(Some((1, Root(11)))));
-    assert!(rt; again.next(&mut device) == Ok(Some((9, Root(19)))));
-    assert!(rt; again.next(&mut device) == Ok(None));
+    assert!(rt; again.next(&mut *device) == Ok(Some((1, Root(11)))));
+    assert!(rt; again.next(&mut *device) == Ok(Some((9, Root(19)))));
+    assert!(rt; again.next(&mut *device) == Ok(None));
     Ok(())
 }
 
@@ -122,14 +130,13 @@ fn a_read_that_fails_in_the_middle_is_answered(rt: HostRuntime) -> Result<(), Fa
 #[tactic(auto, unfolding(pd_kinds::specs::Node::is_ascending))]
 fn a_tree_that_names_itself_has_an_end(rt: HostRuntime) -> Result<(), Fail> {
     let image = [write_inner(0, &[(1, 0)]), write_inner(1, &[(1, 0), (3, 1)])];
-    let mut device = MemDevice::of(rt.alloc(), &image)?;
-    device.attach("thin.img", false)?;
-    assert!(rt; find::<Root, MemDevice>(&mut device, 0, 1) == Ok(None));
-    assert!(rt; find::<Root, MemDevice>(&mut device, 1, 3) == Ok(None));
+    let mut device = device_of(rt.alloc(), &image, false, NEVER, NEVER)?;
+    assert!(rt; find::<Root, MemDevice>(&mut *device, 0, 1) == Ok(None));
+    assert!(rt; find::<Root, MemDevice>(&mut *device, 1, 3) == Ok(None));
     let mut cursor = Cursor::<Root>::start(rt.alloc(), 0)?;
-    assert!(rt; cursor.next(&mut device) == Ok(None));
+    assert!(rt; cursor.next(&mut *device) == Ok(None));
     let mut cursor = Cursor::<Root>::start(rt.alloc(), 1)?;
-    assert!(rt; cursor.count(&mut device) == Ok(0));
+    assert!(rt; cursor.count(&mut *device) == Ok(0));
     Ok(())
 }
 
@@ -139,6 +146,18 @@ fn fill_with_sevens(words: &mut [u64])
 {
     for word in words.iter_mut() {
         *word = 7;
+    }
+}
+
+/// The next 509 words are 7.
+fn expect_sevens(rt: &impl Abort, cursor: &mut ArrayCursor, device: &mut MemDevice)
+    requires attached { IsAttached (mem_device_state device.old) }
+    requires within { array_room cursor.old ≤ (mem_device_state device.old).blocks }
+    ensures attached { IsAttached (mem_device_state device.new) }
+    ensures within { array_room cursor.new ≤ (mem_device_state device.new).blocks }
+{
+    for _ in 0..509u32 {
+        assert!(rt; cursor.next(device) == Ok(Some(7)));
     }
 }
 
@@ -152,13 +171,10 @@ fn an_array_of_510_words_is_given_whole(rt: HostRuntime) -> Result<(), Fail> {
         write_array(1, Word::Eight, &words),
         write_array(2, Word::Eight, &[9]),
     ];
-    let mut device = MemDevice::of(rt.alloc(), &image)?;
-    device.attach("cache.img", false)?;
+    let mut device = device_of(rt.alloc(), &image, false, NEVER, NEVER)?;
     let mut cursor = ArrayCursor::start(rt.alloc(), 0, Word::Eight)?;
-    for _ in 0..509 {
-        assert!(rt; cursor.next(&mut device) == Ok(Some(7)));
-    }
-    assert!(rt; cursor.next(&mut device) == Ok(Some(9)));
-    assert!(rt; cursor.next(&mut device) == Ok(None));
+    expect_sevens(&rt, &mut cursor, &mut *device);
+    assert!(rt; cursor.next(&mut *device) == Ok(Some(9)));
+    assert!(rt; cursor.next(&mut *device) == Ok(None));
     Ok(())
 }

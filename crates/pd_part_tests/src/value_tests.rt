@@ -7,8 +7,8 @@ fn a_mapping_has_its_time_below_its_block(rt: HostRuntime) {
     let mapping = BlockTime { block: 5, time: 3 };
     let mut bytes = [0; 8];
     mapping.write(&mut bytes);
-    assert_eq!(rt; bytes, [3, 0, 0, 5, 0, 0, 0, 0]);
-    assert_eq!(rt; BlockTime::read(&bytes), mapping);
+    assert!(rt; bytes == [3, 0, 0, 5, 0, 0, 0, 0]);
+    assert!(rt; BlockTime::read(&bytes) == mapping);
 }
 
 #[test]
@@ -21,13 +21,13 @@ fn details_have_their_fields_in_order(rt: HostRuntime) {
     };
     let mut bytes = [0; 24];
     details.write(&mut bytes);
-    assert_eq!(rt;
-        bytes,
-        [
-            1, 0, 0, 0, 0, 0, 0, 0, 2, 0, 0, 0, 0, 0, 0, 0, 3, 0, 0, 0, 4, 0, 0, 0
-        ]
+    assert!(rt;
+        bytes
+            == [
+                1, 0, 0, 0, 0, 0, 0, 0, 2, 0, 0, 0, 0, 0, 0, 0, 3, 0, 0, 0, 4, 0, 0, 0
+            ]
     );
-    assert_eq!(rt; Details::read(&bytes), details);
+    assert!(rt; Details::read(&bytes) == details);
 }
 
 #[test]

@@ -2,7 +2,7 @@ use Rattle.std.proofs.Common.{◌≤◌}
 use Rattle.pd_image.specs.Device.{IsAttached}
 use Rattle.pd_image.specs.MemDevice.{mem_device_state}
 use Rattle.pd_tree.specs.ArrayCursor.{array_room}
-use Rattle.pd_part_tests.proofs.tree_tests.an_array_of_510_words_is_given_whole.Given as goal
+use Rattle.pd_part_tests.proofs.tree_tests.expect_sevens.Given as goal
 
 abbrev pub invariant-loop : goal.invariant-loop
 invariant-loop g l = record {

@@ -1,0 +1,45 @@
+//! Devices in memory that the tests share. They are boxed, since a device that is dropped in place is a path for each of its
+//! optional parts, at each `?` behind it.
+
+ghost use Rattle.std.specs.Prelude.{◌≡◌, IfOk, length, if◌then◌else◌};
+ghost use Rattle.pd_image.specs.MemDevice.{mem_device_state};
+
+use pd_image::{Device, MemDevice, Pick};
+use pd_kinds::Block;
+use std::alloc::Global;
+use std::test::Fail;
+
+/// No call, and no number of calls that a test makes.
+pub(crate) const NEVER: u64 = u64::MAX;
+
+/// A device of these blocks, attached, of which this call fails, and each from the second number on.
+pub(crate) fn device_of(
+    alloc: Global,
+    image: &[Block],
+    write: bool,
+    call: u64,
+    stop: u64,
+) -> Result<Box<MemDevice>, Fail>
+    ensures access { IfOk result (λ device. (mem_device_state device.value).access ≡ (if write then 2 else 1)) }
+    ensures blocks { IfOk result (λ device. (mem_device_state device.value).blocks ≡ length image.now) }
+{
+    let mut device = Box::new(alloc, MemDevice::of(alloc, image)?)?;
+    device.fail_at(call)?;
+    device.stop_after(stop);
+    device.attach("thin.img", write)?;
+    Ok(device)
+}
+
+/// The three blocks that a crash now leaves by the pick.
+pub(crate) fn three_left(
+    alloc: Global,
+    device: &MemDevice,
+    pick: Pick,
+) -> Result<Option<[Block; 3]>, Fail> {
+    let mut after = Box::new(alloc, device.after_crash(alloc, pick)?)?;
+    after.attach("x", false)?;
+    if after.blocks() != 3 {
+        return Ok(None);
+    }
+    Ok(Some([after.block(0), after.block(1), after.block(2)]))
+}
