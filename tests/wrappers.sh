@@ -405,7 +405,7 @@ try 0 "$lvm/thin_check" -q flagged.img
 notes "thin_check: flagged.img: the flag \"needs check\" is set, and stays without --clear-needs-check-flag; $page"
 same flagged.img set.img
 try 0 "$lvm/thin_check" -q --clear-needs-check-flag flagged.img
-notes
+notes 'thin_check: flagged.img: the flag "needs check" was set, and is cleared'
 same flagged.img thin-pool.img
 try 0 "$lvm/thin_check" -q --skip-mappings --ignore-non-fatal-errors '' thin-pool.img
 try 0 "$lvm/thin_check" -q --super-block-only damaged.img
@@ -646,6 +646,29 @@ if mknod held b 250 250 2>/dev/null && [ -b held ]; then
     echo 1 >"$sys/ro"
     try 5 sbin-looking/thin_restore -i thin-pool.txt -o held
     notes 'pdata_tools: device fault' 'thin_restore: held is a read-only device'
+    try 5 sbin-looking/thin_check --clear-needs-check-flag held
+    notes 'pdata_tools: device fault' 'thin_check: held is a read-only device'
+    # metadata that LVM activated alone is written by way of a device of the same place, here a file
+    mkdir "$sys/dm" dmsetup
+    echo LVM-of-a-pool-tmeta >"$sys/dm/uuid"
+    cat >dmsetup/dmsetup <<END
+#!/bin/sh
+echo "dmsetup \$1 \$2 \$3" >&2
+case \$1 in
+table) echo 0 8192 linear 254:0 2048 ;;
+create) cat >&2 ;;
+esac
+END
+    chmod +x dmsetup/dmsetup
+    sed -i 's|twin=/dev/mapper/pdata_tools-\$\$|twin=twin.img|' sbin-looking/thin_check
+    cp set.img twin.img
+    try 0 env PATH="$tmp/dmsetup:$PATH" sbin-looking/thin_check --clear-needs-check-flag held
+    out clean
+    sed 's/pdata_tools-[0-9]*/pdata_tools-N/' notes >kept && mv kept notes
+    notes 'dmsetup table -j 250' 'dmsetup create pdata_tools-N ' '0 8192 linear 254:0 2048' \
+        'thin_check: held is read-only, as LVM activates it: it is written by way of twin.img' \
+        'dmsetup remove --retry twin.img'
+    same twin.img thin-pool.img
 else
     skip 'a device in use, as only root makes block devices'
 fi
