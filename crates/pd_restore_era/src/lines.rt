@@ -11,7 +11,7 @@ ghost use Rattle.pd_spells.specs.EraNeed.{era_need_so_far};
 ghost use Rattle.pd_texts.specs.Reader.{IsReadAfter, LeavesOf};
 ghost use Rattle.pd_era_texts.specs.EraLine.{line_of};
 ghost use Rattle.pd_restoring.specs.Restored.{CountsRestore};
-ghost use Rattle.pd_restoring.specs.Reading.{CountsTake, IsOfBuild, SaysOf};
+ghost use Rattle.pd_restoring.specs.Reading.{CountsTake, IsOfBuild, IsOfLater, SaysOf};
 ghost use Rattle.pd_restore_era.specs.Reading.{HasGathered, Reading, CanRead, CanTake, Steps, Ends};
 
 use crate::runs::put_run;
@@ -37,6 +37,7 @@ pub(crate) fn restore_lines<S: Source, D: Device>(
         → OnOk result (Ends before room text.old (S.state source.old).left (S.state source.new).left array.new start (stand draft.new)) }
     ensures says { (before : List Line) (room : ℕ) (start : Stand) → Reading before room text.old array.old start (stand draft.old)
         → (t : List ℕ) → LeavesOf era t before text.old (S.state source.old).left → IfErr result (SaysOf era era_need_so_far room t) }
+    ensures later { IfErr result IsOfLater }
     ensures source { KeepsSource (S.state source.old) (S.state source.new) }
     ensures closed { StaysClosed (stand draft.old).device (stand draft.new).device }
     ensures faults { CountsRestore result (S.state source.old).faults (S.state source.new).faults (stand draft.old).device.faults (stand draft.new).device.faults }
@@ -62,6 +63,7 @@ pub(crate) fn step<S: Source, D: Device>(
     ensures says { (before : List Line) (room : ℕ) (start : Stand) → Reading before room text.old array.old start (stand draft.old)
         → (t : List ℕ) → LeavesOf era t before text.old (S.state source.old).left → IfErr result (SaysOf era era_need_so_far room t) }
     ensures falls { IfOk result (λ more. more ≡ true → array.new.words.left < array.old.words.left) }
+    ensures later { IfErr result IsOfLater }
     ensures source { KeepsSource (S.state source.old) (S.state source.new) }
     ensures closed { StaysClosed (stand draft.old).device (stand draft.new).device }
     ensures faults { CountsRestore result (S.state source.old).faults (S.state source.new).faults (stand draft.old).device.faults (stand draft.new).device.faults }

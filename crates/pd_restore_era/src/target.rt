@@ -10,7 +10,7 @@ ghost use Rattle.pd_spells.specs.EraNeed.{era_need_so_far};
 ghost use Rattle.pd_texts.specs.Reader.{LeavesOf, ReadsOn};
 ghost use Rattle.pd_era_texts.specs.EraState.{EraStands};
 ghost use Rattle.pd_restoring.specs.Restored.{CountsRestore};
-ghost use Rattle.pd_restoring.specs.Reading.{SaysOf};
+ghost use Rattle.pd_restoring.specs.Reading.{IsOfLater, SaysOf};
 ghost use Rattle.pd_restoring.specs.Whole.{Writes};
 ghost use Rattle.pd_restore_era.specs.Begin.{begun_lines};
 ghost use Rattle.pd_restore_era.specs.Subject.{era_targets};
@@ -49,6 +49,7 @@ pub(crate) fn write_target<S: Source, D: Device>(
     ensures same_reference { draft.new.dev.ghost_name ≡ draft.old.dev.ghost_name }
     ensures writes { IfOk result (Writes era_targets room (λ t. LeavesOf era t (begun_lines target.now) text.old (S.state source.old).left) (S.state source.new).left (stand draft.old) (stand draft.new)) }
     ensures says { (t : List ℕ) → LeavesOf era t (begun_lines target.now) text.old (S.state source.old).left → IfErr result (SaysOf era era_need_so_far room t) }
+    ensures later { IfErr result IsOfLater }
     ensures source { KeepsSource (S.state source.old) (S.state source.new) }
     ensures closed { StaysClosed (stand draft.old).device (stand draft.new).device }
     ensures faults { CountsRestore result (S.state source.old).faults (S.state source.new).faults (stand draft.old).device.faults (stand draft.new).device.faults }

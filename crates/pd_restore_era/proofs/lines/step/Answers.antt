@@ -4,7 +4,7 @@ use Rattle.pd_spells.specs.EraText.{first_line, end_line, era}
 use Rattle.pd_spells.specs.EraNeed.{era_need_so_far}
 use Rattle.pd_era_texts.specs.EraLine.{era_meant}
 use Rattle.pd_era_texts.specs.EraState.{EraStands}
-use Rattle.pd_restoring.proofs.ReadingLemmas.{line_given, line_told, end_given, end_told, end_says, next_says}
+use Rattle.pd_restoring.proofs.ReadingLemmas.{line_given, line_told, end_given, end_told, end_says, later_read, later_take, next_says}
 use Rattle.pd_restore_era.proofs.ReadingLemmas.{stepped, came_to_end, falls_where}
 use Rattle.pd_restore_era.proofs.lines.step.Goals as goal
 
@@ -61,3 +61,11 @@ returns-in-Ok-None-clause-steps g c before room start h =
 pub returns-in-Err-clause-says : goal.returns-in-Err-clause-says
 returns-in-Err-clause-says g c before room start h t leaves =
     rw c.of_read.ensures (next_says era era_need_so_far first_line end_line c.in-Err.fault room t before (omega (arith, h.later)) h.above h.need (c.in-Err.ensures.text t before h.reads leaves))
+
+pub returns-in-Ok-Some-clause-later : goal.returns-in-Ok-Some-clause-later
+returns-in-Ok-Some-clause-later g c = later_take c.take.result _ _ c.take.ensures.faults
+
+pub returns-in-Err-clause-later : goal.returns-in-Err-clause-later
+returns-in-Err-clause-later g c =
+    let r = c.requires.reading in
+    rw c.of_read.ensures (later_read era EraStands r.before c.args.text.now c.in-Err.fault r.so_far.reads r.so_far.later c.in-Err.ensures.past)

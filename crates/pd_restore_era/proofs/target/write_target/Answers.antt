@@ -8,7 +8,7 @@ use Rattle.pd_spells.specs.EraText.{era, MeansEra}
 use Rattle.pd_spells.proofs.EraRead.{FitsLine, Placed, era_grammar}
 use Rattle.pd_spells.proofs.EraLaws.{era_language}
 use Rattle.pd_texts.proofs.LawLemmas.{read_lines_mean, whole_bytes}
-use Rattle.pd_restoring.proofs.ReadingLemmas.{accepted_whole}
+use Rattle.pd_restoring.proofs.ReadingLemmas.{accepted_whole, later_build}
 use Rattle.pd_restore_era.specs.Begin.{begun_lines, head_of_target}
 use Rattle.pd_restore_era.proofs.ReadingLemmas.{target_reading}
 use Rattle.pd_restore_era.proofs.LineLemmas.{eras_of_lines, whole_need, number_fits, head_is, fields_are}
@@ -61,3 +61,6 @@ returns-in-Ok-write_parts-clause-writes g c =
       told = λ t leaves. accepted_whole era era_need_so_far MeansEra (whole_bytes era (is_reader era FitsLine Placed era_grammar)) t e.lines c.args.room m.0
           (g.S.Source.state c.restore_lines.new.source).left m.1 e.all.above (e.told t leaves);
     }
+
+pub returns-in-Err-write_parts-clause-later : goal.returns-in-Err-write_parts-clause-later
+returns-in-Err-write_parts-clause-later g c = rw c.of_build.ensures (later_build c.in-Err-write_parts.fault)
