@@ -17,6 +17,7 @@ use Rattle.pd_cache_texts.proofs.SingleLemmas.{refused_text, repeated_text}
 use Rattle.pd_restoring.specs.declared.fault.RestoreFault.{RestoreFault}
 use Rattle.pd_restoring.specs.declared.fault.RestoreFault.TheVariants as r
 use Rattle.pd_restoring.specs.Faults.{read_fault}
+use Rattle.pd_restoring.specs.Reading.{IsOfLater}
 use Rattle.pd_restore_cache.specs.declared.gather.Cache.{Cache}
 use Rattle.pd_restore_cache.specs.declared.gather.Gathered.{Gathered}
 use Rattle.pd_restore_cache.specs.declared.row.Row.{Row}
@@ -109,6 +110,15 @@ not_taken_says (Err (r.Text fault)) line t text left g differ leaves not =
     let is = repeated_text t (lines_of g) (line_of line) _ leaves.is (omega arith) differ not.1 in
     subst (λ (f : RestoreFault). SaysAfter g.cache t f) (sym not.0) (g.rows.items, inl is)
 not_taken_says (Err (r.NoRoom need blocks)) line t text left g differ leaves not = absurd not
+
+-- that line is none of the first two
+pub not_taken_later : (result : Result Bool RestoreFault) (line : CacheLine) (g : Gathered) → IfErr result (IsNotTaken line g) → IfErr result IsOfLater
+not_taken_later (Ok more) line g not = tt
+not_taken_later (Err r.Memory) line g not = tt
+not_taken_later (Err r.Source) line g not = absurd not
+not_taken_later (Err r.Device) line g not = absurd not
+not_taken_later (Err (r.Text fault)) line g not = subst (λ (f : RestoreFault). IsOfLater f) (sym not.0) (omega (arith, two_lines g))
+not_taken_later (Err (r.NoRoom need blocks)) line g not = absurd not
 
 begun_same : (before : List Line) → 1 ≤ length before → begun first_line before ≡ before
 begun_same [] some = absurd (omega arith)

@@ -5,6 +5,7 @@ ghost use Rattle.pd_image.specs.Source.{KeepsSource};
 ghost use Rattle.pd_spells.specs.CacheText.{cache_single};
 ghost use Rattle.pd_texts.specs.Reader.{LeavesOf};
 ghost use Rattle.pd_restoring.specs.Begin.{CountsBegin};
+ghost use Rattle.pd_restoring.specs.Reading.{IsOfLater};
 ghost use Rattle.pd_restore_cache.specs.Gathered.{lines_of};
 ghost use Rattle.pd_restore_cache.specs.Reading.{Reads, CanTake, Takes, IsNotTaken, Steps, Ends, SaysAfter};
 
@@ -24,6 +25,7 @@ pub(crate) fn gather_lines<S: Source>(
     requires reads { Reads text.old gathered.old }
     ensures ends { OnOk result (Ends text.old (S.state source.old).left (S.state source.new).left gathered.old gathered.new) }
     ensures says { (t : List ℕ) → LeavesOf cache_single t (lines_of gathered.old) text.old (S.state source.old).left → IfErr result (SaysAfter gathered.old.cache t) }
+    ensures later { IfErr result IsOfLater }
     ensures source { KeepsSource (S.state source.old) (S.state source.new) }
     ensures faults { CountsBegin result (S.state source.old).faults (S.state source.new).faults }
 {
@@ -41,6 +43,7 @@ fn step<S: Source>(
     requires reads { Reads text.old gathered.old }
     ensures steps { IfOk result (λ more. Steps more text.old (S.state source.old).left text.new (S.state source.new).left gathered.old gathered.new) }
     ensures says { (t : List ℕ) → LeavesOf cache_single t (lines_of gathered.old) text.old (S.state source.old).left → IfErr result (SaysAfter gathered.old.cache t) }
+    ensures later { IfErr result IsOfLater }
     ensures source { KeepsSource (S.state source.old) (S.state source.new) }
     ensures faults { CountsBegin result (S.state source.old).faults (S.state source.new).faults }
 {

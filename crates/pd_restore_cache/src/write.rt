@@ -11,7 +11,7 @@ ghost use Rattle.pd_spells.specs.CacheText.{cache as cache_texts};
 ghost use Rattle.pd_spells.specs.Lawful.{IsLawfulCache};
 ghost use Rattle.pd_laid.specs.Laid.{written_from};
 ghost use Rattle.pd_laid.specs.LaidCache.{laid_cache};
-ghost use Rattle.pd_restoring.specs.Reading.{CountsTake, IsOfBuild, SaysOf};
+ghost use Rattle.pd_restoring.specs.Reading.{CountsTake, IsOfBuild, IsOfLater, SaysOf};
 ghost use Rattle.pd_restoring.specs.Restored.{CountsRestore};
 ghost use Rattle.pd_restoring.specs.Whole.{Writes};
 ghost use Rattle.pd_restore_cache.specs.Begin.{HasBegun};
@@ -51,6 +51,7 @@ pub(crate) fn write_cache<S: Source, D: Device>(
     ensures same_reference { draft.new.dev.ghost_name ≡ draft.old.dev.ghost_name }
     ensures writes { IfOk result (Writes (caches version) room (λ t. CacheLeaves t begun (S.state source.old).left) (S.state source.new).left (stand draft.old) (stand draft.new)) }
     ensures says { (t : List ℕ) → CacheLeaves t begun (S.state source.old).left → IfErr result (SaysOf cache_texts (cache_need_so_far version) room t) }
+    ensures later { IfErr result IsOfLater }
     ensures source { KeepsSource (S.state source.old) (S.state source.new) }
     ensures closed { StaysClosed (stand draft.old).device (stand draft.new).device }
     ensures faults { CountsRestore result (S.state source.old).faults (S.state source.new).faults (stand draft.old).device.faults (stand draft.new).device.faults }

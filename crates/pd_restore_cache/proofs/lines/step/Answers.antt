@@ -2,9 +2,9 @@ use Rattle.std.proofs.Common.{arith}
 use Rattle.pd_spells.specs.CacheText.{first_line, cache_single}
 use Rattle.pd_cache_texts.specs.CacheLine.{cache_meant}
 use Rattle.pd_cache_texts.specs.CacheState.{CacheStands}
-use Rattle.pd_restoring.proofs.ReadingLemmas.{line_given, line_told, end_given, end_told}
+use Rattle.pd_restoring.proofs.ReadingLemmas.{line_given, line_told, end_given, end_told, later_read}
 use Rattle.pd_restore_cache.specs.Gathered.{lines_of}
-use Rattle.pd_restore_cache.proofs.LineLemmas.{two_lines, stepped, ended, not_taken_says, next_says}
+use Rattle.pd_restore_cache.proofs.LineLemmas.{two_lines, stepped, ended, not_taken_later, not_taken_says, next_says}
 use Rattle.pd_restore_cache.proofs.lines.step.Goals as goal
 
 pub take-requires : goal.take-requires
@@ -55,3 +55,11 @@ pub returns-in-Err-clause-says : goal.returns-in-Err-clause-says
 returns-in-Err-clause-says g c t leaves =
     let h = c.requires.reads in
     rw c.of_read.ensures (next_says c.in-Err.fault t c.args.gathered.now h.differ (c.in-Err.ensures.text t (lines_of c.args.gathered.now) h.reads leaves))
+
+pub returns-in-Ok-Some-clause-later : goal.returns-in-Ok-Some-clause-later
+returns-in-Ok-Some-clause-later g c = not_taken_later c.take.result c.in-Ok-Some.line c.args.gathered.now c.take.ensures.repeated
+
+pub returns-in-Err-clause-later : goal.returns-in-Err-clause-later
+returns-in-Err-clause-later g c =
+    let now = c.args.gathered.now in
+    rw c.of_read.ensures (later_read cache_single CacheStands (lines_of now) c.args.text.now c.in-Err.fault c.requires.reads.reads (two_lines now) c.in-Err.ensures.past)

@@ -2,6 +2,7 @@ use Rattle.std.proofs.Common.{◌≡◌, List, length, sym, ◌∙◌, subst}
 use Rattle.pd_draft.specs.Stand.{stand}
 use Rattle.pd_spells.specs.CacheText.{Line, cache_single}
 use Rattle.pd_texts.specs.Reader.{LeavesOf}
+use Rattle.pd_restoring.proofs.ReadingLemmas.{later_take}
 use Rattle.pd_restore_cache.specs.declared.gather.Cache.{Cache}
 use Rattle.pd_restore_cache.specs.Reading.{SaysAfter}
 use Rattle.pd_restore_cache.proofs.MeaningLemmas.{gathered_lawful}
@@ -33,3 +34,6 @@ returns-clause-says g c t leaves =
     says_of c.args.begun.cache c.args.version c.args.room t c.in-Err.fault c.requires.need
     (subst (λ (cache : Cache). SaysAfter cache t c.in-Err.fault) c.new-gathered.ensures.cache
     (c.in-Err.ensures.says t (subst (λ (ls : List Line). LeavesOf cache_single t ls c.args.begun.text was) (sym lines) leaves)))
+
+pub returns-in-Ok-clause-later : goal.returns-in-Ok-clause-later
+returns-in-Ok-clause-later g c = later_take c.write_gathered.result _ _ c.write_gathered.ensures.faults
