@@ -2,16 +2,18 @@ ghost use Rattle.std.specs.Prelude.{◌≤◌, IfOk};
 ghost use Rattle.pd_image.specs.Device.{IsWritable};
 ghost use Rattle.pd_image.specs.MemDevice.{mem_device_state};
 
-use crate::built::{build_array, build_tree, first_after, has_numbers, has_words, numbered};
+use crate::built::{build_array, build_tree, has_numbers, has_words, is_closed, numbered};
 use pd_build::{BuildFault, need_tree, need_upper};
 use pd_image::{Device, MemDevice, Pick};
 use pd_kinds::{BLOCK_SIZE, Block};
 use pd_node::entries;
 use pd_value::BlockTime;
+use std::alloc::Global;
+use std::process::Abort;
 use std::test::Fail;
 
 /// Numbers of items, and the place of the root: the tree stands from block 1 on, and its root comes last.
-const TREES: [(u64, u64); 8] = [
+const TREES: &[(u64, u64)] = &[
     (0, 1),
     (1, 1),
     (252, 1),
@@ -23,37 +25,42 @@ const TREES: [(u64, u64); 8] = [
 ];
 
 /// Numbers of words, and the place of the root.
-const ARRAYS: [(u64, u64); 4] = [(0, 1), (509, 2), (510, 3), (1018, 3)];
+const ARRAYS: &[(u64, u64)] = &[(0, 1), (509, 2), (510, 3), (1018, 3)];
 
 /// An empty device of so many blocks.
-fn attached(rt: &HostRuntime, blocks: u64) -> Result<MemDevice, Fail>
-    ensures { IfOk result (λ dev. IsWritable (mem_device_state dev)) }
+fn attached(alloc: Global, blocks: u64) -> Result<Box<MemDevice>, Fail>
+    ensures { IfOk result (λ dev. IsWritable (mem_device_state dev.value)) }
 {
-    let mut dev = MemDevice::new(rt.alloc(), blocks)?;
+    let mut dev = Box::new(alloc, MemDevice::new(alloc, blocks)?)?;
     dev.attach("x", true)?;
     Ok(dev)
 }
 
 #[test]
 fn needs_are_those_of_the_worked_numbers(rt: HostRuntime) -> Result<(), Fail> {
-    assert_eq!(rt; need_tree(0, 252), 1);
-    assert_eq!(rt; need_tree(253, 252), 3);
-    assert_eq!(rt; need_tree(63505, 252), 256);
-    assert_eq!(rt; need_upper(1), 0);
-    assert_eq!(rt; need_upper(253), 3);
+    assert!(rt; need_tree(0, 252) == 1);
+    assert!(rt; need_tree(253, 252) == 3);
+    assert!(rt; need_tree(63505, 252) == 256);
+    assert!(rt; need_upper(1) == 0);
+    assert!(rt; need_upper(253) == 3);
+    Ok(())
+}
+
+/// Builds a tree of so many items, whose root is this block, and reads it back.
+fn expect_tree(rt: &impl Abort, alloc: Global, count: u64, last: u64) -> Result<(), Fail> {
+    let items = numbered(alloc, count)?;
+    let mut dev = attached(alloc, 257)?;
+    assert!(rt; last < dev.blocks());
+    assert!(rt; build_tree(alloc, &mut *dev, &items) == Ok(last), "{count}");
+    assert!(rt; has_numbers(alloc, &mut *dev, last, count)?, "{count}");
     Ok(())
 }
 
 #[test]
 fn trees_are_read_back(rt: HostRuntime) -> Result<(), Fail> {
-    for (count, last) in TREES {
-        let items = numbered(rt.alloc(), count)?;
-        let mut dev = attached(&rt, 257)?;
-        assert!(rt; dev.blocks() >= 1);
-        let root = build_tree(rt.alloc(), &mut dev, &items)?;
-        assert_eq!(rt; root, last);
-        assert!(rt; root < dev.blocks());
-        assert!(rt; has_numbers(rt.alloc(), &mut dev, root, count)?);
+    for tree in TREES {
+        let (count, last) = *tree;
+        expect_tree(&rt, rt.alloc(), count, last)?;
     }
     Ok(())
 }
@@ -61,24 +68,28 @@ fn trees_are_read_back(rt: HostRuntime) -> Result<(), Fail> {
 #[test]
 fn leaves_of_253_items_have_127_and_126(rt: HostRuntime) -> Result<(), Fail> {
     let items = numbered(rt.alloc(), 253)?;
-    let mut dev = attached(&rt, 4)?;
-    assert!(rt; dev.blocks() >= 1);
-    let _root = build_tree(rt.alloc(), &mut dev, &items)?;
+    let mut dev = attached(rt.alloc(), 4)?;
     assert!(rt; dev.blocks() >= 3);
-    assert_eq!(rt; entries::<BlockTime>(&dev.block(1)), 127);
-    assert_eq!(rt; entries::<BlockTime>(&dev.block(2)), 126);
+    assert!(rt; build_tree(rt.alloc(), &mut *dev, &items) == Ok(3));
+    assert!(rt; entries::<BlockTime>(&dev.block(1)) == 127);
+    assert!(rt; entries::<BlockTime>(&dev.block(2)) == 126);
+    Ok(())
+}
+
+/// Builds an array of so many words, whose root is this block, and reads it back.
+fn expect_array(rt: &impl Abort, alloc: Global, count: u64, last: u64) -> Result<(), Fail> {
+    let mut dev = attached(alloc, 4)?;
+    assert!(rt; last < dev.blocks());
+    assert!(rt; build_array(alloc, &mut *dev, count) == Ok(last), "{count}");
+    assert!(rt; has_words(alloc, &mut *dev, last, count)?, "{count}");
     Ok(())
 }
 
 #[test]
 fn arrays_are_read_back(rt: HostRuntime) -> Result<(), Fail> {
-    for (count, last) in ARRAYS {
-        let mut dev = attached(&rt, 4)?;
-        assert!(rt; dev.blocks() >= 1);
-        let root = build_array(rt.alloc(), &mut dev, count)?;
-        assert_eq!(rt; root, last);
-        assert!(rt; root < dev.blocks());
-        assert!(rt; has_words(rt.alloc(), &mut dev, root, count)?);
+    for array in ARRAYS {
+        let (count, last) = *array;
+        expect_array(&rt, rt.alloc(), count, last)?;
     }
     Ok(())
 }
@@ -98,40 +109,42 @@ enum Part {
 }
 
 /// Builds a part from block 1 on.
-fn build(rt: &HostRuntime, dev: &mut MemDevice, part: Part) -> Result<Result<u64, BuildFault>, Fail>
+fn build(alloc: Global, dev: &mut MemDevice, part: Part) -> Result<Result<u64, BuildFault>, Fail>
     requires writable { IsWritable (mem_device_state dev.old) }
     requires some { 1 ≤ (mem_device_state dev.old).blocks }
 {
     match part {
         Part::Tree => {
-            let items = numbered(rt.alloc(), 253)?;
-            Ok(build_tree(rt.alloc(), dev, &items))
+            let items = numbered(alloc, 253)?;
+            Ok(build_tree(alloc, dev, &items))
         }
-        Part::Array => Ok(build_array(rt.alloc(), dev, 510)),
+        Part::Array => Ok(build_array(alloc, dev, 510)),
     }
 }
 
-// The calls are 0 for attaching, two for closing block 0, and one for each of the part's three blocks.
+/// Builds a part over the old image, of which this call fails. The calls are 0 for attaching, two for closing block 0, and one
+/// for each of the part's three blocks.
+fn expect_no_superblock(rt: &impl Abort, alloc: Global, part: Part, call: u64) -> Result<(), Fail> {
+    let mut dev = Box::new(alloc, MemDevice::of(alloc, &OLD)?)?;
+    dev.fail_at(call)?;
+    dev.attach("x", true)?;
+    assert!(rt; dev.blocks() >= 1);
+    let wanted = if call <= 5 {
+        Err(BuildFault::Device)
+    } else {
+        Ok(3)
+    };
+    assert!(rt; build(alloc, &mut *dev, part)? == wanted, "{call}");
+    assert!(rt; is_closed(alloc, &dev, &OLD[0], call, Pick::Old)?, "{call}");
+    assert!(rt; is_closed(alloc, &dev, &OLD[0], call, Pick::New)?, "{call}");
+    Ok(())
+}
+
 #[test]
 fn a_failing_call_leaves_no_superblock(rt: HostRuntime) -> Result<(), Fail> {
-    for part in [Part::Tree, Part::Array] {
-        for call in 1..8 {
-            let mut dev = MemDevice::of(rt.alloc(), &OLD)?;
-            dev.fail_at(call)?;
-            dev.attach("x", true)?;
-            assert!(rt; dev.blocks() >= 1);
-            let built = build(&rt, &mut dev, part)?;
-            let wanted = if call <= 5 {
-                Err(BuildFault::Device)
-            } else {
-                Ok(3)
-            };
-            assert_eq!(rt; built, wanted);
-            for pick in [Pick::Old, Pick::New] {
-                let first = first_after(&rt, &dev, pick)?;
-                assert!(rt; first == Some(Block::zeros()) || (call <= 2 && first == Some(OLD[0])));
-            }
-        }
+    for call in 1..8 {
+        expect_no_superblock(&rt, rt.alloc(), Part::Tree, call)?;
+        expect_no_superblock(&rt, rt.alloc(), Part::Array, call)?;
     }
     Ok(())
 }

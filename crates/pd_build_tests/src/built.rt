@@ -166,16 +166,20 @@ pub(crate) fn has_words<D: Device>(
     Ok(cursor.next(dev)?.is_none())
 }
 
-/// Block 0 as a crash now may leave it, where there is one.
-pub(crate) fn first_after(
-    rt: &HostRuntime,
+/// Whether block 0 is zeros as a crash now may leave it. Where one of the two calls that close it fails, it may still be the
+/// old one.
+pub(crate) fn is_closed(
+    alloc: Global,
     dev: &MemDevice,
+    old: &Block,
+    call: u64,
     pick: Pick,
-) -> Result<Option<Block>, Fail> {
-    let mut after = dev.after_crash(rt.alloc(), pick)?;
+) -> Result<bool, Fail> {
+    let mut after = Box::new(alloc, dev.after_crash(alloc, pick)?)?;
     after.attach("x", false)?;
     if after.blocks() == 0 {
-        return Ok(None);
+        return Ok(false);
     }
-    Ok(Some(after.block(0)))
+    let first = after.block(0);
+    Ok(first == Block::zeros() || (call <= 2 && first == *old))
 }

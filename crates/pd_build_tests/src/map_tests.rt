@@ -5,7 +5,7 @@ ghost use Rattle.pd_draft.specs.Closed.{IsClosed};
 ghost use Rattle.pd_count.specs.Counted.{HasCounted, count_of};
 ghost use Rattle.pd_smwrite.specs.Map.{data_map_need};
 
-use crate::built::{close, first_after};
+use crate::built::{close, is_closed};
 use pd_build::{BuildFault, put_block};
 use pd_count::Counts;
 use pd_draft::Draft;
@@ -13,6 +13,7 @@ use pd_image::{Device, MemDevice, Pick};
 use pd_kinds::{BLOCK_SIZE, Block, SmRoot};
 use pd_smwrite::{write_data_map, write_meta_map};
 use std::alloc::{AllocError, Global};
+use std::process::Abort;
 use std::test::Fail;
 
 /// Writes the data map of these counts from block 1 on.
@@ -29,21 +30,30 @@ fn put_data_map<D: Device>(
     write_data_map(alloc, &mut draft, counts)
 }
 
+/// Closes block 0, and writes the map of no data.
+fn put_no_data(alloc: Global, dev: &mut MemDevice) -> Result<Result<SmRoot, BuildFault>, Fail>
+    requires writable { IsWritable (mem_device_state dev.old) }
+    requires room { 3 ≤ (mem_device_state dev.old).blocks }
+{
+    let no_data = Counts::new(alloc, 0)?;
+    if close(dev).is_err() {
+        return Ok(Err(BuildFault::Device));
+    }
+    Ok(put_data_map(alloc, dev, &no_data))
+}
+
 #[test]
 fn the_map_of_no_data_has_two_empty_trees(rt: HostRuntime) -> Result<(), Fail> {
-    let counts = Counts::new(rt.alloc(), 0)?;
-    let mut dev = MemDevice::new(rt.alloc(), 3)?;
+    let mut dev = Box::new(rt.alloc(), MemDevice::new(rt.alloc(), 3)?)?;
     dev.attach("x", true)?;
     assert!(rt; dev.blocks() >= 3);
-    close(&mut dev)?;
-    let root = put_data_map(rt.alloc(), &mut dev, &counts)?;
     let wanted = SmRoot {
         blocks: 0,
         allocated: 0,
         bitmap_root: 1,
         overflow_root: 2,
     };
-    assert_eq!(rt; root, wanted);
+    assert!(rt; put_no_data(rt.alloc(), &mut *dev)? == Ok(wanted));
     Ok(())
 }
 
@@ -82,31 +92,51 @@ fn put_meta_map<D: Device>(
 #[test]
 fn the_map_of_metadata_counts_its_own_blocks(rt: HostRuntime) -> Result<(), Fail> {
     let mut counts = four_counted(rt.alloc())?;
-    let mut dev = MemDevice::new(rt.alloc(), 16)?;
+    let mut dev = Box::new(rt.alloc(), MemDevice::new(rt.alloc(), 16)?)?;
     dev.attach("x", true)?;
     assert!(rt; dev.blocks() >= 16);
-    close(&mut dev)?;
-    let root = put_meta_map(rt.alloc(), &mut dev, &mut counts)?;
+    close(&mut *dev)?;
+    let root = put_meta_map(rt.alloc(), &mut *dev, &mut counts)?;
     let wanted = SmRoot {
         blocks: 16,
         allocated: 5,
         bitmap_root: 2,
         overflow_root: 4,
     };
-    assert_eq!(rt; root, wanted);
-    assert_eq!(rt; counts.get(2), 1);
-    assert_eq!(rt; counts.get(4), 1);
-    assert_eq!(rt; counts.get(5), 0);
-    // The two bits of blocks 0 to 3 are 1, 3, 1 and 1, and those of block 4 are 1.
-    assert_eq!(rt; dev.block(3).0[16], 2 + 4 * 3 + 16 * 2 + 64 * 2);
-    assert_eq!(rt; dev.block(3).0[17], 2);
-    // The leaf at block 4 has the entry 1: 3.
-    assert_eq!(rt; dev.block(4).0[32], 1);
-    assert_eq!(rt; dev.block(4).0[32 + 8 * 336], 3);
-    // The index entry names block 3, of which 11 blocks are free.
-    assert_eq!(rt; dev.block(2).0[16], 3);
-    assert_eq!(rt; dev.block(2).0[24], 11);
+    assert!(rt; root == wanted);
+    assert!(rt; counts.get(2) == 1);
+    assert!(rt; counts.get(4) == 1);
+    assert!(rt; counts.get(5) == 0);
+    expect_counts(&rt, &dev);
     Ok(())
+}
+
+/// The map of those counts, from block 2 on.
+fn expect_counts(rt: &impl Abort, dev: &MemDevice)
+    requires { 16 ≤ (mem_device_state dev.now).blocks }
+{
+    let (index, bitmap, leaf) = (dev.block(2).0, dev.block(3).0, dev.block(4).0);
+    // The two bits of blocks 0 to 3 are 1, 3, 1 and 1, and those of block 4 are 1.
+    assert!(rt; bitmap[16] == 2 + 4 * 3 + 16 * 2 + 64 * 2);
+    assert!(rt; bitmap[17] == 2);
+    // The leaf at block 4 has the entry 1: 3.
+    assert!(rt; leaf[32] == 1);
+    assert!(rt; leaf[32 + 8 * 336] == 3);
+    // The index entry names block 3, of which 11 blocks are free.
+    assert!(rt; index[16] == 3);
+    assert!(rt; index[24] == 11);
+}
+
+/// Closes block 0, and writes the map of those counts.
+fn put_four_counted(alloc: Global, dev: &mut MemDevice) -> Result<Result<SmRoot, BuildFault>, Fail>
+    requires writable { IsWritable (mem_device_state dev.old) }
+    requires room { 16 ≤ (mem_device_state dev.old).blocks }
+{
+    let mut counts = four_counted(alloc)?;
+    if close(dev).is_err() {
+        return Ok(Err(BuildFault::Device));
+    }
+    Ok(put_meta_map(alloc, dev, &mut counts))
 }
 
 /// A map on a device of 16 blocks: that of no data, or that of metadata behind a block.
@@ -117,43 +147,46 @@ enum Map {
 }
 
 /// Writes a map, and answers the root of its overflow tree.
-fn put_map(rt: &HostRuntime, dev: &mut MemDevice, map: Map) -> Result<Result<u64, BuildFault>, Fail>
+fn put_map(alloc: Global, dev: &mut MemDevice, map: Map) -> Result<Result<u64, BuildFault>, Fail>
     requires writable { IsWritable (mem_device_state dev.old) }
     requires room { 16 ≤ (mem_device_state dev.old).blocks }
 {
-    let no_data = Counts::new(rt.alloc(), 0)?;
-    let mut counts = four_counted(rt.alloc())?;
-    if close(dev).is_err() {
-        return Ok(Err(BuildFault::Device));
-    }
     let root = match map {
-        Map::Data => put_data_map(rt.alloc(), dev, &no_data),
-        Map::Meta => put_meta_map(rt.alloc(), dev, &mut counts),
+        Map::Data => put_no_data(alloc, dev)?,
+        Map::Meta => put_four_counted(alloc, dev)?,
     };
     Ok(root.map(|root| root.overflow_root))
+}
+
+/// Writes a map over old blocks, of which this call fails, up to the last one that is made.
+fn expect_no_superblock(
+    rt: &impl Abort,
+    alloc: Global,
+    (map, last, root): (Map, u64, u64),
+    call: u64,
+) -> Result<(), Fail> {
+    let mut dev = Box::new(alloc, MemDevice::of(alloc, &[OLD; 16])?)?;
+    dev.fail_at(call)?;
+    dev.attach("x", true)?;
+    assert!(rt; dev.blocks() >= 16);
+    let wanted = if call <= last {
+        Err(BuildFault::Device)
+    } else {
+        Ok(root)
+    };
+    assert!(rt; put_map(alloc, &mut *dev, map)? == wanted, "{call}");
+    assert!(rt; is_closed(alloc, &dev, &OLD, call, Pick::Old)?, "{call}");
+    assert!(rt; is_closed(alloc, &dev, &OLD, call, Pick::New)?, "{call}");
+    Ok(())
 }
 
 // The calls are 0 for attaching, two for closing block 0, and one for each block that is put: two of the data map,
 // four with the metadata map.
 #[test]
 fn a_failing_call_leaves_no_superblock(rt: HostRuntime) -> Result<(), Fail> {
-    for (map, last, root) in [(Map::Data, 4, 2), (Map::Meta, 6, 4)] {
-        for call in 1..9 {
-            let mut dev = MemDevice::of(rt.alloc(), &[OLD; 16])?;
-            dev.fail_at(call)?;
-            dev.attach("x", true)?;
-            assert!(rt; dev.blocks() >= 16);
-            let wanted = if call <= last {
-                Err(BuildFault::Device)
-            } else {
-                Ok(root)
-            };
-            assert_eq!(rt; put_map(&rt, &mut dev, map)?, wanted);
-            for pick in [Pick::Old, Pick::New] {
-                let first = first_after(&rt, &dev, pick)?;
-                assert!(rt; first == Some(Block::zeros()) || (call <= 2 && first == Some(OLD)));
-            }
-        }
+    for call in 1..9 {
+        expect_no_superblock(&rt, rt.alloc(), (Map::Data, 4, 2), call)?;
+        expect_no_superblock(&rt, rt.alloc(), (Map::Meta, 6, 4), call)?;
     }
     Ok(())
 }
