@@ -54,21 +54,22 @@ fn expect_refused(
         given: 0,
         access: 0,
     };
-    let (mut out, mut notes) = (MemSink::new(alloc), MemSink::new(alloc));
-    let mut input = MemDevice::of(alloc, &[])?;
-    let mut output = MemDevice::of(alloc, &[Block([1; 4096]); 16])?;
-    let mut third = MemDevice::of(alloc, &[])?;
+    let mut out = Box::new(alloc, MemSink::new(alloc))?;
+    let mut notes = Box::new(alloc, MemSink::new(alloc))?;
+    let mut input = Box::new(alloc, MemDevice::of(alloc, &[])?)?;
+    let mut output = Box::new(alloc, MemDevice::of(alloc, &[Block([1; 4096]); 16])?)?;
+    let mut third = Box::new(alloc, MemDevice::of(alloc, &[])?)?;
     let status = run_tool(
         alloc,
         words.as_slice(),
         &mut source,
-        &mut out,
-        &mut notes,
-        &mut input,
-        &mut output,
-        &mut third,
+        &mut *out,
+        &mut *notes,
+        &mut *input,
+        &mut *output,
+        &mut *third,
     );
-    assert_eq!(rt; status, 3, "{tool}");
+    assert!(rt; status == 3, "{tool}");
     assert!(rt; notes.bytes() == line.as_bytes(), "{tool}");
     let left = blocks_of(alloc, &output)?;
     let first = left.first();
@@ -83,24 +84,11 @@ fn a_text_that_goes_on_for_ever_is_refused(rt: HostRuntime) -> Result<(), Fail> 
     for tool in ["thin_restore", "cache_restore", "era_restore"] {
         expect_refused(&rt, rt.alloc(), tool, "", too_long)?;
     }
-    for (tool, text, line) in [
-        (
-            "thin_restore",
-            POOL_TEXT,
-            "pdata_tools: line 6: after end\n",
-        ),
-        (
-            "cache_restore",
-            CACHE_TEXT,
-            "pdata_tools: line 6: after end\n",
-        ),
-        (
-            "era_restore",
-            TARGET_TEXT,
-            "pdata_tools: line 9: after end\n",
-        ),
-    ] {
-        expect_refused(&rt, rt.alloc(), tool, text, line)?;
-    }
+    let pool = "pdata_tools: line 6: after end\n";
+    expect_refused(&rt, rt.alloc(), "thin_restore", POOL_TEXT, pool)?;
+    let cache = "pdata_tools: line 6: after end\n";
+    expect_refused(&rt, rt.alloc(), "cache_restore", CACHE_TEXT, cache)?;
+    let target = "pdata_tools: line 9: after end\n";
+    expect_refused(&rt, rt.alloc(), "era_restore", TARGET_TEXT, target)?;
     Ok(())
 }

@@ -1,6 +1,6 @@
 //! Each call of each object of each request, failing in turn.
 
-use crate::requests::{Asked, blocks, readings, writings};
+use crate::requests::{Asked, READINGS, WRITINGS, blocks};
 use pd_crc::any_valid;
 use pd_image::{MemDevice, Pick};
 use pd_kinds::Block;
@@ -48,7 +48,7 @@ impl Trouble {
     }
 }
 
-const TROUBLES: [Trouble; 7] = [
+const TROUBLES: &[Trouble] = &[
     Trouble::Source,
     Trouble::Out,
     Trouble::Notes,
@@ -66,40 +66,58 @@ fn puts_at_the_end(words: &str) -> bool {
     words.contains("_check") && !words.contains("--clear")
 }
 
-/// Whether each crash of a device now leaves what it held before, what a call without trouble leaves, or, where these differ,
-/// no valid superblock.
+/// Whether a crash of a device now by this pick leaves what it held before, what a call without trouble leaves, or, where these
+/// differ, no valid superblock.
+fn may_be_left(
+    alloc: Global,
+    device: &MemDevice,
+    pick: Pick,
+    old: &[Block],
+    new: &[Block],
+) -> Result<bool, AllocError> {
+    let left = blocks_after_crash(alloc, device, pick)?;
+    let left = left.as_slice();
+    let is_closed = match left.first() {
+        None => false,
+        Some(first) => old != new && !any_valid(first),
+    };
+    Ok(is_closed || left == old || left == new)
+}
+
+/// Whether each crash does.
 fn is_outcome(
     alloc: Global,
     device: &MemDevice,
     old: &[Block],
     new: &[Block],
 ) -> Result<bool, AllocError> {
-    let mut may_be = true;
-    for pick in [Pick::Old, Pick::New, Pick::Other(0)] {
-        let left = blocks_after_crash(alloc, device, pick)?;
-        let is_closed = match left.as_slice() {
-            [] => false,
-            [first, ..] => old != new && !any_valid(first),
-        };
-        may_be &= is_closed || left.as_slice() == old || left.as_slice() == new;
-    }
-    Ok(may_be)
+    Ok(
+        may_be_left(alloc, device, Pick::Old, old, new)?
+            && may_be_left(alloc, device, Pick::New, old, new)?
+            && may_be_left(alloc, device, Pick::Other(0), old, new)?,
+    )
+}
+
+/// Whether two devices hold the same.
+fn hold_alike(alloc: Global, one: &MemDevice, other: &MemDevice) -> Result<bool, AllocError> {
+    Ok(blocks_of(alloc, one)? == blocks_of(alloc, other)?)
 }
 
 /// Whether a run came to just what another one came to.
 fn is_alike(alloc: Global, ran: &Ran, whole: &Ran) -> Result<bool, AllocError> {
+    let is_said = ran.status == whole.status
+        && ran.out.bytes() == whole.out.bytes()
+        && ran.notes.bytes() == whole.notes.bytes();
     Ok(
-        ran.status == whole.status
-            && ran.out.bytes() == whole.out.bytes()
-            && ran.notes.bytes() == whole.notes.bytes()
-            && blocks_of(alloc, &ran.input)? == blocks_of(alloc, &whole.input)?
-            && blocks_of(alloc, &ran.output)? == blocks_of(alloc, &whole.output)?,
+        is_said
+            && hold_alike(alloc, &ran.input, &whole.input)?
+            && hold_alike(alloc, &ran.output, &whole.output)?,
     )
 }
 
 /// What a failed run must have put, where `whole` is the run without trouble.
 fn expect_fronts(rt: &impl Abort, words: &str, trouble: Trouble, ran: &Ran, whole: &Ran) {
-    assert_eq!(rt; ran.status, trouble.status(), "{words}");
+    assert!(rt; ran.status == trouble.status(), "{words}");
     assert!(rt; whole.out.bytes().starts_with(ran.out.bytes()), "{words}");
     if puts_at_the_end(words) && ran.status == 5 {
         assert!(rt; ran.out.bytes().is_empty(), "{words}");
@@ -120,6 +138,17 @@ fn expect_fronts(rt: &impl Abort, words: &str, trouble: Trouble, ran: &Ran, whol
     }
 }
 
+/// Makes a request of these words over objects that hold this.
+fn run_words(
+    alloc: Global,
+    words: &str,
+    held: Held<'_>,
+    failing: Failing,
+) -> Result<Ran, AllocError> {
+    let list: Vec<&str> = words.split_whitespace().collect(alloc)?;
+    run_over(alloc, list.as_slice(), held, failing)
+}
+
 /// A request whose objects hold this, and the run of it without trouble.
 #[derive(Clone, Copy)]
 struct Tried<'a> {
@@ -137,20 +166,38 @@ impl Tried<'_> {
         trouble: Trouble,
         call: u64,
     ) -> Result<bool, AllocError> {
-        let words = self.words;
-        let list: Vec<&str> = words.split_whitespace().collect(alloc)?;
-        let ran = run_over(alloc, list.as_slice(), self.held, trouble.at(call))?;
-        let read = blocks_of(alloc, &self.whole.input)?;
-        let is_kept = is_outcome(alloc, &ran.input, self.held.input, read.as_slice())?;
-        assert!(rt; is_kept, "{words}: {call}");
-        let written = blocks_of(alloc, &self.whole.output)?;
-        let is_safe = is_outcome(alloc, &ran.output, self.held.output, written.as_slice())?;
-        assert!(rt; is_safe, "{words}: {call}");
+        let ran = run_words(alloc, self.words, self.held, trouble.at(call))?;
+        self.expect_safe(rt, alloc, &ran, call)?;
         if is_alike(alloc, &ran, self.whole)? {
             return Ok(true);
         }
-        expect_fronts(rt, words, trouble, &ran, self.whole);
+        expect_fronts(rt, self.words, trouble, &ran, self.whole);
+        if trouble == Trouble::Source && call <= 1 {
+            let left = blocks_of(alloc, &ran.output)?;
+            assert!(rt;
+                left.as_slice() == self.held.output,
+                "{}: unwritten",
+                self.words
+            );
+        }
         Ok(false)
+    }
+
+    /// What a crash now may leave of the two devices of a run.
+    fn expect_safe(
+        &self,
+        rt: &impl Abort,
+        alloc: Global,
+        ran: &Ran,
+        call: u64,
+    ) -> Result<(), AllocError> {
+        let read = blocks_of(alloc, &self.whole.input)?;
+        let is_kept = is_outcome(alloc, &ran.input, self.held.input, read.as_slice())?;
+        assert!(rt; is_kept, "{}: {call}", self.words);
+        let written = blocks_of(alloc, &self.whole.output)?;
+        let is_safe = is_outcome(alloc, &ran.output, self.held.output, written.as_slice())?;
+        assert!(rt; is_safe, "{}: {call}", self.words);
+        Ok(())
     }
 
     /// Makes the request with this trouble at each call, up to three in a row that aren't made.
@@ -165,7 +212,7 @@ impl Tried<'_> {
             if self.is_alike_at(rt, alloc, trouble, call)? {
                 alike = alike.saturating_add(1);
             } else {
-                assert_eq!(rt; alike, 0, "{}: {call}", self.words);
+                assert!(rt; alike == 0, "{}: {call}", self.words);
             }
             if alike == 3 {
                 return Ok(());
@@ -185,23 +232,22 @@ fn expect_all(rt: &impl Abort, alloc: Global, asked: &Asked) -> Result<(), Alloc
         input: input.as_slice(),
         output: output.as_slice(),
     };
-    let list: Vec<&str> = words.split_whitespace().collect(alloc)?;
-    let whole = run_over(alloc, list.as_slice(), held, NOTHING_FAILS)?;
-    assert_eq!(rt; whole.status, status, "{words}");
+    let whole = run_words(alloc, words, held, NOTHING_FAILS)?;
+    assert!(rt; whole.status == status, "{words}");
     let tried = Tried {
         words,
         held,
         whole: &whole,
     };
     for trouble in TROUBLES {
-        tried.expect_each(rt, alloc, trouble)?;
+        tried.expect_each(rt, alloc, *trouble)?;
     }
     Ok(())
 }
 
 #[test]
 fn a_request_that_reads_tells_each_call_that_fails(rt: HostRuntime) -> Result<(), Fail> {
-    for asked in &readings() {
+    for asked in READINGS {
         expect_all(&rt, rt.alloc(), asked)?;
     }
     Ok(())
@@ -211,7 +257,7 @@ fn a_request_that_reads_tells_each_call_that_fails(rt: HostRuntime) -> Result<()
 fn a_request_that_writes_leaves_no_other_image_where_a_call_fails(
     rt: HostRuntime,
 ) -> Result<(), Fail> {
-    for asked in &writings() {
+    for asked in WRITINGS {
         expect_all(&rt, rt.alloc(), asked)?;
     }
     Ok(())

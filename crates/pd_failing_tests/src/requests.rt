@@ -1,5 +1,6 @@
 //! Requests of all tools but the rehearsal, and the images that they are made over.
 
+use Image::{Cache, DamagedPool, FlaggedPool, NoPool, Nothing, Ones, Pool, Target};
 use pd_kinds::Block;
 use pd_samples::pool::{damaged, pool_of_one_mapping};
 use pd_samples::runs::{Held, NOTHING_FAILS, blocks_of, run_over};
@@ -56,58 +57,61 @@ const CLEAR: &str = "thin_check --clear-needs-check-flag x";
 /// A restore of the second version of a cache.
 const CACHE_2: &str = "cache_restore --metadata-version 2 -i t -o x";
 
-/// A request that reads this image, and comes to this status.
-fn reading(words: &'static str, image: Image, status: u8) -> Asked {
-    (words, "", image, Image::Nothing, status)
-}
-
 /// Checks, dumps and queries, with each status that comes where nothing fails.
-pub(crate) fn readings() -> [Asked; 22] {
-    use Image::{Cache, DamagedPool, NoPool, Nothing, Pool, Target};
-    [
-        reading("thin_check --until super x", Pool, 0),
-        reading("thin_check --until walk x", Pool, 0),
-        reading("thin_check --until order x", Pool, 0),
-        reading("thin_check --until whole x", Pool, 0),
-        reading("thin_check x", Pool, 0),
-        reading("thin_check x", DamagedPool, 1),
-        reading("thin_check x", NoPool, 1),
-        reading("thin_check x", Nothing, 1),
-        reading("cache_check x", Cache, 0),
-        reading("cache_check x", Pool, 1),
-        reading("era_check x", Target, 0),
-        reading("era_check x", Cache, 1),
-        reading("thin_dump x", Pool, 0),
-        reading("thin_dump -o f x", DamagedPool, 1),
-        reading("cache_dump -o f x", Cache, 0),
-        reading("era_dump x", Target, 0),
-        reading("thin_rmap --region 0..1 x", Pool, 0),
-        reading("thin_ls x", Pool, 0),
-        reading("thin_ls -o f x", NoPool, 1),
-        reading("era_invalidate --written-since 5 x", Target, 0),
-        reading("thin_generate --number 1", Nothing, 0),
-        reading("thin_check", Pool, 2),
-    ]
-}
+pub(crate) const READINGS: &[Asked] = &[
+    ("thin_check --until super x", "", Pool, Nothing, 0),
+    ("thin_check --until walk x", "", Pool, Nothing, 0),
+    ("thin_check --until order x", "", Pool, Nothing, 0),
+    ("thin_check --until whole x", "", Pool, Nothing, 0),
+    ("thin_check x", "", Pool, Nothing, 0),
+    ("thin_check x", "", DamagedPool, Nothing, 1),
+    ("thin_check x", "", NoPool, Nothing, 1),
+    ("thin_check x", "", Nothing, Nothing, 1),
+    ("cache_check x", "", Cache, Nothing, 0),
+    ("cache_check x", "", Pool, Nothing, 1),
+    ("era_check x", "", Target, Nothing, 0),
+    ("era_check x", "", Cache, Nothing, 1),
+    ("thin_dump x", "", Pool, Nothing, 0),
+    ("thin_dump -o f x", "", DamagedPool, Nothing, 1),
+    ("cache_dump -o f x", "", Cache, Nothing, 0),
+    ("era_dump x", "", Target, Nothing, 0),
+    ("thin_rmap --region 0..1 x", "", Pool, Nothing, 0),
+    ("thin_ls x", "", Pool, Nothing, 0),
+    ("thin_ls -o f x", "", NoPool, Nothing, 1),
+    ("era_invalidate --written-since 5 x", "", Target, Nothing, 0),
+    ("thin_generate --number 1", "", Nothing, Nothing, 0),
+    ("thin_check", "", Pool, Nothing, 2),
+];
 
 /// Requests that may write a device, with each status that comes where nothing fails.
-pub(crate) fn writings() -> [Asked; 12] {
-    use Image::{Cache, DamagedPool, FlaggedPool, NoPool, Nothing, Ones, Pool, Target};
-    [
-        (CLEAR, "", FlaggedPool, Nothing, 0),
-        (CLEAR, "", DamagedPool, Nothing, 1),
-        ("thin_restore -i t -o x", POOL_TEXT, Nothing, Ones, 0),
-        ("thin_restore -i t -o x", REFUSED, Nothing, Pool, 3),
-        ("thin_restore -i t -o x", CACHE_TEXT, Nothing, Cache, 3),
-        ("cache_restore -i t -o x", CACHE_TEXT, Nothing, Cache, 0),
-        (CACHE_2, CACHE_TEXT, Nothing, Pool, 0),
-        ("era_restore -i t -o x", TARGET_TEXT, Nothing, Cache, 0),
-        ("era_restore -i t -o x", LARGE, Nothing, Target, 4),
-        ("thin_repair -i x -o y", "", DamagedPool, Target, 0),
-        ("thin_repair -i x -o y", "", NoPool, Target, 1),
-        ("thin_repair -i x -o y", "", Pool, Nothing, 4),
-    ]
-}
+pub(crate) const WRITINGS: &[Asked] = &[
+    (CLEAR, "", FlaggedPool, Nothing, 0),
+    (CLEAR, "", DamagedPool, Nothing, 1),
+    ("thin_restore -i t -o x", POOL_TEXT, Nothing, Ones, 0),
+    ("thin_restore -i t -o x", REFUSED, Nothing, Pool, 3),
+    ("thin_restore -i t -o x", CACHE_TEXT, Nothing, Cache, 3),
+    ("cache_restore -i t -o x", CACHE_TEXT, Nothing, Cache, 0),
+    (CACHE_2, CACHE_TEXT, Nothing, Pool, 0),
+    ("era_restore -i t -o x", TARGET_TEXT, Nothing, Cache, 0),
+    ("era_restore -i t -o x", LARGE, Nothing, Target, 4),
+    ("thin_repair -i x -o y", "", DamagedPool, Target, 0),
+    ("thin_repair -i x -o y", "", NoPool, Target, 1),
+    ("thin_repair -i x -o y", "", Pool, Nothing, 4),
+];
+
+/// The words of the restore that makes the cache.
+const MAKE_CACHE: &[&str] = &[
+    "cache_restore",
+    "--metadata-version",
+    "2",
+    "-i",
+    "t",
+    "-o",
+    "x",
+];
+
+/// The words of the restore that makes the era target.
+const MAKE_TARGET: &[&str] = &["era_restore", "-i", "t", "-o", "x"];
 
 /// The blocks of an image.
 pub(crate) fn blocks(
@@ -115,40 +119,36 @@ pub(crate) fn blocks(
     alloc: Global,
     image: Image,
 ) -> Result<Vec<Block>, AllocError> {
-    let mut pool = pool_of_one_mapping();
     match image {
-        Image::Nothing => return Ok(Vec::new(alloc)),
-        Image::Ones => pool = [Block([1; 4096]); 16],
-        Image::Pool => {}
-        Image::FlaggedPool => {
-            let mut fields = read_thin_super(&pool[0]);
-            fields.flags = 1;
-            pool[0] = write_thin_super(&fields);
-        }
-        Image::DamagedPool => pool[1] = damaged(pool[1], 100),
-        Image::NoPool => pool[0] = damaged(pool[0], 100),
-        Image::Cache => {
-            let words = [
-                "cache_restore",
-                "--metadata-version",
-                "2",
-                "-i",
-                "t",
-                "-o",
-                "x",
-            ];
-            return restored(rt, alloc, &words, CACHE_TEXT);
-        }
-        Image::Target => {
-            return restored(
-                rt,
-                alloc,
-                &["era_restore", "-i", "t", "-o", "x"],
-                TARGET_TEXT,
-            );
+        Image::Nothing => Ok(Vec::new(alloc)),
+        Image::Cache => restored(rt, alloc, MAKE_CACHE, CACHE_TEXT),
+        Image::Target => restored(rt, alloc, MAKE_TARGET, TARGET_TEXT),
+        Image::Ones | Image::Pool | Image::FlaggedPool | Image::DamagedPool | Image::NoPool => {
+            Vec::from_slice(alloc, &pool(image))
         }
     }
-    Vec::from_slice(alloc, &pool)
+}
+
+/// The sixteen blocks of a pool, or of ones.
+fn pool(image: Image) -> [Block; 16] {
+    let mut pool = pool_of_one_mapping();
+    match image {
+        Image::FlaggedPool => pool[0] = flagged(&pool[0]),
+        Image::DamagedPool => pool[1] = damaged(pool[1], 100),
+        Image::NoPool => pool[0] = damaged(pool[0], 100),
+        Image::Pool => {}
+        Image::Nothing | Image::Ones | Image::Cache | Image::Target => {
+            pool = [Block([1; 4096]); 16];
+        }
+    }
+    pool
+}
+
+/// A pool's superblock with the flag.
+fn flagged(super_block: &Block) -> Block {
+    let mut fields = read_thin_super(super_block);
+    fields.flags = 1;
+    write_thin_super(&fields)
 }
 
 /// The sixteen blocks that a restore of a text makes of ones.
@@ -164,6 +164,6 @@ fn restored(
         output: &[Block([1; 4096]); 16],
     };
     let made = run_over(alloc, words, held, NOTHING_FAILS)?;
-    assert_eq!(rt; made.status, 0, "{text}");
+    assert!(rt; made.status == 0, "{text}");
     blocks_of(alloc, &made.output)
 }
