@@ -265,6 +265,19 @@ for version in 1 2; do
 done
 try 0 thin_dump -o leak.txt leak.img
 same leak.txt thin-pool.txt
+# a data block far out: the counts of all before it take blocks of their own
+printf '%s\n' 'thin 1' 'pool 00000000-0000-0000-0000-000000000000 0 0 128 100000000' 'device 1 1 0 0 0' \
+    'map 0 99999999 1 0' end >far.txt
+zeros new.img 8192
+try 0 thin_restore -i far.txt -o new.img
+out
+notes
+what='the blocks that are used'
+[ "$(od -A n -t u8 -j 200 -N 8 new.img | tr -d ' ')" = 6174 ] || bad 'not 6174'
+try 0 thin_check new.img
+out clean
+try 0 thin_dump new.img
+same out far.txt
 
 # Queries
 
@@ -306,6 +319,9 @@ out 'rehearsal 1 used 19 mappings 2000 lines 2005 clean'
 try 0 thin_check spare.img
 try 0 thin_dump spare.img
 same out generated.txt
+try 0 thin_ls spare.img
+out 'device 0 mapped 1000 exclusive 5 shared 995 transaction 0 created 0 snapped 1' \
+    'device 1 mapped 1000 exclusive 5 shared 995 transaction 1 created 1 snapped 1'
 zeros spare.img 4096
 try 0 thin_rehearse --number 100 -o spare.img
 out 'rehearsal 100 used 870 mappings 200000 lines 200005 clean'

@@ -5,6 +5,7 @@ use crate::expected::{
     expect_report, made,
 };
 use pd_array::{Word, write_array};
+use pd_bitmap::index_entry;
 use pd_kinds::{Block, CacheSuper, Kind, u64_at};
 use pd_node::write_leaf;
 use pd_samples::pool::{damaged, resealed};
@@ -104,6 +105,9 @@ fn words_and_roots_of_the_first_version(rt: HostRuntime) -> Result<(), Fail> {
     assert!(rt; fields.hint_root == 5);
     assert!(rt; fields.discard_root == 6);
     assert!(rt; fields.meta_map.allocated == 10);
+    assert!(rt; fields.meta_map.bitmap_root == 7);
+    assert!(rt; index_entry(&image[7], 0).block == 8);
+    assert!(rt; fields.meta_map.overflow_root == 9);
     assert!(rt; u64_at(&image[1].0, WORDS_AT) == 458753);
     assert!(rt; u64_at(&image[2].0, WORDS_AT) == 524291);
     Ok(())

@@ -128,6 +128,16 @@ const REFUSED_BODIES: &[Refused] = &[
 
 /// Whole texts that are refused.
 const REFUSED_TEXTS: &[Refused] = &[
+    (
+        "thin 1\npool 00000000-0000-0000-0000-000000000000 0 0 128 0\n",
+        3,
+        TextCause::NoEnd,
+    ),
+    (
+        "thin 1\npool 00000000-0000-0000-0000-000000000000 0 0 128 0\nend\nx",
+        4,
+        TextCause::AfterEnd,
+    ),
     ("", 1, TextCause::NoEnd),
     ("thin 1", 1, TextCause::NoEnd),
     ("thin 3\n", 1, TextCause::Header),
@@ -341,21 +351,24 @@ fn expect_lines(rt: &impl Abort, lines: &mut LineReader, source: &mut MemSource,
     }
 }
 
-/// Reads three lines, of which so many bytes come at a time, up to this end.
-fn expect_three_lines(
+/// A text, its lines, and its end.
+type Lined<'a> = (&'a str, &'a [&'a str], Result<(), LineFault>);
+
+/// Reads the lines of a text, of which so many bytes come at a time, up to its end.
+fn expect_all_lines(
     rt: &impl Abort,
     alloc: Global,
-    text: &str,
+    lined: Lined<'_>,
     piece: usize,
-    end: Result<(), LineFault>,
 ) -> Result<(), Fail>
     requires { 1 ≤ piece }
 {
+    let (text, texts, end) = lined;
     let mut source = source_of(alloc, text.as_bytes(), piece)?;
     let mut lines = LineReader::new(alloc)?;
-    expect_lines(rt, &mut lines, &mut *source, &["ab", "", "c d"]);
+    expect_lines(rt, &mut lines, &mut *source, texts);
     match lines.next(&mut *source) {
-        Ok(Some(_)) => assert!(rt; false, "a fourth line"),
+        Ok(Some(_)) => assert!(rt; false, "a further line"),
         Ok(None) => assert!(rt; end == Ok(())),
         Err(fault) => assert!(rt; end == Err(fault)),
     }
@@ -364,10 +377,18 @@ fn expect_three_lines(
 
 #[test]
 fn lines_are_those_of_the_bytes(rt: HostRuntime) -> Result<(), Fail> {
-    let unended = Err(LineFault::Unended(4));
-    expect_three_lines(&rt, rt.alloc(), "ab\n\nc d\nx", 1, unended)?;
-    expect_three_lines(&rt, rt.alloc(), "ab\n\nc d\nx", 7, unended)?;
-    expect_three_lines(&rt, rt.alloc(), "ab\n\nc d\nx", 4096, unended)?;
+    let unended: Lined<'_> = (
+        "ab\n\nc d\nx",
+        &["ab", "", "c d"],
+        Err(LineFault::Unended(4)),
+    );
+    expect_all_lines(&rt, rt.alloc(), unended, 1)?;
+    expect_all_lines(&rt, rt.alloc(), unended, 7)?;
+    expect_all_lines(&rt, rt.alloc(), unended, 4096)?;
+    let ended: Lined<'_> = ("ab\n", &["ab"], Ok(()));
+    expect_all_lines(&rt, rt.alloc(), ended, 1)?;
+    expect_all_lines(&rt, rt.alloc(), ended, 7)?;
+    expect_all_lines(&rt, rt.alloc(), ended, 4096)?;
     Ok(())
 }
 
