@@ -1,11 +1,11 @@
 -- What a restore of a saved pool's text comes to.
-use Rattle.std.proofs.Common.{◌≡◌, inl, inr, ⊎_elim, ℕ, ◌<◌, ◌≤◌, List, Option, Some, IfSome, Result, Ok, Err, refl, ap, subst, ◌∙◌, arith}
-use Rattle.pd_kinds.specs.Crash.{HoldsSynced, IsOldNoneOrMade, LeavesOnly}
+use Rattle.std.proofs.Common.{◌≡◌, ◌⊎◌, inl, inr, ⊎_elim, ℕ, ◌<◌, ◌≤◌, List, Option, Some, None, IfSome, Result, Ok, Err, refl, ap, subst, ◌∙◌, arith}
+use Rattle.pd_kinds.specs.Crash.{HasNoSuper, HoldsSynced, IsOldNoneOrMade, LeavesOnly}
 use Rattle.pd_kinds.specs.Limits.{room_of}
 use Rattle.pd_kinds.specs.Meaning.{ThinPool}
 use Rattle.pd_kinds.specs.Objects.{DeviceState, SourceState}
 use Rattle.pd_kinds.specs.Moments.{now}
-use Rattle.pd_kinds.proofs.CrashLemmas.{left_now, left_synced, stays, weaken}
+use Rattle.pd_kinds.proofs.CrashLemmas.{left_now, left_synced, stays, still_tells, weaken}
 use Rattle.pd_grammar.specs.Spelling.{Verdict, accepted}
 use Rattle.pd_laid.specs.LaidThin.{laid_pool}
 use Rattle.pd_laid.specs.Made.{Makes}
@@ -64,8 +64,9 @@ module _ (accepts : Accepts) (one : HaveOneVerdict) (pool : ThinPool) (text : Li
   restored_made done = record {
     answer = (subst (IsAccepted IsLawfulPool) (verdict_is (Ok tt) done) done.answer, fits);
     crash = crash_is (Ok tt) done;
-    made = λ image synced. subst (λ (v : Verdict ThinPool). IfSome new.held (λ now. Makes laid_pool room v image now × HoldsSynced now new)) (verdict_is (Ok tt) done) (done.made image synced);
-    still_told = done.still_told;
+    made = subst (λ (v : Verdict ThinPool). IfSome old.held (λ image. IfSome new.held (λ now. Makes laid_pool room v image now × HoldsSynced now new))) (verdict_is (Ok tt) done) done.made;
+    told = done.told;
+    kept = tt;
     untouched = λ short. absurd (omega arith);
     early = tt;
   }
@@ -76,7 +77,8 @@ module _ (accepts : Accepts) (one : HaveOneVerdict) (pool : ThinPool) (text : Li
     answer = tt;
     crash = crash_is (Err r.Memory) done;
     made = tt;
-    still_told = tt;
+    told = done.told;
+    kept = λ _. done.kept tt;
     untouched = λ short. absurd (omega arith);
     early = λ none. absurd none;
   }
@@ -86,7 +88,8 @@ module _ (accepts : Accepts) (one : HaveOneVerdict) (pool : ThinPool) (text : Li
     answer = tt;
     crash = crash_is (Err r.Device) done;
     made = tt;
-    still_told = tt;
+    told = done.told;
+    kept = λ none. absurd none;
     untouched = λ short. absurd (omega arith);
     early = λ none. absurd none;
   }
@@ -96,13 +99,18 @@ at_rest : (image : Image) (Made : Image → Type 0) (device : DeviceState) → H
 at_rest image Made device synced =
     stays refl refl (λ left firsts leaves chance. inl (left_synced image left (now image device.history) refl synced.unsynced (left_now device image left firsts synced.held leaves).0))
 
+kept_same : (held : Option Image) → IfSome held (λ image. IfSome held (λ now. (now ≡ image) ⊎ HasNoSuper now))
+kept_same None = tt
+kept_same (Some image) = inl refl
+
 -- an output that was left alone
 pub resting : (pool : ThinPool) (fault : RepairFault) (device : DeviceState) → AnswersFault fault pool (room_of device.blocks) → IsMadeOf pool (Err fault) device device
 resting pool fault device answer = record {
   answer = answer;
   crash = λ image synced. at_rest image (MakesPool pool (room_of device.blocks) image) device synced;
   made = tt;
-  still_told = tt;
+  told = still_tells device device refl;
+  kept = λ _. kept_same device.held;
   untouched = λ short. record { held = refl; history = refl };
   early = λ is. record { held = refl; history = refl };
 }

@@ -83,6 +83,7 @@ fn repair_read<A: Device, B: Device>(
 /// Fails with `RepairFault::NoRoom` where what was saved needs more blocks than there are, with `RepairFault::Memory`
 /// where memory wasn't found, or the need isn't below 2^64 - 1, and with `RepairFault::Input` or `RepairFault::Output`
 /// where that device failed. After any fault but these of the output and of memory the output is as it was.
+/// After want of memory it is as it was, or has no valid superblock.
 pub fn repair_from<A: Device, B: Device>(
     alloc: Global,
     input: &mut A,
