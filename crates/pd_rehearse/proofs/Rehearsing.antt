@@ -10,7 +10,7 @@ use Rattle.pd_kinds.specs.Meaning.{ThinPool}
 use Rattle.pd_kinds.specs.Moments.{History}
 use Rattle.pd_kinds.specs.Objects.{DeviceState}
 use Rattle.pd_kinds.specs.ThinSuper.{thin_fields}
-use Rattle.pd_kinds.proofs.CrashLemmas.{and_then, stays}
+use Rattle.pd_kinds.proofs.CrashLemmas.{and_then, stays, tells_same}
 use Rattle.pd_grammar.specs.Spelling.{Verdict, accepted, refused, no_room}
 use Rattle.pd_spells.specs.Lawful.{IsLawfulPool}
 use Rattle.pd_spells.specs.ThinNeed.{thin_need, IsThinVerdict}
@@ -105,10 +105,10 @@ module _ (number : ℕ) (laws : Laws number) (result : Result Rehearsal Rehearse
     told_in None P some all = absurd (cc)
     told_in (Some now) P some all = (now, (refl, all))
 
-    numbers : (image : Image) → HoldsSynced image old → Finds result (room_of old.blocks) restored.verdict
-    numbers image synced =
-        let now = told_in mid.held (λ now. Makes laid_pool (room_of old.blocks) restored.verdict image now × HoldsSynced now mid) (restored.still_told image synced) (restored.made image synced) in
-        let blocks : length image ≡ old.blocks = rw synced.held at measured in
+    numbers : (image : Image) → old.held ≡ Some image → Finds result (room_of old.blocks) restored.verdict
+    numbers image held =
+        let now = told_in mid.held (λ now. Makes laid_pool (room_of old.blocks) restored.verdict image now × HoldsSynced now mid) (rw held at restored.told) (rw held at restored.made) in
+        let blocks : length image ≡ old.blocks = rw held at measured in
         finds_in image now.0 old.blocks restored.verdict blocks restored.right restored.answer now.1.1.0 (λ m clean. counted m now.0 now.1.0 clean)
 
     -- the device after the check and the dump
@@ -126,10 +126,11 @@ module _ (number : ℕ) (laws : Laws number) (result : Result Rehearsal Rehearse
     made_in None P Q each all = tt
     made_in (Some x) P Q each all = each x all
 
-    made : (image : Image) → HoldsSynced image old → IfSome new.held (λ now. Makes laid_pool (room_of old.blocks) restored.verdict image now × HoldsSynced now new)
-    made image synced =
-        subst (λ (o : Option Image). IfSome o (λ now. Makes laid_pool (room_of old.blocks) restored.verdict image now × HoldsSynced now new)) (sym kept.held)
-        (made_in mid.held (λ now. Makes laid_pool (room_of old.blocks) restored.verdict image now × HoldsSynced now mid) _ (λ now is. (is.0, still_synced now is.1)) (restored.made image synced))
+    made : IfSome old.held (λ image. IfSome new.held (λ now. Makes laid_pool (room_of old.blocks) restored.verdict image now × HoldsSynced now new))
+    made =
+        made_in old.held (λ image. IfSome mid.held (λ now. Makes laid_pool (room_of old.blocks) restored.verdict image now × HoldsSynced now mid)) _
+        (λ image all. subst (λ (o : Option Image). IfSome o (λ now. Makes laid_pool (room_of old.blocks) restored.verdict image now × HoldsSynced now new)) (sym kept.held)
+        (made_in mid.held (λ now. Makes laid_pool (room_of old.blocks) restored.verdict image now × HoldsSynced now mid) _ (λ now is. (is.0, still_synced now is.1)) all)) restored.made
 
     untouched : IsUntouched old mid → IsUntouched old new
     untouched same = record { held = kept.held ∙ same.held; history = kept.history ∙ same.history }
@@ -153,7 +154,7 @@ module _ (number : ℕ) (laws : Laws number) (result : Result Rehearsal Rehearse
       answer = restored.answer;
       crash = crash;
       made = made;
-      still_told = λ image synced. rw kept.held (restored.still_told image synced);
+      told = tells_same old mid new restored.told kept.held;
       kept = tt;
       untouched = λ early. untouched (restored.untouched early);
     }
@@ -163,7 +164,7 @@ module _ (number : ℕ) (laws : Laws number) (result : Result Rehearsal Rehearse
       answer = answer fault finds;
       crash = crash;
       made = tt;
-      still_told = tt;
+      told = tells_same old mid new restored.told kept.held;
       kept = λ down. absurd (not_down fault finds down);
       untouched = λ early. untouched (restored.untouched early);
     }
@@ -190,7 +191,7 @@ restores_not number fault old new restored = record {
   answer = restored.answer;
   crash = restored.crash;
   made = tt;
-  still_told = tt;
+  told = restored.told;
   kept = restored.kept;
   untouched = restored.untouched;
 }

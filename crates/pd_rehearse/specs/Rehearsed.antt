@@ -1,6 +1,5 @@
 -- What a rehearsal promises.
-use Rattle.std.specs.Prelude.{ℕ, List, [], Result, MatchResult, IfErr}
-use Rattle.pd_kinds.specs.Crash.{HoldsSynced}
+use Rattle.std.specs.Prelude.{◌≡◌, ℕ, List, [], Some, Result, MatchResult, IfErr}
 use Rattle.pd_kinds.specs.Limits.{room_of}
 use Rattle.pd_kinds.specs.Meaning.{ThinPool}
 use Rattle.pd_kinds.specs.Objects.{DeviceState}
@@ -27,6 +26,6 @@ found_of room verdict rehearsal = record {
 pub record Rehearses (number : ℕ) (result : Result Rehearsal RehearseFault) (old new : DeviceState) : Type 0 where
   pub restores : RestoresText number result old new
   pub numbers : MatchResult result
-      (λ rehearsal. (image : List (List ℕ)) → HoldsSynced image old → AreNumbers restores.verdict (found_of (room_of old.blocks) restores.verdict rehearsal))
-      (λ fault. (image : List (List ℕ)) → HoldsSynced image old → IsFaulty fault → ⊥)
+      (λ rehearsal. (image : List (List ℕ)) → old.held ≡ Some image → AreNumbers restores.verdict (found_of (room_of old.blocks) restores.verdict rehearsal))
+      (λ fault. (image : List (List ℕ)) → old.held ≡ Some image → IsFaulty fault → ⊥)
   pub reported : IfErr result IsReported

@@ -1,6 +1,6 @@
 -- What becomes of the device on which the generator's text is restored.
-use Rattle.std.specs.Prelude.{◌≡◌, ◌⊎◌, ℕ, true, List, Result, OnOk, MatchResult, IfSome, IsSome}
-use Rattle.pd_kinds.specs.Crash.{HasNoSuper, HoldsSynced, IsOldNoneOrMade, IsUntouched, LeavesOnly}
+use Rattle.std.specs.Prelude.{◌≡◌, ℕ, true, List, Result, OnOk, MatchResult, IfSome}
+use Rattle.pd_kinds.specs.Crash.{HoldsOldOrNone, HoldsSynced, IsOldNoneOrMade, IsUntouched, LeavesOnly, StillTells}
 use Rattle.pd_kinds.specs.Limits.{room_of}
 use Rattle.pd_kinds.specs.Meaning.{ThinPool}
 use Rattle.pd_kinds.specs.Objects.{DeviceState}
@@ -30,8 +30,9 @@ pub record RestoresText {T : Type 0} (number : ℕ) (result : Result T RehearseF
   pub answer : MatchResult result (λ _. IsAccepted IsLawfulPool verdict) (λ fault. AnswersFault fault verdict)
   -- a crash at any moment of the call leaves the old image, no valid superblock, or what is made
   pub crash : (image : List (List ℕ)) → HoldsSynced image old → LeavesOnly (IsOldNoneOrMade image (Makes laid_pool (room_of old.blocks) verdict image)) old new
-  pub made : OnOk result ((image : List (List ℕ)) → HoldsSynced image old → IfSome new.held (λ now. Makes laid_pool (room_of old.blocks) verdict image now × HoldsSynced now new))
-  pub still_told : OnOk result ((image : List (List ℕ)) → HoldsSynced image old → IsSome new.held)
-  pub kept : MatchResult result (λ _. Unit {0}) (λ fault. IsTurnedDown fault → IfSome old.held (λ image. IfSome new.held (λ now. (now ≡ image) ⊎ HasNoSuper now)))
+  -- what was made holds of any device that tells what it held, also where something was unsynced
+  pub made : OnOk result (IfSome old.held (λ image. IfSome new.held (λ now. Makes laid_pool (room_of old.blocks) verdict image now × HoldsSynced now new)))
+  pub told : StillTells old new
+  pub kept : MatchResult result (λ _. Unit {0}) (λ fault. IsTurnedDown fault → HoldsOldOrNone old new)
   -- what is turned down for the first two lines leaves it alone
   pub untouched : is_pool_early (generated_text number) (room_of old.blocks) ≡ true → IsUntouched old new

@@ -19,6 +19,6 @@ returns-in-Ok-clause-rehearsed g c =
 pub returns-in-Err-clause-rehearsed : goal.returns-in-Err-clause-rehearsed
 returns-in-Err-clause-rehearsed g c = record {
   restores = restores_not c.args.number c.in-Err.fault (g.D.Device.state c.args.dev.now) (g.D.Device.state c.restore_text.new.dev) c.in-Err.ensures.restored;
-  numbers = λ image synced faulty. c.in-Err.ensures.unchecked faulty;
+  numbers = λ image held faulty. c.in-Err.ensures.unchecked faulty;
   reported = unreported c.in-Err.fault c.in-Err.ensures.unchecked;
 }
