@@ -13,7 +13,7 @@ use Rattle.pd_tools.specs.Work.{IsWork, IsFinished, IsStopped, IsFollowed, AreFo
 use Rattle.pd_tools.specs.Notes.{PutsLine, IsAttachedNotes}
 
 -- a count that was 0 and didn't change hasn't risen
-not_risen : (old new : ℕ) → old ≡ 0 → new ≡ old → Rose old new → ⊥
+pub not_risen : (old new : ℕ) → old ≡ 0 → new ≡ old → Rose old new → ⊥
 not_risen old new zero same rose = omega arith
 
 -- an object that isn't named isn't attached, since it was left alone

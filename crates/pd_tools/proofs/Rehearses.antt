@@ -1,6 +1,6 @@
 -- What the work of a rehearsal comes to, over plain variables.
 use Rattle.std.proofs.Common.{◌≡◌, ◌≢◌, ◌⊎◌, inl, inr, ℕ, true, false, nat_eq, List, [], length, Option, None, Some, IfSome, IsTrue, Result, Ok, Err, refl, sym, ap, ◌∙◌, subst, arith, lit≤}
-use Rattle.std.specs.Prelude.{MatchResult, OnOk, count_by, sum_by}
+use Rattle.std.specs.Prelude.{IsSome, MatchResult, OnOk, count_by, sum_by}
 use Rattle.std.proofs.lemmas.Bool.{ne_eqb}
 use Rattle.std.proofs.lemmas.Option.{IfSome_then}
 use Rattle.pd_kinds.specs.Objects.{DeviceState, SinkState, Rose, Appends, AppendsFront}
@@ -157,13 +157,13 @@ module _ (number : ℕ) (path : List ℕ) (others : Objects) (notes out : SinkSt
 
     -- what it is right to find
     abbrev IsRight : Reported → ℕ → ℕ → ℕ → Type 0
-    IsRight report used mappings lines = (image : Image) → HoldsSynced image opened → (report ≡ report_of []) × AreNumbers verdict (finding_of report used mappings lines)
+    IsRight report used mappings lines = (image : Image) → opened.held ≡ Some image → (report ≡ report_of []) × AreNumbers verdict (finding_of report used mappings lines)
 
     found : (report : Reported) (used mappings lines : ℕ) → IsRight report used mappings lines → (out' : SinkState)
         → (rehearse number path).finds (record others { out = out; output = output }) (record others { out = out'; notes = notes; output = last }) (finding_of report used mappings lines)
     found report used mappings lines right out' = (
       record { told = room-held output.held opened.held opened.blocks attached.held measured; attached = λ _. ap room_of (sym place.blocks) },
-      (done.restores.right, IfSome_then output.held synced (λ image s. right image (still_synced image output opened untouched s))),
+      (done.restores.right, IfSome_then output.held synced (λ image s. right image (attached.held ∙ s.held))),
     )
 
     output_used : IsUsed (writing path) last.access last.path
@@ -174,11 +174,12 @@ module _ (number : ℕ) (path : List ℕ) (others : Objects) (notes out : SinkSt
         → LeavesMade (Makes laid_pool room verdict) (is_pool_early (generated_text number) room) status output last
     leaves status is_done is_down = record {
       output = record {
+        told = subst (λ (h : Option Image). IfSome h (λ image. IsSome last.held)) attached.held done.restores.told;
         crash = IfSome_then output.held synced (λ image s.
             and_then (stays {old = output} {new = opened} attached.held attached.history (here image (Makes laid_pool room verdict image) output s))
             (done.restores.crash image (still_synced image output opened untouched s)));
-        made = λ zero. IfSome_then output.held synced (λ image s.
-            where_done result done.restores.made (is_done zero) image (still_synced image output opened untouched s));
+        made = λ zero. subst (λ (h : Option Image). IfSome h (λ image. IfSome last.held (λ now. Makes laid_pool room verdict image now × HoldsSynced now last)))
+            attached.held (where_done result done.restores.made (is_done zero));
         refused = λ either. subst (λ (h : Option Image). IfSome h (λ image. IfSome last.held (λ now. (now ≡ image) ⊎ HasNoSuper now))) attached.held (where_down result done.restores.kept (is_down either));
       };
       untouched = λ early. let same = done.restores.untouched early in record { held = same.held ∙ attached.held; history = same.history ∙ attached.history };

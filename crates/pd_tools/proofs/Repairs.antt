@@ -1,6 +1,6 @@
 -- What the work of a repair comes to, over plain variables.
 use Rattle.std.proofs.Common.{◌≡◌, ◌≢◌, ◌⊎◌, inl, inr, ℕ, ◌≤◌, ◌<◌, true, false, not, nat_eq, IsTrue, List, [], ◌∷◌, length, Option, Some, None, IfSome, Result, Ok, Err, refl, sym, ap, ◌∙◌, subst, arith, lit≤}
-use Rattle.std.specs.Prelude.{OnOk, MatchResult}
+use Rattle.std.specs.Prelude.{OnOk, IsSome, MatchResult}
 use Rattle.std.specs.Option.{option_map_or}
 use Rattle.std.proofs.lemmas.Bool.{cases_lt, lt-ltb, le-ltb}
 use Rattle.std.proofs.lemmas.Option.{IfSome_then}
@@ -11,7 +11,7 @@ use Rattle.pd_kinds.specs.declared.kind.Stage.TheVariants.{Super}
 use Rattle.pd_kinds.specs.declared.rule.Rule.{Rule}
 use Rattle.pd_kinds.specs.declared.rules.Rules.{Rules}
 use Rattle.pd_kinds.specs.Objects.{DeviceState, SinkState, Rose}
-use Rattle.pd_kinds.specs.Crash.{IsSynced, IsUntouched}
+use Rattle.pd_kinds.specs.Crash.{HasNoSuper, HoldsOldOrNone, HoldsSynced, IsSynced, IsUntouched}
 use Rattle.pd_kinds.specs.Faults.{faults_at}
 use Rattle.pd_kinds.specs.Limits.{room_of}
 use Rattle.pd_kinds.specs.Meaning.{ThinPool}
@@ -23,22 +23,24 @@ use Rattle.pd_kinds.proofs.CrashLemmas.{and_then, stays, weaken}
 use Rattle.pd_laws.proofs.CleanLemmas.{no_rule_broken}
 use Rattle.pd_spells.specs.Lines.{no_room_line, reported_lines}
 use Rattle.pd_spells.specs.ThinNeed.{thin_need}
+use Rattle.pd_laid.specs.Laid.{IsLaid}
+use Rattle.pd_laid.specs.LaidThin.{laid_pool}
 use Rattle.pd_laid.specs.Salvage.{salvage}
 use Rattle.pd_image.specs.Device.{KeepsPlace, OnlyReads}
 use Rattle.pd_answers.specs.Answer.{Answer, Objects}
-use Rattle.pd_answers.specs.Outputs.{LeavesMade}
-use Rattle.pd_answers.specs.Repairs.{LaysPool, Salvaged, repair, repair_answer}
+use Rattle.pd_answers.specs.Repairs.{LaysPool, LeavesRepaired, Salvaged, repair, repair_answer}
 use Rattle.pd_answers.specs.Terms.{is_possible}
 use Rattle.pd_repair.specs.declared.fault.RepairFault.{RepairFault}
 use Rattle.pd_repair.specs.declared.fault.RepairFault.TheVariants as fault
-use Rattle.pd_repair.specs.Repaired.{Answers, AnswersSuper, IsRepaired, MakesPool}
+use Rattle.pd_repair.specs.Repaired.{Answers, AnswersSuper, IsOfOthers, IsRepaired, MakesPool}
 use Rattle.pd_tools.specs.declared.stop.Stop.{Stop}
 use Rattle.pd_tools.specs.declared.stop.Stop.TheVariants.{Device, Memory}
 use Rattle.pd_tools.specs.Repair.{AreOpened, AreUnopened}
 use Rattle.pd_tools.specs.Stop.{stop_status}
 use Rattle.pd_tools.specs.Work.{HasCause, IsFinished, IsStopped, IsWork}
+use Rattle.pd_tools.proofs.Answered.{not_risen}
 use Rattle.pd_tools.proofs.Queries.{two_told}
-use Rattle.pd_tools.proofs.Restores.{Image, here, room-held, room-told, room_in, still_synced, untouched_output}
+use Rattle.pd_tools.proofs.Restores.{Image, here, last_lost, room-held, room-told, room_in, still_synced, untouched_last}
 
 -- what is found in what the input tells
 report_in : Option Image → Reported
@@ -79,10 +81,18 @@ answer_faulty : (report : Reported) (pool : ThinPool) (room : ℕ) → nat_eq re
 answer_faulty report pool room faulty = rw faulty refl
 
 -- an output that was left alone, under each status but 0
-left_alone : (answer : Answer) (pool : ThinPool) (room status : ℕ) (output last : DeviceState) → IsSynced output → IsUntouched output last → status ≢ 0
-    → LeavesMade (LaysPool answer pool room) (not (nat_eq answer.status 0)) status output last
-left_alone answer pool room status output last synced same some =
-    untouched_output (LaysPool answer pool room) (not (nat_eq answer.status 0)) status output last synced same some
+left_alone : (saved : Salvaged) (status : ℕ) (output last : DeviceState) → IsSynced output → IsUntouched output last → status ≢ 0 → LeavesRepaired saved status output last
+left_alone saved status output last synced same some = record {
+  output = untouched_last (LaysPool (repair_answer saved) saved.pool saved.room) (not (nat_eq (repair_answer saved).status 0)) status output last synced same some;
+  input_failed = λ _ _. same;
+}
+
+-- what is left where the line of a refusal is lost
+pub repaired_lost : (saved : Salvaged) (status : ℕ) (output last : DeviceState) → status ≢ 0 → LeavesRepaired saved status output last → LeavesRepaired saved 6 output last
+repaired_lost saved status output last some left = record {
+  output = last_lost _ _ status output last some left.output;
+  input_failed = λ e. absurd (omega arith);
+}
 
 -- before anything was done
 pub repair_at_rest : (from to : List ℕ) (before after : Objects) (input output : DeviceState) → IsSynced output → output.access ≡ 0
@@ -96,7 +106,7 @@ repair_at_rest from to before after input output synced closed =
         record { told = room-told output.held; attached = λ e. absurd (omega arith) },
         two_told input.held (λ image report pool. (report, pool)) (report-told input.held) (pool-told input.held),
       ),
-      left_alone (repair_answer finding) (pool_in input.held) room 6 output output synced (record { held = refl; history = refl }) (λ e. omega arith),
+      left_alone finding 6 output output synced (record { held = refl; history = refl }) (λ e. omega arith),
     )
 
 -- a device couldn't be attached
@@ -106,7 +116,7 @@ pub repair_unopened : (from to : List ℕ) (others : Objects) (notes : SinkState
 repair_unopened from to others notes input last_input output last synced un =
     let room = room_in output.held in
     let finding = found_of (report_in input.held) (pool_in input.held) room in
-    let leaves = λ (status : ℕ) (some : status ≢ 0). left_alone (repair_answer finding) (pool_in input.held) room status output last synced un.output_untouched some in
+    let leaves = λ (status : ℕ) (some : status ≢ 0). left_alone finding status output last synced un.output_untouched some in
     record {
       finding = finding;
       work = record {
@@ -168,7 +178,7 @@ module _ (from to : List ℕ) (others : Objects) (notes : SinkState) (input open
 
   -- what is left of the output
   abbrev Leaves : Reported → ℕ → Type 0
-  Leaves report status = LeavesMade (LaysPool (repair_answer (finding report)) pool room) (not (nat_eq (repair_answer (finding report)).status 0)) status output last
+  Leaves report status = LeavesRepaired (finding report) status output last
 
   -- what was found is right
   found : (report : Reported) → IsRight report → (repair from to).finds before after (finding report)
@@ -222,39 +232,54 @@ module _ (from to : List ℕ) (others : Objects) (notes : SinkState) (input open
   -- an output that the repair left alone
   alone : IsUntouched writable last → (report : Reported) (status : ℕ) → status ≢ 0 → Leaves report status
   alone same report status some =
-      left_alone (repair_answer (finding report)) pool room status output last synced
+      left_alone (finding report) status output last synced
       (record { held = same.held ∙ both.output_untouched.held; history = same.history ∙ both.output_untouched.history }) some
 
+  -- after a fault that isn't the output's
+  spared : (f : RepairFault) → result ≡ Err f → IsOfOthers f → HoldsOldOrNone output last
+  spared f is others =
+      subst (λ (h : Option Image). IfSome h (λ image. IfSome last.held (λ now. (now ≡ image) ⊎ HasNoSuper now))) both.output_untouched.held
+      (of_fault (λ fault. IsOfOthers fault → HoldsOldOrNone writable last) _ result f is done.output.kept others)
+
   -- an output that may have been written
-  written : (answer : Answer) → answer.status ≡ 0 → (status : ℕ) → (status ≡ 0 → IsDone result) → ((status ≡ 3) ⊎ (status ≡ 4) → ⊥)
-      → LeavesMade (LaysPool answer pool room) (not (nat_eq answer.status 0)) status output last
-  written answer zero status is_done other = record {
+  written : (report : Reported) → (repair_answer (finding report)).status ≡ 0 → (status : ℕ) → (status ≡ 0 → IsDone result) → ((status ≡ 3) ⊎ (status ≡ 4) → ⊥)
+      → (status ≢ 0 → last.faults ≡ output.faults → HoldsOldOrNone output last) → (status ≡ 5 → last.faults ≡ output.faults → IsUntouched output last) → Leaves report status
+  written report zero status is_done other kept input_failed = record {
     output = record {
-      crash = IfSome_then output.held synced (λ image s.
-          weaken
-          (and_then (stays {old = output} {new = writable} both.output_untouched.held both.output_untouched.history (here image (MakesPool pool room image) output s))
-          (done.output.crash image (still_synced image output writable both.output_untouched s)))
-          (λ left firsts is chance. elim (is chance) [
-            | inl old ↦ inl old
-            | inr none ↦ elim none [ inl torn ↦ inr (inl torn) | inr made ↦ inr (inr (zero, made.1)) ]
-          ]));
-      made = λ e. IfSome_then output.held synced (λ image s.
-          IfSome_then last.held (where_done result done.output.made (is_done e) image (still_synced image output writable both.output_untouched s))
-          (λ now is. ((zero, is.0), is.1)));
-      refused = λ either. absurd (other either);
+      made = record {
+        output = record {
+          told = subst (λ (h : Option Image). IfSome h (λ image. IsSome last.held)) both.output_untouched.held done.output.told;
+          crash = IfSome_then output.held synced (λ image s.
+              weaken
+              (and_then (stays {old = output} {new = writable} both.output_untouched.held both.output_untouched.history (here image (MakesPool pool room image) output s))
+              (done.output.crash image (still_synced image output writable both.output_untouched s)))
+              (λ left firsts is chance. elim (is chance) [
+                | inl old ↦ inl old
+                | inr none ↦ elim none [ inl torn ↦ inr (inl torn) | inr made ↦ inr (inr (zero, made.1)) ]
+              ]));
+          made = λ e. IfSome_then output.held
+              (subst (λ (h : Option Image). IfSome h (λ image. IfSome last.held (λ now. IsLaid (laid_pool pool room) image now × HoldsSynced now last)))
+              both.output_untouched.held (where_done result done.output.made (is_done e)))
+              (λ image all. IfSome_then last.held all (λ now is. ((zero, is.0), is.1)));
+          refused = λ either. absurd (other either);
+        };
+        untouched = λ unwritten. absurd (never unwritten);
+      };
+      kept = kept;
     };
-    untouched = λ unwritten. absurd (never unwritten);
+    input_failed = input_failed;
   }
     where
-      never : not (nat_eq answer.status 0) ≡ true → ⊥
+      never : not (nat_eq (repair_answer (finding report)).status 0) ≡ true → ⊥
       never e = let f : false ≡ true = rw zero at e in cc
 
   -- whatever there is room for, where no faults are reported
-  either_way : (status : ℕ) → status ≢ 0 → status ≢ 3 → status ≢ 4 → Leaves (report_of []) status
-  either_way status some three four = elim (cases_lt room (thin_need pool room)) [
+  either_way : (last.faults ≡ output.faults → HoldsOldOrNone output last) → (status : ℕ) → (status ≡ 5 → last.faults ≡ output.faults → IsUntouched output last)
+      → status ≢ 0 → status ≢ 3 → status ≢ 4 → Leaves (report_of []) status
+  either_way kept status input_failed some three four = elim (cases_lt room (thin_need pool room)) [
     | inl small ↦ alone (done.output.untouched small) (report_of []) status some
-    | inr fits ↦ written (repair_answer (finding (report_of []))) (ap (λ (a : Answer). a.status) (answer_made pool room fits)) status
-        (λ e. absurd (some e)) (λ either. elim either [ inl e ↦ three e | inr e ↦ four e ])
+    | inr fits ↦ written (report_of []) (ap (λ (a : Answer). a.status) (answer_made pool room fits)) status
+        (λ e. absurd (some e)) (λ either. elim either [ inl e ↦ three e | inr e ↦ four e ]) (λ _. kept) input_failed
   ]
 
   -- it came to an answer
@@ -279,8 +304,8 @@ module _ (from to : List ℕ) (others : Objects) (notes : SinkState) (input open
       let fits : thin_need pool room ≤ room = answer.1 in
       let none = subst (λ (r : Result (Unit {0}) RepairFault). IfSome opened.held (λ image. AnswersSuper r (faults Thin Super image))) is done.rules in
       finished (report_of []) (none_right none) 0 [] (lit≤ tt) refl (answer_made pool room fits)
-      (written (repair_answer (finding (report_of []))) (ap (λ (a : Answer). a.status) (answer_made pool room fits)) 0
-      (λ _. rw is tt) (λ either. elim either [ inl e ↦ omega arith | inr e ↦ omega arith ]))
+      (written (report_of []) (ap (λ (a : Answer). a.status) (answer_made pool room fits)) 0
+      (λ _. rw is tt) (λ either. elim either [ inl e ↦ omega arith | inr e ↦ omega arith ]) (λ some. absurd (some refl)) (λ e. absurd (omega arith)))
 
   pub repair_no_room : (need blocks : ℕ) → result ≡ Err (fault.NoRoom need blocks) → IsFinished (repair from to) before after 4 (no_room_line need blocks)
   repair_no_room need blocks is =
@@ -300,30 +325,35 @@ module _ (from to : List ℕ) (others : Objects) (notes : SinkState) (input open
       finished report right 1 (reported_lines report) (lit≤ tt) refl (answer_faulty report pool room faulty) (alone same report 1 (λ e. omega arith))
 
   stopped : (report : Reported) → IsRight report → (stop : Stop) → IsTrue (is_possible (repair from to) (stop_status stop)) → HasCause (repair from to) before after stop
-      → ((status : ℕ) → status ≢ 0 → status ≢ 3 → status ≢ 4 → Leaves report status) → (stop_status stop ≢ 0) → (stop_status stop ≢ 3) → (stop_status stop ≢ 4)
-      → IsStopped (repair from to) before after stop
-  stopped report right stop possible cause leaves zero three four = record {
+      → Leaves report (stop_status stop) → Leaves report 6 → IsStopped (repair from to) before after stop
+  stopped report right stop possible cause leaves lost = record {
     finding = finding report;
-    work = work report right (stop_status stop) possible (leaves (stop_status stop) zero three four);
+    work = work report right (stop_status stop) possible leaves;
     cause = cause;
     front = front_none _ others.out.written;
-    lost = leaves 6 (λ e. omega arith) (λ e. omega arith) (λ e. omega arith);
+    lost = lost;
   }
 
   pub repair_memory : result ≡ Err fault.Memory → IsStopped (repair from to) before after Memory
   repair_memory is =
       let none = fault_answer fault.Memory is in
-      stopped (report_of []) (none_right none) Memory refl (of_super (λ list. list ≡ []) none) either_way
-      (λ e. omega arith) (λ e. omega arith) (λ e. omega arith)
+      let left : (status : ℕ) → (status ≡ 5 → ⊥) → status ≢ 0 → status ≢ 3 → status ≢ 4 → Leaves (report_of []) status =
+      λ status five. either_way (λ _. spared fault.Memory is tt) status (λ e. absurd (five e)) in
+      stopped (report_of []) (none_right none) Memory refl (of_super (λ list. list ≡ []) none)
+      (left 7 (λ e. omega arith) (λ e. omega arith) (λ e. omega arith) (λ e. omega arith))
+      (left 6 (λ e. omega arith) (λ e. omega arith) (λ e. omega arith) (λ e. omega arith))
 
-  pub repair_output : result ≡ Err fault.Output → Rose writable.faults last.faults → IsStopped (repair from to) before after Device
-  repair_output is rose =
-      stopped (report_of []) (none_right (fault_answer fault.Output is)) Device refl (inr (inl (rw both.output_faults at rose))) either_way
-      (λ e. omega arith) (λ e. omega arith) (λ e. omega arith)
+  pub repair_output : result ≡ Err fault.Output → output.faults ≡ 0 → Rose writable.faults last.faults → IsStopped (repair from to) before after Device
+  repair_output is fresh rose =
+      let risen : Rose output.faults last.faults = rw both.output_faults at rose in
+      let never : last.faults ≡ output.faults → ⊥ = λ same. not_risen output.faults last.faults fresh same risen in
+      let left : (status : ℕ) → status ≢ 0 → status ≢ 3 → status ≢ 4 → Leaves (report_of []) status =
+      λ status. either_way (λ same. absurd (never same)) status (λ _ same. absurd (never same)) in
+      stopped (report_of []) (none_right (fault_answer fault.Output is)) Device refl (inr (inl risen))
+      (left 5 (λ e. omega arith) (λ e. omega arith) (λ e. omega arith)) (left 6 (λ e. omega arith) (λ e. omega arith) (λ e. omega arith))
 
   pub repair_input : result ≡ Err fault.Input → Rose opened.faults last_input.faults → IsStopped (repair from to) before after Device
   repair_input is rose =
       let same = of_fault _ _ result fault.Input is done.output.early tt in
       stopped (report_in input.held) (report-told input.held) Device refl (inl (rw both.input_faults at rose))
-      (λ status some three four. alone same (report_in input.held) status some)
-      (λ e. omega arith) (λ e. omega arith) (λ e. omega arith)
+      (alone same (report_in input.held) 5 (λ e. omega arith)) (alone same (report_in input.held) 6 (λ e. omega arith))

@@ -1,15 +1,15 @@
 -- What the work of a restore comes to, over plain variables.
 use Rattle.std.proofs.Common.{◌≡◌, ◌≢◌, ◌⊎◌, inl, inr, ℕ, ◌≤◌, Bool, List, [], length, Option, Some, None, IfSome, IsTrue, Result, Ok, Err, refl, sym, ap, ◌∙◌, subst, arith, lit≤}
-use Rattle.std.specs.Prelude.{OnOk, MatchResult}
-use Rattle.std.specs.Option.{option_map_or}
+use Rattle.std.specs.Prelude.{OnOk, IsSome, MatchResult}
+use Rattle.std.specs.Option.{is_some, option_map_or}
 use Rattle.std.proofs.lemmas.Option.{IfSome_then, same_Some}
 use Rattle.pd_kinds.specs.declared.kind.Kind.{Kind}
 use Rattle.pd_kinds.specs.declared.kind.Kind.TheVariants.{Thin, Cache, Era}
 use Rattle.pd_kinds.specs.Objects.{DeviceState, SourceState, SinkState, Rose}
 use Rattle.pd_kinds.specs.Moments.{History, now}
-use Rattle.pd_kinds.specs.Crash.{IsSynced, LeavesNow, HoldsSynced, HasNoSuper, IsOldNoneOrMade, IsUntouched}
+use Rattle.pd_kinds.specs.Crash.{IsSynced, LeavesNow, HoldsOldOrNone, HoldsSynced, HasNoSuper, IsOldNoneOrMade, IsUntouched}
 use Rattle.pd_kinds.proofs.AppendLemmas.{appends_none, front_none}
-use Rattle.pd_kinds.proofs.CrashLemmas.{and_then, stays, left_now, left_synced}
+use Rattle.pd_kinds.proofs.CrashLemmas.{and_then, stays, still_tells, left_now, left_synced}
 use Rattle.pd_grammar.specs.Spelling.{Verdict, accepted, refused, no_room}
 use Rattle.pd_spells.specs.ThinNeed.{IsThinVerdict}
 use Rattle.pd_spells.specs.CacheNeed.{IsCacheVerdict}
@@ -24,16 +24,16 @@ use Rattle.pd_image.specs.Source.{KeepsSource}
 use Rattle.pd_answers.specs.Answer.{Answer, Objects, IsUsed, reading, writing}
 use Rattle.pd_answers.specs.Terms.{is_possible}
 use Rattle.pd_kinds.specs.Limits.{room_of}
-use Rattle.pd_answers.specs.Outputs.{LeavesMade}
-use Rattle.pd_answers.specs.Restores.{Judged, restore_answer, restore_by, restore}
+use Rattle.pd_answers.specs.Outputs.{LeavesMade, LeavesMadeLast}
+use Rattle.pd_answers.specs.Restores.{IsRefusedEarly, Judged, LeavesRestored, restore_answer, restore_by, restore}
 use Rattle.pd_spells.specs.Early.{is_pool_early, is_cache_early, is_era_early}
 use Rattle.pd_laid.specs.Made.{Makes}
 use Rattle.pd_restoring.specs.declared.fault.RestoreFault.{RestoreFault}
 use Rattle.pd_restoring.specs.declared.fault.RestoreFault.TheVariants as fault
-use Rattle.pd_restoring.specs.Restored.{IsRestored, Answers, IsAccepted, IsRefused, IsWithoutRoom, IsRefusal}
+use Rattle.pd_restoring.specs.Restored.{IsRestored, Answers, IsAccepted, IsOfFirstLines, IsOfOthers, IsRefused, IsWithoutRoom}
 use Rattle.pd_tools.specs.declared.restore.Outcome.TheVariants.{Refused, NoRoom}
 use Rattle.pd_texts.specs.declared.fault.TextFault.{TextFault}
-use Rattle.pd_tools.proofs.Answered.{stop_status-low}
+use Rattle.pd_tools.proofs.Answered.{not_risen, stop_status-low}
 use Rattle.pd_tools.specs.declared.stop.Stop.{Stop}
 use Rattle.pd_tools.specs.declared.stop.Stop.TheVariants.{Device, Stream, Memory}
 use Rattle.pd_tools.specs.Stop.{stop_status}
@@ -63,21 +63,42 @@ still_synced image old new same synced = record {
   firsts = ap (λ (h : History). h.firsts) same.history ∙ synced.firsts;
 }
 
+kept_same : (held : Option Image) → IfSome held (λ image. IfSome held (λ now. (now ≡ image) ⊎ HasNoSuper now))
+kept_same None = tt
+kept_same (Some image) = inl refl
+
+-- what a device that was left alone holds
+pub same_held : (old new : DeviceState) → new.held ≡ old.held → HoldsOldOrNone old new
+same_held old new same =
+    subst (λ (h : Option Image). IfSome old.held (λ image. IfSome h (λ now. (now ≡ image) ⊎ HasNoSuper now))) (sym same) (kept_same old.held)
+
 -- an output that was left alone
 pub untouched_output : (Made : Image → Image → Type 0) (unwritten : Bool) (status : ℕ) (old new : DeviceState) → IsSynced old → IsUntouched old new
     → status ≢ 0 → LeavesMade Made unwritten status old new
 untouched_output Made unwritten status old new synced same not_made = record {
   output = record {
+    told = still_tells old new (ap is_some same.held);
     crash = IfSome_then old.held synced (λ image s. stays same.held same.history (here image (Made image) old s));
     made = λ zero. absurd (not_made zero);
-    refused = λ _. IfSome_then old.held synced (λ image s. if_same new.held image (same.held ∙ s.held));
+    refused = λ _. same_held old new same.held;
   };
   untouched = λ _. same;
 }
-  where
-    if_same : (o : Option Image) (image : Image) → o ≡ Some image → IfSome o (λ now. (now ≡ image) ⊎ HasNoSuper now)
-    if_same None image is = tt
-    if_same (Some now) image is = inl (same_Some now image is)
+
+-- the same where making the image is the last that the request does
+pub untouched_last : (Made : Image → Image → Type 0) (unwritten : Bool) (status : ℕ) (old new : DeviceState) → IsSynced old → IsUntouched old new
+    → status ≢ 0 → LeavesMadeLast Made unwritten status old new
+untouched_last Made unwritten status old new synced same not_made = record {
+  made = untouched_output Made unwritten status old new synced same not_made;
+  kept = λ _ _. same_held old new same.held;
+}
+
+untouched_restored : {M : Type 0} (laid : M → ℕ → Laid) (judged : Judged M) (status : ℕ) (old new : DeviceState) → IsSynced old → IsUntouched old new
+    → status ≢ 0 → LeavesRestored laid judged status old new
+untouched_restored laid judged status old new synced same not_made = record {
+  output = untouched_last (Makes laid judged.room judged.verdict) judged.is_early status old new synced same not_made;
+  first_lines = λ _ _. same;
+}
 
 -- the room of an output, and the text that is left
 pub room_in : Option Image → ℕ
@@ -102,6 +123,12 @@ pub answer_accepted : {M : Type 0} (Lawful : M → Type 0) (v : Verdict M) → I
 answer_accepted Lawful (accepted m) is = refl
 answer_accepted Lawful (refused why) is = absurd is
 answer_accepted Lawful (no_room needed blocks) is = absurd is
+
+-- a refusal is that of the verdict, so it is of line 1 or 2 where that is
+early_line : {M : Type 0} (why : TextFault) (v : Verdict M) → IsRefused why v → IsRefusedEarly v → IsOfFirstLines (fault.Text why)
+early_line why (accepted m) is early = absurd is
+early_line why (refused refusal) is early = rw is at early
+early_line why (no_room needed blocks) is early = absurd is
 
 answer_refused : {M : Type 0} (why : TextFault) (v : Verdict M) → IsRefused why v
     → restore_answer v ≡ record { status = 3; out = []; notes = outcome_line (Refused why) }
@@ -130,9 +157,10 @@ module _ {M : Type 0} (Lawful : M → Type 0) (IsVerdictOn : List ℕ → ℕ �
       let room = room_in output.held in
       let found = verdicts (text_in source.left) room in
       let early = is_early (text_in source.left) room in
-      let leaves = λ (status : ℕ) (some : status ≢ 0). untouched_output (Makes laid room found.0) early status output last_output synced un.untouched some in
+      let judged : Judged M = record { room = room; verdict = found.0; is_early = early } in
+      let leaves = λ (status : ℕ) (some : status ≢ 0). untouched_restored laid judged status output last_output synced un.untouched some in
       record {
-        finding = record { room = room; verdict = found.0; is_early = early };
+        finding = judged;
         work = record {
           found = (record { told = room-told output.held; attached = λ e. absurd (un.closed e) }, verdict-told IsVerdictOn is_early source.left room found.0 found.1);
           possible = possible_stop stop;
@@ -179,14 +207,10 @@ abbrev IsDone : Result (Unit {0}) RestoreFault → Type 0
 IsDone (Ok done) = Unit {0}
 IsDone (Err fault) = ⊥
 
--- a refusal, or want of room
-abbrev IsTurnedDown : Result (Unit {0}) RestoreFault → Type 0
-IsTurnedDown (Ok done) = ⊥
-IsTurnedDown (Err fault) = IsRefusal fault
-
-where_turned_down : (result : Result (Unit {0}) RestoreFault) {P : Type 0} → MatchResult result (λ done. Unit {0}) (λ fault. IsRefusal fault → P) → IsTurnedDown result → P
-where_turned_down (Ok done) kept is = absurd is
-where_turned_down (Err fault) kept is = kept is
+-- what holds of a fault that is known
+at_fault : (P : RestoreFault → Type 0) (result : Result (Unit {0}) RestoreFault) (f : RestoreFault) → result ≡ Err f
+    → MatchResult result (λ done. Unit {0}) P → P f
+at_fault P result f is all = rw is at all
 
 where_done : (result : Result (Unit {0}) RestoreFault) {P : Type 0} → OnOk result P → IsDone result → P
 where_done (Ok done) p is = p
@@ -222,32 +246,46 @@ module _ {M : Type 0} (Lawful : M → Type 0) (IsVerdictOn : List ℕ → ℕ �
   output_used : IsUsed (writing path) last_output.access last_output.path
   output_used = record { allowed = inr (inl (place.access ∙ both.output_access)); named = λ _. rw place.path both.output_path }
 
+  -- what was left alone since it was attached
+  untouched : IsUntouched opened last_output → IsUntouched output last_output
+  untouched same = record { held = same.held ∙ both.untouched.held; history = same.history ∙ both.untouched.history }
+
+  -- after a fault that isn't the output's
+  spared : (f : RestoreFault) → result ≡ Err f → IsOfOthers f → HoldsOldOrNone output last_output
+  spared f is others =
+      subst (λ (h : Option Image). IfSome h (λ image. IfSome last_output.held (λ now. (now ≡ image) ⊎ HasNoSuper now))) both.untouched.held
+      (at_fault (λ fault. IsOfOthers fault → HoldsOldOrNone opened last_output) result f is done.kept others)
+
   -- what the output holds
-  leaves : (status : ℕ) → (status ≡ 0 → IsDone result) → ((status ≡ 3) ⊎ (status ≡ 4) → IsTurnedDown result)
-      → LeavesMade (Makes laid room done.verdict) done.early status output last_output
-  leaves status is_done is_refusal = record {
+  leaves : (status : ℕ) → (status ≡ 0 → IsDone result) → ((status ≡ 3) ⊎ (status ≡ 4) → HoldsOldOrNone output last_output)
+      → (status ≢ 0 → last_output.faults ≡ output.faults → HoldsOldOrNone output last_output)
+      → (status ≡ 3 → IsRefusedEarly done.verdict → IsUntouched output last_output) → LeavesRestored laid finding status output last_output
+  leaves status is_done refused kept first_lines = record {
     output = record {
-      crash = IfSome_then output.held synced (λ image s.
-          and_then (stays {old = output} {new = opened} both.untouched.held both.untouched.history (here image (Makes laid room done.verdict image) output s))
-          (done.crash image (still_synced image output opened both.untouched s)));
-      made = λ zero. IfSome_then output.held synced (λ image s.
-          where_done result done.made (is_done zero) image (still_synced image output opened both.untouched s));
-      refused = λ either. right-held (where_turned_down result done.kept (is_refusal either));
+      made = record {
+        output = record {
+          told = subst (λ (h : Option Image). IfSome h (λ image. IsSome last_output.held)) both.untouched.held done.told;
+          crash = IfSome_then output.held synced (λ image s.
+              and_then (stays {old = output} {new = opened} both.untouched.held both.untouched.history (here image (Makes laid room done.verdict image) output s))
+              (done.crash image (still_synced image output opened both.untouched s)));
+          made = λ zero. subst (λ (h : Option Image). IfSome h (λ image. IfSome last_output.held (λ now. Makes laid room done.verdict image now × HoldsSynced now last_output)))
+              both.untouched.held (where_done result done.made (is_done zero));
+          refused = refused;
+        };
+        untouched = λ early. untouched (done.untouched early);
+      };
+      kept = kept;
     };
-    untouched = λ early. let same = done.untouched early in record { held = same.held ∙ both.untouched.held; history = same.history ∙ both.untouched.history };
+    first_lines = first_lines;
   }
-    where
-      right-held : IfSome opened.held (λ image. IfSome last_output.held (λ now. (now ≡ image) ⊎ HasNoSuper now))
-          → IfSome output.held (λ image. IfSome last_output.held (λ now. (now ≡ image) ⊎ HasNoSuper now))
-      right-held is = subst (λ (h : Option Image). IfSome h (λ image. IfSome last_output.held (λ now. (now ≡ image) ⊎ HasNoSuper now))) both.untouched.held is
 
   -- it came to an answer
   finished : (status : ℕ) (line : List ℕ) → status ≤ 4 → IsTrue (is_possible (restore_by IsVerdictOn is_early laid file path) status)
       → restore_answer done.verdict ≡ record { status = status; out = []; notes = line }
-      → (status ≡ 0 → IsDone result) → ((status ≡ 3) ⊎ (status ≡ 4) → IsTurnedDown result)
+      → (status ≡ 0 → IsDone result) → LeavesRestored laid finding status output last_output
       → IsFinished (restore_by IsVerdictOn is_early laid file path) (record others { source = source; output = output })
       (record others { source = last_source; notes = notes; output = last_output }) status line
-  finished status line low possible answer is_done is_refusal = record {
+  finished status line low possible answer is_done left = record {
     finding = finding;
     work = record {
       found = found;
@@ -258,7 +296,7 @@ module _ {M : Type 0} (Lawful : M → Type 0) (IsVerdictOn : List ℕ → ℕ �
       silent = λ _. refl;
       spared = λ no. absurd no;
       reads = tt;
-      leaves = leaves status is_done is_refusal;
+      leaves = left;
     };
     low = low;
     same_status = sym (ap (λ (a : Answer). a.status) answer);
@@ -274,27 +312,33 @@ module _ {M : Type 0} (Lawful : M → Type 0) (IsVerdictOn : List ℕ → ℕ �
       (record others { source = last_source; notes = notes; output = last_output }) 0 []
   made is =
       finished 0 [] (lit≤ tt) refl (answer_accepted Lawful done.verdict (subst (λ (r : Result (Unit {0}) RestoreFault). Answers Lawful r done.verdict) is done.answer))
-      (λ _. rw is tt) (λ either. absurd (elim either [ inl e ↦ omega arith | inr e ↦ omega arith ]))
+      (λ _. rw is tt) (leaves 0 (λ _. rw is tt) (λ either. absurd (elim either [ inl e ↦ omega arith | inr e ↦ omega arith ]))
+      (λ some. absurd (some refl)) (λ e. absurd (omega arith)))
 
   pub refuses : (why : TextFault) → result ≡ Err (fault.Text why)
       → IsFinished (restore_by IsVerdictOn is_early laid file path) (record others { source = source; output = output })
       (record others { source = last_source; notes = notes; output = last_output }) (outcome_status (Refused why)) (outcome_line (Refused why))
   refuses why is =
-      finished 3 _ (lit≤ tt) refl (answer_refused why done.verdict (subst (λ (r : Result (Unit {0}) RestoreFault). Answers Lawful r done.verdict) is done.answer))
-      (λ zero. absurd (omega arith)) (λ _. rw is tt)
+      let answer : IsRefused why done.verdict = subst (λ (r : Result (Unit {0}) RestoreFault). Answers Lawful r done.verdict) is done.answer in
+      let held = spared (fault.Text why) is tt in
+      finished 3 _ (lit≤ tt) refl (answer_refused why done.verdict answer)
+      (λ zero. absurd (omega arith)) (leaves 3 (λ zero. absurd (omega arith)) (λ _. held) (λ _ _. held)
+      (λ _ early. untouched (at_fault (λ fault. IsOfFirstLines fault → IsUntouched opened last_output) result (fault.Text why) is done.first_lines (early_line why done.verdict answer early))))
 
   pub lacks_room : (need blocks : ℕ) → result ≡ Err (fault.NoRoom need blocks)
       → IsFinished (restore_by IsVerdictOn is_early laid file path) (record others { source = source; output = output })
       (record others { source = last_source; notes = notes; output = last_output }) (outcome_status (NoRoom need blocks)) (outcome_line (NoRoom need blocks))
   lacks_room need blocks is =
+      let held = spared (fault.NoRoom need blocks) is tt in
       finished 4 _ (lit≤ tt) refl (answer_no_room need blocks done.verdict (subst (λ (r : Result (Unit {0}) RestoreFault). Answers Lawful r done.verdict) is done.answer))
-      (λ zero. absurd (omega arith)) (λ _. rw is tt)
+      (λ zero. absurd (omega arith)) (leaves 4 (λ zero. absurd (omega arith)) (λ _. held) (λ _ _. held) (λ e. absurd (omega arith)))
 
-  pub stopped : (stop : Stop) → HasCause (restore_by IsVerdictOn is_early laid file path) (record others { source = source; output = output })
+  stopped : (stop : Stop) → HasCause (restore_by IsVerdictOn is_early laid file path) (record others { source = source; output = output })
       (record others { source = last_source; notes = notes; output = last_output }) stop
+      → (last_output.faults ≡ output.faults → HoldsOldOrNone output last_output)
       → IsStopped (restore_by IsVerdictOn is_early laid file path) (record others { source = source; output = output })
       (record others { source = last_source; notes = notes; output = last_output }) stop
-  stopped stop cause = record {
+  stopped stop cause kept = record {
     finding = finding;
     work = record {
       found = found;
@@ -317,8 +361,24 @@ module _ {M : Type 0} (Lawful : M → Type 0) (IsVerdictOn : List ℕ → ℕ �
       possible_stop Stream = refl
       possible_stop Memory = refl
 
-      high : (status : ℕ) → 5 ≤ status → LeavesMade (Makes laid room done.verdict) done.early status output last_output
-      high status five = leaves status (λ zero. absurd (omega arith)) (λ either. absurd (elim either [ inl e ↦ omega arith | inr e ↦ omega arith ]))
+      high : (status : ℕ) → 5 ≤ status → LeavesRestored laid finding status output last_output
+      high status five = leaves status (λ zero. absurd (omega arith)) (λ either. absurd (elim either [ inl e ↦ omega arith | inr e ↦ omega arith ])) (λ _. kept) (λ e. absurd (omega arith))
+
+  -- by the fault
+  abbrev Stops : Stop → Type 0
+  Stops stop = IsStopped (restore_by IsVerdictOn is_early laid file path) (record others { source = source; output = output })
+      (record others { source = last_source; notes = notes; output = last_output }) stop
+
+  pub of_memory : result ≡ Err fault.Memory → Stops Memory
+  of_memory is = stopped Memory tt (λ _. spared fault.Memory is tt)
+
+  pub of_source : result ≡ Err fault.Source → Rose attached.faults last_source.faults → Stops Stream
+  of_source is rose = stopped Stream (inl (rw both.source_faults at rose)) (λ _. spared fault.Source is tt)
+
+  pub of_device : output.faults ≡ 0 → Rose opened.faults last_output.faults → Stops Device
+  of_device fresh rose =
+      let risen : Rose output.faults last_output.faults = rw both.output_faults at rose in
+      stopped Device (inr (inl risen)) (λ same. absurd (not_risen output.faults last_output.faults fresh same risen))
 
 -- the same for each kind
 module _ (version : ℕ) (file path : List ℕ) (others : Objects) (notes : SinkState) (source attached last_source : SourceState) (output opened last_output : DeviceState)
@@ -347,24 +407,24 @@ module _ (version : ℕ) (file path : List ℕ) (others : Objects) (notes : Sink
   lacks_room_as Cache done need blocks is = lacks_room IsLawfulCache (IsCacheVerdict version) (is_cache_early version) (λ m room. laid_cache m version room) file path others notes source attached last_source output opened last_output synced both measured place keeps result done need blocks is
   lacks_room_as Era done need blocks is = lacks_room IsLawfulEra IsEraVerdict is_era_early laid_era file path others notes source attached last_source output opened last_output synced both measured place keeps result done need blocks is
 
-  abbrev Stops : Kind → Stop → Type 0
-  Stops kind stop = IsStopped (restore kind version file path) (record others { source = source; output = output })
+  abbrev StopsAs : Kind → Stop → Type 0
+  StopsAs kind stop = IsStopped (restore kind version file path) (record others { source = source; output = output })
       (record others { source = last_source; notes = notes; output = last_output }) stop
 
-  pub memory_as : (kind : Kind) → IsDoneAs kind → Stops kind Memory
-  memory_as Thin done = stopped IsLawfulPool IsThinVerdict is_pool_early laid_pool file path others notes source attached last_source output opened last_output synced both measured place keeps result done Memory tt
-  memory_as Cache done = stopped IsLawfulCache (IsCacheVerdict version) (is_cache_early version) (λ m room. laid_cache m version room) file path others notes source attached last_source output opened last_output synced both measured place keeps result done Memory tt
-  memory_as Era done = stopped IsLawfulEra IsEraVerdict is_era_early laid_era file path others notes source attached last_source output opened last_output synced both measured place keeps result done Memory tt
+  pub memory_as : (kind : Kind) → IsDoneAs kind → result ≡ Err fault.Memory → StopsAs kind Memory
+  memory_as Thin done is = of_memory IsLawfulPool IsThinVerdict is_pool_early laid_pool file path others notes source attached last_source output opened last_output synced both measured place keeps result done is
+  memory_as Cache done is = of_memory IsLawfulCache (IsCacheVerdict version) (is_cache_early version) (λ m room. laid_cache m version room) file path others notes source attached last_source output opened last_output synced both measured place keeps result done is
+  memory_as Era done is = of_memory IsLawfulEra IsEraVerdict is_era_early laid_era file path others notes source attached last_source output opened last_output synced both measured place keeps result done is
 
-  pub source_as : (kind : Kind) → IsDoneAs kind → Rose attached.faults last_source.faults → Stops kind Stream
-  source_as Thin done rose = stopped IsLawfulPool IsThinVerdict is_pool_early laid_pool file path others notes source attached last_source output opened last_output synced both measured place keeps result done Stream (inl (rw both.source_faults at rose))
-  source_as Cache done rose = stopped IsLawfulCache (IsCacheVerdict version) (is_cache_early version) (λ m room. laid_cache m version room) file path others notes source attached last_source output opened last_output synced both measured place keeps result done Stream (inl (rw both.source_faults at rose))
-  source_as Era done rose = stopped IsLawfulEra IsEraVerdict is_era_early laid_era file path others notes source attached last_source output opened last_output synced both measured place keeps result done Stream (inl (rw both.source_faults at rose))
+  pub source_as : (kind : Kind) → IsDoneAs kind → result ≡ Err fault.Source → Rose attached.faults last_source.faults → StopsAs kind Stream
+  source_as Thin done is rose = of_source IsLawfulPool IsThinVerdict is_pool_early laid_pool file path others notes source attached last_source output opened last_output synced both measured place keeps result done is rose
+  source_as Cache done is rose = of_source IsLawfulCache (IsCacheVerdict version) (is_cache_early version) (λ m room. laid_cache m version room) file path others notes source attached last_source output opened last_output synced both measured place keeps result done is rose
+  source_as Era done is rose = of_source IsLawfulEra IsEraVerdict is_era_early laid_era file path others notes source attached last_source output opened last_output synced both measured place keeps result done is rose
 
-  pub device_as : (kind : Kind) → IsDoneAs kind → Rose opened.faults last_output.faults → Stops kind Device
-  device_as Thin done rose = stopped IsLawfulPool IsThinVerdict is_pool_early laid_pool file path others notes source attached last_source output opened last_output synced both measured place keeps result done Device (inr (inl (rw both.output_faults at rose)))
-  device_as Cache done rose = stopped IsLawfulCache (IsCacheVerdict version) (is_cache_early version) (λ m room. laid_cache m version room) file path others notes source attached last_source output opened last_output synced both measured place keeps result done Device (inr (inl (rw both.output_faults at rose)))
-  device_as Era done rose = stopped IsLawfulEra IsEraVerdict is_era_early laid_era file path others notes source attached last_source output opened last_output synced both measured place keeps result done Device (inr (inl (rw both.output_faults at rose)))
+  pub device_as : (kind : Kind) → IsDoneAs kind → output.faults ≡ 0 → Rose opened.faults last_output.faults → StopsAs kind Device
+  device_as Thin done fresh rose = of_device IsLawfulPool IsThinVerdict is_pool_early laid_pool file path others notes source attached last_source output opened last_output synced both measured place keeps result done fresh rose
+  device_as Cache done fresh rose = of_device IsLawfulCache (IsCacheVerdict version) (is_cache_early version) (λ m room. laid_cache m version room) file path others notes source attached last_source output opened last_output synced both measured place keeps result done fresh rose
+  device_as Era done fresh rose = of_device IsLawfulEra IsEraVerdict is_era_early laid_era file path others notes source attached last_source output opened last_output synced both measured place keeps result done fresh rose
 
 -- an object couldn't be attached, for each kind
 pub not_attached_as : (kind : Kind) (version : ℕ) (file path : List ℕ) (others : Objects) (notes : SinkState) (source last_source : SourceState) (output last_output : DeviceState)
@@ -379,6 +439,7 @@ not_attached_as Era version file path others notes source last_source output las
 pub left_lost : (Made : Image → Image → Type 0) (unwritten : Bool) (status : ℕ) (old new : DeviceState) → LeavesMade Made unwritten status old new → LeavesMade Made unwritten 6 old new
 left_lost Made unwritten status old new left = record {
   output = record {
+    told = left.output.told;
     crash = left.output.crash;
     made = λ zero. absurd (omega arith);
     refused = λ either. absurd (elim either [ inl e ↦ omega arith | inr e ↦ omega arith ]);
@@ -386,11 +447,25 @@ left_lost Made unwritten status old new left = record {
   untouched = left.untouched;
 }
 
-pub lost_as : (kind : Kind) (version : ℕ) (file path : List ℕ) (before after : Objects) (finding : (restore kind version file path).Finding) (status : ℕ)
+pub last_lost : (Made : Image → Image → Type 0) (unwritten : Bool) (status : ℕ) (old new : DeviceState) → status ≢ 0 → LeavesMadeLast Made unwritten status old new
+    → LeavesMadeLast Made unwritten 6 old new
+last_lost Made unwritten status old new some left = record {
+  made = left_lost Made unwritten status old new left.made;
+  kept = λ _. left.kept some;
+}
+
+restored_lost : {M : Type 0} (laid : M → ℕ → Laid) (judged : Judged M) (status : ℕ) (old new : DeviceState) → status ≢ 0 → LeavesRestored laid judged status old new
+    → LeavesRestored laid judged 6 old new
+restored_lost laid judged status old new some left = record {
+  output = last_lost _ _ status old new some left.output;
+  first_lines = λ e. absurd (omega arith);
+}
+
+pub lost_as : (kind : Kind) (version : ℕ) (file path : List ℕ) (before after : Objects) (finding : (restore kind version file path).Finding) (status : ℕ) → status ≢ 0
     → (restore kind version file path).leaves finding before after status → (restore kind version file path).leaves finding before after 6
-lost_as Thin version file path before after judged status left = left_lost _ _ status before.output after.output left
-lost_as Cache version file path before after judged status left = left_lost _ _ status before.output after.output left
-lost_as Era version file path before after judged status left = left_lost _ _ status before.output after.output left
+lost_as Thin version file path before after judged status some left = restored_lost laid_pool judged status before.output after.output some left
+lost_as Cache version file path before after judged status some left = restored_lost (λ m room. laid_cache m version room) judged status before.output after.output some left
+lost_as Era version file path before after judged status some left = restored_lost laid_era judged status before.output after.output some left
 
 -- before anything was done
 pub restore_at_rest : {M : Type 0} (IsVerdictOn : List ℕ → ℕ → Verdict M → Type 0) (is_early : List ℕ → ℕ → Bool) (laid : M → ℕ → Laid)
@@ -398,13 +473,14 @@ pub restore_at_rest : {M : Type 0} (IsVerdictOn : List ℕ → ℕ → Verdict M
     → IsSynced output → HaveVerdicts IsVerdictOn → output.access ≡ 0
     → (judged : Judged M) × ((restore_by IsVerdictOn is_early laid file path).finds (record before { source = source; output = output }) (record after { source = source; output = output }) judged)
     × ((restore_by IsVerdictOn is_early laid file path).leaves judged (record before { source = source; output = output }) (record after { source = source; output = output }) 6)
-restore_at_rest IsVerdictOn is_early laid file path before after source output synced verdicts closed =
+restore_at_rest {M} IsVerdictOn is_early laid file path before after source output synced verdicts closed =
     let room = room_in output.held in
-    let v = verdicts (text_in source.left) room in (
-      record { room = room; verdict = v.0; is_early = is_early (text_in source.left) room },
+    let v = verdicts (text_in source.left) room in
+    let judged : Judged M = record { room = room; verdict = v.0; is_early = is_early (text_in source.left) room } in (
+      judged,
       (
         record { told = room-told output.held; attached = λ e. absurd (omega arith) },
         verdict-told IsVerdictOn is_early source.left room v.0 v.1,
       ),
-      untouched_output (Makes laid room v.0) (is_early (text_in source.left) room) 6 output output synced (record { held = refl; history = refl }) (λ e. omega arith),
+      untouched_restored laid judged 6 output output synced (record { held = refl; history = refl }) (λ e. omega arith),
     )

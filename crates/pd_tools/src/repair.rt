@@ -71,7 +71,7 @@ fn repair_image<A: Device, B: Device>(
 ) -> Result<Repaired, Stop>
     requires input { (A.state input.old).access ≡ 0 }
     requires output { (B.state output.old).access ≡ 0 }
-    ensures { (others : Objects) (notes : SinkState) →
+    ensures { (others : Objects) (notes : SinkState) → (B.state output.old).faults ≡ 0 →
         let before = record others { input = A.state input.old; output = B.state output.old } in
         let after = record others { notes = notes; input = A.state input.new; output = B.state output.new } in
         MatchResult result (λ repaired. IsFinished (repair from.now to.now) before after (repaired_status repaired) (repaired_line repaired))
@@ -113,7 +113,7 @@ fn repair_opened<A: Device, B: Device>(
     requires input { (A.state input.old).access ≡ 1 }
     requires output { IsWritable (B.state output.old) }
     ensures { (from to : List ℕ) (before_input before_output : DeviceState) (others : Objects) (notes : SinkState) →
-        IsSynced before_output → AreOpened from to before_input (A.state input.old) before_output (B.state output.old) →
+        IsSynced before_output → before_output.faults ≡ 0 → AreOpened from to before_input (A.state input.old) before_output (B.state output.old) →
         let before = record others { input = before_input; output = before_output } in
         let after = record others { notes = notes; input = A.state input.new; output = B.state output.new } in
         MatchResult result (λ repaired. IsFinished (repair from to) before after (repaired_status repaired) (repaired_line repaired))

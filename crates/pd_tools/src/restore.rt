@@ -81,7 +81,7 @@ fn restore_image<S: Source, B: Device>(
     requires version { IsVersion version }
     requires source { (S.state source.old).access ≡ 0 }
     requires output { (B.state output.old).access ≡ 0 }
-    ensures { (others : Objects) (notes : SinkState) →
+    ensures { (others : Objects) (notes : SinkState) → (B.state output.old).faults ≡ 0 →
         let terms = restore kind version text.now image.now in
         let before = record others { source = S.state source.old; output = B.state output.old } in
         let after = record others { source = S.state source.new; notes = notes; output = B.state output.new } in
@@ -137,7 +137,7 @@ fn restore_attached<S: Source, B: Device>(
     requires source { (S.state source.old).access ≡ 1 }
     requires output { IsWritable (B.state output.old) }
     ensures { (file path : List ℕ) (before_source : SourceState) (before_output : DeviceState) (others : Objects) (notes : SinkState) →
-        IsSynced before_output → AreAttached file path before_source (S.state source.old) before_output (B.state output.old) →
+        IsSynced before_output → before_output.faults ≡ 0 → AreAttached file path before_source (S.state source.old) before_output (B.state output.old) →
         let terms = restore kind version file path in
         let before = record others { source = before_source; output = before_output } in
         let after = record others { source = S.state source.new; notes = notes; output = B.state output.new } in
