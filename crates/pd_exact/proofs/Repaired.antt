@@ -71,7 +71,7 @@ module _ (lawful : (image : Image) → IsImage image → faults Thin stages.Supe
         IfSome_then before.input.held answered.found.1 (λ image right is.
         IfSome_then before.output.held (both_told before.output.held (λ (base : Image). saved.room ≡ room_of (length base))
         (λ (base : Image). IfSome after.output.held (λ (made : Image). LaysPool (repair_answer saved) saved.pool saved.room base made × HoldsSynced made after.output))
-        answered.found.0.told (answered.leaves.output.made refl)) (λ base told.
+        answered.found.0.told (answered.leaves.output.made.output.made refl)) (λ base told.
         IfSome_then after.output.held told.1 (λ made held.
         (made_of_salvage image base made saved is right told.0 held.0, held.1))))
 
@@ -82,7 +82,7 @@ module _ (lawful : (image : Image) → IsImage image → faults Thin stages.Supe
         IfSome_then before.input.held answered.found.1 (λ image right is.
         IfSome_then before.output.held (both_told before.output.held (λ (base : Image). saved.room ≡ room_of (length base))
         (λ (base : Image). LeavesOnly (IsOldNoneOrMade base (LaysPool (repair_answer saved) saved.pool saved.room base)) before.output after.output)
-        answered.found.0.told answered.leaves.output.crash) (λ base told.
+        answered.found.0.told answered.leaves.output.made.output.crash) (λ base told.
         weaken told.1 (λ left firsts outcome chance.
         ⊎_elim (λ old. inl old) (λ other. inr (⊎_elim (λ none. inl none) (λ made. inr (made_of_salvage image base left saved is right told.0 made)) other)) (outcome chance))))
 

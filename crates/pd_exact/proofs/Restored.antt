@@ -74,7 +74,7 @@ module _ {M : Type 0} (IsVerdictOn : List ℕ → ℕ → Verdict M → Type 0) 
         IfSome_then before.source.left answered.found.1 (λ text right.
         IfSome_then before.output.held (both_told before.output.held (λ (base : Image). judged.room ≡ room_of (length base))
         (λ (base : Image). IfSome after.output.held (λ (image : Image). Makes laid judged.room judged.verdict base image × HoldsSynced image after.output))
-        answered.found.0.told (answered.leaves.output.made refl)) (λ base told.
+        answered.found.0.told (answered.leaves.output.made.output.made refl)) (λ base told.
         IfSome_then after.output.held told.1 (λ image held.
         (made_of_text text base image judged.room judged.verdict right.0 told.0 held.0, held.1))))
 
@@ -85,7 +85,7 @@ module _ {M : Type 0} (IsVerdictOn : List ℕ → ℕ → Verdict M → Type 0) 
         IfSome_then before.source.left answered.found.1 (λ text right.
         IfSome_then before.output.held (both_told before.output.held (λ (base : Image). judged.room ≡ room_of (length base))
         (λ (base : Image). LeavesOnly (IsOldNoneOrMade base (Makes laid judged.room judged.verdict base)) before.output after.output)
-        answered.found.0.told answered.leaves.output.crash) (λ base told.
+        answered.found.0.told answered.leaves.output.made.output.crash) (λ base told.
         weaken told.1 (λ left firsts outcome chance.
         ⊎_elim (λ old. inl old) (λ other. inr (⊎_elim (λ none. inl none) (λ made. inr (made_of_text text base left judged.room judged.verdict right.0 told.0 made)) other)) (outcome chance))))
 
