@@ -1,6 +1,5 @@
 -- What an answered repair comes to, where what is saved is lawful and what is laid of a lawful pool is clean.
 use Rattle.std.proofs.Common.{◌≡◌, ◌⊎◌, inl, inr, ⊎_elim, ℕ, suc, ◌≤◌, true, cond, nat_eq, nat_lt, List, [], ◌∷◌, length, IfSome, refl, sym, ap, ◌∙◌, arith}
-use Rattle.std.specs.List.{All}
 use Rattle.std.proofs.lemmas.Bool.{cases_Bool, eq-eqb, eqb-true, le-ltb, lt-ltb, ltb-false}
 use Rattle.std.proofs.lemmas.Option.{IfSome_then}
 use Rattle.pd_kinds.specs.declared.fault.Fault.{Fault}

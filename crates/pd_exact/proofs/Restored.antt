@@ -50,7 +50,7 @@ module _ {M : Type 0} (IsVerdictOn : List ℕ → ℕ → Verdict M → Type 0) 
       apart e = cc
 
   -- what is made of a text is a clean image of what it spells
-  made_of_text : (text : List ℕ) (base image : Image) (room : ℕ) (v : Verdict M) → IsVerdictOn text room v → room ≡ room_of (length base)
+  pub made_of_text : (text : List ℕ) (base image : Image) (room : ℕ) (v : Verdict M) → IsVerdictOn text room v → room ≡ room_of (length base)
       → Makes laid room v base image → IsOfText Spells IsCleanOf text image
   made_of_text text base image room (accepted m) is same made =
       let enough = has_room text m room is in

@@ -1,5 +1,5 @@
 -- What restores leave and what checks tell, where the objects tell what they hold.
-use Rattle.std.specs.Prelude.{◌≡◌, ◌⊎◌, ℕ, ◌≤◌, false, List, [], Some, IfSome, length}
+use Rattle.std.specs.Prelude.{◌≡◌, ◌⊎◌, ℕ, ◌≤◌, false, true, List, [], Some, IfSome, length}
 use Rattle.pd_kinds.specs.declared.kind.Kind.{Kind}
 use Rattle.pd_kinds.specs.declared.kind.Kind.TheVariants.{Thin, Cache, Era}
 use Rattle.pd_kinds.specs.declared.kind.Stage.TheVariants.{Counts, Whole}
@@ -93,6 +93,10 @@ pub record IsDumpOf (kind : Kind) (version : ℕ) (image base : List (List ℕ))
 -- a check of this kind of metadata to its end was asked, and was answered with this status
 abbrev pub IsCheckAnswered : Kind → List ℕ → Objects → Objects → ℕ → Type 0
 IsCheckAnswered kind path = IsAnswered (terms_of (Some (check kind Counts false path)))
+
+-- the same check of a thin pool was asked, which clears the flag where nothing was reported
+abbrev pub IsClearingAnswered : List ℕ → Objects → Objects → ℕ → Type 0
+IsClearingAnswered path = IsAnswered (terms_of (Some (check Thin Counts true path)))
 
 -- status 0 says that the image that was read is clean, status 1 that it isn't, and where it is clean and nothing fails
 -- the status is 0, or memory was wanting

@@ -3,7 +3,7 @@ ghost use Rattle.pd_kinds.specs.declared.kind.Kind.{Kind};
 ghost use Rattle.pd_kinds.specs.declared.kind.Kind.TheVariants.{Thin};
 ghost use Rattle.pd_kinds.specs.Meaning.{thin_meaning};
 ghost use Rattle.pd_answers.specs.Answer.{NoFaults, Objects};
-ghost use Rattle.pd_exact.specs.Exact.{HoldsPoolOfText, IsCheckAnswered, IsDumpOf, IsRestoreAnswered, LeavesPoolOfText, TellsClean};
+ghost use Rattle.pd_exact.specs.Exact.{HoldsPoolOfText, IsCheckAnswered, IsClearingAnswered, IsDumpOf, IsRestoreAnswered, LeavesPoolOfText, TellsClean};
 
 use pd_laid_thin::laid_pool_is_clean;
 use pd_laws::faults_are_none_where_clean;
@@ -55,6 +55,14 @@ pub fn restored_dump_means_the_same()
 pub fn checks_tell_clean_images()
     ensures { (kind : Kind) (path : List ℕ) (before after : Objects) (status : ℕ) → IsCheckAnswered kind path before after status
         → IfSome before.input.held (TellsClean kind before after status) }
+{
+    faults_are_none_where_clean();
+}
+
+/// So does a check of a pool that clears the flag "needs check": its status says whether the image was clean that it read.
+pub fn clearing_checks_tell_clean_pools()
+    ensures { (path : List ℕ) (before after : Objects) (status : ℕ) → IsClearingAnswered path before after status
+        → IfSome before.input.held (TellsClean Thin before after status) }
 {
     faults_are_none_where_clean();
 }

@@ -13,8 +13,8 @@ pub use caches::{
     restored_cache_is_clean, sound_caches_are_lawful,
 };
 pub use laws::{
-    checks_tell_clean_images, crashed_restore_leaves_no_other_pool, restored_dump_means_the_same,
-    restored_pool_is_clean,
+    checks_tell_clean_images, clearing_checks_tell_clean_pools,
+    crashed_restore_leaves_no_other_pool, restored_dump_means_the_same, restored_pool_is_clean,
 };
 pub use repairs::{
     crashed_repair_leaves_no_other_pool, repaired_pool_is_clean,
@@ -24,4 +24,11 @@ pub use targets::{
     crashed_restore_leaves_no_other_target, restored_target_dump_means_the_same,
     restored_target_is_clean, sound_targets_are_lawful,
 };
-pub use words::thin_restore_is_asked;
+pub use words::{
+    cache_check_tells_clean, cache_dump_puts_the_text, cache_restore_makes_the_cache,
+    era_check_tells_clean, era_dump_puts_the_text, era_invalidate_puts_the_written_blocks,
+    era_restore_makes_the_target, thin_check_tells_clean, thin_check_tells_clean_and_clears,
+    thin_dump_puts_the_text, thin_generate_puts_its_text, thin_ls_puts_the_devices,
+    thin_rehearse_makes_its_pool, thin_repair_makes_what_is_saved, thin_restore_is_asked,
+    thin_restore_makes_the_pool, thin_rmap_puts_the_mappings,
+};

@@ -1,0 +1,81 @@
+-- What an answered call at status 0 comes to, by the request that its words ask.
+use Rattle.std.proofs.Common.{◌≡◌, inl, inr, ℕ, List, [], ◌∷◌, length, nat_eq, Option, IfSome, refl, sym, ap, subst, ◌∙◌, arith}
+use Rattle.std.proofs.lemmas.Bool.{cases_Bool, eqb-true}
+use Rattle.std.proofs.lemmas.Option.{IfSome_then}
+use Rattle.pd_kinds.specs.declared.fault.Fault.{Fault}
+use Rattle.pd_kinds.specs.declared.kind.Kind.{Kind}
+use Rattle.pd_kinds.specs.declared.kind.Stage.TheVariants.{Whole}
+use Rattle.pd_kinds.specs.Image.{IsImage}
+use Rattle.pd_kinds.specs.Objects.{Appends}
+use Rattle.pd_kinds.specs.Report.{Reported}
+use Rattle.pd_kinds.specs.Stages.{faults}
+use Rattle.pd_answers.specs.Answer.{Objects}
+use Rattle.pd_answers.specs.Promises.{Queried, image_text, query, query_answer, terms_of}
+use Rattle.pd_answers.specs.Requests.{Request}
+use Rattle.pd_answers.specs.Terms.{IsAnswered}
+use Rattle.pd_answers.specs.Words.{asked}
+use Rattle.pd_kinds.specs.Crash.{HoldsSynced}
+use Rattle.pd_kinds.specs.Limits.{room_of}
+use Rattle.pd_spells.specs.Early.{is_pool_early}
+use Rattle.pd_spells.specs.ThinNeed.{thin_need, IsThinVerdict}
+use Rattle.pd_spells.specs.ThinText.{SpellsPool}
+use Rattle.pd_laid.specs.LaidThin.{laid_pool}
+use Rattle.pd_laid.specs.Made.{Makes}
+use Rattle.pd_laid_thin.specs.CleanPool.{IsCleanPool}
+use Rattle.pd_answers.specs.Generated.{generated_text}
+use Rattle.pd_answers.specs.Rehearsals.{rehearse}
+use Rattle.pd_exact.proofs.Restored.{AreLaws, both_told, made_of_text}
+use Rattle.pd_exact.specs.Words.{Ends, HoldsGenerated, PutsOfInput, PutsTextOfInput}
+
+abbrev Image : Type 0
+Image = List (List ℕ)
+
+-- a call was answered for the request that its words ask
+pub answered_for : (words : List (List ℕ)) (request : Option Request) (status : ℕ) (before after : Objects) → asked words ≡ request → Ends words status before after
+    → IsAnswered (terms_of request) before after status
+answered_for words request status before after is ends = subst (λ (r : Option Request). IsAnswered (terms_of r) before after status) is ends
+
+-- no list without elements but the empty one
+none_counted : (list : List Fault) → length list ≡ 0 → list ≡ []
+none_counted [] counted = refl
+none_counted (fault ∷ list) counted = absurd (omega arith)
+
+-- a query's answer is of status 0 where nothing was reported, and then its text is put
+is_queried : (queried : Queried) → (let zero : ℕ = 0 in zero ≡ (query_answer queried).status)
+    → (queried.report.total ≡ 0) × ((query_answer queried).out ≡ queried.text)
+is_queried queried zero = elim (cases_Bool (nat_eq queried.report.total 0)) [
+  | inl none ↦ (eqb-true queried.report.total 0 none, rw none refl)
+  | inr some ↦ absurd (zero_one (rw some at zero))
+]
+  where
+    zero_one : (let zero : ℕ = 0 in zero ≡ 1) → ⊥
+    zero_one e = omega arith
+
+module _ (kind : Kind) (text_of : Image → List ℕ) (file : Option (List ℕ)) (path : List ℕ) (before after : Objects) where
+  pub puts : IsAnswered (query kind text_of file path) before after 0 → PutsOfInput kind text_of before after
+  puts answered =
+      let given = answered.sound (omega arith) in
+      let is = is_queried answered.finding given.status in
+      IfSome_then before.input.held answered.found (λ image right. record {
+        sound = none_counted (faults kind Whole image) (sym (ap (λ (r : Reported). r.total) right.0) ∙ is.0);
+        put = subst (λ (bytes : List ℕ). Appends bytes before.out.written after.out.written) (is.1 ∙ right.1) given.out;
+      })
+
+-- what a dump puts spells what the image means
+module _ {M : Type 0} (kind : Kind) (Spells : List ℕ → M → Type 0) (meaning_of : Image → M)
+    (spells : (image : Image) → IsImage image → faults kind Whole image ≡ [] → Spells (image_text kind image) (meaning_of image)) where
+  pub puts_text : (before after : Objects) → PutsOfInput kind (image_text kind) before after → PutsTextOfInput kind Spells meaning_of before after
+  puts_text before after put = IfSome_then before.input.held put (λ image is. record { text = is; spells = λ image_is. spells image image_is is.sound })
+
+-- what a rehearsal's output holds
+pub holds_generated : AreLaws IsThinVerdict laid_pool SpellsPool thin_need IsCleanPool → (number : ℕ) (path : List ℕ) (before after : Objects)
+    → IsAnswered (rehearse number path) before after 0 → HoldsGenerated number before after
+holds_generated laws number path before after answered =
+    let found = answered.finding in
+    IfSome_then before.output.held (both_told before.output.held (λ (base : Image). found.room ≡ room_of (length base))
+    (λ (base : Image). IfSome after.output.held (λ (image : Image). Makes laid_pool found.room found.verdict base image × HoldsSynced image after.output))
+    answered.found.0.told (answered.leaves.output.made refl)) (λ base told.
+    IfSome_then after.output.held told.1 (λ image held. (
+      made_of_text IsThinVerdict is_pool_early laid_pool SpellsPool thin_need IsCleanPool laws (generated_text number) base image found.room found.verdict answered.found.1.0 told.0 held.0,
+      held.1,
+    )))

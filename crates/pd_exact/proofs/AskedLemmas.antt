@@ -1,0 +1,103 @@
+-- What the words of each tool ask.
+use Rattle.std.proofs.Common.{◌≡◌, ◌⊎◌, inl, inr, ℕ, ◌^◌, true, false, List, [], ◌∷◌, ◌++◌, Option, Some, None, IfSome, refl, sym}
+use Rattle.std.specs.Prelude.{codes}
+use Rattle.std.specs.Str.{bytes_eq}
+use Rattle.std.proofs.lemmas.Bool.{cases_Bool}
+use Rattle.std.proofs.lemmas.Option.{same_Some}
+use Rattle.pd_kinds.specs.declared.kind.Kind.TheVariants.{Thin, Cache, Era}
+use Rattle.pd_kinds.specs.declared.kind.Stage.TheVariants.{Counts}
+use Rattle.pd_answers.specs.Requests.{check, dump, restore, repair, rmap, list_devices, since, generate, rehearse, is_built}
+use Rattle.pd_answers.specs.Words.{Region, is_flag, items_of, given, version_of, generated_number, number_below, region_of, tool_in, request_of, spelled, asked}
+use Rattle.pd_exact.specs.Words.{IsName, to_file, in_version}
+
+pub thin_check_asked : (image : List ℕ) → IsName image → asked (codes "thin_check" ∷ image ∷ []) ≡ Some (check Thin Counts false image)
+unfolding is_built is_flag items_of given version_of tool_in request_of spelled asked
+thin_check_asked image is_image = rw is_image refl
+
+pub cache_check_asked : (image : List ℕ) → IsName image → asked (codes "cache_check" ∷ image ∷ []) ≡ Some (check Cache Counts false image)
+unfolding is_built is_flag items_of given version_of tool_in request_of spelled asked
+cache_check_asked image is_image = rw is_image refl
+
+pub era_check_asked : (image : List ℕ) → IsName image → asked (codes "era_check" ∷ image ∷ []) ≡ Some (check Era Counts false image)
+unfolding is_built is_flag items_of given version_of tool_in request_of spelled asked
+era_check_asked image is_image = rw is_image refl
+
+pub thin_clearing_asked : (image : List ℕ) → IsName image → asked (codes "thin_check" ∷ codes "--clear-needs-check-flag" ∷ image ∷ []) ≡ Some (check Thin Counts true image)
+unfolding is_built is_flag items_of given version_of tool_in request_of spelled asked
+thin_clearing_asked image is_image = rw is_image refl
+
+pub thin_dump_asked : (file : Option (List ℕ)) (image : List ℕ) → IfSome file IsName → IsName image → asked (codes "thin_dump" ∷ (to_file file ++ (image ∷ []))) ≡ Some (dump Thin false file image)
+unfolding is_built is_flag items_of given version_of tool_in request_of spelled asked
+thin_dump_asked None image is_file is_image = rw (is_image) refl
+thin_dump_asked (Some file) image is_file is_image = rw (is_file, is_image) refl
+
+pub cache_dump_asked : (file : Option (List ℕ)) (image : List ℕ) → IfSome file IsName → IsName image → asked (codes "cache_dump" ∷ (to_file file ++ (image ∷ []))) ≡ Some (dump Cache false file image)
+unfolding is_built is_flag items_of given version_of tool_in request_of spelled asked
+cache_dump_asked None image is_file is_image = rw (is_image) refl
+cache_dump_asked (Some file) image is_file is_image = rw (is_file, is_image) refl
+
+pub era_dump_asked : (file : Option (List ℕ)) (image : List ℕ) → IfSome file IsName → IsName image → asked (codes "era_dump" ∷ (to_file file ++ (image ∷ []))) ≡ Some (dump Era false file image)
+unfolding is_built is_flag items_of given version_of tool_in request_of spelled asked
+era_dump_asked None image is_file is_image = rw (is_image) refl
+era_dump_asked (Some file) image is_file is_image = rw (is_file, is_image) refl
+
+pub thin_ls_asked : (file : Option (List ℕ)) (image : List ℕ) → IfSome file IsName → IsName image → asked (codes "thin_ls" ∷ (to_file file ++ (image ∷ []))) ≡ Some (list_devices file image)
+unfolding is_built is_flag items_of given version_of tool_in request_of spelled asked
+thin_ls_asked None image is_file is_image = rw (is_image) refl
+thin_ls_asked (Some file) image is_file is_image = rw (is_file, is_image) refl
+
+pub thin_restore_asked : (file path : List ℕ) → IsName file → IsName path → asked (codes "thin_restore" ∷ codes "-i" ∷ file ∷ codes "-o" ∷ path ∷ []) ≡ Some (restore Thin 1 file path)
+unfolding is_built is_flag items_of given version_of tool_in request_of spelled asked
+thin_restore_asked file path is_file is_path = rw (is_file, is_path) refl
+
+pub era_restore_asked : (file path : List ℕ) → IsName file → IsName path → asked (codes "era_restore" ∷ codes "-i" ∷ file ∷ codes "-o" ∷ path ∷ []) ≡ Some (restore Era 1 file path)
+unfolding is_built is_flag items_of given version_of tool_in request_of spelled asked
+era_restore_asked file path is_file is_path = rw (is_file, is_path) refl
+
+pub thin_repair_asked : (from to : List ℕ) → IsName from → IsName to → asked (codes "thin_repair" ∷ codes "-i" ∷ from ∷ codes "-o" ∷ to ∷ []) ≡ Some (repair from to)
+unfolding is_built is_flag items_of given version_of tool_in request_of spelled asked
+thin_repair_asked from to is_from is_to = rw (is_from, is_to) refl
+
+pub cache_restore_asked : (word : Option (List ℕ)) (version : ℕ) (file path : List ℕ) → IfSome word IsName → version_of word ≡ Some version → IsName file → IsName path
+    → asked (codes "cache_restore" ∷ (in_version word ++ (codes "-i" ∷ file ∷ codes "-o" ∷ path ∷ []))) ≡ Some (restore Cache version file path)
+unfolding is_built is_flag items_of given tool_in request_of spelled asked
+cache_restore_asked None version file path is_word is is_file is_path = rw (is_file, is_path, is) refl
+cache_restore_asked (Some word) version file path is_word is is_file is_path = rw (is_word, is_file, is_path, is) refl
+
+pub era_invalidate_asked : (word : List ℕ) (era : ℕ) (file : Option (List ℕ)) (image : List ℕ) → IsName word → number_below (2 ^ 32) word ≡ Some era → IfSome file IsName → IsName image
+    → asked (codes "era_invalidate" ∷ codes "--written-since" ∷ word ∷ (to_file file ++ (image ∷ []))) ≡ Some (since era file image)
+unfolding is_built is_flag items_of given version_of tool_in request_of spelled asked
+era_invalidate_asked word era None image is_word is is_file is_image = rw (is_word, is_image, is) refl
+era_invalidate_asked word era (Some file) image is_word is is_file is_image = rw (is_word, is_file, is_image, is) refl
+
+pub thin_rmap_asked : (word : List ℕ) (region : Region) (file : Option (List ℕ)) (image : List ℕ) → IsName word → region_of word ≡ Some region → IfSome file IsName → IsName image
+    → asked (codes "thin_rmap" ∷ codes "--region" ∷ word ∷ (to_file file ++ (image ∷ []))) ≡ Some (rmap region.first region.end file image)
+unfolding is_built is_flag items_of given version_of tool_in request_of spelled asked
+thin_rmap_asked word region None image is_word is is_file is_image = rw (is_word, is_image, is) refl
+thin_rmap_asked word region (Some file) image is_word is is_file is_image = rw (is_word, is_file, is_image, is) refl
+
+pub thin_generate_asked : (word : List ℕ) (number : ℕ) (file : Option (List ℕ)) → IsName word → generated_number word ≡ Some number → IfSome file IsName
+    → asked (codes "thin_generate" ∷ codes "--number" ∷ word ∷ to_file file) ≡ Some (generate number file)
+unfolding is_built is_flag items_of given version_of tool_in request_of spelled asked
+thin_generate_asked word number None is_word is is_file = rw (is_word, is) refl
+thin_generate_asked word number (Some file) is_word is is_file = rw (is_word, is_file, is) refl
+
+pub thin_rehearse_asked : (word : List ℕ) (number : ℕ) (path : List ℕ) → IsName word → generated_number word ≡ Some number → IsName path
+    → asked (codes "thin_rehearse" ∷ codes "--number" ∷ word ∷ codes "-o" ∷ path ∷ []) ≡ Some (rehearse number path)
+unfolding is_built is_flag items_of given version_of tool_in request_of spelled asked
+thin_rehearse_asked word number path is_word is is_path = rw (is_word, is_path, is) refl
+
+-- a word names version 1 or 2, and without one it is 1
+pub known_version : (word : Option (List ℕ)) (version : ℕ) → version_of word ≡ Some version → (version ≡ 1) ⊎ (version ≡ 2)
+unfolding version_of
+known_version None version is = inl (sym (same_Some 1 version is))
+known_version (Some word) version is = elim (cases_Bool (bytes_eq word (codes "1"))) [
+  | inl one ↦ inl (sym (same_Some 1 version (rw one at is)))
+  | inr other ↦ elim (cases_Bool (bytes_eq word (codes "2"))) [
+    | inl two ↦ inr (sym (same_Some 2 version (rw (other, two) at is)))
+    | inr none ↦ absurd (nothing version (rw (other, none) at is))
+  ]
+]
+  where
+    nothing : (version : ℕ) → (let none : Option ℕ = None in none ≡ Some version) → ⊥
+    nothing version is = cc

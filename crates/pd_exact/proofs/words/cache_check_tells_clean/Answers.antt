@@ -1,0 +1,8 @@
+use Rattle.pd_kinds.specs.declared.kind.Kind.TheVariants.{Cache}
+use Rattle.pd_exact.proofs.Asked.{answered_for}
+use Rattle.pd_exact.proofs.AskedLemmas.{cache_check_asked}
+use Rattle.pd_exact.proofs.words.cache_check_tells_clean.Goals as goal
+
+pub returns : goal.returns
+returns c = λ image before after status is_image ends.
+    c.checks_tell_clean_images.ensures Cache image before after status (answered_for _ _ status before after (cache_check_asked image is_image) ends)

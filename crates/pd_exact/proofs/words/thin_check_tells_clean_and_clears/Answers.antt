@@ -1,0 +1,7 @@
+use Rattle.pd_exact.proofs.Asked.{answered_for}
+use Rattle.pd_exact.proofs.AskedLemmas.{thin_clearing_asked}
+use Rattle.pd_exact.proofs.words.thin_check_tells_clean_and_clears.Goals as goal
+
+pub returns : goal.returns
+returns c = λ image before after status is_image ends.
+    c.clearing_checks_tell_clean_pools.ensures image before after status (answered_for _ _ status before after (thin_clearing_asked image is_image) ends)

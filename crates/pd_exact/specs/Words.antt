@@ -1,0 +1,66 @@
+-- What status 0 says to whoever gave the words of a command line: of what was read, of what was put to `out`, and of what
+-- the output holds.
+use Rattle.std.specs.Prelude.{◌≡◌, ℕ, true, List, [], ◌∷◌, Option, Some, None, IfSome, codes}
+use Rattle.pd_kinds.specs.declared.kind.Kind.{Kind}
+use Rattle.pd_kinds.specs.declared.kind.Stage.TheVariants.{Whole}
+use Rattle.pd_kinds.specs.Crash.{HoldsSynced}
+use Rattle.pd_kinds.specs.Image.{IsImage}
+use Rattle.pd_kinds.specs.Objects.{Appends}
+use Rattle.pd_kinds.specs.Stages.{faults}
+use Rattle.pd_spells.specs.ThinText.{SpellsPool}
+use Rattle.pd_laid_thin.specs.CleanPool.{IsCleanPool}
+use Rattle.pd_answers.specs.Answer.{Objects}
+use Rattle.pd_answers.specs.Generated.{generated_text}
+use Rattle.pd_answers.specs.Promises.{image_text, terms_of}
+use Rattle.pd_answers.specs.Terms.{IsAnswered}
+use Rattle.pd_answers.specs.Words.{asked, is_value}
+use Rattle.pd_exact.specs.Exact.{IsOfText, TellsClean}
+
+-- a call that was given the words, without the program's own name, ended with this status
+abbrev pub Ends : List (List ℕ) → ℕ → Objects → Objects → Type 0
+Ends words status before after = IsAnswered (terms_of (asked words)) before after status
+
+-- a word that can name a file or a device, or be a value
+abbrev pub IsName : List ℕ → Type 0
+IsName word = is_value word ≡ true
+
+-- `-o FILE`, where a file is named; else `out` is the standard stream
+abbrev pub to_file : Option (List ℕ) → List (List ℕ)
+to_file None = []
+to_file (Some file) = codes "-o" ∷ file ∷ []
+
+-- `--metadata-version VERSION`, where one is given
+abbrev pub in_version : Option (List ℕ) → List (List ℕ)
+in_version None = []
+in_version (Some word) = codes "--metadata-version" ∷ word ∷ []
+
+-- the status of a check tells whether the image is clean
+abbrev pub TellsWhetherClean : Kind → Objects → Objects → ℕ → Type 0
+TellsWhetherClean kind before after status = IfSome before.input.held (TellsClean kind before after status)
+
+-- the image has no faults up to the stage Whole, and these bytes were put to `out`
+pub record PutsOfSound (kind : Kind) (bytes : List ℕ) (image : List (List ℕ)) (before after : Objects) : Type 0 where
+  pub sound : faults kind Whole image ≡ []
+  pub put : Appends bytes before.out.written after.out.written
+
+-- such an image was read, and the bytes were put that this gives of it
+abbrev pub PutsOfInput : Kind → (List (List ℕ) → List ℕ) → Objects → Objects → Type 0
+PutsOfInput kind bytes_of before after = IfSome before.input.held (λ image. PutsOfSound kind (bytes_of image) image before after)
+
+-- the image's text was put, and it spells what the image means
+pub record PutsItsText {M : Type 0} (kind : Kind) (Spells : List ℕ → M → Type 0) (meaning_of : List (List ℕ) → M) (image : List (List ℕ)) (before after : Objects) : Type 0 where
+  pub text : PutsOfSound kind (image_text kind image) image before after
+  pub spells : IsImage image → Spells (image_text kind image) (meaning_of image)
+
+abbrev pub PutsTextOfInput : {M : Type 0} → Kind → (List ℕ → M → Type 0) → (List (List ℕ) → M) → Objects → Objects → Type 0
+PutsTextOfInput kind Spells meaning_of before after =
+    IfSome before.input.held (λ image. PutsItsText kind Spells meaning_of image before after)
+
+-- the generator's text was put
+abbrev pub PutsGenerated : ℕ → Objects → Objects → Type 0
+PutsGenerated number before after = Appends (generated_text number) before.out.written after.out.written
+
+-- the output holds an image that is clean and means the pool of the generator's text, and nothing of it is unsynced
+abbrev pub HoldsGenerated : ℕ → Objects → Objects → Type 0
+HoldsGenerated number before after = IfSome before.output.held (λ base.
+    IfSome after.output.held (λ image. IsOfText SpellsPool IsCleanPool (generated_text number) image × HoldsSynced image after.output))
