@@ -260,7 +260,7 @@ module _ {M : Type 0} (Lawful : M → Type 0) (IsVerdictOn : List ℕ → ℕ �
   leaves : (status : ℕ) → (status ≡ 0 → IsDone result) → ((status ≡ 3) ⊎ (status ≡ 4) → HoldsOldOrNone output last_output)
       → (status ≢ 0 → last_output.faults ≡ output.faults → HoldsOldOrNone output last_output)
       → (status ≡ 3 → IsRefusedEarly done.verdict → IsUntouched output last_output) → LeavesRestored laid finding status output last_output
-  leaves status is_done refused kept first_lines = record {
+  leaves status is_done turned_down kept first_lines = record {
     output = record {
       made = record {
         output = record {
@@ -270,7 +270,7 @@ module _ {M : Type 0} (Lawful : M → Type 0) (IsVerdictOn : List ℕ → ℕ �
               (done.crash image (still_synced image output opened both.untouched s)));
           made = λ zero. subst (λ (h : Option Image). IfSome h (λ image. IfSome last_output.held (λ now. Makes laid room done.verdict image now × HoldsSynced now last_output)))
               both.untouched.held (where_done result done.made (is_done zero));
-          refused = refused;
+          refused = turned_down;
         };
         untouched = λ early. untouched (done.untouched early);
       };
