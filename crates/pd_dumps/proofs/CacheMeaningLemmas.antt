@@ -1,5 +1,5 @@
 -- The lines of what is given of a cache without faults are those of its meaning.
-use Rattle.std.proofs.Common.{◌≡◌, ℕ, zero, suc, ◌+◌, ◌-◌, ◌^◌, ◌<◌, ◌≤◌, min, Bool, true, false, not, ◌&&◌, cond, nat_eq, get_or, List, [], ◌∷◌, ◌++◌, length, map, filter, Option, IfSome, refl, sym, ap, subst, ◌∙◌, arith}
+use Rattle.std.proofs.Common.{◌≡◌, ℕ, zero, suc, ◌+◌, ◌-◌, ◌^◌, ◌<◌, ◌≤◌, min, Bool, true, false, not, ◌&&◌, cond, nat_eq, get_or, List, [], ◌∷◌, ◌++◌, length, map, filter, Option, IfSome, refl, sym, ap, ◌∙◌, arith}
 use Rattle.std.specs.List.{AllByRecursion, list_any, range_with_len}
 use Rattle.std.proofs.lemmas.Bool.{eq-eqb, true≢false, or_parts, not-false, eqb-true}
 use Rattle.pd_kinds.specs.declared.kind.Kind.TheVariants.{Cache}
@@ -122,5 +122,5 @@ pub text_means : (held : Option (List (List ℕ))) (s : CacheFields) (dump : Cac
     → cache_dump_text image (cache_fields (block_at image 0)) ≡ text_of_cache (cache_meaning image))
     → IfSome held (λ image. faults Cache Whole image ≡ [] → text_left image dump ≡ text_of_cache (cache_meaning image))
 text_means held s dump bytes read text law =
-    two_told held (λ image bytes is none. is.1 ∙ (ap (λ (fields : CacheFields). cache_dump_text image fields) (is.0 (has_some image none)) ∙ law image bytes none)) bytes
+    two_told {Q = λ image. (1 ≤ length image → s ≡ cache_fields (block_at image 0)) × (text_left image dump ≡ cache_dump_text image s)} held (λ image bytes is none. is.1 ∙ (ap (λ (fields : CacheFields). cache_dump_text image fields) (is.0 (has_some image none)) ∙ law image bytes none)) bytes
     (two_told held (λ image read text. (read, text)) read text)
