@@ -312,8 +312,8 @@ fn a_dump_reports_faults_and_says_which_object_failed(rt: HostRuntime) -> Result
 /// Checks and dumps a restored cache with each call of the device failing in turn.
 fn expect_faults(rt: &impl Abort, alloc: Global, words: &[&str]) -> Result<(), AllocError> {
     let image = made(rt, alloc, words, TWO_MAPPED, 16)?;
-    expect_device_faults(rt, alloc, CHECK, image.as_slice())?;
-    expect_device_faults(rt, alloc, DUMP, image.as_slice())
+    expect_device_faults(rt, alloc, CHECK, image.as_slice(), 200)?;
+    expect_device_faults(rt, alloc, DUMP, image.as_slice(), 200)
 }
 
 #[test]

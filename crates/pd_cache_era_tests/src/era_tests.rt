@@ -252,9 +252,9 @@ const SINCE: &[&str] = &["era_invalidate", "--written-since", "5", "image"];
 #[test]
 fn each_call_of_the_device_of_a_target_may_fail(rt: HostRuntime) -> Result<(), Fail> {
     let image = written_target();
-    expect_device_faults(&rt, rt.alloc(), &[CHECK, "image"], &image)?;
-    expect_device_faults(&rt, rt.alloc(), DUMP, &image)?;
-    expect_device_faults(&rt, rt.alloc(), SINCE, &image)?;
+    expect_device_faults(&rt, rt.alloc(), &[CHECK, "image"], &image, 300)?;
+    expect_device_faults(&rt, rt.alloc(), DUMP, &image, 300)?;
+    expect_device_faults(&rt, rt.alloc(), SINCE, &image, 300)?;
     Ok(())
 }
 

@@ -263,17 +263,15 @@ fn is_past_device(
     Ok(false)
 }
 
-/// How many calls of the device a run makes at most.
-const MANY: u64 = 300;
-
-/// Runs a tool with each call of its device failing in turn, until one run makes fewer calls.
+/// Runs a tool with each call of its device failing in turn, until one run makes fewer calls. It makes fewer than `most`.
 pub(crate) fn expect_device_faults(
     rt: &impl Abort,
     alloc: Global,
     words: &[&str],
     image: &[Block],
+    most: u64,
 ) -> Result<(), AllocError> {
-    for call in 0..MANY {
+    for call in 0..most {
         if is_past_device(rt, alloc, words, image, call)? {
             assert!(rt; call > 10);
             return Ok(());
