@@ -97,8 +97,6 @@ runs_more (r ∷ given) begun =
 one_more : (ms : List Mapping) (m : Mapping) → length (ms ++ m ∷ []) ≡ length ms + 1
 one_more ms m = length-append ms (m ∷ [])
 
-}
-
 module _ (before runs : List Run) (gathering : Gathering) (virt : ℕ) (value : BlockTime) (ms : List Mapping) (is : IsGathering before runs gathering ms) where
   abbrev m : Mapping
   m = mapping_of (virt, value)

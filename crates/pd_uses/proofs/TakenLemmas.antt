@@ -52,8 +52,6 @@ module _ {T : Type 0} (has_taken : T → List DataUse → T → Type 0) (held : 
     taken = so_far.taken;
   }
 
-  }
-
 -- an entry before others
 pub entry_first : (id : ℕ) (item : ℕ × BlockTime) (left later : List (ℕ × BlockTime)) → left ≡ item ∷ later
     → map (use_by id) (map mapping_of left) ≡ (use_by id (mapping_of item) ∷ []) ++ map (use_by id) (map mapping_of later)
