@@ -19,19 +19,32 @@ struct Call {
     output: Hidden,
 }
 
+/// The text that a call reads, the blocks of its input and of its output, and what the output shows from a call on.
+#[derive(Drop)]
+struct Untold<'a> {
+    text: &'a str,
+    input: Vec<Block>,
+    output: Vec<Block>,
+    shows_from: u64,
+    shown: Shown,
+}
+
 /// Runs a tool over an input and an output that tell nothing.
-fn run_untold(
-    alloc: Global,
-    words: &[&str],
-    text: &str,
-    mut input: Hidden,
-    mut output: Hidden,
-) -> Result<Box<Call>, AllocError> {
+fn run_untold(alloc: Global, words: &[&str], untold: Untold<'_>) -> Result<Box<Call>, AllocError> {
+    let Untold {
+        text,
+        input,
+        output,
+        shows_from,
+        shown,
+    } = untold;
     let texts = texts_of(alloc, words)?;
     let mut source = MemSource::of(alloc, text.as_bytes(), 7)?;
     let mut out = MemSink::new(alloc);
     let mut notes = MemSink::new(alloc);
     let mut third = MemDevice::of(alloc, &[])?;
+    let mut input = Hidden::new(input, u64::MAX, Shown::Damaged);
+    let mut output = Hidden::new(output, shows_from, shown);
     let status = run_tool(
         alloc,
         texts.as_slice(),
@@ -51,10 +64,21 @@ fn run_untold(
     Ok(Box::new(alloc, call)?)
 }
 
-/// So many blocks of zeros, on a device that shows what it holds.
-fn zeros(alloc: Global, blocks: usize) -> Result<Hidden, AllocError> {
-    let base = vec![in alloc; Block::zeros(); blocks]?;
-    Ok(Hidden::new(base, u64::MAX, Shown::Damaged))
+/// A call with this text and this input, over so many blocks of zeros, which shows what it holds.
+fn shown<'a>(
+    alloc: Global,
+    text: &'a str,
+    input: Vec<Block>,
+    blocks: usize,
+) -> Result<Untold<'a>, AllocError> {
+    let output = vec![in alloc; Block::zeros(); blocks]?;
+    Ok(Untold {
+        text,
+        input,
+        output,
+        shows_from: u64::MAX,
+        shown: Shown::Damaged,
+    })
 }
 
 /// The words of the restores.
@@ -134,8 +158,7 @@ fn made_of(alloc: Global, words: &[&str], text: &str) -> Result<Vec<Block>, Allo
 fn expect_row(rt: &impl Abort, alloc: Global, row: Row) -> Result<Box<Call>, AllocError> {
     let (restore, text, words, out) = row;
     let made = made_of(alloc, restore, text)?;
-    let input = Hidden::new(made, u64::MAX, Shown::Damaged);
-    let call = run_untold(alloc, words, text, input, zeros(alloc, BLOCKS)?)?;
+    let call = run_untold(alloc, words, shown(alloc, text, made, BLOCKS)?)?;
     assert!(rt; call.status == 0, "{out}");
     assert!(rt; call.notes.bytes().is_empty(), "{out}");
     assert!(rt; call.out.bytes() == out.as_bytes(), "{out}");
@@ -171,7 +194,8 @@ fn the_generator_leaves_devices_alone(rt: HostRuntime) -> Result<(), Fail> {
     let alloc = rt.alloc();
     let words = &["thin_generate", "--number", "1"];
     let told = run(alloc, words, &[], NOTHING_FAILS)?;
-    let call = run_untold(alloc, words, "", zeros(alloc, 0)?, zeros(alloc, 0)?)?;
+    let untold = shown(alloc, "", Vec::new(alloc), 0)?;
+    let call = run_untold(alloc, words, untold)?;
     assert!(rt; call.status == 0);
     assert!(rt; call.out.bytes() == told.out.bytes());
     Ok(())
@@ -184,11 +208,16 @@ const AFTER_RESTORE: u64 = 24;
 const REHEARSED: usize = 4096;
 
 /// A rehearsal of number 1 over a device that shows this after the restore.
-fn rehearse(alloc: Global, shown: Shown) -> Result<Box<Call>, AllocError> {
+fn rehearse(alloc: Global, after: Shown) -> Result<Box<Call>, AllocError> {
     let words = &["thin_rehearse", "--number", "1", "-o", "x"];
-    let base = vec![in alloc; Block::zeros(); REHEARSED]?;
-    let output = Hidden::new(base, AFTER_RESTORE, shown);
-    run_untold(alloc, words, "", zeros(alloc, 0)?, output)
+    let untold = Untold {
+        text: "",
+        input: Vec::new(alloc),
+        output: vec![in alloc; Block::zeros(); REHEARSED]?,
+        shows_from: AFTER_RESTORE,
+        shown: after,
+    };
+    run_untold(alloc, words, untold)
 }
 
 #[test]
