@@ -130,13 +130,26 @@ fn replace(dev: &mut MemDevice) -> Result<(), Failed>
     rewrite.commit(&NEW[0])
 }
 
+/// The same, and then the superblock again.
+fn replace_twice(dev: &mut MemDevice) -> Result<(), Failed>
+    requires writable { IsWritable (mem_device_state dev.old) }
+    requires room { 3 ≤ (mem_device_state dev.old).blocks }
+{
+    let mut rewrite = Rewrite::start(dev)?;
+    let mut block = Block::zeros();
+    rewrite.read(1, &mut block)?;
+    rewrite.replace(2, &block)?;
+    rewrite.commit(&NEW[0])?;
+    rewrite_super(dev, &NEW[1])
+}
+
 #[test]
 fn an_image_is_changed_where_it_stands(rt: HostRuntime) -> Result<(), Fail> {
     let mut dev = device_of(rt.alloc(), &OLD, true, NEVER, NEVER)?;
     assert!(rt; replace(&mut *dev).is_ok());
     assert!(rt; three_left(rt.alloc(), &dev, Pick::New)? == Some([NEW[0], OLD[1], OLD[1]]));
     let mut dev = device_of(rt.alloc(), &OLD, true, NEVER, NEVER)?;
-    assert!(rt; rewrite_super(&mut *dev, &NEW[1]).is_ok());
-    assert!(rt; three_left(rt.alloc(), &dev, Pick::New)? == Some([NEW[1], OLD[1], OLD[2]]));
+    assert!(rt; replace_twice(&mut *dev).is_ok());
+    assert!(rt; three_left(rt.alloc(), &dev, Pick::New)? == Some([NEW[1], OLD[1], OLD[1]]));
     Ok(())
 }
