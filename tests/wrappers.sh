@@ -175,6 +175,18 @@ for kind in thin cache era; do
     notes 'fault meta 0 checksum' 'faults 1'
 done
 
+# the superblock of another kind, and block 0 after a restore that was stopped
+for tool in cache_check era_check; do
+    try 1 $tool thin-pool.img
+    out 'fault meta 0 checksum' 'faults 1'
+done
+try 1 thin_check cache.img
+out 'fault meta 0 checksum' 'faults 1'
+cp thin-pool.img lost.img
+dd if=/dev/zero of=lost.img bs=4096 count=1 conv=notrunc 2>/dev/null
+try 1 thin_check lost.img
+out 'fault meta 0 checksum' 'faults 1'
+
 # a data block that is allocated and not used, and one whose count is too low
 cp thin-pool.img leak.img
 poke leak.img 729088 '\152\352\235\253'
