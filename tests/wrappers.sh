@@ -340,7 +340,8 @@ out 'rehearsal 100 used 870 mappings 200000 lines 200005 clean'
 zeros spare.img 869
 try 4 thin_rehearse --number 100 -o spare.img
 out
-notes 'pdata_tools: no room: need 870, blocks 869'
+notes 'pdata_tools: no room: need 870, blocks 869' \
+    'thin_rehearse: a block has 4 KiB: the blocks needed, divided by 256, are the MiB to give lvcreate -L'
 
 # Repairs
 
