@@ -86,6 +86,11 @@ for name in thin-pool cache era; do
     cp "$here/examples/$name.txt" .
 done
 
+# The map of the crates
+try 0 "$here/tests/architecture.sh"
+out
+notes
+
 # The installation
 
 prefix=$tmp/prefix

@@ -12,8 +12,8 @@ ghost use Rattle.pd_arrays.specs.Arrays.{AreCountedTo, AreMarked, HasArrays};
 use crate::mark::ArrayMark;
 use crate::marks::ArrayMarks;
 use crate::nodes::{levels, mark_level};
-use crate::roles::{ArrayRoles, has_role};
-use pd_graph::{Audit, Format};
+use crate::roles::ArrayRoles;
+use pd_graph::{Audit, Format, has_role};
 use pd_image::{Device, Failed};
 use pd_kinds::Block;
 

@@ -13,4 +13,4 @@ pub use filling::fill_marks;
 pub use judging::{check_array, has_words, is_index_bad, mark_array};
 pub use mark::ArrayMark;
 pub use marks::ArrayMarks;
-pub use roles::{ArrayRoles, has_role};
+pub use roles::ArrayRoles;

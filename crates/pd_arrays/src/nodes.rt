@@ -13,8 +13,8 @@ ghost use Rattle.pd_arrays.specs.Reads.{is_at, is_under, number_where};
 
 use crate::mark::ArrayMark;
 use crate::marks::ArrayMarks;
-use crate::roles::{ArrayRoles, has_role};
-use pd_graph::{Audit, Format};
+use crate::roles::ArrayRoles;
+use pd_graph::{Audit, Format, has_role};
 use pd_image::{Device, Failed};
 use pd_kinds::Block;
 use pd_tree::{edges_lead_to_reached_pairs, reached_trees_are_sound};

@@ -15,7 +15,7 @@ ghost use Rattle.pd_bitmap.specs.Index.{DoFieldsFit};
 
 use crate::HEADER_SIZE;
 use pd_crc::{is_sealed, seal};
-use pd_kinds::{Block, Rule, Rules, is_outside, put_u64, u64_at};
+use pd_kinds::{Block, Rule, Rules, bitmaps_for, is_outside, put_u64, u64_at};
 use pd_value::{IndexEntry, Value, put_value, value_at};
 
 /// What the checksum of an index block is XORed with, as INDEX_CSUM_XOR of
@@ -24,9 +24,6 @@ const INDEX_SALT: u32 = 160478;
 
 /// The size of an entry in bytes.
 const ENTRY_SIZE: usize = 16;
-
-/// The number of counts that a bitmap has.
-const BITMAP_COUNTS: usize = 16320;
 
 /// The rules that the block breaks as the index block in this place, for so many metadata blocks.
 ///
@@ -62,7 +59,7 @@ fn is_bitmap_outside(block: &Block, nr: u64) -> bool
     requires { nr ≤ MAX_META_BLOCKS }
     ensures { result ≡ list_any (λ (b : ℕ). is_outside nr b) (index_blocks nr block.now.0) }
 {
-    let count = (nr as usize).div_ceil(BITMAP_COUNTS);
+    let count = bitmaps_for(nr) as usize;
     let mut outside = false;
     for i in 0..count {
         let bitmap = u64_at(&block.0, HEADER_SIZE + ENTRY_SIZE * i);

@@ -1,9 +1,12 @@
-//! Tests of what is written part by part: trees, arrays and space maps, built on devices in memory.
+//! Tests of trees, arrays and space maps on devices in memory, as they are written part by part, and of the counts that
+//! are read back.
 #![tactic(auto)]
 
 #[cfg(test)]
 mod build_tests;
 #[cfg(test)]
 mod built;
+#[cfg(test)]
+mod count_tests;
 #[cfg(test)]
 mod map_tests;

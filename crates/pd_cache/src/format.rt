@@ -1,5 +1,5 @@
 use pd_array::Word;
-use pd_kinds::{Block, CacheSuper, Edges, Rules};
+use pd_kinds::{Block, CacheSuper, Edges, Rules, cache_role};
 use pd_layouts::{Layout, LeafValue, Names, Table, Tabled};
 use pd_supers::{cache_super_edges, cache_super_rules, read_cache_super};
 
@@ -16,7 +16,7 @@ impl Table for CacheTable {
     ghost use Rattle.pd_laws.proofs.CacheTable.{cache_table};
     ghost use Rattle.pd_cache.specs.Copies.{copy_edges, copy_rules};
 
-    const ROLES: u8 = 12;
+    const ROLES: u8 = cache_role::ROLES;
 
     type Super = CacheSuper;
 
@@ -43,17 +43,30 @@ impl Table for CacheTable {
     #[tactic(auto, unfolding(pd_kinds::specs::CacheFormat::cache_layout))]
     fn layout(role: u8, _data_blocks: u64) -> Layout {
         match role {
-            0 => Layout::Copy,
-            1 => Layout::Tree(LeafValue::Root, Names::Metadata(2)),
-            2 => Layout::Array(Word::Eight),
-            3 => Layout::Tree(LeafValue::Root, Names::Metadata(4)),
-            4 => Layout::Array(Word::Four),
-            5 => Layout::Tree(LeafValue::Root, Names::Metadata(6)),
-            6 => Layout::Array(Word::Eight),
-            7 => Layout::Index(8),
-            8 => Layout::Bitmap,
-            9 => Layout::Tree(LeafValue::Count, Names::Nothing),
-            10 => Layout::Tree(LeafValue::Root, Names::Metadata(11)),
+            cache_role::SUPER => Layout::Copy,
+            cache_role::MAPPING_NODE => Layout::Tree(
+                LeafValue::Root,
+                Names::Metadata(cache_role::MAPPING_BLOCK),
+            ),
+            cache_role::MAPPING_BLOCK => Layout::Array(Word::Eight),
+            cache_role::HINT_NODE => Layout::Tree(
+                LeafValue::Root,
+                Names::Metadata(cache_role::HINT_BLOCK),
+            ),
+            cache_role::HINT_BLOCK => Layout::Array(Word::Four),
+            cache_role::DISCARD_NODE => Layout::Tree(
+                LeafValue::Root,
+                Names::Metadata(cache_role::DISCARD_BLOCK),
+            ),
+            cache_role::DISCARD_BLOCK => Layout::Array(Word::Eight),
+            cache_role::META_INDEX => Layout::Index(cache_role::META_BITMAP),
+            cache_role::META_BITMAP => Layout::Bitmap,
+            cache_role::META_OVERFLOW => Layout::Tree(LeafValue::Count, Names::Nothing),
+            cache_role::DIRTY_NODE => Layout::Tree(
+                LeafValue::Root,
+                Names::Metadata(cache_role::DIRTY_BLOCK),
+            ),
+            // The last one, `DIRTY_BLOCK`.
             _ => Layout::Array(Word::Eight),
         }
     }

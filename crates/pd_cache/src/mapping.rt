@@ -15,22 +15,18 @@ ghost use Rattle.pd_cache.specs.Origins.{places_of};
 ghost use Rattle.pd_cache.specs.Meeting.{AreMapBlocks, AreMet, IsFresh, IsMapBlock, blocks_left, blocks_named, seen_number};
 
 use crate::origins::Origins;
-use pd_arrays::has_role;
-use pd_graph::Audit;
+use pd_graph::{Audit, has_role};
 use pd_image::{Device, Failed};
-use pd_kinds::Block;
+use pd_kinds::{Block, cache_role};
 use pd_tree::Cursor;
 use pd_value::Root;
-
-/// The role of the blocks of the mapping array.
-const MAP_BLOCK: u8 = 2;
 
 /// Whether the walk met block b as one of the mapping array.
 fn is_map_block(audit: &Audit, b: u64) -> bool
     ensures { IsTrue result ↔ IsMapBlock audit.now b }
 {
     if b < audit.nr() {
-        has_role(audit.roles(b), MAP_BLOCK)
+        has_role(audit.roles(b), cache_role::MAPPING_BLOCK)
     } else {
         false
     }

@@ -25,7 +25,7 @@ use pd_array::Word;
 use pd_arrays::{ArrayMarks, ArrayRoles, mark_array};
 use pd_graph::{Audit, Format};
 use pd_image::{Device, Failed};
-use pd_kinds::{CacheSuper, Rule};
+use pd_kinds::{CacheSuper, Rule, cache_role};
 use pd_tree::{
     Cursor, cursors_give_entries, entries_lead_to_reached_pairs, reached_trees_are_sound,
 };
@@ -40,8 +40,8 @@ fn mappings() -> ArrayRoles
     ensures { result ≡ mappings_of }
 {
     ArrayRoles {
-        nodes: 1,
-        blocks: 2,
+        nodes: cache_role::MAPPING_NODE,
+        blocks: cache_role::MAPPING_BLOCK,
         word: Word::Eight,
     }
 }
@@ -51,8 +51,8 @@ fn hints() -> ArrayRoles
     ensures { result ≡ hints_of }
 {
     ArrayRoles {
-        nodes: 3,
-        blocks: 4,
+        nodes: cache_role::HINT_NODE,
+        blocks: cache_role::HINT_BLOCK,
         word: Word::Four,
     }
 }
@@ -62,8 +62,8 @@ fn discards() -> ArrayRoles
     ensures { result ≡ discards_of }
 {
     ArrayRoles {
-        nodes: 5,
-        blocks: 6,
+        nodes: cache_role::DISCARD_NODE,
+        blocks: cache_role::DISCARD_BLOCK,
         word: Word::Eight,
     }
 }
@@ -73,8 +73,8 @@ fn dirty_bits() -> ArrayRoles
     ensures { result ≡ dirty_bits_of }
 {
     ArrayRoles {
-        nodes: 10,
-        blocks: 11,
+        nodes: cache_role::DIRTY_NODE,
+        blocks: cache_role::DIRTY_BLOCK,
         word: Word::Eight,
     }
 }
@@ -247,6 +247,6 @@ pub(crate) fn mark_cache<F: Format, D: Device>(
         dev,
         fields.mapping_root,
     )?;
-    mark_shared(audit, 8);
+    mark_shared(audit, cache_role::META_BITMAP);
     mark_arrays(&mut room.marks, audit, format, dev, fields)
 }

@@ -1,7 +1,8 @@
 //! The lines of a cache's text, printed.
 
 ghost use Rattle.std.specs.Prelude.{◌≡◌, ◌≤◌, ◌+◌, ◌++◌, ◌∷◌, ℕ, List, Option, OnOk, OnErr, length, decimal, codes, slice_index, []};
-ghost use Rattle.uuid.specs.Text.{hyphenated_text, simple_text, lower};
+ghost use Rattle.hex.specs.Hex.{encode_lower};
+ghost use Rattle.uuid.specs.Text.{hyphenated_text, lower};
 ghost use Rattle.pd_kinds.specs.Objects.{CountsFault, Appends, AppendsFront};
 ghost use Rattle.pd_image.specs.Sink.{KeepsSink};
 ghost use Rattle.pd_lines.specs.Pieces.{Gathers};
@@ -13,7 +14,6 @@ use crate::line::CacheLine;
 use pd_image::{Failed, Sink};
 use pd_lines::{LineBuffer, Pieces};
 use pd_texts::{add_uuid, add_word};
-use uuid::Uuid;
 
 /// Prints a line. It takes no memory.
 pub fn print_cache<K: Sink>(line: &CacheLine, out: &mut K) -> Result<(), Failed>
@@ -86,7 +86,7 @@ fn head_text(uuid: [u8; 16], block_size: u32, blocks: u32, clean: bool) -> LineB
 /// Adds the rest of a cache line.
 fn add_policy_words(line: &mut LineBuffer, policy: [u8; 16], versions: [u32; 3], hint_size: u32)
     requires { length line.old ≤ 66 }
-    ensures bytes { line.new ≡ line.old ++ (32 ∷ simple_text lower policy ++ (32 ∷ decimal (slice_index versions 0)
+    ensures bytes { line.new ≡ line.old ++ (32 ∷ encode_lower policy ++ (32 ∷ decimal (slice_index versions 0)
         ++ (32 ∷ decimal (slice_index versions 1) ++ (32 ∷ decimal (slice_index versions 2) ++ (32 ∷ decimal hint_size ++ (10 ∷ [])))))) }
 {
     add_policy(line, policy);
@@ -136,11 +136,13 @@ fn add_flag(line: &mut LineBuffer, flag: bool)
 /// Adds a space and a policy name, as 32 hexadecimal digits in lower case.
 fn add_policy(line: &mut LineBuffer, policy: [u8; 16])
     requires { length line.old + 33 ≤ 161 }
-    ensures bytes { line.new ≡ line.old ++ (32 ∷ simple_text lower policy) }
+    ensures bytes { line.new ≡ line.old ++ (32 ∷ encode_lower policy) }
     ensures len { length line.new ≡ length line.old + 33 }
 {
-    let mut buffer = Uuid::encode_buffer();
-    let text = Uuid::from_bytes(policy).simple().encode_lower(&mut buffer);
+    let mut text = [0; 32];
+    if hex::encode_to_slice(policy, &mut text).is_err() {
+        unreachable!();
+    }
     line.add(b" ");
-    line.add(text.as_bytes());
+    line.add(&text);
 }

@@ -12,7 +12,6 @@ ghost use Rattle.pd_cache_texts.specs.CacheLine.{cache_meant};
 use crate::line::CacheLine;
 use pd_grammar::TextCause;
 use pd_texts::{cut_word, number_word, read_numbers, read_uuid};
-use uuid::Uuid;
 
 /// The words of a cache line.
 #[derive(Clone, Copy)]
@@ -95,13 +94,16 @@ fn next_word(words: Option<&[u8]>) -> Result<(&[u8], Option<&[u8]>), TextCause>
 fn read_policy(word: &[u8]) -> Option<[u8; 16]>
     ensures { result ≡ policy_of word.now }
 {
-    let Ok(name) = Uuid::try_parse_ascii(word) else {
+    let mut name = [0; 16];
+    if hex::decode_to_slice(word, &mut name).is_err() {
         return None;
-    };
-    let mut buffer = Uuid::encode_buffer();
-    let text = name.simple().encode_lower(&mut buffer);
-    if text.as_bytes() == word {
-        Some(name.into_bytes())
+    }
+    let mut text = [0; 32];
+    if hex::encode_to_slice(name, &mut text).is_err() {
+        unreachable!();
+    }
+    if text.as_slice() == word {
+        Some(name)
     } else {
         None
     }

@@ -7,6 +7,7 @@ ghost use Rattle.pd_spells.specs.ThinNeed.{need_of_devices};
 ghost use Rattle.pd_devices.specs.Need.{need_of_trees};
 
 use pd_build::need_tree;
+use pd_kinds::bitmaps_for;
 use pd_node::max_entries_of;
 
 /// How many blocks a pool needs whose devices have these mapped numbers, with so many data blocks, of which so many are
@@ -33,25 +34,15 @@ pub(crate) fn add_tree(trees: u64, mapped: u64) -> u64
 pub(crate) fn need_of(trees: u64, devices: u64, blocks: u64, over: u64, nr: u64) -> u64
     ensures { result ≡ min (need_of_trees trees devices blocks over nr) (2 ^ 64 - 1) }
 {
-    let bitmaps = bitmaps_of(blocks);
+    let bitmaps = bitmaps_for(blocks);
     let tops = need_tree(devices, max_entries_of(8) as u64);
     let details = need_tree(devices, max_entries_of(24) as u64);
     let index = need_tree(bitmaps, max_entries_of(16) as u64);
     let overflow = need_tree(over, max_entries_of(4) as u64);
     let empty = need_tree(0, max_entries_of(4) as u64);
     let maps = bitmaps as u128 + index as u128 + overflow as u128;
-    let meta = 1 + bitmaps_of(nr) as u128 + empty as u128;
+    let meta = 1 + bitmaps_for(nr) as u128 + empty as u128;
     capped(1 + trees as u128 + tops as u128 + details as u128 + maps + meta)
-}
-
-/// How many bitmaps cover so many blocks.
-fn bitmaps_of(blocks: u64) -> u64
-    ensures { result ≡ bitmaps_for blocks }
-{
-    if blocks == 0 {
-        return 0;
-    }
-    (blocks - 1) / 16320 + 1
 }
 
 /// A number, or 2^64 - 1 where it is above that.

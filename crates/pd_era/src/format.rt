@@ -1,5 +1,5 @@
 use pd_array::Word;
-use pd_kinds::{Block, Edges, EraSuper, Rules};
+use pd_kinds::{Block, Edges, EraSuper, Rules, era_role};
 use pd_layouts::{Layout, LeafValue, Names, Table, Tabled};
 use pd_supers::{era_snap_edges, era_snap_rules, era_super_edges, era_super_rules, read_era_super};
 
@@ -16,7 +16,7 @@ impl Table for EraTable {
     ghost use Rattle.pd_laws.proofs.EraTable.{era_table};
     ghost use Rattle.pd_era.specs.Copies.{copy_edges, copy_rules};
 
-    const ROLES: u8 = 10;
+    const ROLES: u8 = era_role::ROLES;
 
     type Super = EraSuper;
 
@@ -43,21 +43,31 @@ impl Table for EraTable {
     #[tactic(auto, unfolding(pd_kinds::specs::EraFormat::era_layout))]
     fn layout(role: u8, _data_blocks: u64) -> Layout {
         match role {
-            0 => Layout::Copy,
-            1 => Layout::Copy,
-            2 => Layout::Tree(LeafValue::Writeset, Names::MetadataByEra(3)),
-            3 => Layout::Tree(LeafValue::Root, Names::Metadata(4)),
-            4 => Layout::Array(Word::Eight),
-            5 => Layout::Tree(LeafValue::Root, Names::Metadata(6)),
-            6 => Layout::Array(Word::Four),
-            7 => Layout::Index(8),
-            8 => Layout::Bitmap,
+            era_role::SUPER => Layout::Copy,
+            era_role::SNAP => Layout::Copy,
+            era_role::WRITESETS => Layout::Tree(
+                LeafValue::Writeset,
+                Names::MetadataByEra(era_role::BIT_NODE),
+            ),
+            era_role::BIT_NODE => Layout::Tree(
+                LeafValue::Root,
+                Names::Metadata(era_role::BIT_BLOCK),
+            ),
+            era_role::BIT_BLOCK => Layout::Array(Word::Eight),
+            era_role::ERA_NODE => Layout::Tree(
+                LeafValue::Root,
+                Names::Metadata(era_role::ERA_BLOCK),
+            ),
+            era_role::ERA_BLOCK => Layout::Array(Word::Four),
+            era_role::META_INDEX => Layout::Index(era_role::META_BITMAP),
+            era_role::META_BITMAP => Layout::Bitmap,
+            // The last one, `META_OVERFLOW`.
             _ => Layout::Tree(LeafValue::Count, Names::Nothing),
         }
     }
 
     fn copy_rules(role: u8, place: u64, b: &Block, nr: u64) -> Rules {
-        if role == 0 {
+        if role == era_role::SUPER {
             era_super_rules(b, nr)
         } else {
             era_snap_rules(b, place, nr)
@@ -66,7 +76,7 @@ impl Table for EraTable {
 
     fn copy_edges(role: u8, b: &Block) -> Edges {
         let fields = read_era_super(b);
-        if role == 0 {
+        if role == era_role::SUPER {
             era_super_edges(&fields)
         } else {
             era_snap_edges(&fields)

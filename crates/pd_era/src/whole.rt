@@ -21,7 +21,7 @@ use pd_array::Word;
 use pd_arrays::{ArrayMarks, ArrayRoles, check_array, fill_marks};
 use pd_graph::{Audit, Format};
 use pd_image::{Device, Failed};
-use pd_kinds::EraSuper;
+use pd_kinds::{EraSuper, era_role};
 use pd_whole::mark_shared;
 
 /// The arrays of the eras of all blocks.
@@ -29,8 +29,8 @@ pub(crate) fn eras() -> ArrayRoles
     ensures { result ≡ eras_of }
 {
     ArrayRoles {
-        nodes: 5,
-        blocks: 6,
+        nodes: era_role::ERA_NODE,
+        blocks: era_role::ERA_BLOCK,
         word: Word::Four,
     }
 }
@@ -40,8 +40,8 @@ pub(crate) fn bits() -> ArrayRoles
     ensures { result ≡ bits_of }
 {
     ArrayRoles {
-        nodes: 3,
-        blocks: 4,
+        nodes: era_role::BIT_NODE,
+        blocks: era_role::BIT_BLOCK,
         word: Word::Eight,
     }
 }
@@ -133,7 +133,7 @@ pub(crate) fn mark_era<F: Format, D: Device>(
     ensures kept { OnlyReads (D.state dev.old) (D.state dev.new) }
     ensures faults { CountsFault result (D.state dev.old).faults (D.state dev.new).faults }
 {
-    mark_shared(audit, 8);
+    mark_shared(audit, era_role::META_BITMAP);
     mark_eras(marks, audit, format, dev, fields)?;
     mark_bits(marks, audit, format, dev, fields)
 }

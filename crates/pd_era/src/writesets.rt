@@ -18,19 +18,16 @@ ghost use Rattle.pd_arrays.specs.Arrays.{AreMarked, HasArrays};
 ghost use Rattle.pd_era.specs.Whole.{bits as bits_of, set_tests, sets_at};
 
 use crate::whole::bits;
-use pd_arrays::{ArrayMarks, check_array, has_role};
-use pd_graph::Audit;
+use pd_arrays::{ArrayMarks, check_array};
+use pd_graph::{Audit, has_role};
 use pd_image::{Device, Failed};
-use pd_kinds::Block;
+use pd_kinds::{Block, era_role};
 use pd_node::{entries, is_inner, value};
 use pd_tree::edges_lead_to_reached_pairs;
 use pd_value::Writeset;
 
 /// The number of bits in a word.
 const WORD_BITS: u64 = 64;
-
-/// The role of the nodes of the trees of archived writesets.
-const WRITESETS: u8 = 2;
 
 /// How many words hold so many bits.
 fn words_for(bits: u32) -> u64
@@ -87,7 +84,7 @@ fn mark_node<D: Device>(
     ensures faults { CountsFault result (D.state dev.old).faults (D.state dev.new).faults }
 {
     edges_lead_to_reached_pairs();
-    if has_role(audit.roles(b), WRITESETS) {
+    if has_role(audit.roles(b), era_role::WRITESETS) {
         let mut block = Block::zeros();
         dev.read(b, &mut block)?;
         check_leaf(marks, audit, &block);

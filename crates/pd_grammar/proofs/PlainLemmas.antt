@@ -1,16 +1,22 @@
 -- Words without spaces, and the uuids among them.
-use Rattle.std.proofs.Common.{◌≡◌, inl, ℕ, zero, suc, ◌+◌, ◌*◌, ◌≤◌, ◌<◌, Bool, true, false, ◌&&◌, List, [], ◌∷◌, ◌++◌, length, map, get_or, All, refl, ap, sym, ◌∙◌, arith, eqb, leb, decimal, Option, Some, None, if◌then◌else◌}
+use Rattle.std.proofs.Common.{◌≡◌, inl, inr, ℕ, zero, suc, ◌+◌, ◌*◌, ◌/◌, ◌%◌, ◌≤◌, ◌<◌, Bool, true, false, ◌&&◌, List, [], ◌∷◌, ◌++◌, length, map, get_or, All, refl, ap, sym, ◌∙◌, arith, eqb, leb, decimal, Option, Some, None, Result, Ok, Err, unwrap_or, if◌then◌else◌}
+use Rattle.std.proofs.lemmas.Bool.{cases_lt}
 use Rattle.std.proofs.lemmas.Bool.Decides.{Decides-eqb, nat_tests}
+use Rattle.std.proofs.lemmas.List.{get_or_default, get_or_past}
 use Rattle.std.proofs.lemmas.Option.{none-some, cond_some, option_and_then_some}
 use Rattle.std.proofs.lemmas.Slice.Eq.{bytes_eq-Decides}
 use Rattle.std.proofs.lemmas.Fmt.{digits_decimal}
 use Rattle.std.specs.Char.{is_ascii_digit}
 use Rattle.std.specs.Str.{all_ascii_digits, bytes_eq}
 use Rattle.std.specs.List.{AllByRecursion, join_with_byte, list_all}
-use Rattle.uuid.specs.Text.{by_index, lower, hyphenated_text, parsed, parsed_simple, simple_text, digits_of, byte_of_digits, value_of, is_hex_digit, nibble, digit_place, is_hyphen_place, hex_digit, has_hyphens}
-use Rattle.uuid.proofs.RoundTrips.{parses_hyphenated, parses_simple}
+use Rattle.std.specs.Result.{result_ok}
+use Rattle.uuid.specs.Text.{by_index, lower, hyphenated_text, parsed, parsed_simple, digits_of, byte_of_digits, value_of, is_hex_digit, nibble, digit_place, is_hyphen_place, hex_digit, has_hyphens}
+use Rattle.uuid.proofs.RoundTrips.{parses_hyphenated}
 use Rattle.uuid.proofs.TextLemmas.{by_index_length, by_index_at, nibble_small}
-use Rattle.pd_grammar.specs.Words.{is_printable, bytes_of, uuid_of, policy_of}
+use Rattle.hex.specs.Hex.{IsBytes, decode_sized, encode_lower, encode_with, lower_digits}
+use Rattle.hex.specs.declared.error.FromHexError.{FromHexError}
+use Rattle.hex.proofs.HexLemmas.{length-encode_with, decode_of-encode_lower, decode_of-ok, decode_sized-ok, decode_sized-twice}
+use Rattle.pd_grammar.specs.Words.{is_printable, bytes_of, uuid_of, policy_of, sixteen_of}
 use Rattle.pd_grammar.proofs.SplitLemmas.{Lacks}
 use Rattle.pd_grammar.proofs.NumberLemmas.{own, both, Fit}
 
@@ -89,21 +95,49 @@ pub uuid_plain : (uuid : List ℕ) → Plain (hyphenated_text lower uuid)
 uuid_plain uuid = by_index_plain 36 (λ k. if is_hyphen_place k then 45 else hex_digit lower (nibble uuid (digit_place k)))
     (λ k. digit_plain (is_hyphen_place k) (nibble uuid (digit_place k)) (nibble_small uuid (digit_place k)))
 
-pub policy_plain : (policy : List ℕ) → Plain (simple_text lower policy)
-policy_plain policy = by_index_plain 32 (λ k. hex_digit lower (nibble policy k)) (λ k. digit_plain false (nibble policy k) (nibble_small policy k))
+all_at : (test : ℕ → Bool) (xs : List ℕ) (i d : ℕ) → list_all test xs ≡ true → i < length xs → test (get_or xs i d) ≡ true
+all_at test [] i d all within = absurd (omega arith)
+all_at test (x ∷ xs) zero d all within = (both (test x) (list_all test xs) all).0
+all_at test (x ∷ xs) (suc i) d all within = all_at test xs i d (both (test x) (list_all test xs) all).1 (omega arith)
 
--- sixteen bytes in a form that parses are read again
-bytes_again : (form : List ℕ → List ℕ) (bytes : List ℕ) → Some bytes ≡ parsed (form bytes) → bytes_of form (form bytes) ≡ Some bytes
+-- a hexadecimal digit, by a test that computes
+lower_digit_plain : (d : ℕ) → d < 16 → (33 ≤ get_or lower_digits d 0) × (get_or lower_digits d 0 ≤ 126)
+lower_digit_plain d small =
+    let parts = both (leb 33 (get_or lower_digits d 0)) (leb (get_or lower_digits d 0) 126) (all_at (λ b. leb 33 b && leb b 126) lower_digits d 0 refl small) in
+    (grind (arith, nat_tests, parts.0), grind (arith, nat_tests, parts.1))
+
+pub policy_plain : (policy : List ℕ) → IsBytes policy → Plain (encode_lower policy)
+unfolding encode_with
+policy_plain [] small = tt
+policy_plain (b ∷ policy) small =
+    let first : b < 256 = small 0 in
+    let high = lower_digit_plain (b / 16) (omega arith) in
+    let low = lower_digit_plain (b % 16) (omega arith) in
+    (high, (low, policy_plain policy (λ i. small (suc i))))
+
+-- sixteen bytes in a form that is read as these are read again
+bytes_again : (read : List ℕ → Option (List ℕ)) (form : List ℕ → List ℕ) (bytes : List ℕ) → Some bytes ≡ read (form bytes) → bytes_of read form (form bytes) ≡ Some bytes
 unfolding bytes_of
-bytes_again form bytes parses =
+bytes_again read form bytes parses =
     let same : bytes_eq (form bytes) (form bytes) ≡ true = (bytes_eq-Decides (form bytes) (form bytes)).1 refl in
     rw (← parses, same) refl
 
 pub uuid_again : (uuid : List ℕ) → length uuid ≡ 16 → All (λ b. b < 256) uuid → uuid_of (hyphenated_text lower uuid) ≡ Some uuid
-uuid_again uuid len small = bytes_again (hyphenated_text lower) uuid (parses_hyphenated lower uuid (inl refl) len small)
+uuid_again uuid len small = bytes_again parsed (hyphenated_text lower) uuid (parses_hyphenated lower uuid (inl refl) len small)
 
-pub policy_again : (policy : List ℕ) → length policy ≡ 16 → All (λ b. b < 256) policy → policy_of (simple_text lower policy) ≡ Some policy
-policy_again policy len small = bytes_again (simple_text lower) policy (parses_simple lower policy (inl refl) len small)
+-- bytes by the places that a list has, and by all places
+pub bytes_everywhere : (bytes : List ℕ) → All (λ b. b < 256) bytes → IsBytes bytes
+bytes_everywhere bytes small i = elim (cases_lt i (length bytes)) [
+  | inl within ↦ small i 0 within
+  | inr past ↦ rw (get_or_past bytes i 0 past) (omega arith)
+]
+
+pub policy_again : (policy : List ℕ) → length policy ≡ 16 → All (λ b. b < 256) policy → policy_of (encode_lower policy) ≡ Some policy
+policy_again policy len small =
+    let twice : length (encode_lower policy) ≡ 2 * 16 = length-encode_with lower_digits policy ∙ ap (λ (n : ℕ). 2 * n) len in
+    let decoded : decode_sized (encode_lower policy) 16 ≡ Ok policy =
+    decode_sized-twice (encode_lower policy) 16 twice ∙ decode_of-encode_lower policy (bytes_everywhere policy small) in
+    bytes_again sixteen_of encode_lower policy (sym (ap (λ (r : Result (List ℕ) FromHexError). result_ok r) decoded))
 
 -- sixteen bytes that were read of a word, in this form
 pub record AreBytes (form : List ℕ → List ℕ) (word bytes : List ℕ) : Type 0 where
@@ -113,11 +147,6 @@ pub record AreBytes (form : List ℕ → List ℕ) (word bytes : List ℕ) : Typ
 
 value_small : (c : ℕ) → is_hex_digit c ≡ true → value_of c < 16
 value_small c digit = grind (arith, nat_tests)
-
-all_at : (test : ℕ → Bool) (xs : List ℕ) (i d : ℕ) → list_all test xs ≡ true → i < length xs → test (get_or xs i d) ≡ true
-all_at test [] i d all within = absurd (omega arith)
-all_at test (x ∷ xs) zero d all within = (both (test x) (list_all test xs) all).0
-all_at test (x ∷ xs) (suc i) d all within = all_at test xs i d (both (test x) (list_all test xs) all).1 (omega arith)
 
 bytes_small : (hex : List ℕ) (i d : ℕ) → length hex ≡ 32 → list_all is_hex_digit hex ≡ true → i < 16 → get_or (by_index 16 (byte_of_digits hex)) i d < 256
 bytes_small hex i d len digits within =
@@ -140,26 +169,32 @@ uuid_small word bytes len e =
     let at36 : (if has_hyphens word then parsed_simple (digits_of word) else None) ≡ Some bytes = rw len at e in
     simple_small (digits_of word) bytes (simple_of (has_hyphens word) (parsed_simple (digits_of word)) bytes at36)
 
-policy_small : (word bytes : List ℕ) → length word ≡ 32 → parsed word ≡ Some bytes → (length bytes ≡ 16) × All (λ b. b < 256) bytes
-policy_small word bytes len e =
-    let at32 : parsed word ≡ parsed_simple word = rw len refl in
-    simple_small word bytes (sym at32 ∙ e)
+decoded_small : (word bytes : List ℕ) (r : Result (List ℕ) FromHexError) → decode_sized word 16 ≡ r → result_ok r ≡ Some bytes
+    → (length bytes ≡ 16) × All (λ b. b < 256) bytes
+decoded_small word bytes (Err fault) is e = absurd (none-some bytes e)
+decoded_small word bytes (Ok found) is e =
+    let len = decode_sized-ok word 16 found is in
+    let are = decode_of-ok word found (sym (decode_sized-twice word 16 len) ∙ is) in
+    let same : found ≡ bytes = ap (λ (o : Option (List ℕ)). unwrap_or o []) e in
+    rw (← same) (omega (arith, len, are.2), λ i d within. rw (get_or_default found i d 0 within) (are.3 i))
 
-bytes_are : (form : List ℕ → List ℕ) (n : ℕ) → ((bytes : List ℕ) → length (form bytes) ≡ n)
-    → ((word bytes : List ℕ) → length word ≡ n → parsed word ≡ Some bytes → (length bytes ≡ 16) × All (λ b. b < 256) bytes)
-    → (word bytes : List ℕ) → bytes_of form word ≡ Some bytes → AreBytes form word bytes
+policy_small : (word bytes : List ℕ) → sixteen_of word ≡ Some bytes → (length bytes ≡ 16) × All (λ b. b < 256) bytes
+policy_small word bytes e = decoded_small word bytes (decode_sized word 16) refl e
+
+bytes_are : (read : List ℕ → Option (List ℕ)) (form : List ℕ → List ℕ)
+    → ((word bytes : List ℕ) → form bytes ≡ word → read word ≡ Some bytes → (length bytes ≡ 16) × All (λ b. b < 256) bytes)
+    → (word bytes : List ℕ) → bytes_of read form word ≡ Some bytes → AreBytes form word bytes
 unfolding bytes_of
-bytes_are form n long small word bytes e =
-    option_and_then_some {P = AreBytes form word bytes} (λ (u : List ℕ). if bytes_eq word (form u) then Some u else None) (parsed word) bytes e
+bytes_are read form small word bytes e =
+    option_and_then_some {P = AreBytes form word bytes} (λ (u : List ℕ). if bytes_eq word (form u) then Some u else None) (read word) bytes e
     (λ u is same.
     let parts = cond_some (bytes_eq word (form u)) u bytes same in
     let text : form bytes ≡ word = ap form (sym parts.1) ∙ sym ((bytes_eq-Decides word (form u)).0 parts.0) in
-    let len : length word ≡ n = ap length (sym text) ∙ long bytes in
-    let are = small word bytes len (is ∙ ap (λ (v : List ℕ). Some v) parts.1) in
+    let are = small word bytes text (is ∙ ap (λ (v : List ℕ). Some v) parts.1) in
     record { text = text; len = are.0; small = are.1 })
 
 pub uuid_is : (word uuid : List ℕ) → uuid_of word ≡ Some uuid → AreBytes (hyphenated_text lower) word uuid
-uuid_is = bytes_are (hyphenated_text lower) 36 (λ bytes. by_index_length 36 _) uuid_small
+uuid_is = bytes_are parsed (hyphenated_text lower) (λ word bytes text. uuid_small word bytes (ap length (sym text) ∙ by_index_length 36 _))
 
-pub policy_is : (word policy : List ℕ) → policy_of word ≡ Some policy → AreBytes (simple_text lower) word policy
-policy_is = bytes_are (simple_text lower) 32 (λ bytes. by_index_length 32 _) policy_small
+pub policy_is : (word policy : List ℕ) → policy_of word ≡ Some policy → AreBytes encode_lower word policy
+policy_is = bytes_are sixteen_of encode_lower (λ word bytes text. policy_small word bytes)

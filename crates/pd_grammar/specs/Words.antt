@@ -1,9 +1,11 @@
 -- Lines, words, numbers and identifiers, as they stand in a text.
 use Rattle.std.specs.Prelude.{ℕ, ◌^◌, ◌==◌, ◌&&◌, ◌||◌, Bool, not, nat_lt, nat_le, if◌then◌else◌, List, [], ◌∷◌, length, slice_index, Option, Some, None, Result, Ok, Err}
 use Rattle.std.specs.Option.{option_map, option_and_then}
+use Rattle.std.specs.Result.{result_ok}
 use Rattle.std.specs.Str.{bytes_eq, all_ascii_digits}
 use Rattle.std.specs.Str.Parse.{digits_value}
-use Rattle.uuid.specs.Text.{parsed, hyphenated_text, simple_text, lower}
+use Rattle.hex.specs.Hex.{decode_sized, encode_lower}
+use Rattle.uuid.specs.Text.{parsed, hyphenated_text, lower}
 use Rattle.pd_grammar.specs.declared.cause.TextCause.{TextCause}
 use Rattle.pd_grammar.specs.declared.cause.TextCause.TheVariants.{Word, Number}
 
@@ -40,17 +42,21 @@ unfoldable pub numbers_of : List (List ℕ) → Option (List ℕ)
 numbers_of [] = Some []
 numbers_of (word ∷ words) = with_number (number_of word) (numbers_of words)
 
--- the sixteen bytes that a word is, in this form of them
-unfoldable pub bytes_of : (List ℕ → List ℕ) → List ℕ → Option (List ℕ)
-bytes_of form word = option_and_then (λ bytes. if bytes_eq word (form bytes) then Some bytes else None) (parsed word)
+-- the sixteen bytes that a word is read as, where it is this form of them
+unfoldable pub bytes_of : (List ℕ → Option (List ℕ)) → (List ℕ → List ℕ) → List ℕ → Option (List ℕ)
+bytes_of read form word = option_and_then (λ bytes. if bytes_eq word (form bytes) then Some bytes else None) (read word)
 
 -- the uuid that a word is: 36 characters, hyphenated, in lower case
 abbrev pub uuid_of : List ℕ → Option (List ℕ)
-uuid_of word = bytes_of (hyphenated_text lower) word
+uuid_of word = bytes_of parsed (hyphenated_text lower) word
+
+-- the sixteen bytes that the hexadecimal digits of a word are, in either case
+abbrev pub sixteen_of : List ℕ → Option (List ℕ)
+sixteen_of word = result_ok (decode_sized word 16)
 
 -- the policy name that a word is: 32 hexadecimal digits in lower case
 abbrev pub policy_of : List ℕ → Option (List ℕ)
-policy_of word = bytes_of (simple_text lower) word
+policy_of word = bytes_of sixteen_of encode_lower word
 
 -- a value, or a cause where there is none
 abbrev pub or_cause : {X : Type 0} → Option X → TextCause → Result X TextCause

@@ -12,4 +12,5 @@ mod walking;
 pub use audit::Audit;
 pub use format::Format;
 pub use notes::Note;
+pub use roles::has_role;
 pub use walking::walk;

@@ -4,8 +4,8 @@ ghost use Rattle.std.specs.Prelude.{◌≡◌, ℕ, ◌<◌, ◌==◌, ◌||◌,
 ghost use Rattle.pd_kinds.specs.Graph.{pair};
 ghost use Rattle.pd_graph.specs.Roles.{has_bit, has_several, is_in, IsUnread, IsUnreadAt, IsAllRead};
 
-/// Whether the role is in the set.
-pub(crate) fn has_role(roles: u16, role: u8) -> bool
+/// Whether the role, below 16, is in the set of an audit's `roles`: bit r stands for role r.
+pub fn has_role(roles: u16, role: u8) -> bool
     requires { role < 16 }
     ensures { result ≡ has_bit roles role }
 {

@@ -6,9 +6,11 @@
 #![tactic(auto)]
 
 mod block;
+pub mod cache_role;
 mod cache_super;
 mod check_fault;
 mod edges;
+pub mod era_role;
 mod era_super;
 mod fault;
 mod fields;
@@ -18,6 +20,7 @@ mod map_root;
 mod report;
 mod rule;
 mod rules;
+pub mod thin_role;
 mod thin_super;
 
 pub use block::{BLOCK_SIZE, Block, is_outside};
@@ -28,7 +31,7 @@ pub use era_super::EraSuper;
 pub use fault::{Fault, Space};
 pub use fields::{put_u32, put_u64, u32_at, u64_at};
 pub use kind::{Kind, Stage};
-pub use limits::{MAX_META_BLOCKS, is_meta_size_bad};
+pub use limits::{BITMAP_COUNTS, MAX_META_BLOCKS, bitmaps_for, is_meta_size_bad};
 pub use map_root::SmRoot;
 pub use report::{KEPT_FAULTS, Report};
 pub use rule::Rule;

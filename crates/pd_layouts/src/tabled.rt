@@ -17,13 +17,10 @@ use crate::tree::{data_count, data_of_node, edge_count, edge_of_node, key_count,
 use pd_array::array_rules;
 use pd_bitmap::{bitmap_rules, index_entry, index_rules};
 use pd_graph::Format;
-use pd_kinds::{Block, Rules};
+use pd_kinds::{Block, Rules, bitmaps_for};
 use pd_node::is_inner;
 use std::alloc::AllocError;
 use std::marker::PhantomData;
-
-/// The number of counts that a bitmap has.
-const BITMAP_COUNTS: usize = 16320;
 
 /// The format with this table, of so many metadata and data blocks.
 pub struct Tabled<T> {
@@ -171,7 +168,7 @@ fn edges_in<T: Table>(nr: u64, layout: Layout, role: u8, b: &Block) -> usize
         Layout::Copy => T::copy_edges(role, b).len(),
         Layout::Tree(value, names) => edge_count(b, value, names),
         Layout::Bitmap | Layout::Array(_) => 0,
-        Layout::Index(_) => bitmaps(nr),
+        Layout::Index(_) => bitmaps_for(nr) as usize,
     }
 }
 
@@ -189,14 +186,6 @@ fn edge_in<T: Table>(nr: u64, layout: Layout, role: u8, b: &Block, i: usize) -> 
         Layout::Bitmap | Layout::Array(_) => (role, 0),
         Layout::Index(to) => (to, bitmap_named(b, nr, i)),
     }
-}
-
-/// How many bitmaps the index block of so many metadata blocks names.
-fn bitmaps(nr: u64) -> usize
-    requires { nr ≤ MAX_META_BLOCKS }
-    ensures { result ≡ bitmaps_for nr }
-{
-    (nr as usize).div_ceil(BITMAP_COUNTS)
 }
 
 /// The number of bitmap `i`, from 0, that the index block of so many metadata blocks names.

@@ -92,7 +92,7 @@ fn is_outcome(
     })
 }
 
-/// Rehearses with this call of the device failing, which it must say, if it is made.
+/// Rehearses over as many blocks as this pool has, with this call of the device failing, which it must say, if it is made.
 fn expect_failure(
     rt: &impl Abort,
     alloc: Global,
@@ -103,7 +103,7 @@ fn expect_failure(
         output: Some(call),
         ..NOTHING_FAILS
     };
-    let ran = rehearse(alloc, 24, failing)?;
+    let ran = rehearse(alloc, pool.len(), failing)?;
     for pick in [Pick::Old, Pick::New, Pick::Other(0)] {
         assert!(rt; is_outcome(alloc, &ran.output, pick, pool)?, "{call}");
     }
@@ -126,6 +126,17 @@ fn each_call_that_fails_is_blamed(rt: HostRuntime) -> Result<(), Fail> {
     let whole = rehearse(rt.alloc(), 24, NOTHING_FAILS)?;
     let pool = blocks_of(rt.alloc(), &whole.output)?;
     for call in 0..140 {
+        expect_failure(&rt, rt.alloc(), call, pool.as_slice())?;
+    }
+    Ok(())
+}
+
+// The same calls on more blocks: the last one of the restore, and the first read of the check.
+#[test]
+fn a_large_device_that_fails_after_the_restore_is_blamed(rt: HostRuntime) -> Result<(), Fail> {
+    let whole = rehearse(rt.alloc(), 4096, NOTHING_FAILS)?;
+    let pool = blocks_of(rt.alloc(), &whole.output)?;
+    for call in 23..25 {
         expect_failure(&rt, rt.alloc(), call, pool.as_slice())?;
     }
     Ok(())

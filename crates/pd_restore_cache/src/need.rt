@@ -10,6 +10,7 @@ ghost use Rattle.pd_restore_cache.specs.Words.{bytes_of};
 use crate::gather::Cache;
 use crate::words::Words;
 use pd_build::need_upper;
+use pd_kinds::bitmaps_for;
 
 /// How many dirty bits a word has.
 const DIRTY_BITS: u64 = 64;
@@ -74,5 +75,5 @@ fn need_own_map(room: u64) -> u64
     ensures number { result ≡ 2 + bitmaps_for room }
     ensures few { result ≤ 4161602 }
 {
-    2 + (room + 16319) / 16320
+    2 + bitmaps_for(room)
 }

@@ -14,10 +14,7 @@ use crate::overflow::Overflow;
 use crate::references::References;
 use pd_bitmap::new_bitmap;
 use pd_image::{Device, Failed};
-use pd_kinds::{Block, Report};
-
-/// How many counts a bitmap has.
-pub(crate) const BITMAP_COUNTS: usize = 16320;
+use pd_kinds::{BITMAP_COUNTS, Block, Report};
 
 /// How many counts are compared at a time where they are equal.
 const GROUP_COUNTS: usize = 32;
@@ -181,7 +178,7 @@ pub(crate) fn compare_at<R: References, D: Device>(
 {
     let mut bitmap = Block::zeros();
     read_bitmap(dev, place, &mut bitmap)?;
-    let base = BITMAP_COUNTS as u64 * i;
-    let len = (blocks - base).min(BITMAP_COUNTS as u64) as usize;
+    let base = BITMAP_COUNTS * i;
+    let len = (blocks - base).min(BITMAP_COUNTS) as usize;
     compare_bitmap(dev, &bitmap, base, len, refs, overflow, report)
 }

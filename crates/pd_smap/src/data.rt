@@ -16,12 +16,12 @@ ghost use Rattle.pd_smap.specs.Reports.{Adds, AddsFront};
 ghost use Rattle.pd_smap.specs.Overflow.{stand};
 ghost use Rattle.pd_smap.specs.Steps.{Went, Stopped, bits_by, with_nodes};
 
-use crate::bitmaps::{BITMAP_COUNTS, compare_at};
+use crate::bitmaps::compare_at;
 use crate::overflow::Overflow;
 use crate::references::DataReferences;
 use pd_count::Counts;
 use pd_image::{Device, Failed};
-use pd_kinds::{CheckFault, Report, SmRoot};
+use pd_kinds::{CheckFault, Report, SmRoot, bitmaps_for};
 use pd_tree::Cursor;
 use pd_value::IndexEntry;
 use std::alloc::Global;
@@ -86,9 +86,8 @@ fn compare_listed<D: Device>(
     ensures stopped { OnErr result (Stopped (record { space = DataBlock; refs = count_of counts.now; bits = bits_by (λ image. place_in (cursor_items 16 index_from image index.old)) }) 0 blocks
         (with_nodes (λ image. length (cursor_nodes 16 image index.old) + bitmaps_for blocks) (stand (D.state dev.old) overflow.old report.old)) (stand (D.state dev.new) overflow.new report.new)) }
 {
-    let bitmaps = blocks.div_ceil(BITMAP_COUNTS as u64);
     let refs = DataReferences(counts);
-    for i in 0..bitmaps {
+    for i in 0..bitmaps_for(blocks) {
         let place = next_place(dev, index)?;
         compare_at(dev, place, i, blocks, &refs, overflow, report)?;
     }

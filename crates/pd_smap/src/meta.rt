@@ -15,13 +15,13 @@ ghost use Rattle.pd_smap.specs.Reports.{Adds, AddsFront};
 ghost use Rattle.pd_smap.specs.Overflow.{stand};
 ghost use Rattle.pd_smap.specs.Steps.{Went, Stopped, bits_by, with_reads};
 
-use crate::bitmaps::{BITMAP_COUNTS, compare_at};
+use crate::bitmaps::compare_at;
 use crate::overflow::Overflow;
 use crate::references::MetaReferences;
 use pd_bitmap::index_entry;
 use pd_graph::Audit;
 use pd_image::{Device, Failed};
-use pd_kinds::{Block, CheckFault, Report, SmRoot};
+use pd_kinds::{Block, CheckFault, Report, SmRoot, bitmaps_for};
 use std::alloc::Global;
 
 /// Adds a fault for each metadata block whose stored count isn't the number of references that the audit has of it,
@@ -104,9 +104,8 @@ fn compare_indexed<D: Device>(
     ensures stopped { OnErr result (Stopped (record { space = Meta; refs = count_at audit.now; bits = bits_by (λ image. index_block_at index.now.0) }) 0 blocks
         (with_reads (bitmaps_for blocks) (stand (D.state dev.old) overflow.old report.old)) (stand (D.state dev.new) overflow.new report.new)) }
 {
-    let bitmaps = (blocks as usize).div_ceil(BITMAP_COUNTS);
     let refs = MetaReferences(audit);
-    for i in 0..bitmaps {
+    for i in 0..bitmaps_for(blocks) as usize {
         let place = index_entry(index, i).block;
         compare_at(dev, place, i as u64, blocks, &refs, overflow, report)?;
     }

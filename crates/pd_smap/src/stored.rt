@@ -7,10 +7,10 @@ ghost use Rattle.pd_kinds.specs.Trees.{stored_meta_in, value_of_key};
 ghost use Rattle.pd_image.specs.Device.{IsAttached, OnlyReads};
 ghost use Rattle.pd_smap.specs.Entries.{IsOverflow, overflow_of};
 
-use crate::bitmaps::{BITMAP_COUNTS, read_bitmap};
+use crate::bitmaps::read_bitmap;
 use pd_bitmap::{index_entry, two_bits};
 use pd_image::{Device, Failed};
-use pd_kinds::{Block, SmRoot};
+use pd_kinds::{BITMAP_COUNTS, Block, SmRoot};
 use pd_tree::find;
 use pd_value::Count;
 
@@ -36,9 +36,9 @@ pub fn stored_meta<D: Device>(dev: &mut D, root: &SmRoot, b: u64) -> Result<Opti
 {
     let mut block = Block::zeros();
     dev.read(root.bitmap_root, &mut block)?;
-    let bitmap = index_entry(&block, (b / BITMAP_COUNTS as u64) as usize);
+    let bitmap = index_entry(&block, (b / BITMAP_COUNTS) as usize);
     read_bitmap(dev, bitmap.block, &mut block)?;
-    let bits = two_bits(&block, (b % BITMAP_COUNTS as u64) as usize);
+    let bits = two_bits(&block, (b % BITMAP_COUNTS) as usize);
     if bits < 3 {
         Ok(Some(u32::from(bits)))
     } else {

@@ -1,11 +1,13 @@
 -- Lines of cache texts: what is read is what is written, in its place.
-use Rattle.std.proofs.Common.{◌≡◌, inl, inr, ℕ, ◌^◌, ◌≤◌, ◌<◌, true, false, List, [], ◌∷◌, length, map, get_or, ◌∙◌, All, refl, ap, sym, subst, arith, eqb, ltb, not, ◌&&◌, ◌||◌, decimal, Option, Some, None, Ok, codes}
+use Rattle.std.proofs.Common.{◌≡◌, inl, inr, ℕ, ◌*◌, ◌^◌, ◌≤◌, ◌<◌, true, false, List, [], ◌∷◌, length, map, get_or, ◌∙◌, All, refl, ap, sym, subst, arith, eqb, ltb, not, ◌&&◌, ◌||◌, decimal, Option, Some, None, Ok, codes}
 use Rattle.std.proofs.lemmas.Bool.Decides.{Decides-eqb, nat_tests}
 use Rattle.std.proofs.lemmas.Option.{cond_some}
 use Rattle.std.proofs.lemmas.Slice.Eq.{bytes_eq-Decides}
 use Rattle.std.specs.Str.{bytes_eq}
 use Rattle.std.specs.List.{AllByRecursion}
-use Rattle.uuid.specs.Text.{hyphenated_text, simple_text, lower}
+use Rattle.hex.specs.Hex.{encode_lower, lower_digits}
+use Rattle.hex.proofs.HexLemmas.{length-encode_with}
+use Rattle.uuid.specs.Text.{hyphenated_text, lower}
 use Rattle.uuid.proofs.TextLemmas.{by_index_length}
 use Rattle.pd_grammar.specs.declared.cause.TextCause.TheVariants.{Word}
 use Rattle.pd_grammar.specs.Words.{uuid_of, policy_of, of_numbers, or_cause, result_and_then}
@@ -13,7 +15,7 @@ use Rattle.pd_grammar.specs.Texts.{written}
 use Rattle.pd_grammar.proofs.GrammarLemmas.{IsGrammar, AreWords, Passes, number_words}
 use Rattle.pd_grammar.proofs.ShortLemmas.{joined_short, numbers_short, small_numbers_short}
 use Rattle.pd_grammar.proofs.NumberLemmas.{ok-err, chosen, Fit, values_are, of_numbers_are, of_numbers_again}
-use Rattle.pd_grammar.proofs.PlainLemmas.{plain_word, Plain, Printable, decimals_plain, uuid_plain, uuid_again, uuid_is, policy_plain, policy_again, policy_is, AreBytes}
+use Rattle.pd_grammar.proofs.PlainLemmas.{plain_word, Plain, Printable, decimals_plain, uuid_plain, uuid_again, uuid_is, bytes_everywhere, policy_plain, policy_again, policy_is, AreBytes}
 use Rattle.pd_spells.specs.CacheText.{Line, first_line, cache_line, map_line, end_line, cache, Head, words_of_line, has_number_out_of_range, is_out_of_order, is_repeated, first_of, cache_of, map_of, cache_read_of, cache_read, words_read}
 
 -- the numbers and the uuid of a line can be written
@@ -55,7 +57,7 @@ around uuid policy (a ∷ b ∷ c ∷ words) = codes "cache" ∷ uuid ∷ a ∷ 
 around uuid policy words = words
 
 cache_words : (before : List Line) (word name uuid policy a b c : List ℕ) (words : List (List ℕ)) (line : Line) → length before ≡ 1
-    → AreBytes (hyphenated_text lower) word uuid → AreBytes (simple_text lower) name policy
+    → AreBytes (hyphenated_text lower) word uuid → AreBytes encode_lower name policy
     → of_numbers 7 (cache_of uuid policy) (a ∷ b ∷ c ∷ words) ≡ Ok line → Reads before (codes "cache" ∷ word ∷ a ∷ b ∷ c ∷ name ∷ words) line
 cache_words before word name uuid policy a b c words line second is named e =
     let ns = of_numbers_are 7 (cache_of uuid policy) (a ∷ b ∷ c ∷ words) line e in
@@ -145,7 +147,7 @@ words_plain first_line fits = (plain_word (codes "cache") refl, (plain_word (cod
 words_plain (cache_line h) fits =
     let front = decimals_plain (h.block_size ∷ h.blocks ∷ h.clean ∷ []) (fits.1.1.1.1.0, (fits.1.1.1.1.1.0, (fits.1.1.1.1.1.1.0, tt))) in
     let back = decimals_plain (h.major ∷ h.minor ∷ h.patch ∷ h.hint_size ∷ []) fits.1.1.1.1.1.1.1 in
-    (plain_word (codes "cache") refl, (uuid_plain h.uuid, (front.0, (front.1.0, (front.1.1.0, (policy_plain h.policy, back))))))
+    (plain_word (codes "cache") refl, (uuid_plain h.uuid, (front.0, (front.1.0, (front.1.1.0, (policy_plain h.policy (bytes_everywhere h.policy fits.1.1.1.0), back))))))
 words_plain (map_line r) fits =
     (plain_word (codes "map") refl, decimals_plain (r.block ∷ r.origin ∷ r.dirty ∷ r.hint ∷ []) fits)
 words_plain end_line fits = (plain_word (codes "end") refl, tt)
@@ -171,19 +173,19 @@ small_size : (hint : ℕ) → (eqb hint 0 || eqb hint 4) ≡ true → hint ≤ 4
 small_size hint e = grind (arith, nat_tests)
 
 -- no line that passes is longer than 160 bytes: a cache line's numbers are small
-short_head : (before : List Line) (h : Head) → Placed before (cache_line h) → LinePasses before (cache_line h) → length (written cache (cache_line h)) ≤ 160
-short_head before h placed passes =
+short_head : (before : List Line) (h : Head) → length h.policy ≡ 16 → Placed before (cache_line h) → LinePasses before (cache_line h) → length (written cache (cache_line h)) ≤ 160
+short_head before h len placed passes =
     let tells = head_tells h.block_size h.blocks h.major h.minor h.patch h.clean h.hint_size passes.range in
     let size : h.hint_size ≤ 4 = small_size h.hint_size tells.1.1.1.1.1.1 in
     let front = small_numbers_short (h.block_size ∷ h.blocks ∷ h.clean ∷ []) (tells.0, (tells.1.0, (omega (arith, tells.1.1.1.1.1.0), tt))) in
     let back = small_numbers_short (h.major ∷ h.minor ∷ h.patch ∷ h.hint_size ∷ []) (tells.1.1.0, (tells.1.1.1.0, (tells.1.1.1.1.0, (omega (arith, size), tt)))) in
-    let policy : length (simple_text lower h.policy) ≡ 32 = by_index_length 32 _ in
+    let policy : length (encode_lower h.policy) ≡ 2 * 16 = length-encode_with lower_digits h.policy ∙ ap (λ (n : ℕ). 2 * n) len in
     let uuid : length (hyphenated_text lower h.uuid) ≡ 36 = by_index_length 36 _ in
     omega (arith, front, back, policy, uuid, joined_short (words_of_line (cache_line h)))
 
 short_line : (before : List Line) (line : Line) → FitsLine line → Placed before line → Passes cache.tests before line → length (written cache line) ≤ 160
 short_line before first_line fits placed passes = omega arith
-short_line before (cache_line h) fits placed passes = short_head before h placed (line_passes before (cache_line h) (omega (arith, placed)) passes)
+short_line before (cache_line h) fits placed passes = short_head before h fits.1.1.0 placed (line_passes before (cache_line h) (omega (arith, placed)) passes)
 short_line before (map_line r) fits placed passes =
     let rest = numbers_short (r.block ∷ r.origin ∷ r.dirty ∷ r.hint ∷ []) fits in
     omega (arith, rest, joined_short (words_of_line (map_line r)))

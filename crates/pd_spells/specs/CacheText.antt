@@ -2,7 +2,8 @@
 use Rattle.std.specs.Prelude.{◌≡◌, ℕ, ◌+◌, ◌^◌, ◌==◌, ◌&&◌, ◌||◌, Bool, true, false, not, nat_lt, if◌then◌else◌, List, [], ◌∷◌, ◌++◌, length, slice_index, map, Option, Some, None, Result, Err, codes, decimal}
 use Rattle.std.specs.List.{list_any}
 use Rattle.std.specs.Str.{bytes_eq}
-use Rattle.uuid.specs.Text.{hyphenated_text, simple_text, lower}
+use Rattle.hex.specs.Hex.{encode_lower}
+use Rattle.uuid.specs.Text.{hyphenated_text, lower}
 use Rattle.pd_kinds.specs.Meaning.{CacheMeaning, CacheEntry}
 use Rattle.pd_grammar.specs.declared.cause.TextCause.{TextCause}
 use Rattle.pd_grammar.specs.declared.cause.TextCause.TheVariants.{Word, Order, OutOfRange, Repeated}
@@ -41,7 +42,7 @@ pub data Line : Type 0 where
 abbrev pub words_of_line : Line → List (List ℕ)
 words_of_line first_line = codes "cache" ∷ codes "1" ∷ []
 words_of_line (cache_line h) =
-    codes "cache" ∷ hyphenated_text lower h.uuid ∷ decimal h.block_size ∷ decimal h.blocks ∷ decimal h.clean ∷ simple_text lower h.policy
+    codes "cache" ∷ hyphenated_text lower h.uuid ∷ decimal h.block_size ∷ decimal h.blocks ∷ decimal h.clean ∷ encode_lower h.policy
     ∷ decimal h.major ∷ decimal h.minor ∷ decimal h.patch ∷ decimal h.hint_size ∷ []
 words_of_line (map_line r) =
     codes "map" ∷ decimal r.block ∷ decimal r.origin ∷ decimal r.dirty ∷ decimal r.hint ∷ []

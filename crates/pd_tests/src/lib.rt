@@ -2,8 +2,6 @@
 #![tactic(auto)]
 
 #[cfg(test)]
-mod count_tests;
-#[cfg(test)]
 mod dump_tests;
 #[cfg(test)]
 mod order_tests;

@@ -4,12 +4,14 @@ ghost use Rattle.std.specs.Prelude.{◌<◌, ◌≤◌};
 
 use crate::reports::{WHOLE_CHECK, expect_report, expect_restored};
 use pd_bitmap::{seal_bitmap, set_two_bits};
-use pd_kinds::Block;
+use pd_image::{Device, MemDevice};
+use pd_kinds::{Block, SmRoot};
 use pd_node::write_leaf;
 use pd_samples::pool::{
     bitmap, damaged, empty_leaf, empty_pool, empty_super, index, index_entry, index_leaf, inner,
     map_root, mapping_leaf, pool_of_one_mapping, pool_with_held_copy,
 };
+use pd_smap::stored_meta;
 use pd_supers::write_thin_super;
 use pd_value::{Count, Details, Root};
 use std::alloc::{AllocError, Global};
@@ -293,5 +295,20 @@ fn what_an_earlier_stage_finds_is_told_alone(rt: HostRuntime) -> Result<(), Fail
     image[0] = write_thin_super(&fields);
     let report = "fault meta 1 shape\nfault meta 1 role\nfaults 2\n";
     expect_counts(&rt, alloc, "one tree for two", &image, report)?;
+    Ok(())
+}
+
+#[test]
+fn a_pool_of_one_mapping_stores_ones(rt: HostRuntime) -> Result<(), Fail> {
+    let mut device = MemDevice::of(rt.alloc(), &pool_of_one_mapping())?;
+    device.attach("thin.img", false)?;
+    let root = SmRoot {
+        blocks: 16,
+        allocated: 10,
+        bitmap_root: 7,
+        overflow_root: 9,
+    };
+    assert!(rt; stored_meta(&mut device, &root, 1) == Ok(Some(1)));
+    assert!(rt; stored_meta(&mut device, &root, 10) == Ok(Some(0)));
     Ok(())
 }

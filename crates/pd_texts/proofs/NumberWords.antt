@@ -4,7 +4,6 @@ use Rattle.std.proofs.lemmas.Bool.{cases_Bool, true≢false}
 use Rattle.std.proofs.lemmas.Slice.Eq.{bytes_eq-Decides}
 use Rattle.std.specs.Option.{option_map}
 use Rattle.std.specs.Str.{bytes_eq}
-use Rattle.uuid.specs.Text.{parsed}
 use Rattle.pd_grammar.specs.declared.cause.TextCause.{TextCause}
 use Rattle.pd_grammar.specs.declared.cause.TextCause.TheVariants.{Word, Number}
 use Rattle.pd_grammar.specs.Words.{of_numbers, numbers_of, or_cause, bytes_of}
@@ -43,16 +42,16 @@ swapped a b differ = elim (cases_Bool (bytes_eq a b)) [
 ]
 
 -- a word that isn't in its form, and one that isn't parsed
-pub other_bytes : (form : List ℕ → List ℕ) (word bytes text : List ℕ) → Some bytes ≡ parsed word → text ≡ form bytes → false ≡ bytes_eq text word → None ≡ bytes_of form word
+pub other_bytes : (read : List ℕ → Option (List ℕ)) (form : List ℕ → List ℕ) (word bytes text : List ℕ) → Some bytes ≡ read word → text ≡ form bytes → false ≡ bytes_eq text word → None ≡ bytes_of read form word
 unfolding bytes_of
-other_bytes form word bytes text is same differ =
+other_bytes read form word bytes text is same differ =
     let test : bytes_eq word (form bytes) ≡ false = swapped word (form bytes) (rw same at differ) in
     rw (← is, test) refl
 
-unparsed : (form : List ℕ → List ℕ) (o : Option (List ℕ)) (word : List ℕ) → o ≡ parsed word → (((u : List ℕ) × (parsed word ≡ Some u)) → ⊥) → None ≡ bytes_of form word
+unparsed : (read : List ℕ → Option (List ℕ)) (form : List ℕ → List ℕ) (o : Option (List ℕ)) (word : List ℕ) → o ≡ read word → (((u : List ℕ) × (read word ≡ Some u)) → ⊥) → None ≡ bytes_of read form word
 unfolding bytes_of
-unparsed form None word is none = rw (← is) refl
-unparsed form (Some u) word is none = absurd (none (u, sym is))
+unparsed read form None word is none = rw (← is) refl
+unparsed read form (Some u) word is none = absurd (none (u, sym is))
 
-pub no_bytes : (form : List ℕ → List ℕ) (word : List ℕ) → (((u : List ℕ) × (parsed word ≡ Some u)) → ⊥) → None ≡ bytes_of form word
-no_bytes form word none = unparsed form (parsed word) word refl none
+pub no_bytes : (read : List ℕ → Option (List ℕ)) (form : List ℕ → List ℕ) (word : List ℕ) → (((u : List ℕ) × (read word ≡ Some u)) → ⊥) → None ≡ bytes_of read form word
+no_bytes read form word none = unparsed read form (read word) word refl none

@@ -15,7 +15,7 @@ use crate::turns::DeviceCursors;
 use pd_check::{DataSpace, Metadata, check};
 use pd_graph::Audit;
 use pd_image::{Device, Failed};
-use pd_kinds::{Block, CheckFault, Report, Rules, SmRoot, Stage};
+use pd_kinds::{Block, CheckFault, Report, Rules, SmRoot, Stage, thin_role};
 use pd_supers::{read_thin_super, thin_super_rules};
 use std::alloc::{AllocError, Global};
 
@@ -43,7 +43,7 @@ impl Metadata for ThinTable {
     fn data_space(b: &Block) -> Option<DataSpace> {
         Some(DataSpace {
             root: read_thin_super(b).data_map,
-            role: 3,
+            role: thin_role::MAPPINGS,
         })
     }
 

@@ -1,4 +1,4 @@
-use pd_kinds::{Block, Edges, Rules};
+use pd_kinds::{Block, Edges, Rules, thin_role};
 use pd_layouts::{Layout, LeafValue, Names, Table, Tabled};
 use pd_supers::{
     ThinSuper, read_thin_super, thin_held_edges, thin_held_rules, thin_super_edges,
@@ -18,7 +18,7 @@ impl Table for ThinTable {
     ghost use Rattle.pd_laws.proofs.ThinTable.{thin_table};
     ghost use Rattle.pd_thin.specs.Copies.{copy_edges, copy_rules};
 
-    const ROLES: u8 = 11;
+    const ROLES: u8 = thin_role::ROLES;
 
     type Super = ThinSuper;
 
@@ -45,22 +45,28 @@ impl Table for ThinTable {
     #[tactic(auto, unfolding(pd_kinds::specs::ThinFormat::thin_layout))]
     fn layout(role: u8, data_blocks: u64) -> Layout {
         match role {
-            0 => Layout::Copy,
-            1 => Layout::Copy,
-            2 => Layout::Tree(LeafValue::Root, Names::Metadata(3)),
-            3 => Layout::Tree(LeafValue::BlockTime, Names::Data(data_blocks)),
-            4 => Layout::Tree(LeafValue::Details, Names::Nothing),
-            5 => Layout::Tree(LeafValue::IndexEntry, Names::Metadata(6)),
-            6 => Layout::Bitmap,
-            7 => Layout::Tree(LeafValue::Count, Names::Nothing),
-            8 => Layout::Index(9),
-            9 => Layout::Bitmap,
+            thin_role::SUPER => Layout::Copy,
+            thin_role::HELD => Layout::Copy,
+            thin_role::DEVICES => {
+                Layout::Tree(LeafValue::Root, Names::Metadata(thin_role::MAPPINGS))
+            }
+            thin_role::MAPPINGS => Layout::Tree(LeafValue::BlockTime, Names::Data(data_blocks)),
+            thin_role::DETAILS => Layout::Tree(LeafValue::Details, Names::Nothing),
+            thin_role::DATA_INDEX => Layout::Tree(
+                LeafValue::IndexEntry,
+                Names::Metadata(thin_role::DATA_BITMAP),
+            ),
+            thin_role::DATA_BITMAP => Layout::Bitmap,
+            thin_role::DATA_OVERFLOW => Layout::Tree(LeafValue::Count, Names::Nothing),
+            thin_role::META_INDEX => Layout::Index(thin_role::META_BITMAP),
+            thin_role::META_BITMAP => Layout::Bitmap,
+            // The last one, `META_OVERFLOW`.
             _ => Layout::Tree(LeafValue::Count, Names::Nothing),
         }
     }
 
     fn copy_rules(role: u8, place: u64, b: &Block, nr: u64) -> Rules {
-        if role == 0 {
+        if role == thin_role::SUPER {
             thin_super_rules(b, nr)
         } else {
             thin_held_rules(b, place, nr)
@@ -69,7 +75,7 @@ impl Table for ThinTable {
 
     fn copy_edges(role: u8, b: &Block) -> Edges {
         let fields = read_thin_super(b);
-        if role == 0 {
+        if role == thin_role::SUPER {
             thin_super_edges(&fields)
         } else {
             thin_held_edges(&fields)

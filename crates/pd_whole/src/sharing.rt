@@ -3,23 +3,14 @@
 ghost use Rattle.std.specs.Prelude.{◌≡◌, ℕ, ◌<◌, ◌==◌, List};
 ghost use Rattle.pd_kinds.specs.Graph.{Graph};
 ghost use Rattle.pd_kinds.specs.Whole.{bitmap_tests};
-ghost use Rattle.pd_graph.specs.Roles.{has_bit};
 ghost use Rattle.pd_graph.specs.Audit.{blocks_of};
 ghost use Rattle.pd_whole.specs.Charges.{Charges};
 ghost use Rattle.pd_whole.specs.Known.{IsKnown};
 ghost use Rattle.pd_whole.specs.Shared.{is_shared, shared_tests};
 
 use crate::charging::charge;
-use pd_graph::Audit;
+use pd_graph::{Audit, has_role};
 use pd_kinds::Rule;
-
-/// Whether the role is in the set.
-fn has_role(roles: u16, role: u8) -> bool
-    requires { role < 16 }
-    ensures { result ≡ has_bit roles role }
-{
-    (roles >> role) & 1 == 1
-}
 
 /// Whether block b was met in the role, and more than one reference to it.
 fn has_more(audit: &Audit, role: u8, b: u64) -> bool

@@ -2,15 +2,14 @@
 
 ghost use Rattle.std.specs.Prelude.{◌≡◌};
 
-use pd_bitmap::{new_bitmap, seal_bitmap, set_two_bits};
+use pd_bitmap::{new_bitmap, new_index, seal_bitmap, seal_index, set_two_bits};
 use pd_count::Counts;
 use pd_graph::Audit;
 use pd_image::{Device, MemDevice};
 use pd_kinds::{Block, Fault, Report, Rule, SmRoot, Space};
 use pd_node::write_leaf;
-use pd_samples::pool::{index, index_entry, index_leaf, pool_of_one_mapping};
 use pd_smap::{compare_data, compare_meta, stored_meta};
-use pd_value::Count;
+use pd_value::{Count, IndexEntry};
 use std::process::Abort;
 use std::test::Fail;
 
@@ -45,19 +44,18 @@ fn a_huge_table_takes_memory_where_a_block_is_counted(rt: HostRuntime) -> Result
     Ok(())
 }
 
-#[test]
-fn a_pool_of_one_mapping_stores_ones(rt: HostRuntime) -> Result<(), Fail> {
-    let mut device = MemDevice::of(rt.alloc(), &pool_of_one_mapping())?;
-    device.attach("thin.img", false)?;
-    let root = SmRoot {
-        blocks: 16,
-        allocated: 10,
-        bitmap_root: 7,
-        overflow_root: 9,
-    };
-    assert!(rt; stored_meta(&mut device, &root, 1) == Ok(Some(1)));
-    assert!(rt; stored_meta(&mut device, &root, 10) == Ok(Some(0)));
-    Ok(())
+/// The entry of the bitmap of those maps, which is block 2.
+const ENTRY: IndexEntry = IndexEntry {
+    block: 2,
+    free: 0,
+    none_before: 0,
+};
+
+/// An index block of that bitmap alone.
+fn index_block() -> Block {
+    let mut index = new_index(&[ENTRY]);
+    seal_index(&mut index, 1);
+    index
 }
 
 /// A map of four blocks: block 0 has the count 1, block 1 has 0, block 2 has 5, and block 3 has 3 in its two bits and
@@ -103,7 +101,7 @@ fn wrong_count(space: Space, block: u64, rule: Rule, stored: u64, refs: u64) -> 
 
 #[test]
 fn metadata_counts_differ_from_no_references(rt: HostRuntime) -> Result<(), Fail> {
-    let image = counts_of_each_kind(index(1, &[index_entry(2, 0)]));
+    let image = counts_of_each_kind(index_block());
     let mut device = MemDevice::of(rt.alloc(), &image)?;
     device.attach("thin.img", false)?;
     assert!(rt; stored_meta(&mut device, &EACH_KIND, 2) == Ok(Some(5)));
@@ -126,7 +124,10 @@ fn metadata_counts_differ_from_no_references(rt: HostRuntime) -> Result<(), Fail
 
 #[test]
 fn data_counts_differ_from_the_references(rt: HostRuntime) -> Result<(), Fail> {
-    let mut device = MemDevice::of(rt.alloc(), &counts_of_each_kind(index_leaf(1, 2)))?;
+    let mut device = MemDevice::of(
+        rt.alloc(),
+        &counts_of_each_kind(write_leaf(1, &[(0, ENTRY)])),
+    )?;
     device.attach("thin.img", false)?;
     let mut counts = Counts::new(rt.alloc(), 4)?;
     count(&rt, &mut counts, 0)?;
