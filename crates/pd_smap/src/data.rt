@@ -86,8 +86,9 @@ fn compare_listed<D: Device>(
     ensures stopped { OnErr result (Stopped (record { space = DataBlock; refs = count_of counts.now; bits = bits_by (λ image. place_in (cursor_items 16 index_from image index.old)) }) 0 blocks
         (with_nodes (λ image. length (cursor_nodes 16 image index.old) + bitmaps_for blocks) (stand (D.state dev.old) overflow.old report.old)) (stand (D.state dev.new) overflow.new report.new)) }
 {
+    let bitmaps = bitmaps_for(blocks);
     let refs = DataReferences(counts);
-    for i in 0..bitmaps_for(blocks) {
+    for i in 0..bitmaps {
         let place = next_place(dev, index)?;
         compare_at(dev, place, i, blocks, &refs, overflow, report)?;
     }

@@ -104,8 +104,9 @@ fn compare_indexed<D: Device>(
     ensures stopped { OnErr result (Stopped (record { space = Meta; refs = count_at audit.now; bits = bits_by (λ image. index_block_at index.now.0) }) 0 blocks
         (with_reads (bitmaps_for blocks) (stand (D.state dev.old) overflow.old report.old)) (stand (D.state dev.new) overflow.new report.new)) }
 {
+    let bitmaps = bitmaps_for(blocks) as usize;
     let refs = MetaReferences(audit);
-    for i in 0..bitmaps_for(blocks) as usize {
+    for i in 0..bitmaps {
         let place = index_entry(index, i).block;
         compare_at(dev, place, i as u64, blocks, &refs, overflow, report)?;
     }

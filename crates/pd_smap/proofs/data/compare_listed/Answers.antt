@@ -40,7 +40,7 @@ compare_at-requires-clause-attached g c = still_attached _ _ c.in_ok-place.ensur
 pub compare_at-requires-clause-room : goal.compare_at-requires-clause-room
 compare_at-requires-clause-room g c =
     let few : c.loop-i.report.total + min 16320 (c.args.blocks - 16320 * c.loop-i.i) < 2 ^ 64 =
-    omega (arith, c.loop-i.invariant.went.total, c.requires.room, c.loop-i-test.true, c.div_ceil-bitmaps.ensures) in
+    omega (arith, c.loop-i.invariant.went.total, c.requires.room, c.loop-i-test.true, c.bitmaps_for-bitmaps.ensures) in
     few
 
 pub returns-in_err-place-clause-stopped : goal.returns-in_err-place-clause-stopped
@@ -55,9 +55,9 @@ pub returns-in_err-compare_at-clause-stopped : goal.returns-in_err-compare_at-cl
 returns-in_err-compare_at-clause-stopped g c =
     on_err c.from_residual-in_err-compare_at.result _
     (map_stopped DataBlock (count_of c.args.counts.now) (λ image. place_in (cursor_items 16 index_from image c.args.index.now)) c.in_ok-place.place c.loop-i.i c.args.blocks (with_nodes (λ image. length (cursor_nodes 16 image c.args.index.now) + bitmaps_for c.args.blocks) (stand (g.D.Device.state c.args.dev.now) c.args.overflow.now c.args.report.now)) (stand (g.D.Device.state c.next_place.new.dev) c.loop-i.overflow c.loop-i.report) (stand (g.D.Device.state c.compare_at.new.dev) c.compare_at.new.overflow c.compare_at.new.report) (λ image. overflow_reads c.loop-i.overflow image + (length (cursor_nodes 16 image c.next_place.new.index) + (bitmaps_for c.args.blocks - c.loop-i.i))) (overflow_reads c.compare_at.new.overflow)
-    (omega (arith, c.loop-i-test.true, c.div_ceil-bitmaps.ensures)) (subst (λ o. IfSome o (λ image. place_in (cursor_items 16 index_from image c.args.index.now) c.loop-i.i ≡ c.in_ok-place.place)) (sym (c.in_ok-place.ensures.kept.held ∙ c.loop-i.invariant.went.kept.held))
+    (omega (arith, c.loop-i-test.true, c.bitmaps_for-bitmaps.ensures)) (subst (λ o. IfSome o (λ image. place_in (cursor_items 16 index_from image c.args.index.now) c.loop-i.i ≡ c.in_ok-place.place)) (sym (c.in_ok-place.ensures.kept.held ∙ c.loop-i.invariant.went.kept.held))
     (if_then (g.D.Device.state c.args.dev.now).held (g.D.Device.state c.loop-i.dev).held _ _ _ c.loop-i.invariant.went.kept.held
-    (λ image places first. ap (place_in (cursor_items 16 index_from image c.args.index.now)) (add_none c.loop-i.i) ∙ places 0 ∙ first) c.loop-i.invariant.places c.in_ok-place.ensures.first)) (λ image. (omega (arith, c.loop-i-test.true, c.div_ceil-bitmaps.ensures))) (went_next (record { space = DataBlock; refs = count_of c.args.counts.now; bits = bits_by (λ image. place_in (cursor_items 16 index_from image c.args.index.now)) }) 0 (min (16320 * c.loop-i.i) c.args.blocks) (min (16320 * c.loop-i.i) c.args.blocks) 0 (min (16320 * c.loop-i.i) c.args.blocks) (with_nodes (λ image. length (cursor_nodes 16 image c.args.index.now) + bitmaps_for c.args.blocks) (stand (g.D.Device.state c.args.dev.now) c.args.overflow.now c.args.report.now)) (with_nodes (λ image. length (cursor_nodes 16 image c.loop-i.index) + (bitmaps_for c.args.blocks - c.loop-i.i)) (stand (g.D.Device.state c.loop-i.dev) c.loop-i.overflow c.loop-i.report)) (record { device = g.D.Device.state c.next_place.new.dev; report = c.loop-i.report; items = overflow_items c.loop-i.overflow; reads = (λ image. overflow_reads c.loop-i.overflow image + (length (cursor_nodes 16 image c.next_place.new.index) + (bitmaps_for c.args.blocks - c.loop-i.i))) }) (omega arith) (omega arith) c.loop-i.invariant.went
+    (λ image places first. ap (place_in (cursor_items 16 index_from image c.args.index.now)) (add_none c.loop-i.i) ∙ places 0 ∙ first) c.loop-i.invariant.places c.in_ok-place.ensures.first)) (λ image. (omega (arith, c.loop-i-test.true, c.bitmaps_for-bitmaps.ensures))) (went_next (record { space = DataBlock; refs = count_of c.args.counts.now; bits = bits_by (λ image. place_in (cursor_items 16 index_from image c.args.index.now)) }) 0 (min (16320 * c.loop-i.i) c.args.blocks) (min (16320 * c.loop-i.i) c.args.blocks) 0 (min (16320 * c.loop-i.i) c.args.blocks) (with_nodes (λ image. length (cursor_nodes 16 image c.args.index.now) + bitmaps_for c.args.blocks) (stand (g.D.Device.state c.args.dev.now) c.args.overflow.now c.args.report.now)) (with_nodes (λ image. length (cursor_nodes 16 image c.loop-i.index) + (bitmaps_for c.args.blocks - c.loop-i.i)) (stand (g.D.Device.state c.loop-i.dev) c.loop-i.overflow c.loop-i.report)) (record { device = g.D.Device.state c.next_place.new.dev; report = c.loop-i.report; items = overflow_items c.loop-i.overflow; reads = (λ image. overflow_reads c.loop-i.overflow image + (length (cursor_nodes 16 image c.next_place.new.index) + (bitmaps_for c.args.blocks - c.loop-i.i))) }) (omega arith) (omega arith) c.loop-i.invariant.went
     (went_reading (record { space = DataBlock; refs = count_of c.args.counts.now; bits = bits_by (λ image. place_in (cursor_items 16 index_from image c.args.index.now)) }) (min (16320 * c.loop-i.i) c.args.blocks) (g.D.Device.state c.loop-i.dev) (g.D.Device.state c.next_place.new.dev) c.loop-i.report (overflow_items c.loop-i.overflow)
     (λ image. overflow_reads c.loop-i.overflow image + (length (cursor_nodes 16 image c.loop-i.index) + (bitmaps_for c.args.blocks - c.loop-i.i))) (λ image. overflow_reads c.loop-i.overflow image + (length (cursor_nodes 16 image c.next_place.new.index) + (bitmaps_for c.args.blocks - c.loop-i.i)))
     c.in_ok-place.ensures.kept c.in_ok-place.ensures.faults (if_maps (g.D.Device.state c.loop-i.dev).held _ _ (λ image fewer. omega (arith, fewer)) c.in_ok-place.ensures.reads))) c.in_err-compare_at.ensures.stopped)
@@ -67,9 +67,9 @@ loop-i-preserved g c = record {
   went =
       map_went DataBlock (count_of c.args.counts.now) (λ image. place_in (cursor_items 16 index_from image c.args.index.now)) c.in_ok-place.place c.loop-i.i c.args.blocks (with_nodes (λ image. length (cursor_nodes 16 image c.args.index.now) + bitmaps_for c.args.blocks) (stand (g.D.Device.state c.args.dev.now) c.args.overflow.now c.args.report.now)) (stand (g.D.Device.state c.next_place.new.dev) c.loop-i.overflow c.loop-i.report) (stand (g.D.Device.state c.compare_at.new.dev) c.compare_at.new.overflow c.compare_at.new.report) (λ image. overflow_reads c.loop-i.overflow image + (length (cursor_nodes 16 image c.next_place.new.index) + (bitmaps_for c.args.blocks - c.loop-i.i)))
       (λ image. overflow_reads c.compare_at.new.overflow image + (length (cursor_nodes 16 image c.next_place.new.index) + (bitmaps_for c.args.blocks - (c.loop-i.i + 1))))
-      (omega (arith, c.loop-i-test.true, c.div_ceil-bitmaps.ensures)) (subst (λ o. IfSome o (λ image. place_in (cursor_items 16 index_from image c.args.index.now) c.loop-i.i ≡ c.in_ok-place.place)) (sym (c.in_ok-place.ensures.kept.held ∙ c.loop-i.invariant.went.kept.held))
+      (omega (arith, c.loop-i-test.true, c.bitmaps_for-bitmaps.ensures)) (subst (λ o. IfSome o (λ image. place_in (cursor_items 16 index_from image c.args.index.now) c.loop-i.i ≡ c.in_ok-place.place)) (sym (c.in_ok-place.ensures.kept.held ∙ c.loop-i.invariant.went.kept.held))
       (if_then (g.D.Device.state c.args.dev.now).held (g.D.Device.state c.loop-i.dev).held _ _ _ c.loop-i.invariant.went.kept.held
-      (λ image places first. ap (place_in (cursor_items 16 index_from image c.args.index.now)) (add_none c.loop-i.i) ∙ places 0 ∙ first) c.loop-i.invariant.places c.in_ok-place.ensures.first)) (λ image. (omega (arith, c.loop-i-test.true, c.div_ceil-bitmaps.ensures))) (went_next (record { space = DataBlock; refs = count_of c.args.counts.now; bits = bits_by (λ image. place_in (cursor_items 16 index_from image c.args.index.now)) }) 0 (min (16320 * c.loop-i.i) c.args.blocks) (min (16320 * c.loop-i.i) c.args.blocks) 0 (min (16320 * c.loop-i.i) c.args.blocks) (with_nodes (λ image. length (cursor_nodes 16 image c.args.index.now) + bitmaps_for c.args.blocks) (stand (g.D.Device.state c.args.dev.now) c.args.overflow.now c.args.report.now)) (with_nodes (λ image. length (cursor_nodes 16 image c.loop-i.index) + (bitmaps_for c.args.blocks - c.loop-i.i)) (stand (g.D.Device.state c.loop-i.dev) c.loop-i.overflow c.loop-i.report)) (record { device = g.D.Device.state c.next_place.new.dev; report = c.loop-i.report; items = overflow_items c.loop-i.overflow; reads = (λ image. overflow_reads c.loop-i.overflow image + (length (cursor_nodes 16 image c.next_place.new.index) + (bitmaps_for c.args.blocks - c.loop-i.i))) }) (omega arith) (omega arith) c.loop-i.invariant.went
+      (λ image places first. ap (place_in (cursor_items 16 index_from image c.args.index.now)) (add_none c.loop-i.i) ∙ places 0 ∙ first) c.loop-i.invariant.places c.in_ok-place.ensures.first)) (λ image. (omega (arith, c.loop-i-test.true, c.bitmaps_for-bitmaps.ensures))) (went_next (record { space = DataBlock; refs = count_of c.args.counts.now; bits = bits_by (λ image. place_in (cursor_items 16 index_from image c.args.index.now)) }) 0 (min (16320 * c.loop-i.i) c.args.blocks) (min (16320 * c.loop-i.i) c.args.blocks) 0 (min (16320 * c.loop-i.i) c.args.blocks) (with_nodes (λ image. length (cursor_nodes 16 image c.args.index.now) + bitmaps_for c.args.blocks) (stand (g.D.Device.state c.args.dev.now) c.args.overflow.now c.args.report.now)) (with_nodes (λ image. length (cursor_nodes 16 image c.loop-i.index) + (bitmaps_for c.args.blocks - c.loop-i.i)) (stand (g.D.Device.state c.loop-i.dev) c.loop-i.overflow c.loop-i.report)) (record { device = g.D.Device.state c.next_place.new.dev; report = c.loop-i.report; items = overflow_items c.loop-i.overflow; reads = (λ image. overflow_reads c.loop-i.overflow image + (length (cursor_nodes 16 image c.next_place.new.index) + (bitmaps_for c.args.blocks - c.loop-i.i))) }) (omega arith) (omega arith) c.loop-i.invariant.went
       (went_reading (record { space = DataBlock; refs = count_of c.args.counts.now; bits = bits_by (λ image. place_in (cursor_items 16 index_from image c.args.index.now)) }) (min (16320 * c.loop-i.i) c.args.blocks) (g.D.Device.state c.loop-i.dev) (g.D.Device.state c.next_place.new.dev) c.loop-i.report (overflow_items c.loop-i.overflow)
       (λ image. overflow_reads c.loop-i.overflow image + (length (cursor_nodes 16 image c.loop-i.index) + (bitmaps_for c.args.blocks - c.loop-i.i))) (λ image. overflow_reads c.loop-i.overflow image + (length (cursor_nodes 16 image c.next_place.new.index) + (bitmaps_for c.args.blocks - c.loop-i.i)))
       c.in_ok-place.ensures.kept c.in_ok-place.ensures.faults (if_maps (g.D.Device.state c.loop-i.dev).held _ _ (λ image fewer. omega (arith, fewer)) c.in_ok-place.ensures.reads))) c.in_ok-compare_at.ensures.went;
@@ -82,6 +82,6 @@ loop-i-preserved g c = record {
 pub returns-clause-went : goal.returns-clause-went
 returns-clause-went g c =
     went_many (record { space = DataBlock; refs = count_of c.args.counts.now; bits = bits_by (λ image. place_in (cursor_items 16 index_from image c.args.index.now)) }) 0 (min (16320 * c.loop-i.i) c.args.blocks) c.args.blocks (with_nodes (λ image. length (cursor_nodes 16 image c.args.index.now) + bitmaps_for c.args.blocks) (stand (g.D.Device.state c.args.dev.now) c.args.overflow.now c.args.report.now)) (stand (g.D.Device.state c.loop-i.dev) c.loop-i.overflow c.loop-i.report)
-    (omega (arith, c.loop-i-test.false, c.div_ceil-bitmaps.ensures))
+    (omega (arith, c.loop-i-test.false, c.bitmaps_for-bitmaps.ensures))
     (went_reads (record { space = DataBlock; refs = count_of c.args.counts.now; bits = bits_by (λ image. place_in (cursor_items 16 index_from image c.args.index.now)) }) 0 (min (16320 * c.loop-i.i) c.args.blocks) (with_nodes (λ image. length (cursor_nodes 16 image c.args.index.now) + bitmaps_for c.args.blocks) (stand (g.D.Device.state c.args.dev.now) c.args.overflow.now c.args.report.now)) (with_nodes (λ image. length (cursor_nodes 16 image c.loop-i.index) + (bitmaps_for c.args.blocks - c.loop-i.i)) (stand (g.D.Device.state c.loop-i.dev) c.loop-i.overflow c.loop-i.report))
     (λ image. overflow_reads c.args.overflow.now image + (length (cursor_nodes 16 image c.args.index.now) + bitmaps_for c.args.blocks)) (overflow_reads c.loop-i.overflow) (λ image. omega arith) c.loop-i.invariant.went)
