@@ -4,7 +4,6 @@
 
 ghost use Rattle.std.specs.Prelude.{◌≡◌, ℕ, List, []};
 ghost use Rattle.pd_kinds.specs.declared.kind.Kind.TheVariants.{Thin};
-ghost use Rattle.pd_kinds.specs.declared.kind.Stage.TheVariants.{Super};
 ghost use Rattle.pd_kinds.specs.declared.kind.Stage.{Stage};
 ghost use Rattle.pd_kinds.specs.Meaning.{thin_meaning};
 ghost use Rattle.pd_kinds.specs.Stages.{faults};
@@ -29,9 +28,10 @@ fn pools_in_order_are_known()
     entries_lead_to_reached_pairs();
 }
 
-/// Images of a pool that are alike have the same faults up to each stage, where the superblock of one has none.
+/// Images of a pool that are alike have the same faults up to each stage, where one of them has none up to some stage, so
+/// none in its superblock.
 pub fn alike_pools_have_the_same_faults()
-    ensures { (until : Stage) (image other : List (List ℕ)) → AreAlike image other → faults Thin Super image ≡ [] → faults Thin until other ≡ faults Thin until image }
+    ensures { (some until : Stage) (image other : List (List ℕ)) → AreAlike image other → faults Thin some image ≡ [] → faults Thin until other ≡ faults Thin until image }
 {
     pools_in_order_are_known();
 }
