@@ -21,6 +21,7 @@ use Rattle.pd_laid_thin.specs.CleanPool.{IsCleanPool}
 use Rattle.pd_laid_cache.specs.CleanCache.{IsCleanCache}
 use Rattle.pd_laid_era.specs.CleanEra.{IsCleanEra}
 use Rattle.pd_answers.specs.Answer.{NoFaults, Objects}
+use Rattle.pd_answers.specs.Flag.{needs_check}
 use Rattle.pd_answers.specs.Promises.{image_text, terms_of}
 use Rattle.pd_answers.specs.Requests.{check, repair, restore}
 use Rattle.pd_answers.specs.Terms.{IsAnswered}
@@ -104,6 +105,18 @@ pub record TellsClean (kind : Kind) (before after : Objects) (status : ℕ) (ima
   pub clean : status ≡ 0 → IsClean kind image
   pub unclean : status ≡ 1 → IsClean kind image → ⊥
   pub found : IsClean kind image → NoFaults before after → (status ≡ 0) ⊎ (status ≡ 7)
+
+-- the image is clean, means what the old one did, and its flag "needs check" isn't set
+pub record IsClearedPool (old image : List (List ℕ)) : Type 0 where
+  pub clean : IsClean Thin image
+  pub same : thin_meaning image ≡ thin_meaning old
+  pub unset : needs_check image ≡ false
+
+-- the device that was checked holds such an image of what it held, and nothing of it is unsynced
+abbrev pub HoldsCleared : Objects → Objects → Type 0
+HoldsCleared before after =
+    IfSome before.input.held (λ image. IsImage image →
+    IfSome after.input.held (λ left. IsClearedPool image left × HoldsSynced left after.input))
 
 -- a repair of one image onto another was asked, and was answered with this status
 abbrev pub IsRepairAnswered : List ℕ → List ℕ → Objects → Objects → ℕ → Type 0

@@ -1,10 +1,16 @@
-ghost use Rattle.std.specs.Prelude.{◌≡◌, ◌⊎◌, ℕ, List, IfSome};
+ghost use Rattle.std.specs.Prelude.{◌≡◌, ◌⊎◌, ℕ, false, List, [], IfSome};
 ghost use Rattle.pd_kinds.specs.declared.kind.Kind.{Kind};
 ghost use Rattle.pd_kinds.specs.declared.kind.Kind.TheVariants.{Thin};
+ghost use Rattle.pd_kinds.specs.declared.kind.Stage.{Stage};
+ghost use Rattle.pd_kinds.specs.Image.{IsImage};
 ghost use Rattle.pd_kinds.specs.Meaning.{thin_meaning};
+ghost use Rattle.pd_kinds.specs.Stages.{faults};
+ghost use Rattle.pd_laws.specs.InOrder.{LooksAtOrder};
 ghost use Rattle.pd_answers.specs.Answer.{NoFaults, Objects};
-ghost use Rattle.pd_exact.specs.Exact.{HoldsPoolOfText, IsCheckAnswered, IsClearingAnswered, IsDumpOf, IsRestoreAnswered, LeavesPoolOfText, TellsClean};
+ghost use Rattle.pd_answers.specs.Flag.{cleared, needs_check};
+ghost use Rattle.pd_exact.specs.Exact.{HoldsCleared, HoldsPoolOfText, IsCheckAnswered, IsClearingAnswered, IsDumpOf, IsRestoreAnswered, LeavesPoolOfText, TellsClean};
 
+use pd_alike::{alike_pools_have_the_same_faults, alike_pools_mean_the_same};
 use pd_laid_thin::laid_pool_is_clean;
 use pd_laws::faults_are_none_where_clean;
 use pd_pool::sound_pools_are_lawful;
@@ -64,5 +70,27 @@ pub fn clearing_checks_tell_clean_pools()
     ensures { (path : List ℕ) (before after : Objects) (status : ℕ) → IsClearingAnswered path before after status
         → IfSome before.input.held (TellsClean Thin before after status) }
 {
+    faults_are_none_where_clean();
+}
+
+/// A pool without faults up to a stage has none up to it once its flag "needs check" is cleared; where that is the stage Order
+/// or a later one, it means what it meant. The flag then isn't set.
+pub fn cleared_pools_stay_clean()
+    ensures clean { (until : Stage) (image : List (List ℕ)) → IsImage image → faults Thin until image ≡ [] → faults Thin until (cleared image) ≡ [] }
+    ensures meaning { (until : Stage) (image : List (List ℕ)) → IsImage image → LooksAtOrder until → faults Thin until image ≡ []
+        → thin_meaning (cleared image) ≡ thin_meaning image }
+    ensures unset { (image : List (List ℕ)) → IsImage image → needs_check (cleared image) ≡ false }
+{
+    alike_pools_have_the_same_faults();
+    alike_pools_mean_the_same();
+}
+
+/// At status 0 of a check that clears the flag, the device holds, with nothing unsynced, an image that is clean, means what
+/// it meant before, and whose flag isn't set.
+pub fn cleared_pool_is_clean()
+    ensures { (path : List ℕ) (before after : Objects) → IsClearingAnswered path before after 0 → HoldsCleared before after }
+{
+    clearing_checks_tell_clean_pools();
+    cleared_pools_stay_clean();
     faults_are_none_where_clean();
 }

@@ -1,5 +1,6 @@
-//! What a restored pool, cache or era target is, what a repaired pool is, and what a check says of an image: the laws of
-//! laid images, of sound images, of what is saved, of texts and of clean images, in the terms of the tools.
+//! What a restored pool, cache or era target is, what a repaired pool is, what a check says of an image, and what a pool is
+//! whose flag was cleared: the laws of laid images, of sound images, of what is saved, of texts, of clean images and of
+//! alike ones, in the terms of the tools.
 #![tactic(auto)]
 
 mod caches;
@@ -13,8 +14,9 @@ pub use caches::{
     restored_cache_is_clean, sound_caches_are_lawful,
 };
 pub use laws::{
-    checks_tell_clean_images, clearing_checks_tell_clean_pools,
-    crashed_restore_leaves_no_other_pool, restored_dump_means_the_same, restored_pool_is_clean,
+    checks_tell_clean_images, cleared_pool_is_clean, cleared_pools_stay_clean,
+    clearing_checks_tell_clean_pools, crashed_restore_leaves_no_other_pool,
+    restored_dump_means_the_same, restored_pool_is_clean,
 };
 pub use repairs::{
     crashed_repair_leaves_no_other_pool, repaired_pool_is_clean,

@@ -10,12 +10,13 @@ ghost use Rattle.pd_answers.specs.Answer.{Objects};
 ghost use Rattle.pd_answers.specs.QueryLines.{list_lines, rmap_lines, since_lines};
 ghost use Rattle.pd_answers.specs.Requests.{restore};
 ghost use Rattle.pd_answers.specs.Words.{Region, asked, generated_number, is_value, number_below, region_of, version_of};
-ghost use Rattle.pd_exact.specs.Exact.{HoldsCacheOfText, HoldsPoolOfText, HoldsSalvage, HoldsTargetOfText};
+ghost use Rattle.pd_exact.specs.Exact.{HoldsCacheOfText, HoldsCleared, HoldsPoolOfText, HoldsSalvage, HoldsTargetOfText};
 ghost use Rattle.pd_exact.specs.Words.{Ends, HoldsGenerated, IsName, PutsGenerated, PutsOfInput, PutsTextOfInput, TellsWhetherClean, in_version, to_file};
 
 use crate::caches::{restored_cache_is_clean, sound_caches_are_lawful};
 use crate::laws::{
-    checks_tell_clean_images, clearing_checks_tell_clean_pools, restored_pool_is_clean,
+    checks_tell_clean_images, cleared_pool_is_clean, clearing_checks_tell_clean_pools,
+    restored_pool_is_clean,
 };
 use crate::repairs::repaired_pool_is_clean;
 use crate::targets::{restored_target_is_clean, sound_targets_are_lawful};
@@ -47,11 +48,14 @@ pub fn era_check_tells_clean()
     checks_tell_clean_images();
 }
 
-/// `thin_check --clear-needs-check-flag IMAGE`: status 0 says that the pool's image was clean, and 1 that it wasn't.
+/// `thin_check --clear-needs-check-flag IMAGE`: status 0 says that the pool's image was clean, and 1 that it wasn't. At status 0
+/// it is still clean, means what it meant, and its flag "needs check" isn't set, with nothing unsynced.
 pub fn thin_check_tells_clean_and_clears()
-    ensures { (image : List ℕ) (before after : Objects) (status : ℕ) → IsName image → Ends (codes "thin_check" ∷ codes "--clear-needs-check-flag" ∷ image ∷ []) status before after → TellsWhetherClean Thin before after status }
+    ensures tells { (image : List ℕ) (before after : Objects) (status : ℕ) → IsName image → Ends (codes "thin_check" ∷ codes "--clear-needs-check-flag" ∷ image ∷ []) status before after → TellsWhetherClean Thin before after status }
+    ensures clears { (image : List ℕ) (before after : Objects) → IsName image → Ends (codes "thin_check" ∷ codes "--clear-needs-check-flag" ∷ image ∷ []) 0 before after → HoldsCleared before after }
 {
     clearing_checks_tell_clean_pools();
+    cleared_pool_is_clean();
 }
 
 /// `thin_dump IMAGE`, to a file or not: status 0 says that the image has no faults up to the stage Whole, and that a text of the
