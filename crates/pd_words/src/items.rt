@@ -96,33 +96,33 @@ pub fn is_purpose(tool: Tool, word: &str) -> bool
     match tool {
         Tool::Check(kind) => match kind {
             Kind::Thin => {
-                word == "--until" || word == "--clear-needs-check-flag" || word == "IMAGE"
+                (word == "--until") | (word == "--clear-needs-check-flag") | (word == "IMAGE")
             }
-            Kind::Cache => word == "--until" || word == "IMAGE",
-            Kind::Era => word == "--until" || word == "IMAGE",
+            Kind::Cache => (word == "--until") | (word == "IMAGE"),
+            Kind::Era => (word == "--until") | (word == "IMAGE"),
         },
         Tool::Dump(kind) => match kind {
-            Kind::Thin => word == "--shared" || word == "-o" || word == "IMAGE",
-            Kind::Cache => word == "-o" || word == "IMAGE",
-            Kind::Era => word == "-o" || word == "IMAGE",
+            Kind::Thin => (word == "--shared") | (word == "-o") | (word == "IMAGE"),
+            Kind::Cache => (word == "-o") | (word == "IMAGE"),
+            Kind::Era => (word == "-o") | (word == "IMAGE"),
         },
         Tool::Restore(kind) => match kind {
-            Kind::Thin => word == "-i" || word == "-o",
-            Kind::Cache => word == "--metadata-version" || word == "-i" || word == "-o",
-            Kind::Era => word == "-i" || word == "-o",
+            Kind::Thin => (word == "-i") | (word == "-o"),
+            Kind::Cache => (word == "--metadata-version") | (word == "-i") | (word == "-o"),
+            Kind::Era => (word == "-i") | (word == "-o"),
         },
         Tool::Repair => {
-            word == "-i"
-                || word == "-o"
-                || word == "--transaction-id"
-                || word == "--data-block-size"
-                || word == "--nr-data-blocks"
+            (word == "-i")
+                | (word == "-o")
+                | (word == "--transaction-id")
+                | (word == "--data-block-size")
+                | (word == "--nr-data-blocks")
         }
-        Tool::ReverseMap => word == "--region" || word == "-o" || word == "IMAGE",
-        Tool::DeviceList => word == "-o" || word == "IMAGE",
-        Tool::Since => word == "--written-since" || word == "-o" || word == "IMAGE",
-        Tool::Generate => word == "--number" || word == "-o",
-        Tool::Rehearse => word == "--number" || word == "-o",
+        Tool::ReverseMap => (word == "--region") | (word == "-o") | (word == "IMAGE"),
+        Tool::DeviceList => (word == "-o") | (word == "IMAGE"),
+        Tool::Since => (word == "--written-since") | (word == "-o") | (word == "IMAGE"),
+        Tool::Generate => (word == "--number") | (word == "-o"),
+        Tool::Rehearse => (word == "--number") | (word == "-o"),
     }
 }
 
