@@ -16,7 +16,7 @@ use Rattle.pd_laid_graph.proofs.FromLemmas.{by_place, from_follows, from_pairs}
 use Rattle.pd_laid_graph.proofs.LaidLemmas.{roles_at}
 
 -- blocks that are written one after another stand behind a front
-stand_behind : {X : Type 0} (write : ℕ → X → List ℕ) (front : List (List ℕ)) (place : ℕ) (xs : List X) (rest : List (List ℕ)) → length front ≡ place
+pub stand_behind : {X : Type 0} (write : ℕ → X → List ℕ) (front : List (List ℕ)) (place : ℕ) (xs : List X) (rest : List (List ℕ)) → length front ≡ place
     → AllFrom (λ q x. block_at (front ++ (blocks_from write place xs ++ rest)) q ≡ write q x) place xs
 unfolding blocks_from
 stand_behind write front place [] rest at = tt
@@ -47,21 +47,24 @@ all_named (x ∷ blocks) =
           (λ e later. any_back (λ r. nat_eq r e.block) own (named_by blocks) later) y.edges named) blocks (all_named blocks),
     )
 
+-- blocks that stand from block 0 on are in their places
+pub all_in_place : (image : List (List ℕ)) (blocks : List LaidBlock) → AllFrom (λ q (x : LaidBlock). block_at image q ≡ x.written q) 0 blocks → AllFrom (IsInPlace image blocks) 0 blocks
+all_in_place image blocks stand =
+    from_follows (λ q (x : LaidBlock). (block_at image q ≡ x.written q) × ((role_at blocks q ≡ x.role) × AllByRecursion (λ (e : Edge). IsNamed blocks e.block) x.edges))
+    (IsInPlace image blocks) 0 blocks (λ q low high x at. record { stands = at.0; role_is = at.1.0; names = at.1.1 })
+    (from_pairs (λ q (x : LaidBlock). block_at image q ≡ x.written q) (λ q (x : LaidBlock). (role_at blocks q ≡ x.role) × AllByRecursion (λ (e : Edge). IsNamed blocks e.block) x.edges) 0 blocks stand
+    (from_pairs (λ q (x : LaidBlock). role_at blocks q ≡ x.role) (λ q (x : LaidBlock). AllByRecursion (λ (e : Edge). IsNamed blocks e.block) x.edges) 0 blocks (roles_at blocks)
+    (from_all (λ (x : LaidBlock). AllByRecursion (λ (e : Edge). IsNamed blocks e.block) x.edges) 0 blocks (all_named blocks))))
+
 -- the blocks that are laid in an image, whatever the superblock names
 pub laid_in_place : (laid : Laid) (edges : List Edge) (base image : List (List ℕ)) → IsLaid laid base image
     → AllFrom (IsInPlace image (all_laid laid edges)) 0 (all_laid laid edges)
 unfolding laid_blocks blocks_from
 laid_in_place laid edges base image is =
     let blocks = all_laid laid edges in
-    let whole = image_of_laid laid base image is in
-    let stand : AllFrom (λ q (x : LaidBlock). block_at image q ≡ x.written q) 0 blocks =
-    subst (λ (held : List (List ℕ)). AllFrom (λ q (x : LaidBlock). block_at held q ≡ x.written q) 0 blocks) (sym whole)
-    (stand_behind (λ at (x : LaidBlock). x.written at) [] 0 blocks (drop (laid_number laid) base) refl) in
-    from_follows (λ q (x : LaidBlock). (block_at image q ≡ x.written q) × ((role_at blocks q ≡ x.role) × AllByRecursion (λ (e : Edge). IsNamed blocks e.block) x.edges))
-    (IsInPlace image blocks) 0 blocks (λ q low high x at. record { stands = at.0; role_is = at.1.0; names = at.1.1 })
-    (from_pairs (λ q (x : LaidBlock). block_at image q ≡ x.written q) (λ q (x : LaidBlock). (role_at blocks q ≡ x.role) × AllByRecursion (λ (e : Edge). IsNamed blocks e.block) x.edges) 0 blocks stand
-    (from_pairs (λ q (x : LaidBlock). role_at blocks q ≡ x.role) (λ q (x : LaidBlock). AllByRecursion (λ (e : Edge). IsNamed blocks e.block) x.edges) 0 blocks (roles_at blocks)
-    (from_all (λ (x : LaidBlock). AllByRecursion (λ (e : Edge). IsNamed blocks e.block) x.edges) 0 blocks (all_named blocks))))
+    all_in_place image blocks
+    (subst (λ (held : List (List ℕ)). AllFrom (λ q (x : LaidBlock). block_at held q ≡ x.written q) 0 blocks) (sym (image_of_laid laid base image is))
+    (stand_behind (λ at (x : LaidBlock). x.written at) [] 0 blocks (drop (laid_number laid) base) refl))
 
 -- where all have one role, each of their places has it
 pub role_of_places : (image : List (List ℕ)) (blocks : List LaidBlock) (role place : ℕ) (xs : List LaidBlock) → AllByRecursion (λ (x : LaidBlock). x.role ≡ role) xs

@@ -96,20 +96,18 @@ module _ (roles nr data_blocks : ℕ) (table : ℕ → Layout) (image : List (Li
   unfolding laid_bitmaps
   bitmaps_fit place n room stand named = rest_fit place 0 (bitmaps_for n) room stand named
 
-module _ (image : List (List ℕ)) (blocks : List LaidBlock) (role : ℕ) (counts : ℕ → ℕ) where
-  rest_stand : (place a k i : ℕ) → i < k → AllFrom (IsInPlace image blocks) place (map (laid_bitmap role counts) (range_with_len a k))
-      → IsInPlace image blocks (place + i) (laid_bitmap role counts (a + i))
-  rest_stand place a zero i within stand = absurd (omega arith)
-  rest_stand place a (suc k) zero within stand = let e : place + 0 ≡ place = omega arith in let f : a + 0 ≡ a = omega arith in rw (e, f) stand.0
-  rest_stand place a (suc k) (suc i) within stand =
+module _ (P : ℕ → LaidBlock → Type 0) (role : ℕ) (counts : ℕ → ℕ) where
+  rest_at : (place a k i : ℕ) → i < k → AllFrom P place (map (laid_bitmap role counts) (range_with_len a k)) → P (place + i) (laid_bitmap role counts (a + i))
+  rest_at place a zero i within all = absurd (omega arith)
+  rest_at place a (suc k) zero within all = let e : place + 0 ≡ place = omega arith in let f : a + 0 ≡ a = omega arith in rw (e, f) all.0
+  rest_at place a (suc k) (suc i) within all =
       let e : place + suc i ≡ (place + 1) + i = omega arith in
       let f : a + suc i ≡ (a + 1) + i = omega arith in
-      rw (e, f) (rest_stand (place + 1) (a + 1) k i (omega arith) stand.1)
+      rw (e, f) (rest_at (place + 1) (a + 1) k i (omega arith) all.1)
 
-  -- each bitmap stands in its place
-  pub bitmap_stands : (place n i : ℕ) → i < bitmaps_for n → AllFrom (IsInPlace image blocks) place (laid_bitmaps role counts n)
-      → IsInPlace image blocks (place + i) (laid_bitmap role counts i)
+  -- what holds of bitmaps from a place on holds of each of them
+  pub bitmap_at : (place n i : ℕ) → i < bitmaps_for n → AllFrom P place (laid_bitmaps role counts n) → P (place + i) (laid_bitmap role counts i)
   unfolding laid_bitmaps
-  bitmap_stands place n i within stand =
+  bitmap_at place n i within all =
       let e : 0 + i ≡ i = omega arith in
-      rw e at (rest_stand place 0 (bitmaps_for n) i within stand)
+      rw e at (rest_at place 0 (bitmaps_for n) i within all)

@@ -3,6 +3,7 @@ pub mod Plain
 pub mod Bitmaps
 pub mod MapItems
 pub mod Index
+pub mod Stored
 pub mod MetaMap
 pub mod RoleCounts
 pub mod MapNames

@@ -66,7 +66,7 @@ range_ascends a (suc n) =
     (all_from (λ k. (a + 1 ≤ k) × (k < (a + 1) + n)) (λ k. a < k) (λ k h. let low = h.0 in omega arith) (range_with_len (a + 1) n) (range_within (a + 1) n)) (range_ascends (a + 1) n)
 
 -- the entries of an overflow tree
-pub overflow_are : (blocks : List LaidBlock) (limit : ℕ) (counts : ℕ → ℕ) (n : ℕ) → n ≤ 2 ^ 64 → ((b : ℕ) → counts b < 2 ^ 32)
+pub overflow_are : (blocks : List LaidBlock) (limit : ℕ) (counts : ℕ → ℕ) (n : ℕ) → n ≤ 2 ^ 64 → ((b : ℕ) → b < n → counts b < 2 ^ 32)
     → AreItems blocks limit (tree_of (plain_tree 4)) (overflow_items counts n)
 unfolding overflow_items
 overflow_are blocks limit counts n few small =
@@ -77,7 +77,7 @@ overflow_are blocks limit counts n few small =
     record {
       ascending = rw (made_keys key counts passing, map-id passing) (passing_ascend (λ b. not (nat_lt (counts b) 3)) 0 n);
       keys_fit = made_all (λ (e : Entry). e.key < 2 ^ 64) within key counts (λ b h. let high = h.1 in omega arith) passing all;
-      values_fit = made_all (λ (e : Entry). e.value < 256 ^ 4) within key counts (λ b h. small b) passing all;
+      values_fit = made_all (λ (e : Entry). e.value < 256 ^ 4) within key counts (λ b h. let high = h.1 in small b (omega arith)) passing all;
       in_range = all_of (λ (e : Entry). false ≡ false) (λ e. refl) (overflow_items counts n);
       leads = all_of (λ (e : Entry). AllByRecursion (LeadsBelow blocks limit) []) (λ e. tt) (overflow_items counts n);
     }

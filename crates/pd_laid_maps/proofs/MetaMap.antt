@@ -1,15 +1,15 @@
 -- A whole metadata map.
-use Rattle.std.proofs.Common.{◌≡◌, inl, inr, ℕ, zero, suc, ◌+◌, ◌/◌, ◌^◌, ◌<◌, ◌≤◌, ◌≢◌, Bool, true, false, nat_eq, cond, List, [], ◌∷◌, ◌++◌, length, map, Some, refl, ◌∙◌, ap, arith}
+use Rattle.std.proofs.Common.{◌≡◌, inl, inr, ℕ, zero, suc, ◌+◌, ◌^◌, ◌<◌, ◌≤◌, ◌≢◌, Bool, true, false, nat_eq, cond, List, [], ◌∷◌, ◌++◌, length, map, Some, refl, ◌∙◌, arith}
 use Rattle.std.specs.List.{AllByRecursion, range_with_len}
 use Rattle.std.proofs.lemmas.Bool.{cases_lt, cases_eq, ne_eqb}
 use Rattle.std.proofs.lemmas.List.{length-append}
 use Rattle.std.proofs.lemmas.List.Sums.{sum_by-cons, count_by-le-length}
 use Rattle.pd_kinds.specs.Edge.{Edge, edge_of}
 use Rattle.pd_kinds.specs.Node.{Entry}
-use Rattle.pd_kinds.specs.Bitmap.{bitmaps_for, index_block_at}
+use Rattle.pd_kinds.specs.Bitmap.{bitmaps_for}
 use Rattle.pd_kinds.specs.Layout.{Layout, bitmap, index, plain_tree, graph_of}
-use Rattle.pd_kinds.specs.Graph.{Graph, block_at}
-use Rattle.pd_kinds.specs.Trees.{stored_in, stored_meta_in}
+use Rattle.pd_kinds.specs.Graph.{Graph}
+use Rattle.pd_kinds.specs.Trees.{stored_meta_in}
 use Rattle.pd_laws.proofs.AllLemmas.{all_from, all_mapped}
 use Rattle.pd_laid.specs.Laid.{LaidBlock, count_in, tree_of}
 use Rattle.pd_laid.specs.Map.{laid_bitmaps, laid_index, laid_meta_map, meta_counts, meta_map_number, meta_overflow, meta_overflow_at, meta_overflow_blocks, meta_overflow_root}
@@ -20,10 +20,10 @@ use Rattle.pd_laid_graph.proofs.FromLemmas.{from_front, from_back, from_both}
 use Rattle.pd_laid_graph.proofs.Names.{root_leads}
 use Rattle.pd_laid_graph.proofs.Trees.{tree_seen}
 use Rattle.pd_laid_maps.specs.MetaMap.{IsMetaMapSeen}
-use Rattle.pd_laid_maps.proofs.Bitmaps.{bitmap_stands, bitmaps_fit}
-use Rattle.pd_laid_maps.proofs.Counts.{stored_laid}
-use Rattle.pd_laid_maps.proofs.Index.{index_seen, named_block}
+use Rattle.pd_laid_maps.proofs.Bitmaps.{bitmap_at, bitmaps_fit}
+use Rattle.pd_laid_maps.proofs.Index.{index_seen}
 use Rattle.pd_laid_maps.proofs.MapItems.{overflow_are, range_within}
+use Rattle.pd_laid_maps.proofs.Stored.{stored_by_block}
 
 -- how often a number stands in a list that has only lower ones, and in a range
 pub one_more : (x b : ℕ) (xs : List ℕ) → count_in (x ∷ xs) b ≡ cond (nat_eq x b) 1 0 + count_in xs b
@@ -129,7 +129,7 @@ module _ (roles n data_blocks : ℕ) (table : ℕ → Layout) (image : List (Lis
       (λ i is. record {
         from_one = omega arith;
         below = omega (arith, room, number_is, is.1);
-        role_is = (bitmap_stands image blocks (role + 1) counts (place + 1) n i (omega (arith, is.1)) bitmaps_stand).role_is;
+        role_is = (bitmap_at (IsInPlace image blocks) (role + 1) counts (place + 1) n i (omega (arith, is.1)) bitmaps_stand).role_is;
       }) (range_with_len 0 (bitmaps_for n)) (range_within 0 (bitmaps_for n)))
 
   bitmaps_named : AllByRecursion (IsNamed blocks) (range_with_len (place + 1) (bitmaps_for n))
@@ -141,19 +141,13 @@ module _ (roles n data_blocks : ℕ) (table : ℕ → Layout) (image : List (Lis
   abbrev overflow : List Entry
   overflow = meta_overflow n named
 
-  counts_fit : (b : ℕ) → count_in named b < 2 ^ 32
-  counts_fit b = omega (arith, count_by-le-length (λ r. nat_eq r b) named, few_named)
+  counts_fit : (b : ℕ) → b < n → count_in named b < 2 ^ 32
+  counts_fit b within = omega (arith, count_by-le-length (λ r. nat_eq r b) named, few_named)
 
   stored : (b : ℕ) → b < n → stored_meta_in image place (meta_overflow n named) b ≡ Some (meta_counts role n place named b)
-  unfolding stored_meta_in
-  stored b inside =
-      let i = b / 16320 in
-      let covered : b / 16320 < bitmaps_for n = omega arith in
-      let names : index_block_at (block_at image place) (b / 16320) ≡ (place + 1) + b / 16320 =
-      ap (λ (block : List ℕ). index_block_at block (b / 16320)) map_stands.0.stands ∙ named_block counts n (place + 1) few_bitmaps fits place (b / 16320) covered in
-      ap (λ (p : ℕ). stored_in image (Some p) overflow b) names
-      ∙ stored_laid image counts (count_in named) n ((place + 1) + b / 16320) b inside (before_count role n place b named lower)
-      (bitmap_stands image blocks (role + 1) counts (place + 1) n (b / 16320) covered bitmaps_stand).stands
+  stored =
+      stored_by_block image counts (count_in named) n (place + 1) (λ b. before_count role n place b named lower)
+      (λ i covered. (bitmap_at (IsInPlace image blocks) (role + 1) counts (place + 1) n i covered bitmaps_stand).stands) place few_bitmaps fits map_stands.0.stands
 
   pub map_seen : IsMetaMapSeen this image blocks limit role n place named
   unfolding laid_meta_map meta_overflow_blocks

@@ -1,8 +1,7 @@
 -- A laid pool is clean, and means the pool.
-use Rattle.std.proofs.Common.{◌≡◌, ◌⊎◌, inl, inr, ℕ, ◌+◌, ◌/◌, ◌%◌, ◌^◌, ◌<◌, ◌≤◌, true, false, not, ◌||◌, nat_eq, cond, List, [], ◌∷◌, length, map, filter, Option, refl, sym, subst, ◌∙◌, ap, ap₂, arith, zero-le}
+use Rattle.std.proofs.Common.{◌≡◌, ◌⊎◌, inl, inr, ℕ, ◌+◌, ◌^◌, ◌<◌, ◌≤◌, true, false, not, ◌||◌, nat_eq, cond, List, [], ◌∷◌, length, map, filter, refl, sym, subst, ◌∙◌, ap, ap₂, arith}
 use Rattle.std.specs.declared.option.Option.TheVariants.{Some}
 use Rattle.std.specs.List.{AllByRecursion, flat_map, range_with_len}
-use Rattle.std.specs.Option.{option_map}
 use Rattle.std.proofs.lemmas.Bool.{eqb-true, not_from_true, or_cases}
 use Rattle.std.proofs.lemmas.List.{map-id}
 use Rattle.pd_kinds.specs.declared.kind.Kind.TheVariants.{Thin}
@@ -16,24 +15,24 @@ use Rattle.pd_kinds.specs.Node.{Entry}
 use Rattle.pd_kinds.specs.Stages.{AreClean, Checked, IsClean, thin_checked}
 use Rattle.pd_kinds.specs.ThinFormat.{mappings_tree, thin_graph, thin_layout}
 use Rattle.pd_kinds.specs.ThinSuper.{ThinFields, thin_fields, thin_super_bad, thin_super_block}
-use Rattle.pd_kinds.specs.Trees.{entries_below, keys_of, stored_data_in, stored_in, stored_meta_in}
+use Rattle.pd_kinds.specs.Trees.{entries_below, keys_of, stored_data_in, stored_meta_in}
 use Rattle.pd_kinds.specs.Whole.{WholeTest, bitmap_tests, data_index_entries, device_test, is_not_counting, mapped_number, mapped_tests, mapping_entries, roots_in, thin_roots, thin_whole}
 use Rattle.pd_laws.proofs.AllLemmas.{all_append}
 use Rattle.pd_spells.specs.Lawful.{IsLawfulPool}
 use Rattle.pd_spells.specs.ThinNeed.{thin_need}
 use Rattle.pd_laid.specs.Laid.{IsLaid, LaidBlock, laid_number, tree_of}
 use Rattle.pd_laid.specs.LaidThin.{bitmaps_at, data_counts, data_index, data_overflow, details_items, devices_at, laid_pool, laid_shape, mapping_items, meta_map_at, meta_map_blocks, pool_fields, pool_named, pool_parts, tops}
-use Rattle.pd_laid.specs.Map.{index_entry_of, free_in, index_items, meta_counts, meta_map_number, meta_overflow}
+use Rattle.pd_laid.specs.Map.{index_entry_of, index_items, meta_counts, meta_map_number, meta_overflow}
 use Rattle.pd_laid.specs.Shape.{IsShape, ShapeDevice, ThinShape, pool_of, shape_of}
 use Rattle.pd_laid.proofs.ShapeLemmas.{is_shape, pool_kept}
 use Rattle.pd_laid_once.proofs.Need.{laid_need}
 use Rattle.pd_laid_graph.specs.LaidOut.{AllFrom, AreLaidInOrder, IsInPlace, IsLaidOut, role_at}
 use Rattle.pd_laid_graph.proofs.CheckLemmas.{clean_super, same_bytes, whole_holds}
 use Rattle.pd_laid_graph.proofs.LaidLemmas.{laid_in_order}
-use Rattle.pd_laid_maps.proofs.Counts.{stored_laid}
 use Rattle.pd_laid_maps.proofs.Formats.{bitmaps_hold, laid_out_of, referred_few}
-use Rattle.pd_laid_maps.proofs.MapItems.{code_block, made_keys}
+use Rattle.pd_laid_maps.proofs.MapItems.{made_keys}
 use Rattle.pd_laid_maps.proofs.MapNames.{length-meta_map}
+use Rattle.pd_laid_maps.proofs.Stored.{stored_by_tree}
 use Rattle.pd_kinds.specs.Limits.{room_of}
 use Rattle.pd_laid_thin.specs.CleanPool.{IsCleanPool}
 use Rattle.pd_laid_thin.proofs.ThinCounts.{bitmap_once, data_references, references_count}
@@ -41,7 +40,7 @@ use Rattle.pd_laid_thin.proofs.ThinDevices.{AreRead}
 use Rattle.pd_laid_thin.proofs.ThinItems.{details_value}
 use Rattle.pd_laid_thin.proofs.ThinPool.{ShapeFits, bitmap_count, data_bitmap_stands, data_index_seen, data_overflow_seen, details_seen, device_fits, devices_all_seen, ids_ascend, lawful_graph, meta_fitting, meta_map_seen, parts_end, parts_fitting, pool_blocks, pool_in_place, pool_number, shape_fits, super_edges, top_keys, tops_seen}
 use Rattle.pd_laid_thin.proofs.ThinSuper.{IsSuperLaid, super_laid, super_leads, super_seen}
-use Rattle.pd_laid_thin.proofs.ThinWhole.{AreFound, devices_back, keyed, mapped_holds, value_found}
+use Rattle.pd_laid_thin.proofs.ThinWhole.{AreFound, devices_back, keyed, mapped_holds}
 
 index_keys : (w : ThinShape) → keys_of (data_index w) ≡ range_with_len 0 (bitmaps_for w.data_blocks)
 unfolding index_items
@@ -181,16 +180,9 @@ module _ (w : ThinShape) (n : ℕ) (image : List (List ℕ)) (few : n ≤ 416160
 
   -- the stored counts of data blocks
   data_stored : (d : ℕ) → d < w.data_blocks → stored_data_in image (data_index w) (data_overflow w) d ≡ Some (data_counts w d)
-  unfolding stored_data_in index_items
-  data_stored d within =
-      let data_few = fits.data_blocks_fit in
-      let i = d / 16320 in
-      let covered : d / 16320 < bitmaps_for w.data_blocks = omega arith in
-      let found_is = value_found (λ i. index_entry_of (data_counts w) w.data_blocks (bitmaps_at w) i) 0 (bitmaps_for w.data_blocks) i zero-le (omega arith) in
-      let place = code_block (bitmaps_at w + i) (free_in (data_counts w) w.data_blocks i) (omega (arith, bitmap_count w n image few fits shape room stand)) in
-      ap (λ (value : Option ℕ). stored_in image (option_map (λ (v : ℕ). v % 2 ^ 64) value) (data_overflow w) d) found_is
-      ∙ (ap (λ (p : ℕ). stored_in image (Some p) (data_overflow w) d) place
-      ∙ stored_laid image (data_counts w) (data_counts w) w.data_blocks (bitmaps_at w + i) d within (λ many. refl) (data_bitmap_stands w n image few fits shape room stand i covered).stands)
+  data_stored =
+      stored_by_tree image (data_counts w) (data_counts w) w.data_blocks (bitmaps_at w) (λ d many. refl)
+      (λ i covered. (data_bitmap_stands w n image few fits shape room stand i covered).stands) (omega (arith, bitmap_count w n image few fits shape room stand))
 
   -- what is looked at in the image
   abbrev looked_at : Graph → ℕ → List Entry → List Entry → List Entry → Checked

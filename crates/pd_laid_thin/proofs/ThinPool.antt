@@ -31,7 +31,7 @@ use Rattle.pd_laid_graph.proofs.Names.{root_leads}
 use Rattle.pd_laid_graph.proofs.Rows.{by_keys}
 use Rattle.pd_laid_graph.proofs.Trees.{SeenLeaf, leaf_roles, leaves_fit, leaves_seen, tree_seen}
 use Rattle.pd_laid_maps.specs.MetaMap.{IsMetaMapSeen}
-use Rattle.pd_laid_maps.proofs.Bitmaps.{bitmap_stands, bitmaps_fit}
+use Rattle.pd_laid_maps.proofs.Bitmaps.{bitmap_at, bitmaps_fit}
 use Rattle.pd_laid_maps.proofs.MapItems.{index_are, index_edges, overflow_are}
 use Rattle.pd_laid_maps.proofs.MetaMap.{map_seen, unmapped}
 use Rattle.pd_laid_thin.proofs.ThinDevices.{AreDevicesSeen, devices_seen, few_roles, known, leaves_are_items, tops_inside, wide}
@@ -325,7 +325,7 @@ module _ (w : ThinShape) (n : ℕ) (image : List (List ℕ)) (few : n ≤ 416160
 
   pub data_bitmap_stands : (i : ℕ) → i < bitmaps_for w.data_blocks → IsInPlace image (pool_blocks w n) (bitmaps_at w + i) (laid_bitmap 6 (data_counts w) i)
   unfolding bitmap_blocks
-  data_bitmap_stands i inside = bitmap_stands image blocks 6 (data_counts w) (bitmaps_at w) w.data_blocks i inside standing.bitmaps
+  data_bitmap_stands i inside = bitmap_at (IsInPlace image blocks) 6 (data_counts w) (bitmaps_at w) w.data_blocks i inside standing.bitmaps
 
   pub bitmap_count : length (bitmap_blocks w) ≡ bitmaps_for w.data_blocks
   unfolding bitmap_blocks
@@ -357,7 +357,7 @@ module _ (w : ThinShape) (n : ℕ) (image : List (List ℕ)) (few : n ≤ 416160
   data_overflow_seen =
       let data_few = fits.data_blocks_fit in
       tree_seen 11 n w.data_blocks (thin_layout n w.data_blocks) image blocks (meta_map_at w) 7 (tree_of (plain_tree 4)) (roles.data_overflow_role n w.data_blocks) (omega arith) few_roles (omega arith) few within
-      (overflow_at w) (data_overflow w) (omega arith) (omega arith) (overflow_are blocks (meta_map_at w) (data_counts w) w.data_blocks (omega arith) few_counts)
+      (overflow_at w) (data_overflow w) (omega arith) (omega arith) (overflow_are blocks (meta_map_at w) (data_counts w) w.data_blocks (omega arith) (λ d within. few_counts d))
       standing.overflow super_stands.names.1.1.1.0
 
   -- all parts up to the metadata map

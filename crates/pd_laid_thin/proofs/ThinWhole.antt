@@ -1,9 +1,9 @@
 -- What is read of a laid pool: its devices, and the rules that speak of the whole.
-use Rattle.std.proofs.Common.{◌≡◌, inl, inr, ℕ, zero, suc, ◌+◌, ◌/◌, ◌%◌, ◌^◌, ◌<◌, ◌≤◌, true, false, not, nat_eq, List, [], ◌∷◌, length, map, filter, Option, refl, sym, ◌∙◌, ap, ap₂, arith, eq-eqb}
+use Rattle.std.proofs.Common.{◌≡◌, ℕ, ◌+◌, ◌/◌, ◌%◌, ◌^◌, ◌<◌, true, false, not, nat_eq, List, [], ◌∷◌, length, map, filter, Option, refl, sym, ◌∙◌, ap, ap₂, arith, eq-eqb}
 use Rattle.std.specs.declared.option.Option.TheVariants.{Some}
-use Rattle.std.specs.List.{AllByRecursion, flat_map, range_with_len}
+use Rattle.std.specs.List.{AllByRecursion, flat_map}
 use Rattle.std.specs.Option.{unwrap_or}
-use Rattle.std.proofs.lemmas.Bool.{cases_eq, ne_eqb, not_from_true}
+use Rattle.std.proofs.lemmas.Bool.{not_from_true}
 use Rattle.std.proofs.lemmas.Bool.Decides.{nat_tests}
 use Rattle.pd_kinds.specs.declared.rule.Rule.TheVariants as r
 use Rattle.pd_kinds.specs.Graph.{Graph}
@@ -20,16 +20,6 @@ use Rattle.pd_laid_graph.proofs.Ascending.{asc_tail, first_less}
 use Rattle.pd_laid_thin.proofs.ThinDevices.{AreRead}
 use Rattle.pd_laid_thin.proofs.ThinItems.{DeviceFits, MappingFits, details_value, mappings_fit}
 use Rattle.pd_laid_thin.proofs.ThinRows.{length-items}
-
--- the value at a key that a range has
-pub value_found : (value : ℕ → ℕ) (a n b : ℕ) → a ≤ b → b < a + n
-    → value_of_key (map (λ (c : ℕ). record { key = c; value = value c }) (range_with_len a n)) b ≡ Some (value b)
-unfolding value_of_key
-value_found value a zero b low high = absurd (omega arith)
-value_found value a (suc n) b low high = elim (cases_eq a b) [
-  | inl same ↦ rw (eq-eqb a b same) (ap (λ (c : ℕ). Some (value c)) same)
-  | inr other ↦ rw (ne_eqb a b other) (value_found value (a + 1) n b (omega arith) (omega arith))
-]
 
 -- entries with ascending keys are found by their keys
 module _ {X : Type 0} (key value : X → ℕ) where
