@@ -1,18 +1,18 @@
 -- The parts of a map, put together.
-use Rattle.std.proofs.Common.{◌≡◌, ℕ, ◌+◌, ◌<◌, ◌≤◌, List, [], ◌∷◌, ◌++◌, length, sym, ◌∙◌, ap, ap₂, subst, arith}
+use Rattle.std.proofs.Common.{◌≡◌, ℕ, ◌+◌, ◌%◌, ◌^◌, ◌<◌, ◌≤◌, List, [], ◌∷◌, ◌++◌, length, sym, ◌∙◌, ap, ap₂, subst, arith}
 use Rattle.std.specs.List.{range_with_len}
 use Rattle.std.proofs.Math.Path.{fun_ext}
 use Rattle.std.proofs.lemmas.List.FromFn.{length-range_with_len}
 use Rattle.pd_kinds.specs.declared.map_root.SmRoot.{SmRoot}
 use Rattle.pd_kinds.specs.Bitmap.{bitmaps_for}
-use Rattle.pd_kinds.specs.Layout.{plain_tree}
+use Rattle.pd_kinds.specs.Layout.{plain_tree, tree_to}
 use Rattle.pd_kinds.specs.Node.{Entry}
 use Rattle.pd_draft.specs.Placed.{Stand, Wrote}
 use Rattle.pd_draft.proofs.PlacedLemmas.{wrote_then}
 use Rattle.pd_spells.specs.Need.{need_tree}
 use Rattle.pd_laid.specs.Laid.{LaidBlock, count_in, laid_tree, tree_of, written_from}
 use Rattle.pd_laid.specs.Tree.{blocks_from, tree_blocks}
-use Rattle.pd_laid.specs.Map.{index_items, laid_bitmap, laid_bitmaps, laid_meta_map, meta_counts, meta_map_number, meta_overflow, meta_overflow_blocks, overflow_items}
+use Rattle.pd_laid.specs.Map.{index_items, laid_bitmap, laid_bitmaps, laid_index, laid_meta_map, meta_counts, meta_map_number, meta_overflow, meta_overflow_blocks, overflow_items}
 use Rattle.pd_laid.proofs.LaidLemmas.{blocks_from-append, blocks_from-map, length-blocks_from, tree_written}
 use Rattle.pd_laid.proofs.NeedLemmas.{length-bitmaps, length-tree}
 use Rattle.pd_build.proofs.RowLemmas.{moved_by}
@@ -76,6 +76,48 @@ unfolding laid_bitmaps bitmap_blocks
 bitmaps_written role counts n place =
     blocks_from-map (λ at (b : LaidBlock). b.written at) (laid_bitmap role counts) place (range_with_len 0 (bitmaps_for n))
 
+-- a data map in its roles, as it is laid
+abbrev pub data_parts : ℕ → ℕ → ℕ → (ℕ → ℕ) → ℕ → ℕ → List LaidBlock
+data_parts index bitmap over counts n place =
+    laid_bitmaps bitmap counts n
+    ++ (laid_tree index (tree_of (tree_to 16 bitmap (λ v. v % 2 ^ 64))) (index_at n place) (index_items counts n place)
+    ++ laid_tree over (tree_of (plain_tree 4)) (overflow_at n place) (overflow_items counts n))
+
+pub data_parts_written : (index bitmap over : ℕ) (counts : ℕ → ℕ) (n place : ℕ) → written_from place (data_parts index bitmap over counts n place) ≡ data_map_blocks counts n place
+unfolding data_map_blocks
+data_parts_written index bitmap over counts n place =
+    let write : ℕ → LaidBlock → List ℕ = λ at b. b.written at in
+    let join = λ (front back : List (List ℕ)). front ++ back in
+    let index_tree = tree_of (tree_to 16 bitmap (λ v. v % 2 ^ 64)) in
+    let maps = laid_bitmaps bitmap counts n in
+    let first = laid_tree index index_tree (index_at n place) (index_items counts n place) in
+    let last = laid_tree over (tree_of (plain_tree 4)) (overflow_at n place) (overflow_items counts n) in
+    let number = length-tree index index_tree (index_at n place) (index_items counts n place) ∙ ap (need_tree 16) (length-index_items counts n place) in
+    blocks_from-append write place maps (first ++ last)
+    ∙ ap₂ join (bitmaps_written bitmap counts n place)
+    (ap (λ (k : ℕ). written_from (place + k) (first ++ last)) (length-bitmaps bitmap counts n)
+    ∙ (blocks_from-append write (index_at n place) first last
+    ∙ ap₂ join (tree_written index index_tree (index_at n place) (index_items counts n place))
+    (ap (λ (k : ℕ). written_from (index_at n place + k) last) number ∙ tree_written over (tree_of (plain_tree 4)) (overflow_at n place) (overflow_items counts n))))
+
+-- and a metadata map, with the items of its overflow tree
+abbrev pub meta_parts : ℕ → ℕ → (ℕ → ℕ) → List Entry → ℕ → ℕ → List LaidBlock
+meta_parts index over counts items n place =
+    laid_index index counts n (place + 1) ∷ (laid_bitmaps (index + 1) counts n ++ laid_tree over (tree_of (plain_tree 4)) (overflow_behind n place) items)
+
+pub meta_parts_written : (index over : ℕ) (counts : ℕ → ℕ) (n place : ℕ)
+    → written_from place (meta_parts index over counts (overflow_items counts n) n place) ≡ meta_map_blocks counts n place
+unfolding meta_map_blocks index_block blocks_from
+meta_parts_written index over counts n place =
+    let write : ℕ → LaidBlock → List ℕ = λ at b. b.written at in
+    let maps = laid_bitmaps (index + 1) counts n in
+    let last = laid_tree over (tree_of (plain_tree 4)) (overflow_behind n place) (overflow_items counts n) in
+    ap (λ (blocks : List (List ℕ)). index_block counts n place ∷ blocks)
+    (blocks_from-append write (place + 1) maps last
+    ∙ ap₂ (λ (front back : List (List ℕ)). front ++ back) (bitmaps_written (index + 1) counts n (place + 1))
+    (ap (λ (k : ℕ). written_from (place + 1 + k) last) (length-bitmaps (index + 1) counts n)
+    ∙ tree_written over (tree_of (plain_tree 4)) (overflow_behind n place) (overflow_items counts n)))
+
 -- a laid metadata map, as it is written: the counts before it was counted, and after
 module _ (role n place : ℕ) (named : List ℕ) (before after : ℕ → ℕ) (listed : count_in named ≡ before) where
   over_is : meta_overflow n named ≡ overflow_items before n
@@ -92,27 +134,12 @@ module _ (role n place : ℕ) (named : List ℕ) (before after : ℕ → ℕ) (l
   unfolding meta_counts
   counts_are counted = fun_ext (λ b. ap (λ (k : ℕ). count_in (named ++ range_with_len place k) b) number_is ∙ sym (counted b))
 
-  laid_over : written_from (overflow_behind n place) (meta_overflow_blocks role n place named) ≡ tree_blocks 4 (overflow_behind n place) (overflow_items before n)
-  unfolding meta_overflow_blocks
-  laid_over =
-      tree_written (role + 2) (tree_of (plain_tree 4)) (overflow_behind n place) (meta_overflow n named)
-      ∙ ap (tree_blocks 4 (overflow_behind n place)) over_is
-
   pub meta_written : ((b : ℕ) → after b ≡ count_in (named ++ range_with_len place (meta_map_need before n)) b) → overflow_items after n ≡ overflow_items before n
       → written_from place (laid_meta_map role n place named) ≡ meta_map_blocks after n place
-  unfolding laid_meta_map meta_map_blocks index_block blocks_from
+  unfolding laid_meta_map meta_overflow_blocks
   meta_written counted same =
-      let counts = counts_are counted in
-      let write : ℕ → LaidBlock → List ℕ = λ at b. b.written at in
-      let maps = laid_bitmaps (role + 1) after n in
-      let over = meta_overflow_blocks role n place named in
-      let number : length maps ≡ bitmaps_for n = length-bitmaps (role + 1) after n in
-      let rest : written_from (place + 1) (maps ++ over) ≡ bitmap_blocks after n (place + 1) ++ tree_blocks 4 (overflow_behind n place) (overflow_items after n) =
-      blocks_from-append write (place + 1) maps over
-      ∙ (ap (λ (k : ℕ). written_from (place + 1) maps ++ written_from (place + 1 + k) over) number
-      ∙ ap₂ (λ (front back : List (List ℕ)). front ++ back) (bitmaps_written (role + 1) after n (place + 1))
-      (laid_over ∙ ap (tree_blocks 4 (overflow_behind n place)) (sym same))) in
-      rw counts (ap (λ (blocks : List (List ℕ)). index_block after n place ∷ blocks) rest)
+      ap₂ (λ (counts : ℕ → ℕ) (items : List Entry). written_from place (meta_parts role (role + 2) counts items n place)) (counts_are counted) (over_is ∙ sym same)
+      ∙ meta_parts_written role (role + 2) after n place
 
 -- so it is, where these blocks were named before and the map's own were counted
 pub meta_laid : (role n place : ℕ) (named : List ℕ) (old new : Counted) → CountsOwn place (meta_map_need (count_of old) n) old new
