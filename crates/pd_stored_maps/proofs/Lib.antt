@@ -1,0 +1,4 @@
+pub mod Around
+pub mod DataMap
+pub mod MetaMap
+pub mod Checked
