@@ -1,9 +1,9 @@
 //! The items of a command line: options with their values, flags, and the operand.
 
-ghost use Rattle.std.specs.Prelude.{◌≡◌, ◌<◌, length, map, drop, string_bytes, IfSome, is_some};
+ghost use Rattle.std.specs.Prelude.{◌≡◌, ◌<◌, ◌||◌, codes, length, map, drop, string_bytes, IfSome, is_some};
 ghost use Rattle.std.specs.List.{list_any};
 ghost use Rattle.std.specs.Str.{bytes_eq};
-ghost use Rattle.pd_answers.specs.Words.{is_value, is_flag, items_of, given, known, purposes_of, tool_of};
+ghost use Rattle.pd_answers.specs.Words.{check_tool, dump_tool, is_value, is_flag, items_of, given, known, purposes_of, repair_tool, restore_tool, tool_of};
 ghost use Rattle.pd_words.specs.Items.{with_item, IsItemWithin, values_from, with_found, given_as, IsGivenWithin, tool_as, found_tool};
 
 use crate::request::Name;
@@ -94,36 +94,82 @@ pub fn is_purpose(tool: Tool, word: &str) -> bool
     ensures { result ≡ list_any (bytes_eq word.now) (purposes_of (tool_as tool)) }
 {
     match tool {
-        Tool::Check(kind) => match kind {
-            Kind::Thin => {
-                (word == "--until") | (word == "--clear-needs-check-flag") | (word == "IMAGE")
-            }
-            Kind::Cache => (word == "--until") | (word == "IMAGE"),
-            Kind::Era => (word == "--until") | (word == "IMAGE"),
-        },
-        Tool::Dump(kind) => match kind {
-            Kind::Thin => (word == "--shared") | (word == "-o") | (word == "IMAGE"),
-            Kind::Cache => (word == "-o") | (word == "IMAGE"),
-            Kind::Era => (word == "-o") | (word == "IMAGE"),
-        },
-        Tool::Restore(kind) => match kind {
-            Kind::Thin => (word == "-i") | (word == "-o"),
-            Kind::Cache => (word == "--metadata-version") | (word == "-i") | (word == "-o"),
-            Kind::Era => (word == "-i") | (word == "-o"),
-        },
-        Tool::Repair => {
-            (word == "-i")
-                | (word == "-o")
-                | (word == "--transaction-id")
-                | (word == "--data-block-size")
-                | (word == "--nr-data-blocks")
-        }
-        Tool::ReverseMap => (word == "--region") | (word == "-o") | (word == "IMAGE"),
-        Tool::DeviceList => (word == "-o") | (word == "IMAGE"),
-        Tool::Since => (word == "--written-since") | (word == "-o") | (word == "IMAGE"),
-        Tool::Generate => (word == "--number") | (word == "-o"),
-        Tool::Rehearse => (word == "--number") | (word == "-o"),
+        Tool::Check(kind) => is_check_purpose(kind, word),
+        Tool::Dump(kind) => is_dump_purpose(kind, word),
+        Tool::Restore(kind) => is_restore_purpose(kind, word),
+        Tool::Repair => is_repair_purpose(word),
+        Tool::ReverseMap => (word == "--region") | is_query_purpose(word),
+        Tool::DeviceList => is_query_purpose(word),
+        Tool::Since => (word == "--written-since") | is_query_purpose(word),
+        Tool::Generate => is_number_purpose(word),
+        Tool::Rehearse => is_number_purpose(word),
     }
+}
+
+/// Whether a check can be given something for this.
+fn is_check_purpose(kind: Kind, word: &str) -> bool
+    ensures { result ≡ list_any (bytes_eq word.now) (purposes_of (check_tool kind)) }
+{
+    match kind {
+        Kind::Thin => {
+            (word == "--until") | (word == "--clear-needs-check-flag") | (word == "IMAGE")
+        }
+        Kind::Cache => (word == "--until") | (word == "IMAGE"),
+        Kind::Era => (word == "--until") | (word == "IMAGE"),
+    }
+}
+
+/// The same of a dump.
+fn is_dump_purpose(kind: Kind, word: &str) -> bool
+    ensures { result ≡ list_any (bytes_eq word.now) (purposes_of (dump_tool kind)) }
+{
+    match kind {
+        Kind::Thin => (word == "--shared") | is_query_purpose(word),
+        Kind::Cache => is_query_purpose(word),
+        Kind::Era => is_query_purpose(word),
+    }
+}
+
+/// The same of a restore.
+fn is_restore_purpose(kind: Kind, word: &str) -> bool
+    ensures { result ≡ list_any (bytes_eq word.now) (purposes_of (restore_tool kind)) }
+{
+    match kind {
+        Kind::Thin => is_copy_purpose(word),
+        Kind::Cache => (word == "--metadata-version") | is_copy_purpose(word),
+        Kind::Era => is_copy_purpose(word),
+    }
+}
+
+/// The same of a repair.
+fn is_repair_purpose(word: &str) -> bool
+    ensures { result ≡ list_any (bytes_eq word.now) (purposes_of repair_tool) }
+{
+    let numbers = (word == "--transaction-id")
+        | (word == "--data-block-size")
+        | (word == "--nr-data-blocks");
+    is_copy_purpose(word) | numbers
+}
+
+/// Whether this is the option for the output, or the operand.
+fn is_query_purpose(word: &str) -> bool
+    ensures { result ≡ (bytes_eq word.now (codes "-o") || bytes_eq word.now (codes "IMAGE")) }
+{
+    (word == "-o") | (word == "IMAGE")
+}
+
+/// Whether this is the option for the input, or for the output.
+fn is_copy_purpose(word: &str) -> bool
+    ensures { result ≡ (bytes_eq word.now (codes "-i") || bytes_eq word.now (codes "-o")) }
+{
+    (word == "-i") | (word == "-o")
+}
+
+/// Whether this is the option for the number, or for the output.
+fn is_number_purpose(word: &str) -> bool
+    ensures { result ≡ (bytes_eq word.now (codes "--number") || bytes_eq word.now (codes "-o")) }
+{
+    (word == "--number") | (word == "-o")
 }
 
 /// Whether a word is a flag's.
