@@ -1,4 +1,3 @@
-pub mod Filling
 pub mod Begins
 pub mod Putting
 pub mod Spelled

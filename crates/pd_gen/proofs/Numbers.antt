@@ -18,7 +18,8 @@ use Rattle.pd_spells.proofs.ThinLaws.{thin_language}
 use Rattle.pd_spells.proofs.ThinRead.{FitsLine, Placed, thin_grammar}
 use Rattle.pd_answers.specs.Generated.{generated_mapped}
 use Rattle.pd_gen.specs.Pool.{device_mapping, snapshot_mapping, generated_device, generated_pool}
-use Rattle.pd_gen.proofs.Spelled.{generated_lines, generated_means, have_mappings, part_of, run_of, written_out}
+use Rattle.pd_gen.specs.Lines.{generated_lines, part_of, run_of}
+use Rattle.pd_gen.proofs.Spelled.{generated_means, have_mappings, written_out}
 
 -- two runs don't join where the data blocks don't follow each other, or the times differ
 not_joined : (r s : Run) → (r.data_block + r.length ≡ s.data_block → r.time ≡ s.time → ⊥) → joins r s ≡ false

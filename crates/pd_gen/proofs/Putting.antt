@@ -1,9 +1,14 @@
 -- Pieces of a text that are put to a sink.
-use Rattle.std.proofs.Common.{◌≡◌, ℕ, List, ◌++◌, Option, Some, ap, ◌∙◌, append_assoc}
+use Rattle.std.proofs.Common.{◌≡◌, ℕ, List, [], ◌++◌, Option, Some, ap, ◌∙◌, append_assoc}
+use Rattle.std.proofs.lemmas.List.{append-nil}
 use Rattle.pd_kinds.specs.Objects.{Appends, AppendsFront}
 use Rattle.pd_kinds.proofs.AppendLemmas.{front_of_more}
 use Rattle.pd_lines.specs.Pieces.{Gathers}
 use Rattle.pd_lines.proofs.Gathering.{put_front}
+
+-- nothing was put yet
+pub nothing_put : (total left : List ℕ) (start : Option (List ℕ)) → Some left ≡ Some total → Gathers total left start start
+nothing_put total left start same = record { told = λ before e. ([], (rw (append-nil before) e, let all : left ≡ total = cc in all)) }
 
 module _ (total pending piece rest : List ℕ) (start now new : Option (List ℕ)) (so_far : Gathers total pending start now) (split : piece ++ rest ≡ pending) where
   -- a piece of what is pending was put

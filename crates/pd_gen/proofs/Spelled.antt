@@ -9,21 +9,10 @@ use Rattle.std.proofs.lemmas.List.FromFn.{length-map-range_with_len}
 use Rattle.pd_kinds.specs.Meaning.{ThinDevice, Mapping}
 use Rattle.pd_grammar.specs.Texts.{text_of_lines, written}
 use Rattle.pd_spells.specs.Lawful.{AreMappings, IsDevice, IsLawfulPool}
-use Rattle.pd_spells.specs.ThinText.{Run, Part, Line, first_line, pool_line, device_line, map_line, end_line, thin, mappings_of, device_of_part, head_of, lines_of_parts, MeansPool, SpellsPool}
+use Rattle.pd_spells.specs.ThinText.{Run, Line, first_line, pool_line, device_line, map_line, end_line, thin, mappings_of, device_of_part, MeansPool, SpellsPool}
 use Rattle.pd_answers.specs.Generated.{generated_text, generated_mapped, device_map, numbers_line, snapshot_map}
-use Rattle.pd_gen.specs.Lines.{device_text, end_text, first_text, pool_text}
-use Rattle.pd_gen.specs.Pool.{device_mapping, snapshot_mapping, generated_device, generated_pool}
-
--- the run of one mapping
-abbrev pub run_of : Mapping → Run
-run_of m = record { virtual_block = m.virtual_block; data_block = m.data_block; length = 1; time = m.time }
-
--- a device, with a run for each mapping
-abbrev pub part_of : ThinDevice → Part
-part_of d = record {
-  details = record { id = d.id; mapped = d.mapped; transaction = d.transaction; created = d.created; snapped = d.snapped };
-  runs = map run_of d.mappings;
-}
+use Rattle.pd_gen.specs.Lines.{generated_lines, part_of, run_of}
+use Rattle.pd_gen.specs.Pool.{details_with, device_mapping, snapshot_mapping, generated_device, generated_head, generated_pool}
 
 -- the runs written out are the mappings
 pub written_out : (ms : List Mapping) → flat_map mappings_of (map run_of ms) ≡ ms
@@ -141,15 +130,21 @@ snapshot_map_is v = elim (cases_Bool (nat_eq (v % 200) 0)) [
   | inr e ↦ rw e (device_map_is v)
 ]
 
-device_line_is : (number id : ℕ) (f : ℕ → Mapping) → line_text (device_line (part_of (generated_device number id f)).details) ≡ device_text number id
-device_line_is number id f = numbers_are (codes "device") (id ∷ generated_mapped number ∷ id ∷ id ∷ 1 ∷ [])
+-- the bytes of the lines of the pool, and of a device
+abbrev pool_text : ℕ → List ℕ
+pool_text number = numbers_line (codes "pool 00000000-0000-0000-0000-000000000000") (1 ∷ 2 ∷ 128 ∷ 10000 * number ∷ [])
+
+abbrev device_text : ℕ → ℕ → List ℕ
+device_text number id = numbers_line (codes "device") (id ∷ generated_mapped number ∷ id ∷ id ∷ 1 ∷ [])
+
+device_line_is : (number id : ℕ) → line_text (device_line (details_with number id)) ≡ device_text number id
+device_line_is number id = numbers_are (codes "device") (id ∷ generated_mapped number ∷ id ∷ id ∷ 1 ∷ [])
 
 zero_uuid : hyphenated_text lower (replicate 16 0) ≡ codes "00000000-0000-0000-0000-000000000000"
 unfolding by_index
 zero_uuid = refl
 
-pool_line_is : (number : ℕ) → line_text (pool_line (head_of (generated_pool number))) ≡ pool_text number
-unfolding generated_pool
+pool_line_is : (number : ℕ) → line_text (pool_line (generated_head number)) ≡ pool_text number
 pool_line_is number =
     let numbers = 1 ∷ 2 ∷ 128 ∷ 10000 * number ∷ [] in
     ap (λ (bytes : List ℕ). codes "pool " ++ bytes) (numbers_are (hyphenated_text lower (replicate 16 0)) numbers)
@@ -159,20 +154,15 @@ all_same : {a b c d e f g a' b' c' d' e' f' g' : List ℕ} → a ≡ a' → b �
     → a ++ (b ++ (c ++ (d ++ (e ++ (f ++ g))))) ≡ a' ++ (b' ++ (c' ++ (d' ++ (e' ++ (f' ++ g')))))
 all_same same_a same_b same_c same_d same_e same_f same_g = cc
 
-text_is : (number : ℕ) → generated_text number ≡ text_of_lines thin (lines_of_parts (head_of (generated_pool number)) (map part_of (generated_pool number).devices))
+pub text_is : (number : ℕ) → generated_text number ≡ text_of_lines thin (generated_lines number)
 unfolding generated_text generated_pool
 text_is number =
     let vs = range_with_len 0 (generated_mapped number) in
-    sym (two_devices first_line (pool_line (head_of (generated_pool number))) (device_line (part_of (generated_device number 0 device_mapping)).details)
-    (device_line (part_of (generated_device number 1 snapshot_mapping)).details) end_line
+    sym (two_devices first_line (pool_line (generated_head number)) (device_line (details_with number 0)) (device_line (details_with number 1)) end_line
     (map map_line (map run_of (map device_mapping vs))) (map map_line (map run_of (map snapshot_mapping vs)))
-    ∙ all_same {a' = first_text} {b' = pool_text number} {c' = device_text number 0} {d' = flat_map device_map vs} {e' = device_text number 1} {f' = flat_map snapshot_map vs} {g' = end_text}
-    refl (pool_line_is number) (device_line_is number 0 device_mapping) (map_texts device_mapping device_map device_map_is vs)
-    (device_line_is number 1 snapshot_mapping) (map_texts snapshot_mapping snapshot_map snapshot_map_is vs) refl)
-
--- its lines
-abbrev pub generated_lines : ℕ → List Line
-generated_lines number = lines_of_parts (head_of (generated_pool number)) (map part_of (generated_pool number).devices)
+    ∙ all_same {a' = line_text first_line} {b' = pool_text number} {c' = device_text number 0} {d' = flat_map device_map vs} {e' = device_text number 1} {f' = flat_map snapshot_map vs} {g' = line_text end_line}
+    refl (pool_line_is number) (device_line_is number 0) (map_texts device_mapping device_map device_map_is vs)
+    (device_line_is number 1) (map_texts snapshot_mapping snapshot_map snapshot_map_is vs) refl)
 
 pub generated_means : (number : ℕ) → number ≤ 10000 → MeansPool (generated_lines number) (generated_pool number)
 unfolding generated_pool

@@ -1,4 +1,3 @@
-pub mod Lines
-pub mod Place
-pub mod GenSource
 pub mod Pool
+pub mod Lines
+pub mod GenSource

@@ -3,7 +3,6 @@
 
 mod laws;
 mod lines;
-mod place;
 mod put;
 mod source;
 

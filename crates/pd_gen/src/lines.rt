@@ -1,69 +1,161 @@
-//! The lines of the generator's text.
+//! The lines of the generator's text, made one by one.
 
-ghost use Rattle.std.specs.Prelude.{◌≡◌, ◌+◌, ◌*◌, ◌^◌, ◌<◌, ◌≤◌, ◌++◌, ◌∷◌, length, decimal};
-ghost use Rattle.pd_answers.specs.Generated.{device_map, snapshot_map};
-ghost use Rattle.pd_gen.specs.Lines.{device_text, end_text, first_text, map_text, pool_text};
+ghost use Rattle.std.specs.Prelude.{◌≡◌, ◌<◌, ◌^◌, [], IfNone, IfSome};
+ghost use Rattle.pd_spells.specs.ThinText as p;
+ghost use Rattle.pd_texts.specs.ThinLine.{line_of};
+ghost use Rattle.pd_gen.specs.Lines.{Gives, lines_from, run_of};
+ghost use Rattle.pd_gen.specs.Pool.{device_mapping, details_with, generated_head, snapshot_mapping};
 
-use pd_lines::LineBuffer;
+use pd_texts::{MadeLines, Run2, ThinLine};
+use pd_value::Details;
 
 /// At which virtual blocks the snapshot has a block of its own: at the multiples of this number.
 const CHANGED: u64 = 200;
 
-/// The first line.
-pub(crate) fn first_line() -> LineBuffer
-    ensures bytes { result ≡ first_text }
-    ensures some { 0 < length result }
+/// The next line.
+#[derive(Clone, Copy)]
+enum Place {
+    /// The pool's.
+    Pool,
+    /// The device's.
+    Device,
+    /// The device's map line of this virtual block, or after all of these the line of the snapshot.
+    Maps(u64),
+    /// The snapshot's map line of this virtual block, or none after all of these.
+    SnapshotMaps(u64),
+}
+
+/// A line, and the place after it.
+#[derive(Drop)]
+struct Step {
+    line: ThinLine,
+    next: Place,
+}
+
+/// The lines of the text of a number that stand between its first and its last one.
+#[derive(Drop)]
+pub(crate) struct Generated {
+    number: u32,
+    next: Place,
+}
+
+impl Generated {
+    ghost use Rattle.pd_gen.specs.Lines.{lines_left};
+
+    /// All of them.
+    pub(crate) fn new(number: u32) -> Generated
+        ensures { lines_left result ≡ lines_from number Place.Pool }
+    {
+        Generated {
+            number,
+            next: Place::Pool,
+        }
+    }
+}
+
+impl MadeLines for Generated {
+    ghost use Rattle.pd_gen.specs.Lines.{lines_left};
+
+    ghost left = { lines_left };
+
+    fn next(&mut self) -> Option<ThinLine> {
+        let step = step_at(self.number, self.next)?;
+        self.next = step.next;
+        Some(step.line)
+    }
+}
+
+/// The line in a place of the text of the number.
+fn step_at(number: u32, place: Place) -> Option<Step>
+    ensures some { IfSome result (Gives number place) }
+    ensures none { IfNone result (lines_from number place ≡ []) }
 {
-    let mut line = LineBuffer::new();
-    line.add(b"thin 1\n");
-    line
+    match place {
+        Place::Pool => Some(Step {
+            line: pool_line(number),
+            next: Place::Device,
+        }),
+        Place::Device => Some(Step {
+            line: device_line(number, 0),
+            next: Place::Maps(0),
+        }),
+        Place::Maps(v) => Some(map_step(number, v)),
+        Place::SnapshotMaps(v) => snapshot_step(number, v),
+    }
+}
+
+/// The device's map line of a virtual block, or after the last of these the line of the snapshot.
+fn map_step(number: u32, v: u64) -> Step
+    ensures { Gives number (Place.Maps v) result }
+{
+    if v < 1000 * number as u64 {
+        Step {
+            line: device_map_line(v),
+            next: Place::Maps(v + 1),
+        }
+    } else {
+        Step {
+            line: device_line(number, 1),
+            next: Place::SnapshotMaps(0),
+        }
+    }
+}
+
+/// The snapshot's map line of a virtual block, or none after the last of these.
+fn snapshot_step(number: u32, v: u64) -> Option<Step>
+    ensures some { IfSome result (Gives number (Place.SnapshotMaps v)) }
+    ensures none { IfNone result (lines_from number (Place.SnapshotMaps v) ≡ []) }
+{
+    if v < 1000 * number as u64 {
+        Some(Step {
+            line: snapshot_map_line(v),
+            next: Place::SnapshotMaps(v + 1),
+        })
+    } else {
+        None
+    }
 }
 
 /// The line of the pool.
-pub(crate) fn pool_line(number: u32) -> LineBuffer
-    ensures bytes { result ≡ pool_text number }
-    ensures some { 0 < length result }
+fn pool_line(number: u32) -> ThinLine
+    ensures { line_of result ≡ p.pool_line (generated_head number) }
 {
-    let mut line = LineBuffer::new();
-    line.add(b"pool 00000000-0000-0000-0000-000000000000");
-    add_word(&mut line, 1);
-    add_word(&mut line, 2);
-    add_word(&mut line, 128);
-    add_word(&mut line, 10000 * number as u64);
-    line.add(b"\n");
-    line
+    ThinLine::Pool {
+        uuid: [0; 16],
+        time: 1,
+        transaction: 2,
+        block_size: 128,
+        blocks: 10000 * number as u64,
+    }
 }
 
 /// The line of the device, with id 0, or of its snapshot, with id 1.
-pub(crate) fn device_line(number: u32, id: u64) -> LineBuffer
-    ensures bytes { result ≡ device_text number id }
-    ensures some { 0 < length result }
+fn device_line(number: u32, id: u32) -> ThinLine
+    ensures { line_of result ≡ p.device_line (details_with number id) }
 {
-    let mut line = LineBuffer::new();
-    line.add(b"device");
-    add_word(&mut line, id);
-    add_word(&mut line, 1000 * number as u64);
-    add_word(&mut line, id);
-    add_word(&mut line, id);
-    add_word(&mut line, 1);
-    line.add(b"\n");
-    line
+    ThinLine::Device {
+        id: id as u64,
+        details: Details {
+            mapped: 1000 * number as u64,
+            transaction: id as u64,
+            created: id,
+            snapped: 1,
+        },
+    }
 }
 
 /// The line of a mapping of the device.
-pub(crate) fn device_map_line(v: u64) -> LineBuffer
+fn device_map_line(v: u64) -> ThinLine
     requires { v < 2 ^ 62 }
-    ensures bytes { result ≡ device_map v }
-    ensures some { 0 < length result }
+    ensures { line_of result ≡ p.map_line (run_of (device_mapping v)) }
 {
     map_line(v, 2 * v, 0)
 }
 
 /// The line of a mapping of its snapshot.
-pub(crate) fn snapshot_map_line(v: u64) -> LineBuffer
+fn snapshot_map_line(v: u64) -> ThinLine
     requires { v < 2 ^ 62 }
-    ensures bytes { result ≡ snapshot_map v }
-    ensures some { 0 < length result }
+    ensures { line_of result ≡ p.map_line (run_of (snapshot_mapping v)) }
 {
     if v % CHANGED == 0 {
         map_line(v, 2 * v + 1, 1)
@@ -72,37 +164,14 @@ pub(crate) fn snapshot_map_line(v: u64) -> LineBuffer
     }
 }
 
-/// The last line.
-pub(crate) fn end_line() -> LineBuffer
-    ensures bytes { result ≡ end_text }
-    ensures some { 0 < length result }
-{
-    let mut line = LineBuffer::new();
-    line.add(b"end\n");
-    line
-}
-
 /// The line of a mapping to one data block.
-fn map_line(v: u64, target: u64, time: u64) -> LineBuffer
-    ensures bytes { result ≡ map_text v target time }
-    ensures some { 0 < length result }
+fn map_line(virt: u64, target: u64, time: u32) -> ThinLine
+    ensures { line_of result ≡ p.map_line (record { virtual_block = virt; data_block = target; length = 1; time = time }) }
 {
-    let mut line = LineBuffer::new();
-    line.add(b"map");
-    add_word(&mut line, v);
-    add_word(&mut line, target);
-    add_word(&mut line, 1);
-    add_word(&mut line, time);
-    line.add(b"\n");
-    line
-}
-
-/// Adds a space and a number.
-fn add_word(line: &mut LineBuffer, number: u64)
-    requires { length line.old + 21 ≤ 161 }
-    ensures bytes { line.new ≡ line.old ++ (32 ∷ decimal number) }
-    ensures len { length line.new ≤ length line.old + 21 }
-{
-    line.add(b" ");
-    line.add_number(number);
+    ThinLine::Map(Run2 {
+        virt,
+        target,
+        length: 1,
+        time,
+    })
 }

@@ -11,7 +11,7 @@ use Rattle.pd_spells.specs.ThinText.{Line, device_line, end_line, first_line, ma
 use Rattle.pd_answers.specs.Generated.{generated_mapped}
 use Rattle.pd_answers.specs.Rehearsals.{AreNumbersOf}
 use Rattle.pd_gen.specs.Pool.{device_mapping, generated_device, snapshot_mapping, generated_pool}
-use Rattle.pd_gen.proofs.Spelled.{generated_lines, part_of, run_of}
+use Rattle.pd_gen.specs.Lines.{generated_lines, part_of, run_of}
 use Rattle.pd_gen.proofs.Numbers.{feeds_are, feeds_of, lines_joined, lines_number, mappings_number}
 use Rattle.pd_query.specs.Counts.{IsCountOf}
 use Rattle.pd_query.specs.Mapped.{mappings_of_line}

@@ -1,4 +1,3 @@
-pub mod Filling
 pub mod TextLemmas
 pub mod ThriceLemmas
 pub mod NeedLemmas

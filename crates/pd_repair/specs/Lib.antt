@@ -1,5 +1,3 @@
-pub mod Texts
-pub mod Place
-pub mod SalvageSource
+pub mod Lines
 pub mod Thrice
 pub mod Repaired

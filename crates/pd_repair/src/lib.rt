@@ -4,9 +4,7 @@
 mod fault;
 mod lines;
 mod need;
-mod place;
 mod repair;
-mod source;
 mod thrice;
 
 pub use fault::RepairFault;

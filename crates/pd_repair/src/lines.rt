@@ -1,78 +1,151 @@
-//! The lines of a saved pool's text.
+//! The lines of a saved pool's text, made one by one.
 
-ghost use Rattle.std.specs.Prelude.{◌≡◌, ◌<◌, length};
-ghost use Rattle.pd_kinds.specs.declared.kind.Kind.TheVariants.{Thin};
-ghost use Rattle.pd_texts.specs.Printed.{end_text, first_text};
-ghost use Rattle.pd_repair.specs.Texts.{device_text, head_text, run_text};
+ghost use Rattle.std.specs.Prelude.{◌≡◌, [], IfNone, IfSome};
+ghost use Rattle.pd_pool.specs.Joined.{spelled};
+ghost use Rattle.pd_spells.specs.ThinText as p;
+ghost use Rattle.pd_texts.specs.ThinLine.{line_of};
+ghost use Rattle.pd_repair.specs.Lines.{Gives, lines_from, words_of_head};
 
-use pd_lines::LineBuffer;
 use pd_pool::Run;
-use pd_salvage::{SavedDevice, SavedHead};
-use pd_texts::{add_uuid, add_word};
+use pd_salvage::{Salvage, SavedHead};
+use pd_texts::{MadeLines, Run2, ThinLine};
 
-/// The first line.
-pub(crate) fn first_line() -> LineBuffer
-    ensures bytes { result ≡ first_text Thin }
-    ensures some { 0 < length result }
+/// The next line.
+#[derive(Clone, Copy)]
+enum Place {
+    /// The pool's.
+    Head,
+    /// That of this run, of which with it so many are still the last device's; and where there are none, that of this
+    /// device, or after the last of these none.
+    Lines {
+        device: usize,
+        run: usize,
+        left: usize,
+    },
+}
+
+/// A line, and the place after it.
+#[derive(Drop)]
+struct Step {
+    line: ThinLine,
+    next: Place,
+}
+
+/// The lines of a saved pool's text that stand between its first and its last one. They take no more memory.
+#[derive(Drop)]
+pub(crate) struct SavedLines {
+    saved: Salvage,
+    next: Place,
+}
+
+impl SavedLines {
+    ghost use Rattle.pd_repair.specs.Lines.{lines_left};
+
+    /// All of them.
+    pub(crate) fn new(saved: Salvage) -> SavedLines
+        ensures { lines_left result ≡ lines_from saved Place.Head }
+    {
+        SavedLines {
+            saved,
+            next: Place::Head,
+        }
+    }
+}
+
+impl MadeLines for SavedLines {
+    ghost use Rattle.pd_repair.specs.Lines.{lines_left};
+
+    ghost left = { lines_left };
+
+    fn next(&mut self) -> Option<ThinLine> {
+        let step = step_at(&self.saved, self.next)?;
+        self.next = step.next;
+        Some(step.line)
+    }
+}
+
+/// The line in a place of the text of the pool.
+fn step_at(saved: &Salvage, place: Place) -> Option<Step>
+    ensures some { IfSome result (Gives saved.now place) }
+    ensures none { IfNone result (lines_from saved.now place ≡ []) }
 {
-    let mut line = LineBuffer::new();
-    line.add(b"thin 1\n");
-    line
+    match place {
+        Place::Head => Some(Step {
+            line: head_line(saved.head()),
+            next: Place::Lines {
+                device: 0,
+                run: 0,
+                left: 0,
+            },
+        }),
+        Place::Lines { device, run, left } => line_step(saved, device, run, left),
+    }
+}
+
+/// The line of a run, or where none is left that of a device.
+fn line_step(saved: &Salvage, device: usize, run: usize, left: usize) -> Option<Step>
+    ensures some { IfSome result (Gives saved.now (Place.Lines device run left)) }
+    ensures none { IfNone result (lines_from saved.now (Place.Lines device run left) ≡ []) }
+{
+    if left > 0 {
+        match saved.runs().get(run) {
+            Some(mapped) => Some(Step {
+                line: map_line(mapped),
+                next: Place::Lines {
+                    device,
+                    run: run + 1,
+                    left: left - 1,
+                },
+            }),
+            None => device_step(saved, device, run),
+        }
+    } else {
+        device_step(saved, device, run)
+    }
+}
+
+/// The line of a device whose runs begin here.
+fn device_step(saved: &Salvage, device: usize, run: usize) -> Option<Step>
+    ensures some { IfSome result (Gives saved.now (Place.Lines device run 0)) }
+    ensures none { IfNone result (lines_from saved.now (Place.Lines device run 0) ≡ []) }
+{
+    match saved.devices().get(device) {
+        Some(next) => Some(Step {
+            line: ThinLine::Device {
+                id: next.id,
+                details: next.details,
+            },
+            next: Place::Lines {
+                device: device + 1,
+                run,
+                left: next.runs,
+            },
+        }),
+        None => None,
+    }
 }
 
 /// The line of the pool.
-pub(crate) fn head_line(head: &SavedHead) -> LineBuffer
-    ensures bytes { result ≡ head_text head.now }
-    ensures some { 0 < length result }
+fn head_line(head: &SavedHead) -> ThinLine
+    ensures { line_of result ≡ p.pool_line (words_of_head head.now) }
 {
-    let mut line = LineBuffer::new();
-    line.add(b"pool ");
-    add_uuid(&mut line, head.uuid);
-    add_word(&mut line, head.time as u64);
-    add_word(&mut line, head.transaction);
-    add_word(&mut line, head.block_size as u64);
-    add_word(&mut line, head.blocks);
-    line.add(b"\n");
-    line
-}
-
-/// The line of a device.
-pub(crate) fn device_line(device: &SavedDevice) -> LineBuffer
-    ensures bytes { result ≡ device_text device.now }
-    ensures some { 0 < length result }
-{
-    let mut line = LineBuffer::new();
-    line.add(b"device");
-    add_word(&mut line, device.id);
-    add_word(&mut line, device.details.mapped);
-    add_word(&mut line, device.details.transaction);
-    add_word(&mut line, device.details.created as u64);
-    add_word(&mut line, device.details.snapped as u64);
-    line.add(b"\n");
-    line
+    ThinLine::Pool {
+        uuid: head.uuid,
+        time: head.time,
+        transaction: head.transaction,
+        block_size: head.block_size,
+        blocks: head.blocks,
+    }
 }
 
 /// The line of a run.
-pub(crate) fn map_line(run: &Run) -> LineBuffer
-    ensures bytes { result ≡ run_text run.now }
-    ensures some { 0 < length result }
+fn map_line(run: &Run) -> ThinLine
+    ensures { line_of result ≡ p.map_line (spelled run.now) }
 {
-    let mut line = LineBuffer::new();
-    line.add(b"map");
-    add_word(&mut line, run.virt);
-    add_word(&mut line, run.target);
-    add_word(&mut line, run.length);
-    add_word(&mut line, run.time as u64);
-    line.add(b"\n");
-    line
-}
-
-/// The last line.
-pub(crate) fn end_line() -> LineBuffer
-    ensures bytes { result ≡ end_text }
-    ensures some { 0 < length result }
-{
-    let mut line = LineBuffer::new();
-    line.add(b"end\n");
-    line
+    ThinLine::Map(Run2 {
+        virt: run.virt,
+        target: run.target,
+        length: run.length,
+        time: run.time,
+    })
 }

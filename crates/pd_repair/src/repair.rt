@@ -8,8 +8,8 @@ ghost use Rattle.pd_spells.specs.ThinNeed.{thin_need};
 ghost use Rattle.pd_repair.specs.Repaired.{CountsRepair, HasSuper, IsFirst, IsMadeOf, IsRepaired, IsRepairedFrom, NamesRules, ReadsFew};
 
 use crate::fault::RepairFault;
+use crate::lines::SavedLines;
 use crate::need::need_of_saved;
-use crate::source::SalvageSource;
 use pd_image::{Device, Source};
 use pd_kinds::{Block, MAX_META_BLOCKS, ThinSuper};
 use pd_restore::restore_thin;
@@ -17,6 +17,7 @@ use pd_restoring::RestoreFault;
 use pd_salvage::{Salvage, SalvageFault, salvage};
 use pd_spells::{thin_text_has_one_verdict, thin_text_is_accepted_where_there_is_room};
 use pd_supers::{missing_super, read_thin_super, thin_super_rules};
+use pd_texts::MadeSource;
 use std::alloc::Global;
 
 /// Writes what can be saved of a pool to another device.
@@ -146,7 +147,7 @@ fn restore_saved<B: Device>(
     thin_text_has_one_verdict();
     // What was saved is a lawful pool.
     let _ = saved.head();
-    let mut source = SalvageSource::new(saved);
+    let mut source = MadeSource::new(SavedLines::new(saved));
     if source.attach("").is_err() {
         unreachable!();
     }

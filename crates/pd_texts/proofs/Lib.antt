@@ -8,3 +8,4 @@ pub mod LawLemmas
 pub mod ThinWordLemmas
 pub mod ThinLemmas
 pub mod ThinNextLemmas
+pub mod Filling

@@ -11,3 +11,4 @@ pub mod Printed
 pub mod ThinLaws
 pub mod ThinPrinted
 pub mod ThinNext
+pub mod Made

@@ -5,6 +5,7 @@
 #![tactic(auto)]
 
 mod fault;
+mod made;
 mod print;
 mod reader;
 mod stage;
@@ -17,6 +18,7 @@ mod thin_words;
 mod words;
 
 pub use fault::{ReadFault, TextFault};
+pub use made::{MadeLines, MadeSource};
 pub use print::{add_end, add_first, add_uuid, add_word, print_end, print_first};
 pub use reader::TextReader;
 pub use stage::Stage;

@@ -65,7 +65,7 @@ pub fn add_end<K: Sink>(pieces: &mut Pieces, out: &mut K) -> Result<(), Failed>
 }
 
 /// The bytes of the first line of a text of this kind.
-fn first_bytes(kind: Kind) -> &'static [u8]
+pub(crate) fn first_bytes(kind: Kind) -> &'static [u8]
     ensures bytes { result.now ≡ first_text kind }
     ensures len { length result.now ≤ 8 }
 {

@@ -41,7 +41,7 @@ pub fn add_thin<K: Sink>(line: &ThinLine, pieces: &mut Pieces, out: &mut K) -> R
 }
 
 /// The bytes of a line.
-fn line_text(line: &ThinLine) -> LineBuffer
+pub(crate) fn line_text(line: &ThinLine) -> LineBuffer
     ensures bytes { result ≡ text_of_line thin (line_of line.now) }
 {
     match line {

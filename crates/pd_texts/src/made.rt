@@ -1,45 +1,61 @@
-//! The text of a saved pool as a source.
+//! The text of a pool whose lines are made one by one, as a source.
 
-ghost use Rattle.std.specs.Prelude.{true, false, ◌≡◌, ◌+◌, ◌<◌, ◌≤◌, ◌++◌, [], None, length, take, min};
+ghost use Rattle.std.specs.Prelude.{true, false, ◌≡◌, ◌+◌, ◌<◌, ◌≤◌, ◌++◌, ◌∷◌, [], List, length, take, min, IfNone, IfSome};
+ghost use Rattle.pd_spells.specs.ThinText.{Line, end_line, first_line, thin};
+ghost use Rattle.pd_texts.specs.Printed.{text_of_line};
+ghost use Rattle.pd_texts.specs.ThinLine.{line_of};
 
-use crate::place::{Place, step_at};
+use crate::print::first_bytes;
+use crate::thin_line::ThinLine;
+use crate::thin_print::line_text;
 use pd_image::{Failed, Source};
+use pd_kinds::Kind;
 use pd_lines::LineBuffer;
-use pd_salvage::Salvage;
 
-/// A source whose text is that of a saved pool. It never fails, and takes no memory: it holds one line at a time.
+/// What makes the lines of a pool's text that stand between its first and its last one.
+pub trait MadeLines: Drop {
+    /// The lines that are still to come.
+    ghost left: { Self → List Line };
+
+    /// The next line, or none where all were made.
+    fn next(&mut self) -> Option<ThinLine>
+        ensures none { IfNone result (left self.old ≡ []) }
+        ensures some { IfSome result (λ line. left self.old ≡ line_of line ∷ left self.new) };
+}
+
+/// A source whose text is that of a pool whose lines are made. It opens every path and tells none, never fails, and takes
+/// no memory: it holds one line at a time.
 #[derive(Drop)]
-pub(crate) struct SalvageSource {
-    saved: Salvage,
+pub struct MadeSource<L: MadeLines> {
+    lines: L,
     /// The line that is given now.
     line: LineBuffer,
     /// How many of its bytes were given.
     given: usize,
-    next: Place,
+    /// Whether it is the last one.
+    ended: bool,
     attached: bool,
     ghost within: { given ≤ length line },
 }
 
-impl SalvageSource {
-    ghost use Rattle.pd_repair.specs.SalvageSource.{text_left};
-    ghost use Rattle.pd_repair.specs.Texts.{saved_text};
+impl<L: MadeLines> MadeSource<L> {
+    ghost use Rattle.pd_texts.specs.Made.{made_state, text_left, unattached};
 
-    /// The text of the pool, which isn't attached yet.
-    pub(crate) fn new(saved: Salvage) -> SalvageSource
-        ensures text { text_left result ≡ saved_text saved }
-        ensures unattached { result.attached ≡ false }
+    /// The text with these lines, which isn't attached yet.
+    pub fn new(lines: L) -> MadeSource<L>
+        ensures { made_state result ≡ unattached (L.left lines) }
     {
-        SalvageSource {
-            saved,
-            line: LineBuffer::new(),
+        MadeSource {
+            lines,
+            line: first_text(),
             given: 0,
-            next: Place::First,
+            ended: false,
             attached: false,
         }
     }
 
     /// Moves bytes to the front of `into`, until there is no room or no text: how many.
-    fn fill(&mut self, into: &mut [u8]) -> usize
+    pub fn fill(&mut self, into: &mut [u8]) -> usize
         requires { 0 < length into.old }
         ensures within { result ≤ length into.new }
         ensures moved { take result into.new ++ text_left self.new ≡ text_left self.old }
@@ -66,15 +82,18 @@ impl SalvageSource {
         if self.given < self.line.as_bytes().len() {
             return true;
         }
-        match step_at(&self.saved, self.next) {
-            Some(step) => {
-                self.line = step.line;
-                self.given = 0;
-                self.next = step.next;
-                true
-            }
-            None => false,
+        if self.ended {
+            return false;
         }
+        match self.lines.next() {
+            Some(line) => self.line = line_text(&line),
+            None => {
+                self.line = end_text();
+                self.ended = true;
+            }
+        }
+        self.given = 0;
+        true
     }
 
     /// Moves bytes of the line to the front of `into`: how many.
@@ -92,11 +111,11 @@ impl SalvageSource {
     }
 }
 
-impl Source for SalvageSource {
+impl<L: MadeLines> Source for MadeSource<L> {
     ghost use Rattle.std.proofs.Common.{refl};
-    ghost use Rattle.pd_repair.specs.SalvageSource.{salvage_source_state};
+    ghost use Rattle.pd_texts.specs.Made.{made_state};
 
-    ghost state = { salvage_source_state };
+    ghost state = { made_state };
 
     ghost unnamed = { λ _ _. refl };
 
@@ -108,6 +127,24 @@ impl Source for SalvageSource {
     fn take(&mut self, into: &mut [u8]) -> Result<usize, Failed> {
         Ok(self.fill(into))
     }
+}
+
+/// The bytes of the first line.
+fn first_text() -> LineBuffer
+    ensures { result ≡ text_of_line thin first_line }
+{
+    let mut line = LineBuffer::new();
+    line.add(first_bytes(Kind::Thin));
+    line
+}
+
+/// The bytes of the last line.
+fn end_text() -> LineBuffer
+    ensures { result ≡ text_of_line thin end_line }
+{
+    let mut line = LineBuffer::new();
+    line.add(b"end\n");
+    line
 }
 
 /// Copies as many bytes as there are, and as there is room for: how many.
