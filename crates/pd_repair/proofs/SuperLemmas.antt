@@ -12,7 +12,7 @@ use Rattle.pd_kinds.specs.declared.rule.Rule.TheVariants.{Size}
 use Rattle.pd_kinds.specs.declared.rules.Rules.{Rules}
 use Rattle.pd_kinds.specs.Faults.{faults_at}
 use Rattle.pd_kinds.specs.Graph.{block_at}
-use Rattle.pd_kinds.specs.Limits.{is_meta_size_bad, max_data_blocks, room_of}
+use Rattle.pd_kinds.specs.Limits.{is_meta_size_bad, max_data_blocks}
 use Rattle.pd_kinds.specs.Meaning.{ThinPool}
 use Rattle.pd_kinds.specs.Objects.{DeviceState}
 use Rattle.pd_kinds.specs.Rule.{all_rules, same_rule}
@@ -26,8 +26,12 @@ use Rattle.pd_laws.proofs.SuperStage.{faults_at-same, first_stage}
 use Rattle.pd_laws.proofs.ThinTable.{super_sound}
 use Rattle.pd_repair.specs.declared.fault.RepairFault.{RepairFault}
 use Rattle.pd_repair.specs.declared.fault.RepairFault.TheVariants as f
-use Rattle.pd_repair.specs.Repaired.{AnswersFault, AnswersSuper, HasSuper, IsFirst, IsOfFaults, IsRepaired, IsRepairedFrom, NamesRules}
-use Rattle.pd_repair.proofs.MadeLemmas.{resting}
+use Rattle.pd_salvage.specs.declared.saved.SalvageFault.{SalvageFault}
+use Rattle.pd_salvage.specs.declared.saved.SalvageFault.TheVariants as s
+use Rattle.pd_restore.specs.Made.{IsMadeOf, lacking, unbegun}
+use Rattle.pd_restore.proofs.MadeLemmas.{resting}
+use Rattle.pd_repair.specs.Faults.{output_ending, salvage_fault}
+use Rattle.pd_repair.specs.Repaired.{AnswersSuper, HasSuper, IsFirst, IsOfFaults, IsRepaired, IsRepairedFrom, NamesRules}
 
 abbrev Image : Type 0
 Image = List (List ℕ)
@@ -98,22 +102,27 @@ unfolding pool_in
 pool_told saved None = tt
 pool_told saved (Some image) = refl
 
--- a fault before anything was saved
-pub never_saved : (fields : ThinFields) (fault : RepairFault) (from device : DeviceState) → ((pool : ThinPool) → AnswersFault fault pool (room_of device.blocks))
-    → IsRepairedFrom fields (Err fault) from device device
-never_saved fields fault from device answer = record {
+-- a fault before anything was saved: memory was wanting, or the input failed
+pub never_saved : (fields : ThinFields) (fault : SalvageFault) (result : Result (Unit {0}) RepairFault) (from device : DeviceState) → result ≡ Err (salvage_fault fault)
+    → IsRepairedFrom fields result from device device
+never_saved fields fault result from device is = record {
   pool = pool_in (salvage_from fields) from.held;
   right = pool_told (salvage_from fields) from.held;
-  output = resting (pool_in (salvage_from fields) from.held) fault device (answer (pool_in (salvage_from fields) from.held));
+  output = rw is (unwritten (pool_in (salvage_from fields) from.held) fault);
 }
+  where
+    unwritten : (pool : ThinPool) (fault : SalvageFault) → IsMadeOf pool (output_ending (Err (salvage_fault fault))) device device
+    unwritten pool s.Memory = resting pool lacking device (λ none. none) tt
+    unwritten pool s.Device = resting pool unbegun device (λ none. none) tt
 
-pub never_repaired : (fault : RepairFault) (from device : DeviceState) → ((pool : ThinPool) → AnswersFault fault pool (room_of device.blocks))
+-- a fault of the superblock, or of its read
+pub never_repaired : (fault : RepairFault) (from device : DeviceState) → output_ending (Err fault) ≡ unbegun
     → IfSome from.held (λ image. IsOfFaults fault (faults Thin Super image)) → IsRepaired (Err fault) from device device
-never_repaired fault from device answer rules = record {
+never_repaired fault from device early rules = record {
   pool = pool_in salvage from.held;
   right = pool_told salvage from.held;
   rules = rules;
-  output = resting (pool_in salvage from.held) fault device (answer (pool_in salvage from.held));
+  output = rw early (resting (pool_in salvage from.held) unbegun device (λ none. none) tt);
 }
 
 -- no rule is reported where none is broken

@@ -1,3 +1,2 @@
-pub mod Lines
-pub mod Thrice
+pub mod Faults
 pub mod Repaired

@@ -1,76 +1,26 @@
 -- What a repair promises.
-use Rattle.std.specs.Prelude.{◌≡◌, ◌≢◌, ℕ, ◌<◌, ◌≤◌, false, List, [], length, slice_get, Some, Result, OnOk, IfSome, MatchResult}
+use Rattle.std.specs.Prelude.{◌≡◌, ◌≢◌, ℕ, ◌≤◌, false, List, [], length, slice_get, Some, Result, IfSome, MatchResult}
 use Rattle.pd_kinds.specs.declared.fault.Fault.{Fault}
 use Rattle.pd_kinds.specs.declared.rule.Rule.{Rule}
 use Rattle.pd_kinds.specs.declared.kind.Kind.TheVariants.{Thin}
 use Rattle.pd_kinds.specs.declared.kind.Stage.TheVariants.{Super}
-use Rattle.pd_kinds.specs.Crash.{HoldsOldOrNone, HoldsSynced, IsOldNoneOrMade, IsUntouched, LeavesOnly, StillTells}
 use Rattle.pd_kinds.specs.Faults.{faults_at}
-use Rattle.pd_kinds.specs.Limits.{room_of}
 use Rattle.pd_kinds.specs.Meaning.{ThinPool}
 use Rattle.pd_kinds.specs.Objects.{DeviceState, Rose}
 use Rattle.pd_kinds.specs.RuleSet.{has_rule}
 use Rattle.pd_kinds.specs.Stages.{faults}
 use Rattle.pd_kinds.specs.ThinSuper.{ThinFields}
-use Rattle.pd_laid.specs.Laid.{IsLaid}
-use Rattle.pd_laid.specs.LaidThin.{laid_pool}
 use Rattle.pd_laid.specs.Salvage.{salvage, salvage_from}
-use Rattle.pd_spells.specs.Lawful.{IsLawfulPool}
-use Rattle.pd_spells.specs.ThinNeed.{thin_need}
+use Rattle.pd_restore.specs.Made.{IsMadeOf}
 use Rattle.pd_repair.specs.declared.fault.RepairFault.{RepairFault}
 use Rattle.pd_repair.specs.declared.fault.RepairFault.TheVariants.{Memory, Input, Output, NoSuper, NoRoom}
-
--- what a fault says of the pool that was saved, and of the room for it: how much is needed is exact
-abbrev pub AnswersFault : RepairFault → ThinPool → ℕ → Type 0
-AnswersFault Memory pool room = Unit {0}
-AnswersFault Input pool room = Unit {0}
-AnswersFault Output pool room = Unit {0}
-AnswersFault (NoSuper rules) pool room = Unit {0}
-AnswersFault (NoRoom need blocks) pool room = (need ≡ thin_need pool room) × ((blocks ≡ room) × (room < need))
-
-abbrev pub Answers : Result (Unit {0}) RepairFault → ThinPool → ℕ → Type 0
-Answers result pool room = MatchResult result (λ done. IsLawfulPool pool × (thin_need pool room ≤ room)) (λ fault. AnswersFault fault pool room)
-
--- the output isn't blamed
-abbrev pub IsOfOthers : RepairFault → Type 0
-IsOfOthers Memory = Unit {0}
-IsOfOthers Input = Unit {0}
-IsOfOthers Output = ⊥
-IsOfOthers (NoSuper rules) = Unit {0}
-IsOfOthers (NoRoom need blocks) = Unit {0}
-
--- the faults that come before the output is written
-abbrev pub IsEarly : RepairFault → Type 0
-IsEarly Memory = ⊥
-IsEarly Input = Unit {0}
-IsEarly Output = ⊥
-IsEarly (NoSuper rules) = Unit {0}
-IsEarly (NoRoom need blocks) = Unit {0}
-
--- an image is made where there is room: the pool is laid over what the output held
-abbrev pub MakesPool : ThinPool → ℕ → List (List ℕ) → List (List ℕ) → Type 0
-MakesPool pool room old new = (thin_need pool room ≤ room) × IsLaid (laid_pool pool room) old new
-
--- what becomes of the output, where this pool was saved
-pub record IsMadeOf (pool : ThinPool) (result : Result (Unit {0}) RepairFault) (old new : DeviceState) : Type 0 where
-  pub answer : Answers result pool (room_of old.blocks)
-  -- a crash at any moment of the call, whatever its result, leaves the old image, no valid superblock, or what is made
-  pub crash : (image : List (List ℕ)) → HoldsSynced image old → LeavesOnly (IsOldNoneOrMade image (MakesPool pool (room_of old.blocks) image)) old new
-  -- what was made holds of any device that tells what it held, also where something was unsynced
-  pub made : OnOk result (IfSome old.held (λ image.
-      IfSome new.held (λ now. IsLaid (laid_pool pool (room_of old.blocks)) image now × HoldsSynced now new)))
-  pub told : StillTells old new
-  -- only a fault of the output itself may leave more than what it held, or no valid superblock
-  pub kept : MatchResult result (λ done. Unit {0}) (λ fault. IsOfOthers fault → HoldsOldOrNone old new)
-  -- the room is looked at before the first write
-  pub untouched : room_of old.blocks < thin_need pool (room_of old.blocks) → IsUntouched old new
-  pub early : MatchResult result (λ done. Unit {0}) (λ fault. IsEarly fault → IsUntouched old new)
+use Rattle.pd_repair.specs.Faults.{output_ending}
 
 -- a repair from a superblock of these fields
 pub record IsRepairedFrom (fields : ThinFields) (result : Result (Unit {0}) RepairFault) (from old new : DeviceState) : Type 0 where
   pub pool : ThinPool
   pub right : IfSome from.held (λ image. pool ≡ salvage_from fields image)
-  pub output : IsMadeOf pool result old new
+  pub output : IsMadeOf pool (output_ending result) old new
 
 -- what the faults of the input's superblock are answered by
 abbrev pub IsOfFaults : RepairFault → List Fault → Type 0
@@ -88,7 +38,7 @@ pub record IsRepaired (result : Result (Unit {0}) RepairFault) (from old new : D
   pub pool : ThinPool
   pub right : IfSome from.held (λ image. pool ≡ salvage image)
   pub rules : IfSome from.held (λ image. AnswersSuper result (faults Thin Super image))
-  pub output : IsMadeOf pool result old new
+  pub output : IsMadeOf pool (output_ending result) old new
 
 -- no rules are reported
 abbrev pub IsOther : RepairFault → Type 0

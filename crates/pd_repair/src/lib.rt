@@ -2,10 +2,7 @@
 #![tactic(auto)]
 
 mod fault;
-mod lines;
-mod need;
 mod repair;
-mod thrice;
 
 pub use fault::RepairFault;
 pub use repair::{repair_from, repair_thin};

@@ -2,22 +2,14 @@
 
 ghost use Rattle.std.specs.Prelude.{◌≡◌, ◌+◌, ◌≤◌, ◌^◌, IfErr, IfSome};
 ghost use Rattle.pd_image.specs.Device.{IsAttached, IsWritable, KeepsPlace, OnlyReads};
-ghost use Rattle.pd_kinds.specs.Limits.{room_of};
-ghost use Rattle.pd_salvage.specs.Saved.{pool_of};
-ghost use Rattle.pd_spells.specs.ThinNeed.{thin_need};
-ghost use Rattle.pd_repair.specs.Repaired.{CountsRepair, HasSuper, IsFirst, IsMadeOf, IsRepaired, IsRepairedFrom, NamesRules, ReadsFew};
+ghost use Rattle.pd_repair.specs.Repaired.{CountsRepair, HasSuper, IsFirst, IsRepaired, IsRepairedFrom, NamesRules, ReadsFew};
 
 use crate::fault::RepairFault;
-use crate::lines::SavedLines;
-use crate::need::need_of_saved;
-use pd_image::{Device, Source};
-use pd_kinds::{Block, MAX_META_BLOCKS, ThinSuper};
-use pd_restore::restore_thin;
-use pd_restoring::RestoreFault;
-use pd_salvage::{Salvage, SalvageFault, salvage};
-use pd_spells::{thin_text_has_one_verdict, thin_text_is_accepted_where_there_is_room};
+use pd_image::Device;
+use pd_kinds::{Block, ThinSuper};
+use pd_restore::restore_made;
+use pd_salvage::salvage;
 use pd_supers::{missing_super, read_thin_super, thin_super_rules};
-use pd_texts::MadeSource;
 use std::alloc::Global;
 
 /// Writes what can be saved of a pool to another device.
@@ -103,62 +95,7 @@ pub fn repair_from<A: Device, B: Device>(
     ensures place { KeepsPlace (B.state output.old) (B.state output.new) }
     ensures causes { CountsRepair result (A.state input.old).faults (A.state input.new).faults (B.state output.old).faults (B.state output.new).faults }
 {
-    match salvage(alloc, input, s) {
-        Ok(saved) => write_saved(alloc, saved, output),
-        Err(fault) => match fault {
-            SalvageFault::Memory => Err(RepairFault::Memory),
-            SalvageFault::Device => Err(RepairFault::Input),
-        },
-    }
-}
-
-/// Writes a saved pool, where there is room.
-fn write_saved<B: Device>(alloc: Global, saved: Salvage, output: &mut B) -> Result<(), RepairFault>
-    requires writable { IsWritable (B.state output.old) }
-    ensures made { IsMadeOf (pool_of saved) result (B.state output.old) (B.state output.new) }
-    ensures sound { HasSuper result }
-    ensures place { KeepsPlace (B.state output.old) (B.state output.new) }
-    ensures causes { CountsRepair result 0 0 (B.state output.old).faults (B.state output.new).faults }
-{
-    let room = output.blocks().min(MAX_META_BLOCKS);
-    let Some(need) = need_of_saved(alloc, &saved, room) else {
-        return Err(RepairFault::Memory);
-    };
-    if need > room {
-        return Err(RepairFault::NoRoom { need, blocks: room });
-    }
-    restore_saved(alloc, saved, output)
-}
-
-/// Writes a saved pool for which there is room.
-fn restore_saved<B: Device>(
-    alloc: Global,
-    saved: Salvage,
-    output: &mut B,
-) -> Result<(), RepairFault>
-    requires writable { IsWritable (B.state output.old) }
-    requires room { thin_need (pool_of saved) (room_of (B.state output.old).blocks) ≤ room_of (B.state output.old).blocks }
-    ensures made { IsMadeOf (pool_of saved) result (B.state output.old) (B.state output.new) }
-    ensures sound { HasSuper result }
-    ensures place { KeepsPlace (B.state output.old) (B.state output.new) }
-    ensures causes { CountsRepair result 0 0 (B.state output.old).faults (B.state output.new).faults }
-{
-    thin_text_is_accepted_where_there_is_room();
-    thin_text_has_one_verdict();
-    // What was saved is a lawful pool.
-    let _ = saved.head();
-    let mut source = MadeSource::new(SavedLines::new(saved));
-    if source.attach("").is_err() {
-        unreachable!();
-    }
-    match restore_thin(alloc, &mut source, output) {
-        Ok(()) => Ok(()),
-        Err(fault) => match fault {
-            RestoreFault::Memory => Err(RepairFault::Memory),
-            RestoreFault::Device => Err(RepairFault::Output),
-            RestoreFault::Source => unreachable!(),
-            RestoreFault::Text(_) => unreachable!(),
-            RestoreFault::NoRoom { .. } => unreachable!(),
-        },
-    }
+    let saved = salvage(alloc, input, s)?;
+    restore_made(alloc, saved, output)?;
+    Ok(())
 }

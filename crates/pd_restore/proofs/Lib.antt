@@ -5,3 +5,7 @@ pub mod ReadingLemmas
 pub mod PoolLemmas
 pub mod BeginLemmas
 pub mod NeedLemmas
+pub mod SavedTextLemmas
+pub mod ThriceLemmas
+pub mod SavedNeedLemmas
+pub mod MadeLemmas

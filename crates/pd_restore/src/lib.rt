@@ -1,12 +1,17 @@
-//! A pool that is restored from its text, as a stream.
+//! A pool that is restored: from its text, as a stream, or as it is held in memory.
 #![tactic(auto)]
 
 mod begin;
 mod lines;
+mod made;
 mod parts;
 mod pool;
+mod saved_lines;
+mod saved_need;
 mod thin;
+mod thrice;
 
+pub use made::{MadeFault, restore_made};
 pub use pd_devices::need_thin;
 pub use pd_restoring::RestoreFault;
 pub use thin::restore_thin;

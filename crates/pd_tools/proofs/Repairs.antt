@@ -1,6 +1,6 @@
 -- What the work of a repair comes to, over plain variables.
 use Rattle.std.proofs.Common.{◌≡◌, ◌≢◌, ◌⊎◌, inl, inr, ℕ, ◌≤◌, ◌<◌, true, false, not, nat_eq, IsTrue, List, [], ◌∷◌, length, Option, Some, None, IfSome, Result, Ok, Err, refl, sym, ap, ◌∙◌, subst, arith, lit≤}
-use Rattle.std.specs.Prelude.{OnOk, IsSome, MatchResult}
+use Rattle.std.specs.Prelude.{IsSome}
 use Rattle.std.specs.Option.{option_map_or}
 use Rattle.std.proofs.lemmas.Bool.{cases_lt, lt-ltb, le-ltb}
 use Rattle.std.proofs.lemmas.Option.{IfSome_then}
@@ -32,7 +32,9 @@ use Rattle.pd_answers.specs.Repairs.{LaysPool, LeavesRepaired, Salvaged, repair,
 use Rattle.pd_answers.specs.Terms.{is_possible}
 use Rattle.pd_repair.specs.declared.fault.RepairFault.{RepairFault}
 use Rattle.pd_repair.specs.declared.fault.RepairFault.TheVariants as fault
-use Rattle.pd_repair.specs.Repaired.{Answers, AnswersSuper, IsOfOthers, IsRepaired, MakesPool}
+use Rattle.pd_repair.specs.Faults.{output_ending}
+use Rattle.pd_repair.specs.Repaired.{AnswersSuper, IsRepaired}
+use Rattle.pd_restore.specs.Made.{Answers, Ending, IsDone, IsEarly, IsOfOthers, MakesPool}
 use Rattle.pd_tools.specs.declared.stop.Stop.{Stop}
 use Rattle.pd_tools.specs.declared.stop.Stop.TheVariants.{Device, Memory}
 use Rattle.pd_tools.specs.Repair.{AreOpened, AreUnopened}
@@ -138,19 +140,9 @@ repair_unopened from to others notes input last_input output last synced un =
       lost = leaves 6 (λ e. omega arith);
     }
 
--- a result without a fault
-abbrev IsDone : Result (Unit {0}) RepairFault → Type 0
-IsDone (Ok done) = Unit {0}
-IsDone (Err fault) = ⊥
-
-where_done : (result : Result (Unit {0}) RepairFault) {P : Type 0} → OnOk result P → IsDone result → P
-where_done (Ok done) p is = p
-where_done (Err fault) p is = absurd is
-
--- what holds of a fault that is known
-of_fault : (P : RepairFault → Type 0) (Q : Type 0) (result : Result (Unit {0}) RepairFault) (fault : RepairFault) → result ≡ Err fault
-    → MatchResult result (λ done. Q) P → P fault
-of_fault P Q result fault is all = rw is at all
+-- what holds of the ending of a result that is known
+of_ending : (P : Ending → Type 0) (result known : Result (Unit {0}) RepairFault) → result ≡ known → P (output_ending result) → P (output_ending known)
+of_ending P result known is all = subst (λ (r : Result (Unit {0}) RepairFault). P (output_ending r)) is all
 
 module _ (from to : List ℕ) (others : Objects) (notes : SinkState) (input opened last_input output writable last : DeviceState)
     (synced : IsSynced output) (both : AreOpened from to input opened output writable)
@@ -236,13 +228,13 @@ module _ (from to : List ℕ) (others : Objects) (notes : SinkState) (input open
       (record { held = same.held ∙ both.output_untouched.held; history = same.history ∙ both.output_untouched.history }) some
 
   -- after a fault that isn't the output's
-  spared : (f : RepairFault) → result ≡ Err f → IsOfOthers f → HoldsOldOrNone output last
+  spared : (f : RepairFault) → result ≡ Err f → IsOfOthers (output_ending (Err f)) → HoldsOldOrNone output last
   spared f is others =
       subst (λ (h : Option Image). IfSome h (λ image. IfSome last.held (λ now. (now ≡ image) ⊎ HasNoSuper now))) both.output_untouched.held
-      (of_fault (λ fault. IsOfOthers fault → HoldsOldOrNone writable last) _ result f is done.output.kept others)
+      (of_ending (λ ending. IsOfOthers ending → HoldsOldOrNone writable last) result (Err f) is done.output.kept others)
 
   -- an output that may have been written
-  written : (report : Reported) → (repair_answer (finding report)).status ≡ 0 → (status : ℕ) → (status ≡ 0 → IsDone result) → ((status ≡ 3) ⊎ (status ≡ 4) → ⊥)
+  written : (report : Reported) → (repair_answer (finding report)).status ≡ 0 → (status : ℕ) → (status ≡ 0 → IsDone (output_ending result)) → ((status ≡ 3) ⊎ (status ≡ 4) → ⊥)
       → (status ≢ 0 → last.faults ≡ output.faults → HoldsOldOrNone output last) → (status ≡ 5 → last.faults ≡ output.faults → IsUntouched output last) → Leaves report status
   written report zero status is_done other kept input_failed = record {
     output = record {
@@ -259,7 +251,7 @@ module _ (from to : List ℕ) (others : Objects) (notes : SinkState) (input open
               ]));
           made = λ e. IfSome_then output.held
               (subst (λ (h : Option Image). IfSome h (λ image. IfSome last.held (λ now. IsLaid (laid_pool pool room) image now × HoldsSynced now last)))
-              both.output_untouched.held (where_done result done.output.made (is_done e)))
+              both.output_untouched.held (done.output.made (is_done e)))
               (λ image all. IfSome_then last.held all (λ now is. ((zero, is.0), is.1)));
           refused = λ either. absurd (other either);
         };
@@ -300,7 +292,7 @@ module _ (from to : List ℕ) (others : Objects) (notes : SinkState) (input open
 
   pub repair_made : result ≡ Ok tt → IsFinished (repair from to) before after 0 []
   repair_made is =
-      let answer : Answers (Ok tt) pool room = subst (λ (r : Result (Unit {0}) RepairFault). Answers r pool room) is done.output.answer in
+      let answer = of_ending (λ ending. Answers ending pool room) result (Ok tt) is done.output.answer in
       let fits : thin_need pool room ≤ room = answer.1 in
       let none = subst (λ (r : Result (Unit {0}) RepairFault). IfSome opened.held (λ image. AnswersSuper r (faults Thin Super image))) is done.rules in
       finished (report_of []) (none_right none) 0 [] (lit≤ tt) refl (answer_made pool room fits)
@@ -309,16 +301,16 @@ module _ (from to : List ℕ) (others : Objects) (notes : SinkState) (input open
 
   pub repair_no_room : (need blocks : ℕ) → result ≡ Err (fault.NoRoom need blocks) → IsFinished (repair from to) before after 4 (no_room_line need blocks)
   repair_no_room need blocks is =
-      let answer = of_fault _ _ result (fault.NoRoom need blocks) is done.output.answer in
+      let answer = of_ending (λ ending. Answers ending pool room) result (Err (fault.NoRoom need blocks)) is done.output.answer in
       let small : room < thin_need pool room = subst (λ (n : ℕ). room < n) answer.0 answer.1.1 in
-      let same = of_fault _ _ result (fault.NoRoom need blocks) is done.output.early tt in
+      let same = of_ending (λ ending. IsEarly ending → IsUntouched writable last) result (Err (fault.NoRoom need blocks)) is done.output.early tt in
       finished (report_of []) (none_right (fault_answer (fault.NoRoom need blocks) is)) 4 (no_room_line need blocks) (lit≤ tt) refl
       (rw (answer.0, answer.1.0) (answer_small pool room small)) (alone same (report_of []) 4 (λ e. omega arith))
 
   pub repair_faulty : (rules : Rules) → result ≡ Err (fault.NoSuper rules) → (((rule : Rule) → has_rule rules rule ≡ false) → ⊥)
       → (report : Reported) → report ≡ report_of (faults_at 0 (has_rule rules)) → IsFinished (repair from to) before after 1 (reported_lines report)
   repair_faulty rules is named report reported =
-      let same = of_fault _ _ result (fault.NoSuper rules) is done.output.early tt in
+      let same = of_ending (λ ending. IsEarly ending → IsUntouched writable last) result (Err (fault.NoSuper rules)) is done.output.early tt in
       let right = IfSome_then input.held (of_super (λ list. (list ≢ []) × (faults_at 0 (has_rule rules) ≡ list)) (fault_answer (fault.NoSuper rules) is))
       (λ image broken. reported ∙ ap (λ (list : List Fault). report_of list) broken.1) in
       let faulty : nat_eq report.total 0 ≡ false = ap (λ (r : Reported). nat_eq r.total 0) reported ∙ named_some rules (faults_at 0 (has_rule rules)) refl named in
@@ -354,6 +346,6 @@ module _ (from to : List ℕ) (others : Objects) (notes : SinkState) (input open
 
   pub repair_input : result ≡ Err fault.Input → Rose opened.faults last_input.faults → IsStopped (repair from to) before after Device
   repair_input is rose =
-      let same = of_fault _ _ result fault.Input is done.output.early tt in
+      let same = of_ending (λ ending. IsEarly ending → IsUntouched writable last) result (Err fault.Input) is done.output.early tt in
       stopped (report_in input.held) (report-told input.held) Device refl (inl (rw both.input_faults at rose))
       (alone same (report_in input.held) 5 (λ e. omega arith)) (alone same (report_in input.held) 6 (λ e. omega arith))

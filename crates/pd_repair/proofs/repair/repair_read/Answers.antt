@@ -31,7 +31,7 @@ returns-then-is_empty-clause-repaired g c =
 
 pub returns-else-is_empty-clause-repaired : goal.returns-else-is_empty-clause-repaired
 returns-else-is_empty-clause-repaired g c =
-    never_repaired (NoSuper c.thin_super_rules-rules.result) (g.A.Device.state c.args.input.now) (g.B.Device.state c.args.output.now) (λ pool. tt)
+    never_repaired (NoSuper c.thin_super_rules-rules.result) (g.A.Device.state c.args.input.now) (g.B.Device.state c.args.output.now) refl
     (broken_super (g.A.Device.state c.args.input.now).held c.args.blocks c.args.first.now.0 c.thin_super_rules-rules.result c.requires.first c.thin_super_rules-rules.ensures
     (λ none. let e = c.if-is_empty.ensures.1 none in cc))
 

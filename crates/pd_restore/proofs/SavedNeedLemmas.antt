@@ -1,0 +1,127 @@
+-- What a saved pool needs, by its devices and runs.
+use Rattle.std.proofs.Common.{◌≡◌, ℕ, zero, suc, ◌+◌, ◌-◌, ◌^◌, ◌<◌, ◌≤◌, min, get_or, List, [], ◌∷◌, ◌++◌, length, map, take, drop, refl, ap, sym, subst, ◌∙◌, arith, length-drop}
+use Rattle.std.specs.List.{AllByRecursion, flat_map, range_with_len}
+use Rattle.std.proofs.lemmas.Grind.{flat_map-append}
+use Rattle.std.proofs.lemmas.List.{append-nil, map-append, nil_from_length, take-append-drop, take_all, take_more}
+use Rattle.std.proofs.lemmas.List.Sums.{sum_by-cons}
+use Rattle.pd_kinds.specs.Meaning.{Mapping, ThinDevice}
+use Rattle.pd_pool.specs.declared.joined.Run.{Run as SavedRun}
+use Rattle.pd_pool.specs.Joined.{spelled}
+use Rattle.pd_count.specs.Counted.{Counted}
+use Rattle.pd_devices.specs.Counts.{overflows_of}
+use Rattle.pd_devices.proofs.RunLemmas.{run_data}
+use Rattle.pd_spells.specs.Lawful.{AreMappings, AreDevices}
+use Rattle.pd_spells.specs.ThinNeed.{need_of_devices, overflows_in, thin_need}
+use Rattle.pd_spells.specs.ThinText.{HasMappings, Run, device_of_part, mappings_from, mappings_of}
+use Rattle.pd_salvage.specs.declared.saved.SavedDevice.{SavedDevice}
+use Rattle.pd_salvage.specs.declared.saved.SavedHead.{SavedHead}
+use Rattle.pd_salvage.specs.Saved.{IsSavedPool, SavedPool, parts_of, pool_of, runs_of_devices}
+use Rattle.pd_restore.specs.Thrice.{HasCountedThrice, data_of_runs}
+use Rattle.pd_restore.proofs.SavedTextLemmas.{have_mappings}
+use Rattle.pd_restore.proofs.ThriceLemmas.{over_listed}
+
+-- a run's data blocks are in the pool
+run_within : (blocks least v d t n : ℕ) (rest : List Mapping) → AreMappings blocks least (mappings_from v d t n ++ rest) → 1 ≤ n → d + n ≤ blocks
+run_within blocks least v d t zero rest are some = absurd (omega arith)
+run_within blocks least v d t (suc zero) rest are some = let first = are.0 in omega arith
+run_within blocks least v d t (suc (suc n)) rest are some =
+    let later = run_within blocks (v + 1) (suc v) (suc d) t (suc n) rest are.1 (omega arith) in omega arith
+
+after_run : (blocks least v d t n : ℕ) (rest : List Mapping) → AreMappings blocks least (mappings_from v d t n ++ rest) → (next : ℕ) × AreMappings blocks next rest
+after_run blocks least v d t zero rest are = (least, are)
+after_run blocks least v d t (suc n) rest are = after_run blocks (v + 1) (suc v) (suc d) t n rest are.1
+
+abbrev pub IsWithin : ℕ → SavedRun → Type 0
+IsWithin blocks r = r.target + r.length ≤ blocks
+
+part_within : (blocks least : ℕ) (runs : List SavedRun) → AreMappings blocks least (flat_map mappings_of (map spelled runs))
+    → AllByRecursion (λ (r : Run). 1 ≤ r.length) (map spelled runs) → AllByRecursion (IsWithin blocks) runs
+part_within blocks least [] are some = tt
+part_within blocks least (r ∷ runs) are some =
+    let later = after_run blocks least r.virt r.target r.time r.length (flat_map mappings_of (map spelled runs)) are in (
+      run_within blocks least r.virt r.target r.time r.length (flat_map mappings_of (map spelled runs)) are some.0,
+      part_within blocks later.0 runs later.1 some.1,
+    )
+
+all_append : {A : Type 0} (P : A → Type 0) (xs ys : List A) → AllByRecursion P xs → AllByRecursion P ys → AllByRecursion P (xs ++ ys)
+all_append P [] ys first second = second
+all_append P (x ∷ xs) ys first second = (first.0, all_append P xs ys first.1 second)
+
+-- the runs behind those of the first device are those of the others
+others : (d : SavedDevice) (ds : List SavedDevice) (runs : List SavedRun) → runs_of_devices (d ∷ ds) ≡ length runs → runs_of_devices ds ≡ length (drop d.runs runs)
+others d ds runs number = omega (arith, number, sum_by-cons (λ (d : SavedDevice). d.runs) d ds, length-drop d.runs runs)
+
+parts_within : (blocks least : ℕ) (ds : List SavedDevice) (runs : List SavedRun) → AreDevices blocks least (map device_of_part (parts_of ds runs))
+    → AllByRecursion HasMappings (parts_of ds runs) → runs_of_devices ds ≡ length runs → AllByRecursion (IsWithin blocks) runs
+parts_within blocks least [] runs are have number = rw (nil_from_length runs (sym number)) tt
+parts_within blocks least (d ∷ ds) runs are have number =
+    subst (AllByRecursion (IsWithin blocks)) (take-append-drop d.runs runs)
+    (all_append (IsWithin blocks) (take d.runs runs) (drop d.runs runs) (part_within blocks 0 (take d.runs runs) are.0.mappings have.0)
+    (parts_within blocks (d.id + 1) ds (drop d.runs runs) are.1 have.1 (others d ds runs number)))
+
+-- the runs of a saved pool are in it
+pub runs_within : (saved : SavedPool) → IsSavedPool saved → AllByRecursion (IsWithin saved.head.blocks) saved.runs
+unfolding pool_of
+runs_within saved sound =
+    parts_within saved.head.blocks 0 saved.devices saved.runs sound.lawful.devices (have_mappings (parts_of saved.devices saved.runs) sound.joined) sound.number
+
+part_data : (runs : List SavedRun) → map (λ (x : Mapping). x.data_block) (flat_map mappings_of (map spelled runs)) ≡ data_of_runs runs
+part_data [] = refl
+part_data (r ∷ runs) =
+    map-append (λ (x : Mapping). x.data_block) (mappings_from r.virt r.target r.time r.length) (flat_map mappings_of (map spelled runs))
+    ∙ (ap (λ (blocks : List ℕ). blocks ++ map (λ (x : Mapping). x.data_block) (flat_map mappings_of (map spelled runs))) (run_data r.virt r.target r.time r.length)
+    ∙ ap (λ (blocks : List ℕ). range_with_len r.target r.length ++ blocks) (part_data runs))
+
+parts_data : (ds : List SavedDevice) (runs : List SavedRun) → runs_of_devices ds ≡ length runs
+    → flat_map (λ (d : ThinDevice). map (λ (x : Mapping). x.data_block) d.mappings) (map device_of_part (parts_of ds runs)) ≡ data_of_runs runs
+parts_data [] runs number = rw (nil_from_length runs (sym number)) refl
+parts_data (d ∷ ds) runs number =
+    ap (λ (blocks : List ℕ). blocks ++ flat_map (λ (d : ThinDevice). map (λ (x : Mapping). x.data_block) d.mappings) (map device_of_part (parts_of ds (drop d.runs runs)))) (part_data (take d.runs runs))
+    ∙ (ap (λ (blocks : List ℕ). data_of_runs (take d.runs runs) ++ blocks) (parts_data ds (drop d.runs runs) (others d ds runs number))
+    ∙ (sym (flat_map-append (λ (r : SavedRun). range_with_len r.target r.length) (take d.runs runs) (drop d.runs runs))
+    ∙ ap data_of_runs (take-append-drop d.runs runs)))
+
+parts_mapped : (ds : List SavedDevice) (runs : List SavedRun) → map (λ (d : ThinDevice). d.mapped) (map device_of_part (parts_of ds runs)) ≡ map (λ (d : SavedDevice). d.details.mapped) ds
+parts_mapped [] runs = refl
+parts_mapped (d ∷ ds) runs = ap (λ (numbers : List ℕ). d.details.mapped ∷ numbers) (parts_mapped ds (drop d.runs runs))
+
+-- its need, by the mapped numbers of its devices and the data blocks of its runs
+pub need_is : (saved : SavedPool) → IsSavedPool saved → (room : ℕ)
+    → need_of_devices (map (λ (d : SavedDevice). d.details.mapped) saved.devices) saved.head.blocks (overflows_in (data_of_runs saved.runs) saved.head.blocks) room ≡ thin_need (pool_of saved) room
+unfolding pool_of thin_need
+need_is saved sound room =
+    rw (sym (parts_mapped saved.devices saved.runs), sym (parts_data saved.devices saved.runs sound.number)) refl
+
+-- each run is in the pool
+pub within_at : (blocks : ℕ) (runs : List SavedRun) (i : ℕ) (d : SavedRun) → AllByRecursion (IsWithin blocks) runs → i < length runs
+    → (get_or runs i d).target + (get_or runs i d).length ≤ blocks
+within_at blocks [] i d all within = absurd (omega arith)
+within_at blocks (r ∷ runs) zero d all within = all.0
+within_at blocks (r ∷ runs) (suc i) d all within = within_at blocks runs i d all.1 (omega arith)
+
+-- one run more
+pub data_more : (runs : List SavedRun) (i : ℕ) (d : SavedRun) → i < length runs
+    → data_of_runs (take (i + 1) runs) ≡ data_of_runs (take i runs) ++ range_with_len (get_or runs i d).target (get_or runs i d).length
+data_more runs i d within =
+    let r = get_or runs i d in
+    ap data_of_runs (take_more runs i d within)
+    ∙ (flat_map-append (λ (r : SavedRun). range_with_len r.target r.length) (take i runs) (r ∷ [])
+    ∙ ap (λ (blocks : List ℕ). data_of_runs (take i runs) ++ blocks) (append-nil (range_with_len r.target r.length)))
+
+-- all runs were counted
+pub over_of_all : (counts : Counted) (runs : List SavedRun) (i blocks : ℕ) → length runs ≤ i → counts.size ≡ blocks → HasCountedThrice counts (data_of_runs (take i runs))
+    → overflows_of counts counts.size ≡ overflows_in (data_of_runs runs) blocks
+over_of_all counts runs i blocks all size counted =
+    ap (overflows_of counts) size
+    ∙ (over_listed counts (data_of_runs (take i runs)) blocks counted ∙ ap (λ (rs : List SavedRun). overflows_in (data_of_runs rs) blocks) (take_all i runs all))
+
+-- a need that is below the end of its type is the pool's
+pub need_exact : (saved : SavedPool) → IsSavedPool saved → (head : SavedHead) (mapped : List ℕ) (over room need : ℕ) → head ≡ saved.head
+    → mapped ≡ map (λ (d : SavedDevice). d.details.mapped) saved.devices → over ≡ overflows_in (data_of_runs saved.runs) saved.head.blocks
+    → need ≡ min (need_of_devices mapped head.blocks over room) (2 ^ 64 - 1) → need < 2 ^ 64 - 1 → need ≡ thin_need (pool_of saved) room
+need_exact saved sound head mapped over room need same numbers thrice is fits =
+    below need (need_of_devices mapped head.blocks over room) is fits
+    ∙ (rw (same, numbers, thrice) refl ∙ need_is saved sound room)
+  where
+    below : (n m : ℕ) → n ≡ min m (2 ^ 64 - 1) → n < 2 ^ 64 - 1 → n ≡ m
+    below n m is fits = omega arith

@@ -1,0 +1,100 @@
+-- The text of a saved pool: what it spells, and its lines from a place on.
+use Rattle.std.proofs.Common.{◌≡◌, inl, inr, ℕ, zero, suc, ◌+◌, ◌-◌, ◌<◌, ◌≤◌, true, false, ltb, List, [], ◌∷◌, ◌++◌, length, map, take, drop, drop-cons, add-one, get_or, refl, ap, sym, subst, ◌∙◌, arith, lit≤}
+use Rattle.std.specs.List.{AllByRecursion, flat_map}
+use Rattle.std.proofs.lemmas.Bool.{cases_Bool, ltb-true, ltb-false}
+use Rattle.std.proofs.lemmas.List.{drop-drop, drop_all}
+use Rattle.pd_kinds.specs.Meaning.{Mapping}
+use Rattle.pd_pool.specs.declared.joined.Run.{Run as SavedRun}
+use Rattle.pd_pool.specs.Joined.{spelled}
+use Rattle.pd_spells.specs.ThinText.{device_line, map_line, pool_line, Part, Run, HasMappings, SpellsPool, follows, head_of, joined_runs, lines_of_part, lines_of_parts, mappings_of, with_mapping}
+use Rattle.pd_salvage.specs.declared.saved.SavedDevice.{SavedDevice}
+use Rattle.pd_salvage.specs.declared.saved.SavedHead.{SavedHead}
+use Rattle.pd_salvage.specs.Saved.{IsJoined, IsSavedPool, SavedPool, parts_of, pool_of}
+use Rattle.pd_texts.specs.Made.{made_text}
+use Rattle.pd_texts.specs.ThinLine.{details_of}
+use Rattle.pd_restore.specs.declared.saved_lines.Place.TheVariants.{Head}
+use Rattle.pd_restore.specs.SavedLines.{lines_at, lines_from, words_of_head}
+
+-- each run of the joined ones has a mapping
+with_mapping_some : (m : Mapping) (rs : List Run) → AllByRecursion (λ (r : Run). 1 ≤ r.length) rs → AllByRecursion (λ (r : Run). 1 ≤ r.length) (with_mapping m rs)
+with_mapping_some m [] all = (lit≤ tt, tt)
+with_mapping_some m (r ∷ rs) all = elim (cases_Bool (follows m r)) [
+  | inl e ↦ rw e (omega arith, all.1)
+  | inr e ↦ rw e (lit≤ tt, all)
+]
+
+joined_some : (ms : List Mapping) → AllByRecursion (λ (r : Run). 1 ≤ r.length) (joined_runs ms)
+joined_some [] = tt
+joined_some (m ∷ ms) = with_mapping_some m (joined_runs ms) (joined_some ms)
+
+pub have_mappings : (parts : List Part) → AllByRecursion IsJoined parts → AllByRecursion HasMappings parts
+have_mappings [] joined = tt
+have_mappings (p ∷ parts) joined =
+    (subst (λ (rs : List Run). AllByRecursion (λ (r : Run). 1 ≤ r.length) rs) joined.0 (joined_some (flat_map mappings_of p.runs)), have_mappings parts joined.1)
+
+-- the text of a saved pool spells the pool
+pub saved_spells : (saved : SavedPool) → IsSavedPool saved → SpellsPool (made_text (lines_from saved Head)) (pool_of saved)
+unfolding pool_of
+saved_spells saved sound = record {
+  lines = lines_of_parts (head_of (pool_of saved)) (parts_of saved.devices saved.runs);
+  bytes = refl;
+  means = record {
+    parts = parts_of saved.devices saved.runs;
+    lines_are = refl;
+    devices = refl;
+    runs = have_mappings (parts_of saved.devices saved.runs) sound.joined;
+    lawful = sound.lawful;
+  };
+}
+
+-- a run, and what comes after it
+pub run_first : (devices : List SavedDevice) (runs : List SavedRun) (device run left : ℕ) (r : SavedRun) → 0 < left → drop run runs ≡ r ∷ drop (run + 1) runs
+    → lines_at devices runs device run left ≡ map_line (spelled r) ∷ lines_at devices runs device (run + 1) (left - 1)
+unfolding lines_at
+run_first devices runs device run zero r some there = absurd (omega arith)
+run_first devices runs device run (suc left) r some there =
+    let next : run + suc left ≡ run + 1 + left = omega arith in
+    let less : suc left - 1 ≡ left = omega arith in
+    rw (there, next, less) refl
+
+-- where no run is left, the devices come
+pub no_run : (devices : List SavedDevice) (runs : List SavedRun) (device run left : ℕ) → drop run runs ≡ []
+    → lines_at devices runs device run left ≡ lines_at devices runs device run 0
+unfolding lines_at
+no_run devices runs device run left none =
+    let zeros : run + 0 ≡ run = omega arith in
+    rw (sym (drop-drop left run runs), zeros, none) (both left)
+  where
+    both : (left : ℕ) → map map_line (map spelled (take left [])) ++ flat_map lines_of_part (parts_of (drop device devices) (drop left []))
+        ≡ flat_map lines_of_part (parts_of (drop device devices) [])
+    both zero = refl
+    both (suc left) = refl
+
+-- a device, and what comes after it
+pub device_first : (devices : List SavedDevice) (runs : List SavedRun) (device run : ℕ) (d : SavedDevice) → drop device devices ≡ d ∷ drop (device + 1) devices
+    → lines_at devices runs device run 0 ≡ device_line (details_of d.id d.details) ∷ lines_at devices runs (device + 1) run d.runs
+unfolding lines_at
+device_first devices runs device run d there =
+    let zeros : run + 0 ≡ run = omega arith in
+    rw (there, zeros, sym (drop-drop d.runs run runs)) refl
+
+-- where no device is left, no line is
+pub no_device : (devices : List SavedDevice) (runs : List SavedRun) (device run : ℕ) → drop device devices ≡ [] → lines_at devices runs device run 0 ≡ []
+unfolding lines_at
+no_device devices runs device run none = rw none refl
+
+-- the pool's line, and all lines after it
+pub head_first : (saved : SavedPool) (head : SavedHead) → head ≡ saved.head
+    → lines_from saved Head ≡ pool_line (words_of_head head) ∷ lines_at saved.devices saved.runs 0 0 0
+unfolding lines_at
+head_first saved head same = rw same refl
+
+-- what is at a place comes first from there on
+pub drop_there : {A : Type 0} (xs : List A) (i : ℕ) (x : A) → true ≡ ltb i (length xs) → x ≡ get_or xs i x → drop i xs ≡ x ∷ drop (i + 1) xs
+drop_there {A} xs i x within there =
+    let below : i < length xs = ltb-true i (length xs) (sym within) in
+    rw add-one (drop-cons xs i x below ∙ ap (λ (y : A). y ∷ drop (suc i) xs) (sym there))
+
+-- and past the end nothing
+pub drop_past : {A : Type 0} (xs : List A) (i : ℕ) → false ≡ ltb i (length xs) → drop i xs ≡ []
+drop_past xs i past = drop_all i xs (ltb-false i (length xs) (sym past))

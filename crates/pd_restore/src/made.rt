@@ -1,0 +1,99 @@
+//! A pool that is held in memory, written to a device.
+
+ghost use Rattle.std.specs.Prelude.{◌≡◌, ◌≤◌, ℕ, IfSome};
+ghost use Rattle.pd_kinds.specs.Limits.{room_of};
+ghost use Rattle.pd_kinds.specs.Meaning.{ThinPool};
+ghost use Rattle.pd_image.specs.Device.{IsWritable, KeepsPlace};
+ghost use Rattle.pd_grammar.specs.Spelling.{Verdict, accepted};
+ghost use Rattle.pd_salvage.specs.Saved.{pool_of};
+ghost use Rattle.pd_spells.specs.ThinNeed.{IsThinVerdict, thin_need};
+ghost use Rattle.pd_texts.specs.Made.{made_state};
+ghost use Rattle.pd_restore.specs.Made.{CountsMade, IsMadeOf, ending_of};
+
+use crate::saved_lines::SavedLines;
+use crate::saved_need::need_of_saved;
+use crate::thin::restore_thin;
+use pd_image::{Device, Source};
+use pd_kinds::MAX_META_BLOCKS;
+use pd_restoring::RestoreFault;
+use pd_salvage::Salvage;
+use pd_spells::{thin_text_has_one_verdict, thin_text_is_accepted_where_there_is_room};
+use pd_texts::MadeSource;
+use std::alloc::Global;
+
+/// Why a pool wasn't written.
+#[derive(Clone, Copy, Debug, PartialEq, Eq)]
+pub enum MadeFault {
+    /// There wasn't enough memory.
+    Memory,
+    /// The device has failed.
+    Device,
+    /// There is no room: so many blocks are needed, and there are so many.
+    NoRoom { need: u64, blocks: u64 },
+}
+
+/// Writes a pool that is held in memory to a device, as a restore of its text does.
+///
+/// The room is looked at before the device is written, of which at most 4161600 blocks are used. It takes the memory of
+/// counts of the data blocks, and then that of a restore.
+///
+/// Fails with `NoRoom` where the pool needs more blocks than there are, with `Memory` where memory wasn't found, or the
+/// need isn't below 2^64 - 1, and with `Device` where the device failed. After want of room the device is as it was, and
+/// after want of memory it is as it was, or has no valid superblock.
+pub fn restore_made<D: Device>(
+    alloc: Global,
+    saved: Salvage,
+    dev: &mut D,
+) -> Result<(), MadeFault>
+    requires { IsWritable (D.state dev.old) }
+    ensures made { IsMadeOf (pool_of saved) (ending_of result) (D.state dev.old) (D.state dev.new) }
+    ensures place { KeepsPlace (D.state dev.old) (D.state dev.new) }
+    ensures causes { CountsMade result (D.state dev.old).faults (D.state dev.new).faults }
+{
+    let room = dev.blocks().min(MAX_META_BLOCKS);
+    let Some(need) = need_of_saved(alloc, &saved, room) else {
+        return Err(MadeFault::Memory);
+    };
+    if need > room {
+        return Err(MadeFault::NoRoom { need, blocks: room });
+    }
+    restore_saved(alloc, saved, dev)
+}
+
+/// Writes a pool for which there is room.
+fn restore_saved<D: Device>(alloc: Global, saved: Salvage, dev: &mut D) -> Result<(), MadeFault>
+    requires writable { IsWritable (D.state dev.old) }
+    requires room { thin_need (pool_of saved) (room_of (D.state dev.old).blocks) ≤ room_of (D.state dev.old).blocks }
+    ensures made { IsMadeOf (pool_of saved) (ending_of result) (D.state dev.old) (D.state dev.new) }
+    ensures place { KeepsPlace (D.state dev.old) (D.state dev.new) }
+    ensures causes { CountsMade result (D.state dev.old).faults (D.state dev.new).faults }
+{
+    let mut source = text_of_saved(saved);
+    match restore_thin(alloc, &mut source, dev) {
+        Ok(()) => Ok(()),
+        Err(fault) => match fault {
+            RestoreFault::Memory => Err(MadeFault::Memory),
+            RestoreFault::Device => Err(MadeFault::Device),
+            RestoreFault::Source => unreachable!(),
+            RestoreFault::Text(_) => unreachable!(),
+            RestoreFault::NoRoom { .. } => unreachable!(),
+        },
+    }
+}
+
+/// The text of a pool, attached: where there is room for the pool, it is accepted.
+fn text_of_saved(saved: Salvage) -> MadeSource<SavedLines>
+    ensures attached { (made_state result).access ≡ 1 }
+    ensures only { (room : ℕ) (verdict : Verdict ThinPool) → thin_need (pool_of saved) room ≤ room
+        → IfSome (made_state result).left (λ text. IsThinVerdict text room verdict) → verdict ≡ accepted (pool_of saved) }
+{
+    thin_text_is_accepted_where_there_is_room();
+    thin_text_has_one_verdict();
+    // What was saved is a lawful pool.
+    let _ = saved.head();
+    let mut source = MadeSource::new(SavedLines::new(saved));
+    if source.attach("").is_err() {
+        unreachable!();
+    }
+    source
+}
