@@ -1,13 +1,17 @@
 -- The headline over any terms, put together from what the work of a request ensures.
-use Rattle.std.proofs.Common.{◌≡◌, inl, inr, ℕ, ◌≤◌, List, [], ◌∷◌, Option, IfSome, refl, ap, ◌∙◌, arith, lit≤}
+use Rattle.std.proofs.Common.{◌≡◌, ◌≢◌, inl, inr, ℕ, ◌≤◌, List, [], ◌∷◌, Option, IfSome, Result, Ok, Err, refl, ap, ◌∙◌, arith, lit≤}
+use Rattle.std.specs.Prelude.{MatchResult}
 use Rattle.pd_kinds.specs.Objects.{DeviceState, SourceState, SinkState, Rose, Appends, AppendsFront}
 use Rattle.pd_kinds.specs.Crash.{IsUntouched}
 use Rattle.pd_spells.specs.Lines.{device_line, sink_line, memory_line}
 use Rattle.pd_answers.specs.Answer.{Objects, AreFresh, NoFaults, DeviceRose, StreamRose, failure_line, Use, unused, reading, writing, IsUsed, AppendsFrontOfOne}
 use Rattle.pd_kinds.proofs.AppendLemmas.{appends_none, front_none, front_from_whole}
 use Rattle.pd_answers.specs.Terms.{Terms, Uses, AreKept, AreUsed, ComesAfter, IsKept, Changes, IsAnswered}
+use Rattle.pd_tools.specs.declared.ending.Ending.{Ending}
+use Rattle.pd_tools.specs.declared.ending.Ending.TheVariants.{Done, Faulty, Refused, NoRoom}
 use Rattle.pd_tools.specs.declared.stop.Stop.{Stop}
 use Rattle.pd_tools.specs.declared.stop.Stop.TheVariants.{Device, Stream, Memory}
+use Rattle.pd_tools.specs.Ending.{TellsEnd, ending_line, ending_status}
 use Rattle.pd_tools.specs.Stop.{stop_line, stop_status}
 use Rattle.pd_tools.specs.Work.{IsWork, IsFinished, IsStopped, IsFollowed, AreFollowed, HasCause}
 use Rattle.pd_tools.specs.Notes.{PutsLine, IsAttachedNotes}
@@ -268,3 +272,14 @@ module _ (terms : Terms) (before after : Objects) (attached : SinkState) (fresh 
             })
         | inr lost ↦ rw lost.status (answered_lost terms before after fresh stopped.finding (stop_status stop) stopped.work stopped.lost stopped.front notes_front (rw was.faults at lost.faults) notes)
       ]
+
+  -- the work ended, and its line was put, or it was stopped
+  pub answered_ended : (ended : Result Ending Stop) (status : ℕ)
+      → ((finding : terms.Finding) (status : ℕ) → status ≢ 0 → terms.leaves finding before after status → terms.leaves finding before after 6)
+      → MatchResult ended (λ ending. IsFinished terms before after (ending_status ending) (ending_line ending)) (IsStopped terms before after)
+      → TellsEnd ended status attached after.notes → IsAnswered terms before after status
+  answered_ended (Ok Done) status lost done tells = rw tells.0 (answered_silent 0 done tells.1)
+  answered_ended (Ok (Faulty report)) status lost done tells = answered_put 1 status _ done (lost done.finding 1 (λ e. omega arith) done.work.leaves) tells
+  answered_ended (Ok (Refused fault)) status lost done tells = answered_put 3 status _ done (lost done.finding 3 (λ e. omega arith) done.work.leaves) tells
+  answered_ended (Ok (NoRoom need blocks)) status lost done tells = answered_put 4 status _ done (lost done.finding 4 (λ e. omega arith) done.work.leaves) tells
+  answered_ended (Err stop) status lost stopped tells = answered_stopped stop status stopped tells

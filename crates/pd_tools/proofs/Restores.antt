@@ -2,7 +2,7 @@
 use Rattle.std.proofs.Common.{◌≡◌, ◌≢◌, ◌⊎◌, inl, inr, ℕ, ◌≤◌, Bool, List, [], length, Option, Some, None, IfSome, IsTrue, Result, Ok, Err, refl, sym, ap, ◌∙◌, subst, arith, lit≤}
 use Rattle.std.specs.Prelude.{OnOk, IsSome, MatchResult}
 use Rattle.std.specs.Option.{is_some, option_map_or}
-use Rattle.std.proofs.lemmas.Option.{IfSome_then, same_Some}
+use Rattle.std.proofs.lemmas.Option.{IfSome_then}
 use Rattle.pd_kinds.specs.declared.kind.Kind.{Kind}
 use Rattle.pd_kinds.specs.declared.kind.Kind.TheVariants.{Thin, Cache, Era}
 use Rattle.pd_kinds.specs.Objects.{DeviceState, SourceState, SinkState, Rose}
@@ -31,13 +31,14 @@ use Rattle.pd_laid.specs.Made.{Makes}
 use Rattle.pd_restoring.specs.declared.fault.RestoreFault.{RestoreFault}
 use Rattle.pd_restoring.specs.declared.fault.RestoreFault.TheVariants as fault
 use Rattle.pd_restoring.specs.Restored.{IsRestored, Answers, IsAccepted, IsOfFirstLines, IsOfOthers, IsRefused, IsWithoutRoom}
-use Rattle.pd_tools.specs.declared.restore.Outcome.TheVariants.{Refused, NoRoom}
+use Rattle.pd_tools.specs.declared.ending.Ending.TheVariants.{Refused, NoRoom}
 use Rattle.pd_texts.specs.declared.fault.TextFault.{TextFault}
 use Rattle.pd_tools.proofs.Answered.{not_risen, stop_status-low}
 use Rattle.pd_tools.specs.declared.stop.Stop.{Stop}
 use Rattle.pd_tools.specs.declared.stop.Stop.TheVariants.{Device, Stream, Memory}
 use Rattle.pd_tools.specs.Stop.{stop_status}
-use Rattle.pd_tools.specs.Restore.{HaveVerdicts, TextsHaveVerdicts, IsRestoredAs, AreAttached, AreUnattached, FailedToAttach, outcome_status, outcome_line}
+use Rattle.pd_tools.specs.Ending.{ending_line, ending_status}
+use Rattle.pd_tools.specs.Restore.{HaveVerdicts, TextsHaveVerdicts, IsRestoredAs, AreAttached, AreUnattached, FailedToAttach}
 use Rattle.pd_tools.specs.Work.{IsStopped, IsFinished, HasCause}
 
 abbrev pub Image : Type 0
@@ -131,13 +132,13 @@ early_line why (refused refusal) is early = rw is at early
 early_line why (no_room needed blocks) is early = absurd is
 
 answer_refused : {M : Type 0} (why : TextFault) (v : Verdict M) → IsRefused why v
-    → restore_answer v ≡ record { status = 3; out = []; notes = outcome_line (Refused why) }
+    → restore_answer v ≡ record { status = 3; out = []; notes = ending_line (Refused why) }
 answer_refused why (accepted m) is = absurd is
 answer_refused why (refused refusal) is = rw is refl
 answer_refused why (no_room needed blocks) is = absurd is
 
 pub answer_no_room : {M : Type 0} (need room : ℕ) (v : Verdict M) → IsWithoutRoom need room v
-    → restore_answer v ≡ record { status = 4; out = []; notes = outcome_line (NoRoom need room) }
+    → restore_answer v ≡ record { status = 4; out = []; notes = ending_line (NoRoom need room) }
 answer_no_room need room (accepted m) is = absurd is
 answer_no_room need room (refused refusal) is = absurd is
 answer_no_room need room (no_room needed blocks) is = rw (is.0, is.1) refl
@@ -317,7 +318,7 @@ module _ {M : Type 0} (Lawful : M → Type 0) (IsVerdictOn : List ℕ → ℕ �
 
   pub refuses : (why : TextFault) → result ≡ Err (fault.Text why)
       → IsFinished (restore_by IsVerdictOn is_early laid file path) (record others { source = source; output = output })
-      (record others { source = last_source; notes = notes; output = last_output }) (outcome_status (Refused why)) (outcome_line (Refused why))
+      (record others { source = last_source; notes = notes; output = last_output }) (ending_status (Refused why)) (ending_line (Refused why))
   refuses why is =
       let answer : IsRefused why done.verdict = subst (λ (r : Result (Unit {0}) RestoreFault). Answers Lawful r done.verdict) is done.answer in
       let held = spared (fault.Text why) is tt in
@@ -327,7 +328,7 @@ module _ {M : Type 0} (Lawful : M → Type 0) (IsVerdictOn : List ℕ → ℕ �
 
   pub lacks_room : (need blocks : ℕ) → result ≡ Err (fault.NoRoom need blocks)
       → IsFinished (restore_by IsVerdictOn is_early laid file path) (record others { source = source; output = output })
-      (record others { source = last_source; notes = notes; output = last_output }) (outcome_status (NoRoom need blocks)) (outcome_line (NoRoom need blocks))
+      (record others { source = last_source; notes = notes; output = last_output }) (ending_status (NoRoom need blocks)) (ending_line (NoRoom need blocks))
   lacks_room need blocks is =
       let held = spared (fault.NoRoom need blocks) is tt in
       finished 4 _ (lit≤ tt) refl (answer_no_room need blocks done.verdict (subst (λ (r : Result (Unit {0}) RestoreFault). Answers Lawful r done.verdict) is done.answer))
@@ -397,12 +398,12 @@ module _ (version : ℕ) (file path : List ℕ) (others : Objects) (notes : Sink
   made_as Cache done is = made IsLawfulCache (IsCacheVerdict version) (is_cache_early version) (λ m room. laid_cache m version room) file path others notes source attached last_source output opened last_output synced both measured place keeps result done is
   made_as Era done is = made IsLawfulEra IsEraVerdict is_era_early laid_era file path others notes source attached last_source output opened last_output synced both measured place keeps result done is
 
-  pub refuses_as : (kind : Kind) → IsDoneAs kind → (why : TextFault) → result ≡ Err (fault.Text why) → Finishes kind (outcome_status (Refused why)) (outcome_line (Refused why))
+  pub refuses_as : (kind : Kind) → IsDoneAs kind → (why : TextFault) → result ≡ Err (fault.Text why) → Finishes kind (ending_status (Refused why)) (ending_line (Refused why))
   refuses_as Thin done why is = refuses IsLawfulPool IsThinVerdict is_pool_early laid_pool file path others notes source attached last_source output opened last_output synced both measured place keeps result done why is
   refuses_as Cache done why is = refuses IsLawfulCache (IsCacheVerdict version) (is_cache_early version) (λ m room. laid_cache m version room) file path others notes source attached last_source output opened last_output synced both measured place keeps result done why is
   refuses_as Era done why is = refuses IsLawfulEra IsEraVerdict is_era_early laid_era file path others notes source attached last_source output opened last_output synced both measured place keeps result done why is
 
-  pub lacks_room_as : (kind : Kind) → IsDoneAs kind → (need blocks : ℕ) → result ≡ Err (fault.NoRoom need blocks) → Finishes kind (outcome_status (NoRoom need blocks)) (outcome_line (NoRoom need blocks))
+  pub lacks_room_as : (kind : Kind) → IsDoneAs kind → (need blocks : ℕ) → result ≡ Err (fault.NoRoom need blocks) → Finishes kind (ending_status (NoRoom need blocks)) (ending_line (NoRoom need blocks))
   lacks_room_as Thin done need blocks is = lacks_room IsLawfulPool IsThinVerdict is_pool_early laid_pool file path others notes source attached last_source output opened last_output synced both measured place keeps result done need blocks is
   lacks_room_as Cache done need blocks is = lacks_room IsLawfulCache (IsCacheVerdict version) (is_cache_early version) (λ m room. laid_cache m version room) file path others notes source attached last_source output opened last_output synced both measured place keeps result done need blocks is
   lacks_room_as Era done need blocks is = lacks_room IsLawfulEra IsEraVerdict is_era_early laid_era file path others notes source attached last_source output opened last_output synced both measured place keeps result done need blocks is

@@ -6,3 +6,4 @@ pub mod Work
 pub mod Query
 pub mod Rehearse
 pub mod Repair
+pub mod Ending

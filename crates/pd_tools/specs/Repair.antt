@@ -1,22 +1,8 @@
 -- What a repair does to its objects.
-use Rattle.std.specs.Prelude.{◌≡◌, ◌≢◌, ◌⊎◌, ℕ, List, [], IfSome}
+use Rattle.std.specs.Prelude.{◌≡◌, ◌≢◌, ◌⊎◌, List, ℕ, IfSome}
 use Rattle.pd_kinds.specs.Objects.{DeviceState, Rose}
 use Rattle.pd_kinds.specs.Crash.{IsUntouched}
-use Rattle.pd_spells.specs.Lines.{no_room_line, reported_lines}
 use Rattle.pd_answers.specs.Answer.{IsUsed, reading, writing}
-use Rattle.pd_tools.specs.declared.repair.Repaired.{Repaired}
-use Rattle.pd_tools.specs.declared.repair.Repaired.TheVariants.{Made, Faulty, NoRoom}
-
--- the status of what became of a repair, and what goes to `notes`
-abbrev pub repaired_status : Repaired → ℕ
-repaired_status Made = 0
-repaired_status (Faulty report) = 1
-repaired_status (NoRoom need blocks) = 4
-
-abbrev pub repaired_line : Repaired → List ℕ
-repaired_line Made = []
-repaired_line (Faulty report) = reported_lines report
-repaired_line (NoRoom need blocks) = no_room_line need blocks
 
 -- both devices were attached, under these paths, and otherwise left alone
 pub record AreOpened (from to : List ℕ) (input opened output writable : DeviceState) : Type 0 where

@@ -1,5 +1,5 @@
 -- What a restore does to its objects, for each kind.
-use Rattle.std.specs.Prelude.{◌≡◌, ◌≢◌, ℕ, List, [], Result, IfSome}
+use Rattle.std.specs.Prelude.{◌≡◌, ◌≢◌, ℕ, List, Result, IfSome}
 use Rattle.pd_kinds.specs.declared.kind.Kind.{Kind}
 use Rattle.pd_kinds.specs.declared.kind.Kind.TheVariants.{Thin, Cache, Era}
 use Rattle.pd_kinds.specs.Objects.{DeviceState, SourceState, Rose}
@@ -9,7 +9,6 @@ use Rattle.pd_spells.specs.Lawful.{IsLawfulPool, IsLawfulCache, IsLawfulEra}
 use Rattle.pd_spells.specs.ThinNeed.{IsThinVerdict}
 use Rattle.pd_spells.specs.CacheNeed.{IsCacheVerdict}
 use Rattle.pd_spells.specs.EraNeed.{IsEraVerdict}
-use Rattle.pd_spells.specs.Lines as lines
 use Rattle.pd_laid.specs.LaidThin.{laid_pool}
 use Rattle.pd_laid.specs.LaidCache.{laid_cache}
 use Rattle.pd_laid.specs.LaidEra.{laid_era}
@@ -17,8 +16,6 @@ use Rattle.pd_answers.specs.Answer.{IsUsed, reading, writing}
 use Rattle.pd_spells.specs.Early.{is_pool_early, is_cache_early, is_era_early}
 use Rattle.pd_restoring.specs.declared.fault.RestoreFault.{RestoreFault}
 use Rattle.pd_restoring.specs.Restored.{IsRestored}
-use Rattle.pd_tools.specs.declared.restore.Outcome.{Outcome}
-use Rattle.pd_tools.specs.declared.restore.Outcome.TheVariants.{Made, Refused, NoRoom}
 use Rattle.pd_tools.specs.declared.stop.Stop.{Stop}
 use Rattle.pd_tools.specs.declared.stop.Stop.TheVariants.{Device, Stream, Memory}
 
@@ -37,17 +34,6 @@ IsRestoredAs Thin version = IsRestored IsLawfulPool IsThinVerdict is_pool_early 
 IsRestoredAs Cache version =
     IsRestored IsLawfulCache (IsCacheVerdict version) (is_cache_early version) (λ m room. laid_cache m version room)
 IsRestoredAs Era version = IsRestored IsLawfulEra IsEraVerdict is_era_early laid_era
-
--- the status of an outcome, and its line
-abbrev pub outcome_status : Outcome → ℕ
-outcome_status Made = 0
-outcome_status (Refused fault) = 3
-outcome_status (NoRoom need blocks) = 4
-
-abbrev pub outcome_line : Outcome → List ℕ
-outcome_line Made = []
-outcome_line (Refused fault) = lines.refusal_line (record { line = fault.line; cause = fault.cause })
-outcome_line (NoRoom need blocks) = lines.no_room_line need blocks
 
 -- both objects were attached, under these paths, and otherwise left alone
 pub record AreAttached (file path : List ℕ) (source attached : SourceState) (output opened : DeviceState) : Type 0 where

@@ -4,6 +4,7 @@
 mod check;
 mod clear;
 mod dumps;
+mod ending;
 mod generate;
 mod notes;
 mod query;

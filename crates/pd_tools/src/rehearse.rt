@@ -4,30 +4,17 @@ ghost use Rattle.std.specs.Prelude.{◌≡◌, ◌≤◌, [], OnOk, MatchResult}
 ghost use Rattle.pd_kinds.specs.Objects.{CountsFault, Appends, AppendsFront, SinkState};
 ghost use Rattle.pd_answers.specs.Answer.{Objects, IsUsed, reading};
 ghost use Rattle.pd_answers.specs.Rehearsals.{rehearse};
-ghost use Rattle.pd_tools.specs.Rehearse.{line_of, rehearsed_line, rehearsed_status};
+ghost use Rattle.pd_tools.specs.Ending.{ending_line, ending_status};
+ghost use Rattle.pd_tools.specs.Rehearse.{line_of};
 ghost use Rattle.pd_tools.specs.Work.{IsFinished, IsStopped, Answers};
 
-use crate::notes::put_line;
-use crate::query::put_faults;
-use crate::refusals::no_room_line;
+use crate::ending::{Ending, put_ending};
 use crate::stop::Stop;
 use pd_image::{Device, Failed, Sink};
-use pd_kinds::Report;
 use pd_lines::LineBuffer;
 use pd_rehearse::{Rehearsal, RehearseFault, rehearse};
 use pd_spells::thin_text_has_one_verdict;
 use std::alloc::Global;
-
-/// What becomes of a rehearsal.
-#[derive(Drop)]
-pub enum Rehearsed {
-    /// Its line was put.
-    Clean,
-    /// So many blocks are needed, and so many are there.
-    NoRoom { need: u64, blocks: u64 },
-    /// What was restored has faults.
-    Faulty(Report),
-}
 
 /// Rehearses with the generator's text of the number, over the image at the path.
 pub fn run_rehearse<K: Sink, E: Sink, B: Device>(
@@ -46,16 +33,8 @@ pub fn run_rehearse<K: Sink, E: Sink, B: Device>(
         (record others { out = K.state out.old; output = B.state output.old })
         (record others { out = K.state out.new; notes = E.state notes.new; output = B.state output.new }) result }
 {
-    match rehearse_image(alloc, number, image, out, output) {
-        Ok(rehearsed) => match rehearsed {
-            Rehearsed::Clean => 0,
-            Rehearsed::NoRoom { need, blocks } => {
-                put_line(notes, no_room_line(need, blocks).as_bytes(), 4)
-            }
-            Rehearsed::Faulty(report) => put_faults(&report, notes),
-        },
-        Err(stop) => stop.put(notes),
-    }
+    let ended = rehearse_image(alloc, number, image, out, output);
+    put_ending(ended, notes)
 }
 
 /// Attaches the image, rehearses over it, and puts the line.
@@ -65,14 +44,14 @@ fn rehearse_image<K: Sink, B: Device>(
     image: &str,
     out: &mut K,
     output: &mut B,
-) -> Result<Rehearsed, Stop>
+) -> Result<Ending, Stop>
     requires few { number ≤ 10000 }
     requires out { (K.state out.old).access ≡ 0 }
     requires output { (B.state output.old).access ≡ 0 }
     ensures { (others : Objects) (notes : SinkState) →
         let before = record others { out = K.state out.old; output = B.state output.old } in
         let after = record others { out = K.state out.new; notes = notes; output = B.state output.new } in
-        MatchResult result (λ rehearsed. IsFinished (rehearse number image.now) before after (rehearsed_status rehearsed) (rehearsed_line rehearsed))
+        MatchResult result (λ ending. IsFinished (rehearse number image.now) before after (ending_status ending) (ending_line ending))
         (IsStopped (rehearse number image.now) before after) }
 {
     thin_text_has_one_verdict();
@@ -85,12 +64,12 @@ fn rehearse_image<K: Sink, B: Device>(
         Err(fault) => match fault {
             RehearseFault::Memory => return Err(Stop::Memory),
             RehearseFault::Device => return Err(Stop::Device),
-            RehearseFault::NoRoom { need, blocks } => return Ok(Rehearsed::NoRoom { need, blocks }),
-            RehearseFault::Faulty(report) => return Ok(Rehearsed::Faulty(report)),
+            RehearseFault::NoRoom { need, blocks } => return Ok(Ending::NoRoom { need, blocks }),
+            RehearseFault::Faulty(report) => return Ok(Ending::Faulty(report)),
         },
     };
     match put_rehearsal(number, &rehearsal, out) {
-        Ok(()) => Ok(Rehearsed::Clean),
+        Ok(()) => Ok(Ending::Done),
         Err(_) => Err(Stop::Stream),
     }
 }

@@ -9,28 +9,16 @@ ghost use Rattle.pd_kinds.specs.RuleSet.{has_rule};
 ghost use Rattle.pd_image.specs.Device.{IsWritable};
 ghost use Rattle.pd_answers.specs.Answer.{Objects};
 ghost use Rattle.pd_answers.specs.Repairs.{repair};
-ghost use Rattle.pd_tools.specs.Repair.{AreOpened, AreUnopened, repaired_line, repaired_status};
+ghost use Rattle.pd_tools.specs.Ending.{ending_line, ending_status};
+ghost use Rattle.pd_tools.specs.Repair.{AreOpened, AreUnopened};
 ghost use Rattle.pd_tools.specs.Work.{IsFinished, IsStopped, Answers};
 
-use crate::notes::put_line;
-use crate::query::put_faults;
-use crate::refusals::no_room_line;
+use crate::ending::{Ending, put_ending};
 use crate::stop::Stop;
 use pd_image::{Device, Failed, Sink};
 use pd_kinds::{Report, Rules};
 use pd_repair::{RepairFault, repair_thin};
 use std::alloc::Global;
-
-/// What becomes of a repair.
-#[derive(Drop)]
-pub enum Repaired {
-    /// What can be saved was written.
-    Made,
-    /// The superblock of the input has faults.
-    Faulty(Report),
-    /// So many blocks are needed, and so many are there.
-    NoRoom { need: u64, blocks: u64 },
-}
 
 /// Writes what can be saved of the pool in the image at one path to the image at another. Where the superblock has
 /// faults, their report goes to `notes`.
@@ -49,16 +37,8 @@ pub fn run_repair<E: Sink, A: Device, B: Device>(
         (record others { input = A.state input.old; output = B.state output.old })
         (record others { notes = E.state notes.new; input = A.state input.new; output = B.state output.new }) result }
 {
-    match repair_image(alloc, from, to, input, output) {
-        Ok(repaired) => match repaired {
-            Repaired::Made => 0,
-            Repaired::Faulty(report) => put_faults(&report, notes),
-            Repaired::NoRoom { need, blocks } => {
-                put_line(notes, no_room_line(need, blocks).as_bytes(), 4)
-            }
-        },
-        Err(stop) => stop.put(notes),
-    }
+    let ended = repair_image(alloc, from, to, input, output);
+    put_ending(ended, notes)
 }
 
 /// Attaches both images, and repairs the one to the other.
@@ -68,13 +48,13 @@ fn repair_image<A: Device, B: Device>(
     to: &str,
     input: &mut A,
     output: &mut B,
-) -> Result<Repaired, Stop>
+) -> Result<Ending, Stop>
     requires input { (A.state input.old).access ≡ 0 }
     requires output { (B.state output.old).access ≡ 0 }
     ensures { (others : Objects) (notes : SinkState) → (B.state output.old).faults ≡ 0 →
         let before = record others { input = A.state input.old; output = B.state output.old } in
         let after = record others { notes = notes; input = A.state input.new; output = B.state output.new } in
-        MatchResult result (λ repaired. IsFinished (repair from.now to.now) before after (repaired_status repaired) (repaired_line repaired))
+        MatchResult result (λ ending. IsFinished (repair from.now to.now) before after (ending_status ending) (ending_line ending))
         (IsStopped (repair from.now to.now) before after) }
 {
     match open_both(from, to, input, output) {
@@ -109,24 +89,24 @@ fn repair_opened<A: Device, B: Device>(
     alloc: Global,
     input: &mut A,
     output: &mut B,
-) -> Result<Repaired, Stop>
+) -> Result<Ending, Stop>
     requires input { (A.state input.old).access ≡ 1 }
     requires output { IsWritable (B.state output.old) }
     ensures { (from to : List ℕ) (before_input before_output : DeviceState) (others : Objects) (notes : SinkState) →
         IsSynced before_output → before_output.faults ≡ 0 → AreOpened from to before_input (A.state input.old) before_output (B.state output.old) →
         let before = record others { input = before_input; output = before_output } in
         let after = record others { notes = notes; input = A.state input.new; output = B.state output.new } in
-        MatchResult result (λ repaired. IsFinished (repair from to) before after (repaired_status repaired) (repaired_line repaired))
+        MatchResult result (λ ending. IsFinished (repair from to) before after (ending_status ending) (ending_line ending))
         (IsStopped (repair from to) before after) }
 {
     match repair_thin(alloc, input, output) {
-        Ok(()) => Ok(Repaired::Made),
+        Ok(()) => Ok(Ending::Done),
         Err(fault) => match fault {
             RepairFault::Memory => Err(Stop::Memory),
             RepairFault::Input => Err(Stop::Device),
             RepairFault::Output => Err(Stop::Device),
-            RepairFault::NoSuper(rules) => Ok(Repaired::Faulty(report_of_rules(&rules))),
-            RepairFault::NoRoom { need, blocks } => Ok(Repaired::NoRoom { need, blocks }),
+            RepairFault::NoSuper(rules) => Ok(Ending::Faulty(report_of_rules(&rules))),
+            RepairFault::NoRoom { need, blocks } => Ok(Ending::NoRoom { need, blocks }),
         },
     }
 }

@@ -10,11 +10,11 @@ ghost use Rattle.pd_answers.specs.Answer.{Objects};
 ghost use Rattle.pd_answers.specs.Restores.{restore};
 ghost use Rattle.pd_restoring.specs.Restored.{CountsRestore};
 ghost use Rattle.pd_words.specs.Words.{IsVersion};
-ghost use Rattle.pd_tools.specs.Restore.{AreAttached, AreUnattached, IsRestoredAs, TextsHaveVerdicts, outcome_line, outcome_status};
+ghost use Rattle.pd_tools.specs.Ending.{ending_line, ending_status};
+ghost use Rattle.pd_tools.specs.Restore.{AreAttached, AreUnattached, IsRestoredAs, TextsHaveVerdicts};
 ghost use Rattle.pd_tools.specs.Work.{IsFinished, IsStopped, Answers};
 
-use crate::notes::put_line;
-use crate::refusals::{no_room_line, refusal_line};
+use crate::ending::{Ending, put_ending};
 use crate::stop::Stop;
 use pd_image::{Device, Sink, Source};
 use pd_kinds::Kind;
@@ -23,19 +23,7 @@ use pd_restore_cache::restore_cache;
 use pd_restore_era::restore_era;
 use pd_restoring::RestoreFault;
 use pd_spells::{cache_text_has_one_verdict, era_text_has_one_verdict, thin_text_has_one_verdict};
-use pd_texts::TextFault;
 use std::alloc::Global;
-
-/// What becomes of a text.
-#[derive(Clone, Copy)]
-pub enum Outcome {
-    /// An image was made of it.
-    Made,
-    /// A line of it is refused.
-    Refused(TextFault),
-    /// So many blocks are needed, and so many are there.
-    NoRoom { need: u64, blocks: u64 },
-}
 
 /// Restores an image of this kind, and of a cache's version, from the text at a path.
 pub fn run_restore<S: Source, E: Sink, B: Device>(
@@ -56,16 +44,8 @@ pub fn run_restore<S: Source, E: Sink, B: Device>(
         (record others { source = S.state source.old; output = B.state output.old })
         (record others { source = S.state source.new; notes = E.state notes.new; output = B.state output.new }) result }
 {
-    match restore_image(alloc, kind, version, text, image, source, output) {
-        Ok(outcome) => match outcome {
-            Outcome::Made => 0,
-            Outcome::Refused(fault) => put_line(notes, refusal_line(&fault).as_bytes(), 3),
-            Outcome::NoRoom { need, blocks } => {
-                put_line(notes, no_room_line(need, blocks).as_bytes(), 4)
-            }
-        },
-        Err(stop) => stop.put(notes),
-    }
+    let ended = restore_image(alloc, kind, version, text, image, source, output);
+    put_ending(ended, notes)
 }
 
 /// Attaches the text and the image, and restores the one from the other.
@@ -77,7 +57,7 @@ fn restore_image<S: Source, B: Device>(
     image: &str,
     source: &mut S,
     output: &mut B,
-) -> Result<Outcome, Stop>
+) -> Result<Ending, Stop>
     requires version { IsVersion version }
     requires source { (S.state source.old).access ≡ 0 }
     requires output { (B.state output.old).access ≡ 0 }
@@ -85,7 +65,7 @@ fn restore_image<S: Source, B: Device>(
         let terms = restore kind version text.now image.now in
         let before = record others { source = S.state source.old; output = B.state output.old } in
         let after = record others { source = S.state source.new; notes = notes; output = B.state output.new } in
-        MatchResult result (λ outcome. IsFinished terms before after (outcome_status outcome) (outcome_line outcome))
+        MatchResult result (λ ending. IsFinished terms before after (ending_status ending) (ending_line ending))
         (IsStopped terms before after) }
 {
     texts_have_verdicts();
@@ -132,7 +112,7 @@ fn restore_attached<S: Source, B: Device>(
     version: u32,
     source: &mut S,
     output: &mut B,
-) -> Result<Outcome, Stop>
+) -> Result<Ending, Stop>
     requires version { IsVersion version }
     requires source { (S.state source.old).access ≡ 1 }
     requires output { IsWritable (B.state output.old) }
@@ -141,17 +121,17 @@ fn restore_attached<S: Source, B: Device>(
         let terms = restore kind version file path in
         let before = record others { source = before_source; output = before_output } in
         let after = record others { source = S.state source.new; notes = notes; output = B.state output.new } in
-        MatchResult result (λ outcome. IsFinished terms before after (outcome_status outcome) (outcome_line outcome))
+        MatchResult result (λ ending. IsFinished terms before after (ending_status ending) (ending_line ending))
         (IsStopped terms before after) }
 {
     match restore_kind(alloc, kind, version, source, output) {
-        Ok(()) => Ok(Outcome::Made),
+        Ok(()) => Ok(Ending::Done),
         Err(fault) => match fault {
             RestoreFault::Memory => Err(Stop::Memory),
             RestoreFault::Source => Err(Stop::Stream),
             RestoreFault::Device => Err(Stop::Device),
-            RestoreFault::Text(refused) => Ok(Outcome::Refused(refused)),
-            RestoreFault::NoRoom { need, blocks } => Ok(Outcome::NoRoom { need, blocks }),
+            RestoreFault::Text(refused) => Ok(Ending::Refused(refused)),
+            RestoreFault::NoRoom { need, blocks } => Ok(Ending::NoRoom { need, blocks }),
         },
     }
 }

@@ -1,27 +1,9 @@
-use Rattle.std.proofs.Common.{ℕ, List, refl, ◌∙◌, subst}
-use Rattle.pd_spells.specs.Lines.{reported_lines}
 use Rattle.pd_answers.specs.Rehearsals.{rehearse}
-use Rattle.pd_tools.specs.Notes.{PutsLine}
-use Rattle.pd_tools.proofs.Answered.{answered_silent, answered_put, answered_stopped}
+use Rattle.pd_tools.proofs.Answered.{answered_ended}
 use Rattle.pd_tools.proofs.Restores.{left_lost}
 use Rattle.pd_tools.proofs.rehearse.run_rehearse.Goals as goal
 
-pub returns-in-Clean : goal.returns-in-Clean
-returns-in-Clean g c others fresh was =
-    answered_silent (rehearse c.args.number c.args.image.now) _ _ _ fresh was 0 (rw c.in-Clean.is at (c.in-Ok.ensures others (g.E.Sink.state c.args.notes.now))) refl
-
-pub returns-in-NoRoom : goal.returns-in-NoRoom
-returns-in-NoRoom g c others fresh was =
-    let done = rw c.in-NoRoom.is at (c.in-Ok.ensures others (g.E.Sink.state c.put_line.new.notes)) in
-    answered_put (rehearse c.args.number c.args.image.now) _ _ _ fresh was 4 _ _ done (left_lost _ _ 4 _ _ done.work.leaves)
-    (subst (λ (line : List ℕ). PutsLine line 4 c.put_line.result (g.E.Sink.state c.args.notes.now) (g.E.Sink.state c.put_line.new.notes))
-    (c.as_bytes.ensures.bytes ∙ c.no_room_line.ensures) c.put_line.ensures)
-
-pub returns-in-Faulty : goal.returns-in-Faulty
-returns-in-Faulty g c others fresh was =
-    let done = rw c.in-Faulty.is at (c.in-Ok.ensures others (g.E.Sink.state c.put_faults.new.notes)) in
-    answered_put (rehearse c.args.number c.args.image.now) _ _ _ fresh was 1 _ (reported_lines c.in-Faulty.report) done (left_lost _ _ 1 _ _ done.work.leaves) c.put_faults.ensures
-
-pub returns-in-Err : goal.returns-in-Err
-returns-in-Err g c others fresh was =
-    answered_stopped (rehearse c.args.number c.args.image.now) _ _ _ fresh was c.in-Err.stop _ (c.in-Err.ensures others (g.E.Sink.state c.put.new.notes)) c.put.ensures
+pub returns : goal.returns
+returns g c others fresh was =
+    answered_ended (rehearse c.args.number c.args.image.now) _ _ _ fresh was c.rehearse_image-ended.result c.put_ending.result
+    (λ found status some left. left_lost _ _ status _ _ left) (c.rehearse_image-ended.ensures others (g.E.Sink.state c.put_ending.new.notes)) c.put_ending.ensures

@@ -1,0 +1,30 @@
+-- How the work of a tool ends.
+use Rattle.std.specs.Prelude.{◌≡◌, ℕ, List, [], Result, Ok, Err}
+use Rattle.pd_kinds.specs.Objects.{SinkState}
+use Rattle.pd_spells.specs.Lines.{no_room_line, refusal_line, reported_lines}
+use Rattle.pd_tools.specs.declared.ending.Ending.{Ending}
+use Rattle.pd_tools.specs.declared.ending.Ending.TheVariants.{Done, Faulty, Refused, NoRoom}
+use Rattle.pd_tools.specs.declared.stop.Stop.{Stop}
+use Rattle.pd_tools.specs.Notes.{PutsLine}
+use Rattle.pd_tools.specs.Stop.{stop_line, stop_status}
+
+-- the status of an ending, and what goes to `notes`
+abbrev pub ending_status : Ending → ℕ
+ending_status Done = 0
+ending_status (Faulty report) = 1
+ending_status (Refused fault) = 3
+ending_status (NoRoom need blocks) = 4
+
+abbrev pub ending_line : Ending → List ℕ
+ending_line Done = []
+ending_line (Faulty report) = reported_lines report
+ending_line (Refused fault) = refusal_line (record { line = fault.line; cause = fault.cause })
+ending_line (NoRoom need blocks) = no_room_line need blocks
+
+-- the line was put, and the status is that of the ending; or `notes` failed
+abbrev pub TellsEnd : Result Ending Stop → ℕ → SinkState → SinkState → Type 0
+TellsEnd (Ok Done) status old new = (status ≡ 0) × (new ≡ old)
+TellsEnd (Ok (Faulty report)) status old new = PutsLine (ending_line (Faulty report)) 1 status old new
+TellsEnd (Ok (Refused fault)) status old new = PutsLine (ending_line (Refused fault)) 3 status old new
+TellsEnd (Ok (NoRoom need blocks)) status old new = PutsLine (ending_line (NoRoom need blocks)) 4 status old new
+TellsEnd (Err stop) status old new = PutsLine (stop_line stop) (stop_status stop) status old new

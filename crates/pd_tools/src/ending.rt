@@ -1,0 +1,43 @@
+//! How the work of a tool ends.
+
+ghost use Rattle.std.specs.Prelude.{◌≡◌};
+ghost use Rattle.pd_tools.specs.Ending.{TellsEnd};
+
+use crate::notes::put_line;
+use crate::query::put_faults;
+use crate::refusals::{no_room_line, refusal_line};
+use crate::stop::Stop;
+use pd_image::Sink;
+use pd_kinds::Report;
+use pd_texts::TextFault;
+
+/// How work ended that wasn't stopped.
+#[derive(Drop)]
+pub enum Ending {
+    /// All was done.
+    Done,
+    /// The metadata has faults.
+    Faulty(Report),
+    /// A line of the text is refused.
+    Refused(TextFault),
+    /// So many blocks are needed, and so many are there.
+    NoRoom { need: u64, blocks: u64 },
+}
+
+/// Puts the line that says how work ended, where there is one, and answers the status.
+pub fn put_ending<E: Sink>(ended: Result<Ending, Stop>, notes: &mut E) -> u8
+    requires { (E.state notes.old).access ≡ 1 }
+    ensures { TellsEnd ended result (E.state notes.old) (E.state notes.new) }
+{
+    match ended {
+        Ok(ending) => match ending {
+            Ending::Done => 0,
+            Ending::Faulty(report) => put_faults(&report, notes),
+            Ending::Refused(fault) => put_line(notes, refusal_line(&fault).as_bytes(), 3),
+            Ending::NoRoom { need, blocks } => {
+                put_line(notes, no_room_line(need, blocks).as_bytes(), 4)
+            }
+        },
+        Err(stop) => stop.put(notes),
+    }
+}
