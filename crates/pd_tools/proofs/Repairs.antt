@@ -1,6 +1,6 @@
 -- What the work of a repair comes to, over plain variables.
 use Rattle.std.proofs.Common.{◌≡◌, ◌≢◌, ◌⊎◌, inl, inr, ℕ, ◌≤◌, ◌<◌, true, false, not, nat_eq, IsTrue, List, [], ◌∷◌, length, Option, Some, None, IfSome, Result, Ok, Err, refl, sym, ap, ◌∙◌, subst, arith, lit≤}
-use Rattle.std.specs.Prelude.{IsSome}
+use Rattle.std.specs.Prelude.{IfErr, IsSome, MatchResult}
 use Rattle.std.specs.Option.{option_map_or}
 use Rattle.std.proofs.lemmas.Bool.{cases_lt, lt-ltb, le-ltb}
 use Rattle.std.proofs.lemmas.Option.{IfSome_then}
@@ -33,10 +33,11 @@ use Rattle.pd_answers.specs.Terms.{is_possible}
 use Rattle.pd_repair.specs.declared.fault.RepairFault.{RepairFault}
 use Rattle.pd_repair.specs.declared.fault.RepairFault.TheVariants as fault
 use Rattle.pd_repair.specs.Faults.{output_ending}
-use Rattle.pd_repair.specs.Repaired.{AnswersSuper, IsRepaired}
+use Rattle.pd_repair.specs.Repaired.{AnswersSuper, CountsRepair, IsRepaired, NamesRules}
 use Rattle.pd_restore.specs.Made.{Answers, Ending, IsDone, IsEarly, IsOfOthers, MakesPool}
 use Rattle.pd_tools.specs.declared.stop.Stop.{Stop}
 use Rattle.pd_tools.specs.declared.stop.Stop.TheVariants.{Device, Memory}
+use Rattle.pd_tools.specs.Ending.{ending_line, ending_status, repair_ended}
 use Rattle.pd_tools.specs.Repair.{AreOpened, AreUnopened}
 use Rattle.pd_tools.specs.Stop.{stop_status}
 use Rattle.pd_tools.specs.Work.{HasCause, IsFinished, IsStopped, IsWork}
@@ -290,7 +291,7 @@ module _ (from to : List ℕ) (others : Objects) (notes : SinkState) (input open
     read = λ _. tt;
   }
 
-  pub repair_made : result ≡ Ok tt → IsFinished (repair from to) before after 0 []
+  repair_made : result ≡ Ok tt → IsFinished (repair from to) before after 0 []
   repair_made is =
       let answer = of_ending (λ ending. Answers ending pool room) result (Ok tt) is done.output.answer in
       let fits : thin_need pool room ≤ room = answer.1 in
@@ -299,7 +300,7 @@ module _ (from to : List ℕ) (others : Objects) (notes : SinkState) (input open
       (written (report_of []) (ap (λ (a : Answer). a.status) (answer_made pool room fits)) 0
       (λ _. rw is tt) (λ either. elim either [ inl e ↦ omega arith | inr e ↦ omega arith ]) (λ some. absurd (some refl)) (λ e. absurd (omega arith)))
 
-  pub repair_no_room : (need blocks : ℕ) → result ≡ Err (fault.NoRoom need blocks) → IsFinished (repair from to) before after 4 (no_room_line need blocks)
+  repair_no_room : (need blocks : ℕ) → result ≡ Err (fault.NoRoom need blocks) → IsFinished (repair from to) before after 4 (no_room_line need blocks)
   repair_no_room need blocks is =
       let answer = of_ending (λ ending. Answers ending pool room) result (Err (fault.NoRoom need blocks)) is done.output.answer in
       let small : room < thin_need pool room = subst (λ (n : ℕ). room < n) answer.0 answer.1.1 in
@@ -307,7 +308,7 @@ module _ (from to : List ℕ) (others : Objects) (notes : SinkState) (input open
       finished (report_of []) (none_right (fault_answer (fault.NoRoom need blocks) is)) 4 (no_room_line need blocks) (lit≤ tt) refl
       (rw (answer.0, answer.1.0) (answer_small pool room small)) (alone same (report_of []) 4 (λ e. omega arith))
 
-  pub repair_faulty : (rules : Rules) → result ≡ Err (fault.NoSuper rules) → (((rule : Rule) → has_rule rules rule ≡ false) → ⊥)
+  repair_faulty : (rules : Rules) → result ≡ Err (fault.NoSuper rules) → (((rule : Rule) → has_rule rules rule ≡ false) → ⊥)
       → (report : Reported) → report ≡ report_of (faults_at 0 (has_rule rules)) → IsFinished (repair from to) before after 1 (reported_lines report)
   repair_faulty rules is named report reported =
       let same = of_ending (λ ending. IsEarly ending → IsUntouched writable last) result (Err (fault.NoSuper rules)) is done.output.early tt in
@@ -326,7 +327,7 @@ module _ (from to : List ℕ) (others : Objects) (notes : SinkState) (input open
     lost = lost;
   }
 
-  pub repair_memory : result ≡ Err fault.Memory → IsStopped (repair from to) before after Memory
+  repair_memory : result ≡ Err fault.Memory → IsStopped (repair from to) before after Memory
   repair_memory is =
       let none = fault_answer fault.Memory is in
       let left : (status : ℕ) → (status ≡ 5 → ⊥) → status ≢ 0 → status ≢ 3 → status ≢ 4 → Leaves (report_of []) status =
@@ -335,7 +336,7 @@ module _ (from to : List ℕ) (others : Objects) (notes : SinkState) (input open
       (left 7 (λ e. omega arith) (λ e. omega arith) (λ e. omega arith) (λ e. omega arith))
       (left 6 (λ e. omega arith) (λ e. omega arith) (λ e. omega arith) (λ e. omega arith))
 
-  pub repair_output : result ≡ Err fault.Output → output.faults ≡ 0 → Rose writable.faults last.faults → IsStopped (repair from to) before after Device
+  repair_output : result ≡ Err fault.Output → output.faults ≡ 0 → Rose writable.faults last.faults → IsStopped (repair from to) before after Device
   repair_output is fresh rose =
       let risen : Rose output.faults last.faults = rw both.output_faults at rose in
       let never : last.faults ≡ output.faults → ⊥ = λ same. not_risen output.faults last.faults fresh same risen in
@@ -344,8 +345,24 @@ module _ (from to : List ℕ) (others : Objects) (notes : SinkState) (input open
       stopped (report_of []) (none_right (fault_answer fault.Output is)) Device refl (inr (inl risen))
       (left 5 (λ e. omega arith) (λ e. omega arith) (λ e. omega arith)) (left 6 (λ e. omega arith) (λ e. omega arith) (λ e. omega arith))
 
-  pub repair_input : result ≡ Err fault.Input → Rose opened.faults last_input.faults → IsStopped (repair from to) before after Device
+  repair_input : result ≡ Err fault.Input → Rose opened.faults last_input.faults → IsStopped (repair from to) before after Device
   repair_input is rose =
       let same = of_ending (λ ending. IsEarly ending → IsUntouched writable last) result (Err fault.Input) is done.output.early tt in
       stopped (report_in input.held) (report-told input.held) Device refl (inl (rw both.input_faults at rose))
       (alone same (report_in input.held) 5 (λ e. omega arith)) (alone same (report_in input.held) 6 (λ e. omega arith))
+
+  -- whatever its result
+  abbrev Ends : Result (Unit {0}) RepairFault → Type 0
+  Ends r = MatchResult (repair_ended r) (λ ending. IsFinished (repair from to) before after (ending_status ending) (ending_line ending)) (IsStopped (repair from to) before after)
+
+  ends_by : (r : Result (Unit {0}) RepairFault) → result ≡ r → output.faults ≡ 0 → IfErr r NamesRules
+      → CountsRepair r opened.faults last_input.faults writable.faults last.faults → Ends r
+  ends_by (Ok answer) is fresh named counts = repair_made is
+  ends_by (Err fault.Memory) is fresh named counts = repair_memory is
+  ends_by (Err fault.Input) is fresh named counts = repair_input is counts.0.0
+  ends_by (Err fault.Output) is fresh named counts = repair_output is fresh counts.1.0
+  ends_by (Err (fault.NoSuper rules)) is fresh named counts = repair_faulty rules is named (report_of (faults_at 0 (has_rule rules))) refl
+  ends_by (Err (fault.NoRoom need blocks)) is fresh named counts = repair_no_room need blocks is
+
+  pub repair_ends : output.faults ≡ 0 → IfErr result NamesRules → CountsRepair result opened.faults last_input.faults writable.faults last.faults → Ends result
+  repair_ends = ends_by result refl

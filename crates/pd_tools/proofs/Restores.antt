@@ -30,14 +30,14 @@ use Rattle.pd_spells.specs.Early.{is_pool_early, is_cache_early, is_era_early}
 use Rattle.pd_laid.specs.Made.{Makes}
 use Rattle.pd_restoring.specs.declared.fault.RestoreFault.{RestoreFault}
 use Rattle.pd_restoring.specs.declared.fault.RestoreFault.TheVariants as fault
-use Rattle.pd_restoring.specs.Restored.{IsRestored, Answers, IsAccepted, IsOfFirstLines, IsOfOthers, IsRefused, IsWithoutRoom}
+use Rattle.pd_restoring.specs.Restored.{CountsRestore, IsRestored, Answers, IsAccepted, IsOfFirstLines, IsOfOthers, IsRefused, IsWithoutRoom}
 use Rattle.pd_tools.specs.declared.ending.Ending.TheVariants.{Refused, NoRoom}
 use Rattle.pd_texts.specs.declared.fault.TextFault.{TextFault}
 use Rattle.pd_tools.proofs.Answered.{not_risen, stop_status-low}
 use Rattle.pd_tools.specs.declared.stop.Stop.{Stop}
 use Rattle.pd_tools.specs.declared.stop.Stop.TheVariants.{Device, Stream, Memory}
 use Rattle.pd_tools.specs.Stop.{stop_status}
-use Rattle.pd_tools.specs.Ending.{ending_line, ending_status}
+use Rattle.pd_tools.specs.Ending.{ending_line, ending_status, restore_ended}
 use Rattle.pd_tools.specs.Restore.{HaveVerdicts, TextsHaveVerdicts, IsRestoredAs, AreAttached, AreUnattached, FailedToAttach}
 use Rattle.pd_tools.specs.Work.{IsStopped, IsFinished, HasCause}
 
@@ -309,14 +309,14 @@ module _ {M : Type 0} (Lawful : M → Type 0) (IsVerdictOn : List ℕ → ℕ �
   }
 
   -- it came to an outcome, or was stopped
-  pub made : result ≡ Ok tt → IsFinished (restore_by IsVerdictOn is_early laid file path) (record others { source = source; output = output })
+  made : result ≡ Ok tt → IsFinished (restore_by IsVerdictOn is_early laid file path) (record others { source = source; output = output })
       (record others { source = last_source; notes = notes; output = last_output }) 0 []
   made is =
       finished 0 [] (lit≤ tt) refl (answer_accepted Lawful done.verdict (subst (λ (r : Result (Unit {0}) RestoreFault). Answers Lawful r done.verdict) is done.answer))
       (λ _. rw is tt) (leaves 0 (λ _. rw is tt) (λ either. absurd (elim either [ inl e ↦ omega arith | inr e ↦ omega arith ]))
       (λ some. absurd (some refl)) (λ e. absurd (omega arith)))
 
-  pub refuses : (why : TextFault) → result ≡ Err (fault.Text why)
+  refuses : (why : TextFault) → result ≡ Err (fault.Text why)
       → IsFinished (restore_by IsVerdictOn is_early laid file path) (record others { source = source; output = output })
       (record others { source = last_source; notes = notes; output = last_output }) (ending_status (Refused why)) (ending_line (Refused why))
   refuses why is =
@@ -326,7 +326,7 @@ module _ {M : Type 0} (Lawful : M → Type 0) (IsVerdictOn : List ℕ → ℕ �
       (λ zero. absurd (omega arith)) (leaves 3 (λ zero. absurd (omega arith)) (λ _. held) (λ _ _. held)
       (λ _ early. untouched (at_fault (λ fault. IsOfFirstLines fault → IsUntouched opened last_output) result (fault.Text why) is done.first_lines (early_line why done.verdict answer early))))
 
-  pub lacks_room : (need blocks : ℕ) → result ≡ Err (fault.NoRoom need blocks)
+  lacks_room : (need blocks : ℕ) → result ≡ Err (fault.NoRoom need blocks)
       → IsFinished (restore_by IsVerdictOn is_early laid file path) (record others { source = source; output = output })
       (record others { source = last_source; notes = notes; output = last_output }) (ending_status (NoRoom need blocks)) (ending_line (NoRoom need blocks))
   lacks_room need blocks is =
@@ -370,62 +370,46 @@ module _ {M : Type 0} (Lawful : M → Type 0) (IsVerdictOn : List ℕ → ℕ �
   Stops stop = IsStopped (restore_by IsVerdictOn is_early laid file path) (record others { source = source; output = output })
       (record others { source = last_source; notes = notes; output = last_output }) stop
 
-  pub of_memory : result ≡ Err fault.Memory → Stops Memory
+  of_memory : result ≡ Err fault.Memory → Stops Memory
   of_memory is = stopped Memory tt (λ _. spared fault.Memory is tt)
 
-  pub of_source : result ≡ Err fault.Source → Rose attached.faults last_source.faults → Stops Stream
+  of_source : result ≡ Err fault.Source → Rose attached.faults last_source.faults → Stops Stream
   of_source is rose = stopped Stream (inl (rw both.source_faults at rose)) (λ _. spared fault.Source is tt)
 
-  pub of_device : output.faults ≡ 0 → Rose opened.faults last_output.faults → Stops Device
+  of_device : output.faults ≡ 0 → Rose opened.faults last_output.faults → Stops Device
   of_device fresh rose =
       let risen : Rose output.faults last_output.faults = rw both.output_faults at rose in
       stopped Device (inr (inl risen)) (λ same. absurd (not_risen output.faults last_output.faults fresh same risen))
 
+  -- whatever its result
+  abbrev Ends : Result (Unit {0}) RestoreFault → Type 0
+  Ends r = MatchResult (restore_ended r) (λ ending. IsFinished (restore_by IsVerdictOn is_early laid file path) (record others { source = source; output = output })
+      (record others { source = last_source; notes = notes; output = last_output }) (ending_status ending) (ending_line ending)) Stops
+
+  ends_by : (r : Result (Unit {0}) RestoreFault) → result ≡ r → output.faults ≡ 0
+      → CountsRestore r attached.faults last_source.faults opened.faults last_output.faults → Ends r
+  ends_by (Ok answer) is fresh counts = made is
+  ends_by (Err fault.Memory) is fresh counts = of_memory is
+  ends_by (Err fault.Source) is fresh counts = of_source is counts.0.0
+  ends_by (Err fault.Device) is fresh counts = of_device fresh counts.1.0
+  ends_by (Err (fault.Text why)) is fresh counts = refuses why is
+  ends_by (Err (fault.NoRoom need blocks)) is fresh counts = lacks_room need blocks is
+
+  pub ends : output.faults ≡ 0 → CountsRestore result attached.faults last_source.faults opened.faults last_output.faults → Ends result
+  ends = ends_by result refl
+
 -- the same for each kind
-module _ (version : ℕ) (file path : List ℕ) (others : Objects) (notes : SinkState) (source attached last_source : SourceState) (output opened last_output : DeviceState)
-    (synced : IsSynced output) (both : AreAttached file path source attached output opened)
-    (measured : IfSome opened.held (λ image. length image ≡ opened.blocks))
-    (place : KeepsPlace opened last_output) (keeps : KeepsSource attached last_source) (result : Result (Unit {0}) RestoreFault) where
-  abbrev IsDoneAs : Kind → Type 0
-  IsDoneAs kind = IsRestoredAs kind version result attached last_source opened last_output
-
-  abbrev Finishes : Kind → ℕ → List ℕ → Type 0
-  Finishes kind status line = IsFinished (restore kind version file path) (record others { source = source; output = output })
-      (record others { source = last_source; notes = notes; output = last_output }) status line
-
-  pub made_as : (kind : Kind) → IsDoneAs kind → result ≡ Ok tt → Finishes kind 0 []
-  made_as Thin done is = made IsLawfulPool IsThinVerdict is_pool_early laid_pool file path others notes source attached last_source output opened last_output synced both measured place keeps result done is
-  made_as Cache done is = made IsLawfulCache (IsCacheVerdict version) (is_cache_early version) (λ m room. laid_cache m version room) file path others notes source attached last_source output opened last_output synced both measured place keeps result done is
-  made_as Era done is = made IsLawfulEra IsEraVerdict is_era_early laid_era file path others notes source attached last_source output opened last_output synced both measured place keeps result done is
-
-  pub refuses_as : (kind : Kind) → IsDoneAs kind → (why : TextFault) → result ≡ Err (fault.Text why) → Finishes kind (ending_status (Refused why)) (ending_line (Refused why))
-  refuses_as Thin done why is = refuses IsLawfulPool IsThinVerdict is_pool_early laid_pool file path others notes source attached last_source output opened last_output synced both measured place keeps result done why is
-  refuses_as Cache done why is = refuses IsLawfulCache (IsCacheVerdict version) (is_cache_early version) (λ m room. laid_cache m version room) file path others notes source attached last_source output opened last_output synced both measured place keeps result done why is
-  refuses_as Era done why is = refuses IsLawfulEra IsEraVerdict is_era_early laid_era file path others notes source attached last_source output opened last_output synced both measured place keeps result done why is
-
-  pub lacks_room_as : (kind : Kind) → IsDoneAs kind → (need blocks : ℕ) → result ≡ Err (fault.NoRoom need blocks) → Finishes kind (ending_status (NoRoom need blocks)) (ending_line (NoRoom need blocks))
-  lacks_room_as Thin done need blocks is = lacks_room IsLawfulPool IsThinVerdict is_pool_early laid_pool file path others notes source attached last_source output opened last_output synced both measured place keeps result done need blocks is
-  lacks_room_as Cache done need blocks is = lacks_room IsLawfulCache (IsCacheVerdict version) (is_cache_early version) (λ m room. laid_cache m version room) file path others notes source attached last_source output opened last_output synced both measured place keeps result done need blocks is
-  lacks_room_as Era done need blocks is = lacks_room IsLawfulEra IsEraVerdict is_era_early laid_era file path others notes source attached last_source output opened last_output synced both measured place keeps result done need blocks is
-
-  abbrev StopsAs : Kind → Stop → Type 0
-  StopsAs kind stop = IsStopped (restore kind version file path) (record others { source = source; output = output })
-      (record others { source = last_source; notes = notes; output = last_output }) stop
-
-  pub memory_as : (kind : Kind) → IsDoneAs kind → result ≡ Err fault.Memory → StopsAs kind Memory
-  memory_as Thin done is = of_memory IsLawfulPool IsThinVerdict is_pool_early laid_pool file path others notes source attached last_source output opened last_output synced both measured place keeps result done is
-  memory_as Cache done is = of_memory IsLawfulCache (IsCacheVerdict version) (is_cache_early version) (λ m room. laid_cache m version room) file path others notes source attached last_source output opened last_output synced both measured place keeps result done is
-  memory_as Era done is = of_memory IsLawfulEra IsEraVerdict is_era_early laid_era file path others notes source attached last_source output opened last_output synced both measured place keeps result done is
-
-  pub source_as : (kind : Kind) → IsDoneAs kind → result ≡ Err fault.Source → Rose attached.faults last_source.faults → StopsAs kind Stream
-  source_as Thin done is rose = of_source IsLawfulPool IsThinVerdict is_pool_early laid_pool file path others notes source attached last_source output opened last_output synced both measured place keeps result done is rose
-  source_as Cache done is rose = of_source IsLawfulCache (IsCacheVerdict version) (is_cache_early version) (λ m room. laid_cache m version room) file path others notes source attached last_source output opened last_output synced both measured place keeps result done is rose
-  source_as Era done is rose = of_source IsLawfulEra IsEraVerdict is_era_early laid_era file path others notes source attached last_source output opened last_output synced both measured place keeps result done is rose
-
-  pub device_as : (kind : Kind) → IsDoneAs kind → output.faults ≡ 0 → Rose opened.faults last_output.faults → StopsAs kind Device
-  device_as Thin done fresh rose = of_device IsLawfulPool IsThinVerdict is_pool_early laid_pool file path others notes source attached last_source output opened last_output synced both measured place keeps result done fresh rose
-  device_as Cache done fresh rose = of_device IsLawfulCache (IsCacheVerdict version) (is_cache_early version) (λ m room. laid_cache m version room) file path others notes source attached last_source output opened last_output synced both measured place keeps result done fresh rose
-  device_as Era done fresh rose = of_device IsLawfulEra IsEraVerdict is_era_early laid_era file path others notes source attached last_source output opened last_output synced both measured place keeps result done fresh rose
+pub ends_as : (kind : Kind) (version : ℕ) (file path : List ℕ) (others : Objects) (notes : SinkState) (source attached last_source : SourceState) (output opened last_output : DeviceState)
+    → IsSynced output → AreAttached file path source attached output opened → IfSome opened.held (λ image. length image ≡ opened.blocks)
+    → KeepsPlace opened last_output → KeepsSource attached last_source → (result : Result (Unit {0}) RestoreFault)
+    → IsRestoredAs kind version result attached last_source opened last_output → output.faults ≡ 0
+    → CountsRestore result attached.faults last_source.faults opened.faults last_output.faults
+    → MatchResult (restore_ended result) (λ ending. IsFinished (restore kind version file path) (record others { source = source; output = output })
+    (record others { source = last_source; notes = notes; output = last_output }) (ending_status ending) (ending_line ending))
+    (IsStopped (restore kind version file path) (record others { source = source; output = output }) (record others { source = last_source; notes = notes; output = last_output }))
+ends_as Thin version = ends IsLawfulPool IsThinVerdict is_pool_early laid_pool
+ends_as Cache version = ends IsLawfulCache (IsCacheVerdict version) (is_cache_early version) (λ m room. laid_cache m version room)
+ends_as Era version = ends IsLawfulEra IsEraVerdict is_era_early laid_era
 
 -- an object couldn't be attached, for each kind
 pub not_attached_as : (kind : Kind) (version : ℕ) (file path : List ℕ) (others : Objects) (notes : SinkState) (source last_source : SourceState) (output last_output : DeviceState)

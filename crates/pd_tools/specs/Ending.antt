@@ -1,10 +1,18 @@
 -- How the work of a tool ends.
 use Rattle.std.specs.Prelude.{◌≡◌, ℕ, List, [], Result, Ok, Err}
+use Rattle.pd_kinds.specs.Faults.{faults_at}
 use Rattle.pd_kinds.specs.Objects.{SinkState}
+use Rattle.pd_kinds.specs.Report.{report_of}
+use Rattle.pd_kinds.specs.RuleSet.{has_rule}
 use Rattle.pd_spells.specs.Lines.{no_room_line, refusal_line, reported_lines}
+use Rattle.pd_restoring.specs.declared.fault.RestoreFault.{RestoreFault}
+use Rattle.pd_restoring.specs.declared.fault.RestoreFault.TheVariants as r
+use Rattle.pd_repair.specs.declared.fault.RepairFault.{RepairFault}
+use Rattle.pd_repair.specs.declared.fault.RepairFault.TheVariants as f
 use Rattle.pd_tools.specs.declared.ending.Ending.{Ending}
 use Rattle.pd_tools.specs.declared.ending.Ending.TheVariants.{Done, Faulty, Refused, NoRoom}
 use Rattle.pd_tools.specs.declared.stop.Stop.{Stop}
+use Rattle.pd_tools.specs.declared.stop.Stop.TheVariants.{Device, Stream, Memory}
 use Rattle.pd_tools.specs.Notes.{PutsLine}
 use Rattle.pd_tools.specs.Stop.{stop_line, stop_status}
 
@@ -28,3 +36,21 @@ TellsEnd (Ok (Faulty report)) status old new = PutsLine (ending_line (Faulty rep
 TellsEnd (Ok (Refused fault)) status old new = PutsLine (ending_line (Refused fault)) 3 status old new
 TellsEnd (Ok (NoRoom need blocks)) status old new = PutsLine (ending_line (NoRoom need blocks)) 4 status old new
 TellsEnd (Err stop) status old new = PutsLine (stop_line stop) (stop_status stop) status old new
+
+-- how a restore ended
+abbrev pub restore_ended : Result (Unit {0}) RestoreFault → Result Ending Stop
+restore_ended (Ok answer) = Ok Done
+restore_ended (Err r.Memory) = Err Memory
+restore_ended (Err r.Source) = Err Stream
+restore_ended (Err r.Device) = Err Device
+restore_ended (Err (r.Text fault)) = Ok (Refused fault)
+restore_ended (Err (r.NoRoom need blocks)) = Ok (NoRoom need blocks)
+
+-- how a repair ended
+abbrev pub repair_ended : Result (Unit {0}) RepairFault → Result Ending Stop
+repair_ended (Ok answer) = Ok Done
+repair_ended (Err f.Memory) = Err Memory
+repair_ended (Err f.Input) = Err Device
+repair_ended (Err f.Output) = Err Device
+repair_ended (Err (f.NoSuper rules)) = Ok (Faulty (report_of (faults_at 0 (has_rule rules))))
+repair_ended (Err (f.NoRoom need blocks)) = Ok (NoRoom need blocks)

@@ -9,7 +9,7 @@ ghost use Rattle.pd_kinds.specs.RuleSet.{has_rule};
 ghost use Rattle.pd_image.specs.Device.{IsWritable};
 ghost use Rattle.pd_answers.specs.Answer.{Objects};
 ghost use Rattle.pd_answers.specs.Repairs.{repair};
-ghost use Rattle.pd_tools.specs.Ending.{ending_line, ending_status};
+ghost use Rattle.pd_tools.specs.Ending.{ending_line, ending_status, repair_ended};
 ghost use Rattle.pd_tools.specs.Repair.{AreOpened, AreUnopened};
 ghost use Rattle.pd_tools.specs.Work.{IsFinished, IsStopped, Answers};
 
@@ -99,7 +99,14 @@ fn repair_opened<A: Device, B: Device>(
         MatchResult result (λ ending. IsFinished (repair from to) before after (ending_status ending) (ending_line ending))
         (IsStopped (repair from to) before after) }
 {
-    match repair_thin(alloc, input, output) {
+    ended_of(repair_thin(alloc, input, output))
+}
+
+/// How a repair ended.
+fn ended_of(repaired: Result<(), RepairFault>) -> Result<Ending, Stop>
+    ensures { result ≡ repair_ended repaired }
+{
+    match repaired {
         Ok(()) => Ok(Ending::Done),
         Err(fault) => match fault {
             RepairFault::Memory => Err(Stop::Memory),

@@ -10,7 +10,7 @@ ghost use Rattle.pd_answers.specs.Answer.{Objects};
 ghost use Rattle.pd_answers.specs.Restores.{restore};
 ghost use Rattle.pd_restoring.specs.Restored.{CountsRestore};
 ghost use Rattle.pd_words.specs.Words.{IsVersion};
-ghost use Rattle.pd_tools.specs.Ending.{ending_line, ending_status};
+ghost use Rattle.pd_tools.specs.Ending.{ending_line, ending_status, restore_ended};
 ghost use Rattle.pd_tools.specs.Restore.{AreAttached, AreUnattached, IsRestoredAs, TextsHaveVerdicts};
 ghost use Rattle.pd_tools.specs.Work.{IsFinished, IsStopped, Answers};
 
@@ -124,7 +124,14 @@ fn restore_attached<S: Source, B: Device>(
         MatchResult result (λ ending. IsFinished terms before after (ending_status ending) (ending_line ending))
         (IsStopped terms before after) }
 {
-    match restore_kind(alloc, kind, version, source, output) {
+    ended_of(restore_kind(alloc, kind, version, source, output))
+}
+
+/// How a restore ended.
+fn ended_of(restored: Result<(), RestoreFault>) -> Result<Ending, Stop>
+    ensures { result ≡ restore_ended restored }
+{
+    match restored {
         Ok(()) => Ok(Ending::Done),
         Err(fault) => match fault {
             RestoreFault::Memory => Err(Stop::Memory),
