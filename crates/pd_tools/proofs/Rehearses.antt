@@ -28,9 +28,10 @@ use Rattle.pd_answers.specs.Terms.{is_one_of, is_possible}
 use Rattle.pd_rehearse.specs.declared.fault.RehearseFault.{RehearseFault}
 use Rattle.pd_rehearse.specs.declared.fault.RehearseFault.TheVariants as f
 use Rattle.pd_rehearse.specs.declared.run.Rehearsal.{Rehearsal}
-use Rattle.pd_rehearse.specs.Failing.{IsTurnedDown}
+use Rattle.pd_rehearse.specs.Failing.{CountsRehearsal, IsReported, IsTurnedDown}
 use Rattle.pd_rehearse.specs.Rehearsed.{Rehearses, found_of}
 use Rattle.pd_tools.specs.declared.stop.Stop.TheVariants.{Device, Stream, Memory}
+use Rattle.pd_tools.specs.Ending.{ending_line, ending_status, rehearsal_ended}
 use Rattle.pd_tools.specs.Rehearse.{line_of}
 use Rattle.pd_tools.specs.Restore.{HaveVerdicts}
 use Rattle.pd_tools.specs.Work.{IsFinished, IsStopped, IsWork}
@@ -65,10 +66,6 @@ meant_numbers room (no_room needed blocks) = tt
 all_told : (held : Option Image) (P : Type 0) → P → IfSome held (λ image. P)
 all_told None P p = tt
 all_told (Some image) P p = p
-
--- a fault that is known
-pub known : (fault is : RehearseFault) → fault ≡ is → ◌≡◌ {A = Result Rehearsal RehearseFault} (Err fault) (Err is)
-known fault is same = ap (λ (f : RehearseFault). Err f) same
 
 -- what holds of a result that is known
 match_ok : {T E : Type 0} (P : T → Type 0) (Q : E → Type 0) (result : Result T E) (value : T) → result ≡ Ok value → MatchResult result P Q → P value
@@ -205,7 +202,7 @@ module _ (number : ℕ) (path : List ℕ) (others : Objects) (notes out : SinkSt
     }
 
     -- memory was wanting, or the device failed
-    pub rehearse_memory : IsStopped (rehearse number path) (record others { out = out; output = output }) (record others { out = out; notes = notes; output = last }) Memory
+    rehearse_memory : IsStopped (rehearse number path) (record others { out = out; output = output }) (record others { out = out; notes = notes; output = last }) Memory
     rehearse_memory = record {
       finding = meant room verdict;
       work = quiet (report_of []) (used_in verdict room) (mappings_in verdict) (lines_in verdict) (λ image s. (refl, meant_numbers room verdict)) 7 refl
@@ -215,7 +212,7 @@ module _ (number : ℕ) (path : List ℕ) (others : Objects) (notes out : SinkSt
       lost = no_status 6 (λ e. omega arith) (λ e. omega arith) (λ e. omega arith);
     }
 
-    pub rehearse_device : Rose opened.faults last.faults → IsStopped (rehearse number path) (record others { out = out; output = output }) (record others { out = out; notes = notes; output = last }) Device
+    rehearse_device : Rose opened.faults last.faults → IsStopped (rehearse number path) (record others { out = out; output = output }) (record others { out = out; notes = notes; output = last }) Device
     rehearse_device rose = record {
       finding = meant room verdict;
       work = quiet (report_of []) (used_in verdict room) (mappings_in verdict) (lines_in verdict) (λ image s. (refl, meant_numbers room verdict)) 5 refl
@@ -226,7 +223,7 @@ module _ (number : ℕ) (path : List ℕ) (others : Objects) (notes out : SinkSt
     }
 
     -- there was no room
-    pub rehearse_no_room : (need blocks : ℕ) → result ≡ Err (f.NoRoom need blocks)
+    rehearse_no_room : (need blocks : ℕ) → result ≡ Err (f.NoRoom need blocks)
         → IsFinished (rehearse number path) (record others { out = out; output = output }) (record others { out = out; notes = notes; output = last }) 4 (no_room_line need blocks)
     rehearse_no_room need blocks is =
         let answer = answer_no_room need blocks verdict (match_err _ _ result (f.NoRoom need blocks) is done.restores.answer) in
@@ -245,7 +242,7 @@ module _ (number : ℕ) (path : List ℕ) (others : Objects) (notes out : SinkSt
         }
 
     -- the check found faults
-    pub rehearse_faulty : (report : Reported) → result ≡ Err (f.Faulty report) → report.total ≢ 0
+    rehearse_faulty : (report : Reported) → result ≡ Err (f.Faulty report) → report.total ≢ 0
         → IsFinished (rehearse number path) (record others { out = out; output = output }) (record others { out = out; notes = notes; output = last }) 1 (reported_lines report)
     rehearse_faulty report is some =
         let answer = answer_accepted IsLawfulPool verdict (match_err _ _ result (f.Faulty report) is done.restores.answer) in
@@ -262,6 +259,16 @@ module _ (number : ℕ) (path : List ℕ) (others : Objects) (notes out : SinkSt
           open_out = λ e. absurd (omega arith);
           read = λ _. tt;
         }
+
+    -- whatever the fault
+    pub rehearse_ends : (fault : RehearseFault) → result ≡ Err fault → IsReported fault → CountsRehearsal {T = Rehearsal} (Err fault) opened.faults last.faults
+        → MatchResult (rehearsal_ended fault)
+        (λ ending. IsFinished (rehearse number path) (record others { out = out; output = output }) (record others { out = out; notes = notes; output = last }) (ending_status ending) (ending_line ending))
+        (IsStopped (rehearse number path) (record others { out = out; output = output }) (record others { out = out; notes = notes; output = last }))
+    rehearse_ends f.Memory is reported counts = rehearse_memory
+    rehearse_ends f.Device is reported counts = rehearse_device counts.0
+    rehearse_ends (f.NoRoom need blocks) is reported counts = rehearse_no_room need blocks is
+    rehearse_ends (f.Faulty report) is reported counts = rehearse_faulty report is reported
 
     module _ (r : Rehearsal) (is : result ≡ Ok r) (out' : SinkState) (used : IsUsed (reading []) out'.access out'.path) where
       right : IsRight (report_of []) r.used r.counts.mappings r.counts.lines

@@ -9,6 +9,8 @@ use Rattle.pd_restoring.specs.declared.fault.RestoreFault.{RestoreFault}
 use Rattle.pd_restoring.specs.declared.fault.RestoreFault.TheVariants as r
 use Rattle.pd_repair.specs.declared.fault.RepairFault.{RepairFault}
 use Rattle.pd_repair.specs.declared.fault.RepairFault.TheVariants as f
+use Rattle.pd_rehearse.specs.declared.fault.RehearseFault.{RehearseFault}
+use Rattle.pd_rehearse.specs.declared.fault.RehearseFault.TheVariants as q
 use Rattle.pd_tools.specs.declared.ending.Ending.{Ending}
 use Rattle.pd_tools.specs.declared.ending.Ending.TheVariants.{Done, Faulty, Refused, NoRoom}
 use Rattle.pd_tools.specs.declared.stop.Stop.{Stop}
@@ -54,3 +56,10 @@ repair_ended (Err f.Input) = Err Device
 repair_ended (Err f.Output) = Err Device
 repair_ended (Err (f.NoSuper rules)) = Ok (Faulty (report_of (faults_at 0 (has_rule rules))))
 repair_ended (Err (f.NoRoom need blocks)) = Ok (NoRoom need blocks)
+
+-- how a rehearsal ended that has no numbers
+abbrev pub rehearsal_ended : RehearseFault → Result Ending Stop
+rehearsal_ended q.Memory = Err Memory
+rehearsal_ended q.Device = Err Device
+rehearsal_ended (q.NoRoom need blocks) = Ok (NoRoom need blocks)
+rehearsal_ended (q.Faulty report) = Ok (Faulty report)

@@ -4,7 +4,7 @@ ghost use Rattle.std.specs.Prelude.{◌≡◌, ◌≤◌, [], OnOk, MatchResult}
 ghost use Rattle.pd_kinds.specs.Objects.{CountsFault, Appends, AppendsFront, SinkState};
 ghost use Rattle.pd_answers.specs.Answer.{Objects, IsUsed, reading};
 ghost use Rattle.pd_answers.specs.Rehearsals.{rehearse};
-ghost use Rattle.pd_tools.specs.Ending.{ending_line, ending_status};
+ghost use Rattle.pd_tools.specs.Ending.{ending_line, ending_status, rehearsal_ended};
 ghost use Rattle.pd_tools.specs.Rehearse.{line_of};
 ghost use Rattle.pd_tools.specs.Work.{IsFinished, IsStopped, Answers};
 
@@ -61,16 +61,23 @@ fn rehearse_image<K: Sink, B: Device>(
     }
     let rehearsal = match rehearse(alloc, number, output) {
         Ok(rehearsal) => rehearsal,
-        Err(fault) => match fault {
-            RehearseFault::Memory => return Err(Stop::Memory),
-            RehearseFault::Device => return Err(Stop::Device),
-            RehearseFault::NoRoom { need, blocks } => return Ok(Ending::NoRoom { need, blocks }),
-            RehearseFault::Faulty(report) => return Ok(Ending::Faulty(report)),
-        },
+        Err(fault) => return ended_without(fault),
     };
     match put_rehearsal(number, &rehearsal, out) {
         Ok(()) => Ok(Ending::Done),
         Err(_) => Err(Stop::Stream),
+    }
+}
+
+/// How a rehearsal ended that has no numbers.
+fn ended_without(fault: RehearseFault) -> Result<Ending, Stop>
+    ensures { result ≡ rehearsal_ended fault }
+{
+    match fault {
+        RehearseFault::Memory => Err(Stop::Memory),
+        RehearseFault::Device => Err(Stop::Device),
+        RehearseFault::NoRoom { need, blocks } => Ok(Ending::NoRoom { need, blocks }),
+        RehearseFault::Faulty(report) => Ok(Ending::Faulty(report)),
     }
 }
 
