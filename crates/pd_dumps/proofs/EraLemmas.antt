@@ -14,12 +14,11 @@ use Rattle.pd_grammar.specs.Texts.{written}
 use Rattle.pd_spells.specs.EraText.{Line, end_line, era, joined_eras, run_lines, text_of_era}
 use Rattle.pd_texts.specs.Printed.{end_text, text_of_line}
 use Rattle.pd_eras.specs.Eras.{GivesEras, RootsBelow}
-use Rattle.pd_query.specs.Adds.{Adds, StopsAt}
+use Rattle.pd_query.specs.Adds.{Adds, Begins, StopsAt}
 use Rattle.pd_query.proofs.AddsLemmas.{one_told, two_told}
 use Rattle.pd_dumps.specs.EraGiven.{are_roots_below, given_eras}
 use Rattle.pd_dumps.specs.EraLines.{era_dump_text, rest_text, runs_text}
-use Rattle.pd_dumps.specs.Known.{Begins}
-use Rattle.pd_dumps.proofs.KnownLemmas.{adds_both, begins_after, begins_at}
+use Rattle.pd_query.proofs.KnownLemmas.{adds_both, begins_after, begins_at}
 
 -- the lines of the runs, and the last one
 pub last_line : (eras : List ℕ) → rest_text eras ≡ runs_text (run_lines 0 (joined_eras eras)) ++ end_text
@@ -63,7 +62,7 @@ some_if_clean : (image : List (List ℕ)) → HasCleanSuper (era_checked image) 
 some_if_clean [] clean = absurd clean
 some_if_clean (block ∷ blocks) clean = let more : 0 ≤ length blocks = omega arith in omega arith
 
-has_some : (image : List (List ℕ)) → faults Era Whole image ≡ [] → 1 ≤ length image
+pub has_some : (image : List (List ℕ)) → faults Era Whole image ≡ [] → 1 ≤ length image
 unfolding faults
 has_some image none = some_if_clean image (clean_super_where_none (era_checked image) image (Walk ∷ Order ∷ Whole ∷ []) none)
 

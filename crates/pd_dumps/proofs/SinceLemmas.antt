@@ -16,12 +16,11 @@ use Rattle.pd_kinds.specs.Stages.{faults}
 use Rattle.pd_kinds.proofs.AppendLemmas.{front_none}
 use Rattle.pd_answers.specs.QueryLines.{begins_run, is_since, run_line, since_lines}
 use Rattle.pd_query.specs.declared.fault.QueryFault.{QueryFault}
-use Rattle.pd_query.specs.Adds.{Adds, PutsText, StopsAt}
+use Rattle.pd_query.specs.Adds.{Adds, Begins, PutsText, StopsAt}
 use Rattle.pd_query.proofs.AddsLemmas.{one_told}
 use Rattle.pd_dumps.specs.EraGiven.{given_eras}
-use Rattle.pd_dumps.specs.Known.{Begins}
 use Rattle.pd_dumps.specs.SinceLines.{PutsLines, since_below, since_of, since_text}
-use Rattle.pd_dumps.proofs.KnownLemmas.{begins_after, begins_at}
+use Rattle.pd_query.proofs.KnownLemmas.{begins_after, begins_at}
 
 -- how many pass a test, counted from a place on: up to the first that doesn't, or to the end
 pub count_next : (p : ℕ → Bool) (xs : List ℕ) (i : ℕ) → i < length xs → p (get_or xs i 0) ≡ true → prefix_len p xs ≡ i + prefix_len p (drop i xs)
@@ -81,32 +80,13 @@ module _ (since : ℕ) (eras : List ℕ) where
   pub none_begins : (b : ℕ) → begins_run since eras b ≡ false → since_of since eras (b ∷ []) ≡ []
   none_begins b begins = rw begins refl
 
--- lines that were not put, since nothing was
-abbrev told_text : Option (List (List ℕ)) → (List (List ℕ) → List ℕ) → List ℕ
-told_text None text_of = []
-told_text (Some image) text_of = text_of image
-
-is_told : (held : Option (List (List ℕ))) (text_of : List (List ℕ) → List ℕ) → IfSome held (λ image. told_text held text_of ≡ text_of image)
-is_told None text_of = tt
-is_told (Some image) text_of = refl
-
-pub text_unput : (held : Option (List (List ℕ))) (text_of : List (List ℕ) → List ℕ) (fault : QueryFault) (before : Option (List ℕ)) → PutsText {T = Unit {0}} held text_of (Err fault) before before
-text_unput held text_of fault before = record { text = told_text held text_of; told = is_told held text_of; whole = tt; front = front_none _ before }
-
 -- the lines of the eras that are given are those of the meaning
 given_lines : (since : ℕ) (image : List (List ℕ)) → given_eras image (era_fields (block_at image 0)) ≡ (era_meaning image).eras
     → since_text since (given_eras image (era_fields (block_at image 0))) ≡ since_lines since (era_meaning image)
 unfolding since_lines
 given_lines since image same = ap (λ (eras : List ℕ). since_text since eras) same
 
--- lines that were put are those of the meaning, where the image has no faults
-pub lines_put : (since : ℕ) (s : EraSuper) (result : Result (Unit {0}) QueryFault) (held : Option (List (List ℕ))) (before after : Option (List ℕ))
-    → PutsText held (λ image. since_text since (given_eras image s)) result before after
-    → ((image : List (List ℕ)) → faults Era Whole image ≡ [] → given_eras image (era_fields (block_at image 0)) ≡ (era_meaning image).eras)
-    → PutsLines (since_lines since) s result held before after
-lines_put since s result held before after puts law = record {
-  text = puts.text;
-  told = one_told held (λ image is own none. is ∙ (ap (λ (fields : EraSuper). since_text since (given_eras image fields)) own ∙ given_lines since image (law image none))) puts.told;
-  whole = puts.whole;
-  front = puts.front;
-}
+-- those over the superblock that is the image's own
+pub lines_are : (since : ℕ) (s : EraSuper) (image : List (List ℕ)) → s ≡ era_fields (block_at image 0) → given_eras image (era_fields (block_at image 0)) ≡ (era_meaning image).eras
+    → since_text since (given_eras image s) ≡ since_lines since (era_meaning image)
+lines_are since s image own same = ap (λ (fields : EraSuper). since_text since (given_eras image fields)) own ∙ given_lines since image same

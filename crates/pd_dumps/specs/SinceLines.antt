@@ -1,5 +1,5 @@
 -- The lines of what was written since an era.
-use Rattle.std.specs.Prelude.{◌≡◌, ℕ, List, [], filter, length, Option, IfSome, Result, OnOk}
+use Rattle.std.specs.Prelude.{◌≡◌, ℕ, List, [], filter, length, Option, Result}
 use Rattle.std.specs.List.{flat_map, range_with_len}
 use Rattle.pd_kinds.specs.declared.era_super.EraSuper.{EraSuper}
 use Rattle.pd_kinds.specs.declared.kind.Kind.TheVariants.{Era}
@@ -7,10 +7,10 @@ use Rattle.pd_kinds.specs.declared.kind.Stage.TheVariants.{Whole}
 use Rattle.pd_kinds.specs.EraFormat.{era_fields}
 use Rattle.pd_kinds.specs.Graph.{block_at}
 use Rattle.pd_kinds.specs.Meaning.{EraMeaning, era_meaning}
-use Rattle.pd_kinds.specs.Objects.{Appends, AppendsFront}
 use Rattle.pd_kinds.specs.Stages.{faults}
 use Rattle.pd_answers.specs.QueryLines.{begins_run, run_line}
 use Rattle.pd_query.specs.declared.fault.QueryFault.{QueryFault}
+use Rattle.pd_query.specs.Adds.{Puts}
 
 -- of blocks with these eras, the lines of the longest runs written in an era or later that begin with one of some blocks
 abbrev pub since_of : ℕ → List ℕ → List ℕ → List ℕ
@@ -25,8 +25,6 @@ since_text since eras = since_below since eras (length eras)
 
 -- Lines were put, or a front of them where the work failed. Where the device tells an image without faults up to the
 -- stage Whole, and this is its superblock, they are those of the era target that the image means
-pub record PutsLines (lines : EraMeaning → List ℕ) (s : EraSuper) (result : Result (Unit {0}) QueryFault) (held : Option (List (List ℕ))) (before after : Option (List ℕ)) : Type 0 where
-  pub text : List ℕ
-  pub told : IfSome held (λ image. s ≡ era_fields (block_at image 0) → faults Era Whole image ≡ [] → text ≡ lines (era_meaning image))
-  pub whole : OnOk result (Appends text before after)
-  pub front : AppendsFront text before after
+abbrev pub PutsLines : (EraMeaning → List ℕ) → EraSuper → Result (Unit {0}) QueryFault → Option (List (List ℕ)) → Option (List ℕ) → Option (List ℕ) → Type 0
+PutsLines lines s result held before after =
+    Puts held (λ image text. s ≡ era_fields (block_at image 0) → faults Era Whole image ≡ [] → text ≡ lines (era_meaning image)) result before after

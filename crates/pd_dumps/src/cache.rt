@@ -7,7 +7,7 @@ use pd_cached::CacheMaps;
 use pd_image::{Device, Sink};
 use pd_kinds::CacheSuper;
 use pd_lines::Pieces;
-use pd_query::QueryFault;
+use pd_query::{Query, QueryFault};
 use std::alloc::{AllocError, Global};
 
 /// The dump of a cache, with the memory that it takes.
@@ -85,5 +85,42 @@ impl CacheDump {
             },
             Err(fault) => Err(fault),
         }
+    }
+}
+
+/// The text of a cache, as it is asked for.
+#[derive(Clone, Copy, Debug, PartialEq, Eq)]
+pub struct TextOfCache;
+
+impl Query for TextOfCache {
+    ghost use Rattle.std.specs.Prelude.{◌≡◌, ◌≤◌};
+    ghost use Rattle.pd_kinds.specs.declared.kind.Kind.TheVariants.{Cache};
+    ghost use Rattle.pd_kinds.specs.Meaning.{cache_meaning};
+    ghost use Rattle.pd_spells.specs.CacheText.{text_of_cache};
+    ghost use Rattle.pd_query.specs.Sound.{IfSound};
+    ghost use Rattle.pd_dumps.specs.CacheDump.{dump_room, text_left};
+
+    type Started = CacheDump;
+
+    ghost kind = { Cache };
+
+    ghost answer = { λ query image. text_of_cache (cache_meaning image) };
+
+    ghost IsOver = { λ query dump held blocks. (dump_room dump ≤ blocks)
+        × IfSound Cache held (λ image. text_left image dump ≡ text_of_cache (cache_meaning image)) };
+
+    fn start<D: Device>(&self, alloc: Global, dev: &mut D) -> Result<CacheDump, QueryFault> {
+        CacheDump::start(alloc, dev)
+    }
+
+    fn put<D: Device, K: Sink>(
+        &self,
+        alloc: Global,
+        started: CacheDump,
+        dev: &mut D,
+        out: &mut K,
+    ) -> Result<(), QueryFault> {
+        let mut dump = started;
+        dump.put(dev, out)
     }
 }

@@ -6,7 +6,7 @@ use crate::laws::given_era_lines_are_the_text;
 use crate::supers::read_era;
 use pd_image::{Device, Sink};
 use pd_kinds::EraSuper;
-use pd_query::QueryFault;
+use pd_query::{Query, QueryFault};
 use std::alloc::Global;
 
 /// The dump of an era target, with the era of each block.
@@ -70,5 +70,40 @@ impl EraDump {
         ensures faults { SinkFails result (K.state out.old).faults (K.state out.new).faults }
     {
         put_eras(&self.s, self.eras.as_slice(), out)
+    }
+}
+
+/// The text of an era target, as it is asked for.
+#[derive(Clone, Copy, Debug, PartialEq, Eq)]
+pub struct TextOfEra;
+
+impl Query for TextOfEra {
+    ghost use Rattle.std.specs.Prelude.{◌≡◌};
+    ghost use Rattle.pd_kinds.specs.declared.kind.Kind.TheVariants.{Era};
+    ghost use Rattle.pd_kinds.specs.Meaning.{era_meaning};
+    ghost use Rattle.pd_spells.specs.EraText.{text_of_era};
+    ghost use Rattle.pd_query.specs.Sound.{IfSound};
+    ghost use Rattle.pd_dumps.specs.EraDump.{text_left};
+
+    type Started = EraDump;
+
+    ghost kind = { Era };
+
+    ghost answer = { λ query image. text_of_era (era_meaning image) };
+
+    ghost IsOver = { λ query dump held blocks. IfSound Era held (λ image. text_left dump ≡ text_of_era (era_meaning image)) };
+
+    fn start<D: Device>(&self, alloc: Global, dev: &mut D) -> Result<EraDump, QueryFault> {
+        EraDump::start(alloc, dev)
+    }
+
+    fn put<D: Device, K: Sink>(
+        &self,
+        alloc: Global,
+        started: EraDump,
+        dev: &mut D,
+        out: &mut K,
+    ) -> Result<(), QueryFault> {
+        started.put(out)
     }
 }

@@ -7,10 +7,9 @@ ghost use Rattle.pd_spells.specs.EraText as e;
 ghost use Rattle.pd_spells.specs.EraText.{era, joined_eras, run_lines};
 ghost use Rattle.pd_texts.specs.Printed.{text_of_line};
 ghost use Rattle.pd_era_texts.specs.EraLine.{line_of};
-ghost use Rattle.pd_query.specs.Adds.{Adds, StopsAt};
+ghost use Rattle.pd_query.specs.Adds.{Adds, Begins, StopsAt};
 ghost use Rattle.pd_query.specs.Failing.{SinkFails};
 ghost use Rattle.pd_dumps.specs.EraLines.{era_dump_text, rest_text, runs_text, super_head};
-ghost use Rattle.pd_dumps.specs.Known.{Begins};
 
 use crate::lines::{add_end_line, add_first_line};
 use pd_era_texts::{EraLine, EraRuns, add_era};

@@ -5,16 +5,17 @@ ghost use Rattle.pd_image.specs.Device.{IsAttached, OnlyReads};
 ghost use Rattle.pd_image.specs.Sink.{KeepsSink};
 ghost use Rattle.pd_answers.specs.QueryLines.{since_lines};
 ghost use Rattle.pd_query.specs.Adds.{PutsText};
+ghost use Rattle.pd_query.specs.Failing.{Ends};
 ghost use Rattle.pd_dumps.specs.EraGiven.{given_eras};
-ghost use Rattle.pd_dumps.specs.Known.{Ends};
 ghost use Rattle.pd_dumps.specs.SinceLines.{PutsLines, since_text};
 
 use crate::eras_given::eras_of;
 use crate::laws::given_eras_are_the_eras;
 use crate::since_lines::put_since;
+use crate::supers::read_era;
 use pd_image::{Device, Sink};
 use pd_kinds::EraSuper;
-use pd_query::QueryFault;
+use pd_query::{Query, QueryFault};
 use std::alloc::Global;
 
 /// Puts a line for each longest run of blocks whose era is the given one or a later one, by ascending block, of the era
@@ -43,4 +44,45 @@ pub fn written_since<D: Device, K: Sink>(
         Err(fault) => return Err(fault),
     };
     put_since(era, eras.as_slice(), out)
+}
+
+/// Which blocks of an era target were written in this era or later, as it is asked for.
+#[derive(Clone, Copy, Debug, PartialEq, Eq)]
+pub struct WrittenSince {
+    pub era: u32,
+}
+
+impl Query for WrittenSince {
+    ghost use Rattle.std.specs.Prelude.{◌≡◌};
+    ghost use Rattle.pd_kinds.specs.declared.kind.Kind.TheVariants.{Era};
+    ghost use Rattle.pd_kinds.specs.EraFormat.{era_fields};
+    ghost use Rattle.pd_kinds.specs.Graph.{block_at};
+    ghost use Rattle.pd_kinds.specs.Meaning.{era_meaning};
+    ghost use Rattle.pd_answers.specs.QueryLines.{since_lines};
+    ghost use Rattle.pd_query.specs.Sound.{IfSound};
+
+    type Started = EraSuper;
+
+    ghost kind = { Era };
+
+    ghost answer = { λ query image. since_lines query.era (era_meaning image) };
+
+    ghost IsOver = { λ query s held blocks. IfSound Era held (λ image. s ≡ era_fields (block_at image 0)) };
+
+    fn start<D: Device>(&self, alloc: Global, dev: &mut D) -> Result<EraSuper, QueryFault> {
+        match read_era(dev) {
+            Ok(s) => Ok(s),
+            Err(_) => Err(QueryFault::Device),
+        }
+    }
+
+    fn put<D: Device, K: Sink>(
+        &self,
+        alloc: Global,
+        started: EraSuper,
+        dev: &mut D,
+        out: &mut K,
+    ) -> Result<(), QueryFault> {
+        written_since(alloc, dev, &started, self.era, out)
+    }
 }

@@ -5,10 +5,9 @@ ghost use Rattle.std.specs.List.{take_while};
 ghost use Rattle.pd_kinds.specs.Objects.{Appends, AppendsFront};
 ghost use Rattle.pd_image.specs.Sink.{KeepsSink};
 ghost use Rattle.pd_answers.specs.QueryLines.{begins_run, is_since, run_line};
-ghost use Rattle.pd_query.specs.Adds.{Adds, StopsAt};
+ghost use Rattle.pd_query.specs.Adds.{Adds, Begins, StopsAt};
 ghost use Rattle.pd_query.specs.Failing.{SinkFails};
 ghost use Rattle.pd_dumps.specs.SinceLines.{since_of, since_text};
-ghost use Rattle.pd_dumps.specs.Known.{Begins};
 
 use pd_image::Sink;
 use pd_lines::{LineBuffer, Pieces};

@@ -28,7 +28,7 @@ one_told None join p = tt
 one_told (Some x) join p = join x p
 
 -- a text that is told, where one is
-abbrev told_text : Option (List (List ℕ)) → (List (List ℕ) → List ℕ) → List ℕ
+abbrev pub told_text : Option (List (List ℕ)) → (List (List ℕ) → List ℕ) → List ℕ
 told_text None text_of = []
 told_text (Some image) text_of = text_of image
 

@@ -1,3 +1,5 @@
 pub mod AddsLemmas
 pub mod TextLemmas
 pub mod CountLemmas
+pub mod QueryLemmas
+pub mod KnownLemmas

@@ -26,3 +26,12 @@ HasNotStarted Sink dev dev' = ⊥
 
 abbrev pub StartFails : {T : Type 0} → Result T QueryFault → ℕ → ℕ → Type 0
 StartFails result dev dev' = MatchResult result (λ _. dev' ≡ dev) (λ fault. HasNotStarted fault dev dev')
+
+-- why a query fails that takes memory while it runs: nothing has more faults where that is wanting
+abbrev pub HasEnded : QueryFault → ℕ → ℕ → ℕ → ℕ → Type 0
+HasEnded Memory dev dev' out out' = (dev' ≡ dev) × (out' ≡ out)
+HasEnded Device dev dev' out out' = HasFailed Device dev dev' out out'
+HasEnded Sink dev dev' out out' = HasFailed Sink dev dev' out out'
+
+abbrev pub Ends : Result (Unit {0}) QueryFault → ℕ → ℕ → ℕ → ℕ → Type 0
+Ends result dev dev' out out' = MatchResult result (λ _. (dev' ≡ dev) × (out' ≡ out)) (λ fault. HasEnded fault dev dev' out out')

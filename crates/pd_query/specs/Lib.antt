@@ -4,3 +4,4 @@ pub mod ThinText
 pub mod ThinDump
 pub mod Mapped
 pub mod Counts
+pub mod Sound

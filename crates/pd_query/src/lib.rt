@@ -1,4 +1,4 @@
-//! What is asked of an image that was found sound, and put as text: a pool's own text.
+//! What is asked of an image that was found sound, and put as text: queries of any kind, and a pool's own text.
 //!
 //! What is put is said over the bytes of any image that the device tells. The laws of the crates below say what
 //! that comes to in an image without faults.
@@ -7,10 +7,12 @@
 mod counts;
 mod fault;
 mod lines;
+mod query;
 mod thin_dump;
 mod thin_lines;
 
 pub use counts::DumpCounts;
 pub use fault::QueryFault;
-pub use thin_dump::ThinDump;
+pub use query::Query;
+pub use thin_dump::{TextOfPool, ThinDump};
 pub use thin_lines::{devices_of, read_super};

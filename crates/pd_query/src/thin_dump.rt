@@ -2,11 +2,12 @@
 
 use crate::counts::DumpCounts;
 use crate::fault::QueryFault;
+use crate::query::Query;
 use crate::thin_lines::{add_first_lines, devices_of, read_super};
 use pd_image::{Device, Sink};
 use pd_kinds::ThinSuper;
 use pd_lines::Pieces;
-use pd_pool::{MapRuns, ThinDevices};
+use pd_pool::{MapRuns, ThinDevices, given_lines_are_the_text, rows_are_the_devices};
 use std::alloc::{AllocError, Global};
 
 /// The dump of a pool, with the memory that it takes.
@@ -19,11 +20,16 @@ pub struct ThinDump {
 }
 
 impl ThinDump {
-    ghost use Rattle.std.specs.Prelude.{◌≡◌, ◌≤◌, ℕ, List, IfOk, IfSome, length};
+    ghost use Rattle.std.specs.Prelude.{◌≡◌, ◌≤◌, ℕ, List, [], IfOk, IfSome, length};
+    ghost use Rattle.pd_kinds.specs.declared.kind.Kind.TheVariants.{Thin};
+    ghost use Rattle.pd_kinds.specs.declared.kind.Stage.TheVariants.{Whole};
     ghost use Rattle.pd_kinds.specs.Graph.{block_at};
+    ghost use Rattle.pd_kinds.specs.Meaning.{thin_meaning};
+    ghost use Rattle.pd_kinds.specs.Stages.{faults};
     ghost use Rattle.pd_kinds.specs.ThinSuper.{thin_fields};
     ghost use Rattle.pd_image.specs.Device.{IsAttached, OnlyReads};
     ghost use Rattle.pd_image.specs.Sink.{KeepsSink};
+    ghost use Rattle.pd_spells.specs.ThinText.{text_of_pool};
     ghost use Rattle.pd_query.specs.Adds.{PutsText};
     ghost use Rattle.pd_query.specs.Failing.{Fails, StartFails};
     ghost use Rattle.pd_query.specs.Counts.{IsCountOf};
@@ -37,12 +43,15 @@ impl ThinDump {
     pub fn start<D: Device>(alloc: Global, dev: &mut D) -> Result<ThinDump, QueryFault>
         requires { IsAttached (D.state dev.old) }
         ensures text { IfOk result (λ dump. IfSome (D.state dev.old).held (λ image. 1 ≤ length image → text_left image dump ≡ dump_text image (thin_fields (block_at image 0)))) }
+        ensures means { IfOk result (λ dump. IfSome (D.state dev.old).held (λ image. faults Thin Whole image ≡ [] → text_left image dump ≡ text_of_pool (thin_meaning image))) }
         ensures lines { IfOk result (λ dump. IfSome (D.state dev.old).held (λ image. 1 ≤ length image → lines_left image dump ≡ super_lines image (thin_fields (block_at image 0)))) }
         ensures used { IfOk result (λ dump. IfSome (D.state dev.old).held (λ image. 1 ≤ length image → used_of dump ≡ (thin_fields (block_at image 0)).meta_map.allocated)) }
         ensures room { IfOk result (λ dump. dump_room dump ≤ (D.state dev.old).blocks) }
         ensures kept { OnlyReads (D.state dev.old) (D.state dev.new) }
         ensures faults { StartFails result (D.state dev.old).faults (D.state dev.new).faults }
     {
+        given_lines_are_the_text();
+        rows_are_the_devices();
         let s = match read_super(dev) {
             Ok(s) => s,
             Err(_) => return Err(QueryFault::Device),
@@ -122,5 +131,42 @@ impl ThinDump {
             },
             Err(fault) => Err(fault),
         }
+    }
+}
+
+/// The text of a pool, as it is asked for.
+#[derive(Clone, Copy, Debug, PartialEq, Eq)]
+pub struct TextOfPool;
+
+impl Query for TextOfPool {
+    ghost use Rattle.std.specs.Prelude.{◌≡◌, ◌≤◌};
+    ghost use Rattle.pd_kinds.specs.declared.kind.Kind.TheVariants.{Thin};
+    ghost use Rattle.pd_kinds.specs.Meaning.{thin_meaning};
+    ghost use Rattle.pd_spells.specs.ThinText.{text_of_pool};
+    ghost use Rattle.pd_query.specs.Sound.{IfSound};
+    ghost use Rattle.pd_query.specs.ThinDump.{dump_room, text_left};
+
+    type Started = ThinDump;
+
+    ghost kind = { Thin };
+
+    ghost answer = { λ query image. text_of_pool (thin_meaning image) };
+
+    ghost IsOver = { λ query dump held blocks. (dump_room dump ≤ blocks)
+        × IfSound Thin held (λ image. text_left image dump ≡ text_of_pool (thin_meaning image)) };
+
+    fn start<D: Device>(&self, alloc: Global, dev: &mut D) -> Result<ThinDump, QueryFault> {
+        ThinDump::start(alloc, dev)
+    }
+
+    fn put<D: Device, K: Sink>(
+        &self,
+        alloc: Global,
+        started: ThinDump,
+        dev: &mut D,
+        out: &mut K,
+    ) -> Result<(), QueryFault> {
+        let mut dump = started;
+        dump.put(dev, out)
     }
 }

@@ -25,10 +25,10 @@ use Rattle.pd_query.specs.Adds.{PutsText}
 use Rattle.pd_dumps.specs.SinceLines.{PutsLines as PutsEras}
 use Rattle.pd_uses.specs.UseLines.{PutsLines}
 use Rattle.pd_query.specs.declared.fault.QueryFault.{QueryFault}
-use Rattle.pd_tools.specs.declared.query.Query.{Query}
+use Rattle.pd_tools.specs.declared.query.Asked.{Asked}
 use Rattle.pd_tools.specs.declared.stop.Stop.{Stop}
 use Rattle.pd_tools.specs.declared.stop.Stop.TheVariants.{Device, Stream, Memory}
-use Rattle.pd_tools.specs.Query.{IsUnput, PutsAnswer, kind_of, stopped_as, query_line, query_status, terms_of_query, text_of}
+use Rattle.pd_tools.specs.Query.{IsUnput, kind_of, query_line, query_status, terms_of_query, text_of}
 use Rattle.pd_tools.specs.Read.{IsUnread}
 use Rattle.pd_tools.specs.Work.{IsFinished, IsStopped, IsWork}
 use Rattle.pd_tools.proofs.Checks.{not_yet}
@@ -84,7 +84,7 @@ query_at_rest kind f held = (
   tt,
 )
 
-module _ (q : Query) (file : Option (List ℕ)) (path : List ℕ) (others : Objects) (notes out : SinkState) (input : DeviceState) (fresh : out.access ≡ 0) where
+module _ (q : Asked) (file : Option (List ℕ)) (path : List ℕ) (others : Objects) (notes out : SinkState) (input : DeviceState) (fresh : out.access ≡ 0) where
   -- the image was not read
   pub query_unread : (input' : DeviceState) (stop : Stop) → IsUsed (reading path) input'.access input'.path → IsUntouched input input' → IsUnread (kind_of q) stages.Whole input input' stop
       → IsStopped (terms_of_query q file path) (record others { out = out; input = input }) (record others { out = out; notes = notes; input = input' }) stop
@@ -231,39 +231,3 @@ reads_used path input input' kept used = rw (kept.access, kept.path) used
 
 pub reads_untouched : (first input input' : DeviceState) → OnlyReads input input' → IsUntouched first input → IsUntouched first input'
 reads_untouched first input input' kept same = record { held = kept.held ∙ same.held; history = kept.history ∙ same.history }
-
--- no text was put
-pub answer_none : (kind : Kind) (f : List (List ℕ) → List ℕ) (stop : Stop) (held : Option (List (List ℕ))) (before after : Option (List ℕ)) → after ≡ before → PutsAnswer kind f (Err stop) held before after
-answer_none kind f stop held before after same = record {
-  text = told_or f [] held;
-  told = one_told held (λ image is _. is) (text_told held f);
-  whole = tt;
-  front = rw same (front_none _ before);
-}
-
--- some text was put, which answers where the device tells an image without faults
-pub answered_by : (kind : Kind) (f : List (List ℕ) → List ℕ) (result : Result (Unit {0}) QueryFault) (held : Option (List (List ℕ))) (before after : Option (List ℕ)) (text : List ℕ)
-    → IfSome held (λ image. faults kind stages.Whole image ≡ [] → text ≡ f image) → OnOk result (Appends text before after) → AppendsFront text before after
-    → PutsAnswer kind f (stopped_as result) held before after
-answered_by kind f (Ok done) held before after text told whole front = record { text = text; told = told; whole = whole; front = front }
-answered_by kind f (Err fault) held before after text told whole front = record { text = text; told = told; whole = tt; front = front }
-
--- a dump's text, where its law holds
-pub answer_put : (kind : Kind) (f : List (List ℕ) → List ℕ) (result : Result (Unit {0}) QueryFault) (held : Option (List (List ℕ))) (left : List (List ℕ) → List ℕ) (before after : Option (List ℕ))
-    → PutsText held left result before after → IfSome held (λ image. faults kind stages.Whole image ≡ [] → left image ≡ f image)
-    → PutsAnswer kind f (stopped_as result) held before after
-answer_put kind f result held left before after puts law =
-    answered_by kind f result held before after puts.text (two_told held (λ image is same none. is ∙ same none) puts.told law) puts.whole puts.front
-
--- the lines of a query over the meaning, where the superblock is that of the image
-pub answer_lines : (lines : ThinPool → List ℕ) (s : ThinSuper) (result : Result (Unit {0}) QueryFault) (held : Option (List (List ℕ))) (before after : Option (List ℕ))
-    → PutsLines lines s result held before after → IfSome held (λ image. faults Thin stages.Whole image ≡ [] → s ≡ thin_fields (block_at image 0))
-    → PutsAnswer Thin (λ image. lines (thin_meaning image)) (stopped_as result) held before after
-answer_lines lines s result held before after puts own =
-    answered_by Thin (λ image. lines (thin_meaning image)) result held before after puts.text (two_told held (λ image is same none. is (same none) none) puts.told own) puts.whole puts.front
-
-pub answer_eras : (lines : EraMeaning → List ℕ) (s : EraSuper) (result : Result (Unit {0}) QueryFault) (held : Option (List (List ℕ))) (before after : Option (List ℕ))
-    → PutsEras lines s result held before after → IfSome held (λ image. faults Era stages.Whole image ≡ [] → s ≡ era_fields (block_at image 0))
-    → PutsAnswer Era (λ image. lines (era_meaning image)) (stopped_as result) held before after
-answer_eras lines s result held before after puts own =
-    answered_by Era (λ image. lines (era_meaning image)) result held before after puts.text (two_told held (λ image is same none. is (same none) none) puts.told own) puts.whole puts.front

@@ -13,26 +13,26 @@ use Rattle.pd_answers.specs.QueryLines.{list_lines, rmap_lines, since_lines}
 use Rattle.pd_answers.specs.Terms.{Terms}
 use Rattle.pd_query.specs.declared.fault.QueryFault.{QueryFault}
 use Rattle.pd_query.specs.declared.fault.QueryFault.TheVariants as f
-use Rattle.pd_tools.specs.declared.query.Query.{Query}
-use Rattle.pd_tools.specs.declared.query.Query.TheVariants.{Dump, ReverseMap, DeviceList, Since}
+use Rattle.pd_tools.specs.declared.query.Asked.{Asked}
+use Rattle.pd_tools.specs.declared.query.Asked.TheVariants.{Dump, ReverseMap, DeviceList, Since}
 use Rattle.pd_tools.specs.declared.stop.Stop.{Stop}
 use Rattle.pd_tools.specs.declared.stop.Stop.TheVariants.{Device, Stream, Memory}
 
 -- the kind of metadata that is asked about, and the text that answers
-abbrev pub kind_of : Query → Kind
+abbrev pub kind_of : Asked → Kind
 kind_of (Dump kind) = kind
 kind_of (ReverseMap first end) = Thin
 kind_of DeviceList = Thin
 kind_of (Since era) = Era
 
-abbrev pub text_of : Query → List (List ℕ) → List ℕ
+abbrev pub text_of : Asked → List (List ℕ) → List ℕ
 text_of (Dump kind) image = image_text kind image
 text_of (ReverseMap first end) image = rmap_lines first end (thin_meaning image)
 text_of DeviceList image = list_lines (thin_meaning image)
 text_of (Since era) image = since_lines era (era_meaning image)
 
-abbrev pub terms_of_query : Query → Option (List ℕ) → List ℕ → Terms
-terms_of_query q file path = query (kind_of q) (text_of q) file path
+abbrev pub terms_of_query : Asked → Option (List ℕ) → List ℕ → Terms
+terms_of_query asked file path = query (kind_of asked) (text_of asked) file path
 
 -- the status after a check with this report, and the line that goes to `notes`
 abbrev pub query_status : Reported → ℕ
@@ -41,22 +41,11 @@ query_status report = if report.total == 0 then 0 else 1
 abbrev pub query_line : Reported → List ℕ
 query_line report = if report.total == 0 then [] else reported_lines report
 
--- a text was put, or a front of it where the work failed; where the device tells an image without faults, it answers
-pub record PutsAnswer (kind : Kind) (text_of : List (List ℕ) → List ℕ) (result : Result (Unit {0}) Stop) (held : Option (List (List ℕ))) (before after : Option (List ℕ)) : Type 0 where
-  pub text : List ℕ
-  pub told : IfSome held (λ image. faults kind Whole image ≡ [] → text ≡ text_of image)
-  pub whole : OnOk result (Appends text before after)
-  pub front : AppendsFront text before after
-
 -- what a query's fault stops
 abbrev pub stop_as : QueryFault → Stop
 stop_as f.Memory = Memory
 stop_as f.Device = Device
 stop_as f.Sink = Stream
-
-abbrev pub stopped_as : Result (Unit {0}) QueryFault → Result (Unit {0}) Stop
-stopped_as (Ok done) = Ok done
-stopped_as (Err fault) = Err (stop_as fault)
 
 -- why the text wasn't put: the count of the device that failed rose, or that of the sink
 abbrev pub IsUnput : ℕ → ℕ → ℕ → ℕ → Stop → Type 0

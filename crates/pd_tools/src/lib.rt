@@ -3,7 +3,6 @@
 
 mod check;
 mod clear;
-mod dumps;
 mod ending;
 mod generate;
 mod notes;

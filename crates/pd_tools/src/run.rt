@@ -13,7 +13,7 @@ ghost use Rattle.pd_tools.specs.Work.{Answers};
 use crate::clear::run_any_check;
 use crate::generate::run_generate;
 use crate::notes::{USAGE_LINE, put_line};
-use crate::query::{Query, run_query};
+use crate::query::{Asked, run_query};
 use crate::rehearse::run_rehearse;
 use crate::repair::run_repair;
 use crate::restore::{run_restore, texts_have_verdicts};
@@ -108,7 +108,7 @@ fn run_request<S: Source, K: Sink, E: Sink, A: Device, B: Device>(
             shared: _,
         } => run_query(
             alloc,
-            Query::Dump(kind),
+            Asked::Dump(kind),
             file_in(words, file),
             image.word_in(words),
             out,
@@ -149,7 +149,7 @@ fn run_request<S: Source, K: Sink, E: Sink, A: Device, B: Device>(
             out: file,
         } => run_query(
             alloc,
-            Query::ReverseMap { first, end },
+            Asked::ReverseMap { first, end },
             file_in(words, file),
             image.word_in(words),
             out,
@@ -158,7 +158,7 @@ fn run_request<S: Source, K: Sink, E: Sink, A: Device, B: Device>(
         ),
         Request::List { image, out: file } => run_query(
             alloc,
-            Query::DeviceList,
+            Asked::DeviceList,
             file_in(words, file),
             image.word_in(words),
             out,
@@ -171,7 +171,7 @@ fn run_request<S: Source, K: Sink, E: Sink, A: Device, B: Device>(
             out: file,
         } => run_query(
             alloc,
-            Query::Since { era },
+            Asked::Since { era },
             file_in(words, file),
             image.word_in(words),
             out,

@@ -2,53 +2,12 @@
 use Rattle.std.proofs.Common.{◌≡◌, ℕ, ◌+◌, ◌<◌, List, [], ◌∷◌, ◌++◌, length, get_or, take, drop, Option, IfSome, Result, Ok, Err, MatchResult, refl, sym, ap, ◌∙◌, append_assoc}
 use Rattle.std.proofs.lemmas.List.{append-nil, take-append-drop, take_more}
 use Rattle.std.proofs.lemmas.List.Concat.{flat_map-append}
-use Rattle.pd_kinds.specs.Objects.{Appends, AppendsFront}
-use Rattle.pd_kinds.proofs.AppendLemmas.{front_of_more}
-use Rattle.pd_lines.specs.Pieces.{Gathers}
-use Rattle.pd_lines.proofs.Gathering.{gathers_start}
 use Rattle.pd_count.specs.Counted.{Counted}
 use Rattle.pd_pool.specs.declared.devices.DeviceRow.{DeviceRow}
-use Rattle.pd_query.specs.Adds.{Adds, AddsSome, PutsFront, StopsAt}
+use Rattle.pd_query.specs.Adds.{Adds, AddsSome, Begins, PutsFront, StopsAt}
+use Rattle.pd_query.proofs.KnownLemmas.{begins_after, begins_at}
 use Rattle.pd_uses.specs.declared.data_use.DataUse.{DataUse}
-use Rattle.pd_uses.specs.UseLines.{Begins, listed_row, listed_rows, use_line, uses_text}
-
--- two texts, one after the other
-pub adds_both : {first second old mid new : List ℕ} {before between after : Option (List ℕ)} → Adds first old mid before between → Adds second mid new between after
-    → Adds (first ++ second) old new before after
-adds_both {first} {second} one two = record {
-  gathered = λ total start so_far. rw (← append_assoc total first second) (two.gathered (total ++ first) start (one.gathered total start so_far));
-}
-
--- nothing more was put, before the text
-pub begins_at : (text : List ℕ) {old : List ℕ} {before after : Option (List ℕ)} → StopsAt old before after → Begins text old before after
-begins_at text {old} {before} {after} stopped = record { front = λ total start so_far. front_of_more total text start after (stopped.front total start so_far) }
-
--- or behind its first part
-pub begins_after : (first rest : List ℕ) {old mid : List ℕ} {before between after : Option (List ℕ)} → Adds first old mid before between → StopsAt mid between after
-    → Begins (first ++ rest) old before after
-begins_after first rest {old} {mid} {before} {between} {after} one stopped = record {
-  front = λ total start so_far.
-      rw (← append_assoc total first rest) (front_of_more (total ++ first) rest start after (stopped.front (total ++ first) start (one.gathered total start so_far)));
-}
-
--- a part of a line that was gathered, and then the other, which a call gathered or not
-pub part_then : {E : Type 0} (first second : List ℕ) {old mid : List ℕ} (new : List ℕ) {before between : Option (List ℕ)} (after : Option (List ℕ)) (result : Result (Unit {0}) E)
-    → Adds first old mid before between → MatchResult result (λ _. Adds second mid new between after) (λ _. StopsAt mid between after)
-    → MatchResult result (λ _. Adds (first ++ second) old new before after) (λ _. Begins (first ++ second) old before after)
-part_then first second new after (Ok done) one two = adds_both one two
-part_then first second new after (Err fault) one stopped = begins_after first second one stopped
-
--- all that was gathered from the start on was put, or a front of it
-pub uses_put : {text mid : List ℕ} {before between after : Option (List ℕ)} → Adds text [] mid before between
-    → ((total : List ℕ) (start : Option (List ℕ)) → Gathers total mid start between → Appends total start after) → Appends text before after
-uses_put {text} {mid} {before} adds whole = whole text before (adds.gathered [] before (gathers_start before))
-
-pub uses_lost : {text mid : List ℕ} {before between after : Option (List ℕ)} → Adds text [] mid before between
-    → ((total : List ℕ) (start : Option (List ℕ)) → Gathers total mid start between → AppendsFront total start after) → AppendsFront text before after
-uses_lost {text} {mid} {before} adds front = front text before (adds.gathered [] before (gathers_start before))
-
-pub uses_begun : {text : List ℕ} {before after : Option (List ℕ)} → Begins text [] before after → AppendsFront text before after
-uses_begun {text} {before} begun = begun.front [] before (gathers_start before)
+use Rattle.pd_uses.specs.UseLines.{listed_row, listed_rows, use_line, uses_text}
 
 -- the lines of uses up to a place, and of one more
 pub text_so_far : (uses : List DataUse) (i : ℕ) (d : DataUse) → i < length uses → uses_text (take (i + 1) uses) ≡ uses_text (take i uses) ++ use_line (get_or uses i d)
@@ -61,7 +20,7 @@ text_cut uses i = ap uses_text (sym (take-append-drop i uses)) ∙ flat_map-appe
 -- a front of the lines of uses, behind those up to a place
 pub uses_stopped : (uses : List DataUse) (i : ℕ) {old mid : List ℕ} {before between after : Option (List ℕ)} → Adds (uses_text (take i uses)) old mid before between → StopsAt mid between after
     → Begins (uses_text uses) old before after
-uses_stopped uses i adds stopped = rw (text_cut uses i) (begins_after (uses_text (take i uses)) (uses_text (drop i uses)) adds stopped)
+uses_stopped uses i adds stopped = rw (text_cut uses i) (begins_after adds (begins_at (uses_text (drop i uses)) stopped))
 
 -- a line that was gathered or not, which is this one where the device tells what it holds
 pub line_told : {E : Type 0} (held : Option (List (List ℕ))) (text_of : List (List ℕ) → List ℕ) (text old new : List ℕ) (before after : Option (List ℕ)) (result : Result (Unit {0}) E)

@@ -29,35 +29,6 @@ use Rattle.pd_uses.specs.Uses.{row_uses, rows_uses, super_uses, use_by}
 use Rattle.pd_uses.proofs.CountLemmas.{HasFew, exclusive_is_given, few_in_rows}
 use Rattle.pd_uses.proofs.LineLemmas.{parts_rest}
 
--- lines that were not put, since nothing was
-abbrev told_lines : Option (List (List ℕ)) → (List (List ℕ) → List ℕ) → List ℕ
-told_lines None lines_of = []
-told_lines (Some image) lines_of = lines_of image
-
-lines_told : (lines : ThinPool → List ℕ) (s : ThinSuper) (held : Option (List (List ℕ)))
-    → IfSome held (λ image. s ≡ thin_fields (block_at image 0) → faults Thin Whole image ≡ [] → told_lines held (λ image. lines (thin_meaning image)) ≡ lines (thin_meaning image))
-lines_told lines s None = tt
-lines_told lines s (Some image) = λ is none. refl
-
-pub lines_lost : (lines : ThinPool → List ℕ) (s : ThinSuper) (fault : QueryFault) (held : Option (List (List ℕ))) (before : Option (List ℕ)) → PutsLines lines s (Err fault) held before before
-lines_lost lines s fault held before = record {
-  text = told_lines held (λ image. lines (thin_meaning image));
-  told = lines_told lines s held;
-  whole = tt;
-  front = front_none _ before;
-}
-
--- lines that were put, or a front of them, where they are those of a sound pool's meaning
-pub lines_put : (lines : ThinPool → List ℕ) (s : ThinSuper) (result : Result (Unit {0}) QueryFault) (held : Option (List (List ℕ))) (text_of : List (List ℕ) → List ℕ) (before after : Option (List ℕ))
-    → PutsText held text_of result before after → IfSome held (λ image. s ≡ thin_fields (block_at image 0) → faults Thin Whole image ≡ [] → text_of image ≡ lines (thin_meaning image))
-    → PutsLines lines s result held before after
-lines_put lines s result held text_of before after puts law = record {
-  text = puts.text;
-  told = two_told held (λ image is same own none. is ∙ same own none) puts.told law;
-  whole = puts.whole;
-  front = puts.front;
-}
-
 -- the lines of the uses of a block by a device
 lines_of_mappings : (image : List (List ℕ)) (b : ℕ) (row : DeviceRow) (mappings : List Mapping)
     → uses_text (uses_of_block (map (use_by row.id) mappings) b) ≡ flat_map (mapping_line b (device_of image row)) (filter (λ (m : Mapping). nat_eq m.data_block b) mappings)

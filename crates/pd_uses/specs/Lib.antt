@@ -3,4 +3,3 @@ pub mod Taken
 pub mod Ordered
 pub mod UseCounts
 pub mod UseLines
-pub mod Ending

@@ -1,18 +1,17 @@
 -- The bytes of the lines of uses, and of the list of devices.
-use Rattle.std.specs.Prelude.{◌≡◌, ℕ, ◌-◌, List, [], ◌∷◌, ◌++◌, Option, IfSome, Result, OnOk, codes, decimal}
+use Rattle.std.specs.Prelude.{◌≡◌, ℕ, ◌-◌, List, [], ◌∷◌, ◌++◌, Option, Result, codes, decimal}
 use Rattle.std.specs.List.{flat_map}
 use Rattle.pd_kinds.specs.declared.kind.Kind.TheVariants.{Thin}
 use Rattle.pd_kinds.specs.declared.kind.Stage.TheVariants.{Whole}
 use Rattle.pd_kinds.specs.declared.thin_super.ThinSuper.{ThinSuper}
 use Rattle.pd_kinds.specs.Graph.{block_at}
 use Rattle.pd_kinds.specs.Meaning.{ThinPool, thin_meaning}
-use Rattle.pd_kinds.specs.Objects.{Appends, AppendsFront}
 use Rattle.pd_kinds.specs.Stages.{faults}
 use Rattle.pd_kinds.specs.ThinSuper.{thin_fields}
-use Rattle.pd_lines.specs.Pieces.{Gathers}
 use Rattle.pd_count.specs.Counted.{Counted}
 use Rattle.pd_pool.specs.declared.devices.DeviceRow.{DeviceRow}
 use Rattle.pd_query.specs.declared.fault.QueryFault.{QueryFault}
+use Rattle.pd_query.specs.Adds.{Puts}
 use Rattle.pd_uses.specs.declared.data_use.DataUse.{DataUse}
 use Rattle.pd_uses.specs.UseCounts.{exclusive_in}
 
@@ -49,14 +48,8 @@ listed_row image counts row = device_line row (exclusive_in image counts row)
 abbrev pub listed_rows : List (List ℕ) → Counted → List DeviceRow → List ℕ
 listed_rows image counts rows = flat_map (listed_row image counts) rows
 
--- a front of a text was put, after what had been gathered
-pub record Begins (text old : List ℕ) (before after : Option (List ℕ)) : Type 0 where
-  pub front : (total : List ℕ) (start : Option (List ℕ)) → Gathers total old start before → AppendsFront (total ++ text) start after
-
 -- Lines were put, or a front of them where the work failed. Where the device tells an image without faults up to the
 -- stage Whole, and this is its superblock, they are those of the pool that the image means
-pub record PutsLines (lines : ThinPool → List ℕ) (s : ThinSuper) (result : Result (Unit {0}) QueryFault) (held : Option (List (List ℕ))) (before after : Option (List ℕ)) : Type 0 where
-  pub text : List ℕ
-  pub told : IfSome held (λ image. s ≡ thin_fields (block_at image 0) → faults Thin Whole image ≡ [] → text ≡ lines (thin_meaning image))
-  pub whole : OnOk result (Appends text before after)
-  pub front : AppendsFront text before after
+abbrev pub PutsLines : (ThinPool → List ℕ) → ThinSuper → Result (Unit {0}) QueryFault → Option (List (List ℕ)) → Option (List ℕ) → Option (List ℕ) → Type 0
+PutsLines lines s result held before after =
+    Puts held (λ image text. s ≡ thin_fields (block_at image 0) → faults Thin Whole image ≡ [] → text ≡ lines (thin_meaning image)) result before after

@@ -6,19 +6,19 @@ ghost use Rattle.pd_image.specs.Sink.{KeepsSink};
 ghost use Rattle.pd_answers.specs.QueryLines.{list_lines};
 ghost use Rattle.pd_pool.specs.Devices.{rows_left, rows_room};
 ghost use Rattle.pd_pool.specs.Given.{super_rows};
-ghost use Rattle.pd_query.specs.Adds.{Adds, AddsSome, PutsFront, PutsText};
-ghost use Rattle.pd_query.specs.Failing.{SinkFails};
-ghost use Rattle.pd_uses.specs.Ending.{Ends};
-ghost use Rattle.pd_uses.specs.UseLines.{Begins, PutsLines, blocks_part, details_part, device_line, listed_row, listed_rows};
+ghost use Rattle.pd_query.specs.Adds.{Adds, AddsSome, Begins, PutsFront, PutsText};
+ghost use Rattle.pd_query.specs.Failing.{Ends, SinkFails};
+ghost use Rattle.pd_uses.specs.UseLines.{PutsLines, blocks_part, details_part, device_line, listed_row, listed_rows};
 
 use crate::counting::{count_uses, exclusive_blocks};
 use crate::lines::{add_labeled, add_text};
+use crate::walk::super_to_ask;
 use pd_count::Counts;
 use pd_image::{Device, Sink};
 use pd_kinds::ThinSuper;
 use pd_lines::{LineBuffer, Pieces};
 use pd_pool::{DeviceRow, ThinDevices, rows_are_the_devices};
-use pd_query::{QueryFault, devices_of};
+use pd_query::{Query, QueryFault, devices_of};
 use pd_tree::Cursor;
 use pd_value::BlockTime;
 use std::alloc::Global;
@@ -212,4 +212,40 @@ fn details_text(row: &DeviceRow) -> LineBuffer
     add_labeled(&mut line, b" snapped ", u64::from(row.details.snapped));
     line.add(b"\n");
     line
+}
+
+/// The thin devices of a pool, as they are asked for.
+#[derive(Clone, Copy, Debug, PartialEq, Eq)]
+pub struct DeviceList;
+
+impl Query for DeviceList {
+    ghost use Rattle.std.specs.Prelude.{◌≡◌};
+    ghost use Rattle.pd_kinds.specs.declared.kind.Kind.TheVariants.{Thin};
+    ghost use Rattle.pd_kinds.specs.Graph.{block_at};
+    ghost use Rattle.pd_kinds.specs.Meaning.{thin_meaning};
+    ghost use Rattle.pd_kinds.specs.ThinSuper.{thin_fields};
+    ghost use Rattle.pd_answers.specs.QueryLines.{list_lines};
+    ghost use Rattle.pd_query.specs.Sound.{IfSound};
+
+    type Started = ThinSuper;
+
+    ghost kind = { Thin };
+
+    ghost answer = { λ query image. list_lines (thin_meaning image) };
+
+    ghost IsOver = { λ query s held blocks. IfSound Thin held (λ image. s ≡ thin_fields (block_at image 0)) };
+
+    fn start<D: Device>(&self, alloc: Global, dev: &mut D) -> Result<ThinSuper, QueryFault> {
+        super_to_ask(dev)
+    }
+
+    fn put<D: Device, K: Sink>(
+        &self,
+        alloc: Global,
+        started: ThinSuper,
+        dev: &mut D,
+        out: &mut K,
+    ) -> Result<(), QueryFault> {
+        list_devices(alloc, dev, &started, out)
+    }
 }

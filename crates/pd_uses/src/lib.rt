@@ -14,5 +14,5 @@ mod reverse_map;
 mod walk;
 
 pub use data_use::DataUse;
-pub use device_list::list_devices;
-pub use reverse_map::rmap;
+pub use device_list::{DeviceList, list_devices};
+pub use reverse_map::{ReverseMap, rmap};

@@ -5,19 +5,19 @@ ghost use Rattle.pd_kinds.specs.Objects.{Appends, AppendsFront};
 ghost use Rattle.pd_image.specs.Device.{IsAttached, OnlyReads};
 ghost use Rattle.pd_image.specs.Sink.{KeepsSink};
 ghost use Rattle.pd_answers.specs.QueryLines.{rmap_lines};
-ghost use Rattle.pd_query.specs.Adds.{Adds};
-ghost use Rattle.pd_query.specs.Failing.{SinkFails};
-ghost use Rattle.pd_uses.specs.Ending.{Ends};
-ghost use Rattle.pd_uses.specs.UseLines.{Begins, PutsLines, use_line, uses_text};
+ghost use Rattle.pd_query.specs.Adds.{Adds, Begins};
+ghost use Rattle.pd_query.specs.Failing.{Ends, SinkFails};
+ghost use Rattle.pd_uses.specs.UseLines.{PutsLines, use_line, uses_text};
 
 use crate::data_use::DataUse;
 use crate::lines::{add_labeled, add_text};
 use crate::region::region_uses;
+use crate::walk::super_to_ask;
 use pd_image::{Device, Sink};
 use pd_kinds::ThinSuper;
 use pd_lines::{LineBuffer, Pieces};
 use pd_pool::rows_are_the_devices;
-use pd_query::QueryFault;
+use pd_query::{Query, QueryFault};
 use std::alloc::Global;
 
 /// Puts a line for each mapping to a data block from `first` on and below `end`, of the pool with this superblock:
@@ -95,4 +95,43 @@ fn use_text(one: &DataUse) -> LineBuffer
     add_labeled(&mut line, b" virtual ", one.virt);
     line.add(b"\n");
     line
+}
+
+/// The mappings of a pool to the data blocks from the first on and below the end, as they are asked for.
+#[derive(Clone, Copy, Debug, PartialEq, Eq)]
+pub struct ReverseMap {
+    pub first: u64,
+    pub end: u64,
+}
+
+impl Query for ReverseMap {
+    ghost use Rattle.std.specs.Prelude.{◌≡◌};
+    ghost use Rattle.pd_kinds.specs.declared.kind.Kind.TheVariants.{Thin};
+    ghost use Rattle.pd_kinds.specs.Graph.{block_at};
+    ghost use Rattle.pd_kinds.specs.Meaning.{thin_meaning};
+    ghost use Rattle.pd_kinds.specs.ThinSuper.{thin_fields};
+    ghost use Rattle.pd_answers.specs.QueryLines.{rmap_lines};
+    ghost use Rattle.pd_query.specs.Sound.{IfSound};
+
+    type Started = ThinSuper;
+
+    ghost kind = { Thin };
+
+    ghost answer = { λ query image. rmap_lines query.first query.end (thin_meaning image) };
+
+    ghost IsOver = { λ query s held blocks. IfSound Thin held (λ image. s ≡ thin_fields (block_at image 0)) };
+
+    fn start<D: Device>(&self, alloc: Global, dev: &mut D) -> Result<ThinSuper, QueryFault> {
+        super_to_ask(dev)
+    }
+
+    fn put<D: Device, K: Sink>(
+        &self,
+        alloc: Global,
+        started: ThinSuper,
+        dev: &mut D,
+        out: &mut K,
+    ) -> Result<(), QueryFault> {
+        rmap(alloc, dev, &started, self.first, self.end, out)
+    }
 }

@@ -1,18 +1,22 @@
 //! All mappings of a pool, as uses of its data blocks, given to what takes them.
 
-ghost use Rattle.std.specs.Prelude.{◌≤◌, OnOk};
+ghost use Rattle.std.specs.Prelude.{◌≡◌, ◌≤◌, IfOk, OnOk};
+ghost use Rattle.pd_kinds.specs.declared.kind.Kind.TheVariants.{Thin};
+ghost use Rattle.pd_kinds.specs.Graph.{block_at};
+ghost use Rattle.pd_kinds.specs.ThinSuper.{thin_fields};
 ghost use Rattle.pd_image.specs.Device.{IsAttached, OnlyReads};
 ghost use Rattle.pd_tree.specs.Cursor.{cursor_room};
 ghost use Rattle.pd_pool.specs.Devices.{rows_left, rows_room};
 ghost use Rattle.pd_query.specs.Failing.{StartFails};
+ghost use Rattle.pd_query.specs.Sound.{IfSound};
 ghost use Rattle.pd_uses.specs.Taken.{Takes};
 ghost use Rattle.pd_uses.specs.Uses.{row_uses, rows_uses, super_uses, uses_left};
 
 use crate::data_use::{DataUse, TakesUses};
 use pd_image::Device;
 use pd_kinds::ThinSuper;
-use pd_pool::{DeviceRow, ThinDevices};
-use pd_query::{QueryFault, devices_of};
+use pd_pool::{DeviceRow, ThinDevices, rows_are_the_devices};
+use pd_query::{QueryFault, devices_of, read_super};
 use pd_tree::Cursor;
 use pd_value::BlockTime;
 use std::alloc::Global;
@@ -120,5 +124,19 @@ pub(crate) fn take_pool<T: TakesUses, D: Device>(
     match devices {
         Some(mut devices) => take_rows(&mut devices, &mut mappings, dev, taker),
         None => Ok(()),
+    }
+}
+
+/// The superblock of a pool that is to be asked.
+pub(crate) fn super_to_ask<D: Device>(dev: &mut D) -> Result<ThinSuper, QueryFault>
+    requires { IsAttached (D.state dev.old) }
+    ensures fields { IfOk result (λ s. IfSound Thin (D.state dev.old).held (λ image. s ≡ thin_fields (block_at image 0))) }
+    ensures kept { OnlyReads (D.state dev.old) (D.state dev.new) }
+    ensures faults { StartFails result (D.state dev.old).faults (D.state dev.new).faults }
+{
+    rows_are_the_devices();
+    match read_super(dev) {
+        Ok(s) => Ok(s),
+        Err(_) => Err(QueryFault::Device),
     }
 }

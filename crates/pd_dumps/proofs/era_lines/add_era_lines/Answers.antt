@@ -1,7 +1,7 @@
 use Rattle.pd_spells.specs.EraText.{era, era_line}
 use Rattle.pd_texts.specs.Printed.{text_of_line}
 use Rattle.pd_dumps.specs.EraLines.{rest_text, super_head}
-use Rattle.pd_dumps.proofs.KnownLemmas.{adds_then, begins_at}
+use Rattle.pd_query.proofs.KnownLemmas.{adds_then, begins_at}
 use Rattle.pd_dumps.proofs.era_lines.add_era_lines.Goals as goal
 
 pub returns-in-Ok-clause-lines : goal.returns-in-Ok-clause-lines

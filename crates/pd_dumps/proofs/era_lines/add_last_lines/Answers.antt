@@ -2,7 +2,7 @@ use Rattle.pd_spells.specs.EraText.{joined_eras, run_lines}
 use Rattle.pd_texts.specs.Printed.{end_text}
 use Rattle.pd_dumps.specs.EraLines.{runs_text}
 use Rattle.pd_dumps.proofs.EraLemmas.{last_line}
-use Rattle.pd_dumps.proofs.KnownLemmas.{begins_first, last_then}
+use Rattle.pd_query.proofs.KnownLemmas.{begins_first, last_then}
 use Rattle.pd_dumps.proofs.era_lines.add_last_lines.Goals as goal
 
 pub returns-in-Ok-clause-lines : goal.returns-in-Ok-clause-lines

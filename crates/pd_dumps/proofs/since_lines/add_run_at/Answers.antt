@@ -1,5 +1,5 @@
 use Rattle.std.proofs.Common.{sym, ◌∙◌}
-use Rattle.pd_dumps.proofs.KnownLemmas.{adds_none}
+use Rattle.pd_query.proofs.KnownLemmas.{adds_none}
 use Rattle.pd_dumps.proofs.SinceLemmas.{none_begins, one_begins}
 use Rattle.pd_dumps.proofs.since_lines.add_run_at.Goals as goal
 

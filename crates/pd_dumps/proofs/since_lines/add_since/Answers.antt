@@ -1,6 +1,6 @@
 use Rattle.std.proofs.Common.{◌∙◌, arith}
 use Rattle.pd_query.proofs.AddsLemmas.{keeps_both}
-use Rattle.pd_dumps.proofs.KnownLemmas.{adds_both}
+use Rattle.pd_query.proofs.KnownLemmas.{adds_both}
 use Rattle.pd_dumps.proofs.SinceLemmas.{since_more, since_stopped}
 use Rattle.pd_dumps.proofs.since_lines.add_since.Goals as goal
 

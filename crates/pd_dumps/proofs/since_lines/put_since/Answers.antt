@@ -1,6 +1,6 @@
 use Rattle.pd_kinds.proofs.AppendLemmas.{front_from_whole}
 use Rattle.pd_dumps.specs.SinceLines.{since_text}
-use Rattle.pd_dumps.proofs.KnownLemmas.{all_begun, all_lost, all_put}
+use Rattle.pd_query.proofs.KnownLemmas.{all_begun, all_lost, all_put}
 use Rattle.pd_dumps.proofs.since_lines.put_since.Goals as goal
 
 pub returns-in-Ok-put-clause-whole : goal.returns-in-Ok-put-clause-whole

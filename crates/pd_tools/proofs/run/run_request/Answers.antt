@@ -12,8 +12,8 @@ use Rattle.pd_answers.specs.Repairs.{repair}
 use Rattle.pd_answers.specs.Restores.{restore}
 use Rattle.std.specs.Option.{option_copied}
 use Rattle.pd_words.specs.Words.{word_of, words_of}
-use Rattle.pd_tools.specs.declared.query.Query.{Query}
-use Rattle.pd_tools.specs.declared.query.Query.TheVariants.{Dump, ReverseMap, DeviceList, Since}
+use Rattle.pd_tools.specs.declared.query.Asked.{Asked}
+use Rattle.pd_tools.specs.declared.query.Asked.TheVariants.{Dump, ReverseMap, DeviceList, Since}
 use Rattle.pd_tools.specs.Query.{terms_of_query}
 use Rattle.pd_tools.specs.Work.{Answers}
 use Rattle.pd_tools.proofs.AtRest.{no_shared}
@@ -46,9 +46,9 @@ returns-in-Dump g c others =
     (rw c.in-Dump.is at c.requires.built) c.file_in.ensures c.word_in-in-Dump.ensures (c.run_query.ensures (record others { source = g.S.Source.state c.args.source.now; output = g.B.Device.state c.args.output.now })))
 
 -- so with another query
-query_as_asked : (query : Query) (file given : Option (List ℕ)) (path word : List ℕ) (attached : SinkState) (before after : Objects) (status : ℕ)
-    → given ≡ file → word ≡ path → Answers (terms_of_query query given word) attached before after status → Answers (terms_of_query query file path) attached before after status
-query_as_asked query file given path word attached before after status file_is same answers = rw (file_is, same) at answers
+query_as_asked : (asked : Asked) (file given : Option (List ℕ)) (path word : List ℕ) (attached : SinkState) (before after : Objects) (status : ℕ)
+    → given ≡ file → word ≡ path → Answers (terms_of_query asked given word) attached before after status → Answers (terms_of_query asked file path) attached before after status
+query_as_asked asked file given path word attached before after status file_is same answers = rw (file_is, same) at answers
 
 pub returns-in-Rmap : goal.returns-in-Rmap
 returns-in-Rmap g c others =

@@ -1,6 +1,7 @@
 use Rattle.std.proofs.Common.{◌∙◌}
 use Rattle.pd_query.proofs.AddsLemmas.{keeps_both}
-use Rattle.pd_uses.proofs.LineLemmas.{adds_both, text_so_far, uses_stopped}
+use Rattle.pd_query.proofs.KnownLemmas.{adds_both}
+use Rattle.pd_uses.proofs.LineLemmas.{text_so_far, uses_stopped}
 use Rattle.pd_uses.proofs.reverse_map.add_uses.Goals as goal
 
 pub returns-in-Err-clause-lines : goal.returns-in-Err-clause-lines

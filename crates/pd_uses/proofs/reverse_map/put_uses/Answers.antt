@@ -1,17 +1,17 @@
 use Rattle.pd_kinds.proofs.AppendLemmas.{front_from_whole}
 use Rattle.pd_uses.specs.UseLines.{uses_text}
-use Rattle.pd_uses.proofs.LineLemmas.{uses_begun, uses_lost, uses_put}
+use Rattle.pd_query.proofs.KnownLemmas.{all_begun, all_lost, all_put}
 use Rattle.pd_uses.proofs.reverse_map.put_uses.Goals as goal
 
 pub returns-in-Ok-put-clause-whole : goal.returns-in-Ok-put-clause-whole
-returns-in-Ok-put-clause-whole g c = uses_put (rw c.new-pieces.ensures.none at c.in-Ok.ensures.lines) c.in-Ok-put.ensures.whole
+returns-in-Ok-put-clause-whole g c = all_put (rw c.new-pieces.ensures.none at c.in-Ok.ensures.lines) c.in-Ok-put.ensures.whole
 
 pub returns-in-Ok-put-clause-front : goal.returns-in-Ok-put-clause-front
 returns-in-Ok-put-clause-front g c =
-    front_from_whole (uses_text c.args.uses.now) _ _ (uses_put (rw c.new-pieces.ensures.none at c.in-Ok.ensures.lines) c.in-Ok-put.ensures.whole)
+    front_from_whole (uses_text c.args.uses.now) _ _ (all_put (rw c.new-pieces.ensures.none at c.in-Ok.ensures.lines) c.in-Ok-put.ensures.whole)
 
 pub returns-in-Err-put-clause-front : goal.returns-in-Err-put-clause-front
-returns-in-Err-put-clause-front g c = uses_lost (rw c.new-pieces.ensures.none at c.in-Ok.ensures.lines) c.in-Err-put.ensures.front
+returns-in-Err-put-clause-front g c = all_lost (rw c.new-pieces.ensures.none at c.in-Ok.ensures.lines) c.in-Err-put.ensures.front
 
 pub returns-in-Err-clause-front : goal.returns-in-Err-clause-front
-returns-in-Err-clause-front g c = uses_begun (rw c.new-pieces.ensures.none at c.in-Err.ensures.lines)
+returns-in-Err-clause-front g c = all_begun (rw c.new-pieces.ensures.none at c.in-Err.ensures.lines)

@@ -5,8 +5,7 @@ use Rattle.pd_kinds.specs.Objects.{Appends, AppendsFront}
 use Rattle.pd_kinds.proofs.AppendLemmas.{front_of_more}
 use Rattle.pd_lines.specs.Pieces.{Gathers}
 use Rattle.pd_lines.proofs.Gathering.{gathers_start}
-use Rattle.pd_query.specs.Adds.{Adds, StopsAt}
-use Rattle.pd_dumps.specs.Known.{Begins}
+use Rattle.pd_query.specs.Adds.{Adds, Begins, StopsAt}
 
 -- nothing was gathered
 pub adds_none : (old : List ℕ) (before : Option (List ℕ)) → Adds [] old old before before
