@@ -1,18 +1,17 @@
 //! The lines of a cache's text, printed.
 
-ghost use Rattle.std.specs.Prelude.{◌≡◌, ◌≤◌, ◌+◌, ◌++◌, ◌∷◌, ℕ, List, Option, OnOk, OnErr, length, decimal, codes, slice_index, []};
+ghost use Rattle.std.specs.Prelude.{◌≡◌, ◌≤◌, ◌+◌, ◌++◌, ◌∷◌, OnOk, length, decimal, codes, slice_index, []};
 ghost use Rattle.hex.specs.Hex.{encode_lower};
 ghost use Rattle.uuid.specs.Text.{hyphenated_text, lower};
 ghost use Rattle.pd_kinds.specs.Objects.{CountsFault, Appends, AppendsFront};
 ghost use Rattle.pd_image.specs.Sink.{KeepsSink};
-ghost use Rattle.pd_lines.specs.Pieces.{Gathers};
 ghost use Rattle.pd_spells.specs.CacheText.{cache, flag_number, map_line};
 ghost use Rattle.pd_texts.specs.Printed.{text_of_line};
 ghost use Rattle.pd_cache_texts.specs.CacheLine.{line_of};
 
 use crate::line::CacheLine;
 use pd_image::{Failed, Sink};
-use pd_lines::{LineBuffer, Pieces};
+use pd_lines::LineBuffer;
 use pd_texts::{add_uuid, add_word};
 
 /// Prints a line. It takes no memory.
@@ -23,26 +22,11 @@ pub fn print_cache<K: Sink>(line: &CacheLine, out: &mut K) -> Result<(), Failed>
     ensures kept { KeepsSink (K.state out.old) (K.state out.new) }
     ensures faults { CountsFault result (K.state out.old).faults (K.state out.new).faults }
 {
-    out.put(line_text(line).as_bytes())
+    out.put(bytes_of_cache(line).as_bytes())
 }
 
-/// Gathers a line. What is gathered ends with `Pieces::put`.
-pub fn add_cache<K: Sink>(line: &CacheLine, pieces: &mut Pieces, out: &mut K) -> Result<(), Failed>
-    requires { (K.state out.old).access ≡ 1 }
-    ensures gathered { (total : List ℕ) (start : Option (List ℕ)) → Gathers total pieces.old start (K.state out.old).written
-        → OnOk result (Gathers (total ++ text_of_line cache (line_of line.now)) pieces.new start (K.state out.new).written) }
-    ensures front { (total : List ℕ) (start : Option (List ℕ)) → Gathers total pieces.old start (K.state out.old).written
-        → AppendsFront total start (K.state out.new).written }
-    ensures access { (K.state out.new).access ≡ (K.state out.old).access }
-    ensures path { (K.state out.new).path ≡ (K.state out.old).path }
-    ensures faults { CountsFault result (K.state out.old).faults (K.state out.new).faults }
-    ensures failed { OnErr result (pieces.new ≡ pieces.old) }
-{
-    pieces.add(line_text(line).as_bytes(), out)
-}
-
-/// The bytes of a line.
-fn line_text(line: &CacheLine) -> LineBuffer
+/// The bytes of a line, with its line feed.
+pub fn bytes_of_cache(line: &CacheLine) -> LineBuffer
     ensures bytes { result ≡ text_of_line cache (line_of line.now) }
 {
     match line {

@@ -20,7 +20,7 @@ use Rattle.pd_tree.specs.Roots.{HasCacheRoots}
 use Rattle.pd_cached.specs.declared.beside.CacheRow.{CacheRow}
 use Rattle.pd_cached.specs.Given.{GivesCache, entry_of}
 use Rattle.pd_cached.specs.Rows.{rows_below}
-use Rattle.pd_query.proofs.AddsLemmas.{two_told}
+use Rattle.pd_query.proofs.PutsLemmas.{two_told}
 use Rattle.pd_dumps.specs.declared.cache.CacheDump.{CacheDump}
 use Rattle.pd_dumps.specs.CacheDump.{text_left}
 use Rattle.pd_dumps.specs.CacheLines.{cache_dump_text, given_line, super_head, super_rows}

@@ -10,41 +10,41 @@ use Rattle.pd_kinds.specs.Graph.{block_at}
 use Rattle.pd_kinds.specs.Meaning.{era_meaning}
 use Rattle.pd_kinds.specs.Stages.{HasCleanSuper, era_checked, faults}
 use Rattle.pd_laws.proofs.CleanLemmas.{clean_super_where_none}
+use Rattle.pd_lines.specs.Printing.{Begun, Printed, Printing}
+use Rattle.pd_lines.proofs.Printing.{begun_after, begun_first, printed_both}
 use Rattle.pd_grammar.specs.Texts.{written}
 use Rattle.pd_spells.specs.EraText.{Line, end_line, era, joined_eras, run_lines, text_of_era}
 use Rattle.pd_texts.specs.Printed.{end_text, text_of_line}
 use Rattle.pd_eras.specs.Eras.{GivesEras, RootsBelow}
-use Rattle.pd_query.specs.Adds.{Adds, Begins, StopsAt}
-use Rattle.pd_query.proofs.AddsLemmas.{one_told, two_told}
+use Rattle.pd_query.proofs.PutsLemmas.{one_told, two_told}
 use Rattle.pd_dumps.specs.EraGiven.{are_roots_below, given_eras}
 use Rattle.pd_dumps.specs.EraLines.{era_dump_text, rest_text, runs_text}
-use Rattle.pd_query.proofs.KnownLemmas.{adds_both, begins_after, begins_at}
 
 -- the lines of the runs, and the last one
 pub last_line : (eras : List ℕ) → rest_text eras ≡ runs_text (run_lines 0 (joined_eras eras)) ++ end_text
 last_line eras = flat_map-append (λ (line : Line). written era line ++ (10 ∷ [])) (run_lines 0 (joined_eras eras)) (end_line ∷ [])
 
--- so far the lines of some runs were gathered, which with the others are all
-pub record RunsSoFar (whole left : List Line) (old new : List ℕ) (before after : Option (List ℕ)) : Type 0 where
+-- so far the lines of some runs were printed, which with the others are all
+pub record RunsSoFar (whole left : List Line) (old new : Printing) : Type 0 where
   pub lines : List Line
   pub split : whole ≡ lines ++ left
-  pub adds : Adds (runs_text lines) old new before after
+  pub printed : Printed (runs_text lines) old new
 
-pub runs_more : {whole left : List Line} (line : Line) (later : List Line) {old mid new : List ℕ} {before between after : Option (List ℕ)} → RunsSoFar whole left old mid before between
-    → left ≡ line ∷ later → Adds (text_of_line era line) mid new between after → RunsSoFar whole later old new before after
-runs_more line later so_far is adds = record {
+pub runs_more : {whole left : List Line} (line : Line) (later : List Line) {old mid new : Printing} → RunsSoFar whole left old mid → left ≡ line ∷ later → Printed (text_of_line era line) mid new
+    → RunsSoFar whole later old new
+runs_more line later so_far is printed = record {
   lines = so_far.lines ++ (line ∷ []);
   split = so_far.split ∙ (ap (λ (xs : List Line). so_far.lines ++ xs) is ∙ sym (append_assoc so_far.lines (line ∷ []) later));
-  adds = rw (flat_map-append (λ (line : Line). written era line ++ (10 ∷ [])) so_far.lines (line ∷ []), append-nil (text_of_line era line)) (adds_both so_far.adds adds);
+  printed = rw (flat_map-append (λ (line : Line). written era line ++ (10 ∷ [])) so_far.lines (line ∷ []), append-nil (text_of_line era line)) (printed_both so_far.printed printed);
 }
 
-pub runs_all : {whole left : List Line} {old new : List ℕ} {before after : Option (List ℕ)} → RunsSoFar whole left old new before after → left ≡ [] → Adds (runs_text whole) old new before after
-runs_all so_far none = rw (so_far.split ∙ (ap (λ (xs : List Line). so_far.lines ++ xs) none ∙ append-nil so_far.lines)) so_far.adds
+pub runs_all : {whole left : List Line} {old new : Printing} → RunsSoFar whole left old new → left ≡ [] → Printed (runs_text whole) old new
+runs_all so_far none = rw (so_far.split ∙ (ap (λ (xs : List Line). so_far.lines ++ xs) none ∙ append-nil so_far.lines)) so_far.printed
 
-pub runs_stopped : {whole left : List Line} {old mid : List ℕ} {before between after : Option (List ℕ)} → RunsSoFar whole left old mid before between → StopsAt mid between after
-    → Begins (runs_text whole) old before after
-runs_stopped {whole} {left} so_far stopped =
-    rw (so_far.split, flat_map-append (λ (line : Line). written era line ++ (10 ∷ [])) so_far.lines left) (begins_after so_far.adds (begins_at (runs_text left) stopped))
+pub runs_lost : {whole left : List Line} (line : Line) (later : List Line) {old mid new : Printing} → RunsSoFar whole left old mid → left ≡ line ∷ later → Begun (text_of_line era line) mid new
+    → Begun (runs_text whole) old new
+runs_lost {whole} {left} line later so_far is begun =
+    rw (so_far.split, is, flat_map-append (λ (line : Line). written era line ++ (10 ∷ [])) so_far.lines (line ∷ later)) (begun_after so_far.printed (begun_first (runs_text later) begun))
 
 some_test : (root blocks : ℕ) → ((root ≡ 0 → ⊥) → root < blocks) → (nat_eq root 0 || nat_lt root blocks) ≡ true
 some_test root blocks below = elim (cases_Bool (nat_eq root 0)) [

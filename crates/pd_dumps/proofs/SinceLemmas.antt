@@ -1,5 +1,5 @@
 -- The lines of what was written since an era, block after block.
-use Rattle.std.proofs.Common.{◌≡◌, ℕ, zero, suc, ◌+◌, ◌-◌, ◌<◌, ◌≤◌, Bool, true, false, List, [], ◌∷◌, ◌++◌, length, get_or, drop, filter, Option, Some, None, IfSome, Result, Err, refl, sym, ap, ◌∙◌, arith, drop-cons}
+use Rattle.std.proofs.Common.{◌≡◌, ℕ, zero, suc, ◌+◌, ◌-◌, ◌<◌, ◌≤◌, Bool, true, false, List, [], ◌∷◌, ◌++◌, length, get_or, drop, filter, refl, sym, ap, ◌∙◌, arith, drop-cons}
 use Rattle.std.specs.List.{flat_map, prefix_len, range_with_len, take_while}
 use Rattle.std.proofs.lemmas.Bool.{le-ltb, lt-ltb}
 use Rattle.std.proofs.lemmas.List.{append-nil}
@@ -7,20 +7,14 @@ use Rattle.std.proofs.lemmas.List.Concat.{flat_map-append}
 use Rattle.std.proofs.lemmas.List.Folds.{length-prefix_len}
 use Rattle.std.proofs.lemmas.List.Elements.{filter-append}
 use Rattle.pd_kinds.specs.declared.era_super.EraSuper.{EraSuper}
-use Rattle.pd_kinds.specs.declared.kind.Kind.TheVariants.{Era}
-use Rattle.pd_kinds.specs.declared.kind.Stage.TheVariants.{Whole}
 use Rattle.pd_kinds.specs.EraFormat.{era_fields}
 use Rattle.pd_kinds.specs.Graph.{block_at}
 use Rattle.pd_kinds.specs.Meaning.{era_meaning}
-use Rattle.pd_kinds.specs.Stages.{faults}
-use Rattle.pd_kinds.proofs.AppendLemmas.{front_none}
 use Rattle.pd_answers.specs.QueryLines.{begins_run, is_since, run_line, since_lines}
-use Rattle.pd_query.specs.declared.fault.QueryFault.{QueryFault}
-use Rattle.pd_query.specs.Adds.{Adds, Begins, PutsText, StopsAt}
-use Rattle.pd_query.proofs.AddsLemmas.{one_told}
+use Rattle.pd_lines.specs.Printing.{Begun, Printed, Printing}
 use Rattle.pd_dumps.specs.EraGiven.{given_eras}
-use Rattle.pd_dumps.specs.SinceLines.{PutsLines, since_below, since_of, since_text}
-use Rattle.pd_query.proofs.KnownLemmas.{begins_after, begins_at}
+use Rattle.pd_dumps.specs.SinceLines.{since_below, since_of, since_text}
+use Rattle.pd_lines.proofs.Printing.{begun_after, begun_first}
 
 -- how many pass a test, counted from a place on: up to the first that doesn't, or to the end
 pub count_next : (p : ℕ → Bool) (xs : List ℕ) (i : ℕ) → i < length xs → p (get_or xs i 0) ≡ true → prefix_len p xs ≡ i + prefix_len p (drop i xs)
@@ -69,9 +63,9 @@ module _ (since : ℕ) (eras : List ℕ) where
       ap (λ (n : ℕ). since_below since eras n) e ∙ (ap (since_of since eras) (range_on 0 b (length eras - b)) ∙ of_both (range_with_len 0 b) (range_with_len (0 + b) (length eras - b)))
 
   -- a front of the lines, behind those below a block
-  pub since_stopped : (b : ℕ) {old mid : List ℕ} {before between after : Option (List ℕ)} → b ≤ length eras → Adds (since_below since eras b) old mid before between → StopsAt mid between after
-      → Begins (since_text since eras) old before after
-  since_stopped b within adds stopped = rw (since_cut b within) (begins_after adds (begins_at (since_of since eras (range_with_len (0 + b) (length eras - b))) stopped))
+  pub since_lost : (b : ℕ) {old mid new : Printing} → b + 1 ≤ length eras → Printed (since_below since eras b) old mid → Begun (since_of since eras (b ∷ [])) mid new → Begun (since_text since eras) old new
+  since_lost b within printed begun =
+      rw (since_cut (b + 1) within, since_more b) (begun_first (since_of since eras (range_with_len (0 + (b + 1)) (length eras - (b + 1)))) (begun_after printed begun))
 
   -- one block begins a run, or doesn't
   pub one_begins : (b : ℕ) → begins_run since eras b ≡ true → since_of since eras (b ∷ []) ≡ run_line since eras b

@@ -10,7 +10,7 @@ use Rattle.pd_kinds.specs.Meaning.{EraMeaning, era_meaning}
 use Rattle.pd_kinds.specs.Stages.{faults}
 use Rattle.pd_answers.specs.QueryLines.{begins_run, run_line}
 use Rattle.pd_query.specs.declared.fault.QueryFault.{QueryFault}
-use Rattle.pd_query.specs.Adds.{Puts}
+use Rattle.pd_query.specs.Puts.{Puts}
 
 -- of blocks with these eras, the lines of the longest runs written in an era or later that begin with one of some blocks
 abbrev pub since_of : ℕ → List ℕ → List ℕ → List ℕ

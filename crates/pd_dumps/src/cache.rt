@@ -1,12 +1,12 @@
 //! The dump of a cache.
 
-use crate::cache_lines::{add_first_lines, maps_of};
+use crate::cache_lines::{add_cache, maps_of};
 use crate::laws::given_cache_lines_are_the_text;
 use crate::supers::read_cache;
 use pd_cached::CacheMaps;
 use pd_image::{Device, Sink};
 use pd_kinds::CacheSuper;
-use pd_lines::Pieces;
+use pd_lines::Printer;
 use pd_query::{Query, QueryFault};
 use std::alloc::{AllocError, Global};
 
@@ -29,7 +29,7 @@ impl CacheDump {
     ghost use Rattle.pd_image.specs.Device.{IsAttached, OnlyReads};
     ghost use Rattle.pd_image.specs.Sink.{KeepsSink};
     ghost use Rattle.pd_spells.specs.CacheText.{text_of_cache};
-    ghost use Rattle.pd_query.specs.Adds.{PutsText};
+    ghost use Rattle.pd_query.specs.Puts.{PutsText};
     ghost use Rattle.pd_query.specs.Failing.{Fails, StartFails};
     ghost use Rattle.pd_dumps.specs.CacheDump.{dump_room, text_left};
     ghost use Rattle.pd_dumps.specs.CacheLines.{cache_dump_text};
@@ -77,13 +77,11 @@ impl CacheDump {
         ensures sink { KeepsSink (K.state out.old) (K.state out.new) }
         ensures faults { Fails result (D.state dev.old).faults (D.state dev.new).faults (K.state out.old).faults (K.state out.new).faults }
     {
-        let mut pieces = Pieces::new();
-        match add_first_lines(&self.s, &mut self.maps, dev, &mut pieces, out) {
-            Ok(()) => match pieces.put(out) {
-                Ok(()) => Ok(()),
-                Err(_) => Err(QueryFault::Sink),
-            },
-            Err(fault) => Err(fault),
+        let mut printer = Printer::over(out);
+        add_cache(&self.s, &mut self.maps, dev, &mut printer)?;
+        match printer.finish() {
+            Ok(()) => Ok(()),
+            Err(_) => Err(QueryFault::Sink),
         }
     }
 }

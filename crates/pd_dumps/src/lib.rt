@@ -11,7 +11,6 @@ mod era;
 mod era_lines;
 mod eras_given;
 mod laws;
-mod lines;
 mod since;
 mod since_lines;
 mod supers;

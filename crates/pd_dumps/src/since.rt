@@ -4,7 +4,7 @@ ghost use Rattle.std.specs.Prelude.{◌≡◌};
 ghost use Rattle.pd_image.specs.Device.{IsAttached, OnlyReads};
 ghost use Rattle.pd_image.specs.Sink.{KeepsSink};
 ghost use Rattle.pd_answers.specs.QueryLines.{since_lines};
-ghost use Rattle.pd_query.specs.Adds.{PutsText};
+ghost use Rattle.pd_query.specs.Puts.{PutsText};
 ghost use Rattle.pd_query.specs.Failing.{Ends};
 ghost use Rattle.pd_dumps.specs.EraGiven.{given_eras};
 ghost use Rattle.pd_dumps.specs.SinceLines.{PutsLines, since_text};

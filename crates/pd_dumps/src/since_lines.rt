@@ -1,17 +1,18 @@
-//! The lines of what was written since an era, gathered.
+//! The lines of what was written since an era, printed.
 
-ghost use Rattle.std.specs.Prelude.{◌≡◌, ◌<◌, ◌∷◌, [], length, MatchResult, OnOk};
+ghost use Rattle.std.specs.Prelude.{◌≡◌, ◌<◌, ◌∷◌, [], length, OnOk};
 ghost use Rattle.std.specs.List.{take_while};
 ghost use Rattle.pd_kinds.specs.Objects.{Appends, AppendsFront};
 ghost use Rattle.pd_image.specs.Sink.{KeepsSink};
+ghost use Rattle.pd_lines.specs.Printer.{printing};
+ghost use Rattle.pd_lines.specs.Printing.{Prints};
 ghost use Rattle.pd_answers.specs.QueryLines.{begins_run, is_since, run_line};
-ghost use Rattle.pd_query.specs.Adds.{Adds, Begins, StopsAt};
 ghost use Rattle.pd_query.specs.Failing.{SinkFails};
 ghost use Rattle.pd_dumps.specs.SinceLines.{since_of, since_text};
 
 use pd_image::Sink;
-use pd_lines::{LineBuffer, Pieces};
-use pd_query::QueryFault;
+use pd_lines::{LineBuffer, Printer};
+use pd_query::{QueryFault, print_line};
 
 /// Whether a longest run of blocks that were written in an era or later begins with a block.
 fn begins_run(since: u32, eras: &[u32], block: usize) -> bool
@@ -54,62 +55,38 @@ fn run_text(since: u32, eras: &[u32], block: usize) -> LineBuffer
     line
 }
 
-/// Gathers the line of the run that begins with a block, if one does.
+/// Prints the line of the run that begins with a block, if one does.
 fn add_run_at<K: Sink>(
     since: u32,
     eras: &[u32],
     block: usize,
-    pieces: &mut Pieces,
-    out: &mut K,
+    printer: &mut Printer<'_, K>,
 ) -> Result<(), QueryFault>
     requires within { block < length eras.now }
-    requires out { (K.state out.old).access ≡ 1 }
-    ensures lines { MatchResult result
-        (λ _. Adds (since_of since eras.now (block ∷ [])) pieces.old pieces.new (K.state out.old).written (K.state out.new).written)
-        (λ _. StopsAt pieces.old (K.state out.old).written (K.state out.new).written) }
-    ensures sink { KeepsSink (K.state out.old) (K.state out.new) }
-    ensures faults { SinkFails result (K.state out.old).faults (K.state out.new).faults }
+    requires open { (K.state printer.old.out.now).access ≡ 1 }
+    ensures same_reference { printer.new.out.ghost_name ≡ printer.old.out.ghost_name }
+    ensures prints { Prints (since_of since eras.now (block ∷ [])) result (printing K.state printer.old) (printing K.state printer.new) }
+    ensures faults { SinkFails result (K.state printer.old.out.now).faults (K.state printer.new.out.now).faults }
 {
     if !begins_run(since, eras, block) {
         return Ok(());
     }
-    add_text(&run_text(since, eras, block), pieces, out)
+    print_line(run_text(since, eras, block).as_bytes(), printer)
 }
 
-/// Gathers the bytes of a line.
-fn add_text<K: Sink>(line: &LineBuffer, pieces: &mut Pieces, out: &mut K) -> Result<(), QueryFault>
-    requires { (K.state out.old).access ≡ 1 }
-    ensures lines { MatchResult result
-        (λ _. Adds line.now pieces.old pieces.new (K.state out.old).written (K.state out.new).written)
-        (λ _. StopsAt pieces.old (K.state out.old).written (K.state out.new).written) }
-    ensures sink { KeepsSink (K.state out.old) (K.state out.new) }
-    ensures faults { SinkFails result (K.state out.old).faults (K.state out.new).faults }
-{
-    match pieces.add(line.as_bytes(), out) {
-        Ok(()) => Ok(()),
-        Err(_) => Err(QueryFault::Sink),
-    }
-}
-
-/// Gathers the lines of the runs.
+/// Prints the lines of the runs.
 fn add_since<K: Sink>(
     since: u32,
     eras: &[u32],
-    pieces: &mut Pieces,
-    out: &mut K,
+    printer: &mut Printer<'_, K>,
 ) -> Result<(), QueryFault>
-    requires { (K.state out.old).access ≡ 1 }
-    ensures lines { MatchResult result
-        (λ _. Adds (since_text since eras.now) pieces.old pieces.new (K.state out.old).written (K.state out.new).written)
-        (λ _. Begins (since_text since eras.now) pieces.old (K.state out.old).written (K.state out.new).written) }
-    ensures sink { KeepsSink (K.state out.old) (K.state out.new) }
-    ensures faults { SinkFails result (K.state out.old).faults (K.state out.new).faults }
+    requires { (K.state printer.old.out.now).access ≡ 1 }
+    ensures same_reference { printer.new.out.ghost_name ≡ printer.old.out.ghost_name }
+    ensures prints { Prints (since_text since eras.now) result (printing K.state printer.old) (printing K.state printer.new) }
+    ensures faults { SinkFails result (K.state printer.old.out.now).faults (K.state printer.new.out.now).faults }
 {
     for block in 0..eras.len() {
-        match add_run_at(since, eras, block, pieces, out) {
-            Ok(()) => {}
-            Err(fault) => return Err(fault),
-        }
+        add_run_at(since, eras, block, printer)?;
     }
     Ok(())
 }
@@ -123,12 +100,10 @@ pub(crate) fn put_since<K: Sink>(since: u32, eras: &[u32], out: &mut K) -> Resul
     ensures sink { KeepsSink (K.state out.old) (K.state out.new) }
     ensures faults { SinkFails result (K.state out.old).faults (K.state out.new).faults }
 {
-    let mut pieces = Pieces::new();
-    match add_since(since, eras, &mut pieces, out) {
-        Ok(()) => match pieces.put(out) {
-            Ok(()) => Ok(()),
-            Err(_) => Err(QueryFault::Sink),
-        },
-        Err(fault) => Err(fault),
+    let mut printer = Printer::over(out);
+    add_since(since, eras, &mut printer)?;
+    match printer.finish() {
+        Ok(()) => Ok(()),
+        Err(_) => Err(QueryFault::Sink),
     }
 }

@@ -2,3 +2,4 @@ pub mod Gathering
 pub mod ReportLines
 pub mod BufferLemmas
 pub mod ReaderLemmas
+pub mod Printing

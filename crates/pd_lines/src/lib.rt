@@ -6,6 +6,7 @@ mod fault;
 mod line;
 mod number;
 mod pieces;
+mod printer;
 mod reader;
 mod report;
 
@@ -13,5 +14,6 @@ pub use fault::LineFault;
 pub use line::{LINE_ROOM, LineBuffer};
 pub use number::put_number;
 pub use pieces::{PIECE_ROOM, Pieces};
+pub use printer::Printer;
 pub use reader::{Line, LineReader};
 pub use report::print_report;

@@ -9,7 +9,7 @@ use Rattle.pd_pool.specs.declared.devices.DeviceRow.{DeviceRow}
 use Rattle.pd_pool.specs.declared.joined.Run.{Run}
 use Rattle.pd_pool.specs.Given.{row_lines}
 use Rattle.pd_pool.specs.Joined.{spelled}
-use Rattle.pd_query.proofs.AddsLemmas.{each_told, one_told, two_told}
+use Rattle.pd_query.proofs.PutsLemmas.{each_told, one_told, two_told}
 use Rattle.pd_query.specs.declared.counts.DumpCounts.{DumpCounts}
 use Rattle.pd_query.specs.Counts.{Counted, CountsSome, IsCountOf}
 use Rattle.pd_query.specs.Mapped.{mappings_of_line}

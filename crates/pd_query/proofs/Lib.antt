@@ -1,5 +1,4 @@
-pub mod AddsLemmas
+pub mod PutsLemmas
 pub mod TextLemmas
 pub mod CountLemmas
 pub mod QueryLemmas
-pub mod KnownLemmas

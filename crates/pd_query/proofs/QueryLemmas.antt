@@ -3,9 +3,9 @@ use Rattle.std.proofs.Common.{◌≡◌, ℕ, List, Option, Some, None, IfSome, 
 use Rattle.pd_kinds.proofs.AppendLemmas.{front_none}
 use Rattle.pd_query.specs.declared.fault.QueryFault.{QueryFault}
 use Rattle.pd_query.specs.declared.fault.QueryFault.TheVariants.{Memory, Device, Sink}
-use Rattle.pd_query.specs.Adds.{Puts}
+use Rattle.pd_query.specs.Puts.{Puts}
 use Rattle.pd_query.specs.Failing.{Ends, Fails, SinkFails}
-use Rattle.pd_query.proofs.AddsLemmas.{told_text, two_told}
+use Rattle.pd_query.proofs.PutsLemmas.{told_text, two_told}
 
 -- what holds of the text that was put, where another thing does
 pub puts_as : {T E : Type 0} {held : Option (List (List ℕ))} {Holds Means : List (List ℕ) → List ℕ → Type 0} {result : Result T E} {before after : Option (List ℕ)}

@@ -1,4 +1,4 @@
-pub mod Adds
+pub mod Puts
 pub mod Failing
 pub mod ThinText
 pub mod ThinDump

@@ -13,6 +13,7 @@ mod thin_lines;
 
 pub use counts::DumpCounts;
 pub use fault::QueryFault;
+pub use lines::print_line;
 pub use query::Query;
 pub use thin_dump::{TextOfPool, ThinDump};
 pub use thin_lines::{devices_of, read_super};

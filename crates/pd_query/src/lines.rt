@@ -1,11 +1,11 @@
-//! A line of a text, gathered.
+//! A line of a text, printed.
 
-ghost use Rattle.std.specs.Prelude.{◌≡◌, ◌∷◌, [], MatchResult, OnOk};
-ghost use Rattle.pd_image.specs.Sink.{KeepsSink};
+ghost use Rattle.std.specs.Prelude.{◌≡◌, ◌≤◌, ◌∷◌, [], OnOk, length};
+ghost use Rattle.pd_lines.specs.Printer.{printing};
+ghost use Rattle.pd_lines.specs.Printing.{Prints};
 ghost use Rattle.pd_spells.specs.ThinText.{end_line, first_line, thin};
 ghost use Rattle.pd_texts.specs.Printed.{text_of_line};
 ghost use Rattle.pd_texts.specs.ThinLine.{line_of};
-ghost use Rattle.pd_query.specs.Adds.{Adds, StopsAt};
 ghost use Rattle.pd_query.specs.Counts.{Counted};
 ghost use Rattle.pd_query.specs.Failing.{SinkFails};
 
@@ -13,75 +13,68 @@ use crate::counts::DumpCounts;
 use crate::fault::QueryFault;
 use pd_image::Sink;
 use pd_kinds::Kind;
-use pd_lines::Pieces;
-use pd_texts::{ThinLine, add_end, add_first, add_thin};
+use pd_lines::Printer;
+use pd_texts::{ThinLine, bytes_of_end, bytes_of_first, bytes_of_thin};
 
-/// Gathers a line of a pool's text, and counts it.
+/// Prints the bytes of a line, or of a part of one, at most 16384. Fails with `Sink` where the sink failed.
+pub fn print_line<K: Sink>(line: &[u8], printer: &mut Printer<'_, K>) -> Result<(), QueryFault>
+    requires open { (K.state printer.old.out.now).access ≡ 1 }
+    requires short { length line.now ≤ 16384 }
+    ensures same_reference { printer.new.out.ghost_name ≡ printer.old.out.ghost_name }
+    ensures prints { Prints line.now result (printing K.state printer.old) (printing K.state printer.new) }
+    ensures faults { SinkFails result (K.state printer.old.out.now).faults (K.state printer.new.out.now).faults }
+{
+    match printer.print(line) {
+        Ok(()) => Ok(()),
+        Err(_) => Err(QueryFault::Sink),
+    }
+}
+
+/// Prints a line of a pool's text, and counts it.
 pub(crate) fn add_line<K: Sink>(
     line: &ThinLine,
-    pieces: &mut Pieces,
+    printer: &mut Printer<'_, K>,
     counts: &mut DumpCounts,
-    out: &mut K,
 ) -> Result<(), QueryFault>
-    requires { (K.state out.old).access ≡ 1 }
-    ensures lines { MatchResult result
-        (λ _. Adds (text_of_line thin (line_of line.now)) pieces.old pieces.new (K.state out.old).written (K.state out.new).written)
-        (λ _. StopsAt pieces.old (K.state out.old).written (K.state out.new).written) }
+    requires { (K.state printer.old.out.now).access ≡ 1 }
+    ensures same_reference { printer.new.out.ghost_name ≡ printer.old.out.ghost_name }
+    ensures prints { Prints (text_of_line thin (line_of line.now)) result (printing K.state printer.old) (printing K.state printer.new) }
     ensures counted { OnOk result (Counted counts.old counts.new (line_of line.now ∷ [])) }
-    ensures sink { KeepsSink (K.state out.old) (K.state out.new) }
-    ensures faults { SinkFails result (K.state out.old).faults (K.state out.new).faults }
+    ensures faults { SinkFails result (K.state printer.old.out.now).faults (K.state printer.new.out.now).faults }
 {
-    match add_thin(line, pieces, out) {
-        Ok(()) => {
-            counts.count(line);
-            Ok(())
-        }
-        Err(_) => Err(QueryFault::Sink),
-    }
+    print_line(bytes_of_thin(line).as_bytes(), printer)?;
+    counts.count(line);
+    Ok(())
 }
 
-/// Gathers the first line of a pool's text, and counts it.
+/// Prints the first line of a pool's text, and counts it.
 pub(crate) fn add_first_line<K: Sink>(
-    pieces: &mut Pieces,
+    printer: &mut Printer<'_, K>,
     counts: &mut DumpCounts,
-    out: &mut K,
 ) -> Result<(), QueryFault>
-    requires { (K.state out.old).access ≡ 1 }
-    ensures lines { MatchResult result
-        (λ _. Adds (text_of_line thin first_line) pieces.old pieces.new (K.state out.old).written (K.state out.new).written)
-        (λ _. StopsAt pieces.old (K.state out.old).written (K.state out.new).written) }
+    requires { (K.state printer.old.out.now).access ≡ 1 }
+    ensures same_reference { printer.new.out.ghost_name ≡ printer.old.out.ghost_name }
+    ensures prints { Prints (text_of_line thin first_line) result (printing K.state printer.old) (printing K.state printer.new) }
     ensures counted { OnOk result (Counted counts.old counts.new (first_line ∷ [])) }
-    ensures sink { KeepsSink (K.state out.old) (K.state out.new) }
-    ensures faults { SinkFails result (K.state out.old).faults (K.state out.new).faults }
+    ensures faults { SinkFails result (K.state printer.old.out.now).faults (K.state printer.new.out.now).faults }
 {
-    match add_first(Kind::Thin, pieces, out) {
-        Ok(()) => {
-            counts.count_first();
-            Ok(())
-        }
-        Err(_) => Err(QueryFault::Sink),
-    }
+    print_line(bytes_of_first(Kind::Thin), printer)?;
+    counts.count_first();
+    Ok(())
 }
 
-/// Gathers the last line of a text, and counts it.
+/// Prints the last line of a text, and counts it.
 pub(crate) fn add_end_line<K: Sink>(
-    pieces: &mut Pieces,
+    printer: &mut Printer<'_, K>,
     counts: &mut DumpCounts,
-    out: &mut K,
 ) -> Result<(), QueryFault>
-    requires { (K.state out.old).access ≡ 1 }
-    ensures lines { MatchResult result
-        (λ _. Adds (text_of_line thin end_line) pieces.old pieces.new (K.state out.old).written (K.state out.new).written)
-        (λ _. StopsAt pieces.old (K.state out.old).written (K.state out.new).written) }
+    requires { (K.state printer.old.out.now).access ≡ 1 }
+    ensures same_reference { printer.new.out.ghost_name ≡ printer.old.out.ghost_name }
+    ensures prints { Prints (text_of_line thin end_line) result (printing K.state printer.old) (printing K.state printer.new) }
     ensures counted { OnOk result (Counted counts.old counts.new (end_line ∷ [])) }
-    ensures sink { KeepsSink (K.state out.old) (K.state out.new) }
-    ensures faults { SinkFails result (K.state out.old).faults (K.state out.new).faults }
+    ensures faults { SinkFails result (K.state printer.old.out.now).faults (K.state printer.new.out.now).faults }
 {
-    match add_end(pieces, out) {
-        Ok(()) => {
-            counts.count_end();
-            Ok(())
-        }
-        Err(_) => Err(QueryFault::Sink),
-    }
+    print_line(bytes_of_end(), printer)?;
+    counts.count_end();
+    Ok(())
 }

@@ -4,7 +4,7 @@ ghost use Rattle.std.specs.Prelude.{◌≡◌, ℕ, List, Option, IfOk};
 ghost use Rattle.pd_kinds.specs.declared.kind.Kind.{Kind};
 ghost use Rattle.pd_image.specs.Device.{IsAttached, OnlyReads};
 ghost use Rattle.pd_image.specs.Sink.{KeepsSink};
-ghost use Rattle.pd_query.specs.Adds.{PutsAnswer};
+ghost use Rattle.pd_query.specs.Puts.{PutsAnswer};
 ghost use Rattle.pd_query.specs.Failing.{Ends, StartFails};
 
 use crate::fault::QueryFault;

@@ -3,10 +3,10 @@
 use crate::counts::DumpCounts;
 use crate::fault::QueryFault;
 use crate::query::Query;
-use crate::thin_lines::{add_first_lines, devices_of, read_super};
+use crate::thin_lines::{add_pool, devices_of, read_super};
 use pd_image::{Device, Sink};
 use pd_kinds::ThinSuper;
-use pd_lines::Pieces;
+use pd_lines::Printer;
 use pd_pool::{MapRuns, ThinDevices, given_lines_are_the_text, rows_are_the_devices};
 use std::alloc::{AllocError, Global};
 
@@ -30,7 +30,7 @@ impl ThinDump {
     ghost use Rattle.pd_image.specs.Device.{IsAttached, OnlyReads};
     ghost use Rattle.pd_image.specs.Sink.{KeepsSink};
     ghost use Rattle.pd_spells.specs.ThinText.{text_of_pool};
-    ghost use Rattle.pd_query.specs.Adds.{PutsText};
+    ghost use Rattle.pd_query.specs.Puts.{PutsText};
     ghost use Rattle.pd_query.specs.Failing.{Fails, StartFails};
     ghost use Rattle.pd_query.specs.Counts.{IsCountOf};
     ghost use Rattle.pd_query.specs.ThinDump.{dump_room, lines_left, text_left, used_of};
@@ -114,22 +114,19 @@ impl ThinDump {
         ensures sink { KeepsSink (K.state out.old) (K.state out.new) }
         ensures faults { Fails result (D.state dev.old).faults (D.state dev.new).faults (K.state out.old).faults (K.state out.new).faults }
     {
-        let mut pieces = Pieces::new();
+        let mut printer = Printer::over(out);
         let mut counts = DumpCounts::none();
-        match add_first_lines(
+        add_pool(
             &self.s,
             &mut self.devices,
             &mut self.runs,
             dev,
-            &mut pieces,
+            &mut printer,
             &mut counts,
-            out,
-        ) {
-            Ok(()) => match pieces.put(out) {
-                Ok(()) => Ok(counts),
-                Err(_) => Err(QueryFault::Sink),
-            },
-            Err(fault) => Err(fault),
+        )?;
+        match printer.finish() {
+            Ok(()) => Ok(counts),
+            Err(_) => Err(QueryFault::Sink),
         }
     }
 }

@@ -1,12 +1,12 @@
-//! The lines of a pool, gathered.
+//! The lines of a pool, printed.
 
-ghost use Rattle.std.specs.Prelude.{◌≡◌, ◌≤◌, ◌++◌, ◌∷◌, [], ℕ, List, map, MatchResult, OnOk, IfOk, IfSome, length};
+ghost use Rattle.std.specs.Prelude.{◌≡◌, ◌≤◌, ◌++◌, ◌∷◌, [], ℕ, List, map, OnOk, IfOk, IfSome, length};
 ghost use Rattle.std.specs.List.{flat_map};
 ghost use Rattle.pd_kinds.specs.Objects.{CountsFault};
 ghost use Rattle.pd_kinds.specs.Graph.{block_at};
 ghost use Rattle.pd_kinds.specs.ThinSuper.{thin_fields};
 ghost use Rattle.pd_image.specs.Device.{IsAttached, OnlyReads};
-ghost use Rattle.pd_image.specs.Sink.{KeepsSink};
+ghost use Rattle.pd_lines.specs.Printer.{printing};
 ghost use Rattle.pd_pool.specs.Devices.{rows_left, rows_room};
 ghost use Rattle.pd_pool.specs.Runs.{runs_below, runs_left, runs_room};
 ghost use Rattle.pd_spells.specs.ThinText as p;
@@ -15,7 +15,7 @@ ghost use Rattle.pd_texts.specs.Printed.{text_of_line};
 ghost use Rattle.pd_pool.specs.Given.{row_lines, super_head, super_rows};
 ghost use Rattle.pd_pool.specs.Joined.{spelled};
 ghost use Rattle.pd_texts.specs.ThinLine.{line_of};
-ghost use Rattle.pd_query.specs.Adds.{AddsSome, PutsFront};
+ghost use Rattle.pd_query.specs.Puts.{PrintsSome};
 ghost use Rattle.pd_query.specs.Counts.{CountsSome};
 ghost use Rattle.pd_query.specs.Failing.{Fails};
 ghost use Rattle.pd_query.specs.ThinText.{given_text, rest_text, row_text, rows_text, some_room, some_rows};
@@ -25,7 +25,7 @@ use crate::fault::QueryFault;
 use crate::lines::{add_end_line, add_first_line, add_line};
 use pd_image::{Device, Failed, Sink};
 use pd_kinds::{Block, ThinSuper};
-use pd_lines::Pieces;
+use pd_lines::Printer;
 use pd_pool::{DeviceRow, MapRuns, Run, ThinDevices};
 use pd_supers::read_thin_super;
 use pd_texts::{Run2, ThinLine};
@@ -56,24 +56,21 @@ fn map_line(run: &Run) -> ThinLine
     })
 }
 
-/// Gathers the map lines of the runs that are left.
+/// Prints the map lines of the runs that are left.
 fn add_runs<D: Device, K: Sink>(
     runs: &mut MapRuns,
     dev: &mut D,
-    pieces: &mut Pieces,
+    printer: &mut Printer<'_, K>,
     counts: &mut DumpCounts,
-    out: &mut K,
 ) -> Result<(), QueryFault>
     requires dev { IsAttached (D.state dev.old) }
-    requires out { (K.state out.old).access ≡ 1 }
+    requires open { (K.state printer.old.out.now).access ≡ 1 }
     requires within { runs_room runs.old ≤ (D.state dev.old).blocks }
-    ensures lines { MatchResult result
-        (λ _. AddsSome (D.state dev.old).held (λ image. given_text (runs_left image runs.old)) pieces.old pieces.new (K.state out.old).written (K.state out.new).written)
-        (λ _. PutsFront (D.state dev.old).held (λ image. given_text (runs_left image runs.old)) pieces.old (K.state out.old).written (K.state out.new).written) }
+    ensures same_reference { printer.new.out.ghost_name ≡ printer.old.out.ghost_name }
+    ensures prints { PrintsSome (D.state dev.old).held (λ image. given_text (runs_left image runs.old)) result (printing K.state printer.old) (printing K.state printer.new) }
     ensures counted { OnOk result (CountsSome (D.state dev.old).held (λ image. map p.map_line (map spelled (runs_left image runs.old))) counts.old counts.new) }
     ensures kept { OnlyReads (D.state dev.old) (D.state dev.new) }
-    ensures sink { KeepsSink (K.state out.old) (K.state out.new) }
-    ensures faults { Fails result (D.state dev.old).faults (D.state dev.new).faults (K.state out.old).faults (K.state out.new).faults }
+    ensures faults { Fails result (D.state dev.old).faults (D.state dev.new).faults (K.state printer.old.out.now).faults (K.state printer.new.out.now).faults }
 {
     loop {
         let run = match runs.next(dev) {
@@ -81,89 +78,75 @@ fn add_runs<D: Device, K: Sink>(
             Err(_) => return Err(QueryFault::Device),
         };
         match run {
-            Some(run) => match add_line(&map_line(&run), pieces, counts, out) {
-                Ok(()) => {}
-                Err(fault) => return Err(fault),
-            },
+            Some(run) => add_line(&map_line(&run), printer, counts)?,
             None => return Ok(()),
         }
     }
 }
 
-/// Gathers the map lines of the runs below a root. There are none below a block outside of the device.
+/// Prints the map lines of the runs below a root. There are none below a block outside of the device.
 fn add_runs_of<D: Device, K: Sink>(
     root: u64,
     runs: &mut MapRuns,
     dev: &mut D,
-    pieces: &mut Pieces,
+    printer: &mut Printer<'_, K>,
     counts: &mut DumpCounts,
-    out: &mut K,
 ) -> Result<(), QueryFault>
     requires dev { IsAttached (D.state dev.old) }
-    requires out { (K.state out.old).access ≡ 1 }
-    ensures lines { MatchResult result
-        (λ _. AddsSome (D.state dev.old).held (λ image. given_text (runs_below image root)) pieces.old pieces.new (K.state out.old).written (K.state out.new).written)
-        (λ _. PutsFront (D.state dev.old).held (λ image. given_text (runs_below image root)) pieces.old (K.state out.old).written (K.state out.new).written) }
+    requires open { (K.state printer.old.out.now).access ≡ 1 }
+    ensures same_reference { printer.new.out.ghost_name ≡ printer.old.out.ghost_name }
+    ensures prints { PrintsSome (D.state dev.old).held (λ image. given_text (runs_below image root)) result (printing K.state printer.old) (printing K.state printer.new) }
     ensures counted { OnOk result (CountsSome (D.state dev.old).held (λ image. map p.map_line (map spelled (runs_below image root))) counts.old counts.new) }
     ensures kept { OnlyReads (D.state dev.old) (D.state dev.new) }
-    ensures sink { KeepsSink (K.state out.old) (K.state out.new) }
-    ensures faults { Fails result (D.state dev.old).faults (D.state dev.new).faults (K.state out.old).faults (K.state out.new).faults }
+    ensures faults { Fails result (D.state dev.old).faults (D.state dev.new).faults (K.state printer.old.out.now).faults (K.state printer.new.out.now).faults }
 {
     if root >= dev.blocks() {
         return Ok(());
     }
     runs.restart(root);
-    add_runs(runs, dev, pieces, counts, out)
+    add_runs(runs, dev, printer, counts)
 }
 
-/// Gathers the line of a device, and those of its runs.
+/// Prints the line of a device, and those of its runs.
 fn add_device<D: Device, K: Sink>(
     row: &DeviceRow,
     runs: &mut MapRuns,
     dev: &mut D,
-    pieces: &mut Pieces,
+    printer: &mut Printer<'_, K>,
     counts: &mut DumpCounts,
-    out: &mut K,
 ) -> Result<(), QueryFault>
     requires dev { IsAttached (D.state dev.old) }
-    requires out { (K.state out.old).access ≡ 1 }
-    ensures lines { MatchResult result
-        (λ _. AddsSome (D.state dev.old).held (λ image. row_text image row.now) pieces.old pieces.new (K.state out.old).written (K.state out.new).written)
-        (λ _. PutsFront (D.state dev.old).held (λ image. row_text image row.now) pieces.old (K.state out.old).written (K.state out.new).written) }
+    requires open { (K.state printer.old.out.now).access ≡ 1 }
+    ensures same_reference { printer.new.out.ghost_name ≡ printer.old.out.ghost_name }
+    ensures prints { PrintsSome (D.state dev.old).held (λ image. row_text image row.now) result (printing K.state printer.old) (printing K.state printer.new) }
     ensures counted { OnOk result (CountsSome (D.state dev.old).held (λ image. row_lines image row.now) counts.old counts.new) }
     ensures kept { OnlyReads (D.state dev.old) (D.state dev.new) }
-    ensures sink { KeepsSink (K.state out.old) (K.state out.new) }
-    ensures faults { Fails result (D.state dev.old).faults (D.state dev.new).faults (K.state out.old).faults (K.state out.new).faults }
+    ensures faults { Fails result (D.state dev.old).faults (D.state dev.new).faults (K.state printer.old.out.now).faults (K.state printer.new.out.now).faults }
 {
     let line = ThinLine::Device {
         id: row.id,
         details: row.details,
     };
-    match add_line(&line, pieces, counts, out) {
-        Ok(()) => add_runs_of(row.root, runs, dev, pieces, counts, out),
-        Err(fault) => Err(fault),
-    }
+    add_line(&line, printer, counts)?;
+    add_runs_of(row.root, runs, dev, printer, counts)
 }
 
-/// Gathers the lines of the devices that are left.
+/// Prints the lines of the devices that are left.
 fn add_devices<D: Device, K: Sink>(
     devices: &mut ThinDevices,
     runs: &mut MapRuns,
     dev: &mut D,
-    pieces: &mut Pieces,
+    printer: &mut Printer<'_, K>,
     counts: &mut DumpCounts,
-    out: &mut K,
 ) -> Result<(), QueryFault>
     requires dev { IsAttached (D.state dev.old) }
-    requires out { (K.state out.old).access ≡ 1 }
+    requires open { (K.state printer.old.out.now).access ≡ 1 }
     requires within { rows_room devices.old ≤ (D.state dev.old).blocks }
-    ensures lines { MatchResult result
-        (λ _. AddsSome (D.state dev.old).held (λ image. rows_text image (rows_left image devices.old)) pieces.old pieces.new (K.state out.old).written (K.state out.new).written)
-        (λ _. PutsFront (D.state dev.old).held (λ image. rows_text image (rows_left image devices.old)) pieces.old (K.state out.old).written (K.state out.new).written) }
+    ensures same_reference { printer.new.out.ghost_name ≡ printer.old.out.ghost_name }
+    ensures prints { PrintsSome (D.state dev.old).held (λ image. rows_text image (rows_left image devices.old)) result (printing K.state printer.old) (printing K.state printer.new) }
     ensures counted { OnOk result (CountsSome (D.state dev.old).held (λ image. flat_map (row_lines image) (rows_left image devices.old)) counts.old counts.new) }
     ensures kept { OnlyReads (D.state dev.old) (D.state dev.new) }
-    ensures sink { KeepsSink (K.state out.old) (K.state out.new) }
-    ensures faults { Fails result (D.state dev.old).faults (D.state dev.new).faults (K.state out.old).faults (K.state out.new).faults }
+    ensures faults { Fails result (D.state dev.old).faults (D.state dev.new).faults (K.state printer.old.out.now).faults (K.state printer.new.out.now).faults }
 {
     loop {
         let row = match devices.next(dev) {
@@ -171,119 +154,57 @@ fn add_devices<D: Device, K: Sink>(
             Err(_) => return Err(QueryFault::Device),
         };
         match row {
-            Some(row) => match add_device(&row, runs, dev, pieces, counts, out) {
-                Ok(()) => {}
-                Err(fault) => return Err(fault),
-            },
+            Some(row) => add_device(&row, runs, dev, printer, counts)?,
             None => return Ok(()),
         }
     }
 }
 
-/// Gathers the lines of the devices that are left, if there are any.
+/// Prints the lines of the devices that are left, if there are any.
 fn add_some_devices<D: Device, K: Sink>(
     devices: &mut Option<ThinDevices>,
     runs: &mut MapRuns,
     dev: &mut D,
-    pieces: &mut Pieces,
+    printer: &mut Printer<'_, K>,
     counts: &mut DumpCounts,
-    out: &mut K,
 ) -> Result<(), QueryFault>
     requires dev { IsAttached (D.state dev.old) }
-    requires out { (K.state out.old).access ≡ 1 }
+    requires open { (K.state printer.old.out.now).access ≡ 1 }
     requires within { some_room devices.old ≤ (D.state dev.old).blocks }
-    ensures lines { MatchResult result
-        (λ _. AddsSome (D.state dev.old).held (λ image. rows_text image (some_rows image devices.old)) pieces.old pieces.new (K.state out.old).written (K.state out.new).written)
-        (λ _. PutsFront (D.state dev.old).held (λ image. rows_text image (some_rows image devices.old)) pieces.old (K.state out.old).written (K.state out.new).written) }
+    ensures same_reference { printer.new.out.ghost_name ≡ printer.old.out.ghost_name }
+    ensures prints { PrintsSome (D.state dev.old).held (λ image. rows_text image (some_rows image devices.old)) result (printing K.state printer.old) (printing K.state printer.new) }
     ensures counted { OnOk result (CountsSome (D.state dev.old).held (λ image. flat_map (row_lines image) (some_rows image devices.old)) counts.old counts.new) }
     ensures kept { OnlyReads (D.state dev.old) (D.state dev.new) }
-    ensures sink { KeepsSink (K.state out.old) (K.state out.new) }
-    ensures faults { Fails result (D.state dev.old).faults (D.state dev.new).faults (K.state out.old).faults (K.state out.new).faults }
+    ensures faults { Fails result (D.state dev.old).faults (D.state dev.new).faults (K.state printer.old.out.now).faults (K.state printer.new.out.now).faults }
 {
     match devices {
-        Some(devices) => add_devices(devices, runs, dev, pieces, counts, out),
+        Some(devices) => add_devices(devices, runs, dev, printer, counts),
         None => Ok(()),
     }
 }
 
-/// Gathers the lines of the devices that are left, and the last line.
-fn add_last_lines<D: Device, K: Sink>(
-    devices: &mut Option<ThinDevices>,
-    runs: &mut MapRuns,
-    dev: &mut D,
-    pieces: &mut Pieces,
-    counts: &mut DumpCounts,
-    out: &mut K,
-) -> Result<(), QueryFault>
-    requires dev { IsAttached (D.state dev.old) }
-    requires out { (K.state out.old).access ≡ 1 }
-    requires within { some_room devices.old ≤ (D.state dev.old).blocks }
-    ensures lines { MatchResult result
-        (λ _. AddsSome (D.state dev.old).held (λ image. rest_text image devices.old) pieces.old pieces.new (K.state out.old).written (K.state out.new).written)
-        (λ _. PutsFront (D.state dev.old).held (λ image. rest_text image devices.old) pieces.old (K.state out.old).written (K.state out.new).written) }
-    ensures counted { OnOk result (CountsSome (D.state dev.old).held (λ image. flat_map (row_lines image) (some_rows image devices.old) ++ (p.end_line ∷ [])) counts.old counts.new) }
-    ensures kept { OnlyReads (D.state dev.old) (D.state dev.new) }
-    ensures sink { KeepsSink (K.state out.old) (K.state out.new) }
-    ensures faults { Fails result (D.state dev.old).faults (D.state dev.new).faults (K.state out.old).faults (K.state out.new).faults }
-{
-    match add_some_devices(devices, runs, dev, pieces, counts, out) {
-        Ok(()) => add_end_line(pieces, counts, out),
-        Err(fault) => Err(fault),
-    }
-}
-
-/// Gathers the line of the pool, and those after it.
-fn add_pool_lines<D: Device, K: Sink>(
+/// Prints the lines of a pool, from the first one to the last.
+pub(crate) fn add_pool<D: Device, K: Sink>(
     s: &ThinSuper,
     devices: &mut Option<ThinDevices>,
     runs: &mut MapRuns,
     dev: &mut D,
-    pieces: &mut Pieces,
+    printer: &mut Printer<'_, K>,
     counts: &mut DumpCounts,
-    out: &mut K,
 ) -> Result<(), QueryFault>
     requires dev { IsAttached (D.state dev.old) }
-    requires out { (K.state out.old).access ≡ 1 }
+    requires open { (K.state printer.old.out.now).access ≡ 1 }
     requires within { some_room devices.old ≤ (D.state dev.old).blocks }
-    ensures lines { MatchResult result
-        (λ _. AddsSome (D.state dev.old).held (λ image. text_of_line thin (p.pool_line (super_head s.now)) ++ rest_text image devices.old) pieces.old pieces.new (K.state out.old).written (K.state out.new).written)
-        (λ _. PutsFront (D.state dev.old).held (λ image. text_of_line thin (p.pool_line (super_head s.now)) ++ rest_text image devices.old) pieces.old (K.state out.old).written (K.state out.new).written) }
-    ensures counted { OnOk result (CountsSome (D.state dev.old).held (λ image. p.pool_line (super_head s.now) ∷ (flat_map (row_lines image) (some_rows image devices.old) ++ (p.end_line ∷ []))) counts.old counts.new) }
-    ensures kept { OnlyReads (D.state dev.old) (D.state dev.new) }
-    ensures sink { KeepsSink (K.state out.old) (K.state out.new) }
-    ensures faults { Fails result (D.state dev.old).faults (D.state dev.new).faults (K.state out.old).faults (K.state out.new).faults }
-{
-    match add_line(&pool_line(s), pieces, counts, out) {
-        Ok(()) => add_last_lines(devices, runs, dev, pieces, counts, out),
-        Err(fault) => Err(fault),
-    }
-}
-
-/// Gathers the first line, and those after it.
-pub(crate) fn add_first_lines<D: Device, K: Sink>(
-    s: &ThinSuper,
-    devices: &mut Option<ThinDevices>,
-    runs: &mut MapRuns,
-    dev: &mut D,
-    pieces: &mut Pieces,
-    counts: &mut DumpCounts,
-    out: &mut K,
-) -> Result<(), QueryFault>
-    requires dev { IsAttached (D.state dev.old) }
-    requires out { (K.state out.old).access ≡ 1 }
-    requires within { some_room devices.old ≤ (D.state dev.old).blocks }
-    ensures lines { MatchResult result
-        (λ _. AddsSome (D.state dev.old).held (λ image. text_of_line thin p.first_line ++ (text_of_line thin (p.pool_line (super_head s.now)) ++ rest_text image devices.old)) pieces.old pieces.new (K.state out.old).written (K.state out.new).written)
-        (λ _. PutsFront (D.state dev.old).held (λ image. text_of_line thin p.first_line ++ (text_of_line thin (p.pool_line (super_head s.now)) ++ rest_text image devices.old)) pieces.old (K.state out.old).written (K.state out.new).written) }
+    ensures same_reference { printer.new.out.ghost_name ≡ printer.old.out.ghost_name }
+    ensures prints { PrintsSome (D.state dev.old).held (λ image. text_of_line thin p.first_line ++ (text_of_line thin (p.pool_line (super_head s.now)) ++ rest_text image devices.old)) result (printing K.state printer.old) (printing K.state printer.new) }
     ensures counted { OnOk result (CountsSome (D.state dev.old).held (λ image. p.first_line ∷ (p.pool_line (super_head s.now) ∷ (flat_map (row_lines image) (some_rows image devices.old) ++ (p.end_line ∷ [])))) counts.old counts.new) }
     ensures kept { OnlyReads (D.state dev.old) (D.state dev.new) }
-    ensures sink { KeepsSink (K.state out.old) (K.state out.new) }
-    ensures faults { Fails result (D.state dev.old).faults (D.state dev.new).faults (K.state out.old).faults (K.state out.new).faults }
+    ensures faults { Fails result (D.state dev.old).faults (D.state dev.new).faults (K.state printer.old.out.now).faults (K.state printer.new.out.now).faults }
 {
-    match add_first_line(pieces, counts, out) {
-        Ok(()) => add_pool_lines(s, devices, runs, dev, pieces, counts, out),
-        Err(fault) => Err(fault),
-    }
+    add_first_line(printer, counts)?;
+    add_line(&pool_line(s), printer, counts)?;
+    add_some_devices(devices, runs, dev, printer, counts)?;
+    add_end_line(printer, counts)
 }
 
 /// The devices of the pool with this superblock, in a device of so many blocks; none where a root is outside of it.

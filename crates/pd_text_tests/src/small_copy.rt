@@ -12,8 +12,8 @@ use pd_image::{Sink, Source};
 use pd_kinds::Kind;
 use pd_lines::Pieces;
 use pd_texts::{
-    ReadFault, ThinText, add_end, add_first, add_thin, thin_lines_are_printed_in_order,
-    whole_thin_text_spells,
+    ReadFault, ThinText, bytes_of_end, bytes_of_first, bytes_of_thin,
+    thin_lines_are_printed_in_order, whole_thin_text_spells,
 };
 use std::alloc::Global;
 
@@ -42,7 +42,7 @@ pub fn copy<S: Source, K: Sink>(alloc: Global, source: &mut S, out: &mut K) -> R
         Err(_) => return Err(CopyFault::Read(ReadFault::Memory)),
     };
     let mut pieces = Pieces::new();
-    match add_first(Kind::Thin, &mut pieces, out) {
+    match pieces.add(bytes_of_first(Kind::Thin), out) {
         Ok(()) => copy_after_first(&mut text, source, &mut pieces, out),
         Err(_) => Err(CopyFault::Sink),
     }
@@ -107,7 +107,7 @@ fn copy_line<S: Source, K: Sink>(
 {
     thin_lines_are_printed_in_order();
     match text.next(source) {
-        Ok(Some(line)) => match add_thin(&line, pieces, out) {
+        Ok(Some(line)) => match pieces.add(bytes_of_thin(&line).as_bytes(), out) {
             Ok(()) => Ok(true),
             Err(_) => Err(CopyFault::Sink),
         },
@@ -124,7 +124,7 @@ fn put_end<K: Sink>(pieces: &mut Pieces, out: &mut K) -> Result<(), CopyFault>
 {
     whole_thin_text_spells();
     thin_lines_are_printed_in_order();
-    match add_end(pieces, out) {
+    match pieces.add(bytes_of_end(), out) {
         Ok(()) => match pieces.put(out) {
             Ok(()) => Ok(()),
             Err(_) => Err(CopyFault::Sink),

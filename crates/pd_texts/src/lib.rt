@@ -19,7 +19,7 @@ mod words;
 
 pub use fault::{ReadFault, TextFault};
 pub use made::{MadeLines, MadeSource};
-pub use print::{add_end, add_first, add_uuid, add_word, print_end, print_first};
+pub use print::{add_uuid, add_word, bytes_of_end, bytes_of_first, print_end, print_first};
 pub use reader::TextReader;
 pub use stage::Stage;
 pub use state::TextState;
@@ -28,6 +28,6 @@ pub use thin_laws::{
     thin_lines_are_printed_in_order, whole_thin_text_spells,
 };
 pub use thin_line::{Run2, ThinLine};
-pub use thin_print::{add_thin, print_thin};
+pub use thin_print::{bytes_of_thin, print_thin};
 pub use thin_state::{ThinState, ThinText};
 pub use words::{cut_word, number_word, read_numbers, read_uuid};

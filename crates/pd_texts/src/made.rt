@@ -5,9 +5,9 @@ ghost use Rattle.pd_spells.specs.ThinText.{Line, end_line, first_line, thin};
 ghost use Rattle.pd_texts.specs.Printed.{text_of_line};
 ghost use Rattle.pd_texts.specs.ThinLine.{line_of};
 
-use crate::print::first_bytes;
+use crate::print::bytes_of_first;
 use crate::thin_line::ThinLine;
-use crate::thin_print::line_text;
+use crate::thin_print::bytes_of_thin;
 use pd_image::{Failed, Source};
 use pd_kinds::Kind;
 use pd_lines::LineBuffer;
@@ -86,7 +86,7 @@ impl<L: MadeLines> MadeSource<L> {
             return false;
         }
         match self.lines.next() {
-            Some(line) => self.line = line_text(&line),
+            Some(line) => self.line = bytes_of_thin(&line),
             None => {
                 self.line = end_text();
                 self.ended = true;
@@ -134,7 +134,7 @@ fn first_text() -> LineBuffer
     ensures { result ≡ text_of_line thin first_line }
 {
     let mut line = LineBuffer::new();
-    line.add(first_bytes(Kind::Thin));
+    line.add(bytes_of_first(Kind::Thin));
     line
 }
 

@@ -1,15 +1,14 @@
-//! Lines of texts, printed one by one or gathered into large pieces.
+//! The first and the last line of a text, printed, and the words of lines.
 
-ghost use Rattle.std.specs.Prelude.{◌≡◌, ◌<◌, ◌≤◌, ◌+◌, ◌^◌, ◌++◌, ◌∷◌, ℕ, List, Option, OnOk, OnErr, length, decimal};
+ghost use Rattle.std.specs.Prelude.{◌≡◌, ◌<◌, ◌≤◌, ◌+◌, ◌^◌, ◌++◌, ◌∷◌, OnOk, length, decimal};
 ghost use Rattle.uuid.specs.Text.{hyphenated_text, lower};
 ghost use Rattle.pd_kinds.specs.Objects.{CountsFault, Appends, AppendsFront};
 ghost use Rattle.pd_image.specs.Sink.{KeepsSink};
-ghost use Rattle.pd_lines.specs.Pieces.{Gathers};
 ghost use Rattle.pd_texts.specs.Printed.{first_text, end_text};
 
 use pd_image::{Failed, Sink};
 use pd_kinds::Kind;
-use pd_lines::{LineBuffer, Pieces};
+use pd_lines::LineBuffer;
 use uuid::Uuid;
 
 /// Prints the first line of a text of this kind. It takes no memory.
@@ -20,7 +19,7 @@ pub fn print_first<K: Sink>(kind: Kind, out: &mut K) -> Result<(), Failed>
     ensures kept { KeepsSink (K.state out.old) (K.state out.new) }
     ensures faults { CountsFault result (K.state out.old).faults (K.state out.new).faults }
 {
-    out.put(first_bytes(kind))
+    out.put(bytes_of_first(kind))
 }
 
 /// Prints the last line of a text. It takes no memory.
@@ -31,41 +30,11 @@ pub fn print_end<K: Sink>(out: &mut K) -> Result<(), Failed>
     ensures kept { KeepsSink (K.state out.old) (K.state out.new) }
     ensures faults { CountsFault result (K.state out.old).faults (K.state out.new).faults }
 {
-    out.put(b"end\n")
-}
-
-/// Gathers the first line of a text of this kind. What is gathered ends with `Pieces::put`.
-pub fn add_first<K: Sink>(kind: Kind, pieces: &mut Pieces, out: &mut K) -> Result<(), Failed>
-    requires { (K.state out.old).access ≡ 1 }
-    ensures gathered { (total : List ℕ) (start : Option (List ℕ)) → Gathers total pieces.old start (K.state out.old).written
-        → OnOk result (Gathers (total ++ first_text kind) pieces.new start (K.state out.new).written) }
-    ensures front { (total : List ℕ) (start : Option (List ℕ)) → Gathers total pieces.old start (K.state out.old).written
-        → AppendsFront total start (K.state out.new).written }
-    ensures access { (K.state out.new).access ≡ (K.state out.old).access }
-    ensures path { (K.state out.new).path ≡ (K.state out.old).path }
-    ensures faults { CountsFault result (K.state out.old).faults (K.state out.new).faults }
-    ensures failed { OnErr result (pieces.new ≡ pieces.old) }
-{
-    pieces.add(first_bytes(kind), out)
-}
-
-/// Gathers the last line of a text.
-pub fn add_end<K: Sink>(pieces: &mut Pieces, out: &mut K) -> Result<(), Failed>
-    requires { (K.state out.old).access ≡ 1 }
-    ensures gathered { (total : List ℕ) (start : Option (List ℕ)) → Gathers total pieces.old start (K.state out.old).written
-        → OnOk result (Gathers (total ++ end_text) pieces.new start (K.state out.new).written) }
-    ensures front { (total : List ℕ) (start : Option (List ℕ)) → Gathers total pieces.old start (K.state out.old).written
-        → AppendsFront total start (K.state out.new).written }
-    ensures access { (K.state out.new).access ≡ (K.state out.old).access }
-    ensures path { (K.state out.new).path ≡ (K.state out.old).path }
-    ensures faults { CountsFault result (K.state out.old).faults (K.state out.new).faults }
-    ensures failed { OnErr result (pieces.new ≡ pieces.old) }
-{
-    pieces.add(b"end\n", out)
+    out.put(bytes_of_end())
 }
 
 /// The bytes of the first line of a text of this kind.
-pub(crate) fn first_bytes(kind: Kind) -> &'static [u8]
+pub fn bytes_of_first(kind: Kind) -> &'static [u8]
     ensures bytes { result.now ≡ first_text kind }
     ensures len { length result.now ≤ 8 }
 {
@@ -74,6 +43,14 @@ pub(crate) fn first_bytes(kind: Kind) -> &'static [u8]
         Kind::Cache => b"cache 1\n",
         Kind::Era => b"era 1\n",
     }
+}
+
+/// The bytes of the last line of a text.
+pub fn bytes_of_end() -> &'static [u8]
+    ensures bytes { result.now ≡ end_text }
+    ensures len { length result.now ≤ 8 }
+{
+    b"end\n"
 }
 
 /// Adds a space and a number.

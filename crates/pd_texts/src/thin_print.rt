@@ -1,9 +1,8 @@
 //! The lines of a pool's text, printed.
 
-ghost use Rattle.std.specs.Prelude.{◌≡◌, ◌++◌, ℕ, List, Option, OnOk, OnErr};
+ghost use Rattle.std.specs.Prelude.{◌≡◌, OnOk};
 ghost use Rattle.pd_kinds.specs.Objects.{CountsFault, Appends, AppendsFront};
 ghost use Rattle.pd_image.specs.Sink.{KeepsSink};
-ghost use Rattle.pd_lines.specs.Pieces.{Gathers};
 ghost use Rattle.pd_spells.specs.ThinText.{thin, device_line, map_line, pool_line};
 ghost use Rattle.pd_texts.specs.Printed.{text_of_line};
 ghost use Rattle.pd_texts.specs.ThinLine.{line_of, details_of, run_of};
@@ -11,7 +10,7 @@ ghost use Rattle.pd_texts.specs.ThinLine.{line_of, details_of, run_of};
 use crate::print::{add_uuid, add_word};
 use crate::thin_line::{Run2, ThinLine};
 use pd_image::{Failed, Sink};
-use pd_lines::{LineBuffer, Pieces};
+use pd_lines::LineBuffer;
 use pd_value::Details;
 
 /// Prints a line. It takes no memory.
@@ -22,26 +21,11 @@ pub fn print_thin<K: Sink>(line: &ThinLine, out: &mut K) -> Result<(), Failed>
     ensures kept { KeepsSink (K.state out.old) (K.state out.new) }
     ensures faults { CountsFault result (K.state out.old).faults (K.state out.new).faults }
 {
-    out.put(line_text(line).as_bytes())
+    out.put(bytes_of_thin(line).as_bytes())
 }
 
-/// Gathers a line. What is gathered ends with `Pieces::put`.
-pub fn add_thin<K: Sink>(line: &ThinLine, pieces: &mut Pieces, out: &mut K) -> Result<(), Failed>
-    requires { (K.state out.old).access ≡ 1 }
-    ensures gathered { (total : List ℕ) (start : Option (List ℕ)) → Gathers total pieces.old start (K.state out.old).written
-        → OnOk result (Gathers (total ++ text_of_line thin (line_of line.now)) pieces.new start (K.state out.new).written) }
-    ensures front { (total : List ℕ) (start : Option (List ℕ)) → Gathers total pieces.old start (K.state out.old).written
-        → AppendsFront total start (K.state out.new).written }
-    ensures access { (K.state out.new).access ≡ (K.state out.old).access }
-    ensures path { (K.state out.new).path ≡ (K.state out.old).path }
-    ensures faults { CountsFault result (K.state out.old).faults (K.state out.new).faults }
-    ensures failed { OnErr result (pieces.new ≡ pieces.old) }
-{
-    pieces.add(line_text(line).as_bytes(), out)
-}
-
-/// The bytes of a line.
-pub(crate) fn line_text(line: &ThinLine) -> LineBuffer
+/// The bytes of a line, with its line feed.
+pub fn bytes_of_thin(line: &ThinLine) -> LineBuffer
     ensures bytes { result ≡ text_of_line thin (line_of line.now) }
 {
     match line {

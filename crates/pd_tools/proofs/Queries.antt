@@ -1,17 +1,9 @@
 -- What the work of a query comes to, over plain variables.
-use Rattle.std.proofs.Common.{◌≡◌, inl, inr, ℕ, true, false, nat_eq, nat_lt, IsTrue, List, [], ◌∷◌, length, Option, Some, None, IfSome, refl, sym, ap, ◌∙◌, lit≤, arith, unwrap_or, Result, Ok, Err}
-use Rattle.std.specs.Prelude.{OnOk}
+use Rattle.std.proofs.Common.{◌≡◌, inl, inr, ℕ, true, false, nat_eq, nat_lt, IsTrue, List, [], ◌∷◌, length, Option, Some, None, IfSome, refl, sym, ap, ◌∙◌, lit≤, arith, unwrap_or}
 use Rattle.std.proofs.lemmas.Bool.{cases_Bool, eqb-true}
 use Rattle.pd_kinds.specs.declared.kind.Kind.{Kind}
-use Rattle.pd_kinds.specs.declared.kind.Kind.TheVariants.{Thin, Era}
 use Rattle.pd_kinds.specs.declared.kind.Stage.{Stage}
 use Rattle.pd_kinds.specs.declared.kind.Stage.TheVariants as stages
-use Rattle.pd_kinds.specs.declared.thin_super.ThinSuper.{ThinSuper}
-use Rattle.pd_kinds.specs.declared.era_super.EraSuper.{EraSuper}
-use Rattle.pd_kinds.specs.EraFormat.{era_fields}
-use Rattle.pd_kinds.specs.Graph.{block_at}
-use Rattle.pd_kinds.specs.Meaning.{ThinPool, EraMeaning, thin_meaning, era_meaning}
-use Rattle.pd_kinds.specs.ThinSuper.{thin_fields}
 use Rattle.pd_kinds.specs.Objects.{DeviceState, SinkState, Appends, AppendsFront}
 use Rattle.pd_kinds.specs.Report.{Reported, report_of}
 use Rattle.pd_kinds.specs.Stages.{Checked, checked_of, faults, first_failing, stage_faults}
@@ -21,10 +13,6 @@ use Rattle.pd_image.specs.Device.{OnlyReads}
 use Rattle.pd_answers.specs.Answer.{Objects, IsUsed, reading}
 use Rattle.pd_answers.specs.Promises.{Queried}
 use Rattle.pd_answers.specs.Terms.{is_one_of, is_possible}
-use Rattle.pd_query.specs.Adds.{PutsText}
-use Rattle.pd_dumps.specs.SinceLines.{PutsLines as PutsEras}
-use Rattle.pd_uses.specs.UseLines.{PutsLines}
-use Rattle.pd_query.specs.declared.fault.QueryFault.{QueryFault}
 use Rattle.pd_tools.specs.declared.query.Asked.{Asked}
 use Rattle.pd_tools.specs.declared.stop.Stop.{Stop}
 use Rattle.pd_tools.specs.declared.stop.Stop.TheVariants.{Device, Stream, Memory}

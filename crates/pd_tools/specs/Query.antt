@@ -1,12 +1,10 @@
 -- What a query of an image does.
-use Rattle.std.specs.Prelude.{◌≡◌, ℕ, ◌==◌, if◌then◌else◌, List, [], Option, IfSome, Result, Ok, Err, OnOk}
+use Rattle.std.specs.Prelude.{ℕ, ◌==◌, if◌then◌else◌, List, [], Option}
 use Rattle.pd_kinds.specs.declared.kind.Kind.{Kind}
 use Rattle.pd_kinds.specs.declared.kind.Kind.TheVariants.{Thin, Era}
-use Rattle.pd_kinds.specs.declared.kind.Stage.TheVariants.{Whole}
 use Rattle.pd_kinds.specs.Meaning.{thin_meaning, era_meaning}
-use Rattle.pd_kinds.specs.Objects.{Appends, AppendsFront, Rose}
+use Rattle.pd_kinds.specs.Objects.{Rose}
 use Rattle.pd_kinds.specs.Report.{Reported}
-use Rattle.pd_kinds.specs.Stages.{faults}
 use Rattle.pd_spells.specs.Lines.{reported_lines}
 use Rattle.pd_answers.specs.Promises.{image_text, query}
 use Rattle.pd_answers.specs.QueryLines.{list_lines, rmap_lines, since_lines}

@@ -6,7 +6,7 @@ ghost use Rattle.pd_kinds.specs.Objects.{SinkState};
 ghost use Rattle.pd_image.specs.Device.{OnlyReads};
 ghost use Rattle.pd_spells.specs.Lines.{reported_lines};
 ghost use Rattle.pd_answers.specs.Answer.{Objects, IsUsed, reading};
-ghost use Rattle.pd_query.specs.Adds.{PutsAnswer};
+ghost use Rattle.pd_query.specs.Puts.{PutsAnswer};
 ghost use Rattle.pd_tools.specs.Notes.{PutsLine};
 ghost use Rattle.pd_tools.specs.Query.{IsUnput, kind_of, query_line, query_status, stop_as, terms_of_query, text_of};
 ghost use Rattle.pd_tools.specs.Work.{IsFinished, IsStopped, Answers};

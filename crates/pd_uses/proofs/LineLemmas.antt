@@ -1,11 +1,12 @@
 -- Lines that are gathered, one after another.
-use Rattle.std.proofs.Common.{◌≡◌, ℕ, ◌+◌, ◌<◌, List, [], ◌∷◌, ◌++◌, length, get_or, take, drop, Option, IfSome, Result, Ok, Err, MatchResult, refl, sym, ap, ◌∙◌, append_assoc}
+use Rattle.std.proofs.Common.{◌≡◌, ℕ, ◌+◌, ◌<◌, List, [], ◌∷◌, ◌++◌, length, get_or, take, drop, Option, IfSome, Result, refl, sym, ap, ◌∙◌, append_assoc}
 use Rattle.std.proofs.lemmas.List.{append-nil, take-append-drop, take_more}
 use Rattle.std.proofs.lemmas.List.Concat.{flat_map-append}
 use Rattle.pd_count.specs.Counted.{Counted}
 use Rattle.pd_pool.specs.declared.devices.DeviceRow.{DeviceRow}
-use Rattle.pd_query.specs.Adds.{Adds, AddsSome, Begins, PutsFront, StopsAt}
-use Rattle.pd_query.proofs.KnownLemmas.{begins_after, begins_at}
+use Rattle.pd_lines.specs.Printing.{Begun, Printed, Printing, Prints}
+use Rattle.pd_lines.proofs.Printing.{begun_after, begun_first}
+use Rattle.pd_query.specs.Puts.{PrintsSome}
 use Rattle.pd_uses.specs.declared.data_use.DataUse.{DataUse}
 use Rattle.pd_uses.specs.UseLines.{listed_row, listed_rows, use_line, uses_text}
 
@@ -18,16 +19,14 @@ pub text_cut : (uses : List DataUse) (i : ℕ) → uses_text uses ≡ uses_text 
 text_cut uses i = ap uses_text (sym (take-append-drop i uses)) ∙ flat_map-append use_line (take i uses) (drop i uses)
 
 -- a front of the lines of uses, behind those up to a place
-pub uses_stopped : (uses : List DataUse) (i : ℕ) {old mid : List ℕ} {before between after : Option (List ℕ)} → Adds (uses_text (take i uses)) old mid before between → StopsAt mid between after
-    → Begins (uses_text uses) old before after
-uses_stopped uses i adds stopped = rw (text_cut uses i) (begins_after adds (begins_at (uses_text (drop i uses)) stopped))
+pub uses_lost : (uses : List DataUse) (i : ℕ) (d : DataUse) {old mid new : Printing} → i < length uses → Printed (uses_text (take i uses)) old mid → Begun (use_line (get_or uses i d)) mid new
+    → Begun (uses_text uses) old new
+uses_lost uses i d within printed begun = rw (text_cut uses (i + 1), text_so_far uses i d within) (begun_first (uses_text (drop (i + 1) uses)) (begun_after printed begun))
 
--- a line that was gathered or not, which is this one where the device tells what it holds
-pub line_told : {E : Type 0} (held : Option (List (List ℕ))) (text_of : List (List ℕ) → List ℕ) (text old new : List ℕ) (before after : Option (List ℕ)) (result : Result (Unit {0}) E)
-    → IfSome held (λ image. text ≡ text_of image) → MatchResult result (λ _. Adds text old new before after) (λ _. Begins text old before after)
-    → MatchResult result (λ _. AddsSome held text_of old new before after) (λ _. PutsFront held text_of old before after)
-line_told held text_of text old new before after (Ok done) told adds = record { text = text; told = told; adds = adds }
-line_told held text_of text old new before after (Err fault) told begun = record { text = text; told = told; front = begun.front }
+-- a line that was printed or begun, which is this one where the device tells what it holds
+pub line_told : {E : Type 0} (held : Option (List (List ℕ))) (text_of : List (List ℕ) → List ℕ) (text : List ℕ) {old new : Printing} {result : Result (Unit {0}) E}
+    → IfSome held (λ image. text ≡ text_of image) → Prints text result old new → PrintsSome held text_of result old new
+line_told held text_of text told prints = record { text = text; told = told; prints = prints }
 
 -- the line of a row before those of others
 pub listed_first : (image : List (List ℕ)) (counts : Counted) (row : DeviceRow) (left later : List DeviceRow) → left ≡ row ∷ later

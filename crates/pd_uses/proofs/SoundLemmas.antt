@@ -1,30 +1,23 @@
 -- What the lines of a sound pool's bytes come to: those of its meaning.
-use Rattle.std.proofs.Common.{◌≡◌, ℕ, ◌-◌, ◌^◌, ◌<◌, nat_eq, List, [], ◌∷◌, ◌++◌, map, filter, Option, None, Some, IfSome, Result, Err, refl, sym, ap, ◌∙◌, subst, codes, decimal, inl, inr}
+use Rattle.std.proofs.Common.{◌≡◌, ℕ, ◌-◌, ◌^◌, ◌<◌, nat_eq, List, [], ◌∷◌, ◌++◌, map, filter, refl, sym, ap, ◌∙◌, subst, codes, decimal, inl, inr}
 use Rattle.std.specs.List.{AllByRecursion, flat_map, range_with_len}
 use Rattle.std.proofs.lemmas.Bool.{cases_Bool, eqb-true}
 use Rattle.std.proofs.lemmas.List.Concat.{flat_map-append}
 use Rattle.std.proofs.lemmas.List.Elements.{filter-append}
-use Rattle.pd_kinds.specs.declared.kind.Kind.TheVariants.{Thin}
-use Rattle.pd_kinds.specs.declared.kind.Stage.TheVariants.{Whole}
 use Rattle.pd_kinds.specs.declared.thin_super.ThinSuper.{ThinSuper}
 use Rattle.pd_kinds.specs.Graph.{block_at}
 use Rattle.pd_kinds.specs.Meaning.{Mapping, ThinPool, thin_meaning}
-use Rattle.pd_kinds.specs.Stages.{faults}
 use Rattle.pd_kinds.specs.ThinSuper.{thin_fields}
-use Rattle.pd_kinds.proofs.AppendLemmas.{front_none}
 use Rattle.pd_answers.specs.QueryLines.{device_of_list, exclusive_number, list_lines, mapping_line, mapping_lines, rmap_lines}
 use Rattle.pd_count.specs.Counted.{Counted}
 use Rattle.pd_laws.proofs.AllLemmas.{all_from_two}
 use Rattle.pd_pool.specs.declared.devices.DeviceRow.{DeviceRow}
 use Rattle.pd_pool.specs.Given.{GivesPool, device_of, pool_rows, super_rows}
 use Rattle.pd_pool.specs.Runs.{mappings_below}
-use Rattle.pd_query.specs.declared.fault.QueryFault.{QueryFault}
-use Rattle.pd_query.specs.Adds.{PutsText}
-use Rattle.pd_query.proofs.AddsLemmas.{two_told}
 use Rattle.pd_uses.specs.declared.data_use.DataUse.{DataUse}
 use Rattle.pd_uses.specs.Ordered.{ordered_uses, uses_of_block}
 use Rattle.pd_uses.specs.UseCounts.{CountsUses}
-use Rattle.pd_uses.specs.UseLines.{PutsLines, details_part, device_line, listed_row, listed_rows, use_line, uses_text}
+use Rattle.pd_uses.specs.UseLines.{details_part, device_line, listed_row, listed_rows, use_line, uses_text}
 use Rattle.pd_uses.specs.Uses.{row_uses, rows_uses, super_uses, use_by}
 use Rattle.pd_uses.proofs.CountLemmas.{HasFew, exclusive_is_given, few_in_rows}
 use Rattle.pd_uses.proofs.LineLemmas.{parts_rest}

@@ -6,7 +6,7 @@ use Rattle.pd_tree.proofs.NextLemmas.{items_outside}
 use Rattle.pd_pool.specs.declared.devices.DeviceRow.{DeviceRow}
 use Rattle.pd_pool.specs.Items.{block_time_of}
 use Rattle.pd_pool.specs.Joined.{mapping_of}
-use Rattle.pd_query.proofs.AddsLemmas.{each_told, two_told}
+use Rattle.pd_query.proofs.PutsLemmas.{each_told, two_told}
 use Rattle.pd_uses.specs.declared.data_use.DataUse.{DataUse}
 use Rattle.pd_uses.specs.Taken.{Takes}
 use Rattle.pd_uses.specs.Uses.{row_uses, rows_uses, use_by}

@@ -11,7 +11,7 @@ use Rattle.pd_kinds.specs.ThinSuper.{thin_fields}
 use Rattle.pd_count.specs.Counted.{Counted}
 use Rattle.pd_pool.specs.declared.devices.DeviceRow.{DeviceRow}
 use Rattle.pd_query.specs.declared.fault.QueryFault.{QueryFault}
-use Rattle.pd_query.specs.Adds.{Puts}
+use Rattle.pd_query.specs.Puts.{Puts}
 use Rattle.pd_uses.specs.declared.data_use.DataUse.{DataUse}
 use Rattle.pd_uses.specs.UseCounts.{exclusive_in}
 

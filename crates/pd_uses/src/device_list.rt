@@ -1,24 +1,26 @@
 //! The list of a pool's devices.
 
-ghost use Rattle.std.specs.Prelude.{◌≡◌, ◌≤◌, MatchResult};
+ghost use Rattle.std.specs.Prelude.{◌≡◌, ◌≤◌};
 ghost use Rattle.pd_image.specs.Device.{IsAttached, OnlyReads};
 ghost use Rattle.pd_image.specs.Sink.{KeepsSink};
+ghost use Rattle.pd_lines.specs.Printer.{printing};
+ghost use Rattle.pd_lines.specs.Printing.{Prints};
 ghost use Rattle.pd_answers.specs.QueryLines.{list_lines};
 ghost use Rattle.pd_pool.specs.Devices.{rows_left, rows_room};
 ghost use Rattle.pd_pool.specs.Given.{super_rows};
-ghost use Rattle.pd_query.specs.Adds.{Adds, AddsSome, Begins, PutsFront, PutsText};
+ghost use Rattle.pd_query.specs.Puts.{PrintsSome, PutsText};
 ghost use Rattle.pd_query.specs.Failing.{Ends, SinkFails};
 ghost use Rattle.pd_uses.specs.UseLines.{PutsLines, blocks_part, details_part, device_line, listed_row, listed_rows};
 
 use crate::counting::{count_uses, exclusive_blocks};
-use crate::lines::{add_labeled, add_text};
+use crate::lines::add_labeled;
 use crate::walk::super_to_ask;
 use pd_count::Counts;
 use pd_image::{Device, Sink};
 use pd_kinds::ThinSuper;
-use pd_lines::{LineBuffer, Pieces};
+use pd_lines::{LineBuffer, Printer};
 use pd_pool::{DeviceRow, ThinDevices, rows_are_the_devices};
-use pd_query::{Query, QueryFault, devices_of};
+use pd_query::{Query, QueryFault, devices_of, print_line};
 use pd_tree::Cursor;
 use pd_value::BlockTime;
 use std::alloc::Global;
@@ -65,33 +67,28 @@ fn put_devices<D: Device, K: Sink>(
     ensures sink { KeepsSink (K.state out.old) (K.state out.new) }
     ensures faults { Ends result (D.state dev.old).faults (D.state dev.new).faults (K.state out.old).faults (K.state out.new).faults }
 {
-    let mut pieces = Pieces::new();
-    match add_devices(alloc, s, counts, dev, &mut pieces, out) {
-        Ok(()) => match pieces.put(out) {
-            Ok(()) => Ok(()),
-            Err(_) => Err(QueryFault::Sink),
-        },
-        Err(fault) => Err(fault),
+    let mut printer = Printer::over(out);
+    add_devices(alloc, s, counts, dev, &mut printer)?;
+    match printer.finish() {
+        Ok(()) => Ok(()),
+        Err(_) => Err(QueryFault::Sink),
     }
 }
 
-/// Gathers the lines of the devices, in the memory of three cursors over trees.
+/// Prints the lines of the devices, in the memory of three cursors over trees.
 fn add_devices<D: Device, K: Sink>(
     alloc: Global,
     s: &ThinSuper,
     counts: &Counts,
     dev: &mut D,
-    pieces: &mut Pieces,
-    out: &mut K,
+    printer: &mut Printer<'_, K>,
 ) -> Result<(), QueryFault>
     requires dev { IsAttached (D.state dev.old) }
-    requires out { (K.state out.old).access ≡ 1 }
-    ensures lines { MatchResult result
-        (λ _. AddsSome (D.state dev.old).held (λ image. listed_rows image counts.now (super_rows image s.now)) pieces.old pieces.new (K.state out.old).written (K.state out.new).written)
-        (λ _. PutsFront (D.state dev.old).held (λ image. listed_rows image counts.now (super_rows image s.now)) pieces.old (K.state out.old).written (K.state out.new).written) }
+    requires open { (K.state printer.old.out.now).access ≡ 1 }
+    ensures same_reference { printer.new.out.ghost_name ≡ printer.old.out.ghost_name }
+    ensures prints { PrintsSome (D.state dev.old).held (λ image. listed_rows image counts.now (super_rows image s.now)) result (printing K.state printer.old) (printing K.state printer.new) }
     ensures kept { OnlyReads (D.state dev.old) (D.state dev.new) }
-    ensures sink { KeepsSink (K.state out.old) (K.state out.new) }
-    ensures faults { Ends result (D.state dev.old).faults (D.state dev.new).faults (K.state out.old).faults (K.state out.new).faults }
+    ensures faults { Ends result (D.state dev.old).faults (D.state dev.new).faults (K.state printer.old.out.now).faults (K.state printer.new.out.now).faults }
 {
     let mut mappings = match Cursor::start(alloc, s.mapping_root) {
         Ok(mappings) => mappings,
@@ -102,29 +99,26 @@ fn add_devices<D: Device, K: Sink>(
         Err(_) => return Err(QueryFault::Memory),
     };
     match devices {
-        Some(mut devices) => add_rows(&mut devices, counts, &mut mappings, dev, pieces, out),
+        Some(mut devices) => add_rows(&mut devices, counts, &mut mappings, dev, printer),
         None => Ok(()),
     }
 }
 
-/// Gathers the lines of the devices that are left.
+/// Prints the lines of the devices that are left.
 fn add_rows<D: Device, K: Sink>(
     devices: &mut ThinDevices,
     counts: &Counts,
     mappings: &mut Cursor<BlockTime>,
     dev: &mut D,
-    pieces: &mut Pieces,
-    out: &mut K,
+    printer: &mut Printer<'_, K>,
 ) -> Result<(), QueryFault>
     requires dev { IsAttached (D.state dev.old) }
-    requires out { (K.state out.old).access ≡ 1 }
+    requires open { (K.state printer.old.out.now).access ≡ 1 }
     requires within { rows_room devices.old ≤ (D.state dev.old).blocks }
-    ensures lines { MatchResult result
-        (λ _. AddsSome (D.state dev.old).held (λ image. listed_rows image counts.now (rows_left image devices.old)) pieces.old pieces.new (K.state out.old).written (K.state out.new).written)
-        (λ _. PutsFront (D.state dev.old).held (λ image. listed_rows image counts.now (rows_left image devices.old)) pieces.old (K.state out.old).written (K.state out.new).written) }
+    ensures same_reference { printer.new.out.ghost_name ≡ printer.old.out.ghost_name }
+    ensures prints { PrintsSome (D.state dev.old).held (λ image. listed_rows image counts.now (rows_left image devices.old)) result (printing K.state printer.old) (printing K.state printer.new) }
     ensures kept { OnlyReads (D.state dev.old) (D.state dev.new) }
-    ensures sink { KeepsSink (K.state out.old) (K.state out.new) }
-    ensures faults { Ends result (D.state dev.old).faults (D.state dev.new).faults (K.state out.old).faults (K.state out.new).faults }
+    ensures faults { Ends result (D.state dev.old).faults (D.state dev.new).faults (K.state printer.old.out.now).faults (K.state printer.new.out.now).faults }
 {
     loop {
         let row = match devices.next(dev) {
@@ -132,58 +126,47 @@ fn add_rows<D: Device, K: Sink>(
             Err(_) => return Err(QueryFault::Device),
         };
         match row {
-            Some(row) => match add_row(&row, counts, mappings, dev, pieces, out) {
-                Ok(()) => {}
-                Err(fault) => return Err(fault),
-            },
+            Some(row) => add_row(&row, counts, mappings, dev, printer)?,
             None => return Ok(()),
         }
     }
 }
 
-/// Gathers the line of a device.
+/// Prints the line of a device.
 fn add_row<D: Device, K: Sink>(
     row: &DeviceRow,
     counts: &Counts,
     mappings: &mut Cursor<BlockTime>,
     dev: &mut D,
-    pieces: &mut Pieces,
-    out: &mut K,
+    printer: &mut Printer<'_, K>,
 ) -> Result<(), QueryFault>
     requires dev { IsAttached (D.state dev.old) }
-    requires out { (K.state out.old).access ≡ 1 }
-    ensures lines { MatchResult result
-        (λ _. AddsSome (D.state dev.old).held (λ image. listed_row image counts.now row.now) pieces.old pieces.new (K.state out.old).written (K.state out.new).written)
-        (λ _. PutsFront (D.state dev.old).held (λ image. listed_row image counts.now row.now) pieces.old (K.state out.old).written (K.state out.new).written) }
+    requires open { (K.state printer.old.out.now).access ≡ 1 }
+    ensures same_reference { printer.new.out.ghost_name ≡ printer.old.out.ghost_name }
+    ensures prints { PrintsSome (D.state dev.old).held (λ image. listed_row image counts.now row.now) result (printing K.state printer.old) (printing K.state printer.new) }
     ensures kept { OnlyReads (D.state dev.old) (D.state dev.new) }
-    ensures sink { KeepsSink (K.state out.old) (K.state out.new) }
-    ensures faults { Ends result (D.state dev.old).faults (D.state dev.new).faults (K.state out.old).faults (K.state out.new).faults }
+    ensures faults { Ends result (D.state dev.old).faults (D.state dev.new).faults (K.state printer.old.out.now).faults (K.state printer.new.out.now).faults }
 {
     let exclusive = match exclusive_blocks(row, counts, mappings, dev) {
         Ok(exclusive) => exclusive,
         Err(fault) => return Err(fault),
     };
-    add_parts(row, exclusive, pieces, out)
+    add_parts(row, exclusive, printer)
 }
 
-/// Gathers the line of a device in two parts, since it can be longer than a line of a text.
+/// Prints the line of a device in two parts, since it can be longer than a line of a text.
 fn add_parts<K: Sink>(
     row: &DeviceRow,
     exclusive: u64,
-    pieces: &mut Pieces,
-    out: &mut K,
+    printer: &mut Printer<'_, K>,
 ) -> Result<(), QueryFault>
-    requires { (K.state out.old).access ≡ 1 }
-    ensures lines { MatchResult result
-        (λ _. Adds (device_line row.now exclusive) pieces.old pieces.new (K.state out.old).written (K.state out.new).written)
-        (λ _. Begins (device_line row.now exclusive) pieces.old (K.state out.old).written (K.state out.new).written) }
-    ensures sink { KeepsSink (K.state out.old) (K.state out.new) }
-    ensures faults { SinkFails result (K.state out.old).faults (K.state out.new).faults }
+    requires { (K.state printer.old.out.now).access ≡ 1 }
+    ensures same_reference { printer.new.out.ghost_name ≡ printer.old.out.ghost_name }
+    ensures prints { Prints (device_line row.now exclusive) result (printing K.state printer.old) (printing K.state printer.new) }
+    ensures faults { SinkFails result (K.state printer.old.out.now).faults (K.state printer.new.out.now).faults }
 {
-    match add_text(&blocks_text(row, exclusive), pieces, out) {
-        Ok(()) => add_text(&details_text(row), pieces, out),
-        Err(fault) => Err(fault),
-    }
+    print_line(blocks_text(row, exclusive).as_bytes(), printer)?;
+    print_line(details_text(row).as_bytes(), printer)
 }
 
 /// The part of a device's line that tells its blocks.

@@ -1,23 +1,24 @@
 //! The reverse map of a pool: which virtual blocks use the data blocks of a region.
 
-ghost use Rattle.std.specs.Prelude.{◌≡◌, MatchResult, OnOk};
+ghost use Rattle.std.specs.Prelude.{◌≡◌, OnOk};
 ghost use Rattle.pd_kinds.specs.Objects.{Appends, AppendsFront};
 ghost use Rattle.pd_image.specs.Device.{IsAttached, OnlyReads};
 ghost use Rattle.pd_image.specs.Sink.{KeepsSink};
+ghost use Rattle.pd_lines.specs.Printer.{printing};
+ghost use Rattle.pd_lines.specs.Printing.{Prints};
 ghost use Rattle.pd_answers.specs.QueryLines.{rmap_lines};
-ghost use Rattle.pd_query.specs.Adds.{Adds, Begins};
 ghost use Rattle.pd_query.specs.Failing.{Ends, SinkFails};
 ghost use Rattle.pd_uses.specs.UseLines.{PutsLines, use_line, uses_text};
 
 use crate::data_use::DataUse;
-use crate::lines::{add_labeled, add_text};
+use crate::lines::add_labeled;
 use crate::region::region_uses;
 use crate::walk::super_to_ask;
 use pd_image::{Device, Sink};
 use pd_kinds::ThinSuper;
-use pd_lines::{LineBuffer, Pieces};
+use pd_lines::{LineBuffer, Printer};
 use pd_pool::rows_are_the_devices;
-use pd_query::{Query, QueryFault};
+use pd_query::{Query, QueryFault, print_line};
 use std::alloc::Global;
 
 /// Puts a line for each mapping to a data block from `first` on and below `end`, of the pool with this superblock:
@@ -57,30 +58,23 @@ fn put_uses<K: Sink>(uses: &[DataUse], out: &mut K) -> Result<(), QueryFault>
     ensures sink { KeepsSink (K.state out.old) (K.state out.new) }
     ensures faults { SinkFails result (K.state out.old).faults (K.state out.new).faults }
 {
-    let mut pieces = Pieces::new();
-    match add_uses(uses, &mut pieces, out) {
-        Ok(()) => match pieces.put(out) {
-            Ok(()) => Ok(()),
-            Err(_) => Err(QueryFault::Sink),
-        },
-        Err(fault) => Err(fault),
+    let mut printer = Printer::over(out);
+    add_uses(uses, &mut printer)?;
+    match printer.finish() {
+        Ok(()) => Ok(()),
+        Err(_) => Err(QueryFault::Sink),
     }
 }
 
-/// Gathers the lines of uses.
-fn add_uses<K: Sink>(uses: &[DataUse], pieces: &mut Pieces, out: &mut K) -> Result<(), QueryFault>
-    requires { (K.state out.old).access ≡ 1 }
-    ensures lines { MatchResult result
-        (λ _. Adds (uses_text uses.now) pieces.old pieces.new (K.state out.old).written (K.state out.new).written)
-        (λ _. Begins (uses_text uses.now) pieces.old (K.state out.old).written (K.state out.new).written) }
-    ensures sink { KeepsSink (K.state out.old) (K.state out.new) }
-    ensures faults { SinkFails result (K.state out.old).faults (K.state out.new).faults }
+/// Prints the lines of uses.
+fn add_uses<K: Sink>(uses: &[DataUse], printer: &mut Printer<'_, K>) -> Result<(), QueryFault>
+    requires { (K.state printer.old.out.now).access ≡ 1 }
+    ensures same_reference { printer.new.out.ghost_name ≡ printer.old.out.ghost_name }
+    ensures prints { Prints (uses_text uses.now) result (printing K.state printer.old) (printing K.state printer.new) }
+    ensures faults { SinkFails result (K.state printer.old.out.now).faults (K.state printer.new.out.now).faults }
 {
     for one in uses {
-        match add_text(&use_text(one), pieces, out) {
-            Ok(()) => {}
-            Err(fault) => return Err(fault),
-        }
+        print_line(use_text(one).as_bytes(), printer)?;
     }
     Ok(())
 }

@@ -1,23 +1,30 @@
-use Rattle.std.proofs.Common.{Some, None, IfSome, ap, ◌∙◌, subst, arith}
+use Rattle.std.proofs.Common.{Some, None, Err, IfSome, ap, ◌∙◌, subst, arith}
 use Rattle.pd_image.proofs.ReadLemmas.{only_reads_both}
 use Rattle.pd_tree.specs.Next.{IsNext}
 use Rattle.pd_cached.specs.declared.beside.CacheRow.{CacheRow}
 use Rattle.pd_cached.specs.Rows.{rows_left}
-use Rattle.pd_query.proofs.AddsLemmas.{adds_all, adds_known, adds_more, front_before, keeps_both, one_told, stops_here}
+use Rattle.pd_query.specs.declared.fault.QueryFault.{QueryFault}
+use Rattle.pd_query.specs.declared.fault.QueryFault.TheVariants.{Device}
+use Rattle.pd_query.proofs.PutsLemmas.{lost_with, one_told, prints_known, so_far_all, so_far_lost, so_far_more, so_far_stops}
 use Rattle.pd_dumps.specs.CacheLines.{rows_text}
 use Rattle.pd_dumps.proofs.CacheRowLemmas.{row_first}
 use Rattle.pd_dumps.proofs.cache_lines.add_rows.Goals as goal
 
-pub returns-in-Err-clause-lines : goal.returns-in-Err-clause-lines
-returns-in-Err-clause-lines g c =
-    front_before (g.D.Device.state c.args.dev.now).held c.loop-row.invariant.adds (stops_here c.loop-row.pieces (g.K.Sink.state c.loop-row.out).written)
+pub returns-in-Err-clause-prints : goal.returns-in-Err-clause-prints
+returns-in-Err-clause-prints g c = so_far_stops (g.D.Device.state c.args.dev.now).held Device c.loop-row.invariant.so_far
 
-pub returns-in-Err-add_line-clause-lines : goal.returns-in-Err-add_line-clause-lines
-returns-in-Err-add_line-clause-lines g c = front_before (g.D.Device.state c.args.dev.now).held c.loop-row.invariant.adds c.in-Err-add_line.ensures.lines
+pub returns-in_err-add_line-in-Some-clause-prints : goal.returns-in_err-add_line-in-Some-clause-prints
+returns-in_err-add_line-in-Some-clause-prints g c =
+    lost_with (g.D.Device.state c.args.dev.now).held c.from_residual.result c.from_residual.ensures.0
+    (so_far_lost (g.D.Device.state c.args.dev.now).held (λ image. rows_text (rows_left image c.next.new.self)) c.loop-row.invariant.so_far
+    (one_told (g.D.Device.state c.args.dev.now).held (λ image next. row_first c.in-Some.row (rows_left image c.loop-row.maps) (rows_left image c.next.new.self) next)
+    (subst (λ o. IfSome o (λ image. IsNext {X = CacheRow} (Some c.in-Some.row) (rows_left image c.loop-row.maps) (rows_left image c.next.new.self))) c.loop-row.invariant.kept.held
+    (rw c.in-Some.is at c.in-Ok.ensures.next)))
+    (prints_known {result = Err c.in_err-add_line-in-Some.field-0.0} (g.D.Device.state c.args.dev.now).held (rw c.map_line.ensures at c.in_err-add_line-in-Some.ensures.prints)))
 
-pub returns-in-None-clause-lines : goal.returns-in-None-clause-lines
-returns-in-None-clause-lines g c =
-    adds_all (g.D.Device.state c.args.dev.now).held c.loop-row.invariant.adds
+pub returns-in-None-clause-prints : goal.returns-in-None-clause-prints
+returns-in-None-clause-prints g c =
+    so_far_all (g.D.Device.state c.args.dev.now).held tt c.loop-row.invariant.so_far
     (one_told (g.D.Device.state c.args.dev.now).held (λ image none. ap rows_text none.0)
     (subst (λ o. IfSome o (λ image. IsNext {X = CacheRow} None (rows_left image c.loop-row.maps) (rows_left image c.next.new.self))) c.loop-row.invariant.kept.held
     (rw c.in-None.is at c.in-Ok.ensures.next)))
@@ -27,14 +34,14 @@ loop-row-preserved g c =
     let before = c.loop-row.invariant.room in
     let room = c.in-Ok.ensures.room in
     record {
-      adds = adds_more (g.D.Device.state c.args.dev.now).held c.loop-row.invariant.adds
+      same_reference = c.in_ok-add_line-in-Some.ensures.same_reference ∙ c.loop-row.invariant.same_reference;
+      so_far = so_far_more (g.D.Device.state c.args.dev.now).held {E = QueryFault} c.loop-row.invariant.so_far
           (one_told (g.D.Device.state c.args.dev.now).held (λ image next. row_first c.in-Some.row (rows_left image c.loop-row.maps) (rows_left image c.next.new.self) next)
           (subst (λ o. IfSome o (λ image. IsNext {X = CacheRow} (Some c.in-Some.row) (rows_left image c.loop-row.maps) (rows_left image c.next.new.self))) c.loop-row.invariant.kept.held
           (rw c.in-Some.is at c.in-Ok.ensures.next)))
-          (adds_known (g.D.Device.state c.args.dev.now).held (rw c.map_line.ensures at c.in-Ok-add_line.ensures.lines));
+          (prints_known (g.D.Device.state c.args.dev.now).held (rw c.map_line.ensures at c.in_ok-add_line-in-Some.ensures.prints));
       room = omega arith;
       kept = only_reads_both c.loop-row.invariant.kept c.in-Ok.ensures.kept;
-      sink = keeps_both c.loop-row.invariant.sink c.in-Ok-add_line.ensures.sink;
       dev_faults = c.in-Ok.ensures.faults ∙ c.loop-row.invariant.dev_faults;
-      out_faults = c.in-Ok-add_line.ensures.faults ∙ c.loop-row.invariant.out_faults;
+      out_faults = c.in_ok-add_line-in-Some.ensures.faults ∙ c.loop-row.invariant.out_faults;
     }

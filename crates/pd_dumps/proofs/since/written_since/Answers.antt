@@ -1,7 +1,7 @@
 use Rattle.std.proofs.Common.{refl, ◌∙◌, ap}
 use Rattle.pd_kinds.specs.Meaning.{era_meaning}
 use Rattle.pd_answers.specs.QueryLines.{since_lines}
-use Rattle.pd_query.proofs.AddsLemmas.{one_told}
+use Rattle.pd_query.proofs.PutsLemmas.{one_told}
 use Rattle.pd_query.proofs.QueryLemmas.{puts_none}
 use Rattle.pd_dumps.specs.EraGiven.{given_eras}
 use Rattle.pd_dumps.specs.SinceLines.{since_text}

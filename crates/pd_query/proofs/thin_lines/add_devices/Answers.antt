@@ -4,28 +4,29 @@ use Rattle.pd_tree.specs.Next.{IsNext}
 use Rattle.pd_pool.specs.declared.devices.DeviceRow.{DeviceRow}
 use Rattle.pd_pool.specs.Devices.{rows_left}
 use Rattle.pd_query.specs.ThinText.{rows_text}
-use Rattle.pd_query.proofs.AddsLemmas.{adds_all, adds_more, front_before, front_in, keeps_both, one_told, stops_here}
+use Rattle.pd_query.specs.declared.fault.QueryFault.TheVariants.{Device}
+use Rattle.pd_query.proofs.PutsLemmas.{lost_with, one_told, so_far_all, so_far_lost, so_far_more, so_far_stops}
 use Rattle.pd_query.proofs.TextLemmas.{row_first}
 use Rattle.std.specs.List.{flat_map}
 use Rattle.pd_pool.specs.Given.{row_lines}
 use Rattle.pd_query.proofs.CountLemmas.{counts_all, counts_more, rows_lines}
 use Rattle.pd_query.proofs.thin_lines.add_devices.Goals as goal
 
-pub returns-in-Err-clause-lines : goal.returns-in-Err-clause-lines
-returns-in-Err-clause-lines g c =
-    front_before (g.D.Device.state c.args.dev.now).held c.loop-row.invariant.adds (stops_here c.loop-row.pieces (g.K.Sink.state c.loop-row.out).written)
+pub returns-in-Err-clause-prints : goal.returns-in-Err-clause-prints
+returns-in-Err-clause-prints g c = so_far_stops (g.D.Device.state c.args.dev.now).held Device c.loop-row.invariant.so_far
 
-pub returns-in-Err-add_device-clause-lines : goal.returns-in-Err-add_device-clause-lines
-returns-in-Err-add_device-clause-lines g c =
-    front_in (g.D.Device.state c.args.dev.now).held (λ image. rows_text image (rows_left image c.next.new.self)) c.loop-row.invariant.adds
+pub returns-in_err-add_device-in-Some-clause-prints : goal.returns-in_err-add_device-in-Some-clause-prints
+returns-in_err-add_device-in-Some-clause-prints g c =
+    lost_with (g.D.Device.state c.args.dev.now).held c.from_residual.result c.from_residual.ensures.0
+    (so_far_lost (g.D.Device.state c.args.dev.now).held (λ image. rows_text image (rows_left image c.next.new.self)) c.loop-row.invariant.so_far
     (one_told (g.D.Device.state c.args.dev.now).held (λ image next. row_first image c.in-Some.row (rows_left image c.loop-row.devices) (rows_left image c.next.new.self) next)
     (subst (λ o. IfSome o (λ image. IsNext {X = DeviceRow} (Some c.in-Some.row) (rows_left image c.loop-row.devices) (rows_left image c.next.new.self))) c.loop-row.invariant.kept.held
     (rw c.in-Some.is at c.in-Ok.ensures.next)))
-    (rw (only_reads_both c.loop-row.invariant.kept c.in-Ok.ensures.kept).held at c.in-Err-add_device.ensures.lines)
+    (rw (only_reads_both c.loop-row.invariant.kept c.in-Ok.ensures.kept).held at c.in_err-add_device-in-Some.ensures.prints))
 
-pub returns-in-None-clause-lines : goal.returns-in-None-clause-lines
-returns-in-None-clause-lines g c =
-    adds_all (g.D.Device.state c.args.dev.now).held c.loop-row.invariant.adds
+pub returns-in-None-clause-prints : goal.returns-in-None-clause-prints
+returns-in-None-clause-prints g c =
+    so_far_all (g.D.Device.state c.args.dev.now).held tt c.loop-row.invariant.so_far
     (one_told (g.D.Device.state c.args.dev.now).held (λ image none. ap (rows_text image) none.0)
     (subst (λ o. IfSome o (λ image. IsNext {X = DeviceRow} None (rows_left image c.loop-row.devices) (rows_left image c.next.new.self))) c.loop-row.invariant.kept.held
     (rw c.in-None.is at c.in-Ok.ensures.next)))
@@ -35,22 +36,22 @@ loop-row-preserved g c =
     let before = c.loop-row.invariant.room in
     let room = c.in-Ok.ensures.room in
     record {
-      adds = adds_more (g.D.Device.state c.args.dev.now).held c.loop-row.invariant.adds
+      same_reference = c.in_ok-add_device-in-Some.ensures.same_reference ∙ c.loop-row.invariant.same_reference;
+      so_far = so_far_more (g.D.Device.state c.args.dev.now).held c.loop-row.invariant.so_far
           (one_told (g.D.Device.state c.args.dev.now).held (λ image next. row_first image c.in-Some.row (rows_left image c.loop-row.devices) (rows_left image c.next.new.self) next)
           (subst (λ o. IfSome o (λ image. IsNext {X = DeviceRow} (Some c.in-Some.row) (rows_left image c.loop-row.devices) (rows_left image c.next.new.self))) c.loop-row.invariant.kept.held
           (rw c.in-Some.is at c.in-Ok.ensures.next)))
-          (rw (only_reads_both c.loop-row.invariant.kept c.in-Ok.ensures.kept).held at c.in-Ok-add_device.ensures.lines);
+          (rw (only_reads_both c.loop-row.invariant.kept c.in-Ok.ensures.kept).held at c.in_ok-add_device-in-Some.ensures.prints);
       counted = counts_more (g.D.Device.state c.args.dev.now).held c.args.counts.now c.loop-row.counts c.add_device.new.counts (λ image. flat_map (row_lines image) (rows_left image c.args.devices.now)) (λ image. flat_map (row_lines image) (rows_left image c.loop-row.devices))
           (λ image. row_lines image c.in-Some.row) (λ image. flat_map (row_lines image) (rows_left image c.next.new.self)) c.loop-row.invariant.counted
           (one_told (g.D.Device.state c.args.dev.now).held (λ image next. rows_lines image c.in-Some.row (rows_left image c.loop-row.devices) (rows_left image c.next.new.self) next)
           (subst (λ o. IfSome o (λ image. IsNext {X = DeviceRow} (Some c.in-Some.row) (rows_left image c.loop-row.devices) (rows_left image c.next.new.self))) c.loop-row.invariant.kept.held
           (rw c.in-Some.is at c.in-Ok.ensures.next)))
-          (rw (only_reads_both c.loop-row.invariant.kept c.in-Ok.ensures.kept).held at c.in-Ok-add_device.ensures.counted);
+          (rw (only_reads_both c.loop-row.invariant.kept c.in-Ok.ensures.kept).held at c.in_ok-add_device-in-Some.ensures.counted);
       room = omega arith;
-      kept = only_reads_both (only_reads_both c.loop-row.invariant.kept c.in-Ok.ensures.kept) c.in-Ok-add_device.ensures.kept;
-      sink = keeps_both c.loop-row.invariant.sink c.in-Ok-add_device.ensures.sink;
-      dev_faults = c.in-Ok-add_device.ensures.faults.0 ∙ (c.in-Ok.ensures.faults ∙ c.loop-row.invariant.dev_faults);
-      out_faults = c.in-Ok-add_device.ensures.faults.1 ∙ c.loop-row.invariant.out_faults;
+      kept = only_reads_both (only_reads_both c.loop-row.invariant.kept c.in-Ok.ensures.kept) c.in_ok-add_device-in-Some.ensures.kept;
+      dev_faults = c.in_ok-add_device-in-Some.ensures.faults.0 ∙ (c.in-Ok.ensures.faults ∙ c.loop-row.invariant.dev_faults);
+      out_faults = c.in_ok-add_device-in-Some.ensures.faults.1 ∙ c.loop-row.invariant.out_faults;
     }
 
 pub returns-in-None-clause-counted : goal.returns-in-None-clause-counted

@@ -1,24 +1,24 @@
 use Rattle.std.proofs.Common.{◌≡◌, ◌≤◌}
 use Rattle.pd_image.specs.Device.{OnlyReads}
-use Rattle.pd_image.specs.Sink.{KeepsSink}
+use Rattle.pd_lines.specs.Printer.{printing}
 use Rattle.pd_pool.specs.Devices.{rows_left, rows_number, rows_room}
 use Rattle.pd_query.specs.ThinText.{rows_text}
 use Rattle.std.specs.List.{flat_map}
 use Rattle.pd_pool.specs.Given.{row_lines}
-use Rattle.pd_query.proofs.AddsLemmas.{AddsSoFar}
+use Rattle.pd_query.proofs.PutsLemmas.{PrintsSoFar}
 use Rattle.pd_query.proofs.CountLemmas.{CountsSoFar}
 use Rattle.pd_query.proofs.thin_lines.add_devices.Given as goal
 
 abbrev pub invariant-loop-row : goal.invariant-loop-row
 invariant-loop-row g l = record {
-  adds : AddsSoFar (g.D.Device.state l.initial.dev).held (λ image. rows_text image (rows_left image l.initial.devices)) (λ image. rows_text image (rows_left image l.devices))
-      l.initial.pieces l.pieces (g.K.Sink.state l.initial.out).written (g.K.Sink.state l.out).written;
+  same_reference : l.printer.out.ghost_name ≡ l.initial.printer.out.ghost_name;
+  so_far : PrintsSoFar (g.D.Device.state l.initial.dev).held (λ image. rows_text image (rows_left image l.initial.devices)) (λ image. rows_text image (rows_left image l.devices))
+      (printing g.K.Sink.state l.initial.printer) (printing g.K.Sink.state l.printer);
   counted : CountsSoFar (g.D.Device.state l.initial.dev).held (λ image. flat_map (row_lines image) (rows_left image l.initial.devices)) (λ image. flat_map (row_lines image) (rows_left image l.devices)) l.initial.counts l.counts;
   room : rows_room l.devices ≤ rows_room l.initial.devices;
   kept : OnlyReads (g.D.Device.state l.initial.dev) (g.D.Device.state l.dev);
-  sink : KeepsSink (g.K.Sink.state l.initial.out) (g.K.Sink.state l.out);
   dev_faults : (g.D.Device.state l.dev).faults ≡ (g.D.Device.state l.initial.dev).faults;
-  out_faults : (g.K.Sink.state l.out).faults ≡ (g.K.Sink.state l.initial.out).faults;
+  out_faults : (g.K.Sink.state l.printer.out.now).faults ≡ (g.K.Sink.state l.initial.printer.out.now).faults;
 }
 
 abbrev pub decreases-loop-row : goal.decreases-loop-row

@@ -12,6 +12,6 @@ returns-in-Ok-put g c = λ t start copied.
     let total = text_of_lines thin (in_order copied.lines []) in
     let bytes : t ≡ total ++ end_text = laws.bytes t all copied.is ∙ c.thin_lines_are_printed_in_order.ensures.more copied.lines end_line in
     let spells = laws.spells t all copied.is in (
-      rw bytes (c.in-Ok-put.ensures.whole (total ++ end_text) start (c.in-Ok.ensures.gathered total start copied.gathered)),
+      rw bytes (c.in-Ok-put.ensures.whole (total ++ end_text) start ((rw c.bytes_of_end.ensures.bytes at c.in-Ok.ensures.gathered) total start copied.gathered)),
       (spells.0, spells.1.1),
     )

@@ -1,5 +1,5 @@
 use Rattle.std.proofs.Common.{[], arith, refl, ◌∙◌, subst}
-use Rattle.pd_query.proofs.AddsLemmas.{one_told}
+use Rattle.pd_query.proofs.PutsLemmas.{one_told}
 use Rattle.pd_uses.specs.UseCounts.{CountsUses}
 use Rattle.pd_uses.proofs.counting.count_uses.Goals as goal
 

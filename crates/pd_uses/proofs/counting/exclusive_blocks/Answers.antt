@@ -1,5 +1,5 @@
 use Rattle.std.proofs.Common.{List, [], length, filter, refl, ap, ◌∙◌}
-use Rattle.pd_query.proofs.AddsLemmas.{one_told}
+use Rattle.pd_query.proofs.PutsLemmas.{one_told}
 use Rattle.pd_uses.specs.declared.data_use.DataUse.{DataUse}
 use Rattle.pd_uses.specs.UseCounts.{is_single, raised}
 use Rattle.pd_uses.proofs.counting.exclusive_blocks.Goals as goal

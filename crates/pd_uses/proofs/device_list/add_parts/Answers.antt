@@ -1,11 +1,14 @@
+use Rattle.pd_lines.specs.Printer.{printing}
+use Rattle.pd_lines.proofs.Printing.{begun_first, begun_with, prints_then}
 use Rattle.pd_uses.specs.UseLines.{blocks_part, details_part}
-use Rattle.pd_query.proofs.KnownLemmas.{begins_at, last_then}
 use Rattle.pd_uses.proofs.device_list.add_parts.Goals as goal
 
-pub returns-in-Ok-clause-lines : goal.returns-in-Ok-clause-lines
-returns-in-Ok-clause-lines g c =
-    last_then (blocks_part c.args.row.now c.args.exclusive) (details_part c.args.row.now) c.add_text-in-Ok.new.pieces (g.K.Sink.state c.add_text-in-Ok.new.out).written c.add_text-in-Ok.result
-    (rw c.blocks_text.ensures at c.in-Ok.ensures.lines) (rw c.details_text.ensures at c.add_text-in-Ok.ensures.lines)
+pub returns-in_err-print_line-clause-prints : goal.returns-in_err-print_line-clause-prints
+returns-in_err-print_line-clause-prints g c =
+    begun_with c.from_residual.result c.from_residual.ensures.0
+    (begun_first (details_part c.args.row.now) (rw (c.as_bytes.ensures.bytes, c.blocks_text.ensures) at c.in_err-print_line.ensures.prints))
 
-pub returns-in-Err-clause-lines : goal.returns-in-Err-clause-lines
-returns-in-Err-clause-lines g c = begins_at _ c.in-Err.ensures.lines
+pub returns-clause-prints : goal.returns-clause-prints
+returns-clause-prints g c =
+    prints_then (blocks_part c.args.row.now c.args.exclusive) (details_part c.args.row.now) (printing g.K.Sink.state c.print_line-2.new.printer) c.print_line-2.result
+    (rw (c.as_bytes.ensures.bytes, c.blocks_text.ensures) at c.in_ok-print_line.ensures.prints) (rw (c.as_bytes-2.ensures.bytes, c.details_text.ensures) at c.print_line-2.ensures.prints)

@@ -1,7 +1,7 @@
 use Rattle.std.proofs.Common.{refl, ◌∙◌}
 use Rattle.pd_kinds.specs.Meaning.{thin_meaning}
 use Rattle.pd_answers.specs.QueryLines.{list_lines}
-use Rattle.pd_query.proofs.AddsLemmas.{one_told}
+use Rattle.pd_query.proofs.PutsLemmas.{one_told}
 use Rattle.pd_query.proofs.QueryLemmas.{puts_as, puts_none}
 use Rattle.pd_uses.proofs.SoundLemmas.{list_is}
 use Rattle.pd_uses.proofs.device_list.list_devices.Goals as goal

@@ -1,6 +1,6 @@
 use Rattle.std.proofs.Common.{List, [], ◌++◌, filter, refl, sym, ap, ◌∙◌}
 use Rattle.std.proofs.lemmas.List.{append-nil}
-use Rattle.pd_query.proofs.AddsLemmas.{one_told}
+use Rattle.pd_query.proofs.PutsLemmas.{one_told}
 use Rattle.pd_uses.specs.declared.data_use.DataUse.{DataUse}
 use Rattle.pd_uses.specs.Ordered.{is_within, ordered_uses}
 use Rattle.pd_uses.proofs.OrderLemmas.{region_sorted}

@@ -1,15 +1,21 @@
 use Rattle.std.proofs.Common.{◌∙◌}
-use Rattle.pd_query.proofs.AddsLemmas.{keeps_both}
-use Rattle.pd_query.proofs.KnownLemmas.{adds_both}
-use Rattle.pd_uses.proofs.LineLemmas.{text_so_far, uses_stopped}
+use Rattle.pd_lines.proofs.Printing.{begun_with, printed_both}
+use Rattle.pd_uses.specs.declared.data_use.DataUse.{DataUse}
+use Rattle.pd_uses.proofs.LineLemmas.{text_so_far, uses_lost}
 use Rattle.pd_uses.proofs.reverse_map.add_uses.Goals as goal
 
-pub returns-in-Err-clause-lines : goal.returns-in-Err-clause-lines
-returns-in-Err-clause-lines g c = uses_stopped c.args.uses.now c.loop-one.one-index c.loop-one.invariant.adds c.in-Err.ensures.lines
+abbrev none : DataUse
+none = record { block = 0; id = 0; virt = 0 }
+
+pub returns-in_err-print_line-clause-prints : goal.returns-in_err-print_line-clause-prints
+returns-in_err-print_line-clause-prints g c =
+    begun_with c.from_residual.result c.from_residual.ensures.0
+    (uses_lost c.args.uses.now c.loop-one.one-index none c.loop-one-test.true c.loop-one.invariant.printed (rw (c.as_bytes.ensures.bytes, c.use_text.ensures) at c.in_err-print_line.ensures.prints))
 
 pub loop-one-preserved : goal.loop-one-preserved
 loop-one-preserved g c = record {
-  adds = rw (text_so_far c.args.uses.now c.loop-one.one-index (record { block = 0; id = 0; virt = 0 }) c.loop-one-test.true) (adds_both c.loop-one.invariant.adds (rw c.use_text.ensures at c.in-Ok.ensures.lines));
-  sink = keeps_both c.loop-one.invariant.sink c.in-Ok.ensures.sink;
-  faults = c.in-Ok.ensures.faults ∙ c.loop-one.invariant.faults;
+  same_reference = c.in_ok-print_line.ensures.same_reference ∙ c.loop-one.invariant.same_reference;
+  printed = rw (text_so_far c.args.uses.now c.loop-one.one-index none c.loop-one-test.true)
+      (printed_both c.loop-one.invariant.printed (rw (c.as_bytes.ensures.bytes, c.use_text.ensures) at c.in_ok-print_line.ensures.prints));
+  faults = c.in_ok-print_line.ensures.faults ∙ c.loop-one.invariant.faults;
 }

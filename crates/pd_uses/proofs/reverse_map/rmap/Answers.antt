@@ -1,7 +1,7 @@
 use Rattle.std.proofs.Common.{refl, ◌∙◌, ap}
 use Rattle.pd_kinds.specs.Meaning.{thin_meaning}
 use Rattle.pd_answers.specs.QueryLines.{rmap_lines}
-use Rattle.pd_query.proofs.AddsLemmas.{one_told}
+use Rattle.pd_query.proofs.PutsLemmas.{one_told}
 use Rattle.pd_query.proofs.QueryLemmas.{puts_none}
 use Rattle.pd_uses.specs.UseLines.{uses_text}
 use Rattle.pd_uses.proofs.SoundLemmas.{rmap_is}

@@ -1,5 +1,5 @@
 use Rattle.std.proofs.Common.{◌≤◌, length, arith}
-use Rattle.pd_query.proofs.AddsLemmas.{one_told}
+use Rattle.pd_query.proofs.PutsLemmas.{one_told}
 use Rattle.pd_uses.proofs.walk.super_to_ask.Goals as goal
 
 pub returns-in-Ok-clause-fields : goal.returns-in-Ok-clause-fields

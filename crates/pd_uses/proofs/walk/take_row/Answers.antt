@@ -1,5 +1,5 @@
 use Rattle.std.proofs.Common.{arith}
-use Rattle.pd_query.proofs.AddsLemmas.{one_told}
+use Rattle.pd_query.proofs.PutsLemmas.{one_told}
 use Rattle.pd_uses.specs.Uses.{row_uses}
 use Rattle.pd_uses.proofs.TakenLemmas.{none_outside, takes_all, takes_none}
 use Rattle.pd_uses.proofs.walk.take_row.Goals as goal

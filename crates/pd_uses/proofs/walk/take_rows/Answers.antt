@@ -3,7 +3,7 @@ use Rattle.pd_image.proofs.ReadLemmas.{only_reads_both}
 use Rattle.pd_tree.specs.Next.{IsNext}
 use Rattle.pd_pool.specs.declared.devices.DeviceRow.{DeviceRow}
 use Rattle.pd_pool.specs.Devices.{rows_left}
-use Rattle.pd_query.proofs.AddsLemmas.{one_told}
+use Rattle.pd_query.proofs.PutsLemmas.{one_told}
 use Rattle.pd_uses.specs.Uses.{rows_uses}
 use Rattle.pd_uses.proofs.TakenLemmas.{row_first, takes_all, takes_more}
 use Rattle.pd_uses.proofs.walk.take_rows.Goals as goal

@@ -1,5 +1,5 @@
 use Rattle.std.proofs.Common.{◌≡◌, length, sym, IfSome, subst}
-use Rattle.pd_query.proofs.AddsLemmas.{one_told}
+use Rattle.pd_query.proofs.PutsLemmas.{one_told}
 use Rattle.pd_dumps.proofs.CacheMeaningLemmas.{text_means}
 use Rattle.pd_dumps.proofs.cache.CacheDump.start.Goals as goal
 

@@ -1,7 +1,7 @@
 use Rattle.std.proofs.Common.{◌≡◌, ◌≤◌, ◌∙◌, length, sym, ap, IfSome, subst, arith}
 use Rattle.pd_kinds.specs.declared.thin_super.ThinSuper.{ThinSuper}
 use Rattle.pd_query.specs.ThinText.{dump_text}
-use Rattle.pd_query.proofs.AddsLemmas.{two_told}
+use Rattle.pd_query.proofs.PutsLemmas.{two_told}
 use Rattle.pd_query.proofs.thin_dump.ThinDump.start.Goals as goal
 
 pub returns-in-Ok-over-clause-means : goal.returns-in-Ok-over-clause-means
