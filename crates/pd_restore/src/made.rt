@@ -40,11 +40,7 @@ pub enum MadeFault {
 /// Fails with `NoRoom` where the pool needs more blocks than there are, with `Memory` where memory wasn't found, or the
 /// need isn't below 2^64 - 1, and with `Device` where the device failed. After want of room the device is as it was, and
 /// after want of memory it is as it was, or has no valid superblock.
-pub fn restore_made<D: Device>(
-    alloc: Global,
-    saved: Salvage,
-    dev: &mut D,
-) -> Result<(), MadeFault>
+pub fn restore_made<D: Device>(alloc: Global, saved: Salvage, dev: &mut D) -> Result<(), MadeFault>
     requires { IsWritable (D.state dev.old) }
     ensures made { IsMadeOf (pool_of saved) (ending_of result) (D.state dev.old) (D.state dev.new) }
     ensures place { KeepsPlace (D.state dev.old) (D.state dev.new) }

@@ -5,7 +5,7 @@ ghost use Rattle.pd_spells.specs.ThinText.{Line, end_line, first_line, thin};
 ghost use Rattle.pd_texts.specs.Printed.{text_of_line};
 ghost use Rattle.pd_texts.specs.ThinLine.{line_of};
 
-use crate::print::bytes_of_first;
+use crate::print::{bytes_of_end, bytes_of_first};
 use crate::thin_line::ThinLine;
 use crate::thin_print::bytes_of_thin;
 use pd_image::{Failed, Source};
@@ -143,7 +143,7 @@ fn end_text() -> LineBuffer
     ensures { result ≡ text_of_line thin end_line }
 {
     let mut line = LineBuffer::new();
-    line.add(b"end\n");
+    line.add(bytes_of_end());
     line
 }
 
