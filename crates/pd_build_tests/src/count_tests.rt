@@ -58,6 +58,12 @@ fn index_block() -> Block {
     index
 }
 
+/// A leaf of an index tree that names the same one.
+#[tactic(auto, unfolding(pd_kinds::specs::Node::is_ascending))]
+fn index_leaf() -> Block {
+    write_leaf(1, &[(0, ENTRY)])
+}
+
 /// A map of four blocks: block 0 has the count 1, block 1 has 0, block 2 has 5, and block 3 has 3 in its two bits and
 /// no entry in the overflow tree. The bitmap is block 2, the overflow tree block 3.
 #[tactic(auto, unfolding(pd_kinds::specs::Node::is_ascending))]
@@ -124,10 +130,7 @@ fn metadata_counts_differ_from_no_references(rt: HostRuntime) -> Result<(), Fail
 
 #[test]
 fn data_counts_differ_from_the_references(rt: HostRuntime) -> Result<(), Fail> {
-    let mut device = MemDevice::of(
-        rt.alloc(),
-        &counts_of_each_kind(write_leaf(1, &[(0, ENTRY)])),
-    )?;
+    let mut device = MemDevice::of(rt.alloc(), &counts_of_each_kind(index_leaf()))?;
     device.attach("thin.img", false)?;
     let mut counts = Counts::new(rt.alloc(), 4)?;
     count(&rt, &mut counts, 0)?;
