@@ -8,7 +8,9 @@ pub mod Answer
 pub mod Reads
 pub mod Terms
 pub mod Outputs
+pub mod CachedView
 pub mod Restores
 pub mod Repairs
 pub mod Rehearsals
+pub mod Writebacks
 pub mod Promises
