@@ -114,5 +114,5 @@ unfoldable pub settled : List (List ℕ) → List (List ℕ)
 settled image =
     if length (hot_blocks (cache_meaning image)) == 0 then image
     else map (λ b. if list_any (λ place. place == b) (dirty_places image)
-        then settled_block (cache_fields (block_at image 0)).version (block_at image b)
-        else block_at image b) (range_with_len 0 (length image))
+    then settled_block (cache_fields (block_at image 0)).version (block_at image b)
+    else block_at image b) (range_with_len 0 (length image))

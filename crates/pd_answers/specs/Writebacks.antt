@@ -59,8 +59,8 @@ writeback_answer found =
     if not (found.report.total == 0) then noted 1 (reported_lines found.report)
     else if is_block_size_bad found.block_size then noted 1 block_size_line
     else or_no_room (fast_need k found.hot) found.fast_blocks
-        (or_no_room (origin_need k found.hot) found.origin_blocks
-        (record { status = 0; out = copied_line (length found.hot); notes = [] }))
+    (or_no_room (origin_need k found.hot) found.origin_blocks
+    (record { status = 0; out = copied_line (length found.hot); notes = [] }))
 
 -- the image is that of the origin but for the blocks that hot ones, of k blocks each, stand for
 pub record KeepsOthers (k : ℕ) (hot : List CachedBlock) (origin image : List (List ℕ)) : Type 0 where

@@ -1,5 +1,5 @@
 pub mod ArrayLemmas
-pub mod BegunLemmas
+pub mod OpenLeafLemmas
 pub mod BuildingLemmas
 pub mod CountLemmas
 pub mod NeedLemmas

@@ -11,14 +11,14 @@ use Rattle.pd_draft.proofs.PlacedLemmas.{wrote_none}
 use Rattle.pd_laid.specs.Tree.{heads, blocks_from, first_key, tree_leaves, spread}
 use Rattle.pd_spells.specs.Need.{nodes_for}
 use Rattle.pd_build.specs.Parts.{even_sizes, cut}
-use Rattle.pd_build.specs.Leaves.{LeavesLeft, items_to_come, leaves_to_come, size_of_first, Takes, AreCounts}
+use Rattle.pd_build.specs.Leaves.{LeavesLeft, items_to_come, leaves_to_come, size_of_first, TakesItem, AreCounts}
 use Rattle.pd_build.proofs.PartLemmas.{length-even, sum-any, cut_full, first_size, spread_is_cut}
 use Rattle.pd_build.proofs.CountLemmas.{IsEndOf, end_of, nodes_at, counts_start, parts_some, parts_none}
 
 -- the item ends no leaf
 pub takes_none : (size : ℕ) (e : Entry) (old new : LeavesLeft) (stand : Stand) → IsClosed stand.device
     → new.sizes ≡ old.sizes → new.begun ≡ old.begun ++ e ∷ [] → new.low ≡ e.key + 1 → 1 ≤ items_to_come old
-    → length old.begun + 1 < size_of_first old.sizes → Takes size e None old new stand stand
+    → length old.begun + 1 < size_of_first old.sizes → TakesItem size e None old new stand stand
 unfolding blocks_from heads
 takes_none size e old new stand closed sizes begun low more ends =
     let one = length-append old.begun (e ∷ []) in
@@ -56,7 +56,7 @@ pub takes_one : {most leaves items first begun : ℕ} (size : ℕ) (e : Entry) (
     → new.sizes ≡ even_sizes (leaves - 1) (items - first) → new.begun ≡ [] → new.low ≡ e.key + 1
     → Wrote (leaf_block size from.place (old.begun ++ e ∷ []) ∷ []) from to
     → head.0 ≡ first_key (old.begun ++ e ∷ []) → head.1 ≡ from.place
-    → Takes size e (Some head) old new from to
+    → TakesItem size e (Some head) old new from to
 unfolding blocks_from heads
 takes_one {most} {leaves} {items} {first} {begun} size e head old new from to c one old_sizes count ends new_sizes none low wrote key place =
     let k = leaves - 1 in

@@ -11,7 +11,7 @@ use Rattle.pd_spells.specs.Need.{need_above, need_tree, nodes_for, nodes_of_tree
 use Rattle.pd_build.proofs.OrderLemmas.{keys, asc_left, ascending_more, below_more, below_higher}
 use Rattle.pd_laid.proofs.NeedLemmas.{length-heads}
 use Rattle.pd_build.specs.Parts.{cut}
-use Rattle.pd_build.specs.Leaves.{LeavesLeft, items_to_come, leaves_to_come, ended, answered, Loses, Takes}
+use Rattle.pd_build.specs.Leaves.{LeavesLeft, items_to_come, leaves_to_come, ended, answered, Loses, TakesItem}
 use Rattle.pd_build.specs.Tree.{TreeLeft, leaf_number, leaves_left, blocks_left, root_left, number_left, Grows, AreKeysInOrder}
 use Rattle.pd_build.proofs.CountLemmas.{parts_none, parts_some}
 use Rattle.pd_laid.proofs.LaidLemmas.{blocks_from-append}
@@ -60,7 +60,7 @@ pub sizes_least : (t : TreeLeft) → 1 ≤ items_to_come t.leaves → length t.l
 sizes_least t more = let some = some_to_come t more in omega (arith, number_some t (omega arith))
 
 -- an item was taken
-pub grow : {size : ℕ} {e : Entry} {head : Option (ℕ × ℕ)} {from to : Stand} (old new : TreeLeft) → Takes size e head old.leaves new.leaves from to
+pub grow : {size : ℕ} {e : Entry} {head : Option (ℕ × ℕ)} {from to : Stand} (old new : TreeLeft) → TakesItem size e head old.leaves new.leaves from to
     → new.heads ≡ old.heads ++ answered head → 1 ≤ items_to_come old.leaves → Grows size e old new from to
 unfolding blocks_left root_left
 grow {size} {e} {head} {from} {to} old new takes heads_are more =
@@ -141,7 +141,7 @@ first_head_is : (place key value : ℕ) (part : List Entry) → heads place (par
 unfolding heads
 first_head_is place key value part is = ap first_key is
 
-pub order_takes : {size : ℕ} {e : Entry} (head : Option (ℕ × ℕ)) {old new : LeavesLeft} {from to : Stand} (hs next : List Entry) → Takes size e head old new from to
+pub order_takes : {size : ℕ} {e : Entry} (head : Option (ℕ × ℕ)) {old new : LeavesLeft} {from to : Stand} (hs next : List Entry) → TakesItem size e head old new from to
     → AreKeysInOrder old hs → old.low ≤ e.key → (next ≡ hs ++ answered head) ⊎ (next ≡ hs) → AreKeysInOrder new next
 order_takes {size} {e} None {old} {new} {from} {to} hs next takes order above added =
     let is : next ≡ hs = ⊎_elim (λ more. more ∙ append-nil hs) (λ same. same) added in

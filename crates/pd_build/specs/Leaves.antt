@@ -53,7 +53,7 @@ abbrev pub Loses : LeavesLeft → Entry → LeavesLeft → Type 0
 Loses old e new = (new ≡ old) ⊎ ((new.begun ≡ []) × (new.low ≡ e.key + 1))
 
 -- an item was taken: the leaf that it ends was written, and the others are to come as they were
-pub record Takes (size : ℕ) (e : Entry) (head : Option (ℕ × ℕ)) (old new : LeavesLeft) (from to : Stand) : Type 0 where
+pub record TakesItem (size : ℕ) (e : Entry) (head : Option (ℕ × ℕ)) (old new : LeavesLeft) (from to : Stand) : Type 0 where
   pub ends : EndsWhereFull old head
   pub to_come : (items : List Entry) → leaves_to_come old (e ∷ items) ≡ ended old e head ++ leaves_to_come new items
   pub wrote : Wrote (blocks_from (leaf_block size) from.place (ended old e head)) from to

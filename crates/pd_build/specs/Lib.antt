@@ -1,5 +1,5 @@
 pub mod Array
-pub mod Begun
+pub mod OpenLeaf
 pub mod Building
 pub mod Causes
 pub mod Leaves

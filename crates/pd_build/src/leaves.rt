@@ -9,12 +9,12 @@ ghost use Rattle.pd_draft.specs.Stand.{stand};
 ghost use Rattle.pd_spells.specs.Need.{nodes_for};
 ghost use Rattle.pd_laid.specs.Tree.{tree_leaves};
 ghost use Rattle.pd_build.specs.Parts.{even_sizes};
-ghost use Rattle.pd_build.specs.Begun.{entries_in, begun_block};
-ghost use Rattle.pd_build.specs.Leaves.{LeavesLeft, items_to_come, leaves_to_come, size_of_first, Takes, AreCounts, low_of, low_after, Loses};
+ghost use Rattle.pd_build.specs.OpenLeaf.{entries_in, begun_block};
+ghost use Rattle.pd_build.specs.Leaves.{LeavesLeft, items_to_come, leaves_to_come, size_of_first, TakesItem, AreCounts, low_of, low_after, Loses};
 ghost use Rattle.pd_build.specs.Causes.{CountsBuildFault};
 
 use crate::BuildFault;
-use crate::begun::{end_block, least_of, put_item};
+use crate::open_leaf::{end_block, least_of, put_item};
 use crate::steps::{parts, put_block};
 use pd_draft::Draft;
 use pd_image::Device;
@@ -98,7 +98,7 @@ impl<V: Value> LeafBuilder<V> {
         requires room { draft.old.next + length self.old.sizes ≤ (stand draft.old).device.blocks }
         requires closed { IsClosed (stand draft.old).device }
         ensures same_reference { draft.new.dev.ghost_name ≡ draft.old.dev.ghost_name }
-        ensures takes { IfOk result (λ head. Takes V.SIZE (record { key = key; value = V.code value }) head self.old self.new (stand draft.old) (stand draft.new)) }
+        ensures takes { IfOk result (λ head. TakesItem V.SIZE (record { key = key; value = V.code value }) head self.old self.new (stand draft.old) (stand draft.new)) }
         ensures lost { OnErr result (Loses self.old (record { key = key; value = V.code value }) self.new) }
         ensures closed { StaysClosed (stand draft.old).device (stand draft.new).device }
         ensures faults { CountsBuildFault result (stand draft.old).device.faults (stand draft.new).device.faults }
@@ -114,7 +114,7 @@ impl<V: Value> LeafBuilder<V> {
     pub(crate) fn hold(&mut self, key: u64, value: V) -> bool
         requires fits { V.fitting value ≡ true }
         requires more { 1 ≤ items_to_come self.old }
-        ensures held { result ≡ true → (now : Stand) → IsClosed now.device → Takes V.SIZE (record { key = key; value = V.code value }) None self.old self.new now now }
+        ensures held { result ≡ true → (now : Stand) → IsClosed now.device → TakesItem V.SIZE (record { key = key; value = V.code value }) None self.old self.new now now }
         ensures kept { result ≡ false → self.new ≡ self.old }
         ensures last { result ≡ false → length self.old.begun + 1 ≡ size_of_first self.old.sizes }
     {
@@ -142,7 +142,7 @@ impl<V: Value> LeafBuilder<V> {
         requires room { draft.old.next + length self.old.sizes ≤ (stand draft.old).device.blocks }
         requires closed { IsClosed (stand draft.old).device }
         ensures same_reference { draft.new.dev.ghost_name ≡ draft.old.dev.ghost_name }
-        ensures takes { IfOk result (λ head. Takes V.SIZE (record { key = key; value = V.code value }) head self.old self.new (stand draft.old) (stand draft.new)) }
+        ensures takes { IfOk result (λ head. TakesItem V.SIZE (record { key = key; value = V.code value }) head self.old self.new (stand draft.old) (stand draft.new)) }
         ensures lost { OnErr result (Loses self.old (record { key = key; value = V.code value }) self.new) }
         ensures closed { StaysClosed (stand draft.old).device (stand draft.new).device }
         ensures faults { CountsBuildFault result (stand draft.old).device.faults (stand draft.new).device.faults }

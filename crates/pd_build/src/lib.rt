@@ -7,11 +7,11 @@
 #![tactic(auto)]
 
 mod array;
-mod begun;
 mod build;
 mod fault;
 mod leaves;
 mod need;
+mod open_leaf;
 mod steps;
 mod upper;
 mod write;

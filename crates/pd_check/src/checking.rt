@@ -10,8 +10,8 @@ ghost use Rattle.pd_kinds.specs.Faults.{faults_at};
 ghost use Rattle.pd_image.specs.Device.{IsAttached, OnlyReads};
 ghost use Rattle.pd_check.specs.Check.{IsFirstBlock, MayWantMemory, ReadsFew};
 
+use crate::later_stages::check_later_stages;
 use crate::metadata::Metadata;
-use crate::past::check_past;
 use crate::whole::{check_counts, check_whole};
 use pd_image::Device;
 use pd_kinds::{Block, CheckFault, Report, Rules, Stage};
@@ -80,7 +80,7 @@ fn check_from<M: Metadata, D: Device>(
         Stage::Super => Ok(Report::new()),
         Stage::Whole => check_whole::<M, D>(alloc, dev, first, blocks),
         Stage::Counts => check_counts::<M, D>(alloc, dev, first, blocks),
-        _ => check_past(alloc, dev, &M::format(first, blocks), until),
+        _ => check_later_stages(alloc, dev, &M::format(first, blocks), until),
     }
 }
 

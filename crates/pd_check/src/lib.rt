@@ -5,14 +5,14 @@
 mod checking;
 mod counts;
 mod data_space;
-mod few;
+mod later_stages;
 mod metadata;
-mod past;
+mod read_bounds;
 mod walked;
 mod whole;
 
 pub use checking::check;
 pub use data_space::DataSpace;
+pub use later_stages::check_later_stages;
 pub use metadata::Metadata;
-pub use past::check_past;
 pub use walked::walk_report;

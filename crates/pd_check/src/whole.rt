@@ -19,9 +19,9 @@ ghost use Rattle.pd_check.specs.Check.{IsFirstBlock, reads_of};
 ghost use Rattle.pd_check.specs.Whole.{IsOrdered, IsWhole};
 
 use crate::counts::count_report;
-use crate::few::counts_read_no_more_than_nodes;
+use crate::later_stages::looked_at;
 use crate::metadata::Metadata;
-use crate::past::looked_at;
+use crate::read_bounds::counts_read_no_more_than_nodes;
 use crate::walked::walk_report;
 use pd_graph::Audit;
 use pd_image::{Device, Failed};

@@ -6,8 +6,8 @@ use Rattle.pd_kinds.specs.CacheFormat.{CacheFields, has_dirty_bits}
 use Rattle.pd_grammar.specs.Texts.{written}
 use Rattle.pd_spells.specs.CacheText.{Line, cache, end_line}
 use Rattle.pd_texts.specs.Printed.{end_text, text_of_line}
-use Rattle.pd_cached.specs.declared.beside.CacheRow.{CacheRow}
-use Rattle.pd_cached.specs.Rows.{RootsBelow, has_hints}
+use Rattle.pd_cache_meaning.specs.declared.side_arrays.CacheRow.{CacheRow}
+use Rattle.pd_cache_meaning.specs.Rows.{RootsBelow, has_hints}
 use Rattle.pd_dumps.specs.CacheLines.{are_roots_below, given_line, rest_text, rows_text}
 
 -- a row before others

@@ -15,7 +15,7 @@ use Rattle.pd_lines.proofs.Printing.{begun_after, begun_first, printed_both}
 use Rattle.pd_grammar.specs.Texts.{written}
 use Rattle.pd_spells.specs.EraText.{Line, end_line, era, joined_eras, run_lines, text_of_era}
 use Rattle.pd_texts.specs.Printed.{end_text, text_of_line}
-use Rattle.pd_eras.specs.Eras.{GivesEras, RootsBelow}
+use Rattle.pd_era_meaning.specs.Eras.{GivesEras, RootsBelow}
 use Rattle.pd_query.proofs.PutsLemmas.{one_told, two_told}
 use Rattle.pd_dumps.specs.EraGiven.{are_roots_below, given_eras}
 use Rattle.pd_dumps.specs.EraLines.{era_dump_text, rest_text, runs_text}

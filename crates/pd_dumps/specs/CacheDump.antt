@@ -2,9 +2,9 @@
 use Rattle.std.specs.Prelude.{ℕ, List, [], Option, None, Some}
 use Rattle.pd_grammar.specs.Texts.{text_of_lines}
 use Rattle.pd_spells.specs.CacheText.{cache}
-use Rattle.pd_cached.specs.declared.beside.CacheRow.{CacheRow}
-use Rattle.pd_cached.specs.declared.rows.CacheMaps.{CacheMaps}
-use Rattle.pd_cached.specs.Rows.{rows_left, rows_room}
+use Rattle.pd_cache_meaning.specs.declared.side_arrays.CacheRow.{CacheRow}
+use Rattle.pd_cache_meaning.specs.declared.rows.CacheMaps.{CacheMaps}
+use Rattle.pd_cache_meaning.specs.Rows.{rows_left, rows_room}
 use Rattle.pd_dumps.specs.declared.cache.CacheDump.{CacheDump}
 use Rattle.pd_dumps.specs.CacheLines.{dump_lines}
 

@@ -4,8 +4,8 @@ use Rattle.pd_kinds.specs.CacheFormat.{CacheFields, has_dirty_bits}
 use Rattle.pd_kinds.specs.Meaning.{CacheEntry}
 use Rattle.pd_grammar.specs.Texts.{text_of_lines}
 use Rattle.pd_spells.specs.CacheText.{Head, Line, cache, cache_line, end_line, first_line, flag_number, row_of}
-use Rattle.pd_cached.specs.declared.beside.CacheRow.{CacheRow}
-use Rattle.pd_cached.specs.Rows.{has_hints, rows_below}
+use Rattle.pd_cache_meaning.specs.declared.side_arrays.CacheRow.{CacheRow}
+use Rattle.pd_cache_meaning.specs.Rows.{has_hints, rows_below}
 
 -- whether the roots that are read of a cache are below a number of blocks
 abbrev pub are_roots_below : ℕ → CacheFields → Bool

@@ -1,7 +1,7 @@
 -- The eras of an era target that are given, one a block.
 use Rattle.std.specs.Prelude.{ℕ, Bool, ◌==◌, ◌&&◌, ◌||◌, nat_lt, if◌then◌else◌, List, [], length}
 use Rattle.pd_kinds.specs.EraFormat.{EraFields}
-use Rattle.pd_eras.specs.Eras.{eras_below}
+use Rattle.pd_era_meaning.specs.Eras.{eras_below}
 
 -- whether the roots that are read of an era target are below a number of blocks
 abbrev pub are_roots_below : ℕ → EraFields → Bool

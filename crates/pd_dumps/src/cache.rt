@@ -3,7 +3,7 @@
 use crate::cache_lines::{add_cache, maps_of};
 use crate::laws::given_cache_lines_are_the_text;
 use crate::supers::read_cache;
-use pd_cached::CacheMaps;
+use pd_cache_meaning::CacheMaps;
 use pd_image::{Device, Sink};
 use pd_kinds::CacheSuper;
 use pd_lines::Printer;

@@ -9,14 +9,14 @@ ghost use Rattle.pd_spells.specs.CacheText.{cache};
 ghost use Rattle.pd_grammar.specs.Texts.{text_of_lines};
 ghost use Rattle.pd_texts.specs.Printed.{text_of_line};
 ghost use Rattle.pd_cache_texts.specs.CacheLine.{line_of};
-ghost use Rattle.pd_cached.specs.Rows.{rows_left, rows_room};
+ghost use Rattle.pd_cache_meaning.specs.Rows.{rows_left, rows_room};
 ghost use Rattle.pd_query.specs.Puts.{PrintsSome};
 ghost use Rattle.pd_query.specs.Failing.{Fails, SinkFails};
 ghost use Rattle.pd_dumps.specs.CacheDump.{some_room, some_rows};
 ghost use Rattle.pd_dumps.specs.CacheLines.{are_roots_below, dump_lines, given_line, rows_text, super_head, super_rows};
 
+use pd_cache_meaning::{CacheMaps, CacheRow};
 use pd_cache_texts::{CacheLine, bytes_of_cache};
-use pd_cached::{CacheMaps, CacheRow};
 use pd_image::{Device, Sink};
 use pd_kinds::{CacheSuper, Kind};
 use pd_lines::Printer;

@@ -5,7 +5,7 @@ ghost use Rattle.pd_image.specs.Device.{IsAttached, OnlyReads};
 ghost use Rattle.pd_query.specs.Failing.{StartFails};
 ghost use Rattle.pd_dumps.specs.EraGiven.{are_roots_below, given_eras};
 
-use pd_eras::era_list;
+use pd_era_meaning::era_list;
 use pd_image::Device;
 use pd_kinds::{CheckFault, EraSuper};
 use pd_query::QueryFault;

@@ -15,8 +15,8 @@ ghost use Rattle.pd_dumps.specs.CacheLines.{cache_dump_text};
 ghost use Rattle.pd_dumps.specs.EraGiven.{given_eras};
 ghost use Rattle.pd_dumps.specs.EraLines.{era_dump_text};
 
-use pd_cached::rows_are_the_entries;
-use pd_eras::lists_are_the_eras;
+use pd_cache_meaning::rows_are_the_entries;
+use pd_era_meaning::lists_are_the_eras;
 use pd_tree::superblocks_lead_to_reached_roots;
 
 /// The lines of what the cursor gives of a cache without faults up to the stage Whole are its text.

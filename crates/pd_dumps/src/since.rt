@@ -5,7 +5,7 @@ ghost use Rattle.pd_image.specs.Device.{IsAttached, OnlyReads};
 ghost use Rattle.pd_image.specs.Sink.{KeepsSink};
 ghost use Rattle.pd_answers.specs.QueryLines.{since_lines};
 ghost use Rattle.pd_query.specs.Puts.{PutsText};
-ghost use Rattle.pd_query.specs.Failing.{Ends};
+ghost use Rattle.pd_query.specs.Failing.{QueryEnds};
 ghost use Rattle.pd_dumps.specs.EraGiven.{given_eras};
 ghost use Rattle.pd_dumps.specs.SinceLines.{PutsLines, since_text};
 
@@ -36,7 +36,7 @@ pub fn written_since<D: Device, K: Sink>(
     ensures lines { PutsLines (since_lines era) s.now result (D.state dev.old).held (K.state out.old).written (K.state out.new).written }
     ensures kept { OnlyReads (D.state dev.old) (D.state dev.new) }
     ensures sink { KeepsSink (K.state out.old) (K.state out.new) }
-    ensures faults { Ends result (D.state dev.old).faults (D.state dev.new).faults (K.state out.old).faults (K.state out.new).faults }
+    ensures faults { QueryEnds result (D.state dev.old).faults (D.state dev.new).faults (K.state out.old).faults (K.state out.new).faults }
 {
     given_eras_are_the_eras();
     let eras = match eras_of(alloc, dev, s) {

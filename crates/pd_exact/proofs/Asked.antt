@@ -25,13 +25,13 @@ use Rattle.pd_laid_thin.specs.CleanPool.{IsCleanPool}
 use Rattle.pd_answers.specs.Generated.{generated_text}
 use Rattle.pd_answers.specs.Rehearsals.{rehearse}
 use Rattle.pd_exact.proofs.Restored.{AreLaws, both_told, made_of_text}
-use Rattle.pd_exact.specs.Words.{Ends, HoldsGenerated, PutsOfInput, PutsTextOfInput}
+use Rattle.pd_exact.specs.Words.{CallEnds, HoldsGenerated, PutsOfInput, PutsTextOfInput}
 
 abbrev Image : Type 0
 Image = List (List ℕ)
 
 -- a call was answered for the request that its words ask
-pub answered_for : (words : List (List ℕ)) (request : Option Request) (status : ℕ) (before after : Objects) → asked words ≡ request → Ends words status before after
+pub answered_for : (words : List (List ℕ)) (request : Option Request) (status : ℕ) (before after : Objects) → asked words ≡ request → CallEnds words status before after
     → IsAnswered (terms_of request) before after status
 answered_for words request status before after is ends = subst (λ (r : Option Request). IsAnswered (terms_of r) before after status) is ends
 

@@ -21,7 +21,7 @@ use Rattle.pd_laws.proofs.SoundLemmas.{IsSound, tests_after_two}
 use Rattle.pd_kinds.specs.Image.{HasBytes}
 use Rattle.pd_spells.specs.Lawful.{AreEntries, IsLawfulCache}
 use Rattle.pd_tree.specs.Roots.{HasCacheRoots}
-use Rattle.pd_cached.proofs.SoundCache.{roots_inside}
+use Rattle.pd_cache_meaning.proofs.SoundCache.{roots_inside}
 use Rattle.pd_exact.proofs.EntryLemmas.{IsNew, entries_lawful, filter_ascends, is_valid_at, origin_at, origins_are}
 use Rattle.pd_exact.proofs.WordLemmas.{DoWordsFit, field_fits, first_whole, word_fits, words_fit}
 

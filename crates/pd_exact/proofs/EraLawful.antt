@@ -12,8 +12,8 @@ use Rattle.pd_spells.specs.Lawful.{IsLawfulEra}
 use Rattle.pd_tree.specs.Below.{items_below}
 use Rattle.pd_tree.specs.Items.{root_of}
 use Rattle.pd_value.specs.declared.era.Writeset.{Writeset}
-use Rattle.pd_eras.specs.Raising.{holds}
-use Rattle.pd_eras.specs.Eras.{GivesEras, era_below, era_of_key, eras_below, is_current, set_era, set_words, sets_below, words_below}
+use Rattle.pd_era_meaning.specs.Raising.{holds}
+use Rattle.pd_era_meaning.specs.Eras.{GivesEras, era_below, era_of_key, eras_below, is_current, set_era, set_words, sets_below, words_below}
 use Rattle.pd_exact.proofs.WordLemmas.{field_fits, first_whole, given_words_fit, word_fits}
 
 -- the greatest of numbers below a limit

@@ -17,8 +17,8 @@ use Rattle.pd_answers.specs.Words.{asked, is_value}
 use Rattle.pd_exact.specs.Exact.{IsOfText, TellsClean}
 
 -- a call that was given the words, without the program's own name, ended with this status
-abbrev pub Ends : List (List ℕ) → ℕ → Objects → Objects → Type 0
-Ends words status before after = IsAnswered (terms_of (asked words)) before after status
+abbrev pub CallEnds : List (List ℕ) → ℕ → Objects → Objects → Type 0
+CallEnds words status before after = IsAnswered (terms_of (asked words)) before after status
 
 -- a word that can name a file or a device, or be a value
 abbrev pub IsName : List ℕ → Type 0

@@ -13,11 +13,11 @@ ghost use Rattle.pd_exact.specs.Exact.{HoldsCleared, HoldsPoolOfText, IsCheckAns
 use pd_alike::{alike_pools_have_the_same_faults, alike_pools_mean_the_same};
 use pd_laid_thin::laid_pool_is_clean;
 use pd_laws::faults_are_none_where_clean;
-use pd_pool::sound_pools_are_lawful;
 use pd_spells::{
     thin_text_has_one_meaning, thin_text_has_one_verdict,
     thin_text_is_accepted_where_there_is_room, thin_text_spells,
 };
+use pd_thin_meaning::sound_pools_are_lawful;
 
 /// At status 0 the text that was restored spells a pool, and the output holds, with nothing unsynced, an image
 /// that is clean and means that pool.

@@ -8,7 +8,7 @@ ghost use Rattle.pd_spells.specs.Lawful.{IsLawfulEra};
 ghost use Rattle.pd_answers.specs.Answer.{NoFaults, Objects};
 ghost use Rattle.pd_exact.specs.Exact.{HoldsTargetOfText, IsDumpOf, IsRestoreAnswered, LeavesTargetOfText};
 
-use pd_eras::lists_are_the_eras;
+use pd_era_meaning::lists_are_the_eras;
 use pd_laid_era::laid_era_is_clean;
 use pd_spells::{
     era_text_has_one_meaning, era_text_has_one_verdict, era_text_is_accepted_where_there_is_room,

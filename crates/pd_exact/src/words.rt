@@ -11,7 +11,7 @@ ghost use Rattle.pd_answers.specs.QueryLines.{list_lines, rmap_lines, since_line
 ghost use Rattle.pd_answers.specs.Requests.{restore};
 ghost use Rattle.pd_answers.specs.Words.{Region, asked, generated_number, is_value, number_below, region_of, version_of};
 ghost use Rattle.pd_exact.specs.Exact.{HoldsCacheOfText, HoldsCleared, HoldsPoolOfText, HoldsSalvage, HoldsTargetOfText};
-ghost use Rattle.pd_exact.specs.Words.{Ends, HoldsGenerated, IsName, PutsGenerated, PutsOfInput, PutsTextOfInput, TellsWhetherClean, in_version, to_file};
+ghost use Rattle.pd_exact.specs.Words.{CallEnds, HoldsGenerated, IsName, PutsGenerated, PutsOfInput, PutsTextOfInput, TellsWhetherClean, in_version, to_file};
 
 use crate::caches::{restored_cache_is_clean, sound_caches_are_lawful};
 use crate::laws::{
@@ -21,29 +21,29 @@ use crate::laws::{
 use crate::repairs::repaired_pool_is_clean;
 use crate::targets::{restored_target_is_clean, sound_targets_are_lawful};
 use pd_laid_thin::laid_pool_is_clean;
-use pd_pool::sound_pools_are_lawful;
 use pd_spells::{
     cache_text_spells, era_text_spells, thin_text_has_one_verdict,
     thin_text_is_accepted_where_there_is_room, thin_text_spells,
 };
+use pd_thin_meaning::sound_pools_are_lawful;
 
 /// `thin_check IMAGE`: status 0 says that the pool's image is clean, and 1 that it isn't.
 pub fn thin_check_tells_clean()
-    ensures { (image : List ℕ) (before after : Objects) (status : ℕ) → IsName image → Ends (codes "thin_check" ∷ image ∷ []) status before after → TellsWhetherClean Thin before after status }
+    ensures { (image : List ℕ) (before after : Objects) (status : ℕ) → IsName image → CallEnds (codes "thin_check" ∷ image ∷ []) status before after → TellsWhetherClean Thin before after status }
 {
     checks_tell_clean_images();
 }
 
 /// `cache_check IMAGE`: status 0 says that the cache's image is clean, and 1 that it isn't.
 pub fn cache_check_tells_clean()
-    ensures { (image : List ℕ) (before after : Objects) (status : ℕ) → IsName image → Ends (codes "cache_check" ∷ image ∷ []) status before after → TellsWhetherClean Cache before after status }
+    ensures { (image : List ℕ) (before after : Objects) (status : ℕ) → IsName image → CallEnds (codes "cache_check" ∷ image ∷ []) status before after → TellsWhetherClean Cache before after status }
 {
     checks_tell_clean_images();
 }
 
 /// `era_check IMAGE`: status 0 says that the era target's image is clean, and 1 that it isn't.
 pub fn era_check_tells_clean()
-    ensures { (image : List ℕ) (before after : Objects) (status : ℕ) → IsName image → Ends (codes "era_check" ∷ image ∷ []) status before after → TellsWhetherClean Era before after status }
+    ensures { (image : List ℕ) (before after : Objects) (status : ℕ) → IsName image → CallEnds (codes "era_check" ∷ image ∷ []) status before after → TellsWhetherClean Era before after status }
 {
     checks_tell_clean_images();
 }
@@ -51,8 +51,8 @@ pub fn era_check_tells_clean()
 /// `thin_check --clear-needs-check-flag IMAGE`: status 0 says that the pool's image was clean, and 1 that it wasn't. At status 0
 /// it is still clean, means what it meant, and its flag "needs check" isn't set, with nothing unsynced.
 pub fn thin_check_tells_clean_and_clears()
-    ensures tells { (image : List ℕ) (before after : Objects) (status : ℕ) → IsName image → Ends (codes "thin_check" ∷ codes "--clear-needs-check-flag" ∷ image ∷ []) status before after → TellsWhetherClean Thin before after status }
-    ensures clears { (image : List ℕ) (before after : Objects) → IsName image → Ends (codes "thin_check" ∷ codes "--clear-needs-check-flag" ∷ image ∷ []) 0 before after → HoldsCleared before after }
+    ensures tells { (image : List ℕ) (before after : Objects) (status : ℕ) → IsName image → CallEnds (codes "thin_check" ∷ codes "--clear-needs-check-flag" ∷ image ∷ []) status before after → TellsWhetherClean Thin before after status }
+    ensures clears { (image : List ℕ) (before after : Objects) → IsName image → CallEnds (codes "thin_check" ∷ codes "--clear-needs-check-flag" ∷ image ∷ []) 0 before after → HoldsCleared before after }
 {
     clearing_checks_tell_clean_pools();
     cleared_pool_is_clean();
@@ -61,7 +61,7 @@ pub fn thin_check_tells_clean_and_clears()
 /// `thin_dump IMAGE`, to a file or not: status 0 says that the image has no faults up to the stage Whole, and that a text of the
 /// pool that it means was put.
 pub fn thin_dump_puts_the_text()
-    ensures { (file : Option (List ℕ)) (image : List ℕ) (before after : Objects) → IfSome file IsName → IsName image → Ends (codes "thin_dump" ∷ (to_file file ++ (image ∷ []))) 0 before after → PutsTextOfInput Thin SpellsPool thin_meaning before after }
+    ensures { (file : Option (List ℕ)) (image : List ℕ) (before after : Objects) → IfSome file IsName → IsName image → CallEnds (codes "thin_dump" ∷ (to_file file ++ (image ∷ []))) 0 before after → PutsTextOfInput Thin SpellsPool thin_meaning before after }
 {
     sound_pools_are_lawful();
     thin_text_spells();
@@ -70,7 +70,7 @@ pub fn thin_dump_puts_the_text()
 /// `cache_dump IMAGE`, to a file or not: status 0 says that the image has no faults up to the stage Whole, and that a text of the
 /// cache that it means was put.
 pub fn cache_dump_puts_the_text()
-    ensures { (file : Option (List ℕ)) (image : List ℕ) (before after : Objects) → IfSome file IsName → IsName image → Ends (codes "cache_dump" ∷ (to_file file ++ (image ∷ []))) 0 before after → PutsTextOfInput Cache SpellsCache cache_meaning before after }
+    ensures { (file : Option (List ℕ)) (image : List ℕ) (before after : Objects) → IfSome file IsName → IsName image → CallEnds (codes "cache_dump" ∷ (to_file file ++ (image ∷ []))) 0 before after → PutsTextOfInput Cache SpellsCache cache_meaning before after }
 {
     sound_caches_are_lawful();
     cache_text_spells();
@@ -79,7 +79,7 @@ pub fn cache_dump_puts_the_text()
 /// `era_dump IMAGE`, to a file or not: status 0 says that the image has no faults up to the stage Whole, and that a text of the
 /// era target that it means was put.
 pub fn era_dump_puts_the_text()
-    ensures { (file : Option (List ℕ)) (image : List ℕ) (before after : Objects) → IfSome file IsName → IsName image → Ends (codes "era_dump" ∷ (to_file file ++ (image ∷ []))) 0 before after → PutsTextOfInput Era SpellsEra era_meaning before after }
+    ensures { (file : Option (List ℕ)) (image : List ℕ) (before after : Objects) → IfSome file IsName → IsName image → CallEnds (codes "era_dump" ∷ (to_file file ++ (image ∷ []))) 0 before after → PutsTextOfInput Era SpellsEra era_meaning before after }
 {
     sound_targets_are_lawful();
     era_text_spells();
@@ -88,7 +88,7 @@ pub fn era_dump_puts_the_text()
 /// `thin_restore -i FILE -o IMAGE`: status 0 says that the text spells a pool, and that the image is clean and means it, with
 /// nothing unsynced.
 pub fn thin_restore_makes_the_pool()
-    ensures { (file path : List ℕ) (before after : Objects) → IsName file → IsName path → Ends (codes "thin_restore" ∷ codes "-i" ∷ file ∷ codes "-o" ∷ path ∷ []) 0 before after → HoldsPoolOfText before after }
+    ensures { (file path : List ℕ) (before after : Objects) → IsName file → IsName path → CallEnds (codes "thin_restore" ∷ codes "-i" ∷ file ∷ codes "-o" ∷ path ∷ []) 0 before after → HoldsPoolOfText before after }
 {
     restored_pool_is_clean();
 }
@@ -96,7 +96,7 @@ pub fn thin_restore_makes_the_pool()
 /// `cache_restore -i FILE -o IMAGE`, in version 1 or, where `--metadata-version` says so, 2: status 0 says that the text spells
 /// a cache, and that the image is clean and means it in that version, with nothing unsynced.
 pub fn cache_restore_makes_the_cache()
-    ensures { (word : Option (List ℕ)) (version : ℕ) (file path : List ℕ) (before after : Objects) → IfSome word IsName → version_of word ≡ Some version → IsName file → IsName path → Ends (codes "cache_restore" ∷ (in_version word ++ (codes "-i" ∷ file ∷ codes "-o" ∷ path ∷ []))) 0 before after → HoldsCacheOfText version before after }
+    ensures { (word : Option (List ℕ)) (version : ℕ) (file path : List ℕ) (before after : Objects) → IfSome word IsName → version_of word ≡ Some version → IsName file → IsName path → CallEnds (codes "cache_restore" ∷ (in_version word ++ (codes "-i" ∷ file ∷ codes "-o" ∷ path ∷ []))) 0 before after → HoldsCacheOfText version before after }
 {
     restored_cache_is_clean();
 }
@@ -104,7 +104,7 @@ pub fn cache_restore_makes_the_cache()
 /// `era_restore -i FILE -o IMAGE`: status 0 says that the text spells an era target, and that the image is clean and means it,
 /// with nothing unsynced.
 pub fn era_restore_makes_the_target()
-    ensures { (file path : List ℕ) (before after : Objects) → IsName file → IsName path → Ends (codes "era_restore" ∷ codes "-i" ∷ file ∷ codes "-o" ∷ path ∷ []) 0 before after → HoldsTargetOfText before after }
+    ensures { (file path : List ℕ) (before after : Objects) → IsName file → IsName path → CallEnds (codes "era_restore" ∷ codes "-i" ∷ file ∷ codes "-o" ∷ path ∷ []) 0 before after → HoldsTargetOfText before after }
 {
     restored_target_is_clean();
 }
@@ -112,7 +112,7 @@ pub fn era_restore_makes_the_target()
 /// `thin_repair -i IMAGE -o IMAGE`: status 0 says that the output is clean and means what can be saved of the input, with
 /// nothing unsynced; of an input without faults up to the stage Whole that is all of it.
 pub fn thin_repair_makes_what_is_saved()
-    ensures { (from to : List ℕ) (before after : Objects) → IsName from → IsName to → Ends (codes "thin_repair" ∷ codes "-i" ∷ from ∷ codes "-o" ∷ to ∷ []) 0 before after → HoldsSalvage before after }
+    ensures { (from to : List ℕ) (before after : Objects) → IsName from → IsName to → CallEnds (codes "thin_repair" ∷ codes "-i" ∷ from ∷ codes "-o" ∷ to ∷ []) 0 before after → HoldsSalvage before after }
 {
     repaired_pool_is_clean();
 }
@@ -120,30 +120,30 @@ pub fn thin_repair_makes_what_is_saved()
 /// `thin_rmap --region FIRST..END IMAGE`, to a file or not: status 0 says that the image has no faults up to the stage Whole,
 /// and that the mappings to the data blocks of the region were put.
 pub fn thin_rmap_puts_the_mappings()
-    ensures { (word : List ℕ) (region : Region) (file : Option (List ℕ)) (image : List ℕ) (before after : Objects) → IsName word → region_of word ≡ Some region → IfSome file IsName → IsName image → Ends (codes "thin_rmap" ∷ codes "--region" ∷ word ∷ (to_file file ++ (image ∷ []))) 0 before after → PutsOfInput Thin (λ held. rmap_lines region.first region.end (thin_meaning held)) before after }
+    ensures { (word : List ℕ) (region : Region) (file : Option (List ℕ)) (image : List ℕ) (before after : Objects) → IsName word → region_of word ≡ Some region → IfSome file IsName → IsName image → CallEnds (codes "thin_rmap" ∷ codes "--region" ∷ word ∷ (to_file file ++ (image ∷ []))) 0 before after → PutsOfInput Thin (λ held. rmap_lines region.first region.end (thin_meaning held)) before after }
 {}
 
 /// `thin_ls IMAGE`, to a file or not: status 0 says that the image has no faults up to the stage Whole, and that the list of
 /// its devices was put.
 pub fn thin_ls_puts_the_devices()
-    ensures { (file : Option (List ℕ)) (image : List ℕ) (before after : Objects) → IfSome file IsName → IsName image → Ends (codes "thin_ls" ∷ (to_file file ++ (image ∷ []))) 0 before after → PutsOfInput Thin (λ held. list_lines (thin_meaning held)) before after }
+    ensures { (file : Option (List ℕ)) (image : List ℕ) (before after : Objects) → IfSome file IsName → IsName image → CallEnds (codes "thin_ls" ∷ (to_file file ++ (image ∷ []))) 0 before after → PutsOfInput Thin (λ held. list_lines (thin_meaning held)) before after }
 {}
 
 /// `era_invalidate --written-since ERA IMAGE`, to a file or not: status 0 says that the image has no faults up to the stage
 /// Whole, and that the blocks that were written in that era or later were put.
 pub fn era_invalidate_puts_the_written_blocks()
-    ensures { (word : List ℕ) (era : ℕ) (file : Option (List ℕ)) (image : List ℕ) (before after : Objects) → IsName word → number_below (2 ^ 32) word ≡ Some era → IfSome file IsName → IsName image → Ends (codes "era_invalidate" ∷ codes "--written-since" ∷ word ∷ (to_file file ++ (image ∷ []))) 0 before after → PutsOfInput Era (λ held. since_lines era (era_meaning held)) before after }
+    ensures { (word : List ℕ) (era : ℕ) (file : Option (List ℕ)) (image : List ℕ) (before after : Objects) → IsName word → number_below (2 ^ 32) word ≡ Some era → IfSome file IsName → IsName image → CallEnds (codes "era_invalidate" ∷ codes "--written-since" ∷ word ∷ (to_file file ++ (image ∷ []))) 0 before after → PutsOfInput Era (λ held. since_lines era (era_meaning held)) before after }
 {}
 
 /// `thin_generate --number NUMBER`, to a file or not: status 0 says that the generator's text of the number was put.
 pub fn thin_generate_puts_its_text()
-    ensures { (word : List ℕ) (number : ℕ) (file : Option (List ℕ)) (before after : Objects) → IsName word → generated_number word ≡ Some number → IfSome file IsName → Ends (codes "thin_generate" ∷ codes "--number" ∷ word ∷ to_file file) 0 before after → PutsGenerated number before after }
+    ensures { (word : List ℕ) (number : ℕ) (file : Option (List ℕ)) (before after : Objects) → IsName word → generated_number word ≡ Some number → IfSome file IsName → CallEnds (codes "thin_generate" ∷ codes "--number" ∷ word ∷ to_file file) 0 before after → PutsGenerated number before after }
 {}
 
 /// `thin_rehearse --number NUMBER -o IMAGE`: status 0 says that the image is clean and means the pool of the generator's
 /// text of the number, with nothing unsynced.
 pub fn thin_rehearse_makes_its_pool()
-    ensures { (word : List ℕ) (number : ℕ) (path : List ℕ) (before after : Objects) → IsName word → generated_number word ≡ Some number → IsName path → Ends (codes "thin_rehearse" ∷ codes "--number" ∷ word ∷ codes "-o" ∷ path ∷ []) 0 before after → HoldsGenerated number before after }
+    ensures { (word : List ℕ) (number : ℕ) (path : List ℕ) (before after : Objects) → IsName word → generated_number word ≡ Some number → IsName path → CallEnds (codes "thin_rehearse" ∷ codes "--number" ∷ word ∷ codes "-o" ∷ path ∷ []) 0 before after → HoldsGenerated number before after }
 {
     laid_pool_is_clean();
     thin_text_has_one_verdict();

@@ -15,7 +15,7 @@ use Rattle.pd_kinds.specs.Paths.{edge}
 use Rattle.pd_graph.specs.declared.marks.Marks.{Marks}
 use Rattle.pd_graph.specs.Roles.{is_in, IsAllRead}
 use Rattle.pd_graph.specs.Weight.{weigh}
-use Rattle.pd_graph.specs.Marks.{HasPlaces, has_rule_in, seen_of, read_of, counts_of, rules_of, Takes, Follows, Looks, KeepsTables}
+use Rattle.pd_graph.specs.Marks.{HasPlaces, has_rule_in, seen_of, read_of, counts_of, rules_of, TakesPair, Follows, Looks, KeepsTables}
 use Rattle.pd_graph.specs.Walk.{IsSafe, IsTold, read_number, edges_to}
 use Rattle.pd_graph.proofs.BitLemmas.{differ, pair_block, pair_role}
 use Rattle.pd_graph.proofs.Weights.{more_weight, wider_weight, ones_below, length_weighs}
@@ -23,7 +23,7 @@ use Rattle.pd_laws.proofs.PathLemmas.{reached_from_path}
 use Rattle.pd_graph.proofs.AnyLemmas.{any_same, any_more}
 
 -- a pair was taken, and its block looked at
-pub record Steps (b role : ℕ) (edges : List Edge) (bad : Rule → Bool) (old new : Marks) : Type 0 where
+pub record StepsMarks (b role : ℕ) (edges : List Edge) (bad : Rule → Bool) (old new : Marks) : Type 0 where
   pub places : (nr : ℕ) → HasPlaces nr old → HasPlaces nr new
   pub within : role < 16
   pub met : is_in (seen_of old) (pair b role) ≡ true
@@ -34,8 +34,8 @@ pub record Steps (b role : ℕ) (edges : List Edge) (bad : Rule → Bool) (old n
   pub counts : (c : ℕ) → get_or (counts_of new) c 0 ≡ get_or (counts_of old) c 0 + count_by (λ r. nat_eq r c) (map (λ (edge : Edge). edge.block) edges)
   pub rules : (c : ℕ) (wanted : Rule) → has_rule_in (rules_of new) c wanted ≡ (has_rule_in (rules_of old) c wanted || (nat_eq c b && bad wanted))
 
-pub steps_from : (b role : ℕ) (edges : List Edge) (bad : Rule → Bool) (old between new : Marks) → Takes b role old between → Looks edges b bad between new
-    → Steps b role edges bad old new
+pub steps_from : (b role : ℕ) (edges : List Edge) (bad : Rule → Bool) (old between new : Marks) → TakesPair b role old between → Looks edges b bad between new
+    → StepsMarks b role edges bad old new
 steps_from b role edges bad old between new takes looks = record {
   places = λ nr places. looks.follows.places nr (takes.places nr places);
   within = takes.found.within;
@@ -52,7 +52,7 @@ steps_from b role edges bad old between new takes looks = record {
 }
 
 -- the pair that was taken is one of those below the bound
-pub taken_below : (nr b role : ℕ) (old new : Marks) → HasPlaces nr old → Takes b role old new → pair b role < 16 * nr
+pub taken_below : (nr b role : ℕ) (old new : Marks) → HasPlaces nr old → TakesPair b role old new → pair b role < 16 * nr
 taken_below nr b role old new places takes =
     let small = takes.found.block in
     let within = takes.found.within in
@@ -60,14 +60,14 @@ taken_below nr b role old new places takes =
     omega arith
 
 -- its role is one that there is
-pub taken_known : (graph : Graph) (b role : ℕ) (old new : Marks) → IsSafe graph old → Takes b role old new → role < graph.roles
+pub taken_known : (graph : Graph) (b role : ℕ) (old new : Marks) → IsSafe graph old → TakesPair b role old new → role < graph.roles
 taken_known graph b role old new safe takes =
     let known = safe.known (pair b role) takes.found.met in
     let same = pair_role b role takes.found.within in
     omega arith
 
 -- and one more is read
-pub one_more_read : (nr b role : ℕ) (old new : Marks) → HasPlaces nr old → Takes b role old new → read_number nr new ≡ read_number nr old + 1
+pub one_more_read : (nr b role : ℕ) (old new : Marks) → HasPlaces nr old → TakesPair b role old new → read_number nr new ≡ read_number nr old + 1
 unfolding read_number
 one_more_read nr b role old new places takes =
     more_weight (is_in (read_of old)) (is_in (read_of new)) (λ p. 1) (pair b role) (16 * nr)
@@ -98,7 +98,7 @@ leads_within graph (x ∷ xs) t few all leads = elim (or_cases (nat_eq (pair x.b
 
 -- a step is safe
 pub safe_step : (graph : Graph) (b role : ℕ) (block : List ℕ) (old between new : Marks) → graph.roles ≤ 16 → KeepsLaws graph role b block
-    → IsSafe graph old → Takes b role old between → Looks (graph.edges role b block) b (graph.bad role b block) between new → IsSafe graph new
+    → IsSafe graph old → TakesPair b role old between → Looks (graph.edges role b block) b (graph.bad role b block) between new → IsSafe graph new
 safe_step graph b role block old between new few laws safe takes looks =
     let step = steps_from b role (graph.edges role b block) (graph.bad role b block) old between new takes looks in
     let more = one_more_read graph.nr b role old between safe.places takes in
@@ -153,7 +153,7 @@ same_pair b r role small within = elim (cases_eq r role) [
 
 -- the rules of a block in the roles below n after a step: of the block that was looked at, and of another
 own_rules_step : (graph : Graph) (image : List (List ℕ)) (b role : ℕ) (block : List ℕ) (old new : Marks) → slice_get image b ≡ Some block
-    → Steps b role (graph.edges role b block) (graph.bad role b block) old new → (n : ℕ) (wanted : Rule) → n ≤ 16 → role < n
+    → StepsMarks b role (graph.edges role b block) (graph.bad role b block) old new → (n : ℕ) (wanted : Rule) → n ≤ 16 → role < n
     → list_any (λ r. is_in (read_of new) (pair b r) && graph.bad r b (block_at image b) wanted) (range_with_len 0 n)
     ≡ (list_any (λ r. is_in (read_of old) (pair b r) && graph.bad r b (block_at image b) wanted) (range_with_len 0 n) || graph.bad role b block wanted)
 own_rules_step graph image b role block old new found step n wanted few within =
@@ -164,7 +164,7 @@ own_rules_step graph image b role block old new found step n wanted few within =
     more ∙ ap (λ o. list_any (λ r. before r && bad r) (range_with_len 0 n) || graph.bad role b (unwrap_or o []) wanted) found
 
 other_rules_step : (graph : Graph) (image : List (List ℕ)) (b role : ℕ) (block : List ℕ) (old new : Marks)
-    → Steps b role (graph.edges role b block) (graph.bad role b block) old new → (c n : ℕ) (wanted : Rule) → c ≢ b → n ≤ 16
+    → StepsMarks b role (graph.edges role b block) (graph.bad role b block) old new → (c n : ℕ) (wanted : Rule) → c ≢ b → n ≤ 16
     → list_any (λ r. is_in (read_of new) (pair c r) && graph.bad r c (block_at image c) wanted) (range_with_len 0 n)
     ≡ list_any (λ r. is_in (read_of old) (pair c r) && graph.bad r c (block_at image c) wanted) (range_with_len 0 n)
 other_rules_step graph image b role block old new step c n wanted ne few =
@@ -175,7 +175,7 @@ other_rules_step graph image b role block old new step c n wanted ne few =
     ap (λ (x : Bool). x && graph.bad r c (block_at image c) wanted) same)
 
 rules_step : (graph : Graph) (image : List (List ℕ)) (b role : ℕ) (block : List ℕ) (old new : Marks) → slice_get image b ≡ Some block
-    → Steps b role (graph.edges role b block) (graph.bad role b block) old new → (c n : ℕ) (wanted : Rule) → n ≤ 16 → role < n
+    → StepsMarks b role (graph.edges role b block) (graph.bad role b block) old new → (c n : ℕ) (wanted : Rule) → n ≤ 16 → role < n
     → list_any (λ r. is_in (read_of new) (pair c r) && graph.bad r c (block_at image c) wanted) (range_with_len 0 n)
     ≡ (list_any (λ r. is_in (read_of old) (pair c r) && graph.bad r c (block_at image c) wanted) (range_with_len 0 n) || (nat_eq c b && graph.bad role b block wanted))
 rules_step graph image b role block old new found step c n wanted few within = elim (cases_eq c b) [
@@ -194,7 +194,7 @@ rules_step graph image b role block old new found step c n wanted few within = e
 
 -- a step is told
 pub told_step : (graph : Graph) (image : List (List ℕ)) (b role : ℕ) (block : List ℕ) (old between new : Marks) → IsSafe graph old
-    → slice_get image b ≡ Some block → IsTold graph image old → Takes b role old between → Looks (graph.edges role b block) b (graph.bad role b block) between new → IsTold graph image new
+    → slice_get image b ≡ Some block → IsTold graph image old → TakesPair b role old between → Looks (graph.edges role b block) b (graph.bad role b block) between new → IsTold graph image new
 told_step graph image b role block old between new safe found told takes looks =
     let edges = graph.edges role b block in
     let step = steps_from b role edges (graph.bad role b block) old between new takes looks in
@@ -235,7 +235,7 @@ read_reached graph image marks now told met =
     omega arith
 
 -- and so is the one that is taken
-pub taken_reached : (graph : Graph) (image : List (List ℕ)) (b role : ℕ) (old new : Marks) → IsSafe graph old → IsTold graph image old → Takes b role old new
+pub taken_reached : (graph : Graph) (image : List (List ℕ)) (b role : ℕ) (old new : Marks) → IsSafe graph old → IsTold graph image old → TakesPair b role old new
     → read_number graph.nr new ≤ length (nodes graph image)
 taken_reached graph image b role old new safe told takes =
     read_reached graph image old new told (λ p read. elim (or_cases (is_in (read_of old) p) (nat_eq p (pair b role)) (sym (takes.read p) ∙ read)) [
@@ -244,7 +244,7 @@ taken_reached graph image b role old new safe told takes =
     ])
 
 -- there is room for the edges of the pair that was taken
-pub room_taken : (graph : Graph) (b role : ℕ) (old new : Marks) → graph.nr ≤ MAX_META_BLOCKS → IsSafe graph old → Takes b role old new
+pub room_taken : (graph : Graph) (b role : ℕ) (old new : Marks) → graph.nr ≤ MAX_META_BLOCKS → IsSafe graph old → TakesPair b role old new
     → (c : ℕ) → get_or (counts_of new) c 0 + 256 ≤ 2 ^ 64
 room_taken graph b role old new few safe takes c =
     let same = ap (λ (table : List ℕ). get_or table c 0) takes.counts in

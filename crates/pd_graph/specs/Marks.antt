@@ -59,7 +59,7 @@ pub record KeepsTables (old new : Marks) : Type 0 where
   pub rules : rules_of new ≡ rules_of old
 
 -- an unread pair was taken: now it is read
-pub record Takes (b role : ℕ) (old new : Marks) : Type 0 where
+pub record TakesPair (b role : ℕ) (old new : Marks) : Type 0 where
   pub places : (nr : ℕ) → HasPlaces nr old → HasPlaces nr new
   pub found : IsUnreadAt (seen_of old) (read_of old) b role
   pub read : (p : ℕ) → is_in (read_of new) p ≡ (is_in (read_of old) p || (p == pair b role))

@@ -38,7 +38,7 @@ pub(crate) fn table<T: Copy>(alloc: Global, places: usize, value: T) -> Result<V
 }
 
 impl Marks {
-    ghost use Rattle.pd_graph.specs.Marks.{seen_of, read_of, counts_of, rules_of, has_rule_in, HasPlaces, IsUnmarked, KeepsTables, Takes, Follows, Looks};
+    ghost use Rattle.pd_graph.specs.Marks.{seen_of, read_of, counts_of, rules_of, has_rule_in, HasPlaces, IsUnmarked, KeepsTables, TakesPair, Follows, Looks};
 
     /// Tables for so many blocks, without a mark.
     pub(crate) fn new(alloc: Global, nr: usize) -> Result<Marks, AllocError>
@@ -77,7 +77,7 @@ impl Marks {
     pub(crate) fn take(&mut self) -> Option<(u64, u8)>
         requires same { length (read_of self.old) ≡ length (seen_of self.old) }
         requires few { length (seen_of self.old) ≤ MAX_META_BLOCKS }
-        ensures some { IfSome result (λ taken. Takes taken.0 taken.1 self.old self.new) }
+        ensures some { IfSome result (λ taken. TakesPair taken.0 taken.1 self.old self.new) }
         ensures none { IfNone result (IsAllRead (seen_of self.old) (read_of self.old)) }
         ensures kept { IfNone result (KeepsTables self.old self.new) }
     {

@@ -14,7 +14,7 @@ pub record KeepsSource (old new : SourceState) : Type 0 where
   pub path : new.path ≡ old.path
 
 -- n bytes moved from the front of what was left to the front of the room, and 0 is the end
-pub record Takes (n : ℕ) (room : List ℕ) (after : Option (List ℕ)) (left : List ℕ) : Type 0 where
+pub record TakesBytes (n : ℕ) (room : List ℕ) (after : Option (List ℕ)) (left : List ℕ) : Type 0 where
   pub within : n ≤ length left
   pub moved : take n room ≡ take n left
   pub rest : after ≡ Some (drop n left)

@@ -5,7 +5,7 @@ ghost use Rattle.std.specs.Option.{option_copied};
 ghost use Rattle.pd_kinds.specs.Objects.{CountsFault};
 ghost use Rattle.pd_image.specs.Access.{access_number, untold};
 ghost use Rattle.pd_image.specs.Calls.{counted, next_fails, IsUncalled, CountsCall, SetsToFail, KeepsCalls};
-ghost use Rattle.pd_image.specs.Source.{AttachesSource, KeepsSource, Takes};
+ghost use Rattle.pd_image.specs.Source.{AttachesSource, KeepsSource, TakesBytes};
 
 use crate::access::Access;
 use crate::calls::Calls;
@@ -107,7 +107,7 @@ impl Source for MemSource {
         requires attached { (mem_source_state self.old).access ≡ 1 }
         requires room { 0 < length into.old }
         ensures taken { IfOk result (λ n. n ≤ length into.new) }
-        ensures content { IfOk result (λ n. IfSome (mem_source_state self.old).left (Takes n into.new (mem_source_state self.new).left)) }
+        ensures content { IfOk result (λ n. IfSome (mem_source_state self.old).left (TakesBytes n into.new (mem_source_state self.new).left)) }
         ensures failed { OnErr result ((mem_source_state self.new).left ≡ (mem_source_state self.old).left) }
         ensures kept { KeepsSource (mem_source_state self.old) (mem_source_state self.new) }
         ensures faults { CountsFault result (mem_source_state self.old).faults (mem_source_state self.new).faults }

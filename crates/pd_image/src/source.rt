@@ -1,6 +1,6 @@
 ghost use Rattle.std.specs.Prelude.{None, ◌≡◌, ◌<◌, ◌≤◌, length, take, is_ok, OnErr, IfOk, IfSome};
 ghost use Rattle.pd_kinds.specs.Objects.{SourceState, CountsFault};
-ghost use Rattle.pd_image.specs.Source.{AttachesSource, KeepsSource, Takes};
+ghost use Rattle.pd_image.specs.Source.{AttachesSource, KeepsSource, TakesBytes};
 
 use crate::Failed;
 
@@ -21,7 +21,7 @@ pub trait Source {
         requires attached { (state self.old).access ≡ 1 }
         requires room { 0 < length into.old }
         ensures taken { IfOk result (λ n. n ≤ length into.new) }
-        ensures content { IfOk result (λ n. IfSome (state self.old).left (Takes n into.new (state self.new).left)) }
+        ensures content { IfOk result (λ n. IfSome (state self.old).left (TakesBytes n into.new (state self.new).left)) }
         ensures failed { OnErr result ((state self.new).left ≡ (state self.old).left) }
         ensures kept { KeepsSource (state self.old) (state self.new) }
         ensures faults { CountsFault result (state self.old).faults (state self.new).faults };

@@ -7,7 +7,7 @@ use Rattle.std.proofs.lemmas.Option.{none-some, same_Some}
 use Rattle.std.proofs.Math.Seq.{take-append-add}
 use Rattle.std.proofs.Math.Nat.{sub-zero}
 use borrow.Rule.Slice.PartMut.{put_mid}
-use Rattle.pd_image.specs.Source.{Takes}
+use Rattle.pd_image.specs.Source.{TakesBytes}
 use Rattle.pd_lines.specs.Moves.{Moves}
 
 pub skipped : (xs : List ℕ) (start end n : ℕ) → start + n ≤ end → slice_range xs (start + n) end ≡ drop n (slice_range xs start end)
@@ -28,22 +28,22 @@ IfSome-at : (o : Option (List ℕ)) (x : List ℕ) (P : List ℕ → Type 0) →
 IfSome-at None x P e h = absurd (none-some x e)
 IfSome-at (Some y) x P e h = subst P (same_Some y x e) h
 
-taken_at_end : (n : ℕ) (ys left : List ℕ) (before now : Option (List ℕ)) → IfSome before (Takes n ys now) → before ≡ Some left → n ≡ 0 → now ≡ Some []
+taken_at_end : (n : ℕ) (ys left : List ℕ) (before now : Option (List ℕ)) → IfSome before (TakesBytes n ys now) → before ≡ Some left → n ≡ 0 → now ≡ Some []
 taken_at_end n ys left before now takes e none =
-    let got = IfSome-at before left (Takes n ys now) e takes in
+    let got = IfSome-at before left (TakesBytes n ys now) e takes in
     got.rest ∙ rw (got.only_at_end none, none) refl
 
-pub end_if_none : {E : Type 0} → (r : Result ℕ E) (ys : List ℕ) (before now : Option (List ℕ)) → IfOk r (λ n. IfSome before (Takes n ys now))
+pub end_if_none : {E : Type 0} → (r : Result ℕ E) (ys : List ℕ) (before now : Option (List ℕ)) → IfOk r (λ n. IfSome before (TakesBytes n ys now))
     → IfOk r (λ n. n ≡ 0 → (left : List ℕ) → before ≡ Some left → now ≡ Some [])
 end_if_none (Ok n) ys before now takes = λ none left e. taken_at_end n ys left before now takes e none
 end_if_none (Err e) ys before now takes = tt
 
 -- bytes were taken after those that are held
 pub filled_moves : (a k n : ℕ) (held xs ys : List ℕ) (before now : Option (List ℕ)) → a ≤ length xs → n ≤ length ys → take a xs ≡ held
-    → IfSome before (Takes n ys now) → Moves held (take (a + n) (put_mid a k xs ys)) before now
+    → IfSome before (TakesBytes n ys now) → Moves held (take (a + n) (put_mid a k xs ys)) before now
 filled_moves a k n held xs ys before now within short same takes = record {
   told = λ left e.
-      let got = IfSome-at before left (Takes n ys now) e takes in (
+      let got = IfSome-at before left (TakesBytes n ys now) e takes in (
         drop n left,
         (
           got.rest,
@@ -58,7 +58,7 @@ skip_within xs start end n order within = omega (arith, length-take (end - start
 
 -- what a call of `take` gives after the bytes that are held
 pub moves_if_taken : {E : Type 0} → (r : Result ℕ E) (a k : ℕ) (held xs ys : List ℕ) (before now : Option (List ℕ)) → a ≤ length xs → take a xs ≡ held
-    → IfOk r (λ n. n ≤ length ys) → IfOk r (λ n. IfSome before (Takes n ys now))
+    → IfOk r (λ n. n ≤ length ys) → IfOk r (λ n. IfSome before (TakesBytes n ys now))
     → IfOk r (λ n. Moves held (slice_range (put_mid a k xs ys) 0 (a + n)) before now)
 moves_if_taken (Ok n) a k held xs ys before now within same short takes = simp sub-zero (filled_moves a k n held xs ys before now within short same takes)
 moves_if_taken (Err e) a k held xs ys before now within same short takes = tt

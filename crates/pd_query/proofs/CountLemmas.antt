@@ -5,10 +5,10 @@ use Rattle.std.specs.List.{flat_map}
 use Rattle.std.proofs.lemmas.List.{append-nil}
 use Rattle.std.proofs.lemmas.List.Sums.{sum_by-append}
 use Rattle.pd_spells.specs.ThinText.{Line, map_line}
-use Rattle.pd_pool.specs.declared.devices.DeviceRow.{DeviceRow}
-use Rattle.pd_pool.specs.declared.joined.Run.{Run}
-use Rattle.pd_pool.specs.Given.{row_lines}
-use Rattle.pd_pool.specs.Joined.{spelled}
+use Rattle.pd_thin_meaning.specs.declared.devices.DeviceRow.{DeviceRow}
+use Rattle.pd_thin_meaning.specs.declared.joined.Run.{Run}
+use Rattle.pd_thin_meaning.specs.Given.{row_lines}
+use Rattle.pd_thin_meaning.specs.Joined.{spelled}
 use Rattle.pd_query.proofs.PutsLemmas.{each_told, one_told, two_told}
 use Rattle.pd_query.specs.declared.counts.DumpCounts.{DumpCounts}
 use Rattle.pd_query.specs.Counts.{Counted, CountsSome, IsCountOf}

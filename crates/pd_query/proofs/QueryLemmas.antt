@@ -4,7 +4,7 @@ use Rattle.pd_kinds.proofs.AppendLemmas.{front_none}
 use Rattle.pd_query.specs.declared.fault.QueryFault.{QueryFault}
 use Rattle.pd_query.specs.declared.fault.QueryFault.TheVariants.{Memory, Device, Sink}
 use Rattle.pd_query.specs.Puts.{Puts}
-use Rattle.pd_query.specs.Failing.{Ends, Fails, SinkFails}
+use Rattle.pd_query.specs.Failing.{QueryEnds, Fails, SinkFails}
 use Rattle.pd_query.proofs.PutsLemmas.{told_text, two_told}
 
 -- what holds of the text that was put, where another thing does
@@ -38,13 +38,13 @@ puts_none {T} {E} {Holds} held text_of fault {before} same holds = record {
 }
 
 -- a query that takes no memory fails as one that does
-pub ends_as : (result : Result (Unit {0}) QueryFault) (dev dev' out out' : ℕ) → Fails result dev dev' out out' → Ends result dev dev' out out'
+pub ends_as : (result : Result (Unit {0}) QueryFault) (dev dev' out out' : ℕ) → Fails result dev dev' out out' → QueryEnds result dev dev' out out'
 ends_as (Ok done) dev dev' out out' fails = fails
 ends_as (Err Memory) dev dev' out out' fails = absurd fails
 ends_as (Err Device) dev dev' out out' fails = fails
 ends_as (Err Sink) dev dev' out out' fails = fails
 
 -- nor does one that is put without the device
-pub sink_ends_as : (result : Result (Unit {0}) QueryFault) (dev out out' : ℕ) → SinkFails result out out' → Ends result dev dev out out'
+pub sink_ends_as : (result : Result (Unit {0}) QueryFault) (dev out out' : ℕ) → SinkFails result out out' → QueryEnds result dev dev out out'
 sink_ends_as (Ok done) dev out out' fails = (refl, fails)
 sink_ends_as (Err fault) dev out out' fails = rw fails.0 (fails.1.0, fails.1.1, refl)

@@ -11,14 +11,14 @@ use Rattle.pd_tree.specs.Below.{items_below}
 use Rattle.pd_tree.specs.Items.{root_of}
 use Rattle.pd_tree.proofs.NextLemmas.{items_outside}
 use Rattle.pd_texts.specs.Printed.{text_of_line}
-use Rattle.pd_pool.specs.declared.devices.DeviceRow.{DeviceRow}
-use Rattle.pd_pool.specs.declared.devices.ThinDevices.{ThinDevices}
-use Rattle.pd_pool.specs.declared.joined.Run.{Run}
-use Rattle.pd_pool.specs.Given.{row_lines, super_rows}
-use Rattle.pd_pool.specs.Items.{block_time_of, details_of}
-use Rattle.pd_pool.specs.Joined.{spelled}
-use Rattle.pd_pool.specs.Runs.{runs_below}
-use Rattle.pd_pool.proofs.LeftLemmas.{zip-nil}
+use Rattle.pd_thin_meaning.specs.declared.devices.DeviceRow.{DeviceRow}
+use Rattle.pd_thin_meaning.specs.declared.devices.ThinDevices.{ThinDevices}
+use Rattle.pd_thin_meaning.specs.declared.joined.Run.{Run}
+use Rattle.pd_thin_meaning.specs.Given.{row_lines, super_rows}
+use Rattle.pd_thin_meaning.specs.Items.{block_time_of, details_of}
+use Rattle.pd_thin_meaning.specs.Joined.{spelled}
+use Rattle.pd_thin_meaning.specs.Runs.{runs_below}
+use Rattle.pd_thin_meaning.proofs.LeftLemmas.{zip-nil}
 use Rattle.pd_query.specs.ThinText.{given_text, rest_text, row_text, rows_text, some_rows}
 
 -- the text of lines in a row

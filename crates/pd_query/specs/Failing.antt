@@ -33,5 +33,5 @@ HasEnded Memory dev dev' out out' = (dev' ≡ dev) × (out' ≡ out)
 HasEnded Device dev dev' out out' = HasFailed Device dev dev' out out'
 HasEnded Sink dev dev' out out' = HasFailed Sink dev dev' out out'
 
-abbrev pub Ends : Result (Unit {0}) QueryFault → ℕ → ℕ → ℕ → ℕ → Type 0
-Ends result dev dev' out out' = MatchResult result (λ _. (dev' ≡ dev) × (out' ≡ out)) (λ fault. HasEnded fault dev dev' out out')
+abbrev pub QueryEnds : Result (Unit {0}) QueryFault → ℕ → ℕ → ℕ → ℕ → Type 0
+QueryEnds result dev dev' out out' = MatchResult result (λ _. (dev' ≡ dev) × (out' ≡ out)) (λ fault. HasEnded fault dev dev' out out')

@@ -3,7 +3,7 @@ use Rattle.std.specs.Prelude.{ℕ, List, [], ◌∷◌, ◌++◌}
 use Rattle.std.specs.List.{flat_map}
 use Rattle.pd_spells.specs.ThinText.{Line, end_line, first_line, pool_line, thin}
 use Rattle.pd_texts.specs.Printed.{text_of_line}
-use Rattle.pd_pool.specs.Given.{row_lines, super_head}
+use Rattle.pd_thin_meaning.specs.Given.{row_lines, super_head}
 use Rattle.pd_query.specs.declared.thin_dump.ThinDump.{ThinDump}
 use Rattle.pd_query.specs.ThinText.{rest_text, some_room, some_rows}
 

@@ -4,12 +4,12 @@ use Rattle.std.specs.List.{flat_map}
 use Rattle.pd_kinds.specs.declared.thin_super.ThinSuper.{ThinSuper}
 use Rattle.pd_grammar.specs.Texts.{text_of_lines}
 use Rattle.pd_spells.specs.ThinText.{end_line, map_line, thin}
-use Rattle.pd_pool.specs.declared.devices.DeviceRow.{DeviceRow}
-use Rattle.pd_pool.specs.declared.devices.ThinDevices.{ThinDevices}
-use Rattle.pd_pool.specs.declared.joined.Run.{Run}
-use Rattle.pd_pool.specs.Devices.{rows_left, rows_room}
-use Rattle.pd_pool.specs.Given.{row_lines, super_lines}
-use Rattle.pd_pool.specs.Joined.{spelled}
+use Rattle.pd_thin_meaning.specs.declared.devices.DeviceRow.{DeviceRow}
+use Rattle.pd_thin_meaning.specs.declared.devices.ThinDevices.{ThinDevices}
+use Rattle.pd_thin_meaning.specs.declared.joined.Run.{Run}
+use Rattle.pd_thin_meaning.specs.Devices.{rows_left, rows_room}
+use Rattle.pd_thin_meaning.specs.Given.{row_lines, super_lines}
+use Rattle.pd_thin_meaning.specs.Joined.{spelled}
 
 -- the map lines of given runs
 abbrev pub given_text : List Run → List ℕ

@@ -5,7 +5,7 @@ ghost use Rattle.pd_kinds.specs.declared.kind.Kind.{Kind};
 ghost use Rattle.pd_image.specs.Device.{IsAttached, OnlyReads};
 ghost use Rattle.pd_image.specs.Sink.{KeepsSink};
 ghost use Rattle.pd_query.specs.Puts.{PutsAnswer};
-ghost use Rattle.pd_query.specs.Failing.{Ends, StartFails};
+ghost use Rattle.pd_query.specs.Failing.{QueryEnds, StartFails};
 
 use crate::fault::QueryFault;
 use pd_image::{Device, Sink};
@@ -51,5 +51,5 @@ pub trait Query {
         ensures text { PutsAnswer kind (answer self.now) result (D.state dev.old).held (K.state out.old).written (K.state out.new).written }
         ensures kept { OnlyReads (D.state dev.old) (D.state dev.new) }
         ensures sink { KeepsSink (K.state out.old) (K.state out.new) }
-        ensures faults { Ends result (D.state dev.old).faults (D.state dev.new).faults (K.state out.old).faults (K.state out.new).faults };
+        ensures faults { QueryEnds result (D.state dev.old).faults (D.state dev.new).faults (K.state out.old).faults (K.state out.new).faults };
 }

@@ -7,7 +7,7 @@ use crate::thin_lines::{add_pool, devices_of, read_super};
 use pd_image::{Device, Sink};
 use pd_kinds::ThinSuper;
 use pd_lines::Printer;
-use pd_pool::{MapRuns, ThinDevices, given_lines_are_the_text, rows_are_the_devices};
+use pd_thin_meaning::{MapRuns, ThinDevices, given_lines_are_the_text, rows_are_the_devices};
 use std::alloc::{AllocError, Global};
 
 /// The dump of a pool, with the memory that it takes.
@@ -35,7 +35,7 @@ impl ThinDump {
     ghost use Rattle.pd_query.specs.Counts.{IsCountOf};
     ghost use Rattle.pd_query.specs.ThinDump.{dump_room, lines_left, text_left, used_of};
     ghost use Rattle.pd_query.specs.ThinText.{dump_text};
-    ghost use Rattle.pd_pool.specs.Given.{super_lines};
+    ghost use Rattle.pd_thin_meaning.specs.Given.{super_lines};
 
     /// Reads the superblock of a pool, and takes the memory for its dump: three cursors over trees.
     ///

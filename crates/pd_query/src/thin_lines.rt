@@ -7,13 +7,13 @@ ghost use Rattle.pd_kinds.specs.Graph.{block_at};
 ghost use Rattle.pd_kinds.specs.ThinSuper.{thin_fields};
 ghost use Rattle.pd_image.specs.Device.{IsAttached, OnlyReads};
 ghost use Rattle.pd_lines.specs.Printer.{printing};
-ghost use Rattle.pd_pool.specs.Devices.{rows_left, rows_room};
-ghost use Rattle.pd_pool.specs.Runs.{runs_below, runs_left, runs_room};
+ghost use Rattle.pd_thin_meaning.specs.Devices.{rows_left, rows_room};
+ghost use Rattle.pd_thin_meaning.specs.Runs.{runs_below, runs_left, runs_room};
 ghost use Rattle.pd_spells.specs.ThinText as p;
 ghost use Rattle.pd_spells.specs.ThinText.{thin};
 ghost use Rattle.pd_texts.specs.Printed.{text_of_line};
-ghost use Rattle.pd_pool.specs.Given.{row_lines, super_head, super_rows};
-ghost use Rattle.pd_pool.specs.Joined.{spelled};
+ghost use Rattle.pd_thin_meaning.specs.Given.{row_lines, super_head, super_rows};
+ghost use Rattle.pd_thin_meaning.specs.Joined.{spelled};
 ghost use Rattle.pd_texts.specs.ThinLine.{line_of};
 ghost use Rattle.pd_query.specs.Puts.{PrintsSome};
 ghost use Rattle.pd_query.specs.Counts.{CountsSome};
@@ -26,9 +26,9 @@ use crate::lines::{add_end_line, add_first_line, add_line};
 use pd_image::{Device, Failed, Sink};
 use pd_kinds::{Block, ThinSuper};
 use pd_lines::Printer;
-use pd_pool::{DeviceRow, MapRuns, Run, ThinDevices};
 use pd_supers::read_thin_super;
 use pd_texts::{Run2, ThinLine};
+use pd_thin_meaning::{DeviceRow, MapRuns, Run, ThinDevices};
 use std::alloc::{AllocError, Global};
 
 /// The line of a pool.

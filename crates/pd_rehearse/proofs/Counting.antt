@@ -11,8 +11,8 @@ use Rattle.pd_kinds.specs.Meaning.{ThinPool, ThinDevice, thin_meaning}
 use Rattle.pd_kinds.specs.Stages.{Checked, checked_of, faults, first_failing, stage_faults}
 use Rattle.pd_kinds.specs.ThinSuper.{thin_fields}
 use Rattle.pd_spells.specs.ThinText.{Line, end_line, first_line, pool_line, head_of, joined_part, lines_of_part, lines_of_parts}
-use Rattle.pd_pool.specs.Given.{GivesPool, pool_rows, super_head, super_lines}
-use Rattle.pd_pool.proofs.RowLemmas.{same_lines}
+use Rattle.pd_thin_meaning.specs.Given.{GivesPool, pool_rows, super_head, super_lines}
+use Rattle.pd_thin_meaning.proofs.RowLemmas.{same_lines}
 use Rattle.pd_rehearse.specs.declared.fault.RehearseFault.{RehearseFault}
 use Rattle.pd_rehearse.specs.declared.fault.RehearseFault.TheVariants as f
 use Rattle.pd_rehearse.specs.declared.run.Rehearsal.{Rehearsal}

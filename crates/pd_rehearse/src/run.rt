@@ -16,12 +16,12 @@ use pd_image::Device;
 use pd_kinds::{CheckFault, Stage};
 use pd_laid_thin::{laid_pool_is_clean, laid_pool_says_its_number};
 use pd_laws::faults_are_none_where_clean;
-use pd_pool::rows_are_the_devices;
 use pd_query::DumpCounts;
 use pd_spells::{
     thin_text_has_one_meaning, thin_text_has_one_verdict, thin_text_is_accepted_where_there_is_room,
 };
 use pd_thin::check_thin;
+use pd_thin_meaning::rows_are_the_devices;
 use std::alloc::Global;
 
 /// What a rehearsal found.

@@ -6,6 +6,6 @@ pub mod PoolLemmas
 pub mod BeginLemmas
 pub mod NeedLemmas
 pub mod SavedTextLemmas
-pub mod ThriceLemmas
+pub mod OverflowingLemmas
 pub mod SavedNeedLemmas
 pub mod MadeLemmas

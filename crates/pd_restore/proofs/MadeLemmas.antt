@@ -17,7 +17,7 @@ use Rattle.pd_texts.specs.declared.fault.TextFault.{TextFault}
 use Rattle.pd_restoring.specs.declared.fault.RestoreFault.{RestoreFault}
 use Rattle.pd_restoring.specs.declared.fault.RestoreFault.TheVariants as r
 use Rattle.pd_restoring.specs.Restored.{AnswersFault, IsAccepted, IsRestored}
-use Rattle.pd_restore.specs.Made.{Answers, Ending, IsDone, IsMadeOf, MakesPool, done, failed, lacking, short}
+use Rattle.pd_restore.specs.Made.{AnswersMade, Ending, IsDone, IsMadeOf, MakesPool, done, failed, lacking, short}
 
 abbrev Image : Type 0
 Image = List (List ℕ)
@@ -92,7 +92,7 @@ kept_same None = tt
 kept_same (Some image) = inl refl
 
 -- a device that was left alone
-pub resting : (pool : ThinPool) (ending : Ending) (device : DeviceState) → (IsDone ending → ⊥) → Answers ending pool (room_of device.blocks) → IsMadeOf pool ending device device
+pub resting : (pool : ThinPool) (ending : Ending) (device : DeviceState) → (IsDone ending → ⊥) → AnswersMade ending pool (room_of device.blocks) → IsMadeOf pool ending device device
 resting pool ending device undone answer = record {
   answer = answer;
   crash = λ image synced. at_rest image (MakesPool pool (room_of device.blocks) image) device synced;

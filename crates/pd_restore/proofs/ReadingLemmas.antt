@@ -35,7 +35,7 @@ use Rattle.pd_restoring.specs.declared.fault.RestoreFault.TheVariants as r
 use Rattle.pd_restoring.specs.Reading.{SaysOf}
 use Rattle.pd_restoring.specs.Faults.{read_fault}
 use Rattle.pd_restoring.proofs.ReadingLemmas.{above_next, above_here, next_says}
-use Rattle.pd_restore.specs.Reading.{Reading, Steps, IsShort, IsOver, progress}
+use Rattle.pd_restore.specs.Reading.{Reading, StepsDevices, IsShort, IsOver, progress}
 use Rattle.pd_texts.specs.declared.fault.ReadFault.{ReadFault}
 
 -- want of room is what is said of the room
@@ -141,7 +141,7 @@ pub stepped : (result : Result Bool RestoreFault) (before : List Line) (line : T
     → ((x : List ℕ) → LeavesOf thin x before old was → LeavesOf thin x (line_of line ∷ before) text left)
     → IfOk result (λ more. more ≡ true) → OnOk result (HasGathered (line_of line ∷ before) t start to)
     → MatchResult result (λ more. min (thin_need_so_far room (line_of line ∷ before)) top ≤ room) (IsOver room (min (thin_need_so_far room (line_of line ∷ before)) top))
-    → IfOk result (λ more. Steps more before room old was text left t start to)
+    → IfOk result (λ more. StepsDevices more before room old was text left t start to)
 stepped (Err fault) before line room old text was left s t start now to h blocks reads told more gathered need = tt
 stepped (Ok more) before line room old text was left s t start now to h blocks reads told is gathered need =
     let within : thin_need_so_far room (line_of line ∷ before) ≤ room = omega (arith, need, h.most) in
@@ -186,7 +186,7 @@ pub came_to_end : (result : Result Bool RestoreFault) (before : List Line) (room
     → Reading before room old s start now → AreReadSoFar thin (end_line ∷ before)
     → ((x : List ℕ) → LeavesOf thin x before old was → IsWhole thin x (end_line ∷ before) left)
     → IfOk result (λ more. more ≡ false) → OnOk result (HasGathered (end_line ∷ before) t start to)
-    → IfOk result (λ more. Steps more before room old was text left t start to)
+    → IfOk result (λ more. StepsDevices more before room old was text left t start to)
 unfolding thin_need_so_far
 came_to_end (Err fault) before room old text was left s t start now to h reads told more gathered = tt
 came_to_end (Ok more) before room old text was left s t start now to h reads told is gathered =
@@ -208,7 +208,7 @@ grows_where (Ok more) before line old new start now from to later after g h = λ
 
 -- a step by its answer
 pub steps_as : (a b : Bool) (before : List Line) (room : ℕ) (old text : TextReader ThinState ThinLine) (was left : Option (List ℕ)) (s : Devices) (start now : Stand) → a ≡ b
-    → Steps a before room old was text left s start now → Steps b before room old was text left s start now
+    → StepsDevices a before room old was text left s start now → StepsDevices b before room old was text left s start now
 steps_as a b before room old text was left s start now is steps = rw is at steps
 
 -- a text that has room has few mappings and devices

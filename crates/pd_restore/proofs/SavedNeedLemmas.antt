@@ -5,8 +5,8 @@ use Rattle.std.proofs.lemmas.Grind.{flat_map-append}
 use Rattle.std.proofs.lemmas.List.{append-nil, map-append, nil_from_length, take-append-drop, take_all, take_more}
 use Rattle.std.proofs.lemmas.List.Sums.{sum_by-cons}
 use Rattle.pd_kinds.specs.Meaning.{Mapping, ThinDevice}
-use Rattle.pd_pool.specs.declared.joined.Run.{Run as SavedRun}
-use Rattle.pd_pool.specs.Joined.{spelled}
+use Rattle.pd_thin_meaning.specs.declared.joined.Run.{Run as SavedRun}
+use Rattle.pd_thin_meaning.specs.Joined.{spelled}
 use Rattle.pd_count.specs.Counted.{Counted}
 use Rattle.pd_devices.specs.Counts.{overflows_of}
 use Rattle.pd_devices.proofs.RunLemmas.{run_data}
@@ -16,9 +16,9 @@ use Rattle.pd_spells.specs.ThinText.{HasMappings, Run, device_of_part, mappings_
 use Rattle.pd_salvage.specs.declared.saved.SavedDevice.{SavedDevice}
 use Rattle.pd_salvage.specs.declared.saved.SavedHead.{SavedHead}
 use Rattle.pd_salvage.specs.Saved.{IsSavedPool, SavedPool, parts_of, pool_of, runs_of_devices}
-use Rattle.pd_restore.specs.Thrice.{HasCountedThrice, data_of_runs}
+use Rattle.pd_restore.specs.Overflowing.{HasCountedThrice, data_of_runs}
 use Rattle.pd_restore.proofs.SavedTextLemmas.{have_mappings}
-use Rattle.pd_restore.proofs.ThriceLemmas.{over_listed}
+use Rattle.pd_restore.proofs.OverflowingLemmas.{over_listed}
 
 -- a run's data blocks are in the pool
 run_within : (blocks least v d t n : ℕ) (rest : List Mapping) → AreMappings blocks least (mappings_from v d t n ++ rest) → 1 ≤ n → d + n ≤ blocks

@@ -4,8 +4,8 @@ use Rattle.std.specs.List.{AllByRecursion, flat_map}
 use Rattle.std.proofs.lemmas.Bool.{cases_Bool, ltb-true, ltb-false}
 use Rattle.std.proofs.lemmas.List.{drop-drop, drop_all}
 use Rattle.pd_kinds.specs.Meaning.{Mapping}
-use Rattle.pd_pool.specs.declared.joined.Run.{Run as SavedRun}
-use Rattle.pd_pool.specs.Joined.{spelled}
+use Rattle.pd_thin_meaning.specs.declared.joined.Run.{Run as SavedRun}
+use Rattle.pd_thin_meaning.specs.Joined.{spelled}
 use Rattle.pd_spells.specs.ThinText.{device_line, map_line, pool_line, Part, Run, HasMappings, SpellsPool, follows, head_of, joined_runs, lines_of_part, lines_of_parts, mappings_of, with_mapping}
 use Rattle.pd_salvage.specs.declared.saved.SavedDevice.{SavedDevice}
 use Rattle.pd_salvage.specs.declared.saved.SavedHead.{SavedHead}

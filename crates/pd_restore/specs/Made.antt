@@ -20,12 +20,12 @@ pub data Ending : Type 0 where
   unbegun : Ending
 
 -- what an ending says of the pool, and of the room for it: how much is needed is exact
-abbrev pub Answers : Ending → ThinPool → ℕ → Type 0
-Answers done pool room = IsLawfulPool pool × (thin_need pool room ≤ room)
-Answers lacking pool room = Unit {0}
-Answers failed pool room = Unit {0}
-Answers (short need blocks) pool room = (need ≡ thin_need pool room) × ((blocks ≡ room) × (room < need))
-Answers unbegun pool room = Unit {0}
+abbrev pub AnswersMade : Ending → ThinPool → ℕ → Type 0
+AnswersMade done pool room = IsLawfulPool pool × (thin_need pool room ≤ room)
+AnswersMade lacking pool room = Unit {0}
+AnswersMade failed pool room = Unit {0}
+AnswersMade (short need blocks) pool room = (need ≡ thin_need pool room) × ((blocks ≡ room) × (room < need))
+AnswersMade unbegun pool room = Unit {0}
 
 -- the pool was made
 abbrev pub IsDone : Ending → Type 0
@@ -57,7 +57,7 @@ MakesPool pool room old new = (thin_need pool room ≤ room) × IsLaid (laid_poo
 
 -- what becomes of the device
 pub record IsMadeOf (pool : ThinPool) (ending : Ending) (old new : DeviceState) : Type 0 where
-  pub answer : Answers ending pool (room_of old.blocks)
+  pub answer : AnswersMade ending pool (room_of old.blocks)
   -- a crash at any moment of the call, however it ends, leaves the old image, no valid superblock, or what is made
   pub crash : (image : List (List ℕ)) → HoldsSynced image old → LeavesOnly (IsOldNoneOrMade image (MakesPool pool (room_of old.blocks) image)) old new
   -- what was made holds of any device that tells what it held, also where something was unsynced

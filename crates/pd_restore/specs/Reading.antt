@@ -48,14 +48,14 @@ pub record CanPut (s : Devices) (line : ThinLine) (now : Stand) : Type 0 where
   pub after : IsReadAfter thin so_far.before (line_of line)
 
 -- one step after these lines: a line more, or the end
-abbrev pub Steps : Bool → List Line → ℕ → TextReader ThinState ThinLine → Option (List ℕ) → TextReader ThinState ThinLine → Option (List ℕ) → Devices → Stand → Stand → Type 0
-Steps true before room old was text left s start now = (line : Line) × (Reading (line ∷ before) room text s start now
+abbrev pub StepsDevices : Bool → List Line → ℕ → TextReader ThinState ThinLine → Option (List ℕ) → TextReader ThinState ThinLine → Option (List ℕ) → Devices → Stand → Stand → Type 0
+StepsDevices true before room old was text left s start now = (line : Line) × (Reading (line ∷ before) room text s start now
     × ((t : List ℕ) → LeavesOf thin t before old was → LeavesOf thin t (line ∷ before) text left))
-Steps false before room old was text left s start now = HasReadAll (end_line ∷ before) room s start now
+StepsDevices false before room old was text left s start now = HasReadAll (end_line ∷ before) room s start now
     × ((t : List ℕ) → LeavesOf thin t before old was → IsWhole thin t (end_line ∷ before) left)
 
 -- after these lines all others were read
-pub record Ends (before : List Line) (room : ℕ) (old : TextReader ThinState ThinLine) (was left : Option (List ℕ)) (s : Devices) (start now : Stand) : Type 0 where
+pub record EndsDevices (before : List Line) (room : ℕ) (old : TextReader ThinState ThinLine) (was left : Option (List ℕ)) (s : Devices) (start now : Stand) : Type 0 where
   pub lines : List Line
   pub later : List Line
   pub front : (others : List Line) → in_order lines others ≡ in_order before (later ++ others)

@@ -1,8 +1,8 @@
 -- The lines of what was saved of a pool, as they stand in a text.
 use Rattle.std.specs.Prelude.{◌≡◌, ℕ, ◌+◌, List, ◌∷◌, ◌++◌, map, take, drop}
 use Rattle.std.specs.List.{flat_map}
-use Rattle.pd_pool.specs.declared.joined.Run.{Run}
-use Rattle.pd_pool.specs.Joined.{spelled}
+use Rattle.pd_thin_meaning.specs.declared.joined.Run.{Run}
+use Rattle.pd_thin_meaning.specs.Joined.{spelled}
 use Rattle.pd_spells.specs.ThinText.{Head, Line, lines_of_part, map_line, pool_line}
 use Rattle.pd_texts.specs.ThinLine.{line_of}
 use Rattle.pd_salvage.specs.declared.saved.SavedDevice.{SavedDevice}

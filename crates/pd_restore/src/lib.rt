@@ -4,12 +4,12 @@
 mod begin;
 mod lines;
 mod made;
+mod overflowing;
 mod parts;
 mod pool;
 mod saved_lines;
 mod saved_need;
 mod thin;
-mod thrice;
 
 pub use made::{MadeFault, restore_made};
 pub use pd_devices::need_thin;

@@ -14,7 +14,7 @@ ghost use Rattle.pd_devices.specs.Gathered.{HasGathered, CanEnd};
 ghost use Rattle.pd_build.specs.Causes.{CountsBuildFault};
 ghost use Rattle.pd_restoring.specs.Restored.{CountsRestore};
 ghost use Rattle.pd_restoring.specs.Reading.{CountsTake, IsOfBuild, IsOfLater, SaysOf};
-ghost use Rattle.pd_restore.specs.Reading.{Reading, CanRead, CanPut, Steps, Ends, progress, IsShort, IsOver, IsNoRoom};
+ghost use Rattle.pd_restore.specs.Reading.{Reading, CanRead, CanPut, StepsDevices, EndsDevices, progress, IsShort, IsOver, IsNoRoom};
 
 use pd_build::BuildFault;
 use pd_devices::{Devices, Run};
@@ -37,7 +37,7 @@ pub(crate) fn restore_lines<S: Source, D: Device>(
     requires closed { IsClosed (stand draft.old).device }
     ensures same_reference { draft.new.dev.ghost_name ≡ draft.old.dev.ghost_name }
     ensures all { (before : List Line) (start : Stand) → Reading before room text.old devices.old start (stand draft.old)
-        → OnOk result (Ends before room text.old (S.state source.old).left (S.state source.new).left devices.new start (stand draft.new)) }
+        → OnOk result (EndsDevices before room text.old (S.state source.old).left (S.state source.new).left devices.new start (stand draft.new)) }
     ensures room { (before : List Line) (start : Stand) → Reading before room text.old devices.old start (stand draft.old)
         → (t : List ℕ) → LeavesOf thin t before text.old (S.state source.old).left → IfErr result (SaysOf thin thin_need_so_far room t) }
     ensures later { IfErr result IsOfLater }
@@ -63,7 +63,7 @@ pub(crate) fn step<S: Source, D: Device>(
     requires closed { IsClosed (stand draft.old).device }
     ensures same_reference { draft.new.dev.ghost_name ≡ draft.old.dev.ghost_name }
     ensures steps { (before : List Line) (start : Stand) → Reading before room text.old devices.old start (stand draft.old)
-        → IfOk result (λ more. Steps more before room text.old (S.state source.old).left text.new (S.state source.new).left devices.new start (stand draft.new)) }
+        → IfOk result (λ more. StepsDevices more before room text.old (S.state source.old).left text.new (S.state source.new).left devices.new start (stand draft.new)) }
     ensures room { (before : List Line) (start : Stand) → Reading before room text.old devices.old start (stand draft.old)
         → (t : List ℕ) → LeavesOf thin t before text.old (S.state source.old).left → IfErr result (SaysOf thin thin_need_so_far room t) }
     ensures grows { IfOk result (λ more. more ≡ true → progress devices.old < progress devices.new) }

@@ -1,14 +1,14 @@
 //! The lines of a saved pool's text, made one by one.
 
 ghost use Rattle.std.specs.Prelude.{◌≡◌, [], IfNone, IfSome};
-ghost use Rattle.pd_pool.specs.Joined.{spelled};
+ghost use Rattle.pd_thin_meaning.specs.Joined.{spelled};
 ghost use Rattle.pd_spells.specs.ThinText as p;
 ghost use Rattle.pd_texts.specs.ThinLine.{line_of};
 ghost use Rattle.pd_restore.specs.SavedLines.{Gives, lines_from, words_of_head};
 
-use pd_pool::Run;
 use pd_salvage::{Salvage, SavedHead};
 use pd_texts::{MadeLines, Run2, ThinLine};
+use pd_thin_meaning::Run;
 
 /// The next line.
 #[derive(Clone, Copy)]

@@ -2,16 +2,16 @@
 
 ghost use Rattle.std.specs.Prelude.{◌≡◌, ◌+◌, ◌≤◌, map, IfOk, IfSome};
 ghost use Rattle.std.specs.List.{AllByRecursion};
-ghost use Rattle.pd_pool.specs.declared.joined.Run.{Run as SavedRun};
+ghost use Rattle.pd_thin_meaning.specs.declared.joined.Run.{Run as SavedRun};
 ghost use Rattle.pd_salvage.specs.declared.saved.SavedDevice.{SavedDevice as Device};
 ghost use Rattle.pd_salvage.specs.Saved.{pool_of};
 ghost use Rattle.pd_spells.specs.ThinNeed.{overflows_in, thin_need};
-ghost use Rattle.pd_restore.specs.Thrice.{data_of_runs};
+ghost use Rattle.pd_restore.specs.Overflowing.{data_of_runs};
 
-use crate::thrice::Thrice;
+use crate::overflowing::Thrice;
 use pd_devices::need_thin;
-use pd_pool::Run;
 use pd_salvage::{Salvage, SavedDevice};
+use pd_thin_meaning::Run;
 use std::alloc::{AllocError, Global};
 
 /// How many blocks the pool needs, where there are so many for metadata. `None` where memory is wanting: a number that

@@ -23,7 +23,7 @@ use Rattle.pd_restore_cache.specs.declared.gather.Gathered.{Gathered}
 use Rattle.pd_restore_cache.specs.declared.row.Row.{Row}
 use Rattle.pd_restore_cache.specs.Rows.{entry}
 use Rattle.pd_restore_cache.specs.Gathered.{after_rows, begun_lines, lines_of, Adds, IsNotAdded}
-use Rattle.pd_restore_cache.specs.Reading.{Reads, Takes, IsNotTaken, Steps, SaysAfter}
+use Rattle.pd_restore_cache.specs.Reading.{Reads, TakesLine, IsNotTaken, StepsGathering, SaysAfter}
 use Rattle.pd_restore_cache.proofs.GatherLemmas.{lines_more, length-after_rows}
 
 -- there are two lines at least
@@ -37,7 +37,7 @@ no_cache_line g line uuid block_size blocks clean policy versions hint_size is a
     let one = (cache_read (lines_of g) _ (rw is at after)).second in omega (arith, two_lines g)
 
 -- a map line was taken, or not
-takes_row : (line : CacheLine) (row : Row) (old new : Gathered) → line_of line ≡ row_of (entry row) → Adds row old new → Takes line old new
+takes_row : (line : CacheLine) (row : Row) (old new : Gathered) → line_of line ≡ row_of (entry row) → Adds row old new → TakesLine line old new
 takes_row line row old new is a = record {
   cache_is = a.cache;
   lines = lines_more old new row a.cache a.rows ∙ ap (λ (first : Line). first ∷ lines_of old) (sym is);
@@ -74,7 +74,7 @@ block_above g (v.Map block origin dirty hint) after =
 pub stepped : (result : Result Bool RestoreFault) (line : CacheLine) (old text : TextReader CacheState CacheLine) (was left : Option (List ℕ)) (from to : Gathered) → Reads old from
     → ReadsOn cache_single CacheStands (line_of line ∷ lines_of from) text
     → ((t : List ℕ) → LeavesOf cache_single t (lines_of from) old was → LeavesOf cache_single t (line_of line ∷ lines_of from) text left)
-    → IfOk result (λ more. more ≡ true) → IfOk result (λ more. Takes line from to) → IfOk result (λ more. Steps more old was text left from to)
+    → IfOk result (λ more. more ≡ true) → IfOk result (λ more. TakesLine line from to) → IfOk result (λ more. StepsGathering more old was text left from to)
 stepped (Err fault) line old text was left from to h reads told more takes = tt
 stepped (Ok more) line old text was left from to h reads told is takes =
     let same : line_of line ∷ lines_of from ≡ lines_of to = sym takes.lines in
@@ -95,7 +95,7 @@ stepped (Ok more) line old text was left from to h reads told is takes =
 
 -- a step that came to the end
 pub ended : (g : Gathered) (old text : TextReader CacheState CacheLine) (was left : Option (List ℕ)) → Reads old g → AreReadSoFar cache_single (end_line ∷ lines_of g)
-    → ((t : List ℕ) → LeavesOf cache_single t (lines_of g) old was → IsWhole cache_single t (end_line ∷ lines_of g) left) → Steps false old was text left g g
+    → ((t : List ℕ) → LeavesOf cache_single t (lines_of g) old was → IsWhole cache_single t (end_line ∷ lines_of g) left) → StepsGathering false old was text left g g
 ended g old text was left h lines told = (record { lines = lines; differ = h.differ }, (refl, told))
 
 -- what is said of the text where a line wasn't taken
@@ -137,7 +137,7 @@ next_says (c.Text fault) t g differ refuses =
 
 -- a row that was added, or not, of a line
 pub took_row : (result : Result Bool RestoreFault) (line : CacheLine) (row : Row) (old new : Gathered) → line_of line ≡ row_of (entry row)
-    → IfOk result (λ more. Adds row old new) → IfOk result (λ more. Takes line old new)
+    → IfOk result (λ more. Adds row old new) → IfOk result (λ more. TakesLine line old new)
 took_row (Ok more) line row old new is adds = takes_row line row old new is adds
 took_row (Err fault) line row old new is adds = tt
 
@@ -148,5 +148,5 @@ took_none (Err fault) line row g is not = not_taken line row g fault is not
 
 -- a step by what it answered
 pub steps_as : (more to_be : Bool) (old text : TextReader CacheState CacheLine) (was left : Option (List ℕ)) (from to : Gathered) → more ≡ to_be
-    → Steps more old was text left from to → Steps to_be old was text left from to
+    → StepsGathering more old was text left from to → StepsGathering to_be old was text left from to
 steps_as more to_be old text was left from to is steps = rw is at steps

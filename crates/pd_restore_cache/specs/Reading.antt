@@ -32,7 +32,7 @@ pub record CanTake (g : Gathered) (line : CacheLine) : Type 0 where
   pub after : IsReadAfter cache_single (lines_of g) (line_of line)
 
 -- it was taken
-pub record Takes (line : CacheLine) (old new : Gathered) : Type 0 where
+pub record TakesLine (line : CacheLine) (old new : Gathered) : Type 0 where
   pub cache_is : new.cache ≡ old.cache
   pub lines : lines_of new ≡ line_of line ∷ lines_of old
   pub number : length new.rows.items ≡ length old.rows.items + 1
@@ -53,14 +53,14 @@ pub record HasAll (g : Gathered) : Type 0 where
   pub differ : OriginsDiffer (lines_of g)
 
 -- one step: a line more, or the end
-abbrev pub Steps : Bool → TextReader CacheState CacheLine → Option (List ℕ) → TextReader CacheState CacheLine → Option (List ℕ) → Gathered → Gathered → Type 0
-Steps true old was text left from to = Reads text to × ((to.cache ≡ from.cache) × ((length to.rows.items ≡ length from.rows.items + 1)
+abbrev pub StepsGathering : Bool → TextReader CacheState CacheLine → Option (List ℕ) → TextReader CacheState CacheLine → Option (List ℕ) → Gathered → Gathered → Type 0
+StepsGathering true old was text left from to = Reads text to × ((to.cache ≡ from.cache) × ((length to.rows.items ≡ length from.rows.items + 1)
     × ((t : List ℕ) → LeavesOf cache_single t (lines_of from) old was → LeavesOf cache_single t (lines_of to) text left)))
-Steps false old was text left from to = HasAll to × ((to.cache ≡ from.cache)
+StepsGathering false old was text left from to = HasAll to × ((to.cache ≡ from.cache)
     × ((t : List ℕ) → LeavesOf cache_single t (lines_of from) old was → IsWhole cache_single t (end_line ∷ lines_of to) left))
 
 -- all steps
-pub record Ends (old : TextReader CacheState CacheLine) (was left : Option (List ℕ)) (from to : Gathered) : Type 0 where
+pub record EndsGathering (old : TextReader CacheState CacheLine) (was left : Option (List ℕ)) (from to : Gathered) : Type 0 where
   pub all : HasAll to
   pub cache_is : to.cache ≡ from.cache
   pub told : (t : List ℕ) → LeavesOf cache_single t (lines_of from) old was → IsWhole cache_single t (end_line ∷ lines_of to) left

@@ -7,7 +7,7 @@ ghost use Rattle.pd_texts.specs.Reader.{LeavesOf};
 ghost use Rattle.pd_restoring.specs.Begin.{CountsBegin};
 ghost use Rattle.pd_restoring.specs.Reading.{IsOfLater};
 ghost use Rattle.pd_restore_cache.specs.Gathered.{lines_of};
-ghost use Rattle.pd_restore_cache.specs.Reading.{Reads, CanTake, Takes, IsNotTaken, Steps, Ends, SaysAfter};
+ghost use Rattle.pd_restore_cache.specs.Reading.{Reads, CanTake, TakesLine, IsNotTaken, StepsGathering, EndsGathering, SaysAfter};
 
 use crate::gather::Gathered;
 use crate::row::Row;
@@ -23,7 +23,7 @@ pub(crate) fn gather_lines<S: Source>(
 ) -> Result<(), RestoreFault>
     requires attached { (S.state source.old).access ≡ 1 }
     requires reads { Reads text.old gathered.old }
-    ensures ends { OnOk result (Ends text.old (S.state source.old).left (S.state source.new).left gathered.old gathered.new) }
+    ensures ends { OnOk result (EndsGathering text.old (S.state source.old).left (S.state source.new).left gathered.old gathered.new) }
     ensures says { (t : List ℕ) → LeavesOf cache_single t (lines_of gathered.old) text.old (S.state source.old).left → IfErr result (SaysAfter gathered.old.cache t) }
     ensures later { IfErr result IsOfLater }
     ensures source { KeepsSource (S.state source.old) (S.state source.new) }
@@ -41,7 +41,7 @@ fn step<S: Source>(
 ) -> Result<bool, RestoreFault>
     requires attached { (S.state source.old).access ≡ 1 }
     requires reads { Reads text.old gathered.old }
-    ensures steps { IfOk result (λ more. Steps more text.old (S.state source.old).left text.new (S.state source.new).left gathered.old gathered.new) }
+    ensures steps { IfOk result (λ more. StepsGathering more text.old (S.state source.old).left text.new (S.state source.new).left gathered.old gathered.new) }
     ensures says { (t : List ℕ) → LeavesOf cache_single t (lines_of gathered.old) text.old (S.state source.old).left → IfErr result (SaysAfter gathered.old.cache t) }
     ensures later { IfErr result IsOfLater }
     ensures source { KeepsSource (S.state source.old) (S.state source.new) }
@@ -58,7 +58,7 @@ fn step<S: Source>(
 fn take(gathered: &mut Gathered, line: CacheLine) -> Result<bool, RestoreFault>
     requires take { CanTake gathered.old line }
     ensures more { IfOk result (λ more. more ≡ true) }
-    ensures takes { IfOk result (λ more. Takes line gathered.old gathered.new) }
+    ensures takes { IfOk result (λ more. TakesLine line gathered.old gathered.new) }
     ensures repeated { IfErr result (IsNotTaken line gathered.old) }
 {
     match line {

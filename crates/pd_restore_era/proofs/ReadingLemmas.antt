@@ -21,7 +21,7 @@ use Rattle.pd_restoring.proofs.ReadingLemmas.{above_next}
 use Rattle.pd_restore_era.specs.declared.begin.Target.{Target}
 use Rattle.pd_restore_era.specs.Begin.{begun_lines, head_of_target}
 use Rattle.pd_restore_era.specs.Put.{HasPut, MayFollow}
-use Rattle.pd_restore_era.specs.Reading.{HasGathered, Reading, Steps, eras_in}
+use Rattle.pd_restore_era.specs.Reading.{HasGathered, Reading, StepsEras, eras_in}
 use Rattle.pd_restore_era.proofs.PutLemmas.{length-eras_from, put_start}
 
 -- what the lines of a text say of each other
@@ -65,7 +65,7 @@ pub stepped : (result : Result Bool RestoreFault) (before : List Line) (line : E
     → Reading before room old s start now → to.device.blocks ≡ now.device.blocks → ReadsOn era EraStands (line_of line ∷ before) text
     → ((x : List ℕ) → LeavesOf era x before old was → LeavesOf era x (line_of line ∷ before) text left)
     → IfOk result (λ more. more ≡ true) → OnOk result (HasGathered (line_of line ∷ before) t start to)
-    → IfOk result (λ more. Steps more before room old was text left t start to)
+    → IfOk result (λ more. StepsEras more before room old was text left t start to)
 stepped (Err fault) before line room old text was left s t start now to h blocks reads told more gathered = tt
 stepped (Ok more) before line room old text was left s t start now to h blocks reads told is gathered =
     let within : era_need_so_far room (line_of line ∷ before) ≤ room =
@@ -89,7 +89,7 @@ stepped (Ok more) before line room old text was left s t start now to h blocks r
 -- a step that came to the end
 pub came_to_end : (before : List Line) (room : ℕ) (old text : TextReader EraState EraLine) (was left : Option (List ℕ)) (array : ArrayLeft) (start now : Stand)
     → Reading before room old array start now → AreReadSoFar era (end_line ∷ before) → ((x : List ℕ) → LeavesOf era x before old was → IsWhole era x (end_line ∷ before) left)
-    → Steps false before room old was text left array start now
+    → StepsEras false before room old was text left array start now
 came_to_end before room old text was left array start now h reads told =
     let one = end_read before reads.0 in (
       record {
@@ -120,7 +120,7 @@ falls_where (Ok more) before line old new start now to later after g h = λ is. 
 
 -- a step by its answer
 pub steps_as : (a b : Bool) (before : List Line) (room : ℕ) (old text : TextReader EraState EraLine) (was left : Option (List ℕ)) (array : ArrayLeft) (start now : Stand) → a ≡ b
-    → Steps a before room old was text left array start now → Steps b before room old was text left array start now
+    → StepsEras a before room old was text left array start now → StepsEras b before room old was text left array start now
 steps_as a b before room old text was left array start now is steps = rw is at steps
 
 -- the first two lines were read, and no era is put yet

@@ -69,14 +69,14 @@ pub record CanTake (array : ArrayLeft) (line : EraLine) (now : Stand) : Type 0 w
   pub there : room ≤ now.device.blocks
 
 -- one step after these lines: a line more, or the end
-abbrev pub Steps : Bool → List Line → ℕ → TextReader EraState EraLine → Option (List ℕ) → TextReader EraState EraLine → Option (List ℕ) → ArrayLeft → Stand → Stand → Type 0
-Steps true before room old was text left array start now = (line : Line) × (Reading (line ∷ before) room text array start now
+abbrev pub StepsEras : Bool → List Line → ℕ → TextReader EraState EraLine → Option (List ℕ) → TextReader EraState EraLine → Option (List ℕ) → ArrayLeft → Stand → Stand → Type 0
+StepsEras true before room old was text left array start now = (line : Line) × (Reading (line ∷ before) room text array start now
     × ((t : List ℕ) → LeavesOf era t before old was → LeavesOf era t (line ∷ before) text left))
-Steps false before room old was text left array start now = HasReadAll (end_line ∷ before) room array start now
+StepsEras false before room old was text left array start now = HasReadAll (end_line ∷ before) room array start now
     × ((t : List ℕ) → LeavesOf era t before old was → IsWhole era t (end_line ∷ before) left)
 
 -- after these lines all others were read
-pub record Ends (before : List Line) (room : ℕ) (old : TextReader EraState EraLine) (was left : Option (List ℕ)) (array : ArrayLeft) (start now : Stand) : Type 0 where
+pub record EndsEras (before : List Line) (room : ℕ) (old : TextReader EraState EraLine) (was left : Option (List ℕ)) (array : ArrayLeft) (start now : Stand) : Type 0 where
   pub lines : List Line
   pub later : List Line
   pub front : (others : List Line) → in_order lines others ≡ in_order before (later ++ others)

@@ -12,7 +12,7 @@ ghost use Rattle.pd_texts.specs.Reader.{IsReadAfter, LeavesOf};
 ghost use Rattle.pd_era_texts.specs.EraLine.{line_of};
 ghost use Rattle.pd_restoring.specs.Restored.{CountsRestore};
 ghost use Rattle.pd_restoring.specs.Reading.{CountsTake, IsOfBuild, IsOfLater, SaysOf};
-ghost use Rattle.pd_restore_era.specs.Reading.{HasGathered, Reading, CanRead, CanTake, Steps, Ends};
+ghost use Rattle.pd_restore_era.specs.Reading.{HasGathered, Reading, CanRead, CanTake, StepsEras, EndsEras};
 
 use crate::runs::put_run;
 use pd_build::ArrayBuilder;
@@ -34,7 +34,7 @@ pub(crate) fn restore_lines<S: Source, D: Device>(
     requires closed { IsClosed (stand draft.old).device }
     ensures same_reference { draft.new.dev.ghost_name ≡ draft.old.dev.ghost_name }
     ensures all { (before : List Line) (room : ℕ) (start : Stand) → Reading before room text.old array.old start (stand draft.old)
-        → OnOk result (Ends before room text.old (S.state source.old).left (S.state source.new).left array.new start (stand draft.new)) }
+        → OnOk result (EndsEras before room text.old (S.state source.old).left (S.state source.new).left array.new start (stand draft.new)) }
     ensures says { (before : List Line) (room : ℕ) (start : Stand) → Reading before room text.old array.old start (stand draft.old)
         → (t : List ℕ) → LeavesOf era t before text.old (S.state source.old).left → IfErr result (SaysOf era era_need_so_far room t) }
     ensures later { IfErr result IsOfLater }
@@ -59,7 +59,7 @@ pub(crate) fn step<S: Source, D: Device>(
     requires closed { IsClosed (stand draft.old).device }
     ensures same_reference { draft.new.dev.ghost_name ≡ draft.old.dev.ghost_name }
     ensures steps { (before : List Line) (room : ℕ) (start : Stand) → Reading before room text.old array.old start (stand draft.old)
-        → IfOk result (λ more. Steps more before room text.old (S.state source.old).left text.new (S.state source.new).left array.new start (stand draft.new)) }
+        → IfOk result (λ more. StepsEras more before room text.old (S.state source.old).left text.new (S.state source.new).left array.new start (stand draft.new)) }
     ensures says { (before : List Line) (room : ℕ) (start : Stand) → Reading before room text.old array.old start (stand draft.old)
         → (t : List ℕ) → LeavesOf era t before text.old (S.state source.old).left → IfErr result (SaysOf era era_need_so_far room t) }
     ensures falls { IfOk result (λ more. more ≡ true → array.new.words.left < array.old.words.left) }

@@ -33,8 +33,8 @@ AnswersFault r.Device verdict = Unit {0}
 AnswersFault (r.Text fault) verdict = IsRefused fault verdict
 AnswersFault (r.NoRoom need blocks) verdict = IsWithoutRoom need blocks verdict
 
-abbrev pub Answers : {M : Type 0} → (M → Type 0) → Result (Unit {0}) RestoreFault → Verdict M → Type 0
-Answers Lawful result verdict = MatchResult result (λ done. IsAccepted Lawful verdict) (λ fault. AnswersFault fault verdict)
+abbrev pub AnswersVerdict : {M : Type 0} → (M → Type 0) → Result (Unit {0}) RestoreFault → Verdict M → Type 0
+AnswersVerdict Lawful result verdict = MatchResult result (λ done. IsAccepted Lawful verdict) (λ fault. AnswersFault fault verdict)
 
 -- the device isn't blamed
 abbrev pub IsOfOthers : RestoreFault → Type 0
@@ -70,7 +70,7 @@ pub record IsRestored {M : Type 0} (Lawful : M → Type 0) (IsVerdictOn : List �
   -- whether the first two lines decide
   pub early : Bool
   pub right : IfSome from.left (λ text. IsVerdictOn text (room_of old.blocks) verdict × (early ≡ is_early text (room_of old.blocks)))
-  pub answer : Answers Lawful result verdict
+  pub answer : AnswersVerdict Lawful result verdict
   -- a crash at any moment of the call, whatever its result, leaves the old image, no valid superblock, or what is made
   pub crash : (image : List (List ℕ)) → HoldsSynced image old → LeavesOnly (IsOldNoneOrMade image (Makes laid (room_of old.blocks) verdict image)) old new
   -- what was made holds of any device that tells what it held, also where something was unsynced

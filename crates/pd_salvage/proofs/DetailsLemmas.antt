@@ -5,7 +5,7 @@ use Rattle.pd_value.specs.declared.thin.Details.{Details}
 use Rattle.pd_tree.specs.Next.{IsNext}
 use Rattle.pd_tree.specs.Search.{AreFrom, lookup}
 use Rattle.pd_tree.proofs.SearchLemmas.{lookup_other, none_from}
-use Rattle.pd_pool.specs.Items.{details_of}
+use Rattle.pd_thin_meaning.specs.Items.{details_of}
 use Rattle.pd_salvage.specs.declared.cursor.SavedCursor.{SavedCursor}
 use Rattle.pd_salvage.specs.declared.details.SavedDetails.{SavedDetails}
 use Rattle.pd_salvage.specs.Ascending.{ascending_from}

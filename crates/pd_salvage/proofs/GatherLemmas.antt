@@ -7,9 +7,9 @@ use Rattle.pd_value.specs.declared.thin.BlockTime.{BlockTime}
 use Rattle.pd_spells.specs.Lawful.{AreMappings}
 use Rattle.pd_spells.specs.ThinText as text
 use Rattle.pd_spells.specs.ThinText.{mappings_from, mappings_of, with_mapping, joined_runs, follows}
-use Rattle.pd_pool.specs.declared.joined.Run.{Run}
-use Rattle.pd_pool.specs.Joined.{mapping_of, spelled}
-use Rattle.pd_pool.proofs.JoinedLemmas.{IsApart, run_before}
+use Rattle.pd_thin_meaning.specs.declared.joined.Run.{Run}
+use Rattle.pd_thin_meaning.specs.Joined.{mapping_of, spelled}
+use Rattle.pd_thin_meaning.proofs.JoinedLemmas.{IsApart, run_before}
 use Rattle.pd_tree.proofs.NextLemmas.{if_both}
 use Rattle.pd_salvage.specs.declared.gather.Gathering.{Gathering}
 use Rattle.pd_salvage.specs.Gather.{HasRuns, IsGathered, IsGathering, begun_mappings, is_followed_by, mappings_of_runs, run_of_mapping}

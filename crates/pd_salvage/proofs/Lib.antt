@@ -1,6 +1,6 @@
 pub mod PlaceLemmas
 pub mod AscendLemmas
-pub mod WayLemmas
+pub mod TrailLemmas
 pub mod DetailsLemmas
 pub mod GatherLemmas
 pub mod SavingLemmas

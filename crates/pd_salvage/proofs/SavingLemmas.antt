@@ -15,9 +15,9 @@ use Rattle.pd_value.specs.declared.thin.BlockTime.{BlockTime}
 use Rattle.pd_value.specs.declared.thin.Details.{Details}
 use Rattle.pd_value.specs.declared.thin.Root.{Root}
 use Rattle.pd_laid.specs.Salvage.{given, given_device, given_mappings, salvage_from}
-use Rattle.pd_pool.specs.declared.joined.Run.{Run}
-use Rattle.pd_pool.specs.Items.{block_time_of, details_of}
-use Rattle.pd_pool.specs.Joined.{mapping_of, spelled}
+use Rattle.pd_thin_meaning.specs.declared.joined.Run.{Run}
+use Rattle.pd_thin_meaning.specs.Items.{block_time_of, details_of}
+use Rattle.pd_thin_meaning.specs.Joined.{mapping_of, spelled}
 use Rattle.pd_spells.specs.Lawful.{AreDevices, AreMappings}
 use Rattle.pd_spells.specs.ThinText.{Part, device_of_part, joined_runs}
 use Rattle.pd_tree.specs.Items.{item_of, root_of}
@@ -275,13 +275,13 @@ all_saved s image saving is none =
     sym (append-nil (saved_devices saving.devices.items saving.runs.items)) ∙ (rw none at is.all) in
     rw (devices, devices_same s image (given 8 s.meta_map.blocks image s.mapping_root)) refl
 
-abbrev Ends : SavedCursor Root → SavedCursor Root → List (List ℕ) → Type 0
-Ends old new image = (saved_left 8 root_of image old ≡ []) × (saved_left 8 root_of image new ≡ [])
+abbrev SavedEnds : SavedCursor Root → SavedCursor Root → List (List ℕ) → Type 0
+SavedEnds old new image = (saved_left 8 root_of image old ≡ []) × (saved_left 8 root_of image new ≡ [])
 
-pub all_told : (held : Option (List (List ℕ))) (saving : Saving) (tops : SavedCursor Root) → IfSome held (λ image. Saves saving.s image saving) → IfSome held (Ends saving.tops tops)
+pub all_told : (held : Option (List (List ℕ))) (saving : Saving) (tops : SavedCursor Root) → IfSome held (λ image. Saves saving.s image saving) → IfSome held (SavedEnds saving.tops tops)
     → IfSome held (λ image. pool_of (record { head = head_of saving.s; devices = saving.devices.items; runs = saving.runs.items }) ≡ salvage_from saving.s image)
 all_told held saving tops told ends =
-    if_both held (λ image held_is is (none : Ends saving.tops tops image). all_saved saving.s image saving is none.0) told ends
+    if_both held (λ image held_is is (none : SavedEnds saving.tops tops image). all_saved saving.s image saving is none.0) told ends
 
 -- what was saved is a lawful pool
 pub saved_is : (saving : Saving) → saving.s.data_map.blocks ≤ 2 ^ 40 → IsSaved saving.s.data_map.blocks saving.devices.items saving.runs.items → FitsHead (head_of saving.s)

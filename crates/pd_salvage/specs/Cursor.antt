@@ -4,7 +4,7 @@ use Rattle.pd_salvage.specs.declared.cursor.SavedCursor.{SavedCursor}
 use Rattle.pd_salvage.specs.declared.place.Child.{Child}
 use Rattle.pd_salvage.specs.Ascending.{ascending_from}
 use Rattle.pd_salvage.specs.Place.{saved_below}
-use Rattle.pd_salvage.specs.Way.{unit, way_left, way_number}
+use Rattle.pd_salvage.specs.Trail.{unit, trail_left, trail_number}
 
 -- a root, of which all keys are wanted
 abbrev pub root_child : ℕ → Child
@@ -18,7 +18,7 @@ root_left below (Some root) = below (root_child root)
 -- the entries that are left
 abbrev pub saved_left : {V X : Type 0} → ℕ → (ℕ → X) → List (List ℕ) → SavedCursor V → List (ℕ × X)
 saved_left {V} {X} size decoded image cursor =
-    ascending_from cursor.least (root_left (saved_below size decoded cursor.way.nr image 64) cursor.root ++ way_left size decoded image cursor.way)
+    ascending_from cursor.least (root_left (saved_below size decoded cursor.trail.nr image 64) cursor.root ++ trail_left size decoded image cursor.trail)
 
 -- the least key that may come
 abbrev pub saved_least : {V : Type 0} → SavedCursor V → ℕ
@@ -30,8 +30,8 @@ root_number None = 0
 root_number (Some root) = unit 64
 
 abbrev pub saved_number : {V : Type 0} → ℕ → SavedCursor V → ℕ
-saved_number size cursor = root_number cursor.root + way_number size cursor.way
+saved_number size cursor = root_number cursor.root + trail_number size cursor.trail
 
 -- how many blocks the device must have
 abbrev pub saved_room : {V : Type 0} → SavedCursor V → ℕ
-saved_room cursor = cursor.way.nr
+saved_room cursor = cursor.trail.nr

@@ -2,7 +2,7 @@
 use Rattle.std.specs.Prelude.{◌≡◌, ℕ, ◌<◌, ◌≤◌, List, [], ◌∷◌, ◌++◌, Option, Some, None}
 use Rattle.std.specs.Option.{unwrap_or}
 use Rattle.pd_value.specs.declared.thin.Details.{Details}
-use Rattle.pd_pool.specs.Items.{details_of}
+use Rattle.pd_thin_meaning.specs.Items.{details_of}
 use Rattle.pd_tree.specs.Search.{lookup}
 use Rattle.pd_salvage.specs.declared.details.SavedDetails.{SavedDetails}
 use Rattle.pd_salvage.specs.declared.details.Known.{Known}

@@ -3,9 +3,9 @@ use Rattle.std.specs.Prelude.{◌≡◌, ℕ, ◌+◌, ◌≤◌, Bool, ◌==◌
 use Rattle.std.specs.List.{flat_map}
 use Rattle.pd_kinds.specs.Meaning.{Mapping}
 use Rattle.pd_value.specs.declared.thin.BlockTime.{BlockTime}
-use Rattle.pd_pool.specs.declared.joined.Run.{Run}
-use Rattle.pd_pool.specs.Items.{block_time_of}
-use Rattle.pd_pool.specs.Joined.{mapping_of, spelled}
+use Rattle.pd_thin_meaning.specs.declared.joined.Run.{Run}
+use Rattle.pd_thin_meaning.specs.Items.{block_time_of}
+use Rattle.pd_thin_meaning.specs.Joined.{mapping_of, spelled}
 use Rattle.pd_spells.specs.Lawful.{AreMappings}
 use Rattle.pd_spells.specs.ThinText.{joined_runs, mappings_of}
 use Rattle.pd_salvage.specs.declared.cursor.SavedCursor.{SavedCursor}

@@ -1,5 +1,5 @@
 pub mod Place
-pub mod Way
+pub mod Trail
 pub mod Steps
 pub mod Ascending
 pub mod Cursor

@@ -69,11 +69,11 @@ pub record TakesOne {X : Type 0} (size : ℕ) (decoded : ℕ → X) (taken : Tak
       → left_at size decoded nr image j old ≡ taken_left size decoded nr image j taken ++ left_at size decoded nr image j new
   pub less : place_left size old ≡ suc (place_left size new)
 
-abbrev pub Takes : {X : Type 0} → ℕ → (ℕ → X) → Taken X → Place → Place → Type 0
-Takes size decoded t.Nothing old new = IsTaken size decoded old new
-Takes size decoded t.Passed old new = TakesOne size decoded t.Passed old new
-Takes size decoded (t.Child child) old new = TakesOne size decoded (t.Child child) old new
-Takes size decoded (t.Entry key value) old new = TakesOne size decoded (t.Entry key value) old new
+abbrev pub TakesFromPlace : {X : Type 0} → ℕ → (ℕ → X) → Taken X → Place → Place → Type 0
+TakesFromPlace size decoded t.Nothing old new = IsTaken size decoded old new
+TakesFromPlace size decoded t.Passed old new = TakesOne size decoded t.Passed old new
+TakesFromPlace size decoded (t.Child child) old new = TakesOne size decoded (t.Child child) old new
+TakesFromPlace size decoded (t.Entry key value) old new = TakesOne size decoded (t.Entry key value) old new
 
 -- a value that is taken has a number
 abbrev pub HasFitting : {X : Type 0} → (X → Bool) → Taken X → Type 0

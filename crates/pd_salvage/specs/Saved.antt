@@ -2,8 +2,8 @@
 use Rattle.std.specs.Prelude.{◌≡◌, ℕ, List, [], ◌∷◌, length, map, take, drop}
 use Rattle.std.specs.List.{AllByRecursion, flat_map, sum_by}
 use Rattle.pd_kinds.specs.Meaning.{ThinPool}
-use Rattle.pd_pool.specs.declared.joined.Run.{Run}
-use Rattle.pd_pool.specs.Joined.{spelled}
+use Rattle.pd_thin_meaning.specs.declared.joined.Run.{Run}
+use Rattle.pd_thin_meaning.specs.Joined.{spelled}
 use Rattle.pd_spells.specs.Lawful.{IsLawfulPool}
 use Rattle.pd_spells.specs.ThinText.{Part, device_of_part, joined_runs, mappings_of}
 use Rattle.pd_salvage.specs.declared.saved.SavedDevice.{SavedDevice}

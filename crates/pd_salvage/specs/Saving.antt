@@ -8,8 +8,8 @@ use Rattle.pd_kinds.specs.Node.{Entry}
 use Rattle.pd_value.specs.declared.thin.Details.{Details}
 use Rattle.pd_value.specs.declared.thin.Root.{Root}
 use Rattle.pd_laid.specs.Salvage.{given, given_device}
-use Rattle.pd_pool.specs.declared.joined.Run.{Run}
-use Rattle.pd_pool.specs.Items.{details_of}
+use Rattle.pd_thin_meaning.specs.declared.joined.Run.{Run}
+use Rattle.pd_thin_meaning.specs.Items.{details_of}
 use Rattle.pd_spells.specs.Lawful.{AreDevices}
 use Rattle.pd_spells.specs.ThinText.{device_of_part}
 use Rattle.pd_tree.specs.Items.{item_of, root_of}

@@ -4,8 +4,8 @@ ghost use Rattle.std.specs.Prelude.{◌≡◌};
 ghost use Rattle.std.specs.Option.{ForSome};
 
 use crate::place::Child;
+use crate::trail::Trail;
 use crate::walk::next_entry;
-use crate::way::Way;
 use pd_image::{Device, Failed};
 use pd_value::Value;
 use std::alloc::{AllocError, Global};
@@ -21,13 +21,13 @@ const KEYS_END: u128 = 18446744073709551616;
 /// gives, and then what is left after it, are what was left before it. Over any device the keys ascend.
 #[derive(Drop)]
 pub struct SavedCursor<V> {
-    way: Way,
+    trail: Trail,
     /// The root, until it was read.
     root: Option<u64>,
     /// The least key that may come: one above that of the last entry.
     least: u128,
     of: PhantomData<V>,
-    ghost fresh: { ForSome root (λ _. way.depth ≡ 0) },
+    ghost fresh: { ForSome root (λ _. trail.depth ≡ 0) },
 }
 
 impl<V: Value> SavedCursor<V> {
@@ -39,7 +39,7 @@ impl<V: Value> SavedCursor<V> {
     ghost use Rattle.pd_tree.specs.Next.{IsNext};
     ghost use Rattle.pd_salvage.specs.Cursor.{root_left, saved_left, saved_least, saved_number, saved_room};
     ghost use Rattle.pd_salvage.specs.Place.{saved_below};
-    ghost use Rattle.pd_salvage.specs.Way.{way_left, way_number};
+    ghost use Rattle.pd_salvage.specs.Trail.{trail_left, trail_number};
 
     /// A cursor before the first entry of the tree with this root, of a pool with so many metadata blocks. It takes
     /// all memory that the cursor needs: 64 places of about 4136 bytes.
@@ -51,7 +51,7 @@ impl<V: Value> SavedCursor<V> {
         ensures room { IfOk result (λ cursor. saved_room cursor ≡ nr) }
     {
         Ok(SavedCursor {
-            way: Way::new(alloc, nr)?,
+            trail: Trail::new(alloc, nr)?,
             root: Some(root),
             least: 0,
             of: PhantomData,
@@ -65,7 +65,7 @@ impl<V: Value> SavedCursor<V> {
         ensures least { saved_least self.new ≡ 0 }
         ensures room { saved_room self.new ≡ nr }
     {
-        self.way.clear(nr);
+        self.trail.clear(nr);
         self.root = Some(root);
         self.least = 0;
     }
@@ -88,7 +88,7 @@ impl<V: Value> SavedCursor<V> {
         ensures faults { CountsFault result (D.state dev.old).faults (D.state dev.new).faults }
     {
         self.enter_root(dev)?;
-        match next_entry(&mut self.way, dev, self.least)? {
+        match next_entry(&mut self.trail, dev, self.least)? {
             Some((key, value)) => {
                 self.least = key as u128 + 1;
                 Ok(Some((key, value)))
@@ -101,9 +101,9 @@ impl<V: Value> SavedCursor<V> {
     fn enter_root<D: Device>(&mut self, dev: &mut D) -> Result<(), Failed>
         requires attached { IsAttached (D.state dev.old) }
         requires within { saved_room self.old ≤ (D.state dev.old).blocks }
-        ensures left { OnOk result (IfSome (D.state dev.old).held (λ image. way_left V.SIZE V.decoded image self.new.way
-            ≡ root_left (saved_below V.SIZE V.decoded self.old.way.nr image 64) self.old.root ++ way_left V.SIZE V.decoded image self.old.way)) }
-        ensures number { OnOk result (way_number V.SIZE self.new.way ≤ saved_number V.SIZE self.old) }
+        ensures left { OnOk result (IfSome (D.state dev.old).held (λ image. trail_left V.SIZE V.decoded image self.new.trail
+            ≡ root_left (saved_below V.SIZE V.decoded self.old.trail.nr image 64) self.old.root ++ trail_left V.SIZE V.decoded image self.old.trail)) }
+        ensures number { OnOk result (trail_number V.SIZE self.new.trail ≤ saved_number V.SIZE self.old) }
         ensures entered { self.new.root ≡ None }
         ensures same { (self.new.least ≡ self.old.least) × (saved_room self.new ≡ saved_room self.old) }
         ensures kept { OnlyReads (D.state dev.old) (D.state dev.new) }
@@ -116,7 +116,7 @@ impl<V: Value> SavedCursor<V> {
                     low: 0,
                     high: KEYS_END,
                 };
-                self.way.enter::<V, D>(dev, child)
+                self.trail.enter::<V, D>(dev, child)
             }
             None => Ok(()),
         }

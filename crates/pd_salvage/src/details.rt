@@ -34,7 +34,7 @@ impl SavedDetails {
     ghost use Rattle.pd_kinds.specs.Objects.{CountsFault};
     ghost use Rattle.pd_image.specs.Device.{IsAttached, OnlyReads};
     ghost use Rattle.pd_laid.specs.Salvage.{given};
-    ghost use Rattle.pd_pool.specs.Items.{details_of};
+    ghost use Rattle.pd_thin_meaning.specs.Items.{details_of};
     ghost use Rattle.pd_tree.specs.Items.{item_of};
     ghost use Rattle.pd_salvage.specs.Details.{details_left, details_room, IsFound, IsFoundOr, IsKnown};
 

@@ -9,7 +9,7 @@ ghost use Rattle.pd_salvage.specs.Gather.{is_followed_by, IsGathered, run_of_map
 use crate::cursor::SavedCursor;
 use crate::saved::SalvageFault;
 use pd_image::Device;
-use pd_pool::Run;
+use pd_thin_meaning::Run;
 use pd_value::BlockTime;
 use std::alloc::AllocError;
 
@@ -45,7 +45,7 @@ fn follows(run: &Run, virt: u64, mapping: BlockTime) -> bool
 impl Gathering {
     ghost use Rattle.std.specs.Prelude.{◌≡◌, ◌^◌, ◌<◌, ◌++◌, ◌∷◌, [], List, OnOk};
     ghost use Rattle.pd_kinds.specs.Meaning.{Mapping};
-    ghost use Rattle.pd_pool.specs.Joined.{mapping_of};
+    ghost use Rattle.pd_thin_meaning.specs.Joined.{mapping_of};
     ghost use Rattle.pd_salvage.specs.Gather.{HasRuns, IsGathering};
 
     /// Takes the next mapping, and adds the run before it where the mapping doesn't follow that.

@@ -11,8 +11,8 @@ mod place;
 mod pool;
 mod saved;
 mod saving;
+mod trail;
 mod walk;
-mod way;
 
 pub use cursor::SavedCursor;
 pub use pool::salvage;

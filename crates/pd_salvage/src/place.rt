@@ -2,7 +2,7 @@
 
 ghost use Rattle.std.specs.Prelude.{◌≡◌, ◌<◌, true};
 ghost use Rattle.pd_kinds.specs.Node.{entry_count, is_inner_node};
-ghost use Rattle.pd_salvage.specs.Place.{child_of, HasFitting, Takes};
+ghost use Rattle.pd_salvage.specs.Place.{child_of, HasFitting, TakesFromPlace};
 
 use pd_kinds::Block;
 use pd_node::{child, entries, is_inner, key, value};
@@ -44,7 +44,7 @@ pub(crate) enum Taken<V> {
 impl Place {
     /// Takes the next entry.
     pub(crate) fn take<V: Value>(&mut self) -> Taken<V>
-        ensures takes { Takes V.SIZE V.decoded result self.old self.new }
+        ensures takes { TakesFromPlace V.SIZE V.decoded result self.old self.new }
         ensures fits { HasFitting V.fitting result }
     {
         let i = self.next;

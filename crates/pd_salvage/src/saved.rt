@@ -2,7 +2,7 @@
 
 ghost use Rattle.std.specs.Prelude.{◌≡◌};
 
-use pd_pool::Run;
+use pd_thin_meaning::Run;
 use pd_value::Details;
 use std::marker::Model;
 

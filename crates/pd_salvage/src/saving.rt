@@ -11,7 +11,7 @@ use crate::gather::gather;
 use crate::saved::{Salvage, SalvageFault, SavedDevice, SavedHead};
 use pd_image::Device;
 use pd_kinds::ThinSuper;
-use pd_pool::Run;
+use pd_thin_meaning::Run;
 use pd_value::{BlockTime, Details, Root};
 use std::alloc::{AllocError, Global};
 

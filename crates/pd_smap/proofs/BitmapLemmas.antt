@@ -11,7 +11,7 @@ use Rattle.pd_image.specs.Device.{OnlyReads}
 use Rattle.pd_value.specs.declared.space_map.Count.{Count}
 use Rattle.pd_tree.proofs.NextLemmas.{none_outside}
 use Rattle.pd_smap.specs.Steps.{Stand, Went, Stopped, bits_from, bits_at, bits_by, with_reads}
-use Rattle.pd_smap.proofs.AheadLemmas.{if_maps}
+use Rattle.pd_smap.proofs.OverflowLeftLemmas.{if_maps}
 use Rattle.pd_smap.proofs.StepLemmas.{went_next, stopped_next, went_bits, stopped_bits, went_reading, went_reads, stopped_reads, if_all}
 
 -- the counts of a block outside of an image are 0

@@ -3,7 +3,7 @@ use Rattle.std.proofs.Common.{◌≡◌, ℕ, ◌+◌, ◌-◌, ◌≤◌, List,
 use Rattle.std.proofs.lemmas.Bool.{le-ltb}
 use Rattle.pd_value.specs.declared.space_map.Count.{Count}
 use Rattle.pd_kinds.specs.Bitmap.{two_bits_of}
-use Rattle.pd_smap.specs.Ahead.{IsAhead, stored_by}
+use Rattle.pd_smap.specs.OverflowLeft.{IsAhead, stored_by}
 use Rattle.pd_kinds.specs.declared.fault.Space.{Space}
 use Rattle.pd_kinds.specs.Objects.{DeviceState, Rose}
 use Rattle.pd_kinds.specs.Report.{Reported, report_of}
@@ -12,7 +12,7 @@ use Rattle.pd_image.specs.Device.{OnlyReads}
 use Rattle.pd_smap.specs.Counted.{faults_from}
 use Rattle.pd_smap.specs.Reports.{Adds}
 use Rattle.pd_smap.specs.Steps.{Compared, Went, Stopped, bits_from}
-use Rattle.pd_smap.proofs.AheadLemmas.{if_maps, ahead_later}
+use Rattle.pd_smap.proofs.OverflowLeftLemmas.{if_maps, ahead_later}
 use Rattle.pd_smap.proofs.StepLemmas.{faults_one}
 
 -- where the two bits are 3, the stored count is that of the overflow tree

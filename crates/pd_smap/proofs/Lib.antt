@@ -1,4 +1,4 @@
-pub mod AheadLemmas
+pub mod OverflowLeftLemmas
 pub mod ChunkLemmas
 pub mod StepLemmas
 pub mod CountLemmas

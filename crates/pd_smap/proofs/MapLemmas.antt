@@ -12,12 +12,12 @@ use Rattle.pd_kinds.specs.Report.{Reported, report_of}
 use Rattle.pd_kinds.specs.Trees.{count_of_bits, keys_of, stored_in, stored_meta_in, stored_data_in, value_of_key}
 use Rattle.pd_value.specs.declared.space_map.IndexEntry.{IndexEntry}
 use Rattle.pd_tree.specs.Below.{items_below}
-use Rattle.pd_smap.specs.Ahead.{IsAhead, stored_by}
+use Rattle.pd_smap.specs.OverflowLeft.{IsAhead, stored_by}
 use Rattle.pd_smap.specs.Entries.{IsOverflow, IsIndex, bitmap_entry, count_from, data_place, index_from, index_of, meta_place, overflow_of, place_in}
 use Rattle.pd_smap.specs.Counted.{faults_from}
 use Rattle.pd_smap.specs.Reports.{Adds, AddsFront}
 use Rattle.pd_smap.specs.Steps.{Stand, Finds, FindsFront, bits_by}
-use Rattle.pd_smap.proofs.AheadLemmas.{if_maps, if_then}
+use Rattle.pd_smap.proofs.OverflowLeftLemmas.{if_maps, if_then}
 use Rattle.pd_smap.proofs.RiseLemmas.{all_ahead}
 use Rattle.pd_smap.proofs.StepLemmas.{faults_same, if_all}
 

@@ -10,7 +10,7 @@ use Rattle.pd_tree.specs.Below.{items_below}
 use Rattle.pd_tree.specs.Search.{AreFrom, AreBelow, IsSearchable, KeysAscend, items_within, lookup}
 use Rattle.pd_tree.proofs.SearchLemmas.{inner_is, leaf_is}
 use Rattle.pd_smap.specs.Entries.{IsOverflow, count_entry, count_from, overflow_of}
-use Rattle.pd_smap.specs.Ahead.{KeysRise, IsAhead, found}
+use Rattle.pd_smap.specs.OverflowLeft.{KeysRise, IsAhead, found}
 
 -- keys from a number on are from a lower one on
 from_lower : (low high : ℕ) (xs : List (ℕ × Count)) → low ≤ high → AreFrom high xs → AreFrom low xs

@@ -13,11 +13,11 @@ use Rattle.pd_kinds.specs.Report.{Reported, report_of}
 use Rattle.pd_kinds.specs.Objects.{DeviceState}
 use Rattle.pd_image.specs.Device.{IsAttached, OnlyReads}
 use Rattle.pd_value.specs.declared.space_map.Count.{Count}
-use Rattle.pd_smap.specs.Ahead.{IsAhead, stored_by}
+use Rattle.pd_smap.specs.OverflowLeft.{IsAhead, stored_by}
 use Rattle.pd_smap.specs.Counted.{faults_from}
 use Rattle.pd_smap.specs.Reports.{Adds, AddsFront}
 use Rattle.pd_smap.specs.Steps.{Stand, Compared, Finds, FindsFront, Went, Stopped}
-use Rattle.pd_smap.proofs.AheadLemmas.{ahead_later, if_maps, if_then}
+use Rattle.pd_smap.proofs.OverflowLeftLemmas.{ahead_later, if_maps, if_then}
 
 -- numbers in a row, cut in two
 pub range_split : (a m n : ℕ) → range_with_len a (m + n) ≡ range_with_len a m ++ range_with_len (a + m) n

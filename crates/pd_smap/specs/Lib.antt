@@ -1,5 +1,5 @@
 pub mod Entries
-pub mod Ahead
+pub mod OverflowLeft
 pub mod Counted
 pub mod Reports
 pub mod Steps

@@ -8,7 +8,7 @@ use Rattle.pd_kinds.specs.Graph.{block_at}
 use Rattle.pd_kinds.specs.Report.{Reported}
 use Rattle.pd_image.specs.Device.{OnlyReads}
 use Rattle.pd_value.specs.declared.space_map.Count.{Count}
-use Rattle.pd_smap.specs.Ahead.{IsAhead, stored_by}
+use Rattle.pd_smap.specs.OverflowLeft.{IsAhead, stored_by}
 use Rattle.pd_smap.specs.Counted.{faults_from}
 use Rattle.pd_smap.specs.Reports.{Adds, AddsFront}
 

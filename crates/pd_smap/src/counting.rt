@@ -5,7 +5,7 @@ ghost use Rattle.pd_kinds.specs.Objects.{CountsFault};
 ghost use Rattle.pd_kinds.specs.Bitmap.{two_bits_of};
 ghost use Rattle.pd_kinds.specs.Stages.{count_fault};
 ghost use Rattle.pd_image.specs.Device.{IsAttached, OnlyReads};
-ghost use Rattle.pd_smap.specs.Ahead.{IsAhead, stored_by};
+ghost use Rattle.pd_smap.specs.OverflowLeft.{IsAhead, stored_by};
 ghost use Rattle.pd_smap.specs.Overflow.{overflow_items, overflow_reads, stand};
 ghost use Rattle.pd_smap.specs.Reports.{Adds};
 ghost use Rattle.pd_smap.specs.Steps.{Went, Stopped, bits_from};

@@ -24,7 +24,7 @@ impl Overflow {
     ghost use Rattle.pd_image.specs.Device.{IsAttached, OnlyReads};
     ghost use Rattle.pd_tree.specs.Below.{items_below, nodes_below};
     ghost use Rattle.pd_smap.specs.Entries.{count_from};
-    ghost use Rattle.pd_smap.specs.Ahead.{IsAhead};
+    ghost use Rattle.pd_smap.specs.OverflowLeft.{IsAhead};
     ghost use Rattle.pd_smap.specs.Overflow.{overflow_items, overflow_number, overflow_reads, is_behind};
 
     /// The entries of the tree with this root. It takes the memory of a cursor, and reads the way to the first entry.

@@ -23,9 +23,9 @@ use Rattle.pd_whole.specs.Ascending.{IsUp}
 use Rattle.pd_whole.specs.Charges.{Charges}
 use Rattle.pd_whole.proofs.ChargeLemmas.{whole_bad-append, whole_bad-cons, charges_same, charges_then}
 use Rattle.pd_whole.proofs.UpLemmas.{firsts-items}
-use Rattle.pd_thin.specs.Turns.{details_of, firsts, mapped_test, mapped_of, IsLeft}
+use Rattle.pd_thin.specs.DevicePairs.{details_of, firsts, mapped_test, mapped_of, IsLeft}
 use Rattle.pd_thin.specs.Pool.{IsKnownPool, AreReached, pool_tests}
-use Rattle.pd_thin.proofs.WayLemmas.{HasNumbers}
+use Rattle.pd_thin.proofs.TreePairLemmas.{HasNumbers}
 
 -- elements that are kept alike give the same
 kept_alike : {X Y Z : Type 0} → (f : X → Z) (g : Y → Z) (b : Bool) (x : X) (y : Y) (xs : List X) (ys : List Y) → f x ≡ g y → map f xs ≡ map g ys

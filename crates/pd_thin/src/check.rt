@@ -9,9 +9,9 @@ ghost use Rattle.pd_kinds.specs.Report.{report_of};
 ghost use Rattle.pd_image.specs.Device.{IsAttached, OnlyReads};
 ghost use Rattle.pd_check.specs.Check.{MayWantMemory, ReadsFew};
 
+use crate::device_pairs::DeviceCursors;
 use crate::format::{ThinFormat, ThinTable};
 use crate::pool::mark_pool;
-use crate::turns::DeviceCursors;
 use pd_check::{DataSpace, Metadata, check};
 use pd_graph::Audit;
 use pd_image::{Device, Failed};

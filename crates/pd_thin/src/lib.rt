@@ -1,13 +1,13 @@
 //! A thin pool's metadata: its format, as a walk sees it, and its check.
 #![tactic(auto)]
 
-mod ahead;
 mod check;
+mod device_pairs;
 mod format;
+mod peeked;
 mod pool;
-mod turns;
 
 pub use check::check_thin;
+pub use device_pairs::DeviceCursors;
 pub use format::{ThinFormat, ThinTable};
 pub use pd_kinds::CheckFault;
-pub use turns::DeviceCursors;

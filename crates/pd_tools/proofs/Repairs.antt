@@ -34,7 +34,7 @@ use Rattle.pd_repair.specs.declared.fault.RepairFault.{RepairFault}
 use Rattle.pd_repair.specs.declared.fault.RepairFault.TheVariants as fault
 use Rattle.pd_repair.specs.Faults.{output_ending}
 use Rattle.pd_repair.specs.Repaired.{AnswersSuper, CountsRepair, IsRepaired, NamesRules}
-use Rattle.pd_restore.specs.Made.{Answers, Ending, IsDone, IsEarly, IsOfOthers, MakesPool}
+use Rattle.pd_restore.specs.Made.{AnswersMade, Ending, IsDone, IsEarly, IsOfOthers, MakesPool}
 use Rattle.pd_tools.specs.declared.stop.Stop.{Stop}
 use Rattle.pd_tools.specs.declared.stop.Stop.TheVariants.{Device, Memory}
 use Rattle.pd_tools.specs.Ending.{ending_line, ending_status, repair_ended}
@@ -293,7 +293,7 @@ module _ (from to : List ℕ) (others : Objects) (notes : SinkState) (input open
 
   repair_made : result ≡ Ok tt → IsFinished (repair from to) before after 0 []
   repair_made is =
-      let answer = of_ending (λ ending. Answers ending pool room) result (Ok tt) is done.output.answer in
+      let answer = of_ending (λ ending. AnswersMade ending pool room) result (Ok tt) is done.output.answer in
       let fits : thin_need pool room ≤ room = answer.1 in
       let none = subst (λ (r : Result (Unit {0}) RepairFault). IfSome opened.held (λ image. AnswersSuper r (faults Thin Super image))) is done.rules in
       finished (report_of []) (none_right none) 0 [] (lit≤ tt) refl (answer_made pool room fits)
@@ -302,7 +302,7 @@ module _ (from to : List ℕ) (others : Objects) (notes : SinkState) (input open
 
   repair_no_room : (need blocks : ℕ) → result ≡ Err (fault.NoRoom need blocks) → IsFinished (repair from to) before after 4 (no_room_line need blocks)
   repair_no_room need blocks is =
-      let answer = of_ending (λ ending. Answers ending pool room) result (Err (fault.NoRoom need blocks)) is done.output.answer in
+      let answer = of_ending (λ ending. AnswersMade ending pool room) result (Err (fault.NoRoom need blocks)) is done.output.answer in
       let small : room < thin_need pool room = subst (λ (n : ℕ). room < n) answer.0 answer.1.1 in
       let same = of_ending (λ ending. IsEarly ending → IsUntouched writable last) result (Err (fault.NoRoom need blocks)) is done.output.early tt in
       finished (report_of []) (none_right (fault_answer (fault.NoRoom need blocks) is)) 4 (no_room_line need blocks) (lit≤ tt) refl
@@ -352,11 +352,11 @@ module _ (from to : List ℕ) (others : Objects) (notes : SinkState) (input open
       (alone same (report_in input.held) 5 (λ e. omega arith)) (alone same (report_in input.held) 6 (λ e. omega arith))
 
   -- whatever its result
-  abbrev Ends : Result (Unit {0}) RepairFault → Type 0
-  Ends r = MatchResult (repair_ended r) (λ ending. IsFinished (repair from to) before after (ending_status ending) (ending_line ending)) (IsStopped (repair from to) before after)
+  abbrev RepairEnds : Result (Unit {0}) RepairFault → Type 0
+  RepairEnds r = MatchResult (repair_ended r) (λ ending. IsFinished (repair from to) before after (ending_status ending) (ending_line ending)) (IsStopped (repair from to) before after)
 
   ends_by : (r : Result (Unit {0}) RepairFault) → result ≡ r → output.faults ≡ 0 → IfErr r NamesRules
-      → CountsRepair r opened.faults last_input.faults writable.faults last.faults → Ends r
+      → CountsRepair r opened.faults last_input.faults writable.faults last.faults → RepairEnds r
   ends_by (Ok answer) is fresh named counts = repair_made is
   ends_by (Err fault.Memory) is fresh named counts = repair_memory is
   ends_by (Err fault.Input) is fresh named counts = repair_input is counts.0.0
@@ -364,5 +364,5 @@ module _ (from to : List ℕ) (others : Objects) (notes : SinkState) (input open
   ends_by (Err (fault.NoSuper rules)) is fresh named counts = repair_faulty rules is named (report_of (faults_at 0 (has_rule rules))) refl
   ends_by (Err (fault.NoRoom need blocks)) is fresh named counts = repair_no_room need blocks is
 
-  pub repair_ends : output.faults ≡ 0 → IfErr result NamesRules → CountsRepair result opened.faults last_input.faults writable.faults last.faults → Ends result
+  pub repair_ends : output.faults ≡ 0 → IfErr result NamesRules → CountsRepair result opened.faults last_input.faults writable.faults last.faults → RepairEnds result
   repair_ends = ends_by result refl

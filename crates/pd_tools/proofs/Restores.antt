@@ -30,7 +30,7 @@ use Rattle.pd_spells.specs.Early.{is_pool_early, is_cache_early, is_era_early}
 use Rattle.pd_laid.specs.Made.{Makes}
 use Rattle.pd_restoring.specs.declared.fault.RestoreFault.{RestoreFault}
 use Rattle.pd_restoring.specs.declared.fault.RestoreFault.TheVariants as fault
-use Rattle.pd_restoring.specs.Restored.{CountsRestore, IsRestored, Answers, IsAccepted, IsOfFirstLines, IsOfOthers, IsRefused, IsWithoutRoom}
+use Rattle.pd_restoring.specs.Restored.{CountsRestore, IsRestored, AnswersVerdict, IsAccepted, IsOfFirstLines, IsOfOthers, IsRefused, IsWithoutRoom}
 use Rattle.pd_tools.specs.declared.ending.Ending.TheVariants.{Refused, NoRoom}
 use Rattle.pd_texts.specs.declared.fault.TextFault.{TextFault}
 use Rattle.pd_tools.proofs.Answered.{not_risen, stop_status-low}
@@ -312,7 +312,7 @@ module _ {M : Type 0} (Lawful : M → Type 0) (IsVerdictOn : List ℕ → ℕ �
   made : result ≡ Ok tt → IsFinished (restore_by IsVerdictOn is_early laid file path) (record others { source = source; output = output })
       (record others { source = last_source; notes = notes; output = last_output }) 0 []
   made is =
-      finished 0 [] (lit≤ tt) refl (answer_accepted Lawful done.verdict (subst (λ (r : Result (Unit {0}) RestoreFault). Answers Lawful r done.verdict) is done.answer))
+      finished 0 [] (lit≤ tt) refl (answer_accepted Lawful done.verdict (subst (λ (r : Result (Unit {0}) RestoreFault). AnswersVerdict Lawful r done.verdict) is done.answer))
       (λ _. rw is tt) (leaves 0 (λ _. rw is tt) (λ either. absurd (elim either [ inl e ↦ omega arith | inr e ↦ omega arith ]))
       (λ some. absurd (some refl)) (λ e. absurd (omega arith)))
 
@@ -320,7 +320,7 @@ module _ {M : Type 0} (Lawful : M → Type 0) (IsVerdictOn : List ℕ → ℕ �
       → IsFinished (restore_by IsVerdictOn is_early laid file path) (record others { source = source; output = output })
       (record others { source = last_source; notes = notes; output = last_output }) (ending_status (Refused why)) (ending_line (Refused why))
   refuses why is =
-      let answer : IsRefused why done.verdict = subst (λ (r : Result (Unit {0}) RestoreFault). Answers Lawful r done.verdict) is done.answer in
+      let answer : IsRefused why done.verdict = subst (λ (r : Result (Unit {0}) RestoreFault). AnswersVerdict Lawful r done.verdict) is done.answer in
       let held = spared (fault.Text why) is tt in
       finished 3 _ (lit≤ tt) refl (answer_refused why done.verdict answer)
       (λ zero. absurd (omega arith)) (leaves 3 (λ zero. absurd (omega arith)) (λ _. held) (λ _ _. held)
@@ -331,7 +331,7 @@ module _ {M : Type 0} (Lawful : M → Type 0) (IsVerdictOn : List ℕ → ℕ �
       (record others { source = last_source; notes = notes; output = last_output }) (ending_status (NoRoom need blocks)) (ending_line (NoRoom need blocks))
   lacks_room need blocks is =
       let held = spared (fault.NoRoom need blocks) is tt in
-      finished 4 _ (lit≤ tt) refl (answer_no_room need blocks done.verdict (subst (λ (r : Result (Unit {0}) RestoreFault). Answers Lawful r done.verdict) is done.answer))
+      finished 4 _ (lit≤ tt) refl (answer_no_room need blocks done.verdict (subst (λ (r : Result (Unit {0}) RestoreFault). AnswersVerdict Lawful r done.verdict) is done.answer))
       (λ zero. absurd (omega arith)) (leaves 4 (λ zero. absurd (omega arith)) (λ _. held) (λ _ _. held) (λ e. absurd (omega arith)))
 
   stopped : (stop : Stop) → HasCause (restore_by IsVerdictOn is_early laid file path) (record others { source = source; output = output })
@@ -382,12 +382,12 @@ module _ {M : Type 0} (Lawful : M → Type 0) (IsVerdictOn : List ℕ → ℕ �
       stopped Device (inr (inl risen)) (λ same. absurd (not_risen output.faults last_output.faults fresh same risen))
 
   -- whatever its result
-  abbrev Ends : Result (Unit {0}) RestoreFault → Type 0
-  Ends r = MatchResult (restore_ended r) (λ ending. IsFinished (restore_by IsVerdictOn is_early laid file path) (record others { source = source; output = output })
+  abbrev RestoreEnds : Result (Unit {0}) RestoreFault → Type 0
+  RestoreEnds r = MatchResult (restore_ended r) (λ ending. IsFinished (restore_by IsVerdictOn is_early laid file path) (record others { source = source; output = output })
       (record others { source = last_source; notes = notes; output = last_output }) (ending_status ending) (ending_line ending)) Stops
 
   ends_by : (r : Result (Unit {0}) RestoreFault) → result ≡ r → output.faults ≡ 0
-      → CountsRestore r attached.faults last_source.faults opened.faults last_output.faults → Ends r
+      → CountsRestore r attached.faults last_source.faults opened.faults last_output.faults → RestoreEnds r
   ends_by (Ok answer) is fresh counts = made is
   ends_by (Err fault.Memory) is fresh counts = of_memory is
   ends_by (Err fault.Source) is fresh counts = of_source is counts.0.0
@@ -395,7 +395,7 @@ module _ {M : Type 0} (Lawful : M → Type 0) (IsVerdictOn : List ℕ → ℕ �
   ends_by (Err (fault.Text why)) is fresh counts = refuses why is
   ends_by (Err (fault.NoRoom need blocks)) is fresh counts = lacks_room need blocks is
 
-  pub ends : output.faults ≡ 0 → CountsRestore result attached.faults last_source.faults opened.faults last_output.faults → Ends result
+  pub ends : output.faults ≡ 0 → CountsRestore result attached.faults last_source.faults opened.faults last_output.faults → RestoreEnds result
   ends = ends_by result refl
 
 -- the same for each kind

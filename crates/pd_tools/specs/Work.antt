@@ -61,6 +61,6 @@ pub record IsStopped (terms : Terms) (before after : Objects) (stop : Stop) : Ty
   pub lost : terms.leaves finding before after 6
 
 -- a request with these terms was answered, once `notes` was attached
-abbrev pub Answers : Terms → SinkState → Objects → Objects → ℕ → Type 0
-Answers terms attached before after status =
+abbrev pub AnswersTerms : Terms → SinkState → Objects → Objects → ℕ → Type 0
+AnswersTerms terms attached before after status =
     AreFresh before → IsAttachedNotes before.notes attached → IsAnswered terms before after status

@@ -11,7 +11,7 @@ ghost use Rattle.pd_answers.specs.Answer.{Objects, IsUsed, reading};
 ghost use Rattle.pd_answers.specs.Promises.{check};
 ghost use Rattle.pd_check.specs.Check.{ReadsFew};
 ghost use Rattle.pd_tools.specs.Read.{IsUnread};
-ghost use Rattle.pd_tools.specs.Work.{IsFinished, IsStopped, Answers};
+ghost use Rattle.pd_tools.specs.Work.{IsFinished, IsStopped, AnswersTerms};
 
 use crate::stop::Stop;
 use pd_cache::check_cache;
@@ -35,7 +35,7 @@ pub fn run_check<K: Sink, E: Sink, A: Device>(
     requires out { (K.state out.old).access ≡ 0 }
     requires notes { (E.state notes.old).access ≡ 1 }
     requires input { (A.state input.old).access ≡ 0 }
-    ensures { (others : Objects) → Answers (check kind until image.now) (E.state notes.old)
+    ensures { (others : Objects) → AnswersTerms (check kind until image.now) (E.state notes.old)
         (record others { out = K.state out.old; input = A.state input.old })
         (record others { out = K.state out.new; notes = E.state notes.new; input = A.state input.new }) result }
 {

@@ -14,7 +14,7 @@ ghost use Rattle.pd_answers.specs.Promises.{check_and_clear, terms_of};
 ghost use Rattle.pd_answers.specs.Requests.{check as asked_check};
 ghost use Rattle.pd_check.specs.Check.{ReadsFew};
 ghost use Rattle.pd_tools.specs.Read.{IsUnread};
-ghost use Rattle.pd_tools.specs.Work.{IsFinished, IsStopped, Answers};
+ghost use Rattle.pd_tools.specs.Work.{IsFinished, IsStopped, AnswersTerms};
 
 use crate::check::{check_attached, put_report, run_check};
 use crate::stop::Stop;
@@ -38,7 +38,7 @@ pub fn run_any_check<K: Sink, E: Sink, A: Device>(
     requires out { (K.state out.old).access ≡ 0 }
     requires notes { (E.state notes.old).access ≡ 1 }
     requires input { (A.state input.old).access ≡ 0 }
-    ensures { (others : Objects) → Answers (terms_of (Some (asked_check kind until clear image.now))) (E.state notes.old)
+    ensures { (others : Objects) → AnswersTerms (terms_of (Some (asked_check kind until clear image.now))) (E.state notes.old)
         (record others { out = K.state out.old; input = A.state input.old })
         (record others { out = K.state out.new; notes = E.state notes.new; input = A.state input.new }) result }
 {
@@ -61,7 +61,7 @@ fn run_clearing_check<K: Sink, E: Sink, A: Device>(
     requires out { (K.state out.old).access ≡ 0 }
     requires notes { (E.state notes.old).access ≡ 1 }
     requires input { (A.state input.old).access ≡ 0 }
-    ensures { (others : Objects) → Answers (check_and_clear image.now) (E.state notes.old)
+    ensures { (others : Objects) → AnswersTerms (check_and_clear image.now) (E.state notes.old)
         (record others { out = K.state out.old; input = A.state input.old })
         (record others { out = K.state out.new; notes = E.state notes.new; input = A.state input.new }) result }
 {

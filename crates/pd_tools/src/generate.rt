@@ -6,7 +6,7 @@ ghost use Rattle.pd_kinds.specs.Objects.{CountsFault, Appends, AppendsFront};
 ghost use Rattle.pd_answers.specs.Answer.{Objects, IsUsed, reading};
 ghost use Rattle.pd_answers.specs.Generated.{generated_text};
 ghost use Rattle.pd_answers.specs.Promises.{generate};
-ghost use Rattle.pd_tools.specs.Work.{Answers};
+ghost use Rattle.pd_tools.specs.Work.{AnswersTerms};
 
 use crate::stop::Stop;
 use pd_gen::put_generated;
@@ -21,7 +21,7 @@ pub fn run_generate<K: Sink, E: Sink>(
 ) -> u8
     requires out { (K.state out.old).access ≡ 0 }
     requires notes { (E.state notes.old).access ≡ 1 }
-    ensures { (others : Objects) → Answers (generate number (option_copied file.entry)) (E.state notes.old)
+    ensures { (others : Objects) → AnswersTerms (generate number (option_copied file.entry)) (E.state notes.old)
         (record others { out = K.state out.old })
         (record others { out = K.state out.new; notes = E.state notes.new }) result }
 {

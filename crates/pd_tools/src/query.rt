@@ -9,7 +9,7 @@ ghost use Rattle.pd_answers.specs.Answer.{Objects, IsUsed, reading};
 ghost use Rattle.pd_query.specs.Puts.{PutsAnswer};
 ghost use Rattle.pd_tools.specs.Notes.{PutsLine};
 ghost use Rattle.pd_tools.specs.Query.{IsUnput, kind_of, query_line, query_status, stop_as, terms_of_query, text_of};
-ghost use Rattle.pd_tools.specs.Work.{IsFinished, IsStopped, Answers};
+ghost use Rattle.pd_tools.specs.Work.{IsFinished, IsStopped, AnswersTerms};
 
 use crate::check::read_report;
 use crate::stop::Stop;
@@ -48,7 +48,7 @@ pub fn run_query<K: Sink, E: Sink, A: Device>(
     requires out { (K.state out.old).access ≡ 0 }
     requires notes { (E.state notes.old).access ≡ 1 }
     requires input { (A.state input.old).access ≡ 0 }
-    ensures { (others : Objects) → Answers (terms_of_query asked (option_copied file.entry) image.now) (E.state notes.old)
+    ensures { (others : Objects) → AnswersTerms (terms_of_query asked (option_copied file.entry) image.now) (E.state notes.old)
         (record others { out = K.state out.old; input = A.state input.old })
         (record others { out = K.state out.new; notes = E.state notes.new; input = A.state input.new }) result }
 {

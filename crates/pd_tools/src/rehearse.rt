@@ -6,7 +6,7 @@ ghost use Rattle.pd_answers.specs.Answer.{Objects, IsUsed, reading};
 ghost use Rattle.pd_answers.specs.Rehearsals.{rehearse};
 ghost use Rattle.pd_tools.specs.Ending.{ending_line, ending_status, rehearsal_ended};
 ghost use Rattle.pd_tools.specs.Rehearse.{line_of};
-ghost use Rattle.pd_tools.specs.Work.{IsFinished, IsStopped, Answers};
+ghost use Rattle.pd_tools.specs.Work.{IsFinished, IsStopped, AnswersTerms};
 
 use crate::ending::{Ending, put_ending};
 use crate::stop::Stop;
@@ -29,7 +29,7 @@ pub fn run_rehearse<K: Sink, E: Sink, B: Device>(
     requires out { (K.state out.old).access ≡ 0 }
     requires notes { (E.state notes.old).access ≡ 1 }
     requires output { (B.state output.old).access ≡ 0 }
-    ensures { (others : Objects) → Answers (rehearse number image.now) (E.state notes.old)
+    ensures { (others : Objects) → AnswersTerms (rehearse number image.now) (E.state notes.old)
         (record others { out = K.state out.old; output = B.state output.old })
         (record others { out = K.state out.new; notes = E.state notes.new; output = B.state output.new }) result }
 {

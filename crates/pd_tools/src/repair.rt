@@ -11,7 +11,7 @@ ghost use Rattle.pd_answers.specs.Answer.{Objects};
 ghost use Rattle.pd_answers.specs.Repairs.{repair};
 ghost use Rattle.pd_tools.specs.Ending.{ending_line, ending_status, repair_ended};
 ghost use Rattle.pd_tools.specs.Repair.{AreOpened, AreUnopened};
-ghost use Rattle.pd_tools.specs.Work.{IsFinished, IsStopped, Answers};
+ghost use Rattle.pd_tools.specs.Work.{IsFinished, IsStopped, AnswersTerms};
 
 use crate::ending::{Ending, put_ending};
 use crate::stop::Stop;
@@ -33,7 +33,7 @@ pub fn run_repair<E: Sink, A: Device, B: Device>(
     requires notes { (E.state notes.old).access ≡ 1 }
     requires input { (A.state input.old).access ≡ 0 }
     requires output { (B.state output.old).access ≡ 0 }
-    ensures { (others : Objects) → Answers (repair from.now to.now) (E.state notes.old)
+    ensures { (others : Objects) → AnswersTerms (repair from.now to.now) (E.state notes.old)
         (record others { input = A.state input.old; output = B.state output.old })
         (record others { notes = E.state notes.new; input = A.state input.new; output = B.state output.new }) result }
 {

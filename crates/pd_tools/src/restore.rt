@@ -12,7 +12,7 @@ ghost use Rattle.pd_restoring.specs.Restored.{CountsRestore};
 ghost use Rattle.pd_words.specs.Words.{IsVersion};
 ghost use Rattle.pd_tools.specs.Ending.{ending_line, ending_status, restore_ended};
 ghost use Rattle.pd_tools.specs.Restore.{AreAttached, AreUnattached, IsRestoredAs, TextsHaveVerdicts};
-ghost use Rattle.pd_tools.specs.Work.{IsFinished, IsStopped, Answers};
+ghost use Rattle.pd_tools.specs.Work.{IsFinished, IsStopped, AnswersTerms};
 
 use crate::ending::{Ending, put_ending};
 use crate::stop::Stop;
@@ -40,7 +40,7 @@ pub fn run_restore<S: Source, E: Sink, B: Device>(
     requires source { (S.state source.old).access ≡ 0 }
     requires notes { (E.state notes.old).access ≡ 1 }
     requires output { (B.state output.old).access ≡ 0 }
-    ensures { (others : Objects) → Answers (restore kind version text.now image.now) (E.state notes.old)
+    ensures { (others : Objects) → AnswersTerms (restore kind version text.now image.now) (E.state notes.old)
         (record others { source = S.state source.old; output = B.state output.old })
         (record others { source = S.state source.new; notes = E.state notes.new; output = B.state output.new }) result }
 {

@@ -8,7 +8,7 @@ ghost use Rattle.pd_answers.specs.Terms.{IsAnswered};
 ghost use Rattle.pd_answers.specs.Promises.{terms_of};
 ghost use Rattle.std.specs.Option.{option_copied};
 ghost use Rattle.pd_words.specs.Words.{AreNames, IsNameIfAny, request_as, words_of};
-ghost use Rattle.pd_tools.specs.Work.{Answers};
+ghost use Rattle.pd_tools.specs.Work.{AnswersTerms};
 
 use crate::clear::run_any_check;
 use crate::generate::run_generate;
@@ -81,7 +81,7 @@ fn run_request<S: Source, K: Sink, E: Sink, A: Device, B: Device>(
     requires notes { (E.state notes.old).access ≡ 1 }
     requires input { (A.state input.old).access ≡ 0 }
     requires output { (B.state output.old).access ≡ 0 }
-    ensures { (others : Objects) → Answers (terms_of (Some (request_as (map string_bytes words.now) request))) (E.state notes.old)
+    ensures { (others : Objects) → AnswersTerms (terms_of (Some (request_as (map string_bytes words.now) request))) (E.state notes.old)
         (record others { source = S.state source.old; out = K.state out.old; input = A.state input.old; output = B.state output.old })
         (record others { source = S.state source.new; out = K.state out.new; notes = E.state notes.new; input = A.state input.new; output = B.state output.new }) result }
 {

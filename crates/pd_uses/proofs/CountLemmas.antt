@@ -11,9 +11,9 @@ use Rattle.pd_kinds.specs.Meaning.{Mapping, ThinDevice, ThinPool}
 use Rattle.pd_answers.specs.QueryLines.{exclusive_number, is_exclusive, mapped_blocks}
 use Rattle.pd_count.specs.Counted.{Counted, CountsOneMore, count_of}
 use Rattle.pd_laws.proofs.AllLemmas.{all_from, all_mapped}
-use Rattle.pd_pool.specs.declared.devices.DeviceRow.{DeviceRow}
-use Rattle.pd_pool.specs.Given.{device_of}
-use Rattle.pd_pool.specs.Runs.{mappings_below}
+use Rattle.pd_thin_meaning.specs.declared.devices.DeviceRow.{DeviceRow}
+use Rattle.pd_thin_meaning.specs.Given.{device_of}
+use Rattle.pd_thin_meaning.specs.Runs.{mappings_below}
 use Rattle.pd_uses.specs.declared.data_use.DataUse.{DataUse}
 use Rattle.pd_uses.specs.Ordered.{uses_of_block}
 use Rattle.pd_uses.specs.UseCounts.{CountsUses, HasCountedUses, exclusive_in, is_single, number_of_uses}

@@ -3,7 +3,7 @@ use Rattle.std.proofs.Common.{◌≡◌, ℕ, ◌+◌, ◌<◌, List, [], ◌∷
 use Rattle.std.proofs.lemmas.List.{append-nil, take-append-drop, take_more}
 use Rattle.std.proofs.lemmas.List.Concat.{flat_map-append}
 use Rattle.pd_count.specs.Counted.{Counted}
-use Rattle.pd_pool.specs.declared.devices.DeviceRow.{DeviceRow}
+use Rattle.pd_thin_meaning.specs.declared.devices.DeviceRow.{DeviceRow}
 use Rattle.pd_lines.specs.Printing.{Begun, Printed, Printing, Prints}
 use Rattle.pd_lines.proofs.Printing.{begun_after, begun_first}
 use Rattle.pd_query.specs.Puts.{PrintsSome}

@@ -11,9 +11,9 @@ use Rattle.pd_kinds.specs.ThinSuper.{thin_fields}
 use Rattle.pd_answers.specs.QueryLines.{device_of_list, exclusive_number, list_lines, mapping_line, mapping_lines, rmap_lines}
 use Rattle.pd_count.specs.Counted.{Counted}
 use Rattle.pd_laws.proofs.AllLemmas.{all_from_two}
-use Rattle.pd_pool.specs.declared.devices.DeviceRow.{DeviceRow}
-use Rattle.pd_pool.specs.Given.{GivesPool, device_of, pool_rows, super_rows}
-use Rattle.pd_pool.specs.Runs.{mappings_below}
+use Rattle.pd_thin_meaning.specs.declared.devices.DeviceRow.{DeviceRow}
+use Rattle.pd_thin_meaning.specs.Given.{GivesPool, device_of, pool_rows, super_rows}
+use Rattle.pd_thin_meaning.specs.Runs.{mappings_below}
 use Rattle.pd_uses.specs.declared.data_use.DataUse.{DataUse}
 use Rattle.pd_uses.specs.Ordered.{ordered_uses, uses_of_block}
 use Rattle.pd_uses.specs.UseCounts.{CountsUses}

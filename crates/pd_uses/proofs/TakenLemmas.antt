@@ -3,12 +3,12 @@ use Rattle.std.proofs.Common.{◌≡◌, ℕ, List, [], ◌∷◌, ◌++◌, Opt
 use Rattle.std.proofs.lemmas.List.{append-nil}
 use Rattle.pd_value.specs.declared.thin.BlockTime.{BlockTime}
 use Rattle.pd_tree.proofs.NextLemmas.{items_outside}
-use Rattle.pd_pool.specs.declared.devices.DeviceRow.{DeviceRow}
-use Rattle.pd_pool.specs.Items.{block_time_of}
-use Rattle.pd_pool.specs.Joined.{mapping_of}
+use Rattle.pd_thin_meaning.specs.declared.devices.DeviceRow.{DeviceRow}
+use Rattle.pd_thin_meaning.specs.Items.{block_time_of}
+use Rattle.pd_thin_meaning.specs.Joined.{mapping_of}
 use Rattle.pd_query.proofs.PutsLemmas.{each_told, two_told}
 use Rattle.pd_uses.specs.declared.data_use.DataUse.{DataUse}
-use Rattle.pd_uses.specs.Taken.{Takes}
+use Rattle.pd_uses.specs.Taken.{TakesUses}
 use Rattle.pd_uses.specs.Uses.{row_uses, rows_uses, use_by}
 
 -- so far some uses were taken, which with the rest are the whole where the device tells what it holds
@@ -29,7 +29,7 @@ module _ {T : Type 0} (has_taken : T → List DataUse → T → Type 0) (held : 
   -- some uses more
   pub takes_more : {whole rest uses_of later : List (List ℕ) → List DataUse} {old mid new : T}
       → TakesSoFar has_taken held whole rest old mid → IfSome held (λ image. rest image ≡ uses_of image ++ later image)
-      → Takes has_taken held uses_of mid new → TakesSoFar has_taken held whole later old new
+      → TakesUses has_taken held uses_of mid new → TakesSoFar has_taken held whole later old new
   takes_more {whole} {rest} {uses_of} {later} so_far cut some = record {
     uses = so_far.uses ++ some.uses;
     told =
@@ -40,12 +40,12 @@ module _ {T : Type 0} (has_taken : T → List DataUse → T → Type 0) (held : 
 
   -- one use
   pub takes_one : (one : DataUse) {old new : T} → ((start : T) (before : List DataUse) → has_taken start before old → has_taken start (before ++ (one ∷ [])) new)
-      → Takes has_taken held (λ image. one ∷ []) old new
+      → TakesUses has_taken held (λ image. one ∷ []) old new
   takes_one one taken = record { uses = one ∷ []; told = each_told held (λ image. refl); taken = taken }
 
   -- nothing is left
   pub takes_all : {whole rest : List (List ℕ) → List DataUse} {old new : T} → TakesSoFar has_taken held whole rest old new → IfSome held (λ image. rest image ≡ [])
-      → Takes has_taken held whole old new
+      → TakesUses has_taken held whole old new
   takes_all so_far none = record {
     uses = so_far.uses;
     told = two_told held (λ image is nothing. sym (is ∙ (rw nothing (append-nil so_far.uses)))) so_far.told none;

@@ -1,7 +1,7 @@
 -- How often data blocks are used, and by one mapping alone.
 use Rattle.std.specs.Prelude.{◌≡◌, ℕ, ◌+◌, ◌-◌, ◌<◌, ◌^◌, min, Bool, ◌==◌, ◌&&◌, nat_lt, List, length, filter}
 use Rattle.pd_count.specs.Counted.{Counted, count_of}
-use Rattle.pd_pool.specs.declared.devices.DeviceRow.{DeviceRow}
+use Rattle.pd_thin_meaning.specs.declared.devices.DeviceRow.{DeviceRow}
 use Rattle.pd_uses.specs.declared.data_use.DataUse.{DataUse}
 use Rattle.pd_uses.specs.Ordered.{uses_of_block}
 use Rattle.pd_uses.specs.Uses.{row_uses}

@@ -9,7 +9,7 @@ use Rattle.pd_kinds.specs.Meaning.{ThinPool, thin_meaning}
 use Rattle.pd_kinds.specs.Stages.{faults}
 use Rattle.pd_kinds.specs.ThinSuper.{thin_fields}
 use Rattle.pd_count.specs.Counted.{Counted}
-use Rattle.pd_pool.specs.declared.devices.DeviceRow.{DeviceRow}
+use Rattle.pd_thin_meaning.specs.declared.devices.DeviceRow.{DeviceRow}
 use Rattle.pd_query.specs.declared.fault.QueryFault.{QueryFault}
 use Rattle.pd_query.specs.Puts.{Puts}
 use Rattle.pd_uses.specs.declared.data_use.DataUse.{DataUse}

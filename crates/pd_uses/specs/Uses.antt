@@ -6,11 +6,11 @@ use Rattle.pd_kinds.specs.Meaning.{Mapping}
 use Rattle.pd_value.specs.declared.thin.BlockTime.{BlockTime}
 use Rattle.pd_tree.specs.declared.cursor.Cursor.{Cursor}
 use Rattle.pd_tree.specs.Cursor.{cursor_items}
-use Rattle.pd_pool.specs.declared.devices.DeviceRow.{DeviceRow}
-use Rattle.pd_pool.specs.Given.{super_rows}
-use Rattle.pd_pool.specs.Items.{block_time_of}
-use Rattle.pd_pool.specs.Joined.{mapping_of}
-use Rattle.pd_pool.specs.Runs.{mappings_below}
+use Rattle.pd_thin_meaning.specs.declared.devices.DeviceRow.{DeviceRow}
+use Rattle.pd_thin_meaning.specs.Given.{super_rows}
+use Rattle.pd_thin_meaning.specs.Items.{block_time_of}
+use Rattle.pd_thin_meaning.specs.Joined.{mapping_of}
+use Rattle.pd_thin_meaning.specs.Runs.{mappings_below}
 use Rattle.pd_uses.specs.declared.data_use.DataUse.{DataUse}
 
 -- the use that a mapping of a device is

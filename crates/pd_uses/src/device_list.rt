@@ -6,10 +6,10 @@ ghost use Rattle.pd_image.specs.Sink.{KeepsSink};
 ghost use Rattle.pd_lines.specs.Printer.{printing};
 ghost use Rattle.pd_lines.specs.Printing.{Prints};
 ghost use Rattle.pd_answers.specs.QueryLines.{list_lines};
-ghost use Rattle.pd_pool.specs.Devices.{rows_left, rows_room};
-ghost use Rattle.pd_pool.specs.Given.{super_rows};
+ghost use Rattle.pd_thin_meaning.specs.Devices.{rows_left, rows_room};
+ghost use Rattle.pd_thin_meaning.specs.Given.{super_rows};
 ghost use Rattle.pd_query.specs.Puts.{PrintsSome, PutsText};
-ghost use Rattle.pd_query.specs.Failing.{Ends, SinkFails};
+ghost use Rattle.pd_query.specs.Failing.{QueryEnds, SinkFails};
 ghost use Rattle.pd_uses.specs.UseLines.{PutsLines, blocks_part, details_part, device_line, listed_row, listed_rows};
 
 use crate::counting::{count_uses, exclusive_blocks};
@@ -19,8 +19,8 @@ use pd_count::Counts;
 use pd_image::{Device, Sink};
 use pd_kinds::ThinSuper;
 use pd_lines::{LineBuffer, Printer};
-use pd_pool::{DeviceRow, ThinDevices, rows_are_the_devices};
 use pd_query::{Query, QueryFault, devices_of, print_line};
+use pd_thin_meaning::{DeviceRow, ThinDevices, rows_are_the_devices};
 use pd_tree::Cursor;
 use pd_value::BlockTime;
 use std::alloc::Global;
@@ -42,7 +42,7 @@ pub fn list_devices<D: Device, K: Sink>(
     ensures lines { PutsLines list_lines s.now result (D.state dev.old).held (K.state out.old).written (K.state out.new).written }
     ensures kept { OnlyReads (D.state dev.old) (D.state dev.new) }
     ensures sink { KeepsSink (K.state out.old) (K.state out.new) }
-    ensures faults { Ends result (D.state dev.old).faults (D.state dev.new).faults (K.state out.old).faults (K.state out.new).faults }
+    ensures faults { QueryEnds result (D.state dev.old).faults (D.state dev.new).faults (K.state out.old).faults (K.state out.new).faults }
 {
     rows_are_the_devices();
     let counts = match count_uses(alloc, dev, s) {
@@ -65,7 +65,7 @@ fn put_devices<D: Device, K: Sink>(
     ensures text { PutsText (D.state dev.old).held (λ image. listed_rows image counts.now (super_rows image s.now)) result (K.state out.old).written (K.state out.new).written }
     ensures kept { OnlyReads (D.state dev.old) (D.state dev.new) }
     ensures sink { KeepsSink (K.state out.old) (K.state out.new) }
-    ensures faults { Ends result (D.state dev.old).faults (D.state dev.new).faults (K.state out.old).faults (K.state out.new).faults }
+    ensures faults { QueryEnds result (D.state dev.old).faults (D.state dev.new).faults (K.state out.old).faults (K.state out.new).faults }
 {
     let mut printer = Printer::over(out);
     add_devices(alloc, s, counts, dev, &mut printer)?;
@@ -88,7 +88,7 @@ fn add_devices<D: Device, K: Sink>(
     ensures same_reference { printer.new.out.ghost_name ≡ printer.old.out.ghost_name }
     ensures prints { PrintsSome (D.state dev.old).held (λ image. listed_rows image counts.now (super_rows image s.now)) result (printing K.state printer.old) (printing K.state printer.new) }
     ensures kept { OnlyReads (D.state dev.old) (D.state dev.new) }
-    ensures faults { Ends result (D.state dev.old).faults (D.state dev.new).faults (K.state printer.old.out.now).faults (K.state printer.new.out.now).faults }
+    ensures faults { QueryEnds result (D.state dev.old).faults (D.state dev.new).faults (K.state printer.old.out.now).faults (K.state printer.new.out.now).faults }
 {
     let mut mappings = match Cursor::start(alloc, s.mapping_root) {
         Ok(mappings) => mappings,
@@ -118,7 +118,7 @@ fn add_rows<D: Device, K: Sink>(
     ensures same_reference { printer.new.out.ghost_name ≡ printer.old.out.ghost_name }
     ensures prints { PrintsSome (D.state dev.old).held (λ image. listed_rows image counts.now (rows_left image devices.old)) result (printing K.state printer.old) (printing K.state printer.new) }
     ensures kept { OnlyReads (D.state dev.old) (D.state dev.new) }
-    ensures faults { Ends result (D.state dev.old).faults (D.state dev.new).faults (K.state printer.old.out.now).faults (K.state printer.new.out.now).faults }
+    ensures faults { QueryEnds result (D.state dev.old).faults (D.state dev.new).faults (K.state printer.old.out.now).faults (K.state printer.new.out.now).faults }
 {
     loop {
         let row = match devices.next(dev) {
@@ -145,7 +145,7 @@ fn add_row<D: Device, K: Sink>(
     ensures same_reference { printer.new.out.ghost_name ≡ printer.old.out.ghost_name }
     ensures prints { PrintsSome (D.state dev.old).held (λ image. listed_row image counts.now row.now) result (printing K.state printer.old) (printing K.state printer.new) }
     ensures kept { OnlyReads (D.state dev.old) (D.state dev.new) }
-    ensures faults { Ends result (D.state dev.old).faults (D.state dev.new).faults (K.state printer.old.out.now).faults (K.state printer.new.out.now).faults }
+    ensures faults { QueryEnds result (D.state dev.old).faults (D.state dev.new).faults (K.state printer.old.out.now).faults (K.state printer.new.out.now).faults }
 {
     let exclusive = match exclusive_blocks(row, counts, mappings, dev) {
         Ok(exclusive) => exclusive,

@@ -7,7 +7,7 @@ ghost use Rattle.pd_image.specs.Sink.{KeepsSink};
 ghost use Rattle.pd_lines.specs.Printer.{printing};
 ghost use Rattle.pd_lines.specs.Printing.{Prints};
 ghost use Rattle.pd_answers.specs.QueryLines.{rmap_lines};
-ghost use Rattle.pd_query.specs.Failing.{Ends, SinkFails};
+ghost use Rattle.pd_query.specs.Failing.{QueryEnds, SinkFails};
 ghost use Rattle.pd_uses.specs.UseLines.{PutsLines, use_line, uses_text};
 
 use crate::data_use::DataUse;
@@ -17,8 +17,8 @@ use crate::walk::super_to_ask;
 use pd_image::{Device, Sink};
 use pd_kinds::ThinSuper;
 use pd_lines::{LineBuffer, Printer};
-use pd_pool::rows_are_the_devices;
 use pd_query::{Query, QueryFault, print_line};
+use pd_thin_meaning::rows_are_the_devices;
 use std::alloc::Global;
 
 /// Puts a line for each mapping to a data block from `first` on and below `end`, of the pool with this superblock:
@@ -40,7 +40,7 @@ pub fn rmap<D: Device, K: Sink>(
     ensures lines { PutsLines (rmap_lines first end) s.now result (D.state dev.old).held (K.state out.old).written (K.state out.new).written }
     ensures kept { OnlyReads (D.state dev.old) (D.state dev.new) }
     ensures sink { KeepsSink (K.state out.old) (K.state out.new) }
-    ensures faults { Ends result (D.state dev.old).faults (D.state dev.new).faults (K.state out.old).faults (K.state out.new).faults }
+    ensures faults { QueryEnds result (D.state dev.old).faults (D.state dev.new).faults (K.state out.old).faults (K.state out.new).faults }
 {
     rows_are_the_devices();
     let uses = match region_uses(alloc, dev, s, first, end) {

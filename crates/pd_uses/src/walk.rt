@@ -6,17 +6,17 @@ ghost use Rattle.pd_kinds.specs.Graph.{block_at};
 ghost use Rattle.pd_kinds.specs.ThinSuper.{thin_fields};
 ghost use Rattle.pd_image.specs.Device.{IsAttached, OnlyReads};
 ghost use Rattle.pd_tree.specs.Cursor.{cursor_room};
-ghost use Rattle.pd_pool.specs.Devices.{rows_left, rows_room};
+ghost use Rattle.pd_thin_meaning.specs.Devices.{rows_left, rows_room};
 ghost use Rattle.pd_query.specs.Failing.{StartFails};
 ghost use Rattle.pd_query.specs.Sound.{IfSound};
-ghost use Rattle.pd_uses.specs.Taken.{Takes};
+ghost use Rattle.pd_uses.specs.Taken.{TakesUses};
 ghost use Rattle.pd_uses.specs.Uses.{row_uses, rows_uses, super_uses, uses_left};
 
 use crate::data_use::{DataUse, TakesUses};
 use pd_image::Device;
 use pd_kinds::ThinSuper;
-use pd_pool::{DeviceRow, ThinDevices, rows_are_the_devices};
 use pd_query::{QueryFault, devices_of, read_super};
+use pd_thin_meaning::{DeviceRow, ThinDevices, rows_are_the_devices};
 use pd_tree::Cursor;
 use pd_value::BlockTime;
 use std::alloc::Global;
@@ -30,7 +30,7 @@ fn take_left<T: TakesUses, D: Device>(
 ) -> Result<(), QueryFault>
     requires dev { IsAttached (D.state dev.old) }
     requires within { cursor_room mappings.old ≤ (D.state dev.old).blocks }
-    ensures taken { OnOk result (Takes T.has_taken (D.state dev.old).held (λ image. uses_left image id mappings.old) taker.old taker.new) }
+    ensures taken { OnOk result (TakesUses T.has_taken (D.state dev.old).held (λ image. uses_left image id mappings.old) taker.old taker.new) }
     ensures kept { OnlyReads (D.state dev.old) (D.state dev.new) }
     ensures faults { StartFails result (D.state dev.old).faults (D.state dev.new).faults }
 {
@@ -61,7 +61,7 @@ pub(crate) fn take_row<T: TakesUses, D: Device>(
     taker: &mut T,
 ) -> Result<(), QueryFault>
     requires dev { IsAttached (D.state dev.old) }
-    ensures taken { OnOk result (Takes T.has_taken (D.state dev.old).held (λ image. row_uses image row.now) taker.old taker.new) }
+    ensures taken { OnOk result (TakesUses T.has_taken (D.state dev.old).held (λ image. row_uses image row.now) taker.old taker.new) }
     ensures kept { OnlyReads (D.state dev.old) (D.state dev.new) }
     ensures faults { StartFails result (D.state dev.old).faults (D.state dev.new).faults }
 {
@@ -82,7 +82,7 @@ fn take_rows<T: TakesUses, D: Device>(
 ) -> Result<(), QueryFault>
     requires dev { IsAttached (D.state dev.old) }
     requires within { rows_room devices.old ≤ (D.state dev.old).blocks }
-    ensures taken { OnOk result (Takes T.has_taken (D.state dev.old).held (λ image. rows_uses image (rows_left image devices.old)) taker.old taker.new) }
+    ensures taken { OnOk result (TakesUses T.has_taken (D.state dev.old).held (λ image. rows_uses image (rows_left image devices.old)) taker.old taker.new) }
     ensures kept { OnlyReads (D.state dev.old) (D.state dev.new) }
     ensures faults { StartFails result (D.state dev.old).faults (D.state dev.new).faults }
 {
@@ -109,7 +109,7 @@ pub(crate) fn take_pool<T: TakesUses, D: Device>(
     taker: &mut T,
 ) -> Result<(), QueryFault>
     requires { IsAttached (D.state dev.old) }
-    ensures taken { OnOk result (Takes T.has_taken (D.state dev.old).held (λ image. super_uses image s.now) taker.old taker.new) }
+    ensures taken { OnOk result (TakesUses T.has_taken (D.state dev.old).held (λ image. super_uses image s.now) taker.old taker.new) }
     ensures kept { OnlyReads (D.state dev.old) (D.state dev.new) }
     ensures faults { StartFails result (D.state dev.old).faults (D.state dev.new).faults }
 {

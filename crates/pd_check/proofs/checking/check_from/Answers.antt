@@ -17,17 +17,17 @@ returns-in-Super-clause-report g c =
 pub returns-in_default-clause-report : goal.returns-in_default-clause-report
 returns-in_default-clause-report g c =
     past_report _ _ _ _ c.requires.first (λ rule. sym (c.super_rules-rules.ensures rule) ∙ c.if-not-is_empty.ensures.0 refl rule) _ c.format.ensures.graph
-    c.args.until c.check_past.result c.in_default.not-Super c.in_default.not-Whole c.in_default.not-Counts c.check_past.ensures.report
+    c.args.until c.check_later_stages.result c.in_default.not-Super c.in_default.not-Whole c.in_default.not-Counts c.check_later_stages.ensures.report
 
 pub returns-in_default-clause-memory : goal.returns-in_default-clause-memory
 returns-in_default-clause-memory g c =
     past_memory _ _ _ _ c.requires.first (λ rule. sym (c.super_rules-rules.ensures rule) ∙ c.if-not-is_empty.ensures.0 refl rule)
-    c.args.until c.check_past.result c.in_default.not-Super
+    c.args.until c.check_later_stages.result c.in_default.not-Super
 
 pub returns-in_default-clause-reads : goal.returns-in_default-clause-reads
 returns-in_default-clause-reads g c =
     past_read _ _ _ _ c.requires.first (λ rule. sym (c.super_rules-rules.ensures rule) ∙ c.if-not-is_empty.ensures.0 refl rule) _ c.format.ensures.graph
-    c.args.until _ _ c.check_past.ensures.reads
+    c.args.until _ _ c.check_later_stages.ensures.reads
 
 pub returns-in-Whole-clause-memory : goal.returns-in-Whole-clause-memory
 returns-in-Whole-clause-memory g c =

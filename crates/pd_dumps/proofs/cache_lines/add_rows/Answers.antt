@@ -1,8 +1,8 @@
 use Rattle.std.proofs.Common.{Some, None, Err, IfSome, ap, ◌∙◌, subst, arith}
 use Rattle.pd_image.proofs.ReadLemmas.{only_reads_both}
 use Rattle.pd_tree.specs.Next.{IsNext}
-use Rattle.pd_cached.specs.declared.beside.CacheRow.{CacheRow}
-use Rattle.pd_cached.specs.Rows.{rows_left}
+use Rattle.pd_cache_meaning.specs.declared.side_arrays.CacheRow.{CacheRow}
+use Rattle.pd_cache_meaning.specs.Rows.{rows_left}
 use Rattle.pd_query.specs.declared.fault.QueryFault.{QueryFault}
 use Rattle.pd_query.specs.declared.fault.QueryFault.TheVariants.{Device}
 use Rattle.pd_query.proofs.PutsLemmas.{lost_with, one_told, prints_known, so_far_all, so_far_lost, so_far_more, so_far_stops}

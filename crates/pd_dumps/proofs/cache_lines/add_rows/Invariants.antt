@@ -1,7 +1,7 @@
 use Rattle.std.proofs.Common.{◌≡◌, ◌≤◌}
 use Rattle.pd_image.specs.Device.{OnlyReads}
 use Rattle.pd_lines.specs.Printer.{printing}
-use Rattle.pd_cached.specs.Rows.{rows_left, rows_number, rows_room}
+use Rattle.pd_cache_meaning.specs.Rows.{rows_left, rows_number, rows_room}
 use Rattle.pd_query.proofs.PutsLemmas.{PrintsSoFar}
 use Rattle.pd_dumps.specs.CacheLines.{rows_text}
 use Rattle.pd_dumps.proofs.cache_lines.add_rows.Given as goal

@@ -1,8 +1,8 @@
 use Rattle.std.proofs.Common.{Err, map, refl}
 use Rattle.pd_spells.specs.ThinText.{device_line, map_line}
-use Rattle.pd_pool.specs.Given.{details_of_row}
-use Rattle.pd_pool.specs.Joined.{spelled}
-use Rattle.pd_pool.specs.Runs.{runs_below}
+use Rattle.pd_thin_meaning.specs.Given.{details_of_row}
+use Rattle.pd_thin_meaning.specs.Joined.{spelled}
+use Rattle.pd_thin_meaning.specs.Runs.{runs_below}
 use Rattle.pd_query.specs.ThinText.{given_text}
 use Rattle.pd_query.proofs.CountLemmas.{counts_after}
 use Rattle.pd_query.proofs.PutsLemmas.{first_lost, lost_with, prints_known, some_then}

@@ -1,14 +1,14 @@
 use Rattle.std.proofs.Common.{Some, None, IfSome, ap, ◌∙◌, subst, arith}
 use Rattle.pd_image.proofs.ReadLemmas.{only_reads_both}
 use Rattle.pd_tree.specs.Next.{IsNext}
-use Rattle.pd_pool.specs.declared.devices.DeviceRow.{DeviceRow}
-use Rattle.pd_pool.specs.Devices.{rows_left}
+use Rattle.pd_thin_meaning.specs.declared.devices.DeviceRow.{DeviceRow}
+use Rattle.pd_thin_meaning.specs.Devices.{rows_left}
 use Rattle.pd_query.specs.ThinText.{rows_text}
 use Rattle.pd_query.specs.declared.fault.QueryFault.TheVariants.{Device}
 use Rattle.pd_query.proofs.PutsLemmas.{lost_with, one_told, so_far_all, so_far_lost, so_far_more, so_far_stops}
 use Rattle.pd_query.proofs.TextLemmas.{row_first}
 use Rattle.std.specs.List.{flat_map}
-use Rattle.pd_pool.specs.Given.{row_lines}
+use Rattle.pd_thin_meaning.specs.Given.{row_lines}
 use Rattle.pd_query.proofs.CountLemmas.{counts_all, counts_more, rows_lines}
 use Rattle.pd_query.proofs.thin_lines.add_devices.Goals as goal
 

@@ -1,10 +1,10 @@
 use Rattle.std.proofs.Common.{◌≡◌, ◌≤◌}
 use Rattle.pd_image.specs.Device.{OnlyReads}
 use Rattle.pd_lines.specs.Printer.{printing}
-use Rattle.pd_pool.specs.Devices.{rows_left, rows_number, rows_room}
+use Rattle.pd_thin_meaning.specs.Devices.{rows_left, rows_number, rows_room}
 use Rattle.pd_query.specs.ThinText.{rows_text}
 use Rattle.std.specs.List.{flat_map}
-use Rattle.pd_pool.specs.Given.{row_lines}
+use Rattle.pd_thin_meaning.specs.Given.{row_lines}
 use Rattle.pd_query.proofs.PutsLemmas.{PrintsSoFar}
 use Rattle.pd_query.proofs.CountLemmas.{CountsSoFar}
 use Rattle.pd_query.proofs.thin_lines.add_devices.Given as goal

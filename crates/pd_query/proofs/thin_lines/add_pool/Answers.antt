@@ -2,7 +2,7 @@ use Rattle.std.proofs.Common.{ℕ, List, Err, refl, ◌∷◌, ◌++◌, []}
 use Rattle.std.specs.List.{flat_map}
 use Rattle.pd_spells.specs.ThinText.{end_line, first_line, pool_line, thin}
 use Rattle.pd_texts.specs.Printed.{text_of_line}
-use Rattle.pd_pool.specs.Given.{row_lines, super_head}
+use Rattle.pd_thin_meaning.specs.Given.{row_lines, super_head}
 use Rattle.pd_query.specs.ThinText.{rest_text, some_rows}
 use Rattle.pd_query.proofs.CountLemmas.{counts_after, counts_before}
 use Rattle.pd_query.proofs.PutsLemmas.{first_lost, lost_with, prints_known, some_then}

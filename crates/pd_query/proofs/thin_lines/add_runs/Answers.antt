@@ -1,8 +1,8 @@
 use Rattle.std.proofs.Common.{Some, None, Err, IfSome, ap, ◌∙◌, subst, arith}
 use Rattle.pd_image.proofs.ReadLemmas.{only_reads_both}
 use Rattle.pd_tree.specs.Next.{IsNext}
-use Rattle.pd_pool.specs.declared.joined.Run.{Run}
-use Rattle.pd_pool.specs.Runs.{runs_left}
+use Rattle.pd_thin_meaning.specs.declared.joined.Run.{Run}
+use Rattle.pd_thin_meaning.specs.Runs.{runs_left}
 use Rattle.pd_query.specs.ThinText.{given_text}
 use Rattle.pd_query.specs.declared.fault.QueryFault.{QueryFault}
 use Rattle.pd_query.specs.declared.fault.QueryFault.TheVariants.{Device}
@@ -10,7 +10,7 @@ use Rattle.pd_query.proofs.PutsLemmas.{lost_with, one_told, prints_known, so_far
 use Rattle.pd_query.proofs.TextLemmas.{run_first}
 use Rattle.std.proofs.Common.{map, ◌∷◌, []}
 use Rattle.pd_spells.specs.ThinText.{map_line}
-use Rattle.pd_pool.specs.Joined.{spelled}
+use Rattle.pd_thin_meaning.specs.Joined.{spelled}
 use Rattle.pd_query.proofs.CountLemmas.{counts_all, counts_line, counts_more, run_lines}
 use Rattle.pd_query.proofs.thin_lines.add_runs.Goals as goal
 

@@ -1,10 +1,10 @@
 use Rattle.std.proofs.Common.{◌≡◌, ◌≤◌, map}
 use Rattle.pd_image.specs.Device.{OnlyReads}
 use Rattle.pd_lines.specs.Printer.{printing}
-use Rattle.pd_pool.specs.Runs.{runs_left, runs_number, runs_room}
+use Rattle.pd_thin_meaning.specs.Runs.{runs_left, runs_number, runs_room}
 use Rattle.pd_query.specs.ThinText.{given_text}
 use Rattle.pd_spells.specs.ThinText.{map_line}
-use Rattle.pd_pool.specs.Joined.{spelled}
+use Rattle.pd_thin_meaning.specs.Joined.{spelled}
 use Rattle.pd_query.proofs.PutsLemmas.{PrintsSoFar}
 use Rattle.pd_query.proofs.CountLemmas.{CountsSoFar}
 use Rattle.pd_query.proofs.thin_lines.add_runs.Given as goal

@@ -5,8 +5,8 @@ use Rattle.pd_query.specs.ThinText.{given_text}
 use Rattle.pd_query.proofs.TextLemmas.{none_outside}
 use Rattle.std.proofs.Common.{map, ap}
 use Rattle.pd_spells.specs.ThinText.{map_line}
-use Rattle.pd_pool.specs.Joined.{spelled}
-use Rattle.pd_pool.specs.Runs.{runs_below}
+use Rattle.pd_thin_meaning.specs.Joined.{spelled}
+use Rattle.pd_thin_meaning.specs.Runs.{runs_below}
 use Rattle.pd_query.proofs.CountLemmas.{counts_nothing}
 use Rattle.pd_query.proofs.TextLemmas.{no_runs_outside}
 use Rattle.pd_query.proofs.thin_lines.add_runs_of.Goals as goal

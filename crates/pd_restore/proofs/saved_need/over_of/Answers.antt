@@ -1,6 +1,6 @@
 use Rattle.std.proofs.Common.{take, ◌∙◌, arith}
-use Rattle.pd_pool.specs.declared.joined.Run.{Run as SavedRun}
-use Rattle.pd_restore.specs.Thrice.{data_of_runs}
+use Rattle.pd_thin_meaning.specs.declared.joined.Run.{Run as SavedRun}
+use Rattle.pd_restore.specs.Overflowing.{data_of_runs}
 use Rattle.pd_restore.proofs.SavedNeedLemmas.{within_at, data_more, over_of_all}
 use Rattle.pd_restore.proofs.saved_need.over_of.Goals as goal
 

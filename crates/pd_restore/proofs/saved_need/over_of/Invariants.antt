@@ -1,5 +1,5 @@
 use Rattle.std.proofs.Common.{◌≡◌, take}
-use Rattle.pd_restore.specs.Thrice.{HasCountedThrice, data_of_runs}
+use Rattle.pd_restore.specs.Overflowing.{HasCountedThrice, data_of_runs}
 use Rattle.pd_restore.proofs.saved_need.over_of.Given as goal
 
 abbrev pub invariant-loop-run : goal.invariant-loop-run

@@ -1,7 +1,7 @@
 use Rattle.std.proofs.Common.{◌≤◌, ℕ, None, Some, IfSome, subst, ◌∙◌, arith}
 use Rattle.std.proofs.lemmas.Option.{IfSome_then}
 use Rattle.pd_value.specs.declared.thin.BlockTime.{BlockTime}
-use Rattle.pd_pool.specs.Items.{block_time_of}
+use Rattle.pd_thin_meaning.specs.Items.{block_time_of}
 use Rattle.pd_image.proofs.ReadLemmas.{only_reads_both}
 use Rattle.pd_tree.specs.Next.{IsNext}
 use Rattle.pd_salvage.specs.Cursor.{saved_least, saved_left}

@@ -1,5 +1,5 @@
 use Rattle.std.proofs.Common.{◌∙◌, arith, sym}
-use Rattle.pd_smap.proofs.AheadLemmas.{if_maps}
+use Rattle.pd_smap.proofs.OverflowLeftLemmas.{if_maps}
 use Rattle.pd_smap.proofs.BitmapLemmas.{outside_bits}
 use Rattle.pd_smap.proofs.bitmaps.read_bitmap.Goals as goal
 

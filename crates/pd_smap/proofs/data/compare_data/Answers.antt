@@ -9,7 +9,7 @@ use Rattle.pd_smap.specs.Entries.{IsOverflow, index_from, index_of, overflow_of,
 use Rattle.pd_smap.specs.Counted.{faults_from}
 use Rattle.pd_smap.specs.Overflow.{stand}
 use Rattle.pd_smap.specs.Steps.{with_nodes}
-use Rattle.pd_smap.proofs.AheadLemmas.{if_maps, if_then}
+use Rattle.pd_smap.proofs.OverflowLeftLemmas.{if_maps, if_then}
 use Rattle.pd_smap.proofs.MapLemmas.{data_added, data_front, nothing_added}
 use Rattle.pd_smap.proofs.data.compare_data.Goals as goal
 

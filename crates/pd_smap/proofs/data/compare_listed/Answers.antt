@@ -6,7 +6,7 @@ use Rattle.pd_tree.specs.Cursor.{cursor_items, cursor_nodes}
 use Rattle.pd_smap.specs.Entries.{index_from, place_in}
 use Rattle.pd_smap.specs.Overflow.{stand, overflow_items, overflow_reads}
 use Rattle.pd_smap.specs.Steps.{bits_by, with_nodes}
-use Rattle.pd_smap.proofs.AheadLemmas.{if_maps, if_then}
+use Rattle.pd_smap.proofs.OverflowLeftLemmas.{if_maps, if_then}
 use Rattle.pd_smap.proofs.StepLemmas.{went_many, went_next, went_nowhere, went_reading, went_reads, stopped_next, still_attached, if_all}
 use Rattle.pd_smap.proofs.CountLemmas.{block_stopped, on_err}
 use Rattle.pd_smap.proofs.BitmapLemmas.{map_went, map_stopped}

@@ -7,7 +7,7 @@ use Rattle.pd_smap.specs.Entries.{IsOverflow, overflow_of}
 use Rattle.pd_smap.specs.Counted.{faults_from}
 use Rattle.pd_smap.specs.Overflow.{stand}
 use Rattle.pd_smap.specs.Steps.{with_reads}
-use Rattle.pd_smap.proofs.AheadLemmas.{if_then}
+use Rattle.pd_smap.proofs.OverflowLeftLemmas.{if_then}
 use Rattle.pd_smap.proofs.CountLemmas.{on_err}
 use Rattle.pd_smap.proofs.MapLemmas.{meta_added, meta_front, nothing_added}
 use Rattle.pd_smap.proofs.meta.compare_meta.Goals as goal

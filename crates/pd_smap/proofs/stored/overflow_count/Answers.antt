@@ -1,7 +1,7 @@
 use Rattle.std.proofs.Common.{◌∙◌, ap}
 use Rattle.std.specs.Option.{option_map}
 use Rattle.pd_value.specs.declared.space_map.Count.{Count}
-use Rattle.pd_smap.proofs.AheadLemmas.{if_maps}
+use Rattle.pd_smap.proofs.OverflowLeftLemmas.{if_maps}
 use Rattle.pd_smap.proofs.RiseLemmas.{found_in}
 use Rattle.pd_smap.proofs.stored.overflow_count.Goals as goal
 

@@ -1,7 +1,7 @@
 use Rattle.std.proofs.Common.{◌∙◌, ◌%◌, sym, Some, ap}
 use Rattle.pd_kinds.specs.Trees.{stored_meta_in, value_of_key}
 use Rattle.pd_smap.specs.Entries.{IsOverflow, overflow_of}
-use Rattle.pd_smap.proofs.AheadLemmas.{if_then}
+use Rattle.pd_smap.proofs.OverflowLeftLemmas.{if_then}
 use Rattle.pd_smap.proofs.MapLemmas.{few_bits, many_bits, ok_same, stored_meta_found}
 use Rattle.pd_smap.proofs.stored.stored_meta.Goals as goal
 

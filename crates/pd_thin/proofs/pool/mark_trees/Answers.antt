@@ -1,17 +1,17 @@
 use Rattle.std.proofs.Common.{◌∙◌}
 use Rattle.pd_tree.specs.Below.{items_below}
 use Rattle.pd_tree.specs.Items.{root_of}
-use Rattle.pd_thin.specs.Ahead.{ahead_items}
-use Rattle.pd_thin.specs.Turns.{details_of}
+use Rattle.pd_thin.specs.Peeked.{peeked_items}
+use Rattle.pd_thin.specs.DevicePairs.{details_of}
 use Rattle.pd_thin.proofs.TreeTests.{trees_charged}
-use Rattle.pd_thin.proofs.WayLemmas.{trees_told}
+use Rattle.pd_thin.proofs.TreePairLemmas.{trees_told}
 use Rattle.pd_thin.proofs.pool.mark_trees.Goals as goal
 
 pub returns-clause-charges : goal.returns-clause-charges
 returns-clause-charges g c =
     trees_told _ _ _ c.args.audit.now c.compare.new.audit c.begin.new.self.first c.begin-2.new.self.first
-    (λ image. ahead_items 8 root_of image c.begin.new.self) (λ image. items_below 8 root_of image 63 c.args.mapping)
-    (λ image. ahead_items 24 details_of image c.begin-2.new.self) (λ image. items_below 24 details_of image 63 c.args.details) c.in_ok-same.same
+    (λ image. peeked_items 8 root_of image c.begin.new.self) (λ image. items_below 8 root_of image 63 c.args.mapping)
+    (λ image. peeked_items 24 details_of image c.begin-2.new.self) (λ image. items_below 24 details_of image 63 c.args.details) c.in_ok-same.same
     c.in_ok-begin.ensures.kept.held (c.in_ok-begin-2.ensures.kept.held ∙ c.in_ok-begin.ensures.kept.held)
     c.in_ok-begin.ensures.items c.in_ok-begin.ensures.end c.in_ok-begin-2.ensures.items c.in_ok-begin-2.ensures.end c.in_ok-same.ensures.compared
     _

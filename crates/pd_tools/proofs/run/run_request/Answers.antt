@@ -15,21 +15,21 @@ use Rattle.pd_words.specs.Words.{word_of, words_of}
 use Rattle.pd_tools.specs.declared.query.Asked.{Asked}
 use Rattle.pd_tools.specs.declared.query.Asked.TheVariants.{Dump, ReverseMap, DeviceList, Since}
 use Rattle.pd_tools.specs.Query.{terms_of_query}
-use Rattle.pd_tools.specs.Work.{Answers}
+use Rattle.pd_tools.specs.Work.{AnswersTerms}
 use Rattle.pd_tools.proofs.AtRest.{no_shared}
 use Rattle.pd_tools.proofs.run.run_request.Goals as goal
 
 -- the check of these words is the one that is asked
 as_asked : (kind : Kind) (until : Stage) (clear : Bool) (path word : List ℕ) (attached : SinkState) (before after : Objects) (status : ℕ) → word ≡ path
-    → Answers (terms_of (Some (request.check kind until clear word))) attached before after status
-    → Answers (terms_of (Some (request.check kind until clear path))) attached before after status
+    → AnswersTerms (terms_of (Some (request.check kind until clear word))) attached before after status
+    → AnswersTerms (terms_of (Some (request.check kind until clear path))) attached before after status
 as_asked kind until clear path word attached before after status same answers = rw same at answers
 
 -- so with the dump
 dump_as_asked : (kind : Kind) (shared : Bool) (file given : Option (List ℕ)) (path word : List ℕ) (attached : SinkState) (before after : Objects) (status : ℕ)
     → is_built (request.dump kind shared file path) ≡ true → given ≡ file → word ≡ path
-    → Answers (terms_of_query (Dump kind) given word) attached before after status
-    → Answers (terms_of (Some (request.dump kind shared file path))) attached before after status
+    → AnswersTerms (terms_of_query (Dump kind) given word) attached before after status
+    → AnswersTerms (terms_of (Some (request.dump kind shared file path))) attached before after status
 dump_as_asked kind false file given path word attached before after status is file_is same answers = rw (file_is, same) at answers
 dump_as_asked kind true file given path word attached before after status is file_is same answers = absurd (true≢false (sym is ∙ no_shared kind file path))
 
@@ -47,7 +47,7 @@ returns-in-Dump g c others =
 
 -- so with another query
 query_as_asked : (asked : Asked) (file given : Option (List ℕ)) (path word : List ℕ) (attached : SinkState) (before after : Objects) (status : ℕ)
-    → given ≡ file → word ≡ path → Answers (terms_of_query asked given word) attached before after status → Answers (terms_of_query asked file path) attached before after status
+    → given ≡ file → word ≡ path → AnswersTerms (terms_of_query asked given word) attached before after status → AnswersTerms (terms_of_query asked file path) attached before after status
 query_as_asked asked file given path word attached before after status file_is same answers = rw (file_is, same) at answers
 
 pub returns-in-Rmap : goal.returns-in-Rmap
@@ -73,7 +73,7 @@ returns-in-Since g c others =
 
 -- the restore of these words is the one that is asked
 restored_as_asked : (kind : Kind) (version : ℕ) (file path text image : List ℕ) (attached : SinkState) (before after : Objects) (status : ℕ)
-    → text ≡ file → image ≡ path → Answers (restore kind version text image) attached before after status → Answers (restore kind version file path) attached before after status
+    → text ≡ file → image ≡ path → AnswersTerms (restore kind version text image) attached before after status → AnswersTerms (restore kind version file path) attached before after status
 restored_as_asked kind version file path text image attached before after status same_text same_image answers = rw (same_text, same_image) at answers
 
 pub returns-in-Restore : goal.returns-in-Restore
@@ -86,7 +86,7 @@ returns-in-Restore g c others =
 
 -- so with the images of a repair
 repaired_as_asked : (from to given_from given_to : List ℕ) (attached : SinkState) (before after : Objects) (status : ℕ)
-    → given_from ≡ from → given_to ≡ to → Answers (repair given_from given_to) attached before after status → Answers (repair from to) attached before after status
+    → given_from ≡ from → given_to ≡ to → AnswersTerms (repair given_from given_to) attached before after status → AnswersTerms (repair from to) attached before after status
 repaired_as_asked from to given_from given_to attached before after status same_from same_to answers = rw (same_from, same_to) at answers
 
 pub returns-in-Repair : goal.returns-in-Repair
@@ -99,7 +99,7 @@ returns-in-Repair g c others =
 
 -- the generator's file of these words is the one that is asked
 generated_as_asked : (number : ℕ) (file given : Option (List ℕ)) (attached : SinkState) (before after : Objects) (status : ℕ)
-    → given ≡ file → Answers (generate number given) attached before after status → Answers (generate number file) attached before after status
+    → given ≡ file → AnswersTerms (generate number given) attached before after status → AnswersTerms (generate number file) attached before after status
 generated_as_asked number file given attached before after status same answers = rw same at answers
 
 pub returns-in-Generate : goal.returns-in-Generate
@@ -111,7 +111,7 @@ returns-in-Generate g c others =
 
 -- so with the image of a rehearsal
 rehearsed_as_asked : (number : ℕ) (path image : List ℕ) (attached : SinkState) (before after : Objects) (status : ℕ)
-    → image ≡ path → Answers (rehearse number image) attached before after status → Answers (rehearse number path) attached before after status
+    → image ≡ path → AnswersTerms (rehearse number image) attached before after status → AnswersTerms (rehearse number path) attached before after status
 rehearsed_as_asked number path image attached before after status same answers = rw same at answers
 
 pub returns-in-Rehearse : goal.returns-in-Rehearse

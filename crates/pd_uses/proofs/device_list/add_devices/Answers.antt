@@ -1,6 +1,6 @@
 use Rattle.std.proofs.Common.{sym, ap}
 use Rattle.pd_lines.specs.Printer.{printing}
-use Rattle.pd_pool.specs.Given.{super_rows}
+use Rattle.pd_thin_meaning.specs.Given.{super_rows}
 use Rattle.pd_query.specs.declared.fault.QueryFault.TheVariants.{Memory}
 use Rattle.pd_query.proofs.PutsLemmas.{one_told, prints_none, prints_nothing}
 use Rattle.pd_uses.specs.UseLines.{listed_rows}

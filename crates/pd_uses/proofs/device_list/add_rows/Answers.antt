@@ -1,8 +1,8 @@
 use Rattle.std.proofs.Common.{Some, None, IfSome, ap, ◌∙◌, subst, arith}
 use Rattle.pd_image.proofs.ReadLemmas.{only_reads_both}
 use Rattle.pd_tree.specs.Next.{IsNext}
-use Rattle.pd_pool.specs.declared.devices.DeviceRow.{DeviceRow}
-use Rattle.pd_pool.specs.Devices.{rows_left}
+use Rattle.pd_thin_meaning.specs.declared.devices.DeviceRow.{DeviceRow}
+use Rattle.pd_thin_meaning.specs.Devices.{rows_left}
 use Rattle.pd_query.specs.declared.fault.QueryFault.TheVariants.{Device}
 use Rattle.pd_query.proofs.PutsLemmas.{lost_with, one_told, so_far_all, so_far_lost, so_far_more, so_far_stops}
 use Rattle.pd_uses.specs.UseLines.{listed_rows}

@@ -1,7 +1,7 @@
 use Rattle.std.proofs.Common.{◌≡◌, ◌≤◌}
 use Rattle.pd_image.specs.Device.{OnlyReads}
 use Rattle.pd_lines.specs.Printer.{printing}
-use Rattle.pd_pool.specs.Devices.{rows_left, rows_number, rows_room}
+use Rattle.pd_thin_meaning.specs.Devices.{rows_left, rows_number, rows_room}
 use Rattle.pd_query.proofs.PutsLemmas.{PrintsSoFar}
 use Rattle.pd_uses.specs.UseLines.{listed_rows}
 use Rattle.pd_uses.proofs.device_list.add_rows.Given as goal

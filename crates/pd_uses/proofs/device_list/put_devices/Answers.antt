@@ -4,7 +4,7 @@ use Rattle.pd_query.specs.declared.fault.QueryFault.{QueryFault}
 use Rattle.pd_query.specs.declared.fault.QueryFault.TheVariants.{Sink}
 use Rattle.pd_query.specs.Puts.{PutsText}
 use Rattle.pd_query.proofs.PutsLemmas.{text_lost, text_put, text_stopped}
-use Rattle.pd_pool.specs.Given.{super_rows}
+use Rattle.pd_thin_meaning.specs.Given.{super_rows}
 use Rattle.pd_uses.specs.UseLines.{listed_rows}
 use Rattle.pd_uses.proofs.device_list.put_devices.Goals as goal
 

@@ -3,8 +3,8 @@ use Rattle.pd_value.specs.declared.thin.BlockTime.{BlockTime}
 use Rattle.pd_image.proofs.ReadLemmas.{only_reads_both}
 use Rattle.pd_tree.specs.Cursor.{cursor_items}
 use Rattle.pd_tree.specs.Next.{IsNext}
-use Rattle.pd_pool.specs.Items.{block_time_of}
-use Rattle.pd_pool.specs.Joined.{mapping_of}
+use Rattle.pd_thin_meaning.specs.Items.{block_time_of}
+use Rattle.pd_thin_meaning.specs.Joined.{mapping_of}
 use Rattle.pd_query.proofs.PutsLemmas.{one_told}
 use Rattle.pd_uses.specs.Uses.{use_by}
 use Rattle.pd_uses.proofs.TakenLemmas.{entry_first, takes_all, takes_more, takes_one}

@@ -1,8 +1,8 @@
 use Rattle.std.proofs.Common.{Some, None, IfSome, ap, ◌∙◌, subst, arith}
 use Rattle.pd_image.proofs.ReadLemmas.{only_reads_both}
 use Rattle.pd_tree.specs.Next.{IsNext}
-use Rattle.pd_pool.specs.declared.devices.DeviceRow.{DeviceRow}
-use Rattle.pd_pool.specs.Devices.{rows_left}
+use Rattle.pd_thin_meaning.specs.declared.devices.DeviceRow.{DeviceRow}
+use Rattle.pd_thin_meaning.specs.Devices.{rows_left}
 use Rattle.pd_query.proofs.PutsLemmas.{one_told}
 use Rattle.pd_uses.specs.Uses.{rows_uses}
 use Rattle.pd_uses.proofs.TakenLemmas.{row_first, takes_all, takes_more}

@@ -1,6 +1,6 @@
 use Rattle.std.proofs.Common.{◌≡◌, ◌≤◌}
 use Rattle.pd_image.specs.Device.{OnlyReads}
-use Rattle.pd_pool.specs.Devices.{rows_left, rows_number, rows_room}
+use Rattle.pd_thin_meaning.specs.Devices.{rows_left, rows_number, rows_room}
 use Rattle.pd_uses.specs.Uses.{rows_uses}
 use Rattle.pd_uses.proofs.TakenLemmas.{TakesSoFar}
 use Rattle.pd_uses.proofs.walk.take_rows.Given as goal

@@ -3,10 +3,10 @@ use Rattle.pd_kinds.specs.Node.{Entry, max_entries}
 use Rattle.pd_draft.specs.Placed.{Wrote}
 use Rattle.pd_draft.specs.Stand.{stand}
 use Rattle.pd_spells.specs.Need.{nodes_for}
-use Rattle.pd_build.specs.Begun.{entries_in}
+use Rattle.pd_build.specs.OpenLeaf.{entries_in}
 use Rattle.pd_build.specs.Leaves.{LeavesLeft, AreCounts, low_of, low_after}
 use Rattle.pd_build.specs.Parts.{even_sizes}
-use Rattle.pd_build.proofs.BegunLemmas.{IsMore, more_of, more_is_leaf, more_least, begun_none, length-entries_in}
+use Rattle.pd_build.proofs.OpenLeafLemmas.{IsMore, more_of, more_is_leaf, more_least, begun_none, length-entries_in}
 use Rattle.pd_build.proofs.CountLemmas.{counts_end, IsEndOf, end_of}
 use Rattle.pd_build.proofs.TakesLemmas.{takes_one, some_left, first_is}
 use Rattle.pd_build.proofs.leaves.LeafBuilder.end_leaf.Goals.{After-self, After-put_item}

@@ -1,9 +1,9 @@
 use Rattle.std.proofs.Common.{◌<◌, ◌≤◌, ◌+◌, refl, sym, ◌∙◌, ap, arith}
 use Rattle.pd_kinds.specs.Node.{Entry, max_entries}
-use Rattle.pd_build.specs.Begun.{entries_in}
+use Rattle.pd_build.specs.OpenLeaf.{entries_in}
 use Rattle.pd_build.specs.Leaves.{LeavesLeft, low_of, low_after}
 use Rattle.pd_build.specs.Parts.{even_sizes}
-use Rattle.pd_build.proofs.BegunLemmas.{IsMore, more_of, length-entries_in}
+use Rattle.pd_build.proofs.OpenLeafLemmas.{IsMore, more_of, length-entries_in}
 use Rattle.pd_build.proofs.CountLemmas.{counts_next, end_of}
 use Rattle.pd_build.proofs.OrderLemmas.{low_after-last}
 use Rattle.pd_build.proofs.TakesLemmas.{takes_none, some_left, first_is}

@@ -2,7 +2,7 @@ use Rattle.std.proofs.Common.{◌≡◌, ◌≤◌, ℕ, [], refl, ◌∙◌, ap
 use Rattle.pd_kinds.specs.Node.{max_entries}
 use Rattle.pd_spells.specs.Need.{nodes_for}
 use Rattle.pd_build.specs.Parts.{even_sizes}
-use Rattle.pd_build.proofs.BegunLemmas.{begun_none}
+use Rattle.pd_build.proofs.OpenLeafLemmas.{begun_none}
 use Rattle.pd_build.proofs.CountLemmas.{room_some, parts_some}
 use Rattle.pd_build.proofs.TakesLemmas.{start_items, start_leaves, started, none_then}
 use Rattle.pd_build.proofs.PartLemmas.{length-even}

@@ -1,6 +1,6 @@
-use Rattle.pd_salvage.specs.Way.{left_below}
+use Rattle.pd_salvage.specs.Trail.{left_below}
 use Rattle.pd_salvage.proofs.AscendLemmas.{started}
-use Rattle.pd_salvage.proofs.WayLemmas.{none_left}
+use Rattle.pd_salvage.proofs.TrailLemmas.{none_left}
 use Rattle.pd_salvage.proofs.cursor.SavedCursor.restart.Goals as goal
 
 pub returns-clause-left : goal.returns-clause-left

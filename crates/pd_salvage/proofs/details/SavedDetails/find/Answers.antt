@@ -2,7 +2,7 @@ use Rattle.std.proofs.Common.{ℕ, None, IfSome, subst}
 use Rattle.pd_value.specs.declared.thin.Details.{Details}
 use Rattle.pd_tree.proofs.NextLemmas.{if_both}
 use Rattle.pd_tree.specs.Next.{IsNext}
-use Rattle.pd_pool.specs.Items.{details_of}
+use Rattle.pd_thin_meaning.specs.Items.{details_of}
 use Rattle.pd_salvage.specs.Cursor.{saved_left}
 use Rattle.pd_salvage.specs.Details.{details_left}
 use Rattle.pd_salvage.proofs.DetailsLemmas.{found_end}

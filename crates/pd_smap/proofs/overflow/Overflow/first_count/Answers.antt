@@ -1,4 +1,4 @@
-use Rattle.pd_smap.proofs.AheadLemmas.{count_first, count_missing, count_past}
+use Rattle.pd_smap.proofs.OverflowLeftLemmas.{count_first, count_missing, count_past}
 use Rattle.pd_smap.proofs.overflow.Overflow.first_count.Goals as goal
 
 pub returns-then-key-b : goal.returns-then-key-b

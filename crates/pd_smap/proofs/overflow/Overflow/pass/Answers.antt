@@ -1,4 +1,4 @@
-use Rattle.pd_smap.proofs.AheadLemmas.{if_maps, pass_ahead}
+use Rattle.pd_smap.proofs.OverflowLeftLemmas.{if_maps, pass_ahead}
 use Rattle.pd_smap.proofs.overflow.Overflow.pass.Goals as goal
 
 pub returns-clause-ahead : goal.returns-clause-ahead

@@ -1,0 +1,55 @@
+-- What is left of the words and of the bits of an array.
+use Rattle.std.specs.Prelude.{◌≡◌, ℕ, zero, suc, ◌+◌, ◌/◌, ◌%◌, List, [], ◌∷◌, ◌++◌, drop, length, slice_index}
+use Rattle.std.specs.List.{flat_map}
+use Rattle.pd_tree.specs.ArrayCursor.{array_reads, array_room, array_words}
+use Rattle.pd_tree.specs.Below.{items_below, nodes_below}
+use Rattle.pd_tree.specs.Items.{root_of}
+use Rattle.pd_tree.specs.Words.{words_of_items}
+use Rattle.pd_cache_meaning.specs.declared.bits.Bits.{Bits}
+use Rattle.pd_cache_meaning.specs.declared.hints.Hints.{Hints}
+
+-- the first of what was left was taken, and 0 where nothing was
+pub record TakesWords (taken : ℕ) (old new : List ℕ) : Type 0 where
+  pub first : taken ≡ slice_index old 0
+  pub rest : new ≡ drop 1 old
+
+-- the words of this size of the array with this root
+abbrev pub words_below : ℕ → List (List ℕ) → ℕ → List ℕ
+words_below size image root = words_of_items size image (items_below 8 root_of image 63 root)
+
+-- how many blocks a cursor over the array with this root reads at most: the nodes of its tree, and a block an entry
+abbrev pub reads_of_root : List (List ℕ) → ℕ → ℕ
+reads_of_root image root = length (nodes_below 8 image 63 root) + length (items_below 8 root_of image 63 root)
+
+-- the lowest bits of a word, from bit 0 on
+abbrev pub low_bits : ℕ → ℕ → List ℕ
+low_bits zero word = []
+low_bits (suc n) word = word % 2 ∷ low_bits n (word / 2)
+
+-- the bits of words
+abbrev pub bits_of : List ℕ → List ℕ
+bits_of words = flat_map (low_bits 64) words
+
+-- the bits of the array with this root
+abbrev pub bits_below : List (List ℕ) → ℕ → List ℕ
+bits_below image root = bits_of (words_below 8 image root)
+
+-- the bits that are left, how many reads they take at most, and how many blocks the device must have
+abbrev pub bits_left : List (List ℕ) → Bits → List ℕ
+bits_left image bits = low_bits bits.left bits.word ++ bits_of (array_words image bits.words)
+
+abbrev pub bits_reads : List (List ℕ) → Bits → ℕ
+bits_reads image bits = array_reads image bits.words
+
+abbrev pub bits_room : Bits → ℕ
+bits_room bits = array_room bits.words
+
+-- the same of the hints
+abbrev pub hints_left : List (List ℕ) → Hints → List ℕ
+hints_left image hints = array_words image hints.words
+
+abbrev pub hints_reads : List (List ℕ) → Hints → ℕ
+hints_reads image hints = array_reads image hints.words
+
+abbrev pub hints_room : Hints → ℕ
+hints_room hints = array_room hints.words

@@ -1,8 +1,0 @@
-use Rattle.std.proofs.Common.{arith}
-use Rattle.pd_cached.proofs.rows.CacheMaps.start.Goals as goal
-
-pub returns-clause-room : goal.returns-clause-room
-returns-clause-room c = λ blocks roots.
-    let words = c.in_ok-words.ensures.room in
-    let beside = c.in_ok-beside.ensures.room blocks roots in
-    omega (arith, words, beside, roots.mappings)

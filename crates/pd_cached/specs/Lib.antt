@@ -1,4 +1,0 @@
-pub mod Left
-pub mod Beside
-pub mod Rows
-pub mod Given

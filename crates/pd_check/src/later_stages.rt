@@ -1,0 +1,122 @@
+//! The stages of a check past the superblock's: the walk, and the order of the trees.
+
+ghost use Rattle.std.specs.Prelude.{◌≡◌, ℕ, ◌+◌, ◌*◌, ◌<◌, ◌≤◌, true, false, length, IfOk, IfSome};
+ghost use Rattle.std.specs.List.{flat_map, range_with_len};
+ghost use Rattle.pd_kinds.specs.declared.rule.Rule.{Rule};
+ghost use Rattle.pd_kinds.specs.CheckFault.{CountsCheckFault, StopsEarly};
+ghost use Rattle.pd_kinds.specs.Objects.{CountsFault};
+ghost use Rattle.pd_kinds.specs.Report.{report_of};
+ghost use Rattle.pd_kinds.specs.Faults.{faults_at};
+ghost use Rattle.pd_kinds.specs.Graph.{nodes};
+ghost use Rattle.pd_kinds.specs.Stages.{block_faults, order_bad};
+ghost use Rattle.pd_image.specs.Device.{IsAttached, OnlyReads};
+ghost use Rattle.pd_graph.specs.Audit.{blocks_of, has_walked, has_rule_at};
+ghost use Rattle.pd_graph.specs.Walk.{IsWalked};
+ghost use Rattle.pd_whole.specs.Known.{IsWellSettled};
+ghost use Rattle.pd_check.specs.Check.{goes_past_walk, past_faults, reads_of, reads_to_order};
+
+use crate::walked::{walk_report, walked};
+use pd_graph::{Audit, Format};
+use pd_image::{Device, Failed};
+use pd_kinds::{CheckFault, Report, Stage};
+use pd_settle::settle;
+use std::alloc::Global;
+
+/// Walks over all that block 0 leads to in this format, and where no block breaks a rule and the stage is
+/// past the walk, looks at the order of the trees. The report is that of the first stage that finds a fault.
+///
+/// It takes all its memory before it reads a block: about 60 bytes a metadata block.
+///
+/// Fails with `CheckFault::Memory` where that memory wasn't found, and with `CheckFault::Device` where a
+/// read failed.
+pub fn check_later_stages<F: Format, D: Device>(
+    alloc: Global,
+    dev: &mut D,
+    format: &F,
+    until: Stage,
+) -> Result<Report, CheckFault>
+    requires attached { IsAttached (D.state dev.old) }
+    requires within { (F.graph format.now).nr ≤ (D.state dev.old).blocks }
+    ensures report { IfOk result (λ report. IfSome (D.state dev.old).held (λ image. report ≡ report_of (past_faults until (F.graph format.now) image))) }
+    ensures early { StopsEarly result (D.state dev.old).reads (D.state dev.new).reads }
+    ensures reads { IfSome (D.state dev.old).held (λ image.
+        (D.state dev.new).reads ≤ (D.state dev.old).reads + reads_of until * length (nodes (F.graph format.now) image)) }
+    ensures kept { OnlyReads (D.state dev.old) (D.state dev.new) }
+    ensures faults { CountsCheckFault result (D.state dev.old).faults (D.state dev.new).faults }
+{
+    let (_audit, report) = looked_at(alloc, dev, format, until)?;
+    Ok(report)
+}
+
+/// Walks, and settles the trees where `check_past` looks at their order: the audit of that, and the report.
+///
+/// Fails as `check_past` does.
+pub(crate) fn looked_at<F: Format, D: Device>(
+    alloc: Global,
+    dev: &mut D,
+    format: &F,
+    until: Stage,
+) -> Result<(Audit, Report), CheckFault>
+    requires attached { IsAttached (D.state dev.old) }
+    requires within { (F.graph format.now).nr ≤ (D.state dev.old).blocks }
+    ensures report { IfOk result (λ found. IfSome (D.state dev.old).held (λ image. found.1 ≡ report_of (past_faults until (F.graph format.now) image))) }
+    ensures number { IfOk result (λ found. blocks_of found.0 ≡ (F.graph format.now).nr) }
+    ensures told { IfOk result (λ found. found.1 ≡ report_of (flat_map (λ b. faults_at b (has_rule_at found.0 b)) (range_with_len 0 (blocks_of found.0)))) }
+
+    // Where the trees were settled and nothing was found, the audit has the marks of both.
+    ensures settled { IfOk result (λ found. IfSome (D.state dev.old).held (λ image.
+        goes_past_walk until ≡ true → found.1.total ≡ 0 → IsWellSettled (F.graph format.now) image found.0)) }
+    ensures early { StopsEarly result (D.state dev.old).reads (D.state dev.new).reads }
+    ensures reads { IfSome (D.state dev.old).held (λ image.
+        (D.state dev.new).reads ≤ (D.state dev.old).reads + reads_to_order until * length (nodes (F.graph format.now) image)) }
+    ensures kept { OnlyReads (D.state dev.old) (D.state dev.new) }
+    ensures faults { CountsCheckFault result (D.state dev.old).faults (D.state dev.new).faults }
+{
+    let mut audit = walked(alloc, dev, format)?;
+    let report = walk_report(&audit);
+    let goes_on = is_past_walk(until);
+    if goes_on & report.is_empty() {
+        match order_report(dev, format, &mut audit) {
+            Ok(found) => Ok((audit, found)),
+            Err(_) => Err(CheckFault::Device),
+        }
+    } else {
+        Ok((audit, report))
+    }
+}
+
+/// Whether the stage comes after the walk.
+fn is_past_walk(stage: Stage) -> bool
+    ensures { result ≡ goes_past_walk stage }
+{
+    match stage {
+        Stage::Super | Stage::Walk => false,
+        Stage::Order | Stage::Whole | Stage::Counts => true,
+    }
+}
+
+/// Settles the trees, where a walk found no rule broken, and reports what is out of order.
+fn order_report<F: Format, D: Device>(
+    dev: &mut D,
+    format: &F,
+    audit: &mut Audit,
+) -> Result<Report, Failed>
+    requires walked { has_walked audit.old ≡ true }
+    requires number { blocks_of audit.old ≡ (F.graph format.now).nr }
+    requires sound { (b : ℕ) (rule : Rule) → b < (F.graph format.now).nr → has_rule_at audit.old b rule ≡ false }
+    requires attached { IsAttached (D.state dev.old) }
+    requires within { (F.graph format.now).nr ≤ (D.state dev.old).blocks }
+    ensures report { IfOk result (λ report. IfSome (D.state dev.old).held (λ image. IsWalked (F.graph format.now) image audit.old
+        → report ≡ report_of (block_faults (F.graph format.now).nr (order_bad (F.graph format.now) image)))) }
+    ensures number { blocks_of audit.new ≡ blocks_of audit.old }
+    ensures told { IfOk result (λ report. report ≡ report_of (flat_map (λ b. faults_at b (has_rule_at audit.new b)) (range_with_len 0 (blocks_of audit.new)))) }
+    ensures settled { IfOk result (λ report. IfSome (D.state dev.old).held (λ image. IsWalked (F.graph format.now) image audit.old
+        → report.total ≡ 0 → IsWellSettled (F.graph format.now) image audit.new)) }
+    ensures reads { IfSome (D.state dev.old).held (λ image. IsWalked (F.graph format.now) image audit.old
+        → (D.state dev.new).reads ≤ (D.state dev.old).reads + 2 * length (nodes (F.graph format.now) image)) }
+    ensures kept { OnlyReads (D.state dev.old) (D.state dev.new) }
+    ensures faults { CountsFault result (D.state dev.old).faults (D.state dev.new).faults }
+{
+    settle(audit, format, dev)?;
+    Ok(walk_report(audit))
+}

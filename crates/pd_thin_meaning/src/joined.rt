@@ -1,0 +1,115 @@
+//! Mappings that follow each other, as one run.
+
+use pd_value::BlockTime;
+
+/// Mappings of a thin device that follow each other: of virtual blocks to data blocks, at one time.
+#[derive(Clone, Copy, Debug, PartialEq, Eq)]
+pub struct Run {
+    /// The first virtual block.
+    pub virt: u64,
+    /// The data block that the first virtual block is mapped to.
+    pub target: u64,
+    /// How many blocks are mapped, at least 1. The number stays at 2^64 - 1 where it would pass it.
+    pub length: u64,
+    /// The pool's time when they were mapped, below 2^24.
+    pub time: u32,
+}
+
+/// A run that may still become longer.
+#[derive(Clone, Copy)]
+pub(crate) struct Begun {
+    pub(crate) virt: u64,
+    pub(crate) target: u64,
+    /// How many mappings follow the first one.
+    pub(crate) more: u64,
+    pub(crate) time: u32,
+}
+
+impl Begun {
+    ghost use Rattle.std.specs.Prelude.{◌≡◌};
+    ghost use Rattle.pd_thin_meaning.specs.Joined.{given_run, is_followed_by};
+
+    /// The run of one mapping.
+    fn of(virt: u64, mapping: BlockTime) -> Begun
+        ensures { result ≡ record { virt = virt; target = mapping.block; more = 0; time = mapping.time } }
+    {
+        Begun {
+            virt,
+            target: mapping.block,
+            more: 0,
+            time: mapping.time,
+        }
+    }
+
+    /// Whether the mapping follows the run's last one.
+    fn is_followed_by(&self, virt: u64, mapping: BlockTime) -> bool
+        ensures { result ≡ is_followed_by self.now virt mapping }
+    {
+        let next_virtual = virt > self.virt && virt - self.virt - 1 == self.more;
+        let next_data = mapping.block > self.target && mapping.block - self.target - 1 == self.more;
+        let same_time = mapping.time == self.time;
+        next_virtual & next_data & same_time
+    }
+
+    /// The run as it is.
+    fn run(&self) -> Run
+        ensures { result ≡ given_run self.now }
+    {
+        Run {
+            virt: self.virt,
+            target: self.target,
+            length: self.more.saturating_add(1),
+            time: self.time,
+        }
+    }
+}
+
+/// The mappings that were taken since the last run was given.
+#[derive(Clone, Copy)]
+pub(crate) struct Joined {
+    pub(crate) begun: Option<Begun>,
+}
+
+impl Joined {
+    ghost use Rattle.std.specs.Prelude.{◌≡◌, [], ◌∷◌, ◌++◌, List, IfSome};
+    ghost use Rattle.pd_kinds.specs.Meaning.{Mapping};
+    ghost use Rattle.pd_thin_meaning.specs.Joined.{begun_mappings, begun_number, given_runs, IsGiven, mapping_of};
+
+    /// Takes the next mapping, and gives the run before it where the mapping doesn't follow that.
+    pub(crate) fn take(&mut self, virt: u64, mapping: BlockTime) -> Option<Run>
+        ensures { (rest : List Mapping) → IsGiven result (given_runs (begun_mappings self.old.begun ++ (mapping_of (virt, mapping) ∷ rest)))
+            (given_runs (begun_mappings self.new.begun ++ rest)) }
+    {
+        match self.begun {
+            Some(mut begun) => {
+                if begun.is_followed_by(virt, mapping) {
+                    begun.more = virt - begun.virt;
+                    self.begun = Some(begun);
+                    None
+                } else {
+                    self.begun = Some(Begun::of(virt, mapping));
+                    Some(begun.run())
+                }
+            }
+            None => {
+                self.begun = Some(Begun::of(virt, mapping));
+                None
+            }
+        }
+    }
+
+    /// Gives the last run, if there is any.
+    pub(crate) fn end(&mut self) -> Option<Run>
+        ensures given { IsGiven result (given_runs (begun_mappings self.old.begun)) [] }
+        ensures none_left { self.new.begun ≡ None }
+        ensures number { IfSome result (λ _. begun_number self.old.begun ≡ 1) }
+    {
+        match self.begun {
+            Some(begun) => {
+                self.begun = None;
+                Some(begun.run())
+            }
+            None => None,
+        }
+    }
+}
