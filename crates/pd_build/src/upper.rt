@@ -109,12 +109,36 @@ fn write_level<D: Device>(
     let mut used = 0;
     for i in 0..nodes {
         let size = parts((level.len() - used) as u64, (nodes - i) as u64) as usize;
-        let place = draft.next();
         let (least, _) = level[used];
-        let block = write_inner(place, &level[used..used + size]);
-        put_block(draft, &block)?;
+        let place = write_node(draft, &level[used..used + size])?;
         level[i] = (least, place);
         used += size;
     }
     Ok(())
+}
+
+/// Writes the inner node over these links, and answers its place.
+fn write_node<D: Device>(
+    draft: &mut Draft<'_, D>,
+    children: &[(u64, u64)],
+) -> Result<u64, BuildFault>
+    requires some { 1 ≤ length children.now }
+    requires few { length children.now ≤ 252 }
+    requires ascend { is_ascending (keys_of children.now) ≡ true }
+    requires writable { IsWritable (stand draft.old).device }
+    requires room { draft.old.next < (stand draft.old).device.blocks }
+    requires closed { IsClosed (stand draft.old).device }
+    ensures same_reference { draft.new.dev.ghost_name ≡ draft.old.dev.ghost_name }
+    ensures wrote { OnOk result (Wrote (inner_block draft.old.next (links children.now) ∷ []) (stand draft.old) (stand draft.new)) }
+    ensures place { IfOk result (λ place. place ≡ draft.old.next) }
+    ensures closed { StaysClosed (stand draft.old).device (stand draft.new).device }
+    ensures faults { CountsBuildFault result (stand draft.old).device.faults (stand draft.new).device.faults }
+    ensures fault { IfErr result (λ fault. fault ≡ BuildFault.Device) }
+{
+    let place = draft.next();
+    let block = write_inner(place, children);
+    match put_block(draft, &block) {
+        Ok(()) => Ok(place),
+        Err(fault) => Err(fault),
+    }
 }

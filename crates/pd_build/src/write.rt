@@ -1,6 +1,6 @@
 //! A tree of items in memory.
 
-ghost use Rattle.std.specs.Prelude.{◌≡◌, ◌+◌, ◌≤◌, length, true, OnOk, IfOk};
+ghost use Rattle.std.specs.Prelude.{◌≡◌, ◌+◌, ◌≤◌, [], length, true, OnOk, IfOk};
 ghost use Rattle.std.specs.List.{All};
 ghost use Rattle.pd_kinds.specs.Node.{is_ascending};
 ghost use Rattle.pd_node.specs.Items.{entries_of, keys_of};
@@ -10,6 +10,7 @@ ghost use Rattle.pd_draft.specs.Placed.{Wrote};
 ghost use Rattle.pd_draft.specs.Stand.{stand};
 ghost use Rattle.pd_laid.specs.Tree.{tree_blocks, tree_root};
 ghost use Rattle.pd_spells.specs.Need.{need_tree};
+ghost use Rattle.pd_build.specs.Building.{IsBuilding};
 ghost use Rattle.pd_build.specs.Causes.{CountsBuildFault};
 
 use crate::{BuildFault, Builder};
@@ -39,9 +40,28 @@ pub fn write_tree<V: Value, D: Device>(
         Ok(builder) => builder,
         Err(_) => return Err(BuildFault::Memory),
     };
+    put_items(&mut builder, draft, items)?;
+    builder.finish(draft)
+}
+
+/// Takes all items of a tree of which none was taken.
+fn put_items<V: Value, D: Device>(
+    builder: &mut Builder<V>,
+    draft: &mut Draft<'_, D>,
+    items: &[(u64, V)],
+) -> Result<(), BuildFault>
+    requires building { IsBuilding V.SIZE (entries_of V.code items.now) (entries_of V.code items.now) builder.old (stand draft.old) (stand draft.old) }
+    requires fit { All (λ item. V.fitting item.1 ≡ true) items.now }
+    requires writable { IsWritable (stand draft.old).device }
+    requires room { draft.old.next + need_tree V.SIZE (length items.now) ≤ (stand draft.old).device.blocks }
+    ensures same_reference { draft.new.dev.ghost_name ≡ draft.old.dev.ghost_name }
+    ensures building { OnOk result (IsBuilding V.SIZE (entries_of V.code items.now) [] builder.new (stand draft.old) (stand draft.new)) }
+    ensures closed { StaysClosed (stand draft.old).device (stand draft.new).device }
+    ensures faults { CountsBuildFault result (stand draft.old).device.faults (stand draft.new).device.faults }
+{
     for item in items {
         let (key, value) = *item;
         builder.put(draft, key, value)?;
     }
-    builder.finish(draft)
+    Ok(())
 }

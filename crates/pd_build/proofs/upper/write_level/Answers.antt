@@ -36,14 +36,14 @@ returns-clause-wrote g c =
     subst (λ (nodes : List (List Entry)). Wrote (blocks_from inner_block c.args.draft.now.next nodes) (stand c.args.draft.now) (stand c.loop-i.draft)) all
     (rw last at c.loop-i.invariant.wrote)
 
-pub put_block-requires-clause-room : goal.put_block-requires-clause-room
-put_block-requires-clause-room g c =
+pub write_node-requires-clause-room : goal.write_node-requires-clause-room
+write_node-requires-clause-room g c =
     let at = half_moved c.args.nodes c.loop-i.i (links c.args.level.now) (stand c.args.draft.now) (stand c.loop-i.draft) (omega arith) c.loop-i.invariant.wrote in
     let kept = c.loop-i.invariant.wrote.stays.kept.blocks in
     omega (arith, c.requires.room)
 
-pub write_inner-block-requires-clause-ascend : goal.write_inner-block-requires-clause-ascend
-write_inner-block-requires-clause-ascend g c =
+pub write_node-requires-clause-ascend : goal.write_node-requires-clause-ascend
+write_node-requires-clause-ascend g c =
     part_ascends c.loop-i.used _ c.args.level.now c.loop-i.level c.loop-i.invariant.below c.requires.ascend
 
 pub loop-i-preserved : goal.loop-i-preserved
@@ -52,6 +52,7 @@ loop-i-preserved g c =
     let inv = l.invariant in
     let was = c.args.level.now in
     let size = c.parts-size.result in
+    let place = c.in_ok-place.place in
     let more : l.i < c.args.nodes = omega arith in
     let count = length-links was in
     let size_is : size ≡ nodes_for (c.args.nodes - l.i) (length (links was) - l.used) =
@@ -62,16 +63,17 @@ loop-i-preserved g c =
     half_moved c.args.nodes l.i (links was) (stand c.args.draft.now) (stand l.draft) (omega arith) inv.wrote in
     let below : drop (l.used + size) l.level ≡ drop (l.used + size) was =
     sym (drop-drop size l.used l.level) ∙ (ap (drop size) inv.below ∙ drop-drop size l.used was) in
-    let head : ℕ × ℕ = ((get_or l.level l.used (0, 0)).0, c.next-place.result) in
+    let head : ℕ × ℕ = ((get_or l.level l.used (0, 0)).0, place) in
+    let block = inner_block l.draft.next (links (take (l.used + size - l.used) (drop l.used l.level))) in
     record {
-      same_reference = c.put_block.ensures.same_reference ∙ inv.same_reference;
+      same_reference = c.write_node.ensures.same_reference ∙ inv.same_reference;
       half = part.next;
       below = drop-set-lt (l.used + size) l.level l.i head (omega (arith, part.some, inv.half.behind)) ∙ below;
-      heads_are = heads_next c.args.nodes l.i l.used size c.next-place.result (get_or l.level l.used (0, 0)).0 c.args.draft.now.next was l.level (0, 0)
-          part more inv.half inv.same_length inv.below inv.heads_are (c.next-place.ensures ∙ at) refl;
-      wrote = wrote_next c.args.nodes l.i l.used size c.next-place.result c.write_inner-block.result.0 was l.level (stand c.args.draft.now) (stand l.draft) (stand c.put_block.new.draft)
+      heads_are = heads_next c.args.nodes l.i l.used size place (get_or l.level l.used (0, 0)).0 c.args.draft.now.next was l.level (0, 0)
+          part more inv.half inv.same_length inv.below inv.heads_are (c.in_ok-place.ensures.place ∙ at) refl;
+      wrote = wrote_next c.args.nodes l.i l.used size place block was l.level (stand c.args.draft.now) (stand l.draft) (stand c.write_node.new.draft)
           part inv.below inv.wrote
-          (c.write_inner-block.ensures.block ∙ ap (λ (n : ℕ). inner_block c.next-place.result (links (take n (drop l.used l.level)))) cut)
-          c.next-place.ensures c.in_ok-put_block.ensures.wrote;
+          (rw c.in_ok-place.ensures.place (ap (λ (n : ℕ). inner_block l.draft.next (links (take n (drop l.used l.level)))) cut))
+          c.in_ok-place.ensures.place c.in_ok-place.ensures.wrote;
       same_length = length-set l.level l.i head ∙ inv.same_length;
     }
