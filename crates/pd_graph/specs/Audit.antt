@@ -1,12 +1,12 @@
 -- What an audit tells of each block.
-use Rattle.std.specs.Prelude.{◌≡◌, ℕ, Bool, false, ◌||◌, ◌&&◌, slice_index, slice_index_or}
+use Rattle.std.specs.Prelude.{◌≡◌, ℕ, Bool, false, ◌||◌, ◌&&◌, slice_index}
 use Rattle.pd_kinds.specs.declared.rule.Rule.{Rule}
 use Rattle.pd_kinds.specs.declared.rule.Rule.TheVariants as r
 use Rattle.pd_kinds.specs.Rule.{same_rule}
 use Rattle.pd_graph.specs.declared.audit.Audit.{Audit}
 use Rattle.pd_graph.specs.declared.notes.Note.{Note}
 use Rattle.pd_graph.specs.Roles.{has_several}
-use Rattle.pd_graph.specs.Notes.{note_of, no_note, no_kept_note}
+use Rattle.pd_graph.specs.Notes.{no_note, note_in}
 use Rattle.pd_graph.specs.Marks.{has_rule_in, seen_of, counts_of, rules_of, IsUnmarked}
 
 -- the number of blocks
@@ -32,7 +32,7 @@ count_at audit b = slice_index (counts_of audit.marks) b
 
 -- the note of a block
 abbrev pub note_at : Audit → ℕ → Note
-note_at audit b = note_of (slice_index_or audit.notes.items b no_kept_note)
+note_at audit b = note_in audit.notes b
 
 -- an audit of so many blocks that knows nothing of them
 pub record IsNew (nr : ℕ) (audit : Audit) : Type 0 where

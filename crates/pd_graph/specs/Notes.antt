@@ -1,7 +1,8 @@
 -- The notes of settling, and how they are kept.
-use Rattle.std.specs.Prelude.{false, Some, None, if◌then◌else◌}
+use Rattle.std.specs.Prelude.{ℕ, true, false, Some, None, if◌then◌else◌, slice_index_or}
 use Rattle.pd_graph.specs.declared.notes.Note.{Note}
 use Rattle.pd_graph.specs.declared.notes.KeptNote.{KeptNote}
+use Rattle.pd_graph.specs.declared.notes.Notes.{Notes}
 
 -- the note that is kept
 abbrev pub note_of : KeptNote → Note
@@ -10,12 +11,21 @@ note_of kept = record {
   greatest = if kept.has_greatest then Some kept.greatest else None;
   below = kept.below;
   height = kept.height;
+  in_range = kept.in_range;
 }
 
 -- the note of a block that nothing is known of
 abbrev pub no_note : Note
-no_note = record { least = None; greatest = None; below = 0; height = 0 }
+no_note = record { least = None; greatest = None; below = 0; height = 0; in_range = true }
 
 -- and as it is kept
 abbrev pub no_kept_note : KeptNote
-no_kept_note = record { least = 0; greatest = 0; below = 0; height = 0; has_least = false; has_greatest = false }
+no_kept_note = record { least = 0; greatest = 0; below = 0; height = 0; has_least = false; has_greatest = false; in_range = true }
+
+-- the number of blocks
+abbrev pub size_of : Notes → ℕ
+size_of notes = notes.nr
+
+-- the note of a block
+abbrev pub note_in : Notes → ℕ → Note
+note_in notes b = note_of (slice_index_or notes.kept.items b no_kept_note)

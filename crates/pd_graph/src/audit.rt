@@ -1,12 +1,13 @@
 ghost use Rattle.pd_kinds.specs.declared.limits.TheConstants.{MAX_META_BLOCKS};
-ghost use Rattle.std.specs.Prelude.{◌≡◌, ℕ, ◌<◌, ◌≤◌, ◌==◌, ◌||◌, ◌&&◌, false, length, IfOk, if◌then◌else◌};
+ghost use Rattle.std.specs.Prelude.{◌≡◌, ℕ, ◌<◌, ◌≤◌, ◌==◌, ◌||◌, ◌&&◌, false, IfOk, if◌then◌else◌};
 ghost use Rattle.pd_kinds.specs.declared.rule.Rule.{Rule};
 ghost use Rattle.pd_kinds.specs.RuleSet.{has_rule};
 ghost use Rattle.pd_kinds.specs.Rule.{same_rule};
 ghost use Rattle.pd_graph.specs.Marks.{HasPlaces};
+ghost use Rattle.pd_graph.specs.Notes.{size_of};
 
-use crate::marks::{Marks, table};
-use crate::notes::{KeptNote, Note};
+use crate::marks::Marks;
+use crate::notes::{Note, Notes};
 use crate::roles::are_several;
 use pd_kinds::{Rule, Rules};
 use std::alloc::{AllocError, Global};
@@ -18,9 +19,10 @@ pub struct Audit {
     nr: u64,
     pub(crate) walked: bool,
     pub(crate) marks: Marks,
-    notes: Vec<KeptNote>,
+    /// The notes of settling. Whatever is noted there, the walk's marks stay.
+    pub notes: Notes,
     ghost places: { HasPlaces nr marks },
-    ghost note_places: { length notes.items ≡ nr },
+    ghost note_places: { size_of notes ≡ nr },
     ghost some: { 1 ≤ nr },
     ghost few: { nr ≤ MAX_META_BLOCKS },
 }
@@ -35,14 +37,8 @@ impl Audit {
         requires few { nr ≤ MAX_META_BLOCKS }
         ensures { IfOk result (IsNew nr) }
     {
-        let unknown = KeptNote::of(Note {
-            least: None,
-            greatest: None,
-            below: 0,
-            height: 0,
-        });
         let marks = Marks::new(alloc, nr as usize)?;
-        let notes = table(alloc, nr as usize, unknown)?;
+        let notes = Notes::new(alloc, nr)?;
         Ok(Audit {
             nr,
             walked: false,
@@ -117,7 +113,7 @@ impl Audit {
         requires { b < blocks_of self.now }
         ensures { result ≡ note_at self.now b }
     {
-        self.notes[b as usize].note()
+        self.notes.note(b)
     }
 
     /// Replaces the note of block b.
@@ -126,6 +122,6 @@ impl Audit {
         ensures notes { (c : ℕ) → note_at self.new c ≡ (if c == b then note else note_at self.old c) }
         ensures others { KeepsButNotes self.old self.new }
     {
-        self.notes[b as usize] = KeptNote::of(note);
+        self.notes.set_note(b, note);
     }
 }

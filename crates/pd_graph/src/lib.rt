@@ -11,6 +11,6 @@ mod walking;
 
 pub use audit::Audit;
 pub use format::Format;
-pub use notes::Note;
+pub use notes::{Note, Notes};
 pub use roles::has_role;
 pub use walking::walk;

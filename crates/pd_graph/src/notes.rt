@@ -1,8 +1,11 @@
-ghost use Rattle.std.specs.Prelude.{◌≡◌};
-ghost use Rattle.pd_graph.specs.Notes.{note_of};
+ghost use Rattle.pd_kinds.specs.declared.limits.TheConstants.{MAX_META_BLOCKS};
+ghost use Rattle.std.specs.Prelude.{◌≡◌, ℕ, ◌<◌, ◌≤◌, ◌==◌, length, IfOk, if◌then◌else◌};
+
+use crate::marks::table;
+use std::alloc::{AllocError, Global};
 
 /// What settling keeps of a node: the least and the greatest key below it, the number of entries below it,
-/// and its height.
+/// its height, and whether its own children are in range.
 #[derive(Clone, Copy, Debug, PartialEq, Eq)]
 pub struct Note {
     /// The least key, where there is one.
@@ -14,6 +17,9 @@ pub struct Note {
     /// How many nodes the longest way down to a leaf has: from 1, for a leaf itself, to 64 for a settled node.
     /// It is 0 where nothing is known of the node, and greater where it is too deep.
     pub height: u64,
+    /// Whether the keys below each child are in the range that the node's own keys give it. Only of a settled
+    /// inner node it may be false.
+    pub in_range: bool,
 }
 
 /// A note as it is kept, in 40 bytes: a key that there isn't is 0.
@@ -25,9 +31,12 @@ pub(crate) struct KeptNote {
     height: u64,
     has_least: bool,
     has_greatest: bool,
+    in_range: bool,
 }
 
 impl KeptNote {
+    ghost use Rattle.pd_graph.specs.Notes.{note_of};
+
     /// The note as it is kept.
     pub(crate) fn of(note: Note) -> KeptNote
         ensures { note_of result ≡ note }
@@ -39,6 +48,7 @@ impl KeptNote {
             height: note.height,
             has_least: note.least.is_some(),
             has_greatest: note.greatest.is_some(),
+            in_range: note.in_range,
         }
     }
 
@@ -51,6 +61,66 @@ impl KeptNote {
             greatest: self.has_greatest.then_some(self.greatest),
             below: self.below,
             height: self.height,
+            in_range: self.in_range,
         }
+    }
+}
+
+/// A note for each of so many blocks.
+#[derive(Drop)]
+pub struct Notes {
+    nr: u64,
+    kept: Vec<KeptNote>,
+    ghost places: { length kept.items ≡ nr },
+    ghost some: { 1 ≤ nr },
+    ghost few: { nr ≤ MAX_META_BLOCKS },
+}
+
+impl Notes {
+    ghost use Rattle.pd_graph.specs.Notes.{size_of, note_in, no_note};
+
+    /// Notes of so many blocks, from 1 to `MAX_META_BLOCKS`, of which nothing is known. It takes 40 bytes a block;
+    /// want of memory is the only error.
+    pub fn new(alloc: Global, nr: u64) -> Result<Notes, AllocError>
+        requires some { 1 ≤ nr }
+        requires few { nr ≤ MAX_META_BLOCKS }
+        ensures number { IfOk result (λ notes. size_of notes ≡ nr) }
+        ensures notes { IfOk result (λ notes. (b : ℕ) → note_in notes b ≡ no_note) }
+    {
+        let unknown = KeptNote::of(Note {
+            least: None,
+            greatest: None,
+            below: 0,
+            height: 0,
+            in_range: true,
+        });
+        let kept = table(alloc, nr as usize, unknown)?;
+        Ok(Notes { nr, kept })
+    }
+
+    /// The number of blocks.
+    pub fn nr(&self) -> u64
+        ensures number { result ≡ size_of self.now }
+        ensures some { 1 ≤ result }
+        ensures few { result ≤ MAX_META_BLOCKS }
+    {
+        self.nr
+    }
+
+    /// What is noted of block b.
+    pub fn note(&self, b: u64) -> Note
+        requires { b < size_of self.now }
+        ensures { result ≡ note_in self.now b }
+    {
+        self.kept[b as usize].note()
+    }
+
+    /// Replaces the note of block b.
+    pub fn set_note(&mut self, b: u64, note: Note)
+        requires { b < size_of self.old }
+        ensures notes { (c : ℕ) → note_in self.new c ≡ (if c == b then note else note_in self.old c) }
+        ensures number { size_of self.new ≡ size_of self.old }
+    {
+        self.kept[b as usize] = KeptNote::of(note);
     }
 }

@@ -1,11 +1,8 @@
-use Rattle.std.proofs.Common.{◌≡◌, Bool, false, ◌||◌, ◌&&◌, refl, ap, ◌∙◌, List, get_or}
+use Rattle.std.proofs.Common.{◌≡◌, Bool, false, ◌||◌, ◌&&◌, refl, ap, ◌∙◌}
 use Rattle.pd_kinds.specs.Rule.{same_rule}
 use Rattle.pd_kinds.specs.declared.rule.Rule.TheVariants.{Role}
-use Rattle.pd_graph.specs.declared.notes.KeptNote.{KeptNote}
-use Rattle.pd_graph.specs.Notes.{note_of, no_kept_note}
 use Rattle.pd_graph.specs.Roles.{has_several}
 use Rattle.pd_graph.proofs.BitLemmas.{none_several}
-use Rattle.pd_graph.proofs.TableLemmas.{empty_notes}
 use Rattle.pd_graph.proofs.audit.Audit.new.Goals as goal
 
 no_rule : (kept several role : Bool) → kept ≡ false → several ≡ false → (kept || (several && role)) ≡ false
@@ -18,6 +15,6 @@ returns c = record {
   roles = c.in_ok-marks.ensures.unmarked.seen;
   rules = λ b wanted. no_rule _ _ (same_rule Role wanted) (c.in_ok-marks.ensures.unmarked.rules b wanted) (ap has_several (c.in_ok-marks.ensures.unmarked.seen b) ∙ none_several);
   counts = c.in_ok-marks.ensures.unmarked.counts;
-  notes = λ b. ap (λ (items : List KeptNote). note_of (get_or items b no_kept_note)) c.in_ok-notes.ensures ∙ empty_notes c.args.nr b c.of-unknown.result c.of-unknown.ensures;
+  notes = c.in_ok-notes.ensures.notes;
   unmarked = c.in_ok-marks.ensures.unmarked;
 }
