@@ -11,6 +11,7 @@ fn audit_keeps_a_mark_and_a_note(rt: HostRuntime) -> Result<(), Fail> {
         greatest: None,
         below: 5,
         height: 1,
+        in_range: false,
     };
     audit.mark(1, Rule::Level);
     audit.set_note(2, note);

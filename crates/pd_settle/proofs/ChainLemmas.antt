@@ -1,7 +1,7 @@
 -- Chains of inner edges, and what stands below a node that isn't deep.
-use Rattle.std.proofs.Common.{◌≡◌, inl, inr, ℕ, zero, suc, ◌+◌, ◌-◌, ◌≤◌, Bool, true, false, nat_eq, List, [], ◌∷◌, refl, ◌∙◌, ap, subst, arith}
-use Rattle.std.specs.List.{list_any, AllByRecursion}
-use Rattle.std.proofs.lemmas.Bool.{cases_Bool, or_cases, or_left, or_right, or_from, eqb-true, both_ways}
+use Rattle.std.proofs.Common.{◌≡◌, inl, inr, ℕ, zero, suc, ◌+◌, ◌-◌, ◌≤◌, Bool, true, false, nat_eq, List, [], ◌∷◌, refl, sym, ◌∙◌, ap, subst, arith, eq-eqb}
+use Rattle.std.specs.List.{list_any, list_all, AllByRecursion}
+use Rattle.std.proofs.lemmas.Bool.{cases_Bool, or_cases, or_left, or_right, or_from, and_parts, and_from, eqb-true, both_ways}
 use Rattle.pd_kinds.specs.Order.{has_chain}
 
 -- a number is in a list
@@ -21,6 +21,29 @@ pub all_among : (P : ℕ → Type 0) (xs : List ℕ) → ((q : ℕ) → is_among
 all_among P [] each = tt
 all_among P (x ∷ xs) each =
     (each x (or_left (nat_eq x x) _ (grind arith)), all_among P xs (λ q among. each q (or_right (nat_eq x q) _ among)))
+
+-- each of a list passes
+pub among_passes : (f : ℕ → Bool) (c : ℕ) (xs : List ℕ) → list_all f xs ≡ true → is_among c xs ≡ true → f c ≡ true
+among_passes f c [] all among = absurd (both_ways _ refl among)
+among_passes f c (x ∷ xs) all among =
+    let parts = and_parts (f x) (list_all f xs) all in
+    elim (or_cases (nat_eq x c) (is_among c xs) among) [
+      | inl same ↦ ap f (sym (eqb-true x c same)) ∙ parts.0
+      | inr later ↦ among_passes f c xs parts.1 later
+    ]
+
+pub all_pass : (f : ℕ → Bool) (xs : List ℕ) → ((q : ℕ) → is_among q xs ≡ true → f q ≡ true) → list_all f xs ≡ true
+all_pass f [] each = refl
+all_pass f (x ∷ xs) each =
+    and_from (f x) (list_all f xs) (each x (or_left (nat_eq x x) _ (grind arith))) (all_pass f xs (λ q among. each q (or_right (nat_eq x q) _ among)))
+
+-- one of a list passes
+pub one_passes : (f : ℕ → Bool) (xs : List ℕ) → list_any f xs ≡ true → (c : ℕ) × (is_among c xs ≡ true) × (f c ≡ true)
+one_passes f [] some = absurd (both_ways _ refl some)
+one_passes f (x ∷ xs) some = elim (or_cases (f x) (list_any f xs) some) [
+  | inl first ↦ (x, grind (arith, eq-eqb x x refl), first)
+  | inr later ↦ let rest = one_passes f xs later in (rest.0, grind (arith, rest.1), rest.2)
+]
 
 -- a wider test
 pub any_wider : (f g : ℕ → Bool) (xs : List ℕ) → ((q : ℕ) → f q ≡ true → g q ≡ true) → list_any f xs ≡ true → list_any g xs ≡ true
@@ -63,6 +86,13 @@ module _ (down : ℕ → List ℕ) where
   pub longer_chain : (j p q : ℕ) → is_among q (down p) ≡ true → has_chain down j q ≡ true → has_chain down (suc j) p ≡ true
   unfolding has_chain
   longer_chain j p q leads chain = passes_among (has_chain down j) q (down p) leads chain
+
+  -- so where the node has none, the child has none that is shorter by one
+  pub ends_below : (j p q : ℕ) → has_chain down (suc j) p ≡ false → is_among q (down p) ≡ true → has_chain down j q ≡ false
+  ends_below j p q ends leads = elim (cases_Bool (has_chain down j q)) [
+    | inl chain ↦ absurd (both_ways _ ends (longer_chain j p q leads chain))
+    | inr e ↦ e
+  ]
 
   -- where each node of a set has a child in it, chains never end
   pub never_ends : (S : ℕ → Type 0) → ((p : ℕ) → S p → (q : ℕ) × S q × (is_among q (down p) ≡ true))

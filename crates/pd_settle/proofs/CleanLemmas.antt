@@ -1,17 +1,20 @@
 -- What the stage Walk says of a clean image: each block has one role, and no bad rule in it.
 use Rattle.std.proofs.Common.{◌≡◌, inl, inr, ℕ, zero, suc, ◌+◌, ◌<◌, ◌≤◌, Bool, true, false, ◌&&◌, cond, List, ◌∷◌, length, filter, sym, ◌∙◌, ap, arith}
 use Rattle.std.specs.List.{list_any, range_with_len}
-use Rattle.std.proofs.lemmas.Bool.{cases_Bool, cases_eq, cases_lt, both_ways, and_from, or_left, or_right, lt-ltb}
+use Rattle.std.proofs.lemmas.Bool.{cases_Bool, cases_eq, cases_lt, both_ways, and_parts, and_from, or_left, or_right, lt-ltb}
 use Rattle.pd_kinds.specs.declared.rule.Rule.{Rule}
 use Rattle.pd_kinds.specs.declared.rule.Rule.TheVariants as r
 use Rattle.pd_kinds.specs.Graph.{Graph, block_at, pair, block_of, role_of, is_reached}
+use Rattle.pd_kinds.specs.Lawful.{IsLawful}
 use Rattle.pd_kinds.specs.Stages.{roles_of, walk_bad}
 use Rattle.pd_laws.proofs.PathLemmas.{passes_below}
 use Rattle.pd_graph.specs.declared.audit.Audit.{Audit}
 use Rattle.pd_graph.specs.Audit.{has_rule_at}
 use Rattle.pd_graph.specs.Walk.{IsWalked}
 use Rattle.pd_graph.proofs.AnyLemmas.{any_kept}
-use Rattle.pd_settle.specs.Ordering.{IsClean}
+use Rattle.pd_settle.specs.Good.{AreSettleable}
+use Rattle.pd_settle.specs.Ordering.{is_node, IsClean}
+use Rattle.pd_settle.proofs.ReachLemmas.{reached_within, any_child_node}
 
 -- two numbers of a range that pass
 keeps_one : (b : Bool) (x : ℕ) (kept : List ℕ) → length kept ≤ length (cond b (x ∷ kept) kept)
@@ -91,3 +94,14 @@ clean_by graph image none = record {
 pub clean_of : (graph : Graph) (image : List (List ℕ)) (audit : Audit) → IsWalked graph image audit
     → ((b : ℕ) (rule : Rule) → b < graph.nr → has_rule_at audit b rule ≡ false) → IsClean graph image
 clean_of graph image audit walked sound = clean_by graph image (λ b rule small. sym (walked.rules b rule small) ∙ sound b rule small)
+
+-- so the nodes of the trees can be settled, and each block counts as fit
+pub settleable_of : (graph : Graph) (image : List (List ℕ)) → IsLawful graph → IsClean graph image → AreSettleable graph image (is_node graph image) (λ c. true)
+settleable_of graph image lawful clean = record {
+  alone = λ p q first second same.
+      let reached = (and_parts (is_reached graph image q) (graph.is_tree (role_of q)) second).0 in
+      let small = (reached_within graph image q lawful reached).1 in
+      clean.alone p q (omega arith) (and_parts (is_reached graph image p) (graph.is_tree (role_of p)) first).0 reached same;
+  sound = λ b role small within node fit. clean.sound b role small within (and_parts (is_reached graph image (pair b role)) (graph.is_tree (role_of (pair b role))) node).0;
+  closed = any_child_node graph image lawful;
+}

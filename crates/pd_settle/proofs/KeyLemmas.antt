@@ -61,26 +61,28 @@ greatest-append [] ys = refl
 greatest-append (x ∷ xs) ys = ap (higher (Some x)) (greatest-append xs ys) ∙ sym (higher-assoc (Some x) (greatest_of xs) (greatest_of ys))
 
 -- the notes of two lists as one
-pub same_notes : (least least' greatest greatest' : Option ℕ) (below below' height : ℕ) → least ≡ least' → greatest ≡ greatest' → below ≡ below'
-    → ◌≡◌ {A = Note} (record { least = least; greatest = greatest; below = below; height = height }) (record { least = least'; greatest = greatest'; below = below'; height = height })
-same_notes least least' greatest greatest' below below' height e f g = rw (e, f, g) refl
+pub same_notes : (least least' greatest greatest' : Option ℕ) (below below' height : ℕ) (in_range : Bool) → least ≡ least' → greatest ≡ greatest' → below ≡ below'
+    → ◌≡◌ {A = Note} (record { least = least; greatest = greatest; below = below; height = height; in_range = in_range })
+    (record { least = least'; greatest = greatest'; below = below'; height = height; in_range = in_range })
+same_notes least least' greatest greatest' below below' height in_range e f g = rw (e, f, g) refl
 
-pub join_keys : (xs ys : List ℕ) (h k : ℕ) → join (keys_note xs h) (keys_note ys k) ≡ keys_note (xs ++ ys) (max h k)
-join_keys xs ys h k =
-    same_notes _ _ _ _ _ _ (max h k) (sym (least-append xs ys)) (sym (greatest-append xs ys))
+pub join_keys : (xs ys : List ℕ) (h k : ℕ) (r s : Bool) → join (keys_note xs h r) (keys_note ys k s) ≡ keys_note (xs ++ ys) (max h k) true
+join_keys xs ys h k r s =
+    same_notes _ _ _ _ _ _ (max h k) true (sym (least-append xs ys)) (sym (greatest-append xs ys))
     (let both = length-append xs ys in omega arith)
 
 -- the keys of children, by their notes
-pub joined_keys : (keys : ℕ → List ℕ) (notes : ℕ → Note) (cs xs : List ℕ) (sum : Note) → sum ≡ keys_note xs sum.height
-    → AllByRecursion (λ c. notes c ≡ keys_note (keys c) (notes c).height) cs
-    → joined notes sum cs ≡ keys_note (xs ++ flat_map keys cs) (joined notes sum cs).height
-joined_keys keys notes [] xs sum same each = same ∙ ap (λ (ks : List ℕ). keys_note ks sum.height) (sym (append-nil xs))
+pub joined_keys : (keys : ℕ → List ℕ) (notes : ℕ → Note) (cs xs : List ℕ) (sum : Note) → sum ≡ keys_note xs sum.height sum.in_range
+    → AllByRecursion (λ c. notes c ≡ keys_note (keys c) (notes c).height (notes c).in_range) cs
+    → joined notes sum cs ≡ keys_note (xs ++ flat_map keys cs) (joined notes sum cs).height (joined notes sum cs).in_range
+joined_keys keys notes [] xs sum same each = same ∙ ap (λ (ks : List ℕ). keys_note ks sum.height sum.in_range) (sym (append-nil xs))
 joined_keys keys notes (c ∷ cs) xs sum same each =
-    let both : join sum (notes c) ≡ keys_note (xs ++ keys c) (max sum.height (notes c).height) =
+    let both : join sum (notes c) ≡ keys_note (xs ++ keys c) (max sum.height (notes c).height) true =
     ap (λ (a : Note). join a (notes c)) same
-    ∙ (ap (λ (b : Note). join (keys_note xs sum.height) b) each.0 ∙ join_keys xs (keys c) sum.height (notes c).height) in
+    ∙ (ap (λ (b : Note). join (keys_note xs sum.height sum.in_range) b) each.0 ∙ join_keys xs (keys c) sum.height (notes c).height sum.in_range (notes c).in_range) in
     let rest = joined_keys keys notes cs (xs ++ keys c) (join sum (notes c)) both each.1 in
-    rest ∙ ap (λ (ks : List ℕ). keys_note ks (joined notes (join sum (notes c)) cs).height) (append_assoc xs (keys c) (flat_map keys cs))
+    rest
+    ∙ ap (λ (ks : List ℕ). keys_note ks (joined notes (join sum (notes c)) cs).height (joined notes (join sum (notes c)) cs).in_range) (append_assoc xs (keys c) (flat_map keys cs))
 
 -- the height is at least that of each child
 pub joined_starts : (notes : ℕ → Note) (cs : List ℕ) (sum : Note) → sum.height ≤ (joined notes sum cs).height
@@ -153,22 +155,22 @@ some_kept : (keys : List ℕ) → not (nat_eq (length keys) 0) ≡ is_some (leas
 some_kept [] = refl
 some_kept (x ∷ xs) = rw (some_first x (least_of xs)) (ap not (differ (suc (length xs)) 0 (λ e. absurd (omega arith))))
 
-pub range_kept : (low : ℕ) (high : Option ℕ) (keys : List ℕ) (h : ℕ) → is_child_in_range low high keys ≡ is_note_in_range low high (keys_note keys h)
-range_kept low None keys h =
+pub range_kept : (low : ℕ) (high : Option ℕ) (keys : List ℕ) (h : ℕ) (r : Bool) → is_child_in_range low high keys ≡ is_note_in_range low high (keys_note keys h r)
+range_kept low None keys h r =
     rw (some_kept keys, floor_kept low keys, and-true (keeps_floor low (least_of keys))) refl
-range_kept low (Some high) keys h =
+range_kept low (Some high) keys h r =
     rw (some_kept keys, floor_kept low keys, ceiling_kept high keys) refl
 
 -- the children of a node are in range, by their notes
-pub ranges_kept : (keys : ℕ → List ℕ) (notes : ℕ → Note) (lows cs : List ℕ) → AllByRecursion (λ c. notes c ≡ keys_note (keys c) (notes c).height) cs
+pub ranges_kept : (keys : ℕ → List ℕ) (notes : ℕ → Note) (lows cs : List ℕ) → AllByRecursion (λ c. notes c ≡ keys_note (keys c) (notes c).height (notes c).in_range) cs
     → are_children_in_range lows (map keys cs) ≡ are_notes_in_range notes lows cs
 unfolding are_children_in_range
 ranges_kept keys notes [] cs each = refl
 ranges_kept keys notes (low ∷ []) [] each = refl
 ranges_kept keys notes (low ∷ high ∷ lows) [] each = refl
 ranges_kept keys notes (low ∷ []) (c ∷ cs) each =
-    range_kept low None (keys c) (notes c).height ∙ ap (is_note_in_range low None) (sym each.0)
+    range_kept low None (keys c) (notes c).height (notes c).in_range ∙ ap (is_note_in_range low None) (sym each.0)
 ranges_kept keys notes (low ∷ high ∷ lows) (c ∷ cs) each =
     ap (λ (b : Bool). b && are_children_in_range (high ∷ lows) (map keys cs))
-    (range_kept low (Some high) (keys c) (notes c).height ∙ ap (is_note_in_range low (Some high)) (sym each.0))
+    (range_kept low (Some high) (keys c) (notes c).height (notes c).in_range ∙ ap (is_note_in_range low (Some high)) (sym each.0))
     ∙ ap (λ (b : Bool). is_note_in_range low (Some high) (notes c) && b) (ranges_kept keys notes (high ∷ lows) cs each.1)

@@ -39,10 +39,10 @@ greatest_at (x ∷ xs) up =
     let last = greatest_last x xs up in
     ap (slice_get (x ∷ xs)) (let e : suc (length xs) - 1 ≡ length xs = omega arith in e) ∙ (last.3 ∙ sym last.1)
 
-pub ends_are_noted : (xs : List ℕ) → is_ascending xs ≡ true → length xs ≤ 338 → ends_note xs ≡ keys_note xs 1
+pub ends_are_noted : (xs : List ℕ) → is_ascending xs ≡ true → length xs ≤ 338 → ends_note xs ≡ keys_note xs 1 true
 ends_are_noted xs up few =
     let c : length xs ≡ capped (length xs) = omega arith in
-    same_notes _ _ _ _ _ _ 1 (least_at xs up) (greatest_at xs up) c
+    same_notes _ _ _ _ _ _ 1 true (least_at xs up) (greatest_at xs up) c
 
 -- a block that an edge leads to is one of those that there are
 pub among_within : (graph : Graph) (edges : List Edge) (c : ℕ) → AllByRecursion (IsWithin graph) edges → list_any (λ d. nat_eq d c) (blocks_of_edges edges) ≡ true

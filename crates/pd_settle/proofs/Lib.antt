@@ -1,6 +1,7 @@
 pub mod ChainLemmas
 pub mod KeyLemmas
 pub mod NotedLemmas
+pub mod GoodLemmas
 pub mod LookLemmas
 pub mod LeafLemmas
 pub mod StackLemmas
@@ -9,8 +10,10 @@ pub mod VerdictLemmas
 pub mod DescentLemmas
 pub mod StepLemmas
 pub mod ReachLemmas
+pub mod FineLemmas
 pub mod ExactLemmas
 pub mod CleanLemmas
 pub mod EntryLemmas
 pub mod SettledLemmas
+pub mod RoleLemmas
 pub mod BestLemmas

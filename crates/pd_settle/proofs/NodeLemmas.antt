@@ -18,7 +18,7 @@ use Rattle.pd_graph.proofs.BitLemmas.{pair_block, pair_role}
 use Rattle.pd_graph.proofs.AnyLemmas.{same_test, any_kept}
 use Rattle.pd_settle.specs.Notes.{join, joined, are_notes_in_range}
 use Rattle.pd_settle.specs.Looking.{blocks_of_edges}
-use Rattle.pd_settle.specs.Ordering.{is_node, IsClean}
+use Rattle.pd_settle.specs.Ordering.{IsClean}
 use Rattle.pd_settle.proofs.ChainLemmas.{is_among, never_ends}
 
 -- what leads on from a pair that is reached is reached
@@ -99,17 +99,6 @@ module _ (graph : Graph) (image : List (List ℕ)) (b role : ℕ) (block : List 
   child_at laws is_inner c among =
       ap (is_among (pair c role)) (children_at laws is_inner) ∙ among_map (λ d. pair d role) c (blocks_of_edges (graph.edges role b block)) among
 
-  -- a child of a node is a node
-  pub child_node : KeepsLaws graph role b block → graph.is_inner role b block ≡ true → b < graph.nr → is_node graph image (pair b role) ≡ true
-      → (c : ℕ) → is_among c (blocks_of_edges (graph.edges role b block)) ≡ true → is_node graph image (pair c role) ≡ true
-  child_node laws is_inner small node c among =
-      let parts = and_parts _ _ node in
-      let tree : graph.is_tree role ≡ true = ap graph.is_tree (sym (pair_role b role within)) ∙ parts.1 in
-      and_from _ _
-      (reached_next graph image (pair b role) (pair c role) (omega arith) parts.0
-      (ap (is_among (pair c role)) (sym (children_next is_inner)) ∙ child_at laws is_inner c among))
-      (ap graph.is_tree (pair_role c role within) ∙ tree)
-
 -- what holds in some role in which a block is reached holds in its only one
 pub in_only_role : (graph : Graph) (image : List (List ℕ)) (b role : ℕ) (f : ℕ → Bool) → b < graph.nr → role < 16 → IsClean graph image → is_reached graph image (pair b role) ≡ true
     → list_any f (roles_of graph image b) ≡ f role
@@ -143,30 +132,30 @@ abbrev pub IsUnder : Graph → List (List ℕ) → ℕ → ℕ → List ℕ → 
 IsUnder graph image role b [] = Unit {0}
 IsUnder graph image role b (c ∷ rest) = is_among (pair b role) (children graph image (pair c role)) ≡ true
 
-abbrev pub IsTrail : Graph → List (List ℕ) → ℕ → List ℕ → Type 0
-IsTrail graph image role [] = Unit {0}
-IsTrail graph image role (b ∷ rest) = (is_node graph image (pair b role) ≡ true) × IsUnder graph image role b rest × IsTrail graph image role rest
+abbrev pub IsTrail : Graph → List (List ℕ) → (ℕ → Bool) → ℕ → List ℕ → Type 0
+IsTrail graph image nodes role [] = Unit {0}
+IsTrail graph image nodes role (b ∷ rest) = (nodes (pair b role) ≡ true) × IsUnder graph image role b rest × IsTrail graph image nodes role rest
 
 -- each but the top has a child on the stack
-trail_child : (graph : Graph) (image : List (List ℕ)) (role b x : ℕ) (rest : List ℕ) → IsTrail graph image role (b ∷ rest) → is_among x rest ≡ true
+trail_child : (graph : Graph) (image : List (List ℕ)) (nodes : ℕ → Bool) (role b x : ℕ) (rest : List ℕ) → IsTrail graph image nodes role (b ∷ rest) → is_among x rest ≡ true
     → (y : ℕ) × (is_among y (b ∷ rest) ≡ true) × (is_among (pair y role) (children graph image (pair x role)) ≡ true)
-trail_child graph image role b x [] trail among = absurd (both_ways _ refl among)
-trail_child graph image role b x (c ∷ more) trail among = elim (or_cases (nat_eq c x) (is_among x more) among) [
+trail_child graph image nodes role b x [] trail among = absurd (both_ways _ refl among)
+trail_child graph image nodes role b x (c ∷ more) trail among = elim (or_cases (nat_eq c x) (is_among x more) among) [
   | inl same ↦ (
     b,
     or_left (nat_eq b b) _ (eq-eqb b b refl),
     ap (λ (d : ℕ). is_among (pair b role) (children graph image (pair d role))) (sym (eqb-true c x same)) ∙ trail.1,
   )
   | inr later ↦
-      let above = trail_child graph image role c x more trail.2 later in
+      let above = trail_child graph image nodes role c x more trail.2 later in
       (above.0, or_right (nat_eq b above.0) _ above.1, above.2)
 ]
 
 -- so where the top has one too, all are deep
-pub trail_is_deep : (graph : Graph) (image : List (List ℕ)) (role b c j : ℕ) (rest : List ℕ) → IsTrail graph image role (b ∷ rest)
+pub trail_is_deep : (graph : Graph) (image : List (List ℕ)) (nodes : ℕ → Bool) (role b c j : ℕ) (rest : List ℕ) → IsTrail graph image nodes role (b ∷ rest)
     → is_among c (b ∷ rest) ≡ true → is_among (pair c role) (children graph image (pair b role)) ≡ true
     → has_chain (children graph image) j (pair c role) ≡ true
-trail_is_deep graph image role b c j rest trail among leads =
+trail_is_deep graph image nodes role b c j rest trail among leads =
     let S : ℕ → Type 0 = λ q. (x : ℕ) × (is_among x (b ∷ rest) ≡ true) × (q ≡ pair x role) in
     never_ends (children graph image) S
     (λ p within. elim (or_cases (nat_eq b within.0) (is_among within.0 rest) within.1) [
@@ -176,6 +165,6 @@ trail_is_deep graph image role b c j rest trail among leads =
         ap (λ (q : ℕ). is_among (pair c role) (children graph image q)) (within.2 ∙ ap (λ (x : ℕ). pair x role) (sym (eqb-true b within.0 same))) ∙ leads,
       )
       | inr later ↦
-          let above = trail_child graph image role b within.0 rest trail later in
+          let above = trail_child graph image nodes role b within.0 rest trail later in
           (pair above.0 role, (above.0, above.1, refl), ap (λ (q : ℕ). is_among (pair above.0 role) (children graph image q)) within.2 ∙ above.2)
     ]) j (pair c role) (c, among, refl)

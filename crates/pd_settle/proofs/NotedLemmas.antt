@@ -24,7 +24,7 @@ module _ (inner : ℕ → Bool) (down : ℕ → List ℕ) (own : ℕ → List �
       → gathered inner down own 63 p ≡ cond (inner p) (flat_map (gathered inner down own 63) (down p)) (own p)
   keys_at p h few ends = gathered_step inner down own 63 p (ends_by down h 64 p few ends)
 
-  pub noted_leaf : (p : ℕ) → inner p ≡ false → down p ≡ [] → IsNoted inner down own p (keys_note (own p) 1)
+  pub noted_leaf : (p : ℕ) → inner p ≡ false → down p ≡ [] → IsNoted inner down own p (keys_note (own p) 1 true)
   noted_leaf p leaf none =
       let ends = ends_at_leaf down p none in
       record {
@@ -33,7 +33,7 @@ module _ (inner : ℕ → Bool) (down : ℕ → List ℕ) (own : ℕ → List �
         long = chain_none down p;
         ends = ends;
         keys =
-            ap (λ (ks : List ℕ). keys_note ks 1)
+            ap (λ (ks : List ℕ). keys_note ks 1 true)
             (sym (keys_at p 1 (omega arith) ends ∙ ap (λ (b : Bool). cond b (flat_map (gathered inner down own 63) (down p)) (own p)) leaf));
       }
 
@@ -52,9 +52,9 @@ module _ (inner : ℕ → Bool) (down : ℕ → List ℕ) (own : ℕ → List �
       let same : suc ((notes c).height - 1) ≡ m = let e = one.2 in omega arith in
       subst (λ (k : ℕ). has_chain down k p ≡ true) same (longer_chain down ((notes c).height - 1) p c one.1 noted.long)
 
-  pub noted_inner : (notes : ℕ → Note) (p : ℕ) → inner p ≡ true → ((c : ℕ) → is_among c (down p) ≡ true → IsLow c (notes c))
-      → IsNoted inner down own p (raised (joined notes no_note (down p)))
-  noted_inner notes p is_inner each =
+  pub noted_inner : (notes : ℕ → Note) (p : ℕ) (r : Bool) → inner p ≡ true → ((c : ℕ) → is_among c (down p) ≡ true → IsLow c (notes c))
+      → IsNoted inner down own p (raised (joined notes no_note (down p)) r)
+  noted_inner notes p r is_inner each =
       let sum = joined notes no_note (down p) in
       let m = sum.height in
       let all = all_among (λ c. IsLow c (notes c)) (down p) each in
@@ -66,7 +66,7 @@ module _ (inner : ℕ → Bool) (down : ℕ → List ℕ) (own : ℕ → List �
       (all_from_two (λ c. IsLow c (notes c)) (λ c. (notes c).height ≤ m) (λ c. has_chain down m c ≡ false)
       (λ c low most. ends_by down (notes c).height m c most low.noted.ends) (down p) all (joined_above notes (down p) no_note))) in
       let keys = joined_keys (gathered inner down own 63) notes (down p) [] no_note refl
-      (all_from (λ c. IsLow c (notes c)) (λ c. notes c ≡ keys_note (gathered inner down own 63 c) (notes c).height) (λ c low. low.noted.keys) (down p) all) in
+      (all_from (λ c. IsLow c (notes c)) (λ c. notes c ≡ keys_note (gathered inner down own 63 c) (notes c).height (notes c).in_range) (λ c low. low.noted.keys) (down p) all) in
       let below : flat_map (gathered inner down own 63) (down p) ≡ gathered inner down own 63 p =
       sym (keys_at p (m + 1) (omega arith) ends ∙ ap (λ (b : Bool). cond b (flat_map (gathered inner down own 63) (down p)) (own p)) is_inner) in
       record {
@@ -74,7 +74,7 @@ module _ (inner : ℕ → Bool) (down : ℕ → List ℕ) (own : ℕ → List �
         high = omega arith;
         long = subst (λ (k : ℕ). has_chain down k p ≡ true) (let e : m ≡ m + 1 - 1 = omega arith in e) (long_at notes p m each (joined_is notes (down p) no_note));
         ends = ends;
-        keys = ap raised keys ∙ ap (λ (ks : List ℕ). keys_note ks (m + 1)) below;
+        keys = ap (λ (n : Note). raised n r) keys ∙ ap (λ (ks : List ℕ). keys_note ks (m + 1) r) below;
       }
 
   -- and so are its children's ranges
@@ -82,7 +82,7 @@ module _ (inner : ℕ → Bool) (down : ℕ → List ℕ) (own : ℕ → List �
       → are_children_in_range lows (map (gathered inner down own 63) (down p)) ≡ are_notes_in_range notes lows (down p)
   ranged_inner notes p lows each =
       ranges_kept (gathered inner down own 63) notes lows (down p)
-      (all_from (λ c. IsLow c (notes c)) (λ c. notes c ≡ keys_note (gathered inner down own 63 c) (notes c).height) (λ c low. low.noted.keys) (down p)
+      (all_from (λ c. IsLow c (notes c)) (λ c. notes c ≡ keys_note (gathered inner down own 63 c) (notes c).height (notes c).in_range) (λ c low. low.noted.keys) (down p)
       (all_among (λ c. IsLow c (notes c)) (down p) each))
 
   -- a node that isn't deep, and one whose child isn't low

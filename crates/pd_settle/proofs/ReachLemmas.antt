@@ -47,12 +47,21 @@ module _ (graph : Graph) (image : List (List ℕ)) (lawful : IsLawful graph) whe
   unfolding children
   child_of p q among = child_cases p q (is_inner_pair graph image p) refl among
 
-  pub child_role : (p q : ℕ) → is_reached graph image p ≡ true → is_inner_pair graph image p ≡ true → is_among q (next graph image p) ≡ true → role_of q ≡ role_of p
+  -- a child has the role of the node, and lies within
+  pub role_of_child : (p q : ℕ) → role_of p < graph.roles → is_inner_pair graph image p ≡ true → is_among q (next graph image p) ≡ true → role_of q ≡ role_of p
   unfolding next
-  child_role p q reached e leads =
-      let within = (reached_within graph image p lawful reached).0 in
+  role_of_child p q known e leads =
+      let few = lawful.few_roles in
       leads_role (role_of p) (edges_of graph image p) q (omega arith)
-      ((lawful.each (role_of p) (block_of p) (block_at image (block_of p)) within).inner_edges e) leads
+      ((lawful.each (role_of p) (block_of p) (block_at image (block_of p)) known).inner_edges e) leads
+
+  pub child_within : (p q : ℕ) → role_of p < graph.roles → is_among q (next graph image p) ≡ true → (q % 16 < graph.roles) × (q < 16 * graph.nr)
+  unfolding next
+  child_within p q known leads =
+      leads_within graph (edges_of graph image p) q lawful.few_roles (lawful.each (role_of p) (block_of p) (block_at image (block_of p)) known).within leads
+
+  pub child_role : (p q : ℕ) → is_reached graph image p ≡ true → is_inner_pair graph image p ≡ true → is_among q (next graph image p) ≡ true → role_of q ≡ role_of p
+  child_role p q reached e leads = role_of_child p q (reached_within graph image p lawful reached).0 e leads
 
   pub any_child_node : (p q : ℕ) → is_node graph image p ≡ true → is_among q (children graph image p) ≡ true → is_node graph image q ≡ true
   any_child_node p q node among =

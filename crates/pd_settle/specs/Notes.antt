@@ -39,12 +39,13 @@ abbrev pub capped : ℕ → ℕ
 capped n = min n (2 ^ 64 - 1)
 
 -- the note of a node over these keys
-abbrev pub keys_note : List ℕ → ℕ → Note
-keys_note keys height = record {
+abbrev pub keys_note : List ℕ → ℕ → Bool → Note
+keys_note keys height in_range = record {
   least = least_of keys;
   greatest = greatest_of keys;
   below = capped (length keys);
   height = height;
+  in_range = in_range;
 }
 
 -- the note of a leaf by the first and the last of its keys
@@ -54,24 +55,26 @@ ends_note keys = record {
   greatest = slice_get keys (length keys - 1);
   below = length keys;
   height = 1;
+  in_range = true;
 }
 
 -- a note without keys
 abbrev pub keyless_note : ℕ → ℕ → Note
-keyless_note below height = record { least = None; greatest = None; below = below; height = height }
+keyless_note below height = record { least = None; greatest = None; below = below; height = height; in_range = true }
 
--- two notes of neighbours as one
+-- two notes of neighbours as one, which is no node's
 abbrev pub join : Note → Note → Note
 join a b = record {
   least = lower a.least b.least;
   greatest = higher a.greatest b.greatest;
   below = capped (a.below + b.below);
   height = max a.height b.height;
+  in_range = true;
 }
 
--- the note one step higher
-abbrev pub raised : Note → Note
-raised note = record note { height = note.height + 1 }
+-- the note one step higher, and whether the children are in range
+abbrev pub raised : Note → Bool → Note
+raised note in_range = record note { height = note.height + 1; in_range = in_range }
 
 -- the notes of children, one after another
 abbrev pub joined : (ℕ → Note) → Note → List ℕ → Note
@@ -105,4 +108,4 @@ pub record IsNoted (inner : ℕ → Bool) (down : ℕ → List ℕ) (own : ℕ �
   pub high : note.height ≤ 64
   pub long : has_chain down (note.height - 1) p ≡ true
   pub ends : has_chain down note.height p ≡ false
-  pub keys : note ≡ keys_note (gathered inner down own 63 p) note.height
+  pub keys : note ≡ keys_note (gathered inner down own 63 p) note.height note.in_range

@@ -7,6 +7,7 @@
 
 mod descending;
 mod fetching;
+mod in_role;
 mod laws;
 mod looking;
 mod settling;
@@ -14,6 +15,7 @@ mod stepping;
 mod summary;
 mod telling;
 
+pub use in_role::settle_role;
 pub use laws::{
     below_is_the_number_of_entries, greatest_is_the_greatest_key, keys_are_those_of_entries,
     least_is_the_least_key,

@@ -2,12 +2,12 @@
 
 ghost use Rattle.std.specs.Prelude.{◌≡◌, ◌+◌, ◌<◌, true, length, nat_lt, slice_get, Some, None};
 ghost use Rattle.std.specs.List.{list_all};
-ghost use Rattle.pd_graph.specs.Audit.{blocks_of, note_at};
+ghost use Rattle.pd_graph.specs.Notes.{size_of, note_in};
 ghost use Rattle.pd_settle.specs.Looking.{blocks_of_edges, is_low, IsFound, IsShallow};
 ghost use Rattle.pd_settle.specs.Notes.{ends_note, keyless_note};
 
 use crate::summary::{is_in_range, join};
-use pd_graph::{Audit, Format, Note};
+use pd_graph::{Format, Note, Notes};
 use pd_kinds::Block;
 
 /// What a look at the children of an inner node finds.
@@ -17,10 +17,12 @@ pub(crate) enum Seen {
     Down(u64),
     /// A child outside the device's blocks, as no sound node has one.
     Outside,
-    /// A child that shows that the node is deep.
+    /// A child that shows that the node is deep, or that isn't good itself.
     Deep,
-    /// The note of the node, and whether it is in range.
-    Shallow(Note, bool),
+    /// A child out of its range, where none may be.
+    Stray,
+    /// The note of the node.
+    Shallow(Note),
 }
 
 /// A note without keys.
@@ -32,6 +34,7 @@ pub(crate) fn keyless(below: u64, height: u64) -> Note
         greatest: None,
         below,
         height,
+        in_range: true,
     }
 }
 
@@ -44,13 +47,13 @@ fn child_at<F: Format>(format: &F, role: u8, block: &Block, i: usize) -> u64
     format.edge_of_any(role, block, i).1
 }
 
-/// The block of child i of a node all of whose children are blocks of the audit.
-fn block_at<F: Format>(audit: &Audit, format: &F, role: u8, block: &Block, i: usize) -> u64
+/// The block of child i of a node all of whose children are blocks that are noted.
+fn block_at<F: Format>(notes: &Notes, format: &F, role: u8, block: &Block, i: usize) -> u64
     requires role { role < F.ROLES }
     requires child { i < length ((F.contents format.now).edges role block.now.0) }
-    requires within { list_all (λ c. nat_lt c (blocks_of audit.now)) (blocks_of_edges ((F.contents format.now).edges role block.now.0)) ≡ true }
+    requires within { list_all (λ c. nat_lt c (size_of notes.now)) (blocks_of_edges ((F.contents format.now).edges role block.now.0)) ≡ true }
     ensures child { slice_get (blocks_of_edges ((F.contents format.now).edges role block.now.0)) i ≡ Some result }
-    ensures within { result < blocks_of audit.now }
+    ensures within { result < size_of notes.now }
 {
     child_at(format, role, block, i)
 }
@@ -68,51 +71,55 @@ fn key_at<F: Format>(format: &F, role: u8, block: &Block, number: usize, i: usiz
     }
 }
 
-/// The notes of the children of an inner node as that of the node, and whether each child is in range.
-fn sum_up<F: Format>(audit: &Audit, format: &F, role: u8, block: &Block) -> (Note, bool)
+/// The notes of the children of an inner node as that of the node.
+fn sum_up<F: Format>(notes: &Notes, format: &F, role: u8, block: &Block) -> Note
     requires role { role < F.ROLES }
     requires keys { length ((F.contents format.now).keys role block.now.0) ≡ length ((F.contents format.now).edges role block.now.0) }
-    requires within { list_all (λ c. nat_lt c (blocks_of audit.now)) (blocks_of_edges ((F.contents format.now).edges role block.now.0)) ≡ true }
-    requires low { list_all (λ c. is_low (note_at audit.now c)) (blocks_of_edges ((F.contents format.now).edges role block.now.0)) ≡ true }
-    ensures { IsShallow (note_at audit.now) ((F.contents format.now).keys role block.now.0)
-        (blocks_of_edges ((F.contents format.now).edges role block.now.0)) result.0 result.1 }
+    requires within { list_all (λ c. nat_lt c (size_of notes.now)) (blocks_of_edges ((F.contents format.now).edges role block.now.0)) ≡ true }
+    requires low { list_all (λ c. is_low (note_in notes.now c)) (blocks_of_edges ((F.contents format.now).edges role block.now.0)) ≡ true }
+    ensures { IsShallow (note_in notes.now) ((F.contents format.now).keys role block.now.0)
+        (blocks_of_edges ((F.contents format.now).edges role block.now.0)) result }
 {
     let mut sum = keyless(0, 0);
     let mut in_range = true;
     let number = format.edges_of_any(role, block);
     for i in 0..number {
-        let child = block_at(audit, format, role, block, i);
-        let note = audit.note(child);
+        let child = block_at(notes, format, role, block, i);
+        let note = notes.note(child);
         let low = format.key_of_any(role, block, i);
         let high = key_at(format, role, block, number, i + 1);
         let fits = is_in_range(low, high, note);
         in_range = in_range & fits;
         sum = join(sum, note);
     }
-    (
-        Note {
-            least: sum.least,
-            greatest: sum.greatest,
-            below: sum.below,
-            height: sum.height + 1,
-        },
+    Note {
+        least: sum.least,
+        greatest: sum.greatest,
+        below: sum.below,
+        height: sum.height + 1,
         in_range,
-    )
+    }
 }
 
-/// Looks at the children of an inner node, one after another.
-pub(crate) fn look<F: Format>(audit: &Audit, format: &F, role: u8, block: &Block) -> Seen
+/// Looks at the children of an inner node, one after another. Where it is strict, none of them may be out of its range.
+pub(crate) fn look<F: Format>(
+    notes: &Notes,
+    format: &F,
+    role: u8,
+    block: &Block,
+    strict: bool,
+) -> Seen
     requires role { role < F.ROLES }
     requires keys { length ((F.contents format.now).keys role block.now.0) ≡ length ((F.contents format.now).edges role block.now.0) }
-    ensures { IsFound (blocks_of audit.now) (note_at audit.now) ((F.contents format.now).keys role block.now.0)
+    ensures { IsFound (size_of notes.now) strict (note_in notes.now) ((F.contents format.now).keys role block.now.0)
         (blocks_of_edges ((F.contents format.now).edges role block.now.0)) result }
 {
     for i in 0..format.edges_of_any(role, block) {
         let child = child_at(format, role, block, i);
-        if audit.nr() <= child {
+        if notes.nr() <= child {
             return Seen::Outside;
         }
-        let height = audit.note(child).height;
+        let height = notes.note(child).height;
         let is_unknown = height == 0;
         if is_unknown {
             return Seen::Down(child);
@@ -121,8 +128,12 @@ pub(crate) fn look<F: Format>(audit: &Audit, format: &F, role: u8, block: &Block
             return Seen::Deep;
         }
     }
-    let (note, in_range) = sum_up(audit, format, role, block);
-    Seen::Shallow(note, in_range)
+    let note = sum_up(notes, format, role, block);
+    let is_stray = strict & !note.in_range;
+    if is_stray {
+        return Seen::Stray;
+    }
+    Seen::Shallow(note)
 }
 
 /// The note of a node without children: its own keys, of which a sound node has the least first and the
@@ -139,5 +150,6 @@ pub(crate) fn leaf_note<F: Format>(format: &F, role: u8, block: &Block) -> Note
         greatest,
         below: number as u64,
         height: 1,
+        in_range: true,
     }
 }

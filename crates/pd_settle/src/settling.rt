@@ -1,31 +1,32 @@
-//! The settling of all nodes, block after block.
+//! The settling of a check: all nodes of trees, block after block.
 
-ghost use Rattle.std.specs.Prelude.{◌≡◌, ℕ, ◌+◌, ◌*◌, ◌<◌, ◌≤◌, true, false, length, is_ok, OnOk, IfSome, IfNone};
+ghost use Rattle.std.specs.Prelude.{◌≡◌, ℕ, ◌+◌, ◌*◌, ◌<◌, ◌≤◌, ◌==◌, ◌||◌, ◌&&◌, true, false, length, is_ok, OnOk, IfSome, IfNone};
 ghost use Rattle.pd_kinds.specs.declared.rule.Rule.{Rule};
 ghost use Rattle.pd_kinds.specs.Objects.{CountsFault};
 ghost use Rattle.pd_kinds.specs.Graph.{nodes};
 ghost use Rattle.pd_image.specs.Device.{IsAttached, OnlyReads};
 ghost use Rattle.pd_graph.specs.Roles.{has_bit};
-ghost use Rattle.pd_graph.specs.Notes.{no_note};
+ghost use Rattle.pd_graph.specs.Notes.{no_note, size_of, note_in};
 ghost use Rattle.pd_graph.specs.Walk.{IsWalked};
-ghost use Rattle.pd_graph.specs.Audit.{blocks_of, has_walked, roles_at, has_rule_at, note_at, KeepsButNotes};
-ghost use Rattle.pd_settle.specs.Stepping.{KeepsWalk};
-ghost use Rattle.pd_settle.specs.Ordering.{IsClean, IsOrdering, IsClosed, Knows, HasRoles, steps};
-ghost use Rattle.pd_settle.specs.Settled.{IsSettled, KeepsMet};
+ghost use Rattle.pd_graph.specs.Audit.{blocks_of, has_walked, roles_at, has_rule_at, note_at, KeepsButNotes, KeepsButRules};
+ghost use Rattle.pd_settle.specs.Good.{AreSettleable};
+ghost use Rattle.pd_settle.specs.Ordering.{is_node, IsOrdering, IsClosed, Knows, HasRoles, steps};
+ghost use Rattle.pd_settle.specs.Settled.{noted_rule, breaks, AreSettled, IsSettled, KeepsMet, KeepsWalk};
 
 use crate::descending::descend;
 use crate::looking::keyless;
-use pd_graph::{Audit, Format};
+use pd_graph::{Audit, Format, Note, Notes};
 use pd_image::{Device, Failed};
+use pd_kinds::Rule;
 
 /// Forgets what was noted of each block.
-fn clear(audit: &mut Audit)
-    ensures notes { (b : ℕ) → note_at audit.new b ≡ no_note }
-    ensures kept { KeepsButNotes audit.old audit.new }
+pub(crate) fn clear(notes: &mut Notes)
+    ensures notes { (b : ℕ) → note_in notes.new b ≡ no_note }
+    ensures number { size_of notes.new ≡ size_of notes.old }
 {
     let unknown = keyless(0, 0);
-    for b in 0..audit.nr() {
-        audit.set_note(b, unknown);
+    for b in 0..notes.nr() {
+        notes.set_note(b, unknown);
     }
 }
 
@@ -61,17 +62,20 @@ fn visit<F: Format, D: Device>(
 ) -> Result<(), Failed>
     requires number { blocks_of audit.old ≡ (F.graph format.now).nr }
     requires block { b < (F.graph format.now).nr }
-    requires closed { IsClosed audit.old }
+    requires closed { IsClosed (note_at audit.old) }
     requires attached { IsAttached (D.state dev.old) }
     requires within { (F.graph format.now).nr ≤ (D.state dev.old).blocks }
-    ensures ended { OnOk result (IsClosed audit.new) }
-    ensures walk { KeepsWalk audit.old audit.new }
-    ensures knows { Knows audit.old audit.new }
+    ensures ended { OnOk result (IsClosed (note_at audit.new)) }
+    ensures marks { KeepsButNotes audit.old audit.new }
+    ensures knows { Knows (note_at audit.old) (note_at audit.new) }
     ensures done { OnOk result ((role : ℕ) → role < F.ROLES → has_bit (roles_at audit.old b) role ≡ true → (F.graph format.now).is_tree role ≡ true
         → 1 ≤ (note_at audit.new b).height) }
-    ensures told { IfSome (D.state dev.old).held (λ image. IsClean (F.graph format.now) image → IsOrdering (F.graph format.now) image audit.old
-        → HasRoles (F.graph format.now) image audit.old → IsOrdering (F.graph format.now) image audit.new) }
-    ensures reads { (D.state dev.new).reads + steps (F.graph format.now).nr audit.old ≤ (D.state dev.old).reads + steps (F.graph format.now).nr audit.new }
+    ensures told { IfSome (D.state dev.old).held (λ image. AreSettleable (F.graph format.now) image (is_node (F.graph format.now) image) (λ c. true)
+        → IsOrdering (F.graph format.now) image (is_node (F.graph format.now) image) (λ c. true) false (note_at audit.old)
+        → HasRoles (F.graph format.now) image audit.old
+        → IsOrdering (F.graph format.now) image (is_node (F.graph format.now) image) (λ c. true) false (note_at audit.new)) }
+    ensures reads { (D.state dev.new).reads + steps (F.graph format.now).nr (note_at audit.old)
+        ≤ (D.state dev.old).reads + steps (F.graph format.now).nr (note_at audit.new) }
     ensures kept { OnlyReads (D.state dev.old) (D.state dev.new) }
     ensures faults { CountsFault result (D.state dev.old).faults (D.state dev.new).faults }
 {
@@ -79,12 +83,69 @@ fn visit<F: Format, D: Device>(
         return Ok(());
     }
     match tree_role(audit, format, b) {
-        Some(role) => descend(audit, format, dev, role, b),
+        Some(role) => descend(&mut audit.notes, format, dev, role, b, false),
         None => Ok(()),
     }
 }
 
 /// Forgets all notes, and settles each node of a tree.
+fn note_each<F: Format, D: Device>(audit: &mut Audit, format: &F, dev: &mut D) -> Result<(), Failed>
+    requires number { blocks_of audit.old ≡ (F.graph format.now).nr }
+    requires sound { (b : ℕ) (rule : Rule) → b < (F.graph format.now).nr → has_rule_at audit.old b rule ≡ false }
+    requires attached { IsAttached (D.state dev.old) }
+    requires within { (F.graph format.now).nr ≤ (D.state dev.old).blocks }
+    ensures settled { OnOk result (IfSome (D.state dev.old).held (λ image. IsWalked (F.graph format.now) image audit.old
+        → AreSettled (F.graph format.now) image (is_node (F.graph format.now) image) (λ c. true) false (note_at audit.new))) }
+    ensures marks { KeepsButNotes audit.old audit.new }
+    ensures reads { IfSome (D.state dev.old).held (λ image. IsWalked (F.graph format.now) image audit.old
+        → (D.state dev.new).reads ≤ (D.state dev.old).reads + 2 * length (nodes (F.graph format.now) image)) }
+    ensures kept { OnlyReads (D.state dev.old) (D.state dev.new) }
+    ensures faults { CountsFault result (D.state dev.old).faults (D.state dev.new).faults }
+{
+    clear(&mut audit.notes);
+    for b in 0..audit.nr() {
+        visit(audit, format, dev, b)?;
+    }
+    Ok(())
+}
+
+/// The rule of a settled node: Level where it is deep, and Range where a child of it is out of its range.
+fn rule_of(note: Note) -> Option<Rule>
+    ensures { result ≡ noted_rule note }
+{
+    if 65 <= note.height {
+        Some(Rule::Level)
+    } else if note.in_range {
+        None
+    } else {
+        Some(Rule::Range)
+    }
+}
+
+/// Gives block b the rule of its note.
+fn mark(audit: &mut Audit, b: u64)
+    requires { b < blocks_of audit.old }
+    ensures rules { (c : ℕ) (wanted : Rule) → has_rule_at audit.new c wanted
+        ≡ (has_rule_at audit.old c wanted || ((c == b) && breaks (noted_rule (note_at audit.old b)) wanted)) }
+    ensures kept { KeepsButRules audit.old audit.new }
+{
+    if let Some(rule) = rule_of(audit.note(b)) {
+        audit.mark(b, rule);
+    }
+}
+
+/// Gives each block the rule of its note.
+fn mark_each(audit: &mut Audit)
+    ensures rules { (c : ℕ) (wanted : Rule) → c < blocks_of audit.old → has_rule_at audit.new c wanted
+        ≡ (has_rule_at audit.old c wanted || breaks (noted_rule (note_at audit.old c)) wanted) }
+    ensures kept { KeepsButRules audit.old audit.new }
+{
+    for b in 0..audit.nr() {
+        mark(audit, b);
+    }
+}
+
+/// Settles each node of a tree anew, and gives each block the rule of its note.
 fn settle_each<F: Format, D: Device>(
     audit: &mut Audit,
     format: &F,
@@ -102,10 +163,8 @@ fn settle_each<F: Format, D: Device>(
     ensures kept { OnlyReads (D.state dev.old) (D.state dev.new) }
     ensures faults { CountsFault result (D.state dev.old).faults (D.state dev.new).faults }
 {
-    clear(audit);
-    for b in 0..audit.nr() {
-        visit(audit, format, dev, b)?;
-    }
+    note_each(audit, format, dev)?;
+    mark_each(audit);
     Ok(())
 }
 

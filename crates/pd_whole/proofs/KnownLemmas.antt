@@ -38,8 +38,8 @@ noted roles nr data_blocks layout t image audit b role is lawful well reached =
     let shallow = never_deep graph image lawful (clean_by graph image well.walked) well.in_order (pair b role) node in
     let same = keys_are_of_entries roles nr data_blocks layout t image role reached.within is lawful well.walked b reached.found in
     let here = pair_block b role reached.within in
-    let note : note_at audit b ≡ keys_note (keys_below graph image (pair b role)) (note_at audit b).height =
-    subst (λ (c : ℕ). note_at audit c ≡ keys_note (keys_below graph image (pair b role)) (note_at audit c).height) here (well.settled.notes (pair b role) node shallow) in
+    let note : note_at audit b ≡ keys_note (keys_below graph image (pair b role)) (note_at audit b).height (note_at audit b).in_range =
+    subst (λ (c : ℕ). note_at audit c ≡ keys_note (keys_below graph image (pair b role)) (note_at audit c).height (note_at audit c).in_range) here (well.settled.notes (pair b role) node shallow) in
     let number : (note_at audit b).below ≡ length (keys_below graph image (pair b role)) =
     subst (λ (c : ℕ). (note_at audit c).below ≡ length (keys_below graph image (pair b role))) here (well.settled.exact well.in_order (pair b role) node) in
     subst (λ (keys : List ℕ). IsNoteOf keys (note_at audit b)) same

@@ -1,7 +1,7 @@
 use Rattle.std.proofs.Common.{nat_eq, nat_lt, not, refl, sym, ◌∙◌, ap, eq-eqb, arith}
 use Rattle.std.proofs.lemmas.Bool.{le-ltb, lt-ltb}
 use Rattle.pd_graph.specs.declared.notes.Note.{Note}
-use Rattle.pd_graph.specs.Audit.{blocks_of, note_at}
+use Rattle.pd_graph.specs.Notes.{size_of, note_in}
 use Rattle.pd_settle.specs.Looking.{blocks_of_edges, is_low, is_high}
 use Rattle.pd_settle.proofs.LookLemmas.{one_of, all_more, low_by}
 use Rattle.pd_settle.proofs.looking.look.Goals as goal
@@ -9,7 +9,7 @@ use Rattle.pd_settle.proofs.looking.look.Goals as goal
 pub returns-then-nr-child : goal.returns-then-nr-child
 returns-then-nr-child g c =
     let child = c.child_at-child.result in
-    let nr = blocks_of c.args.audit.now in
+    let nr = size_of c.args.notes.now in
     let cs = blocks_of_edges ((g.F.Format.contents c.args.format.now).edges c.args.role c.args.block.now.0) in
     let number = c.nr.ensures.number in
     let past = c.if-nr-child.true in
@@ -29,7 +29,7 @@ returns-then-is_unknown g c =
 
 pub returns-then-height-ge64 : goal.returns-then-height-ge64
 returns-then-height-ge64 g c =
-    let notes = note_at c.args.audit.now in
+    let notes = note_in c.args.notes.now in
     let cs = blocks_of_edges ((g.F.Format.contents c.args.format.now).edges c.args.role c.args.block.now.0) in
     let high = c.if-height-ge64.true in
     record {
@@ -41,8 +41,8 @@ returns-then-height-ge64 g c =
 pub loop-i-preserved : goal.loop-i-preserved
 loop-i-preserved g c =
     let child = c.child_at-child.result in
-    let nr = blocks_of c.args.audit.now in
-    let notes = note_at c.args.audit.now in
+    let nr = size_of c.args.notes.now in
+    let notes = note_in c.args.notes.now in
     let cs = blocks_of_edges ((g.F.Format.contents c.args.format.now).edges c.args.role c.args.block.now.0) in
     let number = c.nr.ensures.number in
     let small = c.if-nr-child.false in

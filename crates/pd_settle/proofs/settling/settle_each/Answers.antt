@@ -1,66 +1,21 @@
-use Rattle.std.proofs.Common.{IfSome, ◌∙◌, subst, arith}
-use Rattle.pd_image.proofs.ReadLemmas.{only_reads_both}
-use Rattle.pd_graph.proofs.AnyLemmas.{if_both}
+use Rattle.std.proofs.Common.{Bool, ◌||◌, sym, ◌∙◌, ap, arith}
 use Rattle.std.proofs.lemmas.Option.{IfSome_then}
-use Rattle.pd_settle.specs.Ordering.{IsClean, IsOrdering, HasRoles}
-use Rattle.pd_settle.proofs.DescentLemmas.{kept_both}
+use Rattle.pd_graph.specs.declared.notes.Note.{Note}
+use Rattle.pd_graph.specs.Audit.{note_at}
+use Rattle.pd_settle.specs.Ordering.{is_node}
+use Rattle.pd_settle.specs.Settled.{noted_rule, breaks}
 use Rattle.pd_settle.proofs.CleanLemmas.{clean_of}
-use Rattle.pd_settle.proofs.SettledLemmas.{settled_of, steps_reached, done_from, done_more, roles_kept}
+use Rattle.pd_settle.proofs.SettledLemmas.{settled_kept, settled_of}
 use Rattle.pd_settle.proofs.settling.settle_each.Goals as goal
-
-pub returns-in_err-visit-clause-reads : goal.returns-in_err-visit-clause-reads
-returns-in_err-visit-clause-reads g c =
-    let graph = g.F.Format.graph c.args.format.now in
-    let before = c.loop-b.invariant.reads in
-    let reads = c.visit.ensures.reads in
-    if_both (g.D.Device.state c.args.dev.now).held
-    (λ image more told walked.
-    let clean = clean_of graph image c.args.audit.now walked c.requires.sound in
-    let ordering = more clean (told walked) (roles_kept graph image c.args.audit.now c.loop-b.audit walked c.loop-b.invariant.walk) in
-    let most = steps_reached graph image c.visit.new.audit ordering in
-    omega arith)
-    (subst (λ o. IfSome o (λ image. IsClean graph image → IsOrdering graph image c.loop-b.audit → HasRoles graph image c.loop-b.audit → IsOrdering graph image c.visit.new.audit))
-    c.loop-b.invariant.kept.held c.visit.ensures.told)
-    c.loop-b.invariant.told
-
-pub loop-b-preserved : goal.loop-b-preserved
-loop-b-preserved g c =
-    let graph = g.F.Format.graph c.args.format.now in
-    let before = c.loop-b.invariant.reads in
-    let reads = c.visit.ensures.reads in
-    record {
-      closed = c.in_ok-visit.ensures.ended;
-      walk = kept_both c.args.audit.now c.loop-b.audit c.visit.new.audit c.loop-b.invariant.walk c.visit.ensures.walk;
-      done = done_more g.F.Format.ROLES c.loop-b.b graph.is_tree c.args.audit.now c.loop-b.audit c.visit.new.audit c.loop-b.invariant.walk c.visit.ensures.knows
-          c.loop-b.invariant.done c.in_ok-visit.ensures.done;
-      told = if_both (g.D.Device.state c.args.dev.now).held
-          (λ image more told walked.
-          more (clean_of graph image c.args.audit.now walked c.requires.sound) (told walked)
-          (roles_kept graph image c.args.audit.now c.loop-b.audit walked c.loop-b.invariant.walk))
-          (subst (λ o. IfSome o (λ image. IsClean graph image → IsOrdering graph image c.loop-b.audit → HasRoles graph image c.loop-b.audit → IsOrdering graph image c.visit.new.audit))
-          c.loop-b.invariant.kept.held c.visit.ensures.told)
-          c.loop-b.invariant.told;
-      reads = omega arith;
-      kept = only_reads_both c.loop-b.invariant.kept c.visit.ensures.kept;
-      faults = c.in_ok-visit.ensures.faults ∙ c.loop-b.invariant.faults;
-    }
 
 pub returns-clause-settled : goal.returns-clause-settled
 returns-clause-settled g c =
     let graph = g.F.Format.graph c.args.format.now in
-    let lawful = g.met.F.Format.lawful c.args.format.now in
-    let last = c.loop-b-test.false in
-    let end = c.nr-b-end.ensures.number in
-    let number = c.requires.number in
-    let kept = c.clear.ensures.kept.number in
-    IfSome_then (g.D.Device.state c.args.dev.now).held c.loop-b.invariant.told (λ image told walked.
-    settled_of graph image c.loop-b.audit lawful (clean_of graph image c.args.audit.now walked c.requires.sound) (told walked) c.loop-b.invariant.closed
-    (done_from graph image c.args.audit.now c.loop-b.audit g.F.Format.ROLES c.loop-b.b lawful (g.met.F.Format.roles c.args.format.now) (omega arith) walked c.loop-b.invariant.done))
-
-pub returns-clause-reads : goal.returns-clause-reads
-returns-clause-reads g c =
-    let graph = g.F.Format.graph c.args.format.now in
-    let before = c.loop-b.invariant.reads in
-    IfSome_then (g.D.Device.state c.args.dev.now).held c.loop-b.invariant.told (λ image told walked.
-    let most = steps_reached graph image c.loop-b.audit (told walked) in
-    omega arith)
+    let kept = c.mark_each.ensures.kept in
+    IfSome_then (g.D.Device.state c.args.dev.now).held c.in_ok-note_each.ensures.settled (λ image settled walked.
+    settled_of graph image c.mark_each.new.audit (g.met.F.Format.lawful c.args.format.now) (clean_of graph image c.args.audit.now walked c.requires.sound)
+    (settled_kept graph image (is_node graph image) (note_at c.note_each.new.audit) (note_at c.mark_each.new.audit) kept.notes (settled walked))
+    (λ b wanted small.
+    c.mark_each.ensures.rules b wanted (let number = c.note_each.ensures.marks.number in let blocks = c.requires.number in omega arith)
+    ∙ (ap (λ (x : Bool). x || breaks (noted_rule (note_at c.note_each.new.audit b)) wanted) (c.note_each.ensures.marks.rules b wanted ∙ c.requires.sound b wanted small)
+    ∙ ap (λ (n : Note). breaks (noted_rule n) wanted) (sym (kept.notes b)))))

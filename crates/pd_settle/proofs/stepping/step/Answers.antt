@@ -6,8 +6,7 @@ use Rattle.pd_settle.proofs.stepping.step.Goals as goal
 pub returns-in-Shallow : goal.returns-in-Shallow
 returns-in-Shallow g c = inr (record {
   note = c.in-Shallow.note;
-  broken = c.range_rule.result;
-  verdict = shallow c.in-Shallow.in_range (search rules) c.in-Shallow.ensures c.range_rule.ensures;
+  verdict = shallow (search rules) c.in-Shallow.ensures.0 c.in-Shallow.ensures.1;
   closes = c.close-in-Shallow.ensures;
   below = ap (λ (n : Note). n.below) c.note-below.ensures;
 })
