@@ -1,0 +1,7 @@
+//! The search for the roots of a thin pool whose superblock is lost. Here stand its laws: what the settling of all blocks
+//! in one role comes to.
+#![tactic(auto)]
+
+mod laws;
+
+pub use laws::{good_nodes_are_sound_trees, lost_leaves_lead_nowhere};
