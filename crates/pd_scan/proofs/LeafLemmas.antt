@@ -1,14 +1,13 @@
 -- Leaves that name no block.
 use Rattle.std.proofs.Common.{◌≡◌, ◌⊎◌, inl, inr, ℕ, Bool, true, false, ◌&&◌, ◌||◌, not, cond, List, [], ◌∷◌, refl, ◌∙◌, ap}
-use Rattle.std.specs.List.{list_any, list_all, flat_map}
+use Rattle.std.specs.List.{list_all, flat_map}
 use Rattle.pd_kinds.specs.Edge.{Edge, is_outside}
-use Rattle.pd_kinds.specs.Rule.{all_rules}
 use Rattle.pd_kinds.specs.Node.{Entry, is_inner_node}
 use Rattle.pd_kinds.specs.Layout.{Layout, Tree, tree, is_bad, is_tree_layout, layout_edges, tree_edges, node_entries_of, graph_of}
 use Rattle.pd_kinds.specs.ThinFormat.{thin_layout}
 use Rattle.pd_kinds.specs.Graph.{block_at}
 use Rattle.pd_laid.specs.FoundRoots.{lost_graph, is_sound_tree}
-use Rattle.pd_scan.specs.Fit.{is_fit_root}
+use Rattle.pd_scan.specs.Fit.{is_unbroken, is_fit_root}
 
 none_named : (f : Entry → List Edge) → ((e : Entry) → f e ≡ []) → (es : List Entry) → flat_map f es ≡ []
 none_named f none [] = refl
@@ -36,7 +35,7 @@ and_more a false c e = refl
 
 pub leads_nowhere : (image : List (List ℕ)) (data_blocks role b : ℕ) → (role ≡ 3) ⊎ (role ≡ 4)
     → is_fit_root (lost_graph image data_blocks) image role b
-    ≡ (not (is_outside (lost_graph image data_blocks).nr b) && not (list_any ((lost_graph image data_blocks).bad role b (block_at image b)) all_rules))
+    ≡ (not (is_outside (lost_graph image data_blocks).nr b) && is_unbroken (lost_graph image data_blocks) role b (block_at image b))
 unfolding is_fit_root lost_graph thin_layout
 leads_nowhere image data_blocks role b (inl same) =
     and_more _ _ _

@@ -1,3 +1,5 @@
 pub mod PathLemmas
 pub mod SoundLemmas
 pub mod LeafLemmas
+pub mod JudgeLemmas
+pub mod TopLemmas

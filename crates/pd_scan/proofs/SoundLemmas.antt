@@ -16,10 +16,10 @@ use Rattle.pd_settle.proofs.ChainLemmas.{is_among, ends_below}
 use Rattle.pd_settle.proofs.GoodLemmas.{good_well, good_child, good_ends, good_from}
 use Rattle.pd_settle.proofs.NotedLemmas.{chain_none}
 use Rattle.pd_settle.proofs.ReachLemmas.{child_of, role_of_child}
-use Rattle.pd_scan.specs.Fit.{is_fit_root}
+use Rattle.pd_scan.specs.Fit.{is_unbroken, is_fit_root}
 use Rattle.pd_scan.proofs.PathLemmas.{path_after, all_kept, kept_passes}
 
-inside_by : (nr b : ℕ) → 1 ≤ b → b < nr → not (is_outside nr b) ≡ true
+pub inside_by : (nr b : ℕ) → 1 ≤ b → b < nr → not (is_outside nr b) ≡ true
 inside_by nr b low small = rw (ne_eqb b 0 (λ e. absurd (omega arith)), lt-ltb b nr small) refl
 
 inside_tests : (zero less : Bool) → not (zero || not less) ≡ true → (zero ≡ false) × (less ≡ true)
@@ -133,7 +133,7 @@ module _ (graph : Graph) (image : List (List ℕ)) (lawful : IsLawful graph) whe
         ∙ (and_parts (fit (block_of q)) _ (good_well (is_well graph image fit true) (children graph image) 63 q good)).0
 
     good_sound : (q : ℕ) → IsInside graph q → role_of q ≡ role → is_good_node graph image fit true q ≡ true → is_sound_pair graph image q ≡ true
-    unfolding is_good_node is_sound_pair is_fit_root is_deep
+    unfolding is_good_node is_sound_pair is_fit_root is_unbroken is_deep
     good_sound q inside same good =
         and_from _ _ (and_parts _ _ (and_parts _ _ (good_fit q inside same good)).1).0
         (and_from (not (has_chain (children graph image) 64 q)) (not (is_inner_pair graph image q) || is_in_range graph image q)
@@ -193,7 +193,7 @@ module _ (graph : Graph) (image : List (List ℕ)) (lawful : IsLawful graph) whe
 
     -- and the other way round
     well_by : (q : ℕ) → IsInside graph q → role_of q ≡ role → AreSound q → is_well graph image fit true q ≡ true
-    unfolding is_sound_pair is_fit_root next
+    unfolding is_sound_pair is_fit_root is_unbroken next
     well_by q inside same all =
         let parts = and_parts _ _ (sound_here q all) in
         let range = (and_parts (not (is_deep graph image q)) (not (is_inner_pair graph image q) || is_in_range graph image q) parts.1).1 in

@@ -1,14 +1,12 @@
 //! What the settling in one role comes to, as laws on functions with empty bodies.
 
 ghost use Rattle.std.specs.Prelude.{◌≡◌, ◌⊎◌, ◌<◌, ◌&&◌, ℕ, Bool, true, not, List};
-ghost use Rattle.std.specs.List.{list_any};
-ghost use Rattle.pd_kinds.specs.Rule.{all_rules};
 ghost use Rattle.pd_kinds.specs.Edge.{is_outside};
 ghost use Rattle.pd_kinds.specs.Graph.{Graph, block_at, pair};
 ghost use Rattle.pd_kinds.specs.Lawful.{IsLawful};
 ghost use Rattle.pd_laid.specs.FoundRoots.{lost_graph, is_sound_tree};
 ghost use Rattle.pd_settle.specs.Good.{is_good_node};
-ghost use Rattle.pd_scan.specs.Fit.{is_fit_root};
+ghost use Rattle.pd_scan.specs.Fit.{is_unbroken, is_fit_root};
 
 /// A block is a good node of a role exactly where it is the root of a sound tree, in any format: where those are fit that
 /// are inside, break no rule of their own, and as a leaf name only roots of sound trees.
@@ -23,5 +21,5 @@ pub fn good_nodes_are_sound_trees()
 pub fn lost_leaves_lead_nowhere()
     ensures { (image : List (List ℕ)) (data_blocks role b : ℕ) → (role ≡ 3) ⊎ (role ≡ 4)
         → let graph = lost_graph image data_blocks in
-        is_fit_root graph image role b ≡ (not (is_outside graph.nr b) && not (list_any (graph.bad role b (block_at image b)) all_rules)) }
+        is_fit_root graph image role b ≡ (not (is_outside graph.nr b) && is_unbroken graph role b (block_at image b)) }
 {}

@@ -2,6 +2,10 @@
 //! in one role comes to.
 #![tactic(auto)]
 
+mod judging;
 mod laws;
+mod tops;
 
+pub use judging::judge_each;
 pub use laws::{good_nodes_are_sound_trees, lost_leaves_lead_nowhere};
+pub use tops::leave_out_tops;
