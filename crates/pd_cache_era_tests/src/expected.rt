@@ -77,6 +77,7 @@ pub(crate) fn restore(
         text: text.as_bytes(),
         input: &[],
         output: base,
+        third: &[],
     };
     run_over(alloc, words, held, failing)
 }

@@ -13,3 +13,5 @@ mod era_tests;
 mod expected;
 #[cfg(test)]
 mod targets;
+#[cfg(test)]
+mod writeback_tests;

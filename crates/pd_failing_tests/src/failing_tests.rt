@@ -231,6 +231,7 @@ fn expect_all(rt: &impl Abort, alloc: Global, asked: &Asked) -> Result<(), Alloc
         text: text.as_bytes(),
         input: input.as_slice(),
         output: output.as_slice(),
+        third: &[],
     };
     let whole = run_words(alloc, words, held, NOTHING_FAILS)?;
     assert!(rt; whole.status == status, "{words}");

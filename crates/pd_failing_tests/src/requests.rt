@@ -162,6 +162,7 @@ fn restored(
         text: text.as_bytes(),
         input: &[],
         output: &[Block([1; 4096]); 16],
+        third: &[],
     };
     let made = run_over(alloc, words, held, NOTHING_FAILS)?;
     assert!(rt; made.status == 0, "{text}");

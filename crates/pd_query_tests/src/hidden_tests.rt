@@ -149,6 +149,7 @@ fn made_of(alloc: Global, words: &[&str], text: &str) -> Result<Vec<Block>, Allo
         text: text.as_bytes(),
         input: &[],
         output: &base,
+        third: &[],
     };
     let made = run_over(alloc, words, held, NOTHING_FAILS)?;
     blocks_of(alloc, &made.output)
@@ -237,6 +238,7 @@ fn a_rehearsal_dumps_what_it_restored(rt: HostRuntime) -> Result<(), Fail> {
         text: ONE.as_bytes(),
         input: &[],
         output: base.as_slice(),
+        third: &[],
     };
     let made = run_over(alloc, THIN, held, NOTHING_FAILS)?;
     let shown = Shown::Blocks(blocks_of(alloc, &made.output)?);

@@ -18,6 +18,7 @@ fn rehearse(alloc: Global, blocks: usize, failing: Failing) -> Result<Ran, Alloc
         text: b"",
         input: &[],
         output: base.as_slice(),
+        third: &[],
     };
     let words = &["thin_rehearse", "--number", "1", "-o", "x"];
     run_over(alloc, words, held, failing)

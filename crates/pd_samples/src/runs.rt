@@ -33,6 +33,7 @@ pub struct Held<'a> {
     pub text: &'a [u8],
     pub input: &'a [Block],
     pub output: &'a [Block],
+    pub third: &'a [Block],
 }
 
 /// The number of the call that fails, of each of these objects, and how many calls of each device are done before it
@@ -44,6 +45,7 @@ pub struct Failing {
     pub notes: Option<u64>,
     pub input: Option<u64>,
     pub output: Option<u64>,
+    pub third: Option<u64>,
     pub input_stops_after: u64,
     pub output_stops_after: u64,
 }
@@ -54,6 +56,7 @@ pub const NOTHING_FAILS: Failing = Failing {
     notes: None,
     input: None,
     output: None,
+    third: None,
     input_stops_after: u64::MAX,
     output_stops_after: u64::MAX,
 };
@@ -69,6 +72,7 @@ pub fn run(
         text: b"",
         input: image,
         output: &[],
+        third: &[],
     };
     run_over(alloc, words, held, failing)
 }
@@ -84,6 +88,7 @@ pub fn restore(
         text,
         input: &[],
         output: base,
+        third: &[],
     };
     let words = ["thin_restore", "-i", "text", "-o", "image"];
     run_over(alloc, &words, held, failing)
@@ -111,7 +116,7 @@ pub fn run_over(
     input.stop_after(failing.input_stops_after);
     let mut output = device(alloc, held.output, failing.output)?;
     output.stop_after(failing.output_stops_after);
-    let mut third = device(alloc, &[], None)?;
+    let mut third = device(alloc, held.third, failing.third)?;
     let status = run_tool(
         alloc,
         texts.as_slice(),

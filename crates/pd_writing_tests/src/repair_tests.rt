@@ -29,6 +29,7 @@ fn repair(
         text: b"",
         input: image,
         output: base,
+        third: &[],
     };
     run_over(
         alloc,
