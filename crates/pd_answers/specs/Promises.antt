@@ -23,6 +23,7 @@ use Rattle.pd_answers.specs.Terms.{Terms, unnamed, nothing}
 use Rattle.pd_answers.specs.Restores.{restore}
 use Rattle.pd_answers.specs.Repairs.{repair, search}
 use Rattle.pd_answers.specs.Rehearsals.{rehearse}
+use Rattle.pd_answers.specs.Writebacks.{writeback}
 
 -- no request
 abbrev pub refused : Terms
@@ -165,3 +166,4 @@ terms_of (Some (request.list_devices file path)) = list_devices file path
 terms_of (Some (request.since era file path)) = since era file path
 terms_of (Some (request.generate number file)) = generate number file
 terms_of (Some (request.rehearse number path)) = rehearse number path
+terms_of (Some (request.writeback metadata fast origin)) = writeback metadata fast origin

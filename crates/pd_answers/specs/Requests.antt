@@ -27,6 +27,8 @@ pub data Request : Type 0 where
   generate : ℕ → Option (List ℕ) → Request
   -- the restore, check and dump of that text, over an image
   rehearse : ℕ → List ℕ → Request
+  -- what is dirty in a cache, by its metadata, from its fast device to its origin
+  writeback : List ℕ → List ℕ → List ℕ → Request
 
 -- the table of what is built
 unfoldable pub is_built : Request → Bool
@@ -46,6 +48,7 @@ is_built (list_devices file image) = true
 is_built (since era file image) = true
 is_built (generate number file) = true
 is_built (rehearse number image) = true
+is_built (writeback metadata fast origin) = true
 is_built _ = false
 
 -- whether a restore reads the second version of a pool's text, too

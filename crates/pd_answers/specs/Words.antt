@@ -8,7 +8,7 @@ use Rattle.pd_kinds.specs.declared.kind.Kind.{Kind}
 use Rattle.pd_kinds.specs.declared.kind.Kind.TheVariants.{Thin, Cache, Era}
 use Rattle.pd_kinds.specs.declared.kind.Stage.{Stage}
 use Rattle.pd_kinds.specs.declared.kind.Stage.TheVariants.{Super, Walk, Order, Whole, Counts}
-use Rattle.pd_answers.specs.Requests.{Request, check, dump, restore, repair, search, rmap, list_devices, since, generate, rehearse, is_built}
+use Rattle.pd_answers.specs.Requests.{Request, check, dump, restore, repair, search, rmap, list_devices, since, generate, rehearse, writeback, is_built}
 
 -- the next step needs the value of this one
 infixl 10 ◌>>=◌
@@ -171,6 +171,7 @@ pub data Tool : Type 0 where
   since_tool : Tool
   generate_tool : Tool
   rehearse_tool : Tool
+  writeback_tool : Tool
 
 -- a tool and its name
 pub record Named : Type 0 where
@@ -194,6 +195,7 @@ tools =
     ∷ record { name = codes "era_invalidate"; tool = since_tool }
     ∷ record { name = codes "thin_generate"; tool = generate_tool }
     ∷ record { name = codes "thin_rehearse"; tool = rehearse_tool }
+    ∷ record { name = codes "cache_writeback"; tool = writeback_tool }
     ∷ []
 
 -- the tool of this name
@@ -222,6 +224,7 @@ purposes_of list_tool = codes "-o" ∷ image_word ∷ []
 purposes_of since_tool = codes "--written-since" ∷ codes "-o" ∷ image_word ∷ []
 purposes_of generate_tool = codes "--number" ∷ codes "-o" ∷ []
 purposes_of rehearse_tool = codes "--number" ∷ codes "-o" ∷ []
+purposes_of writeback_tool = codes "--metadata-device" ∷ codes "--fast-device" ∷ codes "--origin-device" ∷ []
 
 -- the flag stands only where the whole image is checked
 abbrev pub check_with : Kind → Stage → Bool → List ℕ → Option Request
@@ -291,6 +294,11 @@ request_of rehearse_tool items = do
   number ← generated_number word
   image ← required (codes "-o") items
   Some (rehearse number image)
+request_of writeback_tool items = do
+  metadata ← required (codes "--metadata-device") items
+  fast ← required (codes "--fast-device") items
+  origin ← required (codes "--origin-device") items
+  Some (writeback metadata fast origin)
 
 -- whether an item can be given to a tool
 abbrev pub is_known : Tool → Item → Bool

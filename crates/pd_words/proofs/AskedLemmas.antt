@@ -6,8 +6,8 @@ use Rattle.std.proofs.lemmas.Bool.{cases_Bool, true≢false}
 use Rattle.std.proofs.Math.Dec.{eqb-suc-zero}
 use Rattle.pd_kinds.specs.declared.kind.Kind.{Kind}
 use Rattle.pd_kinds.specs.declared.kind.Stage.{Stage}
-use Rattle.pd_answers.specs.Requests.{Request, dump, restore, rmap, list_devices, since, generate, rehearse}
-use Rattle.pd_answers.specs.Words.{Item, items_of, Given, given, sole, at_most_one, is_set, last_stage, version_of, Region, region_of, generated_number, number_below, image_word, clear_word, shared_word, until_word, check_with, repair_with, Tool, check_tool, dump_tool, restore_tool, repair_tool, rmap_tool, list_tool, since_tool, generate_tool, rehearse_tool, tool_of, request_of, is_known, known, spelled, built, asked}
+use Rattle.pd_answers.specs.Requests.{Request, dump, restore, rmap, list_devices, since, generate, rehearse, writeback}
+use Rattle.pd_answers.specs.Words.{Item, items_of, Given, given, sole, at_most_one, is_set, last_stage, version_of, Region, region_of, generated_number, number_below, image_word, clear_word, shared_word, until_word, check_with, repair_with, Tool, check_tool, dump_tool, restore_tool, repair_tool, rmap_tool, list_tool, since_tool, generate_tool, rehearse_tool, writeback_tool, tool_of, request_of, is_known, known, spelled, built, asked}
 use Rattle.pd_words.specs.Words.{dump_as}
 
 pub asked_nothing : {X : Type 0} (f : X → List ℕ) (xs : List X) → (length xs == 0) ≡ true → None ≡ asked (map f xs)
@@ -197,3 +197,15 @@ pub list_given : (items : Option (List Item)) (file image : Given) (path : Optio
 unfolding request_of
 list_given None file image path of request file_is at_most image_is one_image is = tt
 list_given (Some items) file image path of request file_is at_most image_is one_image is = rw (← file_is, ← at_most, ← image_is, ← one_image) is
+
+-- a writeback, by what was given for the three devices
+pub writeback_given : (items : Option (List Item)) (first second third : Given) (metadata fast origin : List ℕ) (request : Option Request)
+    → IfSome items (λ all. first ≡ given (codes "--metadata-device") all) → Some metadata ≡ sole first
+    → IfSome items (λ all. second ≡ given (codes "--fast-device") all) → Some fast ≡ sole second
+    → IfSome items (λ all. third ≡ given (codes "--origin-device") all) → Some origin ≡ sole third
+    → request ≡ Some (writeback metadata fast origin)
+    → IfSome items (λ all. request ≡ request_of writeback_tool all)
+unfolding request_of
+writeback_given None first second third metadata fast origin request first_is one second_is two third_is three is = tt
+writeback_given (Some items) first second third metadata fast origin request first_is one second_is two third_is three is =
+    rw (← first_is, ← one, ← second_is, ← two, ← third_is, ← three) is

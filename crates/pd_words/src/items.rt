@@ -3,7 +3,7 @@
 ghost use Rattle.std.specs.Prelude.{◌≡◌, ◌<◌, ◌||◌, codes, length, map, drop, string_bytes, IfSome, is_some};
 ghost use Rattle.std.specs.List.{list_any};
 ghost use Rattle.std.specs.Str.{bytes_eq};
-ghost use Rattle.pd_answers.specs.Words.{check_tool, dump_tool, is_value, is_flag, items_of, given, known, purposes_of, repair_tool, restore_tool, tool_of};
+ghost use Rattle.pd_answers.specs.Words.{check_tool, dump_tool, is_value, is_flag, items_of, given, known, purposes_of, repair_tool, restore_tool, tool_of, writeback_tool};
 ghost use Rattle.pd_words.specs.Items.{with_item, IsItemWithin, values_from, with_found, given_as, IsGivenWithin, tool_as, found_tool};
 
 use crate::request::Name;
@@ -30,6 +30,8 @@ pub enum Tool {
     Generate,
     /// thin_rehearse
     Rehearse,
+    /// cache_writeback
+    Writeback,
 }
 
 /// How often something was given.
@@ -85,6 +87,7 @@ pub fn tool_named(word: &str) -> Option<Tool>
         "era_invalidate" => Some(Tool::Since),
         "thin_generate" => Some(Tool::Generate),
         "thin_rehearse" => Some(Tool::Rehearse),
+        "cache_writeback" => Some(Tool::Writeback),
         _ => None,
     }
 }
@@ -103,6 +106,7 @@ pub fn is_purpose(tool: Tool, word: &str) -> bool
         Tool::Since => (word == "--written-since") | is_query_purpose(word),
         Tool::Generate => is_number_purpose(word),
         Tool::Rehearse => is_number_purpose(word),
+        Tool::Writeback => is_writeback_purpose(word),
     }
 }
 
@@ -149,6 +153,13 @@ fn is_repair_purpose(word: &str) -> bool
         | (word == "--data-block-size")
         | (word == "--nr-data-blocks");
     is_copy_purpose(word) | numbers
+}
+
+/// The same of a writeback.
+fn is_writeback_purpose(word: &str) -> bool
+    ensures { result ≡ list_any (bytes_eq word.now) (purposes_of writeback_tool) }
+{
+    (word == "--metadata-device") | (word == "--fast-device") | (word == "--origin-device")
 }
 
 /// Whether this is the option for the output, or the operand.

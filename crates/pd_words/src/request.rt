@@ -85,6 +85,12 @@ pub enum Request {
         number: u32,
         image: Name,
     },
+    /// What is dirty in a cache, from its fast device to its origin, by its metadata, which is marked clean.
+    Writeback {
+        metadata: Name,
+        fast: Name,
+        origin: Name,
+    },
 }
 
 /// Why words have no request.

@@ -111,6 +111,11 @@ fn is_built(request: &Request) -> bool
             number: _,
             image: _,
         } => true,
+        Request::Writeback {
+            metadata: _,
+            fast: _,
+            origin: _,
+        } => true,
         _ => false,
     }
 }
@@ -130,6 +135,7 @@ fn read_request(tool: Tool, words: &[String]) -> Option<Request>
         Tool::Since => read_since(words),
         Tool::Generate => read_generate(words),
         Tool::Rehearse => read_rehearse(words),
+        Tool::Writeback => read_writeback(words),
     }
 }
 
@@ -376,6 +382,22 @@ fn read_rehearse(words: &[String]) -> Option<Request>
     let number = generated_number(words, required(given_for(words, 1, "--number"))?)?;
     let image = required(given_for(words, 1, "-o"))?;
     Some(Request::Rehearse { number, image })
+}
+
+/// What the words ask of a writeback.
+#[tactic(auto, unfolding(pd_answers::specs::Words::request_of))]
+fn read_writeback(words: &[String]) -> Option<Request>
+    ensures asked { IfSome (items_of (drop 1 (map string_bytes words.now))) (λ items. read_as (map string_bytes words.now) result ≡ words_spec.request_of words_spec.writeback_tool items) }
+    ensures names { IfSome result (AreNames (length words.now)) }
+{
+    let metadata = required(given_for(words, 1, "--metadata-device"))?;
+    let fast = required(given_for(words, 1, "--fast-device"))?;
+    let origin = required(given_for(words, 1, "--origin-device"))?;
+    Some(Request::Writeback {
+        metadata,
+        fast,
+        origin,
+    })
 }
 
 /// The number from 1 to 10000 that a word is.

@@ -1,0 +1,97 @@
+-- Which roles the edges of a cache's format lead to: a superblock's to the roots, those of any other block to its own role or the next.
+use Rattle.std.proofs.Common.{◌≡◌, ◌⊎◌, inl, inr, ℕ, zero, suc, ◌<◌, ◌≤◌, Bool, true, false, nat_eq, cond, List, [], ◌∷◌, ◌++◌, map, refl, arith}
+use Rattle.std.specs.List.{AllByRecursion, flat_map, range_with_len}
+use Rattle.std.proofs.lemmas.Bool.{cases_Bool, cond_both, eqb-false, eqb-true}
+use Rattle.pd_kinds.specs.CacheFormat.{CacheFields, cache_fields, cache_graph, cache_layout, cache_super_edges, has_dirty_bits}
+use Rattle.pd_kinds.specs.Edge.{Edge}
+use Rattle.pd_kinds.specs.Graph.{Graph}
+use Rattle.pd_kinds.specs.Layout.{Layout, Tree, graph_of, layout_edges, node_entries_of, tree_edges}
+use Rattle.pd_kinds.specs.Node.{Entry, child_at, entry_count, is_inner_node}
+use Rattle.pd_laws.proofs.AllLemmas.{all_flat_map, all_map, all_of}
+use Rattle.pd_laws.proofs.LayoutLemmas.{all_optional}
+
+-- the role that is named by the leaves of a tree, or by an index; those of the overflow tree name none
+abbrev pub next_role : ℕ → ℕ
+next_role s = cond (nat_eq s 9) s (suc s)
+
+abbrev pub CanLead : ℕ → Edge → Type 0
+CanLead s e = (e.role ≡ s) ⊎ (e.role ≡ next_role s)
+
+-- what is known of a superblock's edges
+pub record IsRoot (fields : CacheFields) (e : Edge) : Type 0 where
+  pub some : e.role ≡ 0 → ⊥
+  pub no_words : e.role ≡ 2 → ⊥
+  pub no_bits : e.role ≡ 11 → ⊥
+  pub mapping : e.role ≡ 1 → e.block ≡ fields.mapping_root
+  pub dirty : e.role ≡ 10 → e.block ≡ fields.dirty_root
+
+-- the edges of the nodes of a tree whose leaves name a role
+tree_leads : (P : Edge → Type 0) (role : ℕ) (t : Tree) (block : List ℕ) → ((b : ℕ) → P (record { role = role; block = b }))
+    → ((e : Entry) → AllByRecursion P (t.leaf_edges e)) → AllByRecursion P (tree_edges role t block)
+unfolding tree_edges
+tree_leads P role t block inner leaf =
+    cond_both (is_inner_node block) _ _ (AllByRecursion P)
+    (λ _. all_map (λ (i : ℕ). record { role = role; block = child_at block i }) P (λ i. inner (child_at block i)) (range_with_len 0 (entry_count t.size block)))
+    (λ _. all_flat_map t.leaf_edges P (node_entries_of t.size block) (all_of (λ (e : Entry). AllByRecursion P (t.leaf_edges e)) leaf (node_entries_of t.size block)))
+
+layout_leads : (nr s : ℕ) (block : List ℕ) → AllByRecursion (CanLead (suc s)) (layout_edges nr (suc s) (cache_layout nr (suc s)) block)
+unfolding cache_layout
+layout_leads nr zero block = tree_leads (CanLead 1) 1 _ block (λ b. inl refl) (λ e. (inr refl, tt))
+layout_leads nr (suc zero) block = tt
+layout_leads nr (suc (suc zero)) block = tree_leads (CanLead 3) 3 _ block (λ b. inl refl) (λ e. (inr refl, tt))
+layout_leads nr (suc (suc (suc zero))) block = tt
+layout_leads nr (suc (suc (suc (suc zero)))) block = tree_leads (CanLead 5) 5 _ block (λ b. inl refl) (λ e. (inr refl, tt))
+layout_leads nr (suc (suc (suc (suc (suc zero))))) block = tt
+layout_leads nr (suc (suc (suc (suc (suc (suc zero)))))) block = all_map (λ (b : ℕ). record { role = 8; block = b }) (CanLead 7) (λ b. inr refl) _
+layout_leads nr (suc (suc (suc (suc (suc (suc (suc zero))))))) block = tt
+layout_leads nr (suc (suc (suc (suc (suc (suc (suc (suc zero)))))))) block = tree_leads (CanLead 9) 9 _ block (λ b. inl refl) (λ e. tt)
+layout_leads nr (suc (suc (suc (suc (suc (suc (suc (suc (suc zero))))))))) block = tree_leads (CanLead 10) 10 _ block (λ b. inl refl) (λ e. (inr refl, tt))
+layout_leads nr (suc (suc (suc (suc (suc (suc (suc (suc (suc (suc zero)))))))))) block = tt
+layout_leads nr (suc (suc (suc (suc (suc (suc (suc (suc (suc (suc (suc s))))))))))) block = tt
+
+pub edges_lead : (super block : List ℕ) (s b : ℕ) → AllByRecursion (CanLead (suc s)) ((cache_graph super).edges (suc s) b block)
+unfolding cache_graph graph_of
+edges_lead super block s b =
+    cond_both _ [] (layout_edges (cache_fields super).meta_map.blocks (suc s) (cache_layout (cache_fields super).meta_map.blocks (suc s)) block) (AllByRecursion (CanLead (suc s)))
+    (λ _. tt) (λ _. layout_leads (cache_fields super).meta_map.blocks s block)
+
+roots_are : (fields : CacheFields) → AllByRecursion (IsRoot fields) (cache_super_edges fields)
+roots_are fields =
+    let other : (role : ℕ) → 2 < role → role < 10 → (b : ℕ) → IsRoot fields (record { role = role; block = b }) =
+    λ role above below b. record {
+      some = λ is. omega arith;
+      no_words = λ is. omega arith;
+      no_bits = λ is. omega arith;
+      mapping = λ is. absurd (omega arith);
+      dirty = λ is. absurd (omega arith);
+    } in (
+      record { some = λ is. omega arith; no_words = λ is. omega arith; no_bits = λ is. omega arith; mapping = λ is. refl; dirty = λ is. absurd (omega arith) },
+      all_optional (IsRoot fields) 3 fields.hint_root _ (other 3 (omega arith) (omega arith) fields.hint_root)
+          (all_optional (IsRoot fields) 5 fields.discard_root _ (other 5 (omega arith) (omega arith) fields.discard_root) (
+            other 7 (omega arith) (omega arith) fields.meta_map.bitmap_root,
+            (
+              other 9 (omega arith) (omega arith) fields.meta_map.overflow_root,
+              cond_both (has_dirty_bits fields.version) (record { role = 10; block = fields.dirty_root } ∷ []) [] (AllByRecursion (IsRoot fields))
+                  (λ _. (record { some = λ is. omega arith; no_words = λ is. omega arith; no_bits = λ is. omega arith; mapping = λ is. absurd (omega arith); dirty = λ is. refl }, tt))
+                  (λ _. tt),
+            ),
+          )),
+    )
+
+pub super_leads : (super block : List ℕ) → AllByRecursion (IsRoot (cache_fields block)) ((cache_graph super).edges 0 0 block)
+unfolding cache_graph graph_of cache_layout
+super_leads super block =
+    cond_both _ [] (cache_super_edges (cache_fields block)) (AllByRecursion (IsRoot (cache_fields block))) (λ _. tt) (λ _. roots_are (cache_fields block))
+
+-- the next role of a role but 0 is that of neither tree that names what is dirty, and is that of its blocks only behind it
+pub not_next : (tree s : ℕ) → (tree ≡ 1) ⊎ (tree ≡ 10) → next_role (suc s) ≡ tree → ⊥
+not_next tree s is same = elim (cases_Bool (nat_eq (suc s) 9)) [
+  | inl nine ↦ let at = eqb-true (suc s) 9 nine in let equal = rw nine at same in elim is [ inl one ↦ omega arith | inr ten ↦ omega arith ]
+  | inr other ↦ let apart = eqb-false (suc s) 9 other in let equal = rw other at same in elim is [ inl one ↦ omega arith | inr ten ↦ omega arith ]
+]
+
+pub next_of_tree : (tree s : ℕ) → (tree ≡ 1) ⊎ (tree ≡ 10) → next_role (suc s) ≡ suc tree → suc s ≡ tree
+next_of_tree tree s is same = elim (cases_Bool (nat_eq (suc s) 9)) [
+  | inl nine ↦ let at = eqb-true (suc s) 9 nine in let equal = rw nine at same in elim is [ inl one ↦ absurd (omega arith) | inr ten ↦ absurd (omega arith) ]
+  | inr other ↦ let equal = rw other at same in omega arith
+]

@@ -1,0 +1,7 @@
+//! Laws of a writeback: of a cache in which nothing is dirty any more, and of what a cached device reads while its hot blocks are
+//! copied to the origin, and once they are.
+#![tactic(auto)]
+
+mod views;
+
+pub use views::{copied_origins_stand_alone, copying_keeps_the_view};
