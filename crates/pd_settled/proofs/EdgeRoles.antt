@@ -95,3 +95,9 @@ next_of_tree tree s is same = elim (cases_Bool (nat_eq (suc s) 9)) [
   | inl nine ↦ let at = eqb-true (suc s) 9 nine in let equal = rw nine at same in elim is [ inl one ↦ absurd (omega arith) | inr ten ↦ absurd (omega arith) ]
   | inr other ↦ let equal = rw other at same in omega arith
 ]
+
+pub some_next : (s : ℕ) → next_role (suc s) ≡ 0 → ⊥
+some_next s same = elim (cases_Bool (nat_eq (suc s) 9)) [
+  | inl nine ↦ let equal = rw nine at same in omega arith
+  | inr other ↦ let equal = rw other at same in omega arith
+]

@@ -25,18 +25,18 @@ any_flat_at test f c (x ∷ xs) some passes = elim (or_cases (nat_eq x c) (list_
 module _ (down : ℕ → List ℕ) where
   -- so many steps down lead from a pair to another
   pub data IsDown : ℕ → ℕ → ℕ → Type 0 where
-    here : (p : ℕ) → IsDown zero p p
+    at_once : (p : ℕ) → IsDown zero p p
     by_child : (j p c q : ℕ) → list_any (λ t. nat_eq t c) (down p) ≡ true → IsDown j c q → IsDown (suc j) p q
 
   -- one step more
   pub further : (j p q c : ℕ) → IsDown j p q → list_any (λ t. nat_eq t c) (down q) ≡ true → IsDown (suc j) p c
-  further j p q c (here p') child = by_child zero p' c c child (here c)
+  further j p q c (at_once p') child = by_child zero p' c c child (at_once c)
   further j p q c (by_child j' p' d q' first rest) child = by_child (suc j') p' d c first (further j' d q' c rest child)
 
   -- is a chain of so many
   chain : (j p q : ℕ) → IsDown j p q → has_chain down j p ≡ true
   unfolding has_chain
-  chain j p q (here p') = refl
+  chain j p q (at_once p') = refl
   chain j p q (by_child j' p' c q' first rest) = any_at (has_chain down j') c (down p') first (chain j' c q' rest)
 
   none_longer : (n m p : ℕ) → n ≤ m → has_chain down n p ≡ false → has_chain down m p ≡ false
@@ -56,8 +56,8 @@ module _ (down : ℕ → List ℕ) where
   module _ {X : Type 0} (inner : ℕ → Bool) (own : ℕ → List X) (test : X → Bool) (parents : (p c : ℕ) → list_any (λ t. nat_eq t c) (down p) ≡ true → inner p ≡ true) where
     pub is_gathered : (j n p q : ℕ) → IsDown j p q → j ≤ n → inner q ≡ false → list_any test (own q) ≡ true → list_any test (gathered inner down own n p) ≡ true
     unfolding gathered
-    is_gathered j zero p q (here p') few leaf some = rw leaf some
-    is_gathered j (suc n) p q (here p') few leaf some = rw leaf some
+    is_gathered j zero p q (at_once p') few leaf some = rw leaf some
+    is_gathered j (suc n) p q (at_once p') few leaf some = rw leaf some
     is_gathered j zero p q (by_child j' p' c q' first rest) few leaf some = absurd (omega arith)
     is_gathered j (suc n) p q (by_child j' p' c q' first rest) few leaf some =
         rw (parents p' c first) (any_flat_at test (gathered inner down own n) c (down p') first (is_gathered j' n c q' rest (omega arith) leaf some))

@@ -2,6 +2,8 @@
 //! copied to the origin, and once they are.
 #![tactic(auto)]
 
+mod places;
 mod views;
 
+pub use places::dirty_places_are_named;
 pub use views::{copied_origins_stand_alone, copying_keeps_the_view};

@@ -209,3 +209,22 @@ unfolding request_of
 writeback_given None first second third metadata fast origin request first_is one second_is two third_is three is = tt
 writeback_given (Some items) first second third metadata fast origin request first_is one second_is two third_is three is =
     rw (← first_is, ← one, ← second_is, ← two, ← third_is, ← three) is
+
+-- no fast device was given, or no origin
+pub no_fast_device : (items : Option (List Item)) (first second : Given) (metadata : List ℕ)
+    → IfSome items (λ all. first ≡ given (codes "--metadata-device") all) → Some metadata ≡ sole first
+    → IfSome items (λ all. second ≡ given (codes "--fast-device") all) → None ≡ sole second
+    → IfSome items (λ all. None ≡ request_of writeback_tool all)
+unfolding request_of
+no_fast_device None first second metadata first_is one second_is none = tt
+no_fast_device (Some items) first second metadata first_is one second_is none = rw (← first_is, ← one, ← second_is, ← none) refl
+
+pub no_origin_device : (items : Option (List Item)) (first second third : Given) (metadata fast : List ℕ)
+    → IfSome items (λ all. first ≡ given (codes "--metadata-device") all) → Some metadata ≡ sole first
+    → IfSome items (λ all. second ≡ given (codes "--fast-device") all) → Some fast ≡ sole second
+    → IfSome items (λ all. third ≡ given (codes "--origin-device") all) → None ≡ sole third
+    → IfSome items (λ all. None ≡ request_of writeback_tool all)
+unfolding request_of
+no_origin_device None first second third metadata fast first_is one second_is two third_is none = tt
+no_origin_device (Some items) first second third metadata fast first_is one second_is two third_is none =
+    rw (← first_is, ← one, ← second_is, ← two, ← third_is, ← none) refl
