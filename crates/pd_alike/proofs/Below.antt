@@ -22,7 +22,7 @@ flat_map_same f g [] same = refl
 flat_map_same f g (x ∷ xs) same = ap₂ (λ ys zs. ys ++ zs) same.0 (flat_map_same f g xs same.1)
 
 -- what leaves hold of which the own is the same, below a node whose children all are such
-gathered_same : {X : Type 0} → (P : ℕ → Type 0) (inner : ℕ → Bool) (down : ℕ → List ℕ) (own other : ℕ → List X)
+pub gathered_same : {X : Type 0} → (P : ℕ → Type 0) (inner : ℕ → Bool) (down : ℕ → List ℕ) (own other : ℕ → List X)
     → ((p : ℕ) → P p → own p ≡ other p) → ((p : ℕ) → P p → AllByRecursion P (down p))
     → (j p : ℕ) → P p → gathered inner down own j p ≡ gathered inner down other j p
 unfolding gathered

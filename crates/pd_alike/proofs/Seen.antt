@@ -22,7 +22,7 @@ use Rattle.pd_laws.proofs.SoundLemmas.{some_broken}
 salt_again : (sum salt : ℕ) → bit_xor sum (bit_xor sum salt) ≡ salt
 salt_again sum salt = sym (xor_assoc sum sum salt) ∙ (ap (λ (x : ℕ). bit_xor x salt) (xor_self sum) ∙ xor_zero_l salt)
 
-other_salt : (block : List ℕ) (salt other : ℕ) → (salt ≡ other → ⊥) → has_checksum block salt ≡ true → has_checksum block other ≡ false
+pub other_salt : (block : List ℕ) (salt other : ℕ) → (salt ≡ other → ⊥) → has_checksum block salt ≡ true → has_checksum block other ≡ false
 unfolding has_checksum checksum
 other_salt block salt other apart has =
     let sum = crc32c (drop 4 block) in

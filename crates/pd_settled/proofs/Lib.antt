@@ -4,3 +4,5 @@ pub mod SoundCache
 pub mod TreePaths
 pub mod EdgeRoles
 pub mod DirtyPlaces
+pub mod SettledBlock
+pub mod Resealed
