@@ -26,7 +26,7 @@ use Rattle.pd_alike.proofs.Whole.{data_same, meta_same, whole_same}
 
 module _ (checked also : Checked) where
   -- the faults of block 0
-  super_faults_same : (image other : List (List ℕ)) → length other ≡ length image
+  pub super_faults_same : (image other : List (List ℕ)) → length other ≡ length image
       → ((broken : Rule) → also.super_bad (length image) (block_at other 0) broken ≡ checked.super_bad (length image) (block_at image 0) broken)
       → super_faults also other ≡ super_faults checked image
   unfolding super_faults
@@ -38,7 +38,7 @@ module _ (checked also : Checked) where
 
   module _ (image other : List (List ℕ)) where
     -- each stage that is looked at has the same faults
-    abbrev AreSame : List Stage → Type 0
+    abbrev pub AreSame : List Stage → Type 0
     AreSame [] = Unit {0}
     AreSame (stage ∷ later) = (stage_faults also other stage ≡ stage_faults checked image stage) × (stage_faults checked image stage ≡ [] → AreSame later)
 
@@ -47,7 +47,7 @@ module _ (checked also : Checked) where
     chosen_same (fault ∷ rest) some more later = rw (lt-ltb 0 (suc (length rest)) (omega arith)) refl
 
     -- so the first that has any has the same
-    first_same : (list : List Stage) → AreSame list → first_failing also other list ≡ first_failing checked image list
+    pub first_same : (list : List Stage) → AreSame list → first_failing also other list ≡ first_failing checked image list
     unfolding first_failing
     first_same [] each = refl
     first_same (stage ∷ later) each =

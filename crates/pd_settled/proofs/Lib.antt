@@ -6,3 +6,4 @@ pub mod EdgeRoles
 pub mod DirtyPlaces
 pub mod SettledBlock
 pub mod Resealed
+pub mod SameBelow
