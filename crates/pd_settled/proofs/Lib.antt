@@ -7,3 +7,4 @@ pub mod DirtyPlaces
 pub mod SettledBlock
 pub mod Resealed
 pub mod SameBelow
+pub mod SameFaults

@@ -27,15 +27,15 @@ copy_breaks : (nr role blocks : ℕ) (edges : List ℕ → List Edge) → Breaks
 unfolding cache_super_bad alone
 copy_breaks nr role blocks edges = record { alone = λ place block broken has. rw (other_salt block array_salt (salt_of Cache) (λ same. omega arith) has) refl }
 
-tree_breaks : (nr role : ℕ) (t : Tree) → BreaksChecksum nr role (tree t)
+pub tree_breaks : (nr role : ℕ) (t : Tree) → BreaksChecksum nr role (tree t)
 unfolding tree_bad alone
 tree_breaks nr role t = record { alone = λ place block broken has. rw (other_salt block array_salt node_salt (λ same. omega arith) has) refl }
 
-bitmap_breaks : (nr role : ℕ) → BreaksChecksum nr role bitmap
+pub bitmap_breaks : (nr role : ℕ) → BreaksChecksum nr role bitmap
 unfolding bitmap_bad alone
 bitmap_breaks nr role = record { alone = λ place block broken has. rw (other_salt block array_salt bitmap_salt (λ same. omega arith) has) refl }
 
-index_breaks : (nr role target : ℕ) → BreaksChecksum nr role (index target)
+pub index_breaks : (nr role target : ℕ) → BreaksChecksum nr role (index target)
 unfolding index_bad alone
 index_breaks nr role target = record { alone = λ place block broken has. rw (other_salt block array_salt index_salt (λ same. omega arith) has) refl }
 
