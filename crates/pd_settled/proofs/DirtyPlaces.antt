@@ -1,16 +1,16 @@
 -- The blocks that say what is dirty are those that the entries of one tree name.
-use Rattle.std.proofs.Common.{◌≡◌, ◌↔◌, ◌⊎◌, inl, inr, ℕ, zero, suc, ◌+◌, ◌*◌, ◌<◌, ◌≤◌, Bool, true, false, nat_eq, cond, List, [], ◌∷◌, map, filter, refl, sym, subst, ap, ◌∙◌, arith, eq-eqb}
+use Rattle.std.proofs.Common.{◌≡◌, ◌↔◌, ◌⊎◌, inl, inr, ℕ, zero, suc, ◌+◌, ◌*◌, ◌<◌, ◌≤◌, Bool, true, false, nat_eq, cond, List, [], ◌∷◌, map, filter, refl, sym, subst, ◌∙◌, arith, eq-eqb}
 use Rattle.std.specs.List.{AllByRecursion, flat_map, list_any, range_with_len}
 use Rattle.std.proofs.lemmas.Bool.{both_ways, cases_Bool, eqb-false, eqb-true, or_cases, or_left, or_right}
 use Rattle.pd_kinds.specs.Edge.{Edge}
 use Rattle.pd_kinds.specs.Graph.{Graph, block_at, block_of, edges_of, is_inner_pair, is_reached, next, nodes, pair, role_of}
 use Rattle.pd_kinds.specs.Lawful.{IsLawful, IsWithin}
 use Rattle.pd_kinds.specs.Layout.{leaf_entries, node_entries_of}
-use Rattle.pd_kinds.specs.Node.{Entry, is_inner_node}
+use Rattle.pd_kinds.specs.Node.{Entry}
 use Rattle.pd_kinds.specs.Order.{children, is_deep}
 use Rattle.pd_kinds.specs.Paths.{IsOnPath, start, edge}
 use Rattle.pd_kinds.specs.Stages.{IsReached}
-use Rattle.pd_kinds.specs.CacheFormat.{CacheFields, cache_fields, cache_graph}
+use Rattle.pd_kinds.specs.CacheFormat.{cache_fields, cache_graph}
 use Rattle.pd_kinds.specs.Trees.{entries_below}
 use Rattle.pd_laws.specs.InOrder.{AreInOrder}
 use Rattle.pd_laid_graph.proofs.ListLemmas.{all_pairs, holds_of_found}
@@ -29,7 +29,7 @@ same_truth false true there back = back refl
 same_truth false false there back = refl
 
 -- what a list of places has is in the range, and passes both tests
-record IsFoundIn (test found : ℕ → Bool) (least end b : ℕ) : Type 0 where
+pub record IsFoundIn (test found : ℕ → Bool) (least end b : ℕ) : Type 0 where
   pub pair_is : ℕ
   pub from : least ≤ pair_is
   pub below : pair_is < end
@@ -37,7 +37,7 @@ record IsFoundIn (test found : ℕ → Bool) (least end b : ℕ) : Type 0 where
   pub reached : found pair_is ≡ true
   pub block : block_of pair_is ≡ b
 
-found_in : (test found : ℕ → Bool) (a n b : ℕ) → list_any (λ t. nat_eq t b) (map block_of (filter test (filter found (range_with_len a n)))) ≡ true
+pub found_in : (test found : ℕ → Bool) (a n b : ℕ) → list_any (λ t. nat_eq t b) (map block_of (filter test (filter found (range_with_len a n)))) ≡ true
     → IsFoundIn test found a (a + n) b
 found_in test found a zero b some = absurd (both_ways false refl some)
 found_in test found a (suc n) b some = elim (cases_Bool (found a)) [
@@ -57,7 +57,7 @@ found_in test found a (suc n) b some = elim (cases_Bool (found a)) [
         let below = is.below in
         record { pair_is = is.pair_is; from = omega arith; below = omega arith; passes = is.passes; reached = is.reached; block = is.block }
 
-is_in : (test found : ℕ → Bool) (a n p : ℕ) → a ≤ p → p < a + n → test p ≡ true → found p ≡ true
+pub is_in : (test found : ℕ → Bool) (a n p : ℕ) → a ≤ p → p < a + n → test p ≡ true → found p ≡ true
     → list_any (λ t. nat_eq t (block_of p)) (map block_of (filter test (filter found (range_with_len a n)))) ≡ true
 is_in test found a zero p from below passes reached = absurd (omega arith)
 is_in test found a (suc n) p from below passes reached = elim (cases_Bool (nat_eq a p)) [

@@ -1,11 +1,10 @@
 -- Which roles the edges of a cache's format lead to: a superblock's to the roots, those of any other block to its own role or the next.
-use Rattle.std.proofs.Common.{◌≡◌, ◌⊎◌, inl, inr, ℕ, zero, suc, ◌<◌, ◌≤◌, Bool, true, false, nat_eq, cond, List, [], ◌∷◌, ◌++◌, map, refl, arith}
-use Rattle.std.specs.List.{AllByRecursion, flat_map, range_with_len}
+use Rattle.std.proofs.Common.{◌≡◌, ◌⊎◌, inl, inr, ℕ, zero, suc, ◌<◌, nat_eq, cond, List, [], ◌∷◌, refl, arith}
+use Rattle.std.specs.List.{AllByRecursion, range_with_len}
 use Rattle.std.proofs.lemmas.Bool.{cases_Bool, cond_both, eqb-false, eqb-true}
 use Rattle.pd_kinds.specs.CacheFormat.{CacheFields, cache_fields, cache_graph, cache_layout, cache_super_edges, has_dirty_bits}
 use Rattle.pd_kinds.specs.Edge.{Edge}
-use Rattle.pd_kinds.specs.Graph.{Graph}
-use Rattle.pd_kinds.specs.Layout.{Layout, Tree, graph_of, layout_edges, node_entries_of, tree_edges}
+use Rattle.pd_kinds.specs.Layout.{Tree, graph_of, layout_edges, node_entries_of, tree_edges}
 use Rattle.pd_kinds.specs.Node.{Entry, child_at, entry_count, is_inner_node}
 use Rattle.pd_laws.proofs.AllLemmas.{all_flat_map, all_map, all_of}
 use Rattle.pd_laws.proofs.LayoutLemmas.{all_optional}

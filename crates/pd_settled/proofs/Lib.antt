@@ -8,3 +8,7 @@ pub mod SettledBlock
 pub mod Resealed
 pub mod SameBelow
 pub mod SameFaults
+pub mod WordLemmas
+pub mod OneRole
+pub mod SettledImage
+pub mod SettledLemmas

@@ -1,6 +1,6 @@
 -- Which block of the fast device stands for a block of the origin: by all cached blocks, and by some of them, where no two have one
 -- origin.
-use Rattle.std.proofs.Common.{◌≡◌, inl, inr, ℕ, suc, ◌+◌, ◌-◌, ◌*◌, ◌<◌, ◌≤◌, Bool, true, false, not, ◌&&◌, nat_le, nat_lt, nat_eq, max, cond, List, [], ◌∷◌, length, map, filter, fold, Option, Some, None, IfSome, refl, sym, ap, ◌∙◌, arith, eq-eqb, leb-true, ltb-true, le_trans, le_refl}
+use Rattle.std.proofs.Common.{◌≡◌, inl, inr, ℕ, suc, ◌+◌, ◌-◌, ◌*◌, ◌<◌, ◌≤◌, Bool, true, false, not, nat_le, nat_lt, nat_eq, max, List, [], ◌∷◌, map, filter, fold, Option, Some, None, IfSome, refl, sym, arith, eq-eqb, leb-true, ltb-true, le_trans, le_refl}
 use Rattle.std.specs.List.{AllByRecursion, list_any, slice_get}
 use Rattle.std.proofs.Math.Nat.{le-max_left, le-max_right, mul-le-mul_right, suc-mul}
 use Rattle.std.proofs.lemmas.Bool.{cases_Bool, cases_lt, and_parts, or_parts, or_right, both_ways}

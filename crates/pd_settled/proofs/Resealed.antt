@@ -1,5 +1,5 @@
 -- A cache's format sees the same in a block of an array that was sealed again with its old header, in whatever role it is looked at.
-use Rattle.std.proofs.Common.{◌≡◌, ◌≢◌, ◌⊎◌, inl, inr, ℕ, zero, suc, Bool, true, false, not, List, [], refl, sym, ap, ◌∙◌, arith}
+use Rattle.std.proofs.Common.{◌≡◌, ℕ, zero, suc, true, List, refl, sym, ◌∙◌, arith}
 use Rattle.std.specs.List.{list_any}
 use Rattle.pd_kinds.specs.declared.kind.Kind.TheVariants.{Cache}
 use Rattle.pd_kinds.specs.declared.rule.Rule.{Rule}
@@ -9,7 +9,6 @@ use Rattle.pd_kinds.specs.Bitmap.{bitmap_bad, bitmap_salt, index_bad, index_salt
 use Rattle.pd_kinds.specs.CacheFormat.{cache_fields, cache_graph, cache_layout, cache_super_bad}
 use Rattle.pd_kinds.specs.Checksum.{has_checksum}
 use Rattle.pd_kinds.specs.Edge.{Edge}
-use Rattle.pd_kinds.specs.Graph.{Graph}
 use Rattle.pd_kinds.specs.Layout.{Layout, Tree, copy, tree, bitmap, index, array, graph_of, is_bad, layout_bad, tree_bad}
 use Rattle.pd_kinds.specs.Node.{node_salt}
 use Rattle.pd_kinds.specs.Rule.{all_rules, same_rule}

@@ -1,12 +1,12 @@
 -- Two images of a cache of which the other one has some blocks of arrays sealed again: its format sees the same, and its trees have the
 -- same entries.
-use Rattle.std.proofs.Common.{◌≡◌, ◌⊎◌, inl, inr, ℕ, zero, suc, ◌+◌, ◌/◌, ◌<◌, ◌≤◌, Bool, true, false, nat_eq, cond, List, [], ◌∷◌, ◌++◌, length, map, refl, sym, subst, ap, ap₂, ◌∙◌, arith, length-append}
+use Rattle.std.proofs.Common.{◌≡◌, ◌⊎◌, inl, inr, ℕ, ◌+◌, ◌<◌, Bool, List, [], ◌∷◌, length, map, refl, sym, subst, ap, ap₂, ◌∙◌, arith, length-append}
 use Rattle.std.specs.List.{AllByRecursion, flat_map, range_with_len}
 use Rattle.std.proofs.lemmas.Bool.{both_ways, cond_both}
 use Rattle.std.proofs.lemmas.List.FromFn.{length-map-range_with_len}
 use Rattle.pd_kinds.specs.declared.rule.Rule.TheVariants as r
-use Rattle.pd_kinds.specs.Array.{max_words, word_at, word_count}
-use Rattle.pd_kinds.specs.CacheFormat.{CacheFields, cache_fields, cache_graph, cache_layout}
+use Rattle.pd_kinds.specs.Array.{word_at, word_count}
+use Rattle.pd_kinds.specs.CacheFormat.{cache_fields, cache_graph, cache_layout}
 use Rattle.pd_kinds.specs.Edge.{Edge}
 use Rattle.pd_kinds.specs.Graph.{Graph, block_at, block_of, edges_of, is_inner_pair, next, pair, role_of}
 use Rattle.pd_kinds.specs.Layout.{graph_of, leaf_entries}

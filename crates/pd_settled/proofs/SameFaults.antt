@@ -1,7 +1,7 @@
 -- The faults of a cache are the same up to each stage where some blocks of its arrays are sealed again, with as many words, and its mapping
 -- array keeps what is valid, and the origins.
-use Rattle.std.proofs.Common.{◌≡◌, inl, inr, ℕ, zero, suc, ◌+◌, ◌-◌, ◌/◌, ◌%◌, ◌<◌, ◌≤◌, Bool, true, false, not, ◌&&◌, nat_eq, nat_lt, cond, List, [], ◌∷◌, ◌++◌, length, map, filter, Option, Some, None, refl, sym, ap, ap₂, ◌∙◌, arith}
-use Rattle.std.specs.List.{AllByRecursion, flat_map, list_any, range_with_len}
+use Rattle.std.proofs.Common.{◌≡◌, inl, inr, ℕ, zero, suc, ◌+◌, ◌/◌, ◌%◌, ◌<◌, ◌≤◌, Bool, not, ◌&&◌, nat_eq, List, [], ◌∷◌, ◌++◌, length, map, filter, Option, None, refl, ap, ap₂, ◌∙◌, arith}
+use Rattle.std.specs.List.{AllByRecursion, flat_map, range_with_len}
 use Rattle.std.proofs.lemmas.Bool.{cases_eq, cond_both, eqb-false, eqb-true}
 use Rattle.pd_kinds.specs.declared.fault.Fault.{Fault}
 use Rattle.pd_kinds.specs.declared.fault.Space.TheVariants.{Meta, DataBlock}
@@ -18,7 +18,7 @@ use Rattle.pd_kinds.specs.Node.{Entry}
 use Rattle.pd_kinds.specs.Rule.{all_rules}
 use Rattle.pd_kinds.specs.Stages.{Checked, IsReached, block_faults, cache_checked, count_fault, count_faults, faults, order_bad, stage_faults, stages_to, walk_bad}
 use Rattle.pd_kinds.specs.Trees.{count_of_bits, entries_below, stored_in, stored_meta_in, words_of}
-use Rattle.pd_kinds.specs.Whole.{Array, WholeTest, are_full, array_whole, array_words, bitmap_tests, cache_arrays, cache_whole, dirty_array, has_repeat, is_array_index_bad, is_not_counting, is_valid_word, mapping_array, optional_array, origin_of_word, whole_bad}
+use Rattle.pd_kinds.specs.Whole.{Array, WholeTest, array_whole, array_words, cache_arrays, cache_whole, dirty_array, has_repeat, is_array_index_bad, is_valid_word, mapping_array, optional_array, origin_of_word, whole_bad}
 use Rattle.pd_laws.proofs.AllLemmas.{all_append, all_from}
 use Rattle.pd_tree.proofs.TableLemmas.{none_passes}
 use Rattle.pd_alike.proofs.Below.{flat_map_same}

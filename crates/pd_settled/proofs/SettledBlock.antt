@@ -1,5 +1,5 @@
 -- A block of an array of words of eight bytes, once nothing is dirty: its header is as it was, each word is settled, and it is sealed.
-use Rattle.std.proofs.Common.{◌≡◌, inl, inr, ℕ, zero, suc, ◌+◌, ◌-◌, ◌*◌, ◌/◌, ◌%◌, ◌^◌, ◌<◌, ◌≤◌, Bool, true, false, not, ◌&&◌, ◌||◌, nat_eq, nat_lt, cond, List, [], ◌∷◌, length, get_or, map, refl, sym, ap, ap₂, ◌∙◌, arith}
+use Rattle.std.proofs.Common.{◌≡◌, inl, inr, ℕ, zero, suc, ◌+◌, ◌-◌, ◌*◌, ◌^◌, ◌<◌, ◌≤◌, Bool, true, not, ◌&&◌, ◌||◌, nat_eq, nat_lt, cond, List, length, get_or, map, refl, sym, ap, ◌∙◌, arith}
 use Rattle.std.specs.List.{list_all, range_with_len}
 use Rattle.std.proofs.lemmas.Bool.{and_parts, cases_Bool, cond_both, eqb-false, eqb-true, ltb-false, not-false, or_parts}
 use Rattle.std.proofs.lemmas.List.{get_or-map, length-map}
@@ -12,10 +12,10 @@ use Rattle.pd_kinds.specs.Field.{le}
 use Rattle.pd_kinds.specs.Node.{puts}
 use Rattle.pd_kinds.specs.Trees.{block_words}
 use Rattle.pd_kinds.specs.Whole.{is_dirty_word, is_valid_word}
-use Rattle.pd_kinds.proofs.FieldLemmas.{le-lt, length-put}
+use Rattle.pd_kinds.proofs.FieldLemmas.{le-lt}
 use Rattle.pd_kinds.proofs.PutsLemmas.{le-puts, le-puts_other, length-puts}
 use Rattle.pd_kinds.proofs.WrittenLemmas.{le-sealed_other}
-use Rattle.pd_laid_graph.proofs.Bytes.{AreBytes, bytes_put, bytes_puts, valid_sealed}
+use Rattle.pd_laid_graph.proofs.Bytes.{AreBytes, bytes_puts, valid_sealed}
 use Rattle.pd_answers.specs.CachedView.{long_words, settled_block, settled_word}
 use Rattle.pd_settled.proofs.ViewLemmas.{range_same}
 

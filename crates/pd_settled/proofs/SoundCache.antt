@@ -1,6 +1,6 @@
 -- What is known of a cache without faults: its superblock is valid, and no two entries have one origin.
-use Rattle.std.proofs.Common.{◌≡◌, inl, inr, ℕ, suc, ◌+◌, ◌<◌, Bool, true, false, not, ◌&&◌, ◌||◌, nat_eq, List, [], ◌∷◌, length, get_or, drop, map, filter, refl, sym, ap, ap₂, ◌∙◌, arith, eq-eqb}
-use Rattle.std.specs.List.{list_any, range_with_len}
+use Rattle.std.proofs.Common.{◌≡◌, inl, inr, ℕ, suc, ◌+◌, Bool, true, false, not, ◌&&◌, nat_eq, List, [], ◌∷◌, length, get_or, drop, map, filter, refl, sym, ap, ap₂, ◌∙◌, arith, eq-eqb}
+use Rattle.std.specs.List.{range_with_len}
 use Rattle.std.proofs.lemmas.Bool.{and_from, cases_Bool, not-false, or_left, or_parts, or_right, true≢false}
 use Rattle.std.proofs.lemmas.Simd.{map-map}
 use Rattle.pd_kinds.specs.declared.kind.Kind.TheVariants.{Cache}
@@ -24,7 +24,7 @@ use Rattle.pd_tree.specs.Roots.{HasCacheRoots}
 use Rattle.pd_cache_meaning.proofs.EntryLemmas.{drop_next, first_left}
 
 -- the first test doesn't fail where it would fail alone
-first_holds : (first : Rule) (fails : Bool) (others : Rule → Bool) → same_rule first first ≡ true → alone first fails others first ≡ false → fails ≡ false
+pub first_holds : (first : Rule) (fails : Bool) (others : Rule → Bool) → same_rule first first ≡ true → alone first fails others first ≡ false → fails ≡ false
 unfolding alone
 first_holds first true others same holds = absurd (true≢false (sym same ∙ holds))
 first_holds first false others same holds = refl

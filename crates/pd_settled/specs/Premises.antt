@@ -1,6 +1,6 @@
 -- What the laws of a writeback take for granted, and what they speak of: the tree that names the blocks which say what is dirty, a
 -- fast device with room, and devices that agree where nothing is copied.
-use Rattle.std.specs.Prelude.{◌≡◌, ℕ, ◌+◌, ◌*◌, ◌<◌, ◌≤◌, Bool, false, if◌then◌else◌, List, length, map, IfSome}
+use Rattle.std.specs.Prelude.{◌≡◌, ℕ, ◌+◌, ◌*◌, ◌<◌, ◌≤◌, false, if◌then◌else◌, List, length, map, IfSome}
 use Rattle.std.specs.List.{AllByRecursion, slice_get}
 use Rattle.pd_kinds.specs.CacheFormat.{cache_fields, cache_graph, has_dirty_bits}
 use Rattle.pd_kinds.specs.Graph.{block_at}

@@ -3,7 +3,11 @@
 #![tactic(auto)]
 
 mod places;
+mod settled;
 mod views;
 
 pub use places::dirty_places_are_named;
+pub use settled::{
+    settled_caches_have_the_same_faults, settled_caches_mean_the_same, settled_caches_show_the_same,
+};
 pub use views::{copied_origins_stand_alone, copying_keeps_the_view};
