@@ -97,7 +97,7 @@ prefix=$tmp/prefix
 PREFIX=$prefix
 export PREFIX
 tools='thin_check cache_check era_check thin_dump cache_dump era_dump thin_restore cache_restore era_restore
-    thin_repair thin_rmap thin_ls era_invalidate thin_generate thin_rehearse'
+    thin_repair thin_rmap thin_ls era_invalidate thin_generate thin_rehearse cache_writeback'
 mkdir -p "$prefix/sbin"
 echo 'of another' >"$prefix/sbin/thin_check"
 try 1 "$here/install"
@@ -389,6 +389,97 @@ zeros small.img 2
 try 4 thin_repair -i leak.img -o small.img
 notes_have 'pdata_tools: no room: need '
 
+# Writebacks: a cache of two blocks, one of them dirty
+
+printf '%s\n' 'cache 1' 'cache 00000000-0000-0000-0000-000000000000 8 2 1 736d7100000000000000000000000000 2 0 0 4' \
+    'map 0 3 1 0' 'map 1 0 0 0' end >dirty.txt
+sed 's/^map 0 3 1/map 0 3 0/' dirty.txt >written.txt
+fill() {
+    dd if=/dev/zero bs=4096 count=1 2>/dev/null | tr '\000' "$1"
+}
+{
+    fill '\252'
+    fill '\273'
+} >fast.img
+cp fast.img whole.img
+for version in 1 2; do
+    zeros meta.img 16
+    try 0 cache_restore --metadata-version $version -i dirty.txt -o meta.img
+    cp meta.img dirty.img
+    {
+        fill '\273'
+        zeros part.img 3 && cat part.img
+    } >origin.img
+    {
+        fill '\273'
+        zeros part.img 2 && cat part.img
+        fill '\252'
+    } >copied.img
+    try 2 cache_writeback --metadata-device meta.img --fast-device fast.img
+    try 0 cache_writeback --metadata-device meta.img --fast-device fast.img --origin-device origin.img
+    out 'copied 1'
+    notes
+    same origin.img copied.img
+    same fast.img whole.img
+    try 0 cache_check meta.img
+    out clean
+    try 0 cache_dump meta.img
+    same out written.txt
+    # nothing is left to do
+    cp meta.img before.img
+    try 0 cache_writeback --origin-device origin.img --fast-device fast.img --metadata-device meta.img
+    out 'copied 0'
+    same meta.img before.img
+    same origin.img copied.img
+    # an origin, or a fast device, that is too short
+    cp dirty.img meta.img
+    zeros small.img 3
+    cp small.img before.img
+    try 4 cache_writeback --metadata-device meta.img --fast-device fast.img --origin-device small.img
+    out
+    notes 'pdata_tools: no room: need 4, blocks 3' \
+        'cache_writeback: a block has 4 KiB: the fast device or the origin is shorter than the metadata says'
+    same small.img before.img
+    same meta.img dirty.img
+    : >empty.img
+    try 4 cache_writeback --metadata-device meta.img --fast-device empty.img --origin-device origin.img
+    notes_have 'pdata_tools: no room: need 1, blocks 0'
+    same meta.img dirty.img
+done
+# a cache that wasn't shut down: all of its blocks are copied
+sed '2s/ 8 2 1 / 8 2 0 /' dirty.txt >open.txt
+zeros meta.img 16
+try 0 cache_restore -i open.txt -o meta.img
+zeros origin.img 4
+try 0 cache_writeback --metadata-device meta.img --fast-device fast.img --origin-device origin.img
+out 'copied 2'
+same origin.img copied.img
+# blocks of six KiB, and metadata with faults
+sed '2s/ 8 2 1 / 12 2 1 /' dirty.txt >odd.txt
+zeros meta.img 16
+try 0 cache_restore -i odd.txt -o meta.img
+cp origin.img before.img
+try 1 cache_writeback --metadata-device meta.img --fast-device fast.img --origin-device origin.img
+out
+notes 'pdata_tools: block size'
+poke meta.img 200 '\377\377'
+try 1 cache_writeback --metadata-device meta.img --fast-device fast.img --origin-device origin.img
+notes 'fault meta 0 checksum' 'faults 1'
+same origin.img before.img
+for missing in metadata fast origin; do
+    metadata=dirty.img fast=fast.img origin=origin.img
+    eval "$missing=missing.img"
+    try 5 cache_writeback --metadata-device $metadata --fast-device $fast --origin-device $origin
+    notes 'pdata_tools: device fault' "cache_writeback: missing.img isn't there"
+done
+same origin.img before.img
+# the real cache, in which nothing is dirty
+cp cache.img meta.img
+try 0 cache_writeback --metadata-device meta.img --fast-device fast.img --origin-device origin.img
+out 'copied 0'
+same meta.img cache.img
+same origin.img before.img
+
 # no file of standard input, and a text from there
 zeros fresh.img 1024
 try 0 sh -c 'thin_restore -i /dev/stdin -o fresh.img <thin-pool.txt'
@@ -650,6 +741,12 @@ if mknod held b 250 250 2>/dev/null && [ -b held ]; then
         notes "thin_rehearse: held is $in_use: nothing is written"
         try 5 sbin-looking/thin_check --clear-needs-check-flag held
         notes "thin_check: held is $in_use: nothing is written"
+        for missing in metadata fast origin; do
+            metadata=dirty.img fast=fast.img origin=origin.img
+            eval "$missing=held"
+            try 5 sbin-looking/cache_writeback --metadata-device $metadata --fast-device $fast --origin-device $origin
+            notes "cache_writeback: held is $in_use: nothing is written"
+        done
         try 5 sbin-looking/thin_dump -o held thin-pool.img
         notes "thin_dump: held is $in_use: nothing is written"
         try 5 sbin-looking/thin_check held
@@ -733,6 +830,10 @@ END
     out counts
     try 0 bash complete.bash "$complete" cache_restore -i cache.txt ''
     out --metadata-version -o
+    try 0 bash complete.bash "$complete" cache_writeback --fast-device fast.img ''
+    out --metadata-device --origin-device
+    try 0 bash complete.bash "$complete" cache_writeback --origin-device thin-pool.i
+    out thin-pool.img
     try 0 bash complete.bash "$complete" thin_dump thin-pool.i
     out thin-pool.img
 else

@@ -6,7 +6,7 @@ use Rattle.std.proofs.lemmas.Bool.{cases_Bool}
 use Rattle.std.proofs.lemmas.Option.{same_Some}
 use Rattle.pd_kinds.specs.declared.kind.Kind.TheVariants.{Thin, Cache, Era}
 use Rattle.pd_kinds.specs.declared.kind.Stage.TheVariants.{Counts}
-use Rattle.pd_answers.specs.Requests.{check, dump, restore, repair, rmap, list_devices, since, generate, rehearse, is_built}
+use Rattle.pd_answers.specs.Requests.{check, dump, restore, repair, rmap, list_devices, since, generate, rehearse, writeback, is_built}
 use Rattle.pd_answers.specs.Words.{Region, is_flag, items_of, given, version_of, generated_number, number_below, region_of, tool_in, request_of, spelled, asked}
 use Rattle.pd_exact.specs.Words.{IsName, to_file, in_version}
 
@@ -86,6 +86,11 @@ pub thin_rehearse_asked : (word : List ℕ) (number : ℕ) (path : List ℕ) →
     → asked (codes "thin_rehearse" ∷ codes "--number" ∷ word ∷ codes "-o" ∷ path ∷ []) ≡ Some (rehearse number path)
 unfolding is_built is_flag items_of given version_of tool_in request_of spelled asked
 thin_rehearse_asked word number path is_word is is_path = rw (is_word, is_path, is) refl
+
+pub cache_writeback_asked : (metadata fast origin : List ℕ) → IsName metadata → IsName fast → IsName origin
+    → asked (codes "cache_writeback" ∷ codes "--metadata-device" ∷ metadata ∷ codes "--fast-device" ∷ fast ∷ codes "--origin-device" ∷ origin ∷ []) ≡ Some (writeback metadata fast origin)
+unfolding is_built is_flag items_of given version_of tool_in request_of spelled asked
+cache_writeback_asked metadata fast origin is_metadata is_fast is_origin = rw (is_metadata, is_fast, is_origin) refl
 
 -- a word names version 1 or 2, and without one it is 1
 pub known_version : (word : Option (List ℕ)) (version : ℕ) → version_of word ≡ Some version → (version ≡ 1) ⊎ (version ≡ 2)

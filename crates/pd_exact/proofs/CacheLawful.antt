@@ -22,7 +22,8 @@ use Rattle.pd_kinds.specs.Image.{HasBytes}
 use Rattle.pd_spells.specs.Lawful.{AreEntries, IsLawfulCache}
 use Rattle.pd_tree.specs.Roots.{HasCacheRoots}
 use Rattle.pd_cache_meaning.proofs.SoundCache.{roots_inside}
-use Rattle.pd_exact.proofs.EntryLemmas.{IsNew, entries_lawful, filter_ascends, is_valid_at, origin_at, origins_are}
+use Rattle.pd_settled.proofs.SoundCache.{holds_here, is_valid_at, origin_at, origins_are, single_words}
+use Rattle.pd_exact.proofs.EntryLemmas.{IsNew, entries_lawful, filter_ascends}
 use Rattle.pd_exact.proofs.WordLemmas.{DoWordsFit, field_fits, first_whole, word_fits, words_fit}
 
 -- a number that is 0 or 4, by its test
@@ -51,11 +52,6 @@ hint_size_is : (image : List (List ℕ)) → faults Cache stages.Whole image ≡
 unfolding faults
 hint_size_is image none = hint_size_if_clean image (clean_super_where_none (cache_checked image) image (stages.Walk ∷ stages.Order ∷ stages.Whole ∷ []) none)
 
--- a test holds where it isn't found to fail at its block
-holds_here : (fails : Bool) (b : ℕ) (broken : Rule) → same_rule broken broken ≡ true → (fails && (nat_eq b b && same_rule broken broken)) ≡ false → fails ≡ false
-holds_here true b broken same holds = absurd (true≢false (sym (rw (eq-eqb b b refl, same) refl) ∙ holds))
-holds_here false b broken same holds = refl
-
 -- where none of some passes, none of the last ones does
 none_last : {X : Type 0} → (p : X → Bool) (xs ys : List X) → list_any p (xs ++ ys) ≡ false → list_any p ys ≡ false
 none_last p [] ys holds = holds
@@ -78,14 +74,6 @@ module _ (image : List (List ℕ)) (bytes : HasBytes image) (none : faults Cache
 
   abbrev words : List ℕ
   words = array_words graph image (mapping_array image)
-
-  -- no two valid words have one origin
-  single : has_repeat (map origin_of_word (filter is_valid_word words)) ≡ false
-  unfolding faults cache_checked whole_bad cache_whole
-  single =
-      let root = fields.mapping_root in
-      let holds = whole_where_none (cache_checked image) image [] none root r.Origin roots.mappings.block in
-      holds_here (has_repeat (map origin_of_word (filter is_valid_word words))) root r.Origin refl (or_parts _ _ holds).0
 
   -- there are as many words as the cache has blocks
   number : length words ≡ fields.blocks
@@ -125,7 +113,7 @@ module _ (image : List (List ℕ)) (bytes : HasBytes image) (none : faults Cache
       origin_fits (word_fits (2 ^ 32) (cache_hints graph image) (omega arith) hints_fit) (λ zero. none_at (cache_hints graph image) (no_hints zero))
       valid 0 []
       (filter_ascends (is_valid_at words) fields.blocks 0 0 (length words) (omega arith) (omega (arith, number)))
-      (rw (origins_are words words 0 refl) at single)
+      (rw (origins_are words words 0 refl) at (single_words image none roots))
       (all_of (λ i. IsNew [] (origin_at words i)) (λ i. refl) valid)
 
   pub cache_lawful : All (λ b. length b ≡ 4096) image → IsLawfulCache (cache_meaning image)

@@ -5,7 +5,7 @@ use Rattle.std.proofs.lemmas.Bool.{cases_Bool, eqb-false, ne_eqb, or_parts}
 use Rattle.pd_kinds.specs.Meaning.{cache_entry}
 use Rattle.pd_kinds.specs.Whole.{has_repeat, is_valid_word, origin_of_word}
 use Rattle.pd_spells.specs.Lawful.{AreEntries}
-use Rattle.pd_cache_meaning.proofs.EntryLemmas.{drop_next, first_left}
+use Rattle.pd_settled.proofs.SoundCache.{origin_at}
 
 -- numbers that ascend, from the least one on and below an end
 abbrev pub DoAscend : ℕ → ℕ → List ℕ → Type 0
@@ -18,29 +18,6 @@ filter_ascends p end least a (suc n) from to = elim (cases_Bool (p a)) [
   | inl is ↦ rw is (from, (omega arith, filter_ascends p end (a + 1) (a + 1) n (omega arith) (omega arith)))
   | inr other ↦ rw other (filter_ascends p end least (a + 1) n (omega arith) (omega arith))
 ]
-
--- the origin of a block, and whether it is valid
-abbrev pub origin_at : List ℕ → ℕ → ℕ
-origin_at all i = origin_of_word (get_or all i 0)
-
-abbrev pub is_valid_at : List ℕ → ℕ → Bool
-is_valid_at all i = is_valid_word (get_or all i 0)
-
--- the origins of the valid words are those of the valid blocks
-pub origins_are : (all words : List ℕ) (i : ℕ) → words ≡ drop i all
-    → map origin_of_word (filter is_valid_word words) ≡ map (origin_at all) (filter (is_valid_at all) (range_with_len i (length words)))
-origins_are all [] i is = refl
-origins_are all (word ∷ words) i is =
-    let here : word ≡ get_or all i 0 = ap (λ (xs : List ℕ). get_or xs 0 0) is ∙ first_left i all in
-    let rest : words ≡ drop (suc i) all = ap (drop 1) is ∙ drop_next i all in
-    let one_more : suc i ≡ i + 1 = omega arith in
-    let later =
-    origins_are all words (suc i) rest
-    ∙ ap (λ (j : ℕ). map (origin_at all) (filter (is_valid_at all) (range_with_len j (length words)))) one_more in
-    rw (← here) (elim (cases_Bool (is_valid_word word)) [
-      | inl valid ↦ rw valid (ap₂ (λ (x : ℕ) (xs : List ℕ). x ∷ xs) (ap origin_of_word here) later)
-      | inr other ↦ rw other later
-    ])
 
 -- a number isn't among these origins
 abbrev pub IsNew : List ℕ → ℕ → Type 0

@@ -1,6 +1,6 @@
-//! What a restored pool, cache or era target is, what a repaired pool is, what a check says of an image, and what a pool is
-//! whose flag was cleared: the laws of laid images, of sound images, of what is saved, of texts, of clean images and of
-//! alike ones, in the terms of the tools.
+//! What a restored pool, cache or era target is, what a repaired pool is, what a check says of an image, what a pool is whose
+//! flag was cleared, and what a cache is that was written back: the laws of laid images, of sound images, of what is saved, of
+//! texts, of clean images, of alike ones and of settled ones, in the terms of the tools.
 #![tactic(auto)]
 
 mod caches;
@@ -8,6 +8,7 @@ mod laws;
 mod repairs;
 mod targets;
 mod words;
+mod writebacks;
 
 pub use caches::{
     crashed_restore_leaves_no_other_cache, restored_cache_dump_means_the_same,
@@ -28,9 +29,11 @@ pub use targets::{
 };
 pub use words::{
     cache_check_tells_clean, cache_dump_puts_the_text, cache_restore_makes_the_cache,
+    cache_writeback_leaves_nothing_dirty,
     era_check_tells_clean, era_dump_puts_the_text, era_invalidate_puts_the_written_blocks,
     era_restore_makes_the_target, thin_check_tells_clean, thin_check_tells_clean_and_clears,
     thin_dump_puts_the_text, thin_generate_puts_its_text, thin_ls_puts_the_devices,
     thin_rehearse_makes_its_pool, thin_repair_makes_what_is_saved, thin_restore_is_asked,
     thin_restore_makes_the_pool, thin_rmap_puts_the_mappings,
 };
+pub use writebacks::{stopped_writeback_keeps_the_view, written_back_cache_is_clean};

@@ -12,6 +12,7 @@ ghost use Rattle.pd_answers.specs.Requests.{restore};
 ghost use Rattle.pd_answers.specs.Words.{Region, asked, generated_number, is_value, number_below, region_of, version_of};
 ghost use Rattle.pd_exact.specs.Exact.{HoldsCacheOfText, HoldsCleared, HoldsPoolOfText, HoldsSalvage, HoldsTargetOfText};
 ghost use Rattle.pd_exact.specs.Words.{CallEnds, HoldsGenerated, IsName, PutsGenerated, PutsOfInput, PutsTextOfInput, TellsWhetherClean, in_version, to_file};
+ghost use Rattle.pd_exact.specs.Writeback.{HoldsWrittenBack};
 
 use crate::caches::{restored_cache_is_clean, sound_caches_are_lawful};
 use crate::laws::{
@@ -20,6 +21,7 @@ use crate::laws::{
 };
 use crate::repairs::repaired_pool_is_clean;
 use crate::targets::{restored_target_is_clean, sound_targets_are_lawful};
+use crate::writebacks::written_back_cache_is_clean;
 use pd_laid_thin::laid_pool_is_clean;
 use pd_spells::{
     cache_text_spells, era_text_spells, thin_text_has_one_verdict,
@@ -148,6 +150,15 @@ pub fn thin_rehearse_makes_its_pool()
     laid_pool_is_clean();
     thin_text_has_one_verdict();
     thin_text_is_accepted_where_there_is_room();
+}
+
+/// `cache_writeback --metadata-device IMAGE --fast-device IMAGE --origin-device IMAGE`: status 0 says that nothing in the cache is dirty,
+/// that it is as sound as it was, and that the origin reads alone what the cached device read, where the blocks that weren't copied are the
+/// same on both devices, with nothing unsynced.
+pub fn cache_writeback_leaves_nothing_dirty()
+    ensures { (metadata fast origin : List ℕ) (before after : Objects) → IsName metadata → IsName fast → IsName origin → CallEnds (codes "cache_writeback" ∷ codes "--metadata-device" ∷ metadata ∷ codes "--fast-device" ∷ fast ∷ codes "--origin-device" ∷ origin ∷ []) 0 before after → HoldsWrittenBack before after }
+{
+    written_back_cache_is_clean();
 }
 
 /// The words `thin_restore -i FILE -o IMAGE`, in either order, ask for the restore of a pool from FILE to IMAGE.

@@ -1,0 +1,180 @@
+-- What an answered writeback comes to, by what is known of the copied origin and of a cache in which nothing is dirty.
+use Rattle.std.proofs.Common.{◌≡◌, ◌≢◌, ◌⊎◌, inl, inr, ⊎_elim, ℕ, suc, ◌≤◌, Bool, true, false, not, nat_eq, nat_lt, cond, List, [], ◌∷◌, length, Option, Some, None, IfSome, refl, sym, ap, subst, ◌∙◌, arith}
+use Rattle.std.proofs.lemmas.Bool.{cases_Bool, eqb-false, eqb-true, ltb-false}
+use Rattle.pd_kinds.specs.declared.fault.Fault.{Fault}
+use Rattle.pd_kinds.specs.declared.kind.Kind.TheVariants.{Cache}
+use Rattle.pd_kinds.specs.declared.kind.Stage.TheVariants.{Whole}
+use Rattle.pd_kinds.specs.Crash.{Chance, HasNoSuper, HoldsSynced, IsOldNoneOrMade, IsSynced, IsUntouched, LeavesNow, LeavesOnly, may_leave, moment}
+use Rattle.pd_kinds.specs.Image.{IsImage}
+use Rattle.pd_kinds.specs.Meaning.{cache_meaning}
+use Rattle.pd_kinds.specs.Moments.{now}
+use Rattle.pd_kinds.specs.Objects.{DeviceState}
+use Rattle.pd_kinds.specs.Report.{Reported, report_of}
+use Rattle.pd_kinds.specs.Stages.{IsClean, faults}
+use Rattle.pd_kinds.proofs.CrashLemmas.{left_now, left_synced, stays, weaken}
+use Rattle.pd_answers.specs.Answer.{Objects}
+use Rattle.pd_answers.specs.CachedView.{blocks_each, copied, fast_need, hot_blocks, is_block_size_bad, origin_need, settled, view}
+use Rattle.pd_answers.specs.Writebacks.{AllTold, FindsWriteback, HasBlocks, KeepsOthers, LeavesWrittenBack, WritebackFound, writeback_answer}
+use Rattle.pd_settled.specs.Premises.{AgreeElsewhere, HasHotBlocks, without_dirt}
+use Rattle.pd_exact.specs.Writeback.{HoldsWrittenBack, IsWritebackAnswered, IsWrittenBack, KeepsTheView, LeavesTheView, ReadsAlone}
+use Rattle.pd_exact.proofs.Restored.{at_told}
+
+abbrev Image : Type 0
+Image = List (List ℕ)
+
+-- at the answer's status 0 nothing was refused: the report is empty, and the fast device has what is read of it
+record IsNotRefused (found : WritebackFound) : Type 0 where
+  pub none : found.report.total ≡ 0
+  pub room : fast_need (blocks_each found.block_size) found.hot ≤ found.fast_blocks
+
+not_refused : (found : WritebackFound) → (writeback_answer found).status ≡ 0 → IsNotRefused found
+not_refused found given = elim (cases_Bool (nat_eq found.report.total 0)) [
+  | inr some ↦ absurd (one_zero (rw some at given))
+  | inl none ↦ elim (cases_Bool (is_block_size_bad found.block_size)) [
+    | inl bad ↦ absurd (one_zero (rw (none, bad) at given))
+    | inr good ↦ elim (cases_Bool (nat_lt found.fast_blocks (fast_need (blocks_each found.block_size) found.hot))) [
+      | inl small ↦ absurd (four_zero (rw (none, good, small) at given))
+      | inr enough ↦ record {
+        none = eqb-true found.report.total 0 none;
+        room = ltb-false found.fast_blocks (fast_need (blocks_each found.block_size) found.hot) enough;
+      }
+    ]
+  ]
+]
+  where
+    one_zero : (let one : ℕ = 1 in one ≡ 0) → ⊥
+    one_zero e = omega arith
+
+    four_zero : (let four : ℕ = 4 in four ≡ 0) → ⊥
+    four_zero e = omega arith
+
+-- it is 0, or is not
+zero_or_not : (n : ℕ) → (n ≡ 0) ⊎ (n ≢ 0)
+zero_or_not n = elim (cases_Bool (nat_eq n 0)) [
+  | inl zero_is ↦ inl (eqb-true n 0 zero_is)
+  | inr other ↦ inr (λ same. let apart = eqb-false n 0 other in apart same)
+]
+
+-- no list without elements but the empty one
+none_counted : (list : List Fault) → length list ≡ 0 → list ≡ []
+none_counted [] counted = refl
+none_counted (fault ∷ list) counted = absurd (omega arith)
+
+-- what holds where three are told
+three : {X : Type 0} (a b c : Option X) (P : X → X → X → Type 0) → ((x y z : X) → a ≡ Some x → b ≡ Some y → c ≡ Some z → P x y z)
+    → IfSome a (λ x. IfSome b (λ y. IfSome c (P x y)))
+three None b c P each = tt
+three (Some x) None c P each = tt
+three (Some x) (Some y) None P each = tt
+three (Some x) (Some y) (Some z) P each = each x y z refl refl refl
+
+at_three : (before : Objects) (image origin fast : Image) (P : Image → Image → Image → Type 0) → before.input.held ≡ Some image → before.output.held ≡ Some origin → before.third.held ≡ Some fast
+    → AllTold before P → P image origin fast
+at_three before image origin fast P image_told origin_told fast_told all =
+    at_told before.third.held fast (P image origin) fast_told
+    (at_told before.output.held origin (λ o. IfSome before.third.held (P image o)) origin_told
+    (at_told before.input.held image (λ i. IfSome before.output.held (λ o. IfSome before.third.held (P i o))) image_told all))
+
+-- what is known of the copied origin, and of a cache in which nothing is dirty
+pub record AreViewLaws : Type 0 where
+  pub kept : (image origin left fast : Image) → faults Cache Whole image ≡ [] → HasHotBlocks image fast
+      → KeepsOthers (blocks_each (cache_meaning image).block_size) (hot_blocks (cache_meaning image)) origin left → view image left fast ≡ view image origin fast
+  pub alone : (image origin fast : Image) → faults Cache Whole image ≡ [] → ReadsAlone image origin fast (copied image origin fast)
+  pub shows : (image origin fast : Image) → IsImage image → faults Cache Whole image ≡ [] → view (settled image) origin fast ≡ view image origin fast
+
+module _ (laws : AreViewLaws) (metadata fast_path origin_path : List ℕ) (before after : Objects) (status : ℕ)
+    (answered : IsWritebackAnswered metadata fast_path origin_path before after status) where
+  abbrev found : WritebackFound
+  found = answered.finding
+
+  module _ (image origin fast : Image) (image_told : before.input.held ≡ Some image) (origin_told : before.output.held ≡ Some origin) (fast_told : before.third.held ≡ Some fast) where
+    -- what was found is right
+    right : (found.report ≡ report_of (faults Cache Whole image)) × (found.block_size ≡ (cache_meaning image).block_size) × (found.hot ≡ hot_blocks (cache_meaning image))
+    right = at_told before.input.held image _ image_told answered.found.told
+
+    sound : (writeback_answer found).status ≡ 0 → faults Cache Whole image ≡ []
+    sound given = none_counted (faults Cache Whole image) (sym (ap (λ (r : Reported). r.total) right.0) ∙ (not_refused found given).none)
+
+    room : (writeback_answer found).status ≡ 0 → HasHotBlocks image fast
+    room given =
+        let many : found.fast_blocks ≡ length fast = at_told before.third.held fast (λ (i : Image). found.fast_blocks ≡ length i) fast_told answered.found.fast.told in
+        rw (right.1, right.2, many) at (not_refused found given).room
+
+    -- a call that goes on
+    pub keeps_at_work : IsImage image → (writeback_answer found).status ≡ 0 → KeepsTheView image origin fast before after
+    keeps_at_work is given =
+        let none = sound given in
+        let enough = room given in
+        record {
+          origin = weaken (at_told before.output.held origin _ origin_told answered.leaves.origin)
+              (λ left firsts keeps. laws.kept image origin left fast none enough (rw (right.1, right.2) at keeps));
+          metadata = weaken (at_told before.input.held image _ image_told answered.leaves.metadata)
+              (λ left firsts outcome chance.
+              ⊎_elim (λ old. inr (λ other. ap (λ (i : Image). view i other fast) old))
+              (λ more. ⊎_elim (λ none_valid. inl none_valid) (λ made. inr (λ other. ap (λ (i : Image). view i other fast) made ∙ laws.shows image other fast is none)) more)
+              (outcome chance));
+          order = ⊎_elim (λ untouched. inl untouched)
+              (λ synced. inr (subst (λ (held : Option Image). IfSome held (λ left. ReadsAlone image origin fast left × HoldsSynced left after.output)) (sym synced.held)
+              (laws.alone image origin fast none, synced)))
+              (at_three before image origin fast (λ i o f. IsUntouched before.input after.input ⊎ HoldsSynced (copied i o f) after.output) image_told origin_told fast_told answered.leaves.order);
+        }
+
+    -- what a crash leaves of a device that is as it was, and was synced
+    left_as_was : (device : DeviceState) (held left firsts : Image) → device.held ≡ Some held → IsSynced device → may_leave device (moment device) left firsts → left ≡ held
+    left_as_was device held left firsts told synced leaves =
+        let is = at_told device.held held (λ (i : Image). HoldsSynced i device) told synced in
+        left_synced held left (now held device.history) refl is.unsynced (left_now device held left firsts told leaves).0
+
+    -- one that is refused
+    pub keeps_refused : IsSynced before.input → IsSynced before.output → (writeback_answer found).status ≢ 0 → KeepsTheView image origin fast before after
+    keeps_refused input_synced output_synced refused =
+        let both = answered.leaves.refused refused in
+        record {
+          origin = stays both.1.held both.1.history
+              (λ left firsts leaves. ap (λ (i : Image). view image i fast) (left_as_was before.output origin left firsts origin_told output_synced leaves));
+          metadata = stays both.0.held both.0.history
+              (λ left firsts leaves chance. inr (λ other. ap (λ (i : Image). view i other fast) (left_as_was before.input image left firsts image_told input_synced leaves)));
+          order = inl both.0;
+        }
+
+  -- what a crash leaves
+  pub keeps_the_view : IsSynced before.input → IsSynced before.output → LeavesTheView before after
+  keeps_the_view input_synced output_synced =
+      three before.input.held before.output.held before.third.held (λ image origin fast. IsImage image → KeepsTheView image origin fast before after)
+      (λ image origin fast image_told origin_told fast_told is.
+      ⊎_elim (keeps_at_work image origin fast image_told origin_told fast_told is)
+      (keeps_refused image origin fast image_told origin_told fast_told input_synced output_synced)
+      (zero_or_not (writeback_answer found).status))
+
+-- what the devices hold at status 0
+module _ (laws : AreViewLaws) (made : (image : Image) → IsImage image → faults Cache Whole image ≡ [] → (faults Cache Whole (settled image) ≡ [])
+    × (IsClean Cache image → IsClean Cache (settled image)) × (cache_meaning (settled image) ≡ without_dirt (cache_meaning image)))
+    (copied_keeps : (image origin fast : Image) → KeepsOthers (blocks_each (cache_meaning image).block_size) (hot_blocks (cache_meaning image)) origin (copied image origin fast))
+    (metadata fast_path origin_path : List ℕ) (before after : Objects) (answered : IsWritebackAnswered metadata fast_path origin_path before after 0) where
+  written_back : (image origin fast : Image) → before.input.held ≡ Some image → before.output.held ≡ Some origin → before.third.held ≡ Some fast → IsImage image
+      → IsWrittenBack image origin fast (settled image) (copied image origin fast)
+  written_back image origin fast image_told origin_told fast_told is =
+      let given : (writeback_answer answered.finding).status ≡ 0 = sym (answered.sound (omega arith)).status in
+      let none = sound laws metadata fast_path origin_path before after 0 answered image origin fast image_told origin_told fast_told given in
+      let enough = room laws metadata fast_path origin_path before after 0 answered image origin fast image_told origin_told fast_told given in
+      let is_made = made image is none in
+      record {
+        sound = is_made.0;
+        clean = is_made.1;
+        meaning = is_made.2;
+        same = laws.shows image (copied image origin fast) fast is none ∙ laws.kept image origin (copied image origin fast) fast none enough (copied_keeps image origin fast);
+        alone = laws.alone image origin fast none;
+      }
+
+  pub holds_written_back : HoldsWrittenBack before after
+  holds_written_back =
+      three before.input.held before.output.held before.third.held (λ image origin fast. IsImage image →
+      IfSome after.input.held (λ metadata. IfSome after.output.held (λ left. IsWrittenBack image origin fast metadata left × HoldsSynced metadata after.input × HoldsSynced left after.output)))
+      (λ image origin fast image_told origin_told fast_told is.
+      let marked = at_told before.input.held image (λ (i : Image). HoldsSynced (settled i) after.input) image_told (answered.leaves.marked refl) in
+      let all = at_three before image origin fast (λ i o f. HoldsSynced (copied i o f) after.output) image_told origin_told fast_told (answered.leaves.copied_all refl) in
+      subst (λ (held : Option Image). IfSome held (λ metadata. IfSome after.output.held (λ left. IsWrittenBack image origin fast metadata left × HoldsSynced metadata after.input × HoldsSynced left after.output)))
+      (sym marked.held)
+      (subst (λ (held : Option Image). IfSome held (λ left. IsWrittenBack image origin fast (settled image) left × HoldsSynced (settled image) after.input × HoldsSynced left after.output))
+      (sym all.held)
+      (written_back image origin fast image_told origin_told fast_told is, marked, all)))

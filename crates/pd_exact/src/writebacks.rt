@@ -1,0 +1,38 @@
+//! What a writeback of a cache comes to: at its end, and where it is stopped.
+
+ghost use Rattle.std.specs.Prelude.{ℕ, List};
+ghost use Rattle.pd_kinds.specs.Crash.{IsSynced};
+ghost use Rattle.pd_answers.specs.Answer.{Objects};
+ghost use Rattle.pd_exact.specs.Writeback.{HoldsWrittenBack, IsWritebackAnswered, LeavesTheView};
+
+use pd_laws::faults_are_none_where_clean;
+use pd_settled::{
+    copied_origins_stand_alone, copying_keeps_the_view, settled_caches_have_the_same_faults,
+    settled_caches_mean_the_same, settled_caches_show_the_same,
+};
+
+/// At status 0 nothing in the cache is dirty: its metadata has no faults up to the stage Whole, is clean where it was, and means what it
+/// meant but for what was dirty. The cached device reads what it read, and so does the origin alone, where the blocks that weren't copied
+/// are the same on both devices. Nothing is unsynced.
+pub fn written_back_cache_is_clean()
+    ensures { (metadata fast origin : List ℕ) (before after : Objects) → IsWritebackAnswered metadata fast origin before after 0 → HoldsWrittenBack before after }
+{
+    faults_are_none_where_clean();
+    copying_keeps_the_view();
+    copied_origins_stand_alone();
+    settled_caches_have_the_same_faults();
+    settled_caches_mean_the_same();
+    settled_caches_show_the_same();
+}
+
+/// Under every status, where nothing was unsynced before the call, a crash at any moment of it leaves an origin that reads the same under
+/// the cache as it was. Of the metadata it leaves, by no chance, no valid superblock, or one under which all reads the same. It leaves other
+/// metadata than before only where the origin reads alone what the cached device read.
+pub fn stopped_writeback_keeps_the_view()
+    ensures { (metadata fast origin : List ℕ) (before after : Objects) (status : ℕ) → IsWritebackAnswered metadata fast origin before after status
+        → IsSynced before.input → IsSynced before.output → LeavesTheView before after }
+{
+    copying_keeps_the_view();
+    copied_origins_stand_alone();
+    settled_caches_show_the_same();
+}
