@@ -7,3 +7,4 @@ pub mod GrammarLemmas
 pub mod SpellingLemmas
 pub mod VerdictLemmas
 pub mod TestLemmas
+pub mod TableLemmas

@@ -1,5 +1,5 @@
 -- Words without spaces, and the uuids among them.
-use Rattle.std.proofs.Common.{◌≡◌, inl, inr, ℕ, zero, suc, ◌+◌, ◌*◌, ◌/◌, ◌%◌, ◌≤◌, ◌<◌, Bool, true, false, ◌&&◌, List, [], ◌∷◌, ◌++◌, length, map, get_or, All, refl, ap, sym, ◌∙◌, arith, eqb, leb, decimal, Option, Some, None, Result, Ok, Err, unwrap_or, if◌then◌else◌}
+use Rattle.std.proofs.Common.{◌≡◌, ◌^◌, inl, inr, ℕ, zero, suc, ◌+◌, ◌*◌, ◌/◌, ◌%◌, ◌≤◌, ◌<◌, Bool, true, false, ◌&&◌, List, [], ◌∷◌, ◌++◌, length, map, get_or, All, refl, ap, sym, ◌∙◌, arith, eqb, leb, decimal, Option, Some, None, Result, Ok, Err, unwrap_or, if◌then◌else◌}
 use Rattle.std.proofs.lemmas.Bool.{cases_lt}
 use Rattle.std.proofs.lemmas.Bool.Decides.{Decides-eqb, nat_tests}
 use Rattle.std.proofs.lemmas.List.{get_or_default, get_or_past}
@@ -73,9 +73,12 @@ digits_plain (b ∷ bytes) digits =
     let here : is_ascii_digit b ≡ true = parts.0 in
     ((grind (arith, nat_tests), grind (arith, nat_tests)), digits_plain bytes parts.1)
 
+pub number_plain : (n : ℕ) → n < 2 ^ 64 → Plain (decimal n)
+number_plain n fits = digits_plain (decimal n) (digits_decimal own n fits)
+
 pub decimals_plain : (ns : List ℕ) → Fit ns → AllByRecursion Plain (map decimal ns)
 decimals_plain [] fit = tt
-decimals_plain (n ∷ ns) fit = (digits_plain (decimal n) (digits_decimal own n fit.0), decimals_plain ns fit.1)
+decimals_plain (n ∷ ns) fit = (number_plain n fit.0, decimals_plain ns fit.1)
 
 -- uuids
 plain-append : (xs ys : List ℕ) → Plain xs → Plain ys → Plain (xs ++ ys)

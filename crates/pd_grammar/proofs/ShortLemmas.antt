@@ -4,7 +4,7 @@ use Rattle.std.proofs.lemmas.Fmt.{length-decimal-le}
 use Rattle.std.specs.List.{AllByRecursion, join_with_byte}
 use Rattle.pd_grammar.proofs.NumberLemmas.{Fit}
 
-decimal_short : (n : ℕ) → n < 2 ^ 64 → length (decimal n) ≤ 20
+pub decimal_short : (n : ℕ) → n < 2 ^ 64 → length (decimal n) ≤ 20
 decimal_short n fits = length-decimal-le 20 n (omega arith) (omega arith) fits
 
 small_short : (n : ℕ) → n < 2 ^ 32 → length (decimal n) ≤ 10

@@ -1,12 +1,12 @@
 -- A format that looks at one test more.
-use Rattle.std.proofs.Common.{◌≡◌, inl, inr, ℕ, List, [], ◌∷◌, ◌++◌, length, refl, ap, eqb, ltb, Result, Ok, Err}
+use Rattle.std.proofs.Common.{◌≡◌, inl, inr, ℕ, false, List, [], ◌∷◌, ◌++◌, length, refl, ap, eqb, ltb, Result, Ok, Err}
 use Rattle.std.proofs.lemmas.Bool.{cases_Bool}
-use Rattle.std.specs.List.{list_all}
+use Rattle.std.specs.List.{AllByRecursion, list_all}
 use Rattle.pd_grammar.specs.declared.cause.TextCause.{TextCause}
 use Rattle.pd_grammar.specs.declared.cause.TextCause.TheVariants.{TooLong, NoEnd, AfterEnd}
 use Rattle.pd_grammar.specs.Words.{split, is_printable, result_and_then}
 use Rattle.pd_grammar.specs.Texts.{TextFormat, Test, Reading, has_ended, refused, whole, with_line, after_line, tested, read, lines_after, reading, with_test, stopped}
-use Rattle.pd_grammar.proofs.GrammarLemmas.{not_empty}
+use Rattle.pd_grammar.proofs.GrammarLemmas.{not_empty, Passes, IsGrammar}
 
 -- one test after others
 then_test : {L : Type 0} → (tests : List (Test L)) (test : Test L) (before : List L) (line : L)
@@ -102,3 +102,24 @@ lines_more test format (piece ∷ next ∷ pieces) before = elim (cases_Bool (ha
 pub one_test_more : {L : Type 0} → (test : Test L) (format : TextFormat L) (text : List ℕ)
     → reading (with_test test format) text ≡ stopped test [] (reading format text)
 one_test_more test format text = lines_more test format (split 10 text) []
+
+-- it reads what it writes
+front_passes : {L : Type 0} → (tests : List (Test L)) (test : Test L) (before : List L) (line : L)
+    → AllByRecursion (λ (t : Test L). t.fails before line ≡ false) (tests ++ (test ∷ [])) → AllByRecursion (λ (t : Test L). t.fails before line ≡ false) tests
+front_passes [] test before line passes = tt
+front_passes (first ∷ tests) test before line passes = (passes.0, front_passes tests test before line passes.1)
+
+other_passes : {L : Type 0} → (tests : List (Test L)) (test : Test L) (before : List L) (line : L) → Passes (tests ++ (test ∷ [])) before line → Passes tests before line
+other_passes tests test [] line passes = tt
+other_passes tests test (newest ∷ before) line passes = front_passes tests test (newest ∷ before) line passes
+
+pub with_test_grammar : {L : Type 0} → (test : Test L) (format : TextFormat L) (Fits : L → Type 0) (Placed : List L → L → Type 0)
+    → IsGrammar format Fits Placed → IsGrammar (with_test test format) Fits Placed
+with_test_grammar test format Fits Placed grammar = record {
+  first_is = grammar.first_is;
+  first_again = grammar.first_again;
+  words_are = grammar.words_are;
+  words_again = grammar.words_again;
+  plain = grammar.plain;
+  short = λ before line fits placed passes. grammar.short before line fits placed (other_passes format.tests test before line passes);
+}

@@ -1,4 +1,5 @@
 pub mod Causes
 pub mod Words
 pub mod Texts
+pub mod Tables
 pub mod Spelling

@@ -68,6 +68,11 @@ abbrev pub result_and_then : {X Y E : Type 0} → (X → Result Y E) → Result 
 result_and_then f (Ok x) = f x
 result_and_then f (Err e) = Err e
 
+-- a function of a result, where it is one
+abbrev pub result_map : {X Y E : Type 0} → (X → Y) → Result X E → Result Y E
+result_map f (Ok x) = Ok (f x)
+result_map f (Err e) = Err e
+
 -- the value of just so many number words
 unfoldable pub of_numbers : {L : Type 0} → ℕ → (List ℕ → L) → List (List ℕ) → Result L TextCause
 of_numbers k make words =

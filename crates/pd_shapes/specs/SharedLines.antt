@@ -1,7 +1,8 @@
 -- The lines of the second version of a pool's text, in which leaves that thin devices share are told once, and what the
 -- lines before one say.
-use Rattle.std.specs.Prelude.{ℕ, ◌+◌, ◌-◌, ◌==◌, ◌&&◌, Bool, true, false, not, if◌then◌else◌, List, [], ◌∷◌, ◌++◌, sum_by, codes, decimal}
-use Rattle.uuid.specs.Text.{hyphenated_text, lower}
+use Rattle.std.specs.Prelude.{ℕ, ◌+◌, ◌-◌, ◌==◌, ◌&&◌, Bool, true, false, not, if◌then◌else◌, List, [], ◌∷◌, ◌++◌, sum_by}
+use Rattle.pd_grammar.specs.declared.value.Value.{Value}
+use Rattle.pd_grammar.specs.declared.value.Value.TheVariants as v
 use Rattle.pd_spells.specs.ThinText.{Run, Head, Details}
 
 -- the words of a leaf line: its number, and of how many mappings it is
@@ -19,18 +20,15 @@ pub data Line : Type 0 where
   map_line : Run → Line
   end_line : Line
 
--- the words of a line
-abbrev pub words_of_line : Line → List (List ℕ)
-words_of_line first_line = codes "thin" ∷ codes "2" ∷ []
-words_of_line (pool_line p) =
-    codes "pool" ∷ hyphenated_text lower p.uuid ∷ decimal p.time ∷ decimal p.transaction ∷ decimal p.block_size ∷ decimal p.data_blocks ∷ []
-words_of_line (leaf_line l) = codes "leaf" ∷ decimal l.number ∷ decimal l.entries ∷ []
-words_of_line (device_line d) =
-    codes "device" ∷ decimal d.id ∷ decimal d.mapped ∷ decimal d.transaction ∷ decimal d.created ∷ decimal d.snapped ∷ []
-words_of_line (use_line n) = codes "use" ∷ decimal n ∷ []
-words_of_line (map_line r) =
-    codes "map" ∷ decimal r.virtual_block ∷ decimal r.data_block ∷ decimal r.length ∷ decimal r.time ∷ []
-words_of_line end_line = codes "end" ∷ []
+-- the values of a line
+abbrev pub values_of_line : Line → List Value
+values_of_line first_line = []
+values_of_line (pool_line p) = v.Uuid p.uuid ∷ v.Number p.time ∷ v.Number p.transaction ∷ v.Number p.block_size ∷ v.Number p.data_blocks ∷ []
+values_of_line (leaf_line l) = v.Number l.number ∷ v.Number l.entries ∷ []
+values_of_line (device_line d) = v.Number d.id ∷ v.Number d.mapped ∷ v.Number d.transaction ∷ v.Number d.created ∷ v.Number d.snapped ∷ []
+values_of_line (use_line n) = v.Number n ∷ []
+values_of_line (map_line r) = v.Number r.virtual_block ∷ v.Number r.data_block ∷ v.Number r.length ∷ v.Number r.time ∷ []
+values_of_line end_line = []
 
 -- Of the lines before one, the newest first:
 

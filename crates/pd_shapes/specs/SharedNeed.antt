@@ -11,7 +11,7 @@ use Rattle.pd_spells.specs.ThinNeed.{overflows_in}
 use Rattle.pd_laid.specs.Shape.{Piece, own, shared, ShapeDevice, ThinShape, uses_of_piece, uses_of}
 use Rattle.pd_shapes.specs.SharedLines.{Line, first_line, pool_line, leaf_line, device_line, use_line, map_line, end_line, data_blocks_of, leaf_number}
 use Rattle.pd_shapes.specs.SharedLines as lines
-use Rattle.pd_shapes.specs.SharedTests.{is_end}
+use Rattle.pd_shapes.specs.SharedTests.{shared_single}
 use Rattle.pd_shapes.specs.SharedText.{shared_format, MeansShape}
 
 -- how many leaves a device has: its own ones, and all of them
@@ -134,7 +134,7 @@ leaves_of_told has_ended (newest ∷ devices) =
 -- whether the newest line is the last one
 abbrev pub has_end : List Line → Bool
 has_end [] = false
-has_end (line ∷ before) = is_end line
+has_end (line ∷ before) = shared_single.is_end line
 
 -- the data blocks that a line maps
 abbrev pub data_of_line : Line → List ℕ

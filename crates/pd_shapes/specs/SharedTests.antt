@@ -1,12 +1,11 @@
 -- Where a line of the second version of a pool's text is refused, and which line some words are.
-use Rattle.std.specs.Prelude.{ℕ, ◌+◌, ◌^◌, ◌==◌, ◌&&◌, ◌||◌, Bool, true, false, not, nat_lt, nat_le, if◌then◌else◌, List, [], ◌∷◌, length, slice_index, Option, Some, None, Result, Err, codes}
+use Rattle.std.specs.Prelude.{ℕ, ◌+◌, ◌^◌, ◌==◌, ◌&&◌, ◌||◌, Bool, false, not, nat_lt, nat_le, List, [], ◌∷◌, Option, Some, None, codes}
 use Rattle.std.specs.List.{list_any, range_with_len}
-use Rattle.std.specs.Str.{bytes_eq}
-use Rattle.pd_grammar.specs.declared.cause.TextCause.{TextCause}
-use Rattle.pd_grammar.specs.declared.cause.TextCause.TheVariants.{Word, Order, OutOfRange, MappedDiffers, Unused}
-use Rattle.pd_grammar.specs.Words.{uuid_of, of_numbers, or_cause, result_and_then}
+use Rattle.pd_grammar.specs.declared.cause.TextCause.TheVariants.{Order, OutOfRange, MappedDiffers, Unused}
+use Rattle.pd_grammar.specs.declared.value.Field.TheVariants as f
 use Rattle.pd_grammar.specs.Texts.{TextFormat, Test}
-use Rattle.pd_shapes.specs.SharedLines.{Line, first_line, pool_line, leaf_line, device_line, use_line, map_line, end_line, words_of_line, data_blocks_of, leaf_number, has_device, least_id, runs_of_leaf, least_of, number_in, piece_end, unmapped, uses_of}
+use Rattle.pd_grammar.specs.Tables.{numbers, bytes_at, number_at, second_line, later_line, later_line_where, LineKind, Table, format_of}
+use Rattle.pd_shapes.specs.SharedLines.{Line, first_line, pool_line, leaf_line, device_line, use_line, map_line, end_line, values_of_line, data_blocks_of, leaf_number, has_device, least_id, runs_of_leaf, least_of, number_in, piece_end, unmapped, uses_of}
 
 -- a number of the line isn't in its range
 abbrev pub has_number_out_of_range : List Line → Line → Bool
@@ -69,81 +68,90 @@ shared_tests =
 abbrev pub unused_test : Test Line
 unused_test = record { cause = Unused; fails = leaves_one_unused }
 
--- the lines of these numbers
-abbrev pub pool_of : List ℕ → List ℕ → Line
-pool_of uuid ns = pool_line (record {
-  uuid = uuid;
-  time = slice_index ns 0;
-  transaction = slice_index ns 1;
-  block_size = slice_index ns 2;
-  data_blocks = slice_index ns 3;
-})
-
-abbrev pub leaf_of : List ℕ → Line
-leaf_of ns = leaf_line (record { number = slice_index ns 0; entries = slice_index ns 1 })
-
-abbrev pub device_of : List ℕ → Line
-device_of ns = device_line (record {
-  id = slice_index ns 0;
-  mapped = slice_index ns 1;
-  transaction = slice_index ns 2;
-  created = slice_index ns 3;
-  snapped = slice_index ns 4;
-})
-
-abbrev pub use_of : List ℕ → Line
-use_of ns = use_line (slice_index ns 0)
-
-abbrev pub map_of : List ℕ → Line
-map_of ns = map_line (record {
-  virtual_block = slice_index ns 0;
-  data_block = slice_index ns 1;
-  length = slice_index ns 2;
-  time = slice_index ns 3;
-})
-
--- the line of the words after `pool`
-unfoldable pub pool_read : List (List ℕ) → Result Line TextCause
-pool_read [] = Err Word
-pool_read (uuid ∷ words) = result_and_then (λ bytes. of_numbers 4 (pool_of bytes) words) (or_cause (uuid_of uuid) Word)
-
 -- Whether a line may stand after these ones: leaves come before devices, devices use leaves, and a map line is one of a
 -- leaf or of a device
 abbrev pub may_have_leaf : List Line → Bool
 may_have_leaf before = not (has_device before)
 
-abbrev pub may_have_use : List Line → Bool
-may_have_use before = has_device before
-
 abbrev pub may_have_map : List Line → Bool
 may_have_map before = has_device before || nat_lt 0 (leaf_number before)
 
--- the line of some words in a place, but for what is looked at last
-unfoldable pub words_read : List Line → List (List ℕ) → Result Line TextCause
-words_read before [] = Err Word
-words_read before (keyword ∷ words) =
-    if length before == 1 then (if bytes_eq keyword (codes "pool") then pool_read words else Err Word)
-    else if bytes_eq keyword (codes "map") then (if may_have_map before then of_numbers 4 map_of words else Err Word)
-    else if bytes_eq keyword (codes "use") then (if may_have_use before then of_numbers 1 use_of words else Err Word)
-    else if bytes_eq keyword (codes "leaf") then (if may_have_leaf before then of_numbers 2 leaf_of words else Err Word)
-    else if bytes_eq keyword (codes "device") then of_numbers 5 device_of words
-    else if bytes_eq keyword (codes "end") then of_numbers 0 (λ ns. end_line) words
-    else Err Word
+-- the kinds of lines after the first one
+abbrev pub pool_kind : LineKind Line
+pool_kind = record {
+  keyword = codes "pool";
+  fields = f.Uuid ∷ numbers 4;
+  place = second_line;
+  make = λ values. pool_line (record {
+    uuid = bytes_at values 0;
+    time = number_at values 1;
+    transaction = number_at values 2;
+    block_size = number_at values 3;
+    data_blocks = number_at values 4;
+  });
+}
 
--- the first line
-abbrev pub first_of : List ℕ → Option Line
-first_of bytes = if bytes_eq bytes (codes "thin 2") then Some first_line else None
+abbrev pub leaf_kind : LineKind Line
+leaf_kind = record {
+  keyword = codes "leaf";
+  fields = numbers 2;
+  place = later_line_where may_have_leaf;
+  make = λ values. leaf_line (record { number = number_at values 0; entries = number_at values 1 });
+}
 
--- whether it is the last line
-abbrev pub is_end : Line → Bool
-is_end first_line = false
-is_end (pool_line p) = false
-is_end (leaf_line l) = false
-is_end (device_line d) = false
-is_end (use_line n) = false
-is_end (map_line r) = false
-is_end end_line = true
+abbrev pub device_kind : LineKind Line
+device_kind = record {
+  keyword = codes "device";
+  fields = numbers 5;
+  place = later_line;
+  make = λ values. device_line (record {
+    id = number_at values 0;
+    mapped = number_at values 1;
+    transaction = number_at values 2;
+    created = number_at values 3;
+    snapped = number_at values 4;
+  });
+}
+
+abbrev pub use_kind : LineKind Line
+use_kind = record { keyword = codes "use"; fields = numbers 1; place = later_line_where has_device; make = λ values. use_line (number_at values 0) }
+
+abbrev pub map_kind : LineKind Line
+map_kind = record {
+  keyword = codes "map";
+  fields = numbers 4;
+  place = later_line_where may_have_map;
+  make = λ values. map_line (record {
+    virtual_block = number_at values 0;
+    data_block = number_at values 1;
+    length = number_at values 2;
+    time = number_at values 3;
+  });
+}
+
+abbrev pub end_kind : LineKind Line
+end_kind = record { keyword = codes "end"; fields = []; place = later_line; make = λ values. end_line }
+
+-- the kind of a line
+abbrev pub kind_of_line : Line → Option (LineKind Line)
+kind_of_line first_line = None
+kind_of_line (pool_line p) = Some pool_kind
+kind_of_line (leaf_line l) = Some leaf_kind
+kind_of_line (device_line d) = Some device_kind
+kind_of_line (use_line n) = Some use_kind
+kind_of_line (map_line r) = Some map_kind
+kind_of_line end_line = Some end_kind
+
+abbrev pub shared_table : Table Line
+shared_table = record {
+  first = codes "thin" ∷ codes "2" ∷ [];
+  start = first_line;
+  kinds = map_kind ∷ use_kind ∷ leaf_kind ∷ device_kind ∷ pool_kind ∷ end_kind ∷ [];
+  kind_of = kind_of_line;
+  values = values_of_line;
+  tests = shared_tests;
+}
 
 -- texts of thin pools, version 2, but for unused leaves
 abbrev pub shared_single : TextFormat Line
-shared_single = record { first = first_of; parsed = words_read; tests = shared_tests; words = words_of_line; is_end = is_end }
+shared_single = format_of shared_table

@@ -158,8 +158,8 @@ after_head h lines reads =
         uuid_bytes = fits.1.0;
         block_size_fits = tells.0;
         blocks_fit = tells.1.0;
-        policy_len = fits.1.1.0;
-        policy_bytes = fits.1.1.1.0;
+        policy_len = fits.1.1.1.1.1.0;
+        policy_bytes = fits.1.1.1.1.1.1.0;
         three_versions = refl;
         versions_fit = (tells.1.1.0, (tells.1.1.1.0, (tells.1.1.1.1.0, tt)));
         hint_size_is = is_hint_size h.hint_size tells.1.1.1.1.1.1;
@@ -208,15 +208,15 @@ cache_read m lawful =
       (
         lawful.uuid_bytes,
         (
-          lawful.policy_len,
+          omega (arith, lawful.block_size_fits),
           (
-            lawful.policy_bytes,
+            omega (arith, lawful.blocks_fit),
             (
-              omega (arith, lawful.block_size_fits),
+              omega (arith, small),
               (
-                omega (arith, lawful.blocks_fit),
+                lawful.policy_len,
                 (
-                  omega (arith, small),
+                  lawful.policy_bytes,
                   (omega (arith, three.first), (omega (arith, three.second), (omega (arith, three.third), (omega (arith, size), tt)))),
                 ),
               ),

@@ -1,14 +1,13 @@
 -- The text of a cache, and what it means. One text serves caches of both versions.
-use Rattle.std.specs.Prelude.{◌≡◌, ℕ, ◌+◌, ◌^◌, ◌==◌, ◌&&◌, ◌||◌, Bool, true, false, not, nat_lt, if◌then◌else◌, List, [], ◌∷◌, ◌++◌, length, slice_index, map, Option, Some, None, Result, Err, codes, decimal}
+use Rattle.std.specs.Prelude.{◌≡◌, ℕ, ◌+◌, ◌^◌, ◌==◌, ◌&&◌, ◌||◌, Bool, false, not, nat_lt, if◌then◌else◌, List, [], ◌∷◌, ◌++◌, slice_index, map, Option, Some, None, codes}
 use Rattle.std.specs.List.{list_any}
-use Rattle.std.specs.Str.{bytes_eq}
-use Rattle.hex.specs.Hex.{encode_lower}
-use Rattle.uuid.specs.Text.{hyphenated_text, lower}
 use Rattle.pd_kinds.specs.Meaning.{CacheMeaning, CacheEntry}
-use Rattle.pd_grammar.specs.declared.cause.TextCause.{TextCause}
-use Rattle.pd_grammar.specs.declared.cause.TextCause.TheVariants.{Word, Order, OutOfRange, Repeated}
-use Rattle.pd_grammar.specs.Words.{uuid_of, policy_of, of_numbers, or_cause, result_and_then}
+use Rattle.pd_grammar.specs.declared.cause.TextCause.TheVariants.{Order, OutOfRange, Repeated}
+use Rattle.pd_grammar.specs.declared.value.Field.TheVariants as f
+use Rattle.pd_grammar.specs.declared.value.Value.{Value}
+use Rattle.pd_grammar.specs.declared.value.Value.TheVariants as v
 use Rattle.pd_grammar.specs.Texts.{TextFormat, Test, text_of_lines, with_test}
+use Rattle.pd_grammar.specs.Tables.{numbers, bytes_at, number_at, second_line, later_line, LineKind, Table, format_of}
 use Rattle.pd_grammar.specs.Spelling.{Spells}
 use Rattle.pd_spells.specs.Lawful.{IsLawfulCache}
 
@@ -38,15 +37,14 @@ pub data Line : Type 0 where
   map_line : Row → Line
   end_line : Line
 
--- the words of a line
-abbrev pub words_of_line : Line → List (List ℕ)
-words_of_line first_line = codes "cache" ∷ codes "1" ∷ []
-words_of_line (cache_line h) =
-    codes "cache" ∷ hyphenated_text lower h.uuid ∷ decimal h.block_size ∷ decimal h.blocks ∷ decimal h.clean ∷ encode_lower h.policy
-    ∷ decimal h.major ∷ decimal h.minor ∷ decimal h.patch ∷ decimal h.hint_size ∷ []
-words_of_line (map_line r) =
-    codes "map" ∷ decimal r.block ∷ decimal r.origin ∷ decimal r.dirty ∷ decimal r.hint ∷ []
-words_of_line end_line = codes "end" ∷ []
+-- the values of a line
+abbrev pub values_of_line : Line → List Value
+values_of_line first_line = []
+values_of_line (cache_line h) =
+    v.Uuid h.uuid ∷ v.Number h.block_size ∷ v.Number h.blocks ∷ v.Number h.clean ∷ v.Policy h.policy
+    ∷ v.Number h.major ∷ v.Number h.minor ∷ v.Number h.patch ∷ v.Number h.hint_size ∷ []
+values_of_line (map_line r) = v.Number r.block ∷ v.Number r.origin ∷ v.Number r.dirty ∷ v.Number r.hint ∷ []
+values_of_line end_line = []
 
 -- of the lines before one, the newest first: the cache's number of blocks
 abbrev pub blocks_of : List Line → ℕ
@@ -120,62 +118,56 @@ single_tests =
 abbrev pub repeated_test : Test Line
 repeated_test = record { cause = Repeated; fails = is_repeated }
 
--- the line of these identifiers and numbers
-abbrev pub cache_of : List ℕ → List ℕ → List ℕ → Line
-cache_of uuid policy ns = cache_line (record {
-  uuid = uuid;
-  block_size = slice_index ns 0;
-  blocks = slice_index ns 1;
-  clean = slice_index ns 2;
-  policy = policy;
-  major = slice_index ns 3;
-  minor = slice_index ns 4;
-  patch = slice_index ns 5;
-  hint_size = slice_index ns 6;
-})
+-- the kinds of lines after the first one
+abbrev pub cache_kind : LineKind Line
+cache_kind = record {
+  keyword = codes "cache";
+  fields = f.Uuid ∷ f.Number ∷ f.Number ∷ f.Number ∷ f.Policy ∷ numbers 4;
+  place = second_line;
+  make = λ values. cache_line (record {
+    uuid = bytes_at values 0;
+    block_size = number_at values 1;
+    blocks = number_at values 2;
+    clean = number_at values 3;
+    policy = bytes_at values 4;
+    major = number_at values 5;
+    minor = number_at values 6;
+    patch = number_at values 7;
+    hint_size = number_at values 8;
+  });
+}
 
-abbrev pub map_of : List ℕ → Line
-map_of ns = map_line (record {
-  block = slice_index ns 0;
-  origin = slice_index ns 1;
-  dirty = slice_index ns 2;
-  hint = slice_index ns 3;
-})
+abbrev pub map_kind : LineKind Line
+map_kind = record {
+  keyword = codes "map";
+  fields = numbers 4;
+  place = later_line;
+  make = λ values. map_line (record { block = number_at values 0; origin = number_at values 1; dirty = number_at values 2; hint = number_at values 3 });
+}
 
--- the line of a uuid, a policy name and number words
-unfoldable pub cache_read_of : List ℕ → List ℕ → List (List ℕ) → Result Line TextCause
-cache_read_of uuid policy words =
-    result_and_then (λ uuid_bytes. result_and_then (λ policy_bytes. of_numbers 7 (cache_of uuid_bytes policy_bytes) words)
-    (or_cause (policy_of policy) Word)) (or_cause (uuid_of uuid) Word)
+abbrev pub end_kind : LineKind Line
+end_kind = record { keyword = codes "end"; fields = []; place = later_line; make = λ values. end_line }
 
--- the line of the words after `cache`
-abbrev pub cache_read : List (List ℕ) → Result Line TextCause
-cache_read (uuid ∷ block_size ∷ blocks ∷ clean ∷ policy ∷ words) = cache_read_of uuid policy (block_size ∷ blocks ∷ clean ∷ words)
-cache_read _ = Err Word
+-- the kind of a line
+abbrev pub kind_of_line : Line → Option (LineKind Line)
+kind_of_line first_line = None
+kind_of_line (cache_line h) = Some cache_kind
+kind_of_line (map_line r) = Some map_kind
+kind_of_line end_line = Some end_kind
 
--- the line of some words in a place, but for what is looked at last
-unfoldable pub words_read : List Line → List (List ℕ) → Result Line TextCause
-words_read before [] = Err Word
-words_read before (keyword ∷ words) =
-    if length before == 1 then (if bytes_eq keyword (codes "cache") then cache_read words else Err Word)
-    else if bytes_eq keyword (codes "map") then of_numbers 4 map_of words
-    else if bytes_eq keyword (codes "end") then of_numbers 0 (λ ns. end_line) words
-    else Err Word
-
--- the first line
-abbrev pub first_of : List ℕ → Option Line
-first_of bytes = if bytes_eq bytes (codes "cache 1") then Some first_line else None
-
--- whether it is the last line
-abbrev pub is_end : Line → Bool
-is_end first_line = false
-is_end (cache_line h) = false
-is_end (map_line r) = false
-is_end end_line = true
+abbrev pub cache_table : Table Line
+cache_table = record {
+  first = codes "cache" ∷ codes "1" ∷ [];
+  start = first_line;
+  kinds = map_kind ∷ cache_kind ∷ end_kind ∷ [];
+  kind_of = kind_of_line;
+  values = values_of_line;
+  tests = single_tests;
+}
 
 -- texts of caches, of which each line is looked at without the origins of the others
 abbrev pub cache_single : TextFormat Line
-cache_single = record { first = first_of; parsed = words_read; tests = single_tests; words = words_of_line; is_end = is_end }
+cache_single = format_of cache_table
 
 -- texts of caches
 abbrev pub cache : TextFormat Line

@@ -1,13 +1,13 @@
 -- The text of an era target, and what it means.
-use Rattle.std.specs.Prelude.{◌≡◌, ℕ, zero, suc, ◌+◌, ◌^◌, ◌≤◌, ◌==◌, ◌&&◌, Bool, true, false, not, nat_lt, nat_le, if◌then◌else◌, List, [], ◌∷◌, ◌++◌, length, slice_index, Option, Some, None, Result, Err, codes, decimal}
+use Rattle.std.specs.Prelude.{◌≡◌, ℕ, zero, suc, ◌+◌, ◌^◌, ◌≤◌, ◌==◌, ◌&&◌, Bool, false, not, nat_lt, nat_le, if◌then◌else◌, List, [], ◌∷◌, ◌++◌, Option, Some, None, codes}
 use Rattle.std.specs.List.{flat_map, AllByRecursion}
-use Rattle.std.specs.Str.{bytes_eq}
-use Rattle.uuid.specs.Text.{hyphenated_text, lower}
 use Rattle.pd_kinds.specs.Meaning.{EraMeaning}
-use Rattle.pd_grammar.specs.declared.cause.TextCause.{TextCause}
-use Rattle.pd_grammar.specs.declared.cause.TextCause.TheVariants.{Word, Order, OutOfRange, MappedDiffers}
-use Rattle.pd_grammar.specs.Words.{uuid_of, of_numbers, or_cause, result_and_then}
+use Rattle.pd_grammar.specs.declared.cause.TextCause.TheVariants.{Order, OutOfRange, MappedDiffers}
+use Rattle.pd_grammar.specs.declared.value.Field.TheVariants as f
+use Rattle.pd_grammar.specs.declared.value.Value.{Value}
+use Rattle.pd_grammar.specs.declared.value.Value.TheVariants as v
 use Rattle.pd_grammar.specs.Texts.{TextFormat, Test, text_of_lines}
+use Rattle.pd_grammar.specs.Tables.{numbers, bytes_at, number_at, second_line, later_line, LineKind, Table, format_of}
 use Rattle.pd_grammar.specs.Spelling.{Spells}
 use Rattle.pd_spells.specs.Lawful.{IsLawfulEra}
 
@@ -31,13 +31,12 @@ pub data Line : Type 0 where
   run_line : Run → Line
   end_line : Line
 
--- the words of a line
-abbrev pub words_of_line : Line → List (List ℕ)
-words_of_line first_line = codes "era" ∷ codes "1" ∷ []
-words_of_line (era_line h) =
-    codes "era" ∷ hyphenated_text lower h.uuid ∷ decimal h.block_size ∷ decimal h.blocks ∷ decimal h.era ∷ []
-words_of_line (run_line r) = codes "run" ∷ decimal r.first ∷ decimal r.length ∷ decimal r.era ∷ []
-words_of_line end_line = codes "end" ∷ []
+-- the values of a line
+abbrev pub values_of_line : Line → List Value
+values_of_line first_line = []
+values_of_line (era_line h) = v.Uuid h.uuid ∷ v.Number h.block_size ∷ v.Number h.blocks ∷ v.Number h.era ∷ []
+values_of_line (run_line r) = v.Number r.first ∷ v.Number r.length ∷ v.Number r.era ∷ []
+values_of_line end_line = []
 
 -- of the lines before one, the newest first: the number of blocks
 abbrev pub blocks_of : List Line → ℕ
@@ -86,41 +85,46 @@ era_tests =
     ∷ record { cause = MappedDiffers; fails = is_mapped_otherwise }
     ∷ []
 
--- the line of these numbers
-abbrev pub era_of : List ℕ → List ℕ → Line
-era_of uuid ns = era_line (record { uuid = uuid; block_size = slice_index ns 0; blocks = slice_index ns 1; era = slice_index ns 2 })
+-- the kinds of lines after the first one
+abbrev pub era_kind : LineKind Line
+era_kind = record {
+  keyword = codes "era";
+  fields = f.Uuid ∷ numbers 3;
+  place = second_line;
+  make = λ values. era_line (record { uuid = bytes_at values 0; block_size = number_at values 1; blocks = number_at values 2; era = number_at values 3 });
+}
 
-abbrev pub run_of : List ℕ → Line
-run_of ns = run_line (record { first = slice_index ns 0; length = slice_index ns 1; era = slice_index ns 2 })
+abbrev pub run_kind : LineKind Line
+run_kind = record {
+  keyword = codes "run";
+  fields = numbers 3;
+  place = later_line;
+  make = λ values. run_line (record { first = number_at values 0; length = number_at values 1; era = number_at values 2 });
+}
 
--- the line of the words after `era`
-unfoldable pub era_read : List (List ℕ) → Result Line TextCause
-era_read [] = Err Word
-era_read (uuid ∷ words) = result_and_then (λ bytes. of_numbers 3 (era_of bytes) words) (or_cause (uuid_of uuid) Word)
+abbrev pub end_kind : LineKind Line
+end_kind = record { keyword = codes "end"; fields = []; place = later_line; make = λ values. end_line }
 
--- the line of some words in a place, but for what is looked at last
-unfoldable pub words_read : List Line → List (List ℕ) → Result Line TextCause
-words_read before [] = Err Word
-words_read before (keyword ∷ words) =
-    if length before == 1 then (if bytes_eq keyword (codes "era") then era_read words else Err Word)
-    else if bytes_eq keyword (codes "run") then of_numbers 3 run_of words
-    else if bytes_eq keyword (codes "end") then of_numbers 0 (λ ns. end_line) words
-    else Err Word
+-- the kind of a line
+abbrev pub kind_of_line : Line → Option (LineKind Line)
+kind_of_line first_line = None
+kind_of_line (era_line h) = Some era_kind
+kind_of_line (run_line r) = Some run_kind
+kind_of_line end_line = Some end_kind
 
--- the first line
-abbrev pub first_of : List ℕ → Option Line
-first_of bytes = if bytes_eq bytes (codes "era 1") then Some first_line else None
-
--- whether it is the last line
-abbrev pub is_end : Line → Bool
-is_end first_line = false
-is_end (era_line h) = false
-is_end (run_line r) = false
-is_end end_line = true
+abbrev pub era_table : Table Line
+era_table = record {
+  first = codes "era" ∷ codes "1" ∷ [];
+  start = first_line;
+  kinds = run_kind ∷ era_kind ∷ end_kind ∷ [];
+  kind_of = kind_of_line;
+  values = values_of_line;
+  tests = era_tests;
+}
 
 -- texts of era targets
 abbrev pub era : TextFormat Line
-era = record { first = first_of; parsed = words_read; tests = era_tests; words = words_of_line; is_end = is_end }
+era = format_of era_table
 
 -- blocks of one era in a row
 pub record Stretch : Type 0 where

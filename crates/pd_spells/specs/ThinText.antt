@@ -1,13 +1,13 @@
 -- The text of a thin pool, version 1, and what it means.
-use Rattle.std.specs.Prelude.{◌≡◌, ℕ, zero, suc, ◌+◌, ◌-◌, ◌^◌, ◌≤◌, ◌==◌, ◌&&◌, Bool, true, false, not, nat_lt, nat_le, if◌then◌else◌, List, [], ◌∷◌, ◌++◌, length, slice_index, map, Option, Some, None, Result, Err, codes, decimal}
+use Rattle.std.specs.Prelude.{◌≡◌, ℕ, zero, suc, ◌+◌, ◌-◌, ◌^◌, ◌≤◌, ◌==◌, ◌&&◌, Bool, true, false, not, nat_lt, nat_le, if◌then◌else◌, List, [], ◌∷◌, ◌++◌, map, Option, Some, None, codes}
 use Rattle.std.specs.List.{flat_map, AllByRecursion}
-use Rattle.std.specs.Str.{bytes_eq}
-use Rattle.uuid.specs.Text.{hyphenated_text, lower}
 use Rattle.pd_kinds.specs.Meaning.{ThinPool, ThinDevice, Mapping}
-use Rattle.pd_grammar.specs.declared.cause.TextCause.{TextCause}
-use Rattle.pd_grammar.specs.declared.cause.TextCause.TheVariants.{Word, Order, OutOfRange, MappedDiffers}
-use Rattle.pd_grammar.specs.Words.{uuid_of, of_numbers, or_cause, result_and_then}
+use Rattle.pd_grammar.specs.declared.cause.TextCause.TheVariants.{Order, OutOfRange, MappedDiffers}
+use Rattle.pd_grammar.specs.declared.value.Field.TheVariants as f
+use Rattle.pd_grammar.specs.declared.value.Value.{Value}
+use Rattle.pd_grammar.specs.declared.value.Value.TheVariants as v
 use Rattle.pd_grammar.specs.Texts.{TextFormat, Test, text_of_lines}
+use Rattle.pd_grammar.specs.Tables.{numbers, bytes_at, number_at, second_line, later_line, later_line_where, LineKind, Table, format_of}
 use Rattle.pd_grammar.specs.Spelling.{Spells}
 use Rattle.pd_spells.specs.Lawful.{IsLawfulPool}
 
@@ -42,16 +42,13 @@ pub data Line : Type 0 where
   map_line : Run → Line
   end_line : Line
 
--- the words of a line
-abbrev pub words_of_line : Line → List (List ℕ)
-words_of_line first_line = codes "thin" ∷ codes "1" ∷ []
-words_of_line (pool_line p) =
-    codes "pool" ∷ hyphenated_text lower p.uuid ∷ decimal p.time ∷ decimal p.transaction ∷ decimal p.block_size ∷ decimal p.data_blocks ∷ []
-words_of_line (device_line d) =
-    codes "device" ∷ decimal d.id ∷ decimal d.mapped ∷ decimal d.transaction ∷ decimal d.created ∷ decimal d.snapped ∷ []
-words_of_line (map_line r) =
-    codes "map" ∷ decimal r.virtual_block ∷ decimal r.data_block ∷ decimal r.length ∷ decimal r.time ∷ []
-words_of_line end_line = codes "end" ∷ []
+-- the values of a line
+abbrev pub values_of_line : Line → List Value
+values_of_line first_line = []
+values_of_line (pool_line p) = v.Uuid p.uuid ∷ v.Number p.time ∷ v.Number p.transaction ∷ v.Number p.block_size ∷ v.Number p.data_blocks ∷ []
+values_of_line (device_line d) = v.Number d.id ∷ v.Number d.mapped ∷ v.Number d.transaction ∷ v.Number d.created ∷ v.Number d.snapped ∷ []
+values_of_line (map_line r) = v.Number r.virtual_block ∷ v.Number r.data_block ∷ v.Number r.length ∷ v.Number r.time ∷ []
+values_of_line end_line = []
 
 -- of the lines before one, the newest first: the pool's data blocks
 abbrev pub data_blocks_of : List Line → ℕ
@@ -133,63 +130,72 @@ thin_tests =
     ∷ record { cause = MappedDiffers; fails = is_mapped_otherwise }
     ∷ []
 
--- the lines of these numbers
-abbrev pub pool_of : List ℕ → List ℕ → Line
-pool_of uuid ns = pool_line (record {
-  uuid = uuid;
-  time = slice_index ns 0;
-  transaction = slice_index ns 1;
-  block_size = slice_index ns 2;
-  data_blocks = slice_index ns 3;
-})
+-- the kinds of lines after the first one
+abbrev pub pool_kind : LineKind Line
+pool_kind = record {
+  keyword = codes "pool";
+  fields = f.Uuid ∷ numbers 4;
+  place = second_line;
+  make = λ values. pool_line (record {
+    uuid = bytes_at values 0;
+    time = number_at values 1;
+    transaction = number_at values 2;
+    block_size = number_at values 3;
+    data_blocks = number_at values 4;
+  });
+}
 
-abbrev pub device_of : List ℕ → Line
-device_of ns = device_line (record {
-  id = slice_index ns 0;
-  mapped = slice_index ns 1;
-  transaction = slice_index ns 2;
-  created = slice_index ns 3;
-  snapped = slice_index ns 4;
-})
+abbrev pub device_kind : LineKind Line
+device_kind = record {
+  keyword = codes "device";
+  fields = numbers 5;
+  place = later_line;
+  make = λ values. device_line (record {
+    id = number_at values 0;
+    mapped = number_at values 1;
+    transaction = number_at values 2;
+    created = number_at values 3;
+    snapped = number_at values 4;
+  });
+}
 
-abbrev pub map_of : List ℕ → Line
-map_of ns = map_line (record {
-  virtual_block = slice_index ns 0;
-  data_block = slice_index ns 1;
-  length = slice_index ns 2;
-  time = slice_index ns 3;
-})
+abbrev pub map_kind : LineKind Line
+map_kind = record {
+  keyword = codes "map";
+  fields = numbers 4;
+  place = later_line_where has_device;
+  make = λ values. map_line (record {
+    virtual_block = number_at values 0;
+    data_block = number_at values 1;
+    length = number_at values 2;
+    time = number_at values 3;
+  });
+}
 
--- the line of the words after `pool`
-unfoldable pub pool_read : List (List ℕ) → Result Line TextCause
-pool_read [] = Err Word
-pool_read (uuid ∷ words) = result_and_then (λ bytes. of_numbers 4 (pool_of bytes) words) (or_cause (uuid_of uuid) Word)
+abbrev pub end_kind : LineKind Line
+end_kind = record { keyword = codes "end"; fields = []; place = later_line; make = λ values. end_line }
 
--- the line of some words in a place, but for what is looked at last
-unfoldable pub words_read : List Line → List (List ℕ) → Result Line TextCause
-words_read before [] = Err Word
-words_read before (keyword ∷ words) =
-    if length before == 1 then (if bytes_eq keyword (codes "pool") then pool_read words else Err Word)
-    else if bytes_eq keyword (codes "map") then (if has_device before then of_numbers 4 map_of words else Err Word)
-    else if bytes_eq keyword (codes "device") then of_numbers 5 device_of words
-    else if bytes_eq keyword (codes "end") then of_numbers 0 (λ ns. end_line) words
-    else Err Word
+-- the kind of a line
+abbrev pub kind_of_line : Line → Option (LineKind Line)
+kind_of_line first_line = None
+kind_of_line (pool_line p) = Some pool_kind
+kind_of_line (device_line d) = Some device_kind
+kind_of_line (map_line r) = Some map_kind
+kind_of_line end_line = Some end_kind
 
--- the first line
-abbrev pub first_of : List ℕ → Option Line
-first_of bytes = if bytes_eq bytes (codes "thin 1") then Some first_line else None
-
--- whether it is the last line
-abbrev pub is_end : Line → Bool
-is_end first_line = false
-is_end (pool_line p) = false
-is_end (device_line d) = false
-is_end (map_line r) = false
-is_end end_line = true
+abbrev pub thin_table : Table Line
+thin_table = record {
+  first = codes "thin" ∷ codes "1" ∷ [];
+  start = first_line;
+  kinds = map_kind ∷ device_kind ∷ pool_kind ∷ end_kind ∷ [];
+  kind_of = kind_of_line;
+  values = values_of_line;
+  tests = thin_tests;
+}
 
 -- texts of thin pools, version 1
 abbrev pub thin : TextFormat Line
-thin = record { first = first_of; parsed = words_read; tests = thin_tests; words = words_of_line; is_end = is_end }
+thin = format_of thin_table
 
 -- a device as a text gives it
 pub record Part : Type 0 where

@@ -1,11 +1,12 @@
 pub mod WordLemmas
 pub mod NumberWords
+pub mod ValueLemmas
+pub mod StageLemmas
 pub mod ReadLemmas
 pub mod TextLemmas
 pub mod PastLemmas
 pub mod GivesLemmas
 pub mod LawLemmas
-pub mod ThinWordLemmas
 pub mod ThinLemmas
 pub mod ThinNextLemmas
 pub mod Filling

@@ -1,38 +1,9 @@
--- Words that are numbers or uuids, as the code reads them.
-use Rattle.std.proofs.Common.{◌≡◌, inl, inr, ℕ, false, eqb, List, length, refl, ap, sym, ◌∙◌, Option, Some, None, Result, Ok, Err}
+-- Words that are identifiers, as the code reads them.
+use Rattle.std.proofs.Common.{◌≡◌, inl, inr, ℕ, false, List, refl, sym, ◌∙◌, Option, Some, None}
 use Rattle.std.proofs.lemmas.Bool.{cases_Bool, true≢false}
 use Rattle.std.proofs.lemmas.Slice.Eq.{bytes_eq-Decides}
-use Rattle.std.specs.Option.{option_map}
 use Rattle.std.specs.Str.{bytes_eq}
-use Rattle.pd_grammar.specs.declared.cause.TextCause.{TextCause}
-use Rattle.pd_grammar.specs.declared.cause.TextCause.TheVariants.{Word, Number}
-use Rattle.pd_grammar.specs.Words.{of_numbers, numbers_of, or_cause, bytes_of}
-use Rattle.pd_grammar.proofs.NumberLemmas.{ok-err, same_Ok}
-
-make_ok : {L : Type 0} → (o : Option (List ℕ)) (cause : TextCause) (make : List ℕ → L) (ns : List ℕ) → or_cause (option_map (λ (xs : List ℕ). xs) o) cause ≡ Ok ns
-    → or_cause (option_map make o) cause ≡ Ok (make ns)
-make_ok None cause make ns e = absurd (ok-err ns cause (sym e))
-make_ok (Some ms) cause make ns e = ap (λ (xs : List ℕ). Ok (make xs)) (same_Ok {E = TextCause} ms ns e)
-
-make_err : {L : Type 0} → (o : Option (List ℕ)) (why : TextCause) (make : List ℕ → L) (cause : TextCause) → or_cause (option_map (λ (xs : List ℕ). xs) o) why ≡ Err cause
-    → or_cause (option_map make o) why ≡ Err cause
-make_err None why make cause e = cc
-make_err (Some ms) why make cause e = absurd (ok-err ms cause e)
-
--- the line of numbers that were read
-pub made_ok : {L : Type 0} → (k : ℕ) (make : List ℕ → L) (words : List (List ℕ)) (ns : List ℕ) → of_numbers k (λ (xs : List ℕ). xs) words ≡ Ok ns → of_numbers k make words ≡ Ok (make ns)
-unfolding of_numbers
-made_ok k make words ns e = elim (cases_Bool (eqb (length words) k)) [
-  | inl same ↦ rw same (make_ok (numbers_of words) Number make ns (rw same at e))
-  | inr other ↦ absurd (ok-err ns Word (sym (rw other at e)))
-]
-
-pub made_err : {L : Type 0} → (k : ℕ) (make : List ℕ → L) (words : List (List ℕ)) (cause : TextCause) → of_numbers k (λ (xs : List ℕ). xs) words ≡ Err cause → of_numbers k make words ≡ Err cause
-unfolding of_numbers
-made_err k make words cause e = elim (cases_Bool (eqb (length words) k)) [
-  | inl same ↦ rw same (make_err (numbers_of words) Number make cause (rw same at e))
-  | inr other ↦ rw other (let same : ◌≡◌ {A = Result (List ℕ) TextCause} (Err Word) (Err cause) = rw other at e in cc)
-]
+use Rattle.pd_grammar.specs.Words.{bytes_of}
 
 -- sixteen bytes in a form
 swapped : (a b : List ℕ) → false ≡ bytes_eq b a → bytes_eq a b ≡ false

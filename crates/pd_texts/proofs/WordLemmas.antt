@@ -1,6 +1,6 @@
 -- Words of a line, as the code looks at them.
-use Rattle.std.proofs.Common.{◌≡◌, inl, inr, ℕ, suc, ◌+◌, ◌*◌, ◌-◌, ◌^◌, ◌≤◌, ◌<◌, Bool, true, false, not, ◌&&◌, ltb, eqb, if◌then◌else◌, List, [], ◌∷◌, ◌++◌, length, length-drop, take, drop, get_or, refl, ap, sym, subst, ◌∙◌, append_assoc, arith, Option, Some, None, Result, Ok, Err}
-use Rattle.std.proofs.lemmas.Bool.{cases_Bool, true≢false}
+use Rattle.std.proofs.Common.{◌≡◌, inl, inr, ℕ, ◌+◌, ◌*◌, ◌-◌, ◌^◌, ◌≤◌, ◌<◌, Bool, true, false, ◌&&◌, ltb, if◌then◌else◌, List, [], ◌∷◌, ◌++◌, length, length-drop, take, drop, get_or, refl, ap, sym, subst, ◌∙◌, arith, Option, Some, None}
+use Rattle.std.proofs.lemmas.Bool.{cases_Bool}
 use Rattle.std.proofs.lemmas.Bool.Decides.{nat_tests, Decides-ltb}
 use Rattle.std.proofs.lemmas.List.{take_all, append-nil}
 use Rattle.std.proofs.lemmas.List.Folds.{list_all_more, list_all_at}
@@ -11,17 +11,8 @@ use Rattle.std.specs.Char.{is_ascii_digit, digit_value}
 use Rattle.std.specs.List.{list_all}
 use Rattle.std.specs.Str.{all_ascii_digits}
 use Rattle.std.specs.Str.Parse.{digits_value}
-use Rattle.std.specs.Option.{option_map}
-use Rattle.std.specs.Prelude.{is_some}
-use Rattle.std.proofs.Common.{add-one}
-use Rattle.std.proofs.Math.Nat.{sub-zero}
-use Rattle.std.proofs.Math.Seq.{take-suc}
-use Rattle.pd_grammar.specs.declared.cause.TextCause.{TextCause}
-use Rattle.pd_grammar.specs.declared.cause.TextCause.TheVariants.{Word, Number}
-use Rattle.pd_grammar.specs.Words.{split, number_of, numbers_of, of_numbers, or_cause, with_number}
-use Rattle.pd_texts.specs.Words.{words_in}
-use Rattle.std.specs.Borrow.{Bor}
-use Rattle.pd_grammar.proofs.SplitLemmas.{Lacks, split-cut, split-one, split-some}
+use Rattle.pd_grammar.specs.Words.{split}
+use Rattle.pd_grammar.proofs.SplitLemmas.{Lacks, split-cut, split-one}
 use Rattle.pd_grammar.proofs.NumberLemmas.{both}
 use Rattle.pd_lines.proofs.ReaderLemmas.{cut_at}
 
@@ -104,82 +95,3 @@ digits_end word i value past fits all sofar =
     let number : digits_value 10 word ≡ value = ap (digits_value 10) (sym whole) ∙ sofar in
     let test : ltb value (2 ^ 64) ≡ true = (Decides-ltb value (2 ^ 64)).1 fits in
     rw (digits, number, test) refl
-
--- numbers, one after another: what becomes of the numbers so far, whether one was bad, and of the words that are
--- still to be read
-abbrev pub combined : List ℕ → Bool → List (List ℕ) → ℕ → Result (List ℕ) TextCause
-combined ns bad words k =
-    if eqb (length words) k
-    then (if bad then Err Number else or_cause (option_map (λ (rest : List ℕ). ns ++ rest) (numbers_of words)) Number)
-    else Err Word
-
-same_suc : (a b : ℕ) → eqb (suc a) (suc b) ≡ eqb a b
-same_suc a b = grind (arith, nat_tests)
-
-after_good : (ns : List ℕ) (n : ℕ) (o : Option (List ℕ))
-    → or_cause (option_map (λ (rest : List ℕ). (ns ++ (n ∷ [])) ++ rest) o) Number ≡ or_cause (option_map (λ (rest : List ℕ). ns ++ rest) (with_number (Some n) o)) Number
-after_good ns n None = refl
-after_good ns n (Some rest) = ap (λ (xs : List ℕ). Ok xs) (append_assoc ns (n ∷ []) rest)
-
-pub combined_good : (ns : List ℕ) (bad : Bool) (word : List ℕ) (words : List (List ℕ)) (n k : ℕ) → number_of word ≡ Some n
-    → combined (ns ++ (n ∷ [])) bad words k ≡ combined ns bad (word ∷ words) (suc k)
-unfolding numbers_of
-combined_good ns true word words n k e = rw (same_suc (length words) k) refl
-combined_good ns false word words n k e = rw (same_suc (length words) k, e, after_good ns n (numbers_of words)) refl
-
-pub combined_bad : (ns ms : List ℕ) (bad : Bool) (word : List ℕ) (words : List (List ℕ)) (k : ℕ) → number_of word ≡ None
-    → combined ms true words k ≡ combined ns bad (word ∷ words) (suc k)
-unfolding numbers_of
-combined_bad ns ms true word words k e = rw (same_suc (length words) k) refl
-combined_bad ns ms false word words k e = rw (same_suc (length words) k, e) refl
-
-pub numbers_start : (count : ℕ) (words : List (List ℕ)) → combined [] false words (count - 0) ≡ of_numbers count (λ (xs : List ℕ). xs) words
-unfolding of_numbers
-numbers_start count words = simp sub-zero
-
-not_and : (b : Bool) → not (b && false) ≡ true
-not_and true = refl
-not_and false = refl
-
-and_true : (b : Bool) → not (b && true) ≡ not b
-and_true true = refl
-and_true false = refl
-
-word_step : (numbers new : List ℕ) (i k : ℕ) (all good : Bool) (word : List ℕ) (words : List (List ℕ)) (o : Option ℕ) → i < length new → number_of word ≡ o
-    → good ≡ is_some (number_of word) → (good ≡ true → number_of word ≡ Some (get_or new i 0)) → take i new ≡ take i numbers
-    → combined (take (i + 1) new) (not (all && good)) words k ≡ combined (take i numbers) (not all) (word ∷ words) (suc k)
-word_step numbers new i k all good word words None within read is put before =
-    let no : good ≡ false = is ∙ rw read refl in
-    let never : not (all && good) ≡ true = rw no (not_and all) in
-    rw never (combined_bad (take i numbers) (take (i + 1) new) (not all) word words k read)
-word_step numbers new i k all good word words (Some n) within read is put before =
-    let yes : good ≡ true = is ∙ rw read refl in
-    let same : not (all && good) ≡ not all = rw yes (and_true all) in
-    let grown : take (i + 1) new ≡ take i numbers ++ (get_or new i 0 ∷ []) = rw (add-one i, take-suc new i 0 within, before) refl in
-    rw (same, grown) (combined_good (take i numbers) (not all) word words (get_or new i 0) k (put yes))
-
--- one word more
-pub numbers_step : (numbers new : List ℕ) (i count : ℕ) (all good : Bool) (word : List ℕ) (words : List (List ℕ)) → i < count → i < length new
-    → good ≡ is_some (number_of word) → (good ≡ true → number_of word ≡ Some (get_or new i 0)) → take i new ≡ take i numbers
-    → combined (take (i + 1) new) (not (all && good)) words (count - (i + 1)) ≡ combined (take i numbers) (not all) (word ∷ words) (count - i)
-numbers_step numbers new i count all good word words more within is put before =
-    let next : suc (count - (i + 1)) ≡ count - i = omega arith in
-    rw (← next) (word_step numbers new i (count - (i + 1)) all good word words (number_of word) within refl is put before)
-
-pub numbers_past : (ns : List ℕ) (bad : Bool) (bytes : List ℕ) (k : ℕ) → k ≡ 0 → combined ns bad (split 32 bytes) k ≡ Err Word
-numbers_past ns bad bytes k none =
-    let other : eqb (length (split 32 bytes)) k ≡ false = grind (arith, nat_tests, split-some 32 bytes) in
-    rw other refl
-
-pub numbers_done : (ns : List ℕ) (k : ℕ) → k ≡ 0 → combined ns false [] k ≡ Ok ns
-unfolding numbers_of
-numbers_done ns k none = rw (none, append-nil ns) refl
-
-pub words_some : (ns : List ℕ) (bad : Bool) (rest : Option (Bor (List ℕ))) (k : ℕ) → k ≡ 0 → true ≡ is_some rest → combined ns bad (words_in rest) k ≡ Err Word
-words_some ns bad None k none e = absurd (true≢false e)
-words_some ns bad (Some bytes) k none e = numbers_past ns bad bytes.now k none
-
-pub words_none : (ns : List ℕ) (all : Bool) (rest : Option (Bor (List ℕ))) (k : ℕ) → k ≡ 0 → false ≡ is_some rest → all ≡ true → combined ns (not all) (words_in rest) k ≡ Ok ns
-words_none ns true None k none e good = numbers_done ns k none
-words_none ns false None k none e good = absurd (true≢false (sym good))
-words_none ns all (Some bytes) k none e good = absurd (true≢false (sym e))

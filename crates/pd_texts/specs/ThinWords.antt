@@ -1,8 +1,18 @@
 -- The words of a line of a pool's text, as the definitions speak of them.
 use Rattle.std.specs.Prelude.{◌^◌, ◌<◌}
-use Rattle.pd_spells.specs.ThinText.{Line, pool_line, device_line, map_line, end_line}
+use Rattle.pd_grammar.specs.Tables.{LineKind}
+use Rattle.pd_spells.specs.ThinText.{Line, pool_line, device_line, map_line, end_line, pool_kind, device_kind, map_kind, end_kind}
+use Rattle.pd_texts.specs.declared.thin_words.ThinKind.{ThinKind}
+use Rattle.pd_texts.specs.declared.thin_words.ThinKind.TheVariants as k
 use Rattle.pd_texts.specs.declared.thin_words.ThinWords.{ThinWords}
 use Rattle.pd_texts.specs.declared.thin_words.ThinWords.TheVariants as w
+
+-- the kind of a line
+abbrev pub kind_meant : ThinKind → LineKind Line
+kind_meant k.Pool = pool_kind
+kind_meant k.Device = device_kind
+kind_meant k.Map = map_kind
+kind_meant k.End = end_kind
 
 -- the line of some words
 abbrev pub word_line : ThinWords → Line

@@ -15,6 +15,7 @@ mod thin_line;
 mod thin_print;
 mod thin_state;
 mod thin_words;
+mod values;
 mod words;
 
 pub use fault::{ReadFault, TextFault};
@@ -30,4 +31,5 @@ pub use thin_laws::{
 pub use thin_line::{Run2, ThinLine};
 pub use thin_print::{bytes_of_thin, print_thin};
 pub use thin_state::{ThinState, ThinText};
-pub use words::{cut_word, number_word, read_numbers, read_uuid};
+pub use values::{bytes_at, number_at, read_values};
+pub use words::{cut_word, number_word, read_uuid};

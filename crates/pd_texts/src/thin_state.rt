@@ -3,18 +3,20 @@
 ghost use Rattle.std.specs.Prelude.{◌≡◌, ◌==◌, ◌≤◌, List, ◌∷◌, length, IfOk, OnOk, true, false};
 ghost use Rattle.pd_grammar.specs.Words.{split};
 ghost use Rattle.pd_grammar.specs.Texts.{read, tested};
-ghost use Rattle.pd_spells.specs.ThinText.{Line, thin_tests, words_read, has_number_out_of_range, is_out_of_order, is_mapped_otherwise};
+ghost use Rattle.pd_grammar.specs.Tables.{may_stand, parsed_by};
+ghost use Rattle.pd_spells.specs.ThinText.{Line, thin_table, thin_tests, has_number_out_of_range, is_out_of_order, is_mapped_otherwise};
 ghost use Rattle.pd_texts.specs.Seen.{seen_by};
 ghost use Rattle.pd_texts.specs.ThinLine.{thin_meant};
-ghost use Rattle.pd_texts.specs.ThinWords.{word_line, FitsLine};
+ghost use Rattle.pd_texts.specs.ThinWords.{kind_meant, word_line, FitsLine};
 
 use crate::reader::TextReader;
 use crate::stage::Stage;
 use crate::state::TextState;
 use crate::thin_line::ThinLine;
-use crate::thin_words::{ThinWords, read_device, read_end, read_map, read_pool};
+use crate::thin_words::{ThinKind, ThinWords};
+use crate::values::read_values;
 use crate::words::cut_word;
-use pd_grammar::TextCause;
+use pd_grammar::{TextCause, Value};
 
 /// The text of a pool, version 1, read line by line.
 pub type ThinText = TextReader<ThinState>;
@@ -96,43 +98,33 @@ impl ThinState {
 
     /// The line of some words, but for what is looked at last.
     fn words(&self, text: &[u8]) -> Result<ThinWords, TextCause>
-        ensures { (before : List Line) → ThinStands self.now before → 1 ≤ length before → seen_by word_line result ≡ words_read before (split 32 text.now) }
+        ensures { (before : List Line) → ThinStands self.now before → 1 ≤ length before → seen_by word_line result ≡ parsed_by thin_table before (split 32 text.now) }
     {
-        match self.stage {
-            Stage::First | Stage::Second => ThinState::second_words(text),
-            Stage::Body => self.later_words(text),
+        let (word, rest) = cut_word(text);
+        let kind = match ThinKind::named(word) {
+            Some(kind) => kind,
+            None => return Err(TextCause::Word),
+        };
+        if !self.may_stand(kind) {
+            return Err(TextCause::Word);
+        }
+        let mut values = [Value::Number(0); 5];
+        let fields = kind.fields();
+        match read_values(fields, rest, &mut values) {
+            Ok(()) => Ok(kind.words(&values[..fields.len()])),
+            Err(cause) => Err(cause),
         }
     }
 
-    /// The line of some words after the first line.
-    fn second_words(text: &[u8]) -> Result<ThinWords, TextCause>
-        ensures { (before : List Line) → length before ≡ 1 → seen_by word_line result ≡ words_read before (split 32 text.now) }
+    /// Whether such a line may come next.
+    #[tactic(auto, using(crate::proofs::StageLemmas::second_stage, crate::proofs::StageLemmas::body_stage))]
+    fn may_stand(&self, kind: ThinKind) -> bool
+        ensures { (before : List Line) → ThinStands self.now before → result ≡ may_stand (kind_meant kind).place before }
     {
-        let (word, rest) = cut_word(text);
-        if word == b"pool".as_slice() {
-            read_pool(rest)
-        } else {
-            Err(TextCause::Word)
-        }
-    }
-
-    /// The line of some words after the pool line.
-    fn later_words(&self, text: &[u8]) -> Result<ThinWords, TextCause>
-        ensures { (before : List Line) → ThinStands self.now before → 2 ≤ length before → seen_by word_line result ≡ words_read before (split 32 text.now) }
-    {
-        let (word, rest) = cut_word(text);
-        if word == b"map".as_slice() {
-            if self.has_device {
-                read_map(rest)
-            } else {
-                Err(TextCause::Word)
-            }
-        } else if word == b"device".as_slice() {
-            read_device(rest)
-        } else if word == b"end".as_slice() {
-            read_end(rest)
-        } else {
-            Err(TextCause::Word)
+        match kind {
+            ThinKind::Pool => self.stage.is_second(),
+            ThinKind::Map => self.stage.is_body() & self.has_device,
+            ThinKind::Device | ThinKind::End => self.stage.is_body(),
         }
     }
 

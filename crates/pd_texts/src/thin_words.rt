@@ -1,16 +1,15 @@
-//! The words of a pool's text, as numbers.
+//! The words of a pool's text, as values.
 
-ghost use Rattle.std.specs.Prelude.{◌≡◌, ℕ, List, Result, Ok, Err};
-ghost use Rattle.pd_grammar.specs.Words.{of_numbers};
-ghost use Rattle.pd_spells.specs.ThinText.{end_line, device_of, map_of, pool_read};
-ghost use Rattle.pd_texts.specs.Seen.{seen_by};
-ghost use Rattle.pd_texts.specs.Words.{words_in};
-ghost use Rattle.pd_texts.specs.ThinWords.{word_line, FitsLine};
+ghost use Rattle.std.specs.Prelude.{◌≡◌, ◌≤◌, length};
+ghost use Rattle.std.specs.Option.{option_map};
+ghost use Rattle.pd_grammar.specs.Tables.{kind_named};
+ghost use Rattle.pd_spells.specs.ThinText.{thin_table};
+ghost use Rattle.pd_texts.specs.ThinWords.{kind_meant, word_line, FitsLine};
 ghost use Rattle.pd_texts.specs.ThinLine.{thin_meant};
 
 use crate::thin_line::{Run2, ThinLine};
-use crate::words::{cut_word, read_numbers, read_uuid};
-use pd_grammar::TextCause;
+use crate::values::{bytes_at, number_at};
+use pd_grammar::{Field, Value};
 use pd_value::Details;
 
 /// The words of a pool line.
@@ -40,6 +39,83 @@ pub(crate) struct MapWords {
     pub target: u64,
     pub length: u64,
     pub time: u64,
+}
+
+/// The kinds of lines after the first one.
+#[derive(Clone, Copy)]
+pub(crate) enum ThinKind {
+    Pool,
+    Device,
+    Map,
+    End,
+}
+
+impl ThinKind {
+    /// The kind of line with this keyword.
+    #[tactic(auto, unfolding(pd_grammar::specs::Tables::kind_named))]
+    pub(crate) fn named(word: &[u8]) -> Option<ThinKind>
+        ensures { option_map kind_meant result ≡ kind_named thin_table.kinds word.now }
+    {
+        if word == b"map".as_slice() {
+            Some(ThinKind::Map)
+        } else if word == b"device".as_slice() {
+            Some(ThinKind::Device)
+        } else if word == b"pool".as_slice() {
+            Some(ThinKind::Pool)
+        } else if word == b"end".as_slice() {
+            Some(ThinKind::End)
+        } else {
+            None
+        }
+    }
+
+    /// The fields of such a line.
+    pub(crate) fn fields(self) -> &'static [Field]
+        ensures fields { result.now ≡ (kind_meant self).fields }
+        ensures few { length result.now ≤ 5 }
+    {
+        match self {
+            ThinKind::Pool => &[
+                Field::Uuid,
+                Field::Number,
+                Field::Number,
+                Field::Number,
+                Field::Number,
+            ],
+            ThinKind::Device => &[Field::Number; 5],
+            ThinKind::Map => &[Field::Number; 4],
+            ThinKind::End => &[],
+        }
+    }
+
+    /// Such a line of these values.
+    pub(crate) fn words(self, values: &[Value]) -> ThinWords
+        ensures { word_line result ≡ (kind_meant self).make values.now }
+    {
+        match self {
+            ThinKind::Pool => ThinWords::Pool(PoolWords {
+                uuid: bytes_at(values, 0),
+                time: number_at(values, 1),
+                transaction: number_at(values, 2),
+                block_size: number_at(values, 3),
+                blocks: number_at(values, 4),
+            }),
+            ThinKind::Device => ThinWords::Device(DeviceWords {
+                id: number_at(values, 0),
+                mapped: number_at(values, 1),
+                transaction: number_at(values, 2),
+                created: number_at(values, 3),
+                snapped: number_at(values, 4),
+            }),
+            ThinKind::Map => ThinWords::Map(MapWords {
+                virt: number_at(values, 0),
+                target: number_at(values, 1),
+                length: number_at(values, 2),
+                time: number_at(values, 3),
+            }),
+            ThinKind::End => ThinWords::End,
+        }
+    }
 }
 
 /// The words of a line after the first one.
@@ -82,70 +158,5 @@ impl ThinWords {
             })),
             ThinWords::End => None,
         }
-    }
-}
-
-/// A pool line, of the words after `pool`.
-#[tactic(auto, unfolding(pd_spells::specs::ThinText::pool_read))]
-pub(crate) fn read_pool(words: Option<&[u8]>) -> Result<ThinWords, TextCause>
-    ensures { seen_by word_line result ≡ pool_read (words_in words.entry) }
-{
-    let Some(text) = words else {
-        return Err(TextCause::Word);
-    };
-    let (word, rest) = cut_word(text);
-    let Some(uuid) = read_uuid(word) else {
-        return Err(TextCause::Word);
-    };
-    match read_numbers(rest, 4) {
-        Ok(numbers) => Ok(ThinWords::Pool(PoolWords {
-            uuid,
-            time: numbers[0],
-            transaction: numbers[1],
-            block_size: numbers[2],
-            blocks: numbers[3],
-        })),
-        Err(cause) => Err(cause),
-    }
-}
-
-/// A device line, of the words after `device`.
-pub(crate) fn read_device(words: Option<&[u8]>) -> Result<ThinWords, TextCause>
-    ensures { seen_by word_line result ≡ of_numbers 5 device_of (words_in words.entry) }
-{
-    match read_numbers(words, 5) {
-        Ok(numbers) => Ok(ThinWords::Device(DeviceWords {
-            id: numbers[0],
-            mapped: numbers[1],
-            transaction: numbers[2],
-            created: numbers[3],
-            snapped: numbers[4],
-        })),
-        Err(cause) => Err(cause),
-    }
-}
-
-/// A map line, of the words after `map`.
-pub(crate) fn read_map(words: Option<&[u8]>) -> Result<ThinWords, TextCause>
-    ensures { seen_by word_line result ≡ of_numbers 4 map_of (words_in words.entry) }
-{
-    match read_numbers(words, 4) {
-        Ok(numbers) => Ok(ThinWords::Map(MapWords {
-            virt: numbers[0],
-            target: numbers[1],
-            length: numbers[2],
-            time: numbers[3],
-        })),
-        Err(cause) => Err(cause),
-    }
-}
-
-/// The last line, of the words after `end`.
-pub(crate) fn read_end(words: Option<&[u8]>) -> Result<ThinWords, TextCause>
-    ensures { seen_by word_line result ≡ of_numbers 0 (λ (ns : List ℕ). end_line) (words_in words.entry) }
-{
-    match read_numbers(words, 0) {
-        Ok(_) => Ok(ThinWords::End),
-        Err(cause) => Err(cause),
     }
 }

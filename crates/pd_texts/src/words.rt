@@ -1,13 +1,12 @@
 //! The words of a line: numbers and uuids.
 
-ghost use Rattle.std.specs.Prelude.{◌≡◌, ◌==◌, ◌&&◌, ℕ, ◌+◌, ◌*◌, ◌-◌, ◌^◌, ◌<◌, ◌≤◌, nat_lt, if◌then◌else◌, List, [], ◌∷◌, length, take, slice_index, Option, Some, None, is_some, Result, Ok, Err, MatchResult, true, false};
+ghost use Rattle.std.specs.Prelude.{◌≡◌, ◌&&◌, ◌+◌, ◌*◌, ◌-◌, ◌^◌, nat_lt, if◌then◌else◌, ◌∷◌, Some, None};
 ghost use Rattle.std.specs.Char.{is_ascii_digit};
 ghost use Rattle.std.specs.Str.{all_ascii_digits};
 ghost use Rattle.std.specs.Str.Parse.{digits_value};
-ghost use Rattle.pd_grammar.specs.Words.{split, number_of, of_numbers, uuid_of};
+ghost use Rattle.pd_grammar.specs.Words.{split, number_of, uuid_of};
 ghost use Rattle.pd_texts.specs.Words.{words_in};
 
-use pd_grammar::TextCause;
 use uuid::Uuid;
 
 /// The first word, and what follows it after a space.
@@ -58,51 +57,6 @@ pub fn number_word(word: &[u8]) -> Option<u64>
         [] => None,
         [first, _, ..] if *first == b'0' => None,
         _ => digits_number(word),
-    }
-}
-
-/// Reads a number into its place, and answers whether the word is one.
-fn put_number(numbers: &mut [u64], i: usize, word: &[u8]) -> bool
-    requires { i < length numbers.old }
-    ensures read { result ≡ is_some (number_of word.now) }
-    ensures put { result ≡ true → number_of word.now ≡ Some (slice_index numbers.new i) }
-    ensures before { take i numbers.new ≡ take i numbers.old }
-{
-    match number_word(word) {
-        Some(number) => {
-            numbers[i] = number;
-            true
-        }
-        None => false,
-    }
-}
-
-/// Just so many numbers, five at the most. `Word` where the number of words is another one, else `Number` where a word
-/// isn't one.
-pub fn read_numbers(words: Option<&[u8]>, count: usize) -> Result<[u64; 5], TextCause>
-    requires { count ≤ 5 }
-    ensures { MatchResult result (λ ns. of_numbers count (λ (xs : List ℕ). xs) (words_in words.entry) ≡ Ok (take count ns)) (λ cause. of_numbers count (λ (xs : List ℕ). xs) (words_in words.entry) ≡ Err cause) }
-{
-    let mut numbers = [0; 5];
-    let mut rest = words;
-    let mut all = true;
-    for i in 0..count {
-        let text = match rest {
-            Some(text) => text,
-            None => return Err(TextCause::Word),
-        };
-        let (word, next) = cut_word(text);
-        rest = next;
-        let good = put_number(&mut numbers, i, word);
-        all = all & good;
-    }
-    if rest.is_some() {
-        return Err(TextCause::Word);
-    }
-    if all {
-        Ok(numbers)
-    } else {
-        Err(TextCause::Number)
     }
 }
 

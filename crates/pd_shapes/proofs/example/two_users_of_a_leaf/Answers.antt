@@ -1,12 +1,12 @@
 use Rattle.std.proofs.Common.{refl}
 use Rattle.uuid.specs.Text.{by_index}
 use Rattle.std.specs.Fmt.{digits}
-use Rattle.pd_grammar.specs.Words.{is_canonical, number_of, numbers_of, bytes_of, of_numbers}
+use Rattle.pd_grammar.specs.Words.{is_canonical, number_of, bytes_of}
 use Rattle.pd_grammar.specs.Texts.{tested, read, lines_after}
+use Rattle.pd_grammar.specs.Tables.{values_in, kind_named, parsed_by}
 use Rattle.pd_spells.specs.Need.{need_above, nodes_of_tree}
 use Rattle.pd_spells.specs.ThinNeed.{overflows_in}
 use Rattle.pd_shapes.specs.SharedNeed.{need_of_shared, used_often, shape_data, shape_need}
-use Rattle.pd_shapes.specs.SharedTests.{pool_read, words_read}
 use Rattle.pd_shapes.specs.SharedText.{text_of_shape}
 use Rattle.pd_shapes.proofs.example.two_users_of_a_leaf.Goals as goal
 
@@ -19,13 +19,13 @@ unfolding shape_need need_of_shared used_often shape_data overflows_in need_abov
 returns-clause-need c = refl
 
 pub returns-clause-read : goal.returns-clause-read
-unfolding lines_after read tested words_read pool_read bytes_of of_numbers numbers_of number_of is_canonical by_index
+unfolding lines_after read tested parsed_by kind_named values_in bytes_of number_of is_canonical by_index
 returns-clause-read c = refl
 
 pub returns-clause-beyond : goal.returns-clause-beyond
-unfolding lines_after read tested words_read pool_read bytes_of of_numbers numbers_of number_of is_canonical by_index
+unfolding lines_after read tested parsed_by kind_named values_in bytes_of number_of is_canonical by_index
 returns-clause-beyond c = refl
 
 pub returns-clause-unused : goal.returns-clause-unused
-unfolding lines_after read tested words_read pool_read bytes_of of_numbers numbers_of number_of is_canonical by_index
+unfolding lines_after read tested parsed_by kind_named values_in bytes_of number_of is_canonical by_index
 returns-clause-unused c = refl

@@ -1,0 +1,158 @@
+-- Words of fields, one after another, and what they are in their place.
+use Rattle.std.proofs.Common.{◌≡◌, ℕ, zero, suc, ◌+◌, ◌≤◌, ◌<◌, Bool, true, false, not, ◌&&◌, List, [], ◌∷◌, ◌++◌, length, take, drop, get_or, refl, ap, sym, ◌∙◌, append_assoc, add-one, arith, Option, Some, None, Result, Ok, Err}
+use Rattle.std.proofs.lemmas.Bool.{true≢false}
+use Rattle.std.proofs.lemmas.List.{append-nil}
+use Rattle.std.proofs.Math.Seq.{take-suc}
+use Rattle.std.specs.Borrow.{Bor}
+use Rattle.std.specs.Prelude.{is_some}
+use Rattle.pd_grammar.specs.declared.cause.TextCause.{TextCause}
+use Rattle.pd_grammar.specs.declared.cause.TextCause.TheVariants.{Word, Number}
+use Rattle.pd_grammar.specs.declared.value.Field.{Field}
+use Rattle.pd_grammar.specs.declared.value.Field.TheVariants as f
+use Rattle.pd_grammar.specs.declared.value.Value.{Value}
+use Rattle.pd_grammar.specs.Words.{split, result_map}
+use Rattle.pd_grammar.specs.Tables.{value_of, with_value, values_in, Table, LineKind, may_stand, kind_named, parsed_by}
+use Rattle.pd_grammar.proofs.SplitLemmas.{split-some}
+use Rattle.pd_texts.specs.Words.{words_in, is_name}
+
+-- what becomes of the values so far, whether all of them were there, and of what is read of the rest
+abbrev pub continued : List Value → Bool → Result (List Value) TextCause → Result (List Value) TextCause
+continued values true rest = result_map (λ more. values ++ more) rest
+continued values false (Ok more) = Err Number
+continued values false (Err cause) = Err cause
+
+more_values : (values : List Value) (all : Bool) (x : Value) (field : Field) (rest : Result (List Value) TextCause)
+    → continued (values ++ (x ∷ [])) all rest ≡ continued values all (with_value (Some x) field rest)
+more_values values true x field (Ok more) = ap (λ (xs : List Value). Ok xs) (append_assoc values (x ∷ []) more)
+more_values values true x field (Err cause) = refl
+more_values values false x field (Ok more) = refl
+more_values values false x field (Err cause) = refl
+
+bad_number : (values new : List Value) (all : Bool) (field : Field) (rest : Result (List Value) TextCause) → is_name field ≡ false
+    → continued new false rest ≡ continued values all (with_value None field rest)
+bad_number values new all f.Uuid rest other = absurd (true≢false other)
+bad_number values new all f.Policy rest other = absurd (true≢false other)
+bad_number values new true f.Number (Ok more) other = refl
+bad_number values new true f.Number (Err cause) other = refl
+bad_number values new false f.Number (Ok more) other = refl
+bad_number values new false f.Number (Err cause) other = refl
+
+bad_word : (values : List Value) (all : Bool) → continued values all (Err Word) ≡ Err Word
+bad_word values true = refl
+bad_word values false = refl
+
+bad_name : (values : List Value) (all : Bool) (field : Field) (rest : Result (List Value) TextCause) → is_name field ≡ true
+    → continued values all (with_value None field rest) ≡ Err Word
+bad_name values all f.Uuid rest is = bad_word values all
+bad_name values all f.Policy rest is = bad_word values all
+bad_name values all f.Number rest is = absurd (true≢false (sym is))
+
+from_field : (fields : List Field) (i : ℕ) (d : Field) → i < length fields → drop i fields ≡ get_or fields i d ∷ drop (suc i) fields
+from_field [] i d within = absurd (omega arith)
+from_field (field ∷ fields) zero d within = refl
+from_field (field ∷ fields) (suc i) d within = from_field fields i d (omega arith)
+
+field_at : (fields : List Field) (i : ℕ) (d : Field) → i < length fields → drop i fields ≡ get_or fields i d ∷ drop (i + 1) fields
+field_at fields i d within = rw (add-one i) (from_field fields i d within)
+
+and_true : (b : Bool) → (b && true) ≡ b
+and_true true = refl
+and_true false = refl
+
+and_false : (b : Bool) → (b && false) ≡ false
+and_false true = refl
+and_false false = refl
+
+next_value : (old new : List Value) (i : ℕ) (all good : Bool) (field : Field) (word : List ℕ) (o : Option Value) (rest : Result (List Value) TextCause) (d : Value)
+    → i < length new → value_of field word ≡ o → good ≡ is_some (value_of field word) → (good ≡ true → value_of field word ≡ Some (get_or new i d))
+    → take i new ≡ take i old → (not good && is_name field) ≡ false
+    → continued (take (i + 1) new) (all && good) rest ≡ continued (take i old) all (with_value (value_of field word) field rest)
+next_value old new i all good field word None rest d within read is put before other =
+    let no : good ≡ false = is ∙ rw read refl in
+    let number : is_name field ≡ false = rw no at other in
+    rw (no, and_false all, read) (bad_number (take i old) (take (i + 1) new) all field rest number)
+next_value old new i all good field word (Some x) rest d within read is put before other =
+    let yes : good ≡ true = is ∙ rw read refl in
+    let grown : take (i + 1) new ≡ take i old ++ (get_or new i d ∷ []) = rw (add-one i, take-suc new i d within, before) refl in
+    rw (put yes, yes, and_true all, grown) (more_values (take i old) all (get_or new i d) field rest)
+
+-- a word more
+pub value_step : (fields : List Field) (old new : List Value) (i : ℕ) (all good : Bool) (field : Field) (word : List ℕ) (words : List (List ℕ)) (none : Field) (d : Value)
+    → i < length fields → get_or fields i none ≡ field → i < length new → good ≡ is_some (value_of field word)
+    → (good ≡ true → value_of field word ≡ Some (get_or new i d)) → take i new ≡ take i old → (not good && is_name field) ≡ false
+    → continued (take (i + 1) new) (all && good) (values_in (drop (i + 1) fields) words) ≡ continued (take i old) all (values_in (drop i fields) (word ∷ words))
+unfolding values_in
+value_step fields old new i all good field word words none d within here placed is put before other =
+    rw (field_at fields i none within, here)
+    (next_value old new i all good field word (value_of field word) (values_in (drop (i + 1) fields) words) d placed refl is put before other)
+
+-- a word that isn't the identifier of its field
+none_of : (o : Option Value) (good : Bool) → good ≡ is_some o → good ≡ false → o ≡ None
+none_of None good is bad = refl
+none_of (Some x) good is bad = absurd (true≢false (sym is ∙ bad))
+
+pub is_bad : (good : Bool) → not good ≡ true → good ≡ false
+is_bad true test = absurd (true≢false (sym test))
+is_bad false test = refl
+
+pub value_fails : (fields : List Field) (values : List Value) (i : ℕ) (all good : Bool) (field : Field) (word : List ℕ) (words : List (List ℕ)) (none : Field)
+    → i < length fields → get_or fields i none ≡ field → good ≡ is_some (value_of field word) → good ≡ false → is_name field ≡ true
+    → continued values all (values_in (drop i fields) (word ∷ words)) ≡ Err Word
+unfolding values_in
+value_fails fields values i all good field word words none within here is bad name =
+    rw (field_at fields i none within, here, none_of (value_of field word) good is bad) (bad_name values all field (values_in (drop (i + 1) fields) words) name)
+
+-- a word too few
+pub value_lacks : (fields : List Field) (values : List Value) (i : ℕ) (all : Bool) (d : Field) → i < length fields
+    → continued values all (values_in (drop i fields) []) ≡ Err Word
+unfolding values_in
+value_lacks fields values i all d within = rw (field_at fields i d within) (bad_word values all)
+
+-- and too many
+drop_past : (fields : List Field) (i : ℕ) → length fields ≤ i → drop i fields ≡ []
+drop_past [] zero past = refl
+drop_past [] (suc i) past = refl
+drop_past (field ∷ fields) zero past = absurd (omega arith)
+drop_past (field ∷ fields) (suc i) past = drop_past fields i (omega arith)
+
+more_words : (values : List Value) (all : Bool) (words : List (List ℕ)) → 1 ≤ length words → continued values all (values_in [] words) ≡ Err Word
+unfolding values_in
+more_words values all [] some = absurd (omega arith)
+more_words values all (word ∷ words) some = bad_word values all
+
+pub values_past : (fields : List Field) (values : List Value) (i : ℕ) (all : Bool) (rest : Option (Bor (List ℕ))) → length fields ≤ i → true ≡ is_some rest
+    → continued values all (values_in (drop i fields) (words_in rest)) ≡ Err Word
+values_past fields values i all None past e = absurd (true≢false e)
+values_past fields values i all (Some bytes) past e = rw (drop_past fields i past) (more_words values all (split 32 bytes.now) (split-some 32 bytes.now))
+
+pub values_done : (fields : List Field) (values : List Value) (i : ℕ) (rest : Option (Bor (List ℕ))) → length fields ≤ i → false ≡ is_some rest
+    → continued values true (values_in (drop i fields) (words_in rest)) ≡ Ok values
+unfolding values_in
+values_done fields values i None past e = rw (drop_past fields i past, append-nil values) refl
+values_done fields values i (Some bytes) past e = absurd (true≢false (sym e))
+
+pub values_bad : (fields : List Field) (values : List Value) (i : ℕ) (rest : Option (Bor (List ℕ))) → length fields ≤ i → false ≡ is_some rest
+    → continued values false (values_in (drop i fields) (words_in rest)) ≡ Err Number
+unfolding values_in
+values_bad fields values i None past e = rw (drop_past fields i past) refl
+values_bad fields values i (Some bytes) past e = absurd (true≢false (sym e))
+
+-- what the words of a line are in its place: of no kind, of a kind that may not stand there, and of one that may
+module _ {L : Type 0} (table : Table L) (before : List L) (bytes word : List ℕ) (words : List (List ℕ)) (cut : split 32 bytes ≡ word ∷ words) where
+  pub parsed_none : None ≡ kind_named table.kinds word → Err Word ≡ parsed_by table before (split 32 bytes)
+  unfolding parsed_by
+  parsed_none named = rw (cut, ← named) refl
+
+  pub parsed_elsewhere : (kind : LineKind L) → Some kind ≡ kind_named table.kinds word → false ≡ may_stand kind.place before → Err Word ≡ parsed_by table before (split 32 bytes)
+  unfolding parsed_by
+  parsed_elsewhere kind named stands = rw (cut, ← named, ← stands) refl
+
+  pub parsed_line : (kind : LineKind L) (xs : List Value) → Some kind ≡ kind_named table.kinds word → true ≡ may_stand kind.place before
+      → values_in kind.fields words ≡ Ok xs → Ok (kind.make xs) ≡ parsed_by table before (split 32 bytes)
+  unfolding parsed_by
+  parsed_line kind xs named stands read = rw (cut, ← named, ← stands, read) refl
+
+  pub parsed_err : (kind : LineKind L) (cause : TextCause) → Some kind ≡ kind_named table.kinds word → true ≡ may_stand kind.place before
+      → values_in kind.fields words ≡ Err cause → Err cause ≡ parsed_by table before (split 32 bytes)
+  unfolding parsed_by
+  parsed_err kind cause named stands read = rw (cut, ← named, ← stands, read) refl
