@@ -1,22 +1,12 @@
 -- What lines of a cache's text that were read say.
-use Rattle.std.proofs.Common.{◌≡◌, ◌⊎◌, inl, inr, ℕ, ◌^◌, ◌≤◌, ◌<◌, true, false, not, ◌&&◌, ◌||◌, eqb, ltb, List, [], ◌∷◌, length, arith}
+use Rattle.std.proofs.Common.{◌≡◌, ◌⊎◌, inl, inr, ℕ, ◌^◌, ◌≤◌, ◌<◌, true, false, not, ◌&&◌, ◌||◌, eqb, ltb, List, arith}
 use Rattle.std.proofs.lemmas.Bool.{cases_Bool}
 use Rattle.std.proofs.lemmas.Bool.Decides.{Decides-eqb, nat_tests}
-use Rattle.pd_grammar.proofs.GrammarLemmas.{Passes, is_read}
-use Rattle.pd_spells.specs.CacheText.{Line, cache_line, map_line, end_line, Head, Row, cache_single, single_tests, blocks_of, hint_size_of, least_block, has_number_out_of_range, is_out_of_order}
-use Rattle.pd_spells.proofs.CacheRead.{FitsLine, Placed, head_tells}
+use Rattle.pd_grammar.proofs.GrammarLemmas.{is_read}
+use Rattle.pd_spells.specs.CacheText.{Line, cache_line, map_line, end_line, Head, Row, cache_single, blocks_of, hint_size_of, least_block}
+use Rattle.pd_spells.proofs.CacheRead.{FitsLine, Placed, passed, head_tells, single_grammar}
 use Rattle.pd_texts.specs.Reader.{IsReadAfter}
 use Rattle.pd_cache_texts.specs.CacheNext.{IsCacheLine, IsMapLine, IsEndLine}
-use Rattle.pd_cache_texts.proofs.SingleLemmas.{single_grammar}
-
--- the tests that a line has passed
-record HasPassed (before : List Line) (line : Line) : Type 0 where
-  range : has_number_out_of_range before line ≡ false
-  order : is_out_of_order before line ≡ false
-
-passed : (before : List Line) (line : Line) → 1 ≤ length before → Passes single_tests before line → HasPassed before line
-passed [] line some passes = absurd (omega arith)
-passed (newest ∷ before) line some passes = record { range = passes.0; order = passes.1.0 }
 
 zero_or_four : (hint : ℕ) → (eqb hint 0 || eqb hint 4) ≡ true → (hint ≡ 0) ⊎ (hint ≡ 4)
 zero_or_four hint e = elim (cases_Bool (eqb hint 0)) [
@@ -36,8 +26,8 @@ cache_read before h one =
       block_size_fits = tells.0;
       blocks_fit = tells.1.0;
       clean_is_flag = tells.1.1.1.1.1.0;
-      policy_len = is.fits.1.1.0;
-      policy_bytes = is.fits.1.1.1.0;
+      policy_len = is.fits.1.1.1.1.1.0;
+      policy_bytes = is.fits.1.1.1.1.1.1.0;
       major_fits = tells.1.1.0;
       minor_fits = tells.1.1.1.0;
       patch_fits = tells.1.1.1.1.0;

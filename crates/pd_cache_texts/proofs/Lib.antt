@@ -1,5 +1,3 @@
 pub mod DigitLemmas
-pub mod FrontLemmas
-pub mod CacheWordLemmas
 pub mod SingleLemmas
 pub mod CacheNextLemmas

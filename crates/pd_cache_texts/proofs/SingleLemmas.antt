@@ -5,12 +5,11 @@ use Rattle.pd_kinds.specs.Meaning.{CacheMeaning, CacheEntry}
 use Rattle.pd_kinds.specs.declared.kind.Kind.TheVariants.{Cache}
 use Rattle.pd_grammar.specs.declared.cause.TextCause.{TextCause}
 use Rattle.pd_grammar.specs.declared.cause.TextCause.TheVariants.{Repeated}
-use Rattle.pd_grammar.specs.Texts.{Reading, has_ended, written, reading, refused, whole, with_line, number_after, stopped, text_of_lines}
-use Rattle.pd_grammar.proofs.GrammarLemmas.{IsGrammar, Passes, is_read, read_again}
-use Rattle.pd_grammar.proofs.ShortLemmas.{joined_short, numbers_short}
+use Rattle.pd_grammar.specs.Texts.{Reading, has_ended, reading, refused, whole, with_line, number_after, stopped, text_of_lines}
+use Rattle.pd_grammar.proofs.GrammarLemmas.{Passes, is_read, read_again}
 use Rattle.pd_grammar.proofs.TestLemmas.{one_test_more}
-use Rattle.pd_spells.specs.CacheText.{Line, first_line, cache_line, map_line, end_line, cache, cache_single, repeated_test, is_repeated, words_of_line, head_of, row_of, text_of_cache, MeansCache, SpellsCache}
-use Rattle.pd_spells.proofs.CacheRead.{FitsLine, Placed, cache_grammar}
+use Rattle.pd_spells.specs.CacheText.{Line, cache_line, end_line, cache, cache_single, repeated_test, is_repeated, head_of, row_of, text_of_cache, MeansCache, SpellsCache}
+use Rattle.pd_spells.proofs.CacheRead.{FitsLine, Placed, single_grammar, cache_grammar}
 use Rattle.pd_spells.proofs.CacheLaws.{cache_language}
 use Rattle.pd_texts.specs.declared.fault.TextFault.{TextFault}
 use Rattle.pd_texts.specs.Printed.{text_of_line, first_text, end_text}
@@ -23,25 +22,6 @@ use Rattle.pd_cache_texts.specs.Origins.{OriginsDiffer}
 all_passed : (before : List Line) (line : Line) → is_repeated before line ≡ false → Passes cache_single.tests before line → Passes cache.tests before line
 all_passed [] line new passes = tt
 all_passed (newest ∷ before) line new passes = (passes.0, (passes.1.0, (new, tt)))
-
-short_line : (before : List Line) (line : Line) → FitsLine line → Placed before line → Passes cache_single.tests before line → length (written cache_single line) ≤ 160
-short_line before first_line fits placed passes = cache_grammar.short before first_line fits placed (all_passed before first_line refl passes)
-short_line before (cache_line h) fits placed passes = cache_grammar.short before (cache_line h) fits placed (all_passed before (cache_line h) refl passes)
-short_line before (map_line r) fits placed passes =
-    let rest = numbers_short (r.block ∷ r.origin ∷ r.dirty ∷ r.hint ∷ []) fits in
-    omega (arith, rest, joined_short (words_of_line (map_line r)))
-short_line before end_line fits placed passes = cache_grammar.short before end_line fits placed (all_passed before end_line refl passes)
-
--- such a text reads what it writes
-pub single_grammar : IsGrammar cache_single FitsLine Placed
-single_grammar = record {
-  first_is = cache_grammar.first_is;
-  first_again = cache_grammar.first_again;
-  words_are = cache_grammar.words_are;
-  words_again = cache_grammar.words_again;
-  plain = cache_grammar.plain;
-  short = short_line;
-}
 
 goes_on : (before : List Line) → has_ended cache_single before ≡ false → has_ended cache before ≡ false
 goes_on [] going = refl

@@ -1,5 +1,5 @@
 pub mod CacheLine
-pub mod CacheWords
+pub mod CacheKind
 pub mod CacheState
 pub mod CacheEnds
 pub mod CacheNext

@@ -5,11 +5,11 @@
 //! none repeats looks for it (`cache_text_stops_where_an_origin_repeats`).
 #![tactic(auto)]
 
+mod kind;
 mod laws;
 mod line;
 mod print;
 mod state;
-mod words;
 
 pub use laws::{
     cache_lines_are_printed_in_order, cache_text_is_its_lines,

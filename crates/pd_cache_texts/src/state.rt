@@ -1,17 +1,17 @@
 //! What the lines so far of a cache's text say of the next one.
 
-ghost use Rattle.std.specs.Prelude.{◌≡◌, ◌≤◌, List, ◌∷◌, length, IfOk, OnOk, true, false};
-ghost use Rattle.pd_grammar.specs.Words.{split};
+ghost use Rattle.std.specs.Prelude.{◌≡◌, ◌≤◌, List, ◌∷◌, length, IfOk, true, false};
 ghost use Rattle.pd_grammar.specs.Texts.{tested};
-ghost use Rattle.pd_spells.specs.CacheText.{Line, single_tests, words_read, has_number_out_of_range, is_out_of_order};
-ghost use Rattle.pd_texts.specs.Seen.{seen_by};
+ghost use Rattle.pd_grammar.specs.Tables.{may_stand};
+ghost use Rattle.pd_spells.specs.CacheText.{Line, cache_kind, map_kind, single_tests, has_number_out_of_range, is_out_of_order, flag_number};
+ghost use Rattle.pd_texts.specs.Seen.{in_range, seen_by};
+ghost use Rattle.pd_cache_texts.specs.CacheKind.{kind_meant};
 ghost use Rattle.pd_cache_texts.specs.CacheLine.{cache_meant};
-ghost use Rattle.pd_cache_texts.specs.CacheWords.{word_line, FitsHead, FitsMap, FitsLine};
 
+use crate::kind::CacheKind;
 use crate::line::CacheLine;
-use crate::words::{CacheWords, HeadWords, MapWords, read_cache, read_end, read_map};
-use pd_grammar::TextCause;
-use pd_texts::{Stage, TextReader, TextState, cut_word};
+use pd_grammar::{TextCause, Value};
+use pd_texts::{Stage, TextReader, TextState, bytes_at, cut_word, number_at, read_values};
 
 /// The text of a cache, read line by line. It doesn't look for an origin that an earlier line has.
 pub type CacheText = TextReader<CacheState>;
@@ -69,8 +69,18 @@ impl TextState for CacheState {
     }
 
     fn read(&mut self, text: &[u8]) -> Result<Option<CacheLine>, TextCause> {
-        match self.words(text) {
-            Ok(line) => self.take(&line),
+        let (word, rest) = cut_word(text);
+        let kind = match CacheKind::named(word) {
+            Some(kind) => kind,
+            None => return Err(TextCause::Word),
+        };
+        if !self.may_stand(kind) {
+            return Err(TextCause::Word);
+        }
+        let mut values = [Value::Number(0); 9];
+        let fields = kind.fields();
+        match read_values(fields, rest, &mut values) {
+            Ok(()) => self.take(kind, &values[..fields.len()]),
             Err(cause) => Err(cause),
         }
     }
@@ -85,133 +95,138 @@ impl TextState for CacheState {
 impl CacheState {
     ghost use Rattle.pd_cache_texts.specs.CacheState.{CacheStands};
 
-    /// The line of some words, but for what is looked at last.
-    fn words(&self, text: &[u8]) -> Result<CacheWords, TextCause>
-        ensures { (before : List Line) → CacheStands self.now before → 1 ≤ length before → seen_by word_line result ≡ words_read before (split 32 text.now) }
+    /// Whether such a line may come next.
+    #[tactic(auto, using(pd_texts::proofs::StageLemmas::second_stage, pd_texts::proofs::StageLemmas::body_stage))]
+    fn may_stand(&self, kind: CacheKind) -> bool
+        ensures { (before : List Line) → CacheStands self.now before → result ≡ may_stand (kind_meant kind).place before }
     {
-        match self.stage {
-            Stage::First | Stage::Second => CacheState::second_words(text),
-            Stage::Body => CacheState::later_words(text),
+        match kind {
+            CacheKind::Cache => self.stage.is_second(),
+            CacheKind::Map | CacheKind::End => self.stage.is_body(),
         }
     }
 
-    /// The line of some words after the first line.
-    fn second_words(text: &[u8]) -> Result<CacheWords, TextCause>
-        ensures { (before : List Line) → length before ≡ 1 → seen_by word_line result ≡ words_read before (split 32 text.now) }
-    {
-        let (word, rest) = cut_word(text);
-        if word == b"cache".as_slice() {
-            read_cache(rest)
-        } else {
-            Err(TextCause::Word)
-        }
-    }
-
-    /// The line of some words after the cache line.
-    fn later_words(text: &[u8]) -> Result<CacheWords, TextCause>
-        ensures { (before : List Line) → 2 ≤ length before → seen_by word_line result ≡ words_read before (split 32 text.now) }
-    {
-        let (word, rest) = cut_word(text);
-        if word == b"map".as_slice() {
-            read_map(rest)
-        } else if word == b"end".as_slice() {
-            read_end(rest)
-        } else {
-            Err(TextCause::Word)
-        }
-    }
-
-    /// Takes a line whose words are right, or says which test it fails.
-    fn take(&mut self, line: &CacheWords) -> Result<Option<CacheLine>, TextCause>
+    /// Takes a line of these values, or says which test it fails.
+    fn take(&mut self, kind: CacheKind, values: &[Value]) -> Result<Option<CacheLine>, TextCause>
         ensures line { (before : List Line) → CacheStands self.old before → 1 ≤ length before
-            → seen_by cache_meant result ≡ tested single_tests before (word_line line.now) }
+            → seen_by cache_meant result ≡ tested single_tests before ((kind_meant kind).make values.now) }
         ensures after { (before : List Line) → CacheStands self.old before → 1 ≤ length before
             → IfOk result (λ taken. CacheStands self.new (cache_meant taken ∷ before)) }
     {
-        match self.check(line) {
-            Ok(()) => {
-                self.pass(line);
-                Ok(line.value())
-            }
-            Err(cause) => Err(cause),
+        let line = match self.line(kind, values) {
+            Ok(line) => line,
+            Err(cause) => return Err(cause),
+        };
+        if self.is_out_of_order(&line) {
+            return Err(TextCause::Order);
+        }
+        self.pass(&line);
+        Ok(line)
+    }
+
+    /// The line of these values, none where it is the last one, or `OutOfRange`.
+    fn line(&self, kind: CacheKind, values: &[Value]) -> Result<Option<CacheLine>, TextCause>
+        ensures { (before : List Line) → CacheStands self.now before
+            → seen_by cache_meant result ≡ in_range has_number_out_of_range before ((kind_meant kind).make values.now) }
+    {
+        match kind {
+            CacheKind::Cache => cache_of(values),
+            CacheKind::Map => self.map_of(values),
+            CacheKind::End => Ok(None),
         }
     }
 
-    /// Looks at a line's ranges, and at its order.
-    #[tactic(auto, unfolding(pd_grammar::specs::Texts::tested))]
-    fn check(&self, line: &CacheWords) -> Result<(), TextCause>
-        ensures tests { (before : List Line) → CacheStands self.now before → seen_by (λ _. word_line line.now) result ≡ tested single_tests before (word_line line.now) }
-        ensures fits { OnOk result (FitsLine line.now) }
+    /// The map line of these values, or `OutOfRange`.
+    fn map_of(&self, values: &[Value]) -> Result<Option<CacheLine>, TextCause>
+        ensures { (before : List Line) → CacheStands self.now before
+            → seen_by cache_meant result ≡ in_range has_number_out_of_range before (map_kind.make values.now) }
     {
-        if self.is_out_of_range(line) {
-            Err(TextCause::OutOfRange)
-        } else if self.is_out_of_order(line) {
-            Err(TextCause::Order)
-        } else {
-            Ok(())
+        let block = number_at(values, 0);
+        let origin = number_at(values, 1);
+        let dirty = number_at(values, 2);
+        let hint = number_at(values, 3);
+        let fits = (block < self.blocks as u64)
+            & ((origin < 281474976710656)
+                & ((hint < 4294967296) & (!(1 < dirty) & (!(self.hint_size == 0) | (hint == 0)))));
+        if !fits {
+            return Err(TextCause::OutOfRange);
         }
-    }
-
-    /// Whether a number of the line isn't in its range.
-    fn is_out_of_range(&self, line: &CacheWords) -> bool
-        ensures test { (before : List Line) → CacheStands self.now before → result ≡ has_number_out_of_range before (word_line line.now) }
-        ensures fits { result ≡ false → FitsLine line.now }
-    {
-        match line {
-            CacheWords::Cache(head) => is_head_out_of_range(head),
-            CacheWords::Map(map) => self.is_map_out_of_range(map),
-            CacheWords::End => false,
-        }
-    }
-
-    /// Whether a number of a map line isn't in its range.
-    fn is_map_out_of_range(&self, map: &MapWords) -> bool
-        ensures test { (before : List Line) → CacheStands self.now before → result ≡ has_number_out_of_range before (word_line (CacheWords.Map map.now)) }
-        ensures fits { result ≡ false → FitsMap map.now }
-    {
-        !((map.block < self.blocks as u64)
-            & ((map.origin < 281474976710656)
-                & ((map.hint < 4294967296)
-                    & (!(1 < map.dirty) & (!(self.hint_size == 0) | (map.hint == 0))))))
+        Ok(Some(CacheLine::Map {
+            block: block as u32,
+            origin,
+            dirty: is_set(dirty),
+            hint: hint as u32,
+        }))
     }
 
     /// Whether the line's cache block isn't above those before.
-    fn is_out_of_order(&self, line: &CacheWords) -> bool
-        ensures { (before : List Line) → CacheStands self.now before → result ≡ is_out_of_order before (word_line line.now) }
+    fn is_out_of_order(&self, line: &Option<CacheLine>) -> bool
+        ensures { (before : List Line) → CacheStands self.now before → result ≡ is_out_of_order before (cache_meant line.now) }
     {
         match line {
-            CacheWords::Map(map) => map.block < self.least_block,
-            CacheWords::Cache(_) | CacheWords::End => false,
+            Some(CacheLine::Map { block, .. }) => (*block as u64) < self.least_block,
+            _ => false,
         }
     }
 
     /// Goes past a line.
-    fn pass(&mut self, line: &CacheWords)
-        requires { FitsLine line.now }
-        ensures { (before : List Line) → CacheStands self.old before → 1 ≤ length before → CacheStands self.new (word_line line.now ∷ before) }
+    fn pass(&mut self, line: &Option<CacheLine>)
+        ensures { (before : List Line) → CacheStands self.old before → 1 ≤ length before → CacheStands self.new (cache_meant line.now ∷ before) }
     {
         self.stage = Stage::Body;
         match line {
-            CacheWords::Cache(head) => {
-                self.blocks = head.blocks as u32;
-                self.hint_size = head.hint_size as u32;
+            Some(
+                CacheLine::Cache {
+                    blocks,
+                    hint_size,
+                    ..
+                },
+            ) => {
+                self.blocks = *blocks;
+                self.hint_size = *hint_size;
                 self.least_block = 0;
             }
-            CacheWords::Map(map) => self.least_block = map.block + 1,
-            CacheWords::End => {}
+            Some(CacheLine::Map { block, .. }) => self.least_block = *block as u64 + 1,
+            None => {}
         }
     }
 }
 
-/// Whether a number of a cache line isn't in its range.
-fn is_head_out_of_range(head: &HeadWords) -> bool
-    ensures test { (before : List Line) → result ≡ has_number_out_of_range before (word_line (CacheWords.Cache head.now)) }
-    ensures fits { result ≡ false → FitsHead head.now }
+/// The cache line of these values, or `OutOfRange`.
+fn cache_of(values: &[Value]) -> Result<Option<CacheLine>, TextCause>
+    ensures { (before : List Line) → seen_by cache_meant result ≡ in_range has_number_out_of_range before (cache_kind.make values.now) }
 {
-    !((head.block_size < 4294967296)
-        & ((head.blocks < 4294967296)
-            & ((head.major < 4294967296)
-                & ((head.minor < 4294967296)
-                    & ((head.patch < 4294967296)
-                        & (!(1 < head.clean) & ((head.hint_size == 0) | (head.hint_size == 4))))))))
+    let block_size = number_at(values, 1);
+    let blocks = number_at(values, 2);
+    let clean = number_at(values, 3);
+    let major = number_at(values, 5);
+    let minor = number_at(values, 6);
+    let patch = number_at(values, 7);
+    let hint_size = number_at(values, 8);
+    let fits = (block_size < 4294967296)
+        & ((blocks < 4294967296)
+            & ((major < 4294967296)
+                & ((minor < 4294967296)
+                    & ((patch < 4294967296)
+                        & (!(1 < clean) & ((hint_size == 0) | (hint_size == 4)))))));
+    if !fits {
+        return Err(TextCause::OutOfRange);
+    }
+    Ok(Some(CacheLine::Cache {
+        uuid: bytes_at(values, 0),
+        block_size: block_size as u32,
+        blocks: blocks as u32,
+        clean: is_set(clean),
+        policy: bytes_at(values, 4),
+        versions: [major as u32, minor as u32, patch as u32],
+        hint_size: hint_size as u32,
+    }))
+}
+
+/// The flag of a number.
+fn is_set(number: u64) -> bool
+    requires { number ≤ 1 }
+    ensures { flag_number result ≡ number }
+{
+    number == 1
 }

@@ -1,4 +1,3 @@
-pub mod EraWordLemmas
 pub mod EraLemmas
 pub mod EraNextLemmas
 pub mod RunLemmas

@@ -1,5 +1,5 @@
 pub mod EraLine
-pub mod EraWords
+pub mod EraKind
 pub mod EraState
 pub mod EraEnds
 pub mod EraNext

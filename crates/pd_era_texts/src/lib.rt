@@ -3,12 +3,12 @@
 //! It is the reader of any text (`TextReader`) at what the lines so far of an era target's text say of the next one.
 #![tactic(auto)]
 
+mod kind;
 mod laws;
 mod line;
 mod print;
 mod runs;
 mod state;
-mod words;
 
 pub use laws::{
     era_lines_are_printed_in_order, era_text_is_its_lines, read_era_lines_are_in_range,

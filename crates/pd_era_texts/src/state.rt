@@ -1,17 +1,17 @@
 //! What the lines so far of an era target's text say of the next one.
 
-ghost use Rattle.std.specs.Prelude.{◌≡◌, ◌≤◌, List, ◌∷◌, length, IfOk, OnOk, false};
-ghost use Rattle.pd_grammar.specs.Words.{split};
+ghost use Rattle.std.specs.Prelude.{◌≡◌, ◌≤◌, List, ◌∷◌, length, IfOk, true, false};
 ghost use Rattle.pd_grammar.specs.Texts.{tested};
-ghost use Rattle.pd_spells.specs.EraText.{Line, era_tests, words_read, has_number_out_of_range, is_out_of_order, is_mapped_otherwise};
-ghost use Rattle.pd_texts.specs.Seen.{seen_by};
+ghost use Rattle.pd_grammar.specs.Tables.{may_stand};
+ghost use Rattle.pd_spells.specs.EraText.{Line, era_kind, run_kind, era_tests, has_number_out_of_range, is_out_of_order, is_mapped_otherwise};
+ghost use Rattle.pd_texts.specs.Seen.{in_range, seen_by};
+ghost use Rattle.pd_era_texts.specs.EraKind.{kind_meant};
 ghost use Rattle.pd_era_texts.specs.EraLine.{era_meant};
-ghost use Rattle.pd_era_texts.specs.EraWords.{word_line, FitsLine};
 
+use crate::kind::EraKind;
 use crate::line::EraLine;
-use crate::words::{EraWords, read_end, read_era, read_run};
-use pd_grammar::TextCause;
-use pd_texts::{Stage, TextReader, TextState, cut_word};
+use pd_grammar::{TextCause, Value};
+use pd_texts::{Stage, TextReader, TextState, bytes_at, cut_word, number_at, read_values};
 
 /// The text of an era target, read line by line.
 pub type EraText = TextReader<EraState>;
@@ -66,8 +66,18 @@ impl TextState for EraState {
     }
 
     fn read(&mut self, text: &[u8]) -> Result<Option<EraLine>, TextCause> {
-        match self.words(text) {
-            Ok(line) => self.take(&line),
+        let (word, rest) = cut_word(text);
+        let kind = match EraKind::named(word) {
+            Some(kind) => kind,
+            None => return Err(TextCause::Word),
+        };
+        if !self.may_stand(kind) {
+            return Err(TextCause::Word);
+        }
+        let mut values = [Value::Number(0); 4];
+        let fields = kind.fields();
+        match read_values(fields, rest, &mut values) {
+            Ok(()) => self.take(kind, &values[..fields.len()]),
             Err(cause) => Err(cause),
         }
     }
@@ -82,67 +92,78 @@ impl TextState for EraState {
 impl EraState {
     ghost use Rattle.pd_era_texts.specs.EraState.{EraStands};
 
-    /// The line of some words, but for what is looked at last.
-    fn words(&self, text: &[u8]) -> Result<EraWords, TextCause>
-        ensures { (before : List Line) → EraStands self.now before → 1 ≤ length before → seen_by word_line result ≡ words_read before (split 32 text.now) }
+    /// Whether such a line may come next.
+    #[tactic(auto, using(pd_texts::proofs::StageLemmas::second_stage, pd_texts::proofs::StageLemmas::body_stage))]
+    fn may_stand(&self, kind: EraKind) -> bool
+        ensures { (before : List Line) → EraStands self.now before → result ≡ may_stand (kind_meant kind).place before }
     {
-        match self.stage {
-            Stage::First | Stage::Second => EraState::second_words(text),
-            Stage::Body => EraState::later_words(text),
+        match kind {
+            EraKind::Era => self.stage.is_second(),
+            EraKind::Run | EraKind::End => self.stage.is_body(),
         }
     }
 
-    /// The line of some words after the first line.
-    fn second_words(text: &[u8]) -> Result<EraWords, TextCause>
-        ensures { (before : List Line) → length before ≡ 1 → seen_by word_line result ≡ words_read before (split 32 text.now) }
-    {
-        let (word, rest) = cut_word(text);
-        if word == b"era".as_slice() {
-            read_era(rest)
-        } else {
-            Err(TextCause::Word)
-        }
-    }
-
-    /// The line of some words after the era line.
-    fn later_words(text: &[u8]) -> Result<EraWords, TextCause>
-        ensures { (before : List Line) → 2 ≤ length before → seen_by word_line result ≡ words_read before (split 32 text.now) }
-    {
-        let (word, rest) = cut_word(text);
-        if word == b"run".as_slice() {
-            read_run(rest)
-        } else if word == b"end".as_slice() {
-            read_end(rest)
-        } else {
-            Err(TextCause::Word)
-        }
-    }
-
-    /// Takes a line whose words are right, or says which test it fails.
-    fn take(&mut self, line: &EraWords) -> Result<Option<EraLine>, TextCause>
+    /// Takes a line of these values, or says which test it fails.
+    fn take(&mut self, kind: EraKind, values: &[Value]) -> Result<Option<EraLine>, TextCause>
         ensures line { (before : List Line) → EraStands self.old before → 1 ≤ length before
-            → seen_by era_meant result ≡ tested era_tests before (word_line line.now) }
+            → seen_by era_meant result ≡ tested era_tests before ((kind_meant kind).make values.now) }
         ensures after { (before : List Line) → EraStands self.old before → 1 ≤ length before
             → IfOk result (λ taken. EraStands self.new (era_meant taken ∷ before)) }
     {
-        match self.check(line) {
+        let line = match self.line(kind, values) {
+            Ok(line) => line,
+            Err(cause) => return Err(cause),
+        };
+        match self.check(&line) {
             Ok(()) => {
-                self.pass(line);
-                Ok(line.value())
+                self.pass(&line);
+                Ok(line)
             }
             Err(cause) => Err(cause),
         }
     }
 
-    /// Looks at a line's ranges, at its order, and whether all blocks are covered at the end.
-    #[tactic(auto, unfolding(pd_grammar::specs::Texts::tested))]
-    fn check(&self, line: &EraWords) -> Result<(), TextCause>
-        ensures tests { (before : List Line) → EraStands self.now before → seen_by (λ _. word_line line.now) result ≡ tested era_tests before (word_line line.now) }
-        ensures fits { OnOk result (FitsLine line.now) }
+    /// The line of these values, none where it is the last one, or `OutOfRange`.
+    fn line(&self, kind: EraKind, values: &[Value]) -> Result<Option<EraLine>, TextCause>
+        ensures { (before : List Line) → EraStands self.now before
+            → seen_by era_meant result ≡ in_range has_number_out_of_range before ((kind_meant kind).make values.now) }
     {
-        if self.is_out_of_range(line) {
-            Err(TextCause::OutOfRange)
-        } else if self.is_out_of_order(line) {
+        match kind {
+            EraKind::Era => era_of(values),
+            EraKind::Run => self.run_of(values),
+            EraKind::End => Ok(None),
+        }
+    }
+
+    /// The run line of these values, or `OutOfRange`.
+    fn run_of(&self, values: &[Value]) -> Result<Option<EraLine>, TextCause>
+        ensures { (before : List Line) → EraStands self.now before
+            → seen_by era_meant result ≡ in_range has_number_out_of_range before (run_kind.make values.now) }
+    {
+        let first = number_at(values, 0);
+        let length = number_at(values, 1);
+        let era = number_at(values, 2);
+        let end = first as u128 + length as u128;
+        let fits = (first < 4294967296)
+            & ((length < 4294967296)
+                & ((era < 4294967296) & ((0 < length) & (end <= self.blocks as u128))));
+        if !fits {
+            return Err(TextCause::OutOfRange);
+        }
+        Ok(Some(EraLine::Run {
+            first: first as u32,
+            length: length as u32,
+            era: era as u32,
+        }))
+    }
+
+    /// Looks at the order of a line whose numbers are in their ranges, and whether all blocks are covered at the end.
+    #[tactic(auto, unfolding(pd_grammar::specs::Texts::tested))]
+    fn check(&self, line: &Option<EraLine>) -> Result<(), TextCause>
+        ensures { (before : List Line) → EraStands self.now before → has_number_out_of_range before (era_meant line.now) ≡ false
+            → seen_by (λ _. era_meant line.now) result ≡ tested era_tests before (era_meant line.now) }
+    {
+        if self.is_out_of_order(line) {
             Err(TextCause::Order)
         } else if self.is_mapped_otherwise(line) {
             Err(TextCause::MappedDiffers)
@@ -151,58 +172,59 @@ impl EraState {
         }
     }
 
-    /// Whether a number of the line isn't in its range.
-    fn is_out_of_range(&self, line: &EraWords) -> bool
-        ensures test { (before : List Line) → EraStands self.now before → result ≡ has_number_out_of_range before (word_line line.now) }
-        ensures fits { result ≡ false → FitsLine line.now }
-    {
-        match line {
-            EraWords::Era(head) => !((head.block_size < 4294967296)
-                & ((head.blocks < 4294967296) & (head.era < 4294967296))),
-            EraWords::Run(run) => {
-                let end = run.first as u128 + run.length as u128;
-                !((run.first < 4294967296)
-                    & ((run.length < 4294967296)
-                        & ((run.era < 4294967296)
-                            & ((0 < run.length) & (end <= self.blocks as u128)))))
-            }
-            EraWords::End => false,
-        }
-    }
-
     /// Whether the line's first block isn't the one after the last run.
-    fn is_out_of_order(&self, line: &EraWords) -> bool
-        ensures { (before : List Line) → EraStands self.now before → result ≡ is_out_of_order before (word_line line.now) }
+    fn is_out_of_order(&self, line: &Option<EraLine>) -> bool
+        ensures { (before : List Line) → EraStands self.now before → result ≡ is_out_of_order before (era_meant line.now) }
     {
         match line {
-            EraWords::Run(run) => !(run.first == self.run_end),
-            EraWords::Era(_) | EraWords::End => false,
+            Some(EraLine::Run { first, .. }) => !(*first as u64 == self.run_end),
+            _ => false,
         }
     }
 
     /// Whether the end comes before all blocks are covered.
-    fn is_mapped_otherwise(&self, line: &EraWords) -> bool
-        ensures { (before : List Line) → EraStands self.now before → result ≡ is_mapped_otherwise before (word_line line.now) }
+    fn is_mapped_otherwise(&self, line: &Option<EraLine>) -> bool
+        ensures { (before : List Line) → EraStands self.now before → result ≡ is_mapped_otherwise before (era_meant line.now) }
     {
         match line {
-            EraWords::End => self.run_end < self.blocks as u64,
-            EraWords::Era(_) | EraWords::Run(_) => false,
+            None => self.run_end < self.blocks as u64,
+            Some(_) => false,
         }
     }
 
     /// Goes past a line.
-    fn pass(&mut self, line: &EraWords)
-        requires { FitsLine line.now }
-        ensures { (before : List Line) → EraStands self.old before → 1 ≤ length before → EraStands self.new (word_line line.now ∷ before) }
+    fn pass(&mut self, line: &Option<EraLine>)
+        ensures { (before : List Line) → EraStands self.old before → 1 ≤ length before → EraStands self.new (era_meant line.now ∷ before) }
     {
         self.stage = Stage::Body;
         match line {
-            EraWords::Era(head) => {
-                self.blocks = head.blocks as u32;
+            Some(EraLine::Era { blocks, .. }) => {
+                self.blocks = *blocks;
                 self.run_end = 0;
             }
-            EraWords::Run(run) => self.run_end = run.first + run.length,
-            EraWords::End => {}
+            Some(EraLine::Run { first, length, .. }) => {
+                self.run_end = *first as u64 + *length as u64;
+            }
+            None => {}
         }
     }
+}
+
+/// The era line of these values, or `OutOfRange`.
+fn era_of(values: &[Value]) -> Result<Option<EraLine>, TextCause>
+    ensures { (before : List Line) → seen_by era_meant result ≡ in_range has_number_out_of_range before (era_kind.make values.now) }
+{
+    let block_size = number_at(values, 1);
+    let blocks = number_at(values, 2);
+    let era = number_at(values, 3);
+    let fits = (block_size < 4294967296) & ((blocks < 4294967296) & (era < 4294967296));
+    if !fits {
+        return Err(TextCause::OutOfRange);
+    }
+    Ok(Some(EraLine::Era {
+        uuid: bytes_at(values, 0),
+        block_size: block_size as u32,
+        blocks: blocks as u32,
+        era: era as u32,
+    }))
 }

@@ -1,19 +1,24 @@
 -- Words of fields, one after another, and what they are in their place.
-use Rattle.std.proofs.Common.{◌≡◌, ℕ, zero, suc, ◌+◌, ◌≤◌, ◌<◌, Bool, true, false, not, ◌&&◌, List, [], ◌∷◌, ◌++◌, length, take, drop, get_or, refl, ap, sym, ◌∙◌, append_assoc, add-one, arith, Option, Some, None, Result, Ok, Err}
-use Rattle.std.proofs.lemmas.Bool.{true≢false}
+use Rattle.std.proofs.Common.{◌≡◌, inl, inr, ℕ, zero, suc, ◌+◌, ◌≤◌, ◌<◌, Bool, true, false, not, ◌&&◌, List, [], ◌∷◌, ◌++◌, length, take, drop, get_or, refl, ap, sym, ◌∙◌, append_assoc, add-one, arith, Option, Some, None, Result, Ok, Err}
+use Rattle.std.proofs.lemmas.Bool.{cases_Bool, true≢false}
 use Rattle.std.proofs.lemmas.List.{append-nil}
 use Rattle.std.proofs.Math.Seq.{take-suc}
 use Rattle.std.specs.Borrow.{Bor}
 use Rattle.std.specs.Prelude.{is_some}
 use Rattle.pd_grammar.specs.declared.cause.TextCause.{TextCause}
-use Rattle.pd_grammar.specs.declared.cause.TextCause.TheVariants.{Word, Number}
+use Rattle.pd_grammar.specs.declared.cause.TextCause.TheVariants.{Word, Number, OutOfRange}
 use Rattle.pd_grammar.specs.declared.value.Field.{Field}
 use Rattle.pd_grammar.specs.declared.value.Field.TheVariants as f
 use Rattle.pd_grammar.specs.declared.value.Value.{Value}
-use Rattle.pd_grammar.specs.Words.{split, result_map}
-use Rattle.pd_grammar.specs.Tables.{value_of, with_value, values_in, Table, LineKind, may_stand, kind_named, parsed_by}
+use Rattle.std.specs.List.{list_all}
+use Rattle.pd_grammar.specs.Words.{split, is_printable, result_map}
+use Rattle.pd_grammar.specs.Texts.{Test, read, tested}
+use Rattle.pd_grammar.specs.Tables.{value_of, with_value, values_in, Table, LineKind, may_stand, kind_named, parsed_by, format_of}
 use Rattle.pd_grammar.proofs.SplitLemmas.{split-some}
+use Rattle.pd_grammar.proofs.NumberLemmas.{ok-err, same_Ok}
+use Rattle.pd_texts.specs.Seen.{in_range}
 use Rattle.pd_texts.specs.Words.{words_in, is_name}
+use Rattle.pd_texts.proofs.ReadLemmas.{later_ok, later_err}
 
 -- what becomes of the values so far, whether all of them were there, and of what is read of the rest
 abbrev pub continued : List Value → Bool → Result (List Value) TextCause → Result (List Value) TextCause
@@ -137,22 +142,38 @@ unfolding values_in
 values_bad fields values i None past e = rw (drop_past fields i past) refl
 values_bad fields values i (Some bytes) past e = absurd (true≢false (sym e))
 
--- what the words of a line are in its place: of no kind, of a kind that may not stand there, and of one that may
-module _ {L : Type 0} (table : Table L) (before : List L) (bytes word : List ℕ) (words : List (List ℕ)) (cut : split 32 bytes ≡ word ∷ words) where
-  pub parsed_none : None ≡ kind_named table.kinds word → Err Word ≡ parsed_by table before (split 32 bytes)
+-- what a later line is by its words: of no kind, of a kind that may not stand there, and of one that may
+module _ {L : Type 0} (table : Table L) (before : List L) (bytes word : List ℕ) (words : List (List ℕ)) (some : 1 ≤ length before) (text : list_all is_printable bytes ≡ true) (cut : split 32 bytes ≡ word ∷ words) where
+  pub read_none : None ≡ kind_named table.kinds word → Err Word ≡ read (format_of table) before bytes
   unfolding parsed_by
-  parsed_none named = rw (cut, ← named) refl
+  read_none named = later_err (format_of table) before bytes Word some text (rw (cut, ← named) refl)
 
-  pub parsed_elsewhere : (kind : LineKind L) → Some kind ≡ kind_named table.kinds word → false ≡ may_stand kind.place before → Err Word ≡ parsed_by table before (split 32 bytes)
+  pub read_elsewhere : (kind : LineKind L) → Some kind ≡ kind_named table.kinds word → false ≡ may_stand kind.place before → Err Word ≡ read (format_of table) before bytes
   unfolding parsed_by
-  parsed_elsewhere kind named stands = rw (cut, ← named, ← stands) refl
+  read_elsewhere kind named stands = later_err (format_of table) before bytes Word some text (rw (cut, ← named, ← stands) refl)
 
-  pub parsed_line : (kind : LineKind L) (xs : List Value) → Some kind ≡ kind_named table.kinds word → true ≡ may_stand kind.place before
-      → values_in kind.fields words ≡ Ok xs → Ok (kind.make xs) ≡ parsed_by table before (split 32 bytes)
+  pub read_words : (kind : LineKind L) (xs : List Value) (r : Result L TextCause) → Some kind ≡ kind_named table.kinds word → true ≡ may_stand kind.place before
+      → values_in kind.fields words ≡ Ok xs → r ≡ tested table.tests before (kind.make xs) → r ≡ read (format_of table) before bytes
   unfolding parsed_by
-  parsed_line kind xs named stands read = rw (cut, ← named, ← stands, read) refl
+  read_words kind xs r named stands are e = later_ok (format_of table) before bytes (kind.make xs) r some text (rw (cut, ← named, ← stands, are) refl) e
 
-  pub parsed_err : (kind : LineKind L) (cause : TextCause) → Some kind ≡ kind_named table.kinds word → true ≡ may_stand kind.place before
-      → values_in kind.fields words ≡ Err cause → Err cause ≡ parsed_by table before (split 32 bytes)
+  pub read_err : (kind : LineKind L) (cause : TextCause) → Some kind ≡ kind_named table.kinds word → true ≡ may_stand kind.place before
+      → values_in kind.fields words ≡ Err cause → Err cause ≡ read (format_of table) before bytes
   unfolding parsed_by
-  parsed_err kind cause named stands read = rw (cut, ← named, ← stands, read) refl
+  read_err kind cause named stands are = later_err (format_of table) before bytes cause some text (rw (cut, ← named, ← stands, are) refl)
+
+-- a line whose numbers aren't in their ranges, and one whose numbers are
+module _ {L : Type 0} (is_out : List L → L → Bool) (tests : List (Test L)) (before : List L) (line : L) where
+  pub out_of_range : (cause : TextCause) → Err cause ≡ in_range is_out before line → Err cause ≡ tested (record { cause = OutOfRange; fails = is_out } ∷ tests) before line
+  unfolding tested
+  out_of_range cause is = elim (cases_Bool (is_out before line)) [
+    | inl out ↦ rw out (rw out at is)
+    | inr within ↦ absurd (ok-err line cause (sym (rw within at is)))
+  ]
+
+  pub within_range : (x : L) (r : Result L TextCause) → Ok x ≡ in_range is_out before line
+      → (is_out before x ≡ false → r ≡ tested (record { cause = OutOfRange; fails = is_out } ∷ tests) before x) → r ≡ tested (record { cause = OutOfRange; fails = is_out } ∷ tests) before line
+  within_range x r is then = elim (cases_Bool (is_out before line)) [
+    | inl out ↦ absurd (ok-err x OutOfRange (rw out at is))
+    | inr within ↦ let same : x ≡ line = same_Ok {E = TextCause} x line (rw within at is) in rw (← same) (then (rw same within))
+  ]

@@ -5,7 +5,7 @@ pub mod Words
 pub mod Stage
 pub mod Headers
 pub mod ThinLine
-pub mod ThinWords
+pub mod ThinKind
 pub mod ThinState
 pub mod Printed
 pub mod ThinLaws

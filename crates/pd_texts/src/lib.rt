@@ -10,11 +10,11 @@ mod print;
 mod reader;
 mod stage;
 mod state;
+mod thin_kind;
 mod thin_laws;
 mod thin_line;
 mod thin_print;
 mod thin_state;
-mod thin_words;
 mod values;
 mod words;
 

@@ -1,22 +1,22 @@
 //! What the lines so far of a pool's text say of the next one.
 
-ghost use Rattle.std.specs.Prelude.{◌≡◌, ◌==◌, ◌≤◌, List, ◌∷◌, length, IfOk, OnOk, true, false};
-ghost use Rattle.pd_grammar.specs.Words.{split};
+ghost use Rattle.std.specs.Prelude.{◌≡◌, ◌==◌, ◌≤◌, List, ◌∷◌, length, IfOk, true, false};
 ghost use Rattle.pd_grammar.specs.Texts.{read, tested};
-ghost use Rattle.pd_grammar.specs.Tables.{may_stand, parsed_by};
-ghost use Rattle.pd_spells.specs.ThinText.{Line, thin_table, thin_tests, has_number_out_of_range, is_out_of_order, is_mapped_otherwise};
-ghost use Rattle.pd_texts.specs.Seen.{seen_by};
+ghost use Rattle.pd_grammar.specs.Tables.{may_stand};
+ghost use Rattle.pd_spells.specs.ThinText.{Line, pool_kind, device_kind, map_kind, thin_tests, has_number_out_of_range, is_out_of_order, is_mapped_otherwise};
+ghost use Rattle.pd_texts.specs.Seen.{in_range, seen_by};
+ghost use Rattle.pd_texts.specs.ThinKind.{kind_meant};
 ghost use Rattle.pd_texts.specs.ThinLine.{thin_meant};
-ghost use Rattle.pd_texts.specs.ThinWords.{kind_meant, word_line, FitsLine};
 
 use crate::reader::TextReader;
 use crate::stage::Stage;
 use crate::state::TextState;
-use crate::thin_line::ThinLine;
-use crate::thin_words::{ThinKind, ThinWords};
-use crate::values::read_values;
+use crate::thin_kind::ThinKind;
+use crate::thin_line::{Run2, ThinLine};
+use crate::values::{bytes_at, number_at, read_values};
 use crate::words::cut_word;
 use pd_grammar::{TextCause, Value};
+use pd_value::Details;
 
 /// The text of a pool, version 1, read line by line.
 pub type ThinText = TextReader<ThinState>;
@@ -80,8 +80,18 @@ impl TextState for ThinState {
     }
 
     fn read(&mut self, text: &[u8]) -> Result<Option<ThinLine>, TextCause> {
-        match self.words(text) {
-            Ok(line) => self.take(&line),
+        let (word, rest) = cut_word(text);
+        let kind = match ThinKind::named(word) {
+            Some(kind) => kind,
+            None => return Err(TextCause::Word),
+        };
+        if !self.may_stand(kind) {
+            return Err(TextCause::Word);
+        }
+        let mut values = [Value::Number(0); 5];
+        let fields = kind.fields();
+        match read_values(fields, rest, &mut values) {
+            Ok(()) => self.take(kind, &values[..fields.len()]),
             Err(cause) => Err(cause),
         }
     }
@@ -96,26 +106,6 @@ impl TextState for ThinState {
 impl ThinState {
     ghost use Rattle.pd_texts.specs.ThinState.{ThinStands};
 
-    /// The line of some words, but for what is looked at last.
-    fn words(&self, text: &[u8]) -> Result<ThinWords, TextCause>
-        ensures { (before : List Line) → ThinStands self.now before → 1 ≤ length before → seen_by word_line result ≡ parsed_by thin_table before (split 32 text.now) }
-    {
-        let (word, rest) = cut_word(text);
-        let kind = match ThinKind::named(word) {
-            Some(kind) => kind,
-            None => return Err(TextCause::Word),
-        };
-        if !self.may_stand(kind) {
-            return Err(TextCause::Word);
-        }
-        let mut values = [Value::Number(0); 5];
-        let fields = kind.fields();
-        match read_values(fields, rest, &mut values) {
-            Ok(()) => Ok(kind.words(&values[..fields.len()])),
-            Err(cause) => Err(cause),
-        }
-    }
-
     /// Whether such a line may come next.
     #[tactic(auto, using(crate::proofs::StageLemmas::second_stage, crate::proofs::StageLemmas::body_stage))]
     fn may_stand(&self, kind: ThinKind) -> bool
@@ -128,31 +118,71 @@ impl ThinState {
         }
     }
 
-    /// Takes a line whose words are right, or says which test it fails.
-    fn take(&mut self, line: &ThinWords) -> Result<Option<ThinLine>, TextCause>
+    /// Takes a line of these values, or says which test it fails.
+    fn take(&mut self, kind: ThinKind, values: &[Value]) -> Result<Option<ThinLine>, TextCause>
         ensures line { (before : List Line) → ThinStands self.old before → 1 ≤ length before
-            → seen_by thin_meant result ≡ tested thin_tests before (word_line line.now) }
+            → seen_by thin_meant result ≡ tested thin_tests before ((kind_meant kind).make values.now) }
         ensures after { (before : List Line) → ThinStands self.old before → 1 ≤ length before
             → IfOk result (λ taken. ThinStands self.new (thin_meant taken ∷ before)) }
     {
-        match self.check(line) {
+        let line = match self.line(kind, values) {
+            Ok(line) => line,
+            Err(cause) => return Err(cause),
+        };
+        match self.check(&line) {
             Ok(()) => {
-                self.pass(line);
-                Ok(line.value())
+                self.pass(&line);
+                Ok(line)
             }
             Err(cause) => Err(cause),
         }
     }
 
-    /// Looks at a line's ranges, at its order, and at the mapped number.
-    #[tactic(auto, unfolding(pd_grammar::specs::Texts::tested))]
-    fn check(&self, line: &ThinWords) -> Result<(), TextCause>
-        ensures tests { (before : List Line) → ThinStands self.now before → seen_by (λ _. word_line line.now) result ≡ tested thin_tests before (word_line line.now) }
-        ensures fits { OnOk result (FitsLine line.now) }
+    /// The line of these values, none where it is the last one, or `OutOfRange`.
+    fn line(&self, kind: ThinKind, values: &[Value]) -> Result<Option<ThinLine>, TextCause>
+        ensures { (before : List Line) → ThinStands self.now before
+            → seen_by thin_meant result ≡ in_range has_number_out_of_range before ((kind_meant kind).make values.now) }
     {
-        if self.is_out_of_range(line) {
-            Err(TextCause::OutOfRange)
-        } else if self.is_out_of_order(line) {
+        match kind {
+            ThinKind::Pool => pool_of(values),
+            ThinKind::Device => device_of(values),
+            ThinKind::Map => self.map_of(values),
+            ThinKind::End => Ok(None),
+        }
+    }
+
+    /// The map line of these values, or `OutOfRange`.
+    fn map_of(&self, values: &[Value]) -> Result<Option<ThinLine>, TextCause>
+        ensures { (before : List Line) → ThinStands self.now before
+            → seen_by thin_meant result ≡ in_range has_number_out_of_range before (map_kind.make values.now) }
+    {
+        let virt = number_at(values, 0);
+        let target = number_at(values, 1);
+        let length = number_at(values, 2);
+        let time = number_at(values, 3);
+        let end = virt as u128 + length as u128;
+        let target_end = target as u128 + length as u128;
+        let fits = (0 < length)
+            & ((end <= 18446744073709551616)
+                & ((target_end <= self.blocks as u128) & (time < 16777216)));
+        if !fits {
+            return Err(TextCause::OutOfRange);
+        }
+        Ok(Some(ThinLine::Map(Run2 {
+            virt,
+            target,
+            length,
+            time: time as u32,
+        })))
+    }
+
+    /// Looks at the order of a line whose numbers are in their ranges, and at the mapped number.
+    #[tactic(auto, unfolding(pd_grammar::specs::Texts::tested))]
+    fn check(&self, line: &Option<ThinLine>) -> Result<(), TextCause>
+        ensures { (before : List Line) → ThinStands self.now before → has_number_out_of_range before (thin_meant line.now) ≡ false
+            → seen_by (λ _. thin_meant line.now) result ≡ tested thin_tests before (thin_meant line.now) }
+    {
+        if self.is_out_of_order(line) {
             Err(TextCause::Order)
         } else if self.is_mapped_otherwise(line) {
             Err(TextCause::MappedDiffers)
@@ -161,74 +191,94 @@ impl ThinState {
         }
     }
 
-    /// Whether a number of the line isn't in its range.
-    fn is_out_of_range(&self, line: &ThinWords) -> bool
-        ensures test { (before : List Line) → ThinStands self.now before → result ≡ has_number_out_of_range before (word_line line.now) }
-        ensures fits { result ≡ false → FitsLine line.now }
-    {
-        match line {
-            ThinWords::End => false,
-            ThinWords::Pool(pool) => !((pool.time < 4294967296)
-                & ((pool.block_size < 4294967296) & (pool.blocks <= 1099511627776))),
-            ThinWords::Device(device) => !((device.created < 4294967296)
-                & (device.snapped < 4294967296)),
-            ThinWords::Map(map) => {
-                let end = map.virt as u128 + map.length as u128;
-                let target_end = map.target as u128 + map.length as u128;
-                !((0 < map.length)
-                    & ((end <= 18446744073709551616)
-                        & ((target_end <= self.blocks as u128) & (map.time < 16777216))))
-            }
-        }
-    }
-
     /// Whether the line's number isn't above those before.
-    fn is_out_of_order(&self, line: &ThinWords) -> bool
-        ensures { (before : List Line) → ThinStands self.now before → result ≡ is_out_of_order before (word_line line.now) }
+    fn is_out_of_order(&self, line: &Option<ThinLine>) -> bool
+        ensures { (before : List Line) → ThinStands self.now before → result ≡ is_out_of_order before (thin_meant line.now) }
     {
         match line {
-            ThinWords::Device(device) => (device.id as u128) < self.least_id,
-            ThinWords::Map(map) => (map.virt as u128) < self.run_end,
+            Some(ThinLine::Device { id, .. }) => (*id as u128) < self.least_id,
+            Some(ThinLine::Map(run)) => (run.virt as u128) < self.run_end,
             _ => false,
         }
     }
 
     /// Whether the map lines don't give the last device's mapped number.
-    fn is_mapped_otherwise(&self, line: &ThinWords) -> bool
-        ensures { (before : List Line) → ThinStands self.now before → result ≡ is_mapped_otherwise before (word_line line.now) }
+    fn is_mapped_otherwise(&self, line: &Option<ThinLine>) -> bool
+        ensures { (before : List Line) → ThinStands self.now before → result ≡ is_mapped_otherwise before (thin_meant line.now) }
     {
         match line {
-            ThinWords::Device(_) | ThinWords::End => 0 < self.unmapped,
-            ThinWords::Map(map) => self.unmapped < map.length,
-            ThinWords::Pool(_) => false,
+            Some(ThinLine::Device { .. }) | None => 0 < self.unmapped,
+            Some(ThinLine::Map(run)) => self.unmapped < run.length,
+            Some(ThinLine::Pool { .. }) => false,
         }
     }
 
     /// Goes past a line.
-    fn pass(&mut self, line: &ThinWords)
-        ensures { (before : List Line) → ThinStands self.old before → 1 ≤ length before → ThinStands self.new (word_line line.now ∷ before) }
+    fn pass(&mut self, line: &Option<ThinLine>)
+        ensures { (before : List Line) → ThinStands self.old before → 1 ≤ length before → ThinStands self.new (thin_meant line.now ∷ before) }
     {
         self.stage = Stage::Body;
         match line {
-            ThinWords::Pool(pool) => {
-                self.blocks = pool.blocks;
+            Some(ThinLine::Pool { blocks, .. }) => {
+                self.blocks = *blocks;
                 self.run_end = 0;
                 self.unmapped = 0;
             }
-            ThinWords::Device(device) => {
-                self.least_id = device.id as u128 + 1;
+            Some(ThinLine::Device { id, details }) => {
+                self.least_id = *id as u128 + 1;
                 self.has_device = true;
                 self.run_end = 0;
-                self.unmapped = device.mapped;
+                self.unmapped = details.mapped;
             }
-            ThinWords::Map(map) => {
-                self.run_end = map.virt as u128 + map.length as u128;
-                self.unmapped = self.unmapped.saturating_sub(map.length);
+            Some(ThinLine::Map(run)) => {
+                self.run_end = run.virt as u128 + run.length as u128;
+                self.unmapped = self.unmapped.saturating_sub(run.length);
             }
-            ThinWords::End => {
+            None => {
                 self.run_end = 0;
                 self.unmapped = 0;
             }
         }
     }
+}
+
+/// The pool line of these values, or `OutOfRange`.
+fn pool_of(values: &[Value]) -> Result<Option<ThinLine>, TextCause>
+    ensures { (before : List Line) → seen_by thin_meant result ≡ in_range has_number_out_of_range before (pool_kind.make values.now) }
+{
+    let time = number_at(values, 1);
+    let block_size = number_at(values, 3);
+    let blocks = number_at(values, 4);
+    let fits = (time < 4294967296) & ((block_size < 4294967296) & (blocks <= 1099511627776));
+    if !fits {
+        return Err(TextCause::OutOfRange);
+    }
+    Ok(Some(ThinLine::Pool {
+        uuid: bytes_at(values, 0),
+        time: time as u32,
+        transaction: number_at(values, 2),
+        block_size: block_size as u32,
+        blocks,
+    }))
+}
+
+/// The device line of these values, or `OutOfRange`.
+fn device_of(values: &[Value]) -> Result<Option<ThinLine>, TextCause>
+    ensures { (before : List Line) → seen_by thin_meant result ≡ in_range has_number_out_of_range before (device_kind.make values.now) }
+{
+    let created = number_at(values, 3);
+    let snapped = number_at(values, 4);
+    let fits = (created < 4294967296) & (snapped < 4294967296);
+    if !fits {
+        return Err(TextCause::OutOfRange);
+    }
+    Ok(Some(ThinLine::Device {
+        id: number_at(values, 0),
+        details: Details {
+            mapped: number_at(values, 1),
+            transaction: number_at(values, 2),
+            created: created as u32,
+            snapped: snapped as u32,
+        },
+    }))
 }

@@ -86,11 +86,7 @@ pub fn read_values(
     if rest.is_some() {
         return Err(TextCause::Word);
     }
-    if all {
-        Ok(())
-    } else {
-        Err(TextCause::Number)
-    }
+    if all { Ok(()) } else { Err(TextCause::Number) }
 }
 
 /// Whether a field has an identifier.

@@ -24,11 +24,10 @@ pub loop-i-preserved : goal.loop-i-preserved
 loop-i-preserved c =
     let field = get_or c.args.fields.now c.loop-i.i f.Uuid in
     let words : words_in c.loop-i.rest ≡ c.cut_word.result.0.now ∷ words_in c.cut_word.result.1 = ap words_in c.in-Some.is ∙ c.cut_word.ensures in
-    let other : (not c.put_value-good.result && is_name field) ≡ false = rw (← c.is_name.ensures) c.if-good-is_name.false in
-    (
+    let other : (not c.put_value-good.result && is_name field) ≡ false = rw (← c.is_name.ensures) c.if-good-is_name.false in (
       value_step c.args.fields.now c.loop-i.values c.put_value-good.new.values c.loop-i.i c.loop-i.all c.put_value-good.result field c.cut_word.result.0.now (words_in c.cut_word.result.1)
-      f.Uuid (v.Number 0) c.loop-i-test.true refl (omega (arith, c.put_value-good.ensures.len, c.loop-i.invariant.1)) c.put_value-good.ensures.read c.put_value-good.ensures.put c.put_value-good.ensures.before other
-      ∙ ap (λ (ws : List (List ℕ)). continued (take c.loop-i.i c.loop-i.values) c.loop-i.all (values_in (drop c.loop-i.i c.args.fields.now) ws)) (sym words) ∙ c.loop-i.invariant.0,
+          f.Uuid (v.Number 0) c.loop-i-test.true refl (omega (arith, c.put_value-good.ensures.len, c.loop-i.invariant.1)) c.put_value-good.ensures.read c.put_value-good.ensures.put c.put_value-good.ensures.before other
+          ∙ ap (λ (ws : List (List ℕ)). continued (take c.loop-i.i c.loop-i.values) c.loop-i.all (values_in (drop c.loop-i.i c.args.fields.now) ws)) (sym words) ∙ c.loop-i.invariant.0,
       c.put_value-good.ensures.len ∙ c.loop-i.invariant.1,
     )
 

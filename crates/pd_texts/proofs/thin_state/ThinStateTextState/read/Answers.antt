@@ -1,15 +1,28 @@
-use Rattle.pd_spells.specs.ThinText.{thin}
+use Rattle.std.proofs.Common.{take, length}
+use Rattle.pd_spells.specs.ThinText.{thin_table}
 use Rattle.pd_texts.specs.Seen.{seen_by}
+use Rattle.pd_texts.specs.Words.{words_in}
+use Rattle.pd_texts.specs.ThinKind.{kind_meant}
 use Rattle.pd_texts.specs.ThinLine.{thin_meant}
-use Rattle.pd_texts.specs.ThinWords.{word_line}
-use Rattle.pd_texts.proofs.ReadLemmas.{later_ok, later_err}
+use Rattle.pd_texts.proofs.ValueLemmas.{read_none, read_elsewhere, read_words, read_err}
 use Rattle.pd_texts.proofs.thin_state.ThinStateTextState.read.Goals as goal
+
+pub returns-in-None-clause-line : goal.returns-in-None-clause-line
+returns-in-None-clause-line c = λ before stands some.
+    read_none thin_table before c.args.text.now c.cut_word.result.0.now (words_in c.cut_word.result.1) some c.requires c.cut_word.ensures c.in-None.ensures
+
+pub returns-then-not-may_stand-clause-line : goal.returns-then-not-may_stand-clause-line
+returns-then-not-may_stand-clause-line c = λ before stands some.
+    read_elsewhere thin_table before c.args.text.now c.cut_word.result.0.now (words_in c.cut_word.result.1) some c.requires c.cut_word.ensures (kind_meant c.in-Some.kind) c.in-Some.ensures
+    (c.if-not-may_stand.ensures before stands)
 
 pub returns-in-Ok-clause-line : goal.returns-in-Ok-clause-line
 returns-in-Ok-clause-line c = λ before stands some.
-    later_ok thin before c.args.text.now (word_line c.in-Ok.line) (seen_by thin_meant c.take.result) some c.requires
-    (c.in-Ok.ensures before stands some) (c.take.ensures.line before stands some)
+    read_words thin_table before c.args.text.now c.cut_word.result.0.now (words_in c.cut_word.result.1) some c.requires c.cut_word.ensures (kind_meant c.in-Some.kind)
+    (take (length c.fields-fields.result.now) c.read_values.new.values) (seen_by thin_meant c.take.result) c.in-Some.ensures
+    (c.if-not-may_stand.ensures before stands) (rw (← c.fields-fields.ensures.fields) c.in-Ok.ensures.values) (c.take.ensures.line before stands some)
 
 pub returns-in-Err-clause-line : goal.returns-in-Err-clause-line
 returns-in-Err-clause-line c = λ before stands some.
-    later_err thin before c.args.text.now c.in-Err.cause some c.requires (c.in-Err.ensures before stands some)
+    read_err thin_table before c.args.text.now c.cut_word.result.0.now (words_in c.cut_word.result.1) some c.requires c.cut_word.ensures (kind_meant c.in-Some.kind) c.in-Err.cause c.in-Some.ensures
+    (c.if-not-may_stand.ensures before stands) (rw (← c.fields-fields.ensures.fields) c.in-Err.ensures.values)
