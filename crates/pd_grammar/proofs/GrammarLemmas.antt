@@ -1,13 +1,13 @@
 -- Lines that are read are those that are written, in their place, and pass the tests.
-use Rattle.std.proofs.Common.{◌≡◌, inl, inr, ℕ, suc, ◌≤◌, true, false, List, [], ◌∷◌, ◌++◌, length, map, decimal, refl, ap, sym, subst, ◌∙◌, arith, eqb, Option, Some, None, Result, Ok, Err, if◌then◌else◌}
+use Rattle.std.proofs.Common.{◌≡◌, inl, inr, ℕ, suc, ◌≤◌, true, false, List, [], ◌∷◌, length, refl, ap, sym, ◌∙◌, arith, eqb, Option, Some, None, Result, Ok, Err, if◌then◌else◌}
 use Rattle.std.proofs.lemmas.Bool.Decides.{nat_tests}
 use Rattle.std.specs.List.{AllByRecursion, join_with_byte, list_all}
 use Rattle.pd_grammar.specs.declared.cause.TextCause.{TextCause}
 use Rattle.pd_grammar.specs.declared.cause.TextCause.TheVariants.{Header, Word}
-use Rattle.pd_grammar.specs.Words.{split, is_printable, of_numbers, or_cause, result_and_then}
+use Rattle.pd_grammar.specs.Words.{split, is_printable, or_cause, result_and_then}
 use Rattle.pd_grammar.specs.Texts.{TextFormat, Test, has_ended, written, tested, read}
 use Rattle.pd_grammar.proofs.SplitLemmas.{join_split, split_join}
-use Rattle.pd_grammar.proofs.NumberLemmas.{ok-err, same_Ok, chosen, Fit, of_numbers_are}
+use Rattle.pd_grammar.proofs.NumberLemmas.{ok-err, same_Ok, chosen}
 use Rattle.pd_grammar.proofs.PlainLemmas.{Plain, Printable, words_lack, printable_join, printable_lacks}
 use Rattle.pd_grammar.proofs.LineLemmas.{IsReader, AreRead}
 
@@ -16,21 +16,6 @@ pub record AreWords {L : Type 0} (words_of : L → List (List ℕ)) (Fits : L �
   pub words_are : words_of line ≡ words
   pub fits : Fits line
   pub placed : Placed before line
-
--- a keyword and so many number words
-pub number_words : {L : Type 0} → (words_of : L → List (List ℕ)) (Fits : L → Type 0) (Placed : List L → L → Type 0) (before : List L) (front words : List (List ℕ))
-    (k : ℕ) (make : List ℕ → L) (line : L)
-    → ((ns : List ℕ) → length ns ≡ k → Fit ns → (words_of (make ns) ≡ front ++ map decimal ns) × (Fits (make ns) × Placed before (make ns)))
-    → of_numbers k make words ≡ Ok line → AreWords words_of Fits Placed before (front ++ words) line
-number_words {L} words_of Fits Placed before front words k make line made e =
-    let ns = of_numbers_are k make words line e in
-    let is = made ns.0 ns.3 ns.2 in
-    let after : L → Type 0 = Placed before in
-    record {
-      words_are = ap words_of (sym ns.4) ∙ is.0 ∙ ap (λ (ws : List (List ℕ)). front ++ ws) ns.1;
-      fits = subst Fits ns.4 is.1.0;
-      placed = subst after ns.4 is.1.1;
-    }
 
 -- a line passes the tests after these lines; the first line has none
 abbrev pub Passes : {L : Type 0} → List (Test L) → List L → L → Type 0

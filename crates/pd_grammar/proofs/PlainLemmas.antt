@@ -1,5 +1,5 @@
 -- Words without spaces, and the uuids among them.
-use Rattle.std.proofs.Common.{◌≡◌, ◌^◌, inl, inr, ℕ, zero, suc, ◌+◌, ◌*◌, ◌/◌, ◌%◌, ◌≤◌, ◌<◌, Bool, true, false, ◌&&◌, List, [], ◌∷◌, ◌++◌, length, map, get_or, All, refl, ap, sym, ◌∙◌, arith, eqb, leb, decimal, Option, Some, None, Result, Ok, Err, unwrap_or, if◌then◌else◌}
+use Rattle.std.proofs.Common.{◌≡◌, ◌^◌, inl, inr, ℕ, zero, suc, ◌+◌, ◌*◌, ◌/◌, ◌%◌, ◌≤◌, ◌<◌, Bool, true, false, ◌&&◌, List, [], ◌∷◌, ◌++◌, length, get_or, All, refl, ap, sym, ◌∙◌, arith, eqb, leb, decimal, Option, Some, None, Result, Ok, Err, unwrap_or, if◌then◌else◌}
 use Rattle.std.proofs.lemmas.Bool.{cases_lt}
 use Rattle.std.proofs.lemmas.Bool.Decides.{Decides-eqb, nat_tests}
 use Rattle.std.proofs.lemmas.List.{get_or_default, get_or_past}
@@ -18,7 +18,7 @@ use Rattle.hex.specs.declared.error.FromHexError.{FromHexError}
 use Rattle.hex.proofs.HexLemmas.{length-encode_with, decode_of-encode_lower, decode_of-ok, decode_sized-ok, decode_sized-twice}
 use Rattle.pd_grammar.specs.Words.{is_printable, bytes_of, uuid_of, policy_of, sixteen_of}
 use Rattle.pd_grammar.proofs.SplitLemmas.{Lacks}
-use Rattle.pd_grammar.proofs.NumberLemmas.{own, both, Fit}
+use Rattle.pd_grammar.proofs.NumberLemmas.{own, both}
 
 -- bytes that are printed, and aren't spaces
 abbrev pub Plain : List ℕ → Type 0
@@ -75,10 +75,6 @@ digits_plain (b ∷ bytes) digits =
 
 pub number_plain : (n : ℕ) → n < 2 ^ 64 → Plain (decimal n)
 number_plain n fits = digits_plain (decimal n) (digits_decimal own n fits)
-
-pub decimals_plain : (ns : List ℕ) → Fit ns → AllByRecursion Plain (map decimal ns)
-decimals_plain [] fit = tt
-decimals_plain (n ∷ ns) fit = (number_plain n fit.0, decimals_plain ns fit.1)
 
 -- uuids
 plain-append : (xs ys : List ℕ) → Plain xs → Plain ys → Plain (xs ++ ys)

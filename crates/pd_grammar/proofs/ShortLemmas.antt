@@ -2,7 +2,6 @@
 use Rattle.std.proofs.Common.{ℕ, suc, ◌+◌, ◌*◌, ◌^◌, ◌≤◌, ◌<◌, List, [], ◌∷◌, length, length-append, map, arith, decimal}
 use Rattle.std.proofs.lemmas.Fmt.{length-decimal-le}
 use Rattle.std.specs.List.{AllByRecursion, join_with_byte}
-use Rattle.pd_grammar.proofs.NumberLemmas.{Fit}
 
 pub decimal_short : (n : ℕ) → n < 2 ^ 64 → length (decimal n) ≤ 20
 decimal_short n fits = length-decimal-le 20 n (omega arith) (omega arith) fits
@@ -19,10 +18,6 @@ pub joined_short : (words : List (List ℕ)) → length (join_with_byte 32 words
 joined_short [] = omega arith
 joined_short (w ∷ []) = omega arith
 joined_short (w ∷ v ∷ words) = omega (arith, length-append w (32 ∷ join_with_byte 32 (v ∷ words)), joined_short (v ∷ words))
-
-pub numbers_short : (ns : List ℕ) → Fit ns → room_of (map decimal ns) ≤ 21 * length ns
-numbers_short [] fit = omega arith
-numbers_short (n ∷ ns) fit = omega (arith, decimal_short n fit.0, numbers_short ns fit.1)
 
 pub small_numbers_short : (ns : List ℕ) → AllByRecursion (λ n. n < 2 ^ 32) ns → room_of (map decimal ns) ≤ 11 * length ns
 small_numbers_short [] fit = omega arith

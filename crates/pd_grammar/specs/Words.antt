@@ -1,13 +1,12 @@
 -- Lines, words, numbers and identifiers, as they stand in a text.
 use Rattle.std.specs.Prelude.{ℕ, ◌^◌, ◌==◌, ◌&&◌, ◌||◌, Bool, not, nat_lt, nat_le, if◌then◌else◌, List, [], ◌∷◌, length, slice_index, Option, Some, None, Result, Ok, Err}
-use Rattle.std.specs.Option.{option_map, option_and_then}
+use Rattle.std.specs.Option.{option_and_then}
 use Rattle.std.specs.Result.{result_ok}
 use Rattle.std.specs.Str.{bytes_eq, all_ascii_digits}
 use Rattle.std.specs.Str.Parse.{digits_value}
 use Rattle.hex.specs.Hex.{decode_sized, encode_lower}
 use Rattle.uuid.specs.Text.{parsed, hyphenated_text, lower}
 use Rattle.pd_grammar.specs.declared.cause.TextCause.{TextCause}
-use Rattle.pd_grammar.specs.declared.cause.TextCause.TheVariants.{Word, Number}
 
 -- a byte before the first of some pieces
 abbrev pub with_first : ℕ → List (List ℕ) → List (List ℕ)
@@ -30,17 +29,6 @@ is_canonical word = all_ascii_digits word && (nat_lt 0 (length word) && (not (sl
 -- the number below 2 ^ 64 that a word is
 unfoldable pub number_of : List ℕ → Option ℕ
 number_of word = if is_canonical word && nat_lt (digits_value 10 word) (2 ^ 64) then Some (digits_value 10 word) else None
-
--- an element before others, where both are there
-abbrev pub with_number : Option ℕ → Option (List ℕ) → Option (List ℕ)
-with_number None rest = None
-with_number (Some n) None = None
-with_number (Some n) (Some rest) = Some (n ∷ rest)
-
--- the numbers that some words are, if each of them is one
-unfoldable pub numbers_of : List (List ℕ) → Option (List ℕ)
-numbers_of [] = Some []
-numbers_of (word ∷ words) = with_number (number_of word) (numbers_of words)
 
 -- the sixteen bytes that a word is read as, where it is this form of them
 unfoldable pub bytes_of : (List ℕ → Option (List ℕ)) → (List ℕ → List ℕ) → List ℕ → Option (List ℕ)
@@ -72,8 +60,3 @@ result_and_then f (Err e) = Err e
 abbrev pub result_map : {X Y E : Type 0} → (X → Y) → Result X E → Result Y E
 result_map f (Ok x) = Ok (f x)
 result_map f (Err e) = Err e
-
--- the value of just so many number words
-unfoldable pub of_numbers : {L : Type 0} → ℕ → (List ℕ → L) → List (List ℕ) → Result L TextCause
-of_numbers k make words =
-    if length words == k then or_cause (option_map make (numbers_of words)) Number else Err Word

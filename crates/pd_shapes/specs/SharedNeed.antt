@@ -4,6 +4,7 @@ use Rattle.std.specs.List.{flat_map}
 use Rattle.pd_kinds.specs.Node.{max_entries}
 use Rattle.pd_kinds.specs.Bitmap.{bitmaps_for}
 use Rattle.pd_kinds.specs.Meaning.{Mapping}
+use Rattle.pd_grammar.specs.Texts.{has_ended}
 use Rattle.pd_grammar.specs.Spelling.{Verdict, IsVerdict}
 use Rattle.pd_spells.specs.Need.{nodes_for, need_above, need_tree}
 use Rattle.pd_spells.specs.ThinText.{mappings_of}
@@ -131,11 +132,6 @@ leaves_of_told has_ended [] = []
 leaves_of_told has_ended (newest ∷ devices) =
     (if has_ended then leaves_of_ended newest else leaf_count newest.own newest.uses) ∷ map leaves_of_ended devices
 
--- whether the newest line is the last one
-abbrev pub has_end : List Line → Bool
-has_end [] = false
-has_end (line ∷ before) = shared_single.is_end line
-
 -- the data blocks that a line maps
 abbrev pub data_of_line : Line → List ℕ
 data_of_line first_line = []
@@ -150,7 +146,7 @@ data_of_line end_line = []
 unfoldable pub shape_need_so_far : ℕ → List Line → ℕ
 shape_need_so_far room before =
     need_of_shared (leaf_number before) (used_often (lines.uses_of before) (leaf_number before))
-    (leaves_of_told (has_end before) (told_devices before)) (data_blocks_of before)
+    (leaves_of_told (has_ended shared_single before) (told_devices before)) (data_blocks_of before)
     (overflows_in (flat_map data_of_line before) (data_blocks_of before)) room
 
 -- the verdict on a text of version 2 where so many metadata blocks are there

@@ -1,5 +1,5 @@
 -- Where a line of the second version of a pool's text is refused, and which line some words are.
-use Rattle.std.specs.Prelude.{ℕ, ◌+◌, ◌^◌, ◌==◌, ◌&&◌, ◌||◌, Bool, false, not, nat_lt, nat_le, List, [], ◌∷◌, Option, Some, None, codes}
+use Rattle.std.specs.Prelude.{◌+◌, ◌^◌, ◌==◌, ◌&&◌, ◌||◌, Bool, false, not, nat_lt, nat_le, List, [], ◌∷◌, Option, Some, None, codes}
 use Rattle.std.specs.List.{list_any, range_with_len}
 use Rattle.pd_grammar.specs.declared.cause.TextCause.TheVariants.{Order, OutOfRange, MappedDiffers, Unused}
 use Rattle.pd_grammar.specs.declared.value.Field.TheVariants as f

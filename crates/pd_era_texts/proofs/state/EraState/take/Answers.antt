@@ -1,6 +1,5 @@
-use Rattle.std.proofs.Common.{List, Ok, Err}
-use Rattle.pd_grammar.specs.Tables.{LineKind}
-use Rattle.pd_spells.specs.EraText.{Line, era_tests, has_number_out_of_range}
+use Rattle.std.proofs.Common.{Ok, Err}
+use Rattle.pd_spells.specs.EraText.{has_number_out_of_range}
 use Rattle.pd_era_texts.specs.EraKind.{kind_meant}
 use Rattle.pd_era_texts.specs.EraLine.{era_meant}
 use Rattle.pd_texts.proofs.ValueLemmas.{out_of_range, within_range}
