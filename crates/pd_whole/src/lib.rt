@@ -10,7 +10,9 @@ mod sharing;
 
 pub use charging::charge;
 pub use counting::is_counting;
-pub use laws::{keys_of_reached_trees_ascend, settled_audits_are_known};
+pub use laws::{
+    keys_of_reached_trees_ascend, keys_of_sound_trees_ascend, settled_audits_are_known,
+};
 pub use nodes::{
     bitmaps_are_named_once, known_blocks_are_reached_once, nodes_of_reached_trees_are_reached_once,
     reached_blocks_are_no_more_than_nodes, trees_and_indices_name_blocks,

@@ -1,0 +1,3 @@
+pub mod SoundLemmas
+pub mod ListLemmas
+pub mod TimeLemmas

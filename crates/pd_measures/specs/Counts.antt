@@ -1,0 +1,54 @@
+-- The devices of a mapping tree, and those of a details tree, as two lists of one type.
+use Rattle.std.specs.Prelude.{ℕ, ◌/◌, ◌%◌, ◌^◌, max, List, [], ◌∷◌, length, map, fold, sum_by}
+use Rattle.std.specs.List.{flat_map}
+use Rattle.pd_kinds.specs.Node.{Entry}
+use Rattle.pd_kinds.specs.Graph.{Graph}
+use Rattle.pd_kinds.specs.ThinFormat.{mapped_time}
+use Rattle.pd_kinds.specs.Whole.{top_entries, mapping_entries, details_entries, mapped_number}
+
+-- a device, and how many mappings it has
+pub record DeviceCount : Type 0 where
+  pub id : ℕ
+  pub mapped : ℕ
+
+-- how many mappings stand below the root of a device's mappings
+unfoldable pub mappings_below : Graph → List (List ℕ) → ℕ → ℕ
+mappings_below graph image root = length (mapping_entries graph image root)
+
+-- the devices of the entries of a mapping tree, by how many mappings stand below each root
+abbrev pub counts_by_roots : (ℕ → ℕ) → List Entry → List DeviceCount
+counts_by_roots below entries = map (λ (e : Entry). record { id = e.key; mapped = below e.value }) entries
+
+-- the devices of the entries of a details tree, by their mapped numbers
+abbrev pub counts_by_details : List Entry → List DeviceCount
+counts_by_details entries = map (λ (e : Entry). record { id = e.key; mapped = mapped_number e.value }) entries
+
+-- those of both trees
+unfoldable pub counts_of_top : Graph → List (List ℕ) → ℕ → List DeviceCount
+counts_of_top graph image top = counts_by_roots (mappings_below graph image) (top_entries graph image top)
+
+unfoldable pub counts_of_details : Graph → List (List ℕ) → ℕ → List DeviceCount
+counts_of_details graph image details = counts_by_details (details_entries graph image details)
+
+-- how many mappings the devices have
+abbrev pub total_of : List DeviceCount → ℕ
+total_of counts = sum_by (λ (c : DeviceCount). c.mapped) counts
+
+-- the greatest of some times, and 0 of none
+unfoldable pub latest : List ℕ → ℕ
+latest times = fold max 0 times
+
+-- the times of the mappings below the root of a device's mappings
+abbrev pub mapping_times : Graph → List (List ℕ) → ℕ → List ℕ
+mapping_times graph image root = map (λ (e : Entry). mapped_time e.value) (mapping_entries graph image root)
+
+-- the times at which the device of a details entry was made, and last shared
+abbrev pub details_times : ℕ → List ℕ
+details_times value = value / 2 ^ 128 % 2 ^ 32 ∷ value / 2 ^ 160 ∷ []
+
+-- the latest time of all mappings below a mapping tree, and that of a details tree
+unfoldable pub top_time : Graph → List (List ℕ) → ℕ → ℕ
+top_time graph image top = latest (flat_map (λ (e : Entry). mapping_times graph image e.value) (top_entries graph image top))
+
+unfoldable pub details_time : Graph → List (List ℕ) → ℕ → ℕ
+details_time graph image details = latest (flat_map (λ (e : Entry). details_times e.value) (details_entries graph image details))

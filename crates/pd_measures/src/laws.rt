@@ -1,0 +1,40 @@
+//! What it comes to that two trees fit each other, as laws on functions with empty bodies.
+
+ghost use Rattle.std.specs.Prelude.{◌≡◌, ◌↔◌, ◌<◌, ℕ, max, true, List};
+ghost use Rattle.pd_kinds.specs.Graph.{Graph, pair};
+ghost use Rattle.pd_kinds.specs.Lawful.{IsLawful};
+ghost use Rattle.pd_laid.specs.FoundRoots.{are_fitting, is_sound_tree, lost_graph, roots_at};
+ghost use Rattle.pd_tree.specs.Sound.{IsSoundTree};
+ghost use Rattle.pd_measures.specs.Counts.{counts_of_top, counts_of_details, details_time, top_time, total_of};
+
+use pd_laws::{reached_by_paths, thin_format_is_lawful};
+use pd_whole::keys_of_sound_trees_ascend;
+
+/// A tree that a search for roots holds for sound is a sound tree, whose entries a cursor gives.
+pub fn found_trees_are_sound()
+    ensures { (graph : Graph) (image : List (List ℕ)) (role root : ℕ) → IsLawful graph → role < graph.roles
+        → is_sound_tree graph image role root ≡ true → IsSoundTree graph image (pair root role) }
+{
+    reached_by_paths();
+}
+
+/// A sound mapping tree and a sound details tree fit each other exactly where their lists of devices are one: the same
+/// devices, each with as many mappings below its root as its details say. Then the number of mappings of both is the
+/// total of that list, and their latest time the later one of the two trees' times.
+pub fn fitting_trees_have_one_list()
+    ensures fitting { (image : List (List ℕ)) (data_blocks top details : ℕ) → let graph = lost_graph image data_blocks in
+        is_sound_tree graph image 2 top ≡ true → is_sound_tree graph image 4 details ≡ true
+        → (are_fitting graph image top details ≡ true) ↔ (counts_of_top graph image top ≡ counts_of_details graph image details) }
+    ensures roots { (image : List (List ℕ)) (data_blocks top details : ℕ) → let graph = lost_graph image data_blocks in
+        are_fitting graph image top details ≡ true
+        → roots_at graph image top details ≡ record {
+          top = top;
+          details = details;
+          mappings = total_of (counts_of_top graph image top);
+          time = max (top_time graph image top) (details_time graph image details);
+        } }
+{
+    thin_format_is_lawful();
+    found_trees_are_sound();
+    keys_of_sound_trees_ascend();
+}
