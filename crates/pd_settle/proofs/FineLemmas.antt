@@ -201,18 +201,18 @@ module _ (graph : Graph) (image : List (List ℕ)) (nodes : ℕ → Bool) (lawfu
   inner_cases true later own q among = inl among
   inner_cases false later own q among = inr among
 
-  -- what stands below a node is among them
-  below_among : (j p q : ℕ) → nodes p ≡ true → is_among q (gathered (is_inner_pair graph image) (children graph image) (own_keys graph image) j p) ≡ true
-      → is_among q all_keys ≡ true
-  unfolding gathered some_keys all_keys
-  below_among zero p q node among =
-      own_among p q node (only_leaf (is_inner_pair graph image p) (own_keys graph image p) q among)
-  below_among (suc j) p q node among =
+  -- what stands below a node is among the keys of all nodes
+  below_each : (ys : List ℕ) → ((p q : ℕ) → nodes p ≡ true → is_among q (own_keys graph image p) ≡ true → is_among q ys ≡ true)
+      → (j p q : ℕ) → nodes p ≡ true → is_among q (gathered (is_inner_pair graph image) (children graph image) (own_keys graph image) j p) ≡ true
+      → is_among q ys ≡ true
+  unfolding gathered
+  below_each ys own zero p q node among = own p q node (only_leaf (is_inner_pair graph image p) (own_keys graph image p) q among)
+  below_each ys own (suc j) p q node among =
       elim (inner_cases (is_inner_pair graph image p) (flat_map (gathered (is_inner_pair graph image) (children graph image) (own_keys graph image) j) (children graph image p)) (own_keys graph image p) q among) [
         | inl later ↦
             let one = from_flat_map (gathered (is_inner_pair graph image) (children graph image) (own_keys graph image) j) q (children graph image p) later in
-            below_among j one.0 q (fine.closed p one.0 node one.1) one.2
-        | inr own ↦ own_among p q node own
+            below_each ys own j one.0 q (fine.closed p one.0 node one.1) one.2
+        | inr itself ↦ own p q node itself
       ]
 
   all_above_zero : (xs : List ℕ) → list_all (λ k. not (nat_lt k 0)) xs ≡ true
@@ -267,7 +267,7 @@ module _ (graph : Graph) (image : List (List ℕ)) (nodes : ℕ → Bool) (lawfu
   -- so the count of what stands below a node is exact
   among_keys : (p q : ℕ) → nodes p ≡ true → is_among q (keys_below graph image p) ≡ true → is_among q all_keys ≡ true
   unfolding keys_below
-  among_keys p q node among = below_among 63 p q node among
+  among_keys p q node among = below_each all_keys own_among 63 p q node among
 
   pub exact_of : (p : ℕ) → nodes p ≡ true → capped (length (keys_below graph image p)) ≡ length (keys_below graph image p)
   exact_of p node =
@@ -275,3 +275,31 @@ module _ (graph : Graph) (image : List (List ℕ)) (nodes : ℕ → Bool) (lawfu
       let few = all_few in
       let blocks = lawful.few_blocks in
       omega arith
+
+  -- where all nodes have one role, each block has the keys of one node at the most
+  module _ (role : ℕ) (one_role : (p : ℕ) → nodes p ≡ true → role_of p ≡ role) where
+    keys_in_role : List ℕ
+    keys_in_role = flat_map (λ b. some_keys (pair b role)) (range_with_len 0 graph.nr)
+
+    own_in_role : (p q : ℕ) → nodes p ≡ true → is_among q (own_keys graph image p) ≡ true → is_among q keys_in_role ≡ true
+    unfolding some_keys keys_in_role
+    own_in_role p q node own =
+        let small = (fine.within p node).1 in
+        let same : p ≡ pair (block_of p) role = let r = one_role p node in omega arith in
+        among_flat_map (λ b. some_keys (pair b role)) q (block_of p) (range_with_len 0 graph.nr) (among_from (block_of p) 0 graph.nr (omega arith) (omega arith))
+        (subst (λ (t : ℕ). is_among q (some_keys t) ≡ true) same (ap (λ (b : Bool). is_among q (cond b (own_keys graph image p) [])) node ∙ own))
+
+    few_in_role : length keys_in_role ≤ graph.nr * 338
+    unfolding some_keys keys_in_role
+    few_in_role =
+        let most = length-flat_map (λ b. some_keys (pair b role)) 338 (λ b. few_keys (pair b role) (nodes (pair b role)) refl) (range_with_len 0 graph.nr) in
+        let number = length-range_with_len 0 graph.nr in
+        subst (λ (n : ℕ). length (flat_map (λ b. some_keys (pair b role)) (range_with_len 0 graph.nr)) ≤ n * 338) number most
+
+    pub few_of : (p : ℕ) → nodes p ≡ true → length (keys_below graph image p) ≤ 338 * graph.nr
+    unfolding keys_below
+    few_of p node =
+        let fewer = up_fewer 0 (keys_below graph image p) keys_in_role (below_up 64 p node (fine.shallow p node))
+        (λ q among. below_each keys_in_role own_in_role 63 p q node among) in
+        let few = few_in_role in
+        omega arith

@@ -1,7 +1,7 @@
 -- The settling of all blocks in one role.
-use Rattle.std.proofs.Common.{◌≡◌, ◌≢◌, inl, inr, ℕ, ◌+◌, ◌<◌, ◌≤◌, Bool, true, false, ◌&&◌, not, cond, nat_eq, nat_lt, List, refl, sym, ◌∙◌, ap, subst, arith, eq-eqb}
-use Rattle.std.proofs.lemmas.Bool.{cases_lt, cases_eq, ne_eqb, and_parts, and_from, eqb-true, ltb-true, lt-ltb, le-ltb, not-true}
-use Rattle.pd_kinds.specs.Graph.{Graph, block_at, pair, block_of, role_of, is_inner_pair}
+use Rattle.std.proofs.Common.{◌≡◌, ◌≢◌, inl, inr, ℕ, suc, ◌+◌, ◌-◌, ◌<◌, ◌≤◌, Bool, true, false, ◌&&◌, not, cond, nat_eq, nat_lt, List, refl, sym, ◌∙◌, ap, subst, arith, eq-eqb}
+use Rattle.std.proofs.lemmas.Bool.{cases_lt, cases_eq, ne_eqb, and_parts, and_from, both_ways, eqb-true, ltb-true, lt-ltb, le-ltb, not-true}
+use Rattle.pd_kinds.specs.Graph.{Graph, block_at, pair, block_of, role_of, own_keys, is_inner_pair}
 use Rattle.pd_kinds.specs.Lawful.{IsLawful}
 use Rattle.pd_kinds.specs.Order.{children, is_in_range, keys_below}
 use Rattle.pd_graph.specs.declared.notes.Note.{Note}
@@ -9,13 +9,14 @@ use Rattle.pd_graph.specs.declared.notes.Notes.{Notes}
 use Rattle.pd_graph.specs.Notes.{no_note, note_in}
 use Rattle.pd_graph.proofs.BitLemmas.{pair_block, pair_role}
 use Rattle.pd_settle.specs.Good.{is_well, is_good_node, AreSettleable, IsGoodNote}
+use Rattle.pd_settle.specs.Notes.{IsNoted}
 use Rattle.pd_settle.specs.Ordering.{IsOrdering, IsClosed, Knows}
 use Rattle.pd_settle.specs.Settled.{AreSettled, AreFit, AreSettledIn}
 use Rattle.pd_settle.specs.Stepping.{bad_note}
-use Rattle.pd_settle.proofs.ChainLemmas.{is_among}
+use Rattle.pd_settle.proofs.ChainLemmas.{is_among, chain_by, longer_chain}
 use Rattle.pd_settle.proofs.GoodLemmas.{good_child, good_ends, good_well, itself_bad, unfit_bad, well_ranged}
 use Rattle.pd_settle.proofs.ReachLemmas.{child_of, role_of_child, child_within}
-use Rattle.pd_settle.proofs.FineLemmas.{AreFine, exact_of}
+use Rattle.pd_settle.proofs.FineLemmas.{AreFine, exact_of, few_of}
 use Rattle.pd_settle.proofs.SettledLemmas.{all_settled}
 
 -- the nodes: all blocks, in the one role
@@ -44,6 +45,17 @@ noted_first false note e =
 bad_first : (x : Bool) (note : Note) → note ≡ cond x bad_note no_note → 1 ≤ note.height → x ≡ true
 bad_first true note e low = refl
 bad_first false note e low = let h = ap (λ (n : Note). n.height) e in absurd (omega arith)
+
+-- a node is higher than its children
+higher_by : (inner : ℕ → Bool) (down own : ℕ → List ℕ) (p q : ℕ) (note below : Note) → is_among q (down p) ≡ true
+    → IsNoted inner down own p note → IsNoted inner down own q below → below.height < note.height
+higher_by inner down own p q note below among high low = elim (cases_lt below.height note.height) [
+  | inl less ↦ less
+  | inr more ↦
+      let some = low.low in
+      absurd (both_ways _ high.ends
+      (chain_by down note.height (suc (below.height - 1)) p (omega arith) (longer_chain down (below.height - 1) p q among low.long)))
+]
 
 module _ (graph : Graph) (image : List (List ℕ)) (role : ℕ) (fit : ℕ → Bool) (lawful : IsLawful graph) (known : role < graph.roles) where
   within : role < 16
@@ -131,7 +143,7 @@ module _ (graph : Graph) (image : List (List ℕ)) (role : ℕ) (fit : ℕ → B
         (all_in_role.good (pair b role) (in_role graph.nr role b within small) good)
 
     pub settled_in_role : AreSettledIn graph image role fit notes
-    unfolding keys_below good_in_role
+    unfolding keys_below good_in_role is_good_node
     settled_in_role = record {
       known = done;
       height = λ b small.
@@ -142,6 +154,16 @@ module _ (graph : Graph) (image : List (List ℕ)) (role : ℕ) (fit : ℕ → B
       below = λ b small good.
           ap (λ (n : Note). n.below) (good_note b small good).noted.keys
           ∙ exact_of graph image good_in_role lawful good_fine (pair b role) (and_from _ _ (in_role graph.nr role b within small) good);
+      few = λ b small good.
+          let node : good_in_role (pair b role) ≡ true = and_from _ _ (in_role graph.nr role b within small) good in
+          let exact = ap (λ (n : Note). n.below) (good_note b small good).noted.keys ∙ exact_of graph image good_in_role lawful good_fine (pair b role) node in
+          let few = few_of graph image good_in_role lawful good_fine role (λ p is. (parts_of graph.nr role p (and_parts _ _ is).0).0) (pair b role) node in
+          omega arith;
+      above = λ b p small good among.
+          let child = child_in_role (pair b role) p (in_role graph.nr role b within small) among in
+          higher_by (is_inner_pair graph image) (children graph image) (own_keys graph image) (pair b role) p (note_in notes b) (note_in notes (block_of p)) among
+          (good_note b small good).noted
+          (all_in_role.good p child (good_child (is_well graph image fit true) (children graph image) 63 (pair b role) p good among)).noted;
     }
 
 -- one block more is ruled out where it isn't fit

@@ -1,5 +1,5 @@
 -- What settling leaves.
-use Rattle.std.specs.Prelude.{◌≡◌, ℕ, ◌<◌, ◌≤◌, ◌==◌, not, nat_lt, Bool, true, false, if◌then◌else◌, List, length, Option, Some, None, slice_index}
+use Rattle.std.specs.Prelude.{◌≡◌, ℕ, ◌*◌, ◌<◌, ◌≤◌, ◌==◌, not, nat_lt, Bool, true, false, if◌then◌else◌, List, length, Option, Some, None, slice_index}
 use Rattle.std.specs.List.{list_any}
 use Rattle.pd_kinds.specs.declared.rule.Rule.{Rule}
 use Rattle.pd_kinds.specs.declared.rule.Rule.TheVariants as r
@@ -81,6 +81,11 @@ pub record AreSettledIn (graph : Graph) (image : List (List ℕ)) (role : ℕ) (
       → (note_in notes b).greatest ≡ greatest_of (keys_below graph image (pair b role))
   pub below : (b : ℕ) → b < graph.nr → is_good_node graph image fit true (pair b role) ≡ true
       → (note_in notes b).below ≡ length (keys_below graph image (pair b role))
+  -- those are no more than the keys of all blocks
+  pub few : (b : ℕ) → b < graph.nr → is_good_node graph image fit true (pair b role) ≡ true → (note_in notes b).below ≤ 338 * graph.nr
+  -- it is above each of its children
+  pub above : (b p : ℕ) → b < graph.nr → is_good_node graph image fit true (pair b role) ≡ true
+      → list_any (λ t. t == p) (children graph image (pair b role)) ≡ true → (note_in notes (block_of p)).height < (note_in notes b).height
 
 -- the blocks that a table of sets of roles has in the role
 abbrev pub is_fit : List ℕ → ℕ → ℕ → Bool
