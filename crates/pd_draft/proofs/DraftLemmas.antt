@@ -71,7 +71,7 @@ same_at left image b number = elim (cases_lt b (length image)) [
 ]
 
 -- what is left with one block more unsynced, that block put back
-put_back : (image left : Image) (b : ℕ) (us : List ℕ) (fs fs' : Image) → IsLeft (record { image = image; unsynced = b ∷ us; firsts = fs }) left
+pub put_back : (image left : Image) (b : ℕ) (us : List ℕ) (fs fs' : Image) → IsLeft (record { image = image; unsynced = b ∷ us; firsts = fs }) left
     → IsLeft (record { image = image; unsynced = us; firsts = fs' }) (set left b (get_or image b []))
 put_back image left b us fs fs' l = record {
   number = length-set left b (get_or image b []) ∙ l.number;
