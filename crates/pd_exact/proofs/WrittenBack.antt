@@ -75,6 +75,15 @@ at_three before image origin fast P image_told origin_told fast_told all =
     (at_told before.output.held origin (λ o. IfSome before.third.held (P image o)) origin_told
     (at_told before.input.held image (λ i. IfSome before.output.held (λ o. IfSome before.third.held (P i o))) image_told all))
 
+-- what is said of what was found is said of the image, where it is right
+needs_by : (found : WritebackFound) (image fast : Image) → found.block_size ≡ (cache_meaning image).block_size → found.hot ≡ hot_blocks (cache_meaning image) → found.fast_blocks ≡ length fast
+    → fast_need (blocks_each found.block_size) found.hot ≤ found.fast_blocks → HasHotBlocks image fast
+needs_by found image fast size hot many room = rw (size, hot, many) at room
+
+keeps_by : (found : WritebackFound) (image origin left : Image) → found.block_size ≡ (cache_meaning image).block_size → found.hot ≡ hot_blocks (cache_meaning image)
+    → KeepsOthers (blocks_each found.block_size) found.hot origin left → KeepsOthers (blocks_each (cache_meaning image).block_size) (hot_blocks (cache_meaning image)) origin left
+keeps_by found image origin left size hot keeps = rw (size, hot) at keeps
+
 -- what is known of the copied origin, and of a cache in which nothing is dirty
 pub record AreViewLaws : Type 0 where
   pub kept : (image origin left fast : Image) → faults Cache Whole image ≡ [] → HasHotBlocks image fast
@@ -98,7 +107,7 @@ module _ (laws : AreViewLaws) (metadata fast_path origin_path : List ℕ) (befor
     room : (writeback_answer found).status ≡ 0 → HasHotBlocks image fast
     room given =
         let many : found.fast_blocks ≡ length fast = at_told before.third.held fast (λ (i : Image). found.fast_blocks ≡ length i) fast_told answered.found.fast.told in
-        rw (right.1, right.2, many) at (not_refused found given).room
+        needs_by found image fast right.1 right.2 many (not_refused found given).room
 
     -- a call that goes on
     pub keeps_at_work : IsImage image → (writeback_answer found).status ≡ 0 → KeepsTheView image origin fast before after
@@ -106,9 +115,9 @@ module _ (laws : AreViewLaws) (metadata fast_path origin_path : List ℕ) (befor
         let none = sound given in
         let enough = room given in
         record {
-          origin = weaken (at_told before.output.held origin _ origin_told answered.leaves.origin)
-              (λ left firsts keeps. laws.kept image origin left fast none enough (rw (right.1, right.2) at keeps));
-          metadata = weaken (at_told before.input.held image _ image_told answered.leaves.metadata)
+          origin_left = weaken (at_told before.output.held origin _ origin_told answered.leaves.origin)
+              (λ left firsts keeps. laws.kept image origin left fast none enough (keeps_by found image origin left right.1 right.2 keeps));
+          metadata_left = weaken (at_told before.input.held image _ image_told answered.leaves.metadata)
               (λ left firsts outcome chance.
               ⊎_elim (λ old. inr (λ other. ap (λ (i : Image). view i other fast) old))
               (λ more. ⊎_elim (λ none_valid. inl none_valid) (λ made. inr (λ other. ap (λ (i : Image). view i other fast) made ∙ laws.shows image other fast is none)) more)
@@ -130,9 +139,9 @@ module _ (laws : AreViewLaws) (metadata fast_path origin_path : List ℕ) (befor
     keeps_refused input_synced output_synced refused =
         let both = answered.leaves.refused refused in
         record {
-          origin = stays both.1.held both.1.history
+          origin_left = stays both.1.held both.1.history
               (λ left firsts leaves. ap (λ (i : Image). view image i fast) (left_as_was before.output origin left firsts origin_told output_synced leaves));
-          metadata = stays both.0.held both.0.history
+          metadata_left = stays both.0.held both.0.history
               (λ left firsts leaves chance. inr (λ other. ap (λ (i : Image). view i other fast) (left_as_was before.input image left firsts image_told input_synced leaves)));
           order = inl both.0;
         }

@@ -41,9 +41,9 @@ HoldsWrittenBack before after =
 -- what a crash at any moment of a writeback leaves
 pub record KeepsTheView (image origin fast : List (List ℕ)) (before after : Objects) : Type 0 where
   -- the origin under the old metadata reads the same
-  pub origin : LeavesOnly (λ left firsts. view image left fast ≡ view image origin fast) before.output after.output
+  pub origin_left : LeavesOnly (λ left firsts. view image left fast ≡ view image origin fast) before.output after.output
   -- the metadata, by no chance, has no valid superblock, or reads the same over any origin and fast device
-  pub metadata : LeavesOnly (λ left firsts. Chance left firsts → HasNoSuper left ⊎ ((other : List (List ℕ)) → view left other fast ≡ view image other fast))
+  pub metadata_left : LeavesOnly (λ left firsts. Chance left firsts → HasNoSuper left ⊎ ((other : List (List ℕ)) → view left other fast ≡ view image other fast))
       before.input after.input
   -- unless the metadata wasn't touched, the origin reads alone what the cached device read, with nothing unsynced
   pub order : IsUntouched before.input after.input
