@@ -1,7 +1,7 @@
 -- The meaning of a cache without faults is lawful.
-use Rattle.std.proofs.Common.{◌≡◌, ◌⊎◌, inl, inr, ℕ, ◌^◌, ◌<◌, Bool, true, false, not, ◌&&◌, ◌||◌, nat_eq, List, [], ◌∷◌, ◌++◌, length, get_or, map, filter, refl, sym, ◌∙◌, arith}
+use Rattle.std.proofs.Common.{◌≡◌, ◌⊎◌, inl, inr, ℕ, ◌^◌, ◌<◌, Bool, true, false, not, ◌&&◌, ◌||◌, nat_eq, List, [], ◌∷◌, ◌++◌, length, get_or, filter, refl, arith}
 use Rattle.std.specs.List.{All, list_any, range_with_len}
-use Rattle.std.proofs.lemmas.Bool.{cases_Bool, cond_both, eq-eqb, eqb-true, not-false, or_parts, true≢false}
+use Rattle.std.proofs.lemmas.Bool.{cases_Bool, cond_both, eqb-true, not-false, or_parts}
 use Rattle.pd_kinds.specs.declared.kind.Kind.TheVariants.{Cache}
 use Rattle.pd_kinds.specs.declared.kind.Stage.TheVariants as stages
 use Rattle.pd_kinds.specs.declared.rule.Rule.{Rule}
@@ -13,7 +13,7 @@ use Rattle.pd_kinds.specs.Limits.{is_meta_size_bad}
 use Rattle.pd_kinds.specs.Meaning.{cache_dirty_bits, cache_hints, cache_meaning}
 use Rattle.pd_kinds.specs.Stages.{HasCleanSuper, cache_checked, faults}
 use Rattle.pd_kinds.specs.Trees.{entries_below}
-use Rattle.pd_kinds.specs.Whole.{WholeTest, array_whole, array_words, bitmap_tests, cache_arrays, cache_whole, has_repeat, is_array_index_bad, is_valid_word, mapping_array, origin_of_word, whole_bad}
+use Rattle.pd_kinds.specs.Whole.{WholeTest, array_whole, array_words, bitmap_tests, cache_arrays, cache_whole, is_array_index_bad, mapping_array, whole_bad}
 use Rattle.pd_kinds.proofs.FieldLemmas.{le-lt}
 use Rattle.pd_laws.proofs.AllLemmas.{all_of}
 use Rattle.pd_laws.proofs.CleanLemmas.{clean_super_where_none, whole_where_none}

@@ -1,9 +1,9 @@
 -- Entries of a cache at blocks that ascend, of which no two have one origin.
-use Rattle.std.proofs.Common.{◌≡◌, inl, inr, ℕ, zero, suc, ◌+◌, ◌^◌, ◌<◌, ◌≤◌, Bool, false, nat_eq, List, [], ◌∷◌, length, get_or, drop, map, filter, refl, sym, ap, ap₂, ◌∙◌, arith}
+use Rattle.std.proofs.Common.{◌≡◌, inl, inr, ℕ, zero, suc, ◌+◌, ◌^◌, ◌<◌, ◌≤◌, Bool, false, nat_eq, List, [], ◌∷◌, get_or, map, filter, sym, arith}
 use Rattle.std.specs.List.{AllByRecursion, list_any, range_with_len}
 use Rattle.std.proofs.lemmas.Bool.{cases_Bool, eqb-false, ne_eqb, or_parts}
 use Rattle.pd_kinds.specs.Meaning.{cache_entry}
-use Rattle.pd_kinds.specs.Whole.{has_repeat, is_valid_word, origin_of_word}
+use Rattle.pd_kinds.specs.Whole.{has_repeat}
 use Rattle.pd_spells.specs.Lawful.{AreEntries}
 use Rattle.pd_settled.proofs.SoundCache.{origin_at}
 

@@ -29,11 +29,10 @@ pub use targets::{
 };
 pub use words::{
     cache_check_tells_clean, cache_dump_puts_the_text, cache_restore_makes_the_cache,
-    cache_writeback_leaves_nothing_dirty,
-    era_check_tells_clean, era_dump_puts_the_text, era_invalidate_puts_the_written_blocks,
-    era_restore_makes_the_target, thin_check_tells_clean, thin_check_tells_clean_and_clears,
-    thin_dump_puts_the_text, thin_generate_puts_its_text, thin_ls_puts_the_devices,
-    thin_rehearse_makes_its_pool, thin_repair_makes_what_is_saved, thin_restore_is_asked,
-    thin_restore_makes_the_pool, thin_rmap_puts_the_mappings,
+    cache_writeback_leaves_nothing_dirty, era_check_tells_clean, era_dump_puts_the_text,
+    era_invalidate_puts_the_written_blocks, era_restore_makes_the_target, thin_check_tells_clean,
+    thin_check_tells_clean_and_clears, thin_dump_puts_the_text, thin_generate_puts_its_text,
+    thin_ls_puts_the_devices, thin_rehearse_makes_its_pool, thin_repair_makes_what_is_saved,
+    thin_restore_is_asked, thin_restore_makes_the_pool, thin_rmap_puts_the_mappings,
 };
 pub use writebacks::{stopped_writeback_keeps_the_view, written_back_cache_is_clean};

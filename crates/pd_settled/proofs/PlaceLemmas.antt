@@ -1,9 +1,9 @@
 -- Which block of the fast device stands for a block of the origin: by all cached blocks, and by some of them, where no two have one
 -- origin.
-use Rattle.std.proofs.Common.{◌≡◌, inl, inr, ℕ, suc, ◌+◌, ◌-◌, ◌*◌, ◌<◌, ◌≤◌, Bool, true, false, not, nat_le, nat_lt, nat_eq, max, List, [], ◌∷◌, map, filter, fold, Option, Some, None, IfSome, refl, sym, arith, eq-eqb, leb-true, ltb-true, le_trans, le_refl}
+use Rattle.std.proofs.Common.{◌≡◌, inl, inr, ℕ, suc, ◌+◌, ◌-◌, ◌*◌, ◌<◌, ◌≤◌, Bool, true, false, not, nat_le, nat_lt, nat_eq, max, List, [], ◌∷◌, map, filter, fold, Option, Some, None, IfSome, refl, sym, arith, eq-eqb, leb-true, ltb-true, le_trans, le_refl, ap}
 use Rattle.std.specs.List.{AllByRecursion, list_any, slice_get}
 use Rattle.std.proofs.Math.Nat.{le-max_left, le-max_right, mul-le-mul_right, suc-mul}
-use Rattle.std.proofs.lemmas.Bool.{cases_Bool, cases_lt, and_parts, or_parts, or_right, both_ways}
+use Rattle.std.proofs.lemmas.Bool.{cases_Bool, cases_lt, and_from, and_parts, eqb-false, le-leb, lt-ltb, or_parts, or_right, both_ways}
 use Rattle.std.proofs.lemmas.Option.{none-some, same_Some}
 use Rattle.pd_kinds.specs.Meaning.{CacheEntry}
 use Rattle.pd_kinds.specs.Whole.{has_repeat}
@@ -136,3 +136,46 @@ below_need k b least (c ∷ cs) p found = elim (cases_Bool (stands_for k c b)) [
 
 pub place_is_there : (k b : ℕ) (cached : List CachedBlock) (p : ℕ) → fast_place k cached b ≡ Some p → p < fast_need k cached
 place_is_there k b cached p found = below_need k b 0 cached p found
+
+-- an entry stands for the blocks that it has
+stands_here : (k : ℕ) (e : CacheEntry) (j : ℕ) → j < k → stands_for k (cached_block e) (e.origin * k + j) ≡ true
+stands_here k e j below =
+    let ends = one_more e.origin k in
+    and_from (nat_le (e.origin * k) (e.origin * k + j)) (nat_lt (e.origin * k + j) ((e.origin + 1) * k)) (le-leb _ _ (omega arith)) (lt-ltb _ _ (omega arith))
+
+-- no other one with another origin does
+stands_not : (k : ℕ) (e f : CacheEntry) (j : ℕ) → j < k → nat_eq f.origin e.origin ≡ false → stands_for k (cached_block e) (f.origin * k + j) ≡ false
+stands_not k e f j below apart = elim (cases_Bool (stands_for k (cached_block e) (f.origin * k + j))) [
+  | inl also ↦ absurd (eqb-false f.origin e.origin apart (one_origin k (cached_block f) (cached_block e) (f.origin * k + j) (stands_here k f j below) also))
+  | inr not_there ↦ not_there
+]
+
+module _ (k : ℕ) (test : CacheEntry → Bool) where
+  -- the place of each block of an entry that passes
+  abbrev pub HasItsPlace : List CacheEntry → CacheEntry → Type 0
+  HasItsPlace es e = test e ≡ true → (j : ℕ) → j < k → fast_place k (map cached_block (filter test es)) (e.origin * k + j) ≡ Some (e.block * k + j)
+
+  -- one more entry in front, with another origin than these
+  behind_one : (e : CacheEntry) (es fs : List CacheEntry) → list_any (λ o. nat_eq o e.origin) (map (λ (f : CacheEntry). f.origin) fs) ≡ false
+      → AllByRecursion (HasItsPlace es) fs → AllByRecursion (HasItsPlace (e ∷ es)) fs
+  unfolding fast_place
+  behind_one e es [] apart all = tt
+  behind_one e es (f ∷ fs) apart all =
+      let parts = or_parts (nat_eq f.origin e.origin) (list_any (λ o. nat_eq o e.origin) (map (λ (g : CacheEntry). g.origin) fs)) apart in (
+        λ passes j below. elim (cases_Bool (test e)) [
+          | inl first ↦ rw (first, stands_not k e f j below parts.0) (all.0 passes j below)
+          | inr other ↦ rw other (all.0 passes j below)
+        ],
+        behind_one e es fs parts.1 all.1,
+      )
+
+  pub own_places : (es : List CacheEntry) → has_repeat (map (λ (e : CacheEntry). e.origin) es) ≡ false → AllByRecursion (HasItsPlace es) es
+  unfolding fast_place has_repeat
+  own_places [] single = tt
+  own_places (e ∷ es) single =
+      let parts = or_parts (list_any (λ o. nat_eq o e.origin) (map (λ (f : CacheEntry). f.origin) es)) (has_repeat (map (λ (f : CacheEntry). f.origin) es)) single in (
+        λ passes j below.
+            let place : e.block * k + (e.origin * k + j - e.origin * k) ≡ e.block * k + j = omega arith in
+            rw (passes, stands_here k e j below) (ap Some place),
+        behind_one e es es parts.0 (own_places es parts.1),
+      )

@@ -12,10 +12,10 @@ use Rattle.pd_kinds.specs.Field.{le}
 use Rattle.pd_kinds.specs.Node.{puts}
 use Rattle.pd_kinds.specs.Trees.{block_words}
 use Rattle.pd_kinds.specs.Whole.{is_dirty_word, is_valid_word}
-use Rattle.pd_kinds.proofs.FieldLemmas.{le-lt}
+use Rattle.pd_kinds.proofs.FieldLemmas.{le-lt, length-put}
 use Rattle.pd_kinds.proofs.PutsLemmas.{le-puts, le-puts_other, length-puts}
 use Rattle.pd_kinds.proofs.WrittenLemmas.{le-sealed_other}
-use Rattle.pd_laid_graph.proofs.Bytes.{AreBytes, bytes_puts, valid_sealed}
+use Rattle.pd_laid_graph.proofs.Bytes.{AreBytes, bytes_puts, valid_sealed, bytes_put}
 use Rattle.pd_answers.specs.CachedView.{long_words, settled_block, settled_word}
 use Rattle.pd_settled.proofs.ViewLemmas.{range_same}
 
@@ -115,6 +115,23 @@ module _ (version : ℕ) (block : List ℕ) (size : length block ≡ 4096) (byte
   settled_is =
       cond_both (list_all (λ word. nat_eq (settled_word version word) word) (long_words block)) block (sealed written array_salt) (IsSettledBlock version block)
       same (λ _. changed)
+
+-- it has the size of a block, and bytes
+pub settled_size : (version : ℕ) (block : List ℕ) → length (settled_block version block) ≡ length block
+unfolding settled_block sealed
+settled_size version block =
+    cond_both (list_all (λ word. nat_eq (settled_word version word) word) (long_words block)) block (sealed (puts block 24 8 (map (settled_word version) (long_words block))) array_salt)
+    (λ (other : List ℕ). length other ≡ length block)
+    (λ _. refl)
+    (λ _. length-put (puts block 24 8 (map (settled_word version) (long_words block))) 0 4 _ ∙ length-puts block 24 8 (map (settled_word version) (long_words block)))
+
+pub settled_bytes : (version : ℕ) (block : List ℕ) → AreBytes block → AreBytes (settled_block version block)
+unfolding settled_block sealed
+settled_bytes version block bytes =
+    cond_both (list_all (λ word. nat_eq (settled_word version word) word) (long_words block)) block (sealed (puts block 24 8 (map (settled_word version) (long_words block))) array_salt)
+    AreBytes
+    (λ _. bytes)
+    (λ _. bytes_put (puts block 24 8 (map (settled_word version) (long_words block))) 0 4 _ (bytes_puts block 24 8 (map (settled_word version) (long_words block)) bytes))
 
 -- its words are the settled ones
 pub words_settled : (version : ℕ) (block other : List ℕ) → IsSettledBlock version block other → block_words 8 other ≡ map (settled_word version) (block_words 8 block)

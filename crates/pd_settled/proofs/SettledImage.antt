@@ -2,9 +2,9 @@
 use Rattle.std.proofs.Common.{◌≡◌, ◌⊎◌, inl, inr, ℕ, ◌*◌, ◌<◌, ◌≤◌, Bool, true, false, not, nat_eq, cond, List, [], ◌∷◌, ◌++◌, length, get_or, map, Option, refl, sym, ap, ap₂, ◌∙◌, arith, eq-eqb}
 use Rattle.std.specs.List.{AllByRecursion, flat_map, list_any, range_with_len}
 use Rattle.std.specs.Option.{unwrap_or}
-use Rattle.std.proofs.lemmas.Bool.{both_ways, cases_Bool, cases_lt, eqb-true, not-false}
+use Rattle.std.proofs.lemmas.Bool.{both_ways, cases_Bool, cases_lt, eqb-true, not-false, cond_both}
 use Rattle.std.proofs.lemmas.List.{map-append}
-use Rattle.std.proofs.lemmas.List.Elements.{All-get_or}
+use Rattle.std.proofs.lemmas.List.Elements.{All-from_get_or, All-get_or}
 use Rattle.std.proofs.lemmas.List.FromFn.{get_or-map-range_with_len, length-map-range_with_len}
 use Rattle.std.proofs.lemmas.Option.{slice_get-get_or, slice_get_past}
 use Rattle.pd_kinds.specs.declared.kind.Kind.TheVariants.{Cache}
@@ -23,12 +23,13 @@ use Rattle.pd_kinds.specs.Super.{salt_of}
 use Rattle.pd_kinds.specs.Trees.{block_words, words_of}
 use Rattle.pd_alike.proofs.Seen.{other_salt}
 use Rattle.pd_cache_meaning.proofs.SoundCache.{within}
+use Rattle.pd_laid_graph.proofs.Bytes.{AreBytes}
 use Rattle.pd_answers.specs.CachedView.{dirty_places, dirty_role, settled_block, settled_word}
 use Rattle.pd_settled.specs.Known.{IsKnown}
 use Rattle.pd_settled.proofs.DirtyPlaces.{found_in, is_in}
 use Rattle.pd_settled.proofs.OneRole.{one_role}
 use Rattle.pd_settled.proofs.SameBelow.{AreResealed}
-use Rattle.pd_settled.proofs.SettledBlock.{IsSettledBlock, settled_is, words_settled}
+use Rattle.pd_settled.proofs.SettledBlock.{IsSettledBlock, settled_bytes, settled_is, settled_size, words_settled}
 use Rattle.pd_settled.proofs.SoundCache.{first_holds, sound_super, super_checksum}
 
 -- a block of an array that breaks no rule has its checksum
@@ -175,3 +176,25 @@ module _ (image : List (List ℕ)) (is : IsImage image) (none : faults Cache sta
       let below = inside e.value other all.0 in
       let here : block_at settled_image e.value ≡ block_at image e.value = block_there e.value below ∙ rw (other_place e.value other all.0 apart) refl in
       ap₂ (λ (block : List ℕ) (ys : List ℕ). block_words bytes block ++ ys) here (words_of_others bytes other apart entries all.1)
+
+  -- it is an image
+  bytes_at : (b : ℕ) → AreBytes (settled_at b)
+  bytes_at b = cond_both (is_place b) (settled_block fields.version (block_at image b)) (block_at image b) AreBytes
+      (λ _. settled_bytes fields.version (block_at image b) (record { at = is.bytes b })) (λ _. record { at = is.bytes b })
+
+  size_at : (b : ℕ) → length (settled_at b) ≡ length (block_at image b)
+  size_at b = cond_both (is_place b) (settled_block fields.version (block_at image b)) (block_at image b) (λ (block : List ℕ). length block ≡ length (block_at image b))
+      (λ _. settled_size fields.version (block_at image b)) (λ _. refl)
+
+  pub settled_is_image : IsImage settled_image
+  settled_is_image = record {
+    bytes = λ b i. elim (cases_lt b (length image)) [
+      | inl below ↦ rw (block_there b below) ((bytes_at b).at i)
+      | inr past ↦ rw (block_past b past) (is.bytes b i)
+    ];
+    blocks = All-from_get_or (λ (block : List ℕ). length block ≡ 4096) settled_image []
+        (λ b within.
+        let number = size in
+        let below : b < length image = omega arith in
+        rw (← at_number settled_image b within, block_there b below) (size_at b ∙ whole b below));
+  }

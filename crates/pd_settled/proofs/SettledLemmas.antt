@@ -21,8 +21,8 @@ use Rattle.pd_settled.specs.Premises.{undirtied, without_dirt}
 use Rattle.pd_settled.proofs.Resealed.{BreaksChecksum, tree_breaks}
 use Rattle.pd_settled.proofs.SameBelow.{entries_same}
 use Rattle.pd_settled.proofs.SameFaults.{faults_same}
-use Rattle.pd_settled.proofs.SettledImage.{are_resealed, settled_image, words_of_others, words_of_places}
-use Rattle.pd_settled.proofs.WordLemmas.{AreSettled, cached_undirtied, entries_settled, none_dirty, origins_settled, settled_first, settled_second}
+use Rattle.pd_settled.proofs.SettledImage.{are_resealed, settled_image, settled_is_image, words_of_others, words_of_places}
+use Rattle.pd_settled.proofs.WordLemmas.{AreSettled, cached_undirtied, cold_entries, entries_settled, none_dirty, origins_settled, settled_first, settled_second}
 
 module _ (image : List (List ℕ)) (is : IsImage image) (none : faults Cache stages.Whole image ≡ []) (known : IsKnown image) where
   abbrev fields : CacheFields
@@ -192,3 +192,16 @@ module _ (image : List (List ℕ)) (is : IsImage image) (none : faults Cache sta
       let k = blocks_each m.block_size in
       ap₂ (λ (block : List ℕ) (now : CacheMeaning). cond (is_valid_super block) (overlaid (blocks_each now.block_size) (map cached_block now.entries) origin fast) origin) same_super same_meaning
       ∙ ap (λ (cached : List CachedBlock). cond (is_valid_super (block_at image 0)) (overlaid k cached origin fast) origin) (cached_undirtied m.entries)
+
+  -- it is an image, and where the cache was shut down nothing in it is hot
+  pub same_image : IsImage (settled image)
+  unfolding settled
+  same_image =
+      cond_both (nat_eq (length (hot_blocks (cache_meaning image))) 0) image after IsImage (λ _. is) (λ _. settled_is_image image is none known)
+
+  pub none_hot : (cache_meaning image).clean ≡ true → hot_blocks (cache_meaning (settled image)) ≡ []
+  unfolding hot_blocks
+  none_hot shut =
+      let m = cache_meaning image in
+      ap (λ (now : CacheMeaning). map cached_block (filter (is_hot now) now.entries)) same_meaning
+      ∙ ap (map cached_block) (cold_entries (is_hot (without_dirt m)) m.entries (λ e. rw shut refl))

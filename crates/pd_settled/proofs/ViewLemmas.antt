@@ -1,5 +1,5 @@
 -- What a cached device reads while the hot blocks are copied to its origin, and when they all are.
-use Rattle.std.proofs.Common.{◌≡◌, inl, inr, ℕ, zero, suc, ◌+◌, ◌<◌, ◌≤◌, Bool, false, List, [], ◌∷◌, length, get_or, map, filter, Option, Some, None, IfSome, refl, sym, ap, ap₂, ◌∙◌, arith}
+use Rattle.std.proofs.Common.{◌≡◌, inl, inr, ℕ, zero, suc, ◌+◌, ◌*◌, ◌<◌, ◌≤◌, Bool, false, List, [], ◌∷◌, length, get_or, map, filter, Option, Some, None, IfSome, refl, sym, ap, ap₂, ◌∙◌, arith, true}
 use Rattle.std.specs.List.{AllByRecursion, range_with_len, slice_get}
 use Rattle.std.specs.Option.{option_and_then, unwrap_or}
 use Rattle.std.proofs.lemmas.Bool.{cases_lt}
@@ -10,8 +10,9 @@ use Rattle.pd_kinds.specs.Meaning.{CacheEntry}
 use Rattle.pd_kinds.specs.Whole.{has_repeat}
 use Rattle.pd_answers.specs.CachedView.{CachedBlock, cached_block, fast_need, fast_place, overlaid, overlaid_block}
 use Rattle.pd_answers.specs.Writebacks.{KeepsOthers}
-use Rattle.pd_settled.specs.Premises.{IsSameOnBoth}
-use Rattle.pd_settled.proofs.PlaceLemmas.{place_by_all, place_by_others, place_is_there}
+use Rattle.pd_settled.specs.Premises.{IsOver, IsSameOnBoth}
+use Rattle.pd_laws.proofs.AllLemmas.{all_from}
+use Rattle.pd_settled.proofs.PlaceLemmas.{HasItsPlace, own_places, place_by_all, place_by_others, place_is_there}
 
 -- a range is mapped to the same where each of its numbers is
 pub range_same : {X : Type 0} → (f g : ℕ → X) (a n : ℕ) → ((i : ℕ) → i < a + n → f i ≡ g i) → map f (range_with_len a n) ≡ map g (range_with_len a n)
@@ -113,3 +114,18 @@ module _ (k : ℕ) (fast : List (List ℕ)) where
         → AllByRecursion (λ e. test e ≡ false → IsSameOnBoth k origin fast e) es
         → overlaid k some origin fast ≡ overlaid k all origin fast
     alone_same origin single agree = overlaid_same some all origin origin refl (same_alone origin single agree)
+
+    -- each block of an entry that passes stands in its place
+    pub over_each : (origin : List (List ℕ)) → has_repeat (map (λ (e : CacheEntry). e.origin) es) ≡ false
+        → AllByRecursion (λ e. test e ≡ true → IsOver k origin fast (overlaid k some origin fast) e) es
+    unfolding overlaid
+    over_each origin single =
+        all_from (HasItsPlace k test es) (λ e. test e ≡ true → IsOver k origin fast (overlaid k some origin fast) e)
+        (λ e placed passes j below here there.
+        let number = length-map-range_with_len (overlaid_block k some origin fast) 0 (length origin) in
+        let is : slice_get fast (e.block * k + j) ≡ Some (get_or fast (e.block * k + j) []) = slice_get-get_or fast (e.block * k + j) [] there in
+        slice_get-get_or (map (overlaid_block k some origin fast) (range_with_len 0 (length origin))) (e.origin * k + j) [] (omega arith)
+        ∙ (ap Some (get_or-map-range_with_len (overlaid_block k some origin fast) 0 (length origin) (e.origin * k + j) (e.origin * k + j) [] here (omega arith)
+        ∙ (is_cached some origin (e.origin * k + j) (e.block * k + j) (placed passes j below) ∙ ap (λ o. unwrap_or o (block_at origin (e.origin * k + j))) is))
+        ∙ sym is))
+        es (own_places k test es single)

@@ -133,3 +133,8 @@ none_dirty test (e ∷ es) clean none = elim (cases_Bool (test e)) [
       let here : undirtied e ≡ e = λ j. record e { dirty = sym (clean e cold) j } in
       ap₂ (λ (f : CacheEntry) (fs : List CacheEntry). f ∷ fs) here (none_dirty test es clean (rw cold at none))
 ]
+
+-- entries that aren't dirty don't pass a test that only dirty ones pass
+pub cold_entries : (test : CacheEntry → Bool) (es : List CacheEntry) → ((e : CacheEntry) → test (undirtied e) ≡ false) → filter test (map undirtied es) ≡ []
+cold_entries test [] cold = refl
+cold_entries test (e ∷ es) cold = rw (cold e) (cold_entries test es cold)

@@ -37,6 +37,11 @@ abbrev pub HasHotBlocks : List (List ℕ) → List (List ℕ) → Type 0
 HasHotBlocks image fast =
     fast_need (blocks_each (cache_meaning image).block_size) (hot_blocks (cache_meaning image)) ≤ length fast
 
+-- where both devices have a block of 4096 bytes of an entry, of k such, it stands over the origin in its place
+abbrev pub IsOver : ℕ → List (List ℕ) → List (List ℕ) → List (List ℕ) → CacheEntry → Type 0
+IsOver k origin fast over e =
+    (j : ℕ) → j < k → e.origin * k + j < length origin → e.block * k + j < length fast → slice_get over (e.origin * k + j) ≡ slice_get fast (e.block * k + j)
+
 -- both devices have the same bytes in a block of a cache, of k blocks of 4096 bytes, as far as both have it
 abbrev pub IsSameOnBoth : ℕ → List (List ℕ) → List (List ℕ) → CacheEntry → Type 0
 IsSameOnBoth k origin fast e =

@@ -10,4 +10,6 @@ pub use places::dirty_places_are_named;
 pub use settled::{
     settled_caches_have_the_same_faults, settled_caches_mean_the_same, settled_caches_show_the_same,
 };
-pub use views::{copied_origins_stand_alone, copying_keeps_the_view};
+pub use views::{
+    cached_blocks_stand_in_their_places, copied_origins_stand_alone, copying_keeps_the_view,
+};

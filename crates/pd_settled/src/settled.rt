@@ -1,6 +1,6 @@
 //! A cache in which nothing is dirty any more: which faults it has, what it means, and what it shows.
 
-ghost use Rattle.std.specs.Prelude.{◌≡◌, ℕ, List, []};
+ghost use Rattle.std.specs.Prelude.{◌≡◌, ℕ, true, List, []};
 ghost use Rattle.pd_kinds.specs.declared.kind.Kind.TheVariants.{Cache};
 ghost use Rattle.pd_kinds.specs.declared.kind.Stage.{Stage};
 ghost use Rattle.pd_kinds.specs.declared.kind.Stage.TheVariants.{Whole};
@@ -39,12 +39,16 @@ pub fn settled_caches_have_the_same_faults()
     caches_in_order_are_known();
 }
 
-/// It means what it meant, with no entry dirty, and its superblock is the same. Where nothing is hot it is the image itself.
+/// It means what it meant, with no entry dirty, and its superblock is the same. Where nothing is hot it is the image itself; and where
+/// the cache was shut down, nothing in it is hot: there is nothing left to copy. It is an image, of blocks of 4096 bytes, as that was.
 pub fn settled_caches_mean_the_same()
     ensures meaning { (image : List (List ℕ)) → IsImage image → faults Cache Whole image ≡ []
         → cache_meaning (settled image) ≡ without_dirt (cache_meaning image) }
     ensures super_block { (image : List (List ℕ)) → IsImage image → faults Cache Whole image ≡ []
         → block_at (settled image) 0 ≡ block_at image 0 }
+    ensures image { (image : List (List ℕ)) → IsImage image → faults Cache Whole image ≡ [] → IsImage (settled image) }
+    ensures done { (image : List (List ℕ)) → IsImage image → faults Cache Whole image ≡ [] → (cache_meaning image).clean ≡ true
+        → hot_blocks (cache_meaning (settled image)) ≡ [] }
     ensures cold { (image : List (List ℕ)) → hot_blocks (cache_meaning image) ≡ [] → settled image ≡ image }
 {
     caches_in_order_are_known();
