@@ -3,3 +3,4 @@ pub mod SoundLemmas
 pub mod LeafLemmas
 pub mod JudgeLemmas
 pub mod TopLemmas
+pub mod LostLemmas

@@ -4,8 +4,10 @@
 
 mod judging;
 mod laws;
+mod lost;
 mod tops;
 
 pub use judging::judge_each;
 pub use laws::{good_nodes_are_sound_trees, lost_leaves_lead_nowhere};
+pub use lost::settle_lost;
 pub use tops::leave_out_tops;
