@@ -1,0 +1,37 @@
+use Rattle.std.proofs.Common.{◌≡◌, List, [], ◌∷◌, ◌++◌, IfSome, Some, None, ap, ◌∙◌, subst, arith}
+use Rattle.pd_image.proofs.ReadLemmas.{only_reads_both}
+use Rattle.pd_tree.specs.Next.{IsNext}
+use Rattle.pd_tree.proofs.NextLemmas.{if_both}
+use Rattle.pd_answers.specs.CachedView.{CachedBlock}
+use Rattle.pd_cache_meaning.specs.declared.side_arrays.CacheRow.{CacheRow}
+use Rattle.pd_cache_meaning.specs.Rows.{rows_left}
+use Rattle.pd_writeback.specs.Hot.{hot_rows}
+use Rattle.pd_writeback.proofs.HotLemmas.{hot_last, hot_next}
+use Rattle.pd_writeback.proofs.hot.gather.Goals as goal
+
+pub loop-row-preserved : goal.loop-row-preserved
+loop-row-preserved g c =
+    let before = c.loop-row.invariant in
+    let room = c.in-Ok.ensures.room in
+    let was = before.room in
+    let taken = subst (λ o. IfSome o (λ image. IsNext {X = CacheRow} (Some c.in-Some.row) (rows_left image c.loop-row.maps) (rows_left image c.next.new.self))) before.kept.held
+    (rw c.in-Some.is at c.in-Ok.ensures.next) in
+    record {
+      hot = if_both (g.A.Device.state c.args.meta.now).held
+          (λ image held so_far next.
+          ap (λ (cs : List CachedBlock). cs ++ hot_rows c.args.clean (rows_left image c.next.new.self)) c.in-Ok-add_if_hot.ensures
+          ∙ hot_next c.args.clean c.in-Some.row _ _ (rows_left image c.loop-row.maps) (rows_left image c.next.new.self) so_far next)
+          before.hot taken;
+      room = omega arith;
+      kept = only_reads_both before.kept c.in-Ok.ensures.kept;
+      faults = c.in-Ok.ensures.faults ∙ before.faults;
+    }
+
+pub returns-in-None-clause-hot : goal.returns-in-None-clause-hot
+returns-in-None-clause-hot g c =
+    let before = c.loop-row.invariant in
+    if_both (g.A.Device.state c.args.meta.now).held
+    (λ image held so_far none. hot_last c.args.clean _ _ (rows_left image c.loop-row.maps) so_far none.0)
+    before.hot
+    (subst (λ o. IfSome o (λ image. IsNext {X = CacheRow} None (rows_left image c.loop-row.maps) (rows_left image c.next.new.self))) before.kept.held
+    (rw c.in-None.is at c.in-Ok.ensures.next))

@@ -1,0 +1,107 @@
+//! The marking of a cache's metadata as clean.
+
+ghost use Rattle.std.specs.Prelude.{◌≡◌, ◌≤◌, ◌<◌, ℕ, List, Some, IfSome, OnOk, is_some, slice_set};
+ghost use Rattle.pd_kinds.specs.Crash.{HoldsSynced, IsNoneOrNew, LeavesOnly};
+ghost use Rattle.pd_kinds.specs.Graph.{block_at};
+ghost use Rattle.pd_kinds.specs.Objects.{CountsFault};
+ghost use Rattle.pd_image.specs.Device.{IsWritable, KeepsPlace};
+ghost use Rattle.pd_draft.specs.Closed.{IsClosed, StaysClosed};
+ghost use Rattle.pd_answers.specs.CachedView.{settled_block};
+ghost use Rattle.pd_writeback.specs.Marked.{IsOldNoneOrMarked, marked, marked_image};
+ghost use Rattle.pd_writeback.specs.Places.{ArePlaces};
+
+use crate::settling::{is_settled, settle};
+use pd_draft::{Rewrite, clear};
+use pd_image::{Device, Failed};
+use pd_kinds::Block;
+
+/// Marks the blocks at these places, and writes this superblock again. Block 0 is closed first, and written last.
+pub(crate) fn mark_places<A: Device>(
+    super_block: &Block,
+    version: u32,
+    places: &[u64],
+    meta: &mut A,
+) -> Result<(), Failed>
+    requires writable { IsWritable (A.state meta.old) }
+    requires some { 1 ≤ (A.state meta.old).blocks }
+    requires places { ArePlaces (A.state meta.old).blocks places.now }
+    ensures done { OnOk result (IfSome (A.state meta.old).held (λ image. HoldsSynced (marked_image version places.now super_block.now.0 image) (A.state meta.new))) }
+
+    // Where nothing was unsynced, a crash leaves the old image, no valid superblock, or the marked image.
+    ensures crash { (image : List (List ℕ)) → HoldsSynced image (A.state meta.old)
+        → LeavesOnly (IsOldNoneOrMarked image (marked_image version places.now super_block.now.0 image)) (A.state meta.old) (A.state meta.new) }
+    ensures told { is_some (A.state meta.new).held ≡ is_some (A.state meta.old).held }
+    ensures kept { KeepsPlace (A.state meta.old) (A.state meta.new) }
+    ensures faults { CountsFault result (A.state meta.old).faults (A.state meta.new).faults }
+{
+    clear(meta)?;
+    mark_closed(super_block, version, places, meta)
+}
+
+/// The same over a device whose block 0 is closed.
+fn mark_closed<A: Device>(
+    super_block: &Block,
+    version: u32,
+    places: &[u64],
+    meta: &mut A,
+) -> Result<(), Failed>
+    requires writable { IsWritable (A.state meta.old) }
+    requires some { 1 ≤ (A.state meta.old).blocks }
+    requires places { ArePlaces (A.state meta.old).blocks places.now }
+    requires closed { IsClosed (A.state meta.old) }
+    ensures done { OnOk result (IfSome (A.state meta.old).held (λ image. HoldsSynced (slice_set (marked version image places.now) 0 super_block.now.0) (A.state meta.new))) }
+    ensures crash { (image : List (List ℕ)) → (A.state meta.old).held ≡ Some image
+        → LeavesOnly (IsNoneOrNew (slice_set (marked version image places.now) 0 super_block.now.0)) (A.state meta.old) (A.state meta.new) }
+    ensures told { is_some (A.state meta.new).held ≡ is_some (A.state meta.old).held }
+    ensures kept { KeepsPlace (A.state meta.old) (A.state meta.new) }
+    ensures faults { CountsFault result (A.state meta.old).faults (A.state meta.new).faults }
+{
+    let mut rewrite = Rewrite::over(meta);
+    mark_all(&mut rewrite, version, places)?;
+    rewrite.commit(super_block)
+}
+
+/// Marks the blocks at these places.
+fn mark_all<A: Device>(
+    rewrite: &mut Rewrite<'_, A>,
+    version: u32,
+    places: &[u64],
+) -> Result<(), Failed>
+    requires writable { IsWritable (A.state rewrite.old.dev.now) }
+    requires places { ArePlaces (A.state rewrite.old.dev.now).blocks places.now }
+    requires closed { IsClosed (A.state rewrite.old.dev.now) }
+    ensures same_reference { rewrite.new.dev.ghost_name ≡ rewrite.old.dev.ghost_name }
+    ensures content { OnOk result (IfSome (A.state rewrite.old.dev.now).held (λ image. (A.state rewrite.new.dev.now).held ≡ Some (marked version image places.now))) }
+    ensures crash { StaysClosed (A.state rewrite.old.dev.now) (A.state rewrite.new.dev.now) }
+    ensures faults { CountsFault result (A.state rewrite.old.dev.now).faults (A.state rewrite.new.dev.now).faults }
+{
+    let mut block = Block::zeros();
+    for place in places {
+        mark_one(rewrite, version, *place, &mut block)?;
+    }
+    Ok(())
+}
+
+/// Marks the block at one place, by way of this one; where its words say it already, it isn't written.
+fn mark_one<A: Device>(
+    rewrite: &mut Rewrite<'_, A>,
+    version: u32,
+    place: u64,
+    block: &mut Block,
+) -> Result<(), Failed>
+    requires writable { IsWritable (A.state rewrite.old.dev.now) }
+    requires past { 1 ≤ place }
+    requires within { place < (A.state rewrite.old.dev.now).blocks }
+    requires closed { IsClosed (A.state rewrite.old.dev.now) }
+    ensures same_reference { rewrite.new.dev.ghost_name ≡ rewrite.old.dev.ghost_name }
+    ensures content { OnOk result (IfSome (A.state rewrite.old.dev.now).held (λ image.
+        (A.state rewrite.new.dev.now).held ≡ Some (slice_set image place (settled_block version (block_at image place))))) }
+    ensures crash { StaysClosed (A.state rewrite.old.dev.now) (A.state rewrite.new.dev.now) }
+    ensures faults { CountsFault result (A.state rewrite.old.dev.now).faults (A.state rewrite.new.dev.now).faults }
+{
+    rewrite.read(place, block)?;
+    if is_settled(version, block) {
+        return Ok(());
+    }
+    rewrite.replace(place, &settle(version, block))
+}

@@ -1,0 +1,109 @@
+//! The blocks that say what is dirty in a cache.
+
+ghost use Rattle.std.specs.Prelude.{◌≡◌, ◌≤◌, ◌<◌, ◌+◌, ◌++◌, ◌∷◌, [], if◌then◌else◌, ℕ, false, List, IfOk, IfSome, OnOk, length, replicate, slice_index_or};
+ghost use Rattle.pd_kinds.specs.Limits.{room_of};
+ghost use Rattle.pd_kinds.specs.Objects.{CountsFault};
+ghost use Rattle.pd_image.specs.Device.{IsAttached, OnlyReads};
+ghost use Rattle.pd_tree.specs.Cursor.{cursor_room};
+ghost use Rattle.pd_writeback.specs.Failing.{CountsMeta};
+ghost use Rattle.pd_writeback.specs.Places.{ArePlaces, mark, marks, names_left, places_named, seen_places, tree_names};
+
+use crate::fault::WriteFault;
+use pd_image::{Device, Failed};
+use pd_kinds::MAX_META_BLOCKS;
+use pd_tree::Cursor;
+use pd_value::Root;
+use std::alloc::{AllocError, Global};
+
+/// The blocks that the entries of the tree with this root name, ascending, and each once. Block 0 and what is outside of
+/// the metadata are left out.
+///
+/// Of the memory that it takes, a byte for each block of the metadata and that of a cursor are given back.
+pub(crate) fn find_places<A: Device>(
+    alloc: Global,
+    root: u64,
+    meta: &mut A,
+) -> Result<Vec<u64>, WriteFault>
+    requires attached { IsAttached (A.state meta.old) }
+    requires within { root < (A.state meta.old).blocks }
+    ensures named { IfOk result (λ places. IfSome (A.state meta.old).held (λ image. places.items ≡ places_named (room_of (A.state meta.old).blocks) (tree_names image root))) }
+    ensures places { IfOk result (λ places. ArePlaces (A.state meta.old).blocks places.items) }
+    ensures kept { OnlyReads (A.state meta.old) (A.state meta.new) }
+    ensures faults { CountsMeta result (A.state meta.old).faults (A.state meta.new).faults }
+{
+    let (mut seen, mut entries) = match room_for(alloc, meta.blocks().min(MAX_META_BLOCKS), root) {
+        Ok(room) => room,
+        Err(_) => return Err(WriteFault::Memory),
+    };
+    match mark_named(&mut entries, seen.as_mut_slice(), meta) {
+        Ok(()) => {}
+        Err(_) => return Err(WriteFault::Meta),
+    }
+    match ascending(alloc, seen.as_slice()) {
+        Ok(places) => Ok(places),
+        Err(_) => Err(WriteFault::Memory),
+    }
+}
+
+/// The memory for so many blocks, of which none was seen, and for a cursor over the tree with this root.
+fn room_for(alloc: Global, blocks: u64, root: u64) -> Result<(Vec<bool>, Cursor<Root>), AllocError>
+    requires { blocks ≤ 4161600 }
+    ensures seen { IfOk result (λ room. room.0.items ≡ replicate blocks false) }
+    ensures names { (image : List (List ℕ)) → IfOk result (λ room. names_left image room.1 ≡ tree_names image root) }
+    ensures room { IfOk result (λ room. cursor_room room.1 ≡ root + 1) }
+{
+    let mut seen = Vec::new(alloc);
+    seen.resize(blocks as usize, false)?;
+    let entries = Cursor::start(alloc, root)?;
+    Ok((seen, entries))
+}
+
+/// Marks the blocks that the entries that are left name.
+fn mark_named<A: Device>(
+    entries: &mut Cursor<Root>,
+    seen: &mut [bool],
+    meta: &mut A,
+) -> Result<(), Failed>
+    requires attached { IsAttached (A.state meta.old) }
+    requires within { cursor_room entries.old ≤ (A.state meta.old).blocks }
+    ensures marked { OnOk result (IfSome (A.state meta.old).held (λ image. seen.new ≡ marks seen.old (names_left image entries.old))) }
+    ensures first { slice_index_or seen.new 0 false ≡ slice_index_or seen.old 0 false }
+    ensures kept { OnlyReads (A.state meta.old) (A.state meta.new) }
+    ensures faults { CountsFault result (A.state meta.old).faults (A.state meta.new).faults }
+{
+    while let Some((_, named)) = entries.next(meta)? {
+        mark(seen, named.0);
+    }
+    Ok(())
+}
+
+/// Marks a block, but for block 0 and those that aren't there.
+fn mark(seen: &mut [bool], b: u64)
+    ensures marked { seen.new ≡ mark seen.old b }
+    ensures first { slice_index_or seen.new 0 false ≡ slice_index_or seen.old 0 false }
+{
+    if b != 0 && b < seen.len() as u64 {
+        seen[b as usize] = true;
+    }
+}
+
+/// The blocks that are marked, ascending.
+fn ascending(alloc: Global, seen: &[bool]) -> Result<Vec<u64>, AllocError>
+    ensures { IfOk result (λ places. places.items ≡ seen_places seen.now) }
+{
+    let mut places = Vec::new(alloc);
+    for (b, is_seen) in seen.iter().enumerate() {
+        add_if_seen(&mut places, b as u64, *is_seen)?;
+    }
+    Ok(places)
+}
+
+/// Adds a block where it is marked.
+fn add_if_seen(places: &mut Vec<u64>, b: u64, is_seen: bool) -> Result<(), AllocError>
+    ensures { OnOk result (places.new.items ≡ places.old.items ++ (if is_seen then b ∷ [] else [])) }
+{
+    if is_seen {
+        places.push(b)?;
+    }
+    Ok(())
+}
