@@ -4,3 +4,6 @@ pub mod MarkedLemmas
 pub mod PlacesLemmas
 pub mod HotLemmas
 pub mod SettleLemmas
+pub mod PlanLemmas
+pub mod MadeLemmas
+pub mod OnceLemmas

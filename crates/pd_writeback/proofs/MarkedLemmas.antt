@@ -10,9 +10,15 @@ use Rattle.pd_kinds.specs.CacheFormat.{cache_fields}
 use Rattle.pd_kinds.specs.Field.{zeros}
 use Rattle.pd_kinds.specs.Graph.{block_at}
 use Rattle.pd_kinds.specs.Meaning.{cache_meaning}
+use Rattle.pd_kinds.specs.Crash.{HoldsSynced, IsNoneOrNew, IsOldOrNone, LeavesOnly}
+use Rattle.pd_kinds.specs.Objects.{DeviceState}
+use Rattle.pd_kinds.specs.Moments.{now}
+use Rattle.pd_kinds.proofs.CrashLemmas.{and_then, left_now, left_synced, stays, weaken}
 use Rattle.pd_image.proofs.CrashLemmas.{at_some}
+use Rattle.pd_draft.specs.Closed.{StaysClosed}
+use Rattle.pd_draft.proofs.DraftLemmas.{zeros_none}
 use Rattle.pd_answers.specs.CachedView.{dirty_places, hot_blocks, settled, settled_block}
-use Rattle.pd_writeback.specs.Marked.{marked, marked_image}
+use Rattle.pd_writeback.specs.Marked.{IsOldNoneOrMarked, marked, marked_image}
 use Rattle.pd_writeback.specs.Places.{ArePlaces}
 
 abbrev Image : Type 0
@@ -181,3 +187,36 @@ module _ (image : Image) (places : List ℕ) (version : ℕ) (super : List ℕ) 
       (λ b within.
       let within' : b < length image = rw (← length-marked_image) within in
       each_block b within' ∙ sym (get_or-map-range_with_len settled_at 0 (length image) b b [] within' (omega arith))))
+
+-- while block 0 is closed a crash leaves no superblock
+pub closed_marking : (made : Image) {old new : DeviceState} → StaysClosed old new → LeavesOnly (IsNoneOrNew made) old new
+closed_marking made stays = weaken stays.crash (λ image firsts zeroed chance. inl (zeros_none image firsts zeroed))
+
+pub committed_marking : (version : ℕ) (places super : List ℕ) (image : Image) {old mid new : DeviceState} → StaysClosed old mid
+    → IfSome old.held (λ i. mid.held ≡ Some (marked version i places)) → old.held ≡ Some image
+    → ((i : Image) → mid.held ≡ Some i → LeavesOnly (IsNoneOrNew (set i 0 super)) mid new) → LeavesOnly (IsNoneOrNew (set (marked version image places) 0 super)) old new
+committed_marking version places super image {old} {mid} {new} stays content held last =
+    and_then (closed_marking (set (marked version image places) 0 super) stays)
+    (last (marked version image places) (at_some old.held (λ (i : Image). mid.held ≡ Some (marked version i places)) image held content))
+
+-- the closing, and then the marking
+pub whole_marking : (image made : Image) {old mid new : DeviceState} → LeavesOnly (IsOldOrNone image) old mid → LeavesOnly (IsNoneOrNew made) mid new
+    → LeavesOnly (IsOldNoneOrMarked image made) old new
+whole_marking image made first second =
+    and_then
+    (weaken first (λ left firsts outcome chance. ⊎_elim (λ old. inl old) (λ none. inr (inl none)) (outcome chance)))
+    (weaken second (λ left firsts outcome chance. ⊎_elim (λ none. inr (inl none)) (λ new. inr (inr new)) (outcome chance)))
+
+pub unfinished_marking : (image made : Image) {old new : DeviceState} → LeavesOnly (IsOldOrNone image) old new → LeavesOnly (IsOldNoneOrMarked image made) old new
+unfinished_marking image made first = weaken first (λ left firsts outcome chance. ⊎_elim (λ old. inl old) (λ none. inr (inl none)) (outcome chance))
+
+pub done_marking : (version : ℕ) (places super : List ℕ) (old mid : Option Image) (new : DeviceState) → IfSome old (λ image. mid ≡ Some (set image 0 zeros))
+    → IfSome mid (λ image. HoldsSynced (set (marked version image places) 0 super) new) → IfSome old (λ image. HoldsSynced (marked_image version places super image) new)
+unfolding marked_image
+done_marking version places super None mid new closed done = tt
+done_marking version places super (Some image) mid new closed done = at_some mid (λ (i : Image). HoldsSynced (set (marked version i places) 0 super) new) (set image 0 zeros) closed done
+
+-- where nothing is written
+pub unwritten_marking : (image made : Image) (device : DeviceState) → HoldsSynced image device → LeavesOnly (IsOldNoneOrMarked image made) device device
+unwritten_marking image made device synced =
+    stays refl refl (λ left firsts leaves chance. inl (left_synced image left (now image device.history) refl synced.unsynced (left_now device image left firsts synced.held leaves).0))

@@ -3,7 +3,7 @@ use Rattle.std.proofs.Common.{◌≡◌, inl, inr, ⊎_elim, ℕ, zero, suc, ◌
 use Rattle.std.specs.List.{count_by, range_with_len, slice_get, sum_by}
 use Rattle.std.specs.List.Sorted.{IsPermutation}
 use Rattle.std.specs.Option.{is_some, option_and_then, unwrap_or}
-use Rattle.std.proofs.lemmas.Bool.{and_parts, cases_Bool, cases_lt, leb-true, ltb-true, ltb-false, le-leb, lt-ltb, true≢false}
+use Rattle.std.proofs.lemmas.Bool.{and_parts, cases_Bool, cases_lt, leb-true, ltb-true, ltb-false, ne_eqb, le-leb, lt-ltb, true≢false}
 use Rattle.std.proofs.lemmas.List.{ext_get_or, take_more}
 use Rattle.std.proofs.lemmas.List.FromFn.{get_or-map-range_with_len, length-map-range_with_len}
 use Rattle.std.proofs.lemmas.List.Sorted.{sum_by-IsPermutation}
@@ -203,7 +203,7 @@ module _ (k : ℕ) (b : ℕ) where
           ap (λ (t : Bool). cond t (Some (given_place k x b)) (fast_place k cs b)) first ∙ (told_suc (given_place k x b) ∙ sym (ap told all))
         where
           told_suc : (n : ℕ) → Some n ≡ told (suc n)
-          told_suc n = ap (λ (m : ℕ). Some m) (let same : n ≡ suc n - 1 = omega arith in same)
+          told_suc n = ap (λ (m : ℕ). Some m) (let same : n ≡ suc n - 1 = omega arith in same) ∙ sym (ap (λ (t : Bool). cond t None (Some (suc n - 1))) (ne_eqb (suc n) 0 (λ e. omega arith)))
       by_first false first more =
           let same : count_by (λ c. stands_for k c b) (x ∷ cs) ≡ 0 + count_by (λ c. stands_for k c b) cs = counted_cons x cs ∙ ap (λ (t : Bool). cond t 1 0 + count_by (λ c. stands_for k c b) cs) first in
           let all : sum_by share (x ∷ cs) ≡ sum_by share cs = sum_by-cons share x cs ∙ (ap (λ (t : Bool). cond t (given_place k x b + 1) 0 + sum_by share cs) first ∙ omega arith) in

@@ -1,4 +1,4 @@
-//! Which blocks say what is dirty in a cache without faults.
+//! Which blocks say what is dirty in a cache without faults, and that its hot blocks are apart.
 
 ghost use Rattle.std.specs.Prelude.{◌≡◌, ◌==◌, ℕ, List, [], length};
 ghost use Rattle.std.specs.List.{list_any};
@@ -7,8 +7,10 @@ ghost use Rattle.pd_kinds.specs.declared.kind.Stage.TheVariants.{Whole};
 ghost use Rattle.pd_kinds.specs.CacheFormat.{cache_fields};
 ghost use Rattle.pd_kinds.specs.Graph.{block_at};
 ghost use Rattle.pd_kinds.specs.Limits.{room_of};
+ghost use Rattle.pd_kinds.specs.Meaning.{cache_meaning};
 ghost use Rattle.pd_kinds.specs.Stages.{faults};
-ghost use Rattle.pd_answers.specs.CachedView.{dirty_places};
+ghost use Rattle.pd_answers.specs.CachedView.{dirty_places, hot_blocks};
+ghost use Rattle.pd_writeback.specs.Overlaid.{IsEachOnce};
 ghost use Rattle.pd_writeback.specs.Places.{dirty_root, places_named, tree_names};
 
 use pd_laws::{reached_by_paths, trees_are_in_order};
@@ -32,4 +34,11 @@ pub fn dirty_places_are_named()
     cursors_give_entries::<Root>();
     trees_are_in_order();
     reached_by_paths();
+}
+
+/// In a cache without faults up to the stage Whole, at most one hot block stands for each block of the origin.
+pub fn hot_blocks_are_apart()
+    ensures { (image : List (List ℕ)) (k : ℕ) → faults Cache Whole image ≡ [] → IsEachOnce k (hot_blocks (cache_meaning image)) }
+{
+    superblocks_lead_to_reached_roots();
 }

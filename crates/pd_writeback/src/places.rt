@@ -31,17 +31,30 @@ pub(crate) fn find_places<A: Device>(
     ensures kept { OnlyReads (A.state meta.old) (A.state meta.new) }
     ensures faults { CountsMeta result (A.state meta.old).faults (A.state meta.new).faults }
 {
+    let seen = see_named(alloc, root, meta)?;
+    match ascending(alloc, seen.as_slice()) {
+        Ok(places) => Ok(places),
+        Err(_) => Err(WriteFault::Memory),
+    }
+}
+
+/// Of each block of the metadata, whether an entry of the tree with this root names it; block 0 is left out.
+fn see_named<A: Device>(alloc: Global, root: u64, meta: &mut A) -> Result<Vec<bool>, WriteFault>
+    requires attached { IsAttached (A.state meta.old) }
+    requires within { root < (A.state meta.old).blocks }
+    ensures named { IfOk result (λ seen. IfSome (A.state meta.old).held (λ image. seen.items ≡ marks (replicate (room_of (A.state meta.old).blocks) false) (tree_names image root))) }
+    ensures number { IfOk result (λ seen. length seen.items ≤ (A.state meta.old).blocks) }
+    ensures first { IfOk result (λ seen. slice_index_or seen.items 0 false ≡ false) }
+    ensures kept { OnlyReads (A.state meta.old) (A.state meta.new) }
+    ensures faults { CountsMeta result (A.state meta.old).faults (A.state meta.new).faults }
+{
     let (mut seen, mut entries) = match room_for(alloc, meta.blocks().min(MAX_META_BLOCKS), root) {
         Ok(room) => room,
         Err(_) => return Err(WriteFault::Memory),
     };
     match mark_named(&mut entries, seen.as_mut_slice(), meta) {
-        Ok(()) => {}
-        Err(_) => return Err(WriteFault::Meta),
-    }
-    match ascending(alloc, seen.as_slice()) {
-        Ok(places) => Ok(places),
-        Err(_) => Err(WriteFault::Memory),
+        Ok(()) => Ok(seen),
+        Err(_) => Err(WriteFault::Meta),
     }
 }
 
@@ -50,6 +63,8 @@ fn room_for(alloc: Global, blocks: u64, root: u64) -> Result<(Vec<bool>, Cursor<
     requires { blocks ≤ 4161600 }
     ensures seen { IfOk result (λ room. room.0.items ≡ replicate blocks false) }
     ensures names { (image : List (List ℕ)) → IfOk result (λ room. names_left image room.1 ≡ tree_names image root) }
+    ensures first { IfOk result (λ room. slice_index_or room.0.items 0 false ≡ false) }
+    ensures number { IfOk result (λ room. length room.0.items ≡ blocks) }
     ensures room { IfOk result (λ room. cursor_room room.1 ≡ root + 1) }
 {
     let mut seen = Vec::new(alloc);

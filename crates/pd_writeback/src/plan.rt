@@ -6,7 +6,7 @@ ghost use Rattle.pd_writeback.specs.Room.{AllFit};
 
 use crate::fault::WriteFault;
 use crate::hot::{HotBlock, sort_by_origin};
-use crate::laws::dirty_places_are_named;
+use crate::laws::{dirty_places_are_named, hot_blocks_are_apart};
 use crate::making::{find_dirty, is_block_size_bad, read_super};
 use crate::marking::mark_places;
 use crate::pairs::copy_hot;
@@ -105,7 +105,10 @@ impl Plan {
         }
         let each = (s.block_size / 8) as u64;
         let (mut hot, places) = find_dirty(alloc, &s, meta)?;
-        look_at_room(hot.as_slice(), each, fast_blocks, origin_blocks)?;
+        match look_at_room(hot.as_slice(), each, fast_blocks, origin_blocks) {
+            Ok(()) => {}
+            Err(fault) => return Err(fault),
+        }
         sort_by_origin(&mut hot);
         Ok(Plan {
             super_block,
@@ -146,6 +149,7 @@ impl Plan {
         ensures place { KeepsPlace (B.state origin.old) (B.state origin.new) }
         ensures faults { CountsCopies result (B.state origin.old).faults (B.state origin.new).faults (C.state fast.old).faults (C.state fast.new).faults }
     {
+        hot_blocks_are_apart();
         if self.hot.is_empty() {
             return Ok(0);
         }

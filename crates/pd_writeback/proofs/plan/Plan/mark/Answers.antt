@@ -1,0 +1,35 @@
+use Rattle.std.proofs.Common.{◌≡◌, ◌≤◌, ℕ, List, length, sym, ap, ◌∙◌, subst, arith}
+use Rattle.std.proofs.lemmas.Bool.{eqb-true, eqb-false}
+use Rattle.pd_kinds.specs.Crash.{HoldsSynced, LeavesOnly, IsOldNoneOrMade}
+use Rattle.pd_kinds.specs.Meaning.{cache_meaning}
+use Rattle.pd_image.proofs.CrashLemmas.{at_some}
+use Rattle.pd_answers.specs.CachedView.{hot_blocks, settled}
+use Rattle.pd_writeback.specs.Marked.{IsOldNoneOrMarked, marked_image}
+use Rattle.pd_writeback.proofs.MarkedLemmas.{marked_is_settled, unwritten_marking}
+use Rattle.pd_writeback.proofs.PlanLemmas.{cold_blocks, cold_settled, warm}
+use Rattle.pd_writeback.proofs.plan.Plan.mark.Goals as goal
+
+pub returns-then-is_empty-clause-done : goal.returns-then-is_empty-clause-done
+returns-then-is_empty-clause-done g c image of synced =
+    let cold = cold_blocks (hot_blocks (cache_meaning image)) c.args.self.now.hot.items of.hot (let empty = eqb-true _ 0 (sym c.is_empty.ensures ∙ c.if-is_empty.true) in omega (arith, c.args.self.now.hot.ok.0)) in
+    subst (λ (i : List (List ℕ)). HoldsSynced i (g.A.Device.state c.args.meta.now)) (sym (cold_settled image cold)) synced
+
+pub returns-then-is_empty-clause-crash : goal.returns-then-is_empty-clause-crash
+returns-then-is_empty-clause-crash g c image of synced = unwritten_marking image (settled image) (g.A.Device.state c.args.meta.now) synced
+
+pub returns-in-Ok-clause-done : goal.returns-in-Ok-clause-done
+returns-in-Ok-clause-done g c image of synced =
+    let plan = c.args.self.now in
+    let old = g.A.Device.state c.args.meta.now in
+    let new = g.A.Device.state c.mark_places.new.meta in
+    let number = at_some old.held (λ (i : List (List ℕ)). length i ≡ old.blocks) image synced.held (g.met.A.Device.measured c.args.meta.now) in
+    let blocks = c.requires.blocks in
+    let some : 1 ≤ length image = let least = plan.some in omega arith in
+    let hot = warm (hot_blocks (cache_meaning image)) plan.hot.items of.hot (λ none. eqb-false _ 0 (sym c.is_empty.ensures ∙ c.if-is_empty.false) (omega (arith, plan.hot.ok.0))) in
+    ?
+
+pub returns-in-Ok-clause-crash : goal.returns-in-Ok-clause-crash
+returns-in-Ok-clause-crash g c image of synced = ?
+
+pub returns-in-Err-clause-crash : goal.returns-in-Err-clause-crash
+returns-in-Err-clause-crash g c image of synced = ?
