@@ -21,8 +21,12 @@ use Rattle.pd_answers.specs.Writebacks.{KeepsOthers}
 use Rattle.pd_writeback.specs.declared.hot.HotBlock.{HotBlock}
 use Rattle.pd_writeback.specs.Hot.{cached, cached_all, hot_rows, is_clean}
 use Rattle.pd_writeback.specs.Overlaid.{IsEachOnce, IsLeftKept}
-use Rattle.pd_writeback.specs.Plan.{IsFound}
+use Rattle.pd_writeback.specs.declared.plan.Plan.{Plan}
+use Rattle.pd_writeback.specs.Marked.{marked_image}
+use Rattle.pd_writeback.specs.Places.{ArePlaces}
+use Rattle.pd_writeback.specs.Plan.{IsPlanOf}
 use Rattle.pd_writeback.proofs.HotLemmas.{hot_of_meaning}
+use Rattle.pd_writeback.proofs.MarkedLemmas.{marked_is_settled}
 use Rattle.pd_writeback.proofs.OverlaidLemmas.{given_place, once_in_any_order, overlaid_in_any_order, overlaid_none}
 
 abbrev Image : Type 0
@@ -110,10 +114,10 @@ copied_synced k cs (Some fast) old mid new overlaid_is crash same = λ o is.
     synced_now mid new (overlaid k cs o fast) (at_some old (λ (i : Image). mid.held ≡ Some (overlaid k cs i fast)) o is overlaid_is) crash same
 
 -- what is found
-pub hot_in : Option Image → List CachedBlock
+abbrev pub hot_in : Option Image → List CachedBlock
 hot_in held = option_map_or (λ image. hot_blocks (cache_meaning image)) held []
 
-found_of : (image : Image) (s : CacheFields) (hot : List CachedBlock) (blocks : ℕ) → s ≡ cache_fields (block_at image 0) → GivesCache image → length image ≡ blocks
+pub found_of : (image : Image) (s : CacheFields) (hot : List CachedBlock) (blocks : ℕ) → s ≡ cache_fields (block_at image 0) → GivesCache image → length image ≡ blocks
     → (RootsBelow blocks s → hot ≡ hot_rows (is_clean s) (rows_below image s)) → hot ≡ hot_blocks (cache_meaning image)
 unfolding cache_meaning
 found_of image s hot blocks of gives number known =
@@ -121,7 +125,7 @@ found_of image s hot blocks of gives number known =
     let clean : (cache_meaning image).clean ≡ is_clean s = ap is_clean (sym of) in
     known roots ∙ hot_of_meaning (cache_meaning image) (is_clean s) (rows_below image s) clean (gives.entries ∙ ap (λ (f : CacheFields). map entry_of (rows_below image f)) (sym of))
 
-size_of : (image : Image) (s : CacheFields) → s ≡ cache_fields (block_at image 0) → s.block_size ≡ (cache_meaning image).block_size
+pub size_of : (image : Image) (s : CacheFields) → s ≡ cache_fields (block_at image 0) → s.block_size ≡ (cache_meaning image).block_size
 unfolding cache_meaning
 size_of image s of = ap (λ (f : CacheFields). f.block_size) of
 
@@ -130,3 +134,11 @@ pub cold_told : (image : Image) → hot_blocks (cache_meaning image) ≡ [] → 
     → IfSome fast (λ held. (old : Image) → HoldsSynced old origin → HoldsSynced (copied image old held) origin)
 cold_told image none None origin = tt
 cold_told image none (Some held) origin = λ old synced. subst (λ (i : Image). HoldsSynced i origin) (sym (cold_copied image old held none)) synced
+
+-- the marking of a plan's places is the settled image
+pub plan_settles : (image : Image) (plan : Plan) (places super : List ℕ) → IsPlanOf image plan → places ≡ plan.places.items → super ≡ plan.super_block.value.0 → 1 ≤ length image
+    → (length plan.hot.items ≡ 0 → ⊥) → marked_image plan.version places super image ≡ settled image
+plan_settles image plan places super of same of_super some hot =
+    marked_is_settled image places plan.version super plan.meta_blocks (subst (λ (ps : List ℕ). ArePlaces plan.meta_blocks ps) (sym same) plan.are_places) some of.version (of_super ∙ of.super_block)
+    (λ b. ap (λ (ps : List ℕ). list_any (λ place. nat_eq place b) ps) same ∙ of.places b)
+    (warm (hot_blocks (cache_meaning image)) plan.hot.items of.hot hot)

@@ -5,9 +5,14 @@ use Rattle.pd_kinds.specs.Meaning.{cache_meaning}
 use Rattle.pd_image.proofs.CrashLemmas.{at_some}
 use Rattle.pd_answers.specs.CachedView.{hot_blocks, settled}
 use Rattle.pd_writeback.specs.Marked.{IsOldNoneOrMarked, marked_image}
-use Rattle.pd_writeback.proofs.MarkedLemmas.{marked_is_settled, unwritten_marking}
-use Rattle.pd_writeback.proofs.PlanLemmas.{cold_blocks, cold_settled, warm}
+use Rattle.pd_kinds.specs.declared.block.Block.{Block}
+use Rattle.pd_writeback.proofs.MarkedLemmas.{unwritten_marking}
+use Rattle.pd_writeback.proofs.PlanLemmas.{cold_blocks, cold_settled, plan_settles}
 use Rattle.pd_writeback.proofs.plan.Plan.mark.Goals as goal
+
+-- at least as many as there must be
+at_least : {m n least : ℕ} → m ≡ n → n ≡ least → 1 ≤ least → 1 ≤ m
+at_least first second some = omega arith
 
 pub returns-then-is_empty-clause-done : goal.returns-then-is_empty-clause-done
 returns-then-is_empty-clause-done g c image of synced =
@@ -23,13 +28,30 @@ returns-in-Ok-clause-done g c image of synced =
     let old = g.A.Device.state c.args.meta.now in
     let new = g.A.Device.state c.mark_places.new.meta in
     let number = at_some old.held (λ (i : List (List ℕ)). length i ≡ old.blocks) image synced.held (g.met.A.Device.measured c.args.meta.now) in
-    let blocks = c.requires.blocks in
-    let some : 1 ≤ length image = let least = plan.some in omega arith in
-    let hot = warm (hot_blocks (cache_meaning image)) plan.hot.items of.hot (λ none. eqb-false _ 0 (sym c.is_empty.ensures ∙ c.if-is_empty.false) (omega (arith, plan.hot.ok.0))) in
-    ?
+    let some : 1 ≤ length image = at_least number c.requires.blocks plan.some in
+    let settles = plan_settles image plan c.as_slice.result.now c.deref.result.now.0 of c.as_slice.ensures.value (ap (λ (b : Block). b.0) c.deref.ensures) some
+    (λ none. eqb-false _ 0 (sym c.is_empty.ensures ∙ c.if-is_empty.false) (omega (arith, plan.hot.ok.0))) in
+    subst (λ (i : List (List ℕ)). HoldsSynced i new) settles
+    (at_some old.held (λ (i : List (List ℕ)). HoldsSynced (marked_image plan.version c.as_slice.result.now c.deref.result.now.0 i) new) image synced.held c.in-Ok.ensures.done)
 
 pub returns-in-Ok-clause-crash : goal.returns-in-Ok-clause-crash
-returns-in-Ok-clause-crash g c image of synced = ?
+returns-in-Ok-clause-crash g c image of synced =
+    let plan = c.args.self.now in
+    let old = g.A.Device.state c.args.meta.now in
+    let new = g.A.Device.state c.mark_places.new.meta in
+    let number = at_some old.held (λ (i : List (List ℕ)). length i ≡ old.blocks) image synced.held (g.met.A.Device.measured c.args.meta.now) in
+    let some : 1 ≤ length image = at_least number c.requires.blocks plan.some in
+    let settles = plan_settles image plan c.as_slice.result.now c.deref.result.now.0 of c.as_slice.ensures.value (ap (λ (b : Block). b.0) c.deref.ensures) some
+    (λ none. eqb-false _ 0 (sym c.is_empty.ensures ∙ c.if-is_empty.false) (omega (arith, plan.hot.ok.0))) in
+    subst (λ (i : List (List ℕ)). LeavesOnly (IsOldNoneOrMarked image i) old new) settles (c.mark_places.ensures.crash image synced)
 
 pub returns-in-Err-clause-crash : goal.returns-in-Err-clause-crash
-returns-in-Err-clause-crash g c image of synced = ?
+returns-in-Err-clause-crash g c image of synced =
+    let plan = c.args.self.now in
+    let old = g.A.Device.state c.args.meta.now in
+    let new = g.A.Device.state c.mark_places.new.meta in
+    let number = at_some old.held (λ (i : List (List ℕ)). length i ≡ old.blocks) image synced.held (g.met.A.Device.measured c.args.meta.now) in
+    let some : 1 ≤ length image = at_least number c.requires.blocks plan.some in
+    let settles = plan_settles image plan c.as_slice.result.now c.deref.result.now.0 of c.as_slice.ensures.value (ap (λ (b : Block). b.0) c.deref.ensures) some
+    (λ none. eqb-false _ 0 (sym c.is_empty.ensures ∙ c.if-is_empty.false) (omega (arith, plan.hot.ok.0))) in
+    subst (λ (i : List (List ℕ)). LeavesOnly (IsOldNoneOrMarked image i) old new) settles (c.mark_places.ensures.crash image synced)
