@@ -12,7 +12,7 @@ use Rattle.pd_grammar.specs.Texts.{text_of_lines, written}
 use Rattle.pd_grammar.proofs.GrammarLemmas.{AreLines}
 use Rattle.pd_grammar.proofs.PlainLemmas.{printable_join, printable_lacks}
 use Rattle.pd_grammar.proofs.SplitLemmas.{Lacks}
-use Rattle.pd_spells.specs.ThinText.{Run, Line, Part, thin, AreApart, joins, joined_runs, joined_part, head_of, lines_of_parts, text_of_pool, words_of_line}
+use Rattle.pd_spells.specs.ThinText.{Run, Line, Part, thin, AreApart, joins, joined_runs, joined_part, head_of, lines_of_parts, text_of_pool}
 use Rattle.pd_spells.proofs.ThinJoin.{runs_joined}
 use Rattle.pd_spells.proofs.ThinLaws.{thin_language}
 use Rattle.pd_spells.proofs.ThinRead.{FitsLine, Placed, thin_grammar}
@@ -89,7 +89,7 @@ line_feeds : (lines before : List Line) → AreLines thin FitsLine Placed before
 line_feeds [] before are = refl
 line_feeds (line ∷ lines) before are =
     let plain = (thin_grammar.plain line are.1.0).1 in
-    let none = no_feeds (written thin line) (printable_lacks (written thin line) (printable_join (words_of_line line) plain)) in
+    let none = no_feeds (written thin line) (printable_lacks (written thin line) (printable_join (thin.words line) plain)) in
     let first : feeds_of (written thin line ++ (10 ∷ [])) ≡ 1 = sum_by-append (λ (byte : ℕ). cond (nat_eq byte 10) 1 0) (written thin line) (10 ∷ []) ∙ rw none refl in
     sum_by-append (λ (byte : ℕ). cond (nat_eq byte 10) 1 0) (written thin line ++ (10 ∷ [])) (text_of_lines thin lines) ∙ rw (first, line_feeds lines (line ∷ before) are.1.1.1.1) (omega arith)
 
