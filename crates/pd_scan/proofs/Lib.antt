@@ -4,3 +4,4 @@ pub mod LeafLemmas
 pub mod JudgeLemmas
 pub mod TopLemmas
 pub mod LostLemmas
+pub mod EntryLemmas

@@ -59,12 +59,12 @@ module _ (graph : Graph) (image : List (List ℕ)) (lawful : IsLawful graph) whe
     | inr later ↦ edges_inside xs t all.1 later
   ]
 
-  next_inside : (q t : ℕ) → IsInside graph q → is_among t (next graph image q) ≡ true → IsInside graph t
+  pub next_inside : (q t : ℕ) → IsInside graph q → is_among t (next graph image q) ≡ true → IsInside graph t
   unfolding next
   next_inside q t inside leads =
       edges_inside (edges_of graph image q) t (lawful.each (role_of q) (block_of q) (block_at image (block_of q)) inside.known).within leads
 
-  small_inside : (q : ℕ) → IsInside graph q → q < 16 * graph.nr
+  pub small_inside : (q : ℕ) → IsInside graph q → q < 16 * graph.nr
   small_inside q inside = let below = inside.below in omega arith
 
   path_inside : (first t : ℕ) → IsInside graph first → IsOnPathFrom (16 * graph.nr) (next graph image) first t → IsInside graph t
@@ -72,10 +72,10 @@ module _ (graph : Graph) (image : List (List ℕ)) (lawful : IsLawful graph) whe
   path_inside first t inside (edge q t' small path leads) = next_inside q t' (path_inside first q inside path) leads
 
   -- all that is reached from a pair is sound
-  AreSound : ℕ → Type 0
+  pub AreSound : ℕ → Type 0
   AreSound first = (t : ℕ) → IsOnPathFrom (16 * graph.nr) (next graph image) first t → is_sound_pair graph image t ≡ true
 
-  sound_from_tree : (role root : ℕ) → IsInside graph (pair root role) → is_sound_tree graph image role root ≡ true → AreSound (pair root role)
+  pub sound_from_tree : (role root : ℕ) → IsInside graph (pair root role) → is_sound_tree graph image role root ≡ true → AreSound (pair root role)
   unfolding is_sound_tree AreSound
   sound_from_tree role root inside sound t path =
       kept_passes (is_sound_pair graph image) (is_reached_from graph image (pair root role)) (16 * graph.nr) t
@@ -90,11 +90,11 @@ module _ (graph : Graph) (image : List (List ℕ)) (lawful : IsLawful graph) whe
       (all_kept (is_sound_pair graph image) (is_reached_from graph image (pair root role)) (range_with_len 0 (16 * graph.nr))
       (λ q e. all q (path_from_reached (16 * graph.nr) (next graph image) (16 * graph.nr) q e)))
 
-  sound_after : (q p : ℕ) → q < 16 * graph.nr → is_among p (next graph image q) ≡ true → AreSound q → AreSound p
+  pub sound_after : (q p : ℕ) → q < 16 * graph.nr → is_among p (next graph image q) ≡ true → AreSound q → AreSound p
   unfolding AreSound
   sound_after q p small leads all t path = all t (path_after (16 * graph.nr) (next graph image) q p t (edge q p small start leads) path)
 
-  sound_here : (q : ℕ) → AreSound q → is_sound_pair graph image q ≡ true
+  pub sound_here : (q : ℕ) → AreSound q → is_sound_pair graph image q ≡ true
   unfolding AreSound
   sound_here q all = all q start
 
@@ -120,6 +120,18 @@ module _ (graph : Graph) (image : List (List ℕ)) (lawful : IsLawful graph) whe
       (tree_from_sound x.role x.block first.from_one first.below
       (each (pair x.block x.role) (or_left (nat_eq (pair x.block x.role) (pair x.block x.role)) _ (eq-eqb (pair x.block x.role) (pair x.block x.role) refl))))
       (sound_named xs all.1 (λ t among. each t (or_right (nat_eq (pair x.block x.role) t) _ among)))
+
+  -- the root of a sound tree is inside
+  pub inside_at : (role : ℕ) → role < graph.roles → (b : ℕ) → is_sound_tree graph image role b ≡ true → IsInside graph (pair b role) × (role_of (pair b role) ≡ role)
+  unfolding is_sound_tree
+  inside_at role known b sound =
+      let parts = inside_parts graph.nr b (and_parts _ _ sound).0 in
+      let some = parts.0 in
+      let below = parts.1 in
+      let few = lawful.few_roles in
+      let same = pair_role b role (omega arith) in
+      let place = pair_block b role (omega arith) in
+      (record { known = omega arith; some = omega arith; below = omega arith }, same)
 
   module _ (role : ℕ) (fit : ℕ → Bool) (known : role < graph.roles) (told : (b : ℕ) → b < graph.nr → fit b ≡ is_fit_root graph image role b) where
     fit_told : (q : ℕ) → IsInside graph q → role_of q ≡ role → fit (block_of q) ≡ is_fit_root graph image (role_of q) (block_of q)
@@ -239,10 +251,6 @@ module _ (graph : Graph) (image : List (List ℕ)) (lawful : IsLawful graph) whe
         ∙ (and_parts (fit (block_of (pair b role))) _ (good_well (is_well graph image fit true) (children graph image) 63 (pair b role) good)).0 in
         (inside_parts graph.nr b (and_parts _ _ (sym (told b small) ∙ is_fit)).0).0
 
-    tree_is_inside : (b : ℕ) → is_sound_tree graph image role b ≡ true → (1 ≤ b) × (b < graph.nr)
-    unfolding is_sound_tree
-    tree_is_inside b sound = inside_parts graph.nr b (and_parts _ _ sound).0
-
     pub good_is_sound : (b : ℕ) → b < graph.nr → is_good_node graph image fit true (pair b role) ≡ is_sound_tree graph image role b
     good_is_sound b small =
         same_test (is_good_node graph image fit true (pair b role)) (is_sound_tree graph image role b)
@@ -250,6 +258,5 @@ module _ (graph : Graph) (image : List (List ℕ)) (lawful : IsLawful graph) whe
         let some = good_is_inside b small good in
         tree_from_sound role b some small (all_from_good (pair b role) (at_root b some small) (pair_role b role within) good))
         (λ sound.
-        let inside = tree_is_inside b sound in
-        let root = at_root b inside.0 inside.1 in
-        good_from_all (pair b role) root (pair_role b role within) (sound_from_tree role b root sound))
+        let inside = inside_at role known b sound in
+        good_from_all (pair b role) inside.0 inside.1 (sound_from_tree role b inside.0 sound))

@@ -3,7 +3,10 @@
 ghost use Rattle.std.specs.Prelude.{◌≡◌, ◌⊎◌, ◌<◌, ◌&&◌, ℕ, Bool, true, not, List};
 ghost use Rattle.pd_kinds.specs.Edge.{is_outside};
 ghost use Rattle.pd_kinds.specs.Graph.{Graph, block_at, pair};
+ghost use Rattle.pd_kinds.specs.Layout.{Layout, Tree, tree, graph_of};
 ghost use Rattle.pd_kinds.specs.Lawful.{IsLawful};
+ghost use Rattle.pd_kinds.specs.Order.{keys_below};
+ghost use Rattle.pd_kinds.specs.Trees.{entries_below, keys_of};
 ghost use Rattle.pd_laid.specs.FoundRoots.{lost_graph, is_sound_tree};
 ghost use Rattle.pd_settle.specs.Good.{is_good_node};
 ghost use Rattle.pd_scan.specs.Fit.{is_unbroken, is_fit_root};
@@ -22,4 +25,12 @@ pub fn lost_leaves_lead_nowhere()
     ensures { (image : List (List ℕ)) (data_blocks role b : ℕ) → (role ≡ 3) ⊎ (role ≡ 4)
         → let graph = lost_graph image data_blocks in
         is_fit_root graph image role b ≡ (not (is_outside graph.nr b) && is_unbroken graph role b (block_at image b)) }
+{}
+
+/// In a format that is a table of layouts the keys below the root of a sound tree are those of the entries below it.
+pub fn keys_of_sound_trees_are_those_of_entries()
+    ensures { (roles nr data_blocks : ℕ) (layout : ℕ → Layout) (t : Tree) (image : List (List ℕ)) (role b : ℕ)
+        → let graph = graph_of roles nr data_blocks layout in
+        IsLawful graph → role < graph.roles → layout role ≡ tree t → is_sound_tree graph image role b ≡ true
+        → keys_below graph image (pair b role) ≡ keys_of (entries_below graph image t.size role b) }
 {}

@@ -1,5 +1,5 @@
-//! The search for the roots of a thin pool whose superblock is lost. Here stand its laws: what the settling of all blocks
-//! in one role comes to.
+//! The search for the roots of a thin pool whose superblock is lost: which blocks are roots of sound trees, as the top of a
+//! mapping tree, as a device's tree of mappings and as a tree of details.
 #![tactic(auto)]
 
 mod judging;
@@ -8,6 +8,8 @@ mod lost;
 mod tops;
 
 pub use judging::judge_each;
-pub use laws::{good_nodes_are_sound_trees, lost_leaves_lead_nowhere};
+pub use laws::{
+    good_nodes_are_sound_trees, keys_of_sound_trees_are_those_of_entries, lost_leaves_lead_nowhere,
+};
 pub use lost::settle_lost;
 pub use tops::leave_out_tops;

@@ -35,7 +35,7 @@ cond_map f true xs ys us vs first second = first refl
 cond_map f false xs ys us vs first second = second refl
 
 -- where each leaf that is met has the keys of its entries, so has each node
-gathered_map : {X Y : Type 0} → (f : X → Y) (inner : ℕ → Bool) (down : ℕ → List ℕ) (own : ℕ → List X) (own' : ℕ → List Y) (S : ℕ → Type 0)
+pub gathered_map : {X Y : Type 0} → (f : X → Y) (inner : ℕ → Bool) (down : ℕ → List ℕ) (own : ℕ → List X) (own' : ℕ → List Y) (S : ℕ → Type 0)
     → ((p q : ℕ) → S p → is_among q (down p) ≡ true → S q) → ((p : ℕ) → S p → inner p ≡ false → own' p ≡ map f (own p))
     → (j p : ℕ) → S p → gathered inner down own' j p ≡ map f (gathered inner down own j p)
 unfolding gathered
@@ -64,7 +64,7 @@ keys_of_range size block [] = refl
 keys_of_range size block (i ∷ is) = ap (λ (ks : List ℕ). key_at block i ∷ ks) (keys_of_range size block is)
 
 -- the keys of a sound leaf are those of its entries
-leaf_keys : (roles nr data_blocks : ℕ) (layout : ℕ → Layout) (t : Tree) (role place : ℕ) (block : List ℕ) → layout role ≡ tree t
+pub leaf_keys : (roles nr data_blocks : ℕ) (layout : ℕ → Layout) (t : Tree) (role place : ℕ) (block : List ℕ) → layout role ≡ tree t
     → IsSound (graph_of roles nr data_blocks layout) role place block → (graph_of roles nr data_blocks layout).is_inner role place block ≡ false
     → (graph_of roles nr data_blocks layout).keys role place block ≡ map (λ (e : Entry). e.key) (leaf_entries t.size block)
 unfolding graph_of is_bad leaf_entries node_entries_of node_keys
