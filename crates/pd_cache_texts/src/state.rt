@@ -5,13 +5,14 @@ ghost use Rattle.pd_grammar.specs.Texts.{tested};
 ghost use Rattle.pd_grammar.specs.Tables.{may_stand};
 ghost use Rattle.pd_spells.specs.CacheText.{Line, cache_kind, map_kind, single_tests, has_number_out_of_range, is_out_of_order, flag_number};
 ghost use Rattle.pd_texts.specs.Seen.{in_range, seen_by};
+ghost use Rattle.pd_texts.specs.Words.{made_of};
 ghost use Rattle.pd_cache_texts.specs.CacheKind.{kind_meant};
 ghost use Rattle.pd_cache_texts.specs.CacheLine.{cache_meant};
 
 use crate::kind::CacheKind;
 use crate::line::CacheLine;
-use pd_grammar::{TextCause, Value};
-use pd_texts::{Stage, TextReader, TextState, bytes_at, cut_word, number_at, read_values};
+use pd_grammar::TextCause;
+use pd_texts::{Stage, TextReader, TextState, cut_word, read_values};
 
 /// The text of a cache, read line by line. It doesn't look for an origin that an earlier line has.
 pub type CacheText = TextReader<CacheState>;
@@ -77,10 +78,10 @@ impl TextState for CacheState {
         if !self.may_stand(kind) {
             return Err(TextCause::Word);
         }
-        let mut values = [Value::Number(0); 9];
-        let fields = kind.fields();
-        match read_values(fields, rest, &mut values) {
-            Ok(()) => self.take(kind, &values[..fields.len()]),
+        let mut names = [[0; 16]; 9];
+        let mut numbers = [0; 9];
+        match read_values(kind.fields(), rest, &mut names, &mut numbers) {
+            Ok(()) => self.take(kind, &names, &numbers),
             Err(cause) => Err(cause),
         }
     }
@@ -107,13 +108,13 @@ impl CacheState {
     }
 
     /// Takes a line of these values, or says which test it fails.
-    fn take(&mut self, kind: CacheKind, values: &[Value]) -> Result<Option<CacheLine>, TextCause>
+    fn take(&mut self, kind: CacheKind, names: &[[u8; 16]; 9], numbers: &[u64; 9]) -> Result<Option<CacheLine>, TextCause>
         ensures line { (before : List Line) → CacheStands self.old before → 1 ≤ length before
-            → seen_by cache_meant result ≡ tested single_tests before ((kind_meant kind).make values.now) }
+            → seen_by cache_meant result ≡ tested single_tests before (made_of (kind_meant kind) names.now numbers.now) }
         ensures after { (before : List Line) → CacheStands self.old before → 1 ≤ length before
             → IfOk result (λ taken. CacheStands self.new (cache_meant taken ∷ before)) }
     {
-        let line = match self.line(kind, values) {
+        let line = match self.line(kind, names, numbers) {
             Ok(line) => line,
             Err(cause) => return Err(cause),
         };
@@ -125,26 +126,26 @@ impl CacheState {
     }
 
     /// The line of these values, none where it is the last one, or `OutOfRange`.
-    fn line(&self, kind: CacheKind, values: &[Value]) -> Result<Option<CacheLine>, TextCause>
+    fn line(&self, kind: CacheKind, names: &[[u8; 16]; 9], numbers: &[u64; 9]) -> Result<Option<CacheLine>, TextCause>
         ensures { (before : List Line) → CacheStands self.now before
-            → seen_by cache_meant result ≡ in_range has_number_out_of_range before ((kind_meant kind).make values.now) }
+            → seen_by cache_meant result ≡ in_range has_number_out_of_range before (made_of (kind_meant kind) names.now numbers.now) }
     {
         match kind {
-            CacheKind::Cache => cache_of(values),
-            CacheKind::Map => self.map_of(values),
+            CacheKind::Cache => cache_of(names, numbers),
+            CacheKind::Map => self.map_of(names, numbers),
             CacheKind::End => Ok(None),
         }
     }
 
     /// The map line of these values, or `OutOfRange`.
-    fn map_of(&self, values: &[Value]) -> Result<Option<CacheLine>, TextCause>
+    fn map_of(&self, names: &[[u8; 16]; 9], numbers: &[u64; 9]) -> Result<Option<CacheLine>, TextCause>
         ensures { (before : List Line) → CacheStands self.now before
-            → seen_by cache_meant result ≡ in_range has_number_out_of_range before (map_kind.make values.now) }
+            → seen_by cache_meant result ≡ in_range has_number_out_of_range before (made_of map_kind names.now numbers.now) }
     {
-        let block = number_at(values, 0);
-        let origin = number_at(values, 1);
-        let dirty = number_at(values, 2);
-        let hint = number_at(values, 3);
+        let block = numbers[0];
+        let origin = numbers[1];
+        let dirty = numbers[2];
+        let hint = numbers[3];
         let fits = (block < self.blocks as u64)
             & ((origin < 281474976710656)
                 & ((hint < 4294967296) & (!(1 < dirty) & (!(self.hint_size == 0) | (hint == 0)))));
@@ -193,16 +194,16 @@ impl CacheState {
 }
 
 /// The cache line of these values, or `OutOfRange`.
-fn cache_of(values: &[Value]) -> Result<Option<CacheLine>, TextCause>
-    ensures { (before : List Line) → seen_by cache_meant result ≡ in_range has_number_out_of_range before (cache_kind.make values.now) }
+fn cache_of(names: &[[u8; 16]; 9], numbers: &[u64; 9]) -> Result<Option<CacheLine>, TextCause>
+    ensures { (before : List Line) → seen_by cache_meant result ≡ in_range has_number_out_of_range before (made_of cache_kind names.now numbers.now) }
 {
-    let block_size = number_at(values, 1);
-    let blocks = number_at(values, 2);
-    let clean = number_at(values, 3);
-    let major = number_at(values, 5);
-    let minor = number_at(values, 6);
-    let patch = number_at(values, 7);
-    let hint_size = number_at(values, 8);
+    let block_size = numbers[1];
+    let blocks = numbers[2];
+    let clean = numbers[3];
+    let major = numbers[5];
+    let minor = numbers[6];
+    let patch = numbers[7];
+    let hint_size = numbers[8];
     let fits = (block_size < 4294967296)
         & ((blocks < 4294967296)
             & ((major < 4294967296)
@@ -213,11 +214,11 @@ fn cache_of(values: &[Value]) -> Result<Option<CacheLine>, TextCause>
         return Err(TextCause::OutOfRange);
     }
     Ok(Some(CacheLine::Cache {
-        uuid: bytes_at(values, 0),
+        uuid: names[0],
         block_size: block_size as u32,
         blocks: blocks as u32,
         clean: is_set(clean),
-        policy: bytes_at(values, 4),
+        policy: names[4],
         versions: [major as u32, minor as u32, patch as u32],
         hint_size: hint_size as u32,
     }))

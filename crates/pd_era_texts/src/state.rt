@@ -5,13 +5,14 @@ ghost use Rattle.pd_grammar.specs.Texts.{tested};
 ghost use Rattle.pd_grammar.specs.Tables.{may_stand};
 ghost use Rattle.pd_spells.specs.EraText.{Line, era_kind, run_kind, era_tests, has_number_out_of_range, is_out_of_order, is_mapped_otherwise};
 ghost use Rattle.pd_texts.specs.Seen.{in_range, seen_by};
+ghost use Rattle.pd_texts.specs.Words.{made_of};
 ghost use Rattle.pd_era_texts.specs.EraKind.{kind_meant};
 ghost use Rattle.pd_era_texts.specs.EraLine.{era_meant};
 
 use crate::kind::EraKind;
 use crate::line::EraLine;
-use pd_grammar::{TextCause, Value};
-use pd_texts::{Stage, TextReader, TextState, bytes_at, cut_word, number_at, read_values};
+use pd_grammar::TextCause;
+use pd_texts::{Stage, TextReader, TextState, cut_word, read_values};
 
 /// The text of an era target, read line by line.
 pub type EraText = TextReader<EraState>;
@@ -74,10 +75,10 @@ impl TextState for EraState {
         if !self.may_stand(kind) {
             return Err(TextCause::Word);
         }
-        let mut values = [Value::Number(0); 4];
-        let fields = kind.fields();
-        match read_values(fields, rest, &mut values) {
-            Ok(()) => self.take(kind, &values[..fields.len()]),
+        let mut names = [[0; 16]; 4];
+        let mut numbers = [0; 4];
+        match read_values(kind.fields(), rest, &mut names, &mut numbers) {
+            Ok(()) => self.take(kind, &names, &numbers),
             Err(cause) => Err(cause),
         }
     }
@@ -104,13 +105,13 @@ impl EraState {
     }
 
     /// Takes a line of these values, or says which test it fails.
-    fn take(&mut self, kind: EraKind, values: &[Value]) -> Result<Option<EraLine>, TextCause>
+    fn take(&mut self, kind: EraKind, names: &[[u8; 16]; 4], numbers: &[u64; 4]) -> Result<Option<EraLine>, TextCause>
         ensures line { (before : List Line) → EraStands self.old before → 1 ≤ length before
-            → seen_by era_meant result ≡ tested era_tests before ((kind_meant kind).make values.now) }
+            → seen_by era_meant result ≡ tested era_tests before (made_of (kind_meant kind) names.now numbers.now) }
         ensures after { (before : List Line) → EraStands self.old before → 1 ≤ length before
             → IfOk result (λ taken. EraStands self.new (era_meant taken ∷ before)) }
     {
-        let line = match self.line(kind, values) {
+        let line = match self.line(kind, names, numbers) {
             Ok(line) => line,
             Err(cause) => return Err(cause),
         };
@@ -124,25 +125,25 @@ impl EraState {
     }
 
     /// The line of these values, none where it is the last one, or `OutOfRange`.
-    fn line(&self, kind: EraKind, values: &[Value]) -> Result<Option<EraLine>, TextCause>
+    fn line(&self, kind: EraKind, names: &[[u8; 16]; 4], numbers: &[u64; 4]) -> Result<Option<EraLine>, TextCause>
         ensures { (before : List Line) → EraStands self.now before
-            → seen_by era_meant result ≡ in_range has_number_out_of_range before ((kind_meant kind).make values.now) }
+            → seen_by era_meant result ≡ in_range has_number_out_of_range before (made_of (kind_meant kind) names.now numbers.now) }
     {
         match kind {
-            EraKind::Era => era_of(values),
-            EraKind::Run => self.run_of(values),
+            EraKind::Era => era_of(names, numbers),
+            EraKind::Run => self.run_of(names, numbers),
             EraKind::End => Ok(None),
         }
     }
 
     /// The run line of these values, or `OutOfRange`.
-    fn run_of(&self, values: &[Value]) -> Result<Option<EraLine>, TextCause>
+    fn run_of(&self, names: &[[u8; 16]; 4], numbers: &[u64; 4]) -> Result<Option<EraLine>, TextCause>
         ensures { (before : List Line) → EraStands self.now before
-            → seen_by era_meant result ≡ in_range has_number_out_of_range before (run_kind.make values.now) }
+            → seen_by era_meant result ≡ in_range has_number_out_of_range before (made_of run_kind names.now numbers.now) }
     {
-        let first = number_at(values, 0);
-        let length = number_at(values, 1);
-        let era = number_at(values, 2);
+        let first = numbers[0];
+        let length = numbers[1];
+        let era = numbers[2];
         let end = first as u128 + length as u128;
         let fits = (first < 4294967296)
             & ((length < 4294967296)
@@ -211,18 +212,18 @@ impl EraState {
 }
 
 /// The era line of these values, or `OutOfRange`.
-fn era_of(values: &[Value]) -> Result<Option<EraLine>, TextCause>
-    ensures { (before : List Line) → seen_by era_meant result ≡ in_range has_number_out_of_range before (era_kind.make values.now) }
+fn era_of(names: &[[u8; 16]; 4], numbers: &[u64; 4]) -> Result<Option<EraLine>, TextCause>
+    ensures { (before : List Line) → seen_by era_meant result ≡ in_range has_number_out_of_range before (made_of era_kind names.now numbers.now) }
 {
-    let block_size = number_at(values, 1);
-    let blocks = number_at(values, 2);
-    let era = number_at(values, 3);
+    let block_size = numbers[1];
+    let blocks = numbers[2];
+    let era = numbers[3];
     let fits = (block_size < 4294967296) & ((blocks < 4294967296) & (era < 4294967296));
     if !fits {
         return Err(TextCause::OutOfRange);
     }
     Ok(Some(EraLine::Era {
-        uuid: bytes_at(values, 0),
+        uuid: names[0],
         block_size: block_size as u32,
         blocks: blocks as u32,
         era: era as u32,

@@ -1,8 +1,7 @@
 -- Words of fields, one after another, and what they are in their place.
-use Rattle.std.proofs.Common.{◌≡◌, inl, inr, ℕ, zero, suc, ◌+◌, ◌≤◌, ◌<◌, Bool, true, false, not, ◌&&◌, List, [], ◌∷◌, ◌++◌, length, take, drop, get_or, refl, ap, sym, ◌∙◌, append_assoc, add-one, arith, Option, Some, None, Result, Ok, Err}
+use Rattle.std.proofs.Common.{◌≡◌, inl, inr, ℕ, zero, suc, ◌+◌, ◌≤◌, ◌<◌, Bool, true, false, not, ◌&&◌, List, [], ◌∷◌, ◌++◌, length, take, drop, get_or, slice_index, replicate, refl, ap, sym, ◌∙◌, append_assoc, add-one, arith, Option, Some, None, Result, Ok, Err}
 use Rattle.std.proofs.lemmas.Bool.{cases_Bool, true≢false}
 use Rattle.std.proofs.lemmas.List.{append-nil}
-use Rattle.std.proofs.Math.Seq.{take-suc}
 use Rattle.std.specs.Borrow.{Bor}
 use Rattle.std.specs.Prelude.{is_some}
 use Rattle.pd_grammar.specs.declared.cause.TextCause.{TextCause}
@@ -17,8 +16,34 @@ use Rattle.pd_grammar.specs.Tables.{value_of, with_value, values_in, Table, Line
 use Rattle.pd_grammar.proofs.SplitLemmas.{split-some}
 use Rattle.pd_grammar.proofs.NumberLemmas.{ok-err, same_Ok}
 use Rattle.pd_texts.specs.Seen.{in_range}
-use Rattle.pd_texts.specs.Words.{words_in, is_name}
+use Rattle.pd_grammar.proofs.TableLemmas.{values_at}
+use Rattle.pd_texts.specs.Words.{words_in, is_name, value_by, name_at}
 use Rattle.pd_texts.proofs.ReadLemmas.{later_ok, later_err}
+
+-- the values of the first fields are those of names and numbers in these places
+values_more : (fields : List Field) (i : ℕ) (d : Field) (names names' : ℕ → List ℕ) (ns ns' : ℕ → ℕ) → i < length fields
+    → ((j : ℕ) → j < i → names' j ≡ names j) → ((j : ℕ) → j < i → ns' j ≡ ns j)
+    → values_at (take (suc i) fields) names' ns' ≡ values_at (take i fields) names ns ++ (value_by (get_or fields i d) (names' i) (ns' i) ∷ [])
+values_more [] i d names names' ns ns' within same equal = absurd (omega arith)
+values_more (f.Uuid ∷ fields) zero d names names' ns ns' within same equal = refl
+values_more (f.Policy ∷ fields) zero d names names' ns ns' within same equal = refl
+values_more (f.Number ∷ fields) zero d names names' ns ns' within same equal = refl
+values_more (f.Uuid ∷ fields) (suc i) d names names' ns ns' within same equal =
+    rw (same 0 (omega arith), values_more fields i d (λ j. names (suc j)) (λ j. names' (suc j)) (λ j. ns (suc j)) (λ j. ns' (suc j)) (omega arith) (λ j low. same (suc j) (omega arith)) (λ j low. equal (suc j) (omega arith))) refl
+values_more (f.Policy ∷ fields) (suc i) d names names' ns ns' within same equal =
+    rw (same 0 (omega arith), values_more fields i d (λ j. names (suc j)) (λ j. names' (suc j)) (λ j. ns (suc j)) (λ j. ns' (suc j)) (omega arith) (λ j low. same (suc j) (omega arith)) (λ j low. equal (suc j) (omega arith))) refl
+values_more (f.Number ∷ fields) (suc i) d names names' ns ns' within same equal =
+    rw (equal 0 (omega arith), values_more fields i d (λ j. names (suc j)) (λ j. names' (suc j)) (λ j. ns (suc j)) (λ j. ns' (suc j)) (omega arith) (λ j low. same (suc j) (omega arith)) (λ j low. equal (suc j) (omega arith))) refl
+
+pub before_at : {X : Type 0} → (new old : List X) (i j : ℕ) (d : X) → take i new ≡ take i old → j < i → get_or new j d ≡ get_or old j d
+before_at new old i j d same low = sym (get_or-take new i j d low) ∙ ap (λ xs. get_or xs j d) same ∙ get_or-take old i j d low
+  where
+    get_or-take : {X : Type 0} → (xs : List X) (i j : ℕ) (d : X) → j < i → get_or (take i xs) j d ≡ get_or xs j d
+    get_or-take [] zero j d low = refl
+    get_or-take [] (suc i) j d low = refl
+    get_or-take (x ∷ xs) zero j d low = absurd (omega arith)
+    get_or-take (x ∷ xs) (suc i) zero d low = refl
+    get_or-take (x ∷ xs) (suc i) (suc j) d low = get_or-take xs i j d (omega arith)
 
 -- what becomes of the values so far, whether all of them were there, and of what is read of the rest
 abbrev pub continued : List Value → Bool → Result (List Value) TextCause → Result (List Value) TextCause
@@ -68,28 +93,33 @@ and_false : (b : Bool) → (b && false) ≡ false
 and_false true = refl
 and_false false = refl
 
-next_value : (old new : List Value) (i : ℕ) (all good : Bool) (field : Field) (word : List ℕ) (o : Option Value) (rest : Result (List Value) TextCause) (d : Value)
-    → i < length new → value_of field word ≡ o → good ≡ is_some (value_of field word) → (good ≡ true → value_of field word ≡ Some (get_or new i d))
-    → take i new ≡ take i old → (not good && is_name field) ≡ false
-    → continued (take (i + 1) new) (all && good) rest ≡ continued (take i old) all (with_value (value_of field word) field rest)
-next_value old new i all good field word None rest d within read is put before other =
-    let no : good ≡ false = is ∙ rw read refl in
-    let number : is_name field ≡ false = rw no at other in
-    rw (no, and_false all, read) (bad_number (take i old) (take (i + 1) new) all field rest number)
-next_value old new i all good field word (Some x) rest d within read is put before other =
+next_value : (old new : List Value) (all good : Bool) (field : Field) (word : List ℕ) (x : Value) (o : Option Value) (rest : Result (List Value) TextCause)
+    → value_of field word ≡ o → good ≡ is_some (value_of field word) → (good ≡ true → value_of field word ≡ Some x)
+    → new ≡ old ++ (x ∷ []) → (not good && is_name field) ≡ false
+    → continued new (all && good) rest ≡ continued old all (with_value (value_of field word) field rest)
+next_value old new all good field word x None rest read is put grown other =
+    let bad : good ≡ false = is ∙ rw read refl in
+    let number : is_name field ≡ false = rw bad at other in
+    rw (bad, and_false all, read) (bad_number old new all field rest number)
+next_value old new all good field word x (Some y) rest read is put grown other =
     let yes : good ≡ true = is ∙ rw read refl in
-    let grown : take (i + 1) new ≡ take i old ++ (get_or new i d ∷ []) = rw (add-one i, take-suc new i d within, before) refl in
-    rw (put yes, yes, and_true all, grown) (more_values (take i old) all (get_or new i d) field rest)
+    rw (put yes, yes, and_true all, grown) (more_values old all x field rest)
 
 -- a word more
-pub value_step : (fields : List Field) (old new : List Value) (i : ℕ) (all good : Bool) (field : Field) (word : List ℕ) (words : List (List ℕ)) (none : Field) (d : Value)
-    → i < length fields → get_or fields i none ≡ field → i < length new → good ≡ is_some (value_of field word)
-    → (good ≡ true → value_of field word ≡ Some (get_or new i d)) → take i new ≡ take i old → (not good && is_name field) ≡ false
-    → continued (take (i + 1) new) (all && good) (values_in (drop (i + 1) fields) words) ≡ continued (take i old) all (values_in (drop i fields) (word ∷ words))
+pub value_step : (fields : List Field) (old new : List (List ℕ)) (ns ms : List ℕ) (i : ℕ) (all good : Bool) (field : Field) (word : List ℕ) (words : List (List ℕ)) (none : Field)
+    → i < length fields → get_or fields i none ≡ field → good ≡ is_some (value_of field word)
+    → (good ≡ true → value_of field word ≡ Some (value_by field (name_at new i) (get_or ms i 0))) → take i new ≡ take i old → take i ms ≡ take i ns
+    → (not good && is_name field) ≡ false
+    → continued (values_at (take (i + 1) fields) (name_at new) (slice_index ms)) (all && good) (values_in (drop (i + 1) fields) words)
+    ≡ continued (values_at (take i fields) (name_at old) (slice_index ns)) all (values_in (drop i fields) (word ∷ words))
 unfolding values_in
-value_step fields old new i all good field word words none d within here placed is put before other =
+value_step fields old new ns ms i all good field word words none within here is put names numbers other =
+    let grown : values_at (take (i + 1) fields) (name_at new) (slice_index ms) ≡ values_at (take i fields) (name_at old) (slice_index ns) ++ (value_by field (name_at new i) (get_or ms i 0) ∷ []) =
+    rw (add-one i, ← here) (values_more fields i none (name_at old) (name_at new) (slice_index ns) (slice_index ms) within
+    (λ j low. before_at new old i j (replicate 16 0) names low) (λ j low. before_at ms ns i j 0 numbers low)) in
     rw (field_at fields i none within, here)
-    (next_value old new i all good field word (value_of field word) (values_in (drop (i + 1) fields) words) d placed refl is put before other)
+    (next_value (values_at (take i fields) (name_at old) (slice_index ns)) _ all good field word (value_by field (name_at new i) (get_or ms i 0)) (value_of field word)
+    (values_in (drop (i + 1) fields) words) refl is put grown other)
 
 -- a word that isn't the identifier of its field
 none_of : (o : Option Value) (good : Bool) → good ≡ is_some o → good ≡ false → o ≡ None

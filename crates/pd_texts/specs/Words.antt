@@ -1,9 +1,13 @@
 -- Words of a line, as the code looks at them.
-use Rattle.std.specs.Prelude.{ℕ, Bool, true, false, List, [], Option, Some, None}
+use Rattle.std.specs.Prelude.{ℕ, Bool, true, false, List, [], get_or, slice_index, replicate, Option, Some, None}
 use Rattle.std.specs.Borrow.{Bor}
 use Rattle.pd_grammar.specs.declared.value.Field.{Field}
 use Rattle.pd_grammar.specs.declared.value.Field.TheVariants as f
+use Rattle.pd_grammar.specs.declared.value.Value.{Value}
+use Rattle.pd_grammar.specs.declared.value.Value.TheVariants as v
 use Rattle.pd_grammar.specs.Words.{split}
+use Rattle.pd_grammar.specs.Tables.{LineKind}
+use Rattle.pd_grammar.proofs.TableLemmas.{values_at}
 
 -- the words of what follows a word
 abbrev pub words_in : Option (Bor (List ℕ)) → List (List ℕ)
@@ -15,3 +19,17 @@ abbrev pub is_name : Field → Bool
 is_name f.Uuid = true
 is_name f.Policy = true
 is_name f.Number = false
+
+-- the identifier in a place, from 0
+abbrev pub name_at : List (List ℕ) → ℕ → List ℕ
+name_at names i = get_or names i (replicate 16 0)
+
+-- the value of a field, of an identifier and a number
+abbrev pub value_by : Field → List ℕ → ℕ → Value
+value_by f.Uuid name n = v.Uuid name
+value_by f.Policy name n = v.Policy name
+value_by f.Number name n = v.Number n
+
+-- the line of a kind, of the identifiers and numbers of its fields
+abbrev pub made_of : {L : Type 0} → LineKind L → List (List ℕ) → List ℕ → L
+made_of kind names numbers = kind.make (values_at kind.fields (name_at names) (slice_index numbers))

@@ -31,5 +31,5 @@ pub use thin_laws::{
 pub use thin_line::{Run2, ThinLine};
 pub use thin_print::{bytes_of_thin, print_thin};
 pub use thin_state::{ThinState, ThinText};
-pub use values::{bytes_at, number_at, read_values};
+pub use values::read_values;
 pub use words::{cut_word, number_word, read_uuid};

@@ -6,6 +6,7 @@ ghost use Rattle.pd_grammar.specs.Tables.{may_stand};
 ghost use Rattle.pd_spells.specs.ThinText.{Line, pool_kind, device_kind, map_kind, thin_tests, has_number_out_of_range, is_out_of_order, is_mapped_otherwise};
 ghost use Rattle.pd_texts.specs.Seen.{in_range, seen_by};
 ghost use Rattle.pd_texts.specs.ThinKind.{kind_meant};
+ghost use Rattle.pd_texts.specs.Words.{made_of};
 ghost use Rattle.pd_texts.specs.ThinLine.{thin_meant};
 
 use crate::reader::TextReader;
@@ -13,9 +14,9 @@ use crate::stage::Stage;
 use crate::state::TextState;
 use crate::thin_kind::ThinKind;
 use crate::thin_line::{Run2, ThinLine};
-use crate::values::{bytes_at, number_at, read_values};
+use crate::values::read_values;
 use crate::words::cut_word;
-use pd_grammar::{TextCause, Value};
+use pd_grammar::TextCause;
 use pd_value::Details;
 
 /// The text of a pool, version 1, read line by line.
@@ -88,10 +89,10 @@ impl TextState for ThinState {
         if !self.may_stand(kind) {
             return Err(TextCause::Word);
         }
-        let mut values = [Value::Number(0); 5];
-        let fields = kind.fields();
-        match read_values(fields, rest, &mut values) {
-            Ok(()) => self.take(kind, &values[..fields.len()]),
+        let mut names = [[0; 16]; 5];
+        let mut numbers = [0; 5];
+        match read_values(kind.fields(), rest, &mut names, &mut numbers) {
+            Ok(()) => self.take(kind, &names, &numbers),
             Err(cause) => Err(cause),
         }
     }
@@ -119,13 +120,18 @@ impl ThinState {
     }
 
     /// Takes a line of these values, or says which test it fails.
-    fn take(&mut self, kind: ThinKind, values: &[Value]) -> Result<Option<ThinLine>, TextCause>
+    fn take(
+        &mut self,
+        kind: ThinKind,
+        names: &[[u8; 16]; 5],
+        numbers: &[u64; 5],
+    ) -> Result<Option<ThinLine>, TextCause>
         ensures line { (before : List Line) → ThinStands self.old before → 1 ≤ length before
-            → seen_by thin_meant result ≡ tested thin_tests before ((kind_meant kind).make values.now) }
+            → seen_by thin_meant result ≡ tested thin_tests before (made_of (kind_meant kind) names.now numbers.now) }
         ensures after { (before : List Line) → ThinStands self.old before → 1 ≤ length before
             → IfOk result (λ taken. ThinStands self.new (thin_meant taken ∷ before)) }
     {
-        let line = match self.line(kind, values) {
+        let line = match self.line(kind, names, numbers) {
             Ok(line) => line,
             Err(cause) => return Err(cause),
         };
@@ -139,27 +145,36 @@ impl ThinState {
     }
 
     /// The line of these values, none where it is the last one, or `OutOfRange`.
-    fn line(&self, kind: ThinKind, values: &[Value]) -> Result<Option<ThinLine>, TextCause>
+    fn line(
+        &self,
+        kind: ThinKind,
+        names: &[[u8; 16]; 5],
+        numbers: &[u64; 5],
+    ) -> Result<Option<ThinLine>, TextCause>
         ensures { (before : List Line) → ThinStands self.now before
-            → seen_by thin_meant result ≡ in_range has_number_out_of_range before ((kind_meant kind).make values.now) }
+            → seen_by thin_meant result ≡ in_range has_number_out_of_range before (made_of (kind_meant kind) names.now numbers.now) }
     {
         match kind {
-            ThinKind::Pool => pool_of(values),
-            ThinKind::Device => device_of(values),
-            ThinKind::Map => self.map_of(values),
+            ThinKind::Pool => pool_of(names, numbers),
+            ThinKind::Device => device_of(names, numbers),
+            ThinKind::Map => self.map_of(names, numbers),
             ThinKind::End => Ok(None),
         }
     }
 
     /// The map line of these values, or `OutOfRange`.
-    fn map_of(&self, values: &[Value]) -> Result<Option<ThinLine>, TextCause>
+    fn map_of(
+        &self,
+        names: &[[u8; 16]; 5],
+        numbers: &[u64; 5],
+    ) -> Result<Option<ThinLine>, TextCause>
         ensures { (before : List Line) → ThinStands self.now before
-            → seen_by thin_meant result ≡ in_range has_number_out_of_range before (map_kind.make values.now) }
+            → seen_by thin_meant result ≡ in_range has_number_out_of_range before (made_of map_kind names.now numbers.now) }
     {
-        let virt = number_at(values, 0);
-        let target = number_at(values, 1);
-        let length = number_at(values, 2);
-        let time = number_at(values, 3);
+        let virt = numbers[0];
+        let target = numbers[1];
+        let length = numbers[2];
+        let time = numbers[3];
         let end = virt as u128 + length as u128;
         let target_end = target as u128 + length as u128;
         let fits = (0 < length)
@@ -243,40 +258,40 @@ impl ThinState {
 }
 
 /// The pool line of these values, or `OutOfRange`.
-fn pool_of(values: &[Value]) -> Result<Option<ThinLine>, TextCause>
-    ensures { (before : List Line) → seen_by thin_meant result ≡ in_range has_number_out_of_range before (pool_kind.make values.now) }
+fn pool_of(names: &[[u8; 16]; 5], numbers: &[u64; 5]) -> Result<Option<ThinLine>, TextCause>
+    ensures { (before : List Line) → seen_by thin_meant result ≡ in_range has_number_out_of_range before (made_of pool_kind names.now numbers.now) }
 {
-    let time = number_at(values, 1);
-    let block_size = number_at(values, 3);
-    let blocks = number_at(values, 4);
+    let time = numbers[1];
+    let block_size = numbers[3];
+    let blocks = numbers[4];
     let fits = (time < 4294967296) & ((block_size < 4294967296) & (blocks <= 1099511627776));
     if !fits {
         return Err(TextCause::OutOfRange);
     }
     Ok(Some(ThinLine::Pool {
-        uuid: bytes_at(values, 0),
+        uuid: names[0],
         time: time as u32,
-        transaction: number_at(values, 2),
+        transaction: numbers[2],
         block_size: block_size as u32,
         blocks,
     }))
 }
 
 /// The device line of these values, or `OutOfRange`.
-fn device_of(values: &[Value]) -> Result<Option<ThinLine>, TextCause>
-    ensures { (before : List Line) → seen_by thin_meant result ≡ in_range has_number_out_of_range before (device_kind.make values.now) }
+fn device_of(names: &[[u8; 16]; 5], numbers: &[u64; 5]) -> Result<Option<ThinLine>, TextCause>
+    ensures { (before : List Line) → seen_by thin_meant result ≡ in_range has_number_out_of_range before (made_of device_kind names.now numbers.now) }
 {
-    let created = number_at(values, 3);
-    let snapped = number_at(values, 4);
+    let created = numbers[3];
+    let snapped = numbers[4];
     let fits = (created < 4294967296) & (snapped < 4294967296);
     if !fits {
         return Err(TextCause::OutOfRange);
     }
     Ok(Some(ThinLine::Device {
-        id: number_at(values, 0),
+        id: numbers[0],
         details: Details {
-            mapped: number_at(values, 1),
-            transaction: number_at(values, 2),
+            mapped: numbers[1],
+            transaction: numbers[2],
             created: created as u32,
             snapped: snapped as u32,
         },

@@ -1,13 +1,13 @@
 //! The values of a line, by its fields.
 
-ghost use Rattle.std.specs.Prelude.{◌≡◌, ◌<◌, ◌≤◌, ℕ, List, length, take, get_or, Option, Some, None, is_some, Ok, Err, MatchResult, true};
+ghost use Rattle.std.specs.Prelude.{◌≡◌, ◌<◌, ◌≤◌, ℕ, List, length, take, slice_index, Option, Some, None, is_some, Ok, Err, MatchResult, true};
 ghost use Rattle.pd_grammar.specs.Words.{policy_of};
-ghost use Rattle.pd_grammar.specs.Tables.{value_of, values_in, bytes_at, number_at};
-ghost use Rattle.pd_grammar.specs.declared.value.Value.TheVariants as v;
-ghost use Rattle.pd_texts.specs.Words.{words_in, is_name};
+ghost use Rattle.pd_grammar.specs.Tables.{value_of, values_in};
+ghost use Rattle.pd_grammar.proofs.TableLemmas.{values_at};
+ghost use Rattle.pd_texts.specs.Words.{words_in, is_name, value_by, name_at};
 
 use crate::words::{cut_word, number_word, read_uuid};
-use pd_grammar::{Field, TextCause, Value};
+use pd_grammar::{Field, TextCause};
 
 /// The policy name that a word is: 32 hexadecimal digits in lower case.
 #[tactic(auto, unfolding(pd_grammar::specs::Words::bytes_of))]
@@ -29,44 +29,64 @@ fn read_policy(word: &[u8]) -> Option<[u8; 16]>
     }
 }
 
-/// The value that a word is in a field.
-fn read_value(field: Field, word: &[u8]) -> Option<Value>
-    ensures { result ≡ value_of field word.now }
+/// Reads a value into its place, and answers whether the word is one.
+fn put_value(
+    names: &mut [[u8; 16]],
+    numbers: &mut [u64],
+    i: usize,
+    field: Field,
+    word: &[u8],
+) -> bool
+    requires names { i < length names.old }
+    requires numbers { i < length numbers.old }
+    ensures read { result ≡ is_some (value_of field word.now) }
+    ensures put { result ≡ true → value_of field word.now ≡ Some (value_by field (name_at names.new i) (slice_index numbers.new i)) }
+    ensures names_before { take i names.new ≡ take i names.old }
+    ensures numbers_before { take i numbers.new ≡ take i numbers.old }
+    ensures names_len { length names.new ≡ length names.old }
+    ensures numbers_len { length numbers.new ≡ length numbers.old }
 {
     match field {
-        Field::Uuid => Some(Value::Uuid(read_uuid(word)?)),
-        Field::Policy => Some(Value::Policy(read_policy(word)?)),
-        Field::Number => Some(Value::Number(number_word(word)?)),
+        Field::Number => match number_word(word) {
+            Some(number) => {
+                numbers[i] = number;
+                true
+            }
+            None => false,
+        },
+        Field::Uuid => put_name(names, i, read_uuid(word)),
+        Field::Policy => put_name(names, i, read_policy(word)),
     }
 }
 
-/// Reads a value into its place, and answers whether the word is one.
-fn put_value(values: &mut [Value], i: usize, field: Field, word: &[u8]) -> bool
-    requires { i < length values.old }
-    ensures read { result ≡ is_some (value_of field word.now) }
-    ensures put { result ≡ true → value_of field word.now ≡ Some (get_or values.new i (v.Number 0)) }
-    ensures before { take i values.new ≡ take i values.old }
-    ensures len { length values.new ≡ length values.old }
+/// Puts an identifier into its place, and answers whether there is one.
+fn put_name(names: &mut [[u8; 16]], i: usize, name: Option<[u8; 16]>) -> bool
+    requires { i < length names.old }
+    ensures read { result ≡ is_some name }
+    ensures put { result ≡ true → name ≡ Some (name_at names.new i) }
+    ensures before { take i names.new ≡ take i names.old }
+    ensures len { length names.new ≡ length names.old }
 {
-    match read_value(field, word) {
-        Some(value) => {
-            values[i] = value;
+    match name {
+        Some(bytes) => {
+            names[i] = bytes;
             true
         }
         None => false,
     }
 }
 
-/// Reads the values of the words of fields, a word for each. `Word` where there are more or fewer words, or where one
-/// isn't an identifier, else `Number` where one isn't a number.
+/// Reads the values of the words of fields, a word for each, identifiers and numbers each into their places. `Word` where
+/// there are more or fewer words, or where one isn't an identifier, else `Number` where one isn't a number.
 pub fn read_values(
     fields: &[Field],
     words: Option<&[u8]>,
-    values: &mut [Value],
+    names: &mut [[u8; 16]],
+    numbers: &mut [u64],
 ) -> Result<(), TextCause>
-    requires { length fields.now ≤ length values.old }
-    ensures values { MatchResult result (λ _. values_in fields.now (words_in words.entry) ≡ Ok (take (length fields.now) values.new)) (λ cause. values_in fields.now (words_in words.entry) ≡ Err cause) }
-    ensures len { length values.new ≡ length values.old }
+    requires names { length fields.now ≤ length names.old }
+    requires numbers { length fields.now ≤ length numbers.old }
+    ensures { MatchResult result (λ _. values_in fields.now (words_in words.entry) ≡ Ok (values_at fields.now (name_at names.new) (slice_index numbers.new))) (λ cause. values_in fields.now (words_in words.entry) ≡ Err cause) }
 {
     let mut rest = words;
     let mut all = true;
@@ -77,7 +97,7 @@ pub fn read_values(
         };
         let (word, next) = cut_word(text);
         rest = next;
-        let good = put_value(values, i, fields[i], word);
+        let good = put_value(names, numbers, i, fields[i], word);
         if !good & is_name(fields[i]) {
             return Err(TextCause::Word);
         }
@@ -96,26 +116,5 @@ fn is_name(field: Field) -> bool
     match field {
         Field::Uuid | Field::Policy => true,
         Field::Number => false,
-    }
-}
-
-/// The number in a place, from 0; 0 where there is none.
-pub fn number_at(values: &[Value], i: usize) -> u64
-    ensures { result ≡ number_at values.now i }
-{
-    match values.get(i) {
-        Some(Value::Number(number)) => *number,
-        _ => 0,
-    }
-}
-
-/// The bytes of the identifier in a place, from 0; zeros where there is none.
-pub fn bytes_at(values: &[Value], i: usize) -> [u8; 16]
-    ensures { result ≡ bytes_at values.now i }
-{
-    match values.get(i) {
-        Some(Value::Uuid(bytes)) => *bytes,
-        Some(Value::Policy(bytes)) => *bytes,
-        _ => [0; 16],
     }
 }

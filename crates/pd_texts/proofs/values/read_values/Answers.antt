@@ -1,23 +1,24 @@
-use Rattle.std.proofs.Common.{◌≡◌, ◌∙◌, sym, ap, length, take, drop, get_or, arith, refl, false, not, ◌&&◌, List, ℕ, ◌∷◌}
+use Rattle.std.proofs.Common.{◌≡◌, ◌∙◌, sym, ap, length, take, drop, get_or, slice_index, arith, refl, false, not, ◌&&◌, List, ℕ, ◌∷◌}
 use Rattle.pd_grammar.specs.declared.value.Field.TheVariants as f
-use Rattle.pd_grammar.specs.declared.value.Value.TheVariants as v
 use Rattle.pd_grammar.specs.Tables.{values_in}
 use Rattle.pd_grammar.proofs.NumberLemmas.{both}
-use Rattle.pd_texts.specs.Words.{words_in, is_name}
+use Rattle.std.proofs.lemmas.List.{take_all}
+use Rattle.pd_grammar.proofs.TableLemmas.{values_at}
+use Rattle.pd_texts.specs.Words.{words_in, is_name, name_at}
 use Rattle.pd_texts.proofs.ValueLemmas.{continued, is_bad, value_step, value_fails, value_lacks, values_past, values_done, values_bad}
 use Rattle.pd_texts.proofs.values.read_values.Goals as goal
 
-pub returns-in-None-clause-values : goal.returns-in-None-clause-values
-returns-in-None-clause-values c =
-    sym c.loop-i.invariant.0 ∙ rw c.in-None.is (value_lacks c.args.fields.now (take c.loop-i.i c.loop-i.values) c.loop-i.i c.loop-i.all f.Uuid c.loop-i-test.true)
+pub returns-in-None : goal.returns-in-None
+returns-in-None c =
+    sym c.loop-i.invariant.0 ∙ rw c.in-None.is (value_lacks c.args.fields.now (values_at (take c.loop-i.i c.args.fields.now) (name_at c.loop-i.names) (slice_index c.loop-i.numbers)) c.loop-i.i c.loop-i.all f.Uuid c.loop-i-test.true)
 
-pub returns-then-good-is_name-clause-values : goal.returns-then-good-is_name-clause-values
-returns-then-good-is_name-clause-values c =
+pub returns-then-good-is_name : goal.returns-then-good-is_name
+returns-then-good-is_name c =
     let field = get_or c.args.fields.now c.loop-i.i f.Uuid in
     let words : words_in c.loop-i.rest ≡ c.cut_word.result.0.now ∷ words_in c.cut_word.result.1 = ap words_in c.in-Some.is ∙ c.cut_word.ensures in
     let tests = both (not c.put_value-good.result) c.is_name.result c.if-good-is_name.true in
     sym c.loop-i.invariant.0 ∙ rw words
-    (value_fails c.args.fields.now (take c.loop-i.i c.loop-i.values) c.loop-i.i c.loop-i.all c.put_value-good.result field c.cut_word.result.0.now (words_in c.cut_word.result.1) f.Uuid
+    (value_fails c.args.fields.now (values_at (take c.loop-i.i c.args.fields.now) (name_at c.loop-i.names) (slice_index c.loop-i.numbers)) c.loop-i.i c.loop-i.all c.put_value-good.result field c.cut_word.result.0.now (words_in c.cut_word.result.1) f.Uuid
     c.loop-i-test.true refl c.put_value-good.ensures.read (is_bad c.put_value-good.result tests.0) (sym c.is_name.ensures ∙ tests.1))
 
 pub loop-i-preserved : goal.loop-i-preserved
@@ -25,21 +26,21 @@ loop-i-preserved c =
     let field = get_or c.args.fields.now c.loop-i.i f.Uuid in
     let words : words_in c.loop-i.rest ≡ c.cut_word.result.0.now ∷ words_in c.cut_word.result.1 = ap words_in c.in-Some.is ∙ c.cut_word.ensures in
     let other : (not c.put_value-good.result && is_name field) ≡ false = rw (← c.is_name.ensures) c.if-good-is_name.false in (
-      value_step c.args.fields.now c.loop-i.values c.put_value-good.new.values c.loop-i.i c.loop-i.all c.put_value-good.result field c.cut_word.result.0.now (words_in c.cut_word.result.1)
-          f.Uuid (v.Number 0) c.loop-i-test.true refl (omega (arith, c.put_value-good.ensures.len, c.loop-i.invariant.1)) c.put_value-good.ensures.read c.put_value-good.ensures.put c.put_value-good.ensures.before other
-          ∙ ap (λ (ws : List (List ℕ)). continued (take c.loop-i.i c.loop-i.values) c.loop-i.all (values_in (drop c.loop-i.i c.args.fields.now) ws)) (sym words) ∙ c.loop-i.invariant.0,
-      c.put_value-good.ensures.len ∙ c.loop-i.invariant.1,
+      value_step c.args.fields.now c.loop-i.names c.put_value-good.new.names c.loop-i.numbers c.put_value-good.new.numbers c.loop-i.i c.loop-i.all c.put_value-good.result field c.cut_word.result.0.now (words_in c.cut_word.result.1)
+          f.Uuid c.loop-i-test.true refl c.put_value-good.ensures.read c.put_value-good.ensures.put c.put_value-good.ensures.names_before c.put_value-good.ensures.numbers_before other
+          ∙ ap (λ (ws : List (List ℕ)). continued (values_at (take c.loop-i.i c.args.fields.now) (name_at c.loop-i.names) (slice_index c.loop-i.numbers)) c.loop-i.all (values_in (drop c.loop-i.i c.args.fields.now) ws)) (sym words) ∙ c.loop-i.invariant.0,
+      (c.put_value-good.ensures.names_len ∙ c.loop-i.invariant.1.0, c.put_value-good.ensures.numbers_len ∙ c.loop-i.invariant.1.1),
     )
 
-pub returns-then-is_some-clause-values : goal.returns-then-is_some-clause-values
-returns-then-is_some-clause-values c =
-    sym c.loop-i.invariant.0 ∙ values_past c.args.fields.now (take c.loop-i.i c.loop-i.values) c.loop-i.i c.loop-i.all c.loop-i.rest c.loop-i-test.false c.if-is_some.ensures
+pub returns-then-is_some : goal.returns-then-is_some
+returns-then-is_some c =
+    sym c.loop-i.invariant.0 ∙ values_past c.args.fields.now (values_at (take c.loop-i.i c.args.fields.now) (name_at c.loop-i.names) (slice_index c.loop-i.numbers)) c.loop-i.i c.loop-i.all c.loop-i.rest c.loop-i-test.false c.if-is_some.ensures
 
-pub returns-then-all-clause-values : goal.returns-then-all-clause-values
-returns-then-all-clause-values c =
-    let last : c.loop-i.i ≡ length c.args.fields.now = omega arith in
-    sym c.loop-i.invariant.0 ∙ rw (c.if-all.true, last) (values_done c.args.fields.now (take (length c.args.fields.now) c.loop-i.values) (length c.args.fields.now) c.loop-i.rest (omega arith) c.if-is_some.ensures)
+pub returns-then-all : goal.returns-then-all
+returns-then-all c =
+    let whole : take c.loop-i.i c.args.fields.now ≡ c.args.fields.now = take_all c.loop-i.i c.args.fields.now c.loop-i-test.false in
+    sym c.loop-i.invariant.0 ∙ rw (c.if-all.true, whole) (values_done c.args.fields.now (values_at c.args.fields.now (name_at c.loop-i.names) (slice_index c.loop-i.numbers)) c.loop-i.i c.loop-i.rest c.loop-i-test.false c.if-is_some.ensures)
 
-pub returns-else-all-clause-values : goal.returns-else-all-clause-values
-returns-else-all-clause-values c =
-    sym c.loop-i.invariant.0 ∙ rw c.if-all.false (values_bad c.args.fields.now (take c.loop-i.i c.loop-i.values) c.loop-i.i c.loop-i.rest c.loop-i-test.false c.if-is_some.ensures)
+pub returns-else-all : goal.returns-else-all
+returns-else-all c =
+    sym c.loop-i.invariant.0 ∙ rw c.if-all.false (values_bad c.args.fields.now (values_at (take c.loop-i.i c.args.fields.now) (name_at c.loop-i.names) (slice_index c.loop-i.numbers)) c.loop-i.i c.loop-i.rest c.loop-i-test.false c.if-is_some.ensures)

@@ -3,6 +3,7 @@ use Rattle.pd_grammar.specs.declared.cause.TextCause.TheVariants.{Order}
 use Rattle.pd_grammar.specs.Texts.{Test, tested}
 use Rattle.pd_spells.specs.CacheText.{Line, has_number_out_of_range, is_out_of_order}
 use Rattle.pd_texts.proofs.ValueLemmas.{out_of_range, within_range}
+use Rattle.pd_texts.specs.Words.{made_of}
 use Rattle.pd_cache_texts.specs.CacheKind.{kind_meant}
 use Rattle.pd_cache_texts.specs.CacheLine.{cache_meant}
 use Rattle.pd_cache_texts.proofs.state.CacheState.take.Goals as goal
@@ -12,16 +13,16 @@ order = record { cause = Order; fails = is_out_of_order } ∷ []
 
 pub returns-in-Err-clause-line : goal.returns-in-Err-clause-line
 returns-in-Err-clause-line c = λ before stands some.
-    out_of_range has_number_out_of_range _ before ((kind_meant c.args.kind).make c.args.values.now) c.in-Err.cause (c.in-Err.ensures before stands)
+    out_of_range has_number_out_of_range _ before (made_of (kind_meant c.args.kind) c.args.names.now c.args.numbers.now) c.in-Err.cause (c.in-Err.ensures before stands)
 
 pub returns-then-is_out_of_order-clause-line : goal.returns-then-is_out_of_order-clause-line
 unfolding tested
 returns-then-is_out_of_order-clause-line c = λ before stands some.
-    within_range has_number_out_of_range order before ((kind_meant c.args.kind).make c.args.values.now) (cache_meant c.in-Ok.line) (Err Order) (c.in-Ok.ensures before stands)
+    within_range has_number_out_of_range order before (made_of (kind_meant c.args.kind) c.args.names.now c.args.numbers.now) (cache_meant c.in-Ok.line) (Err Order) (c.in-Ok.ensures before stands)
     (λ within. rw (within, ← c.if-is_out_of_order.ensures before stands) refl)
 
 pub returns-clause-line : goal.returns-clause-line
 unfolding tested
 returns-clause-line c = λ before stands some.
-    within_range has_number_out_of_range order before ((kind_meant c.args.kind).make c.args.values.now) (cache_meant c.in-Ok.line) (Ok (cache_meant c.in-Ok.line)) (c.in-Ok.ensures before stands)
+    within_range has_number_out_of_range order before (made_of (kind_meant c.args.kind) c.args.names.now c.args.numbers.now) (cache_meant c.in-Ok.line) (Ok (cache_meant c.in-Ok.line)) (c.in-Ok.ensures before stands)
     (λ within. rw (within, ← c.if-is_out_of_order.ensures before stands) refl)

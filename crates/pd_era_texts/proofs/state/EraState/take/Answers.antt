@@ -1,5 +1,6 @@
 use Rattle.std.proofs.Common.{Ok, Err}
 use Rattle.pd_spells.specs.EraText.{has_number_out_of_range}
+use Rattle.pd_texts.specs.Words.{made_of}
 use Rattle.pd_era_texts.specs.EraKind.{kind_meant}
 use Rattle.pd_era_texts.specs.EraLine.{era_meant}
 use Rattle.pd_texts.proofs.ValueLemmas.{out_of_range, within_range}
@@ -7,14 +8,14 @@ use Rattle.pd_era_texts.proofs.state.EraState.take.Goals as goal
 
 pub returns-in-Err-clause-line : goal.returns-in-Err-clause-line
 returns-in-Err-clause-line c = λ before stands some.
-    out_of_range has_number_out_of_range _ before ((kind_meant c.args.kind).make c.args.values.now) c.in-Err.cause (c.in-Err.ensures before stands)
+    out_of_range has_number_out_of_range _ before (made_of (kind_meant c.args.kind) c.args.names.now c.args.numbers.now) c.in-Err.cause (c.in-Err.ensures before stands)
 
 pub returns-in-Ok-check-clause-line : goal.returns-in-Ok-check-clause-line
 returns-in-Ok-check-clause-line c = λ before stands some.
-    within_range has_number_out_of_range _ before ((kind_meant c.args.kind).make c.args.values.now) (era_meant c.in-Ok.line) (Ok (era_meant c.in-Ok.line)) (c.in-Ok.ensures before stands)
+    within_range has_number_out_of_range _ before (made_of (kind_meant c.args.kind) c.args.names.now c.args.numbers.now) (era_meant c.in-Ok.line) (Ok (era_meant c.in-Ok.line)) (c.in-Ok.ensures before stands)
     (λ within. c.in-Ok-check.ensures before stands within)
 
 pub returns-in-Err-check-clause-line : goal.returns-in-Err-check-clause-line
 returns-in-Err-check-clause-line c = λ before stands some.
-    within_range has_number_out_of_range _ before ((kind_meant c.args.kind).make c.args.values.now) (era_meant c.in-Ok.line) (Err c.in-Err-check.cause) (c.in-Ok.ensures before stands)
+    within_range has_number_out_of_range _ before (made_of (kind_meant c.args.kind) c.args.names.now c.args.numbers.now) (era_meant c.in-Ok.line) (Err c.in-Err-check.cause) (c.in-Ok.ensures before stands)
     (λ within. c.in-Err-check.ensures before stands within)

@@ -1,7 +1,8 @@
-use Rattle.std.proofs.Common.{take, length}
+use Rattle.std.proofs.Common.{slice_index}
+use Rattle.pd_grammar.proofs.TableLemmas.{values_at}
 use Rattle.pd_spells.specs.EraText.{era_table}
 use Rattle.pd_texts.specs.Seen.{seen_by}
-use Rattle.pd_texts.specs.Words.{words_in}
+use Rattle.pd_texts.specs.Words.{words_in, name_at}
 use Rattle.pd_era_texts.specs.EraKind.{kind_meant}
 use Rattle.pd_era_texts.specs.EraLine.{era_meant}
 use Rattle.pd_texts.proofs.ValueLemmas.{read_none, read_elsewhere, read_words, read_err}
@@ -19,10 +20,10 @@ returns-then-not-may_stand-clause-line c = λ before stands some.
 pub returns-in-Ok-clause-line : goal.returns-in-Ok-clause-line
 returns-in-Ok-clause-line c = λ before stands some.
     read_words era_table before c.args.text.now c.cut_word.result.0.now (words_in c.cut_word.result.1) some c.requires c.cut_word.ensures (kind_meant c.in-Some.kind)
-    (take (length c.fields-fields.result.now) c.read_values.new.values) (seen_by era_meant c.take.result) c.in-Some.ensures
-    (c.if-not-may_stand.ensures before stands) (rw (← c.fields-fields.ensures.fields) c.in-Ok.ensures.values) (c.take.ensures.line before stands some)
+    (values_at (kind_meant c.in-Some.kind).fields (name_at c.read_values.new.names) (slice_index c.read_values.new.numbers)) (seen_by era_meant c.take.result) c.in-Some.ensures
+    (c.if-not-may_stand.ensures before stands) (rw (← c.fields.ensures.fields) c.in-Ok.ensures) (c.take.ensures.line before stands some)
 
 pub returns-in-Err-clause-line : goal.returns-in-Err-clause-line
 returns-in-Err-clause-line c = λ before stands some.
     read_err era_table before c.args.text.now c.cut_word.result.0.now (words_in c.cut_word.result.1) some c.requires c.cut_word.ensures (kind_meant c.in-Some.kind) c.in-Err.cause c.in-Some.ensures
-    (c.if-not-may_stand.ensures before stands) (rw (← c.fields-fields.ensures.fields) c.in-Err.ensures.values)
+    (c.if-not-may_stand.ensures before stands) (rw (← c.fields.ensures.fields) c.in-Err.ensures)
