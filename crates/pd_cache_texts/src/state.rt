@@ -108,7 +108,12 @@ impl CacheState {
     }
 
     /// Takes a line of these values, or says which test it fails.
-    fn take(&mut self, kind: CacheKind, names: &[[u8; 16]; 9], numbers: &[u64; 9]) -> Result<Option<CacheLine>, TextCause>
+    fn take(
+        &mut self,
+        kind: CacheKind,
+        names: &[[u8; 16]; 9],
+        numbers: &[u64; 9],
+    ) -> Result<Option<CacheLine>, TextCause>
         ensures line { (before : List Line) → CacheStands self.old before → 1 ≤ length before
             → seen_by cache_meant result ≡ tested single_tests before (made_of (kind_meant kind) names.now numbers.now) }
         ensures after { (before : List Line) → CacheStands self.old before → 1 ≤ length before
@@ -126,7 +131,12 @@ impl CacheState {
     }
 
     /// The line of these values, none where it is the last one, or `OutOfRange`.
-    fn line(&self, kind: CacheKind, names: &[[u8; 16]; 9], numbers: &[u64; 9]) -> Result<Option<CacheLine>, TextCause>
+    fn line(
+        &self,
+        kind: CacheKind,
+        names: &[[u8; 16]; 9],
+        numbers: &[u64; 9],
+    ) -> Result<Option<CacheLine>, TextCause>
         ensures { (before : List Line) → CacheStands self.now before
             → seen_by cache_meant result ≡ in_range has_number_out_of_range before (made_of (kind_meant kind) names.now numbers.now) }
     {
@@ -138,7 +148,11 @@ impl CacheState {
     }
 
     /// The map line of these values, or `OutOfRange`.
-    fn map_of(&self, names: &[[u8; 16]; 9], numbers: &[u64; 9]) -> Result<Option<CacheLine>, TextCause>
+    fn map_of(
+        &self,
+        names: &[[u8; 16]; 9],
+        numbers: &[u64; 9],
+    ) -> Result<Option<CacheLine>, TextCause>
         ensures { (before : List Line) → CacheStands self.now before
             → seen_by cache_meant result ≡ in_range has_number_out_of_range before (made_of map_kind names.now numbers.now) }
     {

@@ -105,7 +105,12 @@ impl EraState {
     }
 
     /// Takes a line of these values, or says which test it fails.
-    fn take(&mut self, kind: EraKind, names: &[[u8; 16]; 4], numbers: &[u64; 4]) -> Result<Option<EraLine>, TextCause>
+    fn take(
+        &mut self,
+        kind: EraKind,
+        names: &[[u8; 16]; 4],
+        numbers: &[u64; 4],
+    ) -> Result<Option<EraLine>, TextCause>
         ensures line { (before : List Line) → EraStands self.old before → 1 ≤ length before
             → seen_by era_meant result ≡ tested era_tests before (made_of (kind_meant kind) names.now numbers.now) }
         ensures after { (before : List Line) → EraStands self.old before → 1 ≤ length before
@@ -125,7 +130,12 @@ impl EraState {
     }
 
     /// The line of these values, none where it is the last one, or `OutOfRange`.
-    fn line(&self, kind: EraKind, names: &[[u8; 16]; 4], numbers: &[u64; 4]) -> Result<Option<EraLine>, TextCause>
+    fn line(
+        &self,
+        kind: EraKind,
+        names: &[[u8; 16]; 4],
+        numbers: &[u64; 4],
+    ) -> Result<Option<EraLine>, TextCause>
         ensures { (before : List Line) → EraStands self.now before
             → seen_by era_meant result ≡ in_range has_number_out_of_range before (made_of (kind_meant kind) names.now numbers.now) }
     {
@@ -137,7 +147,11 @@ impl EraState {
     }
 
     /// The run line of these values, or `OutOfRange`.
-    fn run_of(&self, names: &[[u8; 16]; 4], numbers: &[u64; 4]) -> Result<Option<EraLine>, TextCause>
+    fn run_of(
+        &self,
+        names: &[[u8; 16]; 4],
+        numbers: &[u64; 4],
+    ) -> Result<Option<EraLine>, TextCause>
         ensures { (before : List Line) → EraStands self.now before
             → seen_by era_meant result ≡ in_range has_number_out_of_range before (made_of run_kind names.now numbers.now) }
     {
