@@ -1,5 +1,5 @@
 -- In a sound tree the keys below a node are those of the entries below it.
-use Rattle.std.proofs.Common.{◌≡◌, ℕ, ◌<◌, true, false, not, List, map, sym, ◌∙◌, ap}
+use Rattle.std.proofs.Common.{◌≡◌, ℕ, ◌<◌, true, false, List, map, ◌∙◌, ap}
 use Rattle.std.specs.List.{list_any}
 use Rattle.std.proofs.lemmas.Bool.{and_parts, not-true}
 use Rattle.pd_kinds.specs.Rule.{all_rules}
@@ -7,7 +7,7 @@ use Rattle.pd_kinds.specs.Node.{Entry}
 use Rattle.pd_kinds.specs.Layout.{Layout, Tree, tree, leaf_entries, graph_of}
 use Rattle.pd_kinds.specs.Graph.{block_at, pair, block_of, role_of, own_keys, is_inner_pair}
 use Rattle.pd_kinds.specs.Lawful.{IsLawful}
-use Rattle.pd_kinds.specs.Order.{children, gathered, keys_below}
+use Rattle.pd_kinds.specs.Order.{children, keys_below}
 use Rattle.pd_kinds.specs.Trees.{entries_below, keys_of}
 use Rattle.pd_laws.proofs.SoundLemmas.{none_broken}
 use Rattle.pd_laid.specs.FoundRoots.{is_sound_pair, is_sound_tree}
