@@ -34,7 +34,7 @@ kept_from f g a (suc n) q low high passes all = elim (cases_eq a q) [
 ]
 
 -- what leads to a pair lies within
-leads_small : (graph : Graph) (es : List Edge) (t : ℕ) → graph.roles ≤ 16 → AllByRecursion (IsWithin graph) es
+pub leads_small : (graph : Graph) (es : List Edge) (t : ℕ) → graph.roles ≤ 16 → AllByRecursion (IsWithin graph) es
     → list_any (λ x. nat_eq x t) (map (λ (e : Edge). pair e.block e.role) es) ≡ true → (role_of t < graph.roles) × (t < 16 * graph.nr)
 leads_small graph [] t few all leads = absurd (both_ways _ refl leads)
 leads_small graph (x ∷ xs) t few all leads = elim (or_cases (nat_eq (pair x.block x.role) t) _ leads) [

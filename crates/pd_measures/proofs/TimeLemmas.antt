@@ -13,7 +13,7 @@ pub latest-cons : (x : ℕ) (xs : List ℕ) → latest (x ∷ xs) ≡ max x (lat
 unfolding latest
 latest-cons x xs = let e = from (max 0 x) xs in omega arith
 
-latest-nil : latest [] ≡ 0
+pub latest-nil : latest [] ≡ 0
 unfolding latest
 latest-nil = refl
 

@@ -1,10 +1,18 @@
 //! What it comes to that two trees fit each other, as laws on functions with empty bodies.
 
+ghost use Rattle.std.specs.List.{AllByRecursion};
 ghost use Rattle.std.specs.Prelude.{◌≡◌, ◌↔◌, ◌<◌, ℕ, max, true, List};
 ghost use Rattle.pd_kinds.specs.Graph.{Graph, pair};
 ghost use Rattle.pd_kinds.specs.Lawful.{IsLawful};
+ghost use Rattle.pd_kinds.specs.Node.{Entry};
+ghost use Rattle.pd_kinds.specs.Whole.{details_entries, top_entries};
+ghost use Rattle.pd_graph.specs.declared.notes.Notes.{Notes as TheNotes};
 ghost use Rattle.pd_laid.specs.FoundRoots.{are_fitting, is_sound_tree, lost_graph, roots_at};
 ghost use Rattle.pd_tree.specs.Sound.{IsSoundTree};
+ghost use Rattle.pd_measures.specs.declared.measures.Measures.{Measures as TheMeasures};
+ghost use Rattle.pd_measures.specs.Gauge.{details_gauge, list_measure, top_gauge};
+ghost use Rattle.pd_measures.specs.Measured.{measured};
+ghost use Rattle.pd_measures.specs.Trees.{AreToldOf};
 ghost use Rattle.pd_measures.specs.Counts.{counts_of_top, counts_of_details, details_time, top_time, total_of};
 
 use pd_laws::{reached_by_paths, thin_format_is_lawful};
@@ -38,3 +46,14 @@ pub fn fitting_trees_have_one_list()
     found_trees_are_sound();
     keys_of_sound_trees_ascend();
 }
+
+/// What is measured of a details tree and of a mapping tree is the measure of their lists of devices, with the latest time
+/// of each tree: so trees whose lists are one have the same total and the same fingerprint. Of a mapping tree it is so where
+/// each root of a device is told of rightly.
+pub fn measures_are_those_of_lists()
+    ensures details { (graph : Graph) (image : List (List ℕ)) (details : ℕ) → measured details_gauge (details_entries graph image details)
+        ≡ list_measure (counts_of_details graph image details) (details_time graph image details) }
+    ensures tops { (graph : Graph) (image : List (List ℕ)) (top : ℕ) (notes : TheNotes) (times : TheMeasures)
+        → AllByRecursion (λ (e : Entry). AreToldOf graph image notes times e.value) (top_entries graph image top)
+        → measured (top_gauge notes times) (top_entries graph image top) ≡ list_measure (counts_of_top graph image top) (top_time graph image top) }
+{}

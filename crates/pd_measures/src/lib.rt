@@ -2,6 +2,16 @@
 //! best: what is measured of each sound tree, and the choice among the measured ones.
 #![tactic(auto)]
 
+mod gauge;
+mod gauges;
 mod laws;
+mod measured;
+mod measures;
+mod nodes;
 
-pub use laws::{fitting_trees_have_one_list, found_trees_are_sound};
+pub use gauge::Gauge;
+pub use gauges::{DetailsGauge, MappingsGauge, TopGauge};
+pub use laws::{fitting_trees_have_one_list, found_trees_are_sound, measures_are_those_of_lists};
+pub use measured::Measured;
+pub use measures::Measures;
+pub use nodes::measure_trees;

@@ -1,0 +1,13 @@
+-- A table of measures.
+use Rattle.std.specs.Prelude.{ℕ, length, slice_index_or}
+use Rattle.pd_measures.specs.declared.measured.Measured.{Measured}
+use Rattle.pd_measures.specs.declared.measures.Measures.{Measures}
+use Rattle.pd_measures.specs.Measured.{no_measure}
+
+-- the number of blocks
+abbrev pub places_of : Measures → ℕ
+places_of measures = length measures.kept.items
+
+-- the measure of a block
+abbrev pub measure_at : Measures → ℕ → Measured
+measure_at measures b = slice_index_or measures.kept.items b no_measure
