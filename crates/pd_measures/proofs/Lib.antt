@@ -5,3 +5,4 @@ pub mod MeasureLemmas
 pub mod NodeLemmas
 pub mod CountLemmas
 pub mod GaugeLemmas
+pub mod ListsLemmas

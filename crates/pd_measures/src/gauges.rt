@@ -90,7 +90,7 @@ pub struct TopGauge {
 }
 
 /// How many entries stand below a root, by its note: none below a block that there isn't.
-fn below_root(notes: &Notes, root: u64) -> u64
+pub(crate) fn below_root(notes: &Notes, root: u64) -> u64
     ensures { result ≡ (if nat_lt root (size_of notes.now) then (note_in notes.now root).below else 0) }
 {
     if root < notes.nr() {

@@ -2,6 +2,7 @@
 //! best: what is measured of each sound tree, and the choice among the measured ones.
 #![tactic(auto)]
 
+mod comparing;
 mod gauge;
 mod gauges;
 mod laws;
@@ -9,6 +10,7 @@ mod measured;
 mod measures;
 mod nodes;
 
+pub use comparing::{ListCursors, do_trees_fit};
 pub use gauge::Gauge;
 pub use gauges::{DetailsGauge, MappingsGauge, TopGauge};
 pub use laws::{fitting_trees_have_one_list, found_trees_are_sound, measures_are_those_of_lists};

@@ -1,0 +1,82 @@
+-- Lists of devices, compared entry by entry.
+use Rattle.std.proofs.Common.{◌≡◌, ℕ, Bool, true, false, ◌&&◌, cond, nat_eq, List, [], ◌∷◌, map, Option, Some, None, refl, sym, ◌∙◌, ap, subst, eq-eqb}
+use Rattle.std.specs.List.{AllByRecursion}
+use Rattle.std.proofs.lemmas.Bool.{and_parts, and_from, both_ways, eqb-true}
+use Rattle.pd_kinds.specs.Node.{Entry}
+use Rattle.pd_value.specs.declared.thin.Root.{Root}
+use Rattle.pd_value.specs.declared.thin.Details.{Details}
+use Rattle.pd_tree.specs.Items.{item_of, root_of}
+use Rattle.pd_tree.specs.Next.{IsNext}
+use Rattle.pd_measures.specs.Counts.{DeviceCount, counts_by_details, counts_by_roots}
+use Rattle.pd_measures.specs.Lists.{are_one, decided, details_of, is_one, IsDecided}
+
+abbrev the_count : ℕ → ℕ → DeviceCount
+the_count id mapped = record { id = id; mapped = mapped }
+
+module _ (below : ℕ → ℕ) where
+  both_by : (test : Bool) (top : ℕ × Root) (detail : ℕ × Details) (tops' : List (ℕ × Root)) (details' : List (ℕ × Details)) → is_one below top detail ≡ test
+      → IsDecided below (top ∷ tops') (detail ∷ details') tops' details' (cond test None (Some false))
+  both_by true top detail tops' details' e = ap (λ (x : Bool). x && are_one below tops' details') e
+  both_by false top detail tops' details' e = ap (λ (x : Bool). x && are_one below tops' details') e
+
+  by_test : (test : Bool) (top : ℕ × Root) (detail : ℕ × Details) (tops tops' : List (ℕ × Root)) (details details' : List (ℕ × Details))
+      → tops ≡ top ∷ tops' → details ≡ detail ∷ details' → is_one below top detail ≡ test → IsDecided below tops details tops' details' (cond test None (Some false))
+  by_test test top detail tops tops' details details' first second e =
+      subst (λ (ts : List (ℕ × Root)). IsDecided below ts details tops' details' (cond test None (Some false))) (sym first)
+      (subst (λ (ds : List (ℕ × Details)). IsDecided below (top ∷ tops') ds tops' details' (cond test None (Some false))) (sym second)
+      (both_by test top detail tops' details' e))
+
+  -- the next entries of both decide, or leave it to the others
+  pub decided_by : (top : Option (ℕ × Root)) (detail : Option (ℕ × Details)) (tops tops' : List (ℕ × Root)) (details details' : List (ℕ × Details))
+      → IsNext top tops tops' → IsNext detail details details' → IsDecided below tops details tops' details' (decided below top detail)
+  decided_by None None tops tops' details details' first second =
+      ap (λ (ts : List (ℕ × Root)). are_one below ts details) first.0 ∙ ap (are_one below []) second.0
+  decided_by None (Some detail) tops tops' details details' first second =
+      ap (λ (ts : List (ℕ × Root)). are_one below ts details) first.0 ∙ ap (are_one below []) second
+  decided_by (Some top) None tops tops' details details' first second =
+      ap (λ (ts : List (ℕ × Root)). are_one below ts details) first ∙ ap (are_one below (top ∷ tops')) second.0
+  decided_by (Some top) (Some detail) tops tops' details details' first second =
+      by_test (is_one below top detail) top detail tops tops' details details' first second refl
+
+  -- where they leave it, the first tree has an entry
+  pub undecided_some : (top : Option (ℕ × Root)) (detail : Option (ℕ × Details)) → decided below top detail ≡ None → (x : ℕ × Root) × (top ≡ Some x)
+  undecided_some None None e = absurd (cc)
+  undecided_some None (Some detail) e = absurd (cc)
+  undecided_some (Some top) None e = absurd (cc)
+  undecided_some (Some top) (Some detail) e = (top, refl)
+
+-- entries as cursors give them
+module _ (below number : ℕ → ℕ) where
+  abbrev tops_of : List Entry → List (ℕ × Root)
+  tops_of ts = map (item_of root_of) ts
+
+  abbrev details_from : List Entry → List (ℕ × Details)
+  details_from ds = map (item_of details_of) ds
+
+  pub one_by_items : (ts ds : List Entry) → AllByRecursion (λ (e : Entry). below e.value ≡ number e.value) ts → are_one below (tops_of ts) (details_from ds) ≡ true
+      → counts_by_roots number ts ≡ counts_by_details ds
+  one_by_items [] [] told e = refl
+  one_by_items [] (d ∷ ds) told e = absurd (both_ways false refl e)
+  one_by_items (t ∷ ts) [] told e = absurd (both_ways false refl e)
+  one_by_items (t ∷ ts) (d ∷ ds) told e =
+      let parts = and_parts (is_one below (item_of root_of t) (item_of details_of d)) (are_one below (tops_of ts) (details_from ds)) e in
+      let here = and_parts (nat_eq t.key d.key) (nat_eq (below t.value) (details_of d.value).mapped) parts.0 in
+      let key : t.key ≡ d.key = eqb-true t.key d.key here.0 in
+      let mapped : number t.value ≡ (details_of d.value).mapped = sym told.0 ∙ eqb-true (below t.value) (details_of d.value).mapped here.1 in
+      ap (λ (k : ℕ). the_count k (number t.value) ∷ counts_by_roots number ts) key
+      ∙ (ap (λ (n : ℕ). the_count d.key n ∷ counts_by_roots number ts) mapped
+      ∙ ap (λ (cs : List DeviceCount). the_count d.key (details_of d.value).mapped ∷ cs) (one_by_items ts ds told.1 parts.1))
+
+  pub items_by_one : (ts ds : List Entry) → AllByRecursion (λ (e : Entry). below e.value ≡ number e.value) ts
+      → counts_by_roots number ts ≡ counts_by_details ds → are_one below (tops_of ts) (details_from ds) ≡ true
+  items_by_one [] [] told e = refl
+  items_by_one [] (d ∷ ds) told e = absurd (cc)
+  items_by_one (t ∷ ts) [] told e = absurd (cc)
+  items_by_one (t ∷ ts) (d ∷ ds) told e =
+      let head : the_count t.key (number t.value) ≡ the_count d.key (details_of d.value).mapped = cc in
+      let rest : counts_by_roots number ts ≡ counts_by_details ds = cc in
+      and_from (is_one below (item_of root_of t) (item_of details_of d)) (are_one below (tops_of ts) (details_from ds))
+      (and_from (nat_eq t.key d.key) (nat_eq (below t.value) (details_of d.value).mapped)
+      (eq-eqb t.key d.key (ap (λ (c : DeviceCount). c.id) head))
+      (eq-eqb (below t.value) (details_of d.value).mapped (told.0 ∙ ap (λ (c : DeviceCount). c.mapped) head)))
+      (items_by_one ts ds told.1 rest)
