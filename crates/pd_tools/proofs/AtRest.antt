@@ -9,7 +9,7 @@ use Rattle.pd_kinds.specs.Meaning.{thin_meaning, era_meaning}
 use Rattle.pd_kinds.specs.Report.{report_of}
 use Rattle.pd_kinds.specs.Stages.{faults}
 use Rattle.pd_answers.specs.Answer.{Objects, AreFresh}
-use Rattle.pd_answers.specs.Requests.{Request, check, dump, restore, repair, rmap, list_devices, since, generate, rehearse, is_built}
+use Rattle.pd_answers.specs.Requests.{Request, check, dump, restore, repair, rmap, list_devices, since, generate, rehearse, writeback, is_built}
 use Rattle.pd_answers.specs.QueryLines.{list_lines, rmap_lines, since_lines}
 use Rattle.pd_answers.specs.Words.{built, spelled, asked}
 use Rattle.pd_answers.specs.Promises.{image_text, terms_of}
@@ -28,6 +28,7 @@ use Rattle.pd_tools.proofs.Queries.{query_at_rest}
 use Rattle.pd_tools.proofs.Rehearses.{rehearse_at_rest}
 use Rattle.pd_tools.proofs.Repairs.{repair_at_rest}
 use Rattle.pd_tools.proofs.Restores.{restore_at_rest}
+use Rattle.pd_tools.proofs.Writebacks.{writeback_at_rest}
 
 -- shared leaves aren't built
 pub no_shared : (kind : Kind) (file : Option (List ℕ)) (path : List ℕ) → is_built (dump kind true file path) ≡ false
@@ -73,6 +74,7 @@ at_rest (Some (list_devices file path)) before notes fresh verdicts is = query_a
 at_rest (Some (since era file path)) before notes fresh verdicts is = query_at_rest Era (λ image. since_lines era (era_meaning image)) before.input.held
 at_rest (Some (generate number file)) before notes fresh verdicts is = (tt, tt, tt)
 at_rest (Some (rehearse number path)) before notes fresh verdicts is = rehearse_at_rest number path before (record before { notes = notes }) before.output fresh.output.2 (verdicts Thin 1) fresh.output.0
+at_rest (Some (writeback metadata fast origin)) before notes fresh verdicts is = writeback_at_rest metadata fast origin before notes fresh
 at_rest (Some _) before notes fresh verdicts is = absurd (true≢false (sym is))
 
 -- and nothing was read
@@ -93,4 +95,5 @@ reads_at_rest (Some (list_devices file path)) before notes is = tt
 reads_at_rest (Some (since era file path)) before notes is = tt
 reads_at_rest (Some (generate number file)) before notes is = tt
 reads_at_rest (Some (rehearse number path)) before notes is = tt
+reads_at_rest (Some (writeback metadata fast origin)) before notes is = tt
 reads_at_rest (Some _) before notes is = absurd (true≢false (sym is))

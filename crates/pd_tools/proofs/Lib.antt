@@ -8,3 +8,4 @@ pub mod Restores
 pub mod Generates
 pub mod Rehearses
 pub mod Repairs
+pub mod Writebacks

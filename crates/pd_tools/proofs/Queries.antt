@@ -27,7 +27,7 @@ told_or f otherwise None = otherwise
 told_or f otherwise (Some x) = f x
 
 -- a report without faults is that of an image without faults
-none_reported : (kind : Kind) (image : List (List ℕ)) (report : Reported) → report ≡ report_of (faults kind stages.Whole image) → (nat_eq report.total 0) ≡ true → faults kind stages.Whole image ≡ []
+pub none_reported : (kind : Kind) (image : List (List ℕ)) (report : Reported) → report ≡ report_of (faults kind stages.Whole image) → (nat_eq report.total 0) ≡ true → faults kind stages.Whole image ≡ []
 none_reported kind image report is clean = none_of (faults kind stages.Whole image) (sym (ap (λ (r : Reported). r.total) is) ∙ eqb-true report.total 0 clean)
   where
     none_of : {X : Type 0} (xs : List X) → length xs ≡ 0 → xs ≡ []
@@ -42,7 +42,7 @@ none_first checked image stage later none = elim (cases_Bool (nat_lt 0 (length (
   | inr nothing ↦ rw nothing refl
 ]
 
-none_at_super : (kind : Kind) (image : List (List ℕ)) → faults kind stages.Whole image ≡ [] → faults kind stages.Super image ≡ []
+pub none_at_super : (kind : Kind) (image : List (List ℕ)) → faults kind stages.Whole image ≡ [] → faults kind stages.Super image ≡ []
 unfolding faults
 none_at_super kind image none = none_first (checked_of kind image) image stages.Super (stages.Walk ∷ stages.Order ∷ stages.Whole ∷ []) none
 

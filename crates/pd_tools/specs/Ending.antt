@@ -5,14 +5,17 @@ use Rattle.pd_kinds.specs.Objects.{SinkState}
 use Rattle.pd_kinds.specs.Report.{report_of}
 use Rattle.pd_kinds.specs.RuleSet.{has_rule}
 use Rattle.pd_spells.specs.Lines.{no_room_line, refusal_line, reported_lines}
+use Rattle.pd_answers.specs.Writebacks.{block_size_line}
 use Rattle.pd_restoring.specs.declared.fault.RestoreFault.{RestoreFault}
 use Rattle.pd_restoring.specs.declared.fault.RestoreFault.TheVariants as r
 use Rattle.pd_repair.specs.declared.fault.RepairFault.{RepairFault}
 use Rattle.pd_repair.specs.declared.fault.RepairFault.TheVariants as f
 use Rattle.pd_rehearse.specs.declared.fault.RehearseFault.{RehearseFault}
 use Rattle.pd_rehearse.specs.declared.fault.RehearseFault.TheVariants as q
+use Rattle.pd_writeback.specs.declared.fault.WriteFault.{WriteFault}
+use Rattle.pd_writeback.specs.declared.fault.WriteFault.TheVariants as w
 use Rattle.pd_tools.specs.declared.ending.Ending.{Ending}
-use Rattle.pd_tools.specs.declared.ending.Ending.TheVariants.{Done, Faulty, Refused, NoRoom}
+use Rattle.pd_tools.specs.declared.ending.Ending.TheVariants.{Done, Faulty, Refused, NoRoom, BlockSize}
 use Rattle.pd_tools.specs.declared.stop.Stop.{Stop}
 use Rattle.pd_tools.specs.declared.stop.Stop.TheVariants.{Device, Stream, Memory}
 use Rattle.pd_tools.specs.Notes.{PutsLine}
@@ -24,12 +27,14 @@ ending_status Done = 0
 ending_status (Faulty report) = 1
 ending_status (Refused fault) = 3
 ending_status (NoRoom need blocks) = 4
+ending_status BlockSize = 1
 
 abbrev pub ending_line : Ending → List ℕ
 ending_line Done = []
 ending_line (Faulty report) = reported_lines report
 ending_line (Refused fault) = refusal_line (record { line = fault.line; cause = fault.cause })
 ending_line (NoRoom need blocks) = no_room_line need blocks
+ending_line BlockSize = block_size_line
 
 -- the line was put, and the status is that of the ending; or `notes` failed
 abbrev pub TellsEnd : Result Ending Stop → ℕ → SinkState → SinkState → Type 0
@@ -37,6 +42,7 @@ TellsEnd (Ok Done) status old new = (status ≡ 0) × (new ≡ old)
 TellsEnd (Ok (Faulty report)) status old new = PutsLine (ending_line (Faulty report)) 1 status old new
 TellsEnd (Ok (Refused fault)) status old new = PutsLine (ending_line (Refused fault)) 3 status old new
 TellsEnd (Ok (NoRoom need blocks)) status old new = PutsLine (ending_line (NoRoom need blocks)) 4 status old new
+TellsEnd (Ok BlockSize) status old new = PutsLine (ending_line BlockSize) 1 status old new
 TellsEnd (Err stop) status old new = PutsLine (stop_line stop) (stop_status stop) status old new
 
 -- how a restore ended
@@ -63,3 +69,12 @@ rehearsal_ended q.Memory = Err Memory
 rehearsal_ended q.Device = Err Device
 rehearsal_ended (q.NoRoom need blocks) = Ok (NoRoom need blocks)
 rehearsal_ended (q.Faulty report) = Ok (Faulty report)
+
+-- how a writeback ended of which no plan was made
+abbrev pub plan_ended : WriteFault → Result Ending Stop
+plan_ended w.Memory = Err Memory
+plan_ended w.Meta = Err Device
+plan_ended w.Origin = Err Device
+plan_ended w.Fast = Err Device
+plan_ended w.BlockSize = Ok BlockSize
+plan_ended (w.NoRoom need blocks) = Ok (NoRoom need blocks)

@@ -2,8 +2,9 @@
 
 ghost use Rattle.std.specs.Prelude.{◌≡◌};
 ghost use Rattle.pd_tools.specs.Ending.{TellsEnd};
+ghost use Rattle.pd_tools.specs.declared.ending.Ending.TheVariants as ending;
 
-use crate::notes::put_line;
+use crate::notes::{BLOCK_SIZE_LINE, put_line};
 use crate::query::put_faults;
 use crate::refusals::{no_room_line, refusal_line};
 use crate::stop::Stop;
@@ -21,7 +22,19 @@ pub enum Ending {
     /// A line of the text is refused.
     Refused(TextFault),
     /// So many blocks are needed, and so many are there.
-    NoRoom { need: u64, blocks: u64 },
+    NoRoom { need: u128, blocks: u64 },
+    /// A block of the cache is no whole number of blocks.
+    BlockSize,
+}
+
+/// That so many blocks are needed, and so many are there.
+pub(crate) fn no_room(need: u64, blocks: u64) -> Ending
+    ensures { result ≡ ending.NoRoom need blocks }
+{
+    Ending::NoRoom {
+        need: u128::from(need),
+        blocks,
+    }
 }
 
 /// Puts the line that says how work ended, where there is one, and answers the status.
@@ -37,6 +50,7 @@ pub fn put_ending<E: Sink>(ended: Result<Ending, Stop>, notes: &mut E) -> u8
             Ending::NoRoom { need, blocks } => {
                 put_line(notes, no_room_line(need, blocks).as_bytes(), 4)
             }
+            Ending::BlockSize => put_line(notes, BLOCK_SIZE_LINE, 1),
         },
         Err(stop) => stop.put(notes),
     }

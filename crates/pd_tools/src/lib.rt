@@ -13,5 +13,6 @@ mod repair;
 mod restore;
 mod run;
 mod stop;
+mod writeback;
 
 pub use run::run_tool;

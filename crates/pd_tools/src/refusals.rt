@@ -3,6 +3,7 @@
 ghost use Rattle.std.specs.Prelude.{◌≡◌};
 ghost use Rattle.pd_spells.specs.Lines as lines;
 
+use itoa::Buffer;
 use pd_lines::LineBuffer;
 use pd_texts::TextFault;
 
@@ -20,12 +21,13 @@ pub fn refusal_line(fault: &TextFault) -> LineBuffer
 }
 
 /// The line of status 4: the blocks that are needed, and those that there are.
-pub fn no_room_line(need: u64, blocks: u64) -> LineBuffer
+pub fn no_room_line(need: u128, blocks: u64) -> LineBuffer
     ensures { result ≡ lines.no_room_line need blocks }
 {
+    let mut digits = Buffer::new();
     let mut line = LineBuffer::new();
     line.add(b"pdata_tools: no room: need ");
-    line.add_number(need);
+    line.add(digits.format(need).as_bytes());
     line.add(b", blocks ");
     line.add_number(blocks);
     line.add(b"\n");

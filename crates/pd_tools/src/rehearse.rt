@@ -8,7 +8,7 @@ ghost use Rattle.pd_tools.specs.Ending.{ending_line, ending_status, rehearsal_en
 ghost use Rattle.pd_tools.specs.Rehearse.{line_of};
 ghost use Rattle.pd_tools.specs.Work.{IsFinished, IsStopped, AnswersTerms};
 
-use crate::ending::{Ending, put_ending};
+use crate::ending::{Ending, no_room, put_ending};
 use crate::stop::Stop;
 use pd_image::{Device, Failed, Sink};
 use pd_lines::LineBuffer;
@@ -76,7 +76,7 @@ fn ended_without(fault: RehearseFault) -> Result<Ending, Stop>
     match fault {
         RehearseFault::Memory => Err(Stop::Memory),
         RehearseFault::Device => Err(Stop::Device),
-        RehearseFault::NoRoom { need, blocks } => Ok(Ending::NoRoom { need, blocks }),
+        RehearseFault::NoRoom { need, blocks } => Ok(no_room(need, blocks)),
         RehearseFault::Faulty(report) => Ok(Ending::Faulty(report)),
     }
 }

@@ -13,7 +13,7 @@ ghost use Rattle.pd_tools.specs.Ending.{ending_line, ending_status, repair_ended
 ghost use Rattle.pd_tools.specs.Repair.{AreOpened, AreUnopened};
 ghost use Rattle.pd_tools.specs.Work.{IsFinished, IsStopped, AnswersTerms};
 
-use crate::ending::{Ending, put_ending};
+use crate::ending::{Ending, no_room, put_ending};
 use crate::stop::Stop;
 use pd_image::{Device, Failed, Sink};
 use pd_kinds::{Report, Rules};
@@ -113,7 +113,7 @@ fn ended_of(repaired: Result<(), RepairFault>) -> Result<Ending, Stop>
             RepairFault::Input => Err(Stop::Device),
             RepairFault::Output => Err(Stop::Device),
             RepairFault::NoSuper(rules) => Ok(Ending::Faulty(report_of_rules(&rules))),
-            RepairFault::NoRoom { need, blocks } => Ok(Ending::NoRoom { need, blocks }),
+            RepairFault::NoRoom { need, blocks } => Ok(no_room(need, blocks)),
         },
     }
 }

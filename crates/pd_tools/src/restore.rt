@@ -14,7 +14,7 @@ ghost use Rattle.pd_tools.specs.Ending.{ending_line, ending_status, restore_ende
 ghost use Rattle.pd_tools.specs.Restore.{AreAttached, AreUnattached, IsRestoredAs, TextsHaveVerdicts};
 ghost use Rattle.pd_tools.specs.Work.{IsFinished, IsStopped, AnswersTerms};
 
-use crate::ending::{Ending, put_ending};
+use crate::ending::{Ending, no_room, put_ending};
 use crate::stop::Stop;
 use pd_image::{Device, Sink, Source};
 use pd_kinds::Kind;
@@ -138,7 +138,7 @@ fn ended_of(restored: Result<(), RestoreFault>) -> Result<Ending, Stop>
             RestoreFault::Source => Err(Stop::Stream),
             RestoreFault::Device => Err(Stop::Device),
             RestoreFault::Text(refused) => Ok(Ending::Refused(refused)),
-            RestoreFault::NoRoom { need, blocks } => Ok(Ending::NoRoom { need, blocks }),
+            RestoreFault::NoRoom { need, blocks } => Ok(no_room(need, blocks)),
         },
     }
 }

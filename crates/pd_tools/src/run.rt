@@ -17,6 +17,7 @@ use crate::query::{Asked, run_query};
 use crate::rehearse::run_rehearse;
 use crate::repair::run_repair;
 use crate::restore::{run_restore, texts_have_verdicts};
+use crate::writeback::run_writeback;
 use pd_image::{Device, Sink, Source};
 use pd_words::{Name, Request, read_words};
 use std::alloc::Global;
@@ -54,7 +55,9 @@ pub fn run_tool<S: Source, K: Sink, E: Sink, A: Device, B: Device, C: Device>(
     texts_have_verdicts();
     match notes.attach(None) {
         Ok(()) => match read_words(words) {
-            Ok(request) => { run_request(alloc, words, request, source, out, notes, input, output) }
+            Ok(request) => run_request(
+                alloc, words, request, source, out, notes, input, output, third,
+            ),
             Err(_) => put_line(notes, USAGE_LINE, 2),
         },
         Err(_) => 6,
@@ -64,7 +67,7 @@ pub fn run_tool<S: Source, K: Sink, E: Sink, A: Device, B: Device, C: Device>(
 /// Does a request of these words, with `notes` attached: its clause is that of the top call, whatever the other objects
 /// are.
 #[tactic(auto, unfolding(pd_answers::specs::Requests::is_built))]
-fn run_request<S: Source, K: Sink, E: Sink, A: Device, B: Device>(
+fn run_request<S: Source, K: Sink, E: Sink, A: Device, B: Device, C: Device>(
     alloc: Global,
     words: &[String],
     request: Request,
@@ -73,6 +76,7 @@ fn run_request<S: Source, K: Sink, E: Sink, A: Device, B: Device>(
     notes: &mut E,
     input: &mut A,
     output: &mut B,
+    third: &mut C,
 ) -> u8
     requires names { AreNames (length words.now) request }
     requires built { is_built (request_as (map string_bytes words.now) request) ≡ true }
@@ -81,9 +85,10 @@ fn run_request<S: Source, K: Sink, E: Sink, A: Device, B: Device>(
     requires notes { (E.state notes.old).access ≡ 1 }
     requires input { (A.state input.old).access ≡ 0 }
     requires output { (B.state output.old).access ≡ 0 }
+    requires third { (C.state third.old).access ≡ 0 }
     ensures { (others : Objects) → AnswersTerms (terms_of (Some (request_as (map string_bytes words.now) request))) (E.state notes.old)
-        (record others { source = S.state source.old; out = K.state out.old; input = A.state input.old; output = B.state output.old })
-        (record others { source = S.state source.new; out = K.state out.new; notes = E.state notes.new; input = A.state input.new; output = B.state output.new }) result }
+        (record others { source = S.state source.old; out = K.state out.old; input = A.state input.old; output = B.state output.old; third = C.state third.old })
+        (record others { source = S.state source.new; out = K.state out.new; notes = E.state notes.new; input = A.state input.new; output = B.state output.new; third = C.state third.new }) result }
 {
     match request {
         Request::Check {
@@ -181,6 +186,21 @@ fn run_request<S: Source, K: Sink, E: Sink, A: Device, B: Device>(
         Request::Generate { number, out: file } => {
             run_generate(number, file_in(words, file), out, notes)
         }
+        Request::Writeback {
+            metadata,
+            fast,
+            origin,
+        } => run_writeback(
+            alloc,
+            metadata.word_in(words),
+            fast.word_in(words),
+            origin.word_in(words),
+            out,
+            notes,
+            input,
+            output,
+            third,
+        ),
         Request::Rehearse { number, image } => run_rehearse(
             alloc,
             number,

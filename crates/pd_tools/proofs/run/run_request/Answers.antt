@@ -10,6 +10,7 @@ use Rattle.pd_answers.specs.Promises.{generate, terms_of}
 use Rattle.pd_answers.specs.Rehearsals.{rehearse}
 use Rattle.pd_answers.specs.Repairs.{repair}
 use Rattle.pd_answers.specs.Restores.{restore}
+use Rattle.pd_answers.specs.Writebacks.{writeback}
 use Rattle.std.specs.Option.{option_copied}
 use Rattle.pd_words.specs.Words.{word_of, words_of}
 use Rattle.pd_tools.specs.declared.query.Asked.{Asked}
@@ -37,13 +38,13 @@ pub returns-in-Check : goal.returns-in-Check
 returns-in-Check g c others =
     let words = map string_bytes c.args.words.now in
     rw c.in-Check.is (as_asked c.in-Check.kind c.in-Check.until c.in-Check.clear (word_of words c.in-Check.image) c.word_in.result.now _ _ _ _ c.word_in.ensures
-    (c.run_any_check.ensures (record others { source = g.S.Source.state c.args.source.now; output = g.B.Device.state c.args.output.now })))
+    (c.run_any_check.ensures (record others { source = g.S.Source.state c.args.source.now; output = g.B.Device.state c.args.output.now; third = g.C.Device.state c.args.third.now })))
 
 pub returns-in-Dump : goal.returns-in-Dump
 returns-in-Dump g c others =
     let words = map string_bytes c.args.words.now in
     rw c.in-Dump.is (dump_as_asked c.in-Dump.kind c.in-Dump.shared (words_of words c.in-Dump.file) (option_copied c.file_in.result) (word_of words c.in-Dump.image) c.word_in-in-Dump.result.now _ _ _ _
-    (rw c.in-Dump.is at c.requires.built) c.file_in.ensures c.word_in-in-Dump.ensures (c.run_query.ensures (record others { source = g.S.Source.state c.args.source.now; output = g.B.Device.state c.args.output.now })))
+    (rw c.in-Dump.is at c.requires.built) c.file_in.ensures c.word_in-in-Dump.ensures (c.run_query.ensures (record others { source = g.S.Source.state c.args.source.now; output = g.B.Device.state c.args.output.now; third = g.C.Device.state c.args.third.now })))
 
 -- so with another query
 query_as_asked : (asked : Asked) (file given : Option (List ℕ)) (path word : List ℕ) (attached : SinkState) (before after : Objects) (status : ℕ)
@@ -55,21 +56,21 @@ returns-in-Rmap g c others =
     let words = map string_bytes c.args.words.now in
     let w = c.in-Rmap in
     rw w.is (query_as_asked (ReverseMap w.first w.end) (words_of words w.file) (option_copied c.file_in-in-Rmap.result) (word_of words w.image) c.word_in-in-Rmap.result.now _ _ _ _
-    c.file_in-in-Rmap.ensures c.word_in-in-Rmap.ensures (c.run_query-in-Rmap.ensures (record others { source = g.S.Source.state c.args.source.now; output = g.B.Device.state c.args.output.now })))
+    c.file_in-in-Rmap.ensures c.word_in-in-Rmap.ensures (c.run_query-in-Rmap.ensures (record others { source = g.S.Source.state c.args.source.now; output = g.B.Device.state c.args.output.now; third = g.C.Device.state c.args.third.now })))
 
 pub returns-in-List : goal.returns-in-List
 returns-in-List g c others =
     let words = map string_bytes c.args.words.now in
     let w = c.in-List in
     rw w.is (query_as_asked DeviceList (words_of words w.file) (option_copied c.file_in-in-List.result) (word_of words w.image) c.word_in-in-List.result.now _ _ _ _
-    c.file_in-in-List.ensures c.word_in-in-List.ensures (c.run_query-in-List.ensures (record others { source = g.S.Source.state c.args.source.now; output = g.B.Device.state c.args.output.now })))
+    c.file_in-in-List.ensures c.word_in-in-List.ensures (c.run_query-in-List.ensures (record others { source = g.S.Source.state c.args.source.now; output = g.B.Device.state c.args.output.now; third = g.C.Device.state c.args.third.now })))
 
 pub returns-in-Since : goal.returns-in-Since
 returns-in-Since g c others =
     let words = map string_bytes c.args.words.now in
     let w = c.in-Since in
     rw w.is (query_as_asked (Since w.era) (words_of words w.file) (option_copied c.file_in-in-Since.result) (word_of words w.image) c.word_in-in-Since.result.now _ _ _ _
-    c.file_in-in-Since.ensures c.word_in-in-Since.ensures (c.run_query-in-Since.ensures (record others { source = g.S.Source.state c.args.source.now; output = g.B.Device.state c.args.output.now })))
+    c.file_in-in-Since.ensures c.word_in-in-Since.ensures (c.run_query-in-Since.ensures (record others { source = g.S.Source.state c.args.source.now; output = g.B.Device.state c.args.output.now; third = g.C.Device.state c.args.third.now })))
 
 -- the restore of these words is the one that is asked
 restored_as_asked : (kind : Kind) (version : ℕ) (file path text image : List ℕ) (attached : SinkState) (before after : Objects) (status : ℕ)
@@ -82,7 +83,7 @@ returns-in-Restore g c others =
     let w = c.in-Restore in
     rw w.is (restored_as_asked w.kind w.version (word_of words w.text) (word_of words w.image) c.word_in-in-Restore.result.now c.word_in-in-Restore-2.result.now _ _ _ _
     c.word_in-in-Restore.ensures c.word_in-in-Restore-2.ensures
-    (c.run_restore.ensures (record others { out = g.K.Sink.state c.args.out.now; input = g.A.Device.state c.args.input.now })))
+    (c.run_restore.ensures (record others { out = g.K.Sink.state c.args.out.now; input = g.A.Device.state c.args.input.now; third = g.C.Device.state c.args.third.now })))
 
 -- so with the images of a repair
 repaired_as_asked : (from to given_from given_to : List ℕ) (attached : SinkState) (before after : Objects) (status : ℕ)
@@ -95,7 +96,7 @@ returns-in-Repair g c others =
     let w = c.in-Repair in
     rw w.is (repaired_as_asked (word_of words w.from) (word_of words w.to) c.word_in-in-Repair.result.now c.word_in-in-Repair-2.result.now _ _ _ _
     c.word_in-in-Repair.ensures c.word_in-in-Repair-2.ensures
-    (c.run_repair.ensures (record others { source = g.S.Source.state c.args.source.now; out = g.K.Sink.state c.args.out.now })))
+    (c.run_repair.ensures (record others { source = g.S.Source.state c.args.source.now; out = g.K.Sink.state c.args.out.now; third = g.C.Device.state c.args.third.now })))
 
 -- the generator's file of these words is the one that is asked
 generated_as_asked : (number : ℕ) (file given : Option (List ℕ)) (attached : SinkState) (before after : Objects) (status : ℕ)
@@ -107,7 +108,7 @@ returns-in-Generate g c others =
     let w = c.in-Generate in
     rw w.is (generated_as_asked w.number (words_of (map string_bytes c.args.words.now) w.file) (option_copied c.file_in-in-Generate.result) _ _ _ _
     c.file_in-in-Generate.ensures
-    (c.run_generate.ensures (record others { source = g.S.Source.state c.args.source.now; input = g.A.Device.state c.args.input.now; output = g.B.Device.state c.args.output.now })))
+    (c.run_generate.ensures (record others { source = g.S.Source.state c.args.source.now; input = g.A.Device.state c.args.input.now; output = g.B.Device.state c.args.output.now; third = g.C.Device.state c.args.third.now })))
 
 -- so with the image of a rehearsal
 rehearsed_as_asked : (number : ℕ) (path image : List ℕ) (attached : SinkState) (before after : Objects) (status : ℕ)
@@ -119,4 +120,20 @@ returns-in-Rehearse g c others =
     let w = c.in-Rehearse in
     rw w.is (rehearsed_as_asked w.number (word_of (map string_bytes c.args.words.now) w.image) c.word_in-in-Rehearse.result.now _ _ _ _
     c.word_in-in-Rehearse.ensures
-    (c.run_rehearse.ensures (record others { source = g.S.Source.state c.args.source.now; input = g.A.Device.state c.args.input.now })))
+    (c.run_rehearse.ensures (record others { source = g.S.Source.state c.args.source.now; input = g.A.Device.state c.args.input.now; third = g.C.Device.state c.args.third.now })))
+
+-- so with the devices of a writeback
+written_back_as_asked : (metadata fast origin given_metadata given_fast given_origin : List ℕ) (attached : SinkState) (before after : Objects) (status : ℕ)
+    → given_metadata ≡ metadata → given_fast ≡ fast → given_origin ≡ origin
+    → AnswersTerms (writeback given_metadata given_fast given_origin) attached before after status → AnswersTerms (writeback metadata fast origin) attached before after status
+written_back_as_asked metadata fast origin given_metadata given_fast given_origin attached before after status same_metadata same_fast same_origin answers =
+    rw (same_metadata, same_fast, same_origin) at answers
+
+pub returns-in-Writeback : goal.returns-in-Writeback
+returns-in-Writeback g c others =
+    let words = map string_bytes c.args.words.now in
+    let w = c.in-Writeback in
+    rw w.is (written_back_as_asked (word_of words w.metadata) (word_of words w.fast) (word_of words w.origin)
+    c.word_in-in-Writeback.result.now c.word_in-in-Writeback-2.result.now c.word_in-in-Writeback-3.result.now _ _ _ _
+    c.word_in-in-Writeback.ensures c.word_in-in-Writeback-2.ensures c.word_in-in-Writeback-3.ensures
+    (c.run_writeback.ensures (record others { source = g.S.Source.state c.args.source.now })))

@@ -1,0 +1,555 @@
+-- What the work of a writeback comes to, over plain variables.
+use Rattle.std.proofs.Common.{◌≡◌, ◌≢◌, ◌⊎◌, inl, inr, ℕ, ◌≤◌, ◌<◌, true, false, nat_eq, IsTrue, List, [], ◌∷◌, length, Option, Some, None, IfSome, Result, Ok, Err, refl, sym, ap, ◌∙◌, subst, arith, lit≤}
+use Rattle.std.specs.Prelude.{MatchResult, OnOk, slice_get}
+use Rattle.std.specs.Option.{option_map_or}
+use Rattle.std.specs.List.Sorted.{IsPermutation}
+use Rattle.std.proofs.lemmas.List.Sorted.{length_permutation}
+use Rattle.std.proofs.lemmas.Bool.{lt-ltb, le-ltb}
+use Rattle.std.proofs.lemmas.Option.{IfSome_then}
+use Rattle.pd_kinds.specs.declared.kind.Kind.TheVariants.{Cache}
+use Rattle.pd_kinds.specs.declared.kind.Stage.TheVariants.{Whole}
+use Rattle.pd_kinds.specs.Crash.{HoldsSynced, IsSynced, IsUntouched, LeavesNow, LeavesOnly}
+use Rattle.pd_kinds.specs.Meaning.{cache_meaning}
+use Rattle.pd_kinds.specs.Moments.{now}
+use Rattle.pd_kinds.specs.Objects.{DeviceState, SinkState, Appends, AppendsFront, Rose}
+use Rattle.pd_kinds.specs.Report.{Reported, report_of}
+use Rattle.pd_kinds.specs.Stages.{faults, CanWantMemory}
+use Rattle.pd_kinds.proofs.AppendLemmas.{appends_none, front_none}
+use Rattle.pd_kinds.proofs.CrashLemmas.{and_then, stays, weaken, left_now, left_synced}
+use Rattle.pd_spells.specs.Lines.{no_room_line, reported_lines}
+use Rattle.pd_answers.specs.Answer.{Answer, Objects, AreFresh, IsUsed, reading}
+use Rattle.pd_answers.specs.CachedView.{CachedBlock, blocks_each, copied, fast_need, hot_blocks, is_block_size_bad, origin_need, settled}
+use Rattle.pd_answers.specs.Terms.{is_one_of, is_possible}
+use Rattle.pd_answers.specs.Writebacks.{AllTold, FindsWriteback, HasBlocks, KeepsOthers, LeavesWrittenBack, WritebackFound, block_size_line, copied_line, writeback, writeback_answer}
+use Rattle.pd_writeback.specs.declared.fault.WriteFault.{WriteFault}
+use Rattle.pd_writeback.specs.declared.fault.WriteFault.TheVariants as w
+use Rattle.pd_writeback.specs.declared.plan.Plan.{Plan}
+use Rattle.pd_writeback.specs.Failing.{IsOfCopy, IsOfMarking, IsOfPlanning}
+use Rattle.pd_writeback.specs.Plan.{IsFound, IsMade, IsPlanOf, IsUnplanned, plan_hot}
+use Rattle.pd_tools.specs.declared.stop.Stop.{Stop}
+use Rattle.pd_tools.specs.declared.stop.Stop.TheVariants.{Device, Stream, Memory}
+use Rattle.pd_tools.specs.Ending.{ending_line, ending_status, plan_ended}
+use Rattle.pd_tools.specs.Read.{IsUnread}
+use Rattle.pd_tools.specs.Stop.{stop_status}
+use Rattle.pd_tools.specs.Work.{HasCause, IsFinished, IsStopped, IsWork}
+use Rattle.pd_tools.specs.Writeback.{AreOpened, AreUnopened, HasCopied, IsWritten, devices}
+use Rattle.pd_tools.proofs.Checks.{not_yet, told}
+use Rattle.pd_tools.proofs.Queries.{none_at_super, one_told, two_told}
+use Rattle.pd_tools.proofs.Restores.{Image, here, still_synced}
+
+-- what is right to find of the metadata
+abbrev IsRight : Option Image → Reported → ℕ → List CachedBlock → Type 0
+IsRight held report size hot = IfSome held (λ image. (report ≡ report_of (faults Cache Whole image))
+    × (size ≡ (cache_meaning image).block_size) × (hot ≡ hot_blocks (cache_meaning image)))
+
+-- that of what is told
+report_in : Option Image → Reported
+report_in held = option_map_or (λ (image : Image). report_of (faults Cache Whole image)) held (report_of [])
+
+size_in : Option Image → ℕ
+size_in held = option_map_or (λ (image : Image). (cache_meaning image).block_size) held 0
+
+hot_in : Option Image → List CachedBlock
+hot_in held = option_map_or (λ (image : Image). hot_blocks (cache_meaning image)) held []
+
+blocks_in : Option Image → ℕ
+blocks_in held = option_map_or (λ (image : Image). length image) held 0
+
+sizes_told : (held : Option Image) → IfSome held (λ image. (size_in held ≡ (cache_meaning image).block_size) × (hot_in held ≡ hot_blocks (cache_meaning image)))
+unfolding size_in hot_in
+sizes_told None = tt
+sizes_told (Some image) = (refl, refl)
+
+right_by : (held : Option Image) (report : Reported) → IfSome held (λ image. report ≡ report_of (faults Cache Whole image)) → IsRight held report (size_in held) (hot_in held)
+right_by held report is = two_told held (λ image same sizes. (same, sizes.0, sizes.1)) is (sizes_told held)
+
+report_told : (held : Option Image) → IfSome held (λ image. report_in held ≡ report_of (faults Cache Whole image))
+unfolding report_in
+report_told held = told held (λ image. report_of (faults Cache Whole image)) (report_of [])
+
+blocks_told : (held : Option Image) → IfSome held (λ image. blocks_in held ≡ length image)
+unfolding blocks_in
+blocks_told held = told held length 0
+
+-- whatever is told
+if_any : {X : Type 0} {P : X → Type 0} (o : Option X) → ((x : X) → P x) → IfSome o P
+if_any None all = tt
+if_any (Some x) all = all x
+
+-- what is there before the first call
+here_kept : (k : ℕ) (hot : List CachedBlock) (image : Image) (device : DeviceState) → HoldsSynced image device → LeavesNow (λ left firsts. KeepsOthers k hot image left) device
+here_kept k hot image device synced left firsts leaves =
+    let same : left ≡ image = left_synced image left (now image device.history) refl synced.unsynced (left_now device image left firsts synced.held leaves).0 in
+    record { number = ap length same; others = λ b none. ap (λ (i : Image). slice_get i b) same }
+
+-- one state after another that leave a device alone
+and_same : {a b c : DeviceState} → IsUntouched a b → IsUntouched b c → IsUntouched a c
+and_same {a} {b} {c} first next = record { held = next.held ∙ first.held; history = next.history ∙ first.history }
+
+-- metadata and an origin that were left alone, under each status but 0
+left_alone : (found : WritebackFound) (before after : Objects) (status : ℕ) → IsSynced before.input → IsSynced before.output → status ≢ 0
+    → IsUntouched before.input after.input → IsUntouched before.output after.output → LeavesWrittenBack found before after status
+left_alone found before after status meta_synced origin_synced some meta origin = record {
+  origin = IfSome_then before.output.held origin_synced (λ image s.
+      stays origin.held origin.history (here_kept (blocks_each found.block_size) found.hot image before.output s));
+  metadata = IfSome_then before.input.held meta_synced (λ image s. stays meta.held meta.history (here image (λ made. made ≡ settled image) before.input s));
+  order = if_any before.input.held (λ i. if_any before.output.held (λ o. if_any before.third.held (λ f. inl meta)));
+  copied_all = λ zero. absurd (some zero);
+  marked = λ zero. absurd (some zero);
+  refused = λ _. (meta, origin);
+  wanting = λ _. (meta, origin);
+  cold = λ _. (meta, origin);
+}
+
+-- what is left where a line is lost
+pub writeback_lost : (before after : Objects) (found : WritebackFound) (status : ℕ) → status ≢ 0 → LeavesWrittenBack found before after status → LeavesWrittenBack found before after 6
+writeback_lost before after found status some left = record {
+  origin = left.origin;
+  metadata = left.metadata;
+  order = left.order;
+  copied_all = λ e. absurd (omega arith);
+  marked = λ e. absurd (omega arith);
+  refused = left.refused;
+  wanting = λ e. absurd (omega arith);
+  cold = left.cold;
+}
+
+never_open : {P : Type 0} (access : ℕ) → access ≡ 0 → (access ≡ 1) ⊎ (access ≡ 2) → P
+never_open access none either = elim either [ inl e ↦ absurd (omega arith) | inr e ↦ absurd (omega arith) ]
+
+-- before anything was done
+pub writeback_at_rest : (metadata fast origin : List ℕ) (before : Objects) (notes : SinkState) → AreFresh before
+    → (finding : WritebackFound) × ((writeback metadata fast origin).finds before (record before { notes = notes }) finding)
+    × ((writeback metadata fast origin).leaves finding before (record before { notes = notes }) 6)
+writeback_at_rest metadata fast origin before notes fresh =
+    let held = before.input.held in
+    let finding : WritebackFound = record {
+      report = report_in held;
+      block_size = size_in held;
+      hot = hot_in held;
+      fast_blocks = blocks_in before.third.held;
+      origin_blocks = blocks_in before.output.held;
+    } in (
+      finding,
+      record {
+        fast = record { told = blocks_told before.third.held; attached = never_open before.third.access fresh.third.0 };
+        origin = record { told = blocks_told before.output.held; attached = never_open before.output.access fresh.output.0 };
+        told = right_by held (report_in held) (report_told held);
+      },
+      left_alone finding before (record before { notes = notes }) 6 fresh.input.2 fresh.output.2 (λ e. omega arith)
+          (record { held = refl; history = refl }) (record { held = refl; history = refl }),
+    )
+
+-- a device for reading isn't open for writing
+reads_alone : {P : Type 0} (path : List ℕ) (access : ℕ) (name : Option (List ℕ)) → IsUsed (reading path) access name → access ≢ 1 → (access ≡ 1) ⊎ (access ≡ 2) → P
+reads_alone path access name used closed (inl one) = absurd (closed one)
+reads_alone path access name used closed (inr two) = elim used.allowed [
+  | inl e ↦ absurd (omega arith)
+  | inr rest ↦ elim rest [ inl e ↦ absurd (omega arith) | inr e ↦ absurd (omega arith) ]
+]
+
+-- a device that was measured has its blocks
+has_blocks : (old new last : DeviceState) → new.held ≡ old.held → IfSome new.held (λ image. length image ≡ new.blocks) → last.blocks ≡ new.blocks → HasBlocks old last new.blocks
+has_blocks old new last same measured blocks = record {
+  told = subst (λ (h : Option Image). IfSome h (λ image. new.blocks ≡ length image)) same (one_told new.held (λ image is. sym is) measured);
+  attached = λ _. sym blocks;
+}
+
+module _ (metadata fast origin : List ℕ) (others : Objects) (notes out : SinkState) (m m' o o' t t' : DeviceState) (fresh : out.access ≡ 0)
+    (meta_synced : IsSynced m) (origin_synced : IsSynced o) where
+  -- a device couldn't be attached
+  pub writeback_unopened : IfSome o'.held (λ image. length image ≡ o'.blocks) → AreUnopened metadata fast origin (devices m o t) (devices m' o' t')
+      → IsStopped (writeback metadata fast origin) (record others { out = out; input = m; output = o; third = t })
+      (record others { out = out; notes = notes; input = m'; output = o'; third = t' }) Device
+  writeback_unopened measured un =
+      let finding : WritebackFound = record {
+        report = report_in m.held;
+        block_size = size_in m.held;
+        hot = hot_in m.held;
+        fast_blocks = blocks_in t.held;
+        origin_blocks = o'.blocks;
+      } in
+      let before : Objects = record others { out = out; input = m; output = o; third = t } in
+      let after : Objects = record others { out = out; notes = notes; input = m'; output = o'; third = t' } in
+      let leaves : (status : ℕ) → status ≢ 0 → LeavesWrittenBack finding before after status =
+      λ status some. left_alone finding before after status meta_synced origin_synced some un.meta_untouched un.origin_untouched in
+      record {
+        finding = finding;
+        work = record {
+          found = record {
+            fast = record { told = blocks_told t.held; attached = reads_alone fast t'.access t'.path un.fast_used un.closed };
+            origin = has_blocks o o' o' un.origin_untouched.held measured refl;
+            told = right_by m.held (report_in m.held) (report_told m.held);
+          };
+          possible = refl;
+          followed = record { source = tt; out = not_yet [] out.access out.path fresh; input = un.meta_used; output = un.origin_used; third = un.fast_used };
+          kept = record { source = refl; out = tt; input = tt; output = tt; third = un.fast_untouched };
+          order = record {
+            input = λ _. tt;
+            output = λ ne. (tt, un.origin_order ne);
+            third = λ ne. (tt, un.fast_order ne);
+            out = λ ne. absurd (ne fresh);
+          };
+          silent = λ _. refl;
+          spared = λ _. refl;
+          reads = tt;
+          leaves = leaves 5 (λ e. omega arith);
+        };
+        cause = un.cause;
+        front = front_none _ out.written;
+        lost = leaves 6 (λ e. omega arith);
+      }
+
+-- how the devices stand once they were attached, at the end of a call
+record AreEnded (metadata fast origin : List ℕ) (m m' o o' t t' : DeviceState) (fast_blocks origin_blocks : ℕ) : Type 0 where
+  meta_open : m'.access ≡ 2
+  meta_named : IfSome m'.path (λ told. told ≡ metadata)
+  origin_open : o'.access ≡ 2
+  origin_named : IfSome o'.path (λ told. told ≡ origin)
+  fast_open : t'.access ≡ 1
+  fast_named : IfSome t'.path (λ told. told ≡ fast)
+  fast_untouched : IsUntouched t t'
+  fast_has : HasBlocks t t' fast_blocks
+  origin_has : HasBlocks o o' origin_blocks
+
+module _ (metadata fast origin : List ℕ) (others : Objects) (notes out out' : SinkState) (m m' o o' t t' : DeviceState) (fast_blocks origin_blocks : ℕ)
+    (ended : AreEnded metadata fast origin m m' o o' t t' fast_blocks origin_blocks) (out_used : IsUsed (reading []) out'.access out'.path) where
+  abbrev before : Objects
+  before = record others { out = out; input = m; output = o; third = t }
+
+  abbrev after : Objects
+  after = record others { out = out'; notes = notes; input = m'; output = o'; third = t' }
+
+  abbrev finding : Reported → ℕ → List CachedBlock → WritebackFound
+  finding report size hot = record { report = report; block_size = size; hot = hot; fast_blocks = fast_blocks; origin_blocks = origin_blocks }
+
+  work : (report : Reported) (size : ℕ) (hot : List CachedBlock) → IsRight m.held report size hot → (status : ℕ)
+      → IsTrue (is_possible (writeback metadata fast origin) status) → (IsTrue (is_one_of (1 ∷ 4 ∷ 5 ∷ 7 ∷ []) status) → out' ≡ out)
+      → ((writeback_answer (finding report size hot)).status ≢ 0 → out' ≡ out)
+      → LeavesWrittenBack (finding report size hot) before after status → IsWork (writeback metadata fast origin) (finding report size hot) before after status
+  work report size hot right status possible silent spared leaves = record {
+    found = record { fast = ended.fast_has; origin = ended.origin_has; told = right };
+    possible = possible;
+    followed = record {
+      source = tt;
+      out = out_used;
+      input = record { allowed = inr (inl ended.meta_open); named = λ _. ended.meta_named };
+      output = record { allowed = inr (inl ended.origin_open); named = λ _. ended.origin_named };
+      third = record { allowed = inr (inl ended.fast_open); named = λ _. ended.fast_named };
+    };
+    kept = record { source = refl; out = tt; input = tt; output = tt; third = ended.fast_untouched };
+    order = record {
+      input = λ _. tt;
+      output = λ _. (tt, ended.meta_open);
+      third = λ _. (tt, (ended.meta_open, ended.origin_open));
+      out = λ _. record { source = tt; input = ended.meta_open; output = ended.origin_open; third = ended.fast_open };
+    };
+    silent = silent;
+    spared = spared;
+    reads = tt;
+    leaves = leaves;
+  }
+
+  finished : (report : Reported) (size : ℕ) (hot : List CachedBlock) → IsRight m.held report size hot → (status : ℕ) (bytes line : List ℕ) → status ≤ 4
+      → IsTrue (is_possible (writeback metadata fast origin) status) → (IsTrue (is_one_of (1 ∷ 4 ∷ 5 ∷ 7 ∷ []) status) → out' ≡ out)
+      → (status ≢ 0 → out' ≡ out) → writeback_answer (finding report size hot) ≡ record { status = status; out = bytes; notes = line }
+      → Appends bytes out.written out'.written → (status ≡ 0 → out'.access ≡ 1)
+      → LeavesWrittenBack (finding report size hot) before after status → IsFinished (writeback metadata fast origin) before after status line
+  finished report size hot right status bytes line low possible silent spared answer whole attached leaves = record {
+    finding = finding report size hot;
+    work = work report size hot right status possible silent (λ some. spared (λ zero. some (ap (λ (a : Answer). a.status) answer ∙ zero))) leaves;
+    low = low;
+    same_status = sym (ap (λ (a : Answer). a.status) answer);
+    same_line = sym (ap (λ (a : Answer). a.notes) answer);
+    out = subst (λ (a : Answer). Appends a.out out.written out'.written) (sym answer) whole;
+    open_devices = record { source = tt; input = ended.meta_open; output = ended.origin_open; third = ended.fast_open };
+    open_out = attached;
+    read = λ _. tt;
+  }
+
+-- what the answer to a report without faults comes to
+module _ (fast_blocks origin_blocks size : ℕ) (hot : List CachedBlock) where
+  abbrev sound_finding : WritebackFound
+  sound_finding = record { report = report_of []; block_size = size; hot = hot; fast_blocks = fast_blocks; origin_blocks = origin_blocks }
+
+  answer_size : is_block_size_bad size ≡ true → writeback_answer sound_finding ≡ record { status = 1; out = []; notes = block_size_line }
+  answer_size bad = rw bad refl
+
+  answer_fast : is_block_size_bad size ≡ false → fast_blocks < fast_need (blocks_each size) hot
+      → writeback_answer sound_finding ≡ record { status = 4; out = []; notes = no_room_line (fast_need (blocks_each size) hot) fast_blocks }
+  answer_fast good lacking = rw (good, lt-ltb fast_blocks (fast_need (blocks_each size) hot) lacking) refl
+
+  answer_origin : is_block_size_bad size ≡ false → fast_need (blocks_each size) hot ≤ fast_blocks → origin_blocks < origin_need (blocks_each size) hot
+      → writeback_answer sound_finding ≡ record { status = 4; out = []; notes = no_room_line (origin_need (blocks_each size) hot) origin_blocks }
+  answer_origin good fits lacking =
+      rw (good, le-ltb fast_blocks (fast_need (blocks_each size) hot) fits, lt-ltb origin_blocks (origin_need (blocks_each size) hot) lacking) refl
+
+  answer_copied : is_block_size_bad size ≡ false → fast_need (blocks_each size) hot ≤ fast_blocks → origin_need (blocks_each size) hot ≤ origin_blocks
+      → writeback_answer sound_finding ≡ record { status = 0; out = copied_line (length hot); notes = [] }
+  answer_copied good fits fits' =
+      rw (good, le-ltb fast_blocks (fast_need (blocks_each size) hot) fits, le-ltb origin_blocks (origin_need (blocks_each size) hot) fits') refl
+
+-- the report of no faults is right where there are none
+none_right : (held : Option Image) → IfSome held (λ image. faults Cache Whole image ≡ []) → IfSome held (λ image. report_of [] ≡ report_of (faults Cache Whole image))
+none_right held none = one_told held (λ image is. sym (ap report_of is)) none
+
+-- devices that were attached, and then only read
+module _ (metadata fast origin : List ℕ) (others : Objects) (notes out : SinkState) (m m1 m' o o1 t t1 : DeviceState) (fresh : out.access ≡ 0)
+    (meta_synced : IsSynced m) (origin_synced : IsSynced o) (opened : AreOpened metadata fast origin (devices m o t) (devices m1 o1 t1))
+    (access : m'.access ≡ m1.access) (path : m'.path ≡ m1.path) (same : IsUntouched m1 m')
+    (origin_measured : IfSome o1.held (λ image. length image ≡ o1.blocks)) (fast_measured : IfSome t1.held (λ image. length image ≡ t1.blocks)) where
+  abbrev read_only : AreEnded metadata fast origin m m' o o1 t t1 t1.blocks o1.blocks
+  read_only = record {
+    meta_open = access ∙ opened.meta.attached;
+    meta_named = rw path opened.meta.named;
+    origin_open = opened.origin.attached;
+    origin_named = opened.origin.named;
+    fast_open = opened.fast.attached;
+    fast_named = opened.fast.named;
+    fast_untouched = opened.fast.untouched;
+    fast_has = has_blocks t t1 t1 opened.fast.untouched.held fast_measured refl;
+    origin_has = has_blocks o o1 o1 opened.origin.untouched.held origin_measured refl;
+  }
+
+  abbrev before_read : Objects
+  before_read = record others { out = out; input = m; output = o; third = t }
+
+  abbrev after_read : Objects
+  after_read = record others { out = out; notes = notes; input = m'; output = o1; third = t1 }
+
+  read_left : (found : WritebackFound) (status : ℕ) → status ≢ 0 → LeavesWrittenBack found before_read after_read status
+  read_left found status some =
+      left_alone found before_read after_read status meta_synced origin_synced some (and_same opened.meta.untouched same) opened.origin.untouched
+
+  out_unused : IsUsed (reading []) out.access out.path
+  out_unused = not_yet [] out.access out.path fresh
+
+  -- nothing was written, and it came to an answer
+  read_finished : (report : Reported) (size : ℕ) (hot : List CachedBlock) → IsRight m.held report size hot → (status : ℕ) (line : List ℕ) → status ≤ 4 → status ≢ 0
+      → IsTrue (is_possible (writeback metadata fast origin) status)
+      → writeback_answer (finding metadata fast origin others notes out out m m' o o1 t t1 t1.blocks o1.blocks read_only out_unused report size hot) ≡ record { status = status; out = []; notes = line }
+      → IsFinished (writeback metadata fast origin) before_read after_read status line
+  read_finished report size hot right status line low some possible answer =
+      finished metadata fast origin others notes out out m m' o o1 t t1 t1.blocks o1.blocks read_only out_unused report size hot right status [] line low possible
+      (λ _. refl) (λ _. refl) answer (appends_none out.written) (λ zero. absurd (some zero)) (read_left _ status some)
+
+  -- it was stopped
+  read_stopped : (report : Reported) → IfSome m.held (λ image. report ≡ report_of (faults Cache Whole image)) → (stop : Stop) → stop_status stop ≢ 0
+      → IsTrue (is_possible (writeback metadata fast origin) (stop_status stop)) → HasCause (writeback metadata fast origin) before_read after_read stop
+      → IsStopped (writeback metadata fast origin) before_read after_read stop
+  read_stopped report right stop some possible cause = record {
+    finding = finding metadata fast origin others notes out out m m' o o1 t t1 t1.blocks o1.blocks read_only out_unused report (size_in m.held) (hot_in m.held);
+    work = work metadata fast origin others notes out out m m' o o1 t t1 t1.blocks o1.blocks read_only out_unused report (size_in m.held) (hot_in m.held)
+        (right_by m.held report right) (stop_status stop) possible (λ _. refl) (λ _. refl) (read_left _ (stop_status stop) some);
+    cause = cause;
+    front = front_none _ out.written;
+    lost = read_left _ 6 (λ e. omega arith);
+  }
+
+  -- the metadata wasn't read to a report
+  pub writeback_unread : (stop : Stop) → IsUnread Cache Whole m1 m' stop → IsStopped (writeback metadata fast origin) before_read after_read stop
+  writeback_unread Stream unread = absurd unread
+  writeback_unread Device unread =
+      read_stopped (report_in m.held) (report_told m.held) Device (λ e. omega arith) refl (inl (rw opened.meta.faults at unread))
+  writeback_unread Memory unread =
+      read_stopped (report_in m.held) (report_told m.held) Memory (λ e. omega arith) refl (rw opened.meta.untouched.held at unread)
+
+  -- it has faults
+  pub writeback_faulty : (report : Reported) → IfSome m1.held (λ image. report ≡ report_of (faults Cache Whole image)) → nat_eq report.total 0 ≡ false
+      → IsFinished (writeback metadata fast origin) before_read after_read 1 (reported_lines report)
+  writeback_faulty report right faulty =
+      let here_right : IfSome m.held (λ image. report ≡ report_of (faults Cache Whole image)) = rw opened.meta.untouched.held at right in
+      read_finished report (size_in m.held) (hot_in m.held) (right_by m.held report here_right) 1 (reported_lines report) (lit≤ tt) (λ e. omega arith) refl (rw faulty refl)
+
+  -- it has none, and there is no plan
+  module _ (sound : IfSome m1.held (λ image. faults Cache Whole image ≡ [])) where
+    sound_here : IfSome m.held (λ image. faults Cache Whole image ≡ [])
+    sound_here = rw opened.meta.untouched.held at sound
+
+    found_right : (size : ℕ) (hot : List CachedBlock) → IsFound m1.held size hot → IsRight m.held (report_of []) size hot
+    found_right size hot found =
+        two_told m.held (λ image is sizes. (is, sizes.0, sizes.1)) (none_right m.held sound_here) (rw opened.meta.untouched.held at found.told)
+
+    unplanned : (fault : WriteFault) → IsUnplanned m1.held o1.blocks t1.blocks fault → IsOfPlanning fault m1.faults m'.faults
+        → MatchResult (plan_ended fault) (λ ending. IsFinished (writeback metadata fast origin) before_read after_read (ending_status ending) (ending_line ending))
+        (IsStopped (writeback metadata fast origin) before_read after_read)
+    unplanned w.Memory un counts =
+        read_stopped (report_of []) (none_right m.held sound_here) Memory (λ e. omega arith) refl (record {
+          past_super = λ e. absurd cc;
+          sound = one_told m.held (λ image is. none_at_super Cache image is) sound_here;
+        })
+    unplanned w.Meta un counts = read_stopped (report_of []) (none_right m.held sound_here) Device (λ e. omega arith) refl (inl (rw opened.meta.faults at counts.0))
+    unplanned w.Origin un counts = absurd un
+    unplanned w.Fast un counts = absurd un
+    unplanned w.BlockSize (size, hot, un) counts =
+        read_finished (report_of []) size hot (found_right size hot un.found) 1 block_size_line (lit≤ tt) (λ e. omega arith) refl
+        (answer_size t1.blocks o1.blocks size hot un.bad)
+    unplanned (w.NoRoom need blocks) (size, hot, un) counts = elim un.lacks [
+      | inl fast ↦ rw (fast.need_is, fast.blocks_are)
+          (read_finished (report_of []) size hot (found_right size hot un.found) 4 _ (lit≤ tt) (λ e. omega arith) refl
+          (answer_fast t1.blocks o1.blocks size hot un.whole fast.lacking))
+      | inr rest ↦ rw (rest.need_is, rest.blocks_are)
+          (read_finished (report_of []) size hot (found_right size hot un.found) 4 _ (lit≤ tt) (λ e. omega arith) refl
+          (answer_origin t1.blocks o1.blocks size hot un.whole rest.on_fast rest.lacking))
+    ]
+
+    pub writeback_unplanned : (fault : WriteFault) → IsUnplanned m1.held o1.blocks t1.blocks fault → IsOfPlanning fault m1.faults m'.faults
+        → MatchResult (plan_ended fault) (λ ending. IsFinished (writeback metadata fast origin) before_read after_read (ending_status ending) (ending_line ending))
+        (IsStopped (writeback metadata fast origin) before_read after_read)
+    writeback_unplanned = unplanned
+
+no_blocks : {X : Type 0} (xs ys : List X) → IsPermutation xs ys → xs ≡ [] → ys ≡ []
+no_blocks xs [] same none = refl
+no_blocks xs (y ∷ ys) same none =
+    let long : length (y ∷ ys) ≡ length xs = length_permutation xs (y ∷ ys) same in
+    absurd (omega (arith, ap length none))
+
+-- devices that a plan was made for, and that were written by it
+module _ {T E : Type 0} (metadata fast origin : List ℕ) (others : Objects) (notes out out' : SinkState) (m m1 m2 m' o o1 o' t t1 t' : DeviceState) (fresh : out.access ≡ 0)
+    (meta_synced : IsSynced m) (origin_synced : IsSynced o) (opened : AreOpened metadata fast origin (devices m o t) (devices m1 o1 t1))
+    (access : m2.access ≡ m1.access) (path : m2.path ≡ m1.path) (same : IsUntouched m1 m2) (unfailed : m2.faults ≡ m1.faults)
+    (sound : IfSome m1.held (λ image. faults Cache Whole image ≡ []))
+    (origin_measured : IfSome o1.held (λ image. length image ≡ o1.blocks)) (fast_measured : IfSome t1.held (λ image. length image ≡ t1.blocks))
+    (size : ℕ) (hot : List CachedBlock) (plan : Plan) (made : IsMade m1.held m1.blocks o1.blocks t1.blocks size hot plan)
+    (result : Result T E) (written : IsWritten plan result (devices m2 o1 t1) (devices m' o' t')) where
+  abbrev planned : AreEnded metadata fast origin m m' o o' t t' t1.blocks o1.blocks
+  planned = record {
+    meta_open = written.meta_place.access ∙ (access ∙ opened.meta.attached);
+    meta_named = rw (written.meta_place.path ∙ path) opened.meta.named;
+    origin_open = written.origin_place.access ∙ opened.origin.attached;
+    origin_named = rw written.origin_place.path opened.origin.named;
+    fast_open = written.fast_kept.access ∙ opened.fast.attached;
+    fast_named = rw written.fast_kept.path opened.fast.named;
+    fast_untouched = and_same opened.fast.untouched (record { held = written.fast_kept.held; history = written.fast_kept.history });
+    fast_has = has_blocks t t1 t' opened.fast.untouched.held fast_measured written.fast_kept.blocks;
+    origin_has = has_blocks o o1 o' opened.origin.untouched.held origin_measured written.origin_place.blocks;
+  }
+
+  abbrev before_writing : Objects
+  before_writing = record others { out = out; input = m; output = o; third = t }
+
+  abbrev after_writing : Objects
+  after_writing = record others { out = out'; notes = notes; input = m'; output = o'; third = t' }
+
+  abbrev found_here : WritebackFound
+  found_here = sound_finding t1.blocks o1.blocks size hot
+
+  meta_same : IsUntouched m m2
+  meta_same = and_same opened.meta.untouched same
+
+  sound_first : IfSome m.held (λ image. faults Cache Whole image ≡ [])
+  sound_first = rw opened.meta.untouched.held at sound
+
+  of_first : IfSome m.held (λ image. IsPlanOf image plan)
+  of_first = rw opened.meta.untouched.held at made.of
+
+  right_first : IsRight m.held (report_of []) size hot
+  right_first = two_told m.held (λ image is sizes. (is, sizes.0, sizes.1)) (none_right m.held sound_first) (rw opened.meta.untouched.held at made.found.told)
+
+  answered : writeback_answer found_here ≡ record { status = 0; out = copied_line (length hot); notes = [] }
+  answered = answer_copied t1.blocks o1.blocks size hot made.whole made.room.on_fast made.room.on_origin
+
+  -- all is on the origin, where the devices tell it
+  all_copied : HasCopied plan (devices m2 o1 t1) (devices m' o' t') → AllTold before_writing (λ image base held. HoldsSynced (copied image base held) o')
+  all_copied has = two_told m.held (λ image of is.
+      IfSome_then o.held origin_synced (λ base s.
+      one_told t.held (λ held all. all base (still_synced base o o1 opened.origin.untouched s))
+      (subst (λ (h : Option Image). IfSome h (λ held. (b : Image) → HoldsSynced b o1 → HoldsSynced (copied image b held) o')) opened.fast.untouched.held (has image is of))))
+      of_first sound_first
+
+  -- what is left under a status that isn't want of memory
+  leaves : (status : ℕ) → status ≢ 7 → (status ≡ 0 → HasCopied plan (devices m2 o1 t1) (devices m' o' t'))
+      → (status ≡ 0 → (image : Image) → IsPlanOf image plan → HoldsSynced image m2 → HoldsSynced (settled image) m') → LeavesWrittenBack found_here before_writing after_writing status
+  leaves status other has marked = record {
+    origin = IfSome_then o.held origin_synced (λ base s.
+        and_then (stays opened.origin.untouched.held opened.origin.untouched.history (here_kept (blocks_each size) hot base o s))
+        (subst (λ (k : ℕ). LeavesOnly (λ image firsts. KeepsOthers k hot base image) o1 o') made.each
+        (written.origin_crash hot base made.same (still_synced base o o1 opened.origin.untouched s))));
+    metadata = two_told m.held (λ image of s.
+        and_then (stays meta_same.held meta_same.history (here image (λ made. made ≡ settled image) m s))
+        (written.meta_crash image of (still_synced image m m2 meta_same s)))
+        of_first meta_synced;
+    order = elim written.order [
+      | inl alone ↦ if_any m.held (λ i. if_any o.held (λ b. if_any t.held (λ f. inl (and_same meta_same alone))))
+      | inr done ↦ one_told m.held (λ i rest. one_told o.held (λ b rest'. one_told t.held (λ f is. inr is) rest') rest) (all_copied done)
+    ];
+    copied_all = λ zero. all_copied (has zero);
+    marked = λ zero. two_told m.held (λ image of s. marked zero image of (still_synced image m m2 meta_same s)) of_first meta_synced;
+    refused = λ some. absurd (some (ap (λ (a : Answer). a.status) answered));
+    wanting = λ seven. absurd (other seven);
+    cold = λ none.
+        let both = written.cold (no_blocks hot (plan_hot plan) made.same none) in
+        (and_same meta_same both.0, and_same opened.origin.untouched both.1);
+  }
+
+  rose_first : Rose m2.faults m'.faults ⊎ (Rose o1.faults o'.faults ⊎ Rose t1.faults t'.faults) → Rose m.faults m'.faults ⊎ (Rose o.faults o'.faults ⊎ Rose t.faults t'.faults)
+  rose_first (inl rose) = inl (rw (unfailed ∙ opened.meta.faults) at rose)
+  rose_first (inr (inl rose)) = inr (inl (rw opened.origin.faults at rose))
+  rose_first (inr (inr rose)) = inr (inr (rw opened.fast.faults at rose))
+
+  -- a device failed
+  pub writeback_failed : Rose m2.faults m'.faults ⊎ (Rose o1.faults o'.faults ⊎ Rose t1.faults t'.faults) → out' ≡ out
+      → IsStopped (writeback metadata fast origin) before_writing after_writing Device
+  writeback_failed rose unput = record {
+    finding = found_here;
+    work = work metadata fast origin others notes out out' m m' o o' t t' t1.blocks o1.blocks planned (rw unput (not_yet [] out.access out.path fresh))
+        (report_of []) size hot right_first 5 refl (λ _. unput) (λ _. unput) (leaves 5 (λ e. omega arith) (λ e. absurd (omega arith)) (λ e. absurd (omega arith)));
+    cause = rose_first rose;
+    front = rw unput (front_none _ out.written);
+    lost = leaves 6 (λ e. omega arith) (λ e. absurd (omega arith)) (λ e. absurd (omega arith));
+  }
+
+  module _ (used : IsUsed (reading []) out'.access out'.path) where
+    -- the line wasn't put
+    pub writeback_unput : AppendsFront (copied_line (length hot)) out.written out'.written → Rose out.faults out'.faults
+        → IsStopped (writeback metadata fast origin) before_writing after_writing Stream
+    writeback_unput front rose =
+        let left = leaves 6 (λ e. omega arith) (λ e. absurd (omega arith)) (λ e. absurd (omega arith)) in
+        record {
+          finding = found_here;
+          work = work metadata fast origin others notes out out' m m' o o' t t' t1.blocks o1.blocks planned used
+              (report_of []) size hot right_first 6 refl (λ e. absurd cc) (λ some. absurd (some (ap (λ (a : Answer). a.status) answered))) left;
+          cause = inr rose;
+          front = subst (λ (a : Answer). AppendsFront a.out out.written out'.written) (sym answered) front;
+          lost = left;
+        }
+
+    -- all was done
+    pub writeback_done : HasCopied plan (devices m2 o1 t1) (devices m' o' t') → ((image : Image) → IsPlanOf image plan → HoldsSynced image m2 → HoldsSynced (settled image) m')
+        → Appends (copied_line (length hot)) out.written out'.written → out'.access ≡ 1
+        → IsFinished (writeback metadata fast origin) before_writing after_writing 0 []
+    writeback_done has marked whole attached =
+        finished metadata fast origin others notes out out' m m' o o' t t' t1.blocks o1.blocks planned used (report_of []) size hot right_first 0
+        (copied_line (length hot)) [] (lit≤ tt) refl (λ e. absurd cc) (λ some. absurd (some refl)) answered whole (λ _. attached)
+        (leaves 0 (λ e. omega arith) (λ _. has) (λ _. marked))
+
+-- devices that were attached, and of which the metadata was read without a fault
+pub opened_read : (metadata fast origin : List ℕ) (m m1 m2 o o1 t t1 : DeviceState) → AreOpened metadata fast origin (devices m o t) (devices m1 o1 t1)
+    → m2.access ≡ m1.access → m2.path ≡ m1.path → IsUntouched m1 m2 → m2.faults ≡ m1.faults → AreOpened metadata fast origin (devices m o t) (devices m2 o1 t1)
+opened_read metadata fast origin m m1 m2 o o1 t t1 opened access path same unfailed = record {
+  meta = record {
+    attached = access ∙ opened.meta.attached;
+    named = rw path opened.meta.named;
+    untouched = and_same opened.meta.untouched same;
+    faults = unfailed ∙ opened.meta.faults;
+  };
+  origin = opened.origin;
+  fast = opened.fast;
+}
+
+-- which device failed
+pub marking_rose : (old new : ℕ) (fault : WriteFault) → IsOfMarking fault old new → Rose old new
+marking_rose old new w.Memory is = absurd is
+marking_rose old new w.Meta is = is.0
+marking_rose old new w.Origin is = absurd is
+marking_rose old new w.Fast is = absurd is
+marking_rose old new w.BlockSize is = absurd is
+marking_rose old new (w.NoRoom need blocks) is = absurd is
+
+pub copying_rose : (origin origin' fast fast' : ℕ) (fault : WriteFault) → IsOfCopy fault origin origin' fast fast' → Rose origin origin' ⊎ Rose fast fast'
+copying_rose origin origin' fast fast' w.Memory is = absurd is
+copying_rose origin origin' fast fast' w.Meta is = absurd is
+copying_rose origin origin' fast fast' w.Origin is = inl is.0.0
+copying_rose origin origin' fast fast' w.Fast is = inr is.1.0
+copying_rose origin origin' fast fast' w.BlockSize is = absurd is
+copying_rose origin origin' fast fast' (w.NoRoom need blocks) is = absurd is
