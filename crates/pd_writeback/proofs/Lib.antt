@@ -7,6 +7,4 @@ pub mod SettleLemmas
 pub mod PlanLemmas
 pub mod MadeLemmas
 pub mod OnceLemmas
-pub mod NamedLemmas
-pub mod DirtyLemmas
 pub mod ReachedLemmas

@@ -1,4 +1,4 @@
--- The places that are found are those of the blocks that say what is dirty.
+-- The places that are found are those that the entries of a tree name.
 use Rattle.std.proofs.Common.{◌≡◌, ◌⊎◌, ◌↔◌, inl, inr, ⊎_elim, ℕ, zero, suc, ◌+◌, ◌*◌, ◌/◌, ◌%◌, ◌<◌, ◌≤◌, min, Bool, true, false, cond, nat_eq, ◌||◌, List, [], ◌∷◌, filter, length, get_or, map, replicate, set, refl, sym, ap, ◌∙◌, subst, arith, get_or-set_same}
 use Rattle.std.specs.List.{AllByRecursion, list_any, range_with_len}
 use Rattle.std.proofs.lemmas.Bool.{cases_Bool, eq-eqb, eqb-false, eqb-true, or_cases, or_left, or_right, true≢false}
@@ -6,28 +6,24 @@ use Rattle.std.proofs.lemmas.List.{length-replicate}
 use Rattle.pd_kinds.specs.declared.kind.Kind.TheVariants.{Cache}
 use Rattle.pd_kinds.specs.declared.kind.Stage.TheVariants.{Whole}
 use Rattle.pd_kinds.specs.declared.limits.TheConstants.{MAX_META_BLOCKS}
-use Rattle.pd_kinds.specs.CacheFormat.{cache_fields, cache_graph, has_dirty_bits}
+use Rattle.pd_kinds.specs.CacheFormat.{cache_graph}
 use Rattle.pd_kinds.specs.Edge.{Edge}
-use Rattle.pd_kinds.specs.Graph.{Graph, block_at, block_of, is_reached, next, nodes, pair, role_of}
+use Rattle.pd_kinds.specs.Graph.{Graph, block_at, block_of, edges_of, is_reached, next, pair, role_of}
 use Rattle.pd_kinds.specs.Layout.{graph_of}
-use Rattle.pd_kinds.specs.Lawful.{IsLawful}
+use Rattle.pd_kinds.specs.Lawful.{IsLawful, IsWithin}
 use Rattle.pd_kinds.specs.Limits.{room_of}
 use Rattle.pd_kinds.specs.Node.{Entry}
-use Rattle.pd_kinds.specs.Order.{children, has_chain, is_deep}
-use Rattle.pd_kinds.specs.Paths.{IsOnPath}
+use Rattle.pd_kinds.specs.Paths.{IsOnPath, start, edge}
 use Rattle.pd_kinds.specs.Stages.{IsReached, faults}
 use Rattle.pd_kinds.specs.Trees.{entries_below}
-use Rattle.pd_laws.specs.InOrder.{AreInOrder}
+use Rattle.pd_laws.proofs.AllLemmas.{all_from}
+use Rattle.pd_laid_graph.proofs.ListLemmas.{holds_of_found}
 use Rattle.pd_value.specs.declared.thin.Root.{Root}
 use Rattle.pd_tree.specs.Below.{items_below}
 use Rattle.pd_tree.specs.Items.{item_of, root_of}
-use Rattle.pd_tree.specs.Roots.{HasCacheRoots}
-use Rattle.pd_tree.specs.TreeRoles.{HasCacheTrees, IsTreeTo}
+use Rattle.pd_tree.proofs.ReachLemmas.{IsMet, met}
 use Rattle.pd_cache_meaning.proofs.SoundCache.{within}
-use Rattle.pd_answers.specs.CachedView.{dirty_places}
-use Rattle.pd_writeback.specs.Places.{dirty_root, mark, marks, places_named, seen_places, tree_names}
-use Rattle.pd_writeback.proofs.DirtyLemmas.{LeadsOnly, any_passed, bits_lead, passed_any, same_test, words_lead}
-use Rattle.pd_writeback.proofs.NamedLemmas.{reached_named}
+use Rattle.pd_writeback.specs.Places.{mark, marks, places_named, seen_places, tree_names}
 use Rattle.pd_writeback.proofs.PlacesLemmas.{length-marks}
 
 -- what a write of true leaves
@@ -81,47 +77,37 @@ any_marks seen (x ∷ bs) b some inside any = elim (or_cases (nat_eq x b) (list_
     by_first true is same = let none = eqb-true x 0 is in absurd (omega arith)
     by_first false is same = subst (λ (y : ℕ). get_or (set seen y true) b false ≡ true) (sym same) (get_or-set_same seen b true false inside)
 
--- a number among those that pass
-any_filtered : (q : ℕ → Bool) (x : ℕ) (ys : List ℕ) → list_any (λ y. nat_eq y x) (filter q ys) ≡ true → (q x ≡ true) × (list_any (λ y. nat_eq y x) ys ≡ true)
-any_filtered q x [] any = cc
-any_filtered q x (y ∷ ys) any = by_first (q y) refl any (λ later. any_filtered q x ys later)
+-- two tests that follow from each other are one
+same_test : (x y : Bool) → (x ≡ true → y ≡ true) → (y ≡ true → x ≡ true) → x ≡ y
+same_test true y to from = sym (to refl)
+same_test false true to from = from refl
+same_test false false to from = refl
+
+-- a number among those of a range that pass
+any_passed : (p : ℕ → Bool) (a n b : ℕ) → list_any (λ x. nat_eq x b) (filter p (range_with_len a n)) ≡ true → (a ≤ b) × (b < a + n) × (p b ≡ true)
+any_passed p a zero b any = cc
+any_passed p a (suc n) b any = by_first (p a) refl any (λ later. any_passed p (a + 1) n b later)
   where
-    by_first : (t : Bool) → q y ≡ t → list_any (λ y. nat_eq y x) (cond t (y ∷ filter q ys) (filter q ys)) ≡ true
-        → (list_any (λ y. nat_eq y x) (filter q ys) ≡ true → (q x ≡ true) × (list_any (λ y. nat_eq y x) ys ≡ true)) → (q x ≡ true) × (list_any (λ z. nat_eq z x) (y ∷ ys) ≡ true)
-    by_first true is any more = elim (or_cases (nat_eq y x) (list_any (λ y. nat_eq y x) (filter q ys)) any) [
-      | inl here ↦ (subst (λ (z : ℕ). q z ≡ true) (eqb-true y x here) is, or_left (nat_eq y x) (list_any (λ y. nat_eq y x) ys) here)
-      | inr later ↦ let rest = more later in (rest.0, or_right (nat_eq y x) (list_any (λ y. nat_eq y x) ys) rest.1)
+    by_first : (t : Bool) → p a ≡ t → list_any (λ x. nat_eq x b) (cond t (a ∷ filter p (range_with_len (a + 1) n)) (filter p (range_with_len (a + 1) n))) ≡ true
+        → (list_any (λ x. nat_eq x b) (filter p (range_with_len (a + 1) n)) ≡ true → (a + 1 ≤ b) × (b < a + 1 + n) × (p b ≡ true))
+        → (a ≤ b) × (b < a + suc n) × (p b ≡ true)
+    by_first true is any more = elim (or_cases (nat_eq a b) (list_any (λ x. nat_eq x b) (filter p (range_with_len (a + 1) n))) any) [
+      | inl here ↦ let same : a ≡ b = eqb-true a b here in (omega arith, omega arith, subst (λ (x : ℕ). p x ≡ true) same is)
+      | inr later ↦ let rest = more later in let low = rest.0 in let high = rest.1 in (omega arith, omega arith, rest.2)
     ]
-    by_first false is any more = let rest = more any in (rest.0, or_right (nat_eq y x) (list_any (λ y. nat_eq y x) ys) rest.1)
+    by_first false is any more = let rest = more any in let low = rest.0 in let high = rest.1 in (omega arith, omega arith, rest.2)
 
-filtered_any : (q : ℕ → Bool) (x : ℕ) (ys : List ℕ) → q x ≡ true → list_any (λ y. nat_eq y x) ys ≡ true → list_any (λ y. nat_eq y x) (filter q ys) ≡ true
-filtered_any q x [] is any = cc
-filtered_any q x (y ∷ ys) is any = by_first (q y) refl (λ later. filtered_any q x ys is later)
+passed_any : (p : ℕ → Bool) (a n b : ℕ) → a ≤ b → b < a + n → p b ≡ true → list_any (λ x. nat_eq x b) (filter p (range_with_len a n)) ≡ true
+passed_any p a zero b low high is = absurd (omega arith)
+passed_any p a (suc n) b low high is = by_first (p a) refl (λ low' high'. passed_any p (a + 1) n b low' high' is)
   where
-    by_first : (t : Bool) → q y ≡ t → (list_any (λ y. nat_eq y x) ys ≡ true → list_any (λ y. nat_eq y x) (filter q ys) ≡ true) → list_any (λ y. nat_eq y x) (cond t (y ∷ filter q ys) (filter q ys)) ≡ true
-    by_first true first more = elim (or_cases (nat_eq y x) (list_any (λ y. nat_eq y x) ys) any) [
-      | inl here ↦ or_left (nat_eq y x) (list_any (λ y. nat_eq y x) (filter q ys)) here
-      | inr later ↦ or_right (nat_eq y x) (list_any (λ y. nat_eq y x) (filter q ys)) (more later)
+    by_first : (t : Bool) → p a ≡ t → (a + 1 ≤ b → b < a + 1 + n → list_any (λ x. nat_eq x b) (filter p (range_with_len (a + 1) n)) ≡ true)
+        → list_any (λ x. nat_eq x b) (cond t (a ∷ filter p (range_with_len (a + 1) n)) (filter p (range_with_len (a + 1) n))) ≡ true
+    by_first true first more = elim (cases_Bool (nat_eq a b)) [
+      | inl here ↦ or_left (nat_eq a b) (list_any (λ x. nat_eq x b) (filter p (range_with_len (a + 1) n))) here
+      | inr apart ↦ let ne : a ≡ b → ⊥ = eqb-false a b apart in or_right (nat_eq a b) (list_any (λ x. nat_eq x b) (filter p (range_with_len (a + 1) n))) (more (omega arith) (omega arith))
     ]
-    by_first false first more = elim (or_cases (nat_eq y x) (list_any (λ y. nat_eq y x) ys) any) [
-      | inl here ↦ absurd (true≢false (sym (subst (λ (z : ℕ). q z ≡ true) (sym (eqb-true y x here)) is) ∙ first))
-      | inr later ↦ more later
-    ]
-
--- one whose block is this
-any_block : (b : ℕ) (ps : List ℕ) → list_any (λ x. nat_eq x b) (map (λ p. block_of p) ps) ≡ true → (p : ℕ) × (block_of p ≡ b) × (list_any (λ y. nat_eq y p) ps ≡ true)
-any_block b [] any = cc
-any_block b (p ∷ ps) any = elim (or_cases (nat_eq (block_of p) b) (list_any (λ x. nat_eq x b) (map (λ p. block_of p) ps)) any) [
-  | inl here ↦ (p, eqb-true (block_of p) b here, or_left (nat_eq p p) (list_any (λ y. nat_eq y p) ps) (eq-eqb p p refl))
-  | inr later ↦ let rest = any_block b ps later in (rest.0, rest.1, or_right (nat_eq p rest.0) (list_any (λ y. nat_eq y rest.0) ps) rest.2)
-]
-
-block_any : (p b : ℕ) (ps : List ℕ) → block_of p ≡ b → list_any (λ y. nat_eq y p) ps ≡ true → list_any (λ x. nat_eq x b) (map (λ p. block_of p) ps) ≡ true
-block_any p b [] same any = cc
-block_any p b (q ∷ ps) same any = elim (or_cases (nat_eq q p) (list_any (λ y. nat_eq y p) ps) any) [
-  | inl here ↦ or_left (nat_eq (block_of q) b) (list_any (λ x. nat_eq x b) (map (λ p. block_of p) ps)) (eq-eqb (block_of q) b (ap (λ (x : ℕ). block_of x) (eqb-true q p here) ∙ same))
-  | inr later ↦ or_right (nat_eq (block_of q) b) (list_any (λ x. nat_eq x b) (map (λ p. block_of p) ps)) (block_any p b ps same later)
-]
+    by_first false first more = more (let ne : a ≡ b → ⊥ = λ same. true≢false (sym (subst (λ (x : ℕ). p x ≡ true) (sym same) is) ∙ first) in omega arith) (omega arith)
 
 -- what entries name
 any_names : (b : ℕ) (entries : List Entry) → list_any (λ x. nat_eq x b) (map (λ (item : ℕ × Root). item.1.0) (map (item_of root_of) entries)) ≡ list_any (λ (e : Entry). nat_eq e.value b) entries
@@ -135,69 +121,59 @@ picked P b (e ∷ entries) all any = elim (or_cases (nat_eq e.value b) (list_any
   | inr later ↦ picked P b entries all.1 later
 ]
 
-module _ (graph : Graph) (image : List (List ℕ)) (t r root n : ℕ) (to : IsTreeTo graph t 8 r (λ v. v)) (lawful : IsLawful graph) (ordered : AreInOrder graph image)
-    (paths : (q : ℕ) → (is_reached graph image q ≡ true) ↔ IsOnPath (16 * graph.nr) (next graph image) q)
-    (first : 1 ≤ t) (behind : t < r) (few : r < 16)
-    (others : (b role : ℕ) → (role ≡ t → ⊥) → (role ≡ 0 → b ≡ 0) → AllByRecursion (LeadsOnly t r root) (graph.edges role b (block_at image b)))
-    (there : IsReached graph image root t) (room : graph.nr ≤ n)
-    (given : items_below 8 root_of image 63 root ≡ map (item_of root_of) (entries_below graph image 8 t root))
-    (lead : AllByRecursion (λ (e : Entry). IsReached graph image e.value r) (entries_below graph image 8 t root)) where
-  named_reached : (b : ℕ) → list_any (λ x. nat_eq x b) (tree_names image root) ≡ list_any (λ (e : Entry). nat_eq e.value b) (entries_below graph image 8 t root)
-  named_reached b = ap (λ (items : List (ℕ × Root)). list_any (λ x. nat_eq x b) (map (λ (item : ℕ × Root). item.1.0) items)) given ∙ any_names b (entries_below graph image 8 t root)
+-- but for the superblock, what is reached lies behind block 0
+module _ (graph : Graph) (image : List (List ℕ)) (lawful : IsLawful graph) (paths : (q : ℕ) → (is_reached graph image q ≡ true) ↔ IsOnPath (16 * graph.nr) (next graph image) q) where
+  past_on_path : (p : ℕ) → IsOnPath (16 * graph.nr) (next graph image) p → (role_of p ≡ 0 → ⊥) → 1 ≤ block_of p
+  unfolding next
+  past_on_path p start some = absurd (some (omega arith))
+  past_on_path p (edge q p' below path leads) some =
+      let same : pair (block_of q) (role_of q) ≡ q = omega arith in
+      let there : IsReached graph image (block_of q) (role_of q) = record { block = omega arith; within = omega arith; found = subst (λ (x : ℕ). is_reached graph image x ≡ true) (sym same) ((paths q).1 path) } in
+      let is : IsMet graph image lawful q = subst (λ (x : ℕ). IsMet graph image lawful x) same (met graph image lawful paths (block_of q) (role_of q) there) in
+      let few = lawful.few_roles in
+      holds_of_found (λ c. 1 ≤ block_of c) (λ (e : Edge). pair e.block e.role) (edges_of graph image q) p'
+      (all_from (IsWithin graph) (λ (e : Edge). 1 ≤ block_of (pair e.block e.role)) (λ e inside. let from = inside.from_one in let known = inside.known in omega arith)
+      (edges_of graph image q) (lawful.each (role_of q) (block_of q) (block_at image (block_of q)) is.known).within) leads
 
-  seen_number : length (marks (replicate n false) (tree_names image root)) ≡ n
-  seen_number = length-marks (replicate n false) (tree_names image root) ∙ length-replicate n false
+  pub reached_past : (b role : ℕ) → 1 ≤ role → IsReached graph image b role → 1 ≤ b
+  reached_past b role some there =
+      let few = there.within in
+      let past = past_on_path (pair b role) ((paths (pair b role)).0 there.found) (λ zero. omega arith) in
+      omega arith
 
-  -- a place that is found is reached
-  found_reached : (b : ℕ) → list_any (λ x. nat_eq x b) (places_named n (tree_names image root)) ≡ true → IsReached graph image b r
+module _ (image : List (List ℕ)) (root n : ℕ) (entries : List Entry) (given : items_below 8 root_of image 63 root ≡ map (item_of root_of) entries)
+    (inside : AllByRecursion (λ (e : Entry). (1 ≤ e.value) × (e.value < n)) entries) where
+  names_are : (b : ℕ) → list_any (λ x. nat_eq x b) (tree_names image root) ≡ list_any (λ (e : Entry). nat_eq e.value b) entries
+  names_are b = ap (λ (items : List (ℕ × Root)). list_any (λ x. nat_eq x b) (map (λ (item : ℕ × Root). item.1.0) items)) given ∙ any_names b entries
+
+  -- a place that is found is named
+  found_named : (b : ℕ) → list_any (λ x. nat_eq x b) (places_named n (tree_names image root)) ≡ true → list_any (λ (e : Entry). nat_eq e.value b) entries ≡ true
   unfolding seen_places
-  found_reached b any =
-      let passed = any_passed (λ b. get_or (marks (replicate n false) (tree_names image root)) b false) 0 (length (marks (replicate n false) (tree_names image root))) b any in
-      ⊎_elim (λ none. absurd (none_marked n b none))
-      (λ named. picked (λ b. IsReached graph image b r) b (entries_below graph image 8 t root) lead (sym (named_reached b) ∙ named))
-      (marks_any (replicate n false) (tree_names image root) b passed.2)
+  found_named b any =
+      let seen = marks (replicate n false) (tree_names image root) in
+      let passed = any_passed (λ b. get_or seen b false) 0 (length seen) b any in
+      ⊎_elim (λ none. absurd (none_marked n b none)) (λ named. sym (names_are b) ∙ named) (marks_any (replicate n false) (tree_names image root) b passed.2)
 
-  -- and one that is reached is found
-  reached_found : (b : ℕ) → IsReached graph image b r → list_any (λ x. nat_eq x b) (places_named n (tree_names image root)) ≡ true
-  unfolding seen_places entries_below is_deep
-  reached_found b is =
-      let known = reached_named graph image t r root to lawful ordered paths first behind few others (ordered.not_deep root t there) b is in
-      let below = is.block in
+  -- and one that is named is found
+  named_found : (b : ℕ) → list_any (λ (e : Entry). nat_eq e.value b) entries ≡ true → list_any (λ x. nat_eq x b) (places_named n (tree_names image root)) ≡ true
+  unfolding seen_places
+  named_found b any =
+      let is = picked (λ b. (1 ≤ b) × (b < n)) b entries inside any in
+      let low = is.0 in
+      let high = is.1 in
       let number = length-replicate n false in
-      let all = seen_number in
+      let all = length-marks (replicate n false) (tree_names image root) ∙ number in
       passed_any (λ b. get_or (marks (replicate n false) (tree_names image root)) b false) 0 (length (marks (replicate n false) (tree_names image root))) b (omega arith) (omega arith)
-      (any_marks (replicate n false) (tree_names image root) b known.1 (omega arith) (named_reached b ∙ known.0))
+      (any_marks (replicate n false) (tree_names image root) b low (omega arith) (names_are b ∙ any))
 
-  -- the reached pairs in the role
-  of_nodes : (b : ℕ) → list_any (λ x. nat_eq x b) (map (λ p. block_of p) (filter (λ p. nat_eq (role_of p) r) (nodes graph image))) ≡ true → IsReached graph image b r
-  unfolding nodes
-  of_nodes b any =
-      let found = any_block b (filter (λ p. nat_eq (role_of p) r) (nodes graph image)) any in
-      let p = found.0 in
-      let outer = any_filtered (λ p. nat_eq (role_of p) r) p (nodes graph image) found.2 in
-      let role : role_of p ≡ r = eqb-true (role_of p) r outer.0 in
-      let passed = any_passed (is_reached graph image) 0 (16 * graph.nr) p outer.1 in
-      let high = passed.1 in
-      let block = found.1 in
-      let same : p ≡ pair b r = omega arith in
-      record { block = omega arith; within = few; found = subst (λ (q : ℕ). is_reached graph image q ≡ true) same passed.2 }
+  pub found_are_named : (b : ℕ) → list_any (λ x. nat_eq x b) (places_named n (tree_names image root)) ≡ list_any (λ (e : Entry). nat_eq e.value b) entries
+  found_are_named b = same_test _ _ (found_named b) (named_found b)
 
-  in_nodes : (b : ℕ) → IsReached graph image b r → list_any (λ x. nat_eq x b) (map (λ p. block_of p) (filter (λ p. nat_eq (role_of p) r) (nodes graph image))) ≡ true
-  unfolding nodes
-  in_nodes b is =
-      let below = is.block in
-      let same_role : role_of (pair b r) ≡ r = omega arith in
-      let same_block : block_of (pair b r) ≡ b = omega arith in
-      block_any (pair b r) b (filter (λ p. nat_eq (role_of p) r) (nodes graph image)) same_block
-      (filtered_any (λ p. nat_eq (role_of p) r) (pair b r) (nodes graph image) (eq-eqb (role_of (pair b r)) r same_role)
-      (passed_any (is_reached graph image) 0 (16 * graph.nr) (pair b r) (omega arith) (omega arith) is.found))
-
-  pub found_are_dirty : (b : ℕ) → list_any (λ x. nat_eq x b) (places_named n (tree_names image root))
-      ≡ list_any (λ x. nat_eq x b) (map (λ p. block_of p) (filter (λ p. nat_eq (role_of p) r) (nodes graph image)))
-  found_are_dirty b =
-      same_test (list_any (λ x. nat_eq x b) (places_named n (tree_names image root)))
-      (list_any (λ x. nat_eq x b) (map (λ p. block_of p) (filter (λ p. nat_eq (role_of p) r) (nodes graph image))))
-      (λ any. in_nodes b (found_reached b any)) (λ any. reached_found b (of_nodes b any))
+-- what entries name in a later role than the superblock's is inside
+pub all_inside : (graph : Graph) (image : List (List ℕ)) (r n : ℕ) (entries : List Entry) → ((b : ℕ) → IsReached graph image b r → 1 ≤ b) → graph.nr ≤ n
+    → AllByRecursion (λ (e : Entry). IsReached graph image e.value r) entries → AllByRecursion (λ (e : Entry). (1 ≤ e.value) × (e.value < n)) entries
+all_inside graph image r n entries past room lead =
+    all_from (λ (e : Entry). IsReached graph image e.value r) (λ (e : Entry). (1 ≤ e.value) × (e.value < n)) (λ e there. let below = there.block in (past e.value there, omega arith)) entries lead
 
 -- the metadata's blocks are in the room for them
 pub in_room : (image : List (List ℕ)) → faults Cache Whole image ≡ [] → IsLawful (cache_graph (block_at image 0)) → (cache_graph (block_at image 0)).nr ≤ room_of (length image)

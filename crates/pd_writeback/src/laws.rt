@@ -34,6 +34,7 @@ pub fn dirty_places_are_named()
     cursors_give_entries::<Root>();
     trees_are_in_order();
     reached_by_paths();
+    pd_settled::dirty_places_are_named();
 }
 
 /// In a cache without faults up to the stage Whole, at most one hot block stands for each block of the origin.
