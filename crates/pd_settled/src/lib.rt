@@ -12,4 +12,5 @@ pub use settled::{
 };
 pub use views::{
     cached_blocks_stand_in_their_places, copied_origins_stand_alone, copying_keeps_the_view,
+    origins_come_once,
 };

@@ -1,11 +1,12 @@
 //! What a cached device reads: the same at each moment of the copying, and what its origin reads alone in the end.
 
-ghost use Rattle.std.specs.Prelude.{◌≡◌, ℕ, true, List, []};
+ghost use Rattle.std.specs.Prelude.{◌≡◌, ℕ, true, false, List, [], map};
 ghost use Rattle.std.specs.List.{AllByRecursion};
 ghost use Rattle.pd_kinds.specs.declared.kind.Kind.TheVariants.{Cache};
 ghost use Rattle.pd_kinds.specs.declared.kind.Stage.TheVariants.{Whole};
 ghost use Rattle.pd_kinds.specs.Meaning.{cache_meaning};
 ghost use Rattle.pd_kinds.specs.Stages.{faults};
+ghost use Rattle.pd_kinds.specs.Whole.{has_repeat};
 ghost use Rattle.pd_answers.specs.CachedView.{blocks_each, copied, hot_blocks, is_hot, view};
 ghost use Rattle.pd_answers.specs.Writebacks.{KeepsOthers};
 ghost use Rattle.pd_settled.specs.Premises.{AgreeElsewhere, HasHotBlocks, IsOver};
@@ -40,6 +41,14 @@ pub fn copying_keeps_the_view()
 pub fn copied_origins_stand_alone()
     ensures { (image origin fast : List (List ℕ)) → faults Cache Whole image ≡ [] → AgreeElsewhere image origin fast
         → copied image origin fast ≡ view image origin fast }
+{
+    superblocks_lead_to_reached_roots();
+}
+
+/// No two cached blocks have one origin.
+pub fn origins_come_once()
+    ensures { (image : List (List ℕ)) → faults Cache Whole image ≡ []
+        → has_repeat (map (λ e. e.origin) (cache_meaning image).entries) ≡ false }
 {
     superblocks_lead_to_reached_roots();
 }

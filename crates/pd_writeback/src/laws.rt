@@ -14,6 +14,7 @@ ghost use Rattle.pd_writeback.specs.Overlaid.{IsEachOnce};
 ghost use Rattle.pd_writeback.specs.Places.{dirty_root, places_named, tree_names};
 
 use pd_laws::{reached_by_paths, trees_are_in_order};
+use pd_settled::origins_come_once;
 use pd_tree::{
     cursors_give_entries, entries_lead_to_reached_pairs, formats_have_trees,
     reached_trees_are_sound, superblocks_lead_to_reached_roots,
@@ -41,5 +42,5 @@ pub fn dirty_places_are_named()
 pub fn hot_blocks_are_apart()
     ensures { (image : List (List ℕ)) (k : ℕ) → faults Cache Whole image ≡ [] → IsEachOnce k (hot_blocks (cache_meaning image)) }
 {
-    superblocks_lead_to_reached_roots();
+    origins_come_once();
 }

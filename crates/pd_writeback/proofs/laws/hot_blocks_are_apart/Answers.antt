@@ -1,6 +1,7 @@
-use Rattle.pd_kinds.specs.declared.kind.Stage.TheVariants.{Whole}
+use Rattle.pd_kinds.specs.Graph.{block_at}
+use Rattle.pd_kinds.specs.Meaning.{cache_meaning}
 use Rattle.pd_writeback.proofs.OnceLemmas.{each_once}
 use Rattle.pd_writeback.proofs.laws.hot_blocks_are_apart.Goals as goal
 
 pub returns : goal.returns
-returns c = λ image k none. each_once image none (c.superblocks_lead_to_reached_roots.ensures.cache Whole image tt none).mappings k
+returns c = λ image k none. each_once (cache_meaning image) (c.origins_come_once.ensures image none) k
