@@ -210,7 +210,7 @@ struct Devices {
 }
 
 /// The devices of a cache of this text.
-fn devices(
+fn devices_of(
     rt: &impl Abort,
     alloc: Global,
     version: &[&str],
@@ -264,7 +264,7 @@ fn expect_row(
     row: &Row,
 ) -> Result<(), AllocError> {
     let (text, fast, origin, status, out, notes, after, text_after) = *row;
-    let before = devices(rt, alloc, version, text, fast, origin)?;
+    let before = devices_of(rt, alloc, version, text, fast, origin)?;
     let ran = write_back(alloc, &before, NOTHING_FAILS)?;
     expect_said(rt, &ran, status, out, notes);
     let copied = filled(alloc, after)?;
@@ -288,7 +288,7 @@ fn writebacks_copy_what_is_hot_and_mark_it(rt: HostRuntime) -> Result<(), Fail> 
 #[test]
 fn metadata_with_faults_is_not_written_back(rt: HostRuntime) -> Result<(), Fail> {
     let alloc = rt.alloc();
-    let mut before = devices(&rt, alloc, FIRST, ONE_DIRTY, &[1, 2], &[3, 4, 5, 6])?;
+    let mut before = devices_of(&rt, alloc, FIRST, ONE_DIRTY, &[1, 2], &[3, 4, 5, 6])?;
     if 1 < before.meta.len() {
         before.meta[1] = damaged(before.meta[1], 100);
     }
@@ -411,7 +411,7 @@ fn expect_troubles(
 fn a_writeback_that_fails_or_stops_anywhere_reads_the_same(rt: HostRuntime) -> Result<(), Fail> {
     let alloc = rt.alloc();
     for version in [FIRST, SECOND] {
-        let before = devices(
+        let before = devices_of(
             &rt,
             alloc,
             version,
