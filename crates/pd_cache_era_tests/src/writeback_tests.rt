@@ -268,11 +268,11 @@ fn expect_row(
     let ran = write_back(alloc, &before, NOTHING_FAILS)?;
     expect_said(rt, &ran, status, out, notes);
     let copied = filled(alloc, after)?;
-    assert!(rt; holds(alloc, &ran.output, copied.as_slice())?, "{text}");
-    assert!(rt; holds(alloc, &ran.third, before.fast.as_slice())?, "{text}");
-    assert!(rt; dumps_as(alloc, &ran.input, text_after)?, "{text}");
+    assert!(rt; holds(alloc, &ran.output, copied.as_slice())?);
+    assert!(rt; holds(alloc, &ran.third, before.fast.as_slice())?);
+    assert!(rt; dumps_as(alloc, &ran.input, text_after)?);
     let stays = holds(alloc, &ran.input, before.meta.as_slice())?;
-    assert!(rt; stays == (text == text_after), "{text}");
+    assert!(rt; stays == (text == text_after));
     Ok(())
 }
 
