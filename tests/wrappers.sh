@@ -433,13 +433,13 @@ for version in 1 2; do
     same origin.img copied.img
     # an origin, or a fast device, that is too short
     cp dirty.img meta.img
-    zeros small.img 3
-    cp small.img before.img
-    try 4 cache_writeback --metadata-device meta.img --fast-device fast.img --origin-device small.img
+    zeros cramped.img 3
+    cp cramped.img before.img
+    try 4 cache_writeback --metadata-device meta.img --fast-device fast.img --origin-device cramped.img
     out
     notes 'pdata_tools: no room: need 4, blocks 3' \
         'cache_writeback: a block has 4 KiB: the fast device or the origin is shorter than the metadata says'
-    same small.img before.img
+    same cramped.img before.img
     same meta.img dirty.img
     : >empty.img
     try 4 cache_writeback --metadata-device meta.img --fast-device empty.img --origin-device origin.img
@@ -473,11 +473,19 @@ for missing in metadata fast origin; do
     notes 'pdata_tools: device fault' "cache_writeback: missing.img isn't there"
 done
 same origin.img before.img
-# the real cache, in which nothing is dirty
+# the real cache, on made-up devices
 cp cache.img meta.img
-try 0 cache_writeback --metadata-device meta.img --fast-device fast.img --origin-device origin.img
-out 'copied 0'
-same meta.img cache.img
+zeros wide.img 6800
+truncate -s 1017380864 far.img
+try 0 cache_dump cache.img
+sed 's/^\(map [0-9]* [0-9]*\) 1 /\1 0 /' out >clean.txt
+try 0 cache_writeback --metadata-device meta.img --fast-device wide.img --origin-device far.img
+out 'copied 390'
+try 0 cache_check meta.img
+out clean
+try 0 cache_dump meta.img
+same out clean.txt
+rm -f far.img wide.img
 same origin.img before.img
 
 # no file of standard input, and a text from there
