@@ -1,6 +1,6 @@
 /// How far an object outside has been attached.
 #[derive(Clone, Copy)]
-pub(crate) enum Access {
+pub enum Access {
     /// `attach` wasn't called yet.
     Unattached,
     /// `attach` answered Ok; a device may only be read.

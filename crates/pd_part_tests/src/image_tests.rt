@@ -1,7 +1,6 @@
 use crate::objects::{NEVER, device_of, three_left};
-use pd_image::{
-    Device, FileDevice, MemDevice, MemSink, MemSource, Pick, Sink, Source, StdSink, StdSource,
-};
+use pd_files::{FileDevice, StdSink, StdSource};
+use pd_image::{Device, MemDevice, MemSink, MemSource, Pick, Sink, Source};
 use pd_kinds::{BLOCK_SIZE, Block};
 use std::fs;
 use std::test::Fail;

@@ -1,7 +1,7 @@
 -- What a device means that tells nothing.
 use Rattle.std.specs.Prelude.{length, None}
 use Rattle.pd_kinds.specs.Objects.{DeviceState}
-use Rattle.pd_image.specs.FileDevice.{untold_history}
+use Rattle.pd_image.specs.Device.{untold_history}
 use Rattle.pd_query_tests.specs.declared.hidden.Hidden.{Hidden}
 
 abbrev pub hidden_state : Hidden → DeviceState

@@ -7,7 +7,7 @@ ghost use Rattle.pd_answers.specs.Words.{asked};
 ghost use Rattle.pd_answers.specs.Terms.{is_possible};
 ghost use Rattle.pd_answers.specs.Promises.{terms_of};
 
-use pd_image::{FileDevice, StdSink, StdSource};
+use pd_files::{FileDevice, StdSink, StdSource};
 use pd_tools::run_tool;
 use std::io::ErrorKind;
 use std::process::ExitCode;

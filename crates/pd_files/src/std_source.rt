@@ -1,11 +1,10 @@
 //! A source over a real file: a thin layer over the file's own calls, of which nothing is assumed.
 
 ghost use Rattle.std.specs.Prelude.{refl, ◌≡◌, ◌≤◌, length, IfOk};
-ghost use Rattle.pd_image.specs.StdSource.{std_source_state, unattached_text};
+ghost use Rattle.pd_files.specs.StdSource.{std_source_state, unattached_text};
 
-use crate::access::Access;
-use crate::faults::counted_outcome;
-use crate::{Failed, Source};
+use crate::outcome::counted_outcome;
+use pd_image::{Access, Failed, Source};
 use std::io::{ErrorKind, Read};
 use std::rt::Files;
 use std::{fs, io};

@@ -1,7 +1,7 @@
 -- What a source over a real file means.
 use Rattle.std.specs.Prelude.{None}
 use Rattle.pd_kinds.specs.Objects.{SourceState}
-use Rattle.pd_image.specs.declared.std_source.StdSource.{StdSource}
+use Rattle.pd_files.specs.declared.std_source.StdSource.{StdSource}
 use Rattle.pd_image.specs.Access.{access_number}
 
 -- what the source means to code over any source: it tells neither its bytes nor its path

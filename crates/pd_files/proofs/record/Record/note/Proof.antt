@@ -25,13 +25,13 @@ use denote.Triple.Entry.{on_entry}
 use denote.Triple.Spec.{Meets, triple_of}
 use denote.Triple.Table.{entered}
 use denote.Triple.Walked.{says, Stays, stay_ref, walk_of, AllGo, Goes-ref, Walks, ends_at, walked, walk_Meets}
-use Rattle.pd_image.specs.declared.record.Record.{Record}
-use Rattle.pd_image.specs.FileCall.{call_of}
-use Rattle.pd_image.specs.contracts.record.Record as T
-use Rattle.pd_image.specs.contracts.record.Record.note.Key.{name as #it}
-use Rattle.pd_image.specs.contracts.record.Record.note as it
-use Rattle.pd_image.proofs.record.Record.note.Statement as stated
-use Rattle.pd_image.proofs.record.Record.note.Code as code
+use Rattle.pd_files.specs.declared.record.Record.{Record}
+use Rattle.pd_files.specs.FileCall.{call_of}
+use Rattle.pd_files.specs.contracts.record.Record as T
+use Rattle.pd_files.specs.contracts.record.Record.note.Key.{name as #it}
+use Rattle.pd_files.specs.contracts.record.Record.note as it
+use Rattle.pd_files.proofs.record.Record.note.Statement as stated
+use Rattle.pd_files.proofs.record.Record.note.Code as code
 use denote.Ref.{Bor}
 use denote.Builtin.{u8, u64}
 use denote.Exit.{yes}

@@ -1,7 +1,7 @@
 //! An open file that keeps a record of its calls, so that it is proved which were made, and in which order.
 
 ghost use Rattle.std.specs.Prelude.{◌≡◌, ◌∷◌, List, is_ok};
-ghost use Rattle.pd_image.specs.FileCall.{FileCall, sought, gave, wrote, synced};
+ghost use Rattle.pd_files.specs.FileCall.{FileCall, sought, gave, wrote, synced};
 
 use crate::record::Record;
 use std::fs::OpenFile;

@@ -2,7 +2,7 @@
 
 ghost use Rattle.std.specs.Prelude.{◌≡◌, List, [], ◌∷◌};
 ghost use Rattle.std.specs.Borrow.{ftrue};
-ghost use Rattle.pd_image.specs.FileCall.{FileCall, call_of};
+ghost use Rattle.pd_files.specs.FileCall.{FileCall, call_of};
 
 use std::marker::{Model, PhantomData};
 

@@ -21,12 +21,12 @@ use denote.Triple.Entry.{on_entry}
 use denote.Triple.Spec.{Meets, triple_of}
 use denote.Triple.Table.{entered}
 use denote.Triple.Walked.{says, ends_at, walked, walk_Meets}
-use Rattle.pd_image.specs.declared.record.Record.{Record}
-use Rattle.pd_image.specs.contracts.record.Record as T
-use Rattle.pd_image.specs.contracts.record.Record.new.Key.{name as #it}
-use Rattle.pd_image.specs.contracts.record.Record.new as it
-use Rattle.pd_image.proofs.record.Record.new.Statement as stated
-use Rattle.pd_image.proofs.record.Record.new.Code as code
+use Rattle.pd_files.specs.declared.record.Record.{Record}
+use Rattle.pd_files.specs.contracts.record.Record as T
+use Rattle.pd_files.specs.contracts.record.Record.new.Key.{name as #it}
+use Rattle.pd_files.specs.contracts.record.Record.new as it
+use Rattle.pd_files.proofs.record.Record.new.Statement as stated
+use Rattle.pd_files.proofs.record.Record.new.Code as code
 
 abbrev v : Val
 v = vstruct (vcons (vstruct vnil) vnil)

@@ -2,11 +2,10 @@
 //! is assumed.
 
 ghost use Rattle.std.specs.Prelude.{refl, ◌≡◌};
-ghost use Rattle.pd_image.specs.StdSink.{std_sink_state, unattached_stream};
+ghost use Rattle.pd_files.specs.StdSink.{std_sink_state, unattached_stream};
 
-use crate::access::Access;
-use crate::faults::counted_outcome;
-use crate::{Failed, Sink};
+use crate::outcome::counted_outcome;
+use pd_image::{Access, Failed, Sink};
 use std::io::{ErrorKind, Write};
 use std::rt::Files;
 use std::{fs, io, str};

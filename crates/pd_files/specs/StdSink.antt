@@ -1,7 +1,7 @@
 -- What a sink over a real file or a standard stream means.
 use Rattle.std.specs.Prelude.{None}
 use Rattle.pd_kinds.specs.Objects.{SinkState}
-use Rattle.pd_image.specs.declared.std_sink.StdSink.{StdSink}
+use Rattle.pd_files.specs.declared.std_sink.StdSink.{StdSink}
 use Rattle.pd_image.specs.Access.{access_number}
 
 -- what the sink means to code over any sink: it tells neither what was written nor its path

@@ -1,0 +1,4 @@
+pub mod FileCall
+pub mod FileDevice
+pub mod StdSink
+pub mod StdSource

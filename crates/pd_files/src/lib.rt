@@ -1,0 +1,16 @@
+//! The objects outside over real files and the standard streams: the trusted edge.
+//!
+//! They tell nothing of what is read and written: that a file keeps what is written isn't proved. What is proved is
+//! which calls of a file they make, in which order.
+#![tactic(auto)]
+
+mod file_device;
+mod outcome;
+mod record;
+mod recorded_file;
+mod std_sink;
+mod std_source;
+
+pub use file_device::FileDevice;
+pub use std_sink::StdSink;
+pub use std_source::StdSource;
