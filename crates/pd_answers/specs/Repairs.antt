@@ -2,7 +2,7 @@
 use Rattle.std.specs.Prelude.{◌≡◌, ◌≢◌, ℕ, nat_lt, Bool, not, ◌==◌, if◌then◌else◌, List, [], ◌∷◌, Option, Some, None, IfSome}
 use Rattle.pd_kinds.specs.declared.kind.Kind.TheVariants.{Thin}
 use Rattle.pd_kinds.specs.declared.kind.Stage.TheVariants.{Super}
-use Rattle.pd_kinds.specs.Crash.{IsUntouched}
+use Rattle.pd_kinds.specs.Crash.{HoldsOldOrNone, IsUntouched}
 use Rattle.pd_kinds.specs.Objects.{DeviceState}
 use Rattle.pd_kinds.specs.Report.{Reported, report_of}
 use Rattle.pd_kinds.specs.Stages.{faults}
@@ -79,6 +79,14 @@ search_answer (Some roots) pool room =
 abbrev pub searched_answer : Searched → Answer
 searched_answer searched = search_answer searched.roots searched.pool searched.room
 
+-- what a search leaves of its output
+pub record LeavesFound (searched : Searched) (status : ℕ) (old new : DeviceState) : Type 0 where
+  pub output : LeavesMade (LaysPool (searched_answer searched) searched.pool searched.room) (not ((searched_answer searched).status == 0)) status old new
+  -- its line comes after the work: at any status but 0 and 6 it is as it was, or has no valid superblock, unless it failed itself
+  pub kept : status ≢ 0 → status ≢ 6 → new.faults ≡ old.faults → HoldsOldOrNone old new
+  -- the input is read before the output is written: its fault leaves the output alone
+  pub input_failed : status ≡ 5 → new.faults ≡ old.faults → IsUntouched old new
+
 -- a search is a repair in which block 0 isn't looked at: its roots are found, and its numbers are given
 abbrev pub search : List ℕ → List ℕ → ℕ → ℕ → ℕ → Terms
 search from to transaction block_size blocks = record {
@@ -93,6 +101,5 @@ search from to transaction block_size blocks = record {
   silent = 1 ∷ 4 ∷ 5 ∷ 7 ∷ [];
   spared = λ searched. (searched_answer searched).status ≢ 0;
   reads = any_reads;
-  leaves = λ searched before after status. LeavesMade (LaysPool (searched_answer searched) searched.pool searched.room)
-      (not ((searched_answer searched).status == 0)) status before.output after.output;
+  leaves = λ searched before after status. LeavesFound searched status before.output after.output;
 }

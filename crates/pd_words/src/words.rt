@@ -94,6 +94,13 @@ fn is_built(request: &Request) -> bool
             input: _,
             output: _,
         } => true,
+        Request::Search {
+            input: _,
+            output: _,
+            transaction: _,
+            block_size: _,
+            blocks: _,
+        } => true,
         Request::Rmap {
             first: _,
             end: _,
@@ -116,7 +123,6 @@ fn is_built(request: &Request) -> bool
             fast: _,
             origin: _,
         } => true,
-        _ => false,
     }
 }
 
