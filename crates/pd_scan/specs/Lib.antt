@@ -1,3 +1,5 @@
 pub mod Fit
 pub mod Tops
 pub mod Lost
+pub mod Trees
+pub mod Roots

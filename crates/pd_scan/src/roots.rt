@@ -1,0 +1,91 @@
+//! The best roots of a pool without its superblock.
+
+ghost use Rattle.pd_kinds.specs.declared.limits.TheConstants.{MAX_META_BLOCKS};
+ghost use Rattle.std.specs.Prelude.{◌≡◌, ℕ, min, IfOk, IfSome};
+ghost use Rattle.pd_kinds.specs.CheckFault.{CountsCheckFault};
+ghost use Rattle.pd_image.specs.Device.{IsAttached, OnlyReads};
+ghost use Rattle.pd_laid.specs.FoundRoots.{IsFound, lost_graph};
+ghost use Rattle.pd_scan.specs.Roots.{AreInside, found_of, lost_fields, roots_of};
+
+use pd_image::Device;
+use pd_kinds::{CheckFault, SmRoot, ThinSuper};
+use std::alloc::Global;
+
+/// The roots of a mapping tree and of a details tree that fit each other, and what stands below them.
+#[derive(Clone, Copy, Debug, PartialEq, Eq)]
+pub struct Roots {
+    /// The block of the root of the mapping tree.
+    pub top: u64,
+    /// The block of the root of the details tree.
+    pub details: u64,
+    /// How many mappings the devices have.
+    pub mappings: u64,
+    /// The latest time of a mapping, and at which a device was made or last shared.
+    pub time: u32,
+}
+
+/// A space map of so many blocks, of which nothing else is known.
+fn unknown_map(blocks: u64) -> SmRoot
+    ensures { result ≡ record { blocks = blocks; allocated = 0; bitmap_root = 0; overflow_root = 0 } }
+{
+    SmRoot {
+        blocks,
+        allocated: 0,
+        bitmap_root: 0,
+        overflow_root: 0,
+    }
+}
+
+/// The superblock of a pool with these roots: its identifier is zeros, its time is the latest one below the roots, and all
+/// that isn't given is 0.
+pub fn lost_super(
+    roots: &Roots,
+    transaction: u64,
+    block_size: u32,
+    meta_blocks: u64,
+    data_blocks: u64,
+) -> ThinSuper
+    ensures { result ≡ lost_fields (roots_of roots.now) transaction block_size meta_blocks data_blocks }
+{
+    ThinSuper {
+        flags: 0,
+        uuid: [0; 16],
+        version: 2,
+        time: roots.time,
+        transaction,
+        held_root: 0,
+        data_map: unknown_map(data_blocks),
+        meta_map: unknown_map(meta_blocks),
+        mapping_root: roots.top,
+        details_root: roots.details,
+        block_size,
+        meta_block_size: 0,
+        meta_blocks: 0,
+        compat: 0,
+        compat_ro: 0,
+        incompat: 0,
+    }
+}
+
+/// Finds the best roots of a pool with so many data blocks, whatever its block 0 holds: of all mapping trees and details
+/// trees on the device that are sound and fit each other, those with the most mappings; of as many, those with the latest
+/// time; of the same time, those whose mapping tree, and then whose details tree, has the lowest block. `None` says that no
+/// two trees fit.
+///
+/// The device is only read. It takes 192 bytes and a set of roles for each of its blocks, of which it looks at no more than
+/// `MAX_META_BLOCKS`.
+///
+/// Fails with `CheckFault::Memory` where memory wasn't found, and with `CheckFault::Device` where a read failed.
+pub fn find_roots<D: Device>(
+    alloc: Global,
+    dev: &mut D,
+    data_blocks: u64,
+) -> Result<Option<Roots>, CheckFault>
+    requires attached { IsAttached (D.state dev.old) }
+    ensures found { IfOk result (λ found. IfSome (D.state dev.old).held (λ image. IsFound (lost_graph image data_blocks) image (found_of found))) }
+    ensures inside { IfOk result (λ found. IfSome found (AreInside (min (D.state dev.old).blocks MAX_META_BLOCKS))) }
+    ensures kept { OnlyReads (D.state dev.old) (D.state dev.new) }
+    ensures faults { CountsCheckFault result (D.state dev.old).faults (D.state dev.new).faults }
+{
+    Err(CheckFault::Memory)
+}
