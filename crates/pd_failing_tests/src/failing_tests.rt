@@ -59,7 +59,7 @@ const TROUBLES: &[Trouble] = &[
 ];
 
 /// More calls than an object of a request gets.
-const MANY: u64 = 90;
+const MANY: u64 = 150;
 
 /// Whether a request puts nothing to `out` before all that it reads was read: a check that writes nothing.
 fn puts_at_the_end(words: &str) -> bool {

@@ -54,6 +54,14 @@ const LARGE: &str = "era 1\nera 00000000-0000-0000-0000-000000000000 128 100000 
 /// A check that clears the flag.
 const CLEAR: &str = "thin_check --clear-needs-check-flag x";
 
+/// A search for the roots of a pool, which doesn't look at its block 0.
+const SEARCH: &str =
+    "thin_repair -i x -o y --transaction-id 7 --data-block-size 128 --nr-data-blocks 1";
+
+/// A search of a pool without data blocks.
+const SEARCH_NONE: &str =
+    "thin_repair -i x -o y --transaction-id 7 --data-block-size 128 --nr-data-blocks 0";
+
 /// A restore of the second version of a cache.
 const CACHE_2: &str = "cache_restore --metadata-version 2 -i t -o x";
 
@@ -97,6 +105,9 @@ pub(crate) const WRITINGS: &[Asked] = &[
     ("thin_repair -i x -o y", "", DamagedPool, Target, 0),
     ("thin_repair -i x -o y", "", NoPool, Target, 1),
     ("thin_repair -i x -o y", "", Pool, Nothing, 4),
+    (SEARCH, "", NoPool, Target, 0),
+    (SEARCH_NONE, "", Pool, Target, 1),
+    (SEARCH, "", Pool, Nothing, 4),
 ];
 
 /// The words of the restore that makes the cache.

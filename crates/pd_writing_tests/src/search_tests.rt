@@ -1,0 +1,244 @@
+//! Searches for the roots of pools whose superblock is lost: which trees are taken, what is refused, and what the output
+//! holds then.
+
+use crate::lost::{Lost, lost_pool};
+use crate::made::{ones, pool_of};
+use pd_kinds::Block;
+use pd_samples::pool::{device_leaf, inner};
+use pd_samples::runs::{Held, NOTHING_FAILS, Ran, blocks_of, run, run_over};
+use std::alloc::{AllocError, Global};
+use std::process::Abort;
+use std::test::Fail;
+
+/// A pool whose superblock is lost, the number of its data blocks, the line that the search puts, and how the dump of what
+/// it makes ends.
+type Found = (Lost, &'static str, &'static str, &'static str);
+
+const FOUND: &[Found] = &[
+    (
+        Lost::OneMapping,
+        "1",
+        "roots 2 3 mappings 1 time 0\n",
+        " 0 7 128 1\ndevice 1 1 0 0 0\nmap 0 0 1 0\nend\n",
+    ),
+    (
+        Lost::OneMapping,
+        "9",
+        "roots 2 3 mappings 1 time 0\n",
+        " 0 7 128 9\ndevice 1 1 0 0 0\nmap 0 0 1 0\nend\n",
+    ),
+    (
+        Lost::HeldCopy,
+        "0",
+        "roots 1 2 mappings 0 time 0\n",
+        " 0 7 128 0\nend\n",
+    ),
+    (
+        Lost::MoreMappings,
+        "2",
+        "roots 11 12 mappings 2 time 1\n",
+        " 1 7 128 2\ndevice 1 2 0 0 0\nmap 0 0 1 0\nmap 1 1 1 1\nend\n",
+    ),
+    // The second mapping is past the pool's last data block.
+    (
+        Lost::MoreMappings,
+        "1",
+        "roots 2 3 mappings 1 time 0\n",
+        " 0 7 128 1\ndevice 1 1 0 0 0\nmap 0 0 1 0\nend\n",
+    ),
+    (
+        Lost::LaterTime,
+        "1",
+        "roots 11 3 mappings 1 time 3\n",
+        " 3 7 128 1\ndevice 1 1 0 0 0\nmap 0 0 1 3\nend\n",
+    ),
+    (
+        Lost::LaterDetails,
+        "1",
+        "roots 2 12 mappings 1 time 4\n",
+        " 4 7 128 1\ndevice 1 1 0 4 0\nmap 0 0 1 0\nend\n",
+    ),
+    (
+        Lost::FewerMappings,
+        "1",
+        "roots 2 3 mappings 1 time 0\n",
+        " 0 7 128 1\ndevice 1 1 0 0 0\nmap 0 0 1 0\nend\n",
+    ),
+    (
+        Lost::Copies,
+        "1",
+        "roots 2 3 mappings 1 time 0\n",
+        " 0 7 128 1\ndevice 1 1 0 0 0\nmap 0 0 1 0\nend\n",
+    ),
+    (
+        Lost::OneFingerprint,
+        "1",
+        "roots 2 12 mappings 0 time 0\n",
+        " 0 7 128 1\ndevice 4194304 0 0 0 0\nend\n",
+    ),
+];
+
+/// Pools in which no two trees fit each other, and the number of their data blocks.
+const NOT_FOUND: &[(Lost, &str)] = &[
+    (Lost::Zeros, "1"),
+    (Lost::OneMapping, "0"),
+    (Lost::DamagedMappings, "1"),
+    (Lost::OtherDevice, "1"),
+    (Lost::OtherNumber, "1"),
+    (Lost::TopInBlockZero, "1"),
+    (Lost::OwnChild, "1"),
+    (Lost::SameNodes, "1"),
+];
+
+const NO_ROOTS: &str = "pdata_tools: no roots\n";
+
+/// Searches an image for its roots, and makes the pool on these blocks.
+fn search(
+    alloc: Global,
+    image: &[Block],
+    base: &[Block],
+    data_blocks: &str,
+) -> Result<Ran, AllocError> {
+    let held = Held {
+        text: b"",
+        input: image,
+        output: base,
+        third: &[],
+    };
+    let words = [
+        "thin_repair",
+        "-i",
+        "image",
+        "-o",
+        "found",
+        "--transaction-id",
+        "7",
+        "--data-block-size",
+        "128",
+        "--nr-data-blocks",
+        data_blocks,
+    ];
+    run_over(alloc, &words, held, NOTHING_FAILS)
+}
+
+/// Searches an image, where this is the line that is put, and the dump of the pool that is made ends so.
+fn expect_found(
+    rt: &impl Abort,
+    alloc: Global,
+    image: &[Block],
+    data_blocks: &str,
+    line: &str,
+    text: &str,
+) -> Result<(), AllocError> {
+    let found = search(alloc, image, &[ones(); 16], data_blocks)?;
+    assert!(rt; found.status == 0, "{line}");
+    assert!(rt; found.out.bytes() == line.as_bytes(), "{line}");
+    assert!(rt; found.notes.bytes().is_empty(), "{line}");
+    assert!(rt;
+        blocks_of(alloc, &found.input)?.as_slice() == image,
+        "{line}"
+    );
+    let made = blocks_of(alloc, &found.output)?;
+    let checked = run(alloc, &["thin_check", "x"], made.as_slice(), NOTHING_FAILS)?;
+    assert!(rt; checked.out.bytes() == "clean\n".as_bytes(), "{line}");
+    let dumped = run(alloc, &["thin_dump", "x"], made.as_slice(), NOTHING_FAILS)?;
+    assert!(rt; dumped.out.bytes().ends_with(text.as_bytes()), "{line}");
+    Ok(())
+}
+
+/// Searches an image, which comes to this status and these notes, with nothing written.
+fn expect_refused(
+    rt: &impl Abort,
+    alloc: Global,
+    image: &[Block],
+    data_blocks: &str,
+    base: &[Block],
+    status: u8,
+    notes: &str,
+) -> Result<(), AllocError> {
+    let refused = search(alloc, image, base, data_blocks)?;
+    assert!(rt; refused.status == status, "{notes}");
+    assert!(rt; refused.notes.bytes() == notes.as_bytes(), "{notes}");
+    assert!(rt; refused.out.bytes().is_empty(), "{notes}");
+    assert!(rt;
+        blocks_of(alloc, &refused.output)?.as_slice() == base,
+        "{notes}"
+    );
+    Ok(())
+}
+
+#[test]
+fn the_best_trees_that_fit_are_found(rt: HostRuntime) -> Result<(), Fail> {
+    for (lost, data_blocks, line, text) in FOUND {
+        let image = lost_pool(*lost);
+        expect_found(&rt, rt.alloc(), &image, data_blocks, line, text)?;
+    }
+    Ok(())
+}
+
+#[test]
+fn trees_that_do_not_fit_are_not_found(rt: HostRuntime) -> Result<(), Fail> {
+    let base = [ones(); 16];
+    for (lost, data_blocks) in NOT_FOUND {
+        let image = lost_pool(*lost);
+        expect_refused(&rt, rt.alloc(), &image, data_blocks, &base, 1, NO_ROOTS)?;
+    }
+    expect_refused(&rt, rt.alloc(), &[], "1", &base, 1, NO_ROOTS)?;
+    expect_refused(&rt, rt.alloc(), &[Block::zeros()], "1", &base, 1, NO_ROOTS)?;
+    Ok(())
+}
+
+#[test]
+fn a_found_pool_needs_room(rt: HostRuntime) -> Result<(), Fail> {
+    let image = lost_pool(Lost::OneMapping);
+    let notes = "pdata_tools: no room: need 10, blocks 9\n";
+    expect_refused(&rt, rt.alloc(), &image, "1", &[ones(); 9], 4, notes)?;
+    Ok(())
+}
+
+#[test]
+fn trees_of_64_nodes_in_a_row_are_sound_and_no_deeper_ones(rt: HostRuntime) -> Result<(), Fail> {
+    // 63 inner nodes above the leaf, each with one child, behind the pool's blocks.
+    let text = "thin 1\npool 00000000-0000-0000-0000-000000000000 0 0 128 1\ndevice 1 1 0 0 0\nmap 0 0 1 0\nend\n";
+    let mut image = pool_of(&rt, rt.alloc(), text, 128)?;
+    image[0] = Block::zeros();
+    for b in 20..83 {
+        let child = if b < 82 { b as u64 + 1 } else { 1 };
+        image[b] = inner(b as u64, child);
+    }
+    image[19] = inner(19, 20);
+    image[2] = device_leaf(2, 20);
+    let found = " 0 7 128 1\ndevice 1 1 0 0 0\nmap 0 0 1 0\nend\n";
+    let line = "roots 2 3 mappings 1 time 0\n";
+    expect_found(&rt, rt.alloc(), image.as_slice(), "1", line, found)?;
+    image[2] = device_leaf(2, 19);
+    let base = [ones(); 16];
+    expect_refused(&rt, rt.alloc(), image.as_slice(), "1", &base, 1, NO_ROOTS)?;
+    Ok(())
+}
+
+/// Words with some of the three numbers of a search, or with one that is too great.
+const NO_REQUESTS: &[&str] = &[
+    "--transaction-id 7",
+    "--transaction-id 7 --data-block-size 128",
+    "--data-block-size 128 --nr-data-blocks 1",
+    "--transaction-id 18446744073709551616 --data-block-size 128 --nr-data-blocks 1",
+    "--transaction-id 7 --data-block-size 4294967296 --nr-data-blocks 1",
+    "--transaction-id 7 --data-block-size 128 --nr-data-blocks 1099511627777",
+];
+
+#[test]
+fn a_search_is_given_all_three_numbers(rt: HostRuntime) -> Result<(), Fail> {
+    for words in NO_REQUESTS {
+        let mut list: Vec<&str> = Vec::new(rt.alloc());
+        for word in ["thin_repair", "-i", "image", "-o", "found"] {
+            list.push(word)?;
+        }
+        for word in words.split_whitespace() {
+            list.push(word)?;
+        }
+        let refused = run(rt.alloc(), list.as_slice(), &[], NOTHING_FAILS)?;
+        assert!(rt; refused.status == 2, "{words}");
+    }
+    Ok(())
+}
