@@ -4,18 +4,22 @@ use Rattle.std.specs.List.{list_any, list_all, AllByRecursion}
 use Rattle.std.proofs.lemmas.Bool.{and_parts, lt-ltb, not-true}
 use Rattle.pd_kinds.specs.Rule.{all_rules}
 use Rattle.pd_kinds.specs.Edge.{Edge, is_outside}
-use Rattle.pd_kinds.specs.Graph.{Graph, block_at}
+use Rattle.pd_kinds.specs.Graph.{Graph, block_at, pair}
 use Rattle.pd_kinds.specs.Lawful.{IsLawful, IsWithin}
+use Rattle.pd_kinds.specs.Layout.{Tree, tree}
+use Rattle.pd_kinds.specs.ThinFormat.{thin_layout}
 use Rattle.pd_laws.proofs.SoundLemmas.{none_broken}
 use Rattle.pd_laid.specs.FoundRoots.{is_sound_tree}
 use Rattle.pd_graph.specs.declared.notes.Notes.{Notes}
 use Rattle.pd_graph.specs.Notes.{size_of, note_in}
 use Rattle.pd_graph.specs.Format.{Contents, AreContents, IsSound}
+use Rattle.pd_settle.specs.Good.{is_good_node}
 use Rattle.pd_settle.specs.Looking.{blocks_of_edges}
 use Rattle.pd_settle.specs.Settled.{is_fit, AreFit, AreSettledIn}
+use Rattle.pd_tree.specs.TreeRoles.{IsTreeRole}
 use Rattle.pd_scan.specs.Fit.{is_unbroken, is_fit_root, is_between, ShareChecksum, AreJudged}
 use Rattle.pd_scan.specs.Tops.{is_noted_good, keeps_roots}
-use Rattle.pd_scan.specs.Lost.{IsPool, AreRoots}
+use Rattle.pd_scan.specs.Lost.{IsPool, AreRoots, AreSettledTrees}
 use Rattle.pd_scan.proofs.SoundLemmas.{good_is_sound}
 use Rattle.pd_scan.proofs.LeafLemmas.{leads_nowhere_in, leaf_names_devices, shares}
 
@@ -39,16 +43,62 @@ sound_of : (graph : Graph) (role b : ℕ) (block : List ℕ) → is_unbroken gra
 unfolding is_unbroken
 sound_of graph role b block unbroken = none_broken (graph.bad role b block) (not-true (list_any (graph.bad role b block) all_rules) unbroken)
 
--- settled notes tell of the roots
-pub roots_of : (graph : Graph) (image : List (List ℕ)) (role : ℕ) (fit : ℕ → Bool) (notes : Notes) → IsLawful graph → role < graph.roles
-    → ((b : ℕ) → b < graph.nr → fit b ≡ is_fit_root graph image role b) → AreSettledIn graph image role fit notes → AreRoots graph image role notes
-roots_of graph image role fit notes lawful known told settled = record {
-  known = settled.known;
-  sound = λ b small. settled.height b small ∙ good_is_sound graph image lawful role fit known told b small;
-  least = λ b small sound. settled.least b small (good_is_sound graph image lawful role fit known told b small ∙ sound);
-  greatest = λ b small sound. settled.greatest b small (good_is_sound graph image lawful role fit known told b small ∙ sound);
-  below = λ b small sound. settled.below b small (good_is_sound graph image lawful role fit known told b small ∙ sound);
-}
+-- the trees of a pool
+pool_role : {t : Tree} → (roles role : ℕ) (graph : Graph) → IsPool roles graph → thin_layout graph.nr graph.data_blocks role ≡ tree t → role < 16 → IsTreeRole graph role t.size
+pool_role {t} roles role graph is at few =
+    record { roles = 11; nr = graph.nr; data_blocks = graph.data_blocks; layout = thin_layout graph.nr graph.data_blocks; nodes = t; is = is.format; at = at; value_size = refl; few = few }
+
+pub tops_role : (roles : ℕ) (graph : Graph) → IsPool roles graph → IsTreeRole graph 2 8
+unfolding thin_layout
+tops_role roles graph is = pool_role roles 2 graph is refl (omega arith)
+
+pub devices_role : (roles : ℕ) (graph : Graph) → IsPool roles graph → IsTreeRole graph 3 8
+unfolding thin_layout
+devices_role roles graph is = pool_role roles 3 graph is refl (omega arith)
+
+pub details_role : (roles : ℕ) (graph : Graph) → IsPool roles graph → IsTreeRole graph 4 24
+unfolding thin_layout
+details_role roles graph is = pool_role roles 4 graph is refl (omega arith)
+
+-- notes that were settled by a table are those by what a root must be
+module _ (graph : Graph) (image : List (List ℕ)) (role size : ℕ) (fit : ℕ → Bool) (notes : Notes) (lawful : IsLawful graph) (known : role < graph.roles)
+    (told : (b : ℕ) → b < graph.nr → fit b ≡ is_fit_root graph image role b) where
+  by_roots : (b : ℕ) → b < graph.nr → is_good_node graph image (is_fit_root graph image role) true (pair b role) ≡ is_sound_tree graph image role b
+  by_roots b small = good_is_sound graph image lawful role (is_fit_root graph image role) known (λ c less. refl) b small
+
+  same_good : (b : ℕ) → b < graph.nr → is_good_node graph image fit true (pair b role) ≡ is_good_node graph image (is_fit_root graph image role) true (pair b role)
+  same_good b small = good_is_sound graph image lawful role fit known told b small ∙ sym (by_roots b small)
+
+  roots_fit : AreFit graph image role (is_fit_root graph image role)
+  unfolding is_fit_root
+  roots_fit = record { sound = λ b small e. sound_of graph role b (block_at image b) (and_parts _ _ (and_parts _ _ e).1).0 }
+
+  settled_by_roots : AreSettledIn graph image role fit notes → AreSettledIn graph image role (is_fit_root graph image role) notes
+  settled_by_roots settled = record {
+    known = settled.known;
+    height = λ b small. settled.height b small ∙ same_good b small;
+    least = λ b small good. settled.least b small (same_good b small ∙ good);
+    greatest = λ b small good. settled.greatest b small (same_good b small ∙ good);
+    below = λ b small good. settled.below b small (same_good b small ∙ good);
+    few = λ b small good. settled.few b small (same_good b small ∙ good);
+    above = λ b p small good leads. settled.above b p small (same_good b small ∙ good) leads;
+  }
+
+  -- and they tell of the roots
+  roots_by : AreSettledIn graph image role (is_fit_root graph image role) notes → AreRoots graph image role notes
+  roots_by settled = record {
+    known = settled.known;
+    sound = λ b small. settled.height b small ∙ by_roots b small;
+    least = λ b small sound. settled.least b small (by_roots b small ∙ sound);
+    greatest = λ b small sound. settled.greatest b small (by_roots b small ∙ sound);
+    below = λ b small sound. settled.below b small (by_roots b small ∙ sound);
+  }
+
+  pub trees_of : IsTreeRole graph role size → size_of notes ≡ graph.nr → AreSettledIn graph image role fit notes → AreSettledTrees graph image role size notes
+  trees_of is number settled = record {
+    trees = record { lawful = lawful; known = known; tree = is; number = number; sound = roots_fit; settled = settled_by_roots settled };
+    roots = roots_by (settled_by_roots settled);
+  }
 
 -- the table of the blocks that are fit by themselves
 between_at : (role : ℕ) → (role ≡ 3) ⊎ (role ≡ 4) → is_between 2 5 role ≡ true

@@ -8,6 +8,8 @@ use Rattle.pd_graph.specs.declared.notes.Notes.{Notes}
 use Rattle.pd_graph.specs.Notes.{note_in}
 use Rattle.pd_laid.specs.FoundRoots.{is_sound_tree}
 use Rattle.pd_settle.specs.Notes.{least_of, greatest_of}
+use Rattle.pd_measures.specs.Trees.{AreTrees}
+use Rattle.pd_scan.specs.Fit.{is_fit_root}
 
 -- the format is that of a thin pool, of any numbers of blocks
 pub record IsPool (roles : ℕ) (graph : Graph) : Type 0 where
@@ -21,3 +23,8 @@ pub record AreRoots (graph : Graph) (image : List (List ℕ)) (role : ℕ) (note
   pub least : (b : ℕ) → b < graph.nr → is_sound_tree graph image role b ≡ true → (note_in notes b).least ≡ least_of (keys_below graph image (pair b role))
   pub greatest : (b : ℕ) → b < graph.nr → is_sound_tree graph image role b ≡ true → (note_in notes b).greatest ≡ greatest_of (keys_below graph image (pair b role))
   pub below : (b : ℕ) → b < graph.nr → is_sound_tree graph image role b ≡ true → (note_in notes b).below ≡ length (keys_below graph image (pair b role))
+
+-- the notes are those of the settled trees of a role whose leaf values have this size, and tell which blocks are roots of sound ones
+pub record AreSettledTrees (graph : Graph) (image : List (List ℕ)) (role size : ℕ) (notes : Notes) : Type 0 where
+  pub trees : AreTrees graph image role size (is_fit_root graph image role) notes
+  pub roots : AreRoots graph image role notes

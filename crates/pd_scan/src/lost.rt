@@ -5,7 +5,7 @@ ghost use Rattle.pd_kinds.specs.Objects.{CountsFault};
 ghost use Rattle.pd_image.specs.Device.{IsAttached, OnlyReads};
 ghost use Rattle.pd_graph.specs.Notes.{size_of};
 ghost use Rattle.pd_scan.specs.Fit.{AreJudged};
-ghost use Rattle.pd_scan.specs.Lost.{IsPool, AreRoots};
+ghost use Rattle.pd_scan.specs.Lost.{IsPool, AreSettledTrees};
 
 use crate::judging::judge_each;
 use crate::tops::leave_out_tops;
@@ -30,8 +30,8 @@ fn settle_lower<F: Format, D: Device>(
     requires attached { IsAttached (D.state dev.old) }
     requires within { (F.graph format.now).nr ≤ (D.state dev.old).blocks }
     ensures judged { OnOk result (IfSome (D.state dev.old).held (λ image. AreJudged (F.graph format.now) image 2 5 fit.new)) }
-    ensures devices { OnOk result (IfSome (D.state dev.old).held (λ image. AreRoots (F.graph format.now) image 3 devices.new)) }
-    ensures details { OnOk result (IfSome (D.state dev.old).held (λ image. AreRoots (F.graph format.now) image 4 details.new)) }
+    ensures devices { OnOk result (IfSome (D.state dev.old).held (λ image. AreSettledTrees (F.graph format.now) image 3 8 devices.new)) }
+    ensures details { OnOk result (IfSome (D.state dev.old).held (λ image. AreSettledTrees (F.graph format.now) image 4 24 details.new)) }
     ensures places { length fit.new ≡ length fit.old }
     ensures devices_number { size_of devices.new ≡ size_of devices.old }
     ensures details_number { size_of details.new ≡ size_of details.old }
@@ -60,7 +60,7 @@ fn settle_tops<F: Format, D: Device>(
     requires attached { IsAttached (D.state dev.old) }
     requires within { (F.graph format.now).nr ≤ (D.state dev.old).blocks }
     ensures tops { OnOk result (IfSome (D.state dev.old).held (λ image. AreJudged (F.graph format.now) image 2 5 fit.old
-        → AreRoots (F.graph format.now) image 3 devices.now → AreRoots (F.graph format.now) image 2 tops.new)) }
+        → AreSettledTrees (F.graph format.now) image 3 8 devices.now → AreSettledTrees (F.graph format.now) image 2 8 tops.new)) }
     ensures places { length fit.new ≡ length fit.old }
     ensures number { size_of tops.new ≡ size_of tops.old }
     ensures reads { (D.state dev.new).reads ≤ (D.state dev.old).reads + 3 * (F.graph format.now).nr }
@@ -92,9 +92,9 @@ pub fn settle_lost<F: Format, D: Device>(
     requires details { size_of details.old ≡ (F.graph format.now).nr }
     requires attached { IsAttached (D.state dev.old) }
     requires within { (F.graph format.now).nr ≤ (D.state dev.old).blocks }
-    ensures tops { OnOk result (IfSome (D.state dev.old).held (λ image. AreRoots (F.graph format.now) image 2 tops.new)) }
-    ensures devices { OnOk result (IfSome (D.state dev.old).held (λ image. AreRoots (F.graph format.now) image 3 devices.new)) }
-    ensures details { OnOk result (IfSome (D.state dev.old).held (λ image. AreRoots (F.graph format.now) image 4 details.new)) }
+    ensures tops { OnOk result (IfSome (D.state dev.old).held (λ image. AreSettledTrees (F.graph format.now) image 2 8 tops.new)) }
+    ensures devices { OnOk result (IfSome (D.state dev.old).held (λ image. AreSettledTrees (F.graph format.now) image 3 8 devices.new)) }
+    ensures details { OnOk result (IfSome (D.state dev.old).held (λ image. AreSettledTrees (F.graph format.now) image 4 24 details.new)) }
 
     // At most eight reads for each block, whatever it shares: one judges it in its three roles, one looks at the roots
     // that it names, and two settle it in each role.
