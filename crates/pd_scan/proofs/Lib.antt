@@ -5,3 +5,5 @@ pub mod JudgeLemmas
 pub mod TopLemmas
 pub mod LostLemmas
 pub mod EntryLemmas
+pub mod BelowLemmas
+pub mod TreesLemmas

@@ -16,7 +16,7 @@ use Rattle.pd_graph.specs.Format.{Contents, AreContents, IsSound}
 use Rattle.pd_settle.specs.Good.{is_good_node}
 use Rattle.pd_settle.specs.Looking.{blocks_of_edges}
 use Rattle.pd_settle.specs.Settled.{is_fit, AreFit, AreSettledIn}
-use Rattle.pd_tree.specs.TreeRoles.{IsTreeRole}
+use Rattle.pd_tree.specs.TreeRoles.{IsTreeRole, IsTreeTo}
 use Rattle.pd_scan.specs.Fit.{is_unbroken, is_fit_root, is_between, ShareChecksum, AreJudged}
 use Rattle.pd_scan.specs.Tops.{is_noted_good, keeps_roots}
 use Rattle.pd_scan.specs.Lost.{IsPool, AreRoots, AreSettledTrees}
@@ -48,9 +48,9 @@ pool_role : {t : Tree} → (roles role : ℕ) (graph : Graph) → IsPool roles g
 pool_role {t} roles role graph is at few =
     record { roles = 11; nr = graph.nr; data_blocks = graph.data_blocks; layout = thin_layout graph.nr graph.data_blocks; nodes = t; is = is.format; at = at; value_size = refl; few = few }
 
-pub tops_role : (roles : ℕ) (graph : Graph) → IsPool roles graph → IsTreeRole graph 2 8
-unfolding thin_layout
-tops_role roles graph is = pool_role roles 2 graph is refl (omega arith)
+pub tops_role : (roles : ℕ) (graph : Graph) → IsPool roles graph → IsTreeTo graph 2 8 3 (λ v. v)
+unfolding thin_layout pool_role
+tops_role roles graph is = record { is_role = pool_role roles 2 graph is refl (omega arith); leads = refl }
 
 pub devices_role : (roles : ℕ) (graph : Graph) → IsPool roles graph → IsTreeRole graph 3 8
 unfolding thin_layout

@@ -111,7 +111,7 @@ module _ (graph : Graph) (image : List (List ℕ)) (lawful : IsLawful graph) whe
         | inr later ↦ named_sound xs p all.1 parts.1 later
       ]
 
-  sound_named : (es : List Edge) → AllByRecursion (IsWithin graph) es → ((t : ℕ) → is_among t (map (λ (e : Edge). pair e.block e.role) es) ≡ true → AreSound t)
+  pub sound_named : (es : List Edge) → AllByRecursion (IsWithin graph) es → ((t : ℕ) → is_among t (map (λ (e : Edge). pair e.block e.role) es) ≡ true → AreSound t)
       → list_all (λ (e : Edge). is_sound_tree graph image e.role e.block) es ≡ true
   sound_named [] all each = refl
   sound_named (x ∷ xs) all each =

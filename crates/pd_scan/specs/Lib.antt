@@ -1,5 +1,6 @@
 pub mod Fit
 pub mod Tops
 pub mod Lost
+pub mod Tables
 pub mod Trees
 pub mod Roots

@@ -7,6 +7,7 @@ mod judging;
 mod laws;
 mod lost;
 mod roots;
+mod tables;
 mod tops;
 mod trees;
 

@@ -95,6 +95,9 @@ pub fn settle_lost<F: Format, D: Device>(
     ensures tops { OnOk result (IfSome (D.state dev.old).held (λ image. AreSettledTrees (F.graph format.now) image 2 8 tops.new)) }
     ensures devices { OnOk result (IfSome (D.state dev.old).held (λ image. AreSettledTrees (F.graph format.now) image 3 8 devices.new)) }
     ensures details { OnOk result (IfSome (D.state dev.old).held (λ image. AreSettledTrees (F.graph format.now) image 4 24 details.new)) }
+    ensures tops_number { size_of tops.new ≡ size_of tops.old }
+    ensures devices_number { size_of devices.new ≡ size_of devices.old }
+    ensures details_number { size_of details.new ≡ size_of details.old }
 
     // At most eight reads for each block, whatever it shares: one judges it in its three roles, one looks at the roots
     // that it names, and two settle it in each role.

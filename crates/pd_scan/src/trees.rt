@@ -4,12 +4,14 @@ ghost use Rattle.std.specs.Prelude.{◌≡◌, ℕ, ◌+◌, ◌*◌, ◌≤◌,
 ghost use Rattle.pd_kinds.specs.CheckFault.{CountsCheckFault};
 ghost use Rattle.pd_image.specs.Device.{IsAttached, OnlyReads};
 ghost use Rattle.pd_scan.specs.Lost.{IsPool};
+ghost use Rattle.pd_scan.specs.Tables.{trees_of as trees_of_tables};
 ghost use Rattle.pd_scan.specs.Trees.{AreLostTrees, HavePlaces};
 
+use crate::tables::{Tables, empty_tables, fill};
 use pd_graph::{Format, Notes};
 use pd_image::Device;
 use pd_kinds::CheckFault;
-use pd_measures::Measures;
+use pd_measures::{Measures, measures_are_those_of_lists};
 use std::alloc::Global;
 
 /// What is known of the trees of a pool without its superblock, for each block.
@@ -25,6 +27,27 @@ pub(crate) struct LostTrees {
     pub(crate) top_measures: Measures,
     /// What stands below the sound details trees.
     pub(crate) details_measures: Measures,
+}
+
+/// The trees that filled tables tell of.
+fn trees_of(tables: Tables) -> LostTrees
+    ensures { result ≡ trees_of_tables tables }
+{
+    let Tables {
+        tops,
+        devices,
+        details,
+        top_measures,
+        details_measures,
+        ..
+    } = tables;
+    LostTrees {
+        tops,
+        devices: devices.notes,
+        details,
+        top_measures,
+        details_measures,
+    }
 }
 
 /// Settles and measures all trees of a pool of this format, whatever its superblock holds.
@@ -48,5 +71,13 @@ pub(crate) fn measure_lost<F: Format, D: Device>(
     ensures kept { OnlyReads (D.state dev.old) (D.state dev.new) }
     ensures faults { CountsCheckFault result (D.state dev.old).faults (D.state dev.new).faults }
 {
-    Err(CheckFault::Memory)
+    measures_are_those_of_lists();
+    let mut tables = match empty_tables(alloc, format.nr()) {
+        Ok(tables) => tables,
+        Err(_) => return Err(CheckFault::Memory),
+    };
+    match fill(&mut tables, format, dev) {
+        Ok(()) => Ok(trees_of(tables)),
+        Err(_) => Err(CheckFault::Device),
+    }
 }

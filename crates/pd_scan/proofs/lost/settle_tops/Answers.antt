@@ -22,7 +22,7 @@ returns-clause-tops g c =
     (λ b small.
     told b small
     ∙ top_root graph image fit judged g.F.Format.ROLES c.requires.pool lawful known contents (g.met.F.Format.told c.args.format.now) c.args.devices.now c.requires.devices are.roots b small)
-    (tops_role g.F.Format.ROLES graph c.requires.pool) (c.in_ok-settle_role.ensures.number ∙ c.requires.tops) (more (top_fit graph image fit judged later (λ b. keeps_roots contents c.args.devices.now 2 (block_at image b)) told)))
+    (tops_role g.F.Format.ROLES graph c.requires.pool).is_role (c.in_ok-settle_role.ensures.number ∙ c.requires.tops) (more (top_fit graph image fit judged later (λ b. keeps_roots contents c.args.devices.now 2 (block_at image b)) told)))
     c.in_ok-leave_out_tops.ensures.told
     (subst (λ o. IfSome o (λ image. AreFit graph image 2 (is_fit later 2) → AreSettledIn graph image 2 (is_fit later 2) c.settle_role.new.notes))
     c.in_ok-leave_out_tops.ensures.kept.held c.in_ok-settle_role.ensures.settled)
