@@ -1,7 +1,7 @@
 -- What stands below the roots of settled trees: how many entries, how many mappings, and the latest times.
 use Rattle.std.proofs.Common.{◌≡◌, ℕ, ◌*◌, ◌^◌, ◌<◌, ◌≤◌, Bool, true, cond, List, [], ◌∷◌, length, refl, ◌∙◌, ap, arith}
 use Rattle.std.specs.List.{AllByRecursion}
-use Rattle.std.proofs.Math.Nat.{mul-le-mul_left, suc-mul}
+use Rattle.std.proofs.Math.Nat.{suc-mul}
 use Rattle.std.proofs.lemmas.Bool.{lt-ltb}
 use Rattle.std.proofs.lemmas.List.Sums.{sum_by-cons}
 use Rattle.pd_kinds.specs.Image.{HasBytes}
@@ -59,14 +59,13 @@ sum_most f most (e ∷ es) all =
     let first = all.0 in
     omega (arith, suc-mul (length es) most, sum_by-cons (λ (c : DeviceCount). c.mapped) (record { id = e.key; mapped = f e.value }) (counts_by_roots f es))
 
-product_below : (a b : ℕ) → a < 2 ^ 31 → b ≤ 2 ^ 31 → a * b < 2 ^ 64
-product_below a b small most = omega (arith, mul-le-mul_left a most)
-
+-- few mappings stand below each root
 few_below : (graph : Graph) (image : List (List ℕ)) (notes : Notes) → AreSettledTrees graph image 3 8 notes
     → (root : ℕ) → is_sound_tree graph image 3 root ≡ true → mappings_below graph image root ≤ 2 ^ 31
 unfolding mappings_below
 few_below graph image notes are root sound = let few = few_entries graph image 3 8 notes are root sound in omega arith
 
+-- so a sound mapping tree has fewer mappings than a number of 64 bits holds
 pub few_mappings : (graph : Graph) (image : List (List ℕ)) (tops devices : Notes) → AreSettledTrees graph image 2 8 tops → AreSettledTrees graph image 3 8 devices
     → (b : ℕ) → is_sound_tree graph image 2 b ≡ true → AllByRecursion (λ (e : Entry). is_sound_tree graph image 3 e.value ≡ true) (top_entries graph image b)
     → total_of (counts_of_top graph image b) < 2 ^ 64
@@ -76,8 +75,8 @@ few_mappings graph image tops devices are_tops are b sound named =
     let each = all_from (λ (e : Entry). is_sound_tree graph image 3 e.value ≡ true) (λ (e : Entry). mappings_below graph image e.value ≤ 2 ^ 31)
     (λ e is. few_below graph image devices are e.value is) entries named in
     let sum = sum_most (mappings_below graph image) (2 ^ 31) entries each in
-    let product = product_below (length entries) (2 ^ 31) (few_entries graph image 2 8 tops are_tops b sound) (omega arith) in
-    omega (arith, sum, product)
+    let number = few_entries graph image 2 8 tops are_tops b sound in
+    omega arith
 
 -- times below a limit
 latest_below : (limit : ℕ) (times : List ℕ) → 1 ≤ limit → AllByRecursion (λ (t : ℕ). t < limit) times → latest times < limit
@@ -88,6 +87,7 @@ latest_below limit (t ∷ ts) some all =
     let both = latest-cons t ts in
     omega arith
 
+-- those of mappings
 pub top_time_fits : (graph : Graph) (image : List (List ℕ)) (b : ℕ) → top_time graph image b < 2 ^ 32
 unfolding top_time
 top_time_fits graph image b =
@@ -96,6 +96,7 @@ top_time_fits graph image b =
     (all_of (λ (e : Entry). AllByRecursion (λ (t : ℕ). t < 2 ^ 32) (mapping_times graph image e.value))
     (λ e. all_map (λ (m : Entry). mapped_time m.value) (λ (t : ℕ). t < 2 ^ 32) (λ m. omega arith) (mapping_entries graph image e.value)) (top_entries graph image b)))
 
+-- the times of details
 times_fit : (value : ℕ) → value < 256 ^ 24 → AllByRecursion (λ (t : ℕ). t < 2 ^ 32) (details_times value)
 times_fit value small = (omega arith, (omega arith, tt))
 

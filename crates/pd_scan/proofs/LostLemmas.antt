@@ -60,7 +60,7 @@ pub details_role : (roles : ℕ) (graph : Graph) → IsPool roles graph → IsTr
 unfolding thin_layout
 details_role roles graph is = pool_role roles 4 graph is refl (omega arith)
 
--- notes that were settled by a table are those by what a root must be
+-- notes that were settled by a table are settled by what a root must be
 module _ (graph : Graph) (image : List (List ℕ)) (role size : ℕ) (fit : ℕ → Bool) (notes : Notes) (lawful : IsLawful graph) (known : role < graph.roles)
     (told : (b : ℕ) → b < graph.nr → fit b ≡ is_fit_root graph image role b) where
   by_roots : (b : ℕ) → b < graph.nr → is_good_node graph image (is_fit_root graph image role) true (pair b role) ≡ is_sound_tree graph image role b
@@ -94,8 +94,8 @@ module _ (graph : Graph) (image : List (List ℕ)) (role size : ℕ) (fit : ℕ 
     below = λ b small sound. settled.below b small (by_roots b small ∙ sound);
   }
 
-  pub trees_of : IsTreeRole graph role size → size_of notes ≡ graph.nr → AreSettledIn graph image role fit notes → AreSettledTrees graph image role size notes
-  trees_of is number settled = record {
+  pub settled_trees : IsTreeRole graph role size → size_of notes ≡ graph.nr → AreSettledIn graph image role fit notes → AreSettledTrees graph image role size notes
+  settled_trees is number settled = record {
     trees = record { lawful = lawful; known = known; tree = is; number = number; sound = roots_fit; settled = settled_by_roots settled };
     roots = roots_by (settled_by_roots settled);
   }

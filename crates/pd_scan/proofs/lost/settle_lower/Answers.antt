@@ -1,7 +1,7 @@
 use Rattle.std.proofs.Common.{◌<◌, inl, inr, IfSome, refl, ◌∙◌, subst, arith}
 use Rattle.pd_graph.proofs.AnyLemmas.{if_both}
 use Rattle.pd_settle.specs.Settled.{is_fit, AreFit, AreSettledIn}
-use Rattle.pd_scan.proofs.LostLemmas.{pool_shares, devices_role, details_role, trees_of, judged_fit, judged_root}
+use Rattle.pd_scan.proofs.LostLemmas.{pool_shares, devices_role, details_role, settled_trees, judged_fit, judged_root}
 use Rattle.pd_scan.proofs.lost.settle_lower.Goals as goal
 
 pub judge_each-requires-clause-share : goal.judge_each-requires-clause-share
@@ -17,8 +17,9 @@ returns-clause-devices g c =
     let fit = c.judge_each.new.fit in
     if_both (g.D.Device.state c.args.dev.now).held
     (λ image judged more.
-    trees_of graph image 3 8 (is_fit fit 3) c.settle_role.new.notes lawful known (judged_root graph image fit judged g.F.Format.ROLES 3 c.requires.pool (inl refl))
-    (devices_role g.F.Format.ROLES graph c.requires.pool) (c.in_ok-settle_role.ensures.number ∙ c.requires.devices) (more (judged_fit graph image fit judged 3 (inl refl))))
+    settled_trees graph image 3 8 (is_fit fit 3) c.settle_role.new.notes lawful known (judged_root graph image fit judged g.F.Format.ROLES 3 c.requires.pool (inl refl))
+    (devices_role g.F.Format.ROLES graph c.requires.pool) (c.in_ok-settle_role.ensures.number ∙ c.requires.devices)
+    (more (judged_fit graph image fit judged 3 (inl refl))))
     c.in_ok-judge_each.ensures.judged
     (subst (λ o. IfSome o (λ image. AreFit graph image 3 (is_fit fit 3) → AreSettledIn graph image 3 (is_fit fit 3) c.settle_role.new.notes))
     c.in_ok-judge_each.ensures.kept.held c.in_ok-settle_role.ensures.settled)
@@ -33,8 +34,9 @@ returns-clause-details g c =
     let fit = c.judge_each.new.fit in
     if_both (g.D.Device.state c.args.dev.now).held
     (λ image judged more.
-    trees_of graph image 4 24 (is_fit fit 4) c.settle_role-2.new.notes lawful known (judged_root graph image fit judged g.F.Format.ROLES 4 c.requires.pool (inr refl))
-    (details_role g.F.Format.ROLES graph c.requires.pool) (c.in_ok-settle_role-2.ensures.number ∙ c.requires.details) (more (judged_fit graph image fit judged 4 (inr refl))))
+    settled_trees graph image 4 24 (is_fit fit 4) c.settle_role-2.new.notes lawful known (judged_root graph image fit judged g.F.Format.ROLES 4 c.requires.pool (inr refl))
+    (details_role g.F.Format.ROLES graph c.requires.pool) (c.in_ok-settle_role-2.ensures.number ∙ c.requires.details)
+    (more (judged_fit graph image fit judged 4 (inr refl))))
     c.in_ok-judge_each.ensures.judged
     (subst (λ o. IfSome o (λ image. AreFit graph image 4 (is_fit fit 4) → AreSettledIn graph image 4 (is_fit fit 4) c.settle_role-2.new.notes))
     (c.in_ok-settle_role.ensures.kept.held ∙ c.in_ok-judge_each.ensures.kept.held) c.in_ok-settle_role-2.ensures.settled)
