@@ -7,3 +7,5 @@ pub mod LostLemmas
 pub mod EntryLemmas
 pub mod BelowLemmas
 pub mod TreesLemmas
+pub mod GivenLemmas
+pub mod SavedLemmas

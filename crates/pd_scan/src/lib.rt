@@ -7,6 +7,7 @@ mod judging;
 mod laws;
 mod lost;
 mod roots;
+mod saved;
 mod tables;
 mod tops;
 mod trees;
@@ -17,4 +18,5 @@ pub use laws::{
 };
 pub use lost::settle_lost;
 pub use roots::{Roots, find_roots, lost_super};
+pub use saved::found_pools_are_saved_whole;
 pub use tops::leave_out_tops;

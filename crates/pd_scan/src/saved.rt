@@ -6,9 +6,13 @@ ghost use Rattle.pd_laid.specs.FoundRoots.{FoundRoots, are_fitting, found_pool, 
 ghost use Rattle.pd_laid.specs.Salvage.{salvage_from};
 ghost use Rattle.pd_scan.specs.Roots.{lost_fields};
 
+use pd_laws::thin_format_is_lawful;
+
 /// Of a pool whose trees fit each other all is saved: what a repair saves from their roots is what was found.
 pub fn found_pools_are_saved_whole()
     ensures { (image : List (List ℕ)) (data_blocks transaction block_size : ℕ) (roots : FoundRoots) → HasBytes image
         → let graph = lost_graph image data_blocks in are_fitting graph image roots.top roots.details ≡ true
         → salvage_from (lost_fields roots transaction block_size graph.nr data_blocks) image ≡ found_pool graph image transaction block_size roots }
-{}
+{
+    thin_format_is_lawful();
+}
