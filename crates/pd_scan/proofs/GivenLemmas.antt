@@ -7,16 +7,16 @@ use Rattle.pd_kinds.specs.declared.rule.Rule.TheVariants as r
 use Rattle.pd_kinds.specs.Rule.{all_rules}
 use Rattle.pd_kinds.specs.RuleSet.{Test}
 use Rattle.pd_kinds.specs.Checksum.{has_checksum}
-use Rattle.pd_kinds.specs.Edge.{Edge, is_outside, has_edge_outside}
+use Rattle.pd_kinds.specs.Edge.{Edge, is_outside}
 use Rattle.pd_kinds.specs.Node.{Entry, node_salt, node_keys, entry_count, key_at, value_at, child_at, is_inner_node}
 use Rattle.pd_kinds.specs.Graph.{Graph, block_at, pair, block_of, role_of, next, own_keys, is_inner_pair}
 use Rattle.pd_kinds.specs.Image.{HasBytes}
 use Rattle.pd_kinds.specs.Lawful.{IsLawful}
-use Rattle.pd_kinds.specs.Layout.{Layout, Tree, tree, graph_of, is_bad, layout_bad, is_tree_layout, tree_edges, tree_tests, tree_bad, node_entries_of, leaf_entries}
+use Rattle.pd_kinds.specs.Layout.{Layout, Tree, tree, graph_of, is_bad, is_tree_layout, tree_edges, tree_tests, tree_bad, node_entries_of, leaf_entries}
 use Rattle.pd_kinds.specs.Order.{children, has_chain, gathered, keys_below, are_children_in_range, is_in_range, is_deep}
 use Rattle.pd_kinds.specs.Trees.{entries_below}
 use Rattle.pd_kinds.proofs.FieldLemmas.{le-lt}
-use Rattle.pd_laws.proofs.AllLemmas.{all_from, all_from_two, all_map, all_of, none_passes}
+use Rattle.pd_laws.proofs.AllLemmas.{all_from, all_from_two, all_map, all_of}
 use Rattle.pd_laws.proofs.PathLemmas.{passes_below}
 use Rattle.pd_laws.proofs.SoundLemmas.{IsSound, none_broken, tests_after_one}
 use Rattle.pd_laid.specs.FoundRoots.{is_sound_pair}

@@ -1,5 +1,5 @@
 -- What a repair saves from roots that fit each other is what was found.
-use Rattle.std.proofs.Common.{◌≡◌, inl, inr, ℕ, ◌<◌, Bool, true, false, not, ◌&&◌, nat_eq, nat_lt, List, [], ◌∷◌, length, map, filter, Some, refl, ◌∙◌, ap, arith}
+use Rattle.std.proofs.Common.{◌≡◌, inl, inr, ℕ, ◌<◌, Bool, true, false, not, nat_eq, nat_lt, List, [], ◌∷◌, length, map, filter, Some, refl, ap, arith}
 use Rattle.std.specs.List.{AllByRecursion, list_any, list_all}
 use Rattle.std.specs.Str.{bytes_eq}
 use Rattle.std.proofs.lemmas.Slice.Eq.{bytes_eq-Decides}
@@ -9,7 +9,7 @@ use Rattle.pd_kinds.specs.Graph.{Graph, block_at, pair}
 use Rattle.pd_kinds.specs.Image.{HasBytes}
 use Rattle.pd_kinds.specs.Lawful.{IsLawful}
 use Rattle.pd_kinds.specs.Layout.{Tree, tree, tree_to, plain_tree, graph_of, leaf_entries}
-use Rattle.pd_kinds.specs.Meaning.{Mapping, ThinDevice, thin_device}
+use Rattle.pd_kinds.specs.Meaning.{ThinDevice, thin_device}
 use Rattle.pd_kinds.specs.Node.{Entry}
 use Rattle.pd_kinds.specs.ThinFormat.{thin_layout, mappings_tree, mapped_block, mapped_time}
 use Rattle.pd_kinds.specs.ThinSuper.{ThinFields}
