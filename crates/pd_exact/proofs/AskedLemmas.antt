@@ -1,13 +1,15 @@
 -- What the words of each tool ask.
-use Rattle.std.proofs.Common.{◌≡◌, ◌⊎◌, inl, inr, ℕ, ◌^◌, true, false, List, [], ◌∷◌, ◌++◌, Option, Some, None, IfSome, refl, sym}
-use Rattle.std.specs.Prelude.{codes}
+use Rattle.std.proofs.Common.{◌≡◌, ◌⊎◌, inl, inr, ℕ, ◌+◌, ◌^◌, ◌<◌, true, false, ◌&&◌, nat_lt, List, [], ◌∷◌, ◌++◌, Option, Some, None, IfSome, refl, sym, arith}
+use Rattle.std.specs.Prelude.{codes, decimal}
+use Rattle.std.specs.Str.Parse.{digits_value}
 use Rattle.std.specs.Str.{bytes_eq}
-use Rattle.std.proofs.lemmas.Bool.{cases_Bool}
+use Rattle.std.proofs.lemmas.Bool.{and_parts, cases_Bool, ltb-true}
 use Rattle.std.proofs.lemmas.Option.{same_Some}
 use Rattle.pd_kinds.specs.declared.kind.Kind.TheVariants.{Thin, Cache, Era}
 use Rattle.pd_kinds.specs.declared.kind.Stage.TheVariants.{Counts}
-use Rattle.pd_answers.specs.Requests.{check, dump, restore, repair, rmap, list_devices, since, generate, rehearse, writeback, is_built}
+use Rattle.pd_answers.specs.Requests.{check, dump, restore, repair, search, rmap, list_devices, since, generate, rehearse, writeback, is_built}
 use Rattle.pd_answers.specs.Words.{Region, is_flag, items_of, given, version_of, generated_number, number_below, region_of, tool_in, request_of, spelled, asked}
+use Rattle.pd_exact.specs.Search.{DoNumbersFit, NumberWords, SayNumbers, with_numbers}
 use Rattle.pd_exact.specs.Words.{IsName, to_file, in_version}
 
 pub thin_check_asked : (image : List ℕ) → IsName image → asked (codes "thin_check" ∷ image ∷ []) ≡ Some (check Thin Counts false image)
@@ -57,6 +59,35 @@ era_restore_asked file path is_file is_path = rw (is_file, is_path) refl
 pub thin_repair_asked : (from to : List ℕ) → IsName from → IsName to → asked (codes "thin_repair" ∷ codes "-i" ∷ from ∷ codes "-o" ∷ to ∷ []) ≡ Some (repair from to)
 unfolding is_built is_flag items_of given version_of tool_in request_of spelled asked
 thin_repair_asked from to is_from is_to = rw (is_from, is_to) refl
+
+pub thin_search_asked : (from to : List ℕ) (words : NumberWords) (transaction block_size blocks : ℕ) → IsName from → IsName to → SayNumbers words transaction block_size blocks
+    → asked (codes "thin_repair" ∷ codes "-i" ∷ from ∷ codes "-o" ∷ to ∷ with_numbers words) ≡ Some (search from to transaction block_size blocks)
+unfolding is_built is_flag items_of given version_of tool_in request_of spelled asked
+thin_search_asked from to words transaction block_size blocks is_from is_to say =
+    rw (is_from, is_to, say.names.0, say.names.1.0, say.names.1.1, say.transaction_is, say.block_size_is, say.blocks_is) refl
+
+-- the numbers that words say fit a superblock
+below_bound : (bound : ℕ) (word : List ℕ) (number : ℕ) → number_below bound word ≡ Some number → number < bound
+unfolding number_below
+below_bound bound word number is = elim (cases_Bool (nat_lt (digits_value 10 word) bound && bytes_eq word (decimal (digits_value 10 word)))) [
+  | inl small ↦
+      let same = same_Some (digits_value 10 word) number (rw small at is) in
+      let below = ltb-true (digits_value 10 word) bound (and_parts _ _ small).0 in
+      omega arith
+  | inr other ↦ absurd (nothing number (rw other at is))
+]
+  where
+    nothing : (number : ℕ) → (let none : Option ℕ = None in none ≡ Some number) → ⊥
+    nothing number is = cc
+
+pub said_numbers_fit : (words : NumberWords) (transaction block_size blocks : ℕ) → SayNumbers words transaction block_size blocks → DoNumbersFit transaction block_size blocks
+said_numbers_fit words transaction block_size blocks say =
+    let few = below_bound (2 ^ 40 + 1) words.blocks blocks say.blocks_is in
+    record {
+      transaction_fits = below_bound (2 ^ 64) words.transaction transaction say.transaction_is;
+      block_size_fits = below_bound (2 ^ 32) words.block_size block_size say.block_size_is;
+      blocks_fit = omega arith;
+    }
 
 pub cache_restore_asked : (word : Option (List ℕ)) (version : ℕ) (file path : List ℕ) → IfSome word IsName → version_of word ≡ Some version → IsName file → IsName path
     → asked (codes "cache_restore" ∷ (in_version word ++ (codes "-i" ∷ file ∷ codes "-o" ∷ path ∷ []))) ≡ Some (restore Cache version file path)

@@ -96,6 +96,10 @@ module _ (fields : ThinFields) (image : List (List ℕ)) (bytes : HasBytes image
         | inr inside ↦ rw inside (device_is least e (omega arith) are.1, devices_are (e.key + 1) (e.key + 1) es (omega arith) are.2)
       ]
 
+  pub devices_lawful : AreDevices fields.data_map.blocks 0 (salvage_from fields image).devices
+  unfolding salvage_from given
+  devices_lawful = devices_are 0 0 _ (omega arith) (give_ascends 8 fields.meta_map.blocks image 64 fields.mapping_root 0 (2 ^ 64))
+
 -- what is known of a superblock without faults
 record HasSoundSizes (image : List (List ℕ)) : Type 0 where
   pub some : 0 < length image
@@ -123,7 +127,7 @@ sizes_are image none = sizes_if_clean image (clean_super_where_none (thin_checke
 
 -- so what is saved is lawful
 pub salvage_lawful : (image : List (List ℕ)) → HasBytes image → All (λ block. length block ≡ 4096) image → faults Thin stages.Super image ≡ [] → IsLawfulPool (salvage image)
-unfolding salvage_from given
+unfolding salvage_from
 salvage_lawful image bytes whole none =
     let block = block_at image 0 in
     let fields = thin_fields block in
@@ -137,7 +141,5 @@ salvage_lawful image bytes whole none =
       transaction_fits = le-lt block 48 8 (bytes 0);
       block_size_fits = le-lt block 336 4 (bytes 0);
       data_blocks_fit = sizes.few_data;
-      devices =
-          devices_are fields image bytes sizes.few (le-lt block 48 8 (bytes 0)) 0 0 _ (omega arith)
-          (give_ascends 8 fields.meta_map.blocks image 64 fields.mapping_root 0 (2 ^ 64));
+      devices = devices_lawful fields image bytes sizes.few (le-lt block 48 8 (bytes 0));
     }

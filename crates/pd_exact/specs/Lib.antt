@@ -1,3 +1,4 @@
 pub mod Exact
 pub mod Words
 pub mod Writeback
+pub mod Search

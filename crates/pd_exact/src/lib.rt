@@ -6,6 +6,7 @@
 mod caches;
 mod laws;
 mod repairs;
+mod searches;
 mod targets;
 mod words;
 mod writebacks;
@@ -23,6 +24,9 @@ pub use repairs::{
     crashed_repair_leaves_no_other_pool, repaired_pool_is_clean,
     repaired_sound_pool_means_the_same, saved_pools_are_lawful,
 };
+pub use searches::{
+    crashed_search_leaves_no_other_pool, found_pools_are_lawful, searched_pool_is_clean,
+};
 pub use targets::{
     crashed_restore_leaves_no_other_target, restored_target_dump_means_the_same,
     restored_target_is_clean, sound_targets_are_lawful,
@@ -32,7 +36,8 @@ pub use words::{
     cache_writeback_leaves_nothing_dirty, era_check_tells_clean, era_dump_puts_the_text,
     era_invalidate_puts_the_written_blocks, era_restore_makes_the_target, thin_check_tells_clean,
     thin_check_tells_clean_and_clears, thin_dump_puts_the_text, thin_generate_puts_its_text,
-    thin_ls_puts_the_devices, thin_rehearse_makes_its_pool, thin_repair_makes_what_is_saved,
-    thin_restore_is_asked, thin_restore_makes_the_pool, thin_rmap_puts_the_mappings,
+    thin_ls_puts_the_devices, thin_rehearse_makes_its_pool, thin_repair_finds_the_roots,
+    thin_repair_makes_what_is_saved, thin_restore_is_asked, thin_restore_makes_the_pool,
+    thin_rmap_puts_the_mappings,
 };
 pub use writebacks::{stopped_writeback_keeps_the_view, written_back_cache_is_clean};

@@ -11,6 +11,7 @@ ghost use Rattle.pd_answers.specs.QueryLines.{list_lines, rmap_lines, since_line
 ghost use Rattle.pd_answers.specs.Requests.{restore};
 ghost use Rattle.pd_answers.specs.Words.{Region, asked, generated_number, is_value, number_below, region_of, version_of};
 ghost use Rattle.pd_exact.specs.Exact.{HoldsCacheOfText, HoldsCleared, HoldsPoolOfText, HoldsSalvage, HoldsTargetOfText};
+ghost use Rattle.pd_exact.specs.Search.{HasNoRoots, HoldsFoundPool, NumberWords, SayNumbers, with_numbers};
 ghost use Rattle.pd_exact.specs.Words.{CallEnds, HoldsGenerated, IsName, PutsGenerated, PutsOfInput, PutsTextOfInput, TellsWhetherClean, in_version, to_file};
 ghost use Rattle.pd_exact.specs.Writeback.{HoldsWrittenBack};
 
@@ -20,6 +21,7 @@ use crate::laws::{
     restored_pool_is_clean,
 };
 use crate::repairs::repaired_pool_is_clean;
+use crate::searches::searched_pool_is_clean;
 use crate::targets::{restored_target_is_clean, sound_targets_are_lawful};
 use crate::writebacks::written_back_cache_is_clean;
 use pd_laid_thin::laid_pool_is_clean;
@@ -117,6 +119,16 @@ pub fn thin_repair_makes_what_is_saved()
     ensures { (from to : List ℕ) (before after : Objects) → IsName from → IsName to → CallEnds (codes "thin_repair" ∷ codes "-i" ∷ from ∷ codes "-o" ∷ to ∷ []) 0 before after → HoldsSalvage before after }
 {
     repaired_pool_is_clean();
+}
+
+/// `thin_repair -i IMAGE -o IMAGE --transaction-id TRANSACTION --data-block-size SIZE --nr-data-blocks BLOCKS`: status 0 says that
+/// the output is clean and means the pool of the input's best roots, whatever its block 0 holds, with nothing unsynced, and that
+/// these roots were put; status 1 says that no two trees of the input fit each other.
+pub fn thin_repair_finds_the_roots()
+    ensures found { (from to : List ℕ) (words : NumberWords) (transaction block_size blocks : ℕ) (before after : Objects) → IsName from → IsName to → SayNumbers words transaction block_size blocks → CallEnds (codes "thin_repair" ∷ codes "-i" ∷ from ∷ codes "-o" ∷ to ∷ with_numbers words) 0 before after → HoldsFoundPool transaction block_size blocks before after }
+    ensures none { (from to : List ℕ) (words : NumberWords) (transaction block_size blocks : ℕ) (before after : Objects) → IsName from → IsName to → SayNumbers words transaction block_size blocks → CallEnds (codes "thin_repair" ∷ codes "-i" ∷ from ∷ codes "-o" ∷ to ∷ with_numbers words) 1 before after → HasNoRoots blocks before after }
+{
+    searched_pool_is_clean();
 }
 
 /// `thin_rmap --region FIRST..END IMAGE`, to a file or not: status 0 says that the image has no faults up to the stage Whole,

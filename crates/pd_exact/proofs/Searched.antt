@@ -1,0 +1,115 @@
+-- What an answered search comes to, where a found pool is lawful and what is laid of a lawful pool is clean.
+use Rattle.std.proofs.Common.{◌≡◌, inl, inr, ⊎_elim, ℕ, ◌≤◌, List, length, Option, Some, None, IfSome, refl, sym, subst, arith}
+use Rattle.std.proofs.lemmas.Bool.{cases_Bool, ltb-false}
+use Rattle.std.proofs.lemmas.Option.{IfSome_then}
+use Rattle.pd_kinds.specs.Crash.{HoldsSynced, IsOldNoneOrMade, LeavesOnly}
+use Rattle.pd_kinds.specs.Image.{IsImage}
+use Rattle.pd_kinds.specs.Limits.{room_of}
+use Rattle.pd_kinds.specs.Meaning.{ThinPool}
+use Rattle.pd_kinds.specs.Objects.{Appends}
+use Rattle.pd_kinds.proofs.CrashLemmas.{weaken}
+use Rattle.pd_laid.specs.FoundRoots.{AreBest, FoundRoots, IsFound, found_pool, lost_graph}
+use Rattle.pd_laid.specs.Laid.{IsLaid}
+use Rattle.pd_laid.specs.LaidThin.{laid_pool}
+use Rattle.pd_laid_thin.specs.CleanPool.{IsCleanPool}
+use Rattle.pd_spells.specs.Lawful.{IsLawfulPool}
+use Rattle.pd_spells.specs.ThinNeed.{thin_need}
+use Rattle.pd_answers.specs.Answer.{Objects}
+use Rattle.pd_answers.specs.Repairs.{LaysPool, Searched, is_too_small, search_answer, searched_answer}
+use Rattle.pd_answers.specs.SearchLines.{roots_line}
+use Rattle.pd_exact.specs.Search.{HasNoRoots, HoldsFoundPool, IsOfBestRoots, IsSearchAnswered, LeavesFoundPool}
+use Rattle.pd_exact.proofs.Restored.{Image, both_told}
+
+-- at the answer's status 0 there are roots, whose line it has, and there is room
+record AreAnswered (found : Option FoundRoots) (pool : ThinPool) (room : ℕ) : Type 0 where
+  roots : FoundRoots
+  same : found ≡ Some roots
+  line : (search_answer found pool room).out ≡ roots_line roots
+  enough : thin_need pool room ≤ room
+
+answered_at_zero : (found : Option FoundRoots) (pool : ThinPool) (room : ℕ) → (search_answer found pool room).status ≡ 0 → AreAnswered found pool room
+answered_at_zero None pool room given = absurd (omega (arith, given))
+answered_at_zero (Some roots) pool room given = elim (cases_Bool (is_too_small pool room)) [
+  | inl small ↦ absurd (four_zero (rw small at given))
+  | inr enough ↦ record { roots = roots; same = refl; line = rw enough refl; enough = ltb-false room (thin_need pool room) enough }
+]
+  where
+    four_zero : (let four : ℕ = 4 in four ≡ 0) → ⊥
+    four_zero e = omega arith
+
+-- at its status 1 there are none
+none_at_one : (found : Option FoundRoots) (pool : ThinPool) (room : ℕ) → (search_answer found pool room).status ≡ 1 → found ≡ None
+none_at_one None pool room given = refl
+none_at_one (Some roots) pool room given = elim (cases_Bool (is_too_small pool room)) [
+  | inl small ↦ absurd (four_one (rw small at given))
+  | inr enough ↦ absurd (zero_one (rw enough at given))
+]
+  where
+    four_one : (let four : ℕ = 4 in four ≡ 1) → ⊥
+    four_one e = omega arith
+
+    zero_one : (let zero : ℕ = 0 in zero ≡ 1) → ⊥
+    zero_one e = omega arith
+
+-- what was found in an image
+abbrev IsRight : ℕ → ℕ → ℕ → Option FoundRoots → ThinPool → Image → Type 0
+IsRight transaction block_size blocks found pool image = IsFound (lost_graph image blocks) image found
+    × IfSome found (λ roots. pool ≡ found_pool (lost_graph image blocks) image transaction block_size roots)
+
+module _ (transaction block_size blocks : ℕ)
+    (lawful : (image : Image) (roots : FoundRoots) → IsImage image → AreBest (lost_graph image blocks) image roots
+    → IsLawfulPool (found_pool (lost_graph image blocks) image transaction block_size roots))
+    (clean : (m : ThinPool) (base image : Image) → IsLawfulPool m → thin_need m (room_of (length base)) ≤ room_of (length base)
+    → IsLaid (laid_pool m (room_of (length base))) base image → IsCleanPool image m) where
+  -- what is laid of what was found is a clean image of it
+  of_roots : (image base made : Image) (searched : Searched) (are : AreAnswered searched.roots searched.pool searched.room) → IsImage image
+      → IsRight transaction block_size blocks searched.roots searched.pool image → searched.room ≡ room_of (length base)
+      → LaysPool (searched_answer searched) searched.pool searched.room base made → IsOfBestRoots transaction block_size blocks image made
+  of_roots image base made searched are is right room laid =
+      let told = rw are.same at right in
+      record {
+        roots = are.roots;
+        best = told.0;
+        pool = clean _ base made (lawful image are.roots is told.0) (rw (told.1, room) at are.enough) (rw (told.1, room) at laid.1);
+      }
+
+  module _ (from to : List ℕ) (before after : Objects) where
+    -- what the output holds at status 0
+    pub holds_found : IsSearchAnswered from to transaction block_size blocks before after 0 → HoldsFoundPool transaction block_size blocks before after
+    unfolding of_roots
+    holds_found answered =
+        let searched = answered.finding in
+        let given = answered.sound (omega arith) in
+        let are = answered_at_zero searched.roots searched.pool searched.room (sym given.status) in
+        IfSome_then before.input.held answered.found.1 (λ image right is.
+        IfSome_then before.output.held (both_told before.output.held (λ (base : Image). searched.room ≡ room_of (length base))
+        (λ (base : Image). IfSome after.output.held (λ (made : Image). LaysPool (searched_answer searched) searched.pool searched.room base made × HoldsSynced made after.output))
+        answered.found.0.told (answered.leaves.output.output.made refl)) (λ base told.
+        IfSome_then after.output.held told.1 (λ made held. record {
+          found = of_roots image base made searched are is right told.0 held.0;
+          synced = held.1;
+          line = subst (λ (bytes : List ℕ). Appends bytes before.out.written after.out.written) are.line given.out;
+        })))
+
+    -- what a crash leaves
+    pub leaves_found : (status : ℕ) → IsSearchAnswered from to transaction block_size blocks before after status → LeavesFoundPool transaction block_size blocks before after
+    leaves_found status answered =
+        let searched = answered.finding in
+        IfSome_then before.input.held answered.found.1 (λ image right is.
+        IfSome_then before.output.held (both_told before.output.held (λ (base : Image). searched.room ≡ room_of (length base))
+        (λ (base : Image). LeavesOnly (IsOldNoneOrMade base (LaysPool (searched_answer searched) searched.pool searched.room base)) before.output after.output)
+        answered.found.0.told answered.leaves.output.output.crash) (λ base told.
+        weaken told.1 (λ left firsts outcome chance.
+        ⊎_elim (λ old. inl old)
+        (λ other. inr (⊎_elim (λ none. inl none)
+        (λ laid. inr (of_roots image base left searched (answered_at_zero searched.roots searched.pool searched.room laid.0) is right told.0 laid)) other)) (outcome chance))))
+
+-- and what status 1 says
+pub says_none : (from to : List ℕ) (transaction block_size blocks : ℕ) (before after : Objects)
+    → IsSearchAnswered from to transaction block_size blocks before after 1 → HasNoRoots blocks before after
+says_none from to transaction block_size blocks before after answered =
+    let searched = answered.finding in
+    let none = none_at_one searched.roots searched.pool searched.room (sym (answered.sound (omega arith)).status) in (
+      IfSome_then before.input.held answered.found.1 (λ image right. (rw none at right).0),
+      answered.leaves.output.untouched (rw none refl),
+    )

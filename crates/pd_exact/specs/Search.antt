@@ -1,0 +1,70 @@
+-- What a search for the roots of a pool leaves, where the objects tell what they hold.
+use Rattle.std.specs.Prelude.{◌≡◌, ℕ, ◌+◌, ◌<◌, ◌≤◌, ◌^◌, false, List, [], ◌∷◌, Some, IfSome, codes}
+use Rattle.pd_kinds.specs.Crash.{HoldsSynced, IsOldNoneOrMade, IsUntouched, LeavesOnly}
+use Rattle.pd_kinds.specs.Image.{IsImage}
+use Rattle.pd_kinds.specs.Objects.{Appends}
+use Rattle.pd_laid.specs.FoundRoots.{FoundRoots, AreBest, are_fitting, found_pool, lost_graph}
+use Rattle.pd_laid_thin.specs.CleanPool.{IsCleanPool}
+use Rattle.pd_answers.specs.Answer.{Objects}
+use Rattle.pd_answers.specs.Promises.{terms_of}
+use Rattle.pd_answers.specs.Requests.{search}
+use Rattle.pd_answers.specs.SearchLines.{roots_line}
+use Rattle.pd_answers.specs.Terms.{IsAnswered}
+use Rattle.pd_answers.specs.Words.{number_below}
+use Rattle.pd_exact.specs.Words.{IsName}
+
+-- the numbers that are given in place of a superblock's fit its fields
+pub record DoNumbersFit (transaction block_size blocks : ℕ) : Type 0 where
+  pub transaction_fits : transaction < 2 ^ 64
+  pub block_size_fits : block_size < 2 ^ 32
+  pub blocks_fit : blocks ≤ 2 ^ 40
+
+-- a search in one image for a pool with these numbers, which is laid onto another, was asked, and was answered with this status
+abbrev pub IsSearchAnswered : List ℕ → List ℕ → ℕ → ℕ → ℕ → Objects → Objects → ℕ → Type 0
+IsSearchAnswered from to transaction block_size blocks = IsAnswered (terms_of (Some (search from to transaction block_size blocks)))
+
+-- the second image is clean, and means the pool of the best roots of the first one
+pub record IsOfBestRoots (transaction block_size blocks : ℕ) (image made : List (List ℕ)) : Type 0 where
+  pub roots : FoundRoots
+  pub best : AreBest (lost_graph image blocks) image roots
+  pub pool : IsCleanPool made (found_pool (lost_graph image blocks) image transaction block_size roots)
+
+-- the output holds such an image, nothing of it is unsynced, and the line of its roots was put to `out`
+pub record HoldsOfRoots (transaction block_size blocks : ℕ) (image made : List (List ℕ)) (before after : Objects) : Type 0 where
+  pub found : IsOfBestRoots transaction block_size blocks image made
+  pub synced : HoldsSynced made after.output
+  pub line : Appends (roots_line found.roots) before.out.written after.out.written
+
+abbrev pub HoldsFoundPool : ℕ → ℕ → ℕ → Objects → Objects → Type 0
+HoldsFoundPool transaction block_size blocks before after =
+    IfSome before.input.held (λ image. IsImage image → IfSome before.output.held (λ base.
+    IfSome after.output.held (λ made. HoldsOfRoots transaction block_size blocks image made before after)))
+
+-- a crash at any moment leaves, by no chance, the old image, no valid superblock, or such an image
+abbrev pub LeavesFoundPool : ℕ → ℕ → ℕ → Objects → Objects → Type 0
+LeavesFoundPool transaction block_size blocks before after =
+    IfSome before.input.held (λ image. IsImage image → IfSome before.output.held (λ base.
+    LeavesOnly (IsOldNoneOrMade base (IsOfBestRoots transaction block_size blocks image)) before.output after.output))
+
+-- no two trees of the input fit each other, and the output wasn't written
+abbrev pub HasNoRoots : ℕ → Objects → Objects → Type 0
+HasNoRoots blocks before after =
+    IfSome before.input.held (λ image. (top details : ℕ) → are_fitting (lost_graph image blocks) image top details ≡ false) × IsUntouched before.output after.output
+
+-- the words of the three numbers, each the value of its option
+pub record NumberWords : Type 0 where
+  pub transaction : List ℕ
+  pub block_size : List ℕ
+  pub blocks : List ℕ
+
+-- they are these numbers in decimal
+pub record SayNumbers (words : NumberWords) (transaction block_size blocks : ℕ) : Type 0 where
+  pub names : IsName words.transaction × (IsName words.block_size × IsName words.blocks)
+  pub transaction_is : number_below (2 ^ 64) words.transaction ≡ Some transaction
+  pub block_size_is : number_below (2 ^ 32) words.block_size ≡ Some block_size
+  pub blocks_is : number_below (2 ^ 40 + 1) words.blocks ≡ Some blocks
+
+-- `--transaction-id TRANSACTION --data-block-size SIZE --nr-data-blocks BLOCKS`
+abbrev pub with_numbers : NumberWords → List (List ℕ)
+with_numbers words =
+    codes "--transaction-id" ∷ words.transaction ∷ codes "--data-block-size" ∷ words.block_size ∷ codes "--nr-data-blocks" ∷ words.blocks ∷ []

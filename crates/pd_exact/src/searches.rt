@@ -1,0 +1,43 @@
+//! What a search for the roots of a pool finds and leaves: the laws of a repair without a superblock.
+
+ghost use Rattle.std.specs.Prelude.{ℕ, List};
+ghost use Rattle.pd_kinds.specs.Image.{IsImage};
+ghost use Rattle.pd_laid.specs.FoundRoots.{AreBest, FoundRoots, found_pool, lost_graph};
+ghost use Rattle.pd_spells.specs.Lawful.{IsLawfulPool};
+ghost use Rattle.pd_answers.specs.Answer.{Objects};
+ghost use Rattle.pd_exact.specs.Search.{DoNumbersFit, HasNoRoots, HoldsFoundPool, IsSearchAnswered, LeavesFoundPool};
+
+use pd_laid_thin::laid_pool_is_clean;
+use pd_scan::found_pools_are_saved_whole;
+
+/// The pool of the best roots is lawful, whatever else is damaged, where the given numbers fit a superblock: a text spells it.
+pub fn found_pools_are_lawful()
+    ensures { (image : List (List ℕ)) (transaction block_size blocks : ℕ) (roots : FoundRoots) → IsImage image
+        → DoNumbersFit transaction block_size blocks → AreBest (lost_graph image blocks) image roots
+        → IsLawfulPool (found_pool (lost_graph image blocks) image transaction block_size roots) }
+{
+    found_pools_are_saved_whole();
+}
+
+/// At status 0 the output holds, with nothing unsynced, an image that is clean and means the pool of the input's best roots,
+/// and these are the roots that were put to `out`. At status 1 no two trees of the input fit each other, and the output
+/// wasn't written.
+pub fn searched_pool_is_clean()
+    ensures found { (from to : List ℕ) (transaction block_size blocks : ℕ) (before after : Objects) → DoNumbersFit transaction block_size blocks
+        → IsSearchAnswered from to transaction block_size blocks before after 0 → HoldsFoundPool transaction block_size blocks before after }
+    ensures none { (from to : List ℕ) (transaction block_size blocks : ℕ) (before after : Objects)
+        → IsSearchAnswered from to transaction block_size blocks before after 1 → HasNoRoots blocks before after }
+{
+    found_pools_are_lawful();
+    laid_pool_is_clean();
+}
+
+/// Under every status a crash at any moment of the call leaves, by no chance, the old image, no valid superblock, or an image
+/// that is clean and means the pool of the input's best roots.
+pub fn crashed_search_leaves_no_other_pool()
+    ensures { (from to : List ℕ) (transaction block_size blocks : ℕ) (before after : Objects) (status : ℕ) → DoNumbersFit transaction block_size blocks
+        → IsSearchAnswered from to transaction block_size blocks before after status → LeavesFoundPool transaction block_size blocks before after }
+{
+    found_pools_are_lawful();
+    laid_pool_is_clean();
+}
