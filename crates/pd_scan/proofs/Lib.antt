@@ -9,3 +9,8 @@ pub mod BelowLemmas
 pub mod TreesLemmas
 pub mod GivenLemmas
 pub mod SavedLemmas
+pub mod PartnerLemmas
+pub mod OrderLemmas
+pub mod PairLemmas
+pub mod FitLemmas
+pub mod RootLemmas

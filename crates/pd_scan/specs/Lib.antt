@@ -4,3 +4,5 @@ pub mod Lost
 pub mod Tables
 pub mod Trees
 pub mod Roots
+pub mod Partners
+pub mod Pairs

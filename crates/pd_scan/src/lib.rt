@@ -3,9 +3,12 @@
 #![tactic(auto)]
 
 mod choosing;
+mod fitting;
 mod judging;
 mod laws;
 mod lost;
+mod pairs;
+mod partners;
 mod roots;
 mod saved;
 mod tables;

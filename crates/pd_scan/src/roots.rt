@@ -1,14 +1,21 @@
 //! The best roots of a pool without its superblock.
 
 ghost use Rattle.pd_kinds.specs.declared.limits.TheConstants.{MAX_META_BLOCKS};
-ghost use Rattle.std.specs.Prelude.{◌≡◌, ℕ, min, IfOk, IfSome};
+ghost use Rattle.std.specs.Prelude.{◌≡◌, ℕ, ◌≤◌, min, IfOk, IfSome};
 ghost use Rattle.pd_kinds.specs.CheckFault.{CountsCheckFault};
+ghost use Rattle.pd_kinds.specs.Layout.{graph_of};
+ghost use Rattle.pd_kinds.specs.ThinFormat.{thin_layout};
 ghost use Rattle.pd_image.specs.Device.{IsAttached, OnlyReads};
 ghost use Rattle.pd_laid.specs.FoundRoots.{IsFound, lost_graph};
+ghost use Rattle.pd_scan.specs.Lost.{IsPool};
 ghost use Rattle.pd_scan.specs.Roots.{AreInside, found_of, lost_fields, roots_of};
 
+use crate::choosing::choose;
+use crate::trees::measure_lost;
+use pd_graph::Format;
 use pd_image::Device;
-use pd_kinds::{CheckFault, SmRoot, ThinSuper};
+use pd_kinds::{CheckFault, MAX_META_BLOCKS, SmRoot, ThinSuper};
+use pd_thin::ThinFormat;
 use std::alloc::Global;
 
 /// The roots of a mapping tree and of a details tree that fit each other, and what stands below them.
@@ -22,6 +29,30 @@ pub struct Roots {
     pub mappings: u64,
     /// The latest time of a mapping, and at which a device was made or last shared.
     pub time: u32,
+}
+
+impl Roots {
+    ghost use Rattle.std.specs.Prelude.{◌≡◌};
+    ghost use Rattle.pd_laid.specs.FoundRoots.{is_better};
+    ghost use Rattle.pd_scan.specs.Roots.{roots_of};
+
+    /// Whether these roots are better than others: there are more mappings, or as many and the latest time is later. Of
+    /// the same time the lower first root is better, and then the lower second one.
+    #[tactic(auto, unfolding(pd_laid::specs::FoundRoots::is_better), using(std::proofs::lemmas::Bool::Decides::nat_tests))]
+    pub(crate) fn is_better(&self, other: &Roots) -> bool
+        ensures { result ≡ is_better (roots_of self.now) (roots_of other.now) }
+    {
+        if self.mappings != other.mappings {
+            return self.mappings > other.mappings;
+        }
+        if self.time != other.time {
+            return self.time > other.time;
+        }
+        if self.top != other.top {
+            return self.top < other.top;
+        }
+        self.details < other.details
+    }
 }
 
 /// A space map of so many blocks, of which nothing else is known.
@@ -67,6 +98,42 @@ pub fn lost_super(
     }
 }
 
+/// The format of a pool with so many metadata blocks, from 1 to `MAX_META_BLOCKS`, and data blocks. It depends on no root.
+fn lost_format(nr: u64, data_blocks: u64) -> ThinFormat
+    requires some { 1 ≤ nr }
+    requires few { nr ≤ MAX_META_BLOCKS }
+    ensures { ⟦<ThinFormat as Format>⟧.graph result ≡ graph_of 11 nr data_blocks (thin_layout nr data_blocks) }
+{
+    let none = Roots {
+        top: 0,
+        details: 0,
+        mappings: 0,
+        time: 0,
+    };
+    ThinFormat::of(&lost_super(&none, 0, 0, nr, data_blocks))
+}
+
+/// Finds the best roots of a pool of this format.
+///
+/// Fails with `CheckFault::Memory` where memory wasn't found, and with `CheckFault::Device` where a read failed.
+fn find_roots_in<F: Format, D: Device>(
+    alloc: Global,
+    format: &F,
+    dev: &mut D,
+) -> Result<Option<Roots>, CheckFault>
+    requires pool { IsPool F.ROLES (F.graph format.now) }
+    requires attached { IsAttached (D.state dev.old) }
+    requires within { (F.graph format.now).nr ≤ (D.state dev.old).blocks }
+    ensures found { IfOk result (λ found. IfSome (D.state dev.old).held (λ image. (data_blocks : ℕ) → F.graph format.now ≡ lost_graph image data_blocks
+        → IsFound (lost_graph image data_blocks) image (found_of found))) }
+    ensures inside { IfOk result (λ found. IfSome found (AreInside (F.graph format.now).nr)) }
+    ensures kept { OnlyReads (D.state dev.old) (D.state dev.new) }
+    ensures faults { CountsCheckFault result (D.state dev.old).faults (D.state dev.new).faults }
+{
+    let trees = measure_lost(alloc, format, dev)?;
+    choose(alloc, &trees, dev)
+}
+
 /// Finds the best roots of a pool with so many data blocks, whatever its block 0 holds: of all mapping trees and details
 /// trees on the device that are sound and fit each other, those with the most mappings; of as many, those with the latest
 /// time; of the same time, those whose mapping tree, and then whose details tree, has the lowest block. `None` says that no
@@ -87,5 +154,9 @@ pub fn find_roots<D: Device>(
     ensures kept { OnlyReads (D.state dev.old) (D.state dev.new) }
     ensures faults { CountsCheckFault result (D.state dev.old).faults (D.state dev.new).faults }
 {
-    Err(CheckFault::Memory)
+    let nr = dev.blocks().min(MAX_META_BLOCKS);
+    if nr == 0 {
+        return Ok(None);
+    }
+    find_roots_in(alloc, &lost_format(nr, data_blocks), dev)
 }

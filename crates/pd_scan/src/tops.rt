@@ -14,7 +14,7 @@ use pd_image::{Device, Failed};
 use pd_kinds::Block;
 
 /// Whether there is block b, and it was noted as good.
-fn is_good(notes: &Notes, b: u64) -> bool
+pub(crate) fn is_good(notes: &Notes, b: u64) -> bool
     ensures { result ≡ is_noted_good notes.now b }
 {
     if b < notes.nr() {

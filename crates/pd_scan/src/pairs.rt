@@ -1,0 +1,84 @@
+//! Pairs of a mapping tree and a details tree, by what is measured of them, and the best of those that may fit each other.
+
+ghost use Rattle.std.specs.Prelude.{◌≡◌, ◌<◌};
+ghost use Rattle.pd_graph.specs.Notes.{size_of};
+ghost use Rattle.pd_scan.specs.Pairs.{IsBestOf, better_of, improves as does_improve, may_fit as do_match, pair_of};
+ghost use Rattle.pd_scan.specs.Partners.{AreBySum};
+ghost use Rattle.pd_scan.specs.Roots.{found_of, roots_of};
+
+use crate::partners::{BySum, sum, time};
+use crate::roots::Roots;
+use crate::tops::is_good;
+use crate::trees::LostTrees;
+
+/// Whether two trees may fit each other: both are sound, and what is measured of them has one sum.
+#[tactic(auto, unfolding(crate::specs::Pairs::may_fit, crate::specs::Partners::is_partner))]
+pub(crate) fn may_fit(trees: &LostTrees, top: u64, details: u64) -> bool
+    ensures { result ≡ do_match trees.now top details }
+{
+    let asked = sum(trees.top_measures.get(top));
+    let same = sum(trees.details_measures.get(details)) == asked;
+    is_good(&trees.tops, top) & (is_good(&trees.details, details) & same)
+}
+
+/// The roots of two trees that fit each other, by what is measured of them.
+#[tactic(auto, unfolding(crate::specs::Pairs::pair_of))]
+pub(crate) fn pair(trees: &LostTrees, top: u64, details: u64) -> Roots
+    ensures { roots_of result ≡ pair_of trees.now top details }
+{
+    let devices = trees.top_measures.get(top);
+    let last = time(trees.details_measures.get(details));
+    Roots {
+        top,
+        details,
+        mappings: devices.total,
+        time: time(devices).max(last),
+    }
+}
+
+/// Whether roots are better than the best ones so far, if there are any.
+pub(crate) fn improves(roots: &Roots, best: Option<Roots>) -> bool
+    ensures { result ≡ does_improve (roots_of roots.now) (found_of best) }
+{
+    match best {
+        None => true,
+        Some(best) => roots.is_better(&best),
+    }
+}
+
+/// The better ones of the best so far and others, where there are some.
+fn better(best: Option<Roots>, roots: Option<Roots>) -> Option<Roots>
+    ensures { found_of result ≡ better_of (found_of best) (found_of roots) }
+{
+    match roots {
+        Some(roots) if improves(&roots, best) => Some(roots),
+        _ => best,
+    }
+}
+
+/// The best roots of those whose mapping tree is this one, by the partners of each sum.
+fn best_of_top(trees: &LostTrees, by_sum: &BySum, top: u64) -> Option<Roots>
+    requires { AreBySum trees.now.details trees.now.details_measures (size_of trees.now.details) by_sum.now }
+    ensures { IsBestOf (do_match trees.now) (pair_of trees.now) (λ t d. t ≡ top) (found_of result) }
+{
+    if !is_good(&trees.tops, top) {
+        return None;
+    }
+    let measure = trees.top_measures.get(top);
+    match by_sum.get(&sum(measure)) {
+        Some(partners) => Some(pair(trees, top, partners.best(time(measure)))),
+        None => None,
+    }
+}
+
+/// The best roots of all trees that may fit each other, by the partners of each sum.
+pub(crate) fn best_of_tops(trees: &LostTrees, by_sum: &BySum) -> Option<Roots>
+    requires { AreBySum trees.now.details trees.now.details_measures (size_of trees.now.details) by_sum.now }
+    ensures { IsBestOf (do_match trees.now) (pair_of trees.now) (λ t d. t < size_of trees.now.tops) (found_of result) }
+{
+    let mut best = None;
+    for top in 0..trees.tops.nr() {
+        best = better(best, best_of_top(trees, by_sum, top));
+    }
+    best
+}
