@@ -1,5 +1,5 @@
 -- What a request that was read means.
-use Rattle.std.specs.Prelude.{◌≡◌, ◌⊎◌, ℕ, ◌<◌, ◌≤◌, Bool, List, Option, Some, None, IfSome, Result, Ok, Err}
+use Rattle.std.specs.Prelude.{◌≡◌, ◌⊎◌, ℕ, ◌^◌, ◌<◌, ◌≤◌, Bool, List, Option, Some, None, IfSome, Result, Ok, Err}
 use Rattle.std.specs.Option.{option_map}
 use Rattle.pd_kinds.specs.declared.kind.Kind.{Kind}
 use Rattle.pd_words.specs.declared.request.Name.{Name}
@@ -68,13 +68,17 @@ IsGenerated number = number ≤ 10000
 abbrev pub IsVersion : ℕ → Type 0
 IsVersion version = (version ≡ 1) ⊎ (version ≡ 2)
 
--- each name of a request is, its version is one, and so is the generator's number
+-- a number of data blocks of a pool
+abbrev pub IsPoolSize : ℕ → Type 0
+IsPoolSize blocks = blocks ≤ 2 ^ 40
+
+-- each name of a request is, its version is one, and so are the generator's number and that of a pool's data blocks
 abbrev pub AreNames : ℕ → Request → Type 0
 AreNames number (Check kind until clear image) = IsName number image
 AreNames number (Dump kind image out shared) = IsName number image × IsNameIfAny number out
 AreNames number (Restore kind text image version) = IsName number text × IsName number image × IsVersion version
 AreNames number (Repair input output) = IsName number input × IsName number output
-AreNames number (Search input output transaction block_size blocks) = IsName number input × IsName number output
+AreNames number (Search input output transaction block_size blocks) = IsName number input × IsName number output × IsPoolSize blocks
 AreNames number (Rmap first end image out) = IsName number image × IsNameIfAny number out
 AreNames number (ListDevices image out) = IsName number image × IsNameIfAny number out
 AreNames number (Since era image out) = IsName number image × IsNameIfAny number out
