@@ -7,5 +7,6 @@ pub mod Queries
 pub mod Restores
 pub mod Generates
 pub mod Rehearses
+pub mod Laying
 pub mod Repairs
 pub mod Writebacks

@@ -1,8 +1,8 @@
 -- What the work of a repair comes to, over plain variables.
-use Rattle.std.proofs.Common.{◌≡◌, ◌≢◌, ◌⊎◌, inl, inr, ℕ, ◌≤◌, ◌<◌, true, false, not, nat_eq, IsTrue, List, [], ◌∷◌, length, Option, Some, None, IfSome, Result, Ok, Err, refl, sym, ap, ◌∙◌, subst, arith, lit≤}
-use Rattle.std.specs.Prelude.{IfErr, IsSome, MatchResult}
+use Rattle.std.proofs.Common.{◌≡◌, ◌≢◌, inl, inr, ℕ, ◌≤◌, ◌<◌, false, not, nat_eq, IsTrue, List, [], ◌∷◌, length, Option, Some, None, IfSome, Result, Ok, Err, refl, sym, ap, ◌∙◌, subst, arith, lit≤}
+use Rattle.std.specs.Prelude.{IfErr, MatchResult}
 use Rattle.std.specs.Option.{option_map_or}
-use Rattle.std.proofs.lemmas.Bool.{cases_lt, lt-ltb, le-ltb}
+use Rattle.std.proofs.lemmas.Bool.{lt-ltb, le-ltb}
 use Rattle.std.proofs.lemmas.Option.{IfSome_then}
 use Rattle.std.proofs.Math.Dec.{eqb-suc-zero}
 use Rattle.pd_kinds.specs.declared.fault.Fault.{Fault}
@@ -11,7 +11,7 @@ use Rattle.pd_kinds.specs.declared.kind.Stage.TheVariants.{Super}
 use Rattle.pd_kinds.specs.declared.rule.Rule.{Rule}
 use Rattle.pd_kinds.specs.declared.rules.Rules.{Rules}
 use Rattle.pd_kinds.specs.Objects.{DeviceState, SinkState, Rose}
-use Rattle.pd_kinds.specs.Crash.{HasNoSuper, HoldsOldOrNone, HoldsSynced, IsSynced, IsUntouched}
+use Rattle.pd_kinds.specs.Crash.{HoldsOldOrNone, IsSynced, IsUntouched}
 use Rattle.pd_kinds.specs.Faults.{faults_at}
 use Rattle.pd_kinds.specs.Limits.{room_of}
 use Rattle.pd_kinds.specs.Meaning.{ThinPool}
@@ -19,12 +19,9 @@ use Rattle.pd_kinds.specs.Report.{Reported, report_of}
 use Rattle.pd_kinds.specs.RuleSet.{has_rule}
 use Rattle.pd_kinds.specs.Stages.{faults}
 use Rattle.pd_kinds.proofs.AppendLemmas.{appends_none, front_none}
-use Rattle.pd_kinds.proofs.CrashLemmas.{and_then, stays, weaken}
 use Rattle.pd_laws.proofs.CleanLemmas.{no_rule_broken}
 use Rattle.pd_spells.specs.Lines.{no_room_line, reported_lines}
 use Rattle.pd_spells.specs.ThinNeed.{thin_need}
-use Rattle.pd_laid.specs.Laid.{IsLaid}
-use Rattle.pd_laid.specs.LaidThin.{laid_pool}
 use Rattle.pd_laid.specs.Salvage.{salvage}
 use Rattle.pd_image.specs.Device.{KeepsPlace, OnlyReads}
 use Rattle.pd_answers.specs.Answer.{Answer, Objects}
@@ -34,7 +31,7 @@ use Rattle.pd_repair.specs.declared.fault.RepairFault.{RepairFault}
 use Rattle.pd_repair.specs.declared.fault.RepairFault.TheVariants as fault
 use Rattle.pd_repair.specs.Faults.{output_ending}
 use Rattle.pd_repair.specs.Repaired.{AnswersSuper, CountsRepair, IsRepaired, NamesRules}
-use Rattle.pd_restore.specs.Made.{AnswersMade, Ending, IsDone, IsEarly, IsOfOthers, MakesPool}
+use Rattle.pd_restore.specs.Made.{AnswersMade, Ending, IsEarly, IsOfOthers}
 use Rattle.pd_tools.specs.declared.stop.Stop.{Stop}
 use Rattle.pd_tools.specs.declared.stop.Stop.TheVariants.{Device, Memory}
 use Rattle.pd_tools.specs.Ending.{ending_line, ending_status, repair_ended}
@@ -42,8 +39,9 @@ use Rattle.pd_tools.specs.Repair.{AreOpened, AreUnopened}
 use Rattle.pd_tools.specs.Stop.{stop_status}
 use Rattle.pd_tools.specs.Work.{HasCause, IsFinished, IsStopped, IsWork}
 use Rattle.pd_tools.proofs.Answered.{not_risen}
+use Rattle.pd_tools.proofs.Laying.{any_leaves, laid_kept, laid_leaves}
 use Rattle.pd_tools.proofs.Queries.{two_told}
-use Rattle.pd_tools.proofs.Restores.{Image, here, last_lost, room-held, room-told, room_in, still_synced, untouched_last}
+use Rattle.pd_tools.proofs.Restores.{Image, last_lost, room-held, room-told, room_in, untouched_last}
 
 -- what is found in what the input tells
 report_in : Option Image → Reported
@@ -142,7 +140,7 @@ repair_unopened from to others notes input last_input output last synced un =
     }
 
 -- what holds of the ending of a result that is known
-of_ending : (P : Ending → Type 0) (result known : Result (Unit {0}) RepairFault) → result ≡ known → P (output_ending result) → P (output_ending known)
+pub of_ending : (P : Ending → Type 0) (result known : Result (Unit {0}) RepairFault) → result ≡ known → P (output_ending result) → P (output_ending known)
 of_ending P result known is all = subst (λ (r : Result (Unit {0}) RepairFault). P (output_ending r)) is all
 
 module _ (from to : List ℕ) (others : Objects) (notes : SinkState) (input opened last_input output writable last : DeviceState)
@@ -231,49 +229,20 @@ module _ (from to : List ℕ) (others : Objects) (notes : SinkState) (input open
   -- after a fault that isn't the output's
   spared : (f : RepairFault) → result ≡ Err f → IsOfOthers (output_ending (Err f)) → HoldsOldOrNone output last
   spared f is others =
-      subst (λ (h : Option Image). IfSome h (λ image. IfSome last.held (λ now. (now ≡ image) ⊎ HasNoSuper now))) both.output_untouched.held
-      (of_ending (λ ending. IsOfOthers ending → HoldsOldOrNone writable last) result (Err f) is done.output.kept others)
-
-  -- an output that may have been written
-  written : (report : Reported) → (repair_answer (finding report)).status ≡ 0 → (status : ℕ) → (status ≡ 0 → IsDone (output_ending result)) → ((status ≡ 3) ⊎ (status ≡ 4) → ⊥)
-      → (status ≢ 0 → last.faults ≡ output.faults → HoldsOldOrNone output last) → (status ≡ 5 → last.faults ≡ output.faults → IsUntouched output last) → Leaves report status
-  written report zero status is_done other kept input_failed = record {
-    output = record {
-      made = record {
-        output = record {
-          told = subst (λ (h : Option Image). IfSome h (λ image. IsSome last.held)) both.output_untouched.held done.output.told;
-          crash = IfSome_then output.held synced (λ image s.
-              weaken
-              (and_then (stays {old = output} {new = writable} both.output_untouched.held both.output_untouched.history (here image (MakesPool pool room image) output s))
-              (done.output.crash image (still_synced image output writable both.output_untouched s)))
-              (λ left firsts is chance. elim (is chance) [
-                | inl old ↦ inl old
-                | inr none ↦ elim none [ inl torn ↦ inr (inl torn) | inr made ↦ inr (inr (zero, made.1)) ]
-              ]));
-          made = λ e. IfSome_then output.held
-              (subst (λ (h : Option Image). IfSome h (λ image. IfSome last.held (λ now. IsLaid (laid_pool pool room) image now × HoldsSynced now last)))
-              both.output_untouched.held (done.output.made (is_done e)))
-              (λ image all. IfSome_then last.held all (λ now is. ((zero, is.0), is.1)));
-          refused = λ either. absurd (other either);
-        };
-        untouched = λ unwritten. absurd (never unwritten);
-      };
-      kept = kept;
-    };
-    input_failed = input_failed;
-  }
-    where
-      never : not (nat_eq (repair_answer (finding report)).status 0) ≡ true → ⊥
-      never e = let f : false ≡ true = rw zero at e in cc
+      laid_kept output writable last synced both.output_untouched pool (output_ending result) done.output (repair_answer (finding (report_of [])))
+      (of_ending (λ ending. IsOfOthers ending) (Err f) result (sym is) others)
 
   -- whatever there is room for, where no faults are reported
   either_way : (last.faults ≡ output.faults → HoldsOldOrNone output last) → (status : ℕ) → (status ≡ 5 → last.faults ≡ output.faults → IsUntouched output last)
       → status ≢ 0 → status ≢ 3 → status ≢ 4 → Leaves (report_of []) status
-  either_way kept status input_failed some three four = elim (cases_lt room (thin_need pool room)) [
-    | inl small ↦ alone (done.output.untouched small) (report_of []) status some
-    | inr fits ↦ written (report_of []) (ap (λ (a : Answer). a.status) (answer_made pool room fits)) status
-        (λ e. absurd (some e)) (λ either. elim either [ inl e ↦ three e | inr e ↦ four e ]) (λ _. kept) input_failed
-  ]
+  either_way kept status input_failed some three four = record {
+    output = record {
+      made = any_leaves output writable last synced both.output_untouched pool (output_ending result) done.output (repair_answer (finding (report_of [])))
+          (λ fits. ap (λ (a : Answer). a.status) (answer_made pool room fits)) status some three four;
+      kept = λ _. kept;
+    };
+    input_failed = input_failed;
+  }
 
   -- it came to an answer
   finished : (report : Reported) → IsRight report → (status : ℕ) (line : List ℕ) → status ≤ 4 → IsTrue (is_possible (repair from to) status)
@@ -297,8 +266,14 @@ module _ (from to : List ℕ) (others : Objects) (notes : SinkState) (input open
       let fits : thin_need pool room ≤ room = answer.1 in
       let none = subst (λ (r : Result (Unit {0}) RepairFault). IfSome opened.held (λ image. AnswersSuper r (faults Thin Super image))) is done.rules in
       finished (report_of []) (none_right none) 0 [] (lit≤ tt) refl (answer_made pool room fits)
-      (written (report_of []) (ap (λ (a : Answer). a.status) (answer_made pool room fits)) 0
-      (λ _. rw is tt) (λ either. elim either [ inl e ↦ omega arith | inr e ↦ omega arith ]) (λ some. absurd (some refl)) (λ e. absurd (omega arith)))
+      (record {
+        output = record {
+          made = laid_leaves output writable last synced both.output_untouched pool (output_ending result) done.output (repair_answer (finding (report_of [])))
+              (ap (λ (a : Answer). a.status) (answer_made pool room fits)) 0 (λ _. rw is tt) (λ either. elim either [ inl e ↦ omega arith | inr e ↦ omega arith ]);
+          kept = λ some. absurd (some refl);
+        };
+        input_failed = λ e. absurd (omega arith);
+      })
 
   repair_no_room : (need blocks : ℕ) → result ≡ Err (fault.NoRoom need blocks) → IsFinished (repair from to) before after 4 (no_room_line need blocks)
   repair_no_room need blocks is =

@@ -1,6 +1,6 @@
 -- What the work of a writeback comes to, over plain variables.
-use Rattle.std.proofs.Common.{◌≡◌, ◌≢◌, ◌⊎◌, inl, inr, ℕ, ◌≤◌, ◌<◌, true, false, nat_eq, IsTrue, List, [], ◌∷◌, length, Option, Some, None, IfSome, Result, Ok, Err, refl, sym, ap, ◌∙◌, subst, arith, lit≤}
-use Rattle.std.specs.Prelude.{MatchResult, OnOk, slice_get}
+use Rattle.std.proofs.Common.{◌≡◌, ◌≢◌, ◌⊎◌, inl, inr, ℕ, ◌≤◌, ◌<◌, true, false, nat_eq, IsTrue, List, [], ◌∷◌, length, Option, Some, None, IfSome, Result, refl, sym, ap, ◌∙◌, subst, arith, lit≤}
+use Rattle.std.specs.Prelude.{MatchResult, slice_get}
 use Rattle.std.specs.Option.{option_map_or}
 use Rattle.std.specs.List.Sorted.{IsPermutation}
 use Rattle.std.proofs.lemmas.List.Sorted.{length_permutation}
@@ -13,14 +13,14 @@ use Rattle.pd_kinds.specs.Meaning.{cache_meaning}
 use Rattle.pd_kinds.specs.Moments.{now}
 use Rattle.pd_kinds.specs.Objects.{DeviceState, SinkState, Appends, AppendsFront, Rose}
 use Rattle.pd_kinds.specs.Report.{Reported, report_of}
-use Rattle.pd_kinds.specs.Stages.{faults, CanWantMemory}
+use Rattle.pd_kinds.specs.Stages.{faults}
 use Rattle.pd_kinds.proofs.AppendLemmas.{appends_none, front_none}
-use Rattle.pd_kinds.proofs.CrashLemmas.{and_then, stays, weaken, left_now, left_synced}
+use Rattle.pd_kinds.proofs.CrashLemmas.{and_then, stays, left_now, left_synced}
 use Rattle.pd_spells.specs.Lines.{no_room_line, reported_lines}
 use Rattle.pd_answers.specs.Answer.{Answer, Objects, AreFresh, IsUsed, reading}
 use Rattle.pd_answers.specs.CachedView.{CachedBlock, blocks_each, copied, fast_need, hot_blocks, is_block_size_bad, origin_need, settled}
 use Rattle.pd_answers.specs.Terms.{is_one_of, is_possible}
-use Rattle.pd_answers.specs.Writebacks.{AllTold, FindsWriteback, HasBlocks, KeepsOthers, LeavesWrittenBack, WritebackFound, block_size_line, copied_line, writeback, writeback_answer}
+use Rattle.pd_answers.specs.Writebacks.{AllTold, HasBlocks, KeepsOthers, LeavesWrittenBack, WritebackFound, block_size_line, copied_line, writeback, writeback_answer}
 use Rattle.pd_writeback.specs.declared.fault.WriteFault.{WriteFault}
 use Rattle.pd_writeback.specs.declared.fault.WriteFault.TheVariants as w
 use Rattle.pd_writeback.specs.declared.plan.Plan.{Plan}

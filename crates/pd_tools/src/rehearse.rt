@@ -1,16 +1,17 @@
 //! A rehearsal, from a number and the path of an image to the line.
 
-ghost use Rattle.std.specs.Prelude.{◌≡◌, ◌≤◌, [], OnOk, MatchResult};
-ghost use Rattle.pd_kinds.specs.Objects.{CountsFault, Appends, AppendsFront, SinkState};
-ghost use Rattle.pd_answers.specs.Answer.{Objects, IsUsed, reading};
+ghost use Rattle.std.specs.Prelude.{◌≡◌, ◌≤◌, MatchResult};
+ghost use Rattle.pd_kinds.specs.Objects.{SinkState};
+ghost use Rattle.pd_answers.specs.Answer.{Objects};
 ghost use Rattle.pd_answers.specs.Rehearsals.{rehearse};
 ghost use Rattle.pd_tools.specs.Ending.{ending_line, ending_status, rehearsal_ended};
 ghost use Rattle.pd_tools.specs.Rehearse.{line_of};
 ghost use Rattle.pd_tools.specs.Work.{IsFinished, IsStopped, AnswersTerms};
 
 use crate::ending::{Ending, no_room, put_ending};
+use crate::notes::put_last_line;
 use crate::stop::Stop;
-use pd_image::{Device, Failed, Sink};
+use pd_image::{Device, Sink};
 use pd_lines::LineBuffer;
 use pd_rehearse::{Rehearsal, RehearseFault, rehearse};
 use pd_spells::thin_text_has_one_verdict;
@@ -63,7 +64,7 @@ fn rehearse_image<K: Sink, B: Device>(
         Ok(rehearsal) => rehearsal,
         Err(fault) => return ended_without(fault),
     };
-    match put_rehearsal(number, &rehearsal, out) {
+    match put_last_line(out, rehearsal_line(number, &rehearsal).as_bytes()) {
         Ok(()) => Ok(Ending::Done),
         Err(_) => Err(Stop::Stream),
     }
@@ -79,19 +80,6 @@ fn ended_without(fault: RehearseFault) -> Result<Ending, Stop>
         RehearseFault::NoRoom { need, blocks } => Ok(no_room(need, blocks)),
         RehearseFault::Faulty(report) => Ok(Ending::Faulty(report)),
     }
-}
-
-/// Attaches the standard output, and puts the line to it.
-fn put_rehearsal<K: Sink>(number: u32, rehearsal: &Rehearsal, out: &mut K) -> Result<(), Failed>
-    requires { (K.state out.old).access ≡ 0 }
-    ensures whole { OnOk result (Appends (line_of number rehearsal.now) (K.state out.old).written (K.state out.new).written) }
-    ensures front { AppendsFront (line_of number rehearsal.now) (K.state out.old).written (K.state out.new).written }
-    ensures access { OnOk result ((K.state out.new).access ≡ 1) }
-    ensures used { IsUsed (reading []) (K.state out.new).access (K.state out.new).path }
-    ensures faults { CountsFault result (K.state out.old).faults (K.state out.new).faults }
-{
-    out.attach(None)?;
-    out.put(rehearsal_line(number, rehearsal).as_bytes())
 }
 
 /// The line of a rehearsal.

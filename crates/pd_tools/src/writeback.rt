@@ -3,11 +3,11 @@
 ghost use Rattle.std.specs.Prelude.{◌≡◌, [], List, ℕ, OnOk, IfOk, IfErr, IfSome, MatchResult, length};
 ghost use Rattle.pd_kinds.specs.declared.kind.Kind.TheVariants.{Cache};
 ghost use Rattle.pd_kinds.specs.declared.kind.Stage.TheVariants.{Whole};
-ghost use Rattle.pd_kinds.specs.Objects.{Appends, AppendsFront, CountsFault, DeviceState, SinkState};
+ghost use Rattle.pd_kinds.specs.Objects.{DeviceState, SinkState};
 ghost use Rattle.pd_kinds.specs.Crash.{IsSynced};
 ghost use Rattle.pd_kinds.specs.Stages.{faults};
 ghost use Rattle.pd_image.specs.Device.{IsWritable};
-ghost use Rattle.pd_answers.specs.Answer.{Objects, IsUsed, reading};
+ghost use Rattle.pd_answers.specs.Answer.{Objects};
 ghost use Rattle.pd_answers.specs.Writebacks.{copied_line, writeback};
 ghost use Rattle.pd_writeback.specs.Plan.{plan_hot};
 ghost use Rattle.pd_tools.specs.Ending.{ending_line, ending_status, plan_ended};
@@ -16,6 +16,7 @@ ghost use Rattle.pd_tools.specs.Writeback.{AreOpened, AreUnopened, IsWritten, de
 
 use crate::check::check_attached;
 use crate::ending::{Ending, put_ending};
+use crate::notes::put_last_line;
 use crate::stop::Stop;
 use pd_image::{Device, Failed, Sink};
 use pd_kinds::{Kind, Stage};
@@ -161,7 +162,7 @@ fn write_sound<K: Sink, A: Device, B: Device, C: Device>(
         Ok(count) => count,
         Err(_) => return Err(Stop::Device),
     };
-    match put_copied(count, out) {
+    match put_last_line(out, copied_text(count).as_bytes()) {
         Ok(()) => Ok(Ending::Done),
         Err(_) => Err(Stop::Stream),
     }
@@ -202,19 +203,6 @@ fn copy_and_mark<A: Device, B: Device, C: Device>(
         },
         Err(_) => Err(Failed),
     }
-}
-
-/// Attaches the standard output, and puts the line to it.
-fn put_copied<K: Sink>(count: u64, out: &mut K) -> Result<(), Failed>
-    requires { (K.state out.old).access ≡ 0 }
-    ensures whole { OnOk result (Appends (copied_line count) (K.state out.old).written (K.state out.new).written) }
-    ensures front { AppendsFront (copied_line count) (K.state out.old).written (K.state out.new).written }
-    ensures access { OnOk result ((K.state out.new).access ≡ 1) }
-    ensures used { IsUsed (reading []) (K.state out.new).access (K.state out.new).path }
-    ensures faults { CountsFault result (K.state out.old).faults (K.state out.new).faults }
-{
-    out.attach(None)?;
-    out.put(copied_text(count).as_bytes())
 }
 
 /// The line of a writeback.

@@ -1,6 +1,5 @@
-use Rattle.std.proofs.Common.{◌≡◌, Ok, Err, refl, sym, ◌∙◌, ap, subst, ℕ, List}
+use Rattle.std.proofs.Common.{◌≡◌, refl, ◌∙◌, ap, length}
 use Rattle.std.proofs.lemmas.List.Sorted.{length_permutation}
-use Rattle.pd_kinds.specs.Objects.{Appends, AppendsFront}
 use Rattle.pd_answers.specs.Writebacks.{copied_line}
 use Rattle.pd_writeback.specs.Plan.{plan_hot}
 use Rattle.pd_tools.proofs.Writebacks.{writeback_done, writeback_failed, writeback_unplanned, writeback_unput}
@@ -25,28 +24,30 @@ returns-in-Err-copy_and_mark g c metadata fast origin meta_before origin_before 
     c.requires.out meta_synced origin_synced opened kept.access kept.path (record { held = kept.held; history = kept.history }) c.in-Ok.ensures.faults c.requires.sound
     (g.met.B.Device.measured c.args.output.now) (g.met.C.Device.measured c.args.third.now) size hot c.in-Ok.plan made _ written written.faults refl
 
-pub returns-in-Ok-put_copied : goal.returns-in-Ok-put_copied
-returns-in-Ok-put_copied g c metadata fast origin meta_before origin_before fast_before others notes meta_synced origin_synced opened =
+pub returns-in-Ok-put_last_line : goal.returns-in-Ok-put_last_line
+returns-in-Ok-put_last_line g c metadata fast origin meta_before origin_before fast_before others notes meta_synced origin_synced opened =
     let kept = c.in-Ok.ensures.kept in
     let (size, hot, made) = c.in-Ok.ensures.plans in
     let done = c.in-Ok-copy_and_mark.ensures in
-    let put = c.in-Ok-put_copied.ensures in
+    let put = c.in-Ok-put_last_line.ensures in
     let number = done.count ∙ length_permutation hot (plan_hot c.in-Ok.plan) made.same in
-    writeback_done metadata fast origin others notes (g.K.Sink.state c.args.out.now) (g.K.Sink.state c.put_copied.new.out) meta_before (g.A.Device.state c.args.input.now) (g.A.Device.state c.make.new.meta) (g.A.Device.state c.copy_and_mark.new.input)
+    let line : c.as_bytes.result.now ≡ copied_line (length hot) = c.as_bytes.ensures.bytes ∙ c.copied_text.ensures ∙ ap copied_line number in
+    writeback_done metadata fast origin others notes (g.K.Sink.state c.args.out.now) (g.K.Sink.state c.put_last_line.new.out) meta_before (g.A.Device.state c.args.input.now) (g.A.Device.state c.make.new.meta) (g.A.Device.state c.copy_and_mark.new.input)
     origin_before (g.B.Device.state c.args.output.now) (g.B.Device.state c.copy_and_mark.new.output) fast_before (g.C.Device.state c.args.third.now) (g.C.Device.state c.copy_and_mark.new.third)
     c.requires.out meta_synced origin_synced opened kept.access kept.path (record { held = kept.held; history = kept.history }) c.in-Ok.ensures.faults c.requires.sound
     (g.met.B.Device.measured c.args.output.now) (g.met.C.Device.measured c.args.third.now) size hot c.in-Ok.plan made _ done.written put.used done.written.has_copied done.written.marked
-    (rw number at put.whole) put.access
+    (rw line at put.whole) put.access
 
 pub returns : goal.returns
 returns g c metadata fast origin meta_before origin_before fast_before others notes meta_synced origin_synced opened =
     let kept = c.in-Ok.ensures.kept in
     let (size, hot, made) = c.in-Ok.ensures.plans in
     let done = c.in-Ok-copy_and_mark.ensures in
-    let put = c.in-Err-put_copied.ensures in
+    let put = c.in-Err-put_last_line.ensures in
     let number = done.count ∙ length_permutation hot (plan_hot c.in-Ok.plan) made.same in
-    writeback_unput metadata fast origin others notes (g.K.Sink.state c.args.out.now) (g.K.Sink.state c.put_copied.new.out) meta_before (g.A.Device.state c.args.input.now) (g.A.Device.state c.make.new.meta) (g.A.Device.state c.copy_and_mark.new.input)
+    let line : c.as_bytes.result.now ≡ copied_line (length hot) = c.as_bytes.ensures.bytes ∙ c.copied_text.ensures ∙ ap copied_line number in
+    writeback_unput metadata fast origin others notes (g.K.Sink.state c.args.out.now) (g.K.Sink.state c.put_last_line.new.out) meta_before (g.A.Device.state c.args.input.now) (g.A.Device.state c.make.new.meta) (g.A.Device.state c.copy_and_mark.new.input)
     origin_before (g.B.Device.state c.args.output.now) (g.B.Device.state c.copy_and_mark.new.output) fast_before (g.C.Device.state c.args.third.now) (g.C.Device.state c.copy_and_mark.new.third)
     c.requires.out meta_synced origin_synced opened kept.access kept.path (record { held = kept.held; history = kept.history }) c.in-Ok.ensures.faults c.requires.sound
     (g.met.B.Device.measured c.args.output.now) (g.met.C.Device.measured c.args.third.now) size hot c.in-Ok.plan made _ done.written put.used
-    (rw number at put.front) put.faults.0
+    (rw line at put.front) put.faults.0
