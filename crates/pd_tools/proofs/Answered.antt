@@ -8,7 +8,7 @@ use Rattle.pd_answers.specs.Answer.{Objects, AreFresh, NoFaults, DeviceRose, Str
 use Rattle.pd_kinds.proofs.AppendLemmas.{appends_none, front_none, front_from_whole}
 use Rattle.pd_answers.specs.Terms.{Terms, Uses, AreKept, AreUsed, ComesAfter, IsKept, Changes, IsAnswered}
 use Rattle.pd_tools.specs.declared.ending.Ending.{Ending}
-use Rattle.pd_tools.specs.declared.ending.Ending.TheVariants.{Done, Faulty, Refused, NoRoom, BlockSize}
+use Rattle.pd_tools.specs.declared.ending.Ending.TheVariants.{Done, Faulty, Refused, NoRoom, BlockSize, NoRoots}
 use Rattle.pd_tools.specs.declared.stop.Stop.{Stop}
 use Rattle.pd_tools.specs.declared.stop.Stop.TheVariants.{Device, Stream, Memory}
 use Rattle.pd_tools.specs.Ending.{TellsEnd, ending_line, ending_status}
@@ -283,4 +283,5 @@ module _ (terms : Terms) (before after : Objects) (attached : SinkState) (fresh 
   answered_ended (Ok (Refused fault)) status lost done tells = answered_put 3 status _ done (lost done.finding 3 (λ e. omega arith) done.work.leaves) tells
   answered_ended (Ok (NoRoom need blocks)) status lost done tells = answered_put 4 status _ done (lost done.finding 4 (λ e. omega arith) done.work.leaves) tells
   answered_ended (Ok BlockSize) status lost done tells = answered_put 1 status _ done (lost done.finding 1 (λ e. omega arith) done.work.leaves) tells
+  answered_ended (Ok NoRoots) status lost done tells = answered_put 1 status _ done (lost done.finding 1 (λ e. omega arith) done.work.leaves) tells
   answered_ended (Err stop) status lost stopped tells = answered_stopped stop status stopped tells

@@ -9,4 +9,6 @@ pub mod Generates
 pub mod Rehearses
 pub mod Laying
 pub mod Repairs
+pub mod BestRoots
+pub mod Searches
 pub mod Writebacks

@@ -5,6 +5,7 @@ use Rattle.pd_kinds.specs.Objects.{SinkState}
 use Rattle.pd_kinds.specs.Report.{report_of}
 use Rattle.pd_kinds.specs.RuleSet.{has_rule}
 use Rattle.pd_spells.specs.Lines.{no_room_line, refusal_line, reported_lines}
+use Rattle.pd_answers.specs.SearchLines.{no_roots_line}
 use Rattle.pd_answers.specs.Writebacks.{block_size_line}
 use Rattle.pd_restoring.specs.declared.fault.RestoreFault.{RestoreFault}
 use Rattle.pd_restoring.specs.declared.fault.RestoreFault.TheVariants as r
@@ -15,7 +16,7 @@ use Rattle.pd_rehearse.specs.declared.fault.RehearseFault.TheVariants as q
 use Rattle.pd_writeback.specs.declared.fault.WriteFault.{WriteFault}
 use Rattle.pd_writeback.specs.declared.fault.WriteFault.TheVariants as w
 use Rattle.pd_tools.specs.declared.ending.Ending.{Ending}
-use Rattle.pd_tools.specs.declared.ending.Ending.TheVariants.{Done, Faulty, Refused, NoRoom, BlockSize}
+use Rattle.pd_tools.specs.declared.ending.Ending.TheVariants.{Done, Faulty, Refused, NoRoom, BlockSize, NoRoots}
 use Rattle.pd_tools.specs.declared.stop.Stop.{Stop}
 use Rattle.pd_tools.specs.declared.stop.Stop.TheVariants.{Device, Stream, Memory}
 use Rattle.pd_tools.specs.Notes.{PutsLine}
@@ -28,6 +29,7 @@ ending_status (Faulty report) = 1
 ending_status (Refused fault) = 3
 ending_status (NoRoom need blocks) = 4
 ending_status BlockSize = 1
+ending_status NoRoots = 1
 
 abbrev pub ending_line : Ending → List ℕ
 ending_line Done = []
@@ -35,6 +37,7 @@ ending_line (Faulty report) = reported_lines report
 ending_line (Refused fault) = refusal_line (record { line = fault.line; cause = fault.cause })
 ending_line (NoRoom need blocks) = no_room_line need blocks
 ending_line BlockSize = block_size_line
+ending_line NoRoots = no_roots_line
 
 -- the line was put, and the status is that of the ending; or `notes` failed
 abbrev pub TellsEnd : Result Ending Stop → ℕ → SinkState → SinkState → Type 0
@@ -43,6 +46,7 @@ TellsEnd (Ok (Faulty report)) status old new = PutsLine (ending_line (Faulty rep
 TellsEnd (Ok (Refused fault)) status old new = PutsLine (ending_line (Refused fault)) 3 status old new
 TellsEnd (Ok (NoRoom need blocks)) status old new = PutsLine (ending_line (NoRoom need blocks)) 4 status old new
 TellsEnd (Ok BlockSize) status old new = PutsLine (ending_line BlockSize) 1 status old new
+TellsEnd (Ok NoRoots) status old new = PutsLine (ending_line NoRoots) 1 status old new
 TellsEnd (Err stop) status old new = PutsLine (stop_line stop) (stop_status stop) status old new
 
 -- how a restore ended

@@ -7,4 +7,5 @@ pub mod Writeback
 pub mod Query
 pub mod Rehearse
 pub mod Repair
+pub mod Search
 pub mod Ending

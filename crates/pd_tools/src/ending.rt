@@ -4,7 +4,7 @@ ghost use Rattle.std.specs.Prelude.{◌≡◌};
 ghost use Rattle.pd_tools.specs.Ending.{TellsEnd};
 ghost use Rattle.pd_tools.specs.declared.ending.Ending.TheVariants as ending;
 
-use crate::notes::{BLOCK_SIZE_LINE, put_line};
+use crate::notes::{BLOCK_SIZE_LINE, NO_ROOTS_LINE, put_line};
 use crate::query::put_faults;
 use crate::refusals::{no_room_line, refusal_line};
 use crate::stop::Stop;
@@ -25,6 +25,8 @@ pub enum Ending {
     NoRoom { need: u128, blocks: u64 },
     /// A block of the cache is no whole number of blocks.
     BlockSize,
+    /// No two trees of the image fit each other.
+    NoRoots,
 }
 
 /// That so many blocks are needed, and so many are there.
@@ -51,6 +53,7 @@ pub fn put_ending<E: Sink>(ended: Result<Ending, Stop>, notes: &mut E) -> u8
                 put_line(notes, no_room_line(need, blocks).as_bytes(), 4)
             }
             Ending::BlockSize => put_line(notes, BLOCK_SIZE_LINE, 1),
+            Ending::NoRoots => put_line(notes, NO_ROOTS_LINE, 1),
         },
         Err(stop) => stop.put(notes),
     }

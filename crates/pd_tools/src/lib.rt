@@ -12,6 +12,7 @@ mod rehearse;
 mod repair;
 mod restore;
 mod run;
+mod search;
 mod stop;
 mod writeback;
 

@@ -64,7 +64,7 @@ fn repair_image<A: Device, B: Device>(
 }
 
 /// Attaches the input for reading, and then the output for writing.
-fn open_both<A: Device, B: Device>(
+pub(crate) fn open_both<A: Device, B: Device>(
     from: &str,
     to: &str,
     input: &mut A,
@@ -103,7 +103,7 @@ fn repair_opened<A: Device, B: Device>(
 }
 
 /// How a repair ended.
-fn ended_of(repaired: Result<(), RepairFault>) -> Result<Ending, Stop>
+pub(crate) fn ended_of(repaired: Result<(), RepairFault>) -> Result<Ending, Stop>
     ensures { result ≡ repair_ended repaired }
 {
     match repaired {

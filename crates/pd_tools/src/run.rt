@@ -17,6 +17,7 @@ use crate::query::{Asked, run_query};
 use crate::rehearse::run_rehearse;
 use crate::repair::run_repair;
 use crate::restore::{run_restore, texts_have_verdicts};
+use crate::search::run_search;
 use crate::writeback::run_writeback;
 use pd_image::{Device, Sink, Source};
 use pd_words::{Name, Request, read_words};
@@ -30,7 +31,7 @@ use std::alloc::Global;
 /// | Status | Meaning |
 /// |---|---|
 /// | 0 | done; after a check, the image is clean |
-/// | 1 | the image has faults; the report is on `out`, or, where a dump was asked, on `notes` |
+/// | 1 | the image has faults; the report is on `out`, or, where a dump was asked, on `notes`. Or the block size of a cache is no whole number of blocks, or no roots were found |
 /// | 2 | the words spell no request |
 /// | 3 | a line of the text is refused |
 /// | 4 | more blocks are needed than the output has |
@@ -146,7 +147,24 @@ fn run_request<S: Source, K: Sink, E: Sink, A: Device, B: Device, C: Device>(
             input,
             output,
         ),
-        Request::Search { .. } => unreachable!(),
+        Request::Search {
+            input: from,
+            output: to,
+            transaction,
+            block_size,
+            blocks,
+        } => run_search(
+            alloc,
+            from.word_in(words),
+            to.word_in(words),
+            transaction,
+            block_size,
+            blocks,
+            out,
+            notes,
+            input,
+            output,
+        ),
         Request::Rmap {
             first,
             end,

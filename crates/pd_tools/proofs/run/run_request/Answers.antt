@@ -8,7 +8,7 @@ use Rattle.pd_answers.specs.Requests.{is_built}
 use Rattle.pd_answers.specs.Answer.{Objects}
 use Rattle.pd_answers.specs.Promises.{generate, terms_of}
 use Rattle.pd_answers.specs.Rehearsals.{rehearse}
-use Rattle.pd_answers.specs.Repairs.{repair}
+use Rattle.pd_answers.specs.Repairs.{repair, search}
 use Rattle.pd_answers.specs.Restores.{restore}
 use Rattle.pd_answers.specs.Writebacks.{writeback}
 use Rattle.std.specs.Option.{option_copied}
@@ -97,6 +97,20 @@ returns-in-Repair g c others =
     rw w.is (repaired_as_asked (word_of words w.from) (word_of words w.to) c.word_in-in-Repair.result.now c.word_in-in-Repair-2.result.now _ _ _ _
     c.word_in-in-Repair.ensures c.word_in-in-Repair-2.ensures
     (c.run_repair.ensures (record others { source = g.S.Source.state c.args.source.now; out = g.K.Sink.state c.args.out.now; third = g.C.Device.state c.args.third.now })))
+
+-- so with those of a search
+searched_as_asked : (from to given_from given_to : List ℕ) (transaction block_size blocks : ℕ) (attached : SinkState) (before after : Objects) (status : ℕ)
+    → given_from ≡ from → given_to ≡ to → AnswersTerms (search given_from given_to transaction block_size blocks) attached before after status
+    → AnswersTerms (search from to transaction block_size blocks) attached before after status
+searched_as_asked from to given_from given_to transaction block_size blocks attached before after status same_from same_to answers = rw (same_from, same_to) at answers
+
+pub returns-in-Search : goal.returns-in-Search
+returns-in-Search g c others =
+    let words = map string_bytes c.args.words.now in
+    let w = c.in-Search in
+    rw w.is (searched_as_asked (word_of words w.from) (word_of words w.to) c.word_in-in-Search.result.now c.word_in-in-Search-2.result.now w.transaction w.block_size w.blocks _ _ _ _
+    c.word_in-in-Search.ensures c.word_in-in-Search-2.ensures
+    (c.run_search.ensures (record others { source = g.S.Source.state c.args.source.now; third = g.C.Device.state c.args.third.now })))
 
 -- the generator's file of these words is the one that is asked
 generated_as_asked : (number : ℕ) (file given : Option (List ℕ)) (attached : SinkState) (before after : Objects) (status : ℕ)
