@@ -96,7 +96,7 @@ none_of_stage : (checked : Checked) (image : Image) (later : List Stage) → fir
 unfolding first_failing
 none_of_stage checked image later none = none_first (stage_faults checked image stages.Super) (first_failing checked image later) none
 
-none_of_super : (image : Image) → faults Thin stages.Whole image ≡ [] → faults Thin stages.Super image ≡ []
+pub none_of_super : (image : Image) → faults Thin stages.Whole image ≡ [] → faults Thin stages.Super image ≡ []
 unfolding faults
 none_of_super image none = none_of_stage (checked_of Thin image) image (stages.Walk ∷ stages.Order ∷ stages.Whole ∷ []) none
 

@@ -1,9 +1,14 @@
 -- What a search for the roots of a pool leaves, where the objects tell what they hold.
-use Rattle.std.specs.Prelude.{◌≡◌, ℕ, ◌+◌, ◌<◌, ◌≤◌, ◌^◌, false, List, [], ◌∷◌, Some, IfSome, codes}
+use Rattle.std.specs.Prelude.{◌≡◌, ℕ, ◌+◌, ◌<◌, ◌≤◌, ◌^◌, true, false, List, [], ◌∷◌, length, drop, sum_by, Option, Some, IfSome, codes}
+use Rattle.pd_kinds.specs.declared.kind.Kind.TheVariants.{Thin}
+use Rattle.pd_kinds.specs.declared.kind.Stage.TheVariants.{Whole}
 use Rattle.pd_kinds.specs.Crash.{HoldsSynced, IsOldNoneOrMade, IsUntouched, LeavesOnly}
 use Rattle.pd_kinds.specs.Image.{IsImage}
+use Rattle.pd_kinds.specs.Meaning.{ThinDevice, ThinPool, thin_meaning}
 use Rattle.pd_kinds.specs.Objects.{Appends}
-use Rattle.pd_laid.specs.FoundRoots.{FoundRoots, AreBest, are_fitting, found_pool, lost_graph}
+use Rattle.pd_kinds.specs.Stages.{faults}
+use Rattle.pd_kinds.specs.ThinSuper.{ThinFields}
+use Rattle.pd_laid.specs.FoundRoots.{FoundRoots, AreBest, IsFound, are_fitting, found_pool, lost_graph}
 use Rattle.pd_laid_thin.specs.CleanPool.{IsCleanPool}
 use Rattle.pd_answers.specs.Answer.{Objects}
 use Rattle.pd_answers.specs.Promises.{terms_of}
@@ -68,3 +73,39 @@ pub record SayNumbers (words : NumberWords) (transaction block_size blocks : ℕ
 abbrev pub with_numbers : NumberWords → List (List ℕ)
 with_numbers words =
     codes "--transaction-id" ∷ words.transaction ∷ codes "--data-block-size" ∷ words.block_size ∷ codes "--nr-data-blocks" ∷ words.blocks ∷ []
+
+-- another image has the same blocks, but for block 0
+pub record IsLostOf (image lost : List (List ℕ)) : Type 0 where
+  pub size : length lost ≡ length image
+  pub rest : drop 1 lost ≡ drop 1 image
+
+-- how many mappings the details of a pool's devices say
+abbrev pub mappings_of : ThinPool → ℕ
+mappings_of pool = sum_by (λ (d : ThinDevice). d.mapped) pool.devices
+
+-- a search finds roots, with so many mappings or more
+pub record FindsAsMany (mappings : ℕ) (found : Option FoundRoots) : Type 0 where
+  pub roots : FoundRoots
+  pub some : found ≡ Some roots
+  pub no_fewer : mappings ≤ roots.mappings
+
+-- the roots that block 0 of an image named fit each other where it is lost, and a pool that is found by them has the devices
+-- that it had, with their details and mappings; so a search finds these roots, or better ones
+pub record KeepsRoots (image lost : List (List ℕ)) (fields : ThinFields) : Type 0 where
+  pub fitting : are_fitting (lost_graph lost fields.data_map.blocks) lost fields.mapping_root fields.details_root ≡ true
+  pub devices : (transaction block_size : ℕ) (roots : FoundRoots) → roots.top ≡ fields.mapping_root → roots.details ≡ fields.details_root
+      → (found_pool (lost_graph lost fields.data_map.blocks) lost transaction block_size roots).devices ≡ (thin_meaning image).devices
+  pub found : (found : Option FoundRoots) → IsFound (lost_graph lost fields.data_map.blocks) lost found → FindsAsMany (mappings_of (thin_meaning image)) found
+
+-- a search is to read an image whose block 0 was lost, and that had no faults up to the stage Whole before
+pub record IsLostPool (image lost : List (List ℕ)) (before : Objects) : Type 0 where
+  pub is : IsImage image
+  pub sound : faults Thin Whole image ≡ []
+  pub lost_of : IsLostOf image lost
+  pub lost_is : IsImage lost
+  pub read : before.input.held ≡ Some lost
+
+-- what is made means a pool with no fewer mappings than the image
+abbrev pub HoldsNoFewer : List (List ℕ) → Objects → Objects → Type 0
+HoldsNoFewer image before after = IfSome before.output.held (λ base.
+    IfSome after.output.held (λ made. mappings_of (thin_meaning image) ≤ mappings_of (thin_meaning made)))

@@ -1,4 +1,4 @@
-//! What a restored pool, cache or era target is, what a repaired pool is, what a check says of an image, what a pool is whose
+//! What a restored pool, cache or era target is, what a repaired or found pool is, what a check says of an image, what a pool is whose
 //! flag was cleared, and what a cache is that was written back: the laws of laid images, of sound images, of what is saved, of
 //! texts, of clean images, of alike ones and of settled ones, in the terms of the tools.
 #![tactic(auto)]
@@ -25,7 +25,8 @@ pub use repairs::{
     repaired_sound_pool_means_the_same, saved_pools_are_lawful,
 };
 pub use searches::{
-    crashed_search_leaves_no_other_pool, found_pools_are_lawful, searched_pool_is_clean,
+    crashed_search_leaves_no_other_pool, found_pools_are_lawful, lost_pool_is_repaired,
+    lost_pools_are_found, searched_pool_is_clean,
 };
 pub use targets::{
     crashed_restore_leaves_no_other_target, restored_target_dump_means_the_same,

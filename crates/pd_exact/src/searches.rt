@@ -1,14 +1,25 @@
 //! What a search for the roots of a pool finds and leaves: the laws of a repair without a superblock.
 
-ghost use Rattle.std.specs.Prelude.{ℕ, List};
+ghost use Rattle.std.specs.Prelude.{◌≡◌, ℕ, List, []};
+ghost use Rattle.pd_kinds.specs.declared.kind.Kind.TheVariants.{Thin};
+ghost use Rattle.pd_kinds.specs.declared.kind.Stage.TheVariants.{Whole};
+ghost use Rattle.pd_kinds.specs.Graph.{block_at};
 ghost use Rattle.pd_kinds.specs.Image.{IsImage};
+ghost use Rattle.pd_kinds.specs.Stages.{faults};
+ghost use Rattle.pd_kinds.specs.ThinSuper.{thin_fields};
 ghost use Rattle.pd_laid.specs.FoundRoots.{AreBest, FoundRoots, found_pool, lost_graph};
 ghost use Rattle.pd_spells.specs.Lawful.{IsLawfulPool};
 ghost use Rattle.pd_answers.specs.Answer.{Objects};
-ghost use Rattle.pd_exact.specs.Search.{DoNumbersFit, HasNoRoots, HoldsFoundPool, IsSearchAnswered, LeavesFoundPool};
+ghost use Rattle.pd_exact.specs.Search.{DoNumbersFit, HasNoRoots, HoldsFoundPool, HoldsNoFewer, IsLostOf, IsLostPool, IsSearchAnswered, KeepsRoots, LeavesFoundPool};
 
 use pd_laid_thin::laid_pool_is_clean;
+use pd_laws::trees_are_in_order;
 use pd_scan::found_pools_are_saved_whole;
+use pd_thin_meaning::sound_pools_are_lawful;
+use pd_tree::{
+    edges_lead_to_reached_pairs, entries_lead_to_reached_pairs, formats_have_trees,
+    superblocks_lead_to_reached_roots,
+};
 
 /// The pool of the best roots is lawful, whatever else is damaged, where the given numbers fit a superblock: a text spells it.
 pub fn found_pools_are_lawful()
@@ -40,4 +51,31 @@ pub fn crashed_search_leaves_no_other_pool()
 {
     found_pools_are_lawful();
     laid_pool_is_clean();
+}
+
+/// Of a pool without faults up to the stage Whole nothing that its trees hold is lost with its block 0: the roots that it named
+/// still fit each other, and a pool that is found by them has all its devices. So a search finds roots, with no fewer mappings.
+pub fn lost_pools_are_found()
+    ensures { (image lost : List (List ℕ)) → IsImage image → faults Thin Whole image ≡ [] → IsLostOf image lost
+        → KeepsRoots image lost (thin_fields (block_at image 0)) }
+{
+    trees_are_in_order();
+    formats_have_trees();
+    superblocks_lead_to_reached_roots();
+    edges_lead_to_reached_pairs();
+    entries_lead_to_reached_pairs();
+    sound_pools_are_lawful();
+}
+
+/// With the pool's own number of data blocks a search in such an image finds roots, whatever else fails, and what it makes at status
+/// 0 has no fewer mappings than the pool had.
+pub fn lost_pool_is_repaired()
+    ensures roots { (image lost : List (List ℕ)) (from to : List ℕ) (transaction block_size : ℕ) (before after : Objects) → IsLostPool image lost before
+        → IsSearchAnswered from to transaction block_size (thin_fields (block_at image 0)).data_map.blocks before after 1 → ⊥ }
+    ensures mappings { (image lost : List (List ℕ)) (from to : List ℕ) (transaction block_size : ℕ) (before after : Objects) → IsLostPool image lost before
+        → DoNumbersFit transaction block_size (thin_fields (block_at image 0)).data_map.blocks
+        → IsSearchAnswered from to transaction block_size (thin_fields (block_at image 0)).data_map.blocks before after 0 → HoldsNoFewer image before after }
+{
+    searched_pool_is_clean();
+    lost_pools_are_found();
 }
