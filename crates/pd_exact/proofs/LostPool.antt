@@ -31,11 +31,10 @@ use Rattle.pd_laws.proofs.PathLemmas.{path_from_reached}
 use Rattle.pd_laid.specs.FoundRoots.{FoundRoots, IsFound, are_fitting, devices_below, found_pool, is_better, is_sound_tree, lost_graph, roots_at}
 use Rattle.pd_laid.proofs.NodeFacts.{block_pair, none_pass, role_pair}
 use Rattle.pd_alike.specs.Known.{IsKnown}
-use Rattle.pd_alike.proofs.Below.{map_same}
+use Rattle.pd_scan.proofs.SameBelow.{entries_same, map_same, tree_sound}
 use Rattle.pd_spells.specs.Lawful.{AreDevices, IsLawfulPool}
 use Rattle.pd_exact.specs.Search.{FindsAsMany, IsLostOf, KeepsRoots, mappings_of}
 use Rattle.pd_exact.proofs.MoreBlocks.{IsDeviceRole, edges_in_trees, edges_more, inner_more, keys_more, unbroken_more}
-use Rattle.pd_exact.proofs.SameBelow.{entries_same, tree_sound}
 use Rattle.pd_exact.proofs.SalvageLawful.{HasSoundSizes}
 
 -- what an edge leads to is behind block 0

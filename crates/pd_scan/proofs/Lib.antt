@@ -7,7 +7,8 @@ pub mod LostLemmas
 pub mod EntryLemmas
 pub mod BelowLemmas
 pub mod TreesLemmas
-pub mod GivenLemmas
+pub mod SameBelow
+pub mod NamedTrees
 pub mod SavedLemmas
 pub mod PartnerLemmas
 pub mod OrderLemmas

@@ -12,14 +12,23 @@ use Rattle.pd_kinds.specs.Trees.{entries_below}
 use Rattle.pd_laws.proofs.AllLemmas.{all_from}
 use Rattle.pd_laws.proofs.PathLemmas.{path_from_reached}
 use Rattle.pd_laid.specs.FoundRoots.{is_sound_pair, is_sound_tree}
-use Rattle.pd_alike.proofs.Below.{flat_map_same, map_same}
 use Rattle.pd_scan.proofs.PathLemmas.{all_kept}
+
+-- lists are made of others in two ways that are the same for each element
+pub map_same : {X Y : Type 0} → (f g : X → Y) (xs : List X) → AllByRecursion (λ x. f x ≡ g x) xs → map f xs ≡ map g xs
+map_same f g [] same = refl
+map_same f g (x ∷ xs) same = rw (same.0, map_same f g xs same.1) refl
+
+flat_map_same : {X Y : Type 0} → (f g : X → List Y) (xs : List X) → AllByRecursion (λ x. f x ≡ g x) xs → flat_map f xs ≡ flat_map g xs
+flat_map_same f g [] same = refl
+flat_map_same f g (x ∷ xs) same = rw (same.0, flat_map_same f g xs same.1) refl
 
 any_same : (f g : ℕ → Bool) (xs : List ℕ) → AllByRecursion (λ x. f x ≡ g x) xs → list_any f xs ≡ list_any g xs
 any_same f g [] same = refl
 any_same f g (x ∷ xs) same = rw (same.0, any_same f g xs same.1) refl
 
-among : (P : ℕ → Type 0) (xs : List ℕ) (q : ℕ) → AllByRecursion P xs → list_any (λ t. nat_eq t q) xs ≡ true → P q
+-- what holds of each holds of one of them
+pub among : (P : ℕ → Type 0) (xs : List ℕ) (q : ℕ) → AllByRecursion P xs → list_any (λ t. nat_eq t q) xs ≡ true → P q
 among P [] q all leads = absurd (both_ways false refl leads)
 among P (x ∷ xs) q all leads = elim (or_cases (nat_eq x q) _ leads) [
   | inl same ↦ subst P (eqb-true x q same) all.0
@@ -40,7 +49,7 @@ module _ (graph other : Graph) (image lost : List (List ℕ)) (P : ℕ → Type 
   unfolding children
   child_each p is = cond_both (is_inner_pair graph image p) (next graph image p) [] (AllByRecursion P) (λ _. each p is) (λ _. tt)
 
-  chain_same : (j p : ℕ) → P p → has_chain (children other lost) j p ≡ has_chain (children graph image) j p
+  pub chain_same : (j p : ℕ) → P p → has_chain (children other lost) j p ≡ has_chain (children graph image) j p
   unfolding has_chain
   chain_same zero p is = refl
   chain_same (suc j) p is =
@@ -60,7 +69,7 @@ module _ (graph other : Graph) (image lost : List (List ℕ)) (P : ℕ → Type 
       (all_from P (λ q. other_way q ≡ here q) (gathered_same own there same j) (children graph image p) (child_each p is)) in
       rw (inner_same p is, same p is, below) refl
 
-  range_same : (p : ℕ) → P p → is_in_range other lost p ≡ is_in_range graph image p
+  pub range_same : (p : ℕ) → P p → is_in_range other lost p ≡ is_in_range graph image p
   unfolding is_in_range keys_below
   range_same p is =
       ap₂ are_children_in_range (keys_same p is)
