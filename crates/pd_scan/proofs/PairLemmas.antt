@@ -96,15 +96,38 @@ pub taken : (best : Option FoundRoots) (roots : FoundRoots) (fits : Bool) → im
 taken best roots fits better e =
     ap (λ (b : Bool). cond b (Some roots) best) (sym better) ∙ ap (λ (b : Bool). better_of best (cond b (Some roots) None)) (sym e)
 
+-- a top before the next one
+pub one_top : (n t : ℕ) → t < n + 1 → (t < n) ⊎ (t ≡ n)
+one_top n t less = elim (cases_lt t n) [ inl before ↦ inl before | inr last ↦ inr (omega arith) ]
+
+-- roots that are no better than others improve nothing that those don't
+pub improves_no_more : (roots other : FoundRoots) (best : Option FoundRoots) → improves other best ≡ false → is_better roots other ≡ false → improves roots best ≡ false
+improves_no_more roots other None e worse = e
+improves_no_more roots other (Some best) e worse = not_better_over roots other best worse e
+
 -- the pairs of the tops before one, and those of this one with the details before one
 abbrev pub IsBefore : ℕ → ℕ → ℕ → ℕ → Type 0
 IsBefore top details t d = (t < top) ⊎ ((t ≡ top) × (d < details))
 
 module _ (fits : ℕ → ℕ → Bool) (pair : ℕ → ℕ → FoundRoots) (top : ℕ) where
-  pub no_details : (best : Option FoundRoots) → IsBestOf fits pair (λ t d. t < top) best → IsBestOf fits pair (IsBefore top 0) best
-  no_details best is =
-      best_among fits pair (λ t d. t < top) (IsBefore top 0) (λ t d before fit. elim before [ inl less ↦ less | inr here ↦ absurd (omega (arith, here.1)) ]) best is
+  -- where no pair of a top improves the best ones, they are the best with it too
+  pub passed_by : (best : Option FoundRoots) → ((d : ℕ) → fits top d ≡ true → improves (pair top d) best ≡ false)
+      → IsBestOf fits pair (λ t d. t < top) best → IsBestOf fits pair (λ t d. t < top + 1) best
+  passed_by None worse is = λ t d less. elim (one_top top t less) [
+    | inl before ↦ is t d before
+    | inr here ↦ false_from_ne_true (fits t d) (λ fit. both_ways true (worse d (ap (λ (x : ℕ). fits x d) (sym here) ∙ fit)) refl)
+  ]
+  passed_by (Some best) worse is = record {
+    fitting = is.fitting;
+    numbers = is.numbers;
+    none_better = λ t d less fit. elim (one_top top t less) [
+      | inl before ↦ is.none_better t d before fit
+      | inr here ↦
+          subst (λ (x : ℕ). is_better (pair x d) best ≡ false) (sym here) (worse d (ap (λ (x : ℕ). fits x d) (sym here) ∙ fit))
+    ];
+  }
 
+  -- the best with one pair more
   pub one_details : (details : ℕ) → (pair top details).top ≡ top → (pair top details).details ≡ details → (best : Option FoundRoots)
       → IsBestOf fits pair (IsBefore top details) best
       → IsBestOf fits pair (IsBefore top (details + 1)) (better_of best (cond (fits top details) (Some (pair top details)) None))
@@ -116,6 +139,7 @@ module _ (fits : ℕ → ℕ → Bool) (pair : ℕ → ℕ → FoundRoots) (top 
       ])
       best (cond (fits top details) (Some (pair top details)) None) is (best_of_one fits pair top details first second)
 
+  -- after all details the best with this top
   pub all_details : (n : ℕ) → ((t d : ℕ) → fits t d ≡ true → d < n) → (best : Option FoundRoots)
       → IsBestOf fits pair (IsBefore top n) best → IsBestOf fits pair (λ t d. t < top + 1) best
   all_details n few best is =
@@ -214,10 +238,3 @@ module _ (trees : LostTrees) where
         → IsBestOf (may_fit trees) (pair_of trees) (λ t d. t ≡ top) (option_map (λ (p : Partners). pair_of trees top (best_partner p (time_at trees.top_measures top))) partners)
     best_of_top good None none = no_partner none
     best_of_top good (Some partners) are = by_time good partners are (nat_lt (time_at trees.top_measures top) partners.time) refl
-
--- the tops before the first, and with one more
-pub no_tops : (fits : ℕ → ℕ → Bool) (pair : ℕ → ℕ → FoundRoots) → IsBestOf fits pair (λ t d. t < 0) None
-no_tops fits pair t d less = absurd (omega arith)
-
-pub one_top : (n t : ℕ) → t < n + 1 → (t < n) ⊎ (t ≡ n)
-one_top n t less = elim (cases_lt t n) [ inl before ↦ inl before | inr last ↦ inr (omega arith) ]

@@ -1,5 +1,5 @@
 -- The partners of each sum, tree by tree.
-use Rattle.std.proofs.Common.{◌≡◌, inl, inr, ℕ, ◌+◌, ◌<◌, ◌≤◌, Bool, true, false, ◌&&◌, cond, nat_eq, nat_lt, [], Option, Some, None, refl, sym, ◌∙◌, ap, ap₂, subst, arith}
+use Rattle.std.proofs.Common.{◌≡◌, inl, inr, ℕ, ◌+◌, ◌<◌, ◌≤◌, Bool, true, false, ◌&&◌, cond, nat_eq, nat_lt, Option, Some, None, refl, sym, ◌∙◌, ap, ap₂, subst, arith}
 use Rattle.std.specs.BTreeMap.{BTreeMap, get}
 use Rattle.std.specs.Ordering.{is_eq, nat_cmp, ordering_then}
 use Rattle.std.specs.declared.cmp.Ordering.{Ordering}
@@ -132,14 +132,6 @@ module _ (passes : ℕ → Bool) (time : ℕ → ℕ) (b : ℕ) where
   pub passed_with : passes b ≡ true → (o : Option Partners) → ArePartnersBefore passes time b o → ArePartners passes time (b + 1) (with_one o b (time b))
   passed_with p None none = one_alone p none
   passed_with p (Some partners) are = one_more p partners are (nat_lt partners.time (time b)) refl
-
--- before the first tree there are none
-pub none_yet : (details : Notes) (measures : Measures) (table : BTreeMap (ℕ × ℕ) Partners) → table.entries ≡ [] → AreBySum details measures 0 table
-none_yet details measures table empty = record {
-  partners = λ sum.
-      let none : get sum_cmp table sum ≡ None = rw empty refl in
-      subst (ArePartnersBefore (is_partner details measures sum) (time_at measures) 0) (sym none) (λ c less. absurd (omega arith));
-}
 
 -- the table with one more sound tree
 pub put_one : (details : Notes) (measures : Measures) (b : ℕ) → is_noted_good details b ≡ true → (old new : BTreeMap (ℕ × ℕ) Partners)

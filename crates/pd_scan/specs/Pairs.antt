@@ -41,6 +41,7 @@ pub record IsBest (fits : ℕ → ℕ → Bool) (pair : ℕ → ℕ → FoundRoo
   pub numbers : best ≡ pair best.top best.details
   pub none_better : (top details : ℕ) → IsAmong top details → fits top details ≡ true → is_better (pair top details) best ≡ false
 
+-- the same, where some fit, and else there is none
 abbrev pub IsBestOf : (ℕ → ℕ → Bool) → (ℕ → ℕ → FoundRoots) → (ℕ → ℕ → Type 0) → Option FoundRoots → Type 0
 IsBestOf fits pair IsAmong None = (top details : ℕ) → IsAmong top details → fits top details ≡ false
 IsBestOf fits pair IsAmong (Some best) = IsBest fits pair IsAmong best

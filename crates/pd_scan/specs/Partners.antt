@@ -26,6 +26,7 @@ sum_cmp a b = ordering_then (nat_cmp a.0 b.0) (nat_cmp a.1 b.1)
 abbrev pub time_of : Measured → ℕ
 time_of measure = min measure.time (2 ^ 32 - 1)
 
+-- that of the tree with a root
 abbrev pub time_at : Measures → ℕ → ℕ
 time_at measures b = time_of (measure_at measures b)
 
@@ -43,6 +44,7 @@ pub record ArePartners (passes : ℕ → Bool) (time : ℕ → ℕ) (before : �
   pub is_time : partners.time ≡ time partners.latest
   pub none_later : (b : ℕ) → b < before → passes b ≡ true → (time b < partners.time) ⊎ ((time b ≡ partners.time) × (partners.latest ≤ b))
 
+-- the same, where some pass, and else there are none
 abbrev pub ArePartnersBefore : (ℕ → Bool) → (ℕ → ℕ) → ℕ → Option Partners → Type 0
 ArePartnersBefore passes time before None = (b : ℕ) → b < before → passes b ≡ false
 ArePartnersBefore passes time before (Some partners) = ArePartners passes time before partners
@@ -53,7 +55,7 @@ with_one None b time = record { lowest = b; latest = b; time = time }
 with_one (Some partners) b time =
     if nat_lt partners.time time then record { lowest = partners.lowest; latest = b; time = time } else partners
 
--- the best partner of a mapping tree with this time: where all are earlier that makes no difference, and it is the lowest
+-- the best partner of a mapping tree with this time: one with the latest time, if that is later, and else the lowest one
 abbrev pub best_partner : Partners → ℕ → ℕ
 best_partner partners time = if nat_lt time partners.time then partners.latest else partners.lowest
 

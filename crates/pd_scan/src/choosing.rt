@@ -6,39 +6,34 @@ ghost use Rattle.pd_image.specs.Device.{IsAttached, OnlyReads};
 ghost use Rattle.pd_graph.specs.Notes.{size_of};
 ghost use Rattle.pd_laid.specs.FoundRoots.{IsFound, are_fitting, lost_graph};
 ghost use Rattle.pd_scan.specs.Pairs.{AreTreesOf, IsBest, IsBestOf, may_fit, pair_of};
+ghost use Rattle.pd_scan.specs.Partners.{AreBySum};
 ghost use Rattle.pd_scan.specs.Roots.{AreInside, found_of, roots_of};
 ghost use Rattle.pd_scan.specs.Trees.{AreLostTrees, HavePlaces};
 
 use crate::fitting::{best_from, fitting_trees_match};
 use crate::pairs::best_of_tops;
-use crate::partners::partners_by_sum;
+use crate::partners::{BySum, partners_by_sum};
 use crate::roots::Roots;
 use crate::trees::LostTrees;
 use pd_image::Device;
 use pd_kinds::CheckFault;
 use pd_measures::ListCursors;
-use std::alloc::{AllocError, Global};
+use std::alloc::Global;
 
-/// The best roots of all trees that may fit each other, by what is measured of them. Want of memory is the only error.
-fn best_by_measures(alloc: Global, trees: &LostTrees) -> Result<Option<Roots>, AllocError>
-    ensures { IfOk result (λ found. IsBestOf (may_fit trees.now) (pair_of trees.now) (λ t d. t < size_of trees.now.tops) (found_of found)) }
-{
-    let by_sum = partners_by_sum(alloc, &trees.details, &trees.details_measures)?;
-    Ok(best_of_tops(trees, &by_sum))
-}
-
-/// The best roots of all trees that fit each other, where these are the best of all that may.
+/// The best roots of all trees that fit each other, where these are the best of all that may fit.
 ///
 /// Fails with `CheckFault::Memory` where memory wasn't found, and with `CheckFault::Device` where a read failed.
 fn best_of_fitting<D: Device>(
     alloc: Global,
     roots: Roots,
     trees: &LostTrees,
+    by_sum: &BySum,
     dev: &mut D,
 ) -> Result<Option<Roots>, CheckFault>
     requires attached { IsAttached (D.state dev.old) }
     requires places { HavePlaces (size_of trees.now.tops) trees.now }
     requires within { size_of trees.now.tops ≤ (D.state dev.old).blocks }
+    requires by_sum { AreBySum trees.now.details trees.now.details_measures (size_of trees.now.details) by_sum.now }
     requires best { IsBest (may_fit trees.now) (pair_of trees.now) (λ t d. t < size_of trees.now.tops) (roots_of roots) }
     ensures best { IfOk result (λ found. IfSome (D.state dev.old).held (λ image. (data_blocks : ℕ) → AreTreesOf image data_blocks trees.now
         → IsBestOf (are_fitting (lost_graph image data_blocks) image) (pair_of trees.now) (λ t d. t < size_of trees.now.tops) (found_of found))) }
@@ -50,7 +45,7 @@ fn best_of_fitting<D: Device>(
         Ok(cursors) => cursors,
         Err(_) => return Err(CheckFault::Memory),
     };
-    match best_from(roots, trees, &mut cursors, dev) {
+    match best_from(roots, trees, by_sum, &mut cursors, dev) {
         Ok(found) => Ok(found),
         Err(_) => Err(CheckFault::Device),
     }
@@ -60,7 +55,8 @@ fn best_of_fitting<D: Device>(
 /// those with the latest time, and of those the lowest blocks. There are none exactly where no two trees fit.
 ///
 /// Trees meet by what is measured of them and not pair by pair: the best roots of all that may fit are found in one pass
-/// over the details trees and one over the mapping trees. Then their lists are read to see whether they do.
+/// over the details trees and one over the mapping trees. Then their lists are read to see whether they do. It takes
+/// memory for each sum that a details tree has, and about 530 KiB.
 ///
 /// Fails with `CheckFault::Memory` where memory wasn't found, and with `CheckFault::Device` where a read failed.
 pub(crate) fn choose<D: Device>(
@@ -78,9 +74,12 @@ pub(crate) fn choose<D: Device>(
     ensures faults { CountsCheckFault result (D.state dev.old).faults (D.state dev.new).faults }
 {
     fitting_trees_match();
-    match best_by_measures(alloc, trees) {
-        Ok(Some(roots)) => best_of_fitting(alloc, roots, trees, dev),
-        Ok(None) => Ok(None),
-        Err(_) => Err(CheckFault::Memory),
+    let by_sum = match partners_by_sum(alloc, &trees.details, &trees.details_measures) {
+        Ok(by_sum) => by_sum,
+        Err(_) => return Err(CheckFault::Memory),
+    };
+    match best_of_tops(trees, &by_sum) {
+        Some(roots) => best_of_fitting(alloc, roots, trees, &by_sum, dev),
+        None => Ok(None),
     }
 }

@@ -1,8 +1,9 @@
 //! Pairs of a mapping tree and a details tree, by what is measured of them, and the best of those that may fit each other.
 
-ghost use Rattle.std.specs.Prelude.{◌≡◌, ◌<◌};
+ghost use Rattle.std.specs.Prelude.{◌≡◌, ℕ, ◌<◌, true, false};
+ghost use Rattle.std.specs.Bool.{OnFalse};
 ghost use Rattle.pd_graph.specs.Notes.{size_of};
-ghost use Rattle.pd_scan.specs.Pairs.{IsBestOf, better_of, improves as does_improve, may_fit as do_match, pair_of};
+ghost use Rattle.pd_scan.specs.Pairs.{IsBestOf, better_of, improves as does_improve, may_fit as may_match, pair_of};
 ghost use Rattle.pd_scan.specs.Partners.{AreBySum};
 ghost use Rattle.pd_scan.specs.Roots.{found_of, roots_of};
 
@@ -14,7 +15,7 @@ use crate::trees::LostTrees;
 /// Whether two trees may fit each other: both are sound, and what is measured of them has one sum.
 #[tactic(auto, unfolding(crate::specs::Pairs::may_fit, crate::specs::Partners::is_partner))]
 pub(crate) fn may_fit(trees: &LostTrees, top: u64, details: u64) -> bool
-    ensures { result ≡ do_match trees.now top details }
+    ensures { result ≡ may_match trees.now top details }
 {
     let asked = sum(trees.top_measures.get(top));
     let same = sum(trees.details_measures.get(details)) == asked;
@@ -59,7 +60,7 @@ fn better(best: Option<Roots>, roots: Option<Roots>) -> Option<Roots>
 /// The best roots of those whose mapping tree is this one, by the partners of each sum.
 fn best_of_top(trees: &LostTrees, by_sum: &BySum, top: u64) -> Option<Roots>
     requires { AreBySum trees.now.details trees.now.details_measures (size_of trees.now.details) by_sum.now }
-    ensures { IsBestOf (do_match trees.now) (pair_of trees.now) (λ t d. t ≡ top) (found_of result) }
+    ensures { IsBestOf (may_match trees.now) (pair_of trees.now) (λ t d. t ≡ top) (found_of result) }
 {
     if !is_good(&trees.tops, top) {
         return None;
@@ -71,10 +72,21 @@ fn best_of_top(trees: &LostTrees, by_sum: &BySum, top: u64) -> Option<Roots>
     }
 }
 
+/// Whether there may be roots with this mapping tree that are better than the best ones so far, if there are any.
+pub(crate) fn may_improve(trees: &LostTrees, by_sum: &BySum, top: u64, best: Option<Roots>) -> bool
+    requires { AreBySum trees.now.details trees.now.details_measures (size_of trees.now.details) by_sum.now }
+    ensures { OnFalse result ((d : ℕ) → may_match trees.now top d ≡ true → does_improve (pair_of trees.now top d) (found_of best) ≡ false) }
+{
+    match best_of_top(trees, by_sum, top) {
+        Some(roots) => improves(&roots, best),
+        None => false,
+    }
+}
+
 /// The best roots of all trees that may fit each other, by the partners of each sum.
 pub(crate) fn best_of_tops(trees: &LostTrees, by_sum: &BySum) -> Option<Roots>
     requires { AreBySum trees.now.details trees.now.details_measures (size_of trees.now.details) by_sum.now }
-    ensures { IsBestOf (do_match trees.now) (pair_of trees.now) (λ t d. t < size_of trees.now.tops) (found_of result) }
+    ensures { IsBestOf (may_match trees.now) (pair_of trees.now) (λ t d. t < size_of trees.now.tops) (found_of result) }
 {
     let mut best = None;
     for top in 0..trees.tops.nr() {

@@ -12,7 +12,7 @@ use std::alloc::{AllocError, Global};
 use std::collections::BTreeMap;
 
 /// The sound details trees that have one sum, as far as it matters which of them a mapping tree is paired with.
-#[derive(Clone, Copy, Debug, PartialEq, Eq)]
+#[derive(Clone, Copy)]
 pub(crate) struct Partners {
     /// The lowest block of a root.
     lowest: u64,

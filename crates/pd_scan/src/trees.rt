@@ -1,7 +1,7 @@
 //! The sound trees of a pool without its superblock, settled and measured.
 
 ghost use Rattle.std.specs.Prelude.{◌≡◌, ℕ, ◌+◌, ◌*◌, ◌≤◌, IfOk, IfSome};
-ghost use Rattle.pd_kinds.specs.CheckFault.{CountsCheckFault};
+ghost use Rattle.pd_kinds.specs.CheckFault.{CountsCheckFault, StopsEarly};
 ghost use Rattle.pd_image.specs.Device.{IsAttached, OnlyReads};
 ghost use Rattle.pd_scan.specs.Lost.{IsPool};
 ghost use Rattle.pd_scan.specs.Tables.{trees_of as trees_of_tables};
@@ -68,6 +68,7 @@ pub(crate) fn measure_lost<F: Format, D: Device>(
 
     // At most eleven reads for each block, whatever it shares: eight settle it, and one measures it in each role.
     ensures reads { (D.state dev.new).reads ≤ (D.state dev.old).reads + 11 * (F.graph format.now).nr }
+    ensures early { StopsEarly result (D.state dev.old).reads (D.state dev.new).reads }
     ensures kept { OnlyReads (D.state dev.old) (D.state dev.new) }
     ensures faults { CountsCheckFault result (D.state dev.old).faults (D.state dev.new).faults }
 {

@@ -1,13 +1,22 @@
 use Rattle.std.proofs.Common.{◌≡◌, ℕ, ◌+◌, ◌≤◌, cond, Some, None, IfSome, sym, ◌∙◌, subst, arith}
+use Rattle.std.proofs.lemmas.Bool.{OnFalse_at}
 use Rattle.std.proofs.lemmas.Option.{IfSome_then}
 use Rattle.pd_image.proofs.ReadLemmas.{only_reads_both}
 use Rattle.pd_graph.specs.Notes.{size_of}
-use Rattle.pd_graph.proofs.AnyLemmas.{if_both}
+use Rattle.pd_graph.proofs.AnyLemmas.{if_any, if_both}
 use Rattle.pd_laid.specs.FoundRoots.{are_fitting, lost_graph}
 use Rattle.pd_scan.specs.Pairs.{AreTreesOf, IsBestOf, better_of, pair_of}
 use Rattle.pd_scan.specs.Roots.{found_of}
-use Rattle.pd_scan.proofs.PairLemmas.{IsBefore, all_details, fitting_inside, one_details, pair_details, pair_top}
+use Rattle.pd_scan.proofs.PairLemmas.{IsBefore, all_details, fitting_inside, one_details, pair_details, passed_by, pair_top}
 use Rattle.pd_scan.proofs.fitting.with_top.Goals as goal
+
+pub returns-then-not-may_improve-clause-best : goal.returns-then-not-may_improve-clause-best
+returns-then-not-may_improve-clause-best g c =
+    let trees = c.args.trees.now in
+    let worse = OnFalse_at c.if-not-may_improve.true c.may_improve.ensures in
+    if_any (g.D.Device.state c.args.dev.now).held (λ image data_blocks are.
+    passed_by (are_fitting (lost_graph image data_blocks) image) (pair_of trees) c.args.top (found_of c.args.before)
+    (λ d fit. worse d (c.fitting_trees_match.ensures.fits image data_blocks trees c.args.top d are fit)))
 
 pub loop-details-preserved : goal.loop-details-preserved
 loop-details-preserved g c =
