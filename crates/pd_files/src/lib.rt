@@ -4,10 +4,13 @@
 //! which calls of a file they make, in which order.
 #![tactic(auto)]
 
+mod block_file;
 mod file_device;
 mod outcome;
+mod reading;
 mod record;
 mod recorded_file;
+mod run;
 mod std_sink;
 mod std_source;
 

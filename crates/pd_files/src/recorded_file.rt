@@ -1,8 +1,9 @@
 //! An open file that keeps a record of its calls, so that it is proved which were made, and in which order.
 
-ghost use Rattle.std.specs.Prelude.{◌≡◌, ◌∷◌, List, is_ok};
+ghost use Rattle.std.specs.Prelude.{◌≡◌, ◌≤◌, ◌∷◌, [], List, true, false, length, take, is_ok, IfOk, OnErr};
 ghost use Rattle.pd_files.specs.FileCall.{FileCall, sought, gave, wrote, synced};
 
+use crate::reading::read_some;
 use crate::record::Record;
 use std::fs::OpenFile;
 use std::io;
@@ -24,6 +25,12 @@ pub(crate) trait FileCalls {
     /// Moves to this byte.
     fn move_to(&mut self, at: u64) -> io::Result<()>
         ensures { calls self.new ≡ sought at (is_ok result) ∷ calls self.old };
+
+    /// Reads once: as many bytes as come, up to all of `into`, and 0 at the end of the file.
+    fn take(&mut self, into: &mut [u8]) -> io::Result<usize>
+        ensures some { IfOk result (λ n. n ≤ length into.new) }
+        ensures came { IfOk result (λ n. calls self.new ≡ gave (take n into.new) true ∷ calls self.old) }
+        ensures failed { OnErr result (calls self.new ≡ gave [] false ∷ calls self.old) };
 
     /// Reads until `into` is full.
     fn fill(&mut self, into: &mut [u8]) -> io::Result<()>
@@ -63,6 +70,15 @@ impl<F: Read + Write + Seek + OpenFile> FileCalls for RecordedFile<F> {
         match answer {
             Ok(()) => self.log.note(&[SOUGHT, 1, at], &[]),
             Err(_) => self.log.note(&[SOUGHT, 0, at], &[]),
+        }
+        answer
+    }
+
+    fn take(&mut self, into: &mut [u8]) -> io::Result<usize> {
+        let answer = read_some(&mut self.file, into);
+        match answer {
+            Ok(n) => self.log.note(&[GAVE, 1], &into[..n]),
+            Err(_) => self.log.note(&[GAVE, 0], &[]),
         }
         answer
     }

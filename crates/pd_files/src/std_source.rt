@@ -1,13 +1,14 @@
 //! A source over a real file: a thin layer over the file's own calls, of which nothing is assumed.
 
-ghost use Rattle.std.specs.Prelude.{refl, ◌≡◌, ◌≤◌, length, IfOk};
+ghost use Rattle.std.specs.Prelude.{refl, ◌≡◌};
 ghost use Rattle.pd_files.specs.StdSource.{std_source_state, unattached_text};
 
 use crate::outcome::counted_outcome;
+use crate::reading::read_some;
 use pd_image::{Access, Failed, Source};
-use std::io::{ErrorKind, Read};
+use std::fs;
+use std::io::ErrorKind;
 use std::rt::Files;
-use std::{fs, io};
 
 /// A source whose text is a file's. It tells neither its bytes nor its path.
 ///
@@ -55,17 +56,4 @@ impl<'a, R: Files> Source for StdSource<'a, R> {
         };
         counted_outcome(taken, &mut self.faults)
     }
-}
-
-/// Reads once, and again where a signal cut in. 0 is the end of the file.
-fn read_some<F: Read>(file: &mut F, into: &mut [u8]) -> io::Result<usize>
-    ensures { IfOk result (λ n. n ≤ length into.new) }
-{
-    for _ in 0..u64::MAX {
-        match file.read(into) {
-            Err(error) if error.kind() == ErrorKind::Interrupted => {}
-            answer => return answer,
-        }
-    }
-    Err(ErrorKind::Interrupted.into())
 }
