@@ -1,5 +1,5 @@
 -- Where a file stands and what it gave, as its calls tell.
-use Rattle.std.specs.Prelude.{◌≡◌, ℕ, ◌+◌, ◌-◌, ◌<◌, ◌≤◌, nat_lt, Bool, true, false, if◌then◌else◌, List, [], ◌∷◌, ◌++◌, length, slice_get, Option, Some, None, All}
+use Rattle.std.specs.Prelude.{◌≡◌, ℕ, ◌+◌, ◌-◌, ◌*◌, ◌^◌, ◌<◌, ◌≤◌, ◌⊎◌, nat_lt, Bool, true, false, if◌then◌else◌, List, [], ◌∷◌, ◌++◌, length, slice_get, Option, Some, None, All}
 use Rattle.pd_files.specs.FileCall.{FileCall, sought, gave, wrote, synced}
 
 -- so many bytes further on
@@ -51,3 +51,15 @@ pub record LooksMore (most : ℕ) (old new : List FileCall) : Type 0 where
   pub before : new ≡ later ++ old
   pub looks : All (λ call. only_looks call ≡ true) later
   pub few : length later ≤ most
+
+-- the newest call is the block's own and failed: to move to its first byte, or to read its bytes and no more
+abbrev pub FailedAt : ℕ → List FileCall → Type 0
+FailedAt b [] = ⊥
+FailedAt b (sought at ok ∷ calls) = (at ≡ 4096 * b) × (ok ≡ false)
+FailedAt b (gave bytes ok ∷ calls) = (length bytes ≡ 4096) × (ok ≡ false) × (place calls ≡ Some (4096 * b))
+FailedAt b (wrote bytes ok ∷ calls) = ⊥
+FailedAt b (synced ok ∷ calls) = ⊥
+
+-- why a block isn't read: no file has a byte so far out, or its own call failed
+abbrev pub FailsAlone : ℕ → List FileCall → Type 0
+FailsAlone b calls = (2 ^ 64 ≤ 4096 * b) ⊎ FailedAt b calls

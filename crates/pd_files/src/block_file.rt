@@ -1,9 +1,9 @@
 //! An open file as blocks: a run of them is read at one call, where the reads stand in a row.
 
-ghost use Rattle.std.specs.Prelude.{◌≡◌, ◌+◌, ◌*◌, ◌/◌, ◌^◌, ◌<◌, ◌∷◌, ◌↔◌, true, ℕ, IsTrue, Some, None, is_ok, OnOk, if◌then◌else◌};
+ghost use Rattle.std.specs.Prelude.{◌≡◌, ◌+◌, ◌*◌, ◌/◌, ◌^◌, ◌<◌, ◌∷◌, ◌↔◌, true, ℕ, IsTrue, Some, None, is_ok, OnOk, OnErr, if◌then◌else◌};
 ghost use Rattle.std.proofs.Props.{props};
 ghost use Rattle.pd_files.specs.FileCall.{wrote, synced, after_moving};
-ghost use Rattle.pd_files.specs.Given.{place, given, IsGivenAt, LooksMore};
+ghost use Rattle.pd_files.specs.Given.{place, given, FailsAlone, IsGivenAt, LooksMore};
 ghost use Rattle.pd_files.specs.Run.{Serves, kept_bytes};
 
 use crate::recorded_file::{FileCalls, RecordedFile};
@@ -49,6 +49,7 @@ impl<F: Read + Write + Seek + OpenFile> BlockFile<F> {
         requires within { b < blocks }
         ensures given { OnOk result (IsGivenAt (calls_of self.new) (4096 * b) into.new.0) }
         ensures made { LooksMore 3 (calls_of self.old) (calls_of self.new) }
+        ensures failed { OnErr result (FailsAlone b (calls_of self.new)) }
         ensures served { Serves b self.old.run → calls_of self.new ≡ calls_of self.old }
     {
         if self.run.serves(b) {
@@ -99,6 +100,7 @@ impl<F: Read + Write + Seek + OpenFile> BlockFile<F> {
         requires missing { Serves b self.old.run → ⊥ }
         ensures given { OnOk result (IsGivenAt (calls_of self.new) (4096 * b) into.new.0) }
         ensures made { LooksMore 2 (calls_of self.old) (calls_of self.new) }
+        ensures failed { OnErr result (FailsAlone b (calls_of self.new)) }
     {
         let known = self.stands_at(b);
         self.position = None;
@@ -151,6 +153,7 @@ fn move_to_block<F: FileCalls>(file: &mut F, b: u64, known: bool) -> io::Result<
     ensures moved { OnOk result (F.calls file.new ≡ after_moving known b (F.calls file.old)) }
     ensures stands { OnOk result ((IsTrue known → place (F.calls file.old) ≡ Some (4096 * b)) → place (F.calls file.new) ≡ Some (4096 * b)) }
     ensures made { LooksMore 1 (F.calls file.old) (F.calls file.new) }
+    ensures failed { OnErr result (FailsAlone b (F.calls file.new)) }
     ensures kept { (at : ℕ) → given (F.calls file.new) at ≡ given (F.calls file.old) at }
 {
     if known {

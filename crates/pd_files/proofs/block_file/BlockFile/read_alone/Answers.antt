@@ -1,6 +1,6 @@
 -- The bytes are those that the read gave, and what was kept is of other blocks.
 use Rattle.std.proofs.Common.{◌≡◌, ◌+◌, ◌*◌, ◌∷◌, ◌⊎◌, ◌≤◌, inl, inr, true, false, ◌∙◌, sym, refl, length, arith}
-use Rattle.std.specs.Prelude.{Some, is_ok}
+use Rattle.std.specs.Prelude.{Some}
 use Rattle.std.proofs.lemmas.List.{length-take}
 use Rattle.pd_files.specs.FileCall.{gave}
 use Rattle.pd_files.specs.Given.{place, IsGivenAt}
