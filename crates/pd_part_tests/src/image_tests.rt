@@ -1,7 +1,12 @@
+ghost use Rattle.std.specs.Prelude.{IfOk};
+ghost use Rattle.pd_image.specs.Device.{IsAttached, IsWritable, OnlyReads};
+ghost use Rattle.pd_files.specs.FileDevice.{file_device_state};
+
 use crate::objects::{NEVER, device_of, three_left};
 use pd_files::{FileDevice, StdSink, StdSource};
 use pd_image::{Device, MemDevice, MemSink, MemSource, Pick, Sink, Source};
 use pd_kinds::{BLOCK_SIZE, Block};
+use std::alloc::Global;
 use std::fs;
 use std::test::Fail;
 
@@ -153,6 +158,99 @@ fn file_device_fails_past_the_end_of_a_file_cut_short(rt: HostRuntime) -> Result
     assert!(rt; block == ONES);
     assert!(rt; device.read(1, &mut block).is_err());
     fs::remove_file(&rt, "cut_short.img")?;
+    Ok(())
+}
+
+/// The numbers of the blocks of a file that has three runs, the last one short.
+const NUMBERS: [u8; 35] = [
+    0, 1, 2, 3, 4, 5, 6, 7, 8, 9, 10, 11, 12, 13, 14, 15, 16, 17, 18, 19, 20, 21, 22, 23, 24, 25, 26,
+    27, 28, 29, 30, 31, 32, 33, 34,
+];
+
+/// The bytes of so many blocks, each full of its own number, and a hundred bytes more.
+fn numbered(alloc: Global, blocks: usize) -> Result<Vec<u8>, Fail> {
+    let mut image = Vec::new(alloc);
+    for number in NUMBERS.iter().take(blocks) {
+        image.resize(image.len() + BLOCK_SIZE, *number)?;
+    }
+    image.resize(image.len() + 100, 0)?;
+    Ok(image)
+}
+
+/// A device over a new file of 35 such blocks.
+fn numbered_device<'a>(
+    rt: &'a HostRuntime,
+    path: &str,
+) -> Result<Box<FileDevice<'a, HostRuntime>>, Fail>
+    ensures { IfOk result (λ device. IsWritable (file_device_state device.value)) }
+{
+    fs::write(rt, path, numbered(rt.alloc(), 35)?.as_slice())?;
+    let mut device = Box::new(rt.alloc(), FileDevice::new(rt))?;
+    device.attach(path, true)?;
+    Ok(device)
+}
+
+/// Whether these blocks are there and each is full of its own number, as they are read in this order.
+fn has_numbers<D: Device>(device: &mut D, numbers: &[u8]) -> bool
+    requires { IsAttached (D.state device.old) }
+    ensures { OnlyReads (D.state device.old) (D.state device.new) }
+{
+    let mut block = ONES;
+    for number in numbers {
+        let b = u64::from(*number);
+        if b >= device.blocks() {
+            return false;
+        }
+        if device.read(b, &mut block).is_err() {
+            return false;
+        }
+        if block != Block([*number; BLOCK_SIZE]) {
+            return false;
+        }
+    }
+    true
+}
+
+#[test]
+fn file_device_reads_in_any_order(rt: HostRuntime) -> Result<(), Fail> {
+    let mut device = numbered_device(&rt, "any_order.img")?;
+    let mut backwards = NUMBERS;
+    backwards.reverse();
+    assert!(rt; device.blocks() == 35);
+    assert!(rt; has_numbers(&mut *device, &NUMBERS));
+    assert!(rt; has_numbers(&mut *device, &backwards));
+    assert!(rt; has_numbers(&mut *device, &[3, 4, 5, 20, 6, 7, 15, 16, 17, 18, 2, 34, 0, 1, 1, 33, 34]));
+    fs::remove_file(&rt, "any_order.img")?;
+    Ok(())
+}
+
+#[test]
+fn file_device_reads_what_was_written_in_a_run(rt: HostRuntime) -> Result<(), Fail> {
+    let mut device = numbered_device(&rt, "written_run.img")?;
+    assert!(rt; device.blocks() == 35);
+    assert!(rt; has_numbers(&mut *device, &[2, 3, 4]));
+    assert!(rt; device.write(6, &Block([9; BLOCK_SIZE])).is_ok());
+    assert!(rt; has_numbers(&mut *device, &[5]));
+    assert!(rt; !has_numbers(&mut *device, &[6]));
+    assert!(rt; has_numbers(&mut *device, &[7, 8]));
+    assert!(rt; device.write(6, &Block([6; BLOCK_SIZE])).is_ok());
+    assert!(rt; device.sync().is_ok());
+    assert!(rt; has_numbers(&mut *device, &[5, 6, 7, 8]));
+    fs::remove_file(&rt, "written_run.img")?;
+    Ok(())
+}
+
+/// Another handle cuts the file: what is kept of it is still served, and from its new end on each block fails.
+#[test]
+fn file_device_fails_block_by_block_past_the_end_of_a_run_cut_short(rt: HostRuntime) -> Result<(), Fail> {
+    let mut device = numbered_device(&rt, "cut_run.img")?;
+    assert!(rt; has_numbers(&mut *device, &[0, 1]));
+    fs::write(&rt, "cut_run.img", numbered(rt.alloc(), 18)?.as_slice())?;
+    assert!(rt; has_numbers(&mut *device, &[2, 15, 16, 17]));
+    assert!(rt; !has_numbers(&mut *device, &[18]));
+    assert!(rt; !has_numbers(&mut *device, &[34]));
+    assert!(rt; has_numbers(&mut *device, &[17, 16]));
+    fs::remove_file(&rt, "cut_run.img")?;
     Ok(())
 }
 
