@@ -163,8 +163,8 @@ fn file_device_fails_past_the_end_of_a_file_cut_short(rt: HostRuntime) -> Result
 
 /// The numbers of the blocks of a file that has three runs, the last one short.
 const NUMBERS: [u8; 35] = [
-    0, 1, 2, 3, 4, 5, 6, 7, 8, 9, 10, 11, 12, 13, 14, 15, 16, 17, 18, 19, 20, 21, 22, 23, 24, 25, 26,
-    27, 28, 29, 30, 31, 32, 33, 34,
+    0, 1, 2, 3, 4, 5, 6, 7, 8, 9, 10, 11, 12, 13, 14, 15, 16, 17, 18, 19, 20, 21, 22, 23, 24, 25,
+    26, 27, 28, 29, 30, 31, 32, 33, 34,
 ];
 
 /// The bytes of so many blocks, each full of its own number, and a hundred bytes more.
@@ -219,7 +219,12 @@ fn file_device_reads_in_any_order(rt: HostRuntime) -> Result<(), Fail> {
     assert!(rt; device.blocks() == 35);
     assert!(rt; has_numbers(&mut *device, &NUMBERS));
     assert!(rt; has_numbers(&mut *device, &backwards));
-    assert!(rt; has_numbers(&mut *device, &[3, 4, 5, 20, 6, 7, 15, 16, 17, 18, 2, 34, 0, 1, 1, 33, 34]));
+    assert!(rt;
+        has_numbers(
+            &mut *device,
+            &[3, 4, 5, 20, 6, 7, 15, 16, 17, 18, 2, 34, 0, 1, 1, 33, 34]
+        )
+    );
     fs::remove_file(&rt, "any_order.img")?;
     Ok(())
 }
@@ -242,7 +247,9 @@ fn file_device_reads_what_was_written_in_a_run(rt: HostRuntime) -> Result<(), Fa
 
 /// Another handle cuts the file: what is kept of it is still served, and from its new end on each block fails.
 #[test]
-fn file_device_fails_block_by_block_past_the_end_of_a_run_cut_short(rt: HostRuntime) -> Result<(), Fail> {
+fn file_device_fails_block_by_block_past_the_end_of_a_run_cut_short(
+    rt: HostRuntime,
+) -> Result<(), Fail> {
     let mut device = numbered_device(&rt, "cut_run.img")?;
     assert!(rt; has_numbers(&mut *device, &[0, 1]));
     fs::write(&rt, "cut_run.img", numbered(rt.alloc(), 18)?.as_slice())?;
