@@ -1,6 +1,6 @@
 -- What a file gave, after one more of its calls.
-use Rattle.std.proofs.Common.{◌≡◌, ℕ, zero, suc, ◌+◌, ◌-◌, ◌*◌, ◌<◌, ◌≤◌, ◌⊎◌, inl, inr, true, false, List, [], ◌∷◌, ◌++◌, length, take, drop, append_assoc, length-append, refl, sym, ap, ◌∙◌, arith}
-use Rattle.std.specs.Prelude.{slice_get, slice_range, nat_lt, Option, Some, None}
+use Rattle.std.proofs.Common.{◌≡◌, ℕ, zero, suc, ◌+◌, ◌-◌, ◌*◌, ◌<◌, ◌≤◌, ◌⊎◌, inl, inr, true, false, List, [], ◌∷◌, ◌++◌, length, take, append_assoc, length-append, refl, sym, ap, ◌∙◌, arith}
+use Rattle.std.specs.Prelude.{slice_get, nat_lt, Option, Some, None}
 use Rattle.std.proofs.lemmas.Bool.Decides.{nat_tests}
 use Rattle.std.proofs.lemmas.Bool.{cases_lt, false≢true}
 use Rattle.std.proofs.lemmas.List.{length-take}
@@ -11,18 +11,11 @@ use Rattle.pd_files.specs.FileCall.{FileCall, gave}
 use Rattle.pd_files.specs.Given.{place, given, or_else, IsGivenAt, only_looks, LooksMore}
 
 -- the elements of the front of a list
-pub slice_get-take : (n : ℕ) (xs : List ℕ) (i : ℕ) → i < n → slice_get (take n xs) i ≡ slice_get xs i
+slice_get-take : (n : ℕ) (xs : List ℕ) (i : ℕ) → i < n → slice_get (take n xs) i ≡ slice_get xs i
 slice_get-take zero xs i h = absurd (omega arith)
 slice_get-take (suc n) [] i h = refl
 slice_get-take (suc n) (x ∷ xs) zero h = refl
 slice_get-take (suc n) (x ∷ xs) (suc i) h = slice_get-take n xs i (omega arith)
-
--- the elements of the end of a list
-pub slice_get-drop : (n : ℕ) (xs : List ℕ) (i : ℕ) → slice_get (drop n xs) i ≡ slice_get xs (n + i)
-slice_get-drop zero xs i = let e : i ≡ 0 + i = omega arith in ap (λ (k : ℕ). slice_get xs k) e
-slice_get-drop (suc n) [] i = refl
-slice_get-drop (suc n) (x ∷ xs) i =
-    let e : suc (n + i) ≡ suc n + i = omega arith in slice_get-drop n xs i ∙ ap (λ (k : ℕ). slice_get (x ∷ xs) k) e
 
 -- an element that is there comes first
 or_else-within : (xs : List ℕ) (i : ℕ) (other : Option ℕ) → i < length xs → or_else (slice_get xs i) other ≡ slice_get xs i
@@ -34,6 +27,14 @@ given_by_read bytes calls at stands i within =
     let here : nat_lt (at + i) at ≡ false = grind (arith, nat_tests) in
     let offset : (at + i) - at ≡ i = omega arith in
     rw (stands, here, offset) (or_else-within bytes i (given calls (at + i)) within)
+
+-- what is kept of a read that filled a part of the room is what the file gave there
+pub given_front_of_read : (room : List ℕ) (calls : List FileCall) (at came kept : ℕ)
+    → place calls ≡ Some at → kept ≤ came → came ≤ length room → IsGivenAt (gave (take came room) true ∷ calls) at (take kept room)
+given_front_of_read room calls at came kept stands few most i within =
+    let short : i < kept = omega (arith, length-take kept room) in
+    given_by_read (take came room) calls at stands i (omega (arith, length-take came room))
+    ∙ (slice_get-take came room i (omega arith) ∙ sym (slice_get-take kept room i short))
 
 -- what was given elsewhere stays so after a read
 pub given_beside_read : (bytes kept : List ℕ) (calls : List FileCall) (at from : ℕ)
@@ -47,20 +48,6 @@ given_beside_read bytes kept calls at from stands (inr behind) told i within =
     let past : slice_get bytes ((at + i) - from) ≡ None = slice_get_past bytes _ (omega arith) in
     rw (stands, high, past) (told i within)
 
--- a part of what was given was given at its own place
-pub given_part : (calls : List FileCall) (at : ℕ) (bytes : List ℕ) (from to : ℕ)
-    → to ≤ length bytes → IsGivenAt calls at bytes → IsGivenAt calls (at + from) (slice_range bytes from to)
-given_part calls at bytes from to most told i within =
-    let short : i < to - from = omega (arith, length-take (to - from) (drop from bytes)) in
-    let same : (at + from) + i ≡ at + (from + i) = omega arith in
-    rw same (told (from + i) (omega arith)) ∙ sym (slice_get-take (to - from) (drop from bytes) i short ∙ slice_get-drop from bytes i)
-
--- the front of what was given was given
-pub given_front : (calls : List FileCall) (at : ℕ) (bytes : List ℕ) (n : ℕ) → IsGivenAt calls at bytes → IsGivenAt calls at (take n bytes)
-given_front calls at bytes n told i within =
-    let short : i < n = omega (arith, length-take n bytes) in
-    told i (omega (arith, length-take n bytes)) ∙ sym (slice_get-take n bytes i short)
-
 -- whatever a file gave, where no call of it but a move, or a read that failed, was made
 pub IsGivenAt-same : (old new : List FileCall) (at : ℕ) (bytes : List ℕ) → ((i : ℕ) → given new i ≡ given old i) → IsGivenAt old at bytes → IsGivenAt new at bytes
 IsGivenAt-same old new at bytes same told i within = same (at + i) ∙ told i within
@@ -73,10 +60,6 @@ is_at-same (Some c) b at = let same : c ≡ b = grind (arith, nat_tests) in ap S
 -- one call more
 pub one_look : (call : FileCall) (calls : List FileCall) → only_looks call ≡ true → LooksMore 1 calls (call ∷ calls)
 one_look call calls looks = record { later = call ∷ []; before = refl; looks = All-cons (λ other. only_looks other ≡ true) call [] looks (All-nil (λ other. only_looks other ≡ true)); few = omega arith }
-
--- no call more
-pub no_look : (most : ℕ) (calls : List FileCall) → LooksMore most calls calls
-no_look most calls = record { later = []; before = refl; looks = All-nil (λ call. only_looks call ≡ true); few = omega arith }
 
 -- some calls more, and then others
 pub looks_then : (m n most : ℕ) (first second third : List FileCall) → m + n ≤ most → LooksMore m first second → LooksMore n second third → LooksMore most first third
