@@ -199,7 +199,8 @@ fn a_found_pool_needs_room(rt: HostRuntime) -> Result<(), Fail> {
 #[test]
 fn trees_of_64_nodes_in_a_row_are_sound_and_no_deeper_ones(rt: HostRuntime) -> Result<(), Fail> {
     // 63 inner nodes above the leaf, each with one child, behind the pool's blocks.
-    let text = "thin 1\npool 00000000-0000-0000-0000-000000000000 0 0 128 1\ndevice 1 1 0 0 0\nmap 0 0 1 0\nend\n";
+    let text =
+        "thin 1\npool 00000000-0000-0000-0000-000000000000 0 0 128 1\ndevice 1 1 0 0 0\nmap 0 0 1 0\nend\n";
     let mut image = pool_of(&rt, rt.alloc(), text, 128)?;
     image[0] = Block::zeros();
     for b in 20..83 {
