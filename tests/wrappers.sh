@@ -389,6 +389,38 @@ zeros small.img 2
 try 4 thin_repair -i leak.img -o small.img
 notes_have 'pdata_tools: no room: need '
 
+# Searches, in which block 0 isn't looked at: the kernel left older trees with more mappings, in which device 2 wasn't deleted
+# yet, and device 7 still had two
+
+search() {
+    wanted=$1 from=$2 blocks=$3
+    try "$wanted" thin_repair -i "$from" -o fresh.img --transaction-id 5 --data-block-size 128 --nr-data-blocks "$blocks"
+}
+cp lost.img before.img
+search 0 lost.img 4000
+out 'roots 161 165 mappings 1818 time 4'
+notes
+same lost.img before.img
+try 0 thin_check fresh.img
+out clean
+try 0 thin_dump fresh.img
+sed '/^device 2 /,/^device 3 /{/^device 3 /!d;}; /^device 7 /,/^device 16777215 /{/^device 16777215 /!d;}' out >kept.txt
+sed '/^device 7 /d' thin-pool.txt >wanted.txt
+same kept.txt wanted.txt
+grep '^device [27] ' out >kept.txt
+printf '%s\n' 'device 2 355 1 1 2' 'device 7 2 0 0 0' >wanted.txt
+same kept.txt wanted.txt
+cp fresh.img before.img
+search 1 era.img 4000
+out
+notes 'pdata_tools: no roots'
+same fresh.img before.img
+try 4 thin_repair -i lost.img -o small.img --transaction-id 5 --data-block-size 128 --nr-data-blocks 4000
+notes_have 'pdata_tools: no room: need '
+try 2 thin_repair -i lost.img -o fresh.img --transaction-id 5 --data-block-size 128
+notes_have 'usage: thin_repair -i DEVICE -o DEVICE'
+same fresh.img before.img
+
 # Writebacks: a cache of two blocks, one of them dirty
 
 printf '%s\n' 'cache 1' 'cache 00000000-0000-0000-0000-000000000000 8 2 1 736d7100000000000000000000000000 2 0 0 4' \
@@ -826,6 +858,8 @@ END
     complete=$prefix/share/bash-completion/completions/pdata_tools
     try 0 bash complete.bash "$complete" pdata_tools thin_r
     out thin_restore thin_repair thin_rmap thin_rehearse
+    try 0 bash complete.bash "$complete" thin_repair -i lost.img --transaction-id 5 --d
+    out --data-block-size
     try 0 bash complete.bash "$complete" thin_check --until w
     out walk whole
     try 0 bash complete.bash "$complete" pdata_tools thin_check --until counts -
