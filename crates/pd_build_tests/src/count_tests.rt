@@ -1,6 +1,8 @@
 //! Counts of references, and the counts that space maps store, on devices in memory.
 
-ghost use Rattle.std.specs.Prelude.{◌≡◌};
+ghost use Rattle.std.specs.Prelude.{◌≡◌, ◌≤◌, IfOk, length};
+ghost use Rattle.pd_image.specs.Device.{IsAttached};
+ghost use Rattle.pd_image.specs.MemDevice.{mem_device_state};
 
 use pd_bitmap::{new_bitmap, new_index, seal_bitmap, seal_index, set_two_bits};
 use pd_count::Counts;
@@ -10,6 +12,7 @@ use pd_kinds::{Block, Fault, Report, Rule, SmRoot, Space};
 use pd_node::write_leaf;
 use pd_smap::{compare_data, compare_meta, stored_meta};
 use pd_value::{Count, IndexEntry};
+use std::alloc::Global;
 use std::process::Abort;
 use std::test::Fail;
 
@@ -28,8 +31,8 @@ fn a_block_is_counted_as_often_as_it_was_added(rt: HostRuntime) -> Result<(), Fa
     let mut counts = Counts::new(rt.alloc(), 10)?;
     count(&rt, &mut counts, 3)?;
     count(&rt, &mut counts, 3)?;
-    assert_eq!(rt; counts.get(3), 2);
-    assert_eq!(rt; counts.get(4), 0);
+    assert!(rt; counts.get(3) == 2);
+    assert!(rt; counts.get(4) == 0);
     Ok(())
 }
 
@@ -38,9 +41,9 @@ fn a_huge_table_takes_memory_where_a_block_is_counted(rt: HostRuntime) -> Result
     let mut counts = Counts::new(rt.alloc(), 68719476736)?;
     count(&rt, &mut counts, 0)?;
     count(&rt, &mut counts, 68719476735)?;
-    assert_eq!(rt; counts.get(0), 1);
-    assert_eq!(rt; counts.get(68719476735), 1);
-    assert_eq!(rt; counts.get(1), 0);
+    assert!(rt; counts.get(0) == 1);
+    assert!(rt; counts.get(68719476735) == 1);
+    assert!(rt; counts.get(1) == 0);
     Ok(())
 }
 
@@ -89,75 +92,98 @@ const EACH_KIND: SmRoot = SmRoot {
     overflow_root: 3,
 };
 
-/// Whether this is the fault with this number.
-fn has_fault(report: &Report, i: usize, fault: Fault) -> bool {
-    i < report.len() && report.get(i) == fault
-}
+/// A fault of a count: the device, the block, the rule, the stored count and the number of references.
+type Row = (Space, u64, Rule, u64, u64);
 
-/// A fault of a count.
-fn wrong_count(space: Space, block: u64, rule: Rule, stored: u64, refs: u64) -> Fault {
-    Fault {
+/// What that map's counts of metadata differ in from no references.
+const META_FAULTS: &[Row] = &[
+    (Space::Meta, 0, Rule::Leak, 1, 0),
+    (Space::Meta, 2, Rule::Leak, 5, 0),
+    (Space::Meta, 3, Rule::Overflow, 0, 0),
+];
+
+/// What that map's counts of data differ in from one reference each of blocks 0 and 1.
+const DATA_FAULTS: &[Row] = &[
+    (Space::DataBlock, 1, Rule::Short, 0, 1),
+    (Space::DataBlock, 2, Rule::Leak, 5, 0),
+    (Space::DataBlock, 3, Rule::Overflow, 0, 0),
+];
+
+/// Whether this is the fault with this number.
+fn has_fault(report: &Report, i: usize, row: Row) -> bool {
+    let (space, block, rule, stored, refs) = row;
+    let fault = Fault {
         space,
         block,
         rule,
         stored,
         refs,
+    };
+    i < report.len() && report.get(i) == fault
+}
+
+/// A report has these faults and no more.
+fn expect_faults(rt: &impl Abort, report: &Report, rows: &[Row]) {
+    assert!(rt; report.total() == rows.len() as u64);
+    for (i, row) in rows.iter().enumerate() {
+        assert!(rt; has_fault(report, i, *row), "{i}");
     }
+}
+
+/// A device of these blocks, attached.
+fn attached(alloc: Global, image: &[Block]) -> Result<Box<MemDevice>, Fail>
+    ensures attached { IfOk result (λ device. IsAttached (mem_device_state device.value)) }
+    ensures blocks { IfOk result (λ device. (mem_device_state device.value).blocks ≡ length image.now) }
+{
+    let mut device = Box::new(alloc, MemDevice::of(alloc, image)?)?;
+    device.attach("thin.img", false)?;
+    Ok(device)
+}
+
+/// Compares that map's counts of metadata with no references.
+fn expect_meta_faults(rt: &impl Abort, alloc: Global, device: &mut MemDevice) -> Result<(), Fail>
+    requires attached { IsAttached (mem_device_state device.old) }
+    requires blocks { 4 ≤ (mem_device_state device.old).blocks }
+{
+    let audit = Audit::new(alloc, 4)?;
+    let mut report = Report::new();
+    assert!(rt; compare_meta(alloc, device, &EACH_KIND, &audit, &mut report).is_ok());
+    expect_faults(rt, &report, META_FAULTS);
+    Ok(())
 }
 
 #[test]
 fn metadata_counts_differ_from_no_references(rt: HostRuntime) -> Result<(), Fail> {
-    let image = counts_of_each_kind(index_block());
-    let mut device = MemDevice::of(rt.alloc(), &image)?;
-    device.attach("thin.img", false)?;
-    assert!(rt; stored_meta(&mut device, &EACH_KIND, 2) == Ok(Some(5)));
-    assert!(rt; stored_meta(&mut device, &EACH_KIND, 3) == Ok(None));
-    let audit = Audit::new(rt.alloc(), 4)?;
+    let mut device = attached(rt.alloc(), &counts_of_each_kind(index_block()))?;
+    assert!(rt; stored_meta(&mut *device, &EACH_KIND, 2) == Ok(Some(5)));
+    assert!(rt; stored_meta(&mut *device, &EACH_KIND, 3) == Ok(None));
+    expect_meta_faults(&rt, rt.alloc(), &mut *device)
+}
+
+/// Counts of four blocks: blocks 0 and 1 once each.
+fn two_counted(rt: &impl Abort, alloc: Global) -> Result<Counts, Fail>
+    ensures { IfOk result (λ counts. counts.size ≡ 4) }
+{
+    let mut counts = Counts::new(alloc, 4)?;
+    count(rt, &mut counts, 0)?;
+    count(rt, &mut counts, 1)?;
+    Ok(counts)
+}
+
+/// Compares that map's counts of data with those references.
+fn expect_data_faults(rt: &impl Abort, alloc: Global, device: &mut MemDevice) -> Result<(), Fail>
+    requires attached { IsAttached (mem_device_state device.old) }
+    requires blocks { 4 ≤ (mem_device_state device.old).blocks }
+{
+    let counts = two_counted(rt, alloc)?;
     let mut report = Report::new();
-    assert!(rt; compare_meta(rt.alloc(), &mut device, &EACH_KIND, &audit, &mut report).is_ok());
-    assert_eq!(rt; report.total(), 3);
-    assert!(rt; has_fault(&report, 0, wrong_count(Space::Meta, 0, Rule::Leak, 1, 0)));
-    assert!(rt; has_fault(&report, 1, wrong_count(Space::Meta, 2, Rule::Leak, 5, 0)));
-    assert!(rt;
-        has_fault(
-            &report,
-            2,
-            wrong_count(Space::Meta, 3, Rule::Overflow, 0, 0)
-        )
-    );
+    assert!(rt; compare_data(alloc, device, &EACH_KIND, &counts, &mut report).is_ok());
+    expect_faults(rt, &report, DATA_FAULTS);
     Ok(())
 }
 
 #[test]
 fn data_counts_differ_from_the_references(rt: HostRuntime) -> Result<(), Fail> {
-    let mut device = MemDevice::of(rt.alloc(), &counts_of_each_kind(index_leaf()))?;
-    device.attach("thin.img", false)?;
-    let mut counts = Counts::new(rt.alloc(), 4)?;
-    count(&rt, &mut counts, 0)?;
-    count(&rt, &mut counts, 1)?;
-    let mut report = Report::new();
-    assert!(rt; compare_data(rt.alloc(), &mut device, &EACH_KIND, &counts, &mut report).is_ok());
-    assert_eq!(rt; report.total(), 3);
-    assert!(rt;
-        has_fault(
-            &report,
-            0,
-            wrong_count(Space::DataBlock, 1, Rule::Short, 0, 1)
-        )
-    );
-    assert!(rt;
-        has_fault(
-            &report,
-            1,
-            wrong_count(Space::DataBlock, 2, Rule::Leak, 5, 0)
-        )
-    );
-    assert!(rt;
-        has_fault(
-            &report,
-            2,
-            wrong_count(Space::DataBlock, 3, Rule::Overflow, 0, 0)
-        )
-    );
-    Ok(())
+    let mut device = attached(rt.alloc(), &counts_of_each_kind(index_leaf()))?;
+    expect_data_faults(&rt, rt.alloc(), &mut *device)
 }

@@ -89,14 +89,14 @@ fn put_meta_map<D: Device>(
     write_meta_map(alloc, &mut draft, counts)
 }
 
-#[test]
-fn the_map_of_metadata_counts_its_own_blocks(rt: HostRuntime) -> Result<(), Fail> {
-    let mut counts = four_counted(rt.alloc())?;
-    let mut dev = Box::new(rt.alloc(), MemDevice::new(rt.alloc(), 16)?)?;
-    dev.attach("x", true)?;
-    assert!(rt; dev.blocks() >= 16);
-    close(&mut *dev)?;
-    let root = put_meta_map(rt.alloc(), &mut *dev, &mut counts)?;
+/// Writes the map of those counts behind a block, and compares its root, the counts behind it and the device.
+fn expect_meta_map(rt: &impl Abort, alloc: Global, dev: &mut MemDevice) -> Result<(), Fail>
+    requires writable { IsWritable (mem_device_state dev.old) }
+    requires closed { IsClosed (mem_device_state dev.old) }
+    requires room { 16 ≤ (mem_device_state dev.old).blocks }
+{
+    let mut counts = four_counted(alloc)?;
+    let root = put_meta_map(alloc, dev, &mut counts)?;
     let wanted = SmRoot {
         blocks: 16,
         allocated: 5,
@@ -107,8 +107,17 @@ fn the_map_of_metadata_counts_its_own_blocks(rt: HostRuntime) -> Result<(), Fail
     assert!(rt; counts.get(2) == 1);
     assert!(rt; counts.get(4) == 1);
     assert!(rt; counts.get(5) == 0);
-    expect_counts(&rt, &dev);
+    expect_counts(rt, dev);
     Ok(())
+}
+
+#[test]
+fn the_map_of_metadata_counts_its_own_blocks(rt: HostRuntime) -> Result<(), Fail> {
+    let mut dev = Box::new(rt.alloc(), MemDevice::new(rt.alloc(), 16)?)?;
+    dev.attach("x", true)?;
+    assert!(rt; dev.blocks() >= 16);
+    close(&mut *dev)?;
+    expect_meta_map(&rt, rt.alloc(), &mut *dev)
 }
 
 /// The map of those counts, from block 2 on.
