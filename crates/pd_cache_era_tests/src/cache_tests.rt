@@ -96,36 +96,48 @@ fn restored_caches_are_clean_and_dumped_as_they_were(rt: HostRuntime) -> Result<
     Ok(())
 }
 
+/// The version, the roots, the used blocks and the words of `TWO_MAPPED` in the first version.
+const FIRST_NUMBERS: &[u64] = &[1, 3, 5, 6, 10, 7, 8, 9, 458753, 524291];
+
 #[test]
 fn words_and_roots_of_the_first_version(rt: HostRuntime) -> Result<(), Fail> {
     let image = made(&rt, rt.alloc(), FIRST, TWO_MAPPED, 16)?;
     let fields = read_cache_super(&image[0]);
-    assert!(rt; fields.version == 1);
-    assert!(rt; fields.mapping_root == 3);
-    assert!(rt; fields.hint_root == 5);
-    assert!(rt; fields.discard_root == 6);
-    assert!(rt; fields.meta_map.allocated == 10);
-    assert!(rt; fields.meta_map.bitmap_root == 7);
-    assert!(rt; index_entry(&image[7], 0).block == 8);
-    assert!(rt; fields.meta_map.overflow_root == 9);
-    assert!(rt; u64_at(&image[1].0, WORDS_AT) == 458753);
-    assert!(rt; u64_at(&image[2].0, WORDS_AT) == 524291);
+    let found = [
+        u64::from(fields.version),
+        fields.mapping_root,
+        fields.hint_root,
+        fields.discard_root,
+        fields.meta_map.allocated,
+        fields.meta_map.bitmap_root,
+        index_entry(&image[7], 0).block,
+        fields.meta_map.overflow_root,
+        u64_at(&image[1].0, WORDS_AT),
+        u64_at(&image[2].0, WORDS_AT),
+    ];
+    assert!(rt; found.as_slice() == FIRST_NUMBERS);
     Ok(())
 }
+
+/// The same in the second version, with the dirty bits.
+const SECOND_NUMBERS: &[u64] = &[2, 3, 5, 7, 8, 12, 458753, 524289, 2305843009213693952];
 
 #[test]
 fn words_and_roots_of_the_second_version(rt: HostRuntime) -> Result<(), Fail> {
     let image = made(&rt, rt.alloc(), SECOND, TWO_MAPPED, 16)?;
     let fields = read_cache_super(&image[0]);
-    assert!(rt; fields.version == 2);
-    assert!(rt; fields.mapping_root == 3);
-    assert!(rt; fields.hint_root == 5);
-    assert!(rt; fields.dirty_root == 7);
-    assert!(rt; fields.discard_root == 8);
-    assert!(rt; fields.meta_map.allocated == 12);
-    assert!(rt; u64_at(&image[1].0, WORDS_AT) == 458753);
-    assert!(rt; u64_at(&image[2].0, WORDS_AT) == 524289);
-    assert!(rt; u64_at(&image[6].0, WORDS_AT + 56) == 2305843009213693952);
+    let found = [
+        u64::from(fields.version),
+        fields.mapping_root,
+        fields.hint_root,
+        fields.dirty_root,
+        fields.discard_root,
+        fields.meta_map.allocated,
+        u64_at(&image[1].0, WORDS_AT),
+        u64_at(&image[2].0, WORDS_AT),
+        u64_at(&image[6].0, WORDS_AT + 56),
+    ];
+    assert!(rt; found.as_slice() == SECOND_NUMBERS);
     Ok(())
 }
 

@@ -155,6 +155,19 @@ fn may_be_left(
     Ok(left_of(found) == Left::Closed || found == old || found == new)
 }
 
+/// Whether a crash leaves of a device the old blocks, no valid superblock, or the new blocks, whichever writes it keeps.
+fn may_be_left_by_any(
+    alloc: Global,
+    output: &MemDevice,
+    old: &[Block],
+    new: &[Block],
+) -> Result<bool, AllocError> {
+    let by_old = may_be_left(alloc, output, Pick::Old, old, new)?;
+    let by_new = may_be_left(alloc, output, Pick::New, old, new)?;
+    let by_other = may_be_left(alloc, output, Pick::Other(0), old, new)?;
+    Ok(by_old & by_new & by_other)
+}
+
 /// Restores a text over old blocks with this call of the output failing, in which it fails.
 pub(crate) fn expect_output_fault(
     rt: &impl Abort,
@@ -169,15 +182,17 @@ pub(crate) fn expect_output_fault(
         ..NOTHING_FAILS
     };
     let restored = restore(alloc, words, text, old, failing)?;
-    let output = &restored.output;
+    let may_be = may_be_left_by_any(alloc, &restored.output, old, new)?;
     assert!(rt; restored.status == 5, "{call}");
-    assert!(rt; may_be_left(alloc, output, Pick::Old, old, new)?, "{call}");
-    assert!(rt; may_be_left(alloc, output, Pick::New, old, new)?, "{call}");
-    assert!(rt;
-        may_be_left(alloc, output, Pick::Other(0), old, new)?,
-        "{call}"
-    );
+    assert!(rt; may_be, "{call}");
     Ok(())
+}
+
+/// A run has this status and has put this, with no notes.
+fn expect_said(rt: &impl Abort, ran: &Ran, status: u8, text: &str) {
+    assert!(rt; ran.out.bytes() == text.as_bytes(), "{text}");
+    assert!(rt; ran.status == status, "{text}");
+    assert!(rt; ran.notes.bytes().is_empty(), "{text}");
 }
 
 /// Runs a tool over an image, where this must be the status and what is put.
@@ -190,10 +205,9 @@ pub(crate) fn expect(
     text: &str,
 ) -> Result<(), AllocError> {
     let ran = run(alloc, words, image, NOTHING_FAILS)?;
-    assert!(rt; ran.out.bytes() == text.as_bytes(), "{text}");
-    assert!(rt; ran.status == status, "{text}");
-    assert!(rt; ran.notes.bytes().is_empty(), "{text}");
-    assert!(rt; blocks_of(alloc, &ran.input)?.as_slice() == image, "{text}");
+    expect_said(rt, &ran, status, text);
+    let left = blocks_of(alloc, &ran.input)?;
+    assert!(rt; left.as_slice() == image, "{text}");
     Ok(())
 }
 

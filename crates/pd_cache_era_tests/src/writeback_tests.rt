@@ -209,7 +209,7 @@ struct Devices {
     fast: Vec<Block>,
 }
 
-/// The devices of a cache of this text.
+/// The devices of a cache of this text. They are boxed, as runs are: dropped in place, they are three paths at each exit.
 fn devices_of(
     rt: &impl Abort,
     alloc: Global,
@@ -217,12 +217,13 @@ fn devices_of(
     text: &str,
     fast: &[u8],
     origin: &[u8],
-) -> Result<Devices, AllocError> {
-    Ok(Devices {
+) -> Result<Box<Devices>, AllocError> {
+    let devices = Devices {
         meta: made(rt, alloc, version, text, 16)?,
         origin: filled(alloc, origin)?,
         fast: filled(alloc, fast)?,
-    })
+    };
+    Ok(Box::new(alloc, devices)?)
 }
 
 /// Writes a cache back.
@@ -256,6 +257,49 @@ fn expect_said(rt: &impl Abort, ran: &Ran, status: u8, out: &str, notes: &str) {
     assert!(rt; ran.notes.bytes() == notes.as_bytes(), "{out}{notes}");
 }
 
+/// A device holds just these blocks.
+fn expect_held(
+    rt: &impl Abort,
+    alloc: Global,
+    device: &MemDevice,
+    blocks: &[Block],
+) -> Result<(), AllocError> {
+    let is_held = holds(alloc, device, blocks)?;
+    assert!(rt; is_held);
+    Ok(())
+}
+
+/// The metadata is written where a text changes, and dumps as the text after it.
+fn expect_text(
+    rt: &impl Abort,
+    alloc: Global,
+    device: &MemDevice,
+    meta: &[Block],
+    (before, after): (&str, &str),
+) -> Result<(), AllocError> {
+    let is_dumped = dumps_as(alloc, device, after)?;
+    assert!(rt; is_dumped);
+    let stays = holds(alloc, device, meta)?;
+    assert!(rt; stays == (before == after));
+    Ok(())
+}
+
+/// What the devices of a row hold after its writeback.
+fn expect_outcome(
+    rt: &impl Abort,
+    alloc: Global,
+    before: &Devices,
+    ran: &Ran,
+    row: &Row,
+) -> Result<(), AllocError> {
+    let (text, _, _, _, _, _, after, text_after) = *row;
+    let copied = filled(alloc, after)?;
+    expect_held(rt, alloc, &ran.output, copied.as_slice())?;
+    expect_held(rt, alloc, &ran.third, before.fast.as_slice())?;
+    let meta = before.meta.as_slice();
+    expect_text(rt, alloc, &ran.input, meta, (text, text_after))
+}
+
 /// Writes a cache back, which comes to this.
 fn expect_row(
     rt: &impl Abort,
@@ -263,17 +307,11 @@ fn expect_row(
     version: &[&str],
     row: &Row,
 ) -> Result<(), AllocError> {
-    let (text, fast, origin, status, out, notes, after, text_after) = *row;
+    let (text, fast, origin, status, out, notes, _, _) = *row;
     let before = devices_of(rt, alloc, version, text, fast, origin)?;
-    let ran = write_back(alloc, &before, NOTHING_FAILS)?;
+    let ran = write_back(alloc, &*before, NOTHING_FAILS)?;
     expect_said(rt, &ran, status, out, notes);
-    let copied = filled(alloc, after)?;
-    assert!(rt; holds(alloc, &ran.output, copied.as_slice())?);
-    assert!(rt; holds(alloc, &ran.third, before.fast.as_slice())?);
-    assert!(rt; dumps_as(alloc, &ran.input, text_after)?);
-    let stays = holds(alloc, &ran.input, before.meta.as_slice())?;
-    assert!(rt; stays == (text == text_after));
-    Ok(())
+    expect_outcome(rt, alloc, &*before, &ran, row)
 }
 
 #[test]
@@ -292,11 +330,37 @@ fn metadata_with_faults_is_not_written_back(rt: HostRuntime) -> Result<(), Fail>
     if 1 < before.meta.len() {
         before.meta[1] = damaged(before.meta[1], 100);
     }
-    let ran = write_back(alloc, &before, NOTHING_FAILS)?;
+    let ran = write_back(alloc, &*before, NOTHING_FAILS)?;
     expect_said(&rt, &ran, 1, "", "fault meta 1 checksum\nfaults 1\n");
-    assert!(rt; holds(alloc, &ran.input, before.meta.as_slice())?);
-    assert!(rt; holds(alloc, &ran.output, before.origin.as_slice())?);
+    expect_held(&rt, alloc, &ran.input, before.meta.as_slice())?;
+    expect_held(&rt, alloc, &ran.output, before.origin.as_slice())?;
     Ok(())
+}
+
+/// All blocks of an origin but block 3, for which the fast device's block 0 stands, are as they were.
+fn expect_others(rt: &impl Abort, old: &[Block], left: &[Block]) {
+    assert!(rt; left.len() == old.len());
+    for b in 0..left.len() {
+        assert!(rt; b == 3 || b >= old.len() || left[b] == old[b]);
+    }
+}
+
+/// What of the metadata and of the origin is left by a crash is the old metadata, the marked one or none, and an origin
+/// that has all where the metadata isn't the old one.
+fn expect_same(
+    rt: &impl Abort,
+    before: &Devices,
+    (settled, copied): (&[Block], &[Block]),
+    (meta, origin): (&[Block], &[Block]),
+) {
+    let is_old = meta == before.meta.as_slice();
+    let is_closed = match meta.first() {
+        Some(first) => !any_valid(first),
+        None => false,
+    };
+    assert!(rt; is_old | (meta == settled) | is_closed);
+    assert!(rt; is_old | (origin == copied));
+    expect_others(rt, before.origin.as_slice(), origin);
 }
 
 /// What of a stopped or failed writeback of `ONE_DIRTY` a crash may leave by this pick: an origin that under the cache reads
@@ -313,20 +377,8 @@ fn expect_left(
     let origin = blocks_after_crash(alloc, &ran.output, pick)?;
     let settled = blocks_of(alloc, &whole.input)?;
     let copied = blocks_of(alloc, &whole.output)?;
-    let is_old = meta.as_slice() == before.meta.as_slice();
-    let is_settled = meta.as_slice() == settled.as_slice();
-    let is_closed = match meta.as_slice().first() {
-        Some(first) => !any_valid(first),
-        None => false,
-    };
-    assert!(rt; is_old | is_settled | is_closed);
-    let has_all = origin.as_slice() == copied.as_slice();
-    assert!(rt; is_old | has_all);
-    // All but block 3, for which the fast device's block 0 stands, is as it was.
-    assert!(rt; origin.len() == before.origin.len());
-    for b in 0..origin.len() {
-        assert!(rt; b == 3 || b >= before.origin.len() || origin[b] == before.origin[b]);
-    }
+    let wanted = (settled.as_slice(), copied.as_slice());
+    expect_same(rt, before, wanted, (meta.as_slice(), origin.as_slice()));
     Ok(())
 }
 
@@ -384,6 +436,38 @@ const TROUBLES: &[Trouble] = &[
 /// More calls than an object of a writeback gets.
 const MANY: u64 = 60;
 
+/// What a writeback that failed leaves.
+fn expect_failed(
+    rt: &impl Abort,
+    alloc: Global,
+    before: &Devices,
+    whole: &Ran,
+    ran: &Ran,
+) -> Result<(), AllocError> {
+    expect_held(rt, alloc, &ran.third, before.fast.as_slice())?;
+    expect_left(rt, alloc, before, whole, ran, Pick::Old)?;
+    expect_left(rt, alloc, before, whole, ran, Pick::New)?;
+    expect_left(rt, alloc, before, whole, ran, Pick::Other(7))
+}
+
+/// Whether a trouble at this call comes to none. Where it comes to one, the writeback fails by it.
+fn is_past_trouble(
+    rt: &impl Abort,
+    alloc: Global,
+    before: &Devices,
+    whole: &Ran,
+    trouble: Trouble,
+    call: u64,
+) -> Result<bool, AllocError> {
+    let ran = write_back(alloc, before, trouble.at(call))?;
+    if ran.status == 0 {
+        return Ok(true);
+    }
+    assert!(rt; ran.status == trouble.status(), "{call}");
+    expect_failed(rt, alloc, before, whole, &ran)?;
+    Ok(false)
+}
+
 /// Tries a trouble at each call, until it comes to none.
 fn expect_troubles(
     rt: &impl Abort,
@@ -393,15 +477,9 @@ fn expect_troubles(
     trouble: Trouble,
 ) -> Result<(), AllocError> {
     for call in 0..MANY {
-        let ran = write_back(alloc, before, trouble.at(call))?;
-        if ran.status == 0 {
+        if is_past_trouble(rt, alloc, before, whole, trouble, call)? {
             return Ok(());
         }
-        assert!(rt; ran.status == trouble.status(), "{call}");
-        assert!(rt; holds(alloc, &ran.third, before.fast.as_slice())?, "{call}");
-        expect_left(rt, alloc, before, whole, &ran, Pick::Old)?;
-        expect_left(rt, alloc, before, whole, &ran, Pick::New)?;
-        expect_left(rt, alloc, before, whole, &ran, Pick::Other(7))?;
     }
     assert!(rt; false, "there are more calls");
     Ok(())
@@ -419,9 +497,9 @@ fn a_writeback_that_fails_or_stops_anywhere_reads_the_same(rt: HostRuntime) -> R
             &[0xAA, 0xBB],
             &[0xBB, 0, 0, 0],
         )?;
-        let whole = write_back(alloc, &before, NOTHING_FAILS)?;
+        let whole = write_back(alloc, &*before, NOTHING_FAILS)?;
         for trouble in TROUBLES {
-            expect_troubles(&rt, alloc, &before, &whole, *trouble)?;
+            expect_troubles(&rt, alloc, &*before, &whole, *trouble)?;
         }
     }
     Ok(())
