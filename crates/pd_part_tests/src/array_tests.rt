@@ -25,13 +25,17 @@ fn a_full_block_has_as_many_words_as_there_is_room_for(rt: HostRuntime) {
     assert!(rt; array_len(&fours, Word::Eight) == 0);
 }
 
+/// The header of a block at place 3 that has two of at most 1018 words of four bytes, behind its checksum.
+const HEADER: &[u8] = &[250, 3, 0, 0, 2, 0, 0, 0, 4, 0, 0, 0, 3, 0, 0, 0, 0, 0, 0, 0];
+
+/// The words 5 and 0x01020304.
+const WORDS: &[u8] = &[5, 0, 0, 0, 4, 3, 2, 1];
+
 #[test]
 fn a_block_has_its_header_and_its_words(rt: HostRuntime) {
     let block = write_array(3, Word::Four, &[5, 0x0102_0304]);
-    let header = [250, 3, 0, 0, 2, 0, 0, 0, 4, 0, 0, 0, 3, 0, 0, 0, 0, 0, 0, 0];
-    assert!(rt; &block.0[4..24] == header.as_slice());
-    let words = [5, 0, 0, 0, 4, 3, 2, 1];
-    assert!(rt; &block.0[24..32] == words.as_slice());
+    assert!(rt; &block.0[4..24] == HEADER);
+    assert!(rt; &block.0[24..32] == WORDS);
     assert!(rt; array_word(&block, Word::Four, 1) == 0x0102_0304);
     assert!(rt; array_rules(&block, 3, Word::Four) == Rules::none());
     assert!(rt;
