@@ -1,7 +1,7 @@
 //! Lookup in trees, and cursors over their entries and over the words of arrays, on devices in memory.
 
-ghost use Rattle.std.specs.Prelude.{◌≡◌, ◌≤◌, EachIndex, slice_index};
-ghost use Rattle.pd_image.specs.Device.{IsAttached};
+ghost use Rattle.std.specs.Prelude.{◌≡◌, ◌<◌, ◌≤◌, EachIndex, slice_index};
+ghost use Rattle.pd_image.specs.Device.{IsAttached, OnlyReads};
 ghost use Rattle.pd_image.specs.MemDevice.{mem_device_state};
 ghost use Rattle.pd_tree.specs.ArrayCursor.{array_room};
 
@@ -12,6 +12,7 @@ use pd_kinds::Block;
 use pd_node::{write_inner, write_leaf};
 use pd_tree::{ArrayCursor, Cursor, find};
 use pd_value::Root;
+use std::alloc::Global;
 use std::process::Abort;
 use std::test::Fail;
 
@@ -28,6 +29,42 @@ fn three_levels() -> [Block; 6] {
     ]
 }
 
+/// Looks these keys up in the tree with this root, one after another, and finds these values or none.
+fn expect_lookups(
+    rt: &impl Abort,
+    device: &mut MemDevice,
+    root: u64,
+    lookups: &[(u64, Option<Root>)],
+)
+    requires attached { IsAttached (mem_device_state device.old) }
+    requires within { root < (mem_device_state device.old).blocks }
+    ensures { OnlyReads (mem_device_state device.old) (mem_device_state device.new) }
+{
+    for lookup in lookups {
+        assert!(rt; find::<Root, MemDevice>(device, root, lookup.0) == Ok(lookup.1));
+    }
+}
+
+/// A cursor over the tree with this root gives these entries and no more.
+fn expect_entries(
+    rt: &impl Abort,
+    alloc: Global,
+    device: &mut MemDevice,
+    root: u64,
+    entries: &[(u64, Root)],
+) -> Result<(), Fail>
+    requires attached { IsAttached (mem_device_state device.old) }
+    requires within { root < (mem_device_state device.old).blocks }
+    ensures { OnlyReads (mem_device_state device.old) (mem_device_state device.new) }
+{
+    let mut cursor = Cursor::<Root>::start(alloc, root)?;
+    for entry in entries {
+        assert!(rt; cursor.next(device) == Ok(Some(*entry)));
+    }
+    assert!(rt; cursor.next(device) == Ok(None));
+    Ok(())
+}
+
 #[test]
 #[tactic(auto, unfolding(pd_kinds::specs::Node::is_ascending))]
 fn a_lookup_finds_the_keys_that_there_are(rt: HostRuntime) -> Result<(), Fail> {
@@ -39,22 +76,30 @@ fn a_lookup_finds_the_keys_that_there_are(rt: HostRuntime) -> Result<(), Fail> {
         NEVER,
         NEVER,
     )?;
-    assert!(rt; find::<Root, MemDevice>(&mut *device, 2, 1) == Ok(Some(Root(1))));
-    assert!(rt; find::<Root, MemDevice>(&mut *device, 2, 2) == Ok(None));
-    assert!(rt; find::<Root, MemDevice>(&mut *device, 2, 0) == Ok(None));
+    expect_lookups(
+        &rt,
+        &mut *device,
+        2,
+        &[(1, Some(Root(1))), (2, None), (0, None)],
+    );
     Ok(())
 }
+
+/// Lookups of a tree of three levels: three reads each.
+const BEFORE_THE_FAULT: &[(u64, Option<Root>)] = &[
+    (5, Some(Root(15))),
+    (10, None),
+    (11, Some(Root(21))),
+    (20, Some(Root(30))),
+];
 
 #[test]
 fn a_lookup_goes_down_three_levels_with_one_read_each(rt: HostRuntime) -> Result<(), Fail> {
     // The calls are 0 for attaching, and three for each lookup.
     let mut device = device_of(rt.alloc(), &three_levels(), false, 13, NEVER)?;
-    assert!(rt; find::<Root, MemDevice>(&mut *device, 0, 5) == Ok(Some(Root(15))));
-    assert!(rt; find::<Root, MemDevice>(&mut *device, 0, 10) == Ok(None));
-    assert!(rt; find::<Root, MemDevice>(&mut *device, 0, 11) == Ok(Some(Root(21))));
-    assert!(rt; find::<Root, MemDevice>(&mut *device, 0, 20) == Ok(Some(Root(30))));
+    expect_lookups(&rt, &mut *device, 0, BEFORE_THE_FAULT);
     assert!(rt; find::<Root, MemDevice>(&mut *device, 0, 20).is_err());
-    assert!(rt; find::<Root, MemDevice>(&mut *device, 0, 2) == Ok(Some(Root(12))));
+    expect_lookups(&rt, &mut *device, 0, &[(2, Some(Root(12)))]);
     Ok(())
 }
 
@@ -69,13 +114,9 @@ fn a_cursor_gives_one_leaf_and_an_empty_one(rt: HostRuntime) -> Result<(), Fail>
         NEVER,
         NEVER,
     )?;
-    let mut cursor = Cursor::<Root>::start(rt.alloc(), 0)?;
-    assert!(rt; cursor.next(&mut *device) == Ok(Some((1, Root(7)))));
-    assert!(rt; cursor.next(&mut *device) == Ok(Some((4, Root(8)))));
-    assert!(rt; cursor.next(&mut *device) == Ok(None));
-    let mut cursor = Cursor::<Root>::start(rt.alloc(), 1)?;
-    assert!(rt; cursor.next(&mut *device) == Ok(None));
-    Ok(())
+    let entries = [(1, Root(7)), (4, Root(8))];
+    expect_entries(&rt, rt.alloc(), &mut *device, 0, &entries)?;
+    expect_entries(&rt, rt.alloc(), &mut *device, 1, &[])
 }
 
 #[test]
@@ -88,12 +129,8 @@ fn a_cursor_goes_on_behind_an_empty_leaf_and_a_block_outside(rt: HostRuntime) ->
         write_leaf::<Root>(3, &[(9, Root(19))]),
     ];
     let mut device = device_of(rt.alloc(), &image, false, NEVER, NEVER)?;
-    let mut cursor = Cursor::<Root>::start(rt.alloc(), 0)?;
-    assert!(rt; cursor.next(&mut *device) == Ok(Some((1, Root(11)))));
-    assert!(rt; cursor.next(&mut *device) == Ok(Some((2, Root(12)))));
-    assert!(rt; cursor.next(&mut *device) == Ok(Some((9, Root(19)))));
-    assert!(rt; cursor.next(&mut *device) == Ok(None));
-    Ok(())
+    let entries = [(1, Root(11)), (2, Root(12)), (9, Root(19))];
+    expect_entries(&rt, rt.alloc(), &mut *device, 0, &entries)
 }
 
 #[test]
@@ -119,11 +156,8 @@ fn a_read_that_fails_in_the_middle_is_answered(rt: HostRuntime) -> Result<(), Fa
     let mut cursor = Cursor::<Root>::start(rt.alloc(), 0)?;
     assert!(rt; cursor.next(&mut *device) == Ok(Some((1, Root(11)))));
     assert!(rt; cursor.next(&mut *device).is_err());
-    let mut again = Cursor::<Root>::start(rt.alloc(), 0)?;
-    assert!(rt; again.next(&mut *device) == Ok(Some((1, Root(11)))));
-    assert!(rt; again.next(&mut *device) == Ok(Some((9, Root(19)))));
-    assert!(rt; again.next(&mut *device) == Ok(None));
-    Ok(())
+    let entries = [(1, Root(11)), (9, Root(19))];
+    expect_entries(&rt, rt.alloc(), &mut *device, 0, &entries)
 }
 
 #[test]
@@ -131,10 +165,9 @@ fn a_read_that_fails_in_the_middle_is_answered(rt: HostRuntime) -> Result<(), Fa
 fn a_tree_that_names_itself_has_an_end(rt: HostRuntime) -> Result<(), Fail> {
     let image = [write_inner(0, &[(1, 0)]), write_inner(1, &[(1, 0), (3, 1)])];
     let mut device = device_of(rt.alloc(), &image, false, NEVER, NEVER)?;
-    assert!(rt; find::<Root, MemDevice>(&mut *device, 0, 1) == Ok(None));
-    assert!(rt; find::<Root, MemDevice>(&mut *device, 1, 3) == Ok(None));
-    let mut cursor = Cursor::<Root>::start(rt.alloc(), 0)?;
-    assert!(rt; cursor.next(&mut *device) == Ok(None));
+    expect_lookups(&rt, &mut *device, 0, &[(1, None)]);
+    expect_lookups(&rt, &mut *device, 1, &[(3, None)]);
+    expect_entries(&rt, rt.alloc(), &mut *device, 0, &[])?;
     let mut cursor = Cursor::<Root>::start(rt.alloc(), 1)?;
     assert!(rt; cursor.count(&mut *device) == Ok(0));
     Ok(())
