@@ -1,6 +1,5 @@
-ghost use Rattle.std.specs.Prelude.{◌≤◌};
-ghost use Rattle.pd_image.specs.Device.{IsWritable};
-ghost use Rattle.pd_image.specs.MemDevice.{mem_device_state};
+ghost use Rattle.std.specs.Prelude.{◌≤◌, OnOk};
+ghost use Rattle.pd_image.specs.Device.{IsWritable, KeepsPlace};
 
 use crate::objects::{NEVER, device_of, three_left};
 use crate::small_restore;
@@ -119,9 +118,10 @@ fn a_stop_leaves_an_outcome(rt: HostRuntime) -> Result<(), Fail> {
 }
 
 /// Replaces block 2 by block 1, and the superblock.
-fn replace(dev: &mut MemDevice) -> Result<(), Failed>
-    requires writable { IsWritable (mem_device_state dev.old) }
-    requires room { 3 ≤ (mem_device_state dev.old).blocks }
+fn replace<D: Device>(dev: &mut D) -> Result<(), Failed>
+    requires writable { IsWritable (D.state dev.old) }
+    requires room { 3 ≤ (D.state dev.old).blocks }
+    ensures kept { OnOk result (KeepsPlace (D.state dev.old) (D.state dev.new)) }
 {
     let mut rewrite = Rewrite::start(dev)?;
     let mut block = Block::zeros();
@@ -131,15 +131,11 @@ fn replace(dev: &mut MemDevice) -> Result<(), Failed>
 }
 
 /// The same, and then the superblock again.
-fn replace_twice(dev: &mut MemDevice) -> Result<(), Failed>
-    requires writable { IsWritable (mem_device_state dev.old) }
-    requires room { 3 ≤ (mem_device_state dev.old).blocks }
+fn replace_twice<D: Device>(dev: &mut D) -> Result<(), Failed>
+    requires writable { IsWritable (D.state dev.old) }
+    requires room { 3 ≤ (D.state dev.old).blocks }
 {
-    let mut rewrite = Rewrite::start(dev)?;
-    let mut block = Block::zeros();
-    rewrite.read(1, &mut block)?;
-    rewrite.replace(2, &block)?;
-    rewrite.commit(&NEW[0])?;
+    replace(dev)?;
     rewrite_super(dev, &NEW[1])
 }
 
