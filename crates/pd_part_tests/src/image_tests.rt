@@ -1,13 +1,14 @@
-ghost use Rattle.std.specs.Prelude.{IfOk};
+ghost use Rattle.std.specs.Prelude.{◌≡◌, ◌≤◌, IfOk};
 ghost use Rattle.pd_image.specs.Device.{IsAttached, IsWritable, OnlyReads};
 ghost use Rattle.pd_files.specs.FileDevice.{file_device_state};
 
-use crate::objects::{NEVER, device_of, three_left};
+use crate::objects::{NEVER, device_of, leaves};
 use pd_files::{FileDevice, StdSink, StdSource};
 use pd_image::{Device, MemDevice, MemSink, MemSource, Pick, Sink, Source};
 use pd_kinds::{BLOCK_SIZE, Block};
-use std::alloc::Global;
+use std::alloc::{AllocError, Global};
 use std::fs;
+use std::process::Abort;
 use std::test::Fail;
 
 const ONES: Block = Block([1; BLOCK_SIZE]);
@@ -15,6 +16,18 @@ const ONES: Block = Block([1; BLOCK_SIZE]);
 const TWOS: Block = Block([2; BLOCK_SIZE]);
 
 const THREES: Block = Block([3; BLOCK_SIZE]);
+
+/// Makes a file of these bytes.
+fn write_file(rt: &HostRuntime, path: &str, bytes: &[u8]) -> Result<(), Fail> {
+    fs::write(rt, path, bytes)?;
+    Ok(())
+}
+
+/// Removes a file.
+fn remove_file(rt: &HostRuntime, path: &str) -> Result<(), Fail> {
+    fs::remove_file(rt, path)?;
+    Ok(())
+}
 
 #[test]
 fn memory_device_keeps_what_is_written(rt: HostRuntime) -> Result<(), Fail> {
@@ -47,17 +60,25 @@ fn memory_device_fails_where_it_is_set_to(rt: HostRuntime) -> Result<(), Fail> {
     Ok(())
 }
 
+/// The byte that each block is full of after a crash by each pick. The blocks were ones, and two of them were changed to twos:
+/// the first before a sync, the second behind it.
+const LEFT: &[(Pick, [u8; 3])] = &[
+    (Pick::Old, [2, 1, 1]),
+    (Pick::New, [2, 2, 1]),
+    (Pick::Other(3), [2, 3, 1]),
+];
+
 #[test]
 fn memory_device_leaves_what_is_picked_at_a_crash(rt: HostRuntime) -> Result<(), Fail> {
     let alloc = rt.alloc();
     let mut device = device_of(alloc, &[ONES; 3], true, NEVER, NEVER)?;
-    assert!(rt; three_left(alloc, &device, Pick::Old)? == Some([ONES; 3]));
+    assert!(rt; leaves(alloc, &device, Pick::Old, [1; 3])?);
     assert!(rt; device.write(0, &TWOS).is_ok());
     assert!(rt; device.sync().is_ok());
     assert!(rt; device.write(1, &TWOS).is_ok());
-    assert!(rt; three_left(alloc, &device, Pick::Old)? == Some([TWOS, ONES, ONES]));
-    assert!(rt; three_left(alloc, &device, Pick::New)? == Some([TWOS, TWOS, ONES]));
-    assert!(rt; three_left(alloc, &device, Pick::Other(3))? == Some([TWOS, THREES, ONES]));
+    for row in LEFT {
+        assert!(rt; leaves(alloc, &device, row.0, row.1)?);
+    }
     Ok(())
 }
 
@@ -85,14 +106,32 @@ fn memory_source_fails_where_it_is_set_to(rt: HostRuntime) -> Result<(), Fail> {
     Ok(())
 }
 
+/// What is put, and whether it is taken.
+type Put = (&'static [u8], bool);
+
+/// Attaches a sink and puts these, one after another.
+fn expect_puts<S: Sink>(
+    rt: &impl Abort,
+    sink: &mut S,
+    path: Option<&str>,
+    puts: &[Put],
+) -> Result<(), Fail>
+    requires { (S.state sink.old).access ≡ 0 }
+{
+    sink.attach(path)?;
+    for row in puts {
+        assert!(rt; sink.put(row.0).is_ok() == row.1);
+    }
+    Ok(())
+}
+
+const SECOND_FAILS: &[Put] = &[(b"ab", true), (b"cd", false), (b"ef", true)];
+
 #[test]
 fn memory_sink_fails_where_it_is_set_to(rt: HostRuntime) -> Result<(), Fail> {
     let mut sink = Box::new(rt.alloc(), MemSink::new(rt.alloc()))?;
     sink.fail_at(2)?;
-    sink.attach(None)?;
-    assert!(rt; sink.put(b"ab").is_ok());
-    assert!(rt; sink.put(b"cd").is_err());
-    assert!(rt; sink.put(b"ef").is_ok());
+    expect_puts(&rt, &mut *sink, None, SECOND_FAILS)?;
     assert!(rt; sink.bytes() == b"abef".as_slice());
     assert!(rt; sink.path() == Some("".as_bytes()));
     Ok(())
@@ -116,12 +155,11 @@ fn change_file(rt: &HostRuntime, path: &str) -> Result<Option<Block>, Fail> {
 #[test]
 fn file_device_reads_and_writes_whole_blocks(rt: HostRuntime) -> Result<(), Fail> {
     let mut image = [1; 2 * BLOCK_SIZE + 100];
-    fs::write(&rt, "whole_blocks.img", &image)?;
+    write_file(&rt, "whole_blocks.img", &image)?;
     assert!(rt; change_file(&rt, "whole_blocks.img")? == Some(ONES));
     image[BLOCK_SIZE..2 * BLOCK_SIZE].fill(2);
     assert!(rt; fs::read(&rt, "whole_blocks.img")?.as_slice() == image.as_slice());
-    fs::remove_file(&rt, "whole_blocks.img")?;
-    Ok(())
+    remove_file(&rt, "whole_blocks.img")
 }
 
 /// Whether a device over the file can be attached.
@@ -145,36 +183,55 @@ fn file_device_needs_a_file_that_it_may_write(rt: HostRuntime) {
     assert!(rt; !can_attach(&rt, "/proc/self/exe", true));
 }
 
-#[test]
-fn file_device_fails_past_the_end_of_a_file_cut_short(rt: HostRuntime) -> Result<(), Fail> {
-    let image = [1; 2 * 4096];
-    fs::write(&rt, "cut_short.img", &image)?;
-    let mut device = Box::new(rt.alloc(), FileDevice::new(&rt))?;
-    device.attach("cut_short.img", false)?;
-    assert!(rt; device.blocks() == 2);
-    fs::write(&rt, "cut_short.img", &image[..4097])?;
+/// Block 0 is full of ones, and block 1 fails.
+fn expect_first_alone<D: Device>(rt: &impl Abort, device: &mut D)
+    requires attached { IsAttached (D.state device.old) }
+    requires blocks { 2 ≤ (D.state device.old).blocks }
+{
     let mut block = TWOS;
     assert!(rt; device.read(0, &mut block).is_ok());
     assert!(rt; block == ONES);
     assert!(rt; device.read(1, &mut block).is_err());
-    fs::remove_file(&rt, "cut_short.img")?;
-    Ok(())
+}
+
+#[test]
+fn file_device_fails_past_the_end_of_a_file_cut_short(rt: HostRuntime) -> Result<(), Fail> {
+    let image = [1; 2 * 4096];
+    write_file(&rt, "cut_short.img", &image)?;
+    let mut device = Box::new(rt.alloc(), FileDevice::new(&rt))?;
+    device.attach("cut_short.img", false)?;
+    assert!(rt; device.blocks() == 2);
+    write_file(&rt, "cut_short.img", &image[..4097])?;
+    expect_first_alone(&rt, &mut *device);
+    remove_file(&rt, "cut_short.img")
 }
 
 /// The numbers of the blocks of a file that has three runs, the last one short.
-const NUMBERS: [u8; 35] = [
+const NUMBERS: &[u8] = &[
     0, 1, 2, 3, 4, 5, 6, 7, 8, 9, 10, 11, 12, 13, 14, 15, 16, 17, 18, 19, 20, 21, 22, 23, 24, 25,
     26, 27, 28, 29, 30, 31, 32, 33, 34,
 ];
 
+/// The same, from the last one on.
+const BACKWARDS: &[u8] = &[
+    34, 33, 32, 31, 30, 29, 28, 27, 26, 25, 24, 23, 22, 21, 20, 19, 18, 17, 16, 15, 14, 13, 12, 11,
+    10, 9, 8, 7, 6, 5, 4, 3, 2, 1, 0,
+];
+
 /// The bytes of so many blocks, each full of its own number, and a hundred bytes more.
-fn numbered(alloc: Global, blocks: usize) -> Result<Vec<u8>, Fail> {
+fn numbered(alloc: Global, blocks: u8) -> Result<Vec<u8>, AllocError> {
     let mut image = Vec::new(alloc);
-    for number in NUMBERS.iter().take(blocks) {
-        image.resize(image.len() + BLOCK_SIZE, *number)?;
+    for number in 0..blocks {
+        image.resize(image.len() + BLOCK_SIZE, number)?;
     }
     image.resize(image.len() + 100, 0)?;
     Ok(image)
+}
+
+/// Makes a file of so many such blocks.
+fn write_numbered(rt: &HostRuntime, path: &str, blocks: u8) -> Result<(), Fail> {
+    let image = numbered(rt.alloc(), blocks)?;
+    write_file(rt, path, image.as_slice())
 }
 
 /// A device over a new file of 35 such blocks.
@@ -184,7 +241,7 @@ fn numbered_device<'a>(
 ) -> Result<Box<FileDevice<'a, HostRuntime>>, Fail>
     ensures { IfOk result (λ device. IsWritable (file_device_state device.value)) }
 {
-    fs::write(rt, path, numbered(rt.alloc(), 35)?.as_slice())?;
+    write_numbered(rt, path, 35)?;
     let mut device = Box::new(rt.alloc(), FileDevice::new(rt))?;
     device.attach(path, true)?;
     Ok(device)
@@ -211,39 +268,63 @@ fn has_numbers<D: Device>(device: &mut D, numbers: &[u8]) -> bool
     true
 }
 
+/// Numbers of blocks, read in this order, and whether each is there and full of its own number.
+type Row = (&'static [u8], bool);
+
+/// Reads these rows, one after another.
+fn expect_rows<D: Device>(rt: &impl Abort, device: &mut D, rows: &[Row])
+    requires { IsAttached (D.state device.old) }
+    ensures { OnlyReads (D.state device.old) (D.state device.new) }
+{
+    for row in rows {
+        assert!(rt; has_numbers(device, row.0) == row.1);
+    }
+}
+
+const ANY_ORDER: &[Row] = &[
+    (NUMBERS, true),
+    (BACKWARDS, true),
+    (
+        &[3, 4, 5, 20, 6, 7, 15, 16, 17, 18, 2, 34, 0, 1, 1, 33, 34],
+        true,
+    ),
+];
+
 #[test]
 fn file_device_reads_in_any_order(rt: HostRuntime) -> Result<(), Fail> {
     let mut device = numbered_device(&rt, "any_order.img")?;
-    let mut backwards = NUMBERS;
-    backwards.reverse();
     assert!(rt; device.blocks() == 35);
-    assert!(rt; has_numbers(&mut *device, &NUMBERS));
-    assert!(rt; has_numbers(&mut *device, &backwards));
-    assert!(rt;
-        has_numbers(
-            &mut *device,
-            &[3, 4, 5, 20, 6, 7, 15, 16, 17, 18, 2, 34, 0, 1, 1, 33, 34]
-        )
-    );
-    fs::remove_file(&rt, "any_order.img")?;
-    Ok(())
+    expect_rows(&rt, &mut *device, ANY_ORDER);
+    remove_file(&rt, "any_order.img")
+}
+
+/// Block 6 is changed within a run that is read, and then changed back.
+fn expect_written<D: Device>(rt: &impl Abort, device: &mut D)
+    requires writable { IsWritable (D.state device.old) }
+    requires blocks { 35 ≤ (D.state device.old).blocks }
+{
+    expect_rows(rt, device, &[(&[2, 3, 4], true)]);
+    assert!(rt; device.write(6, &Block([9; BLOCK_SIZE])).is_ok());
+    expect_rows(rt, device, &[(&[5], true), (&[6], false), (&[7, 8], true)]);
+    assert!(rt; device.write(6, &Block([6; BLOCK_SIZE])).is_ok());
+    assert!(rt; device.sync().is_ok());
+    expect_rows(rt, device, &[(&[5, 6, 7, 8], true)]);
 }
 
 #[test]
 fn file_device_reads_what_was_written_in_a_run(rt: HostRuntime) -> Result<(), Fail> {
     let mut device = numbered_device(&rt, "written_run.img")?;
     assert!(rt; device.blocks() == 35);
-    assert!(rt; has_numbers(&mut *device, &[2, 3, 4]));
-    assert!(rt; device.write(6, &Block([9; BLOCK_SIZE])).is_ok());
-    assert!(rt; has_numbers(&mut *device, &[5]));
-    assert!(rt; !has_numbers(&mut *device, &[6]));
-    assert!(rt; has_numbers(&mut *device, &[7, 8]));
-    assert!(rt; device.write(6, &Block([6; BLOCK_SIZE])).is_ok());
-    assert!(rt; device.sync().is_ok());
-    assert!(rt; has_numbers(&mut *device, &[5, 6, 7, 8]));
-    fs::remove_file(&rt, "written_run.img")?;
-    Ok(())
+    expect_written(&rt, &mut *device);
+    remove_file(&rt, "written_run.img")
 }
+
+const CUT_SHORT: &[Row] = &[
+    (&[2, 15, 16, 17], true),
+    (&[18], false),
+    (&[34], false),
+    (&[17, 16], true),
+];
 
 /// Another handle cuts the file: what is kept of it is still served, and from its new end on each block fails.
 #[test]
@@ -252,18 +333,14 @@ fn file_device_fails_block_by_block_past_the_end_of_a_run_cut_short(
 ) -> Result<(), Fail> {
     let mut device = numbered_device(&rt, "cut_run.img")?;
     assert!(rt; has_numbers(&mut *device, &[0, 1]));
-    fs::write(&rt, "cut_run.img", numbered(rt.alloc(), 18)?.as_slice())?;
-    assert!(rt; has_numbers(&mut *device, &[2, 15, 16, 17]));
-    assert!(rt; !has_numbers(&mut *device, &[18]));
-    assert!(rt; !has_numbers(&mut *device, &[34]));
-    assert!(rt; has_numbers(&mut *device, &[17, 16]));
-    fs::remove_file(&rt, "cut_run.img")?;
-    Ok(())
+    write_numbered(&rt, "cut_run.img", 18)?;
+    expect_rows(&rt, &mut *device, CUT_SHORT);
+    remove_file(&rt, "cut_run.img")
 }
 
 #[test]
 fn std_source_gives_a_file(rt: HostRuntime) -> Result<(), Fail> {
-    fs::write(&rt, "source.txt", "abc")?;
+    write_file(&rt, "source.txt", b"abc")?;
     let mut source = Box::new(rt.alloc(), StdSource::new(&rt))?;
     source.attach("source.txt")?;
     let mut room = [0; 2];
@@ -271,8 +348,7 @@ fn std_source_gives_a_file(rt: HostRuntime) -> Result<(), Fail> {
     assert!(rt; source.take(&mut room) == Ok(1));
     assert!(rt; source.take(&mut room) == Ok(0));
     assert!(rt; room == *b"cb");
-    fs::remove_file(&rt, "source.txt")?;
-    Ok(())
+    remove_file(&rt, "source.txt")
 }
 
 #[test]
@@ -282,30 +358,29 @@ fn std_source_needs_a_file_that_is_there(rt: HostRuntime) {
 
 #[test]
 fn std_sink_makes_and_cuts_its_file(rt: HostRuntime) -> Result<(), Fail> {
-    fs::write(&rt, "sink.txt", "what was there")?;
+    write_file(&rt, "sink.txt", b"what was there")?;
     let mut sink = Box::new(rt.alloc(), StdSink::out(&rt))?;
-    sink.attach(Some("sink.txt"))?;
-    assert!(rt; sink.put(b"ab").is_ok());
-    assert!(rt; sink.put(b"\xff").is_ok());
+    expect_puts(
+        &rt,
+        &mut *sink,
+        Some("sink.txt"),
+        &[(b"ab", true), (b"\xff", true)],
+    )?;
     assert!(rt; fs::read(&rt, "sink.txt")?.as_slice() == b"ab\xff".as_slice());
     assert!(rt; StdSink::out(&rt).attach(Some("missing/sink.txt")).is_err());
-    fs::remove_file(&rt, "sink.txt")?;
-    Ok(())
+    remove_file(&rt, "sink.txt")
 }
 
 #[test]
 fn std_sink_writes_any_bytes_to_the_standard_output(rt: HostRuntime) -> Result<(), Fail> {
-    let mut out = Box::new(rt.alloc(), StdSink::out(&rt))?;
-    out.attach(None)?;
-    assert!(rt; out.put(b"\xff\n").is_ok());
-    Ok(())
+    expect_puts(&rt, &mut StdSink::out(&rt), None, &[(b"\xff\n", true)])
 }
 
 #[test]
 fn std_sink_writes_text_to_the_standard_error(rt: HostRuntime) -> Result<(), Fail> {
-    let mut notes = Box::new(rt.alloc(), StdSink::err(&rt))?;
-    notes.attach(None)?;
-    assert!(rt; notes.put(b"a note\n").is_ok());
-    assert!(rt; notes.put(b"\xff\n").is_err());
-    Ok(())
+    let puts = &[
+        (b"a note\n".as_slice(), true),
+        (b"\xff\n".as_slice(), false),
+    ];
+    expect_puts(&rt, &mut StdSink::err(&rt), None, puts)
 }

@@ -5,7 +5,7 @@ ghost use Rattle.std.specs.Prelude.{◌≡◌, IfOk, length, if◌then◌else◌
 ghost use Rattle.pd_image.specs.MemDevice.{mem_device_state};
 
 use pd_image::{Device, MemDevice, Pick};
-use pd_kinds::Block;
+use pd_kinds::{BLOCK_SIZE, Block};
 use std::alloc::Global;
 use std::test::Fail;
 
@@ -42,4 +42,25 @@ pub(crate) fn three_left(
         return Ok(None);
     }
     Ok(Some([after.block(0), after.block(1), after.block(2)]))
+}
+
+/// Whether a crash now leaves three blocks by the pick, each full of its byte.
+pub(crate) fn leaves(
+    alloc: Global,
+    device: &MemDevice,
+    pick: Pick,
+    bytes: [u8; 3],
+) -> Result<bool, Fail> {
+    let [first, second, third] = bytes;
+    match three_left(alloc, device, pick)? {
+        None => Ok(false),
+        Some(left) => Ok(
+            is_full(&left[0], first) && is_full(&left[1], second) && is_full(&left[2], third),
+        ),
+    }
+}
+
+/// Whether the block is full of the byte.
+fn is_full(block: &Block, byte: u8) -> bool {
+    *block == Block([byte; BLOCK_SIZE])
 }
