@@ -3,7 +3,6 @@
 use Rattle.std.specs.Prelude.{ℕ, ◌+◌, ◌-◌, ◌*◌, ◌/◌, ◌%◌, max, Bool, ◌==◌, ◌&&◌, ◌||◌, not, nat_le, nat_lt, if◌then◌else◌, List, [], ◌∷◌, length, map, filter, fold, Option, Some, None}
 use Rattle.std.specs.List.{list_any, list_all, range_with_len, slice_get}
 use Rattle.std.specs.Option.{option_and_then, unwrap_or}
-use Rattle.pd_kinds.specs.declared.kind.Kind.TheVariants.{Cache}
 use Rattle.pd_kinds.specs.Array.{array_salt, word_at, word_count}
 use Rattle.pd_kinds.specs.CacheFormat.{cache_fields, cache_graph, has_dirty_bits}
 use Rattle.pd_kinds.specs.Checksum.{sealed}

@@ -1,5 +1,5 @@
 -- The terms of a restore, for each kind.
-use Rattle.std.specs.Prelude.{◌≡◌, ℕ, ◌≤◌, Bool, true, false, if◌then◌else◌, List, [], ◌∷◌, IfSome}
+use Rattle.std.specs.Prelude.{◌≡◌, ℕ, ◌≤◌, Bool, true, false, List, [], ◌∷◌, IfSome}
 use Rattle.pd_kinds.specs.declared.kind.Kind.{Kind}
 use Rattle.pd_kinds.specs.declared.kind.Kind.TheVariants.{Thin, Cache, Era}
 use Rattle.pd_kinds.specs.Crash.{IsUntouched}
@@ -16,9 +16,8 @@ use Rattle.pd_laid.specs.Made.{Makes}
 use Rattle.pd_laid.specs.LaidThin.{laid_pool, laid_shape}
 use Rattle.pd_laid.specs.LaidCache.{laid_cache}
 use Rattle.pd_laid.specs.LaidEra.{laid_era}
-use Rattle.pd_shapes.specs.SharedText.{shared_format}
-use Rattle.pd_shapes.specs.SharedNeed.{shape_need_so_far}
-use Rattle.pd_shapes.specs.PoolText.{is_second_version, IsPoolTextVerdict}
+use Rattle.pd_spells.specs.ThinText.{pool_format}
+use Rattle.pd_shapes.specs.PoolText.{pool_need_so_far, IsPoolTextVerdict}
 use Rattle.pd_answers.specs.Answer.{Answer, reading, writing}
 use Rattle.pd_answers.specs.Reads.{any_reads}
 use Rattle.pd_answers.specs.Terms.{Terms, unnamed}
@@ -66,12 +65,9 @@ restore_by {M} IsVerdictOn is_early laid file path = record {
   leaves = λ judged before after status. LeavesRestored laid judged status before.output after.output;
 }
 
--- whether the first two lines of a pool's text decide, of version 2 and of either version
-abbrev pub is_shape_early : List ℕ → ℕ → Bool
-is_shape_early text room = is_decided_early (shape_need_so_far room) room (lines_read shared_format text).lines
-
+-- whether the first two lines of a pool's text decide, in either version
 abbrev pub is_pool_text_early : List ℕ → ℕ → Bool
-is_pool_text_early text room = if is_second_version text then is_shape_early text room else is_pool_early text room
+is_pool_text_early text room = is_decided_early (pool_need_so_far room) room (lines_read pool_format text).lines
 
 -- a restore of a pool from a text of version 1, and from a text of either version
 abbrev pub restore_pool : Bool → List ℕ → List ℕ → Terms

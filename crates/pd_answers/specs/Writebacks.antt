@@ -1,10 +1,10 @@
 -- The terms of a writeback: what is dirty in a cache is copied to its origin, and the cache is marked clean.
-use Rattle.std.specs.Prelude.{◌≡◌, ◌≢◌, ◌⊎◌, ℕ, nat_lt, Bool, not, ◌==◌, if◌then◌else◌, List, [], ◌∷◌, ◌++◌, length, None, IfSome, codes, decimal}
+use Rattle.std.specs.Prelude.{◌≡◌, ◌≢◌, ◌⊎◌, ℕ, nat_lt, not, ◌==◌, if◌then◌else◌, List, [], ◌∷◌, ◌++◌, length, None, IfSome, codes, decimal}
 use Rattle.std.specs.List.{slice_get}
 use Rattle.pd_kinds.specs.declared.kind.Kind.TheVariants.{Cache}
 use Rattle.pd_kinds.specs.declared.kind.Stage.TheVariants.{Whole}
 use Rattle.pd_kinds.specs.Crash.{IsUntouched, LeavesOnly, HoldsSynced, IsOldNoneOrMade}
-use Rattle.pd_kinds.specs.Meaning.{CacheMeaning, cache_meaning}
+use Rattle.pd_kinds.specs.Meaning.{cache_meaning}
 use Rattle.pd_kinds.specs.Objects.{DeviceState}
 use Rattle.pd_kinds.specs.Report.{Reported, report_of}
 use Rattle.pd_kinds.specs.Stages.{faults, CanWantMemory}

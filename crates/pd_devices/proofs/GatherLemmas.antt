@@ -16,7 +16,7 @@ use Rattle.pd_draft.specs.Placed.{Stand, Wrote}
 use Rattle.pd_draft.proofs.PlacedLemmas.{wrote_none, wrote_then}
 use Rattle.pd_count.specs.Counted.{HasCounted}
 use Rattle.pd_spells.specs.Need.{need_tree}
-use Rattle.pd_spells.specs.ThinText.{Line, Head, Run, first_line, pool_line, device_line, map_line, end_line, data_blocks_of, run_end, unmapped, mappings_of}
+use Rattle.pd_spells.specs.ThinText.{Line, Head, Run, first_line, pool_line, device_line, map_line, end_line, data_blocks_of, piece_end, unmapped, mappings_of}
 use Rattle.std.specs.Prelude.{OnOk}
 use Rattle.pd_spells.specs.ThinNeed.{thin_need_so_far, need_of_devices, overflows_in}
 use Rattle.pd_devices.specs.Need.{need_of_trees}
@@ -118,9 +118,9 @@ pub gathered_ended : {start mid now : Stand} (before : List Line) (old new : Dev
     → Wrote (blocks_left 8 mid.place o.builder []) mid now → root ≡ root_left mid.place o.builder [] → root < 2 ^ 64
     → HasGathered (end_line ∷ before) new start now
 gathered_ended {start} {mid} {now} before old new o root h none growing ended details counts trees roots wrote is fits =
-    ended_by (opened_some (open_device before) (run_end before) (unmapped before) o h.behind mid (rw growing at h.growing))
+    ended_by (opened_some (open_device before) (piece_end before) (unmapped before) o h.behind mid (rw growing at h.growing))
   where
-    ended_by : (d : ThinDevice) × ((open_device before ≡ d ∷ []) × Grown d (run_end before) (unmapped before) o h.behind mid) → HasGathered (end_line ∷ before) new start now
+    ended_by : (d : ThinDevice) × ((open_device before ≡ d ∷ []) × Grown d (piece_end before) (unmapped before) o h.behind mid) → HasGathered (end_line ∷ before) new start now
     ended_by (d, (opened, g)) =
         let whole = whole_devices before in
         let items = mapping_items d.mappings in
@@ -201,9 +201,9 @@ pub gathered_run : {start mid now : Stand} (before : List Line) (old new : Devic
     → GrowsBy 8 (mapping_items (mappings_of r)) o.builder p.builder mid now → p.builder.leaves.low ≤ r.virtual_block + r.length
     → HasGathered (map_line r ∷ before) new start now
 gathered_run {start} {mid} {now} before old new o p r h follows growing grown same roots details trees size total counted grows low =
-    taken (opened_some (open_device before) (run_end before) (unmapped before) o h.behind mid (rw growing at h.growing))
+    taken (opened_some (open_device before) (piece_end before) (unmapped before) o h.behind mid (rw growing at h.growing))
   where
-    taken : (d : ThinDevice) × ((open_device before ≡ d ∷ []) × Grown d (run_end before) (unmapped before) o h.behind mid) → HasGathered (map_line r ∷ before) new start now
+    taken : (d : ThinDevice) × ((open_device before ≡ d ∷ []) × Grown d (piece_end before) (unmapped before) o h.behind mid) → HasGathered (map_line r ∷ before) new start now
     taken (d, (opened, g)) =
         let whole = whole_devices before in
         let longer : map (with_run r) (open_device before) ≡ with_run r d ∷ [] = ap (map (with_run r)) opened in
@@ -247,15 +247,15 @@ gathered_few before room more h need most enough = omega (arith, h.total, sum_fe
 pub gathered_room : {s : Devices} {start now : Stand} (before : List Line) (room : ℕ) (o : Growing) → HasGathered before s start now → s.growing ≡ Some o
     → thin_need_so_far room before ≤ room → now.place + number_left o.builder ≤ room
 gathered_room {s} {start} {now} before room o h growing need =
-    within (opened_some (open_device before) (run_end before) (unmapped before) o h.behind now (rw growing at h.growing))
+    within (opened_some (open_device before) (piece_end before) (unmapped before) o h.behind now (rw growing at h.growing))
   where
-    within : (d : ThinDevice) × ((open_device before ≡ d ∷ []) × Grown d (run_end before) (unmapped before) o h.behind now) → now.place + number_left o.builder ≤ room
+    within : (d : ThinDevice) × ((open_device before ≡ d ∷ []) × Grown d (piece_end before) (unmapped before) o h.behind now) → now.place + number_left o.builder ≤ room
     within (d, (opened, g)) = omega (arith, g.grows.room, g.begun.room, h.place, ap open_need opened, trees_within room before, need)
 
 -- where mappings are to come, a tree is open
 pub gathered_some : {s : Devices} {start now : Stand} (before : List Line) → HasGathered before s start now → s.growing ≡ None → 1 ≤ unmapped before → ⊥
 gathered_some {s} {start} {now} before h growing some =
-    let closed = opened_none (open_device before) (run_end before) (unmapped before) h.behind now (rw growing at h.growing) in
+    let closed = opened_none (open_device before) (piece_end before) (unmapped before) h.behind now (rw growing at h.growing) in
     no_device (open_some before some).0 (sym (open_some before some).1 ∙ closed.0)
   where
     no_device : (d : ThinDevice) → d ∷ [] ≡ [] → ⊥

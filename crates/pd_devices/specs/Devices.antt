@@ -1,7 +1,7 @@
 -- The devices that the lines of a pool's text give, of lines with the newest first.
 use Rattle.std.specs.Prelude.{◌+◌, ◌^◌, ◌≤◌, ◌<◌, List, [], ◌∷◌, ◌++◌, map}
 use Rattle.pd_kinds.specs.Meaning.{ThinDevice}
-use Rattle.pd_spells.specs.ThinText.{Line, first_line, pool_line, device_line, map_line, end_line, Details, Run, mappings_of, data_blocks_of, run_end, unmapped}
+use Rattle.pd_spells.specs.ThinText.{Line, first_line, pool_line, device_line, map_line, end_line, Details, Run, mappings_of, data_blocks_of, piece_end, unmapped}
 
 -- a device without mappings, and with those of a run more
 abbrev pub bare_device : Details → ThinDevice
@@ -41,5 +41,5 @@ pub record MayFollow (before : List Line) (r : Run) : Type 0 where
   pub fits : r.virtual_block + r.length ≤ 2 ^ 64
   pub within : r.data_block + r.length ≤ data_blocks_of before
   pub time : r.time < 2 ^ 24
-  pub above : run_end before ≤ r.virtual_block
+  pub above : piece_end before ≤ r.virtual_block
   pub enough : r.length ≤ unmapped before

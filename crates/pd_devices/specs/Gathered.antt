@@ -10,7 +10,7 @@ use Rattle.pd_node.specs.Items.{entries_of}
 use Rattle.pd_draft.specs.Placed.{Stand, Wrote}
 use Rattle.pd_count.specs.Counted.{HasCounted}
 use Rattle.pd_spells.specs.Need.{need_tree}
-use Rattle.pd_spells.specs.ThinText.{Line, Run, data_blocks_of, run_end, unmapped}
+use Rattle.pd_spells.specs.ThinText.{Line, Run, data_blocks_of, piece_end, unmapped}
 use Rattle.pd_spells.specs.ThinNeed.{mapped_of_line, data_of_line, thin_need_so_far}
 use Rattle.pd_laid.specs.LaidThin.{mapping_items}
 use Rattle.pd_laid_once.specs.Written.{device_trees, device_roots, device_details}
@@ -57,7 +57,7 @@ pub record HasGathered (before : List Line) (s : Devices) (start now : Stand) : 
   pub begin : start.place ≡ 1
   pub behind : Stand
   pub written : Wrote (device_trees 1 (whole_devices before)) start behind
-  pub growing : IsOpen (open_device before) (run_end before) (unmapped before) s.growing behind now
+  pub growing : IsOpen (open_device before) (piece_end before) (unmapped before) s.growing behind now
   pub roots : entries_of (λ (r : Root). r.0) s.roots.items ≡ device_roots 1 (whole_devices before)
   pub details : entries_of (λ (d : Details). details_code d.mapped d.transaction d.created d.snapped) s.details.items
       ≡ device_details (whole_devices before ++ open_device before)

@@ -1,7 +1,7 @@
 -- Of a lawful table: what is read is what is written, in its place.
 use Rattle.std.proofs.Common.{◌≡◌, inl, inr, ℕ, suc, ◌+◌, ◌^◌, ◌*◌, ◌≤◌, ◌<◌, true, ltb, List, [], ◌∷◌, length, map, All, refl, ap, sym, subst, ◌∙◌, arith, Option, Some, None, Result, Ok, Err}
 use Rattle.std.proofs.lemmas.Bool.Decides.{Decides-eqb, nat_tests}
-use Rattle.std.proofs.lemmas.Option.{none-some, same_Some, cond_some}
+use Rattle.std.proofs.lemmas.Option.{none-some, same_Some}
 use Rattle.std.proofs.lemmas.Slice.Eq.{bytes_eq-Decides}
 use Rattle.std.specs.Str.{bytes_eq}
 use Rattle.std.specs.List.{AllByRecursion, join_with_byte}
@@ -18,7 +18,7 @@ use Rattle.pd_grammar.specs.declared.value.Value.{Value}
 use Rattle.pd_grammar.specs.declared.value.Value.TheVariants as v
 use Rattle.pd_grammar.specs.Words.{uuid_of, policy_of, number_of, result_map}
 use Rattle.pd_grammar.specs.Texts.{written}
-use Rattle.pd_grammar.specs.Tables.{field_of, word_of, value_of, with_value, values_in, bytes_at, number_at, Place, second_line, later_line, later_line_where, may_stand, LineKind, Table, words_of, words_by, kind_named, line_in, parsed_by, first_by, format_of}
+use Rattle.pd_grammar.specs.Tables.{field_of, word_of, value_of, with_value, values_in, bytes_at, number_at, Place, second_line, later_line, later_line_where, may_stand, LineKind, Table, words_of, words_by, kind_named, line_in, parsed_by, first_among, first_by, format_of}
 use Rattle.pd_grammar.proofs.NumberLemmas.{ok-err, same_Ok, chosen, both, number_is, number_again}
 use Rattle.pd_grammar.proofs.PlainLemmas.{Plain, Printable, number_plain, uuid_plain, uuid_again, uuid_is, bytes_everywhere, policy_plain, policy_again, policy_is}
 use Rattle.pd_grammar.proofs.ShortLemmas.{room_of, joined_short, decimal_short}
@@ -175,30 +175,34 @@ stands_again (later_line_where test) before placed =
 abbrev pub FitsBy : {L : Type 0} → Table L → L → Type 0
 FitsBy table line = AreFit (table.values line)
 
-abbrev pub PlacedAs : {L : Type 0} → Option (LineKind L) → List L → Type 0
-PlacedAs None before = length before ≡ 0
-PlacedAs (Some kind) before = IsPlaced kind.place before
+-- a first line is one of the table's
+abbrev pub PlacedAs : {L : Type 0} → Table L → L → Option (LineKind L) → List L → Type 0
+PlacedAs table line None before = (length before ≡ 0) × (first_by table (join_with_byte 32 (table.first_words line)) ≡ Some line)
+PlacedAs table line (Some kind) before = IsPlaced kind.place before
 
 abbrev pub PlacedBy : {L : Type 0} → Table L → List L → L → Type 0
-PlacedBy table before line = PlacedAs (table.kind_of line) before
+PlacedBy table before line = PlacedAs table line (table.kind_of line) before
 
 -- the line that a kind makes of values is of that kind and has those values
 abbrev pub Makes : {L : Type 0} → Table L → LineKind L → Type 0
 Makes table kind = (xs : List Value)
     → (table.kind_of (kind.make xs) ≡ Some kind) × (table.values (kind.make xs) ≡ values_at kind.fields (bytes_at xs) (number_at xs))
 
--- a line is the first one, or of a kind of the table, which makes it of its values
+-- a line has the words of a first line, or is of a kind of the table, which makes it of its values
 abbrev pub IsMade : {L : Type 0} → Table L → L → Option (LineKind L) → Type 0
-IsMade table line None = table.start ≡ line
+IsMade table line None = (1 ≤ length (table.first_words line)) × AllByRecursion Plain (table.first_words line)
 IsMade table line (Some kind) =
     (kind_named table.kinds kind.keyword ≡ Some kind) × ((kind.make (table.values line) ≡ line) × (map field_of (table.values line) ≡ kind.fields))
 
+-- a first line is of no kind and has no values, and its bytes are such as a line may have
+pub record IsFirst {L : Type 0} (table : Table L) (line : L) : Type 0 where
+  pub kind : table.kind_of line ≡ None
+  pub values : table.values line ≡ []
+  pub printable : Printable (join_with_byte 32 (table.first_words line))
+
 -- kinds and lines fit together
 pub record IsLawful {L : Type 0} (table : Table L) : Type 0 where
-  pub start : (table.kind_of table.start ≡ None) × (table.values table.start ≡ [])
-  pub some : 1 ≤ length table.first
-  pub first_plain : AllByRecursion Plain table.first
-  pub first_printable : Printable (join_with_byte 32 table.first)
+  pub firsts : AllByRecursion (IsFirst table) table.firsts
   pub keywords : AllByRecursion (λ (kind : LineKind L). Plain kind.keyword) table.kinds
   pub makes : AllByRecursion (Makes table) table.kinds
   pub made : (line : L) → IsMade table line (table.kind_of line)
@@ -212,6 +216,16 @@ kind_known {L} P (one ∷ kinds) keyword kind all e = elim (chosen (bytes_eq key
       let is : one ≡ kind = same_Some one kind e in
       rw (← is) ((bytes_eq-Decides keyword one.keyword).0 same, all.0)
   | inr (other, e) ↦ kind_known P kinds keyword kind all.1 e
+]
+
+first_known : {L : Type 0} → (P : L → Type 0) (words : L → List (List ℕ)) (lines : List L) (bytes : List ℕ) (line : L) → AllByRecursion P lines
+    → first_among words lines bytes ≡ Some line → (bytes ≡ join_with_byte 32 (words line)) × P line
+first_known P words [] bytes line all e = absurd (none-some line e)
+first_known P words (one ∷ lines) bytes line all e = elim (chosen (bytes_eq bytes (join_with_byte 32 (words one))) _ _ (Some line) e) [
+  | inl (same, e) ↦
+      let is : one ≡ line = same_Some one line e in
+      rw (← is) ((bytes_eq-Decides bytes (join_with_byte 32 (words one))).0 same, all.0)
+  | inr (other, e) ↦ first_known P words lines bytes line all.1 e
 ]
 
 result_map-ok : {X Y : Type 0} → (g : X → Y) (r : Result X TextCause) (y : Y) → result_map g r ≡ Ok y → (x : X) × (r ≡ Ok x) × (g x ≡ y)
@@ -232,10 +246,10 @@ module _ {L : Type 0} (table : Table L) (lawful : IsLawful table) where
       let of : table.kind_of (kind.make xs) ≡ Some kind = (makes xs).0 in
       let same : table.values (kind.make xs) ≡ xs =
       (makes xs).1 ∙ ap (λ (fields : List Field). values_at fields (bytes_at xs) (number_at xs)) (sym are.stand) ∙ values_all xs in
-      let Stands : Option (LineKind L) → Type 0 = λ k. PlacedAs k before in
+      let Stands : Option (LineKind L) → Type 0 = λ k. PlacedAs table (kind.make xs) k before in
       let Fits : List Value → Type 0 = AreFit in
       rw (← parts.2) (record {
-        words_are = ap (λ (k : Option (LineKind L)). words_of table.first k (table.values (kind.make xs))) of
+        words_are = ap (λ (k : Option (LineKind L)). words_of (table.first_words (kind.make xs)) k (table.values (kind.make xs))) of
             ∙ ap (λ (ys : List Value). kind.keyword ∷ map word_of ys) same ∙ ap (λ (ws : List (List ℕ)). kind.keyword ∷ ws) are.text;
         fits = subst Fits (sym same) are.fits;
         placed = subst Stands (sym of) (is_placed kind.place before stands);
@@ -257,51 +271,49 @@ module _ {L : Type 0} (table : Table L) (lawful : IsLawful table) where
   words_are before [] line some e = absurd (ok-err line Word (sym e))
   words_are before (keyword ∷ words) line some e = named_words before keyword words line (kind_named table.kinds keyword) refl e
 
-  made_again : (before : List L) (line : L) (o : Option (LineKind L)) → IsMade table line o → FitsBy table line → PlacedAs o before → 1 ≤ length before
-      → parsed_by table before (words_of table.first o (table.values line)) ≡ Ok line
+  made_again : (before : List L) (line : L) (o : Option (LineKind L)) → IsMade table line o → FitsBy table line → PlacedAs table line o before → 1 ≤ length before
+      → parsed_by table before (words_of (table.first_words line) o (table.values line)) ≡ Ok line
   unfolding parsed_by
-  made_again before line None made fits placed some = absurd (omega (arith, placed))
+  made_again before line None made fits placed some = absurd (omega (arith, placed.0))
   made_again before line (Some kind) made fits placed some =
       let again : values_in kind.fields (map word_of (table.values line)) ≡ Ok (table.values line) =
       ap (λ (fields : List Field). values_in fields (map word_of (table.values line))) (sym made.1.1) ∙ values_again (table.values line) fits in
       rw (made.0, stands_again kind.place before placed, again) (ap (λ (l : L). Ok l) made.1.0)
 
   words_plain : (line : L) (o : Option (LineKind L)) → IsMade table line o → FitsBy table line
-      → (1 ≤ length (words_of table.first o (table.values line))) × AllByRecursion Plain (words_of table.first o (table.values line))
-  words_plain line None made fits = (lawful.some, lawful.first_plain)
+      → (1 ≤ length (words_of (table.first_words line) o (table.values line))) × AllByRecursion Plain (words_of (table.first_words line) o (table.values line))
+  words_plain line None made fits = made
   words_plain line (Some kind) made fits =
       let known = kind_known (λ (k : LineKind L). Plain k.keyword) table.kinds kind.keyword kind lawful.keywords made.0 in
       (omega arith, (known.1, values_plain (table.values line) fits))
 
-  start_written : written (format_of table) table.start ≡ join_with_byte 32 table.first
-  start_written = ap (λ (k : Option (LineKind L)). join_with_byte 32 (words_of table.first k (table.values table.start))) lawful.start.0
-
   first_is : (bytes : List ℕ) (line : L) → first_by table bytes ≡ Some line
       → (written (format_of table) line ≡ bytes) × (FitsBy table line × (PlacedBy table [] line × Printable bytes))
   first_is bytes line e =
-      let parts = cond_some (bytes_eq bytes (join_with_byte 32 table.first)) table.start line e in
+      let known = first_known (IsFirst table) table.first_words table.firsts bytes line lawful.firsts e in
       let Fits : List Value → Type 0 = AreFit in
-      let Stands : Option (LineKind L) → Type 0 = λ k. PlacedAs k [] in
-      rw (← parts.1, same_word bytes (join_with_byte 32 table.first) parts.0)
-      (start_written, (subst Fits (sym lawful.start.1) tt, (subst Stands (sym lawful.start.0) refl, lawful.first_printable)))
+      let Stands : Option (LineKind L) → Type 0 = λ k. PlacedAs table line k [] in
+      let again : first_by table (join_with_byte 32 (table.first_words line)) ≡ Some line = rw (← known.0) e in
+      let words : join_with_byte 32 (words_by table line) ≡ join_with_byte 32 (table.first_words line) =
+      ap (λ (k : Option (LineKind L)). join_with_byte 32 (words_of (table.first_words line) k (table.values line))) known.1.kind in
+      rw known.0 (words, (subst Fits (sym known.1.values) tt, (subst Stands (sym known.1.kind) (refl, again), known.1.printable)))
 
   none_first : {P : Type 0} → (place : Place L) → IsPlaced place [] → P
   none_first second_line placed = absurd (omega (arith, placed))
   none_first later_line placed = absurd (omega (arith, placed))
   none_first (later_line_where test) placed = absurd (omega (arith, placed.0))
 
-  first_again : (line : L) (o : Option (LineKind L)) → IsMade table line o → PlacedAs o []
-      → first_by table (join_with_byte 32 (words_of table.first o (table.values line))) ≡ Some line
-  first_again line None made placed =
-      rw ((bytes_eq-Decides (join_with_byte 32 table.first) (join_with_byte 32 table.first)).1 refl) (ap (λ (l : L). Some l) made)
-  first_again line (Some kind) made placed = none_first kind.place placed
+  first_again : (line : L) (o : Option (LineKind L)) → PlacedAs table line o []
+      → first_by table (join_with_byte 32 (words_of (table.first_words line) o (table.values line))) ≡ Some line
+  first_again line None placed = placed.1
+  first_again line (Some kind) placed = none_first kind.place placed
 
   -- a text of the table reads what it writes, where no line is longer than 160 bytes
   pub table_grammar : ((before : List L) (line : L) → FitsBy table line → PlacedBy table before line → Passes table.tests before line → length (written (format_of table) line) ≤ 160)
       → IsGrammar (format_of table) (FitsBy table) (PlacedBy table)
   table_grammar short = record {
     first_is = first_is;
-    first_again = λ line fits placed. first_again line (table.kind_of line) (lawful.made line) placed;
+    first_again = λ line fits placed. first_again line (table.kind_of line) placed;
     words_are = words_are;
     words_again = λ before line fits placed some. made_again before line (table.kind_of line) (lawful.made line) fits placed some;
     plain = λ line fits. words_plain line (table.kind_of line) (lawful.made line) fits;

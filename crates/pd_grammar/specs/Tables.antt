@@ -93,9 +93,9 @@ pub record LineKind (L : Type 0) : Type 0 where
 
 -- a kind of text
 pub record Table (L : Type 0) : Type 0 where
-  -- the words of the first line, and the line
-  pub first : List (List ℕ)
-  pub start : L
+  -- the lines that may be the first one, and the words of such a line
+  pub firsts : List L
+  pub first_words : L → List (List ℕ)
   pub kinds : List (LineKind L)
   -- the kind of a later line, and its values
   pub kind_of : L → Option (LineKind L)
@@ -109,7 +109,7 @@ words_of first None values = first
 words_of first (Some kind) values = kind.keyword ∷ map word_of values
 
 abbrev pub words_by : {L : Type 0} → Table L → L → List (List ℕ)
-words_by table line = words_of table.first (table.kind_of line) (table.values line)
+words_by table line = words_of (table.first_words line) (table.kind_of line) (table.values line)
 
 -- the kind of line with a keyword
 unfoldable pub kind_named : {L : Type 0} → List (LineKind L) → List ℕ → Option (LineKind L)
@@ -127,9 +127,14 @@ unfoldable pub parsed_by : {L : Type 0} → Table L → List L → List (List �
 parsed_by table before [] = Err Word
 parsed_by table before (keyword ∷ words) = line_in before (kind_named table.kinds keyword) words
 
--- the first line
+-- the one of some first lines that these bytes are
+abbrev pub first_among : {L : Type 0} → (L → List (List ℕ)) → List L → List ℕ → Option L
+first_among words [] bytes = None
+first_among words (line ∷ lines) bytes =
+    if bytes_eq bytes (join_with_byte 32 (words line)) then Some line else first_among words lines bytes
+
 abbrev pub first_by : {L : Type 0} → Table L → List ℕ → Option L
-first_by table bytes = if bytes_eq bytes (join_with_byte 32 table.first) then Some table.start else None
+first_by table bytes = first_among table.first_words table.firsts bytes
 
 -- whether a kind of line is the last one, which is `end` in each text
 abbrev pub is_last : {L : Type 0} → Option (LineKind L) → Bool

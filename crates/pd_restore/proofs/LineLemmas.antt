@@ -9,7 +9,7 @@ use Rattle.pd_draft.specs.Placed.{Stand}
 use Rattle.pd_spells.specs.Need.{need_tree}
 use Rattle.pd_spells.specs.ThinNeed.{mapped_data, overflows_in, thin_need, thin_need_so_far}
 use Rattle.pd_spells.proofs.NeedLemmas.{devices-same, overflows-same}
-use Rattle.pd_spells.specs.ThinText.{Line, first_line, pool_line, device_line, map_line, end_line, Run, Part, mappings_of, device_of_part, head_of, lines_of_part, data_blocks_of, run_end, unmapped, MeansPool, Head}
+use Rattle.pd_spells.specs.ThinText.{Line, first_line, pool_line, device_line, map_line, end_line, Run, Part, mappings_of, device_of_part, head_of, lines_of_part, data_blocks_of, piece_end, unmapped, MeansPool, Head}
 use Rattle.pd_laid_once.proofs.Need.{data_counts_are}
 use Rattle.pd_texts.specs.Reader.{in_order}
 use Rattle.pd_devices.specs.declared.devices.Devices.{Devices}
@@ -124,7 +124,7 @@ none_open [] before = refl
 none_open (p ∷ parts) before = ap open_device (part_lines p before (end_line ∷ []) parts) ∙ none_open parts (pushed (device_line p.details ∷ before) (map map_line p.runs))
 
 closed_at : {start now : Stand} (lines : List Line) (s : Devices) (h : HasGathered lines s start now) → open_device lines ≡ [] → h.behind ≡ now
-closed_at {start} {now} lines s h closed = closed_by s.growing (run_end lines) (unmapped lines) h.behind now (rw closed at h.growing)
+closed_at {start} {now} lines s h closed = closed_by s.growing (piece_end lines) (unmapped lines) h.behind now (rw closed at h.growing)
   where
     closed_by : (o : Option Growing) (low left : ℕ) (from to : Stand) → IsOpen [] low left o from to → from ≡ to
     closed_by None low left from to is = is

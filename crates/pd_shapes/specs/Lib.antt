@@ -1,5 +1,3 @@
-pub mod SharedLines
-pub mod SharedTests
 pub mod SharedText
 pub mod SharedNeed
 pub mod ImageShape

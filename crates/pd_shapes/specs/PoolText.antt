@@ -1,22 +1,12 @@
 -- A pool's text of either version, as a restore reads it: its first line says which.
-use Rattle.std.specs.Prelude.{◌≡◌, ℕ, Bool, true, false, List, [], ◌∷◌, codes}
-use Rattle.std.specs.Str.{bytes_eq}
+use Rattle.std.specs.Prelude.{◌≡◌, ℕ, Bool, true, false, if◌then◌else◌, List}
 use Rattle.pd_kinds.specs.Meaning.{ThinPool}
-use Rattle.pd_grammar.specs.Words.{split}
-use Rattle.pd_grammar.specs.Spelling.{Verdict, IsVerdict}
-use Rattle.pd_spells.specs.ThinText.{Line, thin, MeansPool}
+use Rattle.pd_grammar.specs.Spelling.{Spells, Verdict, IsVerdict}
+use Rattle.pd_spells.specs.ThinText.{Line, is_shared, pool_format, MeansPool}
 use Rattle.pd_spells.specs.ThinNeed.{thin_need_so_far}
-use Rattle.pd_laid.specs.Shape.{ThinShape, shape_of}
-use Rattle.pd_shapes.specs.SharedNeed.{IsShapeVerdict}
-
--- whether the first of some lines is that of version 2
-abbrev pub is_second_first : List (List ℕ) → Bool
-is_second_first [] = false
-is_second_first (line ∷ lines) = bytes_eq line (codes "thin 2")
-
--- whether a text is one of version 2
-abbrev pub is_second_version : List ℕ → Bool
-is_second_version text = is_second_first (split 10 text)
+use Rattle.pd_laid.specs.Shape.{ThinShape, shape_of, pool_of}
+use Rattle.pd_shapes.specs.SharedText.{MeansShape}
+use Rattle.pd_shapes.specs.SharedNeed.{shape_need_so_far}
 
 -- the lines of version 1 mean the shape of a pool that shares no leaf
 pub record MeansUnshared (lines : List Line) (w : ThinShape) : Type 0 where
@@ -24,14 +14,27 @@ pub record MeansUnshared (lines : List Line) (w : ThinShape) : Type 0 where
   pub means : MeansPool lines pool
   pub shape_is : w ≡ shape_of pool
 
--- the verdict on a text of version 1, of which a shape is accepted
-abbrev pub IsUnsharedVerdict : List ℕ → ℕ → Verdict ThinShape → Type 0
-IsUnsharedVerdict text room verdict = IsVerdict thin MeansUnshared (thin_need_so_far room) text room verdict
+-- the lines of this version mean the shape
+abbrev pub MeansAs : Bool → List Line → ThinShape → Type 0
+MeansAs true lines w = MeansShape lines w
+MeansAs false lines w = MeansUnshared lines w
 
--- the verdict on a text of the version that its first line says
-abbrev pub IsVersionVerdict : Bool → List ℕ → ℕ → Verdict ThinShape → Type 0
-IsVersionVerdict true text room verdict = IsShapeVerdict text room verdict
-IsVersionVerdict false text room verdict = IsUnsharedVerdict text room verdict
+abbrev pub MeansPoolShape : List Line → ThinShape → Type 0
+MeansPoolShape lines w = MeansAs (is_shared lines) lines w
 
+-- the text, of either version, spells the shape, and with it the pool that the shape means
+abbrev pub SpellsPoolShape : List ℕ → ThinShape → Type 0
+SpellsPoolShape text w = Spells pool_format MeansPoolShape text w
+
+pub record SpellsMeaning (text : List ℕ) (m : ThinPool) : Type 0 where
+  pub shape : ThinShape
+  pub spells : SpellsPoolShape text shape
+  pub means : pool_of shape ≡ m
+
+-- the need after these lines, the newest first, by their version
+abbrev pub pool_need_so_far : ℕ → List Line → ℕ
+pool_need_so_far room before = if is_shared before then shape_need_so_far room before else thin_need_so_far room before
+
+-- the verdict on a text of either version
 abbrev pub IsPoolTextVerdict : List ℕ → ℕ → Verdict ThinShape → Type 0
-IsPoolTextVerdict text room verdict = IsVersionVerdict (is_second_version text) text room verdict
+IsPoolTextVerdict text room verdict = IsVerdict pool_format MeansPoolShape (pool_need_so_far room) text room verdict

@@ -7,13 +7,11 @@ use Rattle.pd_kinds.specs.Meaning.{Mapping}
 use Rattle.pd_grammar.specs.Texts.{has_ended}
 use Rattle.pd_grammar.specs.Spelling.{Verdict, IsVerdict}
 use Rattle.pd_spells.specs.Need.{nodes_for, need_above, need_tree}
-use Rattle.pd_spells.specs.ThinText.{mappings_of}
-use Rattle.pd_spells.specs.ThinNeed.{overflows_in}
+use Rattle.pd_spells.specs.ThinText.{Line, first_line, shared_first_line, pool_line, leaf_line, device_line, use_line, map_line, end_line, pool_format, data_blocks_of, leaf_number}
+use Rattle.pd_spells.specs.ThinText as text
+use Rattle.pd_spells.specs.ThinNeed.{data_of_line, overflows_in}
 use Rattle.pd_laid.specs.Shape.{Piece, own, shared, ShapeDevice, ThinShape, uses_of_piece, uses_of}
-use Rattle.pd_shapes.specs.SharedLines.{Line, first_line, pool_line, leaf_line, device_line, use_line, map_line, end_line, data_blocks_of, leaf_number}
-use Rattle.pd_shapes.specs.SharedLines as lines
-use Rattle.pd_shapes.specs.SharedTests.{shared_single}
-use Rattle.pd_shapes.specs.SharedText.{shared_format, MeansShape}
+use Rattle.pd_shapes.specs.SharedText.{MeansShape}
 
 -- how many leaves a device has: its own ones, and all of them
 pub record LeafCount : Type 0 where
@@ -114,6 +112,7 @@ tell more (newest ∷ devices) = more newest ∷ devices
 abbrev pub told_devices : List Line → List Told
 told_devices [] = []
 told_devices (first_line ∷ before) = told_devices before
+told_devices (shared_first_line ∷ before) = told_devices before
 told_devices (pool_line p ∷ before) = told_devices before
 told_devices (leaf_line l ∷ before) = told_devices before
 told_devices (device_line d ∷ before) = untold ∷ told_devices before
@@ -132,23 +131,13 @@ leaves_of_told has_ended [] = []
 leaves_of_told has_ended (newest ∷ devices) =
     (if has_ended then leaves_of_ended newest else leaf_count newest.own newest.uses) ∷ map leaves_of_ended devices
 
--- the data blocks that a line maps
-abbrev pub data_of_line : Line → List ℕ
-data_of_line first_line = []
-data_of_line (pool_line p) = []
-data_of_line (leaf_line l) = []
-data_of_line (device_line d) = []
-data_of_line (use_line n) = []
-data_of_line (map_line r) = map (λ (x : Mapping). x.data_block) (mappings_of r)
-data_of_line end_line = []
-
 -- the need after these lines, the newest first: each data block of a leaf counts once
 unfoldable pub shape_need_so_far : ℕ → List Line → ℕ
 shape_need_so_far room before =
-    need_of_shared (leaf_number before) (used_often (lines.uses_of before) (leaf_number before))
-    (leaves_of_told (has_ended shared_single before) (told_devices before)) (data_blocks_of before)
+    need_of_shared (leaf_number before) (used_often (text.uses_of before) (leaf_number before))
+    (leaves_of_told (has_ended pool_format before) (told_devices before)) (data_blocks_of before)
     (overflows_in (flat_map data_of_line before) (data_blocks_of before)) room
 
 -- the verdict on a text of version 2 where so many metadata blocks are there
 abbrev pub IsShapeVerdict : List ℕ → ℕ → Verdict ThinShape → Type 0
-IsShapeVerdict text room verdict = IsVerdict shared_format MeansShape (shape_need_so_far room) text room verdict
+IsShapeVerdict text room verdict = IsVerdict pool_format MeansShape (shape_need_so_far room) text room verdict

@@ -2,17 +2,11 @@
 use Rattle.std.specs.Prelude.{◌≡◌, ℕ, ◌+◌, ◌≤◌, List, [], ◌∷◌, ◌++◌, length, map}
 use Rattle.std.specs.List.{flat_map, AllByRecursion}
 use Rattle.pd_kinds.specs.Meaning.{Mapping}
-use Rattle.pd_grammar.specs.Texts.{TextFormat, text_of_lines, with_test}
+use Rattle.pd_grammar.specs.Texts.{text_of_lines}
 use Rattle.pd_grammar.specs.Spelling.{Spells}
 use Rattle.pd_spells.specs.Lawful.{IsLawfulPool}
-use Rattle.pd_spells.specs.ThinText.{Run, Head, Details, mappings_of, joined_runs}
+use Rattle.pd_spells.specs.ThinText.{Run, Head, Details, Line, shared_first_line, pool_line, leaf_line, device_line, use_line, map_line, end_line, pool_format, mappings_of, joined_runs, AreApart}
 use Rattle.pd_laid.specs.Shape.{Piece, own, shared, ShapeDevice, ThinShape, IsShape, pool_of}
-use Rattle.pd_shapes.specs.SharedLines.{Line, first_line, pool_line, leaf_line, device_line, use_line, map_line, end_line}
-use Rattle.pd_shapes.specs.SharedTests.{shared_single, unused_test}
-
--- texts of thin pools, version 2
-abbrev pub shared_format : TextFormat Line
-shared_format = with_test unused_test shared_single
 
 -- a piece as a text gives it: runs of a device's own, or a leaf that it uses
 pub data PartPiece : Type 0 where
@@ -64,7 +58,7 @@ lines_of_part p = device_line p.details ∷ flat_map lines_of_piece p.pieces
 -- the lines of a text
 abbrev pub lines_of_shape : Head → List (List Run) → List SharedPart → List Line
 lines_of_shape head leaves parts =
-    first_line ∷ pool_line head ∷ (lines_of_leaves 0 leaves ++ (flat_map lines_of_part parts ++ (end_line ∷ [])))
+    shared_first_line ∷ pool_line head ∷ (lines_of_leaves 0 leaves ++ (flat_map lines_of_part parts ++ (end_line ∷ [])))
 
 -- each run has a mapping
 abbrev pub HaveMappings : List Run → Type 0
@@ -93,7 +87,7 @@ pub record MeansShape (lines : List Line) (w : ThinShape) : Type 0 where
 
 -- the text spells the shape
 abbrev pub SpellsShape : List ℕ → ThinShape → Type 0
-SpellsShape text w = Spells shared_format MeansShape text w
+SpellsShape text w = Spells pool_format MeansShape text w
 
 -- a piece and a device with the runs of their mappings, as long as can be
 abbrev pub joined_piece : Piece → PartPiece
@@ -109,4 +103,16 @@ joined_part d = record {
 -- the one spelling in which no two neighbouring runs of a leaf or of a piece join
 unfoldable pub text_of_shape : ThinShape → List ℕ
 text_of_shape w =
-    text_of_lines shared_format (lines_of_shape (head_of_shape w) (map joined_runs w.leaves) (map joined_part w.devices))
+    text_of_lines pool_format (lines_of_shape (head_of_shape w) (map joined_runs w.leaves) (map joined_part w.devices))
+
+-- no two neighbouring runs of a piece join, nor of a leaf, nor of a piece of a device
+abbrev pub IsPieceApart : PartPiece → Type 0
+IsPieceApart (own_runs runs) = AreApart runs
+IsPieceApart (used_leaf number) = Unit {0}
+
+abbrev pub IsPartApart : SharedPart → Type 0
+IsPartApart p = AllByRecursion IsPieceApart p.pieces
+
+pub record AreSharedApart (leaves : List (List Run)) (parts : List SharedPart) : Type 0 where
+  pub leaf_runs : AllByRecursion AreApart leaves
+  pub runs : AllByRecursion IsPartApart parts

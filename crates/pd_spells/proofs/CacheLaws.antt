@@ -66,7 +66,7 @@ entries_if_read : (lines before : List Line) → 2 ≤ length before → AreLine
     → (map row_of (entries_of lines) ++ (end_line ∷ []) ≡ lines)
     × AreEntries (blocks_of before) (hint_size_of before) (least_block before) (origins_of before) (entries_of lines)
 entries_if_read [] before some reads going = absurd (true≢false (sym reads ∙ going))
-entries_if_read (first_line ∷ lines) before some reads going = absurd (omega (arith, some, reads.1.1.0))
+entries_if_read (first_line ∷ lines) before some reads going = absurd (omega (arith, some, reads.1.1.0.0))
 entries_if_read (cache_line h ∷ lines) before some reads going = absurd (omega (arith, some, reads.1.1.0))
 entries_if_read (map_line r ∷ lines) before some reads going =
     let passes = line_passes before (map_line r) (omega (arith, some)) reads.1.1.1.0 in
@@ -169,7 +169,7 @@ after_head h lines reads =
 
 after_first : (lines : List Line) → AreLines cache FitsLine Placed (first_line ∷ []) lines → (m : CacheMeaning) × MeansCache (first_line ∷ lines) m
 after_first [] reads = absurd (true≢false (sym reads))
-after_first (first_line ∷ lines) reads = absurd (omega (arith, reads.1.1.0))
+after_first (first_line ∷ lines) reads = absurd (omega (arith, reads.1.1.0.0))
 after_first (cache_line h ∷ lines) reads = (cache_of_head h (entries_of lines), after_head h lines reads)
 after_first (map_line r ∷ lines) reads = absurd (omega (arith, reads.1.1.0))
 after_first (end_line ∷ lines) reads = absurd (omega (arith, reads.1.1.0))
@@ -202,7 +202,7 @@ cache_read m lawful =
     (hint_size_told m.hint_size lawful.hint_size_is) in
     let size : m.hint_size ≤ 4 = elim lawful.hint_size_is [ inl none ↦ omega (arith, none) | inr four ↦ omega (arith, four) ] in
     let tail = map row_of m.entries ++ (end_line ∷ []) in
-    read_line [] first_line (cache_line head ∷ tail) refl tt refl (record { range = refl; order = refl; repeated = refl })
+    read_line [] first_line (cache_line head ∷ tail) refl tt (refl, refl) (record { range = refl; order = refl; repeated = refl })
     (read_line (first_line ∷ []) (cache_line head) tail refl (
       lawful.uuid_len,
       (

@@ -21,17 +21,14 @@ Placed before line = PlacedBy cache_table before line
 
 made : (line : Line) → IsMade cache_table line (kind_of_line line)
 unfolding kind_named
-made first_line = refl
+made first_line = (omega arith, (plain_word (codes "cache") refl, (plain_word (codes "1") refl, tt)))
 made (cache_line h) = (refl, (refl, refl))
 made (map_line r) = (refl, (refl, refl))
 made end_line = (refl, (refl, refl))
 
 cache_lawful : IsLawful cache_table
 cache_lawful = record {
-  start = (refl, refl);
-  some = omega arith;
-  first_plain = (plain_word (codes "cache") refl, (plain_word (codes "1") refl, tt));
-  first_printable = refl;
+  firsts = (record { kind = refl; values = refl; printable = refl }, tt);
   keywords = (plain_word (codes "map") refl, (plain_word (codes "cache") refl, (plain_word (codes "end") refl, tt)));
   makes = (λ xs. (refl, refl), (λ xs. (refl, refl), (λ xs. (refl, refl), tt)));
   made = made;

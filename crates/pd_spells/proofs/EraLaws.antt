@@ -99,7 +99,7 @@ owed_at_end before most test = record { number = grind (arith, nat_tests, most, 
 owed_if_read : (lines before : List Line) → 2 ≤ length before → run_end before ≤ blocks_of before → AreLines era FitsLine Placed before lines → has_ended era before ≡ false
     → (run_lines (run_end before) (stretches_of lines) ++ (end_line ∷ []) ≡ lines) × Owed before (stretches_of lines)
 owed_if_read [] before some most reads going = absurd (true≢false (sym reads ∙ going))
-owed_if_read (first_line ∷ lines) before some most reads going = absurd (omega (arith, some, reads.1.1.0))
+owed_if_read (first_line ∷ lines) before some most reads going = absurd (omega (arith, some, reads.1.1.0.0))
 owed_if_read (era_line h ∷ lines) before some most reads going = absurd (omega (arith, some, reads.1.1.0))
 owed_if_read (run_line r ∷ lines) before some most reads going =
     let passes = line_passes before (run_line r) (omega (arith, some)) reads.1.1.1.0 in
@@ -172,7 +172,7 @@ after_head h lines reads =
 
 after_first : (lines : List Line) → AreLines era FitsLine Placed (first_line ∷ []) lines → (m : EraMeaning) × MeansEra (first_line ∷ lines) m
 after_first [] reads = absurd (true≢false (sym reads))
-after_first (first_line ∷ lines) reads = absurd (omega (arith, reads.1.1.0))
+after_first (first_line ∷ lines) reads = absurd (omega (arith, reads.1.1.0.0))
 after_first (era_line h ∷ lines) reads = (era_of_stretches h (stretches_of lines), after_head h lines reads)
 after_first (run_line r ∷ lines) reads = absurd (omega (arith, reads.1.1.0))
 after_first (end_line ∷ lines) reads = absurd (omega (arith, reads.1.1.0))
@@ -192,7 +192,7 @@ stretches_read m stretches eras some lawful =
     let tail = run_lines 0 stretches ++ (end_line ∷ []) in
     let owed : Owed (era_line head ∷ first_line ∷ []) stretches =
     record { number = omega (arith, ap (λ (es : List ℕ). length es) eras, lawful.one_each); eras = rw eras lawful.eras_fit; some = some } in
-    read_line [] first_line (era_line head ∷ tail) refl tt refl (record { range = refl; order = refl; mapped = refl })
+    read_line [] first_line (era_line head ∷ tail) refl tt (refl, refl) (record { range = refl; order = refl; mapped = refl })
     (read_line (first_line ∷ []) (era_line head) tail refl
     (lawful.uuid_len, (lawful.uuid_bytes, (omega (arith, lawful.block_size_fits), (omega (arith, lawful.blocks_fit), (omega (arith, lawful.era_fits), tt)))))
     refl (record { range = range; order = refl; mapped = refl })

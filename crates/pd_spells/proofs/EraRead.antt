@@ -17,17 +17,14 @@ Placed before line = PlacedBy era_table before line
 
 made : (line : Line) → IsMade era_table line (kind_of_line line)
 unfolding kind_named
-made first_line = refl
+made first_line = (omega arith, (plain_word (codes "era") refl, (plain_word (codes "1") refl, tt)))
 made (era_line h) = (refl, (refl, refl))
 made (run_line r) = (refl, (refl, refl))
 made end_line = (refl, (refl, refl))
 
 era_lawful : IsLawful era_table
 era_lawful = record {
-  start = (refl, refl);
-  some = omega arith;
-  first_plain = (plain_word (codes "era") refl, (plain_word (codes "1") refl, tt));
-  first_printable = refl;
+  firsts = (record { kind = refl; values = refl; printable = refl }, tt);
   keywords = (plain_word (codes "run") refl, (plain_word (codes "era") refl, (plain_word (codes "end") refl, tt)));
   makes = (λ xs. (refl, refl), (λ xs. (refl, refl), (λ xs. (refl, refl), tt)));
   made = made;

@@ -1,12 +1,13 @@
 -- Thin texts and what they mean.
-use Rattle.std.proofs.Common.{◌≡◌, ℕ, zero, suc, ◌+◌, ◌^◌, ◌≤◌, ◌<◌, true, false, not, ◌&&◌, List, [], ◌∷◌, ◌++◌, length, length-append, map, refl, ap, sym, ◌∙◌, append_assoc, arith, ltb, leb}
+use Rattle.std.proofs.Common.{◌≡◌, ℕ, zero, suc, ◌+◌, ◌^◌, ◌≤◌, ◌<◌, true, false, not, Bool, ◌&&◌, ◌||◌, List, [], ◌∷◌, ◌++◌, length, length-append, map, refl, ap, sym, ◌∙◌, append_assoc, arith, ltb, leb}
 use Rattle.std.proofs.lemmas.Bool.{true≢false}
 use Rattle.std.proofs.lemmas.Bool.Decides.{nat_tests}
+use Rattle.std.proofs.lemmas.Option.{none-some}
 use Rattle.std.specs.List.{AllByRecursion, flat_map}
 use Rattle.pd_kinds.specs.Meaning.{ThinPool, Mapping}
 use Rattle.pd_grammar.specs.Texts.{has_ended}
 use Rattle.pd_spells.specs.Lawful.{AreMappings, AreDevices, IsLawfulPool}
-use Rattle.pd_spells.specs.ThinText.{Line, first_line, pool_line, device_line, map_line, end_line, Head, Details, Run, Part, thin, thin_tests, has_device, least_id, run_end, unmapped, data_blocks_of, has_number_out_of_range, is_out_of_order, is_mapped_otherwise, mappings_from, mappings_of, device_of_part, head_of, lines_of_part, lines_of_parts, HasMappings}
+use Rattle.pd_spells.specs.ThinText.{Line, first_line, shared_first_line, pool_line, leaf_line, device_line, use_line, map_line, end_line, Head, Details, Run, Part, thin, thin_tests, is_shared, leaf_number, has_device, least_id, piece_end, unmapped, data_blocks_of, has_number_out_of_range, is_out_of_order, is_mapped_otherwise, leaves_one_unused, mappings_from, mappings_of, device_of_part, head_of, lines_of_part, lines_of_parts, HasMappings}
 use Rattle.pd_grammar.proofs.GrammarLemmas.{AreLines, Passes}
 use Rattle.pd_spells.proofs.ThinRead.{FitsLine, Placed}
 
@@ -17,8 +18,11 @@ pub record Cut : Type 0 where
 
 abbrev pub add_line : Line → Cut → Cut
 add_line first_line cut = cut
+add_line shared_first_line cut = cut
 add_line (pool_line p) cut = cut
+add_line (leaf_line l) cut = cut
 add_line (device_line d) cut = record { runs = []; parts = record { details = d; runs = cut.runs } ∷ cut.parts }
+add_line (use_line n) cut = cut
 add_line (map_line r) cut = record { runs = r ∷ cut.runs; parts = cut.parts }
 add_line end_line cut = record { runs = []; parts = [] }
 
@@ -70,7 +74,7 @@ mappings_length v d t (suc n) = ap suc (mappings_length (suc v) (suc d) t n)
 
 -- what the rest of a text owes after these lines
 pub record Owed (before : List Line) (cut : Cut) : Type 0 where
-  pub mappings : AreMappings (data_blocks_of before) (run_end before) (flat_map mappings_of cut.runs)
+  pub mappings : AreMappings (data_blocks_of before) (piece_end before) (flat_map mappings_of cut.runs)
   pub number : length (flat_map mappings_of cut.runs) ≡ unmapped before
   pub runs : AllByRecursion (λ (r : Run). 1 ≤ r.length) cut.runs
   pub devices : AreDevices (data_blocks_of before) (least_id before) (map device_of_part cut.parts)
@@ -82,14 +86,15 @@ pub record LinePasses (before : List Line) (line : Line) : Type 0 where
   pub range : has_number_out_of_range before line ≡ false
   pub order : is_out_of_order before line ≡ false
   pub mapped : is_mapped_otherwise before line ≡ false
+  pub used : leaves_one_unused before line ≡ false
 
-line_passes : (before : List Line) (line : Line) → 1 ≤ length before → Passes thin_tests before line → LinePasses before line
+pub line_passes : (before : List Line) (line : Line) → 1 ≤ length before → Passes thin_tests before line → LinePasses before line
 line_passes [] line some passes = absurd (omega arith)
-line_passes (newest ∷ before) line some passes = record { range = passes.0; order = passes.1.0; mapped = passes.1.1.0 }
+line_passes (newest ∷ before) line some passes = record { range = passes.0; order = passes.1.0; mapped = passes.1.1.0; used = passes.1.1.1.0 }
 
 tests_passed : (before : List Line) (line : Line) → LinePasses before line → Passes thin_tests before line
 tests_passed [] line passes = tt
-tests_passed (newest ∷ before) line passes = (passes.range, (passes.order, (passes.mapped, tt)))
+tests_passed (newest ∷ before) line passes = (passes.range, (passes.order, (passes.mapped, (passes.used, tt))))
 
 -- what passes of a map line
 pub record MapPasses (before : List Line) (r : Run) : Type 0 where
@@ -97,7 +102,7 @@ pub record MapPasses (before : List Line) (r : Run) : Type 0 where
   pub fits : r.virtual_block + r.length ≤ 2 ^ 64
   pub within : r.data_block + r.length ≤ data_blocks_of before
   pub time : r.time < 2 ^ 24
-  pub above : run_end before ≤ r.virtual_block
+  pub above : piece_end before ≤ r.virtual_block
   pub enough : r.length ≤ unmapped before
 
 map_tells : (n end blocks_end blocks time v run left : ℕ)
@@ -113,7 +118,7 @@ map_told n end blocks_end blocks time v run left a b c d e f = (grind (arith, na
 
 map_passes : (before : List Line) (r : Run) → LinePasses before (map_line r) → MapPasses before r
 map_passes before r passes =
-    let all = map_tells r.length (r.virtual_block + r.length) (r.data_block + r.length) (data_blocks_of before) r.time r.virtual_block (run_end before) (unmapped before)
+    let all = map_tells r.length (r.virtual_block + r.length) (r.data_block + r.length) (data_blocks_of before) r.time r.virtual_block (piece_end before) (unmapped before)
     passes.range passes.order passes.mapped in
     record { some = all.0; fits = all.1.0; within = all.1.1.0; time = all.1.1.1.0; above = all.1.1.1.1.0; enough = all.1.1.1.1.1 }
 
@@ -129,7 +134,7 @@ owed_with_map before r cut passes device owed =
     let number : length (mappings_of r ++ rest) ≡ unmapped before =
     omega (arith, length-append (mappings_of r) rest, mappings_length r.virtual_block r.data_block r.time r.length, owed.number, passes.enough) in
     record {
-      mappings = run_mappings (data_blocks_of before) (run_end before) r.virtual_block r.data_block r.time r.length rest
+      mappings = run_mappings (data_blocks_of before) (piece_end before) r.virtual_block r.data_block r.time r.length rest
           passes.above passes.fits passes.within passes.time owed.mappings passes.some;
       number = number;
       runs = (passes.some, owed.runs);
@@ -176,21 +181,40 @@ with_device_line : (d : Details) (cut : Cut) (lines : List Line) → lines_of_cu
     → device_line d ∷ ((map map_line cut.runs ++ flat_map lines_of_part cut.parts) ++ (end_line ∷ [])) ≡ device_line d ∷ lines
 with_device_line d cut lines e = ap (λ (ls : List Line). device_line d ∷ ls) (append_assoc (map map_line cut.runs) (flat_map lines_of_part cut.parts) (end_line ∷ []) ∙ e)
 
+-- the lines so far are of version 1, in which there are no leaves
+pub record IsUnshared (before : List Line) : Type 0 where
+  pub version : is_shared before ≡ false
+  pub none : leaf_number before ≡ 0
+
+-- so no line of a leaf may stand there, and a map line only in a device
+not_shared : {P : Type 0} → (before : List Line) (b : Bool) → IsUnshared before → (is_shared before && b) ≡ true → P
+not_shared before b unshared placed = absurd (true≢false (sym placed ∙ ap (λ (x : Bool). x && b) unshared.version))
+
+or_false : (a b : Bool) → b ≡ false → (a || b) ≡ true → a ≡ true
+or_false true b off e = refl
+or_false false b off e = absurd (true≢false (sym e ∙ off))
+
+in_device : (before : List Line) → IsUnshared before → (has_device before || ltb 0 (leaf_number before)) ≡ true → has_device before ≡ true
+in_device before unshared placed = or_false (has_device before) (ltb 0 (leaf_number before)) (rw unshared.none refl) placed
+
 -- the lines after the pool line are those of their cut, which is what is owed
-pub owed_if_read : (lines before : List Line) → 2 ≤ length before → AreLines thin FitsLine Placed before lines → has_ended thin before ≡ false
+pub owed_if_read : (lines before : List Line) → 2 ≤ length before → IsUnshared before → AreLines thin FitsLine Placed before lines → has_ended thin before ≡ false
     → (lines_of_cut (cut_of lines) ≡ lines) × Owed before (cut_of lines)
-owed_if_read [] before some reads going = absurd (true≢false (sym reads ∙ going))
-owed_if_read (first_line ∷ lines) before some reads going = absurd (omega (arith, some, reads.1.1.0))
-owed_if_read (pool_line p ∷ lines) before some reads going = absurd (omega (arith, some, reads.1.1.0))
-owed_if_read (device_line d ∷ lines) before some reads going =
+owed_if_read [] before some unshared reads going = absurd (true≢false (sym reads ∙ going))
+owed_if_read (first_line ∷ lines) before some unshared reads going = absurd (omega (arith, some, reads.1.1.0.0))
+owed_if_read (shared_first_line ∷ lines) before some unshared reads going = absurd (omega (arith, some, reads.1.1.0.0))
+owed_if_read (pool_line p ∷ lines) before some unshared reads going = absurd (omega (arith, some, reads.1.1.0))
+owed_if_read (leaf_line l ∷ lines) before some unshared reads going = not_shared before (not (has_device before)) unshared reads.1.1.0.1
+owed_if_read (device_line d ∷ lines) before some unshared reads going =
     let passes = line_passes before (device_line d) (omega (arith, some)) reads.1.1.1.0 in
-    let rest = owed_if_read lines (device_line d ∷ before) (omega arith) reads.1.1.1.1 refl in
+    let rest = owed_if_read lines (device_line d ∷ before) (omega arith) (record { version = unshared.version; none = unshared.none }) reads.1.1.1.1 refl in
     (with_device_line d (cut_of lines) lines rest.0, owed_with_device before d (cut_of lines) reads.1.0 passes rest.1)
-owed_if_read (map_line r ∷ lines) before some reads going =
+owed_if_read (use_line n ∷ lines) before some unshared reads going = not_shared before (has_device before) unshared reads.1.1.0.1
+owed_if_read (map_line r ∷ lines) before some unshared reads going =
     let passes = line_passes before (map_line r) (omega (arith, some)) reads.1.1.1.0 in
-    let rest = owed_if_read lines (map_line r ∷ before) (omega arith) reads.1.1.1.1 refl in
-    (ap (λ (ls : List Line). map_line r ∷ ls) rest.0, owed_with_map before r (cut_of lines) (map_passes before r passes) reads.1.1.0.1 rest.1)
-owed_if_read (end_line ∷ lines) before some reads going =
+    let rest = owed_if_read lines (map_line r ∷ before) (omega arith) (record { version = unshared.version; none = unshared.none }) reads.1.1.1.1 refl in
+    (ap (λ (ls : List Line). map_line r ∷ ls) rest.0, owed_with_map before r (cut_of lines) (map_passes before r passes) (in_device before unshared reads.1.1.0.1) rest.1)
+owed_if_read (end_line ∷ lines) before some unshared reads going =
     let passes = line_passes before end_line (omega (arith, some)) reads.1.1.1.0 in
     let last = end_is_last before lines reads.1.1.1.1 in
     rw last (refl, owed_at_end before passes)
@@ -208,46 +232,46 @@ read_line before line lines going fits placed passes rest =
 
 -- the map lines of a device, and then lines that are read once its number is reached
 read_runs : (blocks least : ℕ) (tail : List Line)
-    → ((b : List Line) → 2 ≤ length b → has_ended thin b ≡ false → unmapped b ≡ 0 → data_blocks_of b ≡ blocks → least_id b ≡ least → AreLines thin FitsLine Placed b tail)
-    → (runs : List Run) (before : List Line) → 2 ≤ length before → has_ended thin before ≡ false → has_device before ≡ true
+    → ((b : List Line) → 2 ≤ length b → leaf_number b ≡ 0 → has_ended thin b ≡ false → unmapped b ≡ 0 → data_blocks_of b ≡ blocks → least_id b ≡ least → AreLines thin FitsLine Placed b tail)
+    → (runs : List Run) (before : List Line) → 2 ≤ length before → leaf_number before ≡ 0 → has_ended thin before ≡ false → has_device before ≡ true
     → data_blocks_of before ≡ blocks → blocks ≤ 2 ^ 40 → least_id before ≡ least
-    → AreMappings blocks (run_end before) (flat_map mappings_of runs) → length (flat_map mappings_of runs) ≡ unmapped before
+    → AreMappings blocks (piece_end before) (flat_map mappings_of runs) → length (flat_map mappings_of runs) ≡ unmapped before
     → AllByRecursion (λ (r : Run). 1 ≤ r.length) runs
     → AreLines thin FitsLine Placed before (map map_line runs ++ tail)
-read_runs blocks least tail after [] before some going device pool small id are number have = after before some going (sym number) pool id
-read_runs blocks least tail after (r ∷ runs) before some going device pool small id are number have =
+read_runs blocks least tail after [] before some none going device pool small id are number have = after before some none going (sym number) pool id
+read_runs blocks least tail after (r ∷ runs) before some none going device pool small id are number have =
     let rest = flat_map mappings_of runs in
-    let fits = run_fits blocks (run_end before) r.virtual_block r.data_block r.time r.length rest are have.0 in
+    let fits = run_fits blocks (piece_end before) r.virtual_block r.data_block r.time r.length rest are have.0 in
     let len : r.length + length rest ≡ unmapped before =
     omega (arith, length-append (mappings_of r) rest, mappings_length r.virtual_block r.data_block r.time r.length, number) in
     let within : r.data_block + r.length ≤ data_blocks_of before = rw pool fits.0.within in
-    let told = map_told r.length (r.virtual_block + r.length) (r.data_block + r.length) (data_blocks_of before) r.time r.virtual_block (run_end before) (unmapped before)
+    let told = map_told r.length (r.virtual_block + r.length) (r.data_block + r.length) (data_blocks_of before) r.time r.virtual_block (piece_end before) (unmapped before)
     have.0 fits.0.fits within fits.0.time fits.0.above (omega arith) in
     read_line before (map_line r) (map map_line runs ++ tail) going
     (omega (arith, fits.0.fits, have.0), (omega (arith, fits.0.within), (omega (arith, fits.0.within), (omega (arith, fits.0.time), tt))))
-    (some, device) (record { range = told.0; order = told.1.0; mapped = told.1.1 })
-    (read_runs blocks least tail after runs (map_line r ∷ before) (omega arith) refl device pool small id fits.1 (omega arith) have.1)
+    (some, rw device refl) (record { range = told.0; order = told.1.0; mapped = told.1.1; used = refl })
+    (read_runs blocks least tail after runs (map_line r ∷ before) (omega arith) none refl device pool small id fits.1 (omega arith) have.1)
 
-read_parts : (parts : List Part) (before : List Line) → 2 ≤ length before → has_ended thin before ≡ false → unmapped before ≡ 0
+read_parts : (parts : List Part) (before : List Line) → 2 ≤ length before → leaf_number before ≡ 0 → has_ended thin before ≡ false → unmapped before ≡ 0
     → data_blocks_of before ≤ 2 ^ 40
     → AreDevices (data_blocks_of before) (least_id before) (map device_of_part parts) → AllByRecursion HasMappings parts
     → AreLines thin FitsLine Placed before (flat_map lines_of_part parts ++ (end_line ∷ []))
-read_parts [] before some going none small devices have =
-    read_line before end_line [] going tt some (record { range = refl; order = refl; mapped = rw none refl }) refl
-read_parts (p ∷ parts) before some going none small devices have =
+read_parts [] before some leaves going none small devices have =
+    read_line before end_line [] going tt some (record { range = refl; order = refl; mapped = rw none refl; used = rw leaves refl }) refl
+read_parts (p ∷ parts) before some leaves going none small devices have =
     let d = p.details in
     let tail = flat_map lines_of_part parts ++ (end_line ∷ []) in
     let blocks = data_blocks_of before in
     let told = device_told d.created d.snapped d.id (least_id before) (unmapped before) devices.0.created_fits devices.0.snapped_fits devices.0.above none in
     let rest : AreLines thin FitsLine Placed (device_line d ∷ before) (map map_line p.runs ++ tail) =
     read_runs blocks (d.id + 1) tail
-    (λ b more on done pool id. read_parts parts b more on done (rw pool small) (rw (pool, id) devices.1) have.1)
-    p.runs (device_line d ∷ before) (omega arith) refl refl refl small refl devices.0.mappings (sym devices.0.mapped) have.0 in
+    (λ b more unled on done pool id. read_parts parts b more unled on done (rw pool small) (rw (pool, id) devices.1) have.1)
+    p.runs (device_line d ∷ before) (omega arith) leaves refl refl refl small refl devices.0.mappings (sym devices.0.mapped) have.0 in
     let after : AreLines thin FitsLine Placed (device_line d ∷ before) ((map map_line p.runs ++ flat_map lines_of_part parts) ++ (end_line ∷ [])) =
     rw (append_assoc (map map_line p.runs) (flat_map lines_of_part parts) (end_line ∷ [])) rest in
     read_line before (device_line d) ((map map_line p.runs ++ flat_map lines_of_part parts) ++ (end_line ∷ [])) going
     (devices.0.id_fits, (devices.0.mapped_fits, (devices.0.transaction_fits, (omega (arith, devices.0.created_fits), (omega (arith, devices.0.snapped_fits), tt)))))
-    some (record { range = told.0; order = told.1.0; mapped = told.1.1 }) after
+    some (record { range = told.0; order = told.1.0; mapped = told.1.1; used = refl }) after
 
 -- a run's runs and parts from the lines of a cut
 cut_runs : (runs : List Run) (tail : List Line) → (cut_of tail).runs ≡ [] → cut_of (map map_line runs ++ tail) ≡ record { runs = runs; parts = (cut_of tail).parts }
@@ -268,14 +292,14 @@ pub read_if_spelled : (m : ThinPool) (parts : List Part) → map device_of_part 
 read_if_spelled m parts devices have lawful =
     let head : Head = head_of m in
     let body : AreLines thin FitsLine Placed (pool_line head ∷ first_line ∷ []) (flat_map lines_of_part parts ++ (end_line ∷ [])) =
-    read_parts parts (pool_line head ∷ first_line ∷ []) (omega arith) refl refl lawful.data_blocks_fit (rw devices lawful.devices) have in
+    read_parts parts (pool_line head ∷ first_line ∷ []) (omega arith) refl refl refl lawful.data_blocks_fit (rw devices lawful.devices) have in
     let range : not (ltb m.time (2 ^ 32) && (ltb m.block_size (2 ^ 32) && leb m.data_blocks (2 ^ 40))) ≡ false =
     grind (arith, nat_tests, lawful.time_fits, lawful.block_size_fits, lawful.data_blocks_fit) in
     let tail = flat_map lines_of_part parts ++ (end_line ∷ []) in
-    read_line [] first_line (pool_line head ∷ tail) refl tt refl (record { range = refl; order = refl; mapped = refl })
+    read_line [] first_line (pool_line head ∷ tail) refl tt (refl, refl) (record { range = refl; order = refl; mapped = refl; used = refl })
     (read_line (first_line ∷ []) (pool_line head) tail refl
     (lawful.uuid_len, (lawful.uuid_bytes, (omega (arith, lawful.time_fits), (lawful.transaction_fits, (omega (arith, lawful.block_size_fits), (omega (arith, lawful.data_blocks_fit), tt))))))
-    refl (record { range = range; order = refl; mapped = refl }) body)
+    refl (record { range = range; order = refl; mapped = refl; used = refl }) body)
 
 -- the pool of a head and the parts of a text
 abbrev pub pool_of_parts : Head → List Part → ThinPool
@@ -305,7 +329,7 @@ whole_after_pool p lines reads =
     let passes = line_passes (first_line ∷ []) (pool_line p) (omega arith) reads.1.1.1.0 in
     let fits = reads.1.0 in
     let tells = pool_tells p.time p.block_size p.data_blocks passes.range in
-    let rest = owed_if_read lines (pool_line p ∷ first_line ∷ []) (omega arith) reads.1.1.1.1 refl in
+    let rest = owed_if_read lines (pool_line p ∷ first_line ∷ []) (omega arith) (record { version = refl; none = refl }) reads.1.1.1.1 refl in
     let cut = cut_of lines in
     let closed : cut.runs ≡ [] = rest.1.opened refl in
     let same : flat_map lines_of_part cut.parts ++ (end_line ∷ []) ≡ lines =
@@ -328,16 +352,22 @@ whole_after_pool p lines reads =
 
 whole_after_first : (lines : List Line) → AreLines thin FitsLine Placed (first_line ∷ []) lines → IsWhole (first_line ∷ lines)
 whole_after_first [] reads = absurd (true≢false (sym reads))
-whole_after_first (first_line ∷ lines) reads = absurd (omega (arith, reads.1.1.0))
+whole_after_first (first_line ∷ lines) reads = absurd (omega (arith, reads.1.1.0.0))
+whole_after_first (shared_first_line ∷ lines) reads = absurd (omega (arith, reads.1.1.0.0))
 whole_after_first (pool_line p ∷ lines) reads = whole_after_pool p lines reads
+whole_after_first (leaf_line l ∷ lines) reads = absurd (omega (arith, reads.1.1.0.0))
 whole_after_first (device_line d ∷ lines) reads = absurd (omega (arith, reads.1.1.0))
+whole_after_first (use_line n ∷ lines) reads = absurd (omega (arith, reads.1.1.0.0))
 whole_after_first (map_line r ∷ lines) reads = absurd (omega (arith, reads.1.1.0.0))
 whole_after_first (end_line ∷ lines) reads = absurd (omega (arith, reads.1.1.0))
 
 pub whole_if_read : (lines : List Line) → AreLines thin FitsLine Placed [] lines → IsWhole lines
 whole_if_read [] reads = absurd (true≢false (sym reads))
 whole_if_read (first_line ∷ lines) reads = whole_after_first lines reads.1.1.1.1
+whole_if_read (shared_first_line ∷ lines) reads = absurd (none-some shared_first_line reads.1.1.0.1)
 whole_if_read (pool_line p ∷ lines) reads = absurd (omega (arith, reads.1.1.0))
+whole_if_read (leaf_line l ∷ lines) reads = absurd (omega (arith, reads.1.1.0.0))
 whole_if_read (device_line d ∷ lines) reads = absurd (omega (arith, reads.1.1.0))
+whole_if_read (use_line n ∷ lines) reads = absurd (omega (arith, reads.1.1.0.0))
 whole_if_read (map_line r ∷ lines) reads = absurd (omega (arith, reads.1.1.0.0))
 whole_if_read (end_line ∷ lines) reads = absurd (omega (arith, reads.1.1.0))

@@ -7,7 +7,7 @@ use Rattle.pd_kinds.specs.Meaning.{ThinPool, ThinDevice, Mapping}
 use Rattle.pd_grammar.specs.Spelling.{accepted, no_room}
 use Rattle.pd_grammar.proofs.VerdictLemmas.{AreWithin, need_after, accepted_if_room, no_room_above}
 use Rattle.pd_spells.specs.Need.{need_tree}
-use Rattle.pd_spells.specs.ThinText.{Line, first_line, pool_line, device_line, map_line, end_line, Run, Part, thin, data_blocks_of, mappings_of, device_of_part, head_of, lines_of_part, lines_of_parts, MeansPool, SpellsPool}
+use Rattle.pd_spells.specs.ThinText.{Line, first_line, shared_first_line, pool_line, leaf_line, device_line, use_line, map_line, end_line, Run, Part, thin, data_blocks_of, mappings_of, device_of_part, head_of, lines_of_part, lines_of_parts, MeansPool, SpellsPool}
 use Rattle.pd_spells.specs.ThinNeed.{overflows_in, mapped_data, thin_need, mapped_of_line, data_of_line, thin_need_so_far, IsThinVerdict}
 use Rattle.pd_spells.proofs.NeedLemmas.{count_of, trees_of, overflows-le, overflows-same, devices-le, devices-same}
 use Rattle.pd_spells.proofs.ThinRead.{FitsLine, Placed}
@@ -16,15 +16,21 @@ use Rattle.pd_spells.proofs.ThinLaws.{thin_language}
 -- no line is a pool line
 abbrev IsLater : Line → Type 0
 IsLater first_line = Unit {0}
+IsLater shared_first_line = Unit {0}
 IsLater (pool_line p) = ⊥
+IsLater (leaf_line l) = Unit {0}
 IsLater (device_line d) = Unit {0}
+IsLater (use_line n) = Unit {0}
 IsLater (map_line r) = Unit {0}
 IsLater end_line = Unit {0}
 
 same_data : (line : Line) (before : List Line) → IsLater line → data_blocks_of (line ∷ before) ≡ data_blocks_of before
 same_data first_line before later = refl
+same_data shared_first_line before later = refl
 same_data (pool_line p) before later = absurd later
+same_data (leaf_line l) before later = refl
 same_data (device_line d) before later = refl
+same_data (use_line n) before later = refl
 same_data (map_line r) before later = refl
 same_data end_line before later = refl
 

@@ -157,8 +157,8 @@ kind_of_line end_line = Some end_kind
 
 abbrev pub cache_table : Table Line
 cache_table = record {
-  first = codes "cache" ∷ codes "1" ∷ [];
-  start = first_line;
+  firsts = first_line ∷ [];
+  first_words = λ line. codes "cache" ∷ codes "1" ∷ [];
   kinds = map_kind ∷ cache_kind ∷ end_kind ∷ [];
   kind_of = kind_of_line;
   values = values_of_line;

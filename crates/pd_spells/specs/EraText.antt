@@ -114,8 +114,8 @@ kind_of_line end_line = Some end_kind
 
 abbrev pub era_table : Table Line
 era_table = record {
-  first = codes "era" ∷ codes "1" ∷ [];
-  start = first_line;
+  firsts = first_line ∷ [];
+  first_words = λ line. codes "era" ∷ codes "1" ∷ [];
   kinds = run_kind ∷ era_kind ∷ end_kind ∷ [];
   kind_of = kind_of_line;
   values = values_of_line;

@@ -5,7 +5,7 @@ use Rattle.pd_kinds.specs.Bitmap.{bitmaps_for}
 use Rattle.pd_kinds.specs.Meaning.{ThinPool, ThinDevice, Mapping}
 use Rattle.pd_grammar.specs.Spelling.{Verdict, IsVerdict}
 use Rattle.pd_spells.specs.Need.{need_tree, need_meta_map}
-use Rattle.pd_spells.specs.ThinText.{Line, first_line, pool_line, device_line, map_line, end_line, mappings_of, data_blocks_of, thin, MeansPool}
+use Rattle.pd_spells.specs.ThinText.{Line, first_line, shared_first_line, pool_line, leaf_line, device_line, use_line, map_line, end_line, mappings_of, data_blocks_of, thin, MeansPool}
 
 -- how many data blocks below this number stand three times or more in a list: their counts don't fit two bits
 unfoldable pub overflows_in : List ℕ → ℕ → ℕ
@@ -32,15 +32,21 @@ thin_need m room =
 -- the mapped number that a line gives, and the data blocks that it maps
 abbrev pub mapped_of_line : Line → List ℕ
 mapped_of_line first_line = []
+mapped_of_line shared_first_line = []
 mapped_of_line (pool_line p) = []
+mapped_of_line (leaf_line l) = []
 mapped_of_line (device_line d) = d.mapped ∷ []
+mapped_of_line (use_line n) = []
 mapped_of_line (map_line r) = []
 mapped_of_line end_line = []
 
 abbrev pub data_of_line : Line → List ℕ
 data_of_line first_line = []
+data_of_line shared_first_line = []
 data_of_line (pool_line p) = []
+data_of_line (leaf_line l) = []
 data_of_line (device_line d) = []
+data_of_line (use_line n) = []
 data_of_line (map_line r) = map (λ (x : Mapping). x.data_block) (mappings_of r)
 data_of_line end_line = []
 

@@ -1,8 +1,8 @@
--- The text of a thin pool, version 1, and what it means.
-use Rattle.std.specs.Prelude.{◌≡◌, ℕ, zero, suc, ◌+◌, ◌-◌, ◌^◌, ◌≤◌, ◌==◌, ◌&&◌, Bool, true, false, not, nat_lt, nat_le, if◌then◌else◌, List, [], ◌∷◌, ◌++◌, map, Option, Some, None, codes}
-use Rattle.std.specs.List.{flat_map, AllByRecursion}
+-- The text of a thin pool: its lines in either version, and what a text of version 1 means.
+use Rattle.std.specs.Prelude.{◌≡◌, ℕ, zero, suc, ◌+◌, ◌-◌, ◌^◌, ◌≤◌, ◌==◌, ◌&&◌, ◌||◌, Bool, true, false, not, nat_lt, nat_le, if◌then◌else◌, List, [], ◌∷◌, ◌++◌, map, sum_by, Option, Some, None, codes}
+use Rattle.std.specs.List.{flat_map, list_any, range_with_len, AllByRecursion}
 use Rattle.pd_kinds.specs.Meaning.{ThinPool, ThinDevice, Mapping}
-use Rattle.pd_grammar.specs.declared.cause.TextCause.TheVariants.{Order, OutOfRange, MappedDiffers}
+use Rattle.pd_grammar.specs.declared.cause.TextCause.TheVariants.{Order, OutOfRange, MappedDiffers, Unused}
 use Rattle.pd_grammar.specs.declared.value.Field.TheVariants as f
 use Rattle.pd_grammar.specs.declared.value.Value.{Value}
 use Rattle.pd_grammar.specs.declared.value.Value.TheVariants as v
@@ -26,6 +26,11 @@ pub record Head : Type 0 where
   pub block_size : ℕ
   pub data_blocks : ℕ
 
+-- the words of a leaf line: its number, and of how many mappings it is
+pub record LeafHead : Type 0 where
+  pub number : ℕ
+  pub entries : ℕ
+
 -- the words of a device line
 pub record Details : Type 0 where
   pub id : ℕ
@@ -34,37 +39,75 @@ pub record Details : Type 0 where
   pub created : ℕ
   pub snapped : ℕ
 
--- a line of a thin text
+-- a line of a thin text. Version 2 has a first line of its own, leaves that devices share, and uses of these
 pub data Line : Type 0 where
   first_line : Line
+  shared_first_line : Line
   pool_line : Head → Line
+  leaf_line : LeafHead → Line
   device_line : Details → Line
+  use_line : ℕ → Line
   map_line : Run → Line
   end_line : Line
 
 -- the values of a line
 abbrev pub values_of_line : Line → List Value
 values_of_line first_line = []
+values_of_line shared_first_line = []
 values_of_line (pool_line p) = v.Uuid p.uuid ∷ v.Number p.time ∷ v.Number p.transaction ∷ v.Number p.block_size ∷ v.Number p.data_blocks ∷ []
+values_of_line (leaf_line l) = v.Number l.number ∷ v.Number l.entries ∷ []
 values_of_line (device_line d) = v.Number d.id ∷ v.Number d.mapped ∷ v.Number d.transaction ∷ v.Number d.created ∷ v.Number d.snapped ∷ []
+values_of_line (use_line n) = v.Number n ∷ []
 values_of_line (map_line r) = v.Number r.virtual_block ∷ v.Number r.data_block ∷ v.Number r.length ∷ v.Number r.time ∷ []
 values_of_line end_line = []
 
--- of the lines before one, the newest first: the pool's data blocks
+-- Of the lines before one, the newest first:
+
+-- whether the text is of version 2
+abbrev pub is_shared : List Line → Bool
+is_shared [] = false
+is_shared (first_line ∷ before) = is_shared before
+is_shared (shared_first_line ∷ before) = true
+is_shared (pool_line p ∷ before) = is_shared before
+is_shared (leaf_line l ∷ before) = is_shared before
+is_shared (device_line d ∷ before) = is_shared before
+is_shared (use_line n ∷ before) = is_shared before
+is_shared (map_line r ∷ before) = is_shared before
+is_shared (end_line ∷ before) = is_shared before
+
+-- the pool's data blocks
 abbrev pub data_blocks_of : List Line → ℕ
 data_blocks_of [] = 0
 data_blocks_of (first_line ∷ before) = data_blocks_of before
+data_blocks_of (shared_first_line ∷ before) = data_blocks_of before
 data_blocks_of (pool_line p ∷ before) = p.data_blocks
+data_blocks_of (leaf_line l ∷ before) = data_blocks_of before
 data_blocks_of (device_line d ∷ before) = data_blocks_of before
+data_blocks_of (use_line n ∷ before) = data_blocks_of before
 data_blocks_of (map_line r ∷ before) = data_blocks_of before
 data_blocks_of (end_line ∷ before) = data_blocks_of before
+
+-- the number of leaves
+abbrev pub leaf_number : List Line → ℕ
+leaf_number [] = 0
+leaf_number (first_line ∷ before) = leaf_number before
+leaf_number (shared_first_line ∷ before) = leaf_number before
+leaf_number (pool_line p ∷ before) = leaf_number before
+leaf_number (leaf_line l ∷ before) = suc (leaf_number before)
+leaf_number (device_line d ∷ before) = leaf_number before
+leaf_number (use_line n ∷ before) = leaf_number before
+leaf_number (map_line r ∷ before) = leaf_number before
+leaf_number (end_line ∷ before) = leaf_number before
 
 -- the least id that a device line may have: one above the last device's
 abbrev pub least_id : List Line → ℕ
 least_id [] = 0
 least_id (first_line ∷ before) = least_id before
+least_id (shared_first_line ∷ before) = least_id before
 least_id (pool_line p ∷ before) = least_id before
+least_id (leaf_line l ∷ before) = least_id before
 least_id (device_line d ∷ before) = d.id + 1
+least_id (use_line n ∷ before) = least_id before
 least_id (map_line r ∷ before) = least_id before
 least_id (end_line ∷ before) = least_id before
 
@@ -72,55 +115,132 @@ least_id (end_line ∷ before) = least_id before
 abbrev pub has_device : List Line → Bool
 has_device [] = false
 has_device (first_line ∷ before) = has_device before
+has_device (shared_first_line ∷ before) = has_device before
 has_device (pool_line p ∷ before) = has_device before
+has_device (leaf_line l ∷ before) = has_device before
 has_device (device_line d ∷ before) = true
+has_device (use_line n ∷ before) = has_device before
 has_device (map_line r ∷ before) = has_device before
 has_device (end_line ∷ before) = has_device before
 
--- the end of the last run of the last device
-abbrev pub run_end : List Line → ℕ
-run_end [] = 0
-run_end (first_line ∷ before) = 0
-run_end (pool_line p ∷ before) = 0
-run_end (device_line d ∷ before) = 0
-run_end (map_line r ∷ before) = r.virtual_block + r.length
-run_end (end_line ∷ before) = 0
+-- whether map lines that come now are those of this leaf
+abbrev pub is_in_leaf : List Line → ℕ → Bool
+is_in_leaf before number = not (has_device before) && (leaf_number before == suc number)
 
--- how many of the last device's mapped blocks no map line has
+-- the runs of a leaf, by its number
+abbrev pub runs_of_leaf : List Line → ℕ → List Run
+runs_of_leaf [] number = []
+runs_of_leaf (first_line ∷ before) number = runs_of_leaf before number
+runs_of_leaf (shared_first_line ∷ before) number = runs_of_leaf before number
+runs_of_leaf (pool_line p ∷ before) number = runs_of_leaf before number
+runs_of_leaf (leaf_line l ∷ before) number = runs_of_leaf before number
+runs_of_leaf (device_line d ∷ before) number = runs_of_leaf before number
+runs_of_leaf (use_line n ∷ before) number = runs_of_leaf before number
+runs_of_leaf (map_line r ∷ before) number =
+    if is_in_leaf before number then runs_of_leaf before number ++ (r ∷ []) else runs_of_leaf before number
+runs_of_leaf (end_line ∷ before) number = runs_of_leaf before number
+
+-- the least virtual block of runs, the end of the last one, and of how many mappings they are
+abbrev pub least_of : List Run → ℕ
+least_of [] = 0
+least_of (r ∷ rs) = r.virtual_block
+
+abbrev pub end_of : List Run → ℕ
+end_of [] = 0
+end_of (r ∷ []) = r.virtual_block + r.length
+end_of (r ∷ s ∷ rs) = end_of (s ∷ rs)
+
+abbrev pub number_in : List Run → ℕ
+number_in runs = sum_by (λ (r : Run). r.length) runs
+
+-- the end of the last piece of the last leaf or device: of a run, or of a leaf that it uses
+abbrev pub piece_end : List Line → ℕ
+piece_end [] = 0
+piece_end (first_line ∷ before) = 0
+piece_end (shared_first_line ∷ before) = 0
+piece_end (pool_line p ∷ before) = 0
+piece_end (leaf_line l ∷ before) = 0
+piece_end (device_line d ∷ before) = 0
+piece_end (use_line n ∷ before) = end_of (runs_of_leaf before n)
+piece_end (map_line r ∷ before) = r.virtual_block + r.length
+piece_end (end_line ∷ before) = 0
+
+-- how many mappings of the last leaf or device no line has given
 abbrev pub unmapped : List Line → ℕ
 unmapped [] = 0
 unmapped (first_line ∷ before) = 0
+unmapped (shared_first_line ∷ before) = 0
 unmapped (pool_line p ∷ before) = 0
+unmapped (leaf_line l ∷ before) = l.entries
 unmapped (device_line d ∷ before) = d.mapped
+unmapped (use_line n ∷ before) = unmapped before - number_in (runs_of_leaf before n)
 unmapped (map_line r ∷ before) = unmapped before - r.length
 unmapped (end_line ∷ before) = 0
+
+-- the leaves that are used, as often as they are
+abbrev pub uses_of : List Line → List ℕ
+uses_of [] = []
+uses_of (first_line ∷ before) = uses_of before
+uses_of (shared_first_line ∷ before) = uses_of before
+uses_of (pool_line p ∷ before) = uses_of before
+uses_of (leaf_line l ∷ before) = uses_of before
+uses_of (device_line d ∷ before) = uses_of before
+uses_of (use_line n ∷ before) = n ∷ uses_of before
+uses_of (map_line r ∷ before) = uses_of before
+uses_of (end_line ∷ before) = uses_of before
 
 -- a number of the line isn't in its range, as far as that can be said of one line after others
 abbrev pub has_number_out_of_range : List Line → Line → Bool
 has_number_out_of_range before first_line = false
+has_number_out_of_range before shared_first_line = false
 has_number_out_of_range before (pool_line p) =
     not (nat_lt p.time (2 ^ 32) && (nat_lt p.block_size (2 ^ 32) && nat_le p.data_blocks (2 ^ 40)))
+has_number_out_of_range before (leaf_line l) = not (nat_le 1 l.entries && nat_le l.entries 252)
 has_number_out_of_range before (device_line d) = not (nat_lt d.created (2 ^ 32) && nat_lt d.snapped (2 ^ 32))
+has_number_out_of_range before (use_line n) = not (nat_lt n (leaf_number before))
 has_number_out_of_range before (map_line r) =
     not (nat_lt 0 r.length && (nat_le (r.virtual_block + r.length) (2 ^ 64)
     && (nat_le (r.data_block + r.length) (data_blocks_of before) && nat_lt r.time (2 ^ 24))))
 has_number_out_of_range before end_line = false
 
--- the line's number isn't above those of the lines before
+-- A line's number isn't the one that follows those of the lines before, or isn't above them. A used leaf begins at its
+-- least virtual block
 abbrev pub is_out_of_order : List Line → Line → Bool
 is_out_of_order before first_line = false
+is_out_of_order before shared_first_line = false
 is_out_of_order before (pool_line p) = false
+is_out_of_order before (leaf_line l) = not (l.number == leaf_number before)
 is_out_of_order before (device_line d) = nat_lt d.id (least_id before)
-is_out_of_order before (map_line r) = nat_lt r.virtual_block (run_end before)
+is_out_of_order before (use_line n) = nat_lt (least_of (runs_of_leaf before n)) (piece_end before)
+is_out_of_order before (map_line r) = nat_lt r.virtual_block (piece_end before)
 is_out_of_order before end_line = false
 
--- the map lines don't give the last device's mapped number
+-- the lines of the last leaf or device give other numbers of mappings than was said
 abbrev pub is_mapped_otherwise : List Line → Line → Bool
 is_mapped_otherwise before first_line = false
+is_mapped_otherwise before shared_first_line = false
 is_mapped_otherwise before (pool_line p) = false
+is_mapped_otherwise before (leaf_line l) = nat_lt 0 (unmapped before)
 is_mapped_otherwise before (device_line d) = nat_lt 0 (unmapped before)
+is_mapped_otherwise before (use_line n) = nat_lt (unmapped before) (number_in (runs_of_leaf before n))
 is_mapped_otherwise before (map_line r) = nat_lt (unmapped before) r.length
 is_mapped_otherwise before end_line = nat_lt 0 (unmapped before)
+
+-- a leaf isn't used
+abbrev pub has_unused_leaf : List Line → Bool
+has_unused_leaf before =
+    list_any (λ number. not (list_any (λ used. used == number) (uses_of before))) (range_with_len 0 (leaf_number before))
+
+-- the text ends, and some leaf isn't used
+abbrev pub leaves_one_unused : List Line → Line → Bool
+leaves_one_unused before first_line = false
+leaves_one_unused before shared_first_line = false
+leaves_one_unused before (pool_line p) = false
+leaves_one_unused before (leaf_line l) = false
+leaves_one_unused before (device_line d) = false
+leaves_one_unused before (use_line n) = false
+leaves_one_unused before (map_line r) = false
+leaves_one_unused before end_line = has_unused_leaf before
 
 -- what is looked at of a line whose words are right, in this order
 abbrev pub thin_tests : List (Test Line)
@@ -128,7 +248,19 @@ thin_tests =
     record { cause = OutOfRange; fails = has_number_out_of_range }
     ∷ record { cause = Order; fails = is_out_of_order }
     ∷ record { cause = MappedDiffers; fails = is_mapped_otherwise }
+    ∷ record { cause = Unused; fails = leaves_one_unused }
     ∷ []
+
+-- Whether a line may stand after these ones: only version 2 has leaves, before all devices, and uses of these, in a
+-- device; and a map line is one of a leaf or of a device
+abbrev pub may_have_leaf : List Line → Bool
+may_have_leaf before = is_shared before && not (has_device before)
+
+abbrev pub may_have_use : List Line → Bool
+may_have_use before = is_shared before && has_device before
+
+abbrev pub may_have_map : List Line → Bool
+may_have_map before = has_device before || nat_lt 0 (leaf_number before)
 
 -- the kinds of lines after the first one
 abbrev pub pool_kind : LineKind Line
@@ -145,6 +277,14 @@ pool_kind = record {
   });
 }
 
+abbrev pub leaf_kind : LineKind Line
+leaf_kind = record {
+  keyword = codes "leaf";
+  fields = numbers 2;
+  place = later_line_where may_have_leaf;
+  make = λ values. leaf_line (record { number = number_at values 0; entries = number_at values 1 });
+}
+
 abbrev pub device_kind : LineKind Line
 device_kind = record {
   keyword = codes "device";
@@ -159,11 +299,19 @@ device_kind = record {
   });
 }
 
+abbrev pub use_kind : LineKind Line
+use_kind = record {
+  keyword = codes "use";
+  fields = numbers 1;
+  place = later_line_where may_have_use;
+  make = λ values. use_line (number_at values 0);
+}
+
 abbrev pub map_kind : LineKind Line
 map_kind = record {
   keyword = codes "map";
   fields = numbers 4;
-  place = later_line_where has_device;
+  place = later_line_where may_have_map;
   make = λ values. map_line (record {
     virtual_block = number_at values 0;
     data_block = number_at values 1;
@@ -178,24 +326,42 @@ end_kind = record { keyword = codes "end"; fields = []; place = later_line; make
 -- the kind of a line
 abbrev pub kind_of_line : Line → Option (LineKind Line)
 kind_of_line first_line = None
+kind_of_line shared_first_line = None
 kind_of_line (pool_line p) = Some pool_kind
+kind_of_line (leaf_line l) = Some leaf_kind
 kind_of_line (device_line d) = Some device_kind
+kind_of_line (use_line n) = Some use_kind
 kind_of_line (map_line r) = Some map_kind
 kind_of_line end_line = Some end_kind
 
-abbrev pub thin_table : Table Line
-thin_table = record {
-  first = codes "thin" ∷ codes "1" ∷ [];
-  start = first_line;
-  kinds = map_kind ∷ device_kind ∷ pool_kind ∷ end_kind ∷ [];
+-- the words of a first line
+abbrev pub first_words : Line → List (List ℕ)
+first_words shared_first_line = codes "thin" ∷ codes "2" ∷ []
+first_words line = codes "thin" ∷ codes "1" ∷ []
+
+-- the table of texts that begin with one of these lines
+abbrev pub table_from : List Line → Table Line
+table_from firsts = record {
+  firsts = firsts;
+  first_words = first_words;
+  kinds = map_kind ∷ use_kind ∷ leaf_kind ∷ device_kind ∷ pool_kind ∷ end_kind ∷ [];
   kind_of = kind_of_line;
   values = values_of_line;
   tests = thin_tests;
 }
 
--- texts of thin pools, version 1
+abbrev pub thin_table : Table Line
+thin_table = table_from (first_line ∷ [])
+
+abbrev pub pool_table : Table Line
+pool_table = table_from (first_line ∷ shared_first_line ∷ [])
+
+-- texts of thin pools, of version 1 alone, and of either version
 abbrev pub thin : TextFormat Line
 thin = format_of thin_table
+
+abbrev pub pool_format : TextFormat Line
+pool_format = format_of pool_table
 
 -- a device as a text gives it
 pub record Part : Type 0 where

@@ -4,7 +4,7 @@ use Rattle.std.proofs.lemmas.Bool.Decides.{nat_tests}
 use Rattle.pd_kinds.specs.Meaning.{ThinPool}
 use Rattle.pd_grammar.specs.Texts.{has_ended}
 use Rattle.pd_grammar.proofs.GrammarLemmas.{Passes, is_read}
-use Rattle.pd_spells.specs.ThinText.{Line, pool_line, device_line, map_line, end_line, Head, Details, Run, thin, thin_tests, data_blocks_of, least_id, run_end, unmapped, has_number_out_of_range, is_out_of_order, is_mapped_otherwise, MeansPool}
+use Rattle.pd_spells.specs.ThinText.{Line, pool_line, device_line, map_line, end_line, Head, Details, Run, thin, thin_tests, data_blocks_of, least_id, piece_end, unmapped, has_number_out_of_range, is_out_of_order, is_mapped_otherwise, MeansPool}
 use Rattle.pd_spells.proofs.ThinRead.{FitsLine, Placed, thin_grammar}
 use Rattle.pd_spells.proofs.ThinLaws.{thin_language}
 use Rattle.pd_texts.specs.Reader.{IsReadAfter, AreReadSoFar, in_order}
@@ -75,7 +75,7 @@ pub map_read : (before : List Line) (r : Run) → IsReadAfter thin before (map_l
 map_read before r one =
     let is = is_read thin FitsLine Placed thin_grammar before one.bytes (map_line r) one.is in
     let tests = passed before (map_line r) (omega (arith, is.placed.0)) is.passes in
-    let says = map_says r.length (r.virtual_block + r.length) (r.data_block + r.length) (data_blocks_of before) r.time r.virtual_block (run_end before) (unmapped before)
+    let says = map_says r.length (r.virtual_block + r.length) (r.data_block + r.length) (data_blocks_of before) r.time r.virtual_block (piece_end before) (unmapped before)
     tests.range tests.order tests.mapped in
     record {
       later = is.placed.0;

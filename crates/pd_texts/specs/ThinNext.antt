@@ -1,6 +1,6 @@
 -- What the numbers of a line of a pool's text are, after given lines, the newest first.
 use Rattle.std.specs.Prelude.{◌≡◌, ◌+◌, ◌^◌, ◌<◌, ◌≤◌, true, List, length, All}
-use Rattle.pd_spells.specs.ThinText.{Line, Head, Details, Run, data_blocks_of, least_id, has_device, run_end, unmapped}
+use Rattle.pd_spells.specs.ThinText.{Line, Head, Details, Run, data_blocks_of, least_id, has_device, piece_end, unmapped}
 
 -- a pool line after these lines
 pub record IsPoolLine (before : List Line) (p : Head) : Type 0 where
@@ -28,7 +28,7 @@ pub record IsMapLine (before : List Line) (r : Run) : Type 0 where
   pub later : 2 ≤ length before
   pub has_device : has_device before ≡ true
   pub some : 1 ≤ r.length
-  pub above : run_end before ≤ r.virtual_block
+  pub above : piece_end before ≤ r.virtual_block
   pub virtual_fits : r.virtual_block + r.length ≤ 2 ^ 64
   pub within : r.data_block + r.length ≤ data_blocks_of before
   pub time_fits : r.time < 2 ^ 24

@@ -33,7 +33,7 @@ pub struct ThinState {
     /// Whether there was a device.
     has_device: bool,
     /// The end of the last run of the last device.
-    run_end: u128,
+    piece_end: u128,
     /// How many of the last device's mapped blocks no line has given yet.
     unmapped: u64,
 }
@@ -63,7 +63,7 @@ impl TextState for ThinState {
             blocks: 0,
             least_id: 0,
             has_device: false,
-            run_end: 0,
+            piece_end: 0,
             unmapped: 0,
         }
     }
@@ -212,7 +212,7 @@ impl ThinState {
     {
         match line {
             Some(ThinLine::Device { id, .. }) => (*id as u128) < self.least_id,
-            Some(ThinLine::Map(run)) => (run.virt as u128) < self.run_end,
+            Some(ThinLine::Map(run)) => (run.virt as u128) < self.piece_end,
             _ => false,
         }
     }
@@ -236,21 +236,21 @@ impl ThinState {
         match line {
             Some(ThinLine::Pool { blocks, .. }) => {
                 self.blocks = *blocks;
-                self.run_end = 0;
+                self.piece_end = 0;
                 self.unmapped = 0;
             }
             Some(ThinLine::Device { id, details }) => {
                 self.least_id = *id as u128 + 1;
                 self.has_device = true;
-                self.run_end = 0;
+                self.piece_end = 0;
                 self.unmapped = details.mapped;
             }
             Some(ThinLine::Map(run)) => {
-                self.run_end = run.virt as u128 + run.length as u128;
+                self.piece_end = run.virt as u128 + run.length as u128;
                 self.unmapped = self.unmapped.saturating_sub(run.length);
             }
             None => {
-                self.run_end = 0;
+                self.piece_end = 0;
                 self.unmapped = 0;
             }
         }
