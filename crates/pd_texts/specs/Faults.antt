@@ -28,7 +28,7 @@ fault_after_end (l.Unended line) = text_fault line c.AfterEnd
 
 -- what the count of the source's failures is after a fault: it rose only where that is the fault
 abbrev pub CountsRead : ReadFault → ℕ → ℕ → Type 0
-CountsRead r.Memory old new = ⊥
+CountsRead r.Memory old new = new ≡ old
 CountsRead r.Source old new = Rose old new × (old ≤ new)
 CountsRead (r.Text fault) old new = new ≡ old
 
@@ -41,3 +41,9 @@ abbrev pub IsPast : ℕ → ReadFault → Type 0
 IsPast lines r.Memory = Unit {0}
 IsPast lines r.Source = Unit {0}
 IsPast lines (r.Text fault) = min (lines + 1) (2 ^ 64 - 1) ≤ fault.line
+
+-- memory is wanted only where it may be
+abbrev pub WantsMemory : Type 0 → ReadFault → Type 0
+WantsMemory CanWant r.Memory = CanWant
+WantsMemory CanWant r.Source = Unit {0}
+WantsMemory CanWant (r.Text fault) = Unit {0}

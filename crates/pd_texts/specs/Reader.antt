@@ -58,9 +58,9 @@ pub record IsRefusedAfter {M : Type 0} (format : TextFormat M) (text : List ℕ)
   pub number : fault.line ≡ number_after lines
   pub refusal : refusal format text ≡ Some (record { line = fault.line; cause = fault.cause })
 
--- a fault after these lines refuses the text there; a failure of the source says nothing of the text
+-- a fault after these lines refuses the text there; want of memory or a failure of the source says nothing of the text
 abbrev pub RefusesAfter : {M : Type 0} → TextFormat M → List ℕ → List M → ReadFault → Type 0
-RefusesAfter format text lines r.Memory = ⊥
+RefusesAfter format text lines r.Memory = Unit {0}
 RefusesAfter format text lines r.Source = Unit {0}
 RefusesAfter format text lines (r.Text fault) = IsRefusedAfter format text lines fault
 

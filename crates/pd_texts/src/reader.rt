@@ -22,7 +22,7 @@ impl<P: TextState> TextReader<P> {
     ghost use Rattle.pd_lines.specs.Reader.{lines_of};
     ghost use Rattle.pd_texts.specs.Reader.{HasRead, ReadsOn, LeavesOf, GivesLine, GivesOf, EndsOf, RefusesAfter, begun};
 
-    /// No line was read. It takes memory for 32 KiB, and `next` takes none.
+    /// No line was read. It takes memory for 32 KiB.
     pub fn new(alloc: Global) -> Result<TextReader<P>, AllocError>
         ensures lines { IfOk result (λ reader. ReadsOn P.format P.Stands [] reader) }
         ensures text { IfOk result (λ reader. (text : List ℕ) → LeavesOf P.format text [] reader (Some text)) }
@@ -34,14 +34,16 @@ impl<P: TextState> TextReader<P> {
     }
 
     /// What the next line gives that isn't the first one; none exactly where the last line and then the end of the
-    /// input were read. After an error or none it says nothing of what a further call gives.
+    /// input were read. It takes memory, and answers the want of it, only where the state may want some. After an error
+    /// or none it says nothing of what a further call gives.
     pub fn next<S: Source>(&mut self, source: &mut S) -> Result<Option<P::Line>, ReadFault>
         requires { (S.state source.old).access ≡ 1 }
         ensures lines { (before : List P.Meant) → ReadsOn P.format P.Stands before self.old
-            → GivesLine P.format P.Stands P.first_line P.meant result before self.new }
+            → GivesLine P.format P.Stands (P.first_line self.new.state) P.meant result before self.new }
         ensures text { (text : List ℕ) (before : List P.Meant) → ReadsOn P.format P.Stands before self.old → LeavesOf P.format text before self.old (S.state source.old).left
-            → GivesOf P.format P.first_line P.meant result text before self.new (S.state source.new).left }
+            → GivesOf P.format (P.first_line self.new.state) P.meant result text before self.new (S.state source.new).left }
         ensures past { IfErr result (IsPast (lines_of self.old.reader)) }
+        ensures memory { IfErr result (WantsMemory (P.CanWantMemory self.new.state)) }
         ensures kept { KeepsSource (S.state source.old) (S.state source.new) }
         ensures faults { CountsReads result (S.state source.old).faults (S.state source.new).faults }
     {

@@ -1,10 +1,11 @@
-ghost use Rattle.std.specs.Prelude.{◌≡◌, ◌==◌, ◌≤◌, ℕ, List, [], ◌∷◌, length, Option, Some, None, is_none, true, false, IfOk};
+ghost use Rattle.std.specs.Prelude.{◌≡◌, ◌==◌, ◌≤◌, ℕ, List, [], ◌∷◌, length, Option, Some, None, is_none, true, false, IfOk, IfErr};
 ghost use Rattle.std.specs.List.{list_all};
 ghost use Rattle.pd_grammar.specs.Words.{is_printable};
 ghost use Rattle.pd_grammar.specs.Texts.{TextFormat, read};
 ghost use Rattle.pd_texts.specs.Seen.{seen_by};
 
 use pd_grammar::TextCause;
+use std::alloc::AllocError;
 
 /// What the lines so far say of the next one, in one kind of text.
 pub trait TextState: Drop {
@@ -17,8 +18,8 @@ pub trait TextState: Drop {
     /// The format of the text.
     ghost format: { TextFormat Meant };
 
-    /// The first line.
-    ghost first_line: { Meant };
+    /// The first line that was read.
+    ghost first_line: { Self → Meant };
 
     /// What a later line means; none is the last one.
     ghost meant: { Option Self.Line → Meant };
@@ -34,26 +35,36 @@ pub trait TextState: Drop {
     fn is_first(&self) -> bool
         ensures { (before : List Meant) → Stands self.now before → result ≡ (length before == 0) };
 
-    /// Reads the first line, and answers whether it is the format's.
+    /// Whether what the lines so far say of later ones may want more memory.
+    ghost CanWantMemory: { Self → Type 0 };
+
+    /// Reads the first line, and answers whether it is one of the format.
     fn read_first(&mut self, text: &[u8]) -> bool
-        ensures first { result ≡ true → format.first text.now ≡ Some first_line }
+        ensures first { result ≡ true → format.first text.now ≡ Some (first_line self.new) }
         ensures other { result ≡ false → format.first text.now ≡ None }
-        ensures after { Stands self.old [] → result ≡ true → Stands self.new (first_line ∷ []) };
+        ensures after { Stands self.old [] → result ≡ true → Stands self.new (first_line self.new ∷ []) };
+
+    /// Takes the memory that the next line may want.
+    fn make_room(&mut self) -> Result<(), AllocError>
+        ensures stands { (before : List Meant) → Stands self.old before → Stands self.new before }
+        ensures first { first_line self.new ≡ first_line self.old }
+        ensures memory { IfErr result (λ _. CanWantMemory self.new) };
 
     /// Reads a later line, of which none is the last one, or says why it is refused. After an error it says nothing
-    /// of what a further call gives.
+    /// of what a further call gives. It takes no memory.
     fn read(&mut self, text: &[u8]) -> Result<Option<Self::Line>, TextCause>
         requires { list_all is_printable text.now ≡ true }
         ensures line { (before : List Meant) → Stands self.old before → 1 ≤ length before
             → seen_by meant result ≡ read format before text.now }
         ensures after { (before : List Meant) → Stands self.old before → 1 ≤ length before
-            → IfOk result (λ line. Stands self.new (meant line ∷ before)) };
+            → IfOk result (λ line. Stands self.new (meant line ∷ before)) }
+        ensures first { first_line self.new ≡ first_line self.old };
 
     /// The first line has only bytes that a line may have.
     ghost header: { (bytes : List ℕ) → list_all is_printable bytes ≡ false → format.first bytes ≡ None };
 
     /// The first line isn't the last one.
-    ghost begins: { format.is_end first_line ≡ false };
+    ghost begins: { (state : Self) → format.is_end (first_line state) ≡ false };
 
     /// The last line is the one that gives nothing.
     ghost ends: { (line : Option Self.Line) → format.is_end (meant line) ≡ is_none line };
