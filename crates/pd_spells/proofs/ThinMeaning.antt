@@ -35,7 +35,7 @@ abbrev pub lines_of_cut : Cut → List Line
 lines_of_cut cut = map map_line cut.runs ++ (flat_map lines_of_part cut.parts ++ (end_line ∷ []))
 
 -- mappings of a run, and those after it
-run_mappings : (blocks least v d t n : ℕ) (rest : List Mapping) → least ≤ v → v + n ≤ 2 ^ 64 → d + n ≤ blocks → t < 2 ^ 24
+pub run_mappings : (blocks least v d t n : ℕ) (rest : List Mapping) → least ≤ v → v + n ≤ 2 ^ 64 → d + n ≤ blocks → t < 2 ^ 24
     → AreMappings blocks (v + n) rest → 1 ≤ n → AreMappings blocks least (mappings_from v d t n ++ rest)
 run_mappings blocks least v d t zero rest above fits within time are some = absurd (omega arith)
 run_mappings blocks least v d t (suc zero) rest above fits within time are some =
@@ -54,7 +54,7 @@ pub record RunFits (blocks least v d t n : ℕ) : Type 0 where
   pub within : d + n ≤ blocks
   pub time : t < 2 ^ 24
 
-run_fits : (blocks least v d t n : ℕ) (rest : List Mapping) → AreMappings blocks least (mappings_from v d t n ++ rest) → 1 ≤ n
+pub run_fits : (blocks least v d t n : ℕ) (rest : List Mapping) → AreMappings blocks least (mappings_from v d t n ++ rest) → 1 ≤ n
     → RunFits blocks least v d t n × AreMappings blocks (v + n) rest
 run_fits blocks least v d t zero rest are some = absurd (omega arith)
 run_fits blocks least v d t (suc zero) rest are some =
@@ -68,7 +68,7 @@ run_fits blocks least v d t (suc (suc n)) rest are some =
       rw (← next) more.1,
     )
 
-mappings_length : (v d t n : ℕ) → length (mappings_from v d t n) ≡ n
+pub mappings_length : (v d t n : ℕ) → length (mappings_from v d t n) ≡ n
 mappings_length v d t zero = refl
 mappings_length v d t (suc n) = ap suc (mappings_length (suc v) (suc d) t n)
 
@@ -116,13 +116,13 @@ map_told : (n end blocks_end blocks time v run left : ℕ)
     → (not (ltb 0 n && (leb end (2 ^ 64) && (leb blocks_end blocks && ltb time (2 ^ 24)))) ≡ false) × ((ltb v run ≡ false) × (ltb left n ≡ false))
 map_told n end blocks_end blocks time v run left a b c d e f = (grind (arith, nat_tests), (grind (arith, nat_tests), grind (arith, nat_tests)))
 
-map_passes : (before : List Line) (r : Run) → LinePasses before (map_line r) → MapPasses before r
+pub map_passes : (before : List Line) (r : Run) → LinePasses before (map_line r) → MapPasses before r
 map_passes before r passes =
     let all = map_tells r.length (r.virtual_block + r.length) (r.data_block + r.length) (data_blocks_of before) r.time r.virtual_block (piece_end before) (unmapped before)
     passes.range passes.order passes.mapped in
     record { some = all.0; fits = all.1.0; within = all.1.1.0; time = all.1.1.1.0; above = all.1.1.1.1.0; enough = all.1.1.1.1.1 }
 
-device_tells : (created snapped id least left : ℕ) → not (ltb created (2 ^ 32) && ltb snapped (2 ^ 32)) ≡ false → ltb id least ≡ false → ltb 0 left ≡ false
+pub device_tells : (created snapped id least left : ℕ) → not (ltb created (2 ^ 32) && ltb snapped (2 ^ 32)) ≡ false → ltb id least ≡ false → ltb 0 left ≡ false
     → (created < 2 ^ 32) × ((snapped < 2 ^ 32) × ((least ≤ id) × (left ≡ 0)))
 device_tells created snapped id least left range order mapped =
     (grind (arith, nat_tests), (grind (arith, nat_tests), (grind (arith, nat_tests), grind (arith, nat_tests))))
@@ -320,7 +320,7 @@ pub record IsWhole (lines : List Line) : Type 0 where
   pub have : AllByRecursion HasMappings parts
   pub lawful : IsLawfulPool (pool_of_parts head parts)
 
-pool_tells : (time size blocks : ℕ) → not (ltb time (2 ^ 32) && (ltb size (2 ^ 32) && leb blocks (2 ^ 40))) ≡ false
+pub pool_tells : (time size blocks : ℕ) → not (ltb time (2 ^ 32) && (ltb size (2 ^ 32) && leb blocks (2 ^ 40))) ≡ false
     → (time < 2 ^ 32) × ((size < 2 ^ 32) × (blocks ≤ 2 ^ 40))
 pool_tells time size blocks range = (grind (arith, nat_tests), (grind (arith, nat_tests), grind (arith, nat_tests)))
 

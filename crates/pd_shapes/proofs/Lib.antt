@@ -1,0 +1,3 @@
+pub mod ShapeCut
+pub mod SharedPieces
+pub mod SharedMeaning
