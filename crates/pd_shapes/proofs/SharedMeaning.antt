@@ -1,1 +1,255 @@
--- placeholder
+-- Lines of version 2 that are read mean a shape.
+use Rattle.std.proofs.Common.{◌≡◌, ℕ, suc, ◌+◌, ◌^◌, ◌≤◌, ◌<◌, true, false, not, ◌&&◌, ◌||◌, nat_lt, nat_le, List, [], ◌∷◌, ◌++◌, length, length-append, map, get_or, refl, ap, sym, ◌∙◌, append_assoc, append-nil, arith}
+use Rattle.std.proofs.lemmas.Bool.{true≢false, and_parts, or_left}
+use Rattle.std.proofs.lemmas.Bool.Decides.{nat_tests}
+use Rattle.std.proofs.lemmas.List.{length-map, get_or-map}
+use Rattle.std.proofs.lemmas.List.Elements.{All-from_recursion}
+use Rattle.std.proofs.lemmas.Option.{unwrap_or-slice_get}
+use Rattle.std.specs.List.{AllByRecursion, flat_map, list_any}
+use Rattle.pd_kinds.specs.Meaning.{Mapping}
+use Rattle.pd_grammar.specs.Texts.{has_ended}
+use Rattle.pd_grammar.proofs.GrammarLemmas.{AreLines}
+use Rattle.pd_spells.specs.Lawful.{AreMappings, AreDevices}
+use Rattle.pd_spells.specs.ThinText.{Run, LeafHead, Details, Line, first_line, shared_first_line, pool_line, leaf_line, device_line, use_line, map_line, end_line, pool_format, is_shared, data_blocks_of, leaf_number, least_id, has_device, runs_of_leaf, least_of, end_of, number_in, piece_end, unmapped, has_unused_leaf, mappings_of}
+use Rattle.pd_spells.specs.ThinText as text
+use Rattle.pd_spells.proofs.ThinRead.{FitsLine, PlacedInPool}
+use Rattle.pd_spells.proofs.ThinMeaning.{run_mappings, mappings_length, LinePasses, line_passes, MapPasses, map_passes, device_tells, pool_tells}
+use Rattle.pd_laid.specs.Shape.{own, ShapeDevice, ThinShape, ArePieces, leaf_mappings, piece_mappings, device_of, uses_of_piece, uses_of, pool_of}
+use Rattle.pd_shapes.specs.SharedText.{PartPiece, used_leaf, SharedPart, mappings_of_runs, piece_of_part, device_of_part, lines_of_leaves, lines_of_piece, lines_of_part, HaveMappings, HasPieceMappings, HasPartMappings, MeansShape}
+use Rattle.pd_shapes.proofs.ShapeCut.{Cut, with_runs, add_line, cut_of}
+use Rattle.pd_shapes.proofs.SharedPieces.{IsLeaf, runs_before, number_in_runs, no_runs, with_runs_lines, with_runs_mappings, with_runs_uses, with_runs_have, with_runs_pieces, leaf_lines, to_come, to_come_after_leaf, to_come_after_map, none_to_come, each_used, use_moved}
+
+use_tells : (n leaves least end left number : ℕ) → not (nat_lt n leaves) ≡ false → nat_lt least end ≡ false → nat_lt left number ≡ false
+    → (n < leaves) × ((end ≤ least) × (number ≤ left))
+use_tells n leaves least end left number range order mapped = (grind (arith, nat_tests), (grind (arith, nat_tests), grind (arith, nat_tests)))
+
+leaf_tells : (number leaves entries left : ℕ) → not (nat_le 1 entries && nat_le entries 252) ≡ false → not (text.◌==◌ number leaves) ≡ false → nat_lt 0 left ≡ false
+    → (1 ≤ entries) × ((entries ≤ 252) × ((number ≡ leaves) × (left ≡ 0)))
+leaf_tells number leaves entries left range order mapped =
+    (grind (arith, nat_tests), (grind (arith, nat_tests), (grind (arith, nat_tests), grind (arith, nat_tests))))
+
+-- the leaves that all lines give are these
+module _ (leaves : List (List Run)) where
+  abbrev all : List (List Mapping)
+  all = map mappings_of_runs leaves
+
+  -- some use names the leaf, in the lines before or in those that follow
+  abbrev IsUsed : List ℕ → List ℕ → ℕ → Type 0
+  IsUsed before after number = (list_any (λ used. text.◌==◌ used number) before || list_any (λ used. text.◌==◌ used number) after) ≡ true
+
+  -- what is owed of the devices that follow, and of the uses in the device that is open
+  pub record DevicesOwed (before : List Line) (pieces : List PartPiece) (parts : List SharedPart) : Type 0 where
+    pub devices : AreDevices (data_blocks_of before) (least_id before) (map (device_of all) (map device_of_part parts))
+    pub have : AllByRecursion HasPartMappings parts
+    pub pieces : AllByRecursion (λ (d : ShapeDevice). ArePieces (length all) d.pieces) (map device_of_part parts)
+    pub used : (number : ℕ) → number < length all
+        → IsUsed (text.uses_of before) (flat_map uses_of_piece (map piece_of_part pieces) ++ flat_map uses_of (map device_of_part parts)) number
+
+  -- what the rest of a text owes in a device
+  pub record PiecesOwed (before lines : List Line) (cut : Cut) : Type 0 where
+    pub lines_are : lines ≡ map map_line cut.runs ++ (flat_map lines_of_piece cut.pieces ++ (flat_map lines_of_part cut.parts ++ (end_line ∷ [])))
+    pub mappings : AreMappings (data_blocks_of before) (piece_end before) (mappings_of_runs cut.runs ++ flat_map (piece_mappings all) (map piece_of_part cut.pieces))
+    pub number : length (mappings_of_runs cut.runs ++ flat_map (piece_mappings all) (map piece_of_part cut.pieces)) ≡ unmapped before
+    pub runs : HaveMappings cut.runs
+    pub have : AllByRecursion HasPieceMappings cut.pieces
+    pub pieces : (ms : List Mapping) → 1 ≤ length ms → ArePieces (length all) (own ms ∷ map piece_of_part cut.pieces)
+    pub rest : DevicesOwed before cut.pieces cut.parts
+
+  -- the lines before tell these leaves, and each is lawful
+  pub record Known (before : List Line) : Type 0 where
+    pub runs : (number : ℕ) → runs_of_leaf before number ≡ get_or leaves number []
+    pub number : leaf_number before ≡ length all
+    pub device : has_device before ≡ true
+    pub lawful : AllByRecursion (IsLeaf (data_blocks_of before)) leaves
+
+  piece_with_map : (before lines : List Line) (r : Run) (cut : Cut) → MapPasses before r → PiecesOwed (map_line r ∷ before) lines cut
+      → PiecesOwed before (map_line r ∷ lines) (add_line (map_line r) cut)
+  piece_with_map before lines r cut passes owed =
+      let own_ones = mappings_of_runs cut.runs in
+      let others = flat_map (piece_mappings all) (map piece_of_part cut.pieces) in
+      let number : length ((mappings_of r ++ own_ones) ++ others) ≡ unmapped before =
+      omega (arith, length-append (mappings_of r ++ own_ones) others, length-append (mappings_of r) own_ones, length-append own_ones others,
+      mappings_length r.virtual_block r.data_block r.time r.length, owed.number, passes.enough) in
+      record {
+        lines_are = ap (λ (ls : List Line). map_line r ∷ ls) owed.lines_are;
+        mappings = rw (append_assoc (mappings_of r) own_ones others)
+            (run_mappings (data_blocks_of before) (piece_end before) r.virtual_block r.data_block r.time r.length (own_ones ++ others)
+            passes.above passes.fits passes.within passes.time owed.mappings passes.some);
+        number = number;
+        runs = (passes.some, owed.runs);
+        have = owed.have;
+        pieces = owed.pieces;
+        rest = record { devices = owed.rest.devices; have = owed.rest.have; pieces = owed.rest.pieces; used = owed.rest.used };
+      }
+
+  piece_with_use : (before lines : List Line) (n : ℕ) (cut : Cut) → Known before → LinePasses before (use_line n) → PiecesOwed (use_line n ∷ before) lines cut
+      → PiecesOwed before (use_line n ∷ lines) (add_line (use_line n) cut)
+  piece_with_use before lines n cut known passes owed =
+      let runs = runs_of_leaf before n in
+      let pieces = with_runs cut.runs cut.pieces in
+      let tail = flat_map lines_of_part cut.parts ++ (end_line ∷ []) in
+      let tells = use_tells n (leaf_number before) (least_of runs) (piece_end before) (unmapped before) (number_in runs) passes.range passes.order passes.mapped in
+      let below : n < length leaves = omega (arith, tells.0, known.number, length-map leaves mappings_of_runs) in
+      let leaf : IsLeaf (data_blocks_of before) runs =
+      rw (known.runs n) (All-from_recursion (IsLeaf (data_blocks_of before)) leaves known.lawful n [] below) in
+      let same : leaf_mappings all n ≡ mappings_of_runs runs =
+      unwrap_or-slice_get all n [] ∙ get_or-map mappings_of_runs leaves n [] [] below ∙ ap mappings_of_runs (sym (known.runs n)) in
+      let mappings = mappings_of_runs cut.runs ++ flat_map (piece_mappings all) (map piece_of_part cut.pieces) in
+      let number : length (mappings_of_runs runs ++ mappings) ≡ unmapped before =
+      omega (arith, length-append (mappings_of_runs runs) mappings, number_in_runs runs, owed.number, tells.1.1) in
+      record {
+        lines_are = ap (λ (ls : List Line). use_line n ∷ ls) (owed.lines_are ∙ sym (with_runs_lines cut.runs cut.pieces tail));
+        mappings = rw (same, with_runs_mappings all cut.runs cut.pieces)
+            (runs_before (data_blocks_of before) 0 (piece_end before) runs mappings tells.1.0 leaf.have leaf.mappings owed.mappings);
+        number = rw (same, with_runs_mappings all cut.runs cut.pieces) number;
+        runs = tt;
+        have = (tt, with_runs_have cut.runs cut.pieces owed.runs owed.have);
+        pieces = λ ms some. (some, (omega (arith, tells.0, known.number), with_runs_pieces (length all) cut.runs cut.pieces owed.runs owed.pieces));
+        rest = record {
+          devices = owed.rest.devices;
+          have = owed.rest.have;
+          pieces = owed.rest.pieces;
+          used = λ number below. rw (with_runs_uses cut.runs cut.pieces) (use_moved _ _ _ (owed.rest.used number below));
+        };
+      }
+
+  piece_with_device : (before lines : List Line) (d : Details) (cut : Cut) → FitsLine (device_line d) → LinePasses before (device_line d)
+      → PiecesOwed (device_line d ∷ before) lines cut → PiecesOwed before (device_line d ∷ lines) (add_line (device_line d) cut)
+  piece_with_device before lines d cut fits passes owed =
+      let tells = device_tells d.created d.snapped d.id (least_id before) (unmapped before) passes.range passes.order passes.mapped in
+      let pieces = with_runs cut.runs cut.pieces in
+      let rest = flat_map lines_of_part cut.parts in
+      record {
+        lines_are = ap (λ (ls : List Line). device_line d ∷ ls)
+            (owed.lines_are ∙ sym (with_runs_lines cut.runs cut.pieces (rest ++ (end_line ∷ []))) ∙ sym (append_assoc (flat_map lines_of_piece pieces) rest (end_line ∷ [])));
+        mappings = tt;
+        number = sym tells.1.1.1;
+        runs = tt;
+        have = tt;
+        pieces = λ ms some. some;
+        rest = record {
+          devices = (
+            record {
+              above = tells.1.1.0;
+              id_fits = fits.0;
+              mapped = rw (with_runs_mappings all cut.runs cut.pieces) (sym owed.number);
+              mapped_fits = fits.1.0;
+              transaction_fits = fits.1.1.0;
+              created_fits = tells.0;
+              snapped_fits = tells.1.0;
+              mappings = rw (with_runs_mappings all cut.runs cut.pieces) owed.mappings;
+            },
+            owed.rest.devices,
+          );
+          have = (with_runs_have cut.runs cut.pieces owed.runs owed.have, owed.rest.have);
+          pieces = (with_runs_pieces (length all) cut.runs cut.pieces owed.runs owed.pieces, owed.rest.pieces);
+          used = λ number below. rw (with_runs_uses cut.runs cut.pieces) (owed.rest.used number below);
+        };
+      }
+
+  -- nothing follows the last line
+  none_after_end : (before lines : List Line) → AreLines pool_format FitsLine PlacedInPool (end_line ∷ before) lines → lines ≡ []
+  none_after_end before [] reads = refl
+  none_after_end before (line ∷ lines) reads = absurd (true≢false reads.0)
+
+  devices_at_end : (before : List Line) → leaf_number before ≡ length all → LinePasses before end_line → DevicesOwed before [] []
+  devices_at_end before number passes = record {
+    devices = tt;
+    have = tt;
+    pieces = tt;
+    used = λ n below. or_left _ false (each_used (text.uses_of before) (leaf_number before) n passes.used (omega (arith, below, number)));
+  }
+
+  -- the lines from the first device line on
+  devices_read : (lines before : List Line) → 2 ≤ length before → Known before → AreLines pool_format FitsLine PlacedInPool before lines
+      → has_ended pool_format before ≡ false → PiecesOwed before lines (cut_of lines)
+  devices_read [] before some known reads going = absurd (true≢false (sym reads ∙ going))
+  devices_read (first_line ∷ lines) before some known reads going = absurd (omega (arith, some, reads.1.1.0.0))
+  devices_read (shared_first_line ∷ lines) before some known reads going = absurd (omega (arith, some, reads.1.1.0.0))
+  devices_read (pool_line p ∷ lines) before some known reads going = absurd (omega (arith, some, reads.1.1.0))
+  devices_read (leaf_line l ∷ lines) before some known reads going =
+      absurd (true≢false (sym (and_parts (is_shared before) (not (has_device before)) reads.1.1.0.1).1 ∙ ap not known.device))
+  devices_read (device_line d ∷ lines) before some known reads going =
+      let passes = line_passes before (device_line d) (omega (arith, some)) reads.1.1.1.0 in
+      let known : Known (device_line d ∷ before) = record { runs = known.runs; number = known.number; device = refl; lawful = known.lawful } in
+      piece_with_device before lines d (cut_of lines) reads.1.0 passes (devices_read lines (device_line d ∷ before) (omega arith) known reads.1.1.1.1 refl)
+  devices_read (use_line n ∷ lines) before some known reads going =
+      let passes = line_passes before (use_line n) (omega (arith, some)) reads.1.1.1.0 in
+      let more : Known (use_line n ∷ before) = record { runs = known.runs; number = known.number; device = known.device; lawful = known.lawful } in
+      piece_with_use before lines n (cut_of lines) known passes (devices_read lines (use_line n ∷ before) (omega arith) more reads.1.1.1.1 refl)
+  devices_read (map_line r ∷ lines) before some known reads going =
+      let passes = line_passes before (map_line r) (omega (arith, some)) reads.1.1.1.0 in
+      let more : Known (map_line r ∷ before) =
+      record { runs = λ number. rw known.device (known.runs number); number = known.number; device = known.device; lawful = known.lawful } in
+      piece_with_map before lines r (cut_of lines) (map_passes before r passes) (devices_read lines (map_line r ∷ before) (omega arith) more reads.1.1.1.1 refl)
+  devices_read (end_line ∷ lines) before some known reads going =
+      let passes = line_passes before end_line (omega (arith, some)) reads.1.1.1.0 in
+      let none : unmapped before ≡ 0 = grind (arith, nat_tests, passes.mapped) in
+      rw (none_after_end before lines reads.1.1.1.1) (record {
+        lines_are = refl;
+        mappings = tt;
+        number = sym none;
+        runs = tt;
+        have = tt;
+        pieces = λ ms some. some;
+        rest = devices_at_end before known.number passes;
+      })
+
+  -- what the rest of a text owes before all devices; the devices, where all leaves are lawful
+  pub record LeavesOwed (before lines : List Line) (cut : Cut) : Type 0 where
+    pub mappings : AreMappings (data_blocks_of before) (piece_end before) (mappings_of_runs cut.runs)
+    pub number : length (mappings_of_runs cut.runs) ≡ unmapped before
+    pub runs : HaveMappings cut.runs
+    pub lawful : AllByRecursion (IsLeaf (data_blocks_of before)) cut.leaves
+    pub lines_are : AllByRecursion (IsLeaf (data_blocks_of before)) leaves
+        → lines ≡ map map_line cut.runs ++ (lines_of_leaves (leaf_number before) cut.leaves ++ (flat_map lines_of_part cut.parts ++ (end_line ∷ [])))
+    pub rest : AllByRecursion (IsLeaf (data_blocks_of before)) leaves → DevicesOwed before [] cut.parts
+
+  -- the lines before and those that follow tell these leaves
+  pub record Along (before : List Line) (cut : Cut) : Type 0 where
+    pub runs : (number : ℕ) → runs_of_leaf before number ++ to_come (leaf_number before) (cut.runs ∷ cut.leaves) (suc number) ≡ get_or leaves number []
+    pub number : leaf_number before + length cut.leaves ≡ length all
+    pub closed : has_device before ≡ false
+
+  leaf_with_map : (before lines : List Line) (r : Run) (cut : Cut) → MapPasses before r → LeavesOwed (map_line r ∷ before) lines cut
+      → LeavesOwed before (map_line r ∷ lines) (add_line (map_line r) cut)
+  leaf_with_map before lines r cut passes owed =
+      let runs = mappings_of_runs cut.runs in
+      let number : length (mappings_of r ++ runs) ≡ unmapped before =
+      omega (arith, length-append (mappings_of r) runs, mappings_length r.virtual_block r.data_block r.time r.length, owed.number, passes.enough) in
+      record {
+        mappings = run_mappings (data_blocks_of before) (piece_end before) r.virtual_block r.data_block r.time r.length runs
+            passes.above passes.fits passes.within passes.time owed.mappings passes.some;
+        number = number;
+        runs = (passes.some, owed.runs);
+        lawful = owed.lawful;
+        lines_are = λ lawful. ap (λ (ls : List Line). map_line r ∷ ls) (owed.lines_are lawful);
+        rest = λ lawful. let rest = owed.rest lawful in record { devices = rest.devices; have = rest.have; pieces = rest.pieces; used = rest.used };
+      }
+
+  leaf_with_leaf : (before lines : List Line) (l : LeafHead) (cut : Cut) → LinePasses before (leaf_line l) → LeavesOwed (leaf_line l ∷ before) lines cut
+      → LeavesOwed before (leaf_line l ∷ lines) (add_line (leaf_line l) cut)
+  leaf_with_leaf before lines l cut passes owed =
+      let tells = leaf_tells l.number (leaf_number before) l.entries (unmapped before) passes.range passes.order passes.mapped in
+      let tail = flat_map lines_of_part cut.parts ++ (end_line ∷ []) in
+      record {
+        mappings = tt;
+        number = sym tells.1.1.1;
+        runs = tt;
+        lawful = (
+          record { have = owed.runs; some = omega (arith, owed.number, tells.0); few = omega (arith, owed.number, tells.1.0); mappings = owed.mappings },
+          owed.lawful,
+        );
+        lines_are = λ lawful. leaf_lines (leaf_number before) l cut.runs cut.leaves tail lines tells.1.1.0 owed.number (owed.lines_are lawful);
+        rest = λ lawful. let rest = owed.rest lawful in record { devices = rest.devices; have = rest.have; pieces = rest.pieces; used = rest.used };
+      }
+
+  -- a device line or the last one, after the leaves
+  leaves_at_piece : (before lines : List Line) (cut : Cut) → (AllByRecursion (IsLeaf (data_blocks_of before)) leaves → PiecesOwed before lines cut)
+      → cut.runs ≡ [] → cut.pieces ≡ [] → cut.leaves ≡ [] → unmapped before ≡ 0 → LeavesOwed before lines cut
+  leaves_at_piece before lines cut owed no_runs no_pieces no_leaves none = ?
+
+  -- the lines before the first device line
+  leaves_read : (lines before : List Line) → 2 ≤ length before → Along before (cut_of lines) → AreLines pool_format FitsLine PlacedInPool before lines
+      → has_ended pool_format before ≡ false → LeavesOwed before lines (cut_of lines)
+  leaves_read lines before some along reads going = ?

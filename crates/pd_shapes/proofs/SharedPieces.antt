@@ -1,6 +1,7 @@
 -- Pieces of devices, and what is known of a leaf and of its runs.
-use Rattle.std.proofs.Common.{◌≡◌, ℕ, zero, suc, ◌+◌, ◌≤◌, ◌<◌, true, false, Bool, not, ◌||◌, eqb, if◌then◌else◌, inl, inr, List, [], ◌∷◌, ◌++◌, length, length-append, map, get_or, refl, ap, sym, ◌∙◌, append_assoc, append-nil, arith}
+use Rattle.std.proofs.Common.{◌≡◌, ℕ, zero, suc, ◌+◌, ◌≤◌, ◌<◌, true, false, Bool, not, ◌||◌, eqb, if◌then◌else◌, inl, inr, List, [], ◌∷◌, ◌++◌, length, length-append, map, get_or, refl, ap₂, sym, ◌∙◌, append_assoc, append-nil, arith}
 use Rattle.std.proofs.lemmas.Bool.{true≢false, cases_Bool}
+use Rattle.std.proofs.lemmas.Bool.Decides.{nat_tests}
 use Rattle.std.proofs.lemmas.List.Folds.{list_any_at}
 use Rattle.std.proofs.lemmas.List.FromFn.{length-range_with_len, get_or-range_with_len}
 use Rattle.std.specs.List.{AllByRecursion, flat_map, list_any, range_with_len}
@@ -38,11 +39,15 @@ runs_before blocks start least (r ∷ s ∷ runs) rest above have are more =
 pub number_in_runs : (runs : List Run) → length (mappings_of_runs runs) ≡ number_in runs
 number_in_runs [] = refl
 number_in_runs (r ∷ runs) =
-    omega (arith, length-append (mappings_of r) (mappings_of_runs runs), mappings_length r.virtual_block r.data_block r.time r.length, number_in_runs runs)
+    length-append (mappings_of r) (mappings_of_runs runs) ∙ ap₂ (λ a b. a + b) (mappings_length r.virtual_block r.data_block r.time r.length) (number_in_runs runs)
+
+some_mappings : (r : Run) (runs : List Run) → HaveMappings (r ∷ runs) → 1 ≤ length (mappings_of_runs (r ∷ runs))
+some_mappings r runs have =
+    omega (arith, have.0, length-append (mappings_of r) (mappings_of_runs runs), mappings_length r.virtual_block r.data_block r.time r.length)
 
 pub no_runs : (runs : List Run) → HaveMappings runs → length (mappings_of_runs runs) ≡ 0 → runs ≡ []
 no_runs [] have none = refl
-no_runs (r ∷ runs) have none = absurd (omega (arith, have.0, none, number_in_runs (r ∷ runs)))
+no_runs (r ∷ runs) have none = absurd (omega (arith, have.0, none, some_mappings r runs have))
 
 -- runs before pieces: their lines, their mappings, the leaves that they use, and that they are pieces
 pub with_runs_lines : (runs : List Run) (pieces : List PartPiece) (tail : List Line)
@@ -76,7 +81,7 @@ with_runs_pieces count [] pieces have are =
     let m : Mapping = record { virtual_block = 0; data_block = 0; time = 0 } in
     later_pieces count m (map piece_of_part pieces) (are (m ∷ []) (omega arith))
 with_runs_pieces count (r ∷ runs) pieces have are =
-    are (mappings_of_runs (r ∷ runs)) (omega (arith, have.0, number_in_runs (r ∷ runs)))
+    are (mappings_of_runs (r ∷ runs)) (some_mappings r runs have)
 
 -- the lines of a leaf before those of leaves
 pub leaf_lines : (number : ℕ) (l : LeafHead) (runs : List Run) (leaves : List (List Run)) (tail lines : List Line)
@@ -100,12 +105,16 @@ to_come_after_leaf zero runs leaves (suc number) = refl
 to_come_after_leaf (suc count) runs leaves zero = refl
 to_come_after_leaf (suc count) runs leaves (suc number) = to_come_after_leaf count runs leaves number
 
+both_more : (a b : ℕ) → eqb (suc a) (suc b) ≡ eqb a b
+both_more a b = grind (arith, nat_tests)
+
 pub to_come_after_map : (count number : ℕ) (r : Run) (so_far runs : List Run) (leaves : List (List Run))
     → (if eqb count number then so_far ++ (r ∷ []) else so_far) ++ to_come count (runs ∷ leaves) number ≡ so_far ++ to_come count ((r ∷ runs) ∷ leaves) number
 to_come_after_map zero zero r so_far runs leaves = append_assoc so_far (r ∷ []) runs
-to_come_after_map zero (suc number) r so_far runs leaves = refl
-to_come_after_map (suc count) zero r so_far runs leaves = refl
-to_come_after_map (suc count) (suc number) r so_far runs leaves = to_come_after_map count number r so_far runs leaves
+to_come_after_map zero (suc number) r so_far runs leaves = let other : eqb 0 (suc number) ≡ false = grind (arith, nat_tests) in rw other refl
+to_come_after_map (suc count) zero r so_far runs leaves = let other : eqb (suc count) 0 ≡ false = grind (arith, nat_tests) in rw other refl
+to_come_after_map (suc count) (suc number) r so_far runs leaves =
+    rw (both_more count number) (to_come_after_map count number r so_far runs leaves)
 
 pub none_to_come : (count number : ℕ) → to_come count ([] ∷ []) number ≡ []
 none_to_come zero zero = refl
