@@ -1,1 +1,2 @@
 pub mod LeafRuns
+pub mod ShapeText
