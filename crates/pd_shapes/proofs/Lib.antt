@@ -1,3 +1,5 @@
+pub mod LeafRuns
+pub mod ShapeText
 pub mod ShapeCut
 pub mod SharedPieces
 pub mod SharedMeaning
