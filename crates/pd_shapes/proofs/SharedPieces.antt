@@ -1,5 +1,5 @@
 -- Pieces of devices, and what is known of a leaf and of its runs.
-use Rattle.std.proofs.Common.{◌≡◌, ℕ, zero, suc, ◌+◌, ◌≤◌, ◌<◌, true, false, Bool, not, ◌||◌, eqb, if◌then◌else◌, inl, inr, List, [], ◌∷◌, ◌++◌, length, length-append, map, get_or, refl, ap₂, sym, ◌∙◌, append_assoc, append-nil, arith}
+use Rattle.std.proofs.Common.{◌≡◌, ℕ, zero, suc, ◌+◌, ◌≤◌, ◌<◌, true, false, Bool, not, ◌||◌, eqb, if◌then◌else◌, inl, inr, List, [], ◌∷◌, ◌++◌, length, length-append, map, get_or, refl, sym, ◌∙◌, append_assoc, append-nil, arith}
 use Rattle.std.proofs.lemmas.Bool.{true≢false, cases_Bool}
 use Rattle.std.proofs.lemmas.Bool.Decides.{nat_tests}
 use Rattle.std.proofs.lemmas.List.Folds.{list_any_at}
@@ -7,10 +7,11 @@ use Rattle.std.proofs.lemmas.List.FromFn.{length-range_with_len, get_or-range_wi
 use Rattle.std.specs.List.{AllByRecursion, flat_map, list_any, range_with_len}
 use Rattle.pd_kinds.specs.Meaning.{Mapping}
 use Rattle.pd_spells.specs.Lawful.{AreMappings}
-use Rattle.pd_spells.specs.ThinText.{Run, LeafHead, Line, leaf_line, map_line, mappings_of, least_of, end_of, number_in}
+use Rattle.pd_spells.specs.ThinText.{Run, LeafHead, Line, leaf_line, map_line, mappings_of, least_of, end_of}
 use Rattle.pd_spells.proofs.ThinMeaning.{run_mappings, run_fits, mappings_length}
 use Rattle.pd_laid.specs.Shape.{Piece, own, shared, ArePieces, piece_mappings, uses_of_piece}
 use Rattle.pd_shapes.specs.SharedText.{PartPiece, own_runs, used_leaf, mappings_of_runs, piece_of_part, lines_of_leaves, lines_of_piece, HaveMappings, HasPieceMappings}
+use Rattle.pd_shapes.proofs.LeafRuns.{list_at}
 use Rattle.pd_shapes.proofs.ShapeCut.{with_runs}
 
 -- a leaf that lines tell
@@ -35,11 +36,6 @@ runs_before blocks start least (r ∷ s ∷ runs) rest above have are more =
     rw (append_assoc (mappings_of r) (mappings_of_runs (s ∷ runs)) rest)
     (run_mappings blocks least r.virtual_block r.data_block r.time r.length (mappings_of_runs (s ∷ runs) ++ rest) above fits.0.fits fits.0.within fits.0.time
     (runs_before blocks end end (s ∷ runs) rest next.0.above have.1 fits.1 more) have.0)
-
-pub number_in_runs : (runs : List Run) → length (mappings_of_runs runs) ≡ number_in runs
-number_in_runs [] = refl
-number_in_runs (r ∷ runs) =
-    length-append (mappings_of r) (mappings_of_runs runs) ∙ ap₂ (λ a b. a + b) (mappings_length r.virtual_block r.data_block r.time r.length) (number_in_runs runs)
 
 some_mappings : (r : Run) (runs : List Run) → HaveMappings (r ∷ runs) → 1 ≤ length (mappings_of_runs (r ∷ runs))
 some_mappings r runs have =
@@ -94,7 +90,7 @@ leaf_lines number l runs leaves tail lines same entries e =
 -- the runs of a leaf that are to come, where the last one of so many leaves is open: those of the first list are of that
 -- leaf. Leaves are counted from 1 here
 abbrev pub to_come : ℕ → List (List Run) → ℕ → List Run
-to_come zero leaves number = get_or leaves number []
+to_come zero leaves number = list_at leaves number
 to_come (suc count) leaves zero = []
 to_come (suc count) leaves (suc number) = to_come count leaves number
 
