@@ -3,3 +3,4 @@ pub mod ShapeText
 pub mod ShapeCut
 pub mod SharedPieces
 pub mod SharedMeaning
+pub mod PoolLaws

@@ -90,7 +90,7 @@ runs_unshared : (runs : List Run) (tail : List Line) → is_shared (map map_line
 runs_unshared [] tail = refl
 runs_unshared (r ∷ runs) tail = runs_unshared runs tail
 
-parts_unshared : (parts : List Part) → is_shared (flat_map lines_of_part parts ++ (end_line ∷ [])) ≡ false
+pub parts_unshared : (parts : List Part) → is_shared (flat_map lines_of_part parts ++ (end_line ∷ [])) ≡ false
 parts_unshared [] = refl
 parts_unshared (p ∷ parts) =
     let tail = flat_map lines_of_part parts ++ (end_line ∷ []) in

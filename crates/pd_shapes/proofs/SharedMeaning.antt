@@ -16,7 +16,7 @@ use Rattle.pd_laid.specs.Shape.{own, ShapeDevice, ThinShape, ArePieces, leaf_map
 use Rattle.pd_shapes.specs.SharedText.{PartPiece, used_leaf, SharedPart, mappings_of_runs, piece_of_part, device_of_part, lines_of_leaves, lines_of_piece, lines_of_part, HaveMappings, HasPieceMappings, HasPartMappings, MeansShape}
 use Rattle.pd_shapes.proofs.ShapeCut.{Cut, with_runs, add_line, cut_of}
 use Rattle.pd_shapes.proofs.LeafRuns.{list_at, all_at, HaveTold, told_device, told_use, told_map, mappings_at, number_mapped}
-use Rattle.pd_shapes.proofs.SharedPieces.{IsLeaf, runs_before, no_runs, with_runs_lines, with_runs_mappings, with_runs_uses, with_runs_have, with_runs_pieces, leaf_lines, to_come, to_come_after_leaf, to_come_after_map, none_to_come, each_used, use_moved}
+use Rattle.pd_shapes.proofs.SharedPieces.{IsLeaf, runs_before, no_runs, with_runs_lines, with_runs_mappings, with_runs_uses, with_runs_have, with_runs_pieces, leaf_lines, to_come, to_come_after_leaf, to_come_after_map, none_to_come, IsUsed, each_used, use_moved}
 
 use_tells : (n leaves least end left number : ℕ) → not (ltb n leaves) ≡ false → ltb least end ≡ false → ltb left number ≡ false
     → (n < leaves) × ((end ≤ least) × (number ≤ left))
@@ -32,17 +32,16 @@ module _ (leaves : List (List Run)) where
   abbrev all : List (List Mapping)
   all = map mappings_of_runs leaves
 
-  -- some use names the leaf, in the lines before or in those that follow
-  abbrev IsUsed : List ℕ → List ℕ → ℕ → Type 0
-  IsUsed before after number = (list_any (λ used. eqb used number) before || list_any (λ used. eqb used number) after) ≡ true
+  -- the leaves that pieces and then devices use
+  abbrev uses_ahead : List PartPiece → List SharedPart → List ℕ
+  uses_ahead pieces parts = flat_map uses_of_piece (map piece_of_part pieces) ++ flat_map uses_of (map device_of_part parts)
 
   -- what is owed of the devices that follow, and of the uses in the device that is open
   pub record DevicesOwed (before : List Line) (opened : List PartPiece) (parts : List SharedPart) : Type 0 where
     pub devices : AreDevices (data_blocks_of before) (least_id before) (map (device_of all) (map device_of_part parts))
     pub have : AllByRecursion HasPartMappings parts
     pub pieces : AllByRecursion (λ (d : ShapeDevice). ArePieces (length all) d.pieces) (map device_of_part parts)
-    pub used : (number : ℕ) → number < length all
-        → IsUsed (text.uses_of before) (flat_map uses_of_piece (map piece_of_part opened) ++ flat_map uses_of (map device_of_part parts)) number
+    pub used : (number : ℕ) → number < length all → IsUsed (text.uses_of before) (uses_ahead opened parts) number
 
   -- what the rest of a text owes in a device
   pub record PiecesOwed (before lines : List Line) (cut : Cut) : Type 0 where
@@ -108,7 +107,8 @@ module _ (leaves : List (List Run)) where
           devices = owed.rest.devices;
           have = owed.rest.have;
           pieces = owed.rest.pieces;
-          used = λ number below. rw (with_runs_uses cut.runs cut.pieces) (use_moved _ _ _ (owed.rest.used number below));
+          used = λ number below. rw (with_runs_uses cut.runs cut.pieces)
+              (use_moved n number (text.uses_of before) (uses_ahead cut.pieces cut.parts) (owed.rest.used number below));
         };
       }
 

@@ -129,8 +129,15 @@ each_used uses count n none below =
       | inr e ↦ absurd (true≢false (sym (list_any_at unused (range_with_len 0 count) n 0 (omega (arith, length-range_with_len 0 count)) (rw (at, e) refl)) ∙ none))
     ]
 
--- a use moves from the lines after one to those before
-pub use_moved : (here before after : Bool) → ((here || before) || after) ≡ true → (before || (here || after)) ≡ true
-use_moved true true after e = refl
-use_moved true false after e = refl
-use_moved false before after e = e
+-- some use names the leaf, in the lines before or in those that follow
+abbrev pub IsUsed : List ℕ → List ℕ → ℕ → Type 0
+IsUsed before after number = (list_any (λ used. eqb used number) before || list_any (λ used. eqb used number) after) ≡ true
+
+or_moved : (here before after : Bool) → ((here || before) || after) ≡ true → (before || (here || after)) ≡ true
+or_moved true true after e = refl
+or_moved true false after e = refl
+or_moved false before after e = e
+
+pub use_moved : (n number : ℕ) (before after : List ℕ) → IsUsed (n ∷ before) after number → IsUsed before (n ∷ after) number
+use_moved n number before after used =
+    or_moved (eqb n number) (list_any (λ used. eqb used number) before) (list_any (λ used. eqb used number) after) used
