@@ -19,6 +19,10 @@ all_at P [] place all within = absurd (omega arith)
 all_at P (list ∷ lists) zero all within = all.0
 all_at P (list ∷ lists) (suc place) all within = all_at P lists place all.1 (omega arith)
 
+pub all_if_at : {A : Type 0} (P : List A → Type 0) (lists : List (List A)) → ((place : ℕ) → place < length lists → P (list_at lists place)) → AllByRecursion P lists
+all_if_at P [] at = tt
+all_if_at P (list ∷ lists) at = (at 0 (omega arith), all_if_at P lists (λ place within. at (suc place) (omega arith)))
+
 last_at : {A : Type 0} (lists : List (List A)) (list : List A) (place : ℕ) → length lists ≡ place → list_at (lists ++ (list ∷ [])) place ≡ list
 last_at [] list zero last = refl
 last_at [] list (suc place) last = absurd (omega arith)
