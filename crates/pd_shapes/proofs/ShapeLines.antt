@@ -1,6 +1,6 @@
 -- The lines that mean a shape are read, in either version.
-use Rattle.std.proofs.Common.{◌≡◌, ℕ, zero, suc, ◌+◌, ◌-◌, ◌^◌, ◌≤◌, ◌<◌, true, false, not, Bool, ◌||◌, ◌&&◌, ◌==◌, ltb, leb, eqb, List, [], ◌∷◌, ◌++◌, length, length-append, map, refl, ap, sym, subst, ◌∙◌, append-nil, append_assoc, arith, Option, Some, None}
-use Rattle.std.proofs.lemmas.Bool.Decides.{Decides-eqb, nat_tests}
+use Rattle.std.proofs.Common.{◌≡◌, ℕ, zero, suc, ◌+◌, ◌^◌, ◌≤◌, ◌<◌, true, false, not, Bool, ◌||◌, ◌==◌, ltb, eqb, lt-ltb, le-ltb, le-leb, eq-eqb, List, [], ◌∷◌, ◌++◌, length, length-append, map, refl, ap, sym, subst, ◌∙◌, append-nil, append_assoc, arith, Option, Some, None}
+use Rattle.std.proofs.Math.Bool.{or-false}
 use Rattle.std.proofs.lemmas.List.{length-map}
 use Rattle.std.specs.List.{AllByRecursion, flat_map, list_any, range_with_len}
 use Rattle.pd_kinds.specs.Meaning.{Mapping}
@@ -8,16 +8,16 @@ use Rattle.pd_grammar.specs.Texts.{has_ended}
 use Rattle.pd_grammar.specs.Tables.{LineKind}
 use Rattle.pd_grammar.proofs.GrammarLemmas.{AreLines}
 use Rattle.pd_grammar.proofs.TableLemmas.{PlacedAs}
-use Rattle.pd_spells.specs.Lawful.{AreMappings, AreDevices, IsLawfulPool}
-use Rattle.pd_spells.specs.ThinText.{Line, first_line, shared_first_line, pool_line, leaf_line, device_line, use_line, map_line, end_line, LeafHead, Head, Run, thin, thin_table, pool_format, pool_table, kind_of_line, is_shared, has_device, leaf_number, least_id, piece_end, unmapped, data_blocks_of, may_have_map, runs_of_leaf, number_in, least_of, end_of, has_unused_leaf, mappings_of}
+use Rattle.pd_spells.specs.Lawful.{AreMappings, AreDevices}
+use Rattle.pd_spells.specs.ThinText.{Line, first_line, shared_first_line, pool_line, leaf_line, device_line, use_line, map_line, end_line, LeafHead, Head, Run, thin, thin_table, pool_format, pool_table, kind_of_line, is_shared, has_device, leaf_number, least_id, piece_end, unmapped, data_blocks_of, may_have_map, runs_of_leaf, number_in, least_of, mappings_of}
 use Rattle.pd_spells.specs.ThinText as text
 use Rattle.pd_spells.proofs.ThinRead.{FitsLine, Placed, PlacedInPool}
 use Rattle.pd_spells.proofs.ThinMeaning.{LinePasses, tests_passed, map_line_told, device_line_told, pool_line_told, read_if_spelled}
 use Rattle.pd_laid.specs.Shape.{Piece, own, shared, ShapeDevice, ThinShape, ArePieces, piece_mappings, device_of, pool_of, uses_of_piece, uses_of}
-use Rattle.pd_shapes.specs.SharedText.{PartPiece, own_runs, used_leaf, SharedPart, mappings_of_runs, piece_of_part, device_of_part, head_of_shape, lines_of_leaves, lines_of_piece, lines_of_part, lines_of_shape, HaveMappings, HasPieceMappings, HasPartMappings, MeansShape}
+use Rattle.pd_shapes.specs.SharedText.{PartPiece, own_runs, used_leaf, SharedPart, mappings_of_runs, piece_of_part, device_of_part, head_of_shape, lines_of_leaves, lines_of_piece, lines_of_part, HaveMappings, HasPieceMappings, HasPartMappings, MeansShape}
 use Rattle.pd_shapes.specs.PoolText.{MeansUnshared, MeansAs, MeansPoolShape}
-use Rattle.pd_shapes.proofs.LeafRuns.{HaveTold, list_at, all_at, told_leaf, told_run, told_device, told_use, told_map, mappings_at, number_mapped}
-use Rattle.pd_shapes.proofs.UsedLeaves.{is_used, IsLeaf, are_leaves, runs_fit}
+use Rattle.pd_shapes.proofs.LeafRuns.{HaveTold, list_at, all_at, IsLeaf, told_leaf, told_run, told_device, told_use, told_map, mappings_at, number_mapped}
+use Rattle.pd_shapes.proofs.UsedLeaves.{is_used, are_leaves, runs_fit}
 
 -- the lines are read after these ones, the newest first
 abbrev pub ArePoolLines : List Line → List Line → Type 0
@@ -81,7 +81,7 @@ leaf_step : (blocks : ℕ) (done : List (List Run)) (whole : List Run) (all : Li
 leaf_step blocks done whole all r runs before inside =
     let stand = inside.stand in
     let front : List Run = inside.front in
-    let number : ltb 0 (leaf_number before) ≡ true = grind (arith, nat_tests, stand.told.number, length-append done (front ∷ [])) in
+    let number : ltb 0 (leaf_number before) ≡ true = lt-ltb 0 (leaf_number before) (omega (arith, stand.told.number, length-append done (front ∷ []))) in
     let more : List Run = front ++ (r ∷ []) in (
       record { some = stand.some; going = stand.going; placed = rw (inside.none, number) refl; pool = stand.pool },
       record {
@@ -91,11 +91,6 @@ leaf_step blocks done whole all r runs before inside =
         stand = with_map blocks 0 (done ++ (front ∷ [])) (done ++ (more ∷ [])) all all before r stand (told_run before r done front inside.none stand.told);
       },
     )
-
--- the line of a leaf passes
-leaf_told : (entries number next left : ℕ) → 1 ≤ entries → entries ≤ 252 → number ≡ next → left ≡ 0
-    → (not (leb 1 entries && leb entries 252) ≡ false) × ((not (eqb number next) ≡ false) × (ltb 0 left ≡ false))
-leaf_told entries number next left some few same none = (grind (arith, nat_tests), (rw ((Decides-eqb number next).1 same) refl, grind (arith, nat_tests)))
 
 -- the lines of leaves, and then lines that are read once they are told
 read_leaves : (blocks : ℕ) → blocks ≤ 2 ^ 40 → (all : List ℕ) (whole : List (List Run)) (tail : List Line)
@@ -109,19 +104,24 @@ read_leaves blocks small all whole tail after (runs ∷ leaves) done number befo
     let head : LeafHead = record { number = number; entries = length (mappings_of_runs runs) } in
     let rest = lines_of_leaves (number + 1) leaves in
     let leaf : IsLeaf blocks runs = are.0 in
-    let told = leaf_told head.entries number (leaf_number before) (unmapped before) leaf.filled leaf.few (count ∙ sym stand.told.number) unled in
+    let passes : LinePasses before (leaf_line head) = record {
+      range = rw (le-leb 1 head.entries leaf.some, le-leb head.entries 252 leaf.few) refl;
+      order = ap not (eq-eqb number (leaf_number before) (count ∙ sym stand.told.number));
+      mapped = le-ltb 0 (unmapped before) (omega (arith, unled));
+      used = refl;
+    } in
     let opened : Stand blocks 0 (done ++ ([] ∷ [])) all all (leaf_line head ∷ before) =
     record { some = omega (arith, stand.some); version = stand.version; going = refl; pool = stand.pool; id = stand.id; told = told_leaf before head done stand.told; used = stand.used } in
     let body : ArePoolLines (leaf_line head ∷ before) (map map_line runs ++ (rest ++ tail)) =
     read_runs blocks small (InLeaf blocks done runs all) (leaf_step blocks done runs all) [] (rest ++ tail)
     (λ b inside owed end.
-        read_leaves blocks small all whole tail after leaves (done ++ (runs ∷ [])) (number + 1) b (append_assoc done (runs ∷ []) leaves ∙ same)
-        (omega (arith, count, length-append done (runs ∷ []))) (omega (arith, few)) inside.none (sym end)
-        (subst (λ (front : List Run). Stand blocks 0 (done ++ (front ∷ [])) all all b) (sym (append-nil inside.front) ∙ inside.same) inside.stand) are.1)
+    read_leaves blocks small all whole tail after leaves (done ++ (runs ∷ [])) (number + 1) b (append_assoc done (runs ∷ []) leaves ∙ same)
+    (omega (arith, count, length-append done (runs ∷ []))) (omega (arith, few)) inside.none (sym end)
+    (subst (λ (front : List Run). Stand blocks 0 (done ++ (front ∷ [])) all all b) (sym (append-nil inside.front) ∙ inside.same) inside.stand) are.1)
     runs (leaf_line head ∷ before) (record { front = []; same = refl; none = none; stand = opened })
     (subst (AreMappings blocks 0) (sym (append-nil (mappings_of_runs runs))) leaf.mappings) (ap length (append-nil (mappings_of_runs runs))) leaf.have in
     read_line before (leaf_line head) ((map map_line runs ++ rest) ++ tail) stand.going (omega (arith, few), (omega (arith, leaf.few), tt))
-    (stand.some, rw (stand.version, none) refl) (record { range = told.0; order = told.1.0; mapped = told.1.1; used = refl })
+    (stand.some, rw (stand.version, none) refl) passes
     (subst (ArePoolLines (leaf_line head ∷ before)) (sym (append_assoc (map map_line runs) rest tail)) body)
 
 -- the use of a leaf whose mappings begin those that are owed passes, and the others are owed after it
@@ -130,23 +130,17 @@ record UseTold (blocks : ℕ) (before : List Line) (n : ℕ) (rest : List Mappin
   mappings : AreMappings blocks (piece_end (use_line n ∷ before)) rest
   number : length rest ≡ unmapped (use_line n ∷ before)
 
-within_range : (n m : ℕ) → n < m → not (ltb n m) ≡ false
-within_range n m below = grind (arith, nat_tests)
-
-not_below : (n m : ℕ) → m ≤ n → ltb n m ≡ false
-not_below n m above = grind (arith, nat_tests)
-
 use_told : (blocks : ℕ) (before : List Line) (n : ℕ) (runs : List Run) (rest : List Mapping) → n < leaf_number before → runs_of_leaf before n ≡ runs → IsLeaf blocks runs
     → AreMappings blocks (piece_end before) (mappings_of_runs runs ++ rest) → length (mappings_of_runs runs ++ rest) ≡ unmapped before → UseTold blocks before n rest
 use_told blocks before n runs rest below same leaf are number =
-    let fits = runs_fit blocks (piece_end before) runs rest leaf.have leaf.filled are in
+    let fits = runs_fit blocks (piece_end before) runs rest leaf.have leaf.some are in
     let given : number_in (runs_of_leaf before n) ≡ length (mappings_of_runs runs) = ap number_in same ∙ number_mapped runs in
     let len : length (mappings_of_runs runs) + length rest ≡ unmapped before = sym (length-append (mappings_of_runs runs) rest) ∙ number in
     record {
       passes = record {
-        range = within_range n (leaf_number before) below;
-        order = not_below (least_of (runs_of_leaf before n)) (piece_end before) (rw same fits.0);
-        mapped = not_below (unmapped before) (number_in (runs_of_leaf before n)) (omega (arith, given, len));
+        range = ap not (lt-ltb n (leaf_number before) below);
+        order = le-ltb (least_of (runs_of_leaf before n)) (piece_end before) (rw same fits.0);
+        mapped = le-ltb (unmapped before) (number_in (runs_of_leaf before n)) (omega (arith, given, len));
         used = refl;
       };
       mappings = rw same fits.1;
@@ -165,10 +159,6 @@ or_moved true true c = refl
 or_moved true false c = refl
 or_moved false true c = refl
 or_moved false false c = refl
-
-or_nothing : (a : Bool) → (a || false) ≡ a
-or_nothing true = refl
-or_nothing false = refl
 
 none_unused : (uses : List ℕ) (first count : ℕ) → ((n : ℕ) → n < first + count → is_used uses n ≡ true)
     → list_any (λ (number : ℕ). not (list_any (λ (used : ℕ). used == number) uses)) (range_with_len first count) ≡ false
@@ -237,7 +227,7 @@ module _ (blocks : ℕ) (small : blocks ≤ 2 ^ 40) (leaves : List (List Run)) (
       → ArePoolLines before (flat_map lines_of_part parts ++ (end_line ∷ []))
   read_parts least [] before unled stand devices whole have =
       let each : (n : ℕ) → n < 0 + leaf_number before → is_used (text.uses_of before) n ≡ true =
-      λ n below. sym (or_nothing (is_used (text.uses_of before) n)) ∙ stand.used n ∙ each_used n (omega (arith, below, stand.told.number)) in
+      λ n below. sym (or-false (is_used (text.uses_of before) n)) ∙ stand.used n ∙ each_used n (omega (arith, below, stand.told.number)) in
       read_line before end_line [] stand.going tt stand.some
       (record { range = refl; order = refl; mapped = rw unled refl; used = none_unused (text.uses_of before) 0 (leaf_number before) each }) refl
   read_parts least (p ∷ parts) before unled stand devices whole have =
@@ -274,12 +264,12 @@ shared_lines lines w few means =
     let body : ArePoolLines start (lines_of_leaves 0 leaves ++ tail) =
     read_leaves w.data_blocks means.lawful.data_blocks_fit uses leaves tail
     (λ b none unled standing. read_parts w.data_blocks means.lawful.data_blocks_fit leaves (omega (arith, few, counted)) are (length w.leaves) counted uses each_used
-        0 parts b unled standing devices (rw means.devices_are means.shape.pieces) means.runs)
+    0 parts b unled standing devices (rw means.devices_are means.shape.pieces) means.runs)
     leaves [] 0 start refl refl (omega (arith, few, counted)) refl refl stand are in
     let told = pool_line_told (shared_first_line ∷ []) (pool_of w) means.lawful in
     rw means.lines_are (
-      read_line [] shared_first_line (pool_line head ∷ (lines_of_leaves 0 leaves ++ tail)) refl tt (refl, refl) (record { range = refl; order = refl; mapped = refl; used = refl })
-      (read_line (shared_first_line ∷ []) (pool_line head) (lines_of_leaves 0 leaves ++ tail) refl told.0 refl told.1 body)
+    read_line [] shared_first_line (pool_line head ∷ (lines_of_leaves 0 leaves ++ tail)) refl tt (refl, refl) (record { range = refl; order = refl; mapped = refl; used = refl })
+    (read_line (shared_first_line ∷ []) (pool_line head) (lines_of_leaves 0 leaves ++ tail) refl told.0 refl told.1 body)
     )
 
 -- lines after the first that are read in a text of version 1 alone are read in one of either version

@@ -1,5 +1,5 @@
 -- The mappings of the leaves that devices use are lawful.
-use Rattle.std.proofs.Common.{◌≡◌, inl, inr, ℕ, ◌+◌, ◌≤◌, ◌<◌, true, false, Bool, eqb, ◌==◌, List, [], ◌∷◌, ◌++◌, length, map, refl, ap, sym, subst, ◌∙◌, append-nil, append_assoc, arith, ◌||◌, length-append}
+use Rattle.std.proofs.Common.{◌≡◌, inl, inr, ℕ, ◌+◌, ◌≤◌, ◌<◌, true, Bool, eqb, ◌==◌, List, [], ◌∷◌, ◌++◌, length, map, ap, sym, subst, ◌∙◌, append-nil, append_assoc, arith, ◌||◌, length-append}
 use Rattle.std.proofs.lemmas.Bool.{cases_Bool, true≢false}
 use Rattle.std.proofs.lemmas.Bool.Decides.{Decides-eqb}
 use Rattle.std.proofs.lemmas.List.{length-map}
@@ -11,7 +11,7 @@ use Rattle.pd_spells.specs.ThinText.{Run, least_of, end_of, mappings_of}
 use Rattle.pd_spells.proofs.ThinMeaning.{run_fits, mappings_length}
 use Rattle.pd_laid.specs.Shape.{Piece, own, shared, ShapeDevice, ThinShape, IsShape, leaf_mappings, piece_mappings, device_of, pool_of, uses_of_piece, uses_of}
 use Rattle.pd_shapes.specs.SharedText.{mappings_of_runs, HaveMappings}
-use Rattle.pd_shapes.proofs.LeafRuns.{list_at, all_at, all_if_at, mappings_at}
+use Rattle.pd_shapes.proofs.LeafRuns.{list_at, all_at, all_if_at, mappings_at, IsLeaf}
 
 -- whether a leaf is among those that are used
 abbrev pub is_used : List ℕ → ℕ → Bool
@@ -59,26 +59,20 @@ used_by_device blocks least leaves n (d ∷ devices) are used =
       | inr e ↦ used_by_device blocks (d.id + 1) leaves n devices are.1 (sym (ap (λ (b : Bool). b || is_used (flat_map uses_of devices) n) e) ∙ either)
     ]
 
--- what holds of the runs of a leaf
-pub record IsLeaf (blocks : ℕ) (runs : List Run) : Type 0 where
-  pub have : HaveMappings runs
-  pub filled : 1 ≤ length (mappings_of_runs runs)
-  pub few : length (mappings_of_runs runs) ≤ 252
-  pub mappings : AreMappings blocks 0 (mappings_of_runs runs)
-
+-- the leaves of a shape are lawful
 pub are_leaves : (w : ThinShape) (leaves : List (List Run)) → map mappings_of_runs leaves ≡ w.leaves → AllByRecursion HaveMappings leaves
     → IsShape w → IsLawfulPool (pool_of w) → AllByRecursion (IsLeaf w.data_blocks) leaves
 unfolding pool_of
 are_leaves w leaves same have shape lawful =
     all_if_at (IsLeaf w.data_blocks) leaves (λ n within.
-        let here : leaf_mappings w.leaves n ≡ mappings_of_runs (list_at leaves n) = ap (λ (ls : List (List Mapping)). leaf_mappings ls n) (sym same) ∙ mappings_at leaves n in
-        let below : n < length w.leaves = omega (arith, within, ap length (sym same) ∙ length-map leaves mappings_of_runs) in
-        record {
-          have = all_at HaveMappings leaves n have within;
-          filled = subst (λ (ms : List Mapping). 1 ≤ length ms) here (all_at (λ (ms : List Mapping). 1 ≤ length ms) w.leaves n shape.filled below);
-          few = subst (λ (ms : List Mapping). length ms ≤ 252) here (all_at (λ (ms : List Mapping). length ms ≤ 252) w.leaves n shape.few below);
-          mappings = subst (AreMappings w.data_blocks 0) here (used_by_device w.data_blocks 0 w.leaves n w.devices lawful.devices (shape.used n below));
-        })
+    let here : leaf_mappings w.leaves n ≡ mappings_of_runs (list_at leaves n) = ap (λ (ls : List (List Mapping)). leaf_mappings ls n) (sym same) ∙ mappings_at leaves n in
+    let below : n < length w.leaves = omega (arith, within, ap length (sym same) ∙ length-map leaves mappings_of_runs) in
+    record {
+      have = all_at HaveMappings leaves n have within;
+      some = subst (λ (ms : List Mapping). 1 ≤ length ms) here (all_at (λ (ms : List Mapping). 1 ≤ length ms) w.leaves n shape.filled below);
+      few = subst (λ (ms : List Mapping). length ms ≤ 252) here (all_at (λ (ms : List Mapping). length ms ≤ 252) w.leaves n shape.few below);
+      mappings = subst (AreMappings w.data_blocks 0) here (used_by_device w.data_blocks 0 w.leaves n w.devices lawful.devices (shape.used n below));
+    })
 
 -- runs that begin lawful mappings begin at the least block or above, and the others are above their end
 pub runs_fit : (blocks least : ℕ) (runs : List Run) (rest : List Mapping) → HaveMappings runs → 1 ≤ length (mappings_of_runs runs)
