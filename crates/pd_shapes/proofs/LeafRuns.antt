@@ -1,13 +1,14 @@
 -- The shared leaves that the lines of a text have told, and their mappings.
-use Rattle.std.proofs.Common.{◌≡◌, ℕ, zero, suc, ◌+◌, ◌<◌, ◌&&◌, true, false, not, eqb, List, [], ◌∷◌, ◌++◌, length, length-append, map, unwrap_or, slice_get, inl, inr, refl, ap, sym, ◌∙◌, arith}
+use Rattle.std.proofs.Common.{◌≡◌, ℕ, zero, suc, ◌+◌, ◌≤◌, ◌<◌, true, false, eqb, List, [], ◌∷◌, ◌++◌, length, length-append, map, unwrap_or, slice_get, inl, inr, refl, ap, sym, ◌∙◌, arith}
 use Rattle.std.proofs.lemmas.Bool.{cases_Bool, true≢false}
 use Rattle.std.proofs.lemmas.Bool.Decides.{Decides-eqb}
 use Rattle.std.proofs.lemmas.List.Sums.{sum_by-cons}
-use Rattle.std.specs.List.{AllByRecursion, flat_map}
-use Rattle.pd_spells.specs.ThinText.{Line, leaf_line, device_line, use_line, map_line, LeafHead, Details, Run, leaf_number, has_device, is_in_leaf, runs_of_leaf, number_in, mappings_of}
+use Rattle.std.specs.List.{AllByRecursion}
+use Rattle.pd_spells.specs.Lawful.{AreMappings}
+use Rattle.pd_spells.specs.ThinText.{Line, leaf_line, device_line, use_line, map_line, LeafHead, Details, Run, leaf_number, has_device, runs_of_leaf, number_in, mappings_of}
 use Rattle.pd_spells.proofs.ThinMeaning.{mappings_length}
 use Rattle.pd_laid.specs.Shape.{leaf_mappings}
-use Rattle.pd_shapes.specs.SharedText.{mappings_of_runs}
+use Rattle.pd_shapes.specs.SharedText.{mappings_of_runs, HaveMappings}
 
 -- the list in a place of some, from 0; an empty one past their end
 abbrev pub list_at : {A : Type 0} → List (List A) → ℕ → List A
@@ -18,6 +19,10 @@ pub all_at : {A : Type 0} (P : List A → Type 0) (lists : List (List A)) (place
 all_at P [] place all within = absurd (omega arith)
 all_at P (list ∷ lists) zero all within = all.0
 all_at P (list ∷ lists) (suc place) all within = all_at P lists place all.1 (omega arith)
+
+pub all_if_at : {A : Type 0} (P : List A → Type 0) (lists : List (List A)) → ((place : ℕ) → place < length lists → P (list_at lists place)) → AllByRecursion P lists
+all_if_at P [] at = tt
+all_if_at P (list ∷ lists) at = (at 0 (omega arith), all_if_at P lists (λ place within. at (suc place) (omega arith)))
 
 last_at : {A : Type 0} (lists : List (List A)) (list : List A) (place : ℕ) → length lists ≡ place → list_at (lists ++ (list ∷ [])) place ≡ list
 last_at [] list zero last = refl
@@ -36,6 +41,13 @@ empty_at [] zero = refl
 empty_at [] (suc place) = refl
 empty_at (first ∷ lists) zero = refl
 empty_at (first ∷ lists) (suc place) = empty_at lists place
+
+-- a leaf that lines tell
+pub record IsLeaf (blocks : ℕ) (runs : List Run) : Type 0 where
+  pub have : HaveMappings runs
+  pub some : 1 ≤ length (mappings_of_runs runs)
+  pub few : length (mappings_of_runs runs) ≤ 252
+  pub mappings : AreMappings blocks 0 (mappings_of_runs runs)
 
 -- the lines so far, the newest first, have told these leaves by their runs
 pub record HaveTold (before : List Line) (leaves : List (List Run)) : Type 0 where

@@ -1,5 +1,7 @@
 pub mod LeafRuns
+pub mod UsedLeaves
 pub mod ShapeText
+pub mod ShapeLines
 pub mod ShapeCut
 pub mod SharedPieces
 pub mod SharedMeaning

@@ -12,36 +12,21 @@ use Rattle.pd_laid.specs.Shape.{ThinShape, pool_of, shape_of}
 use Rattle.pd_laid.proofs.ShapeLemmas.{pool_kept}
 use Rattle.pd_shapes.specs.PoolText.{MeansAs, MeansPoolShape, SpellsMeaning}
 use Rattle.pd_shapes.proofs.ShapeText.{parts_unshared}
+use Rattle.pd_shapes.proofs.ShapeLines.{ArePoolLines, read_from}
 use Rattle.pd_shapes.proofs.ShapeCut.{one_shared_meaning}
 use Rattle.pd_shapes.proofs.SharedMeaning.{shape_if_read}
 
--- later lines stand in a text of version 1 where they stand in one of either version
-placed_alone : (before : List Line) (line : Line) → 1 ≤ length before → PlacedInPool before line → Placed before line
-placed_alone before first_line some placed = absurd (omega (arith, some, placed.0))
-placed_alone before shared_first_line some placed = absurd (omega (arith, some, placed.0))
-placed_alone before (pool_line p) some placed = placed
-placed_alone before (leaf_line l) some placed = placed
-placed_alone before (device_line d) some placed = placed
-placed_alone before (use_line n) some placed = placed
-placed_alone before (map_line r) some placed = placed
-placed_alone before end_line some placed = placed
-
-read_alone : (before lines : List Line) → 1 ≤ length before → AreLines pool_format FitsLine PlacedInPool before lines → AreLines thin FitsLine Placed before lines
-read_alone [] lines some reads = absurd (omega (arith, some))
-read_alone (newest ∷ before) [] some reads = reads
-read_alone (newest ∷ before) (line ∷ lines) some reads =
-    (reads.0, (reads.1.0, (placed_alone (newest ∷ before) line some reads.1.1.0, (reads.1.1.1.0, read_alone (line ∷ newest ∷ before) lines (omega arith) reads.1.1.1.1))))
-
 -- lines of version 1 that are read mean the shape of their pool
-unshared_if_read : (lines : List Line) → AreLines pool_format FitsLine PlacedInPool (first_line ∷ []) lines → (w : ThinShape) × MeansPoolShape (first_line ∷ lines) w
+unshared_if_read : (lines : List Line) → ArePoolLines (first_line ∷ []) lines → (w : ThinShape) × MeansPoolShape (first_line ∷ lines) w
 unshared_if_read lines reads =
-    let alone : AreLines thin FitsLine Placed [] (first_line ∷ lines) = (refl, (tt, ((refl, refl), (tt, read_alone (first_line ∷ []) lines (omega arith) reads)))) in
+    let rest = read_from (first_line ∷ shared_first_line ∷ []) (first_line ∷ []) lines (first_line ∷ []) (omega arith) reads in
+    let alone : AreLines thin FitsLine Placed [] (first_line ∷ lines) = (refl, (tt, ((refl, refl), (tt, rest)))) in
     let pool = thin_language.means (first_line ∷ lines) alone in
     let version : is_shared (first_line ∷ lines) ≡ false = ap is_shared pool.1.lines_are ∙ parts_unshared pool.1.parts in
     (shape_of pool.0, subst (λ (b : Bool). MeansAs b (first_line ∷ lines) (shape_of pool.0)) (sym version) (record { pool = pool.0; means = pool.1; shape_is = refl }))
 
 -- lines that are read mean a shape
-pub means_if_lines : (lines : List Line) → AreLines pool_format FitsLine PlacedInPool [] lines → (w : ThinShape) × MeansPoolShape lines w
+pub means_if_lines : (lines : List Line) → ArePoolLines [] lines → (w : ThinShape) × MeansPoolShape lines w
 means_if_lines [] reads = absurd (true≢false (sym reads))
 means_if_lines (first_line ∷ lines) reads = unshared_if_read lines reads.1.1.1.1
 means_if_lines (shared_first_line ∷ lines) reads = shape_if_read lines reads.1.1.1.1

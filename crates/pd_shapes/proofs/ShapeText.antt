@@ -4,12 +4,12 @@ use Rattle.std.specs.List.{AllByRecursion, flat_map}
 use Rattle.pd_kinds.specs.Meaning.{ThinPool, Mapping}
 use Rattle.pd_grammar.specs.Texts.{text_of_lines}
 use Rattle.pd_spells.specs.Lawful.{IsLawfulPool}
-use Rattle.pd_spells.specs.ThinText.{Line, map_line, end_line, Details, Run, Part, head_of, joined_runs, AreApart, is_shared, pool_format, lines_of_part, lines_of_parts, SpellsPool}
+use Rattle.pd_spells.specs.ThinText.{Line, map_line, end_line, Details, Run, Part, joined_runs, AreApart, is_shared, pool_format, lines_of_part, SpellsPool}
 use Rattle.pd_spells.proofs.ThinLaws.{joined_mappings, joined_some}
 use Rattle.pd_spells.proofs.ThinJoin.{runs_joined}
 use Rattle.pd_laid.specs.Shape.{Piece, own, shared, ShapeDevice, ThinShape, IsShape, pool_of, shape_of}
 use Rattle.pd_shapes.specs.SharedText.{PartPiece, own_runs, used_leaf, SharedPart, mappings_of_runs, piece_of_part, device_of_part, head_of_shape, lines_of_shape, HaveMappings, HasPieceMappings, HasPartMappings, SpellsShape, joined_piece, joined_part, text_of_shape, IsPieceApart, IsPartApart, AreSharedApart}
-use Rattle.pd_shapes.specs.PoolText.{SpellsPoolShape, MeansAs}
+use Rattle.pd_shapes.specs.PoolText.{SpellsPoolShape}
 
 -- joined runs of leaves, of pieces and of devices have the mappings that they were made of
 leaves_joined : (leaves : List (List Mapping)) → map mappings_of_runs (map joined_runs leaves) ≡ leaves

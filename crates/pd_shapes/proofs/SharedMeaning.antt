@@ -6,17 +6,18 @@ use Rattle.std.proofs.lemmas.List.{length-map}
 use Rattle.std.specs.List.{AllByRecursion, flat_map, list_any}
 use Rattle.pd_kinds.specs.Meaning.{Mapping}
 use Rattle.pd_grammar.specs.Texts.{has_ended}
-use Rattle.pd_grammar.proofs.GrammarLemmas.{AreLines}
 use Rattle.pd_spells.specs.Lawful.{AreMappings, AreDevices}
 use Rattle.pd_spells.specs.ThinText.{Run, Head, LeafHead, Details, Line, first_line, shared_first_line, pool_line, leaf_line, device_line, use_line, map_line, end_line, pool_format, is_shared, data_blocks_of, leaf_number, least_id, has_device, runs_of_leaf, least_of, number_in, piece_end, unmapped, mappings_of}
 use Rattle.pd_spells.specs.ThinText as text
-use Rattle.pd_spells.proofs.ThinRead.{FitsLine, PlacedInPool}
+use Rattle.pd_spells.proofs.ThinRead.{FitsLine}
 use Rattle.pd_spells.proofs.ThinMeaning.{run_mappings, mappings_length, LinePasses, line_passes, MapPasses, map_passes, device_tells, pool_tells}
 use Rattle.pd_laid.specs.Shape.{own, ShapeDevice, ThinShape, ArePieces, leaf_mappings, piece_mappings, device_of, uses_of_piece, uses_of, pool_of}
 use Rattle.pd_shapes.specs.SharedText.{PartPiece, used_leaf, SharedPart, mappings_of_runs, piece_of_part, device_of_part, lines_of_leaves, lines_of_piece, lines_of_part, HaveMappings, HasPieceMappings, HasPartMappings, MeansShape}
+use Rattle.pd_shapes.proofs.UsedLeaves.{is_used}
+use Rattle.pd_shapes.proofs.ShapeLines.{ArePoolLines, or_moved}
 use Rattle.pd_shapes.proofs.ShapeCut.{Cut, with_runs, add_line, cut_of}
-use Rattle.pd_shapes.proofs.LeafRuns.{list_at, all_at, HaveTold, told_device, told_use, told_map, mappings_at, number_mapped}
-use Rattle.pd_shapes.proofs.SharedPieces.{IsLeaf, runs_before, no_runs, with_runs_lines, with_runs_mappings, with_runs_uses, with_runs_have, with_runs_pieces, leaf_lines, to_come, to_come_after_leaf, to_come_after_map, none_to_come, IsUsed, each_used, use_moved}
+use Rattle.pd_shapes.proofs.LeafRuns.{list_at, all_at, IsLeaf, HaveTold, told_device, told_use, told_map, mappings_at, number_mapped}
+use Rattle.pd_shapes.proofs.SharedPieces.{runs_before, no_runs, with_runs_lines, with_runs_mappings, with_runs_uses, with_runs_have, with_runs_pieces, leaf_lines, to_come, to_come_after_leaf, to_come_after_map, none_to_come, each_used}
 
 use_tells : (n leaves least end left number : ℕ) → not (ltb n leaves) ≡ false → ltb least end ≡ false → ltb left number ≡ false
     → (n < leaves) × ((end ≤ least) × (number ≤ left))
@@ -41,7 +42,7 @@ module _ (leaves : List (List Run)) where
     pub devices : AreDevices (data_blocks_of before) (least_id before) (map (device_of all) (map device_of_part parts))
     pub have : AllByRecursion HasPartMappings parts
     pub pieces : AllByRecursion (λ (d : ShapeDevice). ArePieces (length all) d.pieces) (map device_of_part parts)
-    pub used : (number : ℕ) → number < length all → IsUsed (text.uses_of before) (uses_ahead opened parts) number
+    pub used : (n : ℕ) → n < length all → (is_used (text.uses_of before) n || is_used (uses_ahead opened parts) n) ≡ true
 
   -- what the rest of a text owes in a device
   pub record PiecesOwed (before lines : List Line) (cut : Cut) : Type 0 where
@@ -107,8 +108,8 @@ module _ (leaves : List (List Run)) where
           devices = owed.rest.devices;
           have = owed.rest.have;
           pieces = owed.rest.pieces;
-          used = λ number below. rw (with_runs_uses cut.runs cut.pieces)
-              (use_moved n number (text.uses_of before) (uses_ahead cut.pieces cut.parts) (owed.rest.used number below));
+          used = λ m below. rw (with_runs_uses cut.runs cut.pieces)
+              (or_moved (is_used (text.uses_of before) m) (eqb n m) (is_used (uses_ahead cut.pieces cut.parts) m) ∙ owed.rest.used m below);
         };
       }
 
@@ -147,7 +148,7 @@ module _ (leaves : List (List Run)) where
       }
 
   -- nothing follows the last line
-  none_after_end : (before lines : List Line) → AreLines pool_format FitsLine PlacedInPool (end_line ∷ before) lines → lines ≡ []
+  none_after_end : (before lines : List Line) → ArePoolLines (end_line ∷ before) lines → lines ≡ []
   none_after_end before [] reads = refl
   none_after_end before (line ∷ lines) reads = absurd (true≢false reads.0)
 
@@ -172,7 +173,7 @@ module _ (leaves : List (List Run)) where
       }
 
   -- the lines from the first device line on
-  devices_read : (lines before : List Line) → 2 ≤ length before → Known before → AreLines pool_format FitsLine PlacedInPool before lines
+  devices_read : (lines before : List Line) → 2 ≤ length before → Known before → ArePoolLines before lines
       → has_ended pool_format before ≡ false → PiecesOwed before lines (cut_of lines)
   devices_read [] before some known reads going = absurd (true≢false (sym reads ∙ going))
   devices_read (first_line ∷ lines) before some known reads going = absurd (omega (arith, some, reads.1.1.0.0))
@@ -266,7 +267,7 @@ module _ (leaves : List (List Run)) where
   }
 
   -- the lines before the first device line
-  leaves_read : (lines before : List Line) → 2 ≤ length before → Along before (cut_of lines) → AreLines pool_format FitsLine PlacedInPool before lines
+  leaves_read : (lines before : List Line) → 2 ≤ length before → Along before (cut_of lines) → ArePoolLines before lines
       → has_ended pool_format before ≡ false → LeavesOwed before lines (cut_of lines)
   leaves_read [] before some along reads going = absurd (true≢false (sym reads ∙ going))
   leaves_read (first_line ∷ lines) before some along reads going = absurd (omega (arith, some, reads.1.1.0.0))
@@ -315,7 +316,7 @@ leaves_lawful blocks (runs ∷ leaves) lawful =
     let more = leaves_lawful blocks leaves lawful.1 in
     ((lawful.0.have, more.0), ((lawful.0.some, more.1.0), (lawful.0.few, more.1.1)))
 
-shape_after_pool : (p : Head) (lines : List Line) → AreLines pool_format FitsLine PlacedInPool (shared_first_line ∷ []) (pool_line p ∷ lines)
+shape_after_pool : (p : Head) (lines : List Line) → ArePoolLines (shared_first_line ∷ []) (pool_line p ∷ lines)
     → (w : ThinShape) × MeansShape (shared_first_line ∷ pool_line p ∷ lines) w
 unfolding pool_of
 shape_after_pool p lines reads =
@@ -361,7 +362,7 @@ shape_after_pool p lines reads =
     )
 
 -- lines of version 2 that are read mean a shape
-pub shape_if_read : (lines : List Line) → AreLines pool_format FitsLine PlacedInPool (shared_first_line ∷ []) lines
+pub shape_if_read : (lines : List Line) → ArePoolLines (shared_first_line ∷ []) lines
     → (w : ThinShape) × MeansShape (shared_first_line ∷ lines) w
 shape_if_read [] reads = absurd (true≢false (sym reads))
 shape_if_read (first_line ∷ lines) reads = absurd (omega (arith, reads.1.1.0.0))

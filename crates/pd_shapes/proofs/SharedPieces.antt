@@ -9,17 +9,12 @@ use Rattle.pd_kinds.specs.Meaning.{Mapping}
 use Rattle.pd_spells.specs.Lawful.{AreMappings}
 use Rattle.pd_spells.specs.ThinText.{Run, LeafHead, Line, leaf_line, map_line, mappings_of, least_of, end_of}
 use Rattle.pd_spells.proofs.ThinMeaning.{run_mappings, run_fits, mappings_length}
-use Rattle.pd_laid.specs.Shape.{Piece, own, shared, ArePieces, piece_mappings, uses_of_piece}
+use Rattle.pd_laid.specs.Shape.{own, ArePieces, piece_mappings, uses_of_piece}
 use Rattle.pd_shapes.specs.SharedText.{PartPiece, own_runs, used_leaf, mappings_of_runs, piece_of_part, lines_of_leaves, lines_of_piece, HaveMappings, HasPieceMappings}
 use Rattle.pd_shapes.proofs.LeafRuns.{list_at}
+use Rattle.pd_shapes.proofs.UsedLeaves.{is_used}
+use Rattle.pd_shapes.proofs.ShapeLines.{rest_pieces}
 use Rattle.pd_shapes.proofs.ShapeCut.{with_runs}
-
--- a leaf that lines tell
-pub record IsLeaf (blocks : ℕ) (runs : List Run) : Type 0 where
-  pub have : HaveMappings runs
-  pub some : 1 ≤ length (mappings_of_runs runs)
-  pub few : length (mappings_of_runs runs) ≤ 252
-  pub mappings : AreMappings blocks 0 (mappings_of_runs runs)
 
 -- the mappings of runs that begin high enough, and those after their end
 pub runs_before : (blocks start least : ℕ) (runs : List Run) (rest : List Mapping) → least ≤ least_of runs → HaveMappings runs
@@ -66,16 +61,11 @@ pub with_runs_have : (runs : List Run) (pieces : List PartPiece) → HaveMapping
 with_runs_have [] pieces have more = more
 with_runs_have (r ∷ runs) pieces have more = (have, more)
 
-later_pieces : (count : ℕ) (m : Mapping) (pieces : List Piece) → ArePieces count (own (m ∷ []) ∷ pieces) → ArePieces count pieces
-later_pieces count m [] are = tt
-later_pieces count m (own others ∷ pieces) are = absurd are
-later_pieces count m (shared n ∷ pieces) are = are.1
-
 pub with_runs_pieces : (count : ℕ) (runs : List Run) (pieces : List PartPiece) → HaveMappings runs
     → ((ms : List Mapping) → 1 ≤ length ms → ArePieces count (own ms ∷ map piece_of_part pieces)) → ArePieces count (map piece_of_part (with_runs runs pieces))
 with_runs_pieces count [] pieces have are =
     let m : Mapping = record { virtual_block = 0; data_block = 0; time = 0 } in
-    later_pieces count m (map piece_of_part pieces) (are (m ∷ []) (omega arith))
+    rest_pieces count (own (m ∷ [])) (map piece_of_part pieces) (are (m ∷ []) (omega arith))
 with_runs_pieces count (r ∷ runs) pieces have are =
     are (mappings_of_runs (r ∷ runs)) (some_mappings r runs have)
 
@@ -119,25 +109,12 @@ none_to_come (suc count) zero = refl
 none_to_come (suc count) (suc number) = none_to_come count number
 
 -- where no leaf is unused, each one is used
-pub each_used : (uses : List ℕ) (count n : ℕ)
-    → list_any (λ number. not (list_any (λ used. eqb used number) uses)) (range_with_len 0 count) ≡ false → n < count → list_any (λ used. eqb used n) uses ≡ true
+pub each_used : (uses : List ℕ) (count n : ℕ) → list_any (λ number. not (is_used uses number)) (range_with_len 0 count) ≡ false → n < count → is_used uses n ≡ true
 each_used uses count n none below =
     let at : get_or (range_with_len 0 count) n 0 ≡ n = omega (arith, get_or-range_with_len 0 count n 0 below) in
-    let unused = λ (number : ℕ). not (list_any (λ used. eqb used number) uses) in
-    elim (cases_Bool (list_any (λ used. eqb used n) uses)) [
+    elim (cases_Bool (is_used uses n)) [
       | inl e ↦ e
-      | inr e ↦ absurd (true≢false (sym (list_any_at unused (range_with_len 0 count) n 0 (omega (arith, length-range_with_len 0 count)) (rw (at, e) refl)) ∙ none))
+      | inr e ↦
+          let unused = list_any_at (λ number. not (is_used uses number)) (range_with_len 0 count) n 0 (omega (arith, length-range_with_len 0 count)) (rw (at, e) refl) in
+          absurd (true≢false (sym unused ∙ none))
     ]
-
--- some use names the leaf, in the lines before or in those that follow
-abbrev pub IsUsed : List ℕ → List ℕ → ℕ → Type 0
-IsUsed before after number = (list_any (λ used. eqb used number) before || list_any (λ used. eqb used number) after) ≡ true
-
-or_moved : (here before after : Bool) → ((here || before) || after) ≡ true → (before || (here || after)) ≡ true
-or_moved true true after e = refl
-or_moved true false after e = refl
-or_moved false before after e = e
-
-pub use_moved : (n number : ℕ) (before after : List ℕ) → IsUsed (n ∷ before) after number → IsUsed before (n ∷ after) number
-use_moved n number before after used =
-    or_moved (eqb n number) (list_any (λ used. eqb used number) before) (list_any (λ used. eqb used number) after) used
