@@ -66,8 +66,15 @@ module _ (leaves : List (List Run)) where
       let own_ones = mappings_of_runs cut.runs in
       let others = flat_map (piece_mappings all) (map piece_of_part cut.pieces) in
       let number : length ((mappings_of r ++ own_ones) ++ others) ≡ unmapped before =
-      omega (arith, length-append (mappings_of r ++ own_ones) others, length-append (mappings_of r) own_ones, length-append own_ones others,
-      mappings_length r.virtual_block r.data_block r.time r.length, owed.number, passes.enough) in
+      omega (
+        arith,
+        length-append (mappings_of r ++ own_ones) others,
+        length-append (mappings_of r) own_ones,
+        length-append own_ones others,
+        mappings_length r.virtual_block r.data_block r.time r.length,
+        owed.number,
+        passes.enough,
+      ) in
       record {
         lines_are = ap (λ (ls : List Line). map_line r ∷ ls) owed.lines_are;
         mappings = rw (append_assoc (mappings_of r) own_ones others)

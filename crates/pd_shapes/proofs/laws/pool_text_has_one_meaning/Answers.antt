@@ -1,0 +1,5 @@
+use Rattle.pd_shapes.proofs.PoolLaws.{meaning_lawful}
+use Rattle.pd_shapes.proofs.laws.pool_text_has_one_meaning.Goals as goal
+
+pub returns-clause-lawful : goal.returns-clause-lawful
+returns-clause-lawful c = meaning_lawful
