@@ -12,7 +12,7 @@ use Rattle.pd_laid.specs.Shape.{ThinShape, pool_of, shape_of}
 use Rattle.pd_laid.proofs.ShapeLemmas.{pool_kept}
 use Rattle.pd_shapes.specs.PoolText.{MeansAs, MeansPoolShape, SpellsMeaning}
 use Rattle.pd_shapes.proofs.ShapeText.{parts_unshared}
-use Rattle.pd_shapes.proofs.ShapeLines.{ArePoolLines, read_from}
+use Rattle.pd_shapes.proofs.ShapeLines.{ArePoolLines, read_from, lines_if_means}
 use Rattle.pd_shapes.proofs.ShapeCut.{one_shared_meaning}
 use Rattle.pd_shapes.proofs.SharedMeaning.{shape_if_read}
 
@@ -26,7 +26,7 @@ unshared_if_read lines reads =
     (shape_of pool.0, subst (λ (b : Bool). MeansAs b (first_line ∷ lines) (shape_of pool.0)) (sym version) (record { pool = pool.0; means = pool.1; shape_is = refl }))
 
 -- lines that are read mean a shape
-pub means_if_lines : (lines : List Line) → ArePoolLines [] lines → (w : ThinShape) × MeansPoolShape lines w
+means_if_lines : (lines : List Line) → ArePoolLines [] lines → (w : ThinShape) × MeansPoolShape lines w
 means_if_lines [] reads = absurd (true≢false (sym reads))
 means_if_lines (first_line ∷ lines) reads = unshared_if_read lines reads.1.1.1.1
 means_if_lines (shared_first_line ∷ lines) reads = shape_if_read lines reads.1.1.1.1
@@ -42,8 +42,12 @@ one_as : (version : Bool) (lines : List Line) (w x : ThinShape) → MeansAs vers
 one_as true lines w x m n = one_shared_meaning lines w x m n
 one_as false lines w x m n = m.shape_is ∙ ap shape_of (thin_language.one lines m.pool n.pool m.means n.means) ∙ sym n.shape_is
 
-pub one_meaning : (lines : List Line) (w x : ThinShape) → MeansPoolShape lines w → MeansPoolShape lines x → w ≡ x
+one_meaning : (lines : List Line) (w x : ThinShape) → MeansPoolShape lines w → MeansPoolShape lines x → w ≡ x
 one_meaning lines w x m n = one_as (is_shared lines) lines w x m n
+
+-- the texts of pools in either version
+pub pool_language : IsLanguage pool_format MeansPoolShape FitsLine PlacedInPool
+pool_language = record { grammar = pool_grammar; means = means_if_lines; lines = lines_if_means; one = one_meaning }
 
 -- the pool of a shape that lines mean is lawful
 lawful_as : (version : Bool) (lines : List Line) (w : ThinShape) → MeansAs version lines w → IsLawfulPool (pool_of w)
@@ -52,3 +56,7 @@ lawful_as false lines w m = subst IsLawfulPool (sym (ap pool_of m.shape_is ∙ p
 
 pub meaning_lawful : (text : List ℕ) (m : ThinPool) → SpellsMeaning text m → IsLawfulPool m
 meaning_lawful text m s = subst IsLawfulPool s.means (lawful_as (is_shared s.spells.lines) s.spells.lines s.shape s.spells.means)
+
+pub one_pool : (text : List ℕ) (m n : ThinPool) → SpellsMeaning text m → SpellsMeaning text n → m ≡ n
+one_pool text m n s t =
+    sym s.means ∙ ap pool_of (spells_one pool_format MeansPoolShape FitsLine PlacedInPool pool_language text s.shape t.shape s.spells t.spells) ∙ t.means

@@ -244,10 +244,11 @@ module _ (blocks : ℕ) (small : blocks ≤ 2 ^ 40) (leaves : List (List Run)) (
       read_line before (device_line d) ((pieces ++ others) ++ (end_line ∷ [])) stand.going told.0 stand.some told.1
       (subst (ArePoolLines (device_line d ∷ before)) (sym (append_assoc pieces others (end_line ∷ []))) body)
 
--- The lines of version 2 that mean a shape are read. The number of a leaf is one that a line can have
-shared_lines : (lines : List Line) (w : ThinShape) → length w.leaves ≤ 2 ^ 64 → MeansShape lines w → ArePoolLines [] lines
+-- the lines of version 2 that mean a shape are read
+shared_lines : (lines : List Line) (w : ThinShape) → MeansShape lines w → ArePoolLines [] lines
 unfolding pool_of
-shared_lines lines w few means =
+shared_lines lines w means =
+    let few : length w.leaves ≤ 2 ^ 64 = means.shape.numbered in
     let leaves : List (List Run) = means.leaves in
     let parts : List SharedPart = means.parts in
     let uses : List ℕ = flat_map uses_of (map device_of_part parts) in
@@ -294,9 +295,9 @@ unshared_lines lines w means =
     let tail = pool_line (text.head_of means.pool) ∷ (flat_map text.lines_of_part pool.parts ++ (end_line ∷ [])) in
     rw pool.lines_are (refl, (tt, ((refl, refl), (tt, read_from (first_line ∷ []) (first_line ∷ shared_first_line ∷ []) tail (first_line ∷ []) (omega arith) read.1.1.1.1))))
 
-lines_as : (version : Bool) (lines : List Line) (w : ThinShape) → length w.leaves ≤ 2 ^ 64 → MeansAs version lines w → ArePoolLines [] lines
-lines_as true lines w few means = shared_lines lines w few means
-lines_as false lines w few means = unshared_lines lines w means
+lines_as : (version : Bool) (lines : List Line) (w : ThinShape) → MeansAs version lines w → ArePoolLines [] lines
+lines_as true lines w means = shared_lines lines w means
+lines_as false lines w means = unshared_lines lines w means
 
-pub lines_if_means : (lines : List Line) (w : ThinShape) → length w.leaves ≤ 2 ^ 64 → MeansPoolShape lines w → ArePoolLines [] lines
-lines_if_means lines w few means = lines_as (is_shared lines) lines w few means
+pub lines_if_means : (lines : List Line) (w : ThinShape) → MeansPoolShape lines w → ArePoolLines [] lines
+lines_if_means lines w means = lines_as (is_shared lines) lines w means

@@ -210,6 +210,7 @@ module _ (leaves : List (List Run)) where
     pub mappings : AreMappings (data_blocks_of before) (piece_end before) (mappings_of_runs cut.runs)
     pub number : length (mappings_of_runs cut.runs) ≡ unmapped before
     pub runs : HaveMappings cut.runs
+    pub numbered : length leaves ≤ 2 ^ 64
     pub lawful : AllByRecursion (IsLeaf (data_blocks_of before)) cut.leaves
     pub lines_are : AllByRecursion (IsLeaf (data_blocks_of before)) leaves
         → lines ≡ map map_line cut.runs ++ (lines_of_leaves (leaf_number before) cut.leaves ++ (flat_map lines_of_part cut.parts ++ (end_line ∷ [])))
@@ -219,6 +220,7 @@ module _ (leaves : List (List Run)) where
   pub record Along (before : List Line) (cut : Cut) : Type 0 where
     pub runs : (n : ℕ) → runs_of_leaf before n ++ to_come (leaf_number before) (cut.runs ∷ cut.leaves) (suc n) ≡ list_at leaves n
     pub number : leaf_number before + length cut.leaves ≡ length leaves
+    pub numbered : leaf_number before ≤ 2 ^ 64
     pub closed : has_device before ≡ false
 
   leaf_with_map : (before lines : List Line) (r : Run) (cut : Cut) → MapPasses before r → LeavesOwed (map_line r ∷ before) lines cut
@@ -232,6 +234,7 @@ module _ (leaves : List (List Run)) where
             passes.above passes.fits passes.within passes.time owed.mappings passes.some;
         number = number;
         runs = (passes.some, owed.runs);
+        numbered = owed.numbered;
         lawful = owed.lawful;
         lines_are = λ lawful. ap (λ (ls : List Line). map_line r ∷ ls) (owed.lines_are lawful);
         rest = λ lawful. let rest = owed.rest lawful in record { devices = rest.devices; have = rest.have; pieces = rest.pieces; used = rest.used };
@@ -246,6 +249,7 @@ module _ (leaves : List (List Run)) where
         mappings = tt;
         number = sym tells.1.1.1;
         runs = tt;
+        numbered = owed.numbered;
         lawful = (
           record { have = owed.runs; some = omega (arith, owed.number, tells.0); few = omega (arith, owed.number, tells.1.0); mappings = owed.mappings },
           owed.lawful,
@@ -256,12 +260,14 @@ module _ (leaves : List (List Run)) where
 
   -- where no leaf is to come
   no_leaf_ahead : (before lines : List Line) (parts : List SharedPart) → unmapped before ≡ 0
+      → Along before (record { runs = []; pieces = []; leaves = []; parts = parts })
       → (AllByRecursion (IsLeaf (data_blocks_of before)) leaves → PiecesOwed before lines (record { runs = []; pieces = []; leaves = []; parts = parts }))
       → LeavesOwed before lines (record { runs = []; pieces = []; leaves = []; parts = parts })
-  no_leaf_ahead before lines parts none owed = record {
+  no_leaf_ahead before lines parts none along owed = record {
     mappings = tt;
     number = sym none;
     runs = tt;
+    numbered = omega (arith, along.number, along.numbered);
     lawful = tt;
     lines_are = λ lawful. (owed lawful).lines_are;
     rest = λ lawful. (owed lawful).rest;
@@ -282,10 +288,12 @@ module _ (leaves : List (List Run)) where
   leaves_read (pool_line p ∷ lines) before some along reads going = absurd (omega (arith, some, reads.1.1.0))
   leaves_read (leaf_line l ∷ lines) before some along reads going =
       let passes = line_passes before (leaf_line l) (omega (arith, some)) reads.1.1.1.0 in
+      let tells = leaf_tells l.number (leaf_number before) l.entries (unmapped before) passes.range passes.order passes.mapped in
       let cut = cut_of lines in
       let more : Along (leaf_line l ∷ before) cut = record {
         runs = λ n. ap (λ (rs : List Run). runs_of_leaf before n ++ rs) (to_come_after_leaf (leaf_number before) cut.runs cut.leaves (suc n)) ∙ along.runs n;
         number = omega (arith, along.number);
+        numbered = omega (arith, reads.1.0.0, tells.1.1.0);
         closed = along.closed;
       } in
       leaf_with_leaf before lines l cut passes (leaves_read lines (leaf_line l ∷ before) (omega arith) more reads.1.1.1.1 refl)
@@ -295,7 +303,7 @@ module _ (leaves : List (List Run)) where
       let cut = cut_of lines in
       let parts = (add_line (device_line d) cut).parts in
       let told = told_device before d leaves (all_told before parts along) in
-      no_leaf_ahead before (device_line d ∷ lines) parts tells.1.1.1
+      no_leaf_ahead before (device_line d ∷ lines) parts tells.1.1.1 along
       (λ lawful. piece_with_device before lines d cut reads.1.0 passes
       (devices_read lines (device_line d ∷ before) (omega arith) (record { told = told; device = refl; lawful = lawful }) reads.1.1.1.1 refl))
   leaves_read (use_line n ∷ lines) before some along reads going =
@@ -306,6 +314,7 @@ module _ (leaves : List (List Run)) where
       let more : Along (map_line r ∷ before) cut = record {
         runs = λ n. rw along.closed (to_come_after_map (leaf_number before) (suc n) r (runs_of_leaf before n) cut.runs cut.leaves ∙ along.runs n);
         number = along.number;
+        numbered = along.numbered;
         closed = along.closed;
       } in
       leaf_with_map before lines r cut (map_passes before r passes) (leaves_read lines (map_line r ∷ before) (omega arith) more reads.1.1.1.1 refl)
@@ -313,7 +322,7 @@ module _ (leaves : List (List Run)) where
       let passes = line_passes before end_line (omega (arith, some)) reads.1.1.1.0 in
       let none : unmapped before ≡ 0 = grind (arith, nat_tests, passes.mapped) in
       rw (none_after_end before lines reads.1.1.1.1)
-      (no_leaf_ahead before (end_line ∷ []) [] none (λ lawful. piece_at_end before (all_told before [] along) passes))
+      (no_leaf_ahead before (end_line ∷ []) [] none along (λ lawful. piece_at_end before (all_told before [] along) passes))
 
 leaves_lawful : (blocks : ℕ) (leaves : List (List Run)) → AllByRecursion (IsLeaf blocks) leaves
     → AllByRecursion HaveMappings leaves
@@ -331,12 +340,13 @@ shape_after_pool p lines reads =
     let fits = reads.1.0 in
     let tells = pool_tells p.time p.block_size p.data_blocks passes.range in
     let cut = cut_of lines in
-    let along : Along cut.leaves (pool_line p ∷ shared_first_line ∷ []) cut = record { runs = λ n. refl; number = omega arith; closed = refl } in
+    let along : Along cut.leaves (pool_line p ∷ shared_first_line ∷ []) cut = record { runs = λ n. refl; number = omega arith; numbered = omega arith; closed = refl } in
     let owed = leaves_read cut.leaves lines (pool_line p ∷ shared_first_line ∷ []) (omega arith) along reads.1.1.1.1 refl in
     let tail = lines_of_leaves 0 cut.leaves ++ (flat_map lines_of_part cut.parts ++ (end_line ∷ [])) in
     let same : lines ≡ tail = owed.lines_are owed.lawful ∙ ap (λ (rs : List Run). map map_line rs ++ tail) (no_runs cut.runs owed.runs owed.number) in
     let rest = owed.rest owed.lawful in
     let each = leaves_lawful p.data_blocks cut.leaves owed.lawful in
+    let numbered : length (map mappings_of_runs cut.leaves) ≤ 2 ^ 64 = omega (arith, owed.numbered, length-map cut.leaves mappings_of_runs) in
     let w : ThinShape = record {
       uuid = p.uuid;
       time = p.time;
@@ -355,7 +365,7 @@ shape_after_pool p lines reads =
         devices_are = refl;
         leaf_runs = each.0;
         runs = rest.have;
-        shape = record { filled = each.1.0; few = each.1.1; pieces = rest.pieces; used = rest.used };
+        shape = record { numbered = numbered; filled = each.1.0; few = each.1.1; pieces = rest.pieces; used = rest.used };
         lawful = record {
           uuid_len = fits.0;
           uuid_bytes = fits.1.0;
