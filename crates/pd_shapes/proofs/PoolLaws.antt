@@ -1,5 +1,5 @@
 -- The laws of a pool's text of either version: what isn't refused means one shape.
-use Rattle.std.proofs.Common.{◌≡◌, ℕ, ◌≤◌, true, false, Bool, List, [], ◌∷◌, length, refl, ap, sym, subst, ◌∙◌, arith}
+use Rattle.std.proofs.Common.{◌≡◌, ℕ, true, false, Bool, List, [], ◌∷◌, refl, ap, sym, subst, ◌∙◌, arith}
 use Rattle.std.proofs.lemmas.Bool.{true≢false}
 use Rattle.pd_kinds.specs.Meaning.{ThinPool}
 use Rattle.pd_grammar.proofs.GrammarLemmas.{AreLines}

@@ -1,10 +1,10 @@
 -- The lines of a text of version 2, cut into leaves and devices: they mean one shape only.
-use Rattle.std.proofs.Common.{◌≡◌, ℕ, ◌+◌, ◌≤◌, List, [], ◌∷◌, ◌++◌, length, map, refl, ap, sym, ◌∙◌, append_assoc, arith}
+use Rattle.std.proofs.Common.{◌≡◌, ℕ, ◌+◌, List, [], ◌∷◌, ◌++◌, length, map, refl, ap, sym, ◌∙◌, append_assoc, arith}
 use Rattle.std.specs.List.{AllByRecursion, flat_map}
 use Rattle.pd_kinds.specs.Meaning.{Mapping}
 use Rattle.pd_spells.specs.ThinText.{Run, Head, LeafHead, Line, first_line, shared_first_line, pool_line, leaf_line, device_line, use_line, map_line, end_line}
 use Rattle.pd_laid.specs.Shape.{ShapeDevice, ThinShape, ArePieces}
-use Rattle.pd_shapes.specs.SharedText.{PartPiece, own_runs, used_leaf, SharedPart, mappings_of_runs, piece_of_part, device_of_part, head_of_shape, lines_of_leaves, lines_of_piece, lines_of_part, lines_of_shape, MeansShape}
+use Rattle.pd_shapes.specs.SharedText.{PartPiece, own_runs, used_leaf, SharedPart, mappings_of_runs, piece_of_part, device_of_part, head_of_shape, lines_of_leaves, lines_of_piece, lines_of_part, MeansShape}
 
 -- what is left of a text: the runs of the leaf or of the piece that is open, the pieces that follow in the device that is
 -- open, and the leaves and the devices after it

@@ -3,7 +3,7 @@ use Rattle.std.proofs.Common.{◌≡◌, ℕ, suc, ◌+◌, ◌^◌, ◌≤◌, 
 use Rattle.std.proofs.lemmas.Bool.{true≢false, and_parts, or_left}
 use Rattle.std.proofs.lemmas.Bool.Decides.{nat_tests}
 use Rattle.std.proofs.lemmas.List.{length-map}
-use Rattle.std.specs.List.{AllByRecursion, flat_map, list_any}
+use Rattle.std.specs.List.{AllByRecursion, flat_map}
 use Rattle.pd_kinds.specs.Meaning.{Mapping}
 use Rattle.pd_grammar.specs.Texts.{has_ended}
 use Rattle.pd_spells.specs.Lawful.{AreMappings, AreDevices}
@@ -12,7 +12,7 @@ use Rattle.pd_spells.specs.ThinText as text
 use Rattle.pd_spells.proofs.ThinRead.{FitsLine}
 use Rattle.pd_spells.proofs.ThinMeaning.{run_mappings, mappings_length, LinePasses, line_passes, MapPasses, map_passes, device_tells, pool_tells}
 use Rattle.pd_laid.specs.Shape.{own, ShapeDevice, ThinShape, ArePieces, leaf_mappings, piece_mappings, device_of, uses_of_piece, uses_of, pool_of}
-use Rattle.pd_shapes.specs.SharedText.{PartPiece, used_leaf, SharedPart, mappings_of_runs, piece_of_part, device_of_part, lines_of_leaves, lines_of_piece, lines_of_part, HaveMappings, HasPieceMappings, HasPartMappings, MeansShape}
+use Rattle.pd_shapes.specs.SharedText.{PartPiece, SharedPart, mappings_of_runs, piece_of_part, device_of_part, lines_of_leaves, lines_of_piece, lines_of_part, HaveMappings, HasPieceMappings, HasPartMappings, MeansShape}
 use Rattle.pd_shapes.proofs.UsedLeaves.{is_used}
 use Rattle.pd_shapes.proofs.ShapeLines.{ArePoolLines, or_moved}
 use Rattle.pd_shapes.proofs.ShapeCut.{Cut, with_runs, add_line, cut_of}

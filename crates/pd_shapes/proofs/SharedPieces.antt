@@ -1,5 +1,5 @@
 -- Pieces of devices, and what is known of a leaf and of its runs.
-use Rattle.std.proofs.Common.{◌≡◌, ℕ, zero, suc, ◌+◌, ◌≤◌, ◌<◌, true, false, Bool, not, ◌||◌, eqb, if◌then◌else◌, inl, inr, List, [], ◌∷◌, ◌++◌, length, length-append, map, get_or, refl, sym, ◌∙◌, append_assoc, append-nil, arith}
+use Rattle.std.proofs.Common.{◌≡◌, ℕ, zero, suc, ◌+◌, ◌≤◌, ◌<◌, true, false, not, eqb, if◌then◌else◌, inl, inr, List, [], ◌∷◌, ◌++◌, length, length-append, map, get_or, refl, sym, ◌∙◌, append_assoc, append-nil, arith}
 use Rattle.std.proofs.lemmas.Bool.{true≢false, cases_Bool}
 use Rattle.std.proofs.lemmas.Bool.Decides.{nat_tests}
 use Rattle.std.proofs.lemmas.List.Folds.{list_any_at}
@@ -10,7 +10,7 @@ use Rattle.pd_spells.specs.Lawful.{AreMappings}
 use Rattle.pd_spells.specs.ThinText.{Run, LeafHead, Line, leaf_line, map_line, mappings_of, least_of, end_of}
 use Rattle.pd_spells.proofs.ThinMeaning.{run_mappings, run_fits, mappings_length}
 use Rattle.pd_laid.specs.Shape.{own, ArePieces, piece_mappings, uses_of_piece}
-use Rattle.pd_shapes.specs.SharedText.{PartPiece, own_runs, used_leaf, mappings_of_runs, piece_of_part, lines_of_leaves, lines_of_piece, HaveMappings, HasPieceMappings}
+use Rattle.pd_shapes.specs.SharedText.{PartPiece, mappings_of_runs, piece_of_part, lines_of_leaves, lines_of_piece, HaveMappings, HasPieceMappings}
 use Rattle.pd_shapes.proofs.LeafRuns.{list_at}
 use Rattle.pd_shapes.proofs.UsedLeaves.{is_used}
 use Rattle.pd_shapes.proofs.ShapeLines.{rest_pieces}
