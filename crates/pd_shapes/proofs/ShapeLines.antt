@@ -244,10 +244,10 @@ module _ (blocks : ℕ) (small : blocks ≤ 2 ^ 40) (leaves : List (List Run)) (
       read_line before (device_line d) ((pieces ++ others) ++ (end_line ∷ [])) stand.going told.0 stand.some told.1
       (subst (ArePoolLines (device_line d ∷ before)) (sym (append_assoc pieces others (end_line ∷ []))) body)
 
--- The lines of version 2 that mean a shape are read. The number of a leaf is one that a line can have
-shared_lines : (lines : List Line) (w : ThinShape) → length w.leaves ≤ 2 ^ 64 → MeansShape lines w → ArePoolLines [] lines
+-- the lines of version 2 that mean a shape are read
+shared_lines : (lines : List Line) (w : ThinShape) → MeansShape lines w → ArePoolLines [] lines
 unfolding pool_of
-shared_lines lines w few means =
+shared_lines lines w means =
     let leaves : List (List Run) = means.leaves in
     let parts : List SharedPart = means.parts in
     let uses : List ℕ = flat_map uses_of (map device_of_part parts) in
@@ -263,9 +263,9 @@ shared_lines lines w few means =
     record { some = omega arith; version = refl; going = refl; pool = refl; id = refl; told = record { number = refl; runs = λ n. refl }; used = λ n. refl } in
     let body : ArePoolLines start (lines_of_leaves 0 leaves ++ tail) =
     read_leaves w.data_blocks means.lawful.data_blocks_fit uses leaves tail
-    (λ b none unled standing. read_parts w.data_blocks means.lawful.data_blocks_fit leaves (omega (arith, few, counted)) are (length w.leaves) counted uses each_used
+    (λ b none unled standing. read_parts w.data_blocks means.lawful.data_blocks_fit leaves (omega (arith, means.shape.numbers_fit, counted)) are (length w.leaves) counted uses each_used
     0 parts b unled standing devices (rw means.devices_are means.shape.pieces) means.runs)
-    leaves [] 0 start refl refl (omega (arith, few, counted)) refl refl stand are in
+    leaves [] 0 start refl refl (omega (arith, means.shape.numbers_fit, counted)) refl refl stand are in
     let told = pool_line_told (shared_first_line ∷ []) (pool_of w) means.lawful in
     rw means.lines_are (
     read_line [] shared_first_line (pool_line head ∷ (lines_of_leaves 0 leaves ++ tail)) refl tt (refl, refl) (record { range = refl; order = refl; mapped = refl; used = refl })
@@ -290,9 +290,9 @@ unshared_lines lines w means =
     let tail = pool_line (text.head_of means.pool) ∷ (flat_map text.lines_of_part pool.parts ++ (end_line ∷ [])) in
     rw pool.lines_are (refl, (tt, ((refl, refl), (tt, read_in_pool tail (first_line ∷ []) (omega arith) read.1.1.1.1))))
 
-lines_as : (version : Bool) (lines : List Line) (w : ThinShape) → length w.leaves ≤ 2 ^ 64 → MeansAs version lines w → ArePoolLines [] lines
-lines_as true lines w few means = shared_lines lines w few means
-lines_as false lines w few means = unshared_lines lines w means
+lines_as : (version : Bool) (lines : List Line) (w : ThinShape) → MeansAs version lines w → ArePoolLines [] lines
+lines_as true lines w means = shared_lines lines w means
+lines_as false lines w means = unshared_lines lines w means
 
-pub lines_if_means : (lines : List Line) (w : ThinShape) → length w.leaves ≤ 2 ^ 64 → MeansPoolShape lines w → ArePoolLines [] lines
-lines_if_means lines w few means = lines_as (is_shared lines) lines w few means
+pub lines_if_means : (lines : List Line) (w : ThinShape) → MeansPoolShape lines w → ArePoolLines [] lines
+lines_if_means lines w means = lines_as (is_shared lines) lines w means
