@@ -62,7 +62,7 @@ with_mapping_mappings m (r ∷ rs) = elim (cases_Bool (follows m r)) [
   | inr e ↦ rw e refl
 ]
 
-joined_mappings : (ms : List Mapping) → flat_map mappings_of (joined_runs ms) ≡ ms
+pub joined_mappings : (ms : List Mapping) → flat_map mappings_of (joined_runs ms) ≡ ms
 joined_mappings [] = refl
 joined_mappings (m ∷ ms) = with_mapping_mappings m (joined_runs ms) ∙ ap (λ (xs : List Mapping). m ∷ xs) (joined_mappings ms)
 
@@ -73,7 +73,7 @@ with_mapping_some m (r ∷ rs) have = elim (cases_Bool (follows m r)) [
   | inr e ↦ rw e (omega arith, (have.0, have.1))
 ]
 
-joined_some : (ms : List Mapping) → AllByRecursion (λ (r : Run). 1 ≤ r.length) (joined_runs ms)
+pub joined_some : (ms : List Mapping) → AllByRecursion (λ (r : Run). 1 ≤ r.length) (joined_runs ms)
 joined_some [] = tt
 joined_some (m ∷ ms) = with_mapping_some m (joined_runs ms) (joined_some ms)
 

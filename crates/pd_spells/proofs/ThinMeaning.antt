@@ -1,12 +1,12 @@
 -- Thin texts and what they mean.
-use Rattle.std.proofs.Common.{◌≡◌, ℕ, zero, suc, ◌+◌, ◌^◌, ◌≤◌, ◌<◌, true, false, not, Bool, ◌&&◌, ◌||◌, List, [], ◌∷◌, ◌++◌, length, length-append, map, refl, ap, sym, ◌∙◌, append_assoc, arith, ltb, leb}
+use Rattle.std.proofs.Common.{◌≡◌, ℕ, zero, suc, ◌+◌, ◌-◌, ◌^◌, ◌≤◌, ◌<◌, true, false, not, Bool, ◌&&◌, ◌||◌, List, [], ◌∷◌, ◌++◌, length, length-append, map, refl, ap, sym, ◌∙◌, append_assoc, arith, ltb, leb}
 use Rattle.std.proofs.lemmas.Bool.{true≢false}
 use Rattle.std.proofs.lemmas.Bool.Decides.{nat_tests}
 use Rattle.std.proofs.lemmas.Option.{none-some}
 use Rattle.std.specs.List.{AllByRecursion, flat_map}
 use Rattle.pd_kinds.specs.Meaning.{ThinPool, Mapping}
 use Rattle.pd_grammar.specs.Texts.{has_ended}
-use Rattle.pd_spells.specs.Lawful.{AreMappings, AreDevices, IsLawfulPool}
+use Rattle.pd_spells.specs.Lawful.{AreMappings, IsDevice, AreDevices, IsLawfulPool}
 use Rattle.pd_spells.specs.ThinText.{Line, first_line, shared_first_line, pool_line, leaf_line, device_line, use_line, map_line, end_line, Head, Details, Run, Part, thin, thin_tests, is_shared, leaf_number, has_device, least_id, piece_end, unmapped, data_blocks_of, has_number_out_of_range, is_out_of_order, is_mapped_otherwise, leaves_one_unused, mappings_from, mappings_of, device_of_part, head_of, lines_of_part, lines_of_parts, HasMappings}
 use Rattle.pd_grammar.proofs.GrammarLemmas.{AreLines, Passes}
 use Rattle.pd_spells.proofs.ThinRead.{FitsLine, Placed}
@@ -54,7 +54,7 @@ pub record RunFits (blocks least v d t n : ℕ) : Type 0 where
   pub within : d + n ≤ blocks
   pub time : t < 2 ^ 24
 
-run_fits : (blocks least v d t n : ℕ) (rest : List Mapping) → AreMappings blocks least (mappings_from v d t n ++ rest) → 1 ≤ n
+pub run_fits : (blocks least v d t n : ℕ) (rest : List Mapping) → AreMappings blocks least (mappings_from v d t n ++ rest) → 1 ≤ n
     → RunFits blocks least v d t n × AreMappings blocks (v + n) rest
 run_fits blocks least v d t zero rest are some = absurd (omega arith)
 run_fits blocks least v d t (suc zero) rest are some =
@@ -68,7 +68,7 @@ run_fits blocks least v d t (suc (suc n)) rest are some =
       rw (← next) more.1,
     )
 
-mappings_length : (v d t n : ℕ) → length (mappings_from v d t n) ≡ n
+pub mappings_length : (v d t n : ℕ) → length (mappings_from v d t n) ≡ n
 mappings_length v d t zero = refl
 mappings_length v d t (suc n) = ap suc (mappings_length (suc v) (suc d) t n)
 
@@ -92,7 +92,7 @@ pub line_passes : (before : List Line) (line : Line) → 1 ≤ length before →
 line_passes [] line some passes = absurd (omega arith)
 line_passes (newest ∷ before) line some passes = record { range = passes.0; order = passes.1.0; mapped = passes.1.1.0; used = passes.1.1.1.0 }
 
-tests_passed : (before : List Line) (line : Line) → LinePasses before line → Passes thin_tests before line
+pub tests_passed : (before : List Line) (line : Line) → LinePasses before line → Passes thin_tests before line
 tests_passed [] line passes = tt
 tests_passed (newest ∷ before) line passes = (passes.range, (passes.order, (passes.mapped, (passes.used, tt))))
 
@@ -219,10 +219,52 @@ owed_if_read (end_line ∷ lines) before some unshared reads going =
     let last = end_is_last before lines reads.1.1.1.1 in
     rw last (refl, owed_at_end before passes)
 
--- and lines of what is owed are read
+-- and lines of what is owed are read: a map line whose mappings begin those that are owed, which the others are after it
+pub record MapTold (before : List Line) (r : Run) (rest : List Mapping) : Type 0 where
+  pub fits : FitsLine (map_line r)
+  pub passes : LinePasses before (map_line r)
+  pub mappings : AreMappings (data_blocks_of before) (r.virtual_block + r.length) rest
+  pub number : length rest ≡ unmapped before - r.length
+
+pub map_line_told : (before : List Line) (r : Run) (rest : List Mapping) → data_blocks_of before ≤ 2 ^ 40
+    → AreMappings (data_blocks_of before) (piece_end before) (mappings_of r ++ rest) → length (mappings_of r ++ rest) ≡ unmapped before → 1 ≤ r.length
+    → MapTold before r rest
+map_line_told before r rest small are number some =
+    let fits = run_fits (data_blocks_of before) (piece_end before) r.virtual_block r.data_block r.time r.length rest are some in
+    let len : r.length + length rest ≡ unmapped before =
+    omega (arith, length-append (mappings_of r) rest, mappings_length r.virtual_block r.data_block r.time r.length, number) in
+    let told = map_told r.length (r.virtual_block + r.length) (r.data_block + r.length) (data_blocks_of before) r.time r.virtual_block (piece_end before) (unmapped before)
+    some fits.0.fits fits.0.within fits.0.time fits.0.above (omega arith) in
+    record {
+      fits = (omega (arith, fits.0.fits, some), (omega (arith, fits.0.within), (omega (arith, fits.0.within), (omega (arith, fits.0.time), tt))));
+      passes = record { range = told.0; order = told.1.0; mapped = told.1.1; used = refl };
+      mappings = fits.1;
+      number = omega (arith, len);
+    }
+
+-- the line of a device that may come there
 device_told : (created snapped id least left : ℕ) → created < 2 ^ 32 → snapped < 2 ^ 32 → least ≤ id → left ≡ 0
     → (not (ltb created (2 ^ 32) && ltb snapped (2 ^ 32)) ≡ false) × ((ltb id least ≡ false) × (ltb 0 left ≡ false))
 device_told created snapped id least left a b c d = (grind (arith, nat_tests), (grind (arith, nat_tests), grind (arith, nat_tests)))
+
+pub device_line_told : (before : List Line) (d : Details) (mappings : List Mapping) → unmapped before ≡ 0
+    → IsDevice (data_blocks_of before) (least_id before)
+    (record { id = d.id; mapped = d.mapped; transaction = d.transaction; created = d.created; snapped = d.snapped; mappings = mappings })
+    → FitsLine (device_line d) × LinePasses before (device_line d)
+device_line_told before d mappings none is =
+    let told = device_told d.created d.snapped d.id (least_id before) (unmapped before) is.created_fits is.snapped_fits is.above none in (
+      (is.id_fits, (is.mapped_fits, (is.transaction_fits, (omega (arith, is.created_fits), (omega (arith, is.snapped_fits), tt))))),
+      record { range = told.0; order = told.1.0; mapped = told.1.1; used = refl },
+    )
+
+-- the line of a lawful pool
+pub pool_line_told : (before : List Line) (m : ThinPool) → IsLawfulPool m → FitsLine (pool_line (head_of m)) × LinePasses before (pool_line (head_of m))
+pool_line_told before m lawful =
+    let range : not (ltb m.time (2 ^ 32) && (ltb m.block_size (2 ^ 32) && leb m.data_blocks (2 ^ 40))) ≡ false =
+    grind (arith, nat_tests, lawful.time_fits, lawful.block_size_fits, lawful.data_blocks_fit) in (
+      (lawful.uuid_len, (lawful.uuid_bytes, (omega (arith, lawful.time_fits), (lawful.transaction_fits, (omega (arith, lawful.block_size_fits), (omega (arith, lawful.data_blocks_fit), tt)))))),
+      record { range = range; order = refl; mapped = refl; used = refl },
+    )
 
 -- a line that is read
 read_line : (before : List Line) (line : Line) (lines : List Line) → has_ended thin before ≡ false → FitsLine line → Placed before line → LinePasses before line
@@ -240,17 +282,9 @@ read_runs : (blocks least : ℕ) (tail : List Line)
     → AreLines thin FitsLine Placed before (map map_line runs ++ tail)
 read_runs blocks least tail after [] before some none going device pool small id are number have = after before some none going (sym number) pool id
 read_runs blocks least tail after (r ∷ runs) before some none going device pool small id are number have =
-    let rest = flat_map mappings_of runs in
-    let fits = run_fits blocks (piece_end before) r.virtual_block r.data_block r.time r.length rest are have.0 in
-    let len : r.length + length rest ≡ unmapped before =
-    omega (arith, length-append (mappings_of r) rest, mappings_length r.virtual_block r.data_block r.time r.length, number) in
-    let within : r.data_block + r.length ≤ data_blocks_of before = rw pool fits.0.within in
-    let told = map_told r.length (r.virtual_block + r.length) (r.data_block + r.length) (data_blocks_of before) r.time r.virtual_block (piece_end before) (unmapped before)
-    have.0 fits.0.fits within fits.0.time fits.0.above (omega arith) in
-    read_line before (map_line r) (map map_line runs ++ tail) going
-    (omega (arith, fits.0.fits, have.0), (omega (arith, fits.0.within), (omega (arith, fits.0.within), (omega (arith, fits.0.time), tt))))
-    (some, rw device refl) (record { range = told.0; order = told.1.0; mapped = told.1.1; used = refl })
-    (read_runs blocks least tail after runs (map_line r ∷ before) (omega arith) none refl device pool small id fits.1 (omega arith) have.1)
+    let told = map_line_told before r (flat_map mappings_of runs) (rw pool small) (rw pool are) number have.0 in
+    read_line before (map_line r) (map map_line runs ++ tail) going told.fits (some, rw device refl) told.passes
+    (read_runs blocks least tail after runs (map_line r ∷ before) (omega arith) none refl device pool small id (rw pool at told.mappings) told.number have.1)
 
 read_parts : (parts : List Part) (before : List Line) → 2 ≤ length before → leaf_number before ≡ 0 → has_ended thin before ≡ false → unmapped before ≡ 0
     → data_blocks_of before ≤ 2 ^ 40
@@ -262,16 +296,14 @@ read_parts (p ∷ parts) before some leaves going none small devices have =
     let d = p.details in
     let tail = flat_map lines_of_part parts ++ (end_line ∷ []) in
     let blocks = data_blocks_of before in
-    let told = device_told d.created d.snapped d.id (least_id before) (unmapped before) devices.0.created_fits devices.0.snapped_fits devices.0.above none in
+    let told = device_line_told before d (flat_map mappings_of p.runs) none devices.0 in
     let rest : AreLines thin FitsLine Placed (device_line d ∷ before) (map map_line p.runs ++ tail) =
     read_runs blocks (d.id + 1) tail
     (λ b more unled on done pool id. read_parts parts b more unled on done (rw pool small) (rw (pool, id) devices.1) have.1)
     p.runs (device_line d ∷ before) (omega arith) leaves refl refl refl small refl devices.0.mappings (sym devices.0.mapped) have.0 in
     let after : AreLines thin FitsLine Placed (device_line d ∷ before) ((map map_line p.runs ++ flat_map lines_of_part parts) ++ (end_line ∷ [])) =
     rw (append_assoc (map map_line p.runs) (flat_map lines_of_part parts) (end_line ∷ [])) rest in
-    read_line before (device_line d) ((map map_line p.runs ++ flat_map lines_of_part parts) ++ (end_line ∷ [])) going
-    (devices.0.id_fits, (devices.0.mapped_fits, (devices.0.transaction_fits, (omega (arith, devices.0.created_fits), (omega (arith, devices.0.snapped_fits), tt)))))
-    some (record { range = told.0; order = told.1.0; mapped = told.1.1; used = refl }) after
+    read_line before (device_line d) ((map map_line p.runs ++ flat_map lines_of_part parts) ++ (end_line ∷ [])) going told.0 some told.1 after
 
 -- a run's runs and parts from the lines of a cut
 cut_runs : (runs : List Run) (tail : List Line) → (cut_of tail).runs ≡ [] → cut_of (map map_line runs ++ tail) ≡ record { runs = runs; parts = (cut_of tail).parts }
@@ -293,13 +325,10 @@ read_if_spelled m parts devices have lawful =
     let head : Head = head_of m in
     let body : AreLines thin FitsLine Placed (pool_line head ∷ first_line ∷ []) (flat_map lines_of_part parts ++ (end_line ∷ [])) =
     read_parts parts (pool_line head ∷ first_line ∷ []) (omega arith) refl refl refl lawful.data_blocks_fit (rw devices lawful.devices) have in
-    let range : not (ltb m.time (2 ^ 32) && (ltb m.block_size (2 ^ 32) && leb m.data_blocks (2 ^ 40))) ≡ false =
-    grind (arith, nat_tests, lawful.time_fits, lawful.block_size_fits, lawful.data_blocks_fit) in
+    let told = pool_line_told (first_line ∷ []) m lawful in
     let tail = flat_map lines_of_part parts ++ (end_line ∷ []) in
     read_line [] first_line (pool_line head ∷ tail) refl tt (refl, refl) (record { range = refl; order = refl; mapped = refl; used = refl })
-    (read_line (first_line ∷ []) (pool_line head) tail refl
-    (lawful.uuid_len, (lawful.uuid_bytes, (omega (arith, lawful.time_fits), (lawful.transaction_fits, (omega (arith, lawful.block_size_fits), (omega (arith, lawful.data_blocks_fit), tt))))))
-    refl (record { range = range; order = refl; mapped = refl; used = refl }) body)
+    (read_line (first_line ∷ []) (pool_line head) tail refl told.0 refl told.1 body)
 
 -- the pool of a head and the parts of a text
 abbrev pub pool_of_parts : Head → List Part → ThinPool

@@ -1,0 +1,4 @@
+pub mod LeafRuns
+pub mod ShapeText
+pub mod UsedLeaves
+pub mod ShapeLines
