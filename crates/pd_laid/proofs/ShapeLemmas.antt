@@ -32,4 +32,4 @@ each_pieces (d ∷ devices) = (are_pieces d.mappings, each_pieces devices)
 
 pub is_shape : (m : ThinPool) → IsShape (shape_of m)
 unfolding shape_of
-is_shape m = record { numbered = omega arith; filled = tt; few = tt; pieces = each_pieces m.devices; used = λ number below. absurd (omega arith) }
+is_shape m = record { numbers_fit = omega arith; filled = tt; few = tt; pieces = each_pieces m.devices; used = λ number below. absurd (omega arith) }

@@ -99,10 +99,10 @@ ArePieces leaves (own mappings ∷ own others ∷ pieces) = ⊥
 ArePieces leaves (own mappings ∷ shared number ∷ pieces) = (1 ≤ length mappings) × ((number < leaves) × ArePieces leaves pieces)
 ArePieces leaves (shared number ∷ pieces) = (number < leaves) × ArePieces leaves pieces
 
--- what a shape keeps besides that its meaning is lawful: a text can number its shared leaves, and each has 1 to 252
+-- what a shape keeps besides that its meaning is lawful: the numbers of its shared leaves fit, each has 1 to 252
 -- mappings, and some device uses it
 pub record IsShape (w : ThinShape) : Type 0 where
-  pub numbered : length w.leaves ≤ 2 ^ 64
+  pub numbers_fit : length w.leaves ≤ 2 ^ 64
   pub filled : AllByRecursion (λ mappings. 1 ≤ length mappings) w.leaves
   pub few : AllByRecursion (λ mappings. length mappings ≤ 252) w.leaves
   pub pieces : AllByRecursion (λ (d : ShapeDevice). ArePieces (length w.leaves) d.pieces) w.devices

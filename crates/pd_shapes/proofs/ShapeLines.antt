@@ -248,7 +248,6 @@ module _ (blocks : ℕ) (small : blocks ≤ 2 ^ 40) (leaves : List (List Run)) (
 shared_lines : (lines : List Line) (w : ThinShape) → MeansShape lines w → ArePoolLines [] lines
 unfolding pool_of
 shared_lines lines w means =
-    let few : length w.leaves ≤ 2 ^ 64 = means.shape.numbered in
     let leaves : List (List Run) = means.leaves in
     let parts : List SharedPart = means.parts in
     let uses : List ℕ = flat_map uses_of (map device_of_part parts) in
@@ -264,9 +263,9 @@ shared_lines lines w means =
     record { some = omega arith; version = refl; going = refl; pool = refl; id = refl; told = record { number = refl; runs = λ n. refl }; used = λ n. refl } in
     let body : ArePoolLines start (lines_of_leaves 0 leaves ++ tail) =
     read_leaves w.data_blocks means.lawful.data_blocks_fit uses leaves tail
-    (λ b none unled standing. read_parts w.data_blocks means.lawful.data_blocks_fit leaves (omega (arith, few, counted)) are (length w.leaves) counted uses each_used
+    (λ b none unled standing. read_parts w.data_blocks means.lawful.data_blocks_fit leaves (omega (arith, means.shape.numbers_fit, counted)) are (length w.leaves) counted uses each_used
     0 parts b unled standing devices (rw means.devices_are means.shape.pieces) means.runs)
-    leaves [] 0 start refl refl (omega (arith, few, counted)) refl refl stand are in
+    leaves [] 0 start refl refl (omega (arith, means.shape.numbers_fit, counted)) refl refl stand are in
     let told = pool_line_told (shared_first_line ∷ []) (pool_of w) means.lawful in
     rw means.lines_are (
     read_line [] shared_first_line (pool_line head ∷ (lines_of_leaves 0 leaves ++ tail)) refl tt (refl, refl) (record { range = refl; order = refl; mapped = refl; used = refl })

@@ -38,11 +38,11 @@ module _ (leaves : List (List Run)) where
   uses_ahead pieces parts = flat_map uses_of_piece (map piece_of_part pieces) ++ flat_map uses_of (map device_of_part parts)
 
   -- what is owed of the devices that follow, and of the uses in the device that is open
-  pub record DevicesOwed (before : List Line) (opened : List PartPiece) (parts : List SharedPart) : Type 0 where
-    pub devices : AreDevices (data_blocks_of before) (least_id before) (map (device_of all) (map device_of_part parts))
+  pub record DevicesOwed (blocks least : ℕ) (uses : List ℕ) (opened : List PartPiece) (parts : List SharedPart) : Type 0 where
+    pub devices : AreDevices blocks least (map (device_of all) (map device_of_part parts))
     pub have : AllByRecursion HasPartMappings parts
     pub pieces : AllByRecursion (λ (d : ShapeDevice). ArePieces (length all) d.pieces) (map device_of_part parts)
-    pub used : (n : ℕ) → n < length all → (is_used (text.uses_of before) n || is_used (uses_ahead opened parts) n) ≡ true
+    pub used : (n : ℕ) → n < length all → (is_used uses n || is_used (uses_ahead opened parts) n) ≡ true
 
   -- what the rest of a text owes in a device
   pub record PiecesOwed (before lines : List Line) (cut : Cut) : Type 0 where
@@ -52,7 +52,7 @@ module _ (leaves : List (List Run)) where
     pub runs : HaveMappings cut.runs
     pub have : AllByRecursion HasPieceMappings cut.pieces
     pub pieces : (ms : List Mapping) → 1 ≤ length ms → ArePieces (length all) (own ms ∷ map piece_of_part cut.pieces)
-    pub rest : DevicesOwed before cut.pieces cut.parts
+    pub rest : DevicesOwed (data_blocks_of before) (least_id before) (text.uses_of before) cut.pieces cut.parts
 
   -- the lines before tell these leaves, and each is lawful
   pub record Known (before : List Line) : Type 0 where
@@ -84,7 +84,7 @@ module _ (leaves : List (List Run)) where
         runs = (passes.some, owed.runs);
         have = owed.have;
         pieces = owed.pieces;
-        rest = record { devices = owed.rest.devices; have = owed.rest.have; pieces = owed.rest.pieces; used = owed.rest.used };
+        rest = owed.rest;
       }
 
   piece_with_use : (before lines : List Line) (n : ℕ) (cut : Cut) → Known before → LinePasses before (use_line n) → PiecesOwed (use_line n ∷ before) lines cut
@@ -210,17 +210,18 @@ module _ (leaves : List (List Run)) where
     pub mappings : AreMappings (data_blocks_of before) (piece_end before) (mappings_of_runs cut.runs)
     pub number : length (mappings_of_runs cut.runs) ≡ unmapped before
     pub runs : HaveMappings cut.runs
-    pub numbered : length leaves ≤ 2 ^ 64
+    pub numbers_fit : length leaves ≤ 2 ^ 64
     pub lawful : AllByRecursion (IsLeaf (data_blocks_of before)) cut.leaves
     pub lines_are : AllByRecursion (IsLeaf (data_blocks_of before)) leaves
         → lines ≡ map map_line cut.runs ++ (lines_of_leaves (leaf_number before) cut.leaves ++ (flat_map lines_of_part cut.parts ++ (end_line ∷ [])))
-    pub rest : AllByRecursion (IsLeaf (data_blocks_of before)) leaves → DevicesOwed before [] cut.parts
+    pub rest : AllByRecursion (IsLeaf (data_blocks_of before)) leaves
+        → DevicesOwed (data_blocks_of before) (least_id before) (text.uses_of before) [] cut.parts
 
   -- the lines before and those that follow tell these leaves
   pub record Along (before : List Line) (cut : Cut) : Type 0 where
     pub runs : (n : ℕ) → runs_of_leaf before n ++ to_come (leaf_number before) (cut.runs ∷ cut.leaves) (suc n) ≡ list_at leaves n
     pub number : leaf_number before + length cut.leaves ≡ length leaves
-    pub numbered : leaf_number before ≤ 2 ^ 64
+    pub numbers_fit : leaf_number before ≤ 2 ^ 64
     pub closed : has_device before ≡ false
 
   leaf_with_map : (before lines : List Line) (r : Run) (cut : Cut) → MapPasses before r → LeavesOwed (map_line r ∷ before) lines cut
@@ -234,10 +235,10 @@ module _ (leaves : List (List Run)) where
             passes.above passes.fits passes.within passes.time owed.mappings passes.some;
         number = number;
         runs = (passes.some, owed.runs);
-        numbered = owed.numbered;
+        numbers_fit = owed.numbers_fit;
         lawful = owed.lawful;
         lines_are = λ lawful. ap (λ (ls : List Line). map_line r ∷ ls) (owed.lines_are lawful);
-        rest = λ lawful. let rest = owed.rest lawful in record { devices = rest.devices; have = rest.have; pieces = rest.pieces; used = rest.used };
+        rest = owed.rest;
       }
 
   leaf_with_leaf : (before lines : List Line) (l : LeafHead) (cut : Cut) → LinePasses before (leaf_line l) → LeavesOwed (leaf_line l ∷ before) lines cut
@@ -249,13 +250,13 @@ module _ (leaves : List (List Run)) where
         mappings = tt;
         number = sym tells.1.1.1;
         runs = tt;
-        numbered = owed.numbered;
+        numbers_fit = owed.numbers_fit;
         lawful = (
           record { have = owed.runs; some = omega (arith, owed.number, tells.0); few = omega (arith, owed.number, tells.1.0); mappings = owed.mappings },
           owed.lawful,
         );
         lines_are = λ lawful. leaf_lines (leaf_number before) l cut.runs cut.leaves tail lines tells.1.1.0 owed.number (owed.lines_are lawful);
-        rest = λ lawful. let rest = owed.rest lawful in record { devices = rest.devices; have = rest.have; pieces = rest.pieces; used = rest.used };
+        rest = owed.rest;
       }
 
   -- where no leaf is to come
@@ -267,7 +268,7 @@ module _ (leaves : List (List Run)) where
     mappings = tt;
     number = sym none;
     runs = tt;
-    numbered = omega (arith, along.number, along.numbered);
+    numbers_fit = omega (arith, along.number, along.numbers_fit);
     lawful = tt;
     lines_are = λ lawful. (owed lawful).lines_are;
     rest = λ lawful. (owed lawful).rest;
@@ -293,7 +294,7 @@ module _ (leaves : List (List Run)) where
       let more : Along (leaf_line l ∷ before) cut = record {
         runs = λ n. ap (λ (rs : List Run). runs_of_leaf before n ++ rs) (to_come_after_leaf (leaf_number before) cut.runs cut.leaves (suc n)) ∙ along.runs n;
         number = omega (arith, along.number);
-        numbered = omega (arith, reads.1.0.0, tells.1.1.0);
+        numbers_fit = omega (arith, reads.1.0.0, tells.1.1.0);
         closed = along.closed;
       } in
       leaf_with_leaf before lines l cut passes (leaves_read lines (leaf_line l ∷ before) (omega arith) more reads.1.1.1.1 refl)
@@ -314,7 +315,7 @@ module _ (leaves : List (List Run)) where
       let more : Along (map_line r ∷ before) cut = record {
         runs = λ n. rw along.closed (to_come_after_map (leaf_number before) (suc n) r (runs_of_leaf before n) cut.runs cut.leaves ∙ along.runs n);
         number = along.number;
-        numbered = along.numbered;
+        numbers_fit = along.numbers_fit;
         closed = along.closed;
       } in
       leaf_with_map before lines r cut (map_passes before r passes) (leaves_read lines (map_line r ∷ before) (omega arith) more reads.1.1.1.1 refl)
@@ -340,13 +341,13 @@ shape_after_pool p lines reads =
     let fits = reads.1.0 in
     let tells = pool_tells p.time p.block_size p.data_blocks passes.range in
     let cut = cut_of lines in
-    let along : Along cut.leaves (pool_line p ∷ shared_first_line ∷ []) cut = record { runs = λ n. refl; number = omega arith; numbered = omega arith; closed = refl } in
+    let along : Along cut.leaves (pool_line p ∷ shared_first_line ∷ []) cut = record { runs = λ n. refl; number = omega arith; numbers_fit = omega arith; closed = refl } in
     let owed = leaves_read cut.leaves lines (pool_line p ∷ shared_first_line ∷ []) (omega arith) along reads.1.1.1.1 refl in
     let tail = lines_of_leaves 0 cut.leaves ++ (flat_map lines_of_part cut.parts ++ (end_line ∷ [])) in
     let same : lines ≡ tail = owed.lines_are owed.lawful ∙ ap (λ (rs : List Run). map map_line rs ++ tail) (no_runs cut.runs owed.runs owed.number) in
     let rest = owed.rest owed.lawful in
     let each = leaves_lawful p.data_blocks cut.leaves owed.lawful in
-    let numbered : length (map mappings_of_runs cut.leaves) ≤ 2 ^ 64 = omega (arith, owed.numbered, length-map cut.leaves mappings_of_runs) in
+    let numbers_fit : length (map mappings_of_runs cut.leaves) ≤ 2 ^ 64 = omega (arith, owed.numbers_fit, length-map cut.leaves mappings_of_runs) in
     let w : ThinShape = record {
       uuid = p.uuid;
       time = p.time;
@@ -365,7 +366,7 @@ shape_after_pool p lines reads =
         devices_are = refl;
         leaf_runs = each.0;
         runs = rest.have;
-        shape = record { numbered = numbered; filled = each.1.0; few = each.1.1; pieces = rest.pieces; used = rest.used };
+        shape = record { numbers_fit = numbers_fit; filled = each.1.0; few = each.1.1; pieces = rest.pieces; used = rest.used };
         lawful = record {
           uuid_len = fits.0;
           uuid_bytes = fits.1.0;
