@@ -10,7 +10,7 @@ use Rattle.pd_spells.specs.Lawful.{AreMappings, AreDevices}
 use Rattle.pd_spells.specs.ThinText.{Run, Head, LeafHead, Details, Line, first_line, shared_first_line, pool_line, leaf_line, device_line, use_line, map_line, end_line, pool_format, is_shared, data_blocks_of, leaf_number, least_id, has_device, runs_of_leaf, least_of, number_in, piece_end, unmapped, mappings_of}
 use Rattle.pd_spells.specs.ThinText as text
 use Rattle.pd_spells.proofs.ThinRead.{FitsLine}
-use Rattle.pd_spells.proofs.ThinMeaning.{run_mappings, mappings_length, LinePasses, line_passes, MapPasses, map_passes, device_tells, pool_tells}
+use Rattle.pd_spells.proofs.ThinMeaning.{LinePasses, line_passes, MapPasses, map_passes, map_line_owes, device_tells, pool_tells}
 use Rattle.pd_laid.specs.Shape.{own, ShapeDevice, ThinShape, ArePieces, leaf_mappings, piece_mappings, device_of, uses_of_piece, uses_of, pool_of}
 use Rattle.pd_shapes.specs.SharedText.{PartPiece, SharedPart, mappings_of_runs, piece_of_part, device_of_part, lines_of_leaves, lines_of_piece, lines_of_part, HaveMappings, HasPieceMappings, HasPartMappings, MeansShape}
 use Rattle.pd_shapes.proofs.UsedLeaves.{is_used}
@@ -38,49 +38,38 @@ module _ (leaves : List (List Run)) where
   uses_ahead pieces parts = flat_map uses_of_piece (map piece_of_part pieces) ++ flat_map uses_of (map device_of_part parts)
 
   -- what is owed of the devices that follow, and of the uses in the device that is open
-  pub record DevicesOwed (blocks least : ℕ) (uses : List ℕ) (opened : List PartPiece) (parts : List SharedPart) : Type 0 where
-    pub devices : AreDevices blocks least (map (device_of all) (map device_of_part parts))
-    pub have : AllByRecursion HasPartMappings parts
-    pub pieces : AllByRecursion (λ (d : ShapeDevice). ArePieces (length all) d.pieces) (map device_of_part parts)
-    pub used : (n : ℕ) → n < length all → (is_used uses n || is_used (uses_ahead opened parts) n) ≡ true
+  record DevicesOwed (blocks least : ℕ) (uses : List ℕ) (opened : List PartPiece) (parts : List SharedPart) : Type 0 where
+    devices : AreDevices blocks least (map (device_of all) (map device_of_part parts))
+    have : AllByRecursion HasPartMappings parts
+    pieces : AllByRecursion (λ (d : ShapeDevice). ArePieces (length all) d.pieces) (map device_of_part parts)
+    used : (n : ℕ) → n < length all → (is_used uses n || is_used (uses_ahead opened parts) n) ≡ true
 
   -- what the rest of a text owes in a device
-  pub record PiecesOwed (before lines : List Line) (cut : Cut) : Type 0 where
-    pub lines_are : lines ≡ map map_line cut.runs ++ (flat_map lines_of_piece cut.pieces ++ (flat_map lines_of_part cut.parts ++ (end_line ∷ [])))
-    pub mappings : AreMappings (data_blocks_of before) (piece_end before) (mappings_of_runs cut.runs ++ flat_map (piece_mappings all) (map piece_of_part cut.pieces))
-    pub number : length (mappings_of_runs cut.runs ++ flat_map (piece_mappings all) (map piece_of_part cut.pieces)) ≡ unmapped before
-    pub runs : HaveMappings cut.runs
-    pub have : AllByRecursion HasPieceMappings cut.pieces
-    pub pieces : (ms : List Mapping) → 1 ≤ length ms → ArePieces (length all) (own ms ∷ map piece_of_part cut.pieces)
-    pub rest : DevicesOwed (data_blocks_of before) (least_id before) (text.uses_of before) cut.pieces cut.parts
+  record PiecesOwed (before lines : List Line) (cut : Cut) : Type 0 where
+    lines_are : lines ≡ map map_line cut.runs ++ (flat_map lines_of_piece cut.pieces ++ (flat_map lines_of_part cut.parts ++ (end_line ∷ [])))
+    mappings : AreMappings (data_blocks_of before) (piece_end before) (mappings_of_runs cut.runs ++ flat_map (piece_mappings all) (map piece_of_part cut.pieces))
+    number : length (mappings_of_runs cut.runs ++ flat_map (piece_mappings all) (map piece_of_part cut.pieces)) ≡ unmapped before
+    runs : HaveMappings cut.runs
+    have : AllByRecursion HasPieceMappings cut.pieces
+    pieces : (ms : List Mapping) → 1 ≤ length ms → ArePieces (length all) (own ms ∷ map piece_of_part cut.pieces)
+    rest : DevicesOwed (data_blocks_of before) (least_id before) (text.uses_of before) cut.pieces cut.parts
 
   -- the lines before tell these leaves, and each is lawful
-  pub record Known (before : List Line) : Type 0 where
-    pub told : HaveTold before leaves
-    pub device : has_device before ≡ true
-    pub lawful : AllByRecursion (IsLeaf (data_blocks_of before)) leaves
+  record Known (before : List Line) : Type 0 where
+    told : HaveTold before leaves
+    device : has_device before ≡ true
+    lawful : AllByRecursion (IsLeaf (data_blocks_of before)) leaves
 
   piece_with_map : (before lines : List Line) (r : Run) (cut : Cut) → MapPasses before r → PiecesOwed (map_line r ∷ before) lines cut
       → PiecesOwed before (map_line r ∷ lines) (add_line (map_line r) cut)
   piece_with_map before lines r cut passes owed =
-      let own_ones = mappings_of_runs cut.runs in
+      let runs = mappings_of_runs cut.runs in
       let others = flat_map (piece_mappings all) (map piece_of_part cut.pieces) in
-      let number : length ((mappings_of r ++ own_ones) ++ others) ≡ unmapped before =
-      omega (
-        arith,
-        length-append (mappings_of r ++ own_ones) others,
-        length-append (mappings_of r) own_ones,
-        length-append own_ones others,
-        mappings_length r.virtual_block r.data_block r.time r.length,
-        owed.number,
-        passes.enough,
-      ) in
+      let owes = map_line_owes before r (runs ++ others) passes owed.mappings owed.number in
       record {
         lines_are = ap (λ (ls : List Line). map_line r ∷ ls) owed.lines_are;
-        mappings = rw (append_assoc (mappings_of r) own_ones others)
-            (run_mappings (data_blocks_of before) (piece_end before) r.virtual_block r.data_block r.time r.length (own_ones ++ others)
-            passes.above passes.fits passes.within passes.time owed.mappings passes.some);
-        number = number;
+        mappings = rw (append_assoc (mappings_of r) runs others) owes.0;
+        number = rw (append_assoc (mappings_of r) runs others) owes.1;
         runs = (passes.some, owed.runs);
         have = owed.have;
         pieces = owed.pieces;
@@ -91,7 +80,6 @@ module _ (leaves : List (List Run)) where
       → PiecesOwed before (use_line n ∷ lines) (add_line (use_line n) cut)
   piece_with_use before lines n cut known passes owed =
       let runs = runs_of_leaf before n in
-      let pieces = with_runs cut.runs cut.pieces in
       let tail = flat_map lines_of_part cut.parts ++ (end_line ∷ []) in
       let tells = use_tells n (leaf_number before) (least_of runs) (piece_end before) (unmapped before) (number_in runs) passes.range passes.order passes.mapped in
       let below : n < length leaves = omega (arith, tells.0, known.told.number) in
@@ -206,34 +194,31 @@ module _ (leaves : List (List Run)) where
       rw (none_after_end before lines reads.1.1.1.1) (piece_at_end before known.told passes)
 
   -- what the rest of a text owes before all devices; of the devices, where all leaves are lawful
-  pub record LeavesOwed (before lines : List Line) (cut : Cut) : Type 0 where
-    pub mappings : AreMappings (data_blocks_of before) (piece_end before) (mappings_of_runs cut.runs)
-    pub number : length (mappings_of_runs cut.runs) ≡ unmapped before
-    pub runs : HaveMappings cut.runs
-    pub numbers_fit : length leaves ≤ 2 ^ 64
-    pub lawful : AllByRecursion (IsLeaf (data_blocks_of before)) cut.leaves
-    pub lines_are : AllByRecursion (IsLeaf (data_blocks_of before)) leaves
+  record LeavesOwed (before lines : List Line) (cut : Cut) : Type 0 where
+    mappings : AreMappings (data_blocks_of before) (piece_end before) (mappings_of_runs cut.runs)
+    number : length (mappings_of_runs cut.runs) ≡ unmapped before
+    runs : HaveMappings cut.runs
+    numbers_fit : length leaves ≤ 2 ^ 64
+    lawful : AllByRecursion (IsLeaf (data_blocks_of before)) cut.leaves
+    lines_are : AllByRecursion (IsLeaf (data_blocks_of before)) leaves
         → lines ≡ map map_line cut.runs ++ (lines_of_leaves (leaf_number before) cut.leaves ++ (flat_map lines_of_part cut.parts ++ (end_line ∷ [])))
-    pub rest : AllByRecursion (IsLeaf (data_blocks_of before)) leaves
+    rest : AllByRecursion (IsLeaf (data_blocks_of before)) leaves
         → DevicesOwed (data_blocks_of before) (least_id before) (text.uses_of before) [] cut.parts
 
   -- the lines before and those that follow tell these leaves
-  pub record Along (before : List Line) (cut : Cut) : Type 0 where
-    pub runs : (n : ℕ) → runs_of_leaf before n ++ to_come (leaf_number before) (cut.runs ∷ cut.leaves) (suc n) ≡ list_at leaves n
-    pub number : leaf_number before + length cut.leaves ≡ length leaves
-    pub numbers_fit : leaf_number before ≤ 2 ^ 64
-    pub closed : has_device before ≡ false
+  record Along (before : List Line) (cut : Cut) : Type 0 where
+    runs : (n : ℕ) → runs_of_leaf before n ++ to_come (leaf_number before) (cut.runs ∷ cut.leaves) (suc n) ≡ list_at leaves n
+    number : leaf_number before + length cut.leaves ≡ length leaves
+    numbers_fit : leaf_number before ≤ 2 ^ 64
+    closed : has_device before ≡ false
 
   leaf_with_map : (before lines : List Line) (r : Run) (cut : Cut) → MapPasses before r → LeavesOwed (map_line r ∷ before) lines cut
       → LeavesOwed before (map_line r ∷ lines) (add_line (map_line r) cut)
   leaf_with_map before lines r cut passes owed =
-      let runs = mappings_of_runs cut.runs in
-      let number : length (mappings_of r ++ runs) ≡ unmapped before =
-      omega (arith, length-append (mappings_of r) runs, mappings_length r.virtual_block r.data_block r.time r.length, owed.number, passes.enough) in
+      let owes = map_line_owes before r (mappings_of_runs cut.runs) passes owed.mappings owed.number in
       record {
-        mappings = run_mappings (data_blocks_of before) (piece_end before) r.virtual_block r.data_block r.time r.length runs
-            passes.above passes.fits passes.within passes.time owed.mappings passes.some;
-        number = number;
+        mappings = owes.0;
+        number = owes.1;
         runs = (passes.some, owed.runs);
         numbers_fit = owed.numbers_fit;
         lawful = owed.lawful;

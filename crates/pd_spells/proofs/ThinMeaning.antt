@@ -127,16 +127,23 @@ pub device_tells : (created snapped id least left : ℕ) → not (ltb created (2
 device_tells created snapped id least left range order mapped =
     (grind (arith, nat_tests), (grind (arith, nat_tests), (grind (arith, nat_tests), grind (arith, nat_tests))))
 
+-- a map line that passes owes its mappings before those that are owed after it
+pub map_line_owes : (before : List Line) (r : Run) (rest : List Mapping) → MapPasses before r
+    → AreMappings (data_blocks_of before) (r.virtual_block + r.length) rest → length rest ≡ unmapped before - r.length
+    → AreMappings (data_blocks_of before) (piece_end before) (mappings_of r ++ rest) × (length (mappings_of r ++ rest) ≡ unmapped before)
+map_line_owes before r rest passes are number = (
+  run_mappings (data_blocks_of before) (piece_end before) r.virtual_block r.data_block r.time r.length rest
+      passes.above passes.fits passes.within passes.time are passes.some,
+  omega (arith, length-append (mappings_of r) rest, mappings_length r.virtual_block r.data_block r.time r.length, number, passes.enough),
+)
+
 owed_with_map : (before : List Line) (r : Run) (cut : Cut) → MapPasses before r → has_device before ≡ true → Owed (map_line r ∷ before) cut
     → Owed before (record { runs = r ∷ cut.runs; parts = cut.parts })
 owed_with_map before r cut passes device owed =
-    let rest = flat_map mappings_of cut.runs in
-    let number : length (mappings_of r ++ rest) ≡ unmapped before =
-    omega (arith, length-append (mappings_of r) rest, mappings_length r.virtual_block r.data_block r.time r.length, owed.number, passes.enough) in
+    let owes = map_line_owes before r (flat_map mappings_of cut.runs) passes owed.mappings owed.number in
     record {
-      mappings = run_mappings (data_blocks_of before) (piece_end before) r.virtual_block r.data_block r.time r.length rest
-          passes.above passes.fits passes.within passes.time owed.mappings passes.some;
-      number = number;
+      mappings = owes.0;
+      number = owes.1;
       runs = (passes.some, owed.runs);
       devices = owed.devices;
       parts = owed.parts;
