@@ -1,5 +1,5 @@
 -- The roots that a search finds, and the superblock that they are given.
-use Rattle.std.specs.Prelude.{◌≡◌, ℕ, ◌<◌, Option, IfSome, replicate}
+use Rattle.std.specs.Prelude.{ℕ, ◌<◌, Option, replicate}
 use Rattle.std.specs.Option.{option_map}
 use Rattle.pd_kinds.specs.ThinSuper.{ThinFields}
 use Rattle.pd_laid.specs.FoundRoots.{FoundRoots}

@@ -23,7 +23,7 @@ use pd_value::Root;
 
 /// In a cache without faults up to the stage Whole, the blocks that the entries of the mapping array's tree name in
 /// version 1, and those of the tree of the dirty bits in version 2, are just the reached blocks that say what is dirty.
-pub fn dirty_places_are_named()
+pub fn places_are_those_of_one_tree()
     ensures { (image : List (List ℕ)) (b : ℕ) → faults Cache Whole image ≡ []
         → list_any (λ place. place == b) (places_named (room_of (length image)) (tree_names image (dirty_root (cache_fields (block_at image 0)))))
         ≡ list_any (λ place. place == b) (dirty_places image) }

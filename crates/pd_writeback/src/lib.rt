@@ -18,5 +18,5 @@ mod room;
 mod settling;
 
 pub use fault::WriteFault;
-pub use laws::{dirty_places_are_named, hot_blocks_are_apart};
+pub use laws::{hot_blocks_are_apart, places_are_those_of_one_tree};
 pub use plan::Plan;

@@ -6,7 +6,7 @@ ghost use Rattle.pd_writeback.specs.Room.{AllFit};
 
 use crate::fault::WriteFault;
 use crate::hot::{HotBlock, sort_by_origin};
-use crate::laws::{dirty_places_are_named, hot_blocks_are_apart};
+use crate::laws::{hot_blocks_are_apart, places_are_those_of_one_tree};
 use crate::making::{find_dirty, is_block_size_bad, read_super};
 use crate::marking::mark_places;
 use crate::pairs::copy_hot;
@@ -98,7 +98,7 @@ impl Plan {
         ensures faults { CountsPlanning result (A.state meta.old).faults (A.state meta.new).faults }
     {
         rows_are_the_entries();
-        dirty_places_are_named();
+        places_are_those_of_one_tree();
         let s = read_cache_super(&super_block);
         if is_block_size_bad(s.block_size) {
             return Err(WriteFault::BlockSize);

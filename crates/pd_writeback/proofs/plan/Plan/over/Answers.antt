@@ -63,7 +63,7 @@ returns-clause-plans g c =
         each = refl;
         same = moved;
         of = IfSome_then old.held
-            (parts_in c.rows_are_the_entries.ensures c.args.super_block.value.0 s of hot old.blocks c.dirty_places_are_named.ensures c.in_ok-hot.places.items old.held
+            (parts_in c.rows_are_the_entries.ensures c.args.super_block.value.0 s of hot old.blocks c.places_are_those_of_one_tree.ensures c.in_ok-hot.places.items old.held
             (g.met.A.Device.bytes c.args.meta.now) (g.met.A.Device.measured c.args.meta.now) c.requires.sound c.in_ok-hot.ensures.hot c.in_ok-hot.ensures.named)
             (λ image parts. record {
               super_block = parts.super_block;

@@ -10,7 +10,7 @@ use Rattle.pd_kinds.specs.Node.{Entry}
 use Rattle.pd_kinds.specs.Trees.{entries_below}
 use Rattle.pd_writeback.specs.Places.{places_named, tree_names}
 use Rattle.pd_writeback.proofs.ReachedLemmas.{all_inside, found_are_named, in_room, reached_past}
-use Rattle.pd_writeback.proofs.laws.dirty_places_are_named.Goals as goal
+use Rattle.pd_writeback.proofs.laws.places_are_those_of_one_tree.Goals as goal
 
 pub returns : goal.returns
 returns c = λ image b none.
