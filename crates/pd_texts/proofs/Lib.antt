@@ -1,6 +1,7 @@
 pub mod WordLemmas
 pub mod NumberWords
 pub mod ValueLemmas
+pub mod LeafLemmas
 pub mod StageLemmas
 pub mod ReadLemmas
 pub mod TextLemmas

@@ -6,6 +6,7 @@ pub mod Stage
 pub mod Headers
 pub mod ThinLine
 pub mod ThinKind
+pub mod Leaves
 pub mod ThinState
 pub mod Printed
 pub mod ThinLaws

@@ -5,6 +5,7 @@
 #![tactic(auto)]
 
 mod fault;
+mod leaves;
 mod made;
 mod print;
 mod reader;
