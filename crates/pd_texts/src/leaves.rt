@@ -105,15 +105,13 @@ impl Leaves {
         self.told.reserve(1)
     }
 
-    /// Begins a leaf.
+    /// Begins a leaf, in the memory that was taken for it.
     pub(crate) fn begin(&mut self)
-        requires { HasRoom self.old }
-        ensures { (before : List Line) (leaf : LeafHead) → AreLeaves self.old before → AreLeaves self.new (leaf_line leaf ∷ before) }
+        ensures { HasRoom self.old → (before : List Line) (leaf : LeafHead) → AreLeaves self.old before → AreLeaves self.new (leaf_line leaf ∷ before) }
     {
-        if self.told.push(ToldLeaf::nothing()).is_err() {
-            unreachable!();
+        if self.told.push(ToldLeaf::nothing()).is_ok() {
+            self.unused = self.unused.saturating_add(1);
         }
-        self.unused = self.unused.saturating_add(1);
     }
 
     /// Adds a run to the last leaf.
