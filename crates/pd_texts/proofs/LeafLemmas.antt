@@ -42,7 +42,7 @@ tells_more leaf runs run tells some fits few =
     }
 
 -- a leaf that isn't there has no runs
-runs_past : (before : List Line) (n : ℕ) → leaf_number before ≤ n → runs_of_leaf before n ≡ []
+pub runs_past : (before : List Line) (n : ℕ) → leaf_number before ≤ n → runs_of_leaf before n ≡ []
 runs_past [] n past = refl
 runs_past (first_line ∷ before) n past = runs_past before n past
 runs_past (shared_first_line ∷ before) n past = runs_past before n past

@@ -2,12 +2,14 @@ pub mod WordLemmas
 pub mod NumberWords
 pub mod ValueLemmas
 pub mod LeafLemmas
+pub mod StateLemmas
 pub mod StageLemmas
 pub mod ReadLemmas
 pub mod TextLemmas
 pub mod PastLemmas
 pub mod GivesLemmas
 pub mod LawLemmas
+pub mod FirstLemmas
 pub mod ThinLemmas
 pub mod ThinNextLemmas
 pub mod Filling

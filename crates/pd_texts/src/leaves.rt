@@ -115,7 +115,7 @@ impl Leaves {
     }
 
     /// Adds a run to the last leaf.
-    pub(crate) fn add(&mut self, run: &Run2)
+    fn add(&mut self, run: &Run2)
         ensures { (before : List Line) → AreLeaves self.old before → has_device before ≡ false
             → 1 ≤ run.now.length → run.now.virt + run.now.length ≤ 2 ^ 64
             → number_in (runs_of_leaf before (leaf_number before - 1)) + run.now.length < 2 ^ 32
@@ -124,6 +124,18 @@ impl Leaves {
         let leaves = self.told.len();
         if leaves != 0 {
             self.told[leaves - 1] = self.told[leaves - 1].with(run);
+        }
+    }
+
+    /// Goes past a run, of the last leaf or of a device.
+    pub(crate) fn pass_run(&mut self, run: &Run2, in_device: bool)
+        ensures { (before : List Line) → AreLeaves self.old before → in_device ≡ has_device before
+            → 1 ≤ run.now.length → run.now.virt + run.now.length ≤ 2 ^ 64
+            → (has_device before ≡ false → number_in (runs_of_leaf before (leaf_number before - 1)) + run.now.length < 2 ^ 32)
+            → AreLeaves self.new (map_line (run_of run.now) ∷ before) }
+    {
+        if !in_device {
+            self.add(run);
         }
     }
 

@@ -5,6 +5,7 @@
 #![tactic(auto)]
 
 mod fault;
+mod first_thin_state;
 mod leaves;
 mod made;
 mod print;
@@ -16,21 +17,25 @@ mod thin_laws;
 mod thin_line;
 mod thin_print;
 mod thin_state;
+mod thin_text;
 mod values;
 mod words;
 
 pub use fault::{ReadFault, TextFault};
+pub use first_thin_state::{FirstThinState, FirstThinText};
 pub use made::{MadeLines, MadeSource};
 pub use print::{add_uuid, add_word, bytes_of_end, bytes_of_first, print_end, print_first};
 pub use reader::TextReader;
 pub use stage::Stage;
 pub use state::TextState;
 pub use thin_laws::{
-    pool_text_is_its_lines, read_thin_lines_are_in_range, read_thin_lines_mean_a_pool,
+    pool_text_is_its_lines, read_pool_lines_are_in_range, read_thin_lines_are_in_range,
+    read_thin_lines_mean_a_pool,
     thin_lines_are_printed_in_order, whole_thin_text_spells,
 };
 pub use thin_line::{Run2, ThinLine};
-pub use thin_print::{bytes_of_thin, print_thin};
-pub use thin_state::{ThinState, ThinText};
+pub use thin_print::{bytes_of_shared_first, bytes_of_thin, print_shared_first, print_thin};
+pub use thin_state::ThinState;
+pub use thin_text::ThinText;
 pub use values::read_values;
 pub use words::{cut_word, number_word, read_uuid};

@@ -14,6 +14,3 @@ returns-then-is_ok c = λ room before leaf are.
     let few = count_by-le-length (λ (leaf : ToldLeaf). not leaf.is_used) told.items in
     let more : c.saturating_add-self.result ≡ c.args.self.now.unused + 1 = omega (arith, are.unused, few, told.ok.0, told.ok.1, told.small, c.saturating_add-self.ensures) in
     leaf_begun c.args.self.now _ before leaf are items more
-
-pub returns-else-not-is_ok : goal.returns-else-not-is_ok
-returns-else-not-is_ok c = λ room before leaf are. let e = c.push.ensures.succeeds room in let h = c.is_ok in let t = c.if-is_ok in ?
