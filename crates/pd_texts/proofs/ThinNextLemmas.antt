@@ -1,5 +1,5 @@
 -- What lines of a pool's text that were read say and mean.
-use Rattle.std.proofs.Common.{◌≡◌, ◌∙◌, ap, sym, refl, ℕ, ◌+◌, ◌^◌, ◌≤◌, ◌<◌, Bool, true, false, not, ◌&&◌, eqb, ltb, leb, List, [], ◌∷◌, length, arith}
+use Rattle.std.proofs.Common.{◌≡◌, ◌∙◌, ap, sym, refl, ℕ, ◌+◌, ◌^◌, ◌≤◌, ◌<◌, Bool, true, false, not, ◌&&◌, ◌||◌, eqb, ltb, leb, List, [], ◌∷◌, length, arith}
 use Rattle.std.proofs.lemmas.Bool.{true≢false, and_parts, not-true}
 use Rattle.std.proofs.lemmas.Bool.Decides.{nat_tests}
 use Rattle.std.proofs.lemmas.Option.{none-some}
@@ -12,7 +12,6 @@ use Rattle.pd_spells.specs.ThinText.{Line, first_line, shared_first_line, pool_l
 use Rattle.pd_spells.proofs.ThinRead.{FitsLine, Placed, thin_grammar}
 use Rattle.pd_spells.proofs.ThinLaws.{thin_language}
 use Rattle.pd_spells.proofs.ThinMeaning.{IsUnshared}
-use Rattle.pd_texts.proofs.FirstLemmas.{in_device}
 use Rattle.pd_texts.specs.Reader.{IsReadAfter, AreReadSoFar, in_order}
 use Rattle.pd_texts.specs.ThinNext.{IsPoolLine, IsLeafLine, IsDeviceLine, IsUseLine, IsRunLine, IsMapLine, IsEndLine}
 use Rattle.pd_texts.proofs.LawLemmas as any
@@ -153,7 +152,14 @@ unshared (use_line n ∷ before) so_far = let rest = unshared before so_far.1 in
 unshared (map_line r ∷ before) so_far = let rest = unshared before so_far.1 in record { version = rest.version; none = rest.none }
 unshared (end_line ∷ before) so_far = let rest = unshared before so_far.1 in record { version = rest.version; none = rest.none }
 
--- a map line is one of a device
+-- so a map line is of a device
+or_false : (b : Bool) → (b || false) ≡ b
+or_false true = refl
+or_false false = refl
+
+in_device : (before : List Line) → IsUnshared before → (has_device before || ltb 0 (leaf_number before)) ≡ true → has_device before ≡ true
+in_device before unshared placed = sym (or_false (has_device before)) ∙ rw unshared.none at placed
+
 pub map_read : (before : List Line) (r : Run) → AreReadSoFar thin (map_line r ∷ before) → IsMapLine before r
 map_read before r so_far =
     let one = run_read (first_line ∷ []) thin_grammar before r so_far.0 in
