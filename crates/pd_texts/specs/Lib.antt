@@ -8,11 +8,11 @@ pub mod ThinLine
 pub mod ThinKind
 pub mod Leaves
 pub mod ThinState
-pub mod FirstLine
 pub mod FirstThinState
 pub mod Printed
 pub mod ThinLaws
 pub mod ThinState
+pub mod FirstThinState
 pub mod ThinPrinted
 pub mod ThinNext
 pub mod Made
