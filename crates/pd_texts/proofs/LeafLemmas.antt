@@ -117,19 +117,13 @@ run_added leaves new before run are none some fits few told items unused =
         | inr other ↦ rw (other_at n other) (are.used n low)
       ];
       others = are.others;
-      unused = rw items (omega (arith, unused, are.unused,
-        sum_by-set (λ (leaf : ToldLeaf). cond (not leaf.is_used) 1 0) xs k (with_run (told_at leaves k) run) nothing_told (omega (arith, are.number))));
+      unused = rw items (omega (
+        arith,
+        unused,
+        are.unused,
+        sum_by-set (λ (leaf : ToldLeaf). cond (not leaf.is_used) 1 0) xs k (with_run (told_at leaves k) run) nothing_told (omega (arith, are.number)),
+      ));
     }
-
--- a map line where there is no leaf
-pub run_nowhere : (leaves : Leaves) (before : List Line) (run : Run2) → AreLeaves leaves before → leaf_number before ≡ 0 → AreLeaves leaves (map_line (run_of run) ∷ before)
-run_nowhere leaves before run are none = record {
-  number = are.number;
-  tells = λ n low. absurd (omega arith);
-  used = λ n low. absurd (omega arith);
-  others = are.others;
-  unused = are.unused;
-}
 
 -- a run of a device
 pub device_run : (leaves : Leaves) (before : List Line) (run : Run2) → has_device before ≡ true → AreLeaves leaves before → AreLeaves leaves (map_line (run_of run) ∷ before)
@@ -162,20 +156,6 @@ leaf_marked leaves new before number are within is items unused =
       others = λ n past. rw (ne_eqb number n (λ e. omega arith)) (are.others n past);
       unused = rw items (omega (arith, unused, are.unused, rw is at count));
     }
-
--- and one that is used again
-pub leaf_again : (leaves : Leaves) (before : List Line) (number : ℕ) → AreLeaves leaves before → number < leaf_number before
-    → (told_at leaves number).is_used ≡ true → AreLeaves leaves (use_line number ∷ before)
-leaf_again leaves before number are within is = record {
-  number = are.number;
-  tells = are.tells;
-  used = λ n low. elim (cases_eq n number) [
-    | inl e ↦ rw (e, is, eq-eqb number number refl) refl
-    | inr other ↦ rw (ne_eqb number n (λ e. other (sym e))) (are.used n low)
-  ];
-  others = λ n past. rw (ne_eqb number n (λ e. omega arith)) (are.others n past);
-  unused = are.unused;
-}
 
 -- whether some leaf isn't used, by how many aren't
 some_counted : {X : Type 0} (p : X → Bool) → (xs : List X) → list_any p xs ≡ not (eqb (count_by p xs) 0)

@@ -1,5 +1,5 @@
 -- What the numbers of a line of a pool's text are, after given lines, the newest first.
-use Rattle.std.specs.Prelude.{◌≡◌, ◌+◌, ◌^◌, ◌<◌, ◌≤◌, true, false, List, length, All}
+use Rattle.std.specs.Prelude.{◌≡◌, ℕ, ◌+◌, ◌^◌, ◌<◌, ◌≤◌, true, false, List, length, All}
 use Rattle.pd_spells.specs.ThinText.{Line, Head, LeafHead, Details, Run, is_shared, data_blocks_of, leaf_number, runs_of_leaf, least_of, number_in, least_id, has_device, may_have_map, piece_end, unmapped}
 
 -- a pool line after these lines

@@ -64,7 +64,11 @@ impl ToldLeaf {
     fn with(self, run: &Run2) -> ToldLeaf
         ensures { result ≡ with_run self run.now }
     {
-        let least = if self.entries == 0 { run.virt } else { self.least };
+        let least = if self.entries == 0 {
+            run.virt
+        } else {
+            self.least
+        };
         ToldLeaf {
             least,
             greatest: run.virt.saturating_add(run.length.saturating_sub(1)),

@@ -30,8 +30,7 @@ pub use stage::Stage;
 pub use state::TextState;
 pub use thin_laws::{
     pool_text_is_its_lines, read_pool_lines_are_in_range, read_thin_lines_are_in_range,
-    read_thin_lines_mean_a_pool,
-    thin_lines_are_printed_in_order, whole_thin_text_spells,
+    read_thin_lines_mean_a_pool, thin_lines_are_printed_in_order, whole_thin_text_spells,
 };
 pub use thin_line::{Run2, ThinLine};
 pub use thin_print::{bytes_of_shared_first, bytes_of_thin, print_shared_first, print_thin};
