@@ -7,7 +7,6 @@ pub mod Headers
 pub mod ThinLine
 pub mod ThinKind
 pub mod Leaves
-pub mod FirstThinState
 pub mod Printed
 pub mod ThinLaws
 pub mod ThinState
