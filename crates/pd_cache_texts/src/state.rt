@@ -13,7 +13,7 @@ use crate::kind::CacheKind;
 use crate::line::CacheLine;
 use pd_grammar::TextCause;
 use pd_texts::{Stage, TextReader, TextState, cut_word, read_values};
-use std::alloc::AllocError;
+use std::alloc::{AllocError, Global};
 
 /// The text of a cache, read line by line. It doesn't look for an origin that an earlier line has.
 pub type CacheText = TextReader<CacheState>;
@@ -49,7 +49,7 @@ impl TextState for CacheState {
 
     ghost Stands = { CacheStands };
 
-    fn start() -> CacheState {
+    fn start(_alloc: Global) -> CacheState {
         CacheState {
             stage: Stage::First,
             blocks: 0,
@@ -66,6 +66,8 @@ impl TextState for CacheState {
     }
 
     ghost CanWantMemory = { λ _. ⊥ };
+
+    ghost HasRoom = { λ _. Unit {0} };
 
     fn read_first(&mut self, text: &[u8]) -> bool {
         self.stage = Stage::Second;

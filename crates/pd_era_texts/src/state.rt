@@ -13,7 +13,7 @@ use crate::kind::EraKind;
 use crate::line::EraLine;
 use pd_grammar::TextCause;
 use pd_texts::{Stage, TextReader, TextState, cut_word, read_values};
-use std::alloc::AllocError;
+use std::alloc::{AllocError, Global};
 
 /// The text of an era target, read line by line.
 pub type EraText = TextReader<EraState>;
@@ -47,7 +47,7 @@ impl TextState for EraState {
 
     ghost Stands = { EraStands };
 
-    fn start() -> EraState {
+    fn start(_alloc: Global) -> EraState {
         EraState {
             stage: Stage::First,
             blocks: 0,
@@ -63,6 +63,8 @@ impl TextState for EraState {
     }
 
     ghost CanWantMemory = { λ _. ⊥ };
+
+    ghost HasRoom = { λ _. Unit {0} };
 
     fn read_first(&mut self, text: &[u8]) -> bool {
         self.stage = Stage::Second;

@@ -9,6 +9,8 @@ mod era_text_tests;
 #[cfg(test)]
 mod objects;
 #[cfg(test)]
+mod pool_text_tests;
+#[cfg(test)]
 mod refusals;
 pub mod small_copy;
 #[cfg(test)]

@@ -12,8 +12,8 @@ use pd_image::{Failed, MemSink, MemSource, Sink, Source};
 use pd_kinds::Kind;
 use pd_lines::{LineFault, LineReader, put_number};
 use pd_texts::{
-    FirstThinState, FirstThinText, ReadFault, Run2, TextFault, ThinLine, print_end, print_first,
-    print_shared_first, print_thin,
+    FirstThinState, FirstThinText, ReadFault, Run2, TextFault, TextReader, TextState, ThinLine,
+    ThinState, print_end, print_first, print_shared_first, print_thin,
 };
 use pd_value::Details;
 use std::alloc::Global;
@@ -490,23 +490,31 @@ impl Source for Endless {
 }
 
 /// A text of this byte for ever is refused at its first line.
-fn expect_endless_refused(
+fn expect_endless_refused<P: TextState>(
     rt: &impl Abort,
     alloc: Global,
     byte: u8,
     cause: TextCause,
-) -> Result<(), Fail> {
+) -> Result<(), Fail>
+where
+    P::Line: Drop,
+{
     let mut source = Endless { byte, access: 0 };
     source.attach("x")?;
-    let mut text = FirstThinText::new(alloc)?;
-    let wanted = Err(ReadFault::Text(TextFault { line: 1, cause }));
-    assert!(rt; text.next(&mut source) == wanted);
+    let mut text = TextReader::<P>::new(alloc)?;
+    let wanted = ReadFault::Text(TextFault { line: 1, cause });
+    match text.next(&mut source) {
+        Ok(_) => assert!(rt; false, "a line"),
+        Err(fault) => assert!(rt; fault == wanted),
+    }
     Ok(())
 }
 
 #[test]
 fn bytes_for_ever_are_refused_at_once(rt: HostRuntime) -> Result<(), Fail> {
-    expect_endless_refused(&rt, rt.alloc(), b'x', TextCause::TooLong)?;
-    expect_endless_refused(&rt, rt.alloc(), b'\n', TextCause::Header)?;
+    expect_endless_refused::<FirstThinState>(&rt, rt.alloc(), b'x', TextCause::TooLong)?;
+    expect_endless_refused::<FirstThinState>(&rt, rt.alloc(), b'\n', TextCause::Header)?;
+    expect_endless_refused::<ThinState>(&rt, rt.alloc(), b'x', TextCause::TooLong)?;
+    expect_endless_refused::<ThinState>(&rt, rt.alloc(), b'\n', TextCause::Header)?;
     Ok(())
 }

@@ -1,17 +1,19 @@
 -- What lines of a pool's text that were read say and mean.
-use Rattle.std.proofs.Common.{◌≡◌, ◌∙◌, ap, sym, refl, ℕ, ◌+◌, ◌^◌, ◌≤◌, ◌<◌, Bool, true, false, not, ◌&&◌, ◌||◌, ltb, leb, List, [], ◌∷◌, length, arith}
-use Rattle.std.proofs.lemmas.Bool.{true≢false}
+use Rattle.std.proofs.Common.{◌≡◌, ◌∙◌, ap, sym, refl, ℕ, ◌+◌, ◌^◌, ◌≤◌, ◌<◌, Bool, true, false, not, ◌&&◌, ◌||◌, eqb, ltb, leb, List, [], ◌∷◌, length, arith}
+use Rattle.std.proofs.lemmas.Bool.{true≢false, and_parts, not-true}
 use Rattle.std.proofs.lemmas.Bool.Decides.{nat_tests}
 use Rattle.std.proofs.lemmas.Option.{none-some}
 use Rattle.pd_kinds.specs.Meaning.{ThinPool}
 use Rattle.pd_grammar.specs.Texts.{has_ended}
-use Rattle.pd_grammar.proofs.GrammarLemmas.{Passes, is_read}
-use Rattle.pd_spells.specs.ThinText.{Line, first_line, shared_first_line, pool_line, leaf_line, device_line, use_line, map_line, end_line, Head, Details, Run, thin, thin_tests, data_blocks_of, least_id, leaf_number, has_device, piece_end, unmapped, has_number_out_of_range, is_out_of_order, is_mapped_otherwise, MeansPool}
+use Rattle.pd_grammar.specs.Tables.{format_of}
+use Rattle.pd_grammar.proofs.TableLemmas.{PlacedBy}
+use Rattle.pd_grammar.proofs.GrammarLemmas.{IsGrammar, Passes, is_read}
+use Rattle.pd_spells.specs.ThinText.{Line, first_line, shared_first_line, pool_line, leaf_line, device_line, use_line, map_line, end_line, Head, LeafHead, Details, Run, table_from, thin, thin_tests, data_blocks_of, is_shared, leaf_number, runs_of_leaf, least_of, number_in, least_id, has_device, piece_end, unmapped, has_number_out_of_range, is_out_of_order, is_mapped_otherwise, MeansPool}
 use Rattle.pd_spells.proofs.ThinRead.{FitsLine, Placed, thin_grammar}
 use Rattle.pd_spells.proofs.ThinLaws.{thin_language}
 use Rattle.pd_spells.proofs.ThinMeaning.{IsUnshared}
 use Rattle.pd_texts.specs.Reader.{IsReadAfter, AreReadSoFar, in_order}
-use Rattle.pd_texts.specs.ThinNext.{IsPoolLine, IsDeviceLine, IsMapLine, IsEndLine}
+use Rattle.pd_texts.specs.ThinNext.{IsPoolLine, IsLeafLine, IsDeviceLine, IsUseLine, IsRunLine, IsMapLine, IsEndLine}
 use Rattle.pd_texts.proofs.LawLemmas as any
 
 -- lines that were read up to the last one mean a pool
@@ -32,47 +34,109 @@ pool_says : (time size blocks : ℕ) → not (ltb time (2 ^ 32) && (ltb size (2 
     → (time < 2 ^ 32) × ((size < 2 ^ 32) × (blocks ≤ 2 ^ 40))
 pool_says time size blocks range = (grind (arith, nat_tests), (grind (arith, nat_tests), grind (arith, nat_tests)))
 
-pub pool_read : (before : List Line) (p : Head) → IsReadAfter thin before (pool_line p) → IsPoolLine before p
-pool_read before p one =
-    let is = is_read thin FitsLine Placed thin_grammar before one.bytes (pool_line p) one.is in
-    let tests = passed before (pool_line p) (omega (arith, is.placed)) is.passes in
-    let says = pool_says p.time p.block_size p.data_blocks tests.range in
-    record {
-      second = is.placed;
-      uuid_len = is.fits.0;
-      uuid_bytes = is.fits.1.0;
-      time_fits = says.0;
-      transaction_fits = is.fits.1.1.1.0;
-      block_size_fits = says.1.0;
-      data_blocks_fit = says.1.1;
-    }
-
 device_says : (created snapped id least left : ℕ) → not (ltb created (2 ^ 32) && ltb snapped (2 ^ 32)) ≡ false → ltb id least ≡ false → ltb 0 left ≡ false
     → (created < 2 ^ 32) × ((snapped < 2 ^ 32) × ((least ≤ id) × (left ≡ 0)))
 device_says created snapped id least left range order mapped =
     (grind (arith, nat_tests), (grind (arith, nat_tests), (grind (arith, nat_tests), grind (arith, nat_tests))))
 
-pub device_read : (before : List Line) (d : Details) → IsReadAfter thin before (device_line d) → IsDeviceLine before d
-device_read before d one =
-    let is = is_read thin FitsLine Placed thin_grammar before one.bytes (device_line d) one.is in
-    let tests = passed before (device_line d) (omega (arith, is.placed)) is.passes in
-    let says = device_says d.created d.snapped d.id (least_id before) (unmapped before) tests.range tests.order tests.mapped in
-    record {
-      later = is.placed;
-      above = says.1.1.0;
-      complete = says.1.1.1;
-      id_fits = is.fits.0;
-      mapped_fits = is.fits.1.0;
-      transaction_fits = is.fits.1.1.0;
-      created_fits = says.0;
-      snapped_fits = says.1.0;
-    }
+leaf_says : (number leaves n left : ℕ) → not (leb 1 n && leb n 252) ≡ false → not (eqb number leaves) ≡ false → ltb 0 left ≡ false
+    → (number ≡ leaves) × ((left ≡ 0) × ((1 ≤ n) × (n ≤ 252)))
+leaf_says number leaves n left range order mapped =
+    (grind (arith, nat_tests), (grind (arith, nat_tests), (grind (arith, nat_tests), grind (arith, nat_tests))))
+
+use_says : (number leaves least end left n : ℕ) → not (ltb number leaves) ≡ false → ltb least end ≡ false → ltb left n ≡ false
+    → (number < leaves) × ((end ≤ least) × (n ≤ left))
+use_says number leaves least end left n range order mapped = (grind (arith, nat_tests), (grind (arith, nat_tests), grind (arith, nat_tests)))
 
 map_says : (n end blocks_end blocks time v run left : ℕ) → not (ltb 0 n && (leb end (2 ^ 64) && (leb blocks_end blocks && ltb time (2 ^ 24)))) ≡ false
     → ltb v run ≡ false → ltb left n ≡ false
     → (1 ≤ n) × ((end ≤ 2 ^ 64) × ((blocks_end ≤ blocks) × ((time < 2 ^ 24) × ((run ≤ v) × (n ≤ left)))))
 map_says n end blocks_end blocks time v run left range order mapped =
     (grind (arith, nat_tests), (grind (arith, nat_tests), (grind (arith, nat_tests), (grind (arith, nat_tests), (grind (arith, nat_tests), grind (arith, nat_tests))))))
+
+end_says : (left : ℕ) → ltb 0 left ≡ false → left ≡ 0
+end_says left mapped = grind (arith, nat_tests)
+
+-- what a line says that was read, in a text that begins with one of these lines
+module _ (firsts : List Line) (grammar : IsGrammar (format_of (table_from firsts)) FitsLine (PlacedBy (table_from firsts))) where
+  pub pool_read : (before : List Line) (p : Head) → IsReadAfter (format_of (table_from firsts)) before (pool_line p) → IsPoolLine before p
+  pool_read before p one =
+      let is = is_read (format_of (table_from firsts)) FitsLine (PlacedBy (table_from firsts)) grammar before one.bytes (pool_line p) one.is in
+      let tests = passed before (pool_line p) (omega (arith, is.placed)) is.passes in
+      let says = pool_says p.time p.block_size p.data_blocks tests.range in
+      record {
+        second = is.placed;
+        uuid_len = is.fits.0;
+        uuid_bytes = is.fits.1.0;
+        time_fits = says.0;
+        transaction_fits = is.fits.1.1.1.0;
+        block_size_fits = says.1.0;
+        data_blocks_fit = says.1.1;
+      }
+
+  pub leaf_read : (before : List Line) (l : LeafHead) → IsReadAfter (format_of (table_from firsts)) before (leaf_line l) → IsLeafLine before l
+  leaf_read before l one =
+      let is = is_read (format_of (table_from firsts)) FitsLine (PlacedBy (table_from firsts)) grammar before one.bytes (leaf_line l) one.is in
+      let tests = passed before (leaf_line l) (omega (arith, is.placed.0)) is.passes in
+      let may = and_parts (is_shared before) (not (has_device before)) is.placed.1 in
+      let says = leaf_says l.number (leaf_number before) l.entries (unmapped before) tests.range tests.order tests.mapped in
+      record {
+        later = is.placed.0;
+        shared = may.0;
+        none = not-true (has_device before) may.1;
+        next = says.0;
+        complete = says.1.0;
+        some = says.1.1.0;
+        few = says.1.1.1;
+      }
+
+  pub use_read : (before : List Line) (number : ℕ) → IsReadAfter (format_of (table_from firsts)) before (use_line number) → IsUseLine before number
+  use_read before number one =
+      let is = is_read (format_of (table_from firsts)) FitsLine (PlacedBy (table_from firsts)) grammar before one.bytes (use_line number) one.is in
+      let tests = passed before (use_line number) (omega (arith, is.placed.0)) is.passes in
+      let may = and_parts (is_shared before) (has_device before) is.placed.1 in
+      let runs = runs_of_leaf before number in
+      let says = use_says number (leaf_number before) (least_of runs) (piece_end before) (unmapped before) (number_in runs) tests.range tests.order tests.mapped in
+      record { later = is.placed.0; shared = may.0; has_device = may.1; told = says.0; above = says.1.0; mapped = says.1.1 }
+
+  pub device_read : (before : List Line) (d : Details) → IsReadAfter (format_of (table_from firsts)) before (device_line d) → IsDeviceLine before d
+  device_read before d one =
+      let is = is_read (format_of (table_from firsts)) FitsLine (PlacedBy (table_from firsts)) grammar before one.bytes (device_line d) one.is in
+      let tests = passed before (device_line d) (omega (arith, is.placed)) is.passes in
+      let says = device_says d.created d.snapped d.id (least_id before) (unmapped before) tests.range tests.order tests.mapped in
+      record {
+        later = is.placed;
+        above = says.1.1.0;
+        complete = says.1.1.1;
+        id_fits = is.fits.0;
+        mapped_fits = is.fits.1.0;
+        transaction_fits = is.fits.1.1.0;
+        created_fits = says.0;
+        snapped_fits = says.1.0;
+      }
+
+  pub run_read : (before : List Line) (r : Run) → IsReadAfter (format_of (table_from firsts)) before (map_line r) → IsRunLine before r
+  run_read before r one =
+      let is = is_read (format_of (table_from firsts)) FitsLine (PlacedBy (table_from firsts)) grammar before one.bytes (map_line r) one.is in
+      let tests = passed before (map_line r) (omega (arith, is.placed.0)) is.passes in
+      let says = map_says r.length (r.virtual_block + r.length) (r.data_block + r.length) (data_blocks_of before) r.time r.virtual_block (piece_end before) (unmapped before)
+      tests.range tests.order tests.mapped in
+      record {
+        later = is.placed.0;
+        placed = is.placed.1;
+        some = says.0;
+        above = says.1.1.1.1.0;
+        virtual_fits = says.1.0;
+        within = says.1.1.0;
+        time_fits = says.1.1.1.0;
+        mapped = says.1.1.1.1.1;
+      }
+
+  pub end_read : (before : List Line) → IsReadAfter (format_of (table_from firsts)) before end_line → IsEndLine before
+  end_read before one =
+      let is = is_read (format_of (table_from firsts)) FitsLine (PlacedBy (table_from firsts)) grammar before one.bytes end_line one.is in
+      let tests = passed before end_line (omega (arith, is.placed)) is.passes in
+      record { later = is.placed; complete = end_says (unmapped before) tests.mapped }
 
 -- no line of version 2 is read
 unshared : (before : List Line) → AreReadSoFar thin before → IsUnshared before
@@ -98,27 +162,14 @@ in_device before unshared placed = sym (or_false (has_device before)) ∙ rw uns
 
 pub map_read : (before : List Line) (r : Run) → AreReadSoFar thin (map_line r ∷ before) → IsMapLine before r
 map_read before r so_far =
-    let one = so_far.0 in
-    let is = is_read thin FitsLine Placed thin_grammar before one.bytes (map_line r) one.is in
-    let tests = passed before (map_line r) (omega (arith, is.placed.0)) is.passes in
-    let says = map_says r.length (r.virtual_block + r.length) (r.data_block + r.length) (data_blocks_of before) r.time r.virtual_block (piece_end before) (unmapped before)
-    tests.range tests.order tests.mapped in
+    let one = run_read (first_line ∷ []) thin_grammar before r so_far.0 in
     record {
-      later = is.placed.0;
-      has_device = in_device before (unshared before so_far.1) is.placed.1;
-      some = says.0;
-      above = says.1.1.1.1.0;
-      virtual_fits = says.1.0;
-      within = says.1.1.0;
-      time_fits = says.1.1.1.0;
-      mapped = says.1.1.1.1.1;
+      later = one.later;
+      has_device = in_device before (unshared before so_far.1) one.placed;
+      some = one.some;
+      above = one.above;
+      virtual_fits = one.virtual_fits;
+      within = one.within;
+      time_fits = one.time_fits;
+      mapped = one.mapped;
     }
-
-end_says : (left : ℕ) → ltb 0 left ≡ false → left ≡ 0
-end_says left mapped = grind (arith, nat_tests)
-
-pub end_read : (before : List Line) → IsReadAfter thin before end_line → IsEndLine before
-end_read before one =
-    let is = is_read thin FitsLine Placed thin_grammar before one.bytes end_line one.is in
-    let tests = passed before end_line (omega (arith, is.placed)) is.passes in
-    record { later = is.placed; complete = end_says (unmapped before) tests.mapped }

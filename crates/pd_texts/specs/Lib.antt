@@ -6,10 +6,11 @@ pub mod Stage
 pub mod Headers
 pub mod ThinLine
 pub mod ThinKind
-pub mod FirstLine
-pub mod FirstThinState
+pub mod Leaves
 pub mod Printed
 pub mod ThinLaws
+pub mod ThinState
+pub mod FirstThinState
 pub mod ThinPrinted
 pub mod ThinNext
 pub mod Made

@@ -6,6 +6,7 @@
 
 mod fault;
 mod first_thin_state;
+mod leaves;
 mod made;
 mod print;
 mod reader;
@@ -15,6 +16,8 @@ mod thin_kind;
 mod thin_laws;
 mod thin_line;
 mod thin_print;
+mod thin_state;
+mod thin_text;
 mod values;
 mod words;
 
@@ -26,10 +29,12 @@ pub use reader::TextReader;
 pub use stage::Stage;
 pub use state::TextState;
 pub use thin_laws::{
-    pool_text_is_its_lines, read_thin_lines_are_in_range, read_thin_lines_mean_a_pool,
-    thin_lines_are_printed_in_order, whole_thin_text_spells,
+    pool_text_is_its_lines, read_pool_lines_are_in_range, read_thin_lines_are_in_range,
+    read_thin_lines_mean_a_pool, thin_lines_are_printed_in_order, whole_thin_text_spells,
 };
 pub use thin_line::{Run2, ThinLine};
 pub use thin_print::{bytes_of_shared_first, bytes_of_thin, print_shared_first, print_thin};
+pub use thin_state::ThinState;
+pub use thin_text::ThinText;
 pub use values::read_values;
 pub use words::{cut_word, number_word, read_uuid};

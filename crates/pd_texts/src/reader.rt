@@ -29,8 +29,15 @@ impl<P: TextState> TextReader<P> {
     {
         Ok(TextReader {
             reader: LineReader::new(alloc)?,
-            state: P::start(),
+            state: P::start(alloc),
         })
+    }
+
+    /// What the lines so far say of the next one.
+    pub(crate) fn state(&self) -> &P
+        ensures { result.now ≡ self.now.state }
+    {
+        &self.state
     }
 
     /// What the next line gives that isn't the first one; none exactly where the last line and then the end of the

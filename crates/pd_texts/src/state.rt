@@ -1,11 +1,11 @@
-ghost use Rattle.std.specs.Prelude.{◌≡◌, ◌==◌, ◌≤◌, ℕ, List, [], ◌∷◌, length, Option, Some, None, is_none, true, false, IfOk, IfErr};
+ghost use Rattle.std.specs.Prelude.{◌≡◌, ◌==◌, ◌≤◌, ℕ, List, [], ◌∷◌, length, Option, Some, None, is_none, true, false, IfOk, IfErr, OnOk};
 ghost use Rattle.std.specs.List.{list_all};
 ghost use Rattle.pd_grammar.specs.Words.{is_printable};
 ghost use Rattle.pd_grammar.specs.Texts.{TextFormat, read};
 ghost use Rattle.pd_texts.specs.Seen.{seen_by};
 
 use pd_grammar::TextCause;
-use std::alloc::AllocError;
+use std::alloc::{AllocError, Global};
 
 /// What the lines so far say of the next one, in one kind of text.
 pub trait TextState: Drop {
@@ -28,7 +28,7 @@ pub trait TextState: Drop {
     ghost Stands: { Self → List Meant → Type 0 };
 
     /// No line was read.
-    fn start() -> Self
+    fn start(alloc: Global) -> Self
         ensures { Stands result [] };
 
     /// Whether no line was read.
@@ -37,6 +37,9 @@ pub trait TextState: Drop {
 
     /// Whether what the lines so far say of later ones may want more memory.
     ghost CanWantMemory: { Self → Type 0 };
+
+    /// There is the memory that the next line may want.
+    ghost HasRoom: { Self → Type 0 };
 
     /// Reads the first line, and answers whether it is one of the format.
     fn read_first(&mut self, text: &[u8]) -> bool
@@ -48,12 +51,14 @@ pub trait TextState: Drop {
     fn make_room(&mut self) -> Result<(), AllocError>
         ensures stands { (before : List Meant) → Stands self.old before → Stands self.new before }
         ensures first { first_line self.new ≡ first_line self.old }
+        ensures room { OnOk result (HasRoom self.new) }
         ensures memory { IfErr result (λ _. CanWantMemory self.new) };
 
     /// Reads a later line, of which none is the last one, or says why it is refused. After an error it says nothing
     /// of what a further call gives. It takes no memory.
     fn read(&mut self, text: &[u8]) -> Result<Option<Self::Line>, TextCause>
-        requires { list_all is_printable text.now ≡ true }
+        requires text { list_all is_printable text.now ≡ true }
+        requires room { HasRoom self.old }
         ensures line { (before : List Meant) → Stands self.old before → 1 ≤ length before
             → seen_by meant result ≡ read format before text.now }
         ensures after { (before : List Meant) → Stands self.old before → 1 ≤ length before

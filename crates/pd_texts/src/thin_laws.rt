@@ -5,10 +5,10 @@ ghost use Rattle.std.specs.List.{flat_map};
 ghost use Rattle.pd_kinds.specs.Meaning.{ThinPool};
 ghost use Rattle.pd_kinds.specs.declared.kind.Kind.TheVariants.{Thin};
 ghost use Rattle.pd_grammar.specs.Texts.{has_ended, reading, text_of_lines, whole};
-ghost use Rattle.pd_spells.specs.ThinText.{Line, Head, Details, Run, first_line, pool_line, device_line, map_line, end_line, head_of, thin, text_of_pool, MeansPool, SpellsPool};
+ghost use Rattle.pd_spells.specs.ThinText.{Line, Head, LeafHead, Details, Run, first_line, pool_line, leaf_line, device_line, use_line, map_line, end_line, head_of, thin, pool_format, text_of_pool, MeansPool, SpellsPool};
 ghost use Rattle.pd_texts.specs.Printed.{text_of_line, first_text, end_text};
 ghost use Rattle.pd_texts.specs.ThinPrinted.{device_text};
-ghost use Rattle.pd_texts.specs.ThinNext.{IsPoolLine, IsDeviceLine, IsMapLine, IsEndLine};
+ghost use Rattle.pd_texts.specs.ThinNext.{IsPoolLine, IsLeafLine, IsDeviceLine, IsUseLine, IsRunLine, IsMapLine, IsEndLine};
 ghost use Rattle.pd_texts.specs.Reader.{in_order, IsReadAfter, AreReadSoFar};
 
 /// A text of which no line is refused is the text of its lines; they mean a pool, which it spells.
@@ -41,4 +41,14 @@ pub fn read_thin_lines_are_in_range()
     ensures device { (before : List Line) (d : Details) → IsReadAfter thin before (device_line d) → IsDeviceLine before d }
     ensures map { (before : List Line) (r : Run) → AreReadSoFar thin (map_line r ∷ before) → IsMapLine before r }
     ensures end { (before : List Line) → IsReadAfter thin before end_line → IsEndLine before }
+{}
+
+/// What is known of the numbers of each line that was read after others, in a text of either version.
+pub fn read_pool_lines_are_in_range()
+    ensures pool { (before : List Line) (p : Head) → IsReadAfter pool_format before (pool_line p) → IsPoolLine before p }
+    ensures leaf { (before : List Line) (l : LeafHead) → IsReadAfter pool_format before (leaf_line l) → IsLeafLine before l }
+    ensures device { (before : List Line) (d : Details) → IsReadAfter pool_format before (device_line d) → IsDeviceLine before d }
+    ensures used { (before : List Line) (number : ℕ) → IsReadAfter pool_format before (use_line number) → IsUseLine before number }
+    ensures map { (before : List Line) (r : Run) → IsReadAfter pool_format before (map_line r) → IsRunLine before r }
+    ensures end { (before : List Line) → IsReadAfter pool_format before end_line → IsEndLine before }
 {}

@@ -10,20 +10,20 @@ use Rattle.pd_era_texts.proofs.state.EraStateTextState.read.Goals as goal
 
 pub returns-in-None-clause-line : goal.returns-in-None-clause-line
 returns-in-None-clause-line c = λ before stands some.
-    read_none era_table before c.args.text.now c.cut_word.result.0.now (words_in c.cut_word.result.1) some c.requires c.cut_word.ensures c.in-None.ensures
+    read_none era_table before c.args.text.now c.cut_word.result.0.now (words_in c.cut_word.result.1) some c.requires.text c.cut_word.ensures c.in-None.ensures
 
 pub returns-then-not-may_stand-clause-line : goal.returns-then-not-may_stand-clause-line
 returns-then-not-may_stand-clause-line c = λ before stands some.
-    read_elsewhere era_table before c.args.text.now c.cut_word.result.0.now (words_in c.cut_word.result.1) some c.requires c.cut_word.ensures (kind_meant c.in-Some.kind) c.in-Some.ensures
+    read_elsewhere era_table before c.args.text.now c.cut_word.result.0.now (words_in c.cut_word.result.1) some c.requires.text c.cut_word.ensures (kind_meant c.in-Some.kind) c.in-Some.ensures
     (c.if-not-may_stand.ensures before stands)
 
 pub returns-in-Ok-clause-line : goal.returns-in-Ok-clause-line
 returns-in-Ok-clause-line c = λ before stands some.
-    read_words era_table before c.args.text.now c.cut_word.result.0.now (words_in c.cut_word.result.1) some c.requires c.cut_word.ensures (kind_meant c.in-Some.kind)
+    read_words era_table before c.args.text.now c.cut_word.result.0.now (words_in c.cut_word.result.1) some c.requires.text c.cut_word.ensures (kind_meant c.in-Some.kind)
     (values_at (kind_meant c.in-Some.kind).fields (name_at c.read_values.new.names) (slice_index c.read_values.new.numbers)) (seen_by era_meant c.take.result) c.in-Some.ensures
     (c.if-not-may_stand.ensures before stands) (rw (← c.fields.ensures.fields) c.in-Ok.ensures) (c.take.ensures.line before stands some)
 
 pub returns-in-Err-clause-line : goal.returns-in-Err-clause-line
 returns-in-Err-clause-line c = λ before stands some.
-    read_err era_table before c.args.text.now c.cut_word.result.0.now (words_in c.cut_word.result.1) some c.requires c.cut_word.ensures (kind_meant c.in-Some.kind) c.in-Err.cause c.in-Some.ensures
+    read_err era_table before c.args.text.now c.cut_word.result.0.now (words_in c.cut_word.result.1) some c.requires.text c.cut_word.ensures (kind_meant c.in-Some.kind) c.in-Err.cause c.in-Some.ensures
     (c.if-not-may_stand.ensures before stands) (rw (← c.fields.ensures.fields) c.in-Err.ensures)

@@ -1,0 +1,5 @@
+use Rattle.pd_texts.proofs.LeafLemmas.{unused_is}
+use Rattle.pd_texts.proofs.leaves.Leaves.has_unused.Goals as goal
+
+pub returns : goal.returns
+returns c = unused_is c.args.self.now
