@@ -13,4 +13,6 @@ pub mod Restores
 pub mod Repairs
 pub mod Rehearsals
 pub mod Writebacks
+pub mod MovedPool
+pub mod Shrinks
 pub mod Promises

@@ -1,0 +1,120 @@
+-- The terms of a shrink: the data blocks past a pool's new end are moved below it, and new metadata is written.
+use Rattle.std.specs.Prelude.{◌≡◌, ◌≢◌, ◌⊎◌, ℕ, nat_lt, not, ◌==◌, if◌then◌else◌, List, [], ◌∷◌, ◌++◌, length, map, Option, Some, None, IfSome, codes, decimal}
+use Rattle.pd_kinds.specs.declared.kind.Kind.TheVariants.{Thin}
+use Rattle.pd_kinds.specs.declared.kind.Stage.TheVariants.{Counts}
+use Rattle.pd_kinds.specs.Crash.{HoldsOldOrNone, HoldsSynced, IsUntouched, LeavesOnly}
+use Rattle.pd_kinds.specs.Meaning.{ThinPool, thin_meaning}
+use Rattle.pd_kinds.specs.Report.{Reported, report_of}
+use Rattle.pd_kinds.specs.Stages.{faults, CanWantMemory}
+use Rattle.pd_spells.specs.Lines.{reported_lines, no_room_line}
+use Rattle.pd_spells.specs.ThinNeed.{thin_need}
+use Rattle.pd_answers.specs.Answer.{Answer, Objects, reading, writing}
+use Rattle.pd_answers.specs.CachedView.{blocks_each, is_block_size_bad}
+use Rattle.pd_answers.specs.MovedPool.{Move, end_of_pool, sources, free_blocks, moves_to, moved_pool, copy_of_move, data_after, moved_need, data_need}
+use Rattle.pd_answers.specs.Outputs.{IsRoom, LeavesMade}
+use Rattle.pd_answers.specs.Reads.{any_reads}
+use Rattle.pd_answers.specs.Repairs.{LaysPool}
+use Rattle.pd_answers.specs.Terms.{Terms, unnamed}
+use Rattle.pd_answers.specs.Writebacks.{HasBlocks, KeepsOthers, block_size_line, noted}
+
+-- the line after the work: how many data blocks were moved
+abbrev pub moved_line : ℕ → List ℕ
+moved_line n = codes "moved " ++ (decimal n ++ (10 ∷ []))
+
+-- what a shrink goes by: what the pool means, its new number of data blocks and the free ones below that, how many blocks
+-- the data device has, and how many there are for the new metadata
+pub record ShrinkGround : Type 0 where
+  pub pool : ThinPool
+  pub end : ℕ
+  pub free : List ℕ
+  pub data_blocks : ℕ
+  pub room : ℕ
+
+-- what is moved, and the pool afterwards
+abbrev pub moves_of : ShrinkGround → List Move
+moves_of ground = moves_to (sources ground.pool ground.end) ground.free
+
+abbrev pub pool_after : ShrinkGround → ThinPool
+pool_after ground = moved_pool ground.pool ground.end (moves_of ground)
+
+-- why a pool isn't made smaller: the block size is none, or so many blocks are needed and there are so many
+pub data Lack : Type 0 where
+  bad_block_size : Lack
+  no_room : ℕ → ℕ → Lack
+
+abbrev pub or_lack : ℕ → ℕ → Option Lack → Option Lack
+or_lack need blocks lack = if nat_lt blocks need then Some (no_room need blocks) else lack
+
+-- the first of these: the block size, then what the smaller pool, the data device, and the output would need
+unfoldable pub lack_of : ShrinkGround → Option Lack
+lack_of ground =
+    if is_block_size_bad ground.pool.block_size then Some bad_block_size
+    else or_lack (moved_need ground.pool ground.end ground.free) ground.end
+    (or_lack (data_need (blocks_each ground.pool.block_size) (sources ground.pool ground.end)) ground.data_blocks
+    (or_lack (thin_need (pool_after ground) ground.room) ground.room None))
+
+-- what a shrink finds: the report of the check before it, and what it goes by
+pub record ShrinkFound : Type 0 where
+  pub report : Reported
+  pub ground : ShrinkGround
+
+-- what it goes by is that of an image
+pub record IsGroundOf (image : List (List ℕ)) (blocks : ℕ) (ground : ShrinkGround) : Type 0 where
+  pub pool : ground.pool ≡ thin_meaning image
+  pub end : ground.end ≡ end_of_pool (thin_meaning image) blocks
+  pub free : ground.free ≡ free_blocks image ground.end
+
+-- what it finds is right
+pub record FindsShrink (blocks : ℕ) (before after : Objects) (found : ShrinkFound) : Type 0 where
+  pub pool_device : HasBlocks before.third after.third found.ground.data_blocks
+  pub output : IsRoom before.output after.output found.ground.room
+  pub told : IfSome before.input.held (λ image. (found.report ≡ report_of (faults Thin Counts image)) × IsGroundOf image blocks found.ground)
+
+-- a shrink puts a line with the number of moved blocks after its work; else why it made nothing, to `notes`
+abbrev pub answer_to : Option Lack → ShrinkGround → Answer
+answer_to None ground = record { status = 0; out = moved_line (length (sources ground.pool ground.end)); notes = [] }
+answer_to (Some bad_block_size) ground = noted 1 block_size_line
+answer_to (Some (no_room need blocks)) ground = noted 4 (no_room_line need blocks)
+
+-- before that stands the report of metadata with faults
+abbrev pub shrink_answer : ShrinkFound → Answer
+shrink_answer found =
+    if not (found.report.total == 0) then noted 1 (reported_lines found.report)
+    else answer_to (lack_of found.ground) found.ground
+
+-- what a shrink leaves of the output and of the data device; the input isn't written
+pub record LeavesShrunk (found : ShrinkFound) (before after : Objects) (status : ℕ) : Type 0 where
+  -- under every status, a crash at any moment of the call leaves the data device as it was but for the targets
+  pub copies : IfSome before.third.held (λ held. LeavesOnly
+      (λ image firsts. KeepsOthers (blocks_each found.ground.pool.block_size) (map copy_of_move (moves_of found.ground)) held image) before.third after.third)
+  -- and it leaves the output as it was, with the smaller pool, or without a valid superblock
+  pub output : LeavesMade (LaysPool (shrink_answer found) (pool_after found.ground) found.ground.room) (not ((shrink_answer found).status == 0)) status before.output after.output
+  -- the output isn't written before a crash leaves all of the moved blocks in their places
+  pub order : IfSome before.third.held (λ held. IsUntouched before.output after.output
+      ⊎ HoldsSynced (data_after (blocks_each found.ground.pool.block_size) (moves_of found.ground) held) after.third)
+  -- at status 0 a crash from then on leaves them so
+  pub moved : status ≡ 0 → IfSome before.third.held (λ held. HoldsSynced (data_after (blocks_each found.ground.pool.block_size) (moves_of found.ground) held) after.third)
+  -- what is refused leaves both alone, and where nothing is moved the data device is left alone
+  pub refused : (shrink_answer found).status ≢ 0 → IsUntouched before.output after.output × IsUntouched before.third after.third
+  pub nothing_moved : sources found.ground.pool found.ground.end ≡ [] → IsUntouched before.third after.third
+  -- the line comes after the work: at any status but 0 and 6 the output is as it was, or has no valid superblock, unless it
+  -- failed itself
+  pub kept : status ≢ 0 → status ≢ 6 → after.output.faults ≡ before.output.faults → HoldsOldOrNone before.output after.output
+  -- the data device is written before the output, and the input is read before either: a fault of one leaves the later ones alone
+  pub output_spared : status ≡ 5 → after.output.faults ≡ before.output.faults → IsUntouched before.output after.output
+  pub data_spared : status ≡ 5 → after.output.faults ≡ before.output.faults → after.third.faults ≡ before.third.faults → IsUntouched before.third after.third
+
+-- a shrink reads the metadata, writes new metadata to the output, and reads and writes the data device
+abbrev pub shrink : List ℕ → List ℕ → List ℕ → ℕ → Terms
+shrink metadata output pool blocks = record {
+  uses = record unnamed { out = reading []; input = reading metadata; output = writing output; third = writing pool };
+  Finding = ShrinkFound;
+  finds = FindsShrink blocks;
+  answer = shrink_answer;
+  statuses = 0 ∷ 1 ∷ 4 ∷ 5 ∷ 7 ∷ [];
+  memory = λ before. CanWantMemory Thin Counts before.input.held;
+  silent = 1 ∷ 4 ∷ 5 ∷ 7 ∷ [];
+  spared = λ found. (shrink_answer found).status ≢ 0;
+  reads = any_reads;
+  leaves = LeavesShrunk;
+}
