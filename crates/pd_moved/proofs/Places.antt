@@ -1,44 +1,19 @@
 -- Where a moved data block and its blocks are, by the moves.
-use Rattle.std.proofs.Common.{◌≡◌, ◌⊎◌, inl, inr, ℕ, zero, suc, ◌+◌, ◌-◌, ◌*◌, ◌<◌, ◌≤◌, true, false, nat_eq, nat_le, nat_lt, List, [], ◌∷◌, length, map, Some, None, refl, ap, ◌∙◌, arith}
+use Rattle.std.proofs.Common.{◌≡◌, inl, inr, ℕ, ◌+◌, ◌-◌, ◌*◌, ◌<◌, ◌≤◌, false, nat_eq, List, [], ◌∷◌, length, map, Some, None, refl, ap, ◌∙◌, arith}
 use Rattle.std.specs.List.{AllByRecursion, list_any}
-use Rattle.std.proofs.Math.Nat.{mul-le-mul_right, suc-mul}
-use Rattle.std.proofs.lemmas.Bool.{and_from, and_left, and_right, cases_Bool, cases_order, eqb-false, eqb-true, le-leb, le-ltb, lt-leb, lt-ltb, or_from}
-use Rattle.pd_answers.specs.CachedView.{fast_place, stands_for}
+use Rattle.std.proofs.lemmas.Bool.{cases_Bool, eqb-true, or_from}
+use Rattle.pd_answers.specs.CachedView.{fast_place}
 use Rattle.pd_answers.specs.MovedPool.{Move, copy_of_move, moved_to, moves_to}
+use Rattle.pd_settled.proofs.PlaceLemmas.{stands_here, stands_not}
 use Rattle.pd_moved.specs.Moving.{AreBelow, Ascend}
 
 module _ (k : ℕ) where
-  one_more : (n : ℕ) → (n + 1) * k ≡ n * k + k
-  one_more n = grind arith
-
-  -- a copy stands for the blocks of its target, and for those of no other one
-  stands_here : (x b j : ℕ) → j < k → stands_for k (record { cache_block = x; origin_block = b }) (b * k + j) ≡ true
-  stands_here x b j inside =
-      let ends = one_more b in
-      and_from (nat_le (b * k) (b * k + j)) (nat_lt (b * k + j) ((b + 1) * k)) (le-leb _ _ (omega arith)) (lt-ltb _ _ (omega arith))
-
-  stands_not : (x b d j : ℕ) → j < k → (b ≡ d → ⊥) → stands_for k (record { cache_block = x; origin_block = b }) (d * k + j) ≡ false
-  stands_not x b d j inside apart = elim (cases_order b d) [
-    | inl same ↦ absurd (apart same)
-    | inr other ↦ elim other [
-      | inl before ↦
-          let ends = one_more b in
-          let up : suc b * k ≤ d * k = mul-le-mul_right k before in
-          let next : suc b * k ≡ b * k + k = suc-mul b k in
-          and_right (nat_le (b * k) (d * k + j)) (nat_lt (d * k + j) ((b + 1) * k)) (le-ltb (d * k + j) ((b + 1) * k) (omega arith))
-      | inr behind ↦
-          let up : suc d * k ≤ b * k = mul-le-mul_right k behind in
-          let next : suc d * k ≡ d * k + k = suc-mul d k in
-          and_left (nat_le (b * k) (d * k + j)) (nat_lt (d * k + j) ((b + 1) * k)) (lt-leb (b * k) (d * k + j) (omega arith))
-    ]
-  ]
-
   -- nothing is copied to a block that is none of the targets
-  pub not_moved : (d j : ℕ) → j < k → (ds free : List ℕ) → AllByRecursion (λ b. b ≡ d → ⊥) free → fast_place k (map copy_of_move (moves_to ds free)) (d * k + j) ≡ None
+  pub not_moved : (d j : ℕ) → j < k → (ds free : List ℕ) → AllByRecursion (λ b. d ≡ b → ⊥) free → fast_place k (map copy_of_move (moves_to ds free)) (d * k + j) ≡ None
   unfolding fast_place
   not_moved d j inside [] free apart = refl
   not_moved d j inside (x ∷ ds) [] apart = refl
-  not_moved d j inside (x ∷ ds) (b ∷ free) apart = rw (stands_not x b d j inside apart.0) (not_moved d j inside ds free apart.1)
+  not_moved d j inside (x ∷ ds) (b ∷ free) apart = rw (stands_not k (record { cache_block = x; origin_block = b }) d j inside apart.0) (not_moved d j inside ds free apart.1)
 
   -- a data block stays, or it is one of those to be moved and its blocks are copied to a target
   pub data IsWhere (P : ℕ → Type 0) (least end : ℕ) (moves : List Move) (d : ℕ) : Type 0 where
@@ -56,12 +31,12 @@ module _ (k : ℕ) where
         goes b (rw here refl) (rw same at all.0) ascend.0 below.0
         (λ j inside.
         let place : x * k + (b * k + j - b * k) ≡ x * k + j = omega arith in
-        rw (stands_here x b j inside) (ap (λ (n : ℕ). Some n) (place ∙ ap (λ (y : ℕ). y * k + j) same)))
+        rw (stands_here k (record { cache_block = x; origin_block = b }) j inside) (ap (λ (n : ℕ). Some n) (place ∙ ap (λ (y : ℕ). y * k + j) same)))
     | inr other ↦ elim (where_is P end (b + 1) d ds free all.1 below.1 ascend.1) [
       | stays is ↦ stays (rw other is)
       | goes t is holds from under places ↦
           let first = ascend.0 in
-          goes t (rw other is) holds (omega arith) under (λ j inside. rw (stands_not x b t j inside (λ same. omega arith)) (places j inside))
+          goes t (rw other is) holds (omega arith) under (λ j inside. rw (stands_not k (record { cache_block = x; origin_block = b }) t j inside (λ same. omega arith)) (places j inside))
     ]
   ]
 

@@ -1,6 +1,6 @@
 -- What the devices of a pool read while data blocks are moved, and once they are.
 use Rattle.std.proofs.Common.{◌≡◌, inl, inr, ℕ, zero, suc, ◌+◌, ◌*◌, ◌<◌, ◌≤◌, nat_eq, List, [], ◌∷◌, length, map, Option, Some, None, refl, sym, ap, ap₂, ◌∙◌, arith}
-use Rattle.std.specs.List.{AllByRecursion, find, range_with_len, slice_get}
+use Rattle.std.specs.List.{find, range_with_len, slice_get}
 use Rattle.std.specs.Option.{option_and_then, option_map, unwrap_or}
 use Rattle.std.proofs.Math.Nat.{mul-le-mul_right, suc-mul}
 use Rattle.std.proofs.lemmas.Bool.{cases_Bool}
@@ -13,7 +13,7 @@ use Rattle.pd_answers.specs.MovedPool.{Move, ReadTheSame, blocks_of_data, copy_o
 use Rattle.pd_answers.specs.Writebacks.{KeepsOthers}
 use Rattle.pd_settled.proofs.ViewLemmas.{overlaid_keeps}
 use Rattle.pd_moved.specs.Moving.{AreFree, AreUnnamed}
-use Rattle.pd_moved.proofs.Places.{IsWhere, not_moved, where_is}
+use Rattle.pd_moved.proofs.Places.{not_moved, where_is}
 use Rattle.pd_moved.proofs.Places.IsWhere.{stays, goes}
 use Rattle.pd_moved.proofs.Sources.{IsNamed, IsPast, apart_from, each_past, is_named}
 

@@ -1,8 +1,8 @@
 -- The data blocks that mappings name, and those of them that are to be moved.
-use Rattle.std.proofs.Common.{◌≡◌, inl, inr, ℕ, zero, suc, ◌+◌, ◌*◌, ◌<◌, ◌≤◌, max, Bool, true, false, nat_eq, nat_le, ◌&&◌, List, [], ◌∷◌, map, filter, fold, Some, refl, le_refl, le_trans, arith, eq-eqb}
+use Rattle.std.proofs.Common.{◌≡◌, inl, inr, ℕ, zero, suc, ◌+◌, ◌*◌, ◌<◌, ◌≤◌, max, Bool, true, false, nat_eq, nat_le, ◌&&◌, List, [], ◌∷◌, map, filter, fold, Some, refl, le_trans, subst, arith, eq-eqb}
 use Rattle.std.specs.List.{AllByRecursion, find, flat_map, list_any, range_with_len}
 use Rattle.std.specs.Option.{option_and_then, option_map}
-use Rattle.std.proofs.Math.Nat.{le-max_left, le-max_right}
+use Rattle.std.proofs.Math.Nat.{le-max_right}
 use Rattle.std.proofs.lemmas.Bool.{and_from, and_parts, both_ways, cases_Bool, cases_eq, cases_lt, le-leb, leb-true, or_left, or_right}
 use Rattle.std.proofs.lemmas.Option.{none-some, same_Some}
 use Rattle.pd_kinds.specs.Meaning.{Mapping, ThinDevice, ThinPool}
@@ -11,6 +11,7 @@ use Rattle.pd_answers.specs.MovedPool.{data_block_of, data_need, mapping_at, sou
 use Rattle.pd_laws.proofs.AllLemmas.{all_from, all_from_two, all_of}
 use Rattle.pd_laid_graph.proofs.CheckLemmas.{all_filtered}
 use Rattle.pd_laid_graph.proofs.ListLemmas.{any_back, any_front}
+use Rattle.pd_settled.proofs.PlaceLemmas.{from_first}
 use Rattle.pd_moved.specs.Moving.{AreUnnamed}
 
 -- a mapping names the block
@@ -40,10 +41,10 @@ unfolding data_block_of
 is_named m id virtual_block d found = in_devices id virtual_block d m.devices found
 
 -- so it is none of those that no mapping names
-pub apart_from : (m : ThinPool) (d : ℕ) (free : List ℕ) → IsNamed m d → AreUnnamed m free → AllByRecursion (λ b. b ≡ d → ⊥) free
+pub apart_from : (m : ThinPool) (d : ℕ) (free : List ℕ) → IsNamed m d → AreUnnamed m free → AllByRecursion (λ b. d ≡ b → ⊥) free
 apart_from m d free named unnamed =
-    all_from (λ f. list_any (λ b. nat_eq b f) (mapped_data m) ≡ false) (λ b. b ≡ d → ⊥)
-    (λ f none same. both_ways (list_any (λ b. nat_eq b f) (mapped_data m)) none (rw same named)) free unnamed
+    all_from (λ b. list_any (λ x. nat_eq x b) (mapped_data m) ≡ false) (λ b. d ≡ b → ⊥)
+    (λ b none same. both_ways (list_any (λ x. nat_eq x b) (mapped_data m)) none (subst (IsNamed m) same named)) free unnamed
 
 -- what a filter keeps of a range has each number that passes
 kept_in : (test : ℕ → Bool) (a n d : ℕ) → a ≤ d → d < a + n → test d ≡ true → list_any (λ x. nat_eq x d) (filter test (range_with_len a n)) ≡ true
@@ -75,11 +76,6 @@ sources_past m end =
     let test : ℕ → Bool = λ x. nat_le end x && list_any (λ b. nat_eq b x) (mapped_data m) in
     all_filtered (λ d. end ≤ d) test (range_with_len 0 m.data_blocks)
     (all_of (λ d. test d ≡ true → end ≤ d) (λ d passes. leb-true end d (and_parts (nat_le end d) (list_any (λ b. nat_eq b d) (mapped_data m)) passes).0) (range_with_len 0 m.data_blocks))
-
--- a greatest number is no lower than what it began with
-from_first : (first : ℕ) (xs : List ℕ) → first ≤ fold max first xs
-from_first first [] = le_refl first
-from_first first (x ∷ xs) = le_trans (le-max_left first x) (from_first (max first x) xs)
 
 -- and the data device that is needed has each of them
 each_needed : (k least room : ℕ) (ds : List ℕ) → fold max least (map (λ d. (d + 1) * k) ds) ≤ room → AllByRecursion (λ d. (d + 1) * k ≤ room) ds

@@ -14,8 +14,7 @@ ghost use Rattle.pd_moved.specs.Moving.{AreFree, AreUnnamed, IsMoving};
 
 use pd_laws::trees_are_in_order;
 use pd_tree::{
-    edges_lead_to_reached_pairs, entries_lead_to_reached_pairs, formats_have_trees,
-    superblocks_lead_to_reached_roots,
+    entries_lead_to_reached_pairs, formats_have_trees, superblocks_lead_to_reached_roots,
 };
 
 /// Of a pool without faults up to the stage Order, or up to a later one, no mapping names a free data block.
@@ -26,7 +25,6 @@ pub fn free_blocks_are_read_by_none()
     trees_are_in_order();
     formats_have_trees();
     superblocks_lead_to_reached_roots();
-    edges_lead_to_reached_pairs();
     entries_lead_to_reached_pairs();
 }
 

@@ -12,5 +12,5 @@ returns c = λ until image end looks none.
     let ordered = c.trees_are_in_order.ensures.in_order Thin until image looks none in
     let roots = c.superblocks_lead_to_reached_roots.ensures.thin until image looks none in
     let trees = c.formats_have_trees.ensures.thin (block_at image 0) in
-    free_are_free image lawful ordered (λ b role reached. c.edges_lead_to_reached_pairs.ensures.edges graph image b role lawful reached)
+    free_are_free image ordered
     (c.entries_lead_to_reached_pairs.ensures graph image (thin_fields (block_at image 0)).mapping_root 2 8 3 (λ v. v) trees.devices lawful ordered roots.devices) end
