@@ -18,7 +18,7 @@ abbrev pub Ascend : ℕ → List ℕ → Type 0
 Ascend least [] = Unit {0}
 Ascend least (d ∷ ds) = (least ≤ d) × Ascend (d + 1) ds
 
--- free blocks are all of this
+-- free blocks: unnamed, below the new end, ascending
 pub record AreFree (m : ThinPool) (end : ℕ) (free : List ℕ) : Type 0 where
   pub unnamed : AreUnnamed m free
   pub below : AreBelow end free
