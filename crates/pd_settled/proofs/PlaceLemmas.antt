@@ -112,7 +112,7 @@ module _ (k b : ℕ) (test : CacheEntry → Bool) where
   ]
 
 -- a greatest number is no lower than what it began with
-from_first : (first : ℕ) (xs : List ℕ) → first ≤ fold max first xs
+pub from_first : (first : ℕ) (xs : List ℕ) → first ≤ fold max first xs
 from_first first [] = le_refl first
 from_first first (x ∷ xs) = le_trans (le-max_left first x) (from_first (max first x) xs)
 
@@ -137,16 +137,18 @@ below_need k b least (c ∷ cs) p found = elim (cases_Bool (stands_for k c b)) [
 pub place_is_there : (k b : ℕ) (cached : List CachedBlock) (p : ℕ) → fast_place k cached b ≡ Some p → p < fast_need k cached
 place_is_there k b cached p found = below_need k b 0 cached p found
 
--- an entry stands for the blocks that it has
-stands_here : (k : ℕ) (e : CacheEntry) (j : ℕ) → j < k → stands_for k (cached_block e) (e.origin * k + j) ≡ true
-stands_here k e j below =
-    let ends = one_more e.origin k in
-    and_from (nat_le (e.origin * k) (e.origin * k + j)) (nat_lt (e.origin * k + j) ((e.origin + 1) * k)) (le-leb _ _ (omega arith)) (lt-ltb _ _ (omega arith))
+-- a cached block stands for the blocks that it has
+pub stands_here : (k : ℕ) (c : CachedBlock) (j : ℕ) → j < k → stands_for k c (c.origin_block * k + j) ≡ true
+stands_here k c j below =
+    let ends = one_more c.origin_block k in
+    and_from (nat_le (c.origin_block * k) (c.origin_block * k + j)) (nat_lt (c.origin_block * k + j) ((c.origin_block + 1) * k)) (le-leb _ _ (omega arith)) (lt-ltb _ _ (omega arith))
 
--- no other one with another origin does
-stands_not : (k : ℕ) (e f : CacheEntry) (j : ℕ) → j < k → nat_eq f.origin e.origin ≡ false → stands_for k (cached_block e) (f.origin * k + j) ≡ false
-stands_not k e f j below apart = elim (cases_Bool (stands_for k (cached_block e) (f.origin * k + j))) [
-  | inl also ↦ absurd (eqb-false f.origin e.origin apart (one_origin k (cached_block f) (cached_block e) (f.origin * k + j) (stands_here k f j below) also))
+-- and for those of no other origin
+pub stands_not : (k : ℕ) (c : CachedBlock) (n j : ℕ) → j < k → (n ≡ c.origin_block → ⊥) → stands_for k c (n * k + j) ≡ false
+stands_not k c n j below apart = elim (cases_Bool (stands_for k c (n * k + j))) [
+  | inl also ↦
+      let other : CachedBlock = record { cache_block = 0; origin_block = n } in
+      absurd (apart (one_origin k other c (n * k + j) (stands_here k other j below) also))
   | inr not_there ↦ not_there
 ]
 
@@ -163,7 +165,7 @@ module _ (k : ℕ) (test : CacheEntry → Bool) where
   behind_one e es (f ∷ fs) apart all =
       let parts = or_parts (nat_eq f.origin e.origin) (list_any (λ o. nat_eq o e.origin) (map (λ (g : CacheEntry). g.origin) fs)) apart in (
         λ passes j below. elim (cases_Bool (test e)) [
-          | inl first ↦ rw (first, stands_not k e f j below parts.0) (all.0 passes j below)
+          | inl first ↦ rw (first, stands_not k (cached_block e) f.origin j below (eqb-false f.origin e.origin parts.0)) (all.0 passes j below)
           | inr other ↦ rw other (all.0 passes j below)
         ],
         behind_one e es fs parts.1 all.1,
@@ -176,6 +178,6 @@ module _ (k : ℕ) (test : CacheEntry → Bool) where
       let parts = or_parts (list_any (λ o. nat_eq o e.origin) (map (λ (f : CacheEntry). f.origin) es)) (has_repeat (map (λ (f : CacheEntry). f.origin) es)) single in (
         λ passes j below.
             let place : e.block * k + (e.origin * k + j - e.origin * k) ≡ e.block * k + j = omega arith in
-            rw (passes, stands_here k e j below) (ap Some place),
+            rw (passes, stands_here k (cached_block e) j below) (ap Some place),
         behind_one e es es parts.0 (own_places es parts.1),
       )

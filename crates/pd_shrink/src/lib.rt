@@ -1,0 +1,15 @@
+//! The shrink of a thin pool, offline: the data blocks past its new end are moved into free ones below it, and new metadata
+//! is written.
+#![tactic(auto)]
+
+mod copying;
+mod fault;
+mod free;
+mod moves;
+mod sources;
+
+pub use copying::copy_moved;
+pub use fault::ShrinkFault;
+pub use free::{FreeBlocks, find_free, stored_free_blocks_are_free};
+pub use moves::{MovedBlock, pair_up};
+pub use sources::find_sources;
