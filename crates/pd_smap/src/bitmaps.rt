@@ -138,7 +138,7 @@ fn compare_bitmap<R: References, D: Device>(
 }
 
 /// Reads the bitmap in this place. A place outside of the device has a bitmap of zeros.
-pub(crate) fn read_bitmap<D: Device>(
+pub fn read_bitmap<D: Device>(
     dev: &mut D,
     place: u64,
     bitmap: &mut Block,
