@@ -22,11 +22,11 @@ chosen_split is low m n = ap (filter is) (range_split low m n) ∙ filter-append
 
 -- one block, by its entry of a bitmap
 pub chosen_one : (bitmap : List ℕ) (base e bits : ℕ) (free : Bool) → bits ≡ two_bits_of bitmap e → (bits == 0) ≡ free
-    → chosen (is_free_from base bitmap) (base + e) 1 ≡ cond free (base + e ∷ []) []
+    → chosen (is_free_from base bitmap) (base + e) 1 ≡ cond free ((base + e) ∷ []) []
 unfolding chosen
 chosen_one bitmap base e bits free is says =
     let entry : base + e - base ≡ e = omega arith in
-    ap (λ t. cond t (base + e ∷ []) []) (ap (λ (n : ℕ). n == 0) (ap (two_bits_of bitmap) entry ∙ sym is) ∙ says)
+    ap (λ t. cond t ((base + e) ∷ []) []) (ap (λ (n : ℕ). n == 0) (ap (two_bits_of bitmap) entry ∙ sym is) ∙ says)
 
 -- blocks of which the same holds
 pub chosen_same : (one other : ℕ → Bool) (low len : ℕ) → ((d : ℕ) → low ≤ d → d < low + len → one d ≡ other d) → chosen one low len ≡ chosen other low len

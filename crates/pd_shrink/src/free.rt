@@ -22,11 +22,14 @@ use pd_image::Device;
 use pd_kinds::bitmaps_for;
 use pd_laws::faults_are_none_where_clean;
 use pd_smap::{index_trees_name_bitmaps, next_place};
-use pd_tree::{Cursor, formats_have_trees, reached_trees_are_sound, superblocks_lead_to_reached_roots};
+use pd_tree::{
+    Cursor, formats_have_trees, reached_trees_are_sound, superblocks_lead_to_reached_roots,
+};
 use pd_value::IndexEntry;
 use std::alloc::Global;
 
 /// The free data blocks of a pool below a number.
+#[derive(Drop)]
 pub struct FreeBlocks {
     /// The first ones, ascending.
     pub first: Vec<u64>,

@@ -1,4 +1,4 @@
-use Rattle.std.proofs.Common.{◌≡◌, ◌∙◌, ℕ, ◌+◌, ◌-◌, ◌*◌, ◌<◌, min, IfSome, ap, arith, refl, subst, sym, Some}
+use Rattle.std.proofs.Common.{◌≡◌, ◌∙◌, ℕ, ◌+◌, ◌-◌, ◌*◌, ◌<◌, min, IfSome, ap, arith, refl, subst, sym, Option, Some, None}
 use Rattle.pd_kinds.specs.Bitmap.{bitmaps_for}
 use Rattle.pd_image.proofs.ReadLemmas.{only_reads_both}
 use Rattle.pd_tree.specs.Cursor.{cursor_items, cursor_nodes}
@@ -10,6 +10,11 @@ use Rattle.pd_shrink.specs.Gathered.{Gathers, chosen, is_free_by}
 use Rattle.pd_shrink.specs.Unused.{is_unused_in}
 use Rattle.pd_shrink.proofs.GatherLemmas.{chosen_none, gathers_bitmap, gathers_none, gathers_same}
 use Rattle.pd_shrink.proofs.free.gather.Goals as goal
+
+-- three facts over a told image
+if_three : {X : Type 0} {P Q R S : X → Type 0} → (o : Option X) → ((x : X) → P x → Q x → R x → S x) → IfSome o P → IfSome o Q → IfSome o R → IfSome o S
+if_three None f p q r = tt
+if_three (Some x) f p q r = f x p q r
 
 add_none : (i : ℕ) → i ≡ i + 0
 add_none i = omega arith
@@ -53,14 +58,11 @@ loop-i-preserved g c =
     (placing.kept.held ∙ before.kept.held) gathering.gathered in
     let fewer = gathering.reads in
     let within : 16320 * c.loop-i.i < c.args.end = omega (arith, c.loop-i-test.true, c.bitmaps_for-bitmaps.ensures) in
+    let at : IfSome held (λ image. place_in (cursor_items 16 index_from image c.args.index.now) c.loop-i.i ≡ c.in-Ok.place) =
+    if_both held (λ image is places one. ap (place_in (cursor_items 16 index_from image c.args.index.now)) (add_none c.loop-i.i) ∙ places 0 ∙ one) before.places first in
     record {
-      gathered = if_both held
-          (λ image is both next. gathers_bitmap image (place_in (cursor_items 16 index_from image c.args.index.now)) c.args.wanted c.in-Ok.place c.loop-i.i c.args.end c.args.free.now c.loop-i.free c.gather_at.new.free
-          within both.0 both.1 next)
-          (if_both held (λ image is at so_far. (at, so_far))
-          (if_both held (λ image is places one. ap (place_in (cursor_items 16 index_from image c.args.index.now)) (add_none c.loop-i.i) ∙ places 0 ∙ one) before.places first)
-          before.gathered)
-          more;
+      gathered = if_three held (λ image placed so_far next. gathers_bitmap image (place_in (cursor_items 16 index_from image c.args.index.now)) c.args.wanted c.in-Ok.place c.loop-i.i c.args.end
+          c.args.free.now c.loop-i.free c.gather_at.new.free within placed so_far next) at before.gathered more;
       most = omega (arith, before.most, gathering.most);
       places = if_then held (g.A.Device.state c.loop-i.meta).held _ _ _ before.kept.held
           (λ image places rest j. ap (place_in (cursor_items 16 index_from image c.args.index.now)) (add_next c.loop-i.i j) ∙ places (j + 1) ∙ rest j) before.places placing.rest;
