@@ -13,7 +13,11 @@ use pd_image::{Device, Failed};
 /// Copies moved data blocks, of so many blocks of 4096 bytes each, to their new places, in this order. Nothing is synced.
 ///
 /// It takes no memory, and seeks only where the next block isn't the next one.
-pub fn copy_moved<C: Device>(moves: &[MovedBlock], each: u64, pool: &mut C) -> Result<(), Failed>
+pub fn copy_moved<C: Device>(
+    moves: &[MovedBlock],
+    each: u64,
+    pool: &mut C,
+) -> Result<(), Failed>
     requires writable { IsWritable (C.state pool.old) }
     // No target is a source, none comes twice, and all are on the device.
     requires apart { AreApart each (C.state pool.old).blocks moves.now }
