@@ -1,3 +1,4 @@
 pub mod Failing
+pub mod Gathered
 pub mod Moves
 pub mod Unused

@@ -1,6 +1,6 @@
 //! The free data blocks of a pool.
 
-ghost use Rattle.std.specs.Prelude.{◌≡◌, ◌+◌, ◌<◌, ◌≤◌, ℕ, List, [], length, take, IfOk, IfSome};
+ghost use Rattle.std.specs.Prelude.{◌≡◌, ◌+◌, ◌^◌, ◌<◌, ◌≤◌, ℕ, List, [], length, take, IfOk, IfSome, OnOk};
 ghost use Rattle.pd_kinds.specs.declared.kind.Kind.TheVariants.{Thin};
 ghost use Rattle.pd_kinds.specs.declared.kind.Stage.TheVariants.{Counts};
 ghost use Rattle.pd_kinds.specs.Bitmap.{bitmaps_for};
@@ -9,16 +9,27 @@ ghost use Rattle.pd_kinds.specs.Stages.{faults};
 ghost use Rattle.pd_kinds.specs.ThinSuper.{thin_fields};
 ghost use Rattle.pd_image.specs.Device.{IsAttached, OnlyReads};
 ghost use Rattle.pd_answers.specs.MovedPool.{free_blocks};
-ghost use Rattle.pd_smap.specs.Entries.{IsIndex};
+ghost use Rattle.pd_smap.specs.Entries.{IsIndex, index_from, place_in};
 ghost use Rattle.pd_tree.specs.Below.{nodes_below};
+ghost use Rattle.pd_tree.specs.Cursor.{cursor_items, cursor_nodes, cursor_room};
 ghost use Rattle.pd_shrink.specs.Failing.{CountsMeta};
+ghost use Rattle.pd_shrink.specs.Gathered.{Gathers, chosen, is_free_by};
 ghost use Rattle.pd_shrink.specs.Unused.{unused_below};
 
 use crate::fault::ShrinkFault;
+use crate::gathering::gather_at;
 use pd_image::Device;
+use pd_kinds::bitmaps_for;
+use pd_laws::faults_are_none_where_clean;
+use pd_smap::{index_trees_name_bitmaps, next_place};
+use pd_tree::{
+    Cursor, formats_have_trees, reached_trees_are_sound, superblocks_lead_to_reached_roots,
+};
+use pd_value::IndexEntry;
 use std::alloc::Global;
 
 /// The free data blocks of a pool below a number.
+#[derive(Drop)]
 pub struct FreeBlocks {
     /// The first ones, ascending.
     pub first: Vec<u64>,
@@ -52,8 +63,45 @@ pub fn find_free<A: Device>(
     ensures kept { OnlyReads (A.state meta.old) (A.state meta.new) }
     ensures faults { CountsMeta result (A.state meta.old).faults (A.state meta.new).faults }
 {
-    let _ = (bitmap_root, end, wanted);
-    Err(ShrinkFault::Memory)
+    let mut index = match Cursor::start(alloc, bitmap_root) {
+        Ok(cursor) => cursor,
+        Err(_) => return Err(ShrinkFault::Memory),
+    };
+    let mut free = FreeBlocks {
+        first: Vec::new(alloc),
+        number: 0,
+    };
+    gather(meta, &mut index, end, wanted, &mut free)?;
+    Ok(free)
+}
+
+/// Adds the free ones of the blocks below `end`, by the bitmaps that the entries of the index tree name.
+fn gather<A: Device>(
+    meta: &mut A,
+    index: &mut Cursor<IndexEntry>,
+    end: u64,
+    wanted: usize,
+    free: &mut FreeBlocks,
+) -> Result<(), ShrinkFault>
+    requires attached { IsAttached (A.state meta.old) }
+    requires within { cursor_room index.old ≤ (A.state meta.old).blocks }
+    requires room { free.old.number + end < 2 ^ 64 }
+    ensures gathered { OnOk result (IfSome (A.state meta.old).held (λ image.
+        Gathers wanted (chosen (is_free_by image (place_in (cursor_items 16 index_from image index.old))) 0 end) free.old free.new)) }
+    ensures reads { IfSome (A.state meta.old).held (λ image. (A.state meta.new).reads ≤ (A.state meta.old).reads
+        + (length (cursor_nodes 16 image index.old) + bitmaps_for end)) }
+    ensures kept { OnlyReads (A.state meta.old) (A.state meta.new) }
+    ensures faults { CountsMeta result (A.state meta.old).faults (A.state meta.new).faults }
+{
+    let bitmaps = bitmaps_for(end);
+    for i in 0..bitmaps {
+        let place = match next_place(meta, index) {
+            Ok(place) => place,
+            Err(_) => return Err(ShrinkFault::Meta),
+        };
+        gather_at(meta, place, i, end, wanted, free)?;
+    }
+    Ok(())
 }
 
 /// In a pool without faults the blocks whose stored count is 0 are those without a reference, and the tree of the data map's
@@ -63,4 +111,10 @@ pub fn stored_free_blocks_are_free()
         → IsIndex image (thin_fields (block_at image 0)).data_map.bitmap_root (thin_fields (block_at image 0)).data_map.blocks }
     ensures free { (image : List (List ℕ)) (end : ℕ) → faults Thin Counts image ≡ [] → end ≤ (thin_fields (block_at image 0)).data_map.blocks
         → unused_below image (thin_fields (block_at image 0)).data_map.bitmap_root end ≡ free_blocks image end }
-{}
+{
+    faults_are_none_where_clean();
+    formats_have_trees();
+    reached_trees_are_sound();
+    superblocks_lead_to_reached_roots();
+    index_trees_name_bitmaps();
+}

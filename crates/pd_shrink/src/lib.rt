@@ -5,6 +5,7 @@
 mod copying;
 mod fault;
 mod free;
+mod gathering;
 mod moves;
 mod sources;
 

@@ -78,7 +78,7 @@ ok_same (Err e) o later P wanted over same are told = tt
 ok_same (Ok count) o later P wanted over same are told = if_then o later _ _ _ same (λ image is found p. found p ∙ sym is) are told
 
 -- the place of a bitmap by its entry, where the entries are numbered in a row
-indexed : (items : List (ℕ × IndexEntry)) (a n i k : ℕ) → keys_of (map bitmap_entry items) ≡ range_with_len a n → i < n → k ≡ a + i
+pub indexed : (items : List (ℕ × IndexEntry)) (a n i k : ℕ) → keys_of (map bitmap_entry items) ≡ range_with_len a n → i < n → k ≡ a + i
     → option_map (λ (v : ℕ). v % 2 ^ 64) (value_of_key (map bitmap_entry items) k) ≡ Some (place_in items i)
 unfolding value_of_key
 indexed [] a zero i k keys within is = absurd (omega arith)

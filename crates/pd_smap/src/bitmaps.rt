@@ -138,11 +138,7 @@ fn compare_bitmap<R: References, D: Device>(
 }
 
 /// Reads the bitmap in this place. A place outside of the device has a bitmap of zeros.
-pub(crate) fn read_bitmap<D: Device>(
-    dev: &mut D,
-    place: u64,
-    bitmap: &mut Block,
-) -> Result<(), Failed>
+pub fn read_bitmap<D: Device>(dev: &mut D, place: u64, bitmap: &mut Block) -> Result<(), Failed>
     requires { IsAttached (D.state dev.old) }
     ensures counts { OnOk result (IfSome (D.state dev.old).held (λ image. (e : ℕ) → two_bits_of bitmap.new.0 e ≡ two_bits_of (block_at image place) e)) }
     ensures reads { (D.state dev.new).reads ≤ (D.state dev.old).reads + 1 }

@@ -96,7 +96,7 @@ fn compare_listed<D: Device>(
 }
 
 /// The place of the next bitmap, which is outside of every device where no entry is left.
-fn next_place<D: Device>(dev: &mut D, index: &mut Cursor<IndexEntry>) -> Result<u64, Failed>
+pub fn next_place<D: Device>(dev: &mut D, index: &mut Cursor<IndexEntry>) -> Result<u64, Failed>
     requires attached { IsAttached (D.state dev.old) }
     requires within { cursor_room index.old ≤ (D.state dev.old).blocks }
     ensures first { IfOk result (λ place. IfSome (D.state dev.old).held (λ image. place_in (cursor_items 16 index_from image index.old) 0 ≡ place)) }

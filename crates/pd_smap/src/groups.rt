@@ -23,7 +23,7 @@ pub(crate) fn are_equal<R: References>(bitmap: &Block, g: usize, refs: &R, first
 }
 
 /// The number that all 32 counts from entry `32 * g` of a bitmap are, where it is seen by their eight bytes.
-fn one_number(bytes: &[u8], g: usize) -> Option<u32>
+pub fn one_number(bytes: &[u8], g: usize) -> Option<u32>
     requires size { length bytes.now ≡ 4096 }
     requires group { g < 510 }
     ensures { IfSome result (AreAll bytes.now g) }

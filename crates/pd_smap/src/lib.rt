@@ -12,7 +12,9 @@ mod overflow;
 mod references;
 mod stored;
 
-pub use data::compare_data;
+pub use bitmaps::read_bitmap;
+pub use data::{compare_data, next_place};
+pub use groups::one_number;
 pub use laws::{index_trees_name_bitmaps, overflow_trees_hold_counts};
 pub use meta::compare_meta;
 pub use pd_kinds::CheckFault;

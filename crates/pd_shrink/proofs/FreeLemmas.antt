@@ -1,0 +1,42 @@
+-- The stored counts of data blocks in a pool without faults.
+use Rattle.std.proofs.Common.{◌≡◌, ◌∙◌, ℕ, ◌/◌, ◌%◌, ◌^◌, ◌<◌, ◌≤◌, Bool, true, false, not, ◌&&◌, nat_eq, List, [], ◌∷◌, Option, Some, None, ap, sym, refl, subst, arith, eq-eqb}
+use Rattle.std.specs.List.{range_with_len}
+use Rattle.std.specs.Option.{option_map}
+use Rattle.std.specs.Str.{bytes_eq}
+use Rattle.std.proofs.lemmas.Bool.{or_parts, not-false}
+use Rattle.std.proofs.lemmas.Slice.Eq.{bytes_eq-Decides}
+use Rattle.pd_kinds.specs.declared.kind.Kind.TheVariants.{Thin}
+use Rattle.pd_kinds.specs.declared.rule.Rule.TheVariants as r
+use Rattle.pd_kinds.specs.Bitmap.{bitmaps_for}
+use Rattle.pd_kinds.specs.Graph.{Graph, block_at}
+use Rattle.pd_kinds.specs.Layout.{graph_of}
+use Rattle.pd_kinds.specs.Rule.{same_rule}
+use Rattle.pd_kinds.specs.Stages.{IsClean, thin_checked}
+use Rattle.pd_kinds.specs.ThinFormat.{thin_graph}
+use Rattle.pd_kinds.specs.ThinSuper.{thin_fields}
+use Rattle.pd_kinds.specs.Trees.{keys_of}
+use Rattle.pd_kinds.specs.Whole.{data_index_entries, thin_whole, whole_bad}
+
+-- the first of two holds not, where the second does and both don't
+first_not : (first second : Bool) → second ≡ true → (first && second) ≡ false → first ≡ false
+first_not true second is none = absurd (cc)
+first_not false second is none = refl
+
+data_number : (first : List ℕ) → (thin_graph first).data_blocks ≡ (thin_fields first).data_map.blocks
+unfolding thin_graph graph_of
+data_number first = refl
+
+-- the index has an entry for each bitmap, by the rule Index
+pub index_keys : (image : List (List ℕ)) → IsClean Thin image → (thin_fields (block_at image 0)).data_map.bitmap_root < (thin_graph (block_at image 0)).nr
+    → keys_of (data_index_entries (thin_graph (block_at image 0)) image) ≡ range_with_len 0 (bitmaps_for (thin_fields (block_at image 0)).data_map.blocks)
+unfolding thin_checked whole_bad thin_whole
+index_keys image clean within =
+    let root = (thin_fields (block_at image 0)).data_map.bitmap_root in
+    let graph = thin_graph (block_at image 0) in
+    let keys = keys_of (data_index_entries graph image) in
+    let wanted = range_with_len 0 (bitmaps_for graph.data_blocks) in
+    let none = (or_parts _ _ (clean.whole root r.Index within)).0 in
+    let here : (nat_eq root root && same_rule r.Index r.Index) ≡ true = rw (eq-eqb root root refl) refl in
+    let fails = first_not (not (bytes_eq keys wanted)) (nat_eq root root && same_rule r.Index r.Index) here none in
+    (bytes_eq-Decides keys wanted).0 (not-false (bytes_eq keys wanted) fails)
+    ∙ ap (λ (n : ℕ). range_with_len 0 (bitmaps_for n)) (data_number (block_at image 0))
