@@ -1,0 +1,3 @@
+pub mod MovedLemmas
+pub mod PairLemmas
+pub mod SpanLemmas
