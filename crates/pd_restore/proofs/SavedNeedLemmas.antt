@@ -11,7 +11,7 @@ use Rattle.pd_count.specs.Counted.{Counted}
 use Rattle.pd_devices.specs.Counts.{overflows_of}
 use Rattle.pd_devices.proofs.RunLemmas.{run_data}
 use Rattle.pd_spells.specs.Lawful.{AreMappings, AreDevices}
-use Rattle.pd_spells.specs.ThinNeed.{need_of_devices, overflows_in, thin_need}
+use Rattle.pd_spells.specs.ThinNeed.{mapped_data, need_of_devices, overflows_in, thin_need}
 use Rattle.pd_spells.specs.ThinText.{HasMappings, Run, device_of_part, mappings_from, mappings_of}
 use Rattle.pd_salvage.specs.declared.saved.SavedDevice.{SavedDevice}
 use Rattle.pd_salvage.specs.declared.saved.SavedHead.{SavedHead}
@@ -80,6 +80,11 @@ parts_data (d ∷ ds) runs number =
     ∙ (ap (λ (blocks : List ℕ). data_of_runs (take d.runs runs) ++ blocks) (parts_data ds (drop d.runs runs) (others d ds runs number))
     ∙ (sym (flat_map-append (λ (r : SavedRun). range_with_len r.target r.length) (take d.runs runs) (drop d.runs runs))
     ∙ ap data_of_runs (take-append-drop d.runs runs)))
+
+-- the data blocks of a saved pool are those of its runs
+pub data_is : (saved : SavedPool) → IsSavedPool saved → mapped_data (pool_of saved) ≡ data_of_runs saved.runs
+unfolding pool_of
+data_is saved sound = parts_data saved.devices saved.runs sound.number
 
 parts_mapped : (ds : List SavedDevice) (runs : List SavedRun) → map (λ (d : ThinDevice). d.mapped) (map device_of_part (parts_of ds runs)) ≡ map (λ (d : SavedDevice). d.details.mapped) ds
 parts_mapped [] runs = refl

@@ -1,4 +1,5 @@
 pub mod Failing
 pub mod Gathered
 pub mod Moves
+pub mod Spans
 pub mod Unused

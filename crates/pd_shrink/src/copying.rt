@@ -1,14 +1,17 @@
 //! The copying of data blocks to their new places.
 
-ghost use Rattle.std.specs.Prelude.{◌≡◌, ℕ, List, Some, map, IfSome, OnOk, is_some};
+ghost use Rattle.std.specs.Prelude.{◌≡◌, ℕ, ◌+◌, ◌*◌, ◌<◌, ◌≤◌, Bool, true, List, Some, map, IfSome, OnOk, is_some};
 ghost use Rattle.pd_kinds.specs.Crash.{LeavesNow, LeavesOnly};
 ghost use Rattle.pd_kinds.specs.Objects.{CountsFault};
 ghost use Rattle.pd_image.specs.Device.{IsWritable, KeepsPlace};
+ghost use Rattle.pd_answers.specs.CachedView.{stands_for};
 ghost use Rattle.pd_answers.specs.MovedPool.{copy_of_move, data_after};
-ghost use Rattle.pd_shrink.specs.Moves.{AreApart, IsLeftKept, moves_in};
+ghost use Rattle.pd_writeback.specs.Copied.{IsCopied, IsLeftAsBut};
+ghost use Rattle.pd_shrink.specs.Moves.{AreApart, IsLeftKept, move_in, moves_in};
 
 use crate::moves::MovedBlock;
 use pd_image::{Device, Failed};
+use pd_kinds::Block;
 
 /// Copies moved data blocks, of so many blocks of 4096 bytes each, to their new places, in this order. Nothing is synced.
 ///
@@ -30,16 +33,60 @@ pub fn copy_moved<C: Device>(
     ensures place { KeepsPlace (C.state pool.old) (C.state pool.new) }
     ensures faults { CountsFault result (C.state pool.old).faults (C.state pool.new).faults }
 {
+    let mut block = Block::zeros();
     for one in moves {
-        copy_one(one, each, pool)?;
+        copy_one(one, each, pool, &mut block)?;
     }
     Ok(())
 }
 
-/// Copies a moved data block to its new place.
-fn copy_one<C: Device>(one: &MovedBlock, each: u64, pool: &mut C) -> Result<(), Failed>
+/// Copies a moved data block to its new place, by way of this block.
+fn copy_one<C: Device>(
+    one: &MovedBlock,
+    each: u64,
+    pool: &mut C,
+    block: &mut Block,
+) -> Result<(), Failed>
     requires writable { IsWritable (C.state pool.old) }
+    requires apart { (one.now.target + 1) * each ≤ one.now.source * each }
+    requires inside { (one.now.source + 1) * each ≤ (C.state pool.old).blocks }
+    ensures copied { OnOk result (IfSome (C.state pool.old).held (λ held. IfSome (C.state pool.new).held
+        (IsCopied (one.now.source * each) (one.now.target * each) each held held))) }
+    ensures crash { (may_differ : ℕ → Bool) (base : List (List ℕ)) → ((b : ℕ) → stands_for each (copy_of_move (move_in one.now)) b ≡ true → may_differ b ≡ true)
+        → LeavesNow (IsLeftAsBut may_differ base) (C.state pool.old)
+        → LeavesOnly (IsLeftAsBut may_differ base) (C.state pool.old) (C.state pool.new) }
+    ensures told { is_some (C.state pool.new).held ≡ is_some (C.state pool.old).held }
+    ensures place { KeepsPlace (C.state pool.old) (C.state pool.new) }
+    ensures faults { CountsFault result (C.state pool.old).faults (C.state pool.new).faults }
 {
-    let _ = (one, each, pool);
+    // A device has at most 2^64 - 1 blocks, so each number of a block fits.
+    let _blocks = pool.blocks();
+    let from = one.source * each;
+    let to = one.target * each;
+    for i in 0..each {
+        copy_block(from + i, to + i, pool, block)?;
+    }
     Ok(())
+}
+
+/// Copies one block of 4096 bytes, by way of this one.
+fn copy_block<C: Device>(
+    from: u64,
+    to: u64,
+    pool: &mut C,
+    block: &mut Block,
+) -> Result<(), Failed>
+    requires writable { IsWritable (C.state pool.old) }
+    requires from { from < (C.state pool.old).blocks }
+    requires to { to < (C.state pool.old).blocks }
+    ensures copied { OnOk result (IfSome (C.state pool.old).held (λ held. IfSome (C.state pool.new).held (IsCopied from to 1 held held))) }
+    ensures crash { (may_differ : ℕ → Bool) (base : List (List ℕ)) → may_differ to ≡ true
+        → LeavesNow (IsLeftAsBut may_differ base) (C.state pool.old)
+        → LeavesOnly (IsLeftAsBut may_differ base) (C.state pool.old) (C.state pool.new) }
+    ensures told { is_some (C.state pool.new).held ≡ is_some (C.state pool.old).held }
+    ensures place { KeepsPlace (C.state pool.old) (C.state pool.new) }
+    ensures faults { CountsFault result (C.state pool.old).faults (C.state pool.new).faults }
+{
+    pool.read(from, block)?;
+    pool.write(to, block)
 }

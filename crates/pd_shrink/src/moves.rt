@@ -24,6 +24,12 @@ pub fn pair_up(
     requires { length sources.now ≤ length free.now }
     ensures { IfOk result (λ moves. moves_in moves.items ≡ moves_to sources.now free.now) }
 {
-    let _ = (sources, free);
-    Err(AllocError)
+    let mut moves = Vec::new(alloc);
+    for i in 0..sources.len() {
+        moves.push(MovedBlock {
+            source: sources[i],
+            target: free[i],
+        })?;
+    }
+    Ok(moves)
 }

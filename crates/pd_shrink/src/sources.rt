@@ -1,11 +1,24 @@
 //! The data blocks that must be moved.
 
-ghost use Rattle.std.specs.Prelude.{◌≡◌, IfOk};
+ghost use Rattle.std.specs.Prelude.{◌≡◌, ◌+◌, ◌^◌, ◌<◌, ◌++◌, All, IfOk, OnOk};
+ghost use Rattle.std.specs.List.Sorted.{IsNonDecreasingBy, IsPermutation};
 ghost use Rattle.pd_answers.specs.MovedPool.{sources};
 ghost use Rattle.pd_salvage.specs.Saved.{pool_of};
+ghost use Rattle.pd_thin_meaning.specs.declared.joined.Run.{Run as SavedRun};
+ghost use Rattle.pd_shrink.specs.Spans.{blocks_between, span_between, spans_past, union_from};
 
 use pd_salvage::Salvage;
+use pd_thin_meaning::Run;
 use std::alloc::{AllocError, Global};
+
+/// Data blocks in a row.
+#[derive(Clone, Copy)]
+struct Span {
+    /// The first of them.
+    first: u64,
+    /// The one after the last.
+    stop: u64,
+}
 
 /// The data blocks of a pool's mappings that aren't below `end`, ascending, each once.
 ///
@@ -13,6 +26,63 @@ use std::alloc::{AllocError, Global};
 pub fn find_sources(alloc: Global, saved: &Salvage, end: u64) -> Result<Vec<u64>, AllocError>
     ensures { IfOk result (λ found. found.items ≡ sources (pool_of saved.now) end) }
 {
-    let _ = (saved, end);
-    Err(AllocError)
+    let _head = saved.head();
+    let mut spans = find_spans(alloc, saved.runs(), end)?;
+    sort_spans(&mut spans);
+    blocks_of(alloc, &spans)
+}
+
+/// What the runs have past the end.
+fn find_spans(alloc: Global, runs: &[Run], end: u64) -> Result<Vec<Span>, AllocError>
+    requires { All (λ (r : SavedRun). r.target + r.length < 2 ^ 64) runs.now }
+    ensures { IfOk result (λ spans. spans.items ≡ spans_past end runs.now) }
+{
+    let mut spans = Vec::new(alloc);
+    for run in runs {
+        let stop = run.target + run.length;
+        add_span(&mut spans, run.target.max(end), stop)?;
+    }
+    Ok(spans)
+}
+
+/// Adds the blocks from one to below another, where there are any.
+fn add_span(spans: &mut Vec<Span>, first: u64, stop: u64) -> Result<(), AllocError>
+    ensures { OnOk result (spans.new.items ≡ spans.old.items ++ span_between first stop) }
+{
+    if first < stop {
+        spans.push(Span { first, stop })?;
+    }
+    Ok(())
+}
+
+/// Orders them by their first blocks. It takes no memory.
+fn sort_spans(spans: &mut Vec<Span>)
+    ensures same { IsPermutation spans.old.items spans.new.items }
+    ensures sorted { IsNonDecreasingBy (λ s. s.first) spans.new.items }
+{
+    spans.sort_unstable_by_key(|span| span.first);
+}
+
+/// Each block of these once, where they are in order.
+fn blocks_of(alloc: Global, spans: &[Span]) -> Result<Vec<u64>, AllocError>
+    ensures { IfOk result (λ found. found.items ≡ union_from 0 spans.now) }
+{
+    let mut found = Vec::new(alloc);
+    // No block below this one is still to come.
+    let mut least = 0;
+    for span in spans {
+        add_blocks(&mut found, span.first.max(least), span.stop)?;
+        least = least.max(span.stop);
+    }
+    Ok(found)
+}
+
+/// Adds the blocks from one to below another.
+fn add_blocks(found: &mut Vec<u64>, first: u64, stop: u64) -> Result<(), AllocError>
+    ensures { OnOk result (found.new.items ≡ found.old.items ++ blocks_between first stop) }
+{
+    for b in first..stop {
+        found.push(b)?;
+    }
+    Ok(())
 }
