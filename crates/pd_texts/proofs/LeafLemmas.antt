@@ -1,16 +1,15 @@
 -- What is told of leaves, line by line.
-use Rattle.std.proofs.Common.{◌≡◌, inl, inr, ℕ, suc, ◌+◌, ◌-◌, ◌^◌, ◌<◌, ◌≤◌, min, Bool, true, false, not, ◌&&◌, ◌||◌, cond, eqb, ltb, List, [], ◌∷◌, ◌++◌, length, get_or, set, refl, ap, sym, ◌∙◌, zero-add, add-zero, arith, length-append, length-set, get_or-set_same, get_or-set_other}
+use Rattle.std.proofs.Common.{◌≡◌, inl, inr, ℕ, suc, ◌+◌, ◌-◌, ◌^◌, ◌<◌, ◌≤◌, min, Bool, true, false, not, ◌&&◌, ◌||◌, cond, eqb, List, [], ◌∷◌, ◌++◌, length, get_or, set, refl, ap, sym, ◌∙◌, zero-add, add-zero, arith, length-append, length-set, get_or-set_same, get_or-set_other}
 use Rattle.std.specs.List.{list_any, count_by, range_with_len}
-use Rattle.std.proofs.lemmas.Bool.{cases_eq, eq-eqb, ne_eqb, true≢false}
-use Rattle.std.proofs.lemmas.Bool.Decides.{nat_tests}
+use Rattle.std.proofs.lemmas.Bool.{cases_eq, eq-eqb, ne_eqb}
 use Rattle.std.proofs.lemmas.List.{get_or_append_left, get_or_at}
 use Rattle.std.proofs.lemmas.List.Sums.{sum_by_push, sum_by-set, sum_by-cons}
-use Rattle.pd_spells.specs.ThinText.{Line, Run, LeafHead, first_line, shared_first_line, pool_line, leaf_line, device_line, use_line, map_line, end_line, least_of, end_of, number_in, leaf_number, has_device, is_in_leaf, runs_of_leaf, uses_of, has_unused_leaf}
+use Rattle.pd_spells.specs.ThinText.{Line, Run, LeafHead, first_line, shared_first_line, pool_line, leaf_line, device_line, use_line, map_line, end_line, least_of, end_of, number_in, leaf_number, has_device, runs_of_leaf, uses_of, has_unused_leaf}
 use Rattle.pd_texts.specs.declared.thin_line.Run2.{Run2}
 use Rattle.pd_texts.specs.declared.leaves.ToldLeaf.{ToldLeaf}
 use Rattle.pd_texts.specs.declared.leaves.Leaves.{Leaves}
 use Rattle.pd_texts.specs.ThinLine.{run_of}
-use Rattle.pd_texts.specs.Leaves.{nothing_told, end_told, with_run, Tells, is_used_by, told_at, AreLeaves}
+use Rattle.pd_texts.specs.Leaves.{nothing_told, with_run, Tells, is_used_by, told_at, AreLeaves}
 
 -- a run more at the end of runs
 end_more : (runs : List Run) (r : Run) → end_of (runs ++ (r ∷ [])) ≡ r.virtual_block + r.length

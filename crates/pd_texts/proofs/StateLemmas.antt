@@ -1,7 +1,7 @@
 -- What the lines so far of a pool's text say of the next one, line by line.
-use Rattle.std.proofs.Common.{◌≡◌, inl, inr, ℕ, suc, ◌+◌, ◌-◌, ◌^◌, ◌<◌, ◌≤◌, Bool, true, false, not, ◌&&◌, ltb, leb, List, [], ◌∷◌, ◌++◌, length, refl, ap, sym, ◌∙◌, arith, Option, Some, Result, Ok, Err, if◌then◌else◌}
+use Rattle.std.proofs.Common.{◌≡◌, inl, inr, ℕ, suc, ◌+◌, ◌-◌, ◌^◌, ◌<◌, ◌≤◌, Bool, true, false, not, ◌&&◌, ltb, leb, List, [], ◌∷◌, ◌++◌, length, refl, ap, ◌∙◌, arith, Option, Some, Ok, if◌then◌else◌}
 use Rattle.std.specs.List.{AllByRecursion}
-use Rattle.std.proofs.lemmas.Bool.{cases_Bool, and_parts, true≢false}
+use Rattle.std.proofs.lemmas.Bool.{cases_Bool, and_parts}
 use Rattle.std.proofs.lemmas.Bool.Decides.{nat_tests}
 use Rattle.std.proofs.lemmas.List.Sums.{sum_by_push}
 use Rattle.pd_grammar.specs.declared.cause.TextCause.{TextCause}
@@ -11,7 +11,6 @@ use Rattle.pd_grammar.specs.Tables.{may_stand}
 use Rattle.pd_grammar.proofs.NumberLemmas.{ok-err, same_Ok}
 use Rattle.pd_spells.specs.ThinText.{Line, Run, LeafHead, leaf_line, use_line, map_line, thin_tests, has_number_out_of_range, is_out_of_order, is_mapped_otherwise, is_shared, has_device, data_blocks_of, leaf_number, runs_of_leaf, is_in_leaf, number_in, unmapped}
 use Rattle.pd_texts.specs.Seen.{in_range}
-use Rattle.pd_texts.specs.declared.stage.Stage.{Stage}
 use Rattle.pd_texts.specs.declared.stage.Stage.TheVariants as s
 use Rattle.pd_texts.specs.Stage.{stage_of}
 use Rattle.pd_texts.specs.declared.thin_kind.ThinKind.{ThinKind}

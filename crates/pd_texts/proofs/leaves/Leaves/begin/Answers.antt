@@ -1,6 +1,5 @@
-use Rattle.std.proofs.Common.{◌≡◌, ◌+◌, true, false, not, List, ◌∷◌, [], ◌++◌, is_ok, sym, ◌∙◌, arith}
+use Rattle.std.proofs.Common.{◌≡◌, ◌+◌, true, not, ◌∷◌, [], ◌++◌, is_ok, sym, ◌∙◌, arith}
 use Rattle.std.proofs.lemmas.List.Sums.{count_by-le-length}
-use Rattle.std.proofs.lemmas.Bool.{true≢false}
 use Rattle.pd_texts.specs.declared.leaves.ToldLeaf.{ToldLeaf}
 use Rattle.pd_texts.specs.Leaves.{nothing_told}
 use Rattle.pd_texts.proofs.LeafLemmas.{leaf_begun}
