@@ -15,10 +15,10 @@ pub some_begun : {M : Type 0} → (first : M) (before : List M) → 1 ≤ length
 some_begun first [] = omega arith
 some_begun first (line ∷ before) = omega arith
 
-refused_begun : {M : Type 0} → (format : TextFormat M) (first last : M) (text : List ℕ) (before : List M) (fault : ReadFault)
-    → RefusesNext format first last text (begun first before) fault → RefusesNext format first last text before fault
-refused_begun format first last text [] fault refuses = elim refuses [ inl now ↦ inr (inl now) | inr later ↦ inr later ]
-refused_begun format first last text (newest ∷ before) fault refuses = refuses
+refused_begun : {M : Type 0} → (format : TextFormat M) (first other last : M) → first ≡ other → (text : List ℕ) (before : List M) (fault : ReadFault)
+    → RefusesNext format first last text (begun other before) fault → RefusesNext format first last text before fault
+refused_begun format first other last same text [] fault refuses = rw same (elim refuses [ inl now ↦ inr (inl now) | inr later ↦ inr later ])
+refused_begun format first other last same text (newest ∷ before) fault refuses = refuses
 
 module _ {P V M : Type 0} (format : TextFormat M) (Stands : P → List M → Type 0) (first : M) (meant : Option V → M) where
   -- a line more
@@ -36,13 +36,13 @@ module _ {P V M : Type 0} (format : TextFormat M) (Stands : P → List M → Typ
   gives_last (Err fault) before mid reader some none read = tt
 
   -- what is given after the first line
-  pub line_begun : (result : Result (Option V) ReadFault) (before : List M) (reader : TextReader P V)
-      → GivesLine format Stands first meant result (begun first before) reader → GivesLine format Stands first meant result before reader
-  line_begun (Ok None) [] reader gives = gives
-  line_begun (Ok None) (newest ∷ before) reader gives = gives
-  line_begun (Ok (Some line)) [] reader gives = gives
-  line_begun (Ok (Some line)) (newest ∷ before) reader gives = gives
-  line_begun (Err fault) before reader gives = tt
+  pub line_begun : (other : M) → first ≡ other → (result : Result (Option V) ReadFault) (before : List M) (reader : TextReader P V)
+      → GivesLine format Stands first meant result (begun other before) reader → GivesLine format Stands first meant result before reader
+  line_begun other same (Ok None) [] reader gives = rw same gives
+  line_begun other same (Ok None) (newest ∷ before) reader gives = gives
+  line_begun other same (Ok (Some line)) [] reader gives = rw same gives
+  line_begun other same (Ok (Some line)) (newest ∷ before) reader gives = gives
+  line_begun other same (Err fault) before reader gives = tt
 
 module _ {P V M : Type 0} (format : TextFormat M) (first : M) (meant : Option V → M) where
   -- the same of a text that the source tells
@@ -59,10 +59,10 @@ module _ {P V M : Type 0} (format : TextFormat M) (first : M) (meant : Option V 
   gives_end (Err fault) text [] reader left some none refuses = absurd (omega arith)
   gives_end (Err fault) text (newest ∷ before) reader left some none refuses = inr (inr refuses)
 
-  pub text_begun : (result : Result (Option V) ReadFault) (text : List ℕ) (before : List M) (reader : TextReader P V) (left : Option (List ℕ))
-      → GivesOf format first meant result text (begun first before) reader left → GivesOf format first meant result text before reader left
-  text_begun (Ok None) text [] reader left gives = gives
-  text_begun (Ok None) text (newest ∷ before) reader left gives = gives
-  text_begun (Ok (Some line)) text [] reader left gives = gives
-  text_begun (Ok (Some line)) text (newest ∷ before) reader left gives = gives
-  text_begun (Err fault) text before reader left refuses = refused_begun format first (meant None) text before fault refuses
+  pub text_begun : (other : M) → first ≡ other → (result : Result (Option V) ReadFault) (text : List ℕ) (before : List M) (reader : TextReader P V) (left : Option (List ℕ))
+      → GivesOf format first meant result text (begun other before) reader left → GivesOf format first meant result text before reader left
+  text_begun other same (Ok None) text [] reader left gives = rw same gives
+  text_begun other same (Ok None) text (newest ∷ before) reader left gives = gives
+  text_begun other same (Ok (Some line)) text [] reader left gives = rw same gives
+  text_begun other same (Ok (Some line)) text (newest ∷ before) reader left gives = gives
+  text_begun other same (Err fault) text before reader left refuses = refused_begun format first other (meant None) same text before fault refuses

@@ -1,12 +1,16 @@
 -- What lines of a pool's text that were read say and mean.
-use Rattle.std.proofs.Common.{◌≡◌, ℕ, ◌+◌, ◌^◌, ◌≤◌, ◌<◌, true, false, not, ◌&&◌, ltb, leb, List, [], ◌∷◌, length, arith}
+use Rattle.std.proofs.Common.{◌≡◌, ◌∙◌, ap, sym, refl, ℕ, ◌+◌, ◌^◌, ◌≤◌, ◌<◌, Bool, true, false, not, ◌&&◌, ltb, leb, List, [], ◌∷◌, length, arith}
+use Rattle.std.proofs.lemmas.Bool.{true≢false}
 use Rattle.std.proofs.lemmas.Bool.Decides.{nat_tests}
+use Rattle.std.proofs.lemmas.Option.{none-some}
 use Rattle.pd_kinds.specs.Meaning.{ThinPool}
 use Rattle.pd_grammar.specs.Texts.{has_ended}
 use Rattle.pd_grammar.proofs.GrammarLemmas.{Passes, is_read}
-use Rattle.pd_spells.specs.ThinText.{Line, pool_line, device_line, map_line, end_line, Head, Details, Run, thin, thin_tests, data_blocks_of, least_id, piece_end, unmapped, has_number_out_of_range, is_out_of_order, is_mapped_otherwise, MeansPool}
+use Rattle.pd_spells.specs.ThinText.{Line, first_line, shared_first_line, pool_line, leaf_line, device_line, use_line, map_line, end_line, Head, Details, Run, thin, thin_tests, data_blocks_of, least_id, has_device, piece_end, unmapped, has_number_out_of_range, is_out_of_order, is_mapped_otherwise, MeansPool}
 use Rattle.pd_spells.proofs.ThinRead.{FitsLine, Placed, thin_grammar}
 use Rattle.pd_spells.proofs.ThinLaws.{thin_language}
+use Rattle.pd_spells.proofs.ThinMeaning.{IsUnshared}
+use Rattle.pd_texts.proofs.FirstLemmas.{in_device}
 use Rattle.pd_texts.specs.Reader.{IsReadAfter, AreReadSoFar, in_order}
 use Rattle.pd_texts.specs.ThinNext.{IsPoolLine, IsDeviceLine, IsMapLine, IsEndLine}
 use Rattle.pd_texts.proofs.LawLemmas as any
@@ -71,15 +75,30 @@ map_says : (n end blocks_end blocks time v run left : ℕ) → not (ltb 0 n && (
 map_says n end blocks_end blocks time v run left range order mapped =
     (grind (arith, nat_tests), (grind (arith, nat_tests), (grind (arith, nat_tests), (grind (arith, nat_tests), (grind (arith, nat_tests), grind (arith, nat_tests))))))
 
-pub map_read : (before : List Line) (r : Run) → IsReadAfter thin before (map_line r) → IsMapLine before r
-map_read before r one =
+-- no line of version 2 is read
+unshared : (before : List Line) → AreReadSoFar thin before → IsUnshared before
+unshared [] so_far = record { version = refl; none = refl }
+unshared (first_line ∷ before) so_far = let rest = unshared before so_far.1 in record { version = rest.version; none = rest.none }
+unshared (shared_first_line ∷ before) so_far = absurd (none-some shared_first_line (is_read thin FitsLine Placed thin_grammar before so_far.0.bytes shared_first_line so_far.0.is).placed.1)
+unshared (pool_line p ∷ before) so_far = let rest = unshared before so_far.1 in record { version = rest.version; none = rest.none }
+unshared (leaf_line l ∷ before) so_far =
+    let rest = unshared before so_far.1 in
+    absurd (true≢false (sym (is_read thin FitsLine Placed thin_grammar before so_far.0.bytes (leaf_line l) so_far.0.is).placed.1 ∙ ap (λ (x : Bool). x && not (has_device before)) rest.version))
+unshared (device_line d ∷ before) so_far = let rest = unshared before so_far.1 in record { version = rest.version; none = rest.none }
+unshared (use_line n ∷ before) so_far = let rest = unshared before so_far.1 in record { version = rest.version; none = rest.none }
+unshared (map_line r ∷ before) so_far = let rest = unshared before so_far.1 in record { version = rest.version; none = rest.none }
+unshared (end_line ∷ before) so_far = let rest = unshared before so_far.1 in record { version = rest.version; none = rest.none }
+
+pub map_read : (before : List Line) (r : Run) → AreReadSoFar thin (map_line r ∷ before) → IsMapLine before r
+map_read before r so_far =
+    let one = so_far.0 in
     let is = is_read thin FitsLine Placed thin_grammar before one.bytes (map_line r) one.is in
     let tests = passed before (map_line r) (omega (arith, is.placed.0)) is.passes in
     let says = map_says r.length (r.virtual_block + r.length) (r.data_block + r.length) (data_blocks_of before) r.time r.virtual_block (piece_end before) (unmapped before)
     tests.range tests.order tests.mapped in
     record {
       later = is.placed.0;
-      has_device = is.placed.1;
+      has_device = in_device before (unshared before so_far.1) is.placed.1;
       some = says.0;
       above = says.1.1.1.1.0;
       virtual_fits = says.1.0;

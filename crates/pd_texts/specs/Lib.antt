@@ -6,7 +6,8 @@ pub mod Stage
 pub mod Headers
 pub mod ThinLine
 pub mod ThinKind
-pub mod ThinState
+pub mod FirstLine
+pub mod FirstThinState
 pub mod Printed
 pub mod ThinLaws
 pub mod ThinPrinted

@@ -17,5 +17,7 @@ thin_header = header_is (codes "thin 1") first_line refl
 pub thin_ends : (line : Option ThinLine) → thin.is_end (thin_meant line) ≡ is_none line
 thin_ends None = refl
 thin_ends (Some (t.Pool uuid time transaction block_size blocks)) = refl
+thin_ends (Some (t.Leaf number entries)) = refl
 thin_ends (Some (t.Device id d)) = refl
+thin_ends (Some (t.UseLeaf number)) = refl
 thin_ends (Some (t.Map r)) = refl

@@ -1,7 +1,7 @@
 -- What a line of a pool's text means.
 use Rattle.std.specs.Prelude.{ℕ, Option, Some, None}
 use Rattle.pd_value.specs.declared.thin.Details.{Details}
-use Rattle.pd_spells.specs.ThinText.{Line, Run, pool_line, device_line, map_line, end_line}
+use Rattle.pd_spells.specs.ThinText.{Line, Run, pool_line, leaf_line, device_line, use_line, map_line, end_line}
 use Rattle.pd_spells.specs.ThinText as d
 use Rattle.pd_texts.specs.declared.thin_line.Run2.{Run2}
 use Rattle.pd_texts.specs.declared.thin_line.ThinLine.{ThinLine}
@@ -19,7 +19,9 @@ run_of r = record { virtual_block = r.virt; data_block = r.target; length = r.le
 abbrev pub line_of : ThinLine → Line
 line_of (t.Pool uuid time transaction block_size blocks) =
     pool_line (record { uuid = uuid; time = time; transaction = transaction; block_size = block_size; data_blocks = blocks })
+line_of (t.Leaf number entries) = leaf_line (record { number = number; entries = entries })
 line_of (t.Device id details) = device_line (details_of id details)
+line_of (t.UseLeaf number) = use_line number
 line_of (t.Map run) = map_line (run_of run)
 
 -- what a line after the first one gives, where the last line gives nothing

@@ -5,6 +5,7 @@
 #![tactic(auto)]
 
 mod fault;
+mod first_thin_state;
 mod made;
 mod print;
 mod reader;
@@ -14,11 +15,11 @@ mod thin_kind;
 mod thin_laws;
 mod thin_line;
 mod thin_print;
-mod thin_state;
 mod values;
 mod words;
 
 pub use fault::{ReadFault, TextFault};
+pub use first_thin_state::{FirstThinState, FirstThinText};
 pub use made::{MadeLines, MadeSource};
 pub use print::{add_uuid, add_word, bytes_of_end, bytes_of_first, print_end, print_first};
 pub use reader::TextReader;
@@ -29,7 +30,6 @@ pub use thin_laws::{
     thin_lines_are_printed_in_order, whole_thin_text_spells,
 };
 pub use thin_line::{Run2, ThinLine};
-pub use thin_print::{bytes_of_thin, print_thin};
-pub use thin_state::{ThinState, ThinText};
+pub use thin_print::{bytes_of_shared_first, bytes_of_thin, print_shared_first, print_thin};
 pub use values::read_values;
 pub use words::{cut_word, number_word, read_uuid};

@@ -2,7 +2,7 @@
 
 ghost use Rattle.std.specs.Prelude.{◌≡◌, ◌≤◌, ℕ, List, [], ◌∷◌, length, IfOk, OnOk, Some, None, MatchResult, IfErr};
 ghost use Rattle.pd_image.specs.Source.{KeepsSource};
-ghost use Rattle.pd_texts.specs.Faults.{CountsReads, IsPast};
+ghost use Rattle.pd_texts.specs.Faults.{CountsReads, IsPast, WantsMemory};
 
 use crate::fault::{ReadFault, fault_after_end, fault_of, text_fault};
 use crate::state::TextState;
@@ -56,10 +56,11 @@ impl<P: TextState> TextReader<P> {
     /// Reads the first line, where none was read.
     fn begin<S: Source>(&mut self, source: &mut S) -> Result<(), ReadFault>
         requires { (S.state source.old).access ≡ 1 }
-        ensures lines { (before : List P.Meant) → ReadsOn P.format P.Stands before self.old → OnOk result (ReadsOn P.format P.Stands (begun P.first_line before) self.new) }
+        ensures lines { (before : List P.Meant) → ReadsOn P.format P.Stands before self.old → OnOk result (ReadsOn P.format P.Stands (begun (P.first_line self.new.state) before) self.new) }
         ensures text { (text : List ℕ) (before : List P.Meant) → ReadsOn P.format P.Stands before self.old → LeavesOf P.format text before self.old (S.state source.old).left
-            → MatchResult result (λ _. LeavesOf P.format text (begun P.first_line before) self.new (S.state source.new).left) (RefusesAfter P.format text before) }
+            → MatchResult result (λ _. LeavesOf P.format text (begun (P.first_line self.new.state) before) self.new (S.state source.new).left) (RefusesAfter P.format text before) }
         ensures past { IfErr result (IsPast (lines_of self.old.reader)) }
+        ensures memory { IfErr result (WantsMemory (P.CanWantMemory self.new.state)) }
         ensures onward { lines_of self.old.reader ≤ lines_of self.new.reader }
         ensures kept { KeepsSource (S.state source.old) (S.state source.new) }
         ensures faults { CountsReads result (S.state source.old).faults (S.state source.new).faults }
@@ -74,10 +75,11 @@ impl<P: TextState> TextReader<P> {
     /// Reads the first line.
     fn read_first<S: Source>(&mut self, source: &mut S) -> Result<(), ReadFault>
         requires { (S.state source.old).access ≡ 1 }
-        ensures lines { ReadsOn P.format P.Stands [] self.old → OnOk result (ReadsOn P.format P.Stands (P.first_line ∷ []) self.new) }
+        ensures lines { ReadsOn P.format P.Stands [] self.old → OnOk result (ReadsOn P.format P.Stands (P.first_line self.new.state ∷ []) self.new) }
         ensures text { (text : List ℕ) → ReadsOn P.format P.Stands [] self.old → LeavesOf P.format text [] self.old (S.state source.old).left
-            → MatchResult result (λ _. LeavesOf P.format text (P.first_line ∷ []) self.new (S.state source.new).left) (RefusesAfter P.format text []) }
+            → MatchResult result (λ _. LeavesOf P.format text (P.first_line self.new.state ∷ []) self.new (S.state source.new).left) (RefusesAfter P.format text []) }
         ensures past { IfErr result (IsPast (lines_of self.old.reader)) }
+        ensures memory { IfErr result (WantsMemory (P.CanWantMemory self.new.state)) }
         ensures onward { lines_of self.old.reader ≤ lines_of self.new.reader }
         ensures kept { KeepsSource (S.state source.old) (S.state source.new) }
         ensures faults { CountsReads result (S.state source.old).faults (S.state source.new).faults }
@@ -99,11 +101,13 @@ impl<P: TextState> TextReader<P> {
     fn next_value<S: Source>(&mut self, source: &mut S) -> Result<Option<P::Line>, ReadFault>
         requires { (S.state source.old).access ≡ 1 }
         ensures lines { (before : List P.Meant) → 1 ≤ length before → ReadsOn P.format P.Stands before self.old
-            → GivesLine P.format P.Stands P.first_line P.meant result before self.new }
+            → GivesLine P.format P.Stands (P.first_line self.new.state) P.meant result before self.new }
         ensures text { (text : List ℕ) (before : List P.Meant) → 1 ≤ length before → ReadsOn P.format P.Stands before self.old
             → LeavesOf P.format text before self.old (S.state source.old).left
-            → GivesOf P.format P.first_line P.meant result text before self.new (S.state source.new).left }
+            → GivesOf P.format (P.first_line self.new.state) P.meant result text before self.new (S.state source.new).left }
         ensures past { IfErr result (IsPast (lines_of self.old.reader)) }
+        ensures memory { IfErr result (WantsMemory (P.CanWantMemory self.new.state)) }
+        ensures first { P.first_line self.new.state ≡ P.first_line self.old.state }
         ensures kept { KeepsSource (S.state source.old) (S.state source.new) }
         ensures faults { CountsReads result (S.state source.old).faults (S.state source.new).faults }
     {
@@ -114,7 +118,7 @@ impl<P: TextState> TextReader<P> {
         }
     }
 
-    /// Reads a line after the first one.
+    /// Reads a line after the first one, once there is memory for it.
     fn read_later<S: Source>(&mut self, source: &mut S) -> Result<Option<P::Line>, ReadFault>
         requires { (S.state source.old).access ≡ 1 }
         ensures lines { (before : List P.Meant) → 1 ≤ length before → ReadsOn P.format P.Stands before self.old
@@ -123,10 +127,16 @@ impl<P: TextState> TextReader<P> {
             → LeavesOf P.format text before self.old (S.state source.old).left
             → MatchResult result (λ line. LeavesOf P.format text (P.meant line ∷ before) self.new (S.state source.new).left) (RefusesAfter P.format text before) }
         ensures past { IfErr result (IsPast (lines_of self.old.reader)) }
+        ensures memory { IfErr result (WantsMemory (P.CanWantMemory self.new.state)) }
+        ensures first { P.first_line self.new.state ≡ P.first_line self.old.state }
         ensures onward { lines_of self.old.reader ≤ lines_of self.new.reader }
         ensures kept { KeepsSource (S.state source.old) (S.state source.new) }
         ensures faults { CountsReads result (S.state source.old).faults (S.state source.new).faults }
     {
+        match self.state.make_room() {
+            Ok(()) => {}
+            Err(_) => return Err(ReadFault::Memory),
+        }
         match self.reader.advance(source) {
             Ok(true) => match self.state.read(self.reader.text()) {
                 Ok(line) => Ok(line),
@@ -145,6 +155,8 @@ impl<P: TextState> TextReader<P> {
             → LeavesOf P.format text (P.meant None ∷ before) self.old (S.state source.old).left
             → EndsOf P.format result text (P.meant None ∷ before) (S.state source.new).left }
         ensures past { IfErr result (IsPast (lines_of self.old.reader)) }
+        ensures memory { IfErr result (WantsMemory (P.CanWantMemory self.new.state)) }
+        ensures first { P.first_line self.new.state ≡ P.first_line self.old.state }
         ensures kept { KeepsSource (S.state source.old) (S.state source.new) }
         ensures faults { CountsReads result (S.state source.old).faults (S.state source.new).faults }
     {

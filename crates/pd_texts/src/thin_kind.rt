@@ -12,7 +12,9 @@ use pd_grammar::Field;
 #[derive(Clone, Copy)]
 pub(crate) enum ThinKind {
     Pool,
+    Leaf,
     Device,
+    Use,
     Map,
     End,
 }
@@ -25,6 +27,10 @@ impl ThinKind {
     {
         if word == b"map".as_slice() {
             Some(ThinKind::Map)
+        } else if word == b"use".as_slice() {
+            Some(ThinKind::Use)
+        } else if word == b"leaf".as_slice() {
+            Some(ThinKind::Leaf)
         } else if word == b"device".as_slice() {
             Some(ThinKind::Device)
         } else if word == b"pool".as_slice() {
@@ -49,7 +55,9 @@ impl ThinKind {
                 Field::Number,
                 Field::Number,
             ],
+            ThinKind::Leaf => &[Field::Number; 2],
             ThinKind::Device => &[Field::Number; 5],
+            ThinKind::Use => &[Field::Number],
             ThinKind::Map => &[Field::Number; 4],
             ThinKind::End => &[],
         }

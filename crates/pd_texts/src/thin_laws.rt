@@ -39,6 +39,6 @@ pub fn read_thin_lines_mean_a_pool()
 pub fn read_thin_lines_are_in_range()
     ensures pool { (before : List Line) (p : Head) → IsReadAfter thin before (pool_line p) → IsPoolLine before p }
     ensures device { (before : List Line) (d : Details) → IsReadAfter thin before (device_line d) → IsDeviceLine before d }
-    ensures map { (before : List Line) (r : Run) → IsReadAfter thin before (map_line r) → IsMapLine before r }
+    ensures map { (before : List Line) (r : Run) → AreReadSoFar thin (map_line r ∷ before) → IsMapLine before r }
     ensures end { (before : List Line) → IsReadAfter thin before end_line → IsEndLine before }
 {}

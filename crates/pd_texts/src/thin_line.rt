@@ -27,11 +27,22 @@ pub enum ThinLine {
         /// The number of data blocks.
         blocks: u64,
     },
-    /// A device, whose map lines follow.
+    /// A leaf that devices share, whose map lines follow; of version 2.
+    Leaf {
+        /// How many leaves were before it.
+        number: u64,
+        /// How many mappings it is of, from 1 to 252.
+        entries: u64,
+    },
+    /// A device, whose map lines follow; in version 2, also the leaves that it uses.
     Device {
         id: u64,
         details: Details,
     },
-    /// A run of the device before.
+    /// The device before uses the leaf of this number; of version 2.
+    UseLeaf {
+        number: u64,
+    },
+    /// A run of the leaf or the device before.
     Map(Run2),
 }

@@ -1,9 +1,9 @@
 //! The lines of a pool's text, printed.
 
-ghost use Rattle.std.specs.Prelude.{◌≡◌, OnOk};
+ghost use Rattle.std.specs.Prelude.{◌≡◌, ◌≤◌, length, OnOk};
 ghost use Rattle.pd_kinds.specs.Objects.{CountsFault, Appends, AppendsFront};
 ghost use Rattle.pd_image.specs.Sink.{KeepsSink};
-ghost use Rattle.pd_spells.specs.ThinText.{thin, device_line, map_line, pool_line};
+ghost use Rattle.pd_spells.specs.ThinText.{thin, shared_first_line, pool_line, leaf_line, device_line, use_line, map_line};
 ghost use Rattle.pd_texts.specs.Printed.{text_of_line};
 ghost use Rattle.pd_texts.specs.ThinLine.{line_of, details_of, run_of};
 
@@ -12,6 +12,25 @@ use crate::thin_line::{Run2, ThinLine};
 use pd_image::{Failed, Sink};
 use pd_lines::LineBuffer;
 use pd_value::Details;
+
+/// Prints the first line of a text of version 2. It takes no memory.
+pub fn print_shared_first<K: Sink>(out: &mut K) -> Result<(), Failed>
+    requires { (K.state out.old).access ≡ 1 }
+    ensures whole { OnOk result (Appends (text_of_line thin shared_first_line) (K.state out.old).written (K.state out.new).written) }
+    ensures front { AppendsFront (text_of_line thin shared_first_line) (K.state out.old).written (K.state out.new).written }
+    ensures kept { KeepsSink (K.state out.old) (K.state out.new) }
+    ensures faults { CountsFault result (K.state out.old).faults (K.state out.new).faults }
+{
+    out.put(bytes_of_shared_first())
+}
+
+/// The bytes of the first line of a text of version 2.
+pub fn bytes_of_shared_first() -> &'static [u8]
+    ensures bytes { result.now ≡ text_of_line thin shared_first_line }
+    ensures len { length result.now ≤ 8 }
+{
+    b"thin 2\n"
+}
 
 /// Prints a line. It takes no memory.
 pub fn print_thin<K: Sink>(line: &ThinLine, out: &mut K) -> Result<(), Failed>
@@ -44,7 +63,9 @@ pub fn bytes_of_thin(line: &ThinLine) -> LineBuffer
                 *blocks,
             )
         }
+        ThinLine::Leaf { number, entries } => leaf_text(*number, *entries),
         ThinLine::Device { id, details } => device_text(*id, details),
+        ThinLine::UseLeaf { number } => use_text(*number),
         ThinLine::Map(run) => map_text(run),
     }
 }
@@ -70,6 +91,18 @@ fn pool_text(
     line
 }
 
+/// The bytes of a leaf line.
+fn leaf_text(number: u64, entries: u64) -> LineBuffer
+    ensures bytes { result ≡ text_of_line thin (leaf_line (record { number = number; entries = entries })) }
+{
+    let mut line = LineBuffer::new();
+    line.add(b"leaf");
+    add_word(&mut line, number);
+    add_word(&mut line, entries);
+    line.add(b"\n");
+    line
+}
+
 /// The bytes of a device line.
 fn device_text(id: u64, details: &Details) -> LineBuffer
     ensures bytes { result ≡ text_of_line thin (device_line (details_of id details.now)) }
@@ -81,6 +114,17 @@ fn device_text(id: u64, details: &Details) -> LineBuffer
     add_word(&mut line, details.transaction);
     add_word(&mut line, details.created as u64);
     add_word(&mut line, details.snapped as u64);
+    line.add(b"\n");
+    line
+}
+
+/// The bytes of a use line.
+fn use_text(number: u64) -> LineBuffer
+    ensures bytes { result ≡ text_of_line thin (use_line number) }
+{
+    let mut line = LineBuffer::new();
+    line.add(b"use");
+    add_word(&mut line, number);
     line.add(b"\n");
     line
 }

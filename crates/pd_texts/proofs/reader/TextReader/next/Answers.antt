@@ -7,14 +7,16 @@ use Rattle.pd_texts.proofs.reader.TextReader.next.Goals as goal
 pub returns-in-Ok-clause-lines : goal.returns-in-Ok-clause-lines
 returns-in-Ok-clause-lines g c = λ before on.
     let t = g.P.TextState in
-    line_begun t.format t.Stands t.first_line t.meant c.next_value.result before c.next_value.new.self
-    (c.next_value.ensures.lines (begun t.first_line before) (some_begun t.first_line before) (c.in-Ok.ensures.lines before on))
+    let first = t.first_line c.begin.new.self.state in
+    line_begun t.format t.Stands (t.first_line c.next_value.new.self.state) t.meant first c.next_value.ensures.first c.next_value.result before c.next_value.new.self
+    (c.next_value.ensures.lines (begun first before) (some_begun first before) (c.in-Ok.ensures.lines before on))
 
 pub returns-in-Ok-clause-text : goal.returns-in-Ok-clause-text
 returns-in-Ok-clause-text g c = λ text before on leaves.
     let t = g.P.TextState in
-    text_begun t.format t.first_line t.meant c.next_value.result text before c.next_value.new.self (g.S.Source.state c.next_value.new.source).left
-    (c.next_value.ensures.text text (begun t.first_line before) (some_begun t.first_line before) (c.in-Ok.ensures.lines before on) (c.in-Ok.ensures.text text before on leaves))
+    let first = t.first_line c.begin.new.self.state in
+    text_begun t.format (t.first_line c.next_value.new.self.state) t.meant first c.next_value.ensures.first c.next_value.result text before c.next_value.new.self (g.S.Source.state c.next_value.new.source).left
+    (c.next_value.ensures.text text (begun first before) (some_begun first before) (c.in-Ok.ensures.lines before on) (c.in-Ok.ensures.text text before on leaves))
 
 pub returns-in-Err-clause-text : goal.returns-in-Err-clause-text
 returns-in-Err-clause-text g c = λ text before on leaves. inl (c.in-Err.ensures.text text before on leaves)

@@ -15,21 +15,23 @@ returns-then-read_first-clause-lines g c = λ on.
     let t = g.P.TextState in
     let new : TextReader g.row.P.Denot g.row.P-Line.Denot = record { reader = c.advance.new.self; state = c.read_first.new.self } in
     let counted = c.in-Ok-true.ensures.counted (ok-err c.in-Ok-true.field-0 Source) in
-    let is = first_ok t.format c.text.result.now t.first_line (c.read_first.ensures.first c.if-read_first.true) in
+    let first = t.first_line c.read_first.new.self in
+    let is = first_ok t.format c.text.result.now first (c.read_first.ensures.first c.if-read_first.true) in
     record {
-      so_far = has_read_more t.format t.Stands [] t.first_line c.args.self.now new c.text.result.now on counted c.text.ensures.short is
+      so_far = has_read_more t.format t.Stands [] first c.args.self.now new c.text.result.now on counted c.text.ensures.short is
           (c.read_first.ensures.after on.so_far.stands c.if-read_first.true);
-      going = g.met.P.TextState.begins;
+      going = g.met.P.TextState.begins c.read_first.new.self;
     }
 
 pub returns-then-read_first-clause-text : goal.returns-then-read_first-clause-text
 returns-then-read_first-clause-text g c = λ text on leaves.
     let t = g.P.TextState in
     let bytes = line_of c.advance.new.self in
+    let first = t.first_line c.read_first.new.self in
     let new : TextReader g.row.P.Denot g.row.P-Line.Denot = record { reader = c.advance.new.self; state = c.read_first.new.self } in
     let reads = rw c.in-Ok-true.field-0-test at (c.in-Ok-true.ensures.reads leaves.rest leaves.left_is) in
-    let is : read t.format [] bytes ≡ Ok t.first_line = first_ok t.format bytes t.first_line (rw c.text.ensures.bytes at (c.read_first.ensures.first c.if-read_first.true)) in
-    leaves_more t.format text [] t.first_line c.args.self.now new (g.S.Source.state c.args.source.now).left (g.S.Source.state c.advance.new.source).left
+    let is : read t.format [] bytes ≡ Ok first = first_ok t.format bytes first (rw c.text.ensures.bytes at (c.read_first.ensures.first c.if-read_first.true)) in
+    leaves_more t.format text [] first c.args.self.now new (g.S.Source.state c.args.source.now).left (g.S.Source.state c.advance.new.source).left
     bytes c.advance.new.self.lines on.going leaves reads is
 
 pub returns-else-read_first-clause-text : goal.returns-else-read_first-clause-text

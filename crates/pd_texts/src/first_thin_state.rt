@@ -1,4 +1,4 @@
-//! What the lines so far of a pool's text say of the next one.
+//! What the lines so far of a pool's text of version 1 say of the next one.
 
 ghost use Rattle.std.specs.Prelude.{◌≡◌, ◌==◌, ◌≤◌, List, ◌∷◌, length, IfOk, true, false};
 ghost use Rattle.pd_grammar.specs.Texts.{read, tested};
@@ -8,6 +8,7 @@ ghost use Rattle.pd_texts.specs.Seen.{in_range, seen_by};
 ghost use Rattle.pd_texts.specs.ThinKind.{kind_meant};
 ghost use Rattle.pd_texts.specs.Words.{made_of};
 ghost use Rattle.pd_texts.specs.ThinLine.{thin_meant};
+ghost use Rattle.pd_texts.specs.FirstLine.{is_of_first};
 
 use crate::reader::TextReader;
 use crate::stage::Stage;
@@ -18,13 +19,14 @@ use crate::values::read_values;
 use crate::words::cut_word;
 use pd_grammar::TextCause;
 use pd_value::Details;
+use std::alloc::AllocError;
 
-/// The text of a pool, version 1, read line by line.
-pub type ThinText = TextReader<ThinState>;
+/// The text of a pool, of version 1 alone, read line by line.
+pub type FirstThinText = TextReader<FirstThinState>;
 
-/// What the lines so far of a pool's text say of the next one.
+/// What the lines so far of a pool's text of version 1 say of the next one.
 #[derive(Drop)]
-pub struct ThinState {
+pub struct FirstThinState {
     stage: Stage,
     /// The pool's data blocks.
     blocks: u64,
@@ -38,11 +40,11 @@ pub struct ThinState {
     unmapped: u64,
 }
 
-impl TextState for ThinState {
+impl TextState for FirstThinState {
     ghost use Rattle.std.specs.Prelude.{refl};
     ghost use Rattle.pd_spells.specs.ThinText.{Line, first_line, thin};
     ghost use Rattle.pd_texts.specs.ThinLine.{thin_meant};
-    ghost use Rattle.pd_texts.specs.ThinState.{ThinStands};
+    ghost use Rattle.pd_texts.specs.FirstThinState.{FirstThinStands};
     ghost use Rattle.pd_texts.specs.ThinLaws.{thin_header, thin_ends};
 
     type Line = ThinLine;
@@ -51,14 +53,14 @@ impl TextState for ThinState {
 
     ghost format = { thin };
 
-    ghost first_line = { first_line };
+    ghost first_line = { λ _. first_line };
 
     ghost meant = { thin_meant };
 
-    ghost Stands = { ThinStands };
+    ghost Stands = { FirstThinStands };
 
-    fn start() -> ThinState {
-        ThinState {
+    fn start() -> FirstThinState {
+        FirstThinState {
             stage: Stage::First,
             blocks: 0,
             least_id: 0,
@@ -75,9 +77,15 @@ impl TextState for ThinState {
         }
     }
 
+    ghost CanWantMemory = { λ _. ⊥ };
+
     fn read_first(&mut self, text: &[u8]) -> bool {
         self.stage = Stage::Second;
         text == b"thin 1".as_slice()
+    }
+
+    fn make_room(&mut self) -> Result<(), AllocError> {
+        Ok(())
     }
 
     fn read(&mut self, text: &[u8]) -> Result<Option<ThinLine>, TextCause> {
@@ -99,23 +107,24 @@ impl TextState for ThinState {
 
     ghost header = { thin_header };
 
-    ghost begins = { refl };
+    ghost begins = { λ _. refl };
 
     ghost ends = { thin_ends };
 }
 
-impl ThinState {
-    ghost use Rattle.pd_texts.specs.ThinState.{ThinStands};
+impl FirstThinState {
+    ghost use Rattle.pd_texts.specs.FirstThinState.{FirstThinStands};
 
     /// Whether such a line may come next.
     #[tactic(auto, using(crate::proofs::StageLemmas::second_stage, crate::proofs::StageLemmas::body_stage))]
     fn may_stand(&self, kind: ThinKind) -> bool
-        ensures { (before : List Line) → ThinStands self.now before → result ≡ may_stand (kind_meant kind).place before }
+        ensures { (before : List Line) → FirstThinStands self.now before → result ≡ may_stand (kind_meant kind).place before }
     {
         match kind {
             ThinKind::Pool => self.stage.is_second(),
             ThinKind::Map => self.stage.is_body() & self.has_device,
             ThinKind::Device | ThinKind::End => self.stage.is_body(),
+            ThinKind::Leaf | ThinKind::Use => false,
         }
     }
 
@@ -126,10 +135,10 @@ impl ThinState {
         names: &[[u8; 16]; 5],
         numbers: &[u64; 5],
     ) -> Result<Option<ThinLine>, TextCause>
-        ensures line { (before : List Line) → ThinStands self.old before → 1 ≤ length before
+        ensures line { (before : List Line) → FirstThinStands self.old before → 1 ≤ length before → may_stand (kind_meant kind).place before ≡ true
             → seen_by thin_meant result ≡ tested thin_tests before (made_of (kind_meant kind) names.now numbers.now) }
-        ensures after { (before : List Line) → ThinStands self.old before → 1 ≤ length before
-            → IfOk result (λ taken. ThinStands self.new (thin_meant taken ∷ before)) }
+        ensures after { (before : List Line) → FirstThinStands self.old before → 1 ≤ length before
+            → IfOk result (λ taken. FirstThinStands self.new (thin_meant taken ∷ before)) }
     {
         let line = match self.line(kind, names, numbers) {
             Ok(line) => line,
@@ -144,21 +153,23 @@ impl ThinState {
         }
     }
 
-    /// The line of these values, none where it is the last one, or `OutOfRange`.
+    /// The line of these values, none where it is the last one, or `OutOfRange`; of a kind that may come next.
     fn line(
         &self,
         kind: ThinKind,
         names: &[[u8; 16]; 5],
         numbers: &[u64; 5],
     ) -> Result<Option<ThinLine>, TextCause>
-        ensures { (before : List Line) → ThinStands self.now before
+        ensures line { (before : List Line) → FirstThinStands self.now before → may_stand (kind_meant kind).place before ≡ true
             → seen_by thin_meant result ≡ in_range has_number_out_of_range before (made_of (kind_meant kind) names.now numbers.now) }
+        ensures first { IfOk result (λ line. is_of_first (thin_meant line) ≡ true) }
     {
         match kind {
             ThinKind::Pool => pool_of(names, numbers),
             ThinKind::Device => device_of(names, numbers),
             ThinKind::Map => self.map_of(names, numbers),
             ThinKind::End => Ok(None),
+            ThinKind::Leaf | ThinKind::Use => Err(TextCause::Word),
         }
     }
 
@@ -168,8 +179,9 @@ impl ThinState {
         names: &[[u8; 16]; 5],
         numbers: &[u64; 5],
     ) -> Result<Option<ThinLine>, TextCause>
-        ensures { (before : List Line) → ThinStands self.now before
+        ensures line { (before : List Line) → FirstThinStands self.now before
             → seen_by thin_meant result ≡ in_range has_number_out_of_range before (made_of map_kind names.now numbers.now) }
+        ensures first { IfOk result (λ line. is_of_first (thin_meant line) ≡ true) }
     {
         let virt = numbers[0];
         let target = numbers[1];
@@ -194,7 +206,7 @@ impl ThinState {
     /// Looks at the order of a line whose numbers are in their ranges, and at the mapped number.
     #[tactic(auto, unfolding(pd_grammar::specs::Texts::tested))]
     fn check(&self, line: &Option<ThinLine>) -> Result<(), TextCause>
-        ensures { (before : List Line) → ThinStands self.now before → has_number_out_of_range before (thin_meant line.now) ≡ false
+        ensures { (before : List Line) → FirstThinStands self.now before → is_of_first (thin_meant line.now) ≡ true → has_number_out_of_range before (thin_meant line.now) ≡ false
             → seen_by (λ _. thin_meant line.now) result ≡ tested thin_tests before (thin_meant line.now) }
     {
         if self.is_out_of_order(line) {
@@ -208,7 +220,7 @@ impl ThinState {
 
     /// Whether the line's number isn't above those before.
     fn is_out_of_order(&self, line: &Option<ThinLine>) -> bool
-        ensures { (before : List Line) → ThinStands self.now before → result ≡ is_out_of_order before (thin_meant line.now) }
+        ensures { (before : List Line) → FirstThinStands self.now before → is_of_first (thin_meant line.now) ≡ true → result ≡ is_out_of_order before (thin_meant line.now) }
     {
         match line {
             Some(ThinLine::Device { id, .. }) => (*id as u128) < self.least_id,
@@ -219,18 +231,18 @@ impl ThinState {
 
     /// Whether the map lines don't give the last device's mapped number.
     fn is_mapped_otherwise(&self, line: &Option<ThinLine>) -> bool
-        ensures { (before : List Line) → ThinStands self.now before → result ≡ is_mapped_otherwise before (thin_meant line.now) }
+        ensures { (before : List Line) → FirstThinStands self.now before → is_of_first (thin_meant line.now) ≡ true → result ≡ is_mapped_otherwise before (thin_meant line.now) }
     {
         match line {
             Some(ThinLine::Device { .. }) | None => 0 < self.unmapped,
             Some(ThinLine::Map(run)) => self.unmapped < run.length,
-            Some(ThinLine::Pool { .. }) => false,
+            Some(ThinLine::Pool { .. } | ThinLine::Leaf { .. } | ThinLine::UseLeaf { .. }) => false,
         }
     }
 
     /// Goes past a line.
     fn pass(&mut self, line: &Option<ThinLine>)
-        ensures { (before : List Line) → ThinStands self.old before → 1 ≤ length before → ThinStands self.new (thin_meant line.now ∷ before) }
+        ensures { (before : List Line) → FirstThinStands self.old before → 1 ≤ length before → is_of_first (thin_meant line.now) ≡ true → FirstThinStands self.new (thin_meant line.now ∷ before) }
     {
         self.stage = Stage::Body;
         match line {
@@ -249,7 +261,7 @@ impl ThinState {
                 self.piece_end = run.virt as u128 + run.length as u128;
                 self.unmapped = self.unmapped.saturating_sub(run.length);
             }
-            None => {
+            Some(ThinLine::Leaf { .. } | ThinLine::UseLeaf { .. }) | None => {
                 self.piece_end = 0;
                 self.unmapped = 0;
             }
@@ -259,7 +271,8 @@ impl ThinState {
 
 /// The pool line of these values, or `OutOfRange`.
 fn pool_of(names: &[[u8; 16]; 5], numbers: &[u64; 5]) -> Result<Option<ThinLine>, TextCause>
-    ensures { (before : List Line) → seen_by thin_meant result ≡ in_range has_number_out_of_range before (made_of pool_kind names.now numbers.now) }
+    ensures line { (before : List Line) → seen_by thin_meant result ≡ in_range has_number_out_of_range before (made_of pool_kind names.now numbers.now) }
+    ensures first { IfOk result (λ line. is_of_first (thin_meant line) ≡ true) }
 {
     let time = numbers[1];
     let block_size = numbers[3];
@@ -279,7 +292,8 @@ fn pool_of(names: &[[u8; 16]; 5], numbers: &[u64; 5]) -> Result<Option<ThinLine>
 
 /// The device line of these values, or `OutOfRange`.
 fn device_of(names: &[[u8; 16]; 5], numbers: &[u64; 5]) -> Result<Option<ThinLine>, TextCause>
-    ensures { (before : List Line) → seen_by thin_meant result ≡ in_range has_number_out_of_range before (made_of device_kind names.now numbers.now) }
+    ensures line { (before : List Line) → seen_by thin_meant result ≡ in_range has_number_out_of_range before (made_of device_kind names.now numbers.now) }
+    ensures first { IfOk result (λ line. is_of_first (thin_meant line) ≡ true) }
 {
     let created = numbers[3];
     let snapped = numbers[4];
