@@ -6,7 +6,7 @@ use Rattle.std.proofs.lemmas.Option.{none-some}
 use Rattle.pd_kinds.specs.Meaning.{ThinPool}
 use Rattle.pd_grammar.specs.Texts.{has_ended}
 use Rattle.pd_grammar.proofs.GrammarLemmas.{Passes, is_read}
-use Rattle.pd_spells.specs.ThinText.{Line, first_line, shared_first_line, pool_line, leaf_line, device_line, use_line, map_line, end_line, Head, Details, Run, thin, thin_tests, data_blocks_of, least_id, has_device, piece_end, unmapped, has_number_out_of_range, is_out_of_order, is_mapped_otherwise, MeansPool}
+use Rattle.pd_spells.specs.ThinText.{Line, first_line, shared_first_line, pool_line, leaf_line, device_line, use_line, map_line, end_line, Head, LeafHead, Details, Run, thin, thin_tests, data_blocks_of, least_id, has_device, piece_end, unmapped, has_number_out_of_range, is_out_of_order, is_mapped_otherwise, MeansPool}
 use Rattle.pd_spells.proofs.ThinRead.{FitsLine, Placed, thin_grammar}
 use Rattle.pd_spells.proofs.ThinLaws.{thin_language}
 use Rattle.pd_spells.proofs.ThinMeaning.{IsUnshared}
@@ -75,30 +75,35 @@ map_says : (n end blocks_end blocks time v run left : ℕ) → not (ltb 0 n && (
 map_says n end blocks_end blocks time v run left range order mapped =
     (grind (arith, nat_tests), (grind (arith, nat_tests), (grind (arith, nat_tests), (grind (arith, nat_tests), (grind (arith, nat_tests), grind (arith, nat_tests))))))
 
--- no line of version 2 is read
+-- no line of version 2 is read after lines of version 1
+pub leaf_not_read : (before : List Line) (l : LeafHead) → IsUnshared before → IsReadAfter thin before (leaf_line l) → ⊥
+leaf_not_read before l first one =
+    true≢false (sym (is_read thin FitsLine Placed thin_grammar before one.bytes (leaf_line l) one.is).placed.1 ∙ ap (λ (x : Bool). x && not (has_device before)) first.version)
+
+pub use_not_read : (before : List Line) (n : ℕ) → IsUnshared before → IsReadAfter thin before (use_line n) → ⊥
+use_not_read before n first one =
+    true≢false (sym (is_read thin FitsLine Placed thin_grammar before one.bytes (use_line n) one.is).placed.1 ∙ ap (λ (x : Bool). x && has_device before) first.version)
+
 unshared : (before : List Line) → AreReadSoFar thin before → IsUnshared before
 unshared [] so_far = record { version = refl; none = refl }
 unshared (first_line ∷ before) so_far = let rest = unshared before so_far.1 in record { version = rest.version; none = rest.none }
 unshared (shared_first_line ∷ before) so_far = absurd (none-some shared_first_line (is_read thin FitsLine Placed thin_grammar before so_far.0.bytes shared_first_line so_far.0.is).placed.1)
 unshared (pool_line p ∷ before) so_far = let rest = unshared before so_far.1 in record { version = rest.version; none = rest.none }
-unshared (leaf_line l ∷ before) so_far =
-    let rest = unshared before so_far.1 in
-    absurd (true≢false (sym (is_read thin FitsLine Placed thin_grammar before so_far.0.bytes (leaf_line l) so_far.0.is).placed.1 ∙ ap (λ (x : Bool). x && not (has_device before)) rest.version))
+unshared (leaf_line l ∷ before) so_far = absurd (leaf_not_read before l (unshared before so_far.1) so_far.0)
 unshared (device_line d ∷ before) so_far = let rest = unshared before so_far.1 in record { version = rest.version; none = rest.none }
 unshared (use_line n ∷ before) so_far = let rest = unshared before so_far.1 in record { version = rest.version; none = rest.none }
 unshared (map_line r ∷ before) so_far = let rest = unshared before so_far.1 in record { version = rest.version; none = rest.none }
 unshared (end_line ∷ before) so_far = let rest = unshared before so_far.1 in record { version = rest.version; none = rest.none }
 
-pub map_read : (before : List Line) (r : Run) → AreReadSoFar thin (map_line r ∷ before) → IsMapLine before r
-map_read before r so_far =
-    let one = so_far.0 in
+pub map_read_first : (before : List Line) (r : Run) → IsUnshared before → IsReadAfter thin before (map_line r) → IsMapLine before r
+map_read_first before r first one =
     let is = is_read thin FitsLine Placed thin_grammar before one.bytes (map_line r) one.is in
     let tests = passed before (map_line r) (omega (arith, is.placed.0)) is.passes in
     let says = map_says r.length (r.virtual_block + r.length) (r.data_block + r.length) (data_blocks_of before) r.time r.virtual_block (piece_end before) (unmapped before)
     tests.range tests.order tests.mapped in
     record {
       later = is.placed.0;
-      has_device = in_device before (unshared before so_far.1) is.placed.1;
+      has_device = in_device before first is.placed.1;
       some = says.0;
       above = says.1.1.1.1.0;
       virtual_fits = says.1.0;
@@ -106,6 +111,9 @@ map_read before r so_far =
       time_fits = says.1.1.1.0;
       mapped = says.1.1.1.1.1;
     }
+
+pub map_read : (before : List Line) (r : Run) → AreReadSoFar thin (map_line r ∷ before) → IsMapLine before r
+map_read before r so_far = map_read_first before r (unshared before so_far.1) so_far.0
 
 end_says : (left : ℕ) → ltb 0 left ≡ false → left ≡ 0
 end_says left mapped = grind (arith, nat_tests)
