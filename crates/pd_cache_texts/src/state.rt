@@ -13,6 +13,7 @@ use crate::kind::CacheKind;
 use crate::line::CacheLine;
 use pd_grammar::TextCause;
 use pd_texts::{Stage, TextReader, TextState, cut_word, read_values};
+use std::alloc::AllocError;
 
 /// The text of a cache, read line by line. It doesn't look for an origin that an earlier line has.
 pub type CacheText = TextReader<CacheState>;
@@ -42,7 +43,7 @@ impl TextState for CacheState {
 
     ghost format = { cache_single };
 
-    ghost first_line = { first_line };
+    ghost first_line = { λ _. first_line };
 
     ghost meant = { cache_meant };
 
@@ -64,9 +65,15 @@ impl TextState for CacheState {
         }
     }
 
+    ghost CanWantMemory = { λ _. ⊥ };
+
     fn read_first(&mut self, text: &[u8]) -> bool {
         self.stage = Stage::Second;
         text == b"cache 1".as_slice()
+    }
+
+    fn make_room(&mut self) -> Result<(), AllocError> {
+        Ok(())
     }
 
     fn read(&mut self, text: &[u8]) -> Result<Option<CacheLine>, TextCause> {
@@ -88,7 +95,7 @@ impl TextState for CacheState {
 
     ghost header = { cache_header };
 
-    ghost begins = { refl };
+    ghost begins = { λ _. refl };
 
     ghost ends = { cache_ends };
 }

@@ -13,6 +13,7 @@ use crate::kind::EraKind;
 use crate::line::EraLine;
 use pd_grammar::TextCause;
 use pd_texts::{Stage, TextReader, TextState, cut_word, read_values};
+use std::alloc::AllocError;
 
 /// The text of an era target, read line by line.
 pub type EraText = TextReader<EraState>;
@@ -40,7 +41,7 @@ impl TextState for EraState {
 
     ghost format = { era };
 
-    ghost first_line = { first_line };
+    ghost first_line = { λ _. first_line };
 
     ghost meant = { era_meant };
 
@@ -61,9 +62,15 @@ impl TextState for EraState {
         }
     }
 
+    ghost CanWantMemory = { λ _. ⊥ };
+
     fn read_first(&mut self, text: &[u8]) -> bool {
         self.stage = Stage::Second;
         text == b"era 1".as_slice()
+    }
+
+    fn make_room(&mut self) -> Result<(), AllocError> {
+        Ok(())
     }
 
     fn read(&mut self, text: &[u8]) -> Result<Option<EraLine>, TextCause> {
@@ -85,7 +92,7 @@ impl TextState for EraState {
 
     ghost header = { era_header };
 
-    ghost begins = { refl };
+    ghost begins = { λ _. refl };
 
     ghost ends = { era_ends };
 }
