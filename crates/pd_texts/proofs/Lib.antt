@@ -7,7 +7,6 @@ pub mod TextLemmas
 pub mod PastLemmas
 pub mod GivesLemmas
 pub mod LawLemmas
-pub mod FirstLemmas
 pub mod ThinLemmas
 pub mod ThinNextLemmas
 pub mod Filling

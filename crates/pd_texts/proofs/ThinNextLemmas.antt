@@ -1,16 +1,15 @@
 -- What lines of a pool's text that were read say and mean.
-use Rattle.std.proofs.Common.{◌≡◌, ◌∙◌, ap, sym, refl, ℕ, ◌+◌, ◌^◌, ◌≤◌, ◌<◌, Bool, true, false, not, ◌&&◌, ltb, leb, List, [], ◌∷◌, length, arith}
+use Rattle.std.proofs.Common.{◌≡◌, ◌∙◌, ap, sym, refl, ℕ, ◌+◌, ◌^◌, ◌≤◌, ◌<◌, Bool, true, false, not, ◌&&◌, ◌||◌, ltb, leb, List, [], ◌∷◌, length, arith}
 use Rattle.std.proofs.lemmas.Bool.{true≢false}
 use Rattle.std.proofs.lemmas.Bool.Decides.{nat_tests}
 use Rattle.std.proofs.lemmas.Option.{none-some}
 use Rattle.pd_kinds.specs.Meaning.{ThinPool}
 use Rattle.pd_grammar.specs.Texts.{has_ended}
 use Rattle.pd_grammar.proofs.GrammarLemmas.{Passes, is_read}
-use Rattle.pd_spells.specs.ThinText.{Line, first_line, shared_first_line, pool_line, leaf_line, device_line, use_line, map_line, end_line, Head, LeafHead, Details, Run, thin, thin_tests, data_blocks_of, least_id, has_device, piece_end, unmapped, has_number_out_of_range, is_out_of_order, is_mapped_otherwise, MeansPool}
+use Rattle.pd_spells.specs.ThinText.{Line, first_line, shared_first_line, pool_line, leaf_line, device_line, use_line, map_line, end_line, Head, LeafHead, Details, Run, thin, thin_tests, data_blocks_of, least_id, leaf_number, has_device, piece_end, unmapped, has_number_out_of_range, is_out_of_order, is_mapped_otherwise, MeansPool}
 use Rattle.pd_spells.proofs.ThinRead.{FitsLine, Placed, thin_grammar}
 use Rattle.pd_spells.proofs.ThinLaws.{thin_language}
 use Rattle.pd_spells.proofs.ThinMeaning.{IsUnshared}
-use Rattle.pd_texts.proofs.FirstLemmas.{in_device}
 use Rattle.pd_texts.specs.Reader.{IsReadAfter, AreReadSoFar, in_order}
 use Rattle.pd_texts.specs.ThinNext.{IsPoolLine, IsDeviceLine, IsMapLine, IsEndLine}
 use Rattle.pd_texts.proofs.LawLemmas as any
@@ -94,6 +93,14 @@ unshared (device_line d ∷ before) so_far = let rest = unshared before so_far.1
 unshared (use_line n ∷ before) so_far = let rest = unshared before so_far.1 in record { version = rest.version; none = rest.none }
 unshared (map_line r ∷ before) so_far = let rest = unshared before so_far.1 in record { version = rest.version; none = rest.none }
 unshared (end_line ∷ before) so_far = let rest = unshared before so_far.1 in record { version = rest.version; none = rest.none }
+
+-- so a map line is of a device
+or_false : (b : Bool) → (b || false) ≡ b
+or_false true = refl
+or_false false = refl
+
+in_device : (before : List Line) → IsUnshared before → (has_device before || ltb 0 (leaf_number before)) ≡ true → has_device before ≡ true
+in_device before unshared placed = sym (or_false (has_device before)) ∙ rw unshared.none at placed
 
 pub map_read_first : (before : List Line) (r : Run) → IsUnshared before → IsReadAfter thin before (map_line r) → IsMapLine before r
 map_read_first before r first one =

@@ -1,4 +1,4 @@
-use Rattle.std.proofs.Common.{◌≡◌, ◌∙◌, sym, ap, length, take, drop, get_or, slice_index, arith, refl, false, not, ◌&&◌, List, ℕ, ◌∷◌}
+use Rattle.std.proofs.Common.{◌≡◌, ◌∙◌, sym, ap, take, drop, get_or, slice_index, refl, false, not, ◌&&◌, List, ℕ, ◌∷◌}
 use Rattle.pd_grammar.specs.declared.value.Field.TheVariants as f
 use Rattle.pd_grammar.specs.Tables.{values_in}
 use Rattle.pd_grammar.proofs.NumberLemmas.{both}

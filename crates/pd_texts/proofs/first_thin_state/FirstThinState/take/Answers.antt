@@ -1,6 +1,5 @@
-use Rattle.std.proofs.Common.{List, Ok, Err}
-use Rattle.pd_grammar.specs.Tables.{LineKind}
-use Rattle.pd_spells.specs.ThinText.{Line, thin_tests, has_number_out_of_range}
+use Rattle.std.proofs.Common.{Ok, Err}
+use Rattle.pd_spells.specs.ThinText.{has_number_out_of_range}
 use Rattle.pd_texts.specs.ThinKind.{kind_meant}
 use Rattle.pd_texts.specs.Words.{made_of}
 use Rattle.pd_texts.specs.ThinLine.{thin_meant}
