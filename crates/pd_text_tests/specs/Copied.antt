@@ -5,17 +5,17 @@ use Rattle.pd_lines.specs.Pieces.{Gathers}
 use Rattle.pd_spells.specs.ThinText.{Line, first_line, end_line, thin}
 use Rattle.pd_texts.specs.declared.fault.ReadFault.TheVariants as r
 use Rattle.pd_texts.specs.declared.reader.TextReader.{TextReader}
-use Rattle.pd_texts.specs.declared.thin_state.ThinState.{ThinState}
+use Rattle.pd_texts.specs.declared.first_thin_state.FirstThinState.{FirstThinState}
 use Rattle.pd_texts.specs.declared.thin_line.ThinLine.{ThinLine}
-use Rattle.pd_texts.specs.ThinState.{ThinStands}
+use Rattle.pd_texts.specs.FirstThinState.{FirstThinStands}
 use Rattle.pd_texts.specs.Reader.{ReadsOn, LeavesOf, begun, in_order}
 use Rattle.pd_text_tests.specs.declared.small_copy.CopyFault.{CopyFault}
 use Rattle.pd_text_tests.specs.declared.small_copy.CopyFault.TheVariants as c
 
 -- some lines of the text were read, and they were printed or are pending; the first one was printed before it is read
-pub record IsCopying (text : List ℕ) (start : Option (List ℕ)) (reader : TextReader ThinState ThinLine) (left : Option (List ℕ)) (pending : List ℕ) (now : Option (List ℕ)) : Type 0 where
+pub record IsCopying (text : List ℕ) (start : Option (List ℕ)) (reader : TextReader FirstThinState ThinLine) (left : Option (List ℕ)) (pending : List ℕ) (now : Option (List ℕ)) : Type 0 where
   pub before : List Line
-  pub reads : ReadsOn thin ThinStands before reader
+  pub reads : ReadsOn thin FirstThinStands before reader
   pub leaves : LeavesOf thin text before reader left
   pub gathered : Gathers (text_of_lines thin (in_order (begun first_line before) [])) pending start now
 

@@ -12,7 +12,7 @@ use pd_image::{Sink, Source};
 use pd_kinds::Kind;
 use pd_lines::Pieces;
 use pd_texts::{
-    ReadFault, ThinText, bytes_of_end, bytes_of_first, bytes_of_thin,
+    FirstThinText, ReadFault, bytes_of_end, bytes_of_first, bytes_of_thin,
     thin_lines_are_printed_in_order, whole_thin_text_spells,
 };
 use std::alloc::Global;
@@ -37,7 +37,7 @@ pub fn copy<S: Source, K: Sink>(alloc: Global, source: &mut S, out: &mut K) -> R
     ensures { (text : List ℕ) → (S.state source.old).left ≡ Some text
         → MatchResult result (λ _. Appends text (K.state out.old).written (K.state out.new).written × ((m : ThinPool) × SpellsPool text m)) (IsRefused text) }
 {
-    let mut text = match ThinText::new(alloc) {
+    let mut text = match FirstThinText::new(alloc) {
         Ok(text) => text,
         Err(_) => return Err(CopyFault::Read(ReadFault::Memory)),
     };
@@ -50,7 +50,7 @@ pub fn copy<S: Source, K: Sink>(alloc: Global, source: &mut S, out: &mut K) -> R
 
 /// Copies what follows the first line.
 fn copy_after_first<S: Source, K: Sink>(
-    text: &mut ThinText,
+    text: &mut FirstThinText,
     source: &mut S,
     pieces: &mut Pieces,
     out: &mut K,
@@ -68,7 +68,7 @@ fn copy_after_first<S: Source, K: Sink>(
 
 /// Copies the lines up to the end of the text.
 fn copy_lines<S: Source, K: Sink>(
-    text: &mut ThinText,
+    text: &mut FirstThinText,
     source: &mut S,
     pieces: &mut Pieces,
     out: &mut K,
@@ -91,7 +91,7 @@ fn copy_lines<S: Source, K: Sink>(
 
 /// Copies a line, and answers whether there was one.
 fn copy_line<S: Source, K: Sink>(
-    text: &mut ThinText,
+    text: &mut FirstThinText,
     source: &mut S,
     pieces: &mut Pieces,
     out: &mut K,

@@ -12,7 +12,8 @@ use pd_image::{Failed, MemSink, MemSource, Sink, Source};
 use pd_kinds::Kind;
 use pd_lines::{LineFault, LineReader, put_number};
 use pd_texts::{
-    ReadFault, Run2, TextFault, ThinLine, ThinState, ThinText, print_end, print_first, print_thin,
+    FirstThinState, FirstThinText, ReadFault, Run2, TextFault, ThinLine, print_end, print_first,
+    print_shared_first, print_thin,
 };
 use pd_value::Details;
 use std::alloc::Global;
@@ -47,6 +48,7 @@ const REFUSED_BODIES: &[Refused] = &[
         TextCause::Word,
     ),
     ("thin 1\n", 3, TextCause::Word),
+    ("leaf 0 1\n", 3, TextCause::Word),
     ("map 0 0 1 0\n", 3, TextCause::Word),
     ("device 1 1 0 0\n", 3, TextCause::Word),
     ("device 1 1 0 0 0 0\n", 3, TextCause::Word),
@@ -95,6 +97,7 @@ const REFUSED_BODIES: &[Refused] = &[
         5,
         TextCause::MappedDiffers,
     ),
+    ("device 1 1 0 0 0\nuse 0\n", 4, TextCause::Word),
     ("device 1 1 0 0 0\nmap 0 0 01 0\n", 4, TextCause::Number),
     ("device 1 1 0 0 0\nmap 0 0 0 0\n", 4, TextCause::OutOfRange),
     ("device 1 9 0 0 0\nmap 0 0 9 0\n", 4, TextCause::OutOfRange),
@@ -140,6 +143,7 @@ const REFUSED_TEXTS: &[Refused] = &[
     ),
     ("", 1, TextCause::NoEnd),
     ("thin 1", 1, TextCause::NoEnd),
+    ("thin 2\n", 1, TextCause::Header),
     ("thin 3\n", 1, TextCause::Header),
     ("thin 1 \n", 1, TextCause::Header),
     ("thin  1\n", 1, TextCause::Header),
@@ -190,7 +194,7 @@ const REFUSED_TEXTS: &[Refused] = &[
 fn texts_are_refused_at_their_line_for_their_cause(rt: HostRuntime) -> Result<(), Fail> {
     for row in REFUSED_TEXTS {
         let (text, line, cause) = *row;
-        expect_refused::<ThinState>(&rt, rt.alloc(), text.as_bytes(), line, cause, text)?;
+        expect_refused::<FirstThinState>(&rt, rt.alloc(), text.as_bytes(), line, cause, text)?;
     }
     Ok(())
 }
@@ -198,7 +202,7 @@ fn texts_are_refused_at_their_line_for_their_cause(rt: HostRuntime) -> Result<()
 #[test]
 fn bodies_are_refused_at_their_line_for_their_cause(rt: HostRuntime) -> Result<(), Fail> {
     for row in REFUSED_BODIES {
-        expect_refused_after::<ThinState>(&rt, rt.alloc(), FRONT, *row)?;
+        expect_refused_after::<FirstThinState>(&rt, rt.alloc(), FRONT, *row)?;
     }
     Ok(())
 }
@@ -215,7 +219,7 @@ fn expect_long_line_refused(
     let line = vec![in alloc; b'x'; length]?;
     text.extend_from_slice(line.as_slice())?;
     text.push(b'\n')?;
-    expect_refused::<ThinState>(rt, alloc, text.as_slice(), 3, cause, shown)
+    expect_refused::<FirstThinState>(rt, alloc, text.as_slice(), 3, cause, shown)
 }
 
 #[test]
@@ -230,7 +234,7 @@ fn lines_of_161_bytes_are_too_long(rt: HostRuntime) -> Result<(), Fail> {
 fn expect_byte_refused(rt: &impl Abort, alloc: Global, byte: u8) -> Result<(), Fail> {
     let mut text = Vec::from_slice(alloc, FRONT.as_bytes())?;
     text.extend_from_slice(&[b'e', b'n', b'd', byte, b'\n'])?;
-    expect_refused::<ThinState>(rt, alloc, text.as_slice(), 3, TextCause::Word, "a byte")
+    expect_refused::<FirstThinState>(rt, alloc, text.as_slice(), 3, TextCause::Word, "a byte")
 }
 
 #[test]
@@ -275,7 +279,7 @@ fn expect_one_mapping(rt: &impl Abort, alloc: Global, piece: usize) -> Result<()
     requires { 1 ≤ piece }
 {
     let mut source = source_of(alloc, ONE_MAPPING.as_bytes(), piece)?;
-    let mut text = ThinText::new(alloc)?;
+    let mut text = FirstThinText::new(alloc)?;
     assert!(rt; text.next(&mut *source) == Ok(Some(POOL)));
     assert!(rt; text.next(&mut *source) == Ok(Some(DEVICE)));
     assert!(rt; text.next(&mut *source) == Ok(Some(MAP)));
@@ -307,6 +311,31 @@ fn lines_are_printed_one_by_one(rt: HostRuntime) -> Result<(), Fail> {
     let mut sink = sink_of(rt.alloc())?;
     assert!(rt; print_one_mapping(&mut *sink).is_ok());
     assert!(rt; sink.bytes() == ONE_MAPPING.as_bytes());
+    Ok(())
+}
+
+/// Lines of version 2 alone.
+const LEAF: ThinLine = ThinLine::Leaf {
+    number: 0,
+    entries: 252,
+};
+
+const USE: ThinLine = ThinLine::UseLeaf { number: u64::MAX };
+
+/// Prints the first line of version 2, and lines of this version alone.
+fn print_shared_lines(sink: &mut MemSink) -> Result<(), Failed>
+    requires { (mem_sink_state sink.old).access ≡ 1 }
+{
+    print_shared_first(sink)?;
+    print_thin(&LEAF, sink)?;
+    print_thin(&USE, sink)
+}
+
+#[test]
+fn lines_of_version_2_are_printed(rt: HostRuntime) -> Result<(), Fail> {
+    let mut sink = sink_of(rt.alloc())?;
+    assert!(rt; print_shared_lines(&mut *sink).is_ok());
+    assert!(rt; sink.bytes() == b"thin 2\nleaf 0 252\nuse 18446744073709551615\n".as_slice());
     Ok(())
 }
 
@@ -469,7 +498,7 @@ fn expect_endless_refused(
 ) -> Result<(), Fail> {
     let mut source = Endless { byte, access: 0 };
     source.attach("x")?;
-    let mut text = ThinText::new(alloc)?;
+    let mut text = FirstThinText::new(alloc)?;
     let wanted = Err(ReadFault::Text(TextFault { line: 1, cause }));
     assert!(rt; text.next(&mut source) == wanted);
     Ok(())
