@@ -16,7 +16,7 @@ use Rattle.pd_draft.specs.Placed.{Stand, Wrote}
 use Rattle.pd_draft.proofs.PlacedLemmas.{wrote_none, wrote_then}
 use Rattle.pd_count.specs.Counted.{HasCounted}
 use Rattle.pd_spells.specs.Need.{need_tree}
-use Rattle.pd_spells.specs.ThinText.{Line, Head, Run, first_line, pool_line, device_line, map_line, end_line, data_blocks_of, piece_end, unmapped, mappings_of}
+use Rattle.pd_spells.specs.ThinText.{Line, Head, Run, first_line, shared_first_line, pool_line, leaf_line, device_line, use_line, map_line, end_line, data_blocks_of, leaf_number, piece_end, unmapped, mappings_of}
 use Rattle.std.specs.Prelude.{OnOk}
 use Rattle.pd_spells.specs.ThinNeed.{thin_need_so_far, need_of_devices, overflows_in}
 use Rattle.pd_devices.specs.Need.{need_of_trees}
@@ -50,14 +50,17 @@ opened_none [] low left from to is = (refl, is)
 opened_none (d ∷ []) low left from to is = absurd is
 opened_none (d ∷ e ∷ devices) low left from to is = absurd is
 
--- where mappings are to come there is one
-pub open_some : (before : List Line) → 1 ≤ unmapped before → (d : ThinDevice) × (open_device before ≡ d ∷ [])
-open_some [] some = absurd (omega arith)
-open_some (first_line ∷ before) some = absurd (omega arith)
-open_some (pool_line p ∷ before) some = absurd (omega arith)
-open_some (device_line d ∷ before) some = (bare_device d, refl)
-open_some (map_line r ∷ before) some = let rest = open_some before (omega arith) in (with_run r rest.0, ap (map (with_run r)) rest.1)
-open_some (end_line ∷ before) some = absurd (omega arith)
+-- where mappings are to come, and there are no leaves, there is one
+pub open_some : (before : List Line) → leaf_number before ≡ 0 → 1 ≤ unmapped before → (d : ThinDevice) × (open_device before ≡ d ∷ [])
+open_some [] none some = absurd (omega arith)
+open_some (first_line ∷ before) none some = absurd (omega arith)
+open_some (shared_first_line ∷ before) none some = absurd (omega arith)
+open_some (pool_line p ∷ before) none some = absurd (omega arith)
+open_some (leaf_line l ∷ before) none some = absurd (omega arith)
+open_some (device_line d ∷ before) none some = (bare_device d, refl)
+open_some (use_line n ∷ before) none some = open_some before none (omega arith)
+open_some (map_line r ∷ before) none some = let rest = open_some before none (omega arith) in (with_run r rest.0, ap (map (with_run r)) rest.1)
+open_some (end_line ∷ before) none some = absurd (omega arith)
 
 -- the codes of what is listed
 abbrev root_code : Root → ℕ
@@ -81,6 +84,8 @@ pub gathered_start : (p : Head) (s : Devices) (start : Stand) → start.place �
     → s.roots.items ≡ [] → s.details.items ≡ [] → s.growing ≡ None → HasGathered (pool_line p ∷ first_line ∷ []) s start start
 unfolding device_trees device_roots
 gathered_start p s start first closed small size counted total trees roots details growing = record {
+  version = refl;
+  leaves = refl;
   begin = first;
   behind = start;
   written = wrote_none start closed;
@@ -133,6 +138,8 @@ gathered_ended {start} {mid} {now} before old new o root h none growing ended de
         let full : length items ≡ d.mapped = omega (arith, g.grows.items, g.begun.items, done) in
         let root_is : root ≡ tree_root 8 h.behind.place items = is ∙ grown_root g.begun g.grows done in
         record {
+          version = h.version;
+          leaves = h.leaves;
           begin = h.begin;
           behind = now;
           written = subst (λ (bs : List (List ℕ)). Wrote bs start now) (sym blocks) (wrote_then h.written tree);
@@ -167,6 +174,8 @@ gathered_begun {start} {now} before old new id details t closed h begun low grow
     let whole = whole_devices before ++ open_device before in
     let here : h.behind ≡ now = closed_here old.growing h.behind now h.growing in
     record {
+      version = h.version;
+      leaves = h.leaves;
       begin = h.begin;
       behind = now;
       written = rw (← here) h.written;
@@ -216,6 +225,8 @@ gathered_run {start} {mid} {now} before old new o p r h follows growing grown sa
           left = omega (arith, grows.items, g.left, length-items (mappings_of r), length-mappings r.virtual_block r.data_block r.time r.length);
         } in
         record {
+          version = h.version;
+          leaves = h.leaves;
           begin = h.begin;
           behind = h.behind;
           written = h.written;
@@ -256,7 +267,8 @@ gathered_room {s} {start} {now} before room o h growing need =
 pub gathered_some : {s : Devices} {start now : Stand} (before : List Line) → HasGathered before s start now → s.growing ≡ None → 1 ≤ unmapped before → ⊥
 gathered_some {s} {start} {now} before h growing some =
     let closed = opened_none (open_device before) (piece_end before) (unmapped before) h.behind now (rw growing at h.growing) in
-    no_device (open_some before some).0 (sym (open_some before some).1 ∙ closed.0)
+    let one = open_some before h.leaves some in
+    no_device one.0 (sym one.1 ∙ closed.0)
   where
     no_device : (d : ThinDevice) → d ∷ [] ≡ [] → ⊥
     no_device d e = cc

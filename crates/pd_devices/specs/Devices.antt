@@ -1,7 +1,7 @@
--- The devices that the lines of a pool's text give, of lines with the newest first.
+-- The devices that the lines of a pool's text of version 1 give, of lines with the newest first.
 use Rattle.std.specs.Prelude.{◌+◌, ◌^◌, ◌≤◌, ◌<◌, List, [], ◌∷◌, ◌++◌, map}
 use Rattle.pd_kinds.specs.Meaning.{ThinDevice}
-use Rattle.pd_spells.specs.ThinText.{Line, first_line, pool_line, device_line, map_line, end_line, Details, Run, mappings_of, data_blocks_of, piece_end, unmapped}
+use Rattle.pd_spells.specs.ThinText.{Line, first_line, shared_first_line, pool_line, leaf_line, device_line, use_line, map_line, end_line, Details, Run, mappings_of, data_blocks_of, piece_end, unmapped}
 
 -- a device without mappings, and with those of a run more
 abbrev pub bare_device : Details → ThinDevice
@@ -17,12 +17,15 @@ with_run r d = record {
   mappings = d.mappings ++ mappings_of r;
 }
 
--- the device whose lines may go on, with its mappings so far; there is one or none
+-- The device whose lines may go on, with its mappings so far; there is one or none. Version 1 has no leaves, and no uses
 abbrev pub open_device : List Line → List ThinDevice
 open_device [] = []
 open_device (first_line ∷ before) = []
+open_device (shared_first_line ∷ before) = []
 open_device (pool_line p ∷ before) = []
+open_device (leaf_line l ∷ before) = []
 open_device (device_line d ∷ before) = bare_device d ∷ []
+open_device (use_line n ∷ before) = open_device before
 open_device (map_line r ∷ before) = map (with_run r) (open_device before)
 open_device (end_line ∷ before) = []
 
@@ -30,8 +33,11 @@ open_device (end_line ∷ before) = []
 abbrev pub whole_devices : List Line → List ThinDevice
 whole_devices [] = []
 whole_devices (first_line ∷ before) = []
+whole_devices (shared_first_line ∷ before) = []
 whole_devices (pool_line p ∷ before) = []
+whole_devices (leaf_line l ∷ before) = whole_devices before ++ open_device before
 whole_devices (device_line d ∷ before) = whole_devices before ++ open_device before
+whole_devices (use_line n ∷ before) = whole_devices before
 whole_devices (map_line r ∷ before) = whole_devices before
 whole_devices (end_line ∷ before) = whole_devices before ++ open_device before
 

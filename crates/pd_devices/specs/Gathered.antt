@@ -1,5 +1,5 @@
 -- What is gathered of the lines of a pool's text, and what of it is written.
-use Rattle.std.specs.Prelude.{◌≡◌, ℕ, ◌+◌, ◌-◌, ◌^◌, ◌≤◌, min, true, nat_lt, ◌&&◌, List, [], ◌∷◌, ◌++◌, length, sum, sum_by, Option, None, Some}
+use Rattle.std.specs.Prelude.{◌≡◌, ℕ, ◌+◌, ◌-◌, ◌^◌, ◌≤◌, min, true, nat_lt, ◌&&◌, false, List, [], ◌∷◌, ◌++◌, length, sum, sum_by, Option, None, Some}
 use Rattle.std.specs.List.{All, flat_map}
 use Rattle.pd_kinds.specs.declared.limits.TheConstants.{MAX_META_BLOCKS}
 use Rattle.pd_kinds.specs.Meaning.{ThinDevice}
@@ -10,7 +10,7 @@ use Rattle.pd_node.specs.Items.{entries_of}
 use Rattle.pd_draft.specs.Placed.{Stand, Wrote}
 use Rattle.pd_count.specs.Counted.{HasCounted}
 use Rattle.pd_spells.specs.Need.{need_tree}
-use Rattle.pd_spells.specs.ThinText.{Line, Run, data_blocks_of, piece_end, unmapped}
+use Rattle.pd_spells.specs.ThinText.{Line, Run, data_blocks_of, is_shared, leaf_number, piece_end, unmapped}
 use Rattle.pd_spells.specs.ThinNeed.{mapped_of_line, data_of_line, thin_need_so_far}
 use Rattle.pd_laid.specs.LaidThin.{mapping_items}
 use Rattle.pd_laid_once.specs.Written.{device_trees, device_roots, device_details}
@@ -51,9 +51,11 @@ mapped_in before = flat_map mapped_of_line before
 abbrev pub data_in : List Line → List ℕ
 data_in before = flat_map data_of_line before
 
--- of these lines all was gathered, and from the start on the trees of the devices that are over are written, and then
--- what is there of the tree of the open one
+-- of these lines, which are of version 1, all was gathered, and from the start on the trees of the devices that are
+-- over are written, and then what is there of the tree of the open one
 pub record HasGathered (before : List Line) (s : Devices) (start now : Stand) : Type 0 where
+  pub version : is_shared before ≡ false
+  pub leaves : leaf_number before ≡ 0
   pub begin : start.place ≡ 1
   pub behind : Stand
   pub written : Wrote (device_trees 1 (whole_devices before)) start behind

@@ -6,11 +6,11 @@ use Rattle.pd_spells.specs.ThinText.{Line, first_line, pool_line, end_line, thin
 use Rattle.pd_spells.proofs.ThinRead.{FitsLine, Placed, thin_grammar}
 use Rattle.pd_texts.specs.declared.reader.TextReader.{TextReader}
 use Rattle.pd_texts.specs.declared.thin_line.ThinLine.{ThinLine}
-use Rattle.pd_texts.specs.declared.thin_line.ThinLine.TheVariants.{Pool, Device, Map}
-use Rattle.pd_texts.specs.declared.thin_state.ThinState.{ThinState}
+use Rattle.pd_texts.specs.declared.thin_line.ThinLine.TheVariants.{Pool, Leaf, Device, UseLeaf, Map}
+use Rattle.pd_texts.specs.declared.first_thin_state.FirstThinState.{FirstThinState}
 use Rattle.pd_texts.specs.Reader.{ReadsOn, LeavesOf, GivesLine, GivesOf}
 use Rattle.pd_texts.specs.ThinLine.{line_of, thin_meant}
-use Rattle.pd_texts.specs.ThinState.{ThinStands}
+use Rattle.pd_texts.specs.FirstThinState.{FirstThinStands}
 use Rattle.pd_texts.proofs.ThinNextLemmas.{pool_read}
 use Rattle.pd_restore.specs.declared.pool.Pool as p
 use Rattle.pd_restore.specs.Begin.{IsOfPool}
@@ -23,26 +23,32 @@ placed_second line bytes is = (is_read thin FitsLine Placed thin_grammar (first_
 pub no_end : (bytes : List ℕ) → read thin (first_line ∷ []) bytes ≡ Ok end_line → ⊥
 no_end bytes is = let late : 2 ≤ 1 = placed_second end_line bytes is in omega arith
 
-pub given_pool : (next : Option ThinLine) (new : TextReader ThinState ThinLine) → GivesLine thin ThinStands first_line thin_meant (Ok next) [] new → IsOfPool next
+pub given_pool : (next : Option ThinLine) (new : TextReader FirstThinState ThinLine) → GivesLine thin FirstThinStands first_line thin_meant (Ok next) [] new → IsOfPool next
 given_pool None new gives = no_end gives.0.bytes gives.0.is
 given_pool (Some (Pool uuid time transaction block_size blocks)) new gives = tt
+given_pool (Some (Leaf number entries)) new gives =
+    let one = gives.so_far.lines.0 in
+    let late : 2 ≤ 1 = (placed_second (line_of (Leaf number entries)) one.bytes one.is).0 in omega arith
 given_pool (Some (Device id details)) new gives =
     let one = gives.so_far.lines.0 in
     let late : 2 ≤ 1 = placed_second (line_of (Device id details)) one.bytes one.is in omega arith
+given_pool (Some (UseLeaf number)) new gives =
+    let one = gives.so_far.lines.0 in
+    let late : 2 ≤ 1 = (placed_second (line_of (UseLeaf number)) one.bytes one.is).0 in omega arith
 given_pool (Some (Map run)) new gives =
     let one = gives.so_far.lines.0 in
     let late : 2 ≤ 1 = (placed_second (line_of (Map run)) one.bytes one.is).0 in omega arith
 
 -- the pool that was read
-pub pool_reads : (next : Option ThinLine) (pool : p.Pool) (new : TextReader ThinState ThinLine) → IsOfPool next → thin_meant next ≡ pool_line (head_of_pool pool)
-    → GivesLine thin ThinStands first_line thin_meant (Ok next) [] new → ReadsOn thin ThinStands (begun_lines pool) new
+pub pool_reads : (next : Option ThinLine) (pool : p.Pool) (new : TextReader FirstThinState ThinLine) → IsOfPool next → thin_meant next ≡ pool_line (head_of_pool pool)
+    → GivesLine thin FirstThinStands first_line thin_meant (Ok next) [] new → ReadsOn thin FirstThinStands (begun_lines pool) new
 pool_reads None pool new is same gives = absurd is
 pool_reads (Some line) pool new is same gives = rw same at gives
 
-pub pool_told : (next : Option ThinLine) (pool : p.Pool) (t : List ℕ) (new : TextReader ThinState ThinLine) (left : Option (List ℕ)) → IsOfPool next → thin_meant next ≡ pool_line (head_of_pool pool)
+pub pool_told : (next : Option ThinLine) (pool : p.Pool) (t : List ℕ) (new : TextReader FirstThinState ThinLine) (left : Option (List ℕ)) → IsOfPool next → thin_meant next ≡ pool_line (head_of_pool pool)
     → GivesOf thin first_line thin_meant (Ok next) t [] new left → LeavesOf thin t (begun_lines pool) new left
 pool_told None pool t new left is same gives = absurd is
 pool_told (Some line) pool t new left is same gives = rw same at gives
 
-pub pool_small : (pool : p.Pool) (new : TextReader ThinState ThinLine) → ReadsOn thin ThinStands (begun_lines pool) new → pool.blocks ≤ 2 ^ 40
-pool_small pool new reads = (pool_read (first_line ∷ []) (head_of_pool pool) reads.so_far.lines.0).data_blocks_fit
+pub pool_small : (pool : p.Pool) (new : TextReader FirstThinState ThinLine) → ReadsOn thin FirstThinStands (begun_lines pool) new → pool.blocks ≤ 2 ^ 40
+pool_small pool new reads = (pool_read (first_line ∷ []) thin_grammar (first_line ∷ []) (head_of_pool pool) reads.so_far.lines.0).data_blocks_fit

@@ -9,7 +9,7 @@ use Rattle.pd_spells.proofs.ThinRead.{FitsLine, Placed}
 use Rattle.pd_spells.proofs.ThinLaws.{thin_language}
 use Rattle.pd_laid.specs.LaidThin.{laid_pool}
 use Rattle.pd_texts.specs.Reader.{LeavesOf, ReadsOn}
-use Rattle.pd_texts.specs.ThinState.{ThinStands}
+use Rattle.pd_texts.specs.FirstThinState.{FirstThinStands}
 use Rattle.pd_restoring.specs.Begin.{BeginsWith}
 use Rattle.pd_restoring.specs.Subject.{Subject, HasVerdicts}
 use Rattle.pd_restoring.proofs.BeginLemmas.{begins_with}
@@ -26,7 +26,7 @@ lines_of_begun begun = begun_lines begun.pool
 
 -- they were read, from whatever source
 abbrev pub PoolStands : Begun → Type 0
-PoolStands begun = ReadsOn thin ThinStands (begun_lines begun.pool) begun.text
+PoolStands begun = ReadsOn thin FirstThinStands (begun_lines begun.pool) begun.text
 
 -- they were read of this text, and this is left of the source
 abbrev pub PoolLeaves : List ℕ → Begun → Option (List ℕ) → Type 0

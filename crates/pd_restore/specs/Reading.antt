@@ -7,10 +7,10 @@ use Rattle.pd_spells.specs.ThinText.{Line, end_line, thin}
 use Rattle.pd_spells.specs.ThinNeed.{thin_need_so_far}
 use Rattle.pd_texts.specs.declared.reader.TextReader.{TextReader}
 use Rattle.pd_texts.specs.declared.thin_line.ThinLine.{ThinLine}
-use Rattle.pd_texts.specs.declared.thin_state.ThinState.{ThinState}
+use Rattle.pd_texts.specs.declared.first_thin_state.FirstThinState.{FirstThinState}
 use Rattle.pd_texts.specs.Reader.{in_order, IsReadAfter, AreReadSoFar, ReadsOn, LeavesOf, IsWhole}
 use Rattle.pd_texts.specs.ThinLine.{line_of}
-use Rattle.pd_texts.specs.ThinState.{ThinStands}
+use Rattle.pd_texts.specs.FirstThinState.{FirstThinStands}
 use Rattle.pd_devices.specs.declared.devices.Devices.{Devices}
 use Rattle.pd_devices.specs.Gathered.{HasGathered, Gathered}
 use Rattle.pd_restoring.specs.declared.fault.RestoreFault.{RestoreFault}
@@ -18,8 +18,8 @@ use Rattle.pd_restoring.specs.declared.fault.RestoreFault.TheVariants as r
 use Rattle.pd_restoring.specs.Reading.{NoneAbove}
 
 -- these lines were read and restored, and have room
-pub record Reading (before : List Line) (room : ℕ) (text : TextReader ThinState ThinLine) (s : Devices) (start now : Stand) : Type 0 where
-  pub reads : ReadsOn thin ThinStands before text
+pub record Reading (before : List Line) (room : ℕ) (text : TextReader FirstThinState ThinLine) (s : Devices) (start now : Stand) : Type 0 where
+  pub reads : ReadsOn thin FirstThinStands before text
   pub later : 2 ≤ length before
   pub gathered : HasGathered before s start now
   pub need : thin_need_so_far room before ≤ room
@@ -28,7 +28,7 @@ pub record Reading (before : List Line) (room : ℕ) (text : TextReader ThinStat
   pub there : room ≤ now.device.blocks
 
 -- some lines were
-pub record CanRead (room : ℕ) (text : TextReader ThinState ThinLine) (s : Devices) (now : Stand) : Type 0 where
+pub record CanRead (room : ℕ) (text : TextReader FirstThinState ThinLine) (s : Devices) (now : Stand) : Type 0 where
   pub before : List Line
   pub start : Stand
   pub so_far : Reading before room text s start now
@@ -48,14 +48,14 @@ pub record CanPut (s : Devices) (line : ThinLine) (now : Stand) : Type 0 where
   pub after : IsReadAfter thin so_far.before (line_of line)
 
 -- one step after these lines: a line more, or the end
-abbrev pub StepsDevices : Bool → List Line → ℕ → TextReader ThinState ThinLine → Option (List ℕ) → TextReader ThinState ThinLine → Option (List ℕ) → Devices → Stand → Stand → Type 0
+abbrev pub StepsDevices : Bool → List Line → ℕ → TextReader FirstThinState ThinLine → Option (List ℕ) → TextReader FirstThinState ThinLine → Option (List ℕ) → Devices → Stand → Stand → Type 0
 StepsDevices true before room old was text left s start now = (line : Line) × (Reading (line ∷ before) room text s start now
     × ((t : List ℕ) → LeavesOf thin t before old was → LeavesOf thin t (line ∷ before) text left))
 StepsDevices false before room old was text left s start now = HasReadAll (end_line ∷ before) room s start now
     × ((t : List ℕ) → LeavesOf thin t before old was → IsWhole thin t (end_line ∷ before) left)
 
 -- after these lines all others were read
-pub record EndsDevices (before : List Line) (room : ℕ) (old : TextReader ThinState ThinLine) (was left : Option (List ℕ)) (s : Devices) (start now : Stand) : Type 0 where
+pub record EndsDevices (before : List Line) (room : ℕ) (old : TextReader FirstThinState ThinLine) (was left : Option (List ℕ)) (s : Devices) (start now : Stand) : Type 0 where
   pub lines : List Line
   pub later : List Line
   pub front : (others : List Line) → in_order lines others ≡ in_order before (later ++ others)
@@ -63,7 +63,7 @@ pub record EndsDevices (before : List Line) (room : ℕ) (old : TextReader ThinS
   pub told : (t : List ℕ) → LeavesOf thin t before old was → IsWhole thin t lines left
 
 -- from the lines before some others were read
-pub record Went (before : List Line) (room : ℕ) (old : TextReader ThinState ThinLine) (was : Option (List ℕ)) (text : TextReader ThinState ThinLine) (left : Option (List ℕ)) (s : Devices)
+pub record Went (before : List Line) (room : ℕ) (old : TextReader FirstThinState ThinLine) (was : Option (List ℕ)) (text : TextReader FirstThinState ThinLine) (left : Option (List ℕ)) (s : Devices)
     (start now : Stand) : Type 0 where
   pub lines : List Line
   pub later : List Line

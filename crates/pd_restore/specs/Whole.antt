@@ -5,7 +5,7 @@ use Rattle.pd_draft.specs.Placed.{Stand}
 use Rattle.pd_spells.specs.ThinText.{Line, Head, first_line, pool_line}
 use Rattle.pd_texts.specs.declared.reader.TextReader.{TextReader}
 use Rattle.pd_texts.specs.declared.thin_line.ThinLine.{ThinLine}
-use Rattle.pd_texts.specs.declared.thin_state.ThinState.{ThinState}
+use Rattle.pd_texts.specs.declared.first_thin_state.FirstThinState.{FirstThinState}
 use Rattle.pd_devices.specs.declared.devices.Devices.{Devices}
 use Rattle.pd_restore.specs.declared.parts.Parts.{Parts}
 use Rattle.pd_restore.specs.declared.pool.Pool.{Pool}
@@ -41,6 +41,6 @@ fields_of p parts room = record {
 }
 
 -- the first two lines were read, and nothing is written
-pub record CanBegin (p : Pool) (room : ℕ) (text : TextReader ThinState ThinLine) (s : Devices) (now : Stand) : Type 0 where
+pub record CanBegin (p : Pool) (room : ℕ) (text : TextReader FirstThinState ThinLine) (s : Devices) (now : Stand) : Type 0 where
   pub start : Stand
   pub reads : Reading (begun_lines p) room text s start now

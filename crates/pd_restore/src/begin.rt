@@ -5,7 +5,7 @@ ghost use Rattle.pd_image.specs.Source.{KeepsSource};
 ghost use Rattle.pd_spells.specs.ThinText.{pool_line, thin};
 ghost use Rattle.pd_texts.specs.Reader.{LeavesOf, ReadsOn};
 ghost use Rattle.pd_texts.specs.ThinLine.{thin_meant};
-ghost use Rattle.pd_texts.specs.ThinState.{ThinStands};
+ghost use Rattle.pd_texts.specs.FirstThinState.{FirstThinStands};
 ghost use Rattle.pd_spells.specs.ThinNeed.{thin_need_so_far};
 ghost use Rattle.pd_restoring.specs.Begin.{BeginsOf, CountsBegin};
 ghost use Rattle.pd_restore.specs.Begin.{IsOfPool};
@@ -14,23 +14,23 @@ ghost use Rattle.pd_restore.specs.Whole.{begun_lines, head_of_pool};
 use crate::pool::Pool;
 use pd_image::Source;
 use pd_restoring::{RestoreFault, of_read};
-use pd_texts::{ThinLine, ThinText};
+use pd_texts::{FirstThinText, ThinLine};
 
 /// A text whose first two lines were read.
 #[derive(Drop)]
 pub(crate) struct Begun {
-    pub(crate) text: ThinText,
+    pub(crate) text: FirstThinText,
     pub(crate) pool: Pool,
 }
 
 /// Reads the first line and the pool line.
 pub(crate) fn read_pool<S: Source>(
-    text: &mut ThinText,
+    text: &mut FirstThinText,
     source: &mut S,
 ) -> Result<Pool, RestoreFault>
     requires attached { (S.state source.old).access ≡ 1 }
-    requires start { ReadsOn thin ThinStands [] text.old }
-    ensures reads { IfOk result (λ pool. ReadsOn thin ThinStands (begun_lines pool) text.new) }
+    requires start { ReadsOn thin FirstThinStands [] text.old }
+    ensures reads { IfOk result (λ pool. ReadsOn thin FirstThinStands (begun_lines pool) text.new) }
     ensures small { IfOk result (λ pool. pool.blocks ≤ 2 ^ 40) }
     ensures told { (t : List ℕ) → LeavesOf thin t [] text.old (S.state source.old).left
         → MatchResult result (λ pool. LeavesOf thin t (begun_lines pool) text.new (S.state source.new).left) (λ fault. (room : ℕ) → BeginsOf thin thin_need_so_far room t fault) }
@@ -64,7 +64,9 @@ fn pool_of(line: Option<ThinLine>) -> Pool
             block_size,
             blocks,
         },
+        Some(ThinLine::Leaf { .. }) => unreachable!(),
         Some(ThinLine::Device { .. }) => unreachable!(),
+        Some(ThinLine::UseLeaf { .. }) => unreachable!(),
         Some(ThinLine::Map(_)) => unreachable!(),
         None => unreachable!(),
     }

@@ -21,11 +21,11 @@ use pd_devices::{Devices, Run};
 use pd_draft::Draft;
 use pd_image::{Device, Source};
 use pd_restoring::{RestoreFault, of_build, of_read};
-use pd_texts::{ThinLine, ThinText};
+use pd_texts::{FirstThinText, ThinLine};
 
 /// Reads the lines of a text after these ones up to its end, and restores them.
 pub(crate) fn restore_lines<S: Source, D: Device>(
-    text: &mut ThinText,
+    text: &mut FirstThinText,
     source: &mut S,
     draft: &mut Draft<'_, D>,
     devices: &mut Devices,
@@ -51,7 +51,7 @@ pub(crate) fn restore_lines<S: Source, D: Device>(
 
 /// Reads a line and restores it, and answers whether it wasn't the end.
 pub(crate) fn step<S: Source, D: Device>(
-    text: &mut ThinText,
+    text: &mut FirstThinText,
     source: &mut S,
     draft: &mut Draft<'_, D>,
     devices: &mut Devices,
@@ -139,7 +139,9 @@ fn put_line<D: Device>(
 {
     match line {
         ThinLine::Pool { .. } => Ok(()),
+        ThinLine::Leaf { .. } => Ok(()),
         ThinLine::Device { id, details } => devices.add_device(draft, id, details),
+        ThinLine::UseLeaf { .. } => Ok(()),
         ThinLine::Map(run) => devices.add_run(
             draft,
             Run {

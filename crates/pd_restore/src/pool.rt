@@ -24,7 +24,7 @@ use pd_image::{Device, Source};
 use pd_kinds::{Block, ThinSuper};
 use pd_restoring::{RestoreFault, of_build};
 use pd_supers::write_thin_super;
-use pd_texts::ThinText;
+use pd_texts::FirstThinText;
 use std::alloc::Global;
 
 /// The pool line of a text.
@@ -40,7 +40,7 @@ pub(crate) struct Pool {
 /// Restores the lines after the pool line and writes all of the pool but its superblock, which it answers.
 pub(crate) fn write_pool<S: Source, D: Device>(
     alloc: Global,
-    text: &mut ThinText,
+    text: &mut FirstThinText,
     source: &mut S,
     draft: &mut Draft<'_, D>,
     devices: &mut Devices,

@@ -16,7 +16,7 @@ use pd_draft::Draft;
 use pd_image::{Device, Source};
 use pd_kinds::Block;
 use pd_restoring::{RestoreFault, Restoring, restore};
-use pd_texts::ThinText;
+use pd_texts::FirstThinText;
 use std::alloc::Global;
 
 /// Restores a pool from its text onto a device.
@@ -66,7 +66,7 @@ impl Restoring for Pools {
     ghost goes_on = { λ kind. pool_goes_on };
 
     fn begin<S: Source>(&self, alloc: Global, source: &mut S) -> Result<Begun, RestoreFault> {
-        let mut text = match ThinText::new(alloc) {
+        let mut text = match FirstThinText::new(alloc) {
             Ok(text) => text,
             Err(_) => return Err(RestoreFault::Memory),
         };

@@ -133,15 +133,21 @@ module _ (firsts : List Line) (grammar : IsGrammar (format_of (table_from firsts
       let tests = passed before end_line (omega (arith, is.placed)) is.passes in
       record { later = is.placed; complete = end_says (unmapped before) tests.mapped }
 
--- no line of version 2 is read
+-- no line of version 2 is read after lines of version 1
+pub leaf_not_read : (before : List Line) (l : LeafHead) → IsUnshared before → IsReadAfter thin before (leaf_line l) → ⊥
+leaf_not_read before l first one =
+    true≢false (sym (is_read thin FitsLine Placed thin_grammar before one.bytes (leaf_line l) one.is).placed.1 ∙ ap (λ (x : Bool). x && not (has_device before)) first.version)
+
+pub use_not_read : (before : List Line) (n : ℕ) → IsUnshared before → IsReadAfter thin before (use_line n) → ⊥
+use_not_read before n first one =
+    true≢false (sym (is_read thin FitsLine Placed thin_grammar before one.bytes (use_line n) one.is).placed.1 ∙ ap (λ (x : Bool). x && has_device before) first.version)
+
 unshared : (before : List Line) → AreReadSoFar thin before → IsUnshared before
 unshared [] so_far = record { version = refl; none = refl }
 unshared (first_line ∷ before) so_far = let rest = unshared before so_far.1 in record { version = rest.version; none = rest.none }
 unshared (shared_first_line ∷ before) so_far = absurd (none-some shared_first_line (is_read thin FitsLine Placed thin_grammar before so_far.0.bytes shared_first_line so_far.0.is).placed.1)
 unshared (pool_line p ∷ before) so_far = let rest = unshared before so_far.1 in record { version = rest.version; none = rest.none }
-unshared (leaf_line l ∷ before) so_far =
-    let rest = unshared before so_far.1 in
-    absurd (true≢false (sym (is_read thin FitsLine Placed thin_grammar before so_far.0.bytes (leaf_line l) so_far.0.is).placed.1 ∙ ap (λ (x : Bool). x && not (has_device before)) rest.version))
+unshared (leaf_line l ∷ before) so_far = absurd (leaf_not_read before l (unshared before so_far.1) so_far.0)
 unshared (device_line d ∷ before) so_far = let rest = unshared before so_far.1 in record { version = rest.version; none = rest.none }
 unshared (use_line n ∷ before) so_far = let rest = unshared before so_far.1 in record { version = rest.version; none = rest.none }
 unshared (map_line r ∷ before) so_far = let rest = unshared before so_far.1 in record { version = rest.version; none = rest.none }
@@ -155,16 +161,19 @@ or_false false = refl
 in_device : (before : List Line) → IsUnshared before → (has_device before || ltb 0 (leaf_number before)) ≡ true → has_device before ≡ true
 in_device before unshared placed = sym (or_false (has_device before)) ∙ rw unshared.none at placed
 
-pub map_read : (before : List Line) (r : Run) → AreReadSoFar thin (map_line r ∷ before) → IsMapLine before r
-map_read before r so_far =
-    let one = run_read (first_line ∷ []) thin_grammar before r so_far.0 in
+pub map_read_first : (before : List Line) (r : Run) → IsUnshared before → IsReadAfter thin before (map_line r) → IsMapLine before r
+map_read_first before r first one =
+    let is = run_read (first_line ∷ []) thin_grammar before r one in
     record {
-      later = one.later;
-      has_device = in_device before (unshared before so_far.1) one.placed;
-      some = one.some;
-      above = one.above;
-      virtual_fits = one.virtual_fits;
-      within = one.within;
-      time_fits = one.time_fits;
-      mapped = one.mapped;
+      later = is.later;
+      has_device = in_device before first is.placed;
+      some = is.some;
+      above = is.above;
+      virtual_fits = is.virtual_fits;
+      within = is.within;
+      time_fits = is.time_fits;
+      mapped = is.mapped;
     }
+
+pub map_read : (before : List Line) (r : Run) → AreReadSoFar thin (map_line r ∷ before) → IsMapLine before r
+map_read before r so_far = map_read_first before r (unshared before so_far.1) so_far.0
