@@ -1,6 +1,6 @@
 use Rattle.std.proofs.Common.{◌≡◌, ◌+◌, ◌/◌, ap, arith}
 use Rattle.pd_spells.specs.Need.{need_array, need_tree}
-use Rattle.pd_build_tests.proofs.built.put_array.Goals as goal
+use Rattle.pd_part_tests.proofs.built.put_array.Goals as goal
 
 pub push_numbers-requires-clause-room : goal.push_numbers-requires-clause-room
 unfolding need_array

@@ -1,5 +1,5 @@
 use Rattle.std.proofs.Common.{[], ◌∷◌, arith}
-use Rattle.pd_build_tests.proofs.map_tests.four_counted.Goals as goal
+use Rattle.pd_part_tests.proofs.map_tests.four_counted.Goals as goal
 
 pub add-requires-clause-few : goal.add-requires-clause-few
 add-requires-clause-few c = let none = c.in_ok-counts.ensures.none 0 in omega arith

@@ -1,13 +1,14 @@
 //! Counts of references, and the counts that space maps store, on devices in memory.
 
-ghost use Rattle.std.specs.Prelude.{◌≡◌, ◌≤◌, IfOk, length};
+ghost use Rattle.std.specs.Prelude.{◌≡◌, ◌≤◌, IfOk};
 ghost use Rattle.pd_image.specs.Device.{IsAttached};
 ghost use Rattle.pd_image.specs.MemDevice.{mem_device_state};
 
+use crate::objects::{NEVER, device_of};
 use pd_bitmap::{new_bitmap, new_index, seal_bitmap, seal_index, set_two_bits};
 use pd_count::Counts;
 use pd_graph::Audit;
-use pd_image::{Device, MemDevice};
+use pd_image::MemDevice;
 use pd_kinds::{Block, Fault, Report, Rule, SmRoot, Space};
 use pd_node::write_leaf;
 use pd_smap::{compare_data, compare_meta, stored_meta};
@@ -130,16 +131,6 @@ fn expect_faults(rt: &impl Abort, report: &Report, rows: &[Row]) {
     }
 }
 
-/// A device of these blocks, attached.
-fn attached(alloc: Global, image: &[Block]) -> Result<Box<MemDevice>, Fail>
-    ensures attached { IfOk result (λ device. IsAttached (mem_device_state device.value)) }
-    ensures blocks { IfOk result (λ device. (mem_device_state device.value).blocks ≡ length image.now) }
-{
-    let mut device = Box::new(alloc, MemDevice::of(alloc, image)?)?;
-    device.attach("thin.img", false)?;
-    Ok(device)
-}
-
 /// Compares that map's counts of metadata with no references.
 fn expect_meta_faults(rt: &impl Abort, alloc: Global, device: &mut MemDevice) -> Result<(), Fail>
     requires attached { IsAttached (mem_device_state device.old) }
@@ -154,7 +145,8 @@ fn expect_meta_faults(rt: &impl Abort, alloc: Global, device: &mut MemDevice) ->
 
 #[test]
 fn metadata_counts_differ_from_no_references(rt: HostRuntime) -> Result<(), Fail> {
-    let mut device = attached(rt.alloc(), &counts_of_each_kind(index_block()))?;
+    let image = counts_of_each_kind(index_block());
+    let mut device = device_of(rt.alloc(), &image, false, NEVER, NEVER)?;
     assert!(rt; stored_meta(&mut *device, &EACH_KIND, 2) == Ok(Some(5)));
     assert!(rt; stored_meta(&mut *device, &EACH_KIND, 3) == Ok(None));
     expect_meta_faults(&rt, rt.alloc(), &mut *device)
@@ -184,6 +176,7 @@ fn expect_data_faults(rt: &impl Abort, alloc: Global, device: &mut MemDevice) ->
 
 #[test]
 fn data_counts_differ_from_the_references(rt: HostRuntime) -> Result<(), Fail> {
-    let mut device = attached(rt.alloc(), &counts_of_each_kind(index_leaf()))?;
+    let image = counts_of_each_kind(index_leaf());
+    let mut device = device_of(rt.alloc(), &image, false, NEVER, NEVER)?;
     expect_data_faults(&rt, rt.alloc(), &mut *device)
 }

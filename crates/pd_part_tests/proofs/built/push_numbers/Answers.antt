@@ -3,8 +3,8 @@ use Rattle.std.specs.List.{range_with_len}
 use Rattle.std.proofs.lemmas.List.FromFn.{length-range_with_len}
 use Rattle.pd_spells.specs.Need.{need_array}
 use Rattle.pd_build.proofs.ArrayLemmas.{filling_start, filling_next}
-use Rattle.pd_build_tests.proofs.FillingNumbers.{filling_here, filling_done}
-use Rattle.pd_build_tests.proofs.built.push_numbers.Goals as goal
+use Rattle.pd_part_tests.proofs.FillingNumbers.{filling_here, filling_done}
+use Rattle.pd_part_tests.proofs.built.push_numbers.Goals as goal
 
 pub loop-i-init : goal.loop-i-init
 loop-i-init g c =

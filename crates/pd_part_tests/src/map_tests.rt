@@ -6,6 +6,7 @@ ghost use Rattle.pd_count.specs.Counted.{HasCounted, count_of};
 ghost use Rattle.pd_smwrite.specs.Map.{data_map_need};
 
 use crate::built::{close, is_closed};
+use crate::objects::{NEVER, device_of, zeros_device};
 use pd_build::{BuildFault, put_block};
 use pd_count::Counts;
 use pd_draft::Draft;
@@ -44,8 +45,7 @@ fn put_no_data(alloc: Global, dev: &mut MemDevice) -> Result<Result<SmRoot, Buil
 
 #[test]
 fn the_map_of_no_data_has_two_empty_trees(rt: HostRuntime) -> Result<(), Fail> {
-    let mut dev = Box::new(rt.alloc(), MemDevice::new(rt.alloc(), 3)?)?;
-    dev.attach("x", true)?;
+    let mut dev = zeros_device(rt.alloc(), 3)?;
     assert!(rt; dev.blocks() >= 3);
     let wanted = SmRoot {
         blocks: 0,
@@ -113,8 +113,7 @@ fn expect_meta_map(rt: &impl Abort, alloc: Global, dev: &mut MemDevice) -> Resul
 
 #[test]
 fn the_map_of_metadata_counts_its_own_blocks(rt: HostRuntime) -> Result<(), Fail> {
-    let mut dev = Box::new(rt.alloc(), MemDevice::new(rt.alloc(), 16)?)?;
-    dev.attach("x", true)?;
+    let mut dev = zeros_device(rt.alloc(), 16)?;
     assert!(rt; dev.blocks() >= 16);
     close(&mut *dev)?;
     expect_meta_map(&rt, rt.alloc(), &mut *dev)
@@ -174,9 +173,7 @@ fn expect_no_superblock(
     (map, last, root): (Map, u64, u64),
     call: u64,
 ) -> Result<(), Fail> {
-    let mut dev = Box::new(alloc, MemDevice::of(alloc, &[OLD; 16])?)?;
-    dev.fail_at(call)?;
-    dev.attach("x", true)?;
+    let mut dev = device_of(alloc, &[OLD; 16], true, call, NEVER)?;
     assert!(rt; dev.blocks() >= 16);
     let wanted = if call <= last {
         Err(BuildFault::Device)

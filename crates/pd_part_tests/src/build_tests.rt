@@ -1,8 +1,9 @@
-ghost use Rattle.std.specs.Prelude.{◌≤◌, IfOk};
+ghost use Rattle.std.specs.Prelude.{◌≤◌};
 ghost use Rattle.pd_image.specs.Device.{IsWritable};
 ghost use Rattle.pd_image.specs.MemDevice.{mem_device_state};
 
 use crate::built::{build_array, build_tree, has_numbers, has_words, is_closed, numbered};
+use crate::objects::{NEVER, device_of, zeros_device};
 use pd_build::{BuildFault, need_tree, need_upper};
 use pd_image::{Device, MemDevice, Pick};
 use pd_kinds::{BLOCK_SIZE, Block};
@@ -27,15 +28,6 @@ const TREES: &[(u64, u64)] = &[
 /// Numbers of words, and the place of the root.
 const ARRAYS: &[(u64, u64)] = &[(0, 1), (509, 2), (510, 3), (1018, 3)];
 
-/// An empty device of so many blocks.
-fn attached(alloc: Global, blocks: u64) -> Result<Box<MemDevice>, Fail>
-    ensures { IfOk result (λ dev. IsWritable (mem_device_state dev.value)) }
-{
-    let mut dev = Box::new(alloc, MemDevice::new(alloc, blocks)?)?;
-    dev.attach("x", true)?;
-    Ok(dev)
-}
-
 #[test]
 fn needs_are_those_of_the_worked_numbers(rt: HostRuntime) -> Result<(), Fail> {
     assert!(rt; need_tree(0, 252) == 1);
@@ -49,7 +41,7 @@ fn needs_are_those_of_the_worked_numbers(rt: HostRuntime) -> Result<(), Fail> {
 /// Builds a tree of so many items, whose root is this block, and reads it back.
 fn expect_tree(rt: &impl Abort, alloc: Global, count: u64, last: u64) -> Result<(), Fail> {
     let items = numbered(alloc, count)?;
-    let mut dev = attached(alloc, 257)?;
+    let mut dev = zeros_device(alloc, 257)?;
     assert!(rt; last < dev.blocks());
     assert!(rt; build_tree(alloc, &mut *dev, &items) == Ok(last), "{count}");
     assert!(rt; has_numbers(alloc, &mut *dev, last, count)?, "{count}");
@@ -68,7 +60,7 @@ fn trees_are_read_back(rt: HostRuntime) -> Result<(), Fail> {
 #[test]
 fn leaves_of_253_items_have_127_and_126(rt: HostRuntime) -> Result<(), Fail> {
     let items = numbered(rt.alloc(), 253)?;
-    let mut dev = attached(rt.alloc(), 4)?;
+    let mut dev = zeros_device(rt.alloc(), 4)?;
     assert!(rt; dev.blocks() >= 3);
     assert!(rt; build_tree(rt.alloc(), &mut *dev, &items) == Ok(3));
     assert!(rt; entries::<BlockTime>(&dev.block(1)) == 127);
@@ -78,7 +70,7 @@ fn leaves_of_253_items_have_127_and_126(rt: HostRuntime) -> Result<(), Fail> {
 
 /// Builds an array of so many words, whose root is this block, and reads it back.
 fn expect_array(rt: &impl Abort, alloc: Global, count: u64, last: u64) -> Result<(), Fail> {
-    let mut dev = attached(alloc, 4)?;
+    let mut dev = zeros_device(alloc, 4)?;
     assert!(rt; last < dev.blocks());
     assert!(rt; build_array(alloc, &mut *dev, count) == Ok(last), "{count}");
     assert!(rt; has_words(alloc, &mut *dev, last, count)?, "{count}");
@@ -125,9 +117,7 @@ fn build(alloc: Global, dev: &mut MemDevice, part: Part) -> Result<Result<u64, B
 /// Builds a part over the old image, of which this call fails. The calls are 0 for attaching, two for closing block 0, and one
 /// for each of the part's three blocks.
 fn expect_no_superblock(rt: &impl Abort, alloc: Global, part: Part, call: u64) -> Result<(), Fail> {
-    let mut dev = Box::new(alloc, MemDevice::of(alloc, &OLD)?)?;
-    dev.fail_at(call)?;
-    dev.attach("x", true)?;
+    let mut dev = device_of(alloc, &OLD, true, call, NEVER)?;
     assert!(rt; dev.blocks() >= 1);
     let wanted = if call <= 5 {
         Err(BuildFault::Device)

@@ -2,7 +2,7 @@ use Rattle.std.proofs.Common.{◌≡◌, ◌-◌}
 use Rattle.std.specs.List.{range_with_len}
 use Rattle.pd_draft.specs.Stand.{stand}
 use Rattle.pd_build.specs.Building.{IsFilling}
-use Rattle.pd_build_tests.proofs.built.push_numbers.Given as goal
+use Rattle.pd_part_tests.proofs.built.push_numbers.Given as goal
 
 abbrev pub invariant-loop-i : goal.invariant-loop-i
 invariant-loop-i g l = record {

@@ -1,6 +1,6 @@
 use Rattle.std.proofs.Common.{◌≡◌, ◌+◌, ap, arith}
-use Rattle.pd_build_tests.proofs.MapNeeds.{small_need, none_past}
-use Rattle.pd_build_tests.proofs.map_tests.put_meta_map.Goals as goal
+use Rattle.pd_part_tests.proofs.MapNeeds.{small_need, none_past}
+use Rattle.pd_part_tests.proofs.map_tests.put_meta_map.Goals as goal
 
 pub write_meta_map-requires-clause-within : goal.write_meta_map-requires-clause-within
 write_meta_map-requires-clause-within g c =

@@ -1,7 +1,7 @@
 use Rattle.std.proofs.Common.{arith}
 use Rattle.pd_count.specs.Counted.{count_of}
-use Rattle.pd_build_tests.proofs.MapNeeds.{no_data_need}
-use Rattle.pd_build_tests.proofs.map_tests.put_no_data.Goals as goal
+use Rattle.pd_part_tests.proofs.MapNeeds.{no_data_need}
+use Rattle.pd_part_tests.proofs.map_tests.put_no_data.Goals as goal
 
 pub put_data_map-requires-clause-room : goal.put_data_map-requires-clause-room
 put_data_map-requires-clause-room c =
