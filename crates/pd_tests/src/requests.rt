@@ -1,5 +1,6 @@
 //! Requests of all tools but the rehearsal, and the images that they are made over.
 
+use crate::asked::ONE;
 use Image::{Cache, DamagedPool, FlaggedPool, NoPool, Nothing, Ones, Pool, Target};
 use pd_kinds::Block;
 use pd_samples::pool::{damaged, pool_of_one_mapping};
@@ -31,10 +32,6 @@ pub(crate) enum Image {
 
 /// The words of a request, the text that its source has, what its input and its output hold, and its status.
 pub(crate) type Asked = (&'static str, &'static str, Image, Image, u8);
-
-/// The text of the pool of one mapping.
-pub(crate) const POOL_TEXT: &str =
-    "thin 1\npool 00000000-0000-0000-0000-000000000000 0 0 128 1\ndevice 1 1 0 0 0\nmap 0 0 1 0\nend\n";
 
 /// The text of the cache.
 pub(crate) const CACHE_TEXT: &str =
@@ -95,7 +92,7 @@ pub(crate) const READINGS: &[Asked] = &[
 pub(crate) const WRITINGS: &[Asked] = &[
     (CLEAR, "", FlaggedPool, Nothing, 0),
     (CLEAR, "", DamagedPool, Nothing, 1),
-    ("thin_restore -i t -o x", POOL_TEXT, Nothing, Ones, 0),
+    ("thin_restore -i t -o x", ONE, Nothing, Ones, 0),
     ("thin_restore -i t -o x", REFUSED, Nothing, Pool, 3),
     ("thin_restore -i t -o x", CACHE_TEXT, Nothing, Cache, 3),
     ("cache_restore -i t -o x", CACHE_TEXT, Nothing, Cache, 0),

@@ -2,6 +2,7 @@
 
 use crate::asked::{ONE, SHARED};
 use crate::hidden::{Hidden, Shown};
+use crate::requests::{CACHE_TEXT, TARGET_TEXT};
 use pd_image::{MemDevice, MemSink, MemSource};
 use pd_kinds::Block;
 use pd_samples::runs::{Held, NOTHING_FAILS, blocks_of, run, run_over, texts_of};
@@ -88,13 +89,6 @@ const CACHE: &[&str] = &["cache_restore", "-i", "text", "-o", "x"];
 
 const ERA: &[&str] = &["era_restore", "-i", "text", "-o", "x"];
 
-/// A cache of 510 blocks, and an era target of 100 blocks.
-const CACHE_TEXT: &str =
-    "cache 1\ncache 00000000-0000-0000-0000-000000000000 128 510 1 736d7100000000000000000000000000 2 0 0 4\nmap 0 7 0 5\nmap 509 8 1 6\nend\n";
-
-const ERA_TEXT: &str =
-    "era 1\nera 00000000-0000-0000-0000-000000000000 128 100 9\nrun 0 3 0\nrun 3 1 5\nrun 4 60 0\nrun 64 1 9\nrun 65 35 0\nend\n";
-
 /// The words of a restore and a text, which make the input, and the words of a tool and its `out`.
 type Row = (
     &'static [&'static str],
@@ -107,10 +101,10 @@ type Row = (
 const READING: &[Row] = &[
     (THIN, ONE, &["thin_check", "x"], "clean\n"),
     (CACHE, CACHE_TEXT, &["cache_check", "x"], "clean\n"),
-    (ERA, ERA_TEXT, &["era_check", "x"], "clean\n"),
+    (ERA, TARGET_TEXT, &["era_check", "x"], "clean\n"),
     (THIN, ONE, &["thin_dump", "x"], ONE),
     (CACHE, CACHE_TEXT, &["cache_dump", "x"], CACHE_TEXT),
-    (ERA, ERA_TEXT, &["era_dump", "x"], ERA_TEXT),
+    (ERA, TARGET_TEXT, &["era_dump", "x"], TARGET_TEXT),
     (
         THIN,
         SHARED,
@@ -125,7 +119,7 @@ const READING: &[Row] = &[
     ),
     (
         ERA,
-        ERA_TEXT,
+        TARGET_TEXT,
         &["era_invalidate", "--written-since", "9", "x"],
         "written 64 1\n",
     ),
@@ -135,7 +129,7 @@ const READING: &[Row] = &[
 const WRITING: &[Row] = &[
     (THIN, ONE, THIN, ""),
     (CACHE, CACHE_TEXT, CACHE, ""),
-    (ERA, ERA_TEXT, ERA, ""),
+    (ERA, TARGET_TEXT, ERA, ""),
     (THIN, ONE, &["thin_repair", "-i", "a", "-o", "x"], ""),
 ];
 

@@ -1,6 +1,7 @@
 //! Restores of texts that never end.
 
-use crate::requests::{CACHE_TEXT, POOL_TEXT, TARGET_TEXT};
+use crate::asked::ONE;
+use crate::requests::{CACHE_TEXT, TARGET_TEXT};
 use pd_image::{Device, Failed, MemDevice, MemSink, Source};
 use pd_kinds::Block;
 use pd_samples::runs::{blocks_of, texts_of};
@@ -85,7 +86,7 @@ fn a_text_that_goes_on_for_ever_is_refused(rt: HostRuntime) -> Result<(), Fail> 
         expect_refused(&rt, rt.alloc(), tool, "", too_long)?;
     }
     let pool = "pdata_tools: line 6: after end\n";
-    expect_refused(&rt, rt.alloc(), "thin_restore", POOL_TEXT, pool)?;
+    expect_refused(&rt, rt.alloc(), "thin_restore", ONE, pool)?;
     let cache = "pdata_tools: line 6: after end\n";
     expect_refused(&rt, rt.alloc(), "cache_restore", CACHE_TEXT, cache)?;
     let target = "pdata_tools: line 9: after end\n";
