@@ -1,10 +1,9 @@
 //! Restores of era targets: what is restored, what is refused, and what the output holds then.
 
 use crate::expected::{
-    ERA, Left, Row, expect_output_fault, expect_restored, expect_source_fault, made, restore,
+    ERA, First, Row, expect_output_faults, expect_restored, expect_source_fault,
 };
 use crate::targets::{EMPTY, WRITTEN};
-use pd_samples::runs::{NOTHING_FAILS, blocks_of};
 use std::test::Fail;
 
 /// Runs that leave a block out.
@@ -16,23 +15,23 @@ const SHORT: &str = "era 1\nera 00000000-0000-0000-0000-000000000000 128 100 9\n
 
 /// Restores, with what they come to.
 const ROWS: &[Row] = &[
-    (ERA, WRITTEN, 7, 0, "", Left::Made),
+    (ERA, WRITTEN, 7, 0, "", First::Made),
     (
         ERA,
         WRITTEN,
         6,
         4,
         "pdata_tools: no room: need 7, blocks 6\n",
-        Left::Untouched,
+        First::Untouched,
     ),
-    (ERA, EMPTY, 6, 0, "", Left::Made),
+    (ERA, EMPTY, 6, 0, "", First::Made),
     (
         ERA,
         GAP,
         16,
         3,
         "pdata_tools: line 4: order\n",
-        Left::Closed,
+        First::Closed,
     ),
     (
         ERA,
@@ -40,7 +39,7 @@ const ROWS: &[Row] = &[
         16,
         3,
         "pdata_tools: line 4: mapped differs\n",
-        Left::Closed,
+        First::Closed,
     ),
     (
         ERA,
@@ -48,7 +47,7 @@ const ROWS: &[Row] = &[
         16,
         3,
         "pdata_tools: line 2: number\n",
-        Left::Untouched,
+        First::Untouched,
     ),
     (
         ERA,
@@ -56,7 +55,7 @@ const ROWS: &[Row] = &[
         16,
         3,
         "pdata_tools: line 1: header\n",
-        Left::Untouched,
+        First::Untouched,
     ),
 ];
 
@@ -78,15 +77,7 @@ fn a_source_of_a_target_that_fails_is_blamed(rt: HostRuntime) -> Result<(), Fail
 
 #[test]
 fn a_failed_call_leaves_the_old_target_none_or_the_new_one(rt: HostRuntime) -> Result<(), Fail> {
-    let alloc = rt.alloc();
-    let old = made(&rt, alloc, ERA, EMPTY, 16)?;
-    let old = old.as_slice();
-    let new = restore(alloc, ERA, WRITTEN, old, NOTHING_FAILS)?;
-    let new = blocks_of(alloc, &new.output)?;
-    let new = new.as_slice();
     // Attaching, the closing of block 0 and a sync, six blocks, a sync, the superblock and a sync.
-    for call in 0..12 {
-        expect_output_fault(&rt, alloc, ERA, WRITTEN, (old, new), call)?;
-    }
+    expect_output_faults(&rt, rt.alloc(), (ERA, EMPTY), (ERA, WRITTEN), 12)?;
     Ok(())
 }

@@ -1,4 +1,4 @@
-//! Runs of the tools of caches and era targets, and what they must come to.
+//! Runs of the tools, and what they must come to.
 
 ghost use Rattle.std.specs.Prelude.{◌≡◌, IfOk, length};
 
@@ -9,6 +9,9 @@ use pd_samples::runs::{
 };
 use std::alloc::{AllocError, Global};
 use std::process::Abort;
+
+/// The words of a restore of a pool.
+pub(crate) const THIN: &[&str] = &["thin_restore", "-i", "text", "-o", "image"];
 
 /// The words of a restore of a cache in the first version of the metadata.
 pub(crate) const FIRST: &[&str] = &[
@@ -37,7 +40,7 @@ pub(crate) const ERA: &[&str] = &["era_restore", "-i", "text", "-o", "image"];
 
 /// What the output holds afterwards in block 0, whose bytes were all 1.
 #[derive(Clone, Copy, PartialEq, Eq)]
-pub(crate) enum Left {
+pub(crate) enum First {
     /// It isn't written.
     Untouched,
     /// It is zeros.
@@ -50,16 +53,16 @@ pub(crate) enum Left {
 pub(crate) const ONES: Block = Block([1; BLOCK_SIZE]);
 
 /// What is left of block 0.
-fn left_of(blocks: &[Block]) -> Left {
+pub(crate) fn left_of(blocks: &[Block]) -> First {
     match blocks.first() {
-        None => Left::Untouched,
+        None => First::Untouched,
         Some(first) => {
             if *first == ONES {
-                Left::Untouched
+                First::Untouched
             } else if *first == Block::zeros() {
-                Left::Closed
+                First::Closed
             } else {
-                Left::Made
+                First::Made
             }
         }
     }
@@ -101,6 +104,17 @@ pub(crate) fn made(
     Ok(image)
 }
 
+/// The blocks that a restore of a text leaves of these blocks.
+pub(crate) fn made_over(
+    alloc: Global,
+    words: &[&str],
+    text: &str,
+    base: &[Block],
+) -> Result<Vec<Block>, AllocError> {
+    let restored = restore(alloc, words, text, base, NOTHING_FAILS)?;
+    blocks_of(alloc, &restored.output)
+}
+
 /// A restore: its words, its text, the blocks of the output, and the status, the notes and what is left.
 pub(crate) type Row = (
     &'static [&'static str],
@@ -108,7 +122,7 @@ pub(crate) type Row = (
     usize,
     u8,
     &'static str,
-    Left,
+    First,
 );
 
 /// Restores a text onto blocks of ones, which comes to this.
@@ -138,7 +152,7 @@ pub(crate) fn expect_source_fault(
     let restored = restore(alloc, words, text, &[ONES; 16], failing)?;
     assert!(rt; restored.status == 6, "{call}");
     let image = blocks_of(alloc, &restored.output)?;
-    assert!(rt; left_of(image.as_slice()) != Left::Made, "{call}");
+    assert!(rt; left_of(image.as_slice()) != First::Made, "{call}");
     Ok(())
 }
 
@@ -152,7 +166,7 @@ fn may_be_left(
 ) -> Result<bool, AllocError> {
     let found = blocks_after_crash(alloc, output, pick)?;
     let found = found.as_slice();
-    Ok(left_of(found) == Left::Closed || found == old || found == new)
+    Ok(left_of(found) == First::Closed || found == old || found == new)
 }
 
 /// Whether a crash leaves of a device the old blocks, no valid superblock, or the new blocks, whichever writes it keeps.
@@ -169,7 +183,7 @@ fn may_be_left_by_any(
 }
 
 /// Restores a text over old blocks with this call of the output failing, in which it fails.
-pub(crate) fn expect_output_fault(
+fn expect_output_fault(
     rt: &impl Abort,
     alloc: Global,
     words: &[&str],
@@ -188,14 +202,58 @@ pub(crate) fn expect_output_fault(
     Ok(())
 }
 
-/// A run has this status and has put this, with no notes.
-fn expect_said(rt: &impl Abort, ran: &Ran, status: u8, text: &str) {
-    assert!(rt; ran.out.bytes() == text.as_bytes(), "{text}");
-    assert!(rt; ran.status == status, "{text}");
-    assert!(rt; ran.notes.bytes().is_empty(), "{text}");
+/// The words of a restore, and its text.
+type Restore = (&'static [&'static str], &'static str);
+
+/// Makes one restore over sixteen blocks of ones, and another one over what it made with each of so many calls of the output
+/// failing, in which it fails.
+pub(crate) fn expect_output_faults(
+    rt: &impl Abort,
+    alloc: Global,
+    before: Restore,
+    after: Restore,
+    calls: u64,
+) -> Result<(), AllocError> {
+    let old = made(rt, alloc, before.0, before.1, 16)?;
+    let old = old.as_slice();
+    let new = made_over(alloc, after.0, after.1, old)?;
+    for call in 0..calls {
+        expect_output_fault(rt, alloc, after.0, after.1, (old, new.as_slice()), call)?;
+    }
+    Ok(())
 }
 
-/// Runs a tool over an image, where this must be the status and what is put.
+/// A run has this status and has put this.
+pub(crate) fn expect_said(rt: &impl Abort, ran: &Ran, status: u8, out: &str, notes: &str) {
+    assert!(rt; ran.status == status, "{out}{notes}");
+    assert!(rt; ran.out.bytes() == out.as_bytes(), "{out}{notes}");
+    assert!(rt; ran.notes.bytes() == notes.as_bytes(), "{out}{notes}");
+}
+
+/// Whether a device holds just these blocks.
+pub(crate) fn holds(
+    alloc: Global,
+    device: &MemDevice,
+    blocks: &[Block],
+) -> Result<bool, AllocError> {
+    let held = blocks_of(alloc, device)?;
+    Ok(held.as_slice() == blocks)
+}
+
+/// A device holds just these blocks.
+pub(crate) fn expect_held(
+    rt: &impl Abort,
+    alloc: Global,
+    device: &MemDevice,
+    blocks: &[Block],
+    shows: &str,
+) -> Result<(), AllocError> {
+    let is_held = holds(alloc, device, blocks)?;
+    assert!(rt; is_held, "{shows}");
+    Ok(())
+}
+
+/// Runs a tool over an image, where this must be the status and what is put, and the image stays.
 pub(crate) fn expect(
     rt: &impl Abort,
     alloc: Global,
@@ -205,10 +263,8 @@ pub(crate) fn expect(
     text: &str,
 ) -> Result<(), AllocError> {
     let ran = run(alloc, words, image, NOTHING_FAILS)?;
-    expect_said(rt, &ran, status, text);
-    let left = blocks_of(alloc, &ran.input)?;
-    assert!(rt; left.as_slice() == image, "{text}");
-    Ok(())
+    expect_said(rt, &ran, status, text, "");
+    expect_held(rt, alloc, &ran.input, image, text)
 }
 
 /// Checks an image to the end by this tool, where this must be the report.
@@ -232,9 +288,7 @@ pub(crate) fn expect_fault_in_notes(
     report: &str,
 ) -> Result<(), AllocError> {
     let ran = run(alloc, words, image, NOTHING_FAILS)?;
-    assert!(rt; ran.status == 1, "{report}");
-    assert!(rt; ran.out.bytes().is_empty(), "{report}");
-    assert!(rt; ran.notes.bytes() == report.as_bytes(), "{report}");
+    expect_said(rt, &ran, 1, "", report);
     Ok(())
 }
 

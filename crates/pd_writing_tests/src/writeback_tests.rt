@@ -1,6 +1,6 @@
 //! Writebacks of caches: what is dirty is copied, and marked clean after that.
 
-use crate::expected::{FIRST, SECOND, made};
+use crate::expected::{FIRST, SECOND, expect_held, expect_said, holds, made};
 use pd_crc::any_valid;
 use pd_image::{MemDevice, Pick};
 use pd_kinds::{BLOCK_SIZE, Block};
@@ -237,36 +237,11 @@ fn write_back(alloc: Global, devices: &Devices, failing: Failing) -> Result<Ran,
     run_over(alloc, WORDS, held, failing)
 }
 
-/// Whether a device holds just these blocks.
-fn holds(alloc: Global, device: &MemDevice, blocks: &[Block]) -> Result<bool, AllocError> {
-    let held = blocks_of(alloc, device)?;
-    Ok(held.as_slice() == blocks)
-}
-
 /// Whether the metadata dumps as this text.
 fn dumps_as(alloc: Global, device: &MemDevice, text: &str) -> Result<bool, AllocError> {
     let image = blocks_of(alloc, device)?;
     let dumped = run(alloc, DUMP, image.as_slice(), NOTHING_FAILS)?;
     Ok(dumped.out.bytes() == text.as_bytes())
-}
-
-/// What is put.
-fn expect_said(rt: &impl Abort, ran: &Ran, status: u8, out: &str, notes: &str) {
-    assert!(rt; ran.status == status, "{out}{notes}");
-    assert!(rt; ran.out.bytes() == out.as_bytes(), "{out}{notes}");
-    assert!(rt; ran.notes.bytes() == notes.as_bytes(), "{out}{notes}");
-}
-
-/// A device holds just these blocks.
-fn expect_held(
-    rt: &impl Abort,
-    alloc: Global,
-    device: &MemDevice,
-    blocks: &[Block],
-) -> Result<(), AllocError> {
-    let is_held = holds(alloc, device, blocks)?;
-    assert!(rt; is_held);
-    Ok(())
 }
 
 /// The metadata is written where a text changes, and dumps as the text after it.
@@ -294,8 +269,14 @@ fn expect_outcome(
 ) -> Result<(), AllocError> {
     let (text, _, _, _, _, _, after, text_after) = *row;
     let copied = filled(alloc, after)?;
-    expect_held(rt, alloc, &ran.output, copied.as_slice())?;
-    expect_held(rt, alloc, &ran.third, before.fast.as_slice())?;
+    expect_held(rt, alloc, &ran.output, copied.as_slice(), "the origin")?;
+    expect_held(
+        rt,
+        alloc,
+        &ran.third,
+        before.fast.as_slice(),
+        "the fast device",
+    )?;
     let meta = before.meta.as_slice();
     expect_text(rt, alloc, &ran.input, meta, (text, text_after))
 }
@@ -332,8 +313,20 @@ fn metadata_with_faults_is_not_written_back(rt: HostRuntime) -> Result<(), Fail>
     }
     let ran = write_back(alloc, &*before, NOTHING_FAILS)?;
     expect_said(&rt, &ran, 1, "", "fault meta 1 checksum\nfaults 1\n");
-    expect_held(&rt, alloc, &ran.input, before.meta.as_slice())?;
-    expect_held(&rt, alloc, &ran.output, before.origin.as_slice())?;
+    expect_held(
+        &rt,
+        alloc,
+        &ran.input,
+        before.meta.as_slice(),
+        "the metadata",
+    )?;
+    expect_held(
+        &rt,
+        alloc,
+        &ran.output,
+        before.origin.as_slice(),
+        "the origin",
+    )?;
     Ok(())
 }
 
@@ -444,7 +437,13 @@ fn expect_failed(
     whole: &Ran,
     ran: &Ran,
 ) -> Result<(), AllocError> {
-    expect_held(rt, alloc, &ran.third, before.fast.as_slice())?;
+    expect_held(
+        rt,
+        alloc,
+        &ran.third,
+        before.fast.as_slice(),
+        "the fast device",
+    )?;
     expect_left(rt, alloc, before, whole, ran, Pick::Old)?;
     expect_left(rt, alloc, before, whole, ran, Pick::New)?;
     expect_left(rt, alloc, before, whole, ran, Pick::Other(7))

@@ -2,10 +2,10 @@
 
 use crate::cache_tests::{EMPTY, TWO_MAPPED};
 use crate::expected::{
-    FIRST, Left, ONES, Row, SECOND, expect_output_fault, expect_restored, expect_source_fault,
-    made, restore,
+    FIRST, First, ONES, Row, SECOND, expect_output_faults, expect_restored, expect_source_fault,
+    restore,
 };
-use pd_samples::runs::{NOTHING_FAILS, blocks_of};
+use pd_samples::runs::NOTHING_FAILS;
 use std::alloc::{AllocError, Global};
 use std::test::Fail;
 
@@ -27,32 +27,32 @@ const NO_NUMBER: &str =
 
 /// Restores, with what they come to.
 const ROWS: &[Row] = &[
-    (FIRST, EMPTY, 6, 0, "", Left::Made),
+    (FIRST, EMPTY, 6, 0, "", First::Made),
     (
         FIRST,
         EMPTY,
         5,
         4,
         "pdata_tools: no room: need 6, blocks 5\n",
-        Left::Untouched,
+        First::Untouched,
     ),
-    (FIRST, TWO_MAPPED, 10, 0, "", Left::Made),
+    (FIRST, TWO_MAPPED, 10, 0, "", First::Made),
     (
         FIRST,
         TWO_MAPPED,
         9,
         4,
         "pdata_tools: no room: need 10, blocks 9\n",
-        Left::Untouched,
+        First::Untouched,
     ),
-    (SECOND, TWO_MAPPED, 12, 0, "", Left::Made),
+    (SECOND, TWO_MAPPED, 12, 0, "", First::Made),
     (
         SECOND,
         TWO_MAPPED,
         11,
         4,
         "pdata_tools: no room: need 12, blocks 11\n",
-        Left::Untouched,
+        First::Untouched,
     ),
     (
         FIRST,
@@ -60,7 +60,7 @@ const ROWS: &[Row] = &[
         16,
         3,
         "pdata_tools: line 4: repeated\n",
-        Left::Closed,
+        First::Closed,
     ),
     (
         SECOND,
@@ -68,7 +68,7 @@ const ROWS: &[Row] = &[
         16,
         3,
         "pdata_tools: line 3: out of range\n",
-        Left::Closed,
+        First::Closed,
     ),
     (
         FIRST,
@@ -76,7 +76,7 @@ const ROWS: &[Row] = &[
         16,
         3,
         "pdata_tools: line 3: no end\n",
-        Left::Closed,
+        First::Closed,
     ),
     (
         FIRST,
@@ -84,7 +84,7 @@ const ROWS: &[Row] = &[
         16,
         3,
         "pdata_tools: line 2: number\n",
-        Left::Untouched,
+        First::Untouched,
     ),
 ];
 
@@ -143,15 +143,7 @@ fn a_source_of_a_cache_that_fails_is_blamed(rt: HostRuntime) -> Result<(), Fail>
 
 #[test]
 fn a_failed_call_leaves_the_old_cache_none_or_the_new_one(rt: HostRuntime) -> Result<(), Fail> {
-    let alloc = rt.alloc();
-    let old = made(&rt, alloc, FIRST, EMPTY, 16)?;
-    let old = old.as_slice();
-    let new = restore(alloc, SECOND, TWO_MAPPED, old, NOTHING_FAILS)?;
-    let new = blocks_of(alloc, &new.output)?;
-    let new = new.as_slice();
     // Attaching, the closing of block 0 and a sync, eleven blocks, a sync, the superblock and a sync.
-    for call in 0..17 {
-        expect_output_fault(&rt, alloc, SECOND, TWO_MAPPED, (old, new), call)?;
-    }
+    expect_output_faults(&rt, rt.alloc(), (FIRST, EMPTY), (SECOND, TWO_MAPPED), 17)?;
     Ok(())
 }
