@@ -1,4 +1,5 @@
-//! Tests of the parts below the tools: what no clause says of each crate, and what one crate writes and another reads.
+//! Tests of the parts below the tools: what no clause says of each crate, what one crate writes and another reads, and trees,
+//! arrays and space maps as they are written part by part.
 #![tactic(auto)]
 
 #[cfg(test)]
@@ -8,11 +9,19 @@ mod audit_tests;
 #[cfg(test)]
 mod bitmap_tests;
 #[cfg(test)]
+mod build_tests;
+#[cfg(test)]
+mod built;
+#[cfg(test)]
+mod count_tests;
+#[cfg(test)]
 mod crc_tests;
 #[cfg(test)]
 mod draft_tests;
 #[cfg(test)]
 mod image_tests;
+#[cfg(test)]
+mod map_tests;
 #[cfg(test)]
 mod node_tests;
 #[cfg(test)]

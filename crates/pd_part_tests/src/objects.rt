@@ -2,6 +2,7 @@
 //! optional parts, at each `?` behind it.
 
 ghost use Rattle.std.specs.Prelude.{◌≡◌, IfOk, length, if◌then◌else◌};
+ghost use Rattle.pd_image.specs.Device.{IsWritable};
 ghost use Rattle.pd_image.specs.MemDevice.{mem_device_state};
 
 use pd_image::{Device, MemDevice, Pick};
@@ -27,6 +28,15 @@ pub(crate) fn device_of(
     device.fail_at(call)?;
     device.stop_after(stop);
     device.attach("thin.img", write)?;
+    Ok(device)
+}
+
+/// A device of so many blocks of zeros, attached.
+pub(crate) fn zeros_device(alloc: Global, blocks: u64) -> Result<Box<MemDevice>, Fail>
+    ensures { IfOk result (λ device. IsWritable (mem_device_state device.value)) }
+{
+    let mut device = Box::new(alloc, MemDevice::new(alloc, blocks)?)?;
+    device.attach("thin.img", true)?;
     Ok(device)
 }
 

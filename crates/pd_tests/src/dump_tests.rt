@@ -2,6 +2,7 @@
 
 ghost use Rattle.std.specs.Prelude.{◌<◌, ◌^◌};
 
+use crate::asked::ONE;
 use crate::stored_tests::pool_of_two_devices;
 use crate::whole_tests::{details_leaf, superblock};
 use pd_kinds::Block;
@@ -16,10 +17,6 @@ use std::test::Fail;
 
 /// The words of a dump to standard output.
 const DUMP: &[&str] = &["thin_dump", "thin.img"];
-
-/// The text of the pool of one mapping.
-const ONE_MAPPING: &str =
-    "thin 1\npool 00000000-0000-0000-0000-000000000000 0 0 128 1\ndevice 1 1 0 0 0\nmap 0 0 1 0\nend\n";
 
 /// The same pool with two data blocks: the second one is mapped after the first, at this time.
 #[tactic(auto, unfolding(pd_kinds::specs::Node::is_ascending))]
@@ -90,9 +87,9 @@ const ONE_LEAF: &str =
 #[test]
 fn pools_are_dumped_as_their_texts(rt: HostRuntime) -> Result<(), Fail> {
     let alloc = rt.alloc();
-    expect_text(&rt, alloc, &pool_of_one_mapping(), ONE_MAPPING)?;
+    expect_text(&rt, alloc, &pool_of_one_mapping(), ONE)?;
     // Counts aren't looked at.
-    expect_text(&rt, alloc, &leaking_pool(), ONE_MAPPING)?;
+    expect_text(&rt, alloc, &leaking_pool(), ONE)?;
     expect_text(&rt, alloc, &pool_of_two_mappings(0), JOINED)?;
     expect_text(&rt, alloc, &pool_of_two_mappings(1), APART)?;
     expect_text(&rt, alloc, &two_devices_on_one_leaf(), ONE_LEAF)?;
@@ -123,7 +120,7 @@ fn a_dump_goes_to_the_named_file(rt: HostRuntime) -> Result<(), Fail> {
         NOTHING_FAILS,
     )?;
     assert!(rt; ran.status == 0);
-    assert!(rt; ran.out.bytes() == ONE_MAPPING.as_bytes());
+    assert!(rt; ran.out.bytes() == ONE.as_bytes());
     assert!(rt; ran.out.path() == Some("pool.txt".as_bytes()));
     Ok(())
 }
@@ -138,10 +135,7 @@ fn expect_front(rt: &impl Abort, alloc: Global, call: u64) -> Result<(), AllocEr
     let ran = run(alloc, DUMP, &image, failing)?;
     let notes = "pdata_tools: source or sink fault\n";
     assert!(rt; ran.status == 6, "{call}");
-    assert!(rt;
-        ONE_MAPPING.as_bytes().starts_with(ran.out.bytes()),
-        "{call}"
-    );
+    assert!(rt; ONE.as_bytes().starts_with(ran.out.bytes()), "{call}");
     assert!(rt; ran.notes.bytes() == notes.as_bytes(), "{call}");
     assert!(rt;
         blocks_of(alloc, &ran.input)?.as_slice() == image.as_slice(),

@@ -1,11 +1,12 @@
 //! Checks that clear the flag "needs check" of a pool's superblock.
 
+use crate::expected::expect_held;
 use crate::made::PICKS;
 use pd_crc::any_valid;
 use pd_image::Pick;
 use pd_kinds::Block;
 use pd_samples::pool::{damaged, pool_of_one_mapping};
-use pd_samples::runs::{Failing, NOTHING_FAILS, Ran, blocks_after_crash, blocks_of, run};
+use pd_samples::runs::{Failing, NOTHING_FAILS, Ran, blocks_after_crash, run};
 use pd_supers::{read_thin_super, write_thin_super};
 use std::alloc::{AllocError, Global};
 use std::process::Abort;
@@ -66,19 +67,13 @@ fn flagged(flags: u32, broken: bool) -> [Block; 16] {
     image
 }
 
-/// Whether the input of a call holds just these blocks.
-fn holds(alloc: Global, ran: &Ran, image: &[Block]) -> Result<bool, AllocError> {
-    Ok(blocks_of(alloc, &ran.input)?.as_slice() == image)
-}
-
 /// Checks a pool as a row says, which must come to what the row says.
 fn expect_row(rt: &impl Abort, alloc: Global, row: Row) -> Result<(), AllocError> {
     let (words, flags, broken, status, out, left) = row;
     let ran = run(alloc, words, &flagged(flags, broken), NOTHING_FAILS)?;
     assert!(rt; ran.status == status, "{out}");
     assert!(rt; ran.out.bytes() == out.as_bytes(), "{out}");
-    assert!(rt; holds(alloc, &ran, &flagged(left, broken))?, "{out}");
-    Ok(())
+    expect_held(rt, alloc, &ran.input, &flagged(left, broken), out)
 }
 
 #[test]
@@ -99,8 +94,7 @@ fn expect_kept(rt: &impl Abort, alloc: Global, call: u64) -> Result<(), AllocErr
     };
     let ran = run(alloc, CLEAR, &flagged(1, false), failing)?;
     assert!(rt; ran.status == 6, "{call}");
-    assert!(rt; holds(alloc, &ran, &flagged(1, false))?, "{call}");
-    Ok(())
+    expect_held(rt, alloc, &ran.input, &flagged(1, false), "the flag")
 }
 
 // The calls of `out` are 0 for attaching, and one for each piece.
@@ -134,7 +128,7 @@ fn fails_late(rt: &impl Abort, alloc: Global, failing: Failing) -> Result<bool, 
         assert!(rt; is_outcome(alloc, &ran, *pick)?);
     }
     if ran.status == 0 {
-        assert!(rt; holds(alloc, &ran, &flagged(0, false))?);
+        expect_held(rt, alloc, &ran.input, &flagged(0, false), "no flag")?;
         return Ok(false);
     }
     assert!(rt; ran.status == 5);

@@ -1,7 +1,18 @@
-//! Tests of whole runs that write a pool, over objects in memory: restores, repairs, searches for the roots of pools whose
-//! superblock is lost, and checks that clear the flag "needs check".
+//! Tests of whole runs, over objects in memory, that write a pool, and of all tools of caches and of era targets: restores,
+//! repairs, searches for the roots of pools whose superblock is lost, checks that clear the flag "needs check", and checks,
+//! dumps, queries and writebacks of caches and of targets.
 #![tactic(auto)]
 
+#[cfg(test)]
+mod cache_restore_tests;
+#[cfg(test)]
+mod cache_tests;
+#[cfg(test)]
+mod era_restore_tests;
+#[cfg(test)]
+mod era_tests;
+#[cfg(test)]
+mod expected;
 #[cfg(test)]
 mod flag_tests;
 #[cfg(test)]
@@ -14,3 +25,7 @@ mod repair_tests;
 mod restore_tests;
 #[cfg(test)]
 mod search_tests;
+#[cfg(test)]
+mod targets;
+#[cfg(test)]
+mod writeback_tests;

@@ -3,15 +3,14 @@
 ghost use Rattle.std.specs.Prelude.{◌≡◌, IfOk, length};
 
 use pd_image::{MemDevice, Pick};
-use pd_kinds::{BLOCK_SIZE, Block};
+use pd_kinds::Block;
 use pd_samples::runs::{blocks_after_crash, restored};
 use std::alloc::{AllocError, Global};
 use std::process::Abort;
 
-/// A block whose bytes are all 1.
-pub fn ones() -> Block {
-    Block([1; BLOCK_SIZE])
-}
+/// The text of the pool of one mapping.
+pub const ONE_MAPPING: &str =
+    "thin 1\npool 00000000-0000-0000-0000-000000000000 0 0 128 1\ndevice 1 1 0 0 0\nmap 0 0 1 0\nend\n";
 
 /// The picks of the crashes that are looked at.
 pub const PICKS: &[Pick] = &[Pick::Old, Pick::New, Pick::Other(0)];

@@ -1,11 +1,12 @@
 //! Repairs of damaged pools: what is kept, what is refused, and what the output holds then.
 
-use crate::made::{Left, PICKS, left_by, ones, pool_of};
+use crate::expected::{ONES, expect, expect_held, expect_report, expect_said};
+use crate::made::{Left, ONE_MAPPING, PICKS, left_by, pool_of};
 use pd_bitmap::{seal_bitmap, set_two_bits};
 use pd_kinds::Block;
 use pd_node::write_inner;
 use pd_samples::pool::{damaged, device_leaf, inner, pool_of_one_mapping};
-use pd_samples::runs::{Failing, Held, NOTHING_FAILS, Ran, blocks_of, run, run_over};
+use pd_samples::runs::{Failing, Held, NOTHING_FAILS, Ran, blocks_of, run_over};
 use std::alloc::{AllocError, Global};
 use std::process::Abort;
 use std::test::Fail;
@@ -17,6 +18,12 @@ const ONE: &str =
 /// A device whose mappings stand in three leaves.
 const THREE_LEAVES: &str =
     "thin 1\npool 00000000-0000-0000-0000-000000000000 0 0 128 600\ndevice 1 600 0 0 0\nmap 0 0 600 0\nend\n";
+
+/// The tool that checks.
+const CHECK: &str = "thin_check";
+
+/// The words of a dump.
+const DUMP: &[&str] = &["thin_dump", "image"];
 
 /// Repairs an image onto these blocks.
 fn repair(
@@ -46,20 +53,12 @@ fn expect_saved(
     image: &[Block],
     text: &str,
 ) -> Result<(), AllocError> {
-    let repaired = repair(alloc, image, &[ones(); 16], NOTHING_FAILS)?;
-    assert!(rt; repaired.status == 0, "{text}");
-    assert!(rt; repaired.notes.bytes().is_empty(), "{text}");
-    assert!(rt;
-        blocks_of(alloc, &repaired.input)?.as_slice() == image,
-        "{text}"
-    );
+    let repaired = repair(alloc, image, &[ONES; 16], NOTHING_FAILS)?;
+    expect_said(rt, &repaired, 0, "", "");
+    expect_held(rt, alloc, &repaired.input, image, text)?;
     let made = blocks_of(alloc, &repaired.output)?;
-    let made = made.as_slice();
-    let checked = run(alloc, &["thin_check", "image"], made, NOTHING_FAILS)?;
-    assert!(rt; checked.out.bytes() == "clean\n".as_bytes(), "{text}");
-    let dumped = run(alloc, &["thin_dump", "image"], made, NOTHING_FAILS)?;
-    assert!(rt; dumped.out.bytes() == text.as_bytes(), "{text}");
-    Ok(())
+    expect_report(rt, alloc, CHECK, made.as_slice(), "clean\n")?;
+    expect(rt, alloc, DUMP, made.as_slice(), 0, text)
 }
 
 /// Repairs an image onto these blocks, which the repair refuses by this status and notes, with nothing written.
@@ -72,25 +71,8 @@ fn expect_refused(
     notes: &str,
 ) -> Result<(), AllocError> {
     let refused = repair(alloc, image, base, NOTHING_FAILS)?;
-    assert!(rt; refused.status == status, "{notes}");
-    assert!(rt; refused.notes.bytes() == notes.as_bytes(), "{notes}");
-    assert!(rt;
-        blocks_of(alloc, &refused.output)?.as_slice() == base,
-        "{notes}"
-    );
-    Ok(())
-}
-
-/// Checks an image to the end, where this must be the report.
-fn expect_report(
-    rt: &impl Abort,
-    alloc: Global,
-    image: &[Block],
-    report: &str,
-) -> Result<(), AllocError> {
-    let checked = run(alloc, &["thin_check", "image"], image, NOTHING_FAILS)?;
-    assert!(rt; checked.out.bytes() == report.as_bytes(), "{report}");
-    Ok(())
+    expect_said(rt, &refused, status, "", notes);
+    expect_held(rt, alloc, &refused.output, base, notes)
 }
 
 #[test]
@@ -129,7 +111,7 @@ fn the_other_leaves_of_a_device_are_kept(rt: HostRuntime) -> Result<(), Fail> {
         "thin 1\npool 00000000-0000-0000-0000-000000000000 0 0 128 600\ndevice 1 400 0 0 0\nmap 0 0 200 0\nmap 400 400 200 0\nend\n";
     expect_saved(&rt, rt.alloc(), image.as_slice(), text)?;
     // The need is looked at before anything is written.
-    let base = [ones(); 11];
+    let base = [ONES; 11];
     let notes = "pdata_tools: no room: need 12, blocks 11\n";
     expect_refused(&rt, rt.alloc(), image.as_slice(), &base, 4, notes)?;
     Ok(())
@@ -139,7 +121,7 @@ fn the_other_leaves_of_a_device_are_kept(rt: HostRuntime) -> Result<(), Fail> {
 fn a_superblock_with_faults_is_reported(rt: HostRuntime) -> Result<(), Fail> {
     let mut image = pool_of(&rt, rt.alloc(), THREE_LEAVES, 16)?;
     image[0] = damaged(image[0], 100);
-    let base = [ones(); 16];
+    let base = [ONES; 16];
     let notes = "fault meta 0 checksum\nfaults 1\n";
     expect_refused(&rt, rt.alloc(), image.as_slice(), &base, 1, notes)?;
     let notes = "fault meta 0 size\nfaults 1\n";
@@ -151,10 +133,6 @@ fn a_superblock_with_faults_is_reported(rt: HostRuntime) -> Result<(), Fail> {
 const NO_MAPPING: &str =
     "thin 1\npool 00000000-0000-0000-0000-000000000000 0 0 128 1\ndevice 1 0 0 0 0\nend\n";
 
-/// The pool of one mapping.
-const ONE_MAPPING: &str =
-    "thin 1\npool 00000000-0000-0000-0000-000000000000 0 0 128 1\ndevice 1 1 0 0 0\nmap 0 0 1 0\nend\n";
-
 #[test]
 #[tactic(auto, unfolding(pd_kinds::specs::Node::is_ascending))]
 fn a_node_below_itself_gives_nothing(rt: HostRuntime) -> Result<(), Fail> {
@@ -162,7 +140,7 @@ fn a_node_below_itself_gives_nothing(rt: HostRuntime) -> Result<(), Fail> {
     image[2] = device_leaf(2, 10);
     image[10] = write_inner(10, &[(0, 10), (5, 10)]);
     let report = "fault meta 10 level\nfaults 1\n";
-    expect_report(&rt, rt.alloc(), &image, report)?;
+    expect_report(&rt, rt.alloc(), CHECK, &image, report)?;
     expect_saved(&rt, rt.alloc(), &image, NO_MAPPING)?;
     Ok(())
 }
@@ -178,12 +156,12 @@ fn paths_of_64_nodes_are_followed_and_no_longer_ones(rt: HostRuntime) -> Result<
     }
     seal_bitmap(&mut image[8], 8);
     image[2] = device_leaf(2, 20);
-    expect_report(&rt, rt.alloc(), image.as_slice(), "clean\n")?;
+    expect_report(&rt, rt.alloc(), CHECK, image.as_slice(), "clean\n")?;
     expect_saved(&rt, rt.alloc(), image.as_slice(), ONE_MAPPING)?;
     image[19] = inner(19, 20);
     image[2] = device_leaf(2, 19);
     let report = "fault meta 19 level\nfaults 1\n";
-    expect_report(&rt, rt.alloc(), image.as_slice(), report)?;
+    expect_report(&rt, rt.alloc(), CHECK, image.as_slice(), report)?;
     expect_saved(&rt, rt.alloc(), image.as_slice(), NO_MAPPING)?;
     Ok(())
 }
@@ -208,14 +186,14 @@ fn is_past_input(
         return Ok(true);
     }
     assert!(rt; ran.status == 5, "{call}");
-    assert!(rt; blocks_of(alloc, &ran.output)?.as_slice() == base, "{call}");
+    expect_held(rt, alloc, &ran.output, base, "the output")?;
     Ok(false)
 }
 
 #[test]
 fn each_call_of_the_input_may_fail(rt: HostRuntime) -> Result<(), Fail> {
     let image = pool_of(&rt, rt.alloc(), THREE_LEAVES, 16)?;
-    let base = [ones(); 16];
+    let base = [ONES; 16];
     for call in 0..MANY {
         if is_past_input(&rt, rt.alloc(), image.as_slice(), &base, call)? {
             assert!(rt; call > 6);
@@ -254,7 +232,7 @@ fn is_past_output(
 #[test]
 fn each_call_of_the_output_may_fail(rt: HostRuntime) -> Result<(), Fail> {
     let image = pool_of(&rt, rt.alloc(), THREE_LEAVES, 16)?;
-    let base = [ones(); 16];
+    let base = [ONES; 16];
     let made = repair(rt.alloc(), image.as_slice(), &base, NOTHING_FAILS)?;
     let new = blocks_of(rt.alloc(), &made.output)?;
     for call in 0..MANY {

@@ -1,43 +1,22 @@
 //! Whole runs of `thin_restore` over objects in memory: what is restored, what is refused, and what the output holds then.
 
-use crate::made::{Left, PICKS, left_by, ones};
+use crate::expected::{
+    First, ONES, THIN, expect, expect_output_faults, expect_report, expect_restored, expect_said,
+    left_of, made, made_over, restore,
+};
+use crate::made::{Left, ONE_MAPPING, PICKS, left_by};
 use pd_kinds::Block;
 use pd_samples::pool::{bitmap, empty_pool, pool_of_one_mapping};
-use pd_samples::runs::{Failing, NOTHING_FAILS, Ran, blocks_of, restore, restored, run};
+use pd_samples::runs::{self, Failing, NOTHING_FAILS, blocks_of, restored};
 use std::alloc::{AllocError, Global};
 use std::process::Abort;
 use std::test::Fail;
 
-/// What the output holds afterwards in block 0, whose bytes were all 1.
-#[derive(Clone, Copy, PartialEq, Eq)]
-enum First {
-    /// It isn't written.
-    Untouched,
-    /// It is zeros.
-    Closed,
-    /// It is a superblock.
-    Made,
-}
-
 /// A text, the blocks of the output, and the status, the notes and what is left.
 type Row = (&'static str, usize, u8, &'static str, First);
 
-/// Restores a text to so many blocks of ones.
-fn restore_to_ones(
-    alloc: Global,
-    text: &str,
-    blocks: usize,
-    failing: Failing,
-) -> Result<Ran, AllocError> {
-    let base = vec![in alloc; ones(); blocks]?;
-    restore(alloc, text.as_bytes(), base.as_slice(), failing)
-}
-
-/// The small pools: an empty one, and one with a mapping.
+/// The pool without a mapping.
 const EMPTY: &str = "thin 1\npool 00000000-0000-0000-0000-000000000000 0 0 128 0\nend\n";
-
-const ONE: &str =
-    "thin 1\npool 00000000-0000-0000-0000-000000000000 0 0 128 1\ndevice 1 1 0 0 0\nmap 0 0 1 0\nend\n";
 
 /// A pool of a hundred million data blocks, of which the last one is mapped.
 const WIDE: &str =
@@ -94,9 +73,9 @@ const ROWS: &[Row] = &[
         "pdata_tools: no room: need 8, blocks 7\n",
         First::Untouched,
     ),
-    (ONE, 16, 0, "", First::Made),
+    (ONE_MAPPING, 16, 0, "", First::Made),
     (
-        ONE,
+        ONE_MAPPING,
         9,
         4,
         "pdata_tools: no room: need 10, blocks 9\n",
@@ -167,37 +146,11 @@ const ROWS: &[Row] = &[
     ),
 ];
 
-/// What is left of block 0.
-fn left_of(blocks: &[Block]) -> First {
-    match blocks {
-        [] => First::Untouched,
-        [first, ..] => {
-            if *first == ones() {
-                First::Untouched
-            } else if *first == Block::zeros() {
-                First::Closed
-            } else {
-                First::Made
-            }
-        }
-    }
-}
-
-/// Restores a text as a row says, where it comes to what the row says.
-fn expect_row(rt: &impl Abort, alloc: Global, row: Row) -> Result<(), AllocError> {
-    let (text, blocks, status, notes, leaves) = row;
-    let restored = restore_to_ones(alloc, text, blocks, NOTHING_FAILS)?;
-    assert!(rt; restored.status == status, "{text}");
-    assert!(rt; restored.notes.bytes() == notes.as_bytes(), "{text}");
-    let image = blocks_of(alloc, &restored.output)?;
-    assert!(rt; left_of(image.as_slice()) == leaves, "{text}");
-    Ok(())
-}
-
 #[test]
 fn restores_come_to_their_status(rt: HostRuntime) -> Result<(), Fail> {
-    for row in ROWS {
-        expect_row(&rt, rt.alloc(), *row)?;
+    for (text, blocks, status, notes, first) in ROWS {
+        let row = (THIN, *text, *blocks, *status, *notes, *first);
+        expect_restored(&rt, rt.alloc(), &row)?;
     }
     Ok(())
 }
@@ -206,7 +159,7 @@ fn restores_come_to_their_status(rt: HostRuntime) -> Result<(), Fail> {
 fn restored_pools_are_those_put_together_by_hand(rt: HostRuntime) -> Result<(), Fail> {
     let empty = restored(rt.alloc(), EMPTY, 8)?;
     assert!(rt; empty.as_slice() == empty_pool().as_slice());
-    let one = restored(rt.alloc(), ONE, 16)?;
+    let one = restored(rt.alloc(), ONE_MAPPING, 16)?;
     assert!(rt; one.as_slice() == pool_of_one_mapping().as_slice());
     Ok(())
 }
@@ -220,18 +173,14 @@ fn expect_written(
     blocks: usize,
     written: &str,
 ) -> Result<(), AllocError> {
-    let restored = restore_to_ones(alloc, text, blocks, NOTHING_FAILS)?;
-    let image = blocks_of(alloc, &restored.output)?;
-    let ran = run(alloc, &[tool, "image"], image.as_slice(), NOTHING_FAILS)?;
-    assert!(rt; ran.status == 0, "{text}");
-    assert!(rt; ran.out.bytes() == written.as_bytes(), "{text}");
-    Ok(())
+    let image = made(rt, alloc, THIN, text, blocks)?;
+    expect(rt, alloc, &[tool, "image"], image.as_slice(), 0, written)
 }
 
 /// Texts, with the blocks of a device that has room for them.
 const TEXTS: &[(&str, usize)] = &[
     (EMPTY, 8),
-    (ONE, 16),
+    (ONE_MAPPING, 16),
     (TWO_LEAVES, 12),
     (FULL_LEAF, 10),
     (WIDE, 8192),
@@ -256,7 +205,12 @@ const APART: &str =
     "thin 1\npool 00000000-0000-0000-0000-000000000000 0 0 128 2\ndevice 1 2 0 0 0\nmap 0 0 1 0\nmap 1 1 1 1\nend\n";
 
 /// Texts, with what is dumped of the pools that are restored from them.
-const DUMPS: &[(&str, &str)] = &[(ONE, ONE), (JOINED, JOINED), (CUT, JOINED), (APART, APART)];
+const DUMPS: &[(&str, &str)] = &[
+    (ONE_MAPPING, ONE_MAPPING),
+    (JOINED, JOINED),
+    (CUT, JOINED),
+    (APART, APART),
+];
 
 #[test]
 fn restored_pools_are_dumped_with_their_runs_joined(rt: HostRuntime) -> Result<(), Fail> {
@@ -272,7 +226,7 @@ fn expect_blame(rt: &impl Abort, alloc: Global, call: u64) -> Result<(), AllocEr
         source: Some(call),
         ..NOTHING_FAILS
     };
-    let restored = restore_to_ones(alloc, ONE, 16, failing)?;
+    let restored = restore(alloc, THIN, ONE_MAPPING, &[ONES; 16], failing)?;
     assert!(rt; restored.status == 6, "{call}");
     let notes = "pdata_tools: source or sink fault\n";
     assert!(rt; restored.notes.bytes() == notes.as_bytes(), "{call}");
@@ -303,45 +257,32 @@ fn expect_no_end(
     front: &[u8],
     base: &[Block],
 ) -> Result<(), AllocError> {
-    let restored = restore(alloc, front, base, NOTHING_FAILS)?;
     let line = 1 + front.iter().filter(|b| **b == b'\n').count();
     let notes = format!(in alloc; "pdata_tools: line {line}: no end\n")?;
-    assert!(rt; restored.status == 3, "{line}");
-    assert!(rt; restored.notes.bytes() == notes.as_bytes(), "{line}");
+    let refused = runs::restore(alloc, front, base, NOTHING_FAILS)?;
+    expect_said(rt, &refused, 3, "", notes.as_str());
     Ok(())
 }
 
 #[test]
 fn a_text_that_ends_early_has_no_end(rt: HostRuntime) -> Result<(), Fail> {
-    let text = ONE.as_bytes();
-    let base = [ones(); 16];
+    let text = ONE_MAPPING.as_bytes();
+    let base = [ONES; 16];
     for end in 0..text.len() {
         expect_no_end(&rt, rt.alloc(), &text[..end], &base)?;
     }
     Ok(())
 }
 
-/// The sixteen blocks that a text is restored to, where the device had ones.
-fn pool_over_ones(alloc: Global, text: &str) -> Result<Vec<Block>, AllocError> {
-    let restored = restore_to_ones(alloc, text, 16, NOTHING_FAILS)?;
-    blocks_of(alloc, &restored.output)
-}
-
-/// The blocks that a text is restored to, where the device had these.
-fn pool_over(alloc: Global, text: &str, base: &[Block]) -> Result<Vec<Block>, AllocError> {
-    let restored = restore(alloc, text.as_bytes(), base, NOTHING_FAILS)?;
-    blocks_of(alloc, &restored.output)
-}
-
 #[test]
 fn leaves_are_written_as_their_lines_come(rt: HostRuntime) -> Result<(), Fail> {
     let text =
         "thin 1\npool 00000000-0000-0000-0000-000000000000 0 0 128 1\ndevice 1 1 0 0 0\nmap 0 0 1 0\nx\n";
-    let refused = restore_to_ones(rt.alloc(), text, 16, NOTHING_FAILS)?;
-    assert!(rt; refused.status == 3);
-    assert!(rt; refused.notes.bytes() == "pdata_tools: line 5: word\n".as_bytes());
-    let found = blocks_of(rt.alloc(), &refused.output)?;
-    let whole = pool_over_ones(rt.alloc(), ONE)?;
+    let alloc = rt.alloc();
+    let refused = restore(alloc, THIN, text, &[ONES; 16], NOTHING_FAILS)?;
+    expect_said(&rt, &refused, 3, "", "pdata_tools: line 5: word\n");
+    let found = blocks_of(alloc, &refused.output)?;
+    let whole = made(&rt, alloc, THIN, ONE_MAPPING, 16)?;
     assert!(rt; left_of(found.as_slice()) == First::Closed);
     assert!(rt; found.get(1) == whole.get(1));
     Ok(())
@@ -369,7 +310,7 @@ fn expect_stopped(
         output_stops_after: calls,
         ..NOTHING_FAILS
     };
-    let restored = restore(alloc, ONE.as_bytes(), old, failing)?;
+    let restored = restore(alloc, THIN, ONE_MAPPING, old, failing)?;
     let status = if calls < 15 { 5 } else { 0 };
     assert!(rt; restored.status == status, "{calls}");
     for pick in PICKS {
@@ -381,71 +322,45 @@ fn expect_stopped(
 
 #[test]
 fn a_stop_leaves_the_old_pool_none_or_the_new_one(rt: HostRuntime) -> Result<(), Fail> {
-    let old = pool_over_ones(rt.alloc(), EMPTY)?;
-    let new = pool_over(rt.alloc(), ONE, old.as_slice())?;
+    let old = made(&rt, rt.alloc(), THIN, EMPTY, 16)?;
+    let new = made_over(rt.alloc(), THIN, ONE_MAPPING, old.as_slice())?;
     for calls in 0..17 {
         expect_stopped(&rt, rt.alloc(), calls, old.as_slice(), new.as_slice())?;
     }
     Ok(())
 }
 
-/// Restores a pool onto an output of which this call fails.
-fn expect_failed(
-    rt: &impl Abort,
-    alloc: Global,
-    call: u64,
-    old: &[Block],
-    new: &[Block],
-) -> Result<(), AllocError> {
-    let failing = Failing {
-        output: Some(call),
-        ..NOTHING_FAILS
-    };
-    let restored = restore(alloc, ONE.as_bytes(), old, failing)?;
-    assert!(rt; restored.status == 5, "{call}");
-    for pick in PICKS {
-        let found = left_by(alloc, &restored.output, *pick, old, new)?;
-        assert!(rt; found != Left::Other, "{call}");
-    }
+#[test]
+fn a_failed_call_leaves_the_old_pool_none_or_the_new_one(rt: HostRuntime) -> Result<(), Fail> {
+    expect_output_faults(&rt, rt.alloc(), (THIN, EMPTY), (THIN, ONE_MAPPING), 15)?;
     Ok(())
 }
 
-#[test]
-fn a_failed_call_leaves_the_old_pool_none_or_the_new_one(rt: HostRuntime) -> Result<(), Fail> {
-    let old = pool_over_ones(rt.alloc(), EMPTY)?;
-    let new = pool_over(rt.alloc(), ONE, old.as_slice())?;
-    for call in 0..15 {
-        expect_failed(&rt, rt.alloc(), call, old.as_slice(), new.as_slice())?;
+/// The report of so many data blocks that nothing refers to, of which a thousand have a line.
+fn leaks(alloc: Global, total: u64) -> Result<String, Fail> {
+    let mut report = String::new(alloc);
+    for d in 0..1000 {
+        writeln!(report, "fault data {d} leak stored 1 references 0")?;
     }
-    Ok(())
+    writeln!(report, "faults {total}")?;
+    Ok(report)
 }
 
 #[test]
 fn a_thousand_and_one_leaks_are_counted(rt: HostRuntime) -> Result<(), Fail> {
+    let alloc = rt.alloc();
     let text = "thin 1\npool 00000000-0000-0000-0000-000000000000 0 0 128 1001\nend\n";
-    let mut image = pool_over_ones(rt.alloc(), text)?;
-    assert!(rt; image.len() == 16);
+    let mut image = made(&rt, alloc, THIN, text, 16)?;
     image[3] = bitmap(3, 1001);
-    let ran = run(
-        rt.alloc(),
-        &["thin_check", "image"],
-        image.as_slice(),
-        NOTHING_FAILS,
-    )?;
-    let mut report = String::new(rt.alloc());
-    for d in 0..1000 {
-        writeln!(report, "fault data {d} leak stored 1 references 0")?;
-    }
-    writeln!(report, "faults 1001")?;
-    assert!(rt; ran.status == 1);
-    assert!(rt; ran.out.bytes() == report.as_bytes());
-    let dumped = run(
-        rt.alloc(),
+    let report = leaks(alloc, 1001)?;
+    expect_report(&rt, alloc, "thin_check", image.as_slice(), report.as_str())?;
+    expect(
+        &rt,
+        alloc,
         &["thin_dump", "image"],
         image.as_slice(),
-        NOTHING_FAILS,
+        0,
+        text,
     )?;
-    assert!(rt; dumped.status == 0);
-    assert!(rt; dumped.out.bytes() == text.as_bytes());
     Ok(())
 }

@@ -1,8 +1,9 @@
 //! Searches for the roots of pools whose superblock is lost: which trees are taken, what is refused, and what the output
 //! holds then.
 
+use crate::expected::{ONES, expect_held, expect_report, expect_said};
 use crate::lost::{Lost, lost_pool};
-use crate::made::{ones, pool_of};
+use crate::made::{ONE_MAPPING, pool_of};
 use pd_kinds::Block;
 use pd_samples::pool::{device_leaf, inner};
 use pd_samples::runs::{Held, NOTHING_FAILS, Ran, blocks_of, run, run_over};
@@ -130,17 +131,11 @@ fn expect_found(
     line: &str,
     text: &str,
 ) -> Result<(), AllocError> {
-    let found = search(alloc, image, &[ones(); 16], data_blocks)?;
-    assert!(rt; found.status == 0, "{line}");
-    assert!(rt; found.out.bytes() == line.as_bytes(), "{line}");
-    assert!(rt; found.notes.bytes().is_empty(), "{line}");
-    assert!(rt;
-        blocks_of(alloc, &found.input)?.as_slice() == image,
-        "{line}"
-    );
+    let found = search(alloc, image, &[ONES; 16], data_blocks)?;
+    expect_said(rt, &found, 0, line, "");
+    expect_held(rt, alloc, &found.input, image, line)?;
     let made = blocks_of(alloc, &found.output)?;
-    let checked = run(alloc, &["thin_check", "x"], made.as_slice(), NOTHING_FAILS)?;
-    assert!(rt; checked.out.bytes() == "clean\n".as_bytes(), "{line}");
+    expect_report(rt, alloc, "thin_check", made.as_slice(), "clean\n")?;
     let dumped = run(alloc, &["thin_dump", "x"], made.as_slice(), NOTHING_FAILS)?;
     assert!(rt; dumped.out.bytes().ends_with(text.as_bytes()), "{line}");
     Ok(())
@@ -157,14 +152,8 @@ fn expect_refused(
     notes: &str,
 ) -> Result<(), AllocError> {
     let refused = search(alloc, image, base, data_blocks)?;
-    assert!(rt; refused.status == status, "{notes}");
-    assert!(rt; refused.notes.bytes() == notes.as_bytes(), "{notes}");
-    assert!(rt; refused.out.bytes().is_empty(), "{notes}");
-    assert!(rt;
-        blocks_of(alloc, &refused.output)?.as_slice() == base,
-        "{notes}"
-    );
-    Ok(())
+    expect_said(rt, &refused, status, "", notes);
+    expect_held(rt, alloc, &refused.output, base, notes)
 }
 
 #[test]
@@ -178,7 +167,7 @@ fn the_best_trees_that_fit_are_found(rt: HostRuntime) -> Result<(), Fail> {
 
 #[test]
 fn trees_that_do_not_fit_are_not_found(rt: HostRuntime) -> Result<(), Fail> {
-    let base = [ones(); 16];
+    let base = [ONES; 16];
     for (lost, data_blocks) in NOT_FOUND {
         let image = lost_pool(*lost);
         expect_refused(&rt, rt.alloc(), &image, data_blocks, &base, 1, NO_ROOTS)?;
@@ -192,16 +181,14 @@ fn trees_that_do_not_fit_are_not_found(rt: HostRuntime) -> Result<(), Fail> {
 fn a_found_pool_needs_room(rt: HostRuntime) -> Result<(), Fail> {
     let image = lost_pool(Lost::OneMapping);
     let notes = "pdata_tools: no room: need 10, blocks 9\n";
-    expect_refused(&rt, rt.alloc(), &image, "1", &[ones(); 9], 4, notes)?;
+    expect_refused(&rt, rt.alloc(), &image, "1", &[ONES; 9], 4, notes)?;
     Ok(())
 }
 
 #[test]
 fn trees_of_64_nodes_in_a_row_are_sound_and_no_deeper_ones(rt: HostRuntime) -> Result<(), Fail> {
     // 63 inner nodes above the leaf, each with one child, behind the pool's blocks.
-    let text =
-        "thin 1\npool 00000000-0000-0000-0000-000000000000 0 0 128 1\ndevice 1 1 0 0 0\nmap 0 0 1 0\nend\n";
-    let mut image = pool_of(&rt, rt.alloc(), text, 128)?;
+    let mut image = pool_of(&rt, rt.alloc(), ONE_MAPPING, 128)?;
     image[0] = Block::zeros();
     for b in 20..83 {
         let child = if b < 82 { b as u64 + 1 } else { 1 };
@@ -213,7 +200,7 @@ fn trees_of_64_nodes_in_a_row_are_sound_and_no_deeper_ones(rt: HostRuntime) -> R
     let line = "roots 2 3 mappings 1 time 0\n";
     expect_found(&rt, rt.alloc(), image.as_slice(), "1", line, found)?;
     image[2] = device_leaf(2, 19);
-    let base = [ones(); 16];
+    let base = [ONES; 16];
     expect_refused(&rt, rt.alloc(), image.as_slice(), "1", &base, 1, NO_ROOTS)?;
     Ok(())
 }

@@ -1,2 +1,0 @@
-pub mod FillingNumbers
-pub mod MapNeeds

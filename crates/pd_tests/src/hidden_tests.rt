@@ -1,0 +1,249 @@
+//! Runs of the tools over devices that tell nothing.
+
+use crate::asked::{ONE, SHARED};
+use crate::hidden::{Hidden, Shown};
+use crate::requests::{CACHE_TEXT, TARGET_TEXT};
+use pd_image::{MemDevice, MemSink, MemSource};
+use pd_kinds::Block;
+use pd_samples::runs::{Held, NOTHING_FAILS, blocks_of, run, run_over, texts_of};
+use pd_tools::run_tool;
+use std::alloc::{AllocError, Global};
+use std::process::Abort;
+use std::test::Fail;
+
+/// The status of a call, and its objects after it.
+#[derive(Drop)]
+struct Call {
+    status: u8,
+    out: MemSink,
+    notes: MemSink,
+    output: Hidden,
+}
+
+/// The text that a call reads, the blocks of its input and of its output, and what the output shows from a call on.
+#[derive(Drop)]
+struct Untold<'a> {
+    text: &'a str,
+    input: Vec<Block>,
+    output: Vec<Block>,
+    shows_from: u64,
+    shown: Shown,
+}
+
+/// Runs a tool over an input and an output that tell nothing.
+fn run_untold(alloc: Global, words: &[&str], untold: Untold<'_>) -> Result<Box<Call>, AllocError> {
+    let Untold {
+        text,
+        input,
+        output,
+        shows_from,
+        shown,
+    } = untold;
+    let texts = texts_of(alloc, words)?;
+    let mut source = MemSource::of(alloc, text.as_bytes(), 7)?;
+    let mut out = MemSink::new(alloc);
+    let mut notes = MemSink::new(alloc);
+    let mut third = MemDevice::of(alloc, &[])?;
+    let mut input = Hidden::new(input, u64::MAX, Shown::Damaged);
+    let mut output = Hidden::new(output, shows_from, shown);
+    let status = run_tool(
+        alloc,
+        texts.as_slice(),
+        &mut source,
+        &mut out,
+        &mut notes,
+        &mut input,
+        &mut output,
+        &mut third,
+    );
+    let call = Call {
+        status,
+        out,
+        notes,
+        output,
+    };
+    Ok(Box::new(alloc, call)?)
+}
+
+/// A call with this text and this input, over so many blocks of zeros, which shows what it holds.
+fn shown<'a>(
+    alloc: Global,
+    text: &'a str,
+    input: Vec<Block>,
+    blocks: usize,
+) -> Result<Untold<'a>, AllocError> {
+    let output = vec![in alloc; Block::zeros(); blocks]?;
+    Ok(Untold {
+        text,
+        input,
+        output,
+        shows_from: u64::MAX,
+        shown: Shown::Damaged,
+    })
+}
+
+/// The words of the restores.
+const THIN: &[&str] = &["thin_restore", "-i", "text", "-o", "x"];
+
+const CACHE: &[&str] = &["cache_restore", "-i", "text", "-o", "x"];
+
+const ERA: &[&str] = &["era_restore", "-i", "text", "-o", "x"];
+
+/// The words of a restore and a text, which make the input, and the words of a tool and its `out`.
+type Row = (
+    &'static [&'static str],
+    &'static str,
+    &'static [&'static str],
+    &'static str,
+);
+
+/// Tools that read the input.
+const READING: &[Row] = &[
+    (THIN, ONE, &["thin_check", "x"], "clean\n"),
+    (CACHE, CACHE_TEXT, &["cache_check", "x"], "clean\n"),
+    (ERA, TARGET_TEXT, &["era_check", "x"], "clean\n"),
+    (THIN, ONE, &["thin_dump", "x"], ONE),
+    (CACHE, CACHE_TEXT, &["cache_dump", "x"], CACHE_TEXT),
+    (ERA, TARGET_TEXT, &["era_dump", "x"], TARGET_TEXT),
+    (
+        THIN,
+        SHARED,
+        &["thin_rmap", "--region", "0..1", "x"],
+        "block 0 device 1 virtual 0\nblock 0 device 2 virtual 0\n",
+    ),
+    (
+        THIN,
+        ONE,
+        &["thin_ls", "x"],
+        "device 1 mapped 1 exclusive 1 shared 0 transaction 0 created 0 snapped 0\n",
+    ),
+    (
+        ERA,
+        TARGET_TEXT,
+        &["era_invalidate", "--written-since", "9", "x"],
+        "written 64 1\n",
+    ),
+];
+
+/// Tools that write the output. What they write is what that restore makes of that text on a device that tells.
+const WRITING: &[Row] = &[
+    (THIN, ONE, THIN, ""),
+    (CACHE, CACHE_TEXT, CACHE, ""),
+    (ERA, TARGET_TEXT, ERA, ""),
+    (THIN, ONE, &["thin_repair", "-i", "a", "-o", "x"], ""),
+];
+
+/// How many blocks a device of a row has.
+const BLOCKS: usize = 16;
+
+/// The blocks that a restore makes of a text.
+fn made_of(alloc: Global, words: &[&str], text: &str) -> Result<Vec<Block>, AllocError> {
+    let base = [Block::zeros(); BLOCKS];
+    let held = Held {
+        text: text.as_bytes(),
+        input: &[],
+        output: &base,
+        third: &[],
+    };
+    let made = run_over(alloc, words, held, NOTHING_FAILS)?;
+    blocks_of(alloc, &made.output)
+}
+
+/// Runs the tool of a row, which must come to what the row says: its call.
+fn expect_row(rt: &impl Abort, alloc: Global, row: Row) -> Result<Box<Call>, AllocError> {
+    let (restore, text, words, out) = row;
+    let made = made_of(alloc, restore, text)?;
+    let call = run_untold(alloc, words, shown(alloc, text, made, BLOCKS)?)?;
+    assert!(rt; call.status == 0, "{out}");
+    assert!(rt; call.notes.bytes().is_empty(), "{out}");
+    assert!(rt; call.out.bytes() == out.as_bytes(), "{out}");
+    Ok(call)
+}
+
+#[test]
+fn devices_that_tell_nothing_are_read(rt: HostRuntime) -> Result<(), Fail> {
+    for row in READING {
+        expect_row(&rt, rt.alloc(), *row)?;
+    }
+    Ok(())
+}
+
+/// Runs the tool of a row, after which the output must hold what the restore of the row makes.
+fn expect_written(rt: &impl Abort, alloc: Global, row: Row) -> Result<(), AllocError> {
+    let call = expect_row(rt, alloc, row)?;
+    let made = made_of(alloc, row.0, row.1)?;
+    assert!(rt; call.output.held() == made.as_slice());
+    Ok(())
+}
+
+#[test]
+fn devices_that_tell_nothing_are_written(rt: HostRuntime) -> Result<(), Fail> {
+    for row in WRITING {
+        expect_written(&rt, rt.alloc(), *row)?;
+    }
+    Ok(())
+}
+
+#[test]
+fn the_generator_leaves_devices_alone(rt: HostRuntime) -> Result<(), Fail> {
+    let alloc = rt.alloc();
+    let words = &["thin_generate", "--number", "1"];
+    let told = run(alloc, words, &[], NOTHING_FAILS)?;
+    let untold = shown(alloc, "", Vec::new(alloc), 0)?;
+    let call = run_untold(alloc, words, untold)?;
+    assert!(rt; call.status == 0);
+    assert!(rt; call.out.bytes() == told.out.bytes());
+    Ok(())
+}
+
+/// The call after a rehearsal's restore, which is the first read of its check.
+const AFTER_RESTORE: u64 = 24;
+
+/// How many blocks a rehearsal's device has.
+const REHEARSED: usize = 4096;
+
+/// A rehearsal of number 1 over a device that shows this after the restore.
+fn rehearse(alloc: Global, after: Shown) -> Result<Box<Call>, AllocError> {
+    let words = &["thin_rehearse", "--number", "1", "-o", "x"];
+    let untold = Untold {
+        text: "",
+        input: Vec::new(alloc),
+        output: vec![in alloc; Block::zeros(); REHEARSED]?,
+        shows_from: AFTER_RESTORE,
+        shown: after,
+    };
+    run_untold(alloc, words, untold)
+}
+
+#[test]
+fn a_rehearsal_checks_what_it_restored(rt: HostRuntime) -> Result<(), Fail> {
+    let call = rehearse(rt.alloc(), Shown::Damaged)?;
+    assert!(rt; call.status == 1);
+    assert!(rt; call.out.bytes().is_empty());
+    assert!(rt; call.notes.bytes() == "fault meta 1 checksum\nfaults 1\n".as_bytes());
+    Ok(())
+}
+
+#[test]
+fn a_rehearsal_dumps_what_it_restored(rt: HostRuntime) -> Result<(), Fail> {
+    let alloc = rt.alloc();
+    let base = vec![in alloc; Block::zeros(); REHEARSED]?;
+    let held = Held {
+        text: ONE.as_bytes(),
+        input: &[],
+        output: base.as_slice(),
+        third: &[],
+    };
+    let made = run_over(alloc, THIN, held, NOTHING_FAILS)?;
+    let shown = Shown::Blocks(blocks_of(alloc, &made.output)?);
+    let call = rehearse(alloc, shown)?;
+    assert!(rt; call.status == 0);
+    assert!(rt; call.notes.bytes().is_empty());
+    assert!(rt; call.out.bytes().starts_with("rehearsal 1 ".as_bytes()));
+    assert!(rt;
+        call.out
+            .bytes()
+            .ends_with(" mappings 1 lines 5 clean\n".as_bytes())
+    );
+    Ok(())
+}

@@ -1,0 +1,178 @@
+//! Requests of all tools but the rehearsal, and the images that they are made over.
+
+use crate::asked::ONE;
+use Image::{Cache, DamagedPool, FlaggedPool, NoPool, Nothing, Ones, Pool, Target};
+use pd_kinds::Block;
+use pd_samples::pool::{damaged, pool_of_one_mapping};
+use pd_samples::runs::{Held, NOTHING_FAILS, blocks_of, run_over};
+use pd_supers::{read_thin_super, write_thin_super};
+use std::alloc::{AllocError, Global};
+use std::process::Abort;
+
+/// What a device holds before a request.
+#[derive(Clone, Copy, PartialEq, Eq)]
+pub(crate) enum Image {
+    /// No block.
+    Nothing,
+    /// Sixteen blocks whose bytes are all 1.
+    Ones,
+    /// The pool of one mapping, on sixteen blocks.
+    Pool,
+    /// The same pool with the flag "needs check".
+    FlaggedPool,
+    /// The same pool with a leaf of mappings whose checksum is wrong.
+    DamagedPool,
+    /// The same pool with a superblock whose checksum is wrong.
+    NoPool,
+    /// A cache with two mapped blocks, in the second version of the metadata.
+    Cache,
+    /// An era target of a hundred blocks.
+    Target,
+}
+
+/// The words of a request, the text that its source has, what its input and its output hold, and its status.
+pub(crate) type Asked = (&'static str, &'static str, Image, Image, u8);
+
+/// The text of the cache.
+pub(crate) const CACHE_TEXT: &str =
+    "cache 1\ncache 00000000-0000-0000-0000-000000000000 128 510 1 736d7100000000000000000000000000 2 0 0 4\nmap 0 7 0 5\nmap 509 8 1 6\nend\n";
+
+/// The text of the era target.
+pub(crate) const TARGET_TEXT: &str =
+    "era 1\nera 00000000-0000-0000-0000-000000000000 128 100 9\nrun 0 3 0\nrun 3 1 5\nrun 4 60 0\nrun 64 1 9\nrun 65 35 0\nend\n";
+
+/// A text whose fourth line is refused.
+const REFUSED: &str =
+    "thin 1\npool 00000000-0000-0000-0000-000000000000 0 0 128 1\ndevice 1 1 0 0 0\nmap 0 1 1 0\nend\n";
+
+/// A text that needs more blocks than sixteen, from its second line on.
+const LARGE: &str = "era 1\nera 00000000-0000-0000-0000-000000000000 128 100000 9\nend\n";
+
+/// A check that clears the flag.
+const CLEAR: &str = "thin_check --clear-needs-check-flag x";
+
+/// A search for the roots of a pool, which doesn't look at its block 0.
+const SEARCH: &str =
+    "thin_repair -i x -o y --transaction-id 7 --data-block-size 128 --nr-data-blocks 1";
+
+/// A search of a pool without data blocks.
+const SEARCH_NONE: &str =
+    "thin_repair -i x -o y --transaction-id 7 --data-block-size 128 --nr-data-blocks 0";
+
+/// A restore of the second version of a cache.
+const CACHE_2: &str = "cache_restore --metadata-version 2 -i t -o x";
+
+/// Checks, dumps and queries, with each status that comes where nothing fails.
+pub(crate) const READINGS: &[Asked] = &[
+    ("thin_check --until super x", "", Pool, Nothing, 0),
+    ("thin_check --until walk x", "", Pool, Nothing, 0),
+    ("thin_check --until order x", "", Pool, Nothing, 0),
+    ("thin_check --until whole x", "", Pool, Nothing, 0),
+    ("thin_check x", "", Pool, Nothing, 0),
+    ("thin_check x", "", DamagedPool, Nothing, 1),
+    ("thin_check x", "", NoPool, Nothing, 1),
+    ("thin_check x", "", Nothing, Nothing, 1),
+    ("cache_check x", "", Cache, Nothing, 0),
+    ("cache_check x", "", Pool, Nothing, 1),
+    ("era_check x", "", Target, Nothing, 0),
+    ("era_check x", "", Cache, Nothing, 1),
+    ("thin_dump x", "", Pool, Nothing, 0),
+    ("thin_dump -o f x", "", DamagedPool, Nothing, 1),
+    ("cache_dump -o f x", "", Cache, Nothing, 0),
+    ("era_dump x", "", Target, Nothing, 0),
+    ("thin_rmap --region 0..1 x", "", Pool, Nothing, 0),
+    ("thin_ls x", "", Pool, Nothing, 0),
+    ("thin_ls -o f x", "", NoPool, Nothing, 1),
+    ("era_invalidate --written-since 5 x", "", Target, Nothing, 0),
+    ("thin_generate --number 1", "", Nothing, Nothing, 0),
+    ("thin_check", "", Pool, Nothing, 2),
+];
+
+/// Requests that may write a device, with each status that comes where nothing fails.
+pub(crate) const WRITINGS: &[Asked] = &[
+    (CLEAR, "", FlaggedPool, Nothing, 0),
+    (CLEAR, "", DamagedPool, Nothing, 1),
+    ("thin_restore -i t -o x", ONE, Nothing, Ones, 0),
+    ("thin_restore -i t -o x", REFUSED, Nothing, Pool, 3),
+    ("thin_restore -i t -o x", CACHE_TEXT, Nothing, Cache, 3),
+    ("cache_restore -i t -o x", CACHE_TEXT, Nothing, Cache, 0),
+    (CACHE_2, CACHE_TEXT, Nothing, Pool, 0),
+    ("era_restore -i t -o x", TARGET_TEXT, Nothing, Cache, 0),
+    ("era_restore -i t -o x", LARGE, Nothing, Target, 4),
+    ("thin_repair -i x -o y", "", DamagedPool, Target, 0),
+    ("thin_repair -i x -o y", "", NoPool, Target, 1),
+    ("thin_repair -i x -o y", "", Pool, Nothing, 4),
+    (SEARCH, "", NoPool, Target, 0),
+    (SEARCH_NONE, "", Pool, Target, 1),
+    (SEARCH, "", Pool, Nothing, 4),
+];
+
+/// The words of the restore that makes the cache.
+const MAKE_CACHE: &[&str] = &[
+    "cache_restore",
+    "--metadata-version",
+    "2",
+    "-i",
+    "t",
+    "-o",
+    "x",
+];
+
+/// The words of the restore that makes the era target.
+const MAKE_TARGET: &[&str] = &["era_restore", "-i", "t", "-o", "x"];
+
+/// The blocks of an image.
+pub(crate) fn blocks(
+    rt: &impl Abort,
+    alloc: Global,
+    image: Image,
+) -> Result<Vec<Block>, AllocError> {
+    match image {
+        Image::Nothing => Ok(Vec::new(alloc)),
+        Image::Cache => restored(rt, alloc, MAKE_CACHE, CACHE_TEXT),
+        Image::Target => restored(rt, alloc, MAKE_TARGET, TARGET_TEXT),
+        Image::Ones | Image::Pool | Image::FlaggedPool | Image::DamagedPool | Image::NoPool => {
+            Vec::from_slice(alloc, &pool(image))
+        }
+    }
+}
+
+/// The sixteen blocks of a pool, or of ones.
+fn pool(image: Image) -> [Block; 16] {
+    let mut pool = pool_of_one_mapping();
+    match image {
+        Image::FlaggedPool => pool[0] = flagged(&pool[0]),
+        Image::DamagedPool => pool[1] = damaged(pool[1], 100),
+        Image::NoPool => pool[0] = damaged(pool[0], 100),
+        Image::Pool => {}
+        Image::Nothing | Image::Ones | Image::Cache | Image::Target => {
+            pool = [Block([1; 4096]); 16];
+        }
+    }
+    pool
+}
+
+/// A pool's superblock with the flag.
+fn flagged(super_block: &Block) -> Block {
+    let mut fields = read_thin_super(super_block);
+    fields.flags = 1;
+    write_thin_super(&fields)
+}
+
+/// The sixteen blocks that a restore of a text makes of ones.
+fn restored(
+    rt: &impl Abort,
+    alloc: Global,
+    words: &[&str],
+    text: &str,
+) -> Result<Vec<Block>, AllocError> {
+    let held = Held {
+        text: text.as_bytes(),
+        input: &[],
+        output: &[Block([1; 4096]); 16],
+        third: &[],
+    };
+    let made = run_over(alloc, words, held, NOTHING_FAILS)?;
+    assert!(rt; made.status == 0, "{text}");
+    blocks_of(alloc, &made.output)
+}
