@@ -219,6 +219,7 @@ fn device(id: u64, mapped: u64) -> ThinLine {
 /// Prints a leaf of one mapping.
 fn put_leaf(number: u64, sink: &mut MemSink) -> Result<(), Failed>
     requires { (mem_sink_state sink.old).access ≡ 1 }
+    ensures { (mem_sink_state sink.new).access ≡ 1 }
 {
     let run = Run2 {
         virt: number,
@@ -244,19 +245,37 @@ fn put_one_leaf(sink: &mut MemSink) -> Result<(), Failed>
     print_end(sink)
 }
 
-/// Prints a thousand leaves, and a device that uses them all.
+/// Prints a thousand leaves.
 fn put_leaves(sink: &mut MemSink) -> Result<(), Failed>
+    requires { (mem_sink_state sink.old).access ≡ 1 }
+    ensures { (mem_sink_state sink.new).access ≡ 1 }
+{
+    for number in 0..1000u64 {
+        put_leaf(number, sink)?;
+    }
+    Ok(())
+}
+
+/// Prints the uses of a thousand leaves.
+fn put_uses(sink: &mut MemSink) -> Result<(), Failed>
+    requires { (mem_sink_state sink.old).access ≡ 1 }
+    ensures { (mem_sink_state sink.new).access ≡ 1 }
+{
+    for number in 0..1000u64 {
+        print_thin(&ThinLine::UseLeaf { number }, sink)?;
+    }
+    Ok(())
+}
+
+/// Prints a thousand leaves, and a device that uses them all.
+fn put_many_leaves(sink: &mut MemSink) -> Result<(), Failed>
     requires { (mem_sink_state sink.old).access ≡ 1 }
 {
     print_shared_first(sink)?;
     print_thin(&POOL, sink)?;
-    for number in 0..1000u64 {
-        put_leaf(number, sink)?;
-    }
+    put_leaves(sink)?;
     print_thin(&device(0, 1000), sink)?;
-    for number in 0..1000u64 {
-        print_thin(&ThinLine::UseLeaf { number }, sink)?;
-    }
+    put_uses(sink)?;
     print_end(sink)
 }
 
@@ -270,6 +289,6 @@ fn a_leaf_is_used_a_thousand_times(rt: HostRuntime) -> Result<(), Fail> {
 #[test]
 fn a_thousand_leaves_are_used(rt: HostRuntime) -> Result<(), Fail> {
     let mut sink = sink_of(rt.alloc())?;
-    assert!(rt; put_leaves(&mut *sink).is_ok());
+    assert!(rt; put_many_leaves(&mut *sink).is_ok());
     expect_good(&rt, rt.alloc(), sink.bytes(), "leaves")
 }
