@@ -1,5 +1,5 @@
 -- Moved data blocks that are copied one after another.
-use Rattle.std.proofs.Common.{◌≡◌, inl, inr, ℕ, zero, suc, ◌+◌, ◌-◌, ◌*◌, ◌<◌, ◌≤◌, min, Bool, true, eqb, false, List, [], ◌∷◌, ◌++◌, length, get_or, map, take, Option, Some, None, IfSome, refl, sym, ap, ◌∙◌, subst, arith}
+use Rattle.std.proofs.Common.{◌≡◌, inl, inr, ℕ, zero, suc, ◌+◌, ◌-◌, ◌*◌, ◌<◌, ◌≤◌, min, true, eqb, false, List, [], ◌∷◌, ◌++◌, length, get_or, map, take, Option, Some, None, IfSome, refl, sym, ap, ◌∙◌, subst, arith}
 use Rattle.std.specs.List.{AllByRecursion, list_any, slice_get}
 use Rattle.std.specs.Option.{is_some, option_and_then, unwrap_or}
 use Rattle.std.proofs.Math.Nat.{mul-le-mul_right}
@@ -111,9 +111,6 @@ kept_at k cs held b within none =
 module _ (k i : ℕ) (moves : List MovedBlock) (held mid new : Image) (within : i < length moves) (apart : AreApart k (length held) moves)
     (before : mid ≡ overlaid k (take i (copies moves)) held held)
     (next : IsCopied ((get_or moves i no_move).source * k) ((get_or moves i no_move).target * k) k mid mid new) where
-  x : MovedBlock
-  x = get_or moves i no_move
-
   across : IsAcross k (length held) apart.end (get_or moves i no_move)
   across = across_at k (length held) moves i within apart
 

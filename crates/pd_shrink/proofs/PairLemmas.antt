@@ -1,5 +1,5 @@
 -- Sources and free blocks, pair by pair.
-use Rattle.std.proofs.Common.{◌≡◌, ℕ, ◌+◌, ◌<◌, ◌≤◌, List, [], ◌∷◌, ◌++◌, length, get_or, map, drop, refl, sym, ap, ◌∙◌, add-one, append_assoc, drop-cons, length-drop, arith}
+use Rattle.std.proofs.Common.{◌≡◌, ℕ, ◌+◌, ◌<◌, ◌≤◌, List, [], ◌∷◌, ◌++◌, length, get_or, drop, refl, sym, ap, ◌∙◌, add-one, append_assoc, drop-cons, length-drop, arith}
 use Rattle.std.proofs.lemmas.List.{append-nil, map-append, nil_from_length}
 use Rattle.pd_answers.specs.MovedPool.{Move, moves_to}
 use Rattle.pd_shrink.specs.Moves.{move_in, moves_in}

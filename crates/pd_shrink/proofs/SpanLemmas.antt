@@ -1,6 +1,6 @@
 -- The data blocks that runs have past the end of a smaller pool, each once.
 use Rattle.std.proofs.Common.{◌≡◌, inl, inr, ℕ, zero, suc, ◌+◌, ◌-◌, ◌^◌, ◌<◌, ◌≤◌, min, max, Bool, true, false, cond, ◌&&◌, ◌||◌, eqb, leb, ltb, List, [], ◌∷◌, ◌++◌, length, get_or, take, drop, refl, sym, ap, ◌∙◌, add-one, append_assoc, drop-cons, length-drop, arith}
-use Rattle.std.specs.List.{All, AllByRecursion, filter, flat_map, list_any, range_with_len}
+use Rattle.std.specs.List.{All, AllByRecursion, filter, list_any, range_with_len}
 use Rattle.std.specs.List.Sorted.{IsNonDecreasingBy, IsPermutation}
 use Rattle.std.proofs.lemmas.Bool.{and_from, and_left, and_right, cases_lt, le-leb, le-ltb, lt-leb, lt-ltb, or_from, or_left}
 use Rattle.std.proofs.lemmas.Bool.Decides.{nat_tests}

@@ -16,11 +16,7 @@ use pd_kinds::Block;
 /// Copies moved data blocks, of so many blocks of 4096 bytes each, to their new places, in this order. Nothing is synced.
 ///
 /// It takes no memory, and seeks only where the next block isn't the next one.
-pub fn copy_moved<C: Device>(
-    moves: &[MovedBlock],
-    each: u64,
-    pool: &mut C,
-) -> Result<(), Failed>
+pub fn copy_moved<C: Device>(moves: &[MovedBlock], each: u64, pool: &mut C) -> Result<(), Failed>
     requires writable { IsWritable (C.state pool.old) }
     // No target is a source, none comes twice, and all are on the device.
     requires apart { AreApart each (C.state pool.old).blocks moves.now }
@@ -70,12 +66,7 @@ fn copy_one<C: Device>(
 }
 
 /// Copies one block of 4096 bytes, by way of this one.
-fn copy_block<C: Device>(
-    from: u64,
-    to: u64,
-    pool: &mut C,
-    block: &mut Block,
-) -> Result<(), Failed>
+fn copy_block<C: Device>(from: u64, to: u64, pool: &mut C, block: &mut Block) -> Result<(), Failed>
     requires writable { IsWritable (C.state pool.old) }
     requires from { from < (C.state pool.old).blocks }
     requires to { to < (C.state pool.old).blocks }

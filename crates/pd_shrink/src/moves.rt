@@ -16,11 +16,7 @@ pub struct MovedBlock {
 }
 
 /// The first source to the first free block, the second to the second, and so on.
-pub fn pair_up(
-    alloc: Global,
-    sources: &[u64],
-    free: &[u64],
-) -> Result<Vec<MovedBlock>, AllocError>
+pub fn pair_up(alloc: Global, sources: &[u64], free: &[u64]) -> Result<Vec<MovedBlock>, AllocError>
     requires { length sources.now ≤ length free.now }
     ensures { IfOk result (λ moves. moves_in moves.items ≡ moves_to sources.now free.now) }
 {

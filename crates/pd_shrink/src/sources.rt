@@ -26,6 +26,7 @@ struct Span {
 pub fn find_sources(alloc: Global, saved: &Salvage, end: u64) -> Result<Vec<u64>, AllocError>
     ensures { IfOk result (λ found. found.items ≡ sources (pool_of saved.now) end) }
 {
+    // What was saved is a lawful pool, so each run ends within it.
     let _head = saved.head();
     let mut spans = find_spans(alloc, saved.runs(), end)?;
     sort_spans(&mut spans);

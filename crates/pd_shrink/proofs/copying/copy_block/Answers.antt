@@ -1,4 +1,3 @@
-use Rattle.std.proofs.Common.{refl}
 use Rattle.pd_kinds.proofs.CrashLemmas.{and_then, stays}
 use Rattle.pd_writeback.proofs.CopyLemmas.{write_leaves}
 use Rattle.pd_shrink.proofs.copying.copy_block.Goals as goal

@@ -1,8 +1,8 @@
-use Rattle.std.proofs.Common.{◌+◌, ◌*◌, ◌≤◌, refl, ◌∙◌, arith}
+use Rattle.std.proofs.Common.{refl, ◌∙◌}
 use Rattle.pd_kinds.proofs.CrashLemmas.{stays}
 use Rattle.pd_draft.proofs.StaysLemmas.{keeps_place}
 use Rattle.pd_writeback.proofs.OverlaidLemmas.{kept_more, stands_some}
-use Rattle.pd_shrink.proofs.MovedLemmas.{across_at, copies, covers, moved_all, moved_more, moved_none, no_move, target_before}
+use Rattle.pd_shrink.proofs.MovedLemmas.{across_at, copies, covers, moved_all, moved_more, moved_none, target_before}
 use Rattle.pd_shrink.proofs.copying.copy_moved.Goals as goal
 
 pub loop-one-init : goal.loop-one-init

@@ -1,4 +1,4 @@
-use Rattle.std.proofs.Common.{◌≡◌, ℕ, ◌+◌, ◌*◌, Bool, true, List, IfSome}
+use Rattle.std.proofs.Common.{◌≡◌, ℕ, Bool, true, List, IfSome}
 use Rattle.std.specs.Option.{is_some}
 use Rattle.pd_kinds.specs.Crash.{LeavesNow, LeavesOnly}
 use Rattle.pd_image.specs.Device.{KeepsPlace}

@@ -1,4 +1,4 @@
-use Rattle.std.proofs.Common.{length, ◌<◌, ◌≤◌, arith}
+use Rattle.std.proofs.Common.{arith}
 use Rattle.pd_shrink.proofs.PairLemmas.{pair_all, pair_more}
 use Rattle.pd_shrink.proofs.moves.pair_up.Goals as goal
 

@@ -1,4 +1,3 @@
-use Rattle.std.proofs.Common.{arith}
 use Rattle.pd_shrink.specs.declared.sources.Span.{Span}
 use Rattle.pd_shrink.proofs.SpanLemmas.{union_all, union_more}
 use Rattle.pd_shrink.proofs.sources.blocks_of.Goals as goal
