@@ -1,14 +1,13 @@
-use Rattle.std.proofs.Common.{◌≡◌, ◌∙◌, ℕ, ◌+◌, ◌-◌, ◌*◌, ◌<◌, min, IfSome, ap, arith, refl, subst, sym, Option, Some, None}
-use Rattle.pd_kinds.specs.Bitmap.{bitmaps_for}
+use Rattle.std.proofs.Common.{◌≡◌, ◌∙◌, ℕ, ◌+◌, ◌-◌, ◌*◌, ◌<◌, min, IfSome, ap, arith, refl, subst, Option, Some, None}
 use Rattle.pd_image.proofs.ReadLemmas.{only_reads_both}
-use Rattle.pd_tree.specs.Cursor.{cursor_items, cursor_nodes}
+use Rattle.pd_tree.specs.Cursor.{cursor_items}
 use Rattle.pd_tree.proofs.NextLemmas.{if_any, if_both}
 use Rattle.pd_smap.specs.Entries.{index_from, place_in}
 use Rattle.pd_smap.proofs.OverflowLeftLemmas.{if_then}
 use Rattle.pd_smap.proofs.StepLemmas.{still_attached}
 use Rattle.pd_shrink.specs.Gathered.{Gathers, chosen, is_free_by}
 use Rattle.pd_shrink.specs.Unused.{is_unused_in}
-use Rattle.pd_shrink.proofs.GatherLemmas.{chosen_none, gathers_bitmap, gathers_none, gathers_same}
+use Rattle.pd_shrink.proofs.GatherLemmas.{chosen_none, gathers_bitmap, gathers_none}
 use Rattle.pd_shrink.proofs.free.gather.Goals as goal
 
 -- three facts over a told image
