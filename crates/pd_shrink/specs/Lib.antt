@@ -1,3 +1,4 @@
 pub mod Failing
 pub mod Moves
+pub mod Moving
 pub mod Unused

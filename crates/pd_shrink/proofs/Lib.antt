@@ -1,0 +1,4 @@
+pub mod JoiningLemmas
+pub mod PlaceLemmas
+pub mod MovingLemmas
+pub mod MovedLemmas
