@@ -1,18 +1,17 @@
 -- The pool whose data blocks were moved is lawful, and its runs and moves fit.
-use Rattle.std.proofs.Common.{◌≡◌, inl, inr, ℕ, zero, suc, ◌+◌, ◌^◌, ◌<◌, ◌≤◌, Bool, true, ◌&&◌, nat_eq, nat_le, List, [], ◌∷◌, ◌++◌, length, map, filter, take, drop, ap, sym, subst, ◌∙◌, arith, le_refl, le_trans}
-use Rattle.std.specs.List.{AllByRecursion, flat_map, list_any, range_with_len}
+use Rattle.std.proofs.Common.{◌≡◌, inl, inr, ℕ, zero, suc, ◌+◌, ◌^◌, ◌≤◌, Bool, true, ◌&&◌, nat_eq, nat_le, List, [], ◌∷◌, ◌++◌, length, map, filter, take, drop, ap, sym, subst, ◌∙◌, arith, le_refl, le_trans}
+use Rattle.std.specs.List.{AllByRecursion, list_any, range_with_len}
 use Rattle.std.proofs.lemmas.Bool.{and_parts, cases_Bool, leb-true}
 use Rattle.std.proofs.lemmas.List.{nil_from_length, take-append-drop}
 use Rattle.pd_kinds.specs.Meaning.{Mapping, ThinDevice, ThinPool}
-use Rattle.pd_answers.specs.MovedPool.{Move, moved_device, moved_pool, moves_to, sources}
+use Rattle.pd_answers.specs.MovedPool.{Move, moved_pool, moves_to, sources}
 use Rattle.pd_laws.proofs.AllLemmas.{all_append}
 use Rattle.pd_moved.specs.Moving.{AreBelow, Ascend, IsMoving}
 use Rattle.pd_moved.proofs.FreeBlocks.{kept_ascend}
 use Rattle.pd_spells.specs.Lawful.{AreDevices, AreMappings, IsLawfulPool}
 use Rattle.pd_spells.specs.ThinNeed.{mapped_data}
-use Rattle.pd_spells.specs.ThinText.{device_of_part, mappings_from, mappings_of}
+use Rattle.pd_spells.specs.ThinText.{device_of_part, mappings_from}
 use Rattle.pd_thin_meaning.specs.declared.joined.Run.{Run}
-use Rattle.pd_thin_meaning.specs.Joined.{spelled}
 use Rattle.pd_salvage.specs.declared.saved.SavedDevice.{SavedDevice}
 use Rattle.pd_salvage.specs.declared.saved.SavedHead.{SavedHead}
 use Rattle.pd_salvage.specs.Gather.{mappings_of_runs}

@@ -1,7 +1,7 @@
 -- The runs of a device whose data blocks were moved, and those of a pool's devices.
-use Rattle.std.proofs.Common.{◌≡◌, ℕ, zero, suc, ◌+◌, ◌-◌, ◌^◌, ◌<◌, ◌≤◌, get_or, List, [], ◌∷◌, ◌++◌, length, map, take, drop, drop-cons, add-one, refl, ap, sym, subst, ◌∙◌, arith, append_assoc, length-drop}
-use Rattle.std.specs.List.{AllByRecursion, flat_map}
-use Rattle.std.proofs.lemmas.List.{append-nil, length-append, map-append, nil_from_length, take-append-drop, take_all, take_more}
+use Rattle.std.proofs.Common.{◌≡◌, ℕ, zero, suc, ◌+◌, ◌-◌, ◌<◌, ◌≤◌, get_or, List, [], ◌∷◌, ◌++◌, length, map, take, drop, drop-cons, add-one, refl, ap, sym, subst, ◌∙◌, arith, append_assoc, length-drop}
+use Rattle.std.specs.List.{AllByRecursion}
+use Rattle.std.proofs.lemmas.List.{append-nil, length-append, map-append, take-append-drop, take_all, take_more}
 use Rattle.std.proofs.lemmas.List.Sums.{sum_by-append, sum_by-cons}
 use Rattle.pd_kinds.specs.Meaning.{Mapping, ThinDevice}
 use Rattle.pd_answers.specs.MovedPool.{Move, moved_device, moved_mapping, moved_to}

@@ -2,9 +2,9 @@
 use Rattle.std.specs.Prelude.{◌≡◌, ℕ, ◌+◌, ◌^◌, ◌≤◌, ◌<◌, List, [], ◌∷◌, ◌++◌, length, map, IfSome}
 use Rattle.std.specs.List.{AllByRecursion}
 use Rattle.pd_kinds.specs.Meaning.{Mapping, ThinPool}
-use Rattle.pd_answers.specs.MovedPool.{Move, moved_device, moved_mapping, moves_to, sources}
+use Rattle.pd_answers.specs.MovedPool.{Move, moved_device, moves_to, sources}
 use Rattle.pd_moved.specs.Moving.{IsMoving}
-use Rattle.pd_spells.specs.ThinText.{device_of_part, joined_runs, mappings_of}
+use Rattle.pd_spells.specs.ThinText.{device_of_part, joined_runs}
 use Rattle.pd_thin_meaning.specs.declared.joined.Run.{Run}
 use Rattle.pd_thin_meaning.specs.Joined.{spelled}
 use Rattle.pd_salvage.specs.declared.saved.SavedDevice.{SavedDevice}

@@ -24,7 +24,7 @@ fn follows(begun: &Run, next: &Run) -> bool
 }
 
 impl Joining {
-    ghost use Rattle.std.specs.Prelude.{◌+◌, ◌^◌, ◌<◌, ◌≤◌, List, OnOk};
+    ghost use Rattle.std.specs.Prelude.{◌+◌, ◌^◌, ◌≤◌, List, OnOk};
     ghost use Rattle.pd_kinds.specs.Meaning.{Mapping};
     ghost use Rattle.pd_spells.specs.ThinText.{mappings_of};
     ghost use Rattle.pd_thin_meaning.specs.declared.joined.Run.{Run};

@@ -1,6 +1,6 @@
 //! The pool in memory whose data blocks were moved.
 
-ghost use Rattle.std.specs.Prelude.{◌≡◌, ◌+◌, ◌-◌, ◌^◌, ◌≤◌, min, length, map, IfOk, OnOk};
+ghost use Rattle.std.specs.Prelude.{◌≡◌, ◌-◌, ◌^◌, min, length, map, IfOk, OnOk};
 ghost use Rattle.std.specs.List.{AllByRecursion};
 ghost use Rattle.pd_answers.specs.MovedPool.{moved_mapping, moved_pool};
 ghost use Rattle.pd_spells.specs.ThinText.{mappings_of};
