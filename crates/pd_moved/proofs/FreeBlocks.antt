@@ -31,7 +31,7 @@ kept_below test a (suc n) end most = elim (cases_Bool (test a)) [
   | inr missed ↦ rw missed (kept_below test (a + 1) n end (omega arith))
 ]
 
-kept_ascend : (test : ℕ → Bool) (least a n : ℕ) → least ≤ a → Ascend least (filter test (range_with_len a n))
+pub kept_ascend : (test : ℕ → Bool) (least a n : ℕ) → least ≤ a → Ascend least (filter test (range_with_len a n))
 kept_ascend test least a zero from = tt
 kept_ascend test least a (suc n) from = elim (cases_Bool (test a)) [
   | inl kept ↦ rw kept (from, kept_ascend test (a + 1) (a + 1) n (le_refl (a + 1)))

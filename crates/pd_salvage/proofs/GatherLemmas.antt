@@ -65,12 +65,12 @@ apart_if : (r : text.Run) (m : Mapping) (s : text.Run) (joined : Bool) (rs : Lis
 apart_if r m s true rs apart = apart (suc s.length)
 apart_if r m s false rs apart = apart 1
 
-apart_first : (r : text.Run) (m : Mapping) (rs : List text.Run) → ((n : ℕ) → text.joins r (run m.virtual_block m.data_block n m.time) ≡ false) → IsApart r (with_mapping m rs)
+pub apart_first : (r : text.Run) (m : Mapping) (rs : List text.Run) → ((n : ℕ) → text.joins r (run m.virtual_block m.data_block n m.time) ≡ false) → IsApart r (with_mapping m rs)
 apart_first r m [] apart = apart 1
 apart_first r m (s ∷ rs) apart = apart_if r m s (follows m s) rs apart
 
 -- the mappings of a run, before mappings whose first run doesn't join it
-run_before_at : (v d t n : ℕ) (rest : List Mapping) → 1 ≤ n → IsApart (run v d n t) (joined_runs rest)
+pub run_before_at : (v d t n : ℕ) (rest : List Mapping) → 1 ≤ n → IsApart (run v d n t) (joined_runs rest)
     → joined_runs (mappings_from v d t n ++ rest) ≡ run v d n t ∷ joined_runs rest
 run_before_at v d t zero rest some apart = absurd (omega arith)
 run_before_at v d t (suc n) rest some apart = run_before v d t n rest apart
@@ -83,12 +83,12 @@ taken_apart begun virt value rest some apart =
     (apart_first (run begun.virt begun.target begun.length begun.time) (mapping_of (virt, value)) (joined_runs rest) (λ n. apart))
 
 -- so does the end
-taken_last : (begun : Run) → 1 ≤ begun.length → joined_runs (begun_mappings (Some begun)) ≡ spelled begun ∷ []
+pub taken_last : (begun : Run) → 1 ≤ begun.length → joined_runs (begun_mappings (Some begun)) ≡ spelled begun ∷ []
 taken_last begun some =
     ap joined_runs (sym (append-nil (begun_mappings (Some begun)))) ∙ run_before_at begun.virt begun.target begun.time begun.length [] some tt
 
 -- the mappings of runs with one more
-runs_more : (given : List Run) (begun : Run) → mappings_of_runs (given ++ begun ∷ []) ≡ mappings_of_runs given ++ begun_mappings (Some begun)
+pub runs_more : (given : List Run) (begun : Run) → mappings_of_runs (given ++ begun ∷ []) ≡ mappings_of_runs given ++ begun_mappings (Some begun)
 runs_more [] begun = append-nil (begun_mappings (Some begun))
 runs_more (r ∷ given) begun =
     ap (λ (ms : List Mapping). mappings_of (spelled r) ++ ms) (runs_more given begun)

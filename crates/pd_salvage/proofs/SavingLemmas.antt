@@ -38,7 +38,7 @@ take_all [] = refl
 take_all {X} (x ∷ xs) = ap (λ (ys : List X). x ∷ ys) (take_all xs)
 
 -- the parts with one device more
-parts_more : (ds : List SavedDevice) (d : SavedDevice) (runs more : List Run) → runs_of_devices ds ≡ length runs → d.runs ≡ length more
+pub parts_more : (ds : List SavedDevice) (d : SavedDevice) (runs more : List Run) → runs_of_devices ds ≡ length runs → d.runs ≡ length more
     → parts_of (ds ++ d ∷ []) (runs ++ more) ≡ parts_of ds runs ++ part_of d more ∷ []
 parts_more [] d [] more number is =
     rw (is, take_all more) refl

@@ -64,6 +64,18 @@ impl Model for Salvage {
 impl Salvage {
     ghost use Rattle.pd_salvage.specs.Saved.{IsSavedPool};
 
+    /// A pool of this head, these devices and these runs.
+    pub fn of_parts(head: SavedHead, devices: Vec<SavedDevice>, runs: Vec<Run>) -> Salvage
+        requires { IsSavedPool (record { head = head; devices = devices.items; runs = runs.items }) }
+        ensures { result ≡ record { head = head; devices = devices.items; runs = runs.items } }
+    {
+        Salvage {
+            head,
+            devices,
+            runs,
+        }
+    }
+
     /// What the superblock says of the pool.
     pub fn head(&self) -> &SavedHead
         ensures head { result.now ≡ self.now.head }

@@ -2,4 +2,5 @@ pub mod Failing
 pub mod Gathered
 pub mod Moves
 pub mod Spans
+pub mod Moving
 pub mod Unused

@@ -6,11 +6,15 @@ mod copying;
 mod fault;
 mod free;
 mod gathering;
+mod joining;
 mod moves;
+mod moving;
+mod places;
 mod sources;
 
 pub use copying::copy_moved;
 pub use fault::ShrinkFault;
 pub use free::{FreeBlocks, find_free, stored_free_blocks_are_free};
 pub use moves::{MovedBlock, pair_up};
+pub use moving::move_pool;
 pub use sources::find_sources;

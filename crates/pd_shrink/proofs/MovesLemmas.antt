@@ -1,0 +1,114 @@
+-- The pool whose data blocks were moved is lawful, and its runs and moves fit.
+use Rattle.std.proofs.Common.{◌≡◌, inl, inr, ℕ, zero, suc, ◌+◌, ◌^◌, ◌≤◌, Bool, true, ◌&&◌, nat_eq, nat_le, List, [], ◌∷◌, ◌++◌, length, map, filter, take, drop, ap, sym, subst, ◌∙◌, arith, le_refl, le_trans}
+use Rattle.std.specs.List.{AllByRecursion, list_any, range_with_len}
+use Rattle.std.proofs.lemmas.Bool.{and_parts, cases_Bool, leb-true}
+use Rattle.std.proofs.lemmas.List.{nil_from_length, take-append-drop}
+use Rattle.pd_kinds.specs.Meaning.{Mapping, ThinDevice, ThinPool}
+use Rattle.pd_answers.specs.MovedPool.{Move, moved_pool, moves_to, sources}
+use Rattle.pd_laws.proofs.AllLemmas.{all_append}
+use Rattle.pd_moved.specs.Moving.{AreBelow, Ascend, IsMoving}
+use Rattle.pd_moved.proofs.FreeBlocks.{kept_ascend}
+use Rattle.pd_spells.specs.Lawful.{AreDevices, AreMappings, IsLawfulPool}
+use Rattle.pd_spells.specs.ThinNeed.{mapped_data}
+use Rattle.pd_spells.specs.ThinText.{device_of_part, mappings_from}
+use Rattle.pd_thin_meaning.specs.declared.joined.Run.{Run}
+use Rattle.pd_salvage.specs.declared.saved.SavedDevice.{SavedDevice}
+use Rattle.pd_salvage.specs.declared.saved.SavedHead.{SavedHead}
+use Rattle.pd_salvage.specs.Gather.{mappings_of_runs}
+use Rattle.pd_salvage.specs.Saved.{IsSavedPool, SavedPool, parts_of, pool_of, runs_of_devices}
+use Rattle.pd_shrink.specs.declared.moving.Moved.{Moved}
+use Rattle.pd_shrink.specs.Moving.{AreMoved, AreMovesFrom, AreMovesOf, FitsRun}
+use Rattle.pd_shrink.proofs.MovingLemmas.{others}
+
+-- what is kept of a range ascends from a number that all of it have passed
+kept_past : (test : ℕ → Bool) (least a n : ℕ) → ((d : ℕ) → test d ≡ true → least ≤ d) → Ascend least (filter test (range_with_len a n))
+kept_past test least a zero past = tt
+kept_past test least a (suc n) past = elim (cases_Bool (test a)) [
+  | inl kept ↦ rw kept (past a kept, kept_ascend test (a + 1) (a + 1) n (le_refl (a + 1)))
+  | inr missed ↦ rw missed (kept_past test least (a + 1) n past)
+]
+
+sources_from : (m : ThinPool) (end : ℕ) → Ascend end (sources m end)
+unfolding sources
+sources_from m end =
+    kept_past (λ d. nat_le end d && list_any (λ b. nat_eq b d) (mapped_data m)) end 0 m.data_blocks
+    (λ d passes. leb-true end d (and_parts (nat_le end d) (list_any (λ b. nat_eq b d) (mapped_data m)) passes).0)
+
+-- the moves of ascending sources
+moves_ordered : (top end least : ℕ) (ds free : List ℕ) → end ≤ top → Ascend least ds → AreBelow end free → AreMovesFrom top least (moves_to ds free)
+moves_ordered top end least [] free most ascend below = tt
+moves_ordered top end least (d ∷ ds) [] most ascend below = tt
+moves_ordered top end least (d ∷ ds) (b ∷ free) most ascend below =
+    let first = below.0 in
+    (record { from = ascend.0; below = omega arith }, moves_ordered top end (d + 1) ds free most ascend.1 below.1)
+
+-- a run of a lawful device
+run_fits : (blocks least v d t n : ℕ) (rest : List Mapping) → AreMappings blocks least (mappings_from v d t n ++ rest) → 1 ≤ n → (v + n ≤ 2 ^ 64) × (d + n ≤ blocks)
+run_fits blocks least v d t zero rest are some = absurd (omega arith)
+run_fits blocks least v d t (suc zero) rest are some =
+    let virtual = are.0.virtual_fits in
+    let first = are.0.within in
+    (omega arith, omega arith)
+run_fits blocks least v d t (suc (suc n)) rest are some =
+    let later = run_fits blocks (v + 1) (suc v) (suc d) t (suc n) rest are.1 (omega arith) in
+    let virtual = later.0 in
+    let last = later.1 in
+    (omega arith, omega arith)
+
+after_run : (blocks least v d t n : ℕ) (rest : List Mapping) → AreMappings blocks least (mappings_from v d t n ++ rest) → (next : ℕ) × AreMappings blocks next rest
+after_run blocks least v d t zero rest are = (least, are)
+after_run blocks least v d t (suc n) rest are = after_run blocks (v + 1) (suc v) (suc d) t n rest are.1
+
+part_fits : (blocks least : ℕ) (runs : List Run) → blocks ≤ 2 ^ 40 → AreMappings blocks least (mappings_of_runs runs) → AllByRecursion FitsRun runs
+part_fits blocks least [] few are = tt
+part_fits blocks least (r ∷ runs) few are =
+    let later = after_run blocks least r.virt r.target r.time r.length (mappings_of_runs runs) are in
+    let fits = run_fits blocks least r.virt r.target r.time r.length (mappings_of_runs runs) are in
+    (record { virtual = λ some. (fits some).0; target = λ some. le_trans (fits some).1 few }, part_fits blocks later.0 runs few later.1)
+
+parts_fit : (blocks least : ℕ) (ds : List SavedDevice) (runs : List Run) → blocks ≤ 2 ^ 40 → AreDevices blocks least (map device_of_part (parts_of ds runs))
+    → runs_of_devices ds ≡ length runs → AllByRecursion FitsRun runs
+parts_fit blocks least [] runs few are number = rw (nil_from_length runs (sym number)) tt
+parts_fit blocks least (d ∷ ds) runs few are number =
+    subst (AllByRecursion FitsRun) (take-append-drop d.runs runs)
+    (all_append FitsRun (take d.runs runs) (drop d.runs runs) (part_fits blocks 0 (take d.runs runs) few are.0.mappings)
+    (parts_fit blocks (d.id + 1) ds (drop d.runs runs) few are.1 (others d ds runs number)))
+
+-- a pool with its new end
+abbrev head_to : SavedHead → ℕ → SavedHead
+head_to head end = record { uuid = head.uuid; time = head.time; transaction = head.transaction; block_size = head.block_size; blocks = end }
+
+abbrev pool_with : SavedHead → List ThinDevice → ThinPool
+pool_with head ds = record { uuid = head.uuid; time = head.time; transaction = head.transaction; block_size = head.block_size; data_blocks = head.blocks; devices = ds }
+
+module _ (saved : SavedPool) (sound : IsSavedPool saved) (end : ℕ) (moves : List Move) (are : AreMovesOf (pool_of saved) end moves) where
+  pub moves_are_ordered : AreMovesFrom (2 ^ 40) end moves
+  moves_are_ordered =
+      subst (AreMovesFrom (2 ^ 40) end) (sym are.are)
+      (moves_ordered (2 ^ 40) end end (sources (pool_of saved) end) are.free (le_trans are.moving.end_within sound.lawful.data_blocks_fit) (sources_from (pool_of saved) end) are.moving.below)
+
+  pub runs_fit : AllByRecursion FitsRun saved.runs
+  unfolding pool_of
+  runs_fit = parts_fit saved.head.blocks 0 saved.devices saved.runs sound.lawful.data_blocks_fit sound.lawful.devices sound.number
+
+  -- the moved devices and runs are those of the smaller pool
+  module _ (old : SavedHead) (devices : List SavedDevice) (runs : List Run) (moved : Moved) (head_is : old ≡ saved.head) (devices_are : devices ≡ saved.devices)
+      (runs_are : runs ≡ saved.runs) (is : AreMoved moves devices runs moved) where
+    abbrev after : SavedPool
+    after = record { head = head_to old end; devices = moved.devices.items; runs = moved.runs.items }
+
+    pub pool_after : pool_of after ≡ moved_pool (pool_of saved) end moves
+    unfolding pool_of moved_pool
+    pool_after =
+        let same = rw (devices_are, runs_are) at is.same in
+        ap (λ (head : SavedHead). pool_with (head_to head end) (map device_of_part (parts_of moved.devices.items moved.runs.items))) head_is
+        ∙ ap (pool_with (head_to saved.head end)) same
+
+    pub after_sound : ((m : ThinPool) (end : ℕ) (free : List ℕ) → IsLawfulPool m → IsMoving m end free → IsLawfulPool (moved_pool m end (moves_to (sources m end) free))) → IsSavedPool after
+    after_sound law = record {
+      lawful =
+          subst IsLawfulPool (sym pool_after)
+          (subst (λ (xs : List Move). IsLawfulPool (moved_pool (pool_of saved) end xs)) (sym are.are) (law (pool_of saved) end are.free sound.lawful are.moving));
+      joined = is.joined;
+      number = is.number;
+    }

@@ -1,0 +1,12 @@
+use Rattle.std.proofs.Common.{◌≤◌}
+use Rattle.pd_shrink.specs.Moves.{moves_in}
+use Rattle.pd_shrink.specs.Moving.{Takes}
+use Rattle.pd_shrink.proofs.MovingLemmas.{moved_first}
+use Rattle.pd_shrink.proofs.moving.move_run.Given as goal
+
+-- the mappings so far were taken
+abbrev pub invariant-loop-i : goal.invariant-loop-i
+invariant-loop-i l = record {
+  most : l.i ≤ l.run.length;
+  takes : Takes (moved_first (moves_in l.moves) l.run l.i) l.fn.runs.items l.runs.items l.fn.joining l.joining;
+}
