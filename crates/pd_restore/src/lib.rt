@@ -14,4 +14,5 @@ mod thin;
 pub use made::{MadeFault, restore_made};
 pub use pd_devices::need_thin;
 pub use pd_restoring::RestoreFault;
+pub use saved_need::need_of_saved;
 pub use thin::restore_thin;

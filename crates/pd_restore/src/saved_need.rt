@@ -16,7 +16,7 @@ use std::alloc::{AllocError, Global};
 
 /// How many blocks the pool needs, where there are so many for metadata. `None` where memory is wanting: a number that
 /// doesn't fit its type is that of a pool for whose metadata there is no memory.
-pub(crate) fn need_of_saved(alloc: Global, saved: &Salvage, room: u64) -> Option<u64>
+pub fn need_of_saved(alloc: Global, saved: &Salvage, room: u64) -> Option<u64>
     ensures { IfSome result (λ need. need ≡ thin_need (pool_of saved.now) room) }
 {
     let blocks = saved.head().blocks;

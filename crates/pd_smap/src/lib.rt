@@ -17,5 +17,6 @@ pub use data::{compare_data, next_place};
 pub use groups::one_number;
 pub use laws::{index_trees_name_bitmaps, overflow_trees_hold_counts};
 pub use meta::compare_meta;
+pub use overflow::Overflow;
 pub use pd_kinds::CheckFault;
 pub use stored::stored_meta;

@@ -11,7 +11,7 @@ use std::alloc::Global;
 
 /// The entries of an overflow tree that are ahead: the first one, and a cursor over the rest.
 #[derive(Drop)]
-pub(crate) struct Overflow {
+pub struct Overflow {
     entry: Option<(u64, Count)>,
     rest: Cursor<Count>,
     ghost begun: { cursor_room rest ≡ 0 },
@@ -28,11 +28,7 @@ impl Overflow {
     ghost use Rattle.pd_smap.specs.Overflow.{overflow_items, overflow_number, overflow_reads, is_behind};
 
     /// The entries of the tree with this root. It takes the memory of a cursor, and reads the way to the first entry.
-    pub(crate) fn start<D: Device>(
-        alloc: Global,
-        dev: &mut D,
-        root: u64,
-    ) -> Result<Overflow, CheckFault>
+    pub fn start<D: Device>(alloc: Global, dev: &mut D, root: u64) -> Result<Overflow, CheckFault>
         requires attached { IsAttached (D.state dev.old) }
         requires within { root < (D.state dev.old).blocks }
         ensures items { IfOk result (λ overflow. IfSome (D.state dev.old).held (λ image. overflow_items overflow image ≡ items_below 4 count_from image 63 root)) }
@@ -53,7 +49,7 @@ impl Overflow {
     }
 
     /// The count of block `b`, where later blocks alone are asked for afterwards.
-    pub(crate) fn count<D: Device>(&mut self, dev: &mut D, b: u64) -> Result<Option<u32>, Failed>
+    pub fn count<D: Device>(&mut self, dev: &mut D, b: u64) -> Result<Option<u32>, Failed>
         requires { IsAttached (D.state dev.old) }
         ensures count { IfOk result (λ count. IfSome (D.state dev.old).held (λ image. (over : ℕ → Option ℕ) → IsAhead b over (overflow_items self.old image) → count ≡ over b)) }
         ensures ahead { OnOk result (IfSome (D.state dev.old).held (λ image. (over : ℕ → Option ℕ) → IsAhead b over (overflow_items self.old image) → IsAhead b over (overflow_items self.new image))) }
