@@ -1,32 +1,27 @@
 -- How free blocks that are gathered join.
-use Rattle.std.proofs.Common.{◌≡◌, ◌∙◌, ℕ, zero, suc, ◌+◌, ◌-◌, ◌*◌, ◌/◌, ◌%◌, ◌<◌, ◌≤◌, min, Some, Bool, true, false, cond, List, [], ◌∷◌, ◌++◌, length, take, ap, sym, refl, subst, arith, append_assoc, append-nil, length-append}
+use Rattle.std.proofs.Common.{◌≡◌, ◌∙◌, ℕ, zero, suc, ◌+◌, ◌-◌, ◌<◌, ◌≤◌, min, Option, Some, Bool, true, false, cond, List, [], ◌∷◌, ◌++◌, length, take, ap, sym, refl, subst, arith, append_assoc, append-nil, length-append}
 use Rattle.std.specs.Prelude.{◌==◌, filter}
 use Rattle.std.specs.List.{range_with_len}
 use Rattle.std.proofs.lemmas.List.{length-take, take_all, take-append-le}
 use Rattle.std.proofs.lemmas.List.Elements.{filter-append}
-use Rattle.pd_kinds.specs.Bitmap.{bitmaps_for, two_bits_of}
-use Rattle.pd_kinds.specs.Graph.{block_at}
-use Rattle.pd_tree.specs.Below.{items_below}
-use Rattle.pd_smap.specs.Groups.{AreAll}
-use Rattle.pd_smap.specs.Entries.{IsIndex, data_place, index_from, index_of}
-use Rattle.pd_smap.proofs.MapLemmas.{indexed}
+use Rattle.std.proofs.lemmas.List.FromFn.{length-range_with_len}
+use Rattle.pd_smap.specs.OverflowLeft.{stored_by}
+use Rattle.pd_smap.proofs.MapLemmas.{few_bits, many_bits}
 use Rattle.pd_smap.proofs.StepLemmas.{range_split}
+use Rattle.pd_moved.specs.Moving.{AreBelow, Ascend}
 use Rattle.pd_shrink.specs.declared.free.FreeBlocks.{FreeBlocks}
-use Rattle.pd_shrink.specs.Gathered.{Gathers, Holds, chosen, is_free_by, is_free_from}
-use Rattle.pd_shrink.specs.Unused.{is_unused, is_unused_in, unused_below}
+use Rattle.pd_shrink.specs.Gathered.{Gathers, Holds, Lie, chosen}
+use Rattle.pd_shrink.specs.Unused.{is_zero}
 
 -- some blocks, and then more
-chosen_split : (is : ℕ → Bool) (low m n : ℕ) → chosen is low (m + n) ≡ chosen is low m ++ chosen is (low + m) n
+pub chosen_split : (is : ℕ → Bool) (low m n : ℕ) → chosen is low (m + n) ≡ chosen is low m ++ chosen is (low + m) n
 unfolding chosen
 chosen_split is low m n = ap (filter is) (range_split low m n) ∙ filter-append is (range_with_len low m) (range_with_len (low + m) n)
 
--- one block, by its entry of a bitmap
-pub chosen_one : (bitmap : List ℕ) (base e bits : ℕ) (free : Bool) → bits ≡ two_bits_of bitmap e → (bits == 0) ≡ free
-    → chosen (is_free_from base bitmap) (base + e) 1 ≡ cond free ((base + e) ∷ []) []
+-- one block
+pub chosen_one : (is : ℕ → Bool) (d : ℕ) (free : Bool) → free ≡ is d → chosen is d 1 ≡ cond free (d ∷ []) []
 unfolding chosen
-chosen_one bitmap base e bits free is says =
-    let entry : base + e - base ≡ e = omega arith in
-    ap (λ t. cond t ((base + e) ∷ []) []) (ap (λ (n : ℕ). n == 0) (ap (two_bits_of bitmap) entry ∙ sym is) ∙ says)
+chosen_one is d free says = ap (λ t. cond t (d ∷ []) []) (sym says)
 
 -- blocks of which the same holds
 pub chosen_same : (one other : ℕ → Bool) (low len : ℕ) → ((d : ℕ) → low ≤ d → d < low + len → one d ≡ other d) → chosen one low len ≡ chosen other low len
@@ -44,17 +39,23 @@ chosen_none is low (suc len) none =
     ap (λ t. cond t (low ∷ chosen is (low + 1) len) (chosen is (low + 1) len)) (none low (omega arith) (omega arith))
     ∙ chosen_none is (low + 1) len (λ d from below. none d (omega arith) (omega arith))
 
-pub length-chosen_all : (is : ℕ → Bool) (low len : ℕ) → ((d : ℕ) → low ≤ d → d < low + len → is d ≡ true) → length (chosen is low len) ≡ len
+pub chosen_all : (is : ℕ → Bool) (low len : ℕ) → ((d : ℕ) → low ≤ d → d < low + len → is d ≡ true) → chosen is low len ≡ range_with_len low len
 unfolding chosen
-length-chosen_all is low zero each = refl
-length-chosen_all is low (suc len) each =
-    ap (λ t. length (cond t (low ∷ chosen is (low + 1) len) (chosen is (low + 1) len))) (each low (omega arith) (omega arith))
-    ∙ ap suc (length-chosen_all is (low + 1) len (λ d from below. each d (omega arith) (omega arith)))
+chosen_all is low zero each = refl
+chosen_all is low (suc len) each =
+    ap (λ t. cond t (low ∷ chosen is (low + 1) len) (chosen is (low + 1) len)) (each low (omega arith) (omega arith))
+    ∙ ap (λ (ds : List ℕ). low ∷ ds) (chosen_all is (low + 1) len (λ d from below. each d (omega arith) (omega arith)))
+
+-- two bits below 3 are the count, and others leave it to the overflow tree
+pub zero_by_bits : (found bits : ℕ) (over : Option ℕ) → found ≡ bits → found < 3 → (found == 0) ≡ is_zero (stored_by bits over)
+zero_by_bits found bits over same few = sym (ap is_zero (few_bits found over few)) ∙ ap (λ n. is_zero (stored_by n over)) same
+
+pub zero_by_tree : (found bits : ℕ) (over : Option ℕ) → found ≡ bits → 3 ≤ found → is_zero over ≡ is_zero (stored_by bits over)
+zero_by_tree found bits over same many = sym (ap is_zero (many_bits found over many)) ∙ ap (λ n. is_zero (stored_by n over)) same
 
 -- nothing was gathered
-pub gathers_none : (wanted : ℕ) (more : List ℕ) (free : FreeBlocks) → more ≡ [] → Gathers wanted more free free
-gathers_none wanted more free none all held =
-    subst (λ ds. Holds wanted ds free) (sym (ap (λ (ds : List ℕ). all ++ ds) none ∙ append-nil all)) held
+pub gathers_none : (wanted : ℕ) (free : FreeBlocks) → Gathers wanted [] free free
+gathers_none wanted free all held = subst (λ ds. Holds wanted ds free) (sym (append-nil all)) held
 
 -- blocks where nothing more is kept
 pub gathers_full : (wanted : ℕ) (more : List ℕ) (old new : FreeBlocks) → new.number ≡ old.number + length more → new.first.items ≡ old.first.items
@@ -78,63 +79,67 @@ gathers_one wanted d old new number pushed room all held =
           ∙ sym (take_all wanted (all ++ d ∷ []) (omega (arith, short, length-append all (d ∷ []))));
     }
 
--- the same blocks
-pub gathers_same : (wanted : ℕ) (some others : List ℕ) (old new : FreeBlocks) → some ≡ others → Gathers wanted some old new → Gathers wanted others old new
-gathers_same wanted some others old new same gathered = subst (λ ds. Gathers wanted ds old new) same gathered
+-- some blocks, and then more
+pub gathers_then : (wanted : ℕ) (some more : List ℕ) (x y z : FreeBlocks) → Gathers wanted some x y → Gathers wanted more y z → Gathers wanted (some ++ more) x z
+gathers_then wanted some more x y z first next all held =
+    subst (λ ds. Holds wanted ds z) (append_assoc all some more) (next (all ++ some) (first all held))
 
--- blocks from where others ended
-pub gathers_next : (is : ℕ → Bool) (wanted low m b n k : ℕ) (x y z : FreeBlocks) → b ≡ low + m → k ≡ m + n
-    → Gathers wanted (chosen is low m) x y → Gathers wanted (chosen is b n) y z → Gathers wanted (chosen is low k) x z
-gathers_next is wanted low m b n k x y z from sum first next all held =
-    let joined : chosen is low m ++ chosen is b n ≡ chosen is low k =
-    ap (λ i. chosen is low m ++ chosen is i n) from ∙ sym (chosen_split is low m n) ∙ ap (chosen is low) (sym sum) in
-    subst (λ ds. Holds wanted ds z) (append_assoc all (chosen is low m) (chosen is b n) ∙ ap (λ (ds : List ℕ). all ++ ds) joined)
-    (next (all ++ chosen is low m) (first all held))
+-- blocks below a number are below a greater one, and those that ascend from one on do so from a lesser one on
+below_later : (low high : ℕ) (ds : List ℕ) → low ≤ high → AreBelow low ds → AreBelow high ds
+below_later low high [] order below = tt
+below_later low high (d ∷ ds) order below = (omega (arith, below.0), below_later low high ds order below.1)
 
--- the blocks of a group whose counts are one number
-pub in_group : (bitmap : List ℕ) (base g number : ℕ) → AreAll bitmap g number → (d : ℕ) → base + 32 * g ≤ d → d < base + 32 * g + 32
-    → is_free_from base bitmap d ≡ (number == 0)
-in_group bitmap base g number all d from below =
-    let entry : d - base ≡ 32 * g + (d - (base + 32 * g)) = omega arith in
-    ap (λ (n : ℕ). n == 0) (ap (two_bits_of bitmap) entry ∙ all.counts (d - (base + 32 * g)) (omega arith))
+ascend_earlier : (low high : ℕ) (ds : List ℕ) → low ≤ high → Ascend high ds → Ascend low ds
+ascend_earlier low high [] order ascend = tt
+ascend_earlier low high (d ∷ ds) order ascend = (omega (arith, ascend.0), ascend.1)
 
--- the free blocks by a bitmap that was read are those by the one in its place
-pub same_bitmap : (image : List (List ℕ)) (place i some all : ℕ) (block : List ℕ) → some ≡ all → all ≤ 16320
-    → ((e : ℕ) → two_bits_of block e ≡ two_bits_of (block_at image place) e)
-    → chosen (is_free_from (16320 * i) block) (16320 * i) some ≡ chosen (is_unused_in image (Some place)) (16320 * i) all
-same_bitmap image place i some all block same most counts =
-    ap (chosen (is_free_from (16320 * i) block) (16320 * i)) same
-    ∙ chosen_same (is_free_from (16320 * i) block) (is_unused_in image (Some place)) (16320 * i) all (λ d from below.
-    let entry : d - 16320 * i ≡ d % 16320 = omega arith in
-    ap (λ (n : ℕ). n == 0) (counts (d - 16320 * i) ∙ ap (two_bits_of (block_at image place)) entry))
+below_append : (high : ℕ) (xs ys : List ℕ) → AreBelow high xs → AreBelow high ys → AreBelow high (xs ++ ys)
+below_append high [] ys first next = next
+below_append high (x ∷ xs) ys first next = (first.0, below_append high xs ys first.1 next)
 
--- one bitmap more of a map
-pub gathers_bitmap : (image : List (List ℕ)) (place : ℕ → ℕ) (wanted at i blocks : ℕ) (x y z : FreeBlocks) → 16320 * i < blocks → place i ≡ at
-    → Gathers wanted (chosen (is_free_by image place) 0 (min (16320 * i) blocks)) x y
-    → Gathers wanted (chosen (is_unused_in image (Some at)) (16320 * i) (min 16320 (blocks - 16320 * i))) y z
-    → Gathers wanted (chosen (is_free_by image place) 0 (min (16320 * (i + 1)) blocks)) x z
-gathers_bitmap image place wanted at i blocks x y z within placed first next =
-    gathers_next (is_free_by image place) wanted 0 (min (16320 * i) blocks) (16320 * i) (min 16320 (blocks - 16320 * i)) (min (16320 * (i + 1)) blocks) x y z
-    (omega arith) (omega arith) first
-    (gathers_same wanted (chosen (is_unused_in image (Some at)) (16320 * i) (min 16320 (blocks - 16320 * i))) (chosen (is_free_by image place) (16320 * i) (min 16320 (blocks - 16320 * i))) y z
-    (chosen_same (is_unused_in image (Some at)) (is_free_by image place) (16320 * i) (min 16320 (blocks - 16320 * i)) (λ d from below.
-    let which : i ≡ d / 16320 = omega arith in
-    ap (λ (p : ℕ). is_unused_in image (Some p) d) (sym placed ∙ ap place which))) next)
+ascend_append : (low middle : ℕ) (xs ys : List ℕ) → low ≤ middle → AreBelow middle xs → Ascend low xs → Ascend middle ys → Ascend low (xs ++ ys)
+ascend_append low middle [] ys order below first next = ascend_earlier low middle ys order next
+ascend_append low middle (x ∷ xs) ys order below first next =
+    (first.0, ascend_append (x + 1) middle xs ys (omega (arith, below.0)) below.1 first.1 next)
 
--- the free blocks by the bitmaps of an index are those by its entries
-same_map : (image : List (List ℕ)) (root blocks d : ℕ) (place : ℕ → ℕ) → ((i : ℕ) → place i ≡ data_place root image i) → IsIndex image root blocks → d < blocks
-    → is_free_by image place d ≡ is_unused image root d
-unfolding index_of
-same_map image root blocks d place placed index within =
-    ap (λ (p : ℕ). is_unused_in image (Some p) d) (placed (d / 16320))
-    ∙ sym (ap (λ o. is_unused_in image o d) (indexed (items_below 16 index_from image 63 root) 0 (bitmaps_for blocks) (d / 16320) (d / 16320) index (omega arith) (omega arith)))
+-- blocks, and later ones
+pub lie_then : (low middle high : ℕ) (xs ys : List ℕ) → low ≤ middle → middle ≤ high → Lie low middle xs → Lie middle high ys → Lie low high (xs ++ ys)
+lie_then low middle high xs ys from to first next = record {
+  below = below_append high xs ys (below_later middle high xs to first.below) next.below;
+  ascend = ascend_append low middle xs ys from first.below first.ascend next.ascend;
+}
 
--- what was gathered from none on are the blocks whose count is 0
-pub gathered_all : (image : List (List ℕ)) (root blocks end wanted : ℕ) (place : ℕ → ℕ) (old new : FreeBlocks) → ((i : ℕ) → place i ≡ data_place root image i)
-    → IsIndex image root blocks → end ≤ blocks → old.number ≡ 0 → old.first.items ≡ []
-    → Gathers wanted (chosen (is_free_by image place) 0 end) old new → Holds wanted (unused_below image root end) new
-unfolding unused_below chosen
-gathered_all image root blocks end wanted place old new placed index within nothing none gathered =
-    subst (λ ds. Holds wanted ds new)
-    (chosen_same (is_free_by image place) (is_unused image root) 0 end (λ d from below. same_map image root blocks d place placed index (omega arith)))
-    (gathered [] (record { number = nothing; first = none ∙ sym (take_all wanted [] (omega arith)) }))
+-- all blocks of a row
+below_row : (low len high : ℕ) → low + len ≤ high → AreBelow high (range_with_len low len)
+below_row low zero high most = tt
+below_row low (suc len) high most = (omega arith, below_row (low + 1) len high (omega arith))
+
+ascend_row : (low len : ℕ) → Ascend low (range_with_len low len)
+ascend_row low zero = tt
+ascend_row low (suc len) = (omega arith, ascend_row (low + 1) len)
+
+pub lie_row : (low len : ℕ) → Lie low (low + len) (range_with_len low len)
+lie_row low len = record { below = below_row low len (low + len) (omega arith); ascend = ascend_row low len }
+
+-- as many as fit between
+length-between : (low high : ℕ) (ds : List ℕ) → AreBelow high ds → Ascend low ds → length ds ≤ high - low
+length-between low high [] below ascend = omega arith
+length-between low high (d ∷ ds) below ascend =
+    let rest = length-between (d + 1) high ds below.1 ascend.1 in omega (arith, rest, below.0, ascend.0)
+
+pub length-lie : (high : ℕ) (ds : List ℕ) → Lie 0 high ds → length ds ≤ high
+length-lie high ds lie = let few = length-between 0 high ds lie.below lie.ascend in omega (arith, few)
+
+-- the first ones of them
+take_below : (n high : ℕ) (ds : List ℕ) → AreBelow high ds → AreBelow high (take n ds)
+take_below zero high ds below = tt
+take_below (suc n) high [] below = tt
+take_below (suc n) high (d ∷ ds) below = (below.0, take_below n high ds below.1)
+
+take_ascend : (n low : ℕ) (ds : List ℕ) → Ascend low ds → Ascend low (take n ds)
+take_ascend zero low ds ascend = tt
+take_ascend (suc n) low [] ascend = tt
+take_ascend (suc n) low (d ∷ ds) ascend = (ascend.0, take_ascend n (d + 1) ds ascend.1)
+
+pub lie_first : (n low high : ℕ) (ds : List ℕ) → Lie low high ds → Lie low high (take n ds)
+lie_first n low high ds lie = record { below = take_below n high ds lie.below; ascend = take_ascend n low ds lie.ascend }

@@ -1,4 +1,5 @@
 pub mod GatherLemmas
+pub mod SearchLemmas
 pub mod FreeLemmas
 pub mod MovedLemmas
 pub mod PairLemmas

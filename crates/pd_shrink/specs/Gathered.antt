@@ -1,21 +1,23 @@
 -- Free data blocks as they are gathered, bitmap after bitmap.
-use Rattle.std.specs.Prelude.{◌≡◌, ℕ, ◌-◌, ◌/◌, ◌==◌, Bool, List, ◌++◌, filter, length, take, Some}
+use Rattle.std.specs.Prelude.{◌≡◌, ℕ, ◌+◌, ◌≤◌, Bool, List, ◌++◌, filter, length, take, Option, IfSome}
 use Rattle.std.specs.List.{range_with_len}
-use Rattle.pd_kinds.specs.Bitmap.{two_bits_of}
+use Rattle.pd_kinds.specs.Objects.{DeviceState}
+use Rattle.pd_image.specs.Device.{OnlyReads}
+use Rattle.pd_value.specs.declared.space_map.Count.{Count}
+use Rattle.pd_smap.specs.declared.overflow.Overflow.{Overflow}
+use Rattle.pd_smap.specs.Overflow.{overflow_items, overflow_reads}
+use Rattle.pd_smap.specs.OverflowLeft.{IsAhead, stored_by}
+use Rattle.pd_moved.specs.Moving.{AreBelow, Ascend}
 use Rattle.pd_shrink.specs.declared.free.FreeBlocks.{FreeBlocks}
-use Rattle.pd_shrink.specs.Unused.{is_unused_in}
+use Rattle.pd_shrink.specs.Unused.{is_zero}
 
 -- of so many blocks from one on, those of which this holds
 unfoldable pub chosen : (ℕ → Bool) → ℕ → ℕ → List ℕ
 chosen is low len = filter is (range_with_len low len)
 
--- whether the count of a block is 0, by a bitmap whose first count is that of another one
-abbrev pub is_free_from : ℕ → List ℕ → ℕ → Bool
-is_free_from base bitmap d = two_bits_of bitmap (d - base) == 0
-
--- and by the bitmaps of a map, whose places are told
-abbrev pub is_free_by : List (List ℕ) → (ℕ → ℕ) → ℕ → Bool
-is_free_by image place d = is_unused_in image (Some (place (d / 16320))) d
+-- whether the stored count of a block is 0, by the two bits of each block and by what the overflow tree has
+abbrev pub is_free_by : (ℕ → ℕ) → (ℕ → Option ℕ) → ℕ → Bool
+is_free_by bits over d = is_zero (stored_by (bits d) (over d))
 
 -- what is held are the first ones of these, as many as are wanted, and how many they are
 pub record Holds (wanted : ℕ) (all : List ℕ) (free : FreeBlocks) : Type 0 where
@@ -25,3 +27,44 @@ pub record Holds (wanted : ℕ) (all : List ℕ) (free : FreeBlocks) : Type 0 wh
 -- these were gathered
 abbrev pub Gathers : ℕ → List ℕ → FreeBlocks → FreeBlocks → Type 0
 Gathers wanted more old new = (all : List ℕ) → Holds wanted all old → Holds wanted (all ++ more) new
+
+-- blocks ascend from one on, and lie below another one
+pub record Lie (low high : ℕ) (ds : List ℕ) : Type 0 where
+  pub below : AreBelow high ds
+  pub ascend : Ascend low ds
+
+-- where a search stands: the device, the free blocks so far, and over an image the entries of the overflow tree that are
+-- ahead and how many reads are left
+pub record Standing : Type 0 where
+  pub device : DeviceState
+  pub free : FreeBlocks
+  pub items : List (List ℕ) → List (ℕ × Count)
+  pub reads : List (List ℕ) → ℕ
+
+abbrev pub standing : DeviceState → FreeBlocks → Overflow → Standing
+standing device free overflow = record {
+  device = device;
+  free = free;
+  items = overflow_items overflow;
+  reads = overflow_reads overflow;
+}
+
+-- and may read so many blocks more
+abbrev pub with_reads : (List (List ℕ) → ℕ) → Standing → Standing
+with_reads more s = record s { reads = λ image. s.reads image + more image }
+
+-- over an image these are the free ones of so many blocks from one on, where the entries ahead are enough
+pub record Finds (bits : List (List ℕ) → ℕ → ℕ) (image : List (List ℕ)) (low len : ℕ) (free : List ℕ) (old new : Standing) : Type 0 where
+  pub reads : new.device.reads + new.reads image ≤ old.device.reads + old.reads image
+  pub choice : (over : ℕ → Option ℕ) → IsAhead low over (old.items image) → free ≡ chosen (is_free_by (bits image) over) low len
+  pub ahead : (over : ℕ → Option ℕ) → IsAhead low over (old.items image) → IsAhead (low + len) over (new.items image)
+
+-- so many blocks from one on were searched, over any device
+pub record Searched (wanted : ℕ) (bits : List (List ℕ) → ℕ → ℕ) (low len : ℕ) (old new : Standing) : Type 0 where
+  pub kept : OnlyReads old.device new.device
+  pub faults : new.device.faults ≡ old.device.faults
+  pub most : new.free.number ≤ old.free.number + len
+  pub free : List ℕ
+  pub lie : Lie low (low + len) free
+  pub gathered : Gathers wanted free old.free new.free
+  pub told : IfSome old.device.held (λ image. Finds bits image low len free old new)

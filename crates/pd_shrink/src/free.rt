@@ -1,6 +1,6 @@
 //! The free data blocks of a pool.
 
-ghost use Rattle.std.specs.Prelude.{◌≡◌, ◌+◌, ◌^◌, ◌<◌, ◌≤◌, ℕ, List, [], length, take, IfOk, IfSome, OnOk};
+ghost use Rattle.std.specs.Prelude.{◌≡◌, ◌+◌, ◌^◌, ◌<◌, ◌≤◌, ℕ, List, [], length, min, take, IfOk, IfSome, OnOk};
 ghost use Rattle.pd_kinds.specs.declared.kind.Kind.TheVariants.{Thin};
 ghost use Rattle.pd_kinds.specs.declared.kind.Stage.TheVariants.{Counts};
 ghost use Rattle.pd_kinds.specs.Bitmap.{bitmaps_for};
@@ -9,19 +9,22 @@ ghost use Rattle.pd_kinds.specs.Stages.{faults};
 ghost use Rattle.pd_kinds.specs.ThinSuper.{thin_fields};
 ghost use Rattle.pd_image.specs.Device.{IsAttached, OnlyReads};
 ghost use Rattle.pd_answers.specs.MovedPool.{free_blocks};
-ghost use Rattle.pd_smap.specs.Entries.{IsIndex, index_from, place_in};
+ghost use Rattle.pd_moved.specs.Moving.{AreBelow, Ascend};
+ghost use Rattle.pd_smap.specs.Entries.{IsIndex, IsOverflow, index_from, place_in};
+ghost use Rattle.pd_smap.specs.Overflow.{overflow_reads};
+ghost use Rattle.pd_smap.specs.Steps.{bits_by};
 ghost use Rattle.pd_tree.specs.Below.{nodes_below};
 ghost use Rattle.pd_tree.specs.Cursor.{cursor_items, cursor_nodes, cursor_room};
 ghost use Rattle.pd_shrink.specs.Failing.{CountsMeta};
-ghost use Rattle.pd_shrink.specs.Gathered.{Gathers, chosen, is_free_by};
+ghost use Rattle.pd_shrink.specs.Gathered.{Searched, standing, with_reads};
 ghost use Rattle.pd_shrink.specs.Unused.{unused_below};
 
 use crate::fault::ShrinkFault;
 use crate::gathering::gather_at;
 use pd_image::Device;
-use pd_kinds::bitmaps_for;
+use pd_kinds::{CheckFault, SmRoot, bitmaps_for};
 use pd_laws::faults_are_none_where_clean;
-use pd_smap::{index_trees_name_bitmaps, next_place};
+use pd_smap::{Overflow, index_trees_name_bitmaps, next_place, overflow_trees_hold_counts};
 use pd_tree::{
     Cursor, formats_have_trees, reached_trees_are_sound, superblocks_lead_to_reached_roots,
 };
@@ -37,41 +40,53 @@ pub struct FreeBlocks {
     pub number: u64,
 }
 
-/// The data blocks below `end` whose stored count is 0, by the bitmaps that the tree with this root names: the first ones,
-/// as many as are wanted or there are, and how many there are in all.
+/// The data blocks below `end` whose stored count is 0, by a map's root: the first ones, as many as are wanted or there are,
+/// and how many there are in all. Where the two bits of a bitmap are below 3 they are the count, and else the overflow tree
+/// has it.
 ///
-/// It reads each node of the tree, and each bitmap that so many blocks need, at most once, and takes the memory of a cursor
-/// and 8 bytes for each block that it gives. What it gives is said over the bytes of any image whose tree has an entry for
-/// each bitmap and no other one. Over any device it is safe and returns; a bitmap outside of the device counts as zeros.
+/// It reads each node of the index tree and of the overflow tree, and each bitmap that so many blocks need, at most once, and
+/// takes the memory of two cursors and 8 bytes for each block that it gives. What it gives is said over the bytes of any
+/// image whose overflow tree can be searched, and whose index tree has an entry for each bitmap and no other one. Over any
+/// device it is safe and returns, with blocks that ascend below `end`; a bitmap outside of the device counts as zeros.
 ///
 /// Fails with `Memory` where memory wasn't found, and with `Meta` where a read failed.
 pub fn find_free<A: Device>(
     alloc: Global,
     meta: &mut A,
-    bitmap_root: u64,
+    map: &SmRoot,
     end: u64,
     wanted: usize,
 ) -> Result<FreeBlocks, ShrinkFault>
     requires attached { IsAttached (A.state meta.old) }
-    requires within { bitmap_root < (A.state meta.old).blocks }
-    ensures number { IfOk result (λ free. IfSome (A.state meta.old).held (λ image. (blocks : ℕ) → IsIndex image bitmap_root blocks → end ≤ blocks
-        → free.number ≡ length (unused_below image bitmap_root end))) }
-    ensures first { IfOk result (λ free. IfSome (A.state meta.old).held (λ image. (blocks : ℕ) → IsIndex image bitmap_root blocks → end ≤ blocks
-        → free.first.items ≡ take wanted (unused_below image bitmap_root end))) }
+    requires index { map.now.bitmap_root < (A.state meta.old).blocks }
+    requires overflow { map.now.overflow_root < (A.state meta.old).blocks }
+    ensures number { IfOk result (λ free. IfSome (A.state meta.old).held (λ image. (blocks : ℕ) → IsIndex image map.now.bitmap_root blocks → IsOverflow image map.now.overflow_root → end ≤ blocks
+        → free.number ≡ length (unused_below image map.now end))) }
+    ensures first { IfOk result (λ free. IfSome (A.state meta.old).held (λ image. (blocks : ℕ) → IsIndex image map.now.bitmap_root blocks → IsOverflow image map.now.overflow_root → end ≤ blocks
+        → free.first.items ≡ take wanted (unused_below image map.now end))) }
+    ensures below { IfOk result (λ free. AreBelow end free.first.items) }
+    ensures ascend { IfOk result (λ free. Ascend 0 free.first.items) }
+    ensures few { IfOk result (λ free. length free.first.items ≡ min wanted free.number) }
+    ensures most { IfOk result (λ free. free.number ≤ end) }
     ensures reads { IfSome (A.state meta.old).held (λ image. (A.state meta.new).reads ≤ (A.state meta.old).reads
-        + (length (nodes_below 16 image 63 bitmap_root) + bitmaps_for end)) }
+        + (length (nodes_below 16 image 63 map.now.bitmap_root) + bitmaps_for end + length (nodes_below 4 image 63 map.now.overflow_root))) }
     ensures kept { OnlyReads (A.state meta.old) (A.state meta.new) }
     ensures faults { CountsMeta result (A.state meta.old).faults (A.state meta.new).faults }
 {
-    let mut index = match Cursor::start(alloc, bitmap_root) {
+    let mut index = match Cursor::start(alloc, map.bitmap_root) {
         Ok(cursor) => cursor,
         Err(_) => return Err(ShrinkFault::Memory),
+    };
+    let mut overflow = match Overflow::start(alloc, meta, map.overflow_root) {
+        Ok(overflow) => overflow,
+        Err(CheckFault::Memory) => return Err(ShrinkFault::Memory),
+        Err(CheckFault::Device) => return Err(ShrinkFault::Meta),
     };
     let mut free = FreeBlocks {
         first: Vec::new(alloc),
         number: 0,
     };
-    gather(meta, &mut index, end, wanted, &mut free)?;
+    gather(meta, &mut index, end, wanted, &mut overflow, &mut free)?;
     Ok(free)
 }
 
@@ -81,15 +96,16 @@ fn gather<A: Device>(
     index: &mut Cursor<IndexEntry>,
     end: u64,
     wanted: usize,
+    overflow: &mut Overflow,
     free: &mut FreeBlocks,
 ) -> Result<(), ShrinkFault>
     requires attached { IsAttached (A.state meta.old) }
     requires within { cursor_room index.old ≤ (A.state meta.old).blocks }
     requires room { free.old.number + end < 2 ^ 64 }
-    ensures gathered { OnOk result (IfSome (A.state meta.old).held (λ image.
-        Gathers wanted (chosen (is_free_by image (place_in (cursor_items 16 index_from image index.old))) 0 end) free.old free.new)) }
+    ensures searched { OnOk result (Searched wanted (bits_by (λ image. place_in (cursor_items 16 index_from image index.old))) 0 end
+        (with_reads (λ image. length (cursor_nodes 16 image index.old) + bitmaps_for end) (standing (A.state meta.old) free.old overflow.old)) (standing (A.state meta.new) free.new overflow.new)) }
     ensures reads { IfSome (A.state meta.old).held (λ image. (A.state meta.new).reads ≤ (A.state meta.old).reads
-        + (length (cursor_nodes 16 image index.old) + bitmaps_for end)) }
+        + (overflow_reads overflow.old image + (length (cursor_nodes 16 image index.old) + bitmaps_for end))) }
     ensures kept { OnlyReads (A.state meta.old) (A.state meta.new) }
     ensures faults { CountsMeta result (A.state meta.old).faults (A.state meta.new).faults }
 {
@@ -99,22 +115,24 @@ fn gather<A: Device>(
             Ok(place) => place,
             Err(_) => return Err(ShrinkFault::Meta),
         };
-        gather_at(meta, place, i, end, wanted, free)?;
+        gather_at(meta, place, i, end, wanted, overflow, free)?;
     }
     Ok(())
 }
 
-/// In a pool without faults the blocks whose stored count is 0 are those without a reference, and the tree of the data map's
-/// bitmaps has an entry for each bitmap and no other one.
+/// In a pool without faults the blocks whose stored count is 0 are those without a reference, the tree of the data map's
+/// bitmaps has an entry for each bitmap and no other one, and its overflow tree can be searched.
 pub fn stored_free_blocks_are_free()
     ensures index { (image : List (List ℕ)) → faults Thin Counts image ≡ []
         → IsIndex image (thin_fields (block_at image 0)).data_map.bitmap_root (thin_fields (block_at image 0)).data_map.blocks }
+    ensures overflow { (image : List (List ℕ)) → faults Thin Counts image ≡ [] → IsOverflow image (thin_fields (block_at image 0)).data_map.overflow_root }
     ensures free { (image : List (List ℕ)) (end : ℕ) → faults Thin Counts image ≡ [] → end ≤ (thin_fields (block_at image 0)).data_map.blocks
-        → unused_below image (thin_fields (block_at image 0)).data_map.bitmap_root end ≡ free_blocks image end }
+        → unused_below image (thin_fields (block_at image 0)).data_map end ≡ free_blocks image end }
 {
     faults_are_none_where_clean();
     formats_have_trees();
     reached_trees_are_sound();
     superblocks_lead_to_reached_roots();
     index_trees_name_bitmaps();
+    overflow_trees_hold_counts();
 }

@@ -1,12 +1,16 @@
 use Rattle.std.proofs.Common.{◌-◌, ◌*◌, min, arith}
-use Rattle.pd_smap.proofs.OverflowLeftLemmas.{if_maps}
-use Rattle.pd_shrink.proofs.GatherLemmas.{gathers_same, same_bitmap}
+use Rattle.pd_smap.specs.Overflow.{overflow_items, overflow_reads}
+use Rattle.pd_smap.specs.Steps.{bits_at, bits_from}
+use Rattle.pd_smap.proofs.BitmapLemmas.{same_bits}
+use Rattle.pd_smap.proofs.StepLemmas.{ok_maps}
+use Rattle.pd_shrink.proofs.SearchLemmas.{read_then}
 use Rattle.pd_shrink.proofs.gathering.gather_at.Goals as goal
 
-pub returns-in-Ok-gather_bitmap-clause-gathered : goal.returns-in-Ok-gather_bitmap-clause-gathered
-returns-in-Ok-gather_bitmap-clause-gathered g c =
-    if_maps (g.A.Device.state c.args.meta.now).held _ _
-    (λ image counts. gathers_same c.args.wanted _ _ c.args.free.now c.gather_bitmap.new.free
-    (same_bitmap image c.args.place c.args.i c.min-len.result (min 16320 (c.args.blocks - 16320 * c.args.i)) c.read_bitmap.new.bitmap.0 (omega (arith, c.min-len.ensures)) (omega arith) counts)
-    c.in-Ok-gather_bitmap.ensures.gathered)
-    c.in-Ok.ensures.counts
+pub returns-clause-searched : goal.returns-clause-searched
+returns-clause-searched g c =
+    ok_maps c.gather_bitmap.result _ _
+    (read_then c.args.wanted (bits_from (16320 * c.args.i) c.read_bitmap.new.bitmap.0) (bits_at c.args.place c.args.i) (16320 * c.args.i) (min 16320 (c.args.blocks - 16320 * c.args.i)) c.min-len.result
+    (g.A.Device.state c.args.meta.now) (g.A.Device.state c.read_bitmap.new.dev) c.args.free.now (overflow_items c.args.overflow.now) (overflow_reads c.args.overflow.now) _
+    c.in-Ok.ensures.kept c.in-Ok.ensures.faults c.in-Ok.ensures.reads
+    (same_bits c.args.place c.args.i c.min-len.result c.read_bitmap.new.bitmap.0 (g.A.Device.state c.args.meta.now).held c.in-Ok.ensures.counts) (omega (arith, c.min-len.ensures)))
+    c.gather_bitmap.ensures.searched

@@ -1,17 +1,21 @@
-use Rattle.std.proofs.Common.{◌+◌, true, false, [], ◌∷◌, arith, eq-eqb, ne_eqb, sym}
-use Rattle.pd_smap.proofs.StepLemmas.{ok_maps}
-use Rattle.pd_shrink.specs.Gathered.{chosen, is_free_from}
-use Rattle.pd_shrink.proofs.GatherLemmas.{chosen_one, gathers_none, gathers_same}
+use Rattle.std.proofs.Common.{◌+◌, [], ◌∷◌, ap, arith, cond, sym}
+use Rattle.pd_smap.specs.Overflow.{overflow_items, overflow_reads}
+use Rattle.pd_shrink.proofs.GatherLemmas.{gathers_none}
+use Rattle.pd_shrink.proofs.SearchLemmas.{searched_one}
 use Rattle.pd_shrink.proofs.gathering.gather_entry.Goals as goal
 
-pub returns-then-two_bits-ne0-clause-gathered : goal.returns-then-two_bits-ne0-clause-gathered
-returns-then-two_bits-ne0-clause-gathered c =
-    gathers_none c.args.wanted (chosen (is_free_from c.args.base c.args.bitmap.now.0) (c.args.base + c.args.e) 1) c.args.free.now
-    (chosen_one c.args.bitmap.now.0 c.args.base c.args.e c.two_bits.result false c.two_bits.ensures.count (ne_eqb c.two_bits.result 0 (λ none. omega (arith, none, c.if-two_bits-ne0.true))))
+pub returns-in-Ok-gather_block-clause-searched : goal.returns-in-Ok-gather_block-clause-searched
+returns-in-Ok-gather_block-clause-searched g c =
+    searched_one c.args.wanted c.args.base c.args.e c.args.bitmap.now.0 c.in-Ok.unused ((c.args.base + c.args.e) ∷ []) (g.A.Device.state c.args.meta.now) (g.A.Device.state c.is_unused.new.meta)
+    (overflow_items c.args.overflow.now) (overflow_items c.is_unused.new.overflow) (overflow_reads c.args.overflow.now) (overflow_reads c.is_unused.new.overflow) c.args.free.now c.gather_block.new.free
+    (ap (λ t. cond t ((c.args.base + c.args.e) ∷ []) []) (sym c.if-unused.true))
+    c.in-Ok.ensures.kept c.in-Ok.ensures.faults c.in-Ok-gather_block.ensures.most (record { below = (omega arith, tt); ascend = (omega arith, tt) }) c.in-Ok-gather_block.ensures.gathered
+    c.in-Ok.ensures.reads c.in-Ok.ensures.unused c.in-Ok.ensures.ahead
 
-pub returns-clause-gathered : goal.returns-clause-gathered
-returns-clause-gathered c =
-    ok_maps c.gather_block.result _ _
-    (λ one. gathers_same c.args.wanted ((c.args.base + c.args.e) ∷ []) (chosen (is_free_from c.args.base c.args.bitmap.now.0) (c.args.base + c.args.e) 1) c.args.free.now c.gather_block.new.free
-    (sym (chosen_one c.args.bitmap.now.0 c.args.base c.args.e c.two_bits.result true c.two_bits.ensures.count (eq-eqb c.two_bits.result 0 (omega (arith, c.if-two_bits-ne0.false))))) one)
-    c.gather_block.ensures.gathered
+pub returns-else-unused-clause-searched : goal.returns-else-unused-clause-searched
+returns-else-unused-clause-searched g c =
+    searched_one c.args.wanted c.args.base c.args.e c.args.bitmap.now.0 c.in-Ok.unused [] (g.A.Device.state c.args.meta.now) (g.A.Device.state c.is_unused.new.meta)
+    (overflow_items c.args.overflow.now) (overflow_items c.is_unused.new.overflow) (overflow_reads c.args.overflow.now) (overflow_reads c.is_unused.new.overflow) c.args.free.now c.args.free.now
+    (ap (λ t. cond t ((c.args.base + c.args.e) ∷ []) []) (sym c.if-unused.false))
+    c.in-Ok.ensures.kept c.in-Ok.ensures.faults (omega arith) (record { below = tt; ascend = tt }) (gathers_none c.args.wanted c.args.free.now)
+    c.in-Ok.ensures.reads c.in-Ok.ensures.unused c.in-Ok.ensures.ahead
