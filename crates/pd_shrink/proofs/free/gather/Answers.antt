@@ -1,5 +1,6 @@
 use Rattle.std.proofs.Common.{◌≡◌, ◌∙◌, ℕ, ◌+◌, ◌-◌, ◌*◌, ◌<◌, min, List, length, IfSome, ap, arith, subst, sym}
 use Rattle.pd_kinds.specs.Bitmap.{bitmaps_for}
+use Rattle.pd_image.proofs.ReadLemmas.{only_reads_both}
 use Rattle.pd_tree.specs.Cursor.{cursor_items, cursor_nodes}
 use Rattle.pd_smap.specs.Entries.{index_from, place_in}
 use Rattle.pd_smap.specs.Overflow.{overflow_items, overflow_reads}
@@ -53,6 +54,7 @@ loop-i-preserved g c =
     let t = standing (g.A.Device.state c.next_place.new.dev) c.loop-i.free c.loop-i.overflow in
     let left : List (List ℕ) → ℕ = λ image. overflow_reads c.loop-i.overflow image + (length (cursor_nodes 16 image c.next_place.new.index) + (bitmaps_for c.args.end - c.loop-i.i)) in
     let rest : List (List ℕ) → ℕ = λ image. overflow_reads c.gather_at.new.overflow image + (length (cursor_nodes 16 image c.next_place.new.index) + (bitmaps_for c.args.end - (c.loop-i.i + 1))) in
+    let same : (g.A.Device.state c.next_place.new.dev).held ≡ held = (only_reads_both before.searched.kept placing.kept).held in
     let within : 16320 * c.loop-i.i < c.args.end = omega (arith, c.loop-i-test.true, c.bitmaps_for-bitmaps.ensures) in
     let first = searched_next c.args.wanted (bits_by place) 0 (min (16320 * c.loop-i.i) c.args.end) (min (16320 * c.loop-i.i) c.args.end) 0 (min (16320 * c.loop-i.i) c.args.end) s loop (record t { reads = left })
     (omega arith) (omega arith) before.searched
@@ -61,7 +63,7 @@ loop-i-preserved g c =
     record {
       searched =
           map_searched c.args.wanted place c.in-Ok.place c.loop-i.i c.args.end s t (standing (g.A.Device.state c.gather_at.new.meta) c.gather_at.new.free c.gather_at.new.overflow) left rest within
-          (subst (λ o. IfSome o (λ image. place_in (cursor_items 16 index_from image c.args.index.now) c.loop-i.i ≡ c.in-Ok.place)) (sym (placing.kept.held ∙ before.searched.kept.held))
+          (subst (λ o. IfSome o (λ image. place_in (cursor_items 16 index_from image c.args.index.now) c.loop-i.i ≡ c.in-Ok.place)) (sym same)
           (if_then held (g.A.Device.state c.loop-i.meta).held _ _ _ before.searched.kept.held
           (λ image places one. ap (place_in (cursor_items 16 index_from image c.args.index.now)) (add_none c.loop-i.i) ∙ places 0 ∙ one) before.places placing.first))
           (λ image. omega (arith, c.loop-i-test.true, c.bitmaps_for-bitmaps.ensures)) first c.in_ok-gather_at.ensures.searched;
