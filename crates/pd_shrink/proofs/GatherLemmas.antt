@@ -2,7 +2,7 @@
 use Rattle.std.proofs.Common.{◌≡◌, ◌∙◌, ℕ, zero, suc, ◌+◌, ◌-◌, ◌<◌, ◌≤◌, Option, Bool, true, false, cond, List, [], ◌∷◌, ◌++◌, length, take, ap, sym, refl, subst, arith, append_assoc, append-nil, length-append}
 use Rattle.std.specs.Prelude.{◌==◌, filter}
 use Rattle.std.specs.List.{range_with_len}
-use Rattle.std.proofs.lemmas.List.{length-take, take_all, take-append-le}
+use Rattle.std.proofs.lemmas.List.{length-take, take-append-le}
 use Rattle.std.proofs.lemmas.List.Elements.{filter-append}
 use Rattle.pd_smap.specs.OverflowLeft.{stored_by}
 use Rattle.pd_smap.proofs.MapLemmas.{few_bits, many_bits}
@@ -64,18 +64,6 @@ gathers_full wanted more old new number same full all held =
     record {
       number = number ∙ ap (λ n. n + length more) held.number ∙ sym (length-append all more);
       first = same ∙ held.first ∙ sym (take-append-le wanted all more enough);
-    }
-
--- one block that is kept
-pub gathers_one : (wanted d : ℕ) (old new : FreeBlocks) → new.number ≡ old.number + 1 → new.first.items ≡ old.first.items ++ d ∷ []
-    → length old.first.items < wanted → Gathers wanted (d ∷ []) old new
-gathers_one wanted d old new number pushed room all held =
-    let short : length all < wanted = omega (arith, room, ap length held.first, length-take wanted all) in
-    record {
-      number = number ∙ ap (λ n. n + 1) held.number ∙ sym (length-append all (d ∷ []));
-      first =
-          pushed ∙ ap (λ (ds : List ℕ). ds ++ d ∷ []) (held.first ∙ take_all wanted all (omega (arith, short)))
-          ∙ sym (take_all wanted (all ++ d ∷ []) (omega (arith, short, length-append all (d ∷ []))));
     }
 
 -- some blocks, and then more

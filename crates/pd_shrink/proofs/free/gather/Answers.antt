@@ -54,7 +54,7 @@ loop-i-preserved g c =
     let t = standing (g.A.Device.state c.next_place.new.dev) c.loop-i.free c.loop-i.overflow in
     let left : List (List ℕ) → ℕ = λ image. overflow_reads c.loop-i.overflow image + (length (cursor_nodes 16 image c.next_place.new.index) + (bitmaps_for c.args.end - c.loop-i.i)) in
     let rest : List (List ℕ) → ℕ = λ image. overflow_reads c.gather_at.new.overflow image + (length (cursor_nodes 16 image c.next_place.new.index) + (bitmaps_for c.args.end - (c.loop-i.i + 1))) in
-    let same : (g.A.Device.state c.next_place.new.dev).held ≡ held = (only_reads_both before.searched.kept placing.kept).held in
+    let same : (g.A.Device.state c.next_place.new.dev).held ≡ held = (only_reads_both {a = g.A.Device.state c.args.meta.now} {b = g.A.Device.state c.loop-i.meta} {c = g.A.Device.state c.next_place.new.dev} before.searched.kept placing.kept).held in
     let within : 16320 * c.loop-i.i < c.args.end = omega (arith, c.loop-i-test.true, c.bitmaps_for-bitmaps.ensures) in
     let first = searched_next c.args.wanted (bits_by place) 0 (min (16320 * c.loop-i.i) c.args.end) (min (16320 * c.loop-i.i) c.args.end) 0 (min (16320 * c.loop-i.i) c.args.end) s loop (record t { reads = left })
     (omega arith) (omega arith) before.searched
