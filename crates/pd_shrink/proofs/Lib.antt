@@ -8,3 +8,7 @@ pub mod JoiningLemmas
 pub mod PlaceLemmas
 pub mod MovingLemmas
 pub mod MovesLemmas
+pub mod RoomLemmas
+pub mod SuperLemmas
+pub mod PlanLemmas
+pub mod CopiedLemmas

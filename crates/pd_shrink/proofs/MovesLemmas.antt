@@ -28,7 +28,7 @@ kept_past test least a (suc n) past = elim (cases_Bool (test a)) [
   | inr missed ↦ rw missed (kept_past test least (a + 1) n past)
 ]
 
-sources_from : (m : ThinPool) (end : ℕ) → Ascend end (sources m end)
+pub sources_from : (m : ThinPool) (end : ℕ) → Ascend end (sources m end)
 unfolding sources
 sources_from m end =
     kept_past (λ d. nat_le end d && list_any (λ b. nat_eq b d) (mapped_data m)) end 0 m.data_blocks

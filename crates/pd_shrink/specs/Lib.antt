@@ -4,3 +4,5 @@ pub mod Moves
 pub mod Spans
 pub mod Moving
 pub mod Unused
+pub mod Making
+pub mod Planned

@@ -1,4 +1,6 @@
 -- Data blocks that are moved, and what is said of the data device meanwhile.
+use mathlib.Core.Bool.{Bool-set}
+use mathlib.Core.HLevel.{×_prop, Unit-prop}
 use Rattle.std.specs.Prelude.{◌≡◌, ℕ, ◌+◌, ◌*◌, ◌≤◌, ◌<◌, ◌==◌, false, List, [], ◌∷◌, map}
 use Rattle.std.specs.List.{list_any, AllByRecursion}
 use Rattle.pd_answers.specs.CachedView.{CachedBlock}
@@ -23,6 +25,11 @@ pub record IsAcross (k blocks end : ℕ) (x : MovedBlock) : Type 0 where
 abbrev pub AreOnce : List MovedBlock → Type 0
 AreOnce [] = Unit {0}
 AreOnce (x ∷ moves) = (list_any (λ (y : MovedBlock). y.target == x.target) moves ≡ false) × AreOnce moves
+
+-- which has one proof at most
+pub AreOnce-prop : (moves : List MovedBlock) → IsProp (AreOnce moves)
+AreOnce-prop [] = Unit-prop
+AreOnce-prop (x ∷ moves) = ×_prop (Bool-set _ _) (AreOnce-prop moves)
 
 -- all sources lie at or past some new end, all targets below it
 pub record AreApart (k blocks : ℕ) (moves : List MovedBlock) : Type 0 where

@@ -7,9 +7,12 @@ mod fault;
 mod free;
 mod gathering;
 mod joining;
+mod making;
 mod moves;
 mod moving;
 mod places;
+mod plan;
+mod room;
 mod sources;
 
 pub use copying::copy_moved;
@@ -17,4 +20,5 @@ pub use fault::ShrinkFault;
 pub use free::{FreeBlocks, find_free, stored_free_blocks_are_free};
 pub use moves::{MovedBlock, pair_up};
 pub use moving::move_pool;
+pub use plan::Shrink;
 pub use sources::find_sources;

@@ -1,0 +1,61 @@
+-- What the copying of a plan comes to, and the writing.
+use Rattle.std.proofs.Common.{◌≡◌, ℕ, ◌<◌, ◌≤◌, Bool, true, false, cond, List, [], ◌∷◌, length, map, Option, Some, None, IfSome, refl, sym, ap, ◌∙◌, subst, arith}
+use Rattle.std.proofs.lemmas.List.{length-map, nil_from_length}
+use Rattle.pd_kinds.specs.Crash.{HoldsSynced, LeavesOnly}
+use Rattle.pd_kinds.specs.Limits.{room_of}
+use Rattle.pd_kinds.specs.Meaning.{ThinPool}
+use Rattle.pd_kinds.specs.Moments.{after_sync}
+use Rattle.pd_kinds.specs.Objects.{DeviceState}
+use Rattle.pd_image.proofs.CrashLemmas.{at_some, synced_now}
+use Rattle.pd_spells.specs.ThinNeed.{thin_need}
+use Rattle.pd_answers.specs.CachedView.{CachedBlock, blocks_each}
+use Rattle.pd_answers.specs.MovedPool.{Move, copy_of_move, data_after, sources}
+use Rattle.pd_answers.specs.Shrinks.{ShrinkGround, lack_of, moves_of}
+use Rattle.pd_restore.specs.Made.{IsMadeOf, short}
+use Rattle.pd_writeback.proofs.OverlaidLemmas.{overlaid_none}
+use Rattle.pd_shrink.specs.declared.moves.MovedBlock.{MovedBlock}
+use Rattle.pd_shrink.specs.declared.plan.Shrink.{Shrink}
+use Rattle.pd_shrink.specs.Moves.{IsLeftKept, move_in, moves_in}
+use Rattle.pd_shrink.specs.Planned.{IsPlanOf}
+use Rattle.pd_shrink.proofs.RoomLemmas.{all_moved}
+
+abbrev Image : Type 0
+Image = List (List ℕ)
+
+module _ (ground : ShrinkGround) (shrink : Shrink) (of : IsPlanOf ground shrink) where
+  abbrev k : ℕ
+  k = blocks_each ground.pool.block_size
+
+  -- how many are moved
+  pub number_moved : lack_of ground ≡ None → length shrink.moves.items ≡ length (sources ground.pool ground.end)
+  number_moved none = sym (length-map shrink.moves.items move_in) ∙ (ap (λ (moves : List Move). length moves) of.moves ∙ all_moved ground none)
+
+  -- where nothing is moved, the data device stays
+  pub none_moved : (held : Image) (device : DeviceState) → length shrink.moves.items ≡ 0 → HoldsSynced held device → HoldsSynced (data_after k (moves_of ground) held) device
+  unfolding data_after
+  none_moved held device none synced =
+      let nothing : moves_of ground ≡ [] = sym of.moves ∙ ap moves_in (nil_from_length shrink.moves.items none) in
+      subst (λ (image : Image). HoldsSynced image device) (overlaid_none k held held ∙ ap (λ (moves : List Move). data_after k moves held) (sym nothing)) synced
+
+  -- what was copied is on the data device after a sync
+  pub copied_synced : (held : Image) (old mid new : DeviceState) → IfSome old.held (λ image. mid.held ≡ Some (data_after shrink.each (moves_in shrink.moves.items) image))
+      → IfSome mid.held (λ image. new.history ≡ after_sync image mid.history) → new.held ≡ mid.held → HoldsSynced held old → HoldsSynced (data_after k (moves_of ground) held) new
+  copied_synced held old mid new copied crash same synced =
+      let here : mid.held ≡ Some (data_after shrink.each (moves_in shrink.moves.items) held) =
+      at_some old.held (λ (image : Image). mid.held ≡ Some (data_after shrink.each (moves_in shrink.moves.items) image)) held synced.held copied in
+      let of_ground = ap (λ (n : ℕ). data_after n (moves_in shrink.moves.items) held) of.each ∙ ap (λ (moves : List Move). data_after k moves held) of.moves in
+      subst (λ (image : Image). HoldsSynced image new) of_ground (synced_now mid new (data_after shrink.each (moves_in shrink.moves.items) held) here crash same)
+
+  pub left_of_ground : (held : Image) {old new : DeviceState} → LeavesOnly (IsLeftKept shrink.each (map copy_of_move (moves_in shrink.moves.items)) held) old new
+      → LeavesOnly (IsLeftKept k (map copy_of_move (moves_of ground)) held) old new
+  left_of_ground held {old} {new} leaves =
+      subst (λ (moves : List Move). LeavesOnly (IsLeftKept k (map copy_of_move moves) held) old new) of.moves
+      (subst (λ (n : ℕ). LeavesOnly (IsLeftKept n (map copy_of_move (moves_in shrink.moves.items)) held) old new) of.each leaves)
+
+-- what has room isn't refused
+pub has_room : (m : ThinPool) (output need blocks : ℕ) {old new : DeviceState} → thin_need m (room_of output) ≤ room_of output → old.blocks ≡ output → IsMadeOf m (short need blocks) old new → ⊥
+has_room m output need blocks {old} {new} fits same made =
+    let need_is = made.answer.0 in
+    let less = made.answer.1.1 in
+    let fits' : thin_need m (room_of old.blocks) ≤ room_of old.blocks = subst (λ (n : ℕ). thin_need m (room_of n) ≤ room_of n) (sym same) fits in
+    omega (arith, need_is, less, fits')

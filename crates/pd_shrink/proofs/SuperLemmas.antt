@@ -1,0 +1,56 @@
+-- The superblock of a pool without faults, and of one that breaks no rule.
+use Rattle.std.proofs.Common.{◌≡◌, ℕ, ◌^◌, ◌≤◌, List, [], ◌∷◌, ◌++◌, length, subst, sym, arith}
+use Rattle.std.specs.List.{AllByRecursion}
+use Rattle.std.proofs.lemmas.Bool.{ltb-false, or_parts}
+use Rattle.pd_kinds.specs.declared.kind.Kind.TheVariants.{Thin}
+use Rattle.pd_kinds.specs.declared.kind.Stage.TheVariants.{Walk, Order, Whole, Counts}
+use Rattle.pd_kinds.specs.declared.rule.Rule.{Rule}
+use Rattle.pd_kinds.specs.Edge.{Edge, optional_edge}
+use Rattle.pd_kinds.specs.Graph.{block_at}
+use Rattle.pd_kinds.specs.Limits.{is_meta_size_bad, max_data_blocks}
+use Rattle.pd_kinds.specs.Stages.{HasCleanSuper, faults, thin_checked}
+use Rattle.pd_kinds.specs.ThinSuper.{ThinFields, are_thin_sizes_bad, thin_fields, thin_super_bad, thin_super_edges, thin_super_tests}
+use Rattle.pd_laws.proofs.CleanLemmas.{clean_super_where_none}
+use Rattle.pd_laws.proofs.SoundLemmas.{IsInside, IsSound, tests_after_two}
+use Rattle.pd_laws.proofs.ThinTable.{super_sound}
+use Rattle.pd_shrink.specs.Making.{FitsDevice}
+
+abbrev Image : Type 0
+Image = List (List ℕ)
+
+data_few : (blocks : ℕ) (block : List ℕ) → IsSound (thin_super_bad blocks block) → (thin_fields block).data_map.blocks ≤ 2 ^ 40
+unfolding thin_super_bad thin_super_tests are_thin_sizes_bad
+data_few blocks block sound =
+    let tests = tests_after_two _ _ _ _ (thin_super_tests blocks block) sound in
+    ltb-false max_data_blocks (thin_fields block).data_map.blocks (or_parts (is_meta_size_bad blocks (thin_fields block).meta_map.blocks) _ tests.1.0).1
+
+all_last : {X : Type 0} → (P : X → Type 0) (xs ys : List X) → AllByRecursion P (xs ++ ys) → AllByRecursion P ys
+all_last P [] ys all = all
+all_last P (x ∷ xs) ys all = all_last P xs ys all.1
+
+fits_block : (blocks : ℕ) (block : List ℕ) → IsSound (thin_super_bad blocks block) → FitsDevice blocks (thin_fields block)
+fits_block blocks block sound =
+    let super = super_sound blocks block sound in
+    let fields = thin_fields block in
+    let edges = all_last (λ (edge : Edge). IsInside blocks edge.block) (optional_edge 1 fields.held_root) _ super.inside in
+    record {
+      some = super.some_block;
+      within = super.within;
+      few = super.few_blocks;
+      few_data = data_few blocks block sound;
+      index = edges.1.1.0.1;
+      overflow = edges.1.1.1.0.1;
+    }
+
+pub fits_device : (blocks : ℕ) (block : List ℕ) (s : ThinFields) → s ≡ thin_fields block → IsSound (thin_super_bad blocks block) → FitsDevice blocks s
+fits_device blocks block s are sound = subst (FitsDevice blocks) (sym are) (fits_block blocks block sound)
+
+-- a pool without faults has a superblock that breaks no rule
+if_clean : (image : Image) → HasCleanSuper (thin_checked image) image → (1 ≤ length image) × IsSound (thin_super_bad (length image) (block_at image 0))
+unfolding thin_checked
+if_clean [] clean = absurd clean
+if_clean (block ∷ blocks) clean = (omega arith, clean)
+
+pub sound_where_none : (image : Image) → faults Thin Counts image ≡ [] → (1 ≤ length image) × IsSound (thin_super_bad (length image) (block_at image 0))
+unfolding faults
+sound_where_none image none = if_clean image (clean_super_where_none (thin_checked image) image (Walk ∷ Order ∷ Whole ∷ Counts ∷ []) none)

@@ -1,0 +1,52 @@
+use Rattle.std.proofs.Common.{◌≡◌, true, false, ap, sym, ◌∙◌, arith}
+use Rattle.pd_answers.specs.CachedView.{blocks_each, is_block_size_bad}
+use Rattle.pd_answers.specs.MovedPool.{moved_pool}
+use Rattle.pd_salvage.specs.declared.saved.SavedHead.{SavedHead}
+use Rattle.pd_salvage.specs.Saved.{pool_of}
+use Rattle.pd_shrink.specs.Moves.{moves_in}
+use Rattle.pd_shrink.proofs.PlanLemmas.{finished_counts, finished_plans, lacks_pool_size, missed_plans, pool_number, pool_size}
+use Rattle.pd_shrink.proofs.plan.Shrink.of_pool.Goals as goal
+
+pub returns-then-is_block_size_bad-clause-plans : goal.returns-then-is_block_size_bad-clause-plans
+returns-then-is_block_size_bad-clause-plans g c =
+    lacks_pool_size c.args.output_blocks c.args.pool_blocks c.args.blocks (g.A.Device.state c.args.meta.now).held c.args.map.now (pool_of c.args.saved.now) c.requires.sound
+    (ap is_block_size_bad (pool_size c.args.saved.now c.head-head.result.now c.head-head.ensures.head) ∙ (sym c.is_block_size_bad.ensures ∙ c.if-is_block_size_bad.true))
+
+pub find_moves-requires-clause-end : goal.find_moves-requires-clause-end
+find_moves-requires-clause-end g c =
+    let number = pool_number c.args.saved.now c.head-head.result.now c.head-head.ensures.head in
+    omega (arith, number, c.min-end.ensures)
+
+pub finish-requires-clause-moves : goal.finish-requires-clause-moves
+finish-requires-clause-moves g c = c.in-Ok.ensures.found.1.moving
+
+pub finish-requires-clause-across : goal.finish-requires-clause-across
+finish-requires-clause-across g c = c.in-Ok.ensures.found.1.across
+
+pub finish-requires-clause-once : goal.finish-requires-clause-once
+finish-requires-clause-once g c = c.in-Ok.ensures.found.1.once
+
+pub returns-in-Ok-clause-plans : goal.returns-in-Ok-clause-plans
+returns-in-Ok-clause-plans g c =
+    let m = pool_of c.args.saved.now in
+    let head = c.head-head.result.now in
+    let size = pool_size c.args.saved.now head c.head-head.ensures.head in
+    let number = pool_number c.args.saved.now head c.head-head.ensures.head in
+    finished_plans (g.A.Device.state c.args.meta.now).held c.args.map.now m c.min-end.result (blocks_each head.block_size) c.args.output_blocks c.args.pool_blocks c.args.blocks c.requires.sound
+    (omega (arith, number, c.min-end.ensures)) (ap is_block_size_bad size ∙ (sym c.is_block_size_bad.ensures ∙ c.if-is_block_size_bad.false)) (ap blocks_each (sym size))
+    c.in-Ok.ensures.found.0 c.in-Ok.moves.items c.in-Ok.ensures.found.1 c.finish.result c.finish.ensures
+
+pub returns-in-Ok-clause-faults : goal.returns-in-Ok-clause-faults
+returns-in-Ok-clause-faults g c =
+    finished_counts (moved_pool (pool_of c.args.saved.now) c.min-end.result (moves_in c.in-Ok.moves.items)) c.in-Ok.moves.items (blocks_each c.head-head.result.now.block_size) c.args.output_blocks
+    c.args.pool_blocks c.finish.result c.finish.ensures c.in-Ok.ensures.faults
+
+pub returns-in-Err-clause-plans : goal.returns-in-Err-clause-plans
+returns-in-Err-clause-plans g c =
+    let m = pool_of c.args.saved.now in
+    let head = c.head-head.result.now in
+    let size = pool_size c.args.saved.now head c.head-head.ensures.head in
+    let number = pool_number c.args.saved.now head c.head-head.ensures.head in
+    missed_plans (g.A.Device.state c.args.meta.now).held c.args.map.now m c.min-end.result (blocks_each head.block_size) c.args.output_blocks c.args.pool_blocks c.args.blocks c.requires.sound
+    (omega (arith, number, c.min-end.ensures)) (ap is_block_size_bad size ∙ (sym c.is_block_size_bad.ensures ∙ c.if-is_block_size_bad.false)) (ap blocks_each (sym size))
+    c.in-Err.fault c.in-Err.ensures.found

@@ -1,0 +1,95 @@
+-- How the plan of a shrink is made.
+use Rattle.std.specs.Prelude.{◌≡◌, ℕ, ◌+◌, ◌-◌, ◌^◌, ◌≤◌, ◌<◌, List, [], length, take, Option, Some, None, Result, Ok, Err, IfSome}
+use Rattle.std.specs.List.{AllByRecursion}
+use Rattle.pd_kinds.specs.declared.kind.Kind.TheVariants.{Thin}
+use Rattle.pd_kinds.specs.declared.kind.Stage.TheVariants.{Counts}
+use Rattle.pd_kinds.specs.declared.map_root.SmRoot.{SmRoot}
+use Rattle.pd_kinds.specs.Graph.{block_at}
+use Rattle.pd_kinds.specs.Limits.{room_of}
+use Rattle.pd_kinds.specs.Meaning.{ThinPool, thin_meaning}
+use Rattle.pd_kinds.specs.Stages.{faults}
+use Rattle.pd_kinds.specs.ThinSuper.{ThinFields, thin_fields}
+use Rattle.pd_spells.specs.ThinNeed.{thin_need}
+use Rattle.pd_answers.specs.MovedPool.{data_need, free_blocks, moves_to, sources}
+use Rattle.pd_answers.specs.Shrinks.{Lack, no_room, or_lack}
+use Rattle.pd_salvage.specs.Saved.{pool_of}
+use Rattle.pd_shrink.specs.declared.fault.ShrinkFault.{ShrinkFault}
+use Rattle.pd_shrink.specs.declared.fault.ShrinkFault.TheVariants.{Memory, Meta, Output, BlockSize, NoRoom}
+use Rattle.pd_shrink.specs.declared.moves.MovedBlock.{MovedBlock}
+use Rattle.pd_shrink.specs.declared.plan.Shrink.{Shrink}
+use Rattle.pd_shrink.specs.Moves.{AreOnce, IsAcross, moves_in}
+use Rattle.pd_shrink.specs.Moving.{AreMovesOf}
+
+-- the numbers of a superblock that breaks no rule, on a device of so many blocks
+pub record FitsDevice (blocks : ℕ) (s : ThinFields) : Type 0 where
+  pub some : 1 ≤ s.meta_map.blocks
+  pub within : s.meta_map.blocks ≤ blocks
+  pub few : s.meta_map.blocks ≤ 4161600
+  pub few_data : s.data_map.blocks ≤ 2 ^ 40
+  pub index : s.data_map.bitmap_root < blocks
+  pub overflow : s.data_map.overflow_root < blocks
+
+-- an image without faults whose superblock has these fields
+pub record IsSoundWith (s : ThinFields) (image : List (List ℕ)) : Type 0 where
+  pub none : faults Thin Counts image ≡ []
+  pub fields : s ≡ thin_fields (block_at image 0)
+
+-- an image without faults, with the space map of its data blocks and its meaning
+pub record IsSoundPool (map : SmRoot) (m : ThinPool) (image : List (List ℕ)) : Type 0 where
+  pub none : faults Thin Counts image ≡ []
+  pub data_map : map ≡ (thin_fields (block_at image 0)).data_map
+  pub means : m ≡ thin_meaning image
+
+-- what the moves of these sources lack, where so many data blocks below the new end are free
+abbrev pub lack_of_moves : ℕ → List ℕ → ℕ → ℕ → ℕ → Option Lack
+lack_of_moves k ds number end pool = or_lack ((end - number) + length ds) end (or_lack (data_need k ds) pool None)
+
+abbrev pub LooksAtRoom : Option Lack → Result (Unit {0}) ShrinkFault → Type 0
+LooksAtRoom lack (Ok done) = lack ≡ None
+LooksAtRoom lack (Err Memory) = ⊥
+LooksAtRoom lack (Err Meta) = ⊥
+LooksAtRoom lack (Err Output) = ⊥
+LooksAtRoom lack (Err BlockSize) = ⊥
+LooksAtRoom lack (Err (NoRoom need blocks)) = lack ≡ Some (no_room need blocks)
+
+-- moves to the first ones of the free blocks, for which there is room
+pub record HasMoves (held : Option (List (List ℕ))) (m : ThinPool) (end k pool : ℕ) (free : List ℕ) (moves : List MovedBlock) : Type 0 where
+  pub told : IfSome held (λ image. free ≡ free_blocks image end)
+  pub room : lack_of_moves k (sources m end) (length free) end pool ≡ None
+  pub are : moves_in moves ≡ moves_to (sources m end) free
+  pub moving : AreMovesOf m end (moves_in moves)
+  pub across : AllByRecursion (IsAcross k pool end) moves
+  pub once : AreOnce moves
+
+-- there is no room for them
+pub record LacksMoves (held : Option (List (List ℕ))) (m : ThinPool) (end k pool : ℕ) (lack : Lack) : Type 0 where
+  pub free : List ℕ
+  pub told : IfSome held (λ image. free ≡ free_blocks image end)
+  pub lacks : lack_of_moves k (sources m end) (length free) end pool ≡ Some lack
+
+abbrev pub MissesMoves : Option (List (List ℕ)) → ThinPool → ℕ → ℕ → ℕ → ShrinkFault → Type 0
+MissesMoves held m end k pool Memory = Unit {0}
+MissesMoves held m end k pool Meta = Unit {0}
+MissesMoves held m end k pool Output = ⊥
+MissesMoves held m end k pool BlockSize = ⊥
+MissesMoves held m end k pool (NoRoom need blocks) = LacksMoves held m end k pool (no_room need blocks)
+
+-- a plan of the pool afterwards, for which there is room
+pub record IsFinished (m : ThinPool) (moves : List MovedBlock) (k output pool : ℕ) (shrink : Shrink) : Type 0 where
+  pub moved : pool_of shrink.moved ≡ m
+  pub moves_are : shrink.moves.items ≡ moves
+  pub each : shrink.each ≡ k
+  pub output_blocks : shrink.output_blocks ≡ output
+  pub pool_blocks : shrink.pool_blocks ≡ pool
+  pub fits : thin_need m (room_of output) ≤ room_of output
+
+abbrev pub IsUnfinished : ThinPool → ℕ → ShrinkFault → Type 0
+IsUnfinished m output Memory = Unit {0}
+IsUnfinished m output Meta = ⊥
+IsUnfinished m output Output = ⊥
+IsUnfinished m output BlockSize = ⊥
+IsUnfinished m output (NoRoom need blocks) = (need ≡ thin_need m (room_of output)) × ((blocks ≡ room_of output) × (room_of output < need))
+
+abbrev pub Finishes : ThinPool → List MovedBlock → ℕ → ℕ → ℕ → Result Shrink ShrinkFault → Type 0
+Finishes m moves k output pool (Ok shrink) = IsFinished m moves k output pool shrink
+Finishes m moves k output pool (Err fault) = IsUnfinished m output fault

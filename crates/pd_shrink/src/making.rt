@@ -1,0 +1,125 @@
+//! How the plan of a shrink is made.
+
+ghost use Rattle.std.specs.Prelude.{◌≡◌, ◌≤◌, ◌<◌, ℕ, false, List, IfNone, IfOk, IfSome, MatchResult};
+ghost use Rattle.pd_kinds.specs.declared.rule.Rule.{Rule as BrokenRule};
+ghost use Rattle.pd_kinds.specs.Graph.{block_at};
+ghost use Rattle.pd_kinds.specs.Meaning.{thin_meaning};
+ghost use Rattle.pd_kinds.specs.ThinSuper.{thin_fields, thin_super_bad};
+ghost use Rattle.pd_image.specs.Device.{IsAttached, OnlyReads};
+ghost use Rattle.pd_answers.specs.CachedView.{is_block_size_bad};
+ghost use Rattle.pd_salvage.specs.Saved.{pool_of};
+ghost use Rattle.pd_shrink.specs.Failing.{CountsMeta, CountsPlanning};
+ghost use Rattle.pd_shrink.specs.Making.{FitsDevice, HasMoves, IsSoundPool, IsSoundWith, MissesMoves};
+
+use crate::fault::ShrinkFault;
+use crate::free::{find_free, stored_free_blocks_are_free};
+use crate::moves::{MovedBlock, pair_up};
+use crate::room::look_at_room;
+use crate::sources::find_sources;
+use pd_image::Device;
+use pd_kinds::{Block, SmRoot, ThinSuper};
+use pd_laid::sound_pool_is_saved;
+use pd_salvage::{Salvage, SalvageFault, salvage};
+use pd_supers::{read_thin_super, thin_super_rules};
+use std::alloc::Global;
+
+/// Block 0 of the metadata.
+pub(crate) fn read_first<A: Device>(alloc: Global, meta: &mut A) -> Result<Box<Block>, ShrinkFault>
+    requires attached { IsAttached (A.state meta.old) }
+    requires some { 1 ≤ (A.state meta.old).blocks }
+    ensures bytes { IfOk result (λ block. IfSome (A.state meta.old).held (λ image. block.value.0 ≡ block_at image 0)) }
+    ensures kept { OnlyReads (A.state meta.old) (A.state meta.new) }
+    ensures faults { CountsMeta result (A.state meta.old).faults (A.state meta.new).faults }
+{
+    let mut block = match Box::new(alloc, Block::zeros()) {
+        Ok(block) => block,
+        Err(_) => return Err(ShrinkFault::Memory),
+    };
+    match meta.read(0, &mut block) {
+        Ok(()) => Ok(block),
+        Err(_) => Err(ShrinkFault::Meta),
+    }
+}
+
+/// The superblock of a pool on a device of so many blocks, where it breaks no rule.
+pub(crate) fn sound_super(first: &Block, blocks: u64) -> Option<ThinSuper>
+    ensures fields { IfSome result (λ s. s ≡ thin_fields first.now.0) }
+    ensures fits { IfSome result (FitsDevice blocks) }
+    ensures broken { IfNone result (((rule : BrokenRule) → thin_super_bad blocks first.now.0 rule ≡ false) → ⊥) }
+{
+    let rules = thin_super_rules(first, blocks);
+    if rules.is_empty() {
+        Some(read_thin_super(first))
+    } else {
+        None
+    }
+}
+
+/// Whether a block size in sectors of 512 bytes is no number of whole blocks of 4096 bytes.
+pub(crate) fn is_block_size_bad(block_size: u32) -> bool
+    ensures { result ≡ is_block_size_bad block_size }
+{
+    (block_size == 0) | (block_size % 8 != 0)
+}
+
+/// The pool with this superblock.
+pub(crate) fn read_pool<A: Device>(
+    alloc: Global,
+    meta: &mut A,
+    s: &ThinSuper,
+) -> Result<Salvage, ShrinkFault>
+    requires attached { IsAttached (A.state meta.old) }
+    requires fits { FitsDevice (A.state meta.old).blocks s.now }
+    requires sound { IfSome (A.state meta.old).held (IsSoundWith s.now) }
+    ensures means { IfOk result (λ saved. IfSome (A.state meta.old).held (λ image. pool_of saved ≡ thin_meaning image)) }
+    ensures kept { OnlyReads (A.state meta.old) (A.state meta.new) }
+    ensures faults { CountsMeta result (A.state meta.old).faults (A.state meta.new).faults }
+{
+    sound_pool_is_saved();
+    match salvage(alloc, meta, s) {
+        Ok(saved) => Ok(saved),
+        Err(SalvageFault::Memory) => Err(ShrinkFault::Memory),
+        Err(SalvageFault::Device) => Err(ShrinkFault::Meta),
+    }
+}
+
+/// The moves of a pool to a new end, with a data device of so many blocks; `each` is how many of them a data block has.
+pub(crate) fn find_moves<A: Device>(
+    alloc: Global,
+    meta: &mut A,
+    map: &SmRoot,
+    saved: &Salvage,
+    end: u64,
+    each: u64,
+    pool_blocks: u64,
+) -> Result<Vec<MovedBlock>, ShrinkFault>
+    requires attached { IsAttached (A.state meta.old) }
+    requires index { map.now.bitmap_root < (A.state meta.old).blocks }
+    requires overflow { map.now.overflow_root < (A.state meta.old).blocks }
+    requires end { end ≤ (pool_of saved.now).data_blocks }
+    requires sound { IfSome (A.state meta.old).held (IsSoundPool map.now (pool_of saved.now)) }
+    ensures found { MatchResult result (λ moves. (free : List ℕ) × HasMoves (A.state meta.old).held (pool_of saved.now) end each pool_blocks free moves.items)
+        (MissesMoves (A.state meta.old).held (pool_of saved.now) end each pool_blocks) }
+    ensures kept { OnlyReads (A.state meta.old) (A.state meta.new) }
+    ensures faults { CountsPlanning result (A.state meta.old).faults (A.state meta.new).faults }
+{
+    stored_free_blocks_are_free();
+    let sources = match find_sources(alloc, saved, end) {
+        Ok(sources) => sources,
+        Err(_) => return Err(ShrinkFault::Memory),
+    };
+    let free = match find_free(alloc, meta, map, end, sources.len()) {
+        Ok(free) => free,
+        Err(fault) => return Err(fault),
+    };
+    let from = sources.as_slice();
+    match look_at_room(from, free.number, end, each, pool_blocks) {
+        Ok(()) => {}
+        Err(fault) => return Err(fault),
+    }
+    let to = free.first.as_slice();
+    match pair_up(alloc, from, to) {
+        Ok(moves) => Ok(moves),
+        Err(_) => Err(ShrinkFault::Memory),
+    }
+}

@@ -1,0 +1,250 @@
+//! What a shrink is to do.
+
+ghost use Rattle.std.specs.Prelude.{◌≤◌};
+ghost use Rattle.std.specs.List.{AllByRecursion};
+ghost use Rattle.std.proofs.Props.{props};
+ghost use Rattle.pd_kinds.specs.Limits.{room_of};
+ghost use Rattle.pd_salvage.specs.Saved.{pool_of};
+ghost use Rattle.pd_spells.specs.ThinNeed.{thin_need};
+ghost use Rattle.pd_shrink.specs.Moves.{AreOnce, AreOnce-prop, IsAcross};
+
+use crate::copying::copy_moved;
+use crate::fault::ShrinkFault;
+use crate::making::{find_moves, is_block_size_bad, read_first, read_pool, sound_super};
+use crate::moves::MovedBlock;
+use crate::moving::move_pool;
+use pd_image::{Device, Failed};
+use pd_kinds::{MAX_META_BLOCKS, SmRoot, ThinSuper};
+use pd_restore::{MadeFault, need_of_saved, restore_made};
+use pd_salvage::Salvage;
+use std::alloc::Global;
+
+/// What a shrink is to do: which data blocks are moved where, and the pool afterwards.
+///
+/// It takes 40 bytes a device, 32 a run of mappings and 16 for each data block that is moved.
+#[derive(Drop)]
+pub struct Shrink {
+    /// The pool afterwards.
+    moved: Salvage,
+    /// By ascending source.
+    moves: Vec<MovedBlock>,
+    /// How many blocks of 4096 bytes a data block has.
+    each: u64,
+    output_blocks: u64,
+    pool_blocks: u64,
+    ghost across: { AllByRecursion (IsAcross each pool_blocks (pool_of moved).data_blocks) moves.items } by { Prim.hlevel props },
+    ghost once: { AreOnce moves.items } by { AreOnce-prop moves.items },
+    ghost fits: { thin_need (pool_of moved) (room_of output_blocks) ≤ room_of output_blocks },
+}
+
+impl Shrink {
+    ghost use Rattle.std.specs.Prelude.{◌≡◌, ◌<◌, ◌≤◌, ℕ, List, [], None, IfOk, IfSome, OnOk, length, map};
+    ghost use Rattle.std.specs.List.{AllByRecursion};
+    ghost use Rattle.pd_kinds.specs.declared.kind.Kind.TheVariants.{Thin};
+    ghost use Rattle.pd_kinds.specs.declared.kind.Stage.TheVariants.{Counts};
+    ghost use Rattle.pd_kinds.specs.Crash.{HoldsSynced, IsUntouched, LeavesOnly};
+    ghost use Rattle.pd_kinds.specs.Objects.{CountsFault};
+    ghost use Rattle.pd_kinds.specs.Stages.{faults};
+    ghost use Rattle.pd_image.specs.Device.{IsAttached, IsWritable, KeepsPlace, OnlyReads};
+    ghost use Rattle.pd_answers.specs.CachedView.{blocks_each};
+    ghost use Rattle.pd_answers.specs.MovedPool.{copy_of_move, data_after, moved_pool, sources};
+    ghost use Rattle.pd_answers.specs.Shrinks.{ShrinkGround, lack_of, moves_of, pool_after};
+    ghost use Rattle.pd_restore.specs.Made.{IsMadeOf};
+    ghost use Rattle.pd_salvage.specs.Saved.{pool_of};
+    ghost use Rattle.pd_shrink.specs.Failing.{CountsPlanning, CountsWriting};
+    ghost use Rattle.pd_shrink.specs.Making.{FitsDevice, Finishes, IsSoundPool, IsSoundWith};
+    ghost use Rattle.pd_shrink.specs.Moves.{AreOnce, IsAcross, IsLeftKept, moves_in};
+    ghost use Rattle.pd_shrink.specs.Moving.{AreMovesOf};
+    ghost use Rattle.pd_shrink.specs.Planned.{IsPlanOf, Plans, ending_of_written};
+
+    /// Makes the plan of the shrink of a pool to so many data blocks, with an output for its new metadata and its data device.
+    /// It writes nothing.
+    ///
+    /// The metadata has no faults up to the stage Counts, where its device tells what it holds.
+    ///
+    /// Fails with `BlockSize` where the block size is 0 or no multiple of 8 sectors, or there is no sound superblock; then with
+    /// `NoRoom` where the smaller pool, the data device or, else, the output is too small; with `Memory` where memory wasn't
+    /// found, or the need of the output isn't below 2^64 - 1; and with `Meta` where a read failed.
+    pub fn plan<A: Device, B: Device, C: Device>(
+        alloc: Global,
+        meta: &mut A,
+        output: &B,
+        pool: &C,
+        blocks: u64,
+    ) -> Result<Shrink, ShrinkFault>
+        requires meta { IsAttached (A.state meta.old) }
+        requires output { IsAttached (B.state output.now) }
+        requires pool { IsAttached (C.state pool.now) }
+        requires sound { IfSome (A.state meta.old).held (λ image. faults Thin Counts image ≡ []) }
+        ensures plans { Plans (A.state meta.old).held (B.state output.now).blocks (C.state pool.now).blocks blocks result }
+        ensures kept { OnlyReads (A.state meta.old) (A.state meta.new) }
+        ensures faults { CountsPlanning result (A.state meta.old).faults (A.state meta.new).faults }
+    {
+        let meta_blocks = meta.blocks();
+        if meta_blocks == 0 {
+            return Err(ShrinkFault::BlockSize);
+        }
+        let first = match read_first(alloc, meta) {
+            Ok(first) => first,
+            Err(fault) => return Err(fault),
+        };
+        let s = match sound_super(&first, meta_blocks) {
+            Some(s) => s,
+            None => return Err(ShrinkFault::BlockSize),
+        };
+        let output_blocks = output.blocks();
+        let pool_blocks = pool.blocks();
+        Shrink::over(alloc, meta, &s, output_blocks, pool_blocks, blocks)
+    }
+
+    /// Makes the plan over metadata with this superblock, with so many blocks of the output and of the data device.
+    fn over<A: Device>(
+        alloc: Global,
+        meta: &mut A,
+        s: &ThinSuper,
+        output_blocks: u64,
+        pool_blocks: u64,
+        blocks: u64,
+    ) -> Result<Shrink, ShrinkFault>
+        requires meta { IsAttached (A.state meta.old) }
+        requires fits { FitsDevice (A.state meta.old).blocks s.now }
+        requires sound { IfSome (A.state meta.old).held (IsSoundWith s.now) }
+        ensures plans { Plans (A.state meta.old).held output_blocks pool_blocks blocks result }
+        ensures kept { OnlyReads (A.state meta.old) (A.state meta.new) }
+        ensures faults { CountsPlanning result (A.state meta.old).faults (A.state meta.new).faults }
+    {
+        if is_block_size_bad(s.block_size) {
+            return Err(ShrinkFault::BlockSize);
+        }
+        match read_pool(alloc, meta, s) {
+            Ok(saved) => {
+                let map = &s.data_map;
+                Shrink::of_pool(alloc, meta, map, &saved, output_blocks, pool_blocks, blocks)
+            }
+            Err(fault) => Err(fault),
+        }
+    }
+
+    /// Makes the plan of this pool, whose data blocks have this space map.
+    fn of_pool<A: Device>(
+        alloc: Global,
+        meta: &mut A,
+        map: &SmRoot,
+        saved: &Salvage,
+        output_blocks: u64,
+        pool_blocks: u64,
+        blocks: u64,
+    ) -> Result<Shrink, ShrinkFault>
+        requires meta { IsAttached (A.state meta.old) }
+        requires index { map.now.bitmap_root < (A.state meta.old).blocks }
+        requires overflow { map.now.overflow_root < (A.state meta.old).blocks }
+        requires sound { IfSome (A.state meta.old).held (IsSoundPool map.now (pool_of saved.now)) }
+        ensures plans { Plans (A.state meta.old).held output_blocks pool_blocks blocks result }
+        ensures kept { OnlyReads (A.state meta.old) (A.state meta.new) }
+        ensures faults { CountsPlanning result (A.state meta.old).faults (A.state meta.new).faults }
+    {
+        let head = saved.head();
+        // The superblock's block size was looked at; that of a pool in memory is another only over a device that tells nothing.
+        if is_block_size_bad(head.block_size) {
+            return Err(ShrinkFault::BlockSize);
+        }
+        let each = (head.block_size / 8) as u64;
+        let end = blocks.min(head.blocks);
+        match find_moves(alloc, meta, map, saved, end, each, pool_blocks) {
+            Ok(moves) => Shrink::finish(alloc, saved, moves, end, each, output_blocks, pool_blocks),
+            Err(fault) => Err(fault),
+        }
+    }
+
+    /// Makes the plan of these moves.
+    fn finish(
+        alloc: Global,
+        saved: &Salvage,
+        moves: Vec<MovedBlock>,
+        end: u64,
+        each: u64,
+        output_blocks: u64,
+        pool_blocks: u64,
+    ) -> Result<Shrink, ShrinkFault>
+        requires moves { AreMovesOf (pool_of saved.now) end (moves_in moves.items) }
+        requires across { AllByRecursion (IsAcross each pool_blocks end) moves.items }
+        requires once { AreOnce moves.items }
+        ensures { Finishes (moved_pool (pool_of saved.now) end (moves_in moves.items)) moves.items each output_blocks pool_blocks result }
+    {
+        let moved = match move_pool(alloc, saved, end, moves.as_slice()) {
+            Ok(moved) => moved,
+            Err(_) => return Err(ShrinkFault::Memory),
+        };
+        let room = output_blocks.min(MAX_META_BLOCKS);
+        let need = match need_of_saved(alloc, &moved, room) {
+            Some(need) => need,
+            None => return Err(ShrinkFault::Memory),
+        };
+        if need > room {
+            return Err(ShrinkFault::NoRoom {
+                need: need as u128,
+                blocks: room,
+            });
+        }
+        Ok(Shrink {
+            moved,
+            moves,
+            each,
+            output_blocks,
+            pool_blocks,
+        })
+    }
+
+    /// Copies the data blocks to their new places, and syncs the data device: how many were moved. Where there are none,
+    /// nothing is written or synced. It takes no memory.
+    pub fn copy<C: Device>(&self, pool: &mut C) -> Result<u64, Failed>
+        requires writable { IsWritable (C.state pool.old) }
+        requires blocks { (C.state pool.old).blocks ≡ self.now.pool_blocks }
+        ensures count { IfOk result (λ n. (ground : ShrinkGround) → IsPlanOf ground self.now → lack_of ground ≡ None → n ≡ length (sources ground.pool ground.end)) }
+        ensures copied { OnOk result ((ground : ShrinkGround) (held : List (List ℕ)) → IsPlanOf ground self.now → HoldsSynced held (C.state pool.old)
+            → HoldsSynced (data_after (blocks_each ground.pool.block_size) (moves_of ground) held) (C.state pool.new)) }
+
+        // Where nothing was unsynced, a crash at any moment leaves the data device as it was but for the targets.
+        ensures crash { (ground : ShrinkGround) (held : List (List ℕ)) → IsPlanOf ground self.now → HoldsSynced held (C.state pool.old)
+            → LeavesOnly (IsLeftKept (blocks_each ground.pool.block_size) (map copy_of_move (moves_of ground)) held) (C.state pool.old) (C.state pool.new) }
+        ensures cold { moves_in self.now.moves.items ≡ [] → IsUntouched (C.state pool.old) (C.state pool.new) }
+        ensures place { KeepsPlace (C.state pool.old) (C.state pool.new) }
+        ensures faults { CountsFault result (C.state pool.old).faults (C.state pool.new).faults }
+    {
+        if self.moves.is_empty() {
+            return Ok(0);
+        }
+        copy_moved(self.moves.as_slice(), self.each, pool)?;
+        match pool.sync() {
+            Ok(()) => Ok(self.moves.len() as u64),
+            Err(failed) => Err(failed),
+        }
+    }
+
+    /// Writes the metadata of the pool afterwards to the output, as a restore of its text does.
+    ///
+    /// Fails with `Memory` where memory wasn't found, and with `Output` where the device failed.
+    pub fn write<B: Device>(self, alloc: Global, output: &mut B) -> Result<(), ShrinkFault>
+        requires writable { IsWritable (B.state output.old) }
+        requires blocks { (B.state output.old).blocks ≡ self.output_blocks }
+        ensures made { (ground : ShrinkGround) → IsPlanOf ground self → IsMadeOf (pool_after ground) (ending_of_written result) (B.state output.old) (B.state output.new) }
+        ensures place { KeepsPlace (B.state output.old) (B.state output.new) }
+        ensures faults { CountsWriting result (B.state output.old).faults (B.state output.new).faults }
+    {
+        let Shrink {
+            moved,
+            moves: _,
+            each: _,
+            output_blocks: _,
+            pool_blocks: _,
+        } = self;
+        match restore_made(alloc, moved, output) {
+            Ok(()) => Ok(()),
+            Err(fault) => match fault {
+                MadeFault::Memory => Err(ShrinkFault::Memory),
+                MadeFault::Device => Err(ShrinkFault::Output),
+                MadeFault::NoRoom { .. } => unreachable!(),
+            },
+        }
+    }
+}
