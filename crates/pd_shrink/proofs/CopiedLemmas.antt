@@ -1,5 +1,5 @@
 -- What the copying of a plan comes to, and the writing.
-use Rattle.std.proofs.Common.{◌≡◌, ℕ, ◌<◌, ◌≤◌, Bool, true, false, cond, List, [], ◌∷◌, length, map, Option, Some, None, IfSome, refl, sym, ap, ◌∙◌, subst, arith}
+use Rattle.std.proofs.Common.{◌≡◌, ℕ, ◌≤◌, List, [], length, map, Some, None, IfSome, sym, ap, ◌∙◌, subst, arith}
 use Rattle.std.proofs.lemmas.List.{length-map, nil_from_length}
 use Rattle.pd_kinds.specs.Crash.{HoldsSynced, LeavesOnly}
 use Rattle.pd_kinds.specs.Limits.{room_of}
@@ -8,12 +8,11 @@ use Rattle.pd_kinds.specs.Moments.{after_sync}
 use Rattle.pd_kinds.specs.Objects.{DeviceState}
 use Rattle.pd_image.proofs.CrashLemmas.{at_some, synced_now}
 use Rattle.pd_spells.specs.ThinNeed.{thin_need}
-use Rattle.pd_answers.specs.CachedView.{CachedBlock, blocks_each}
+use Rattle.pd_answers.specs.CachedView.{blocks_each}
 use Rattle.pd_answers.specs.MovedPool.{Move, copy_of_move, data_after, sources}
 use Rattle.pd_answers.specs.Shrinks.{ShrinkGround, lack_of, moves_of}
 use Rattle.pd_restore.specs.Made.{IsMadeOf, short}
 use Rattle.pd_writeback.proofs.OverlaidLemmas.{overlaid_none}
-use Rattle.pd_shrink.specs.declared.moves.MovedBlock.{MovedBlock}
 use Rattle.pd_shrink.specs.declared.plan.Shrink.{Shrink}
 use Rattle.pd_shrink.specs.Moves.{IsLeftKept, move_in, moves_in}
 use Rattle.pd_shrink.specs.Planned.{IsPlanOf}

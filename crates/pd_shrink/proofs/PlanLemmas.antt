@@ -1,6 +1,5 @@
 -- What a plan is made of, and what becomes of it.
-use Rattle.std.proofs.Common.{◌≡◌, inl, inr, ℕ, ◌+◌, ◌-◌, ◌<◌, ◌≤◌, min, Bool, true, false, nat_lt, List, [], ◌∷◌, ◌++◌, length, take, replicate, Option, Some, None, IfSome, Result, Ok, Err, refl, sym, ap, ◌∙◌, subst, arith, append-nil}
-use Rattle.std.specs.Option.{option_map_or}
+use Rattle.std.proofs.Common.{◌≡◌, inl, inr, ℕ, ◌+◌, ◌-◌, ◌<◌, ◌≤◌, min, true, false, nat_lt, List, [], ◌∷◌, ◌++◌, length, take, replicate, Option, Some, None, IfSome, Result, Ok, Err, refl, sym, ap, ◌∙◌, subst, arith, append-nil}
 use Rattle.std.proofs.lemmas.Bool.{cases_Bool, ltb-false, ltb-true}
 use Rattle.std.proofs.lemmas.List.{length-append, length-replicate, take_all, take-append-le}
 use Rattle.pd_kinds.specs.declared.kind.Kind.TheVariants.{Thin}
@@ -19,7 +18,7 @@ use Rattle.pd_smap.specs.Entries.{IsIndex, IsOverflow}
 use Rattle.pd_spells.specs.ThinNeed.{thin_need}
 use Rattle.pd_answers.specs.CachedView.{blocks_each, is_block_size_bad}
 use Rattle.pd_answers.specs.MovedPool.{Move, data_need, end_of_pool, free_blocks, moved_pool, moves_to, sources}
-use Rattle.pd_answers.specs.Shrinks.{IsGroundOf, Lack, ShrinkGround, bad_block_size, no_room}
+use Rattle.pd_answers.specs.Shrinks.{IsGroundOf, ShrinkGround, bad_block_size, no_room}
 use Rattle.pd_moved.specs.Moving.{AreBelow, Ascend}
 use Rattle.pd_salvage.specs.declared.saved.SavedHead.{SavedHead}
 use Rattle.pd_salvage.specs.Saved.{SavedPool, pool_of}
@@ -27,8 +26,8 @@ use Rattle.pd_shrink.specs.declared.fault.ShrinkFault.{ShrinkFault}
 use Rattle.pd_shrink.specs.declared.fault.ShrinkFault.TheVariants as f
 use Rattle.pd_shrink.specs.declared.moves.MovedBlock.{MovedBlock}
 use Rattle.pd_shrink.specs.declared.plan.Shrink.{Shrink}
-use Rattle.pd_shrink.specs.Failing.{CountsPlanning, IsOfMeta, IsOfPlanning}
-use Rattle.pd_shrink.specs.Making.{Finishes, HasMoves, IsSoundPool, IsSoundWith, LacksMoves, LooksAtRoom, MissesMoves, lack_of_moves}
+use Rattle.pd_shrink.specs.Failing.{CountsPlanning}
+use Rattle.pd_shrink.specs.Making.{Finishes, HasMoves, IsSoundPool, IsSoundWith, LooksAtRoom, MissesMoves, lack_of_moves}
 use Rattle.pd_shrink.specs.Moves.{moves_in}
 use Rattle.pd_shrink.specs.Planned.{HasLack, Plans}
 use Rattle.pd_shrink.specs.Unused.{unused_below}

@@ -1,10 +1,10 @@
 -- What a shrink lacks, and what it moves where nothing is lacking.
-use Rattle.std.proofs.Common.{◌≡◌, inl, inr, ℕ, zero, suc, ◌+◌, ◌-◌, ◌*◌, ◌<◌, ◌≤◌, min, max, Bool, true, false, nat_eq, nat_lt, List, [], ◌∷◌, ◌++◌, length, map, take, Option, Some, None, refl, sym, ap, ◌∙◌, arith, le-ltb, lt-ltb}
+use Rattle.std.proofs.Common.{◌≡◌, inl, inr, ℕ, suc, ◌+◌, ◌-◌, ◌*◌, ◌<◌, ◌≤◌, max, true, false, nat_eq, nat_lt, List, [], ◌∷◌, length, map, take, Option, Some, None, refl, sym, ap, ◌∙◌, arith, le-ltb, lt-ltb}
 use Rattle.std.specs.List.{AllByRecursion, fold, list_any}
-use Rattle.std.proofs.lemmas.Bool.{cases_Bool, ltb-false, ltb-true, ne_eqb}
+use Rattle.std.proofs.lemmas.Bool.{cases_Bool, ltb-false, ne_eqb}
 use Rattle.pd_spells.specs.ThinNeed.{thin_need}
 use Rattle.pd_answers.specs.CachedView.{blocks_each, is_block_size_bad}
-use Rattle.pd_answers.specs.MovedPool.{Move, data_need, moved_need, moves_to, sources}
+use Rattle.pd_answers.specs.MovedPool.{Move, data_need, moves_to, sources}
 use Rattle.pd_answers.specs.Shrinks.{Lack, ShrinkGround, bad_block_size, lack_of, moves_of, no_room, or_lack, pool_after}
 use Rattle.pd_moved.specs.Moving.{AreBelow, Ascend}
 use Rattle.pd_shrink.specs.Making.{lack_of_moves}

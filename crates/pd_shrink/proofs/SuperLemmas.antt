@@ -4,12 +4,11 @@ use Rattle.std.specs.List.{AllByRecursion}
 use Rattle.std.proofs.lemmas.Bool.{ltb-false, or_parts}
 use Rattle.pd_kinds.specs.declared.kind.Kind.TheVariants.{Thin}
 use Rattle.pd_kinds.specs.declared.kind.Stage.TheVariants.{Walk, Order, Whole, Counts}
-use Rattle.pd_kinds.specs.declared.rule.Rule.{Rule}
 use Rattle.pd_kinds.specs.Edge.{Edge, optional_edge}
 use Rattle.pd_kinds.specs.Graph.{block_at}
 use Rattle.pd_kinds.specs.Limits.{is_meta_size_bad, max_data_blocks}
 use Rattle.pd_kinds.specs.Stages.{HasCleanSuper, faults, thin_checked}
-use Rattle.pd_kinds.specs.ThinSuper.{ThinFields, are_thin_sizes_bad, thin_fields, thin_super_bad, thin_super_edges, thin_super_tests}
+use Rattle.pd_kinds.specs.ThinSuper.{ThinFields, are_thin_sizes_bad, thin_fields, thin_super_bad, thin_super_tests}
 use Rattle.pd_laws.proofs.CleanLemmas.{clean_super_where_none}
 use Rattle.pd_laws.proofs.SoundLemmas.{IsInside, IsSound, tests_after_two}
 use Rattle.pd_laws.proofs.ThinTable.{super_sound}

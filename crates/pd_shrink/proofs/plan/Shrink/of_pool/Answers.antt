@@ -1,7 +1,6 @@
-use Rattle.std.proofs.Common.{◌≡◌, true, false, ap, sym, ◌∙◌, arith}
+use Rattle.std.proofs.Common.{ap, sym, ◌∙◌, arith}
 use Rattle.pd_answers.specs.CachedView.{blocks_each, is_block_size_bad}
 use Rattle.pd_answers.specs.MovedPool.{moved_pool}
-use Rattle.pd_salvage.specs.declared.saved.SavedHead.{SavedHead}
 use Rattle.pd_salvage.specs.Saved.{pool_of}
 use Rattle.pd_shrink.specs.Moves.{moves_in}
 use Rattle.pd_shrink.proofs.PlanLemmas.{finished_counts, finished_plans, lacks_pool_size, missed_plans, pool_number, pool_size}

@@ -1,4 +1,4 @@
-use Rattle.std.proofs.Common.{true, sym, subst, ◌∙◌, List, ℕ, Option, IfSome}
+use Rattle.std.proofs.Common.{sym, subst, ◌∙◌, List, ℕ, Option, IfSome}
 use Rattle.pd_salvage.specs.Saved.{pool_of}
 use Rattle.pd_shrink.specs.Making.{IsSoundPool}
 use Rattle.pd_shrink.proofs.PlanLemmas.{lacks_super_size, sound_pool}
