@@ -21,24 +21,24 @@ use Rattle.pd_shrink.proofs.RoomLemmas.{all_moved}
 abbrev Image : Type 0
 Image = List (List ℕ)
 
-module _ (ground : ShrinkGround) (shrink : Shrink) (of : IsPlanOf ground shrink) where
+module _ (basis : ShrinkGround) (shrink : Shrink) (of : IsPlanOf basis shrink) where
   abbrev k : ℕ
-  k = blocks_each ground.pool.block_size
+  k = blocks_each basis.pool.block_size
 
   -- how many are moved
-  pub number_moved : lack_of ground ≡ None → length shrink.moves.items ≡ length (sources ground.pool ground.end)
-  number_moved none = sym (length-map shrink.moves.items move_in) ∙ (ap (λ (moves : List Move). length moves) of.moves ∙ all_moved ground none)
+  pub number_moved : lack_of basis ≡ None → length shrink.moves.items ≡ length (sources basis.pool basis.end)
+  number_moved none = sym (length-map shrink.moves.items move_in) ∙ (ap (λ (moves : List Move). length moves) of.moves ∙ all_moved basis none)
 
   -- where nothing is moved, the data device stays
-  pub none_moved : (held : Image) (device : DeviceState) → length shrink.moves.items ≡ 0 → HoldsSynced held device → HoldsSynced (data_after k (moves_of ground) held) device
+  pub none_moved : (held : Image) (device : DeviceState) → length shrink.moves.items ≡ 0 → HoldsSynced held device → HoldsSynced (data_after k (moves_of basis) held) device
   unfolding data_after
   none_moved held device none synced =
-      let nothing : moves_of ground ≡ [] = sym of.moves ∙ ap moves_in (nil_from_length shrink.moves.items none) in
+      let nothing : moves_of basis ≡ [] = sym of.moves ∙ ap moves_in (nil_from_length shrink.moves.items none) in
       subst (λ (image : Image). HoldsSynced image device) (overlaid_none k held held ∙ ap (λ (moves : List Move). data_after k moves held) (sym nothing)) synced
 
   -- what was copied is on the data device after a sync
   pub copied_synced : (held : Image) (old mid new : DeviceState) → IfSome old.held (λ image. mid.held ≡ Some (data_after shrink.each (moves_in shrink.moves.items) image))
-      → IfSome mid.held (λ image. new.history ≡ after_sync image mid.history) → new.held ≡ mid.held → HoldsSynced held old → HoldsSynced (data_after k (moves_of ground) held) new
+      → IfSome mid.held (λ image. new.history ≡ after_sync image mid.history) → new.held ≡ mid.held → HoldsSynced held old → HoldsSynced (data_after k (moves_of basis) held) new
   copied_synced held old mid new copied crash same synced =
       let here : mid.held ≡ Some (data_after shrink.each (moves_in shrink.moves.items) held) =
       at_some old.held (λ (image : Image). mid.held ≡ Some (data_after shrink.each (moves_in shrink.moves.items) image)) held synced.held copied in
@@ -46,7 +46,7 @@ module _ (ground : ShrinkGround) (shrink : Shrink) (of : IsPlanOf ground shrink)
       subst (λ (image : Image). HoldsSynced image new) of_ground (synced_now mid new (data_after shrink.each (moves_in shrink.moves.items) held) here crash same)
 
   pub left_of_ground : (held : Image) {old new : DeviceState} → LeavesOnly (IsLeftKept shrink.each (map copy_of_move (moves_in shrink.moves.items)) held) old new
-      → LeavesOnly (IsLeftKept k (map copy_of_move (moves_of ground)) held) old new
+      → LeavesOnly (IsLeftKept k (map copy_of_move (moves_of basis)) held) old new
   left_of_ground held {old} {new} leaves =
       subst (λ (moves : List Move). LeavesOnly (IsLeftKept k (map copy_of_move moves) held) old new) of.moves
       (subst (λ (n : ℕ). LeavesOnly (IsLeftKept n (map copy_of_move (moves_in shrink.moves.items)) held) old new) of.each leaves)

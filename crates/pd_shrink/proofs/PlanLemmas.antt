@@ -184,18 +184,18 @@ finished_counts m moves k output pool (Err (f.NoRoom need blocks)) is same = sam
 module _ (output pool blocks : ℕ) where
   pub lacks_size : (held : Option Image) → IfSome held (λ image. is_block_size_bad (thin_meaning image).block_size ≡ true) → HasLack held output pool blocks bad_block_size
   lacks_size None bad =
-      let ground : ShrinkGround = record {
+      let basis : ShrinkGround = record {
         pool = record { uuid = []; time = 0; transaction = 0; block_size = 0; data_blocks = 0; devices = [] };
         end = 0;
         free = [];
         data_blocks = pool;
         room = room_of output;
       } in
-      record { ground = ground; goes_by = record { data_blocks = refl; room = refl; told = tt }; lacks = bad_size ground refl }
+      record { basis = basis; goes_by = record { data_blocks = refl; room = refl; told = tt }; lacks = bad_size basis refl }
   lacks_size (Some image) bad =
       let end = end_of_pool (thin_meaning image) blocks in
-      let ground : ShrinkGround = record { pool = thin_meaning image; end = end; free = free_blocks image end; data_blocks = pool; room = room_of output } in
-      record { ground = ground; goes_by = record { data_blocks = refl; room = refl; told = record { pool = refl; end = refl; free = refl } }; lacks = bad_size ground bad }
+      let basis : ShrinkGround = record { pool = thin_meaning image; end = end; free = free_blocks image end; data_blocks = pool; room = room_of output } in
+      record { basis = basis; goes_by = record { data_blocks = refl; room = refl; told = record { pool = refl; end = refl; free = refl } }; lacks = bad_size basis bad }
 
   pub lacks_super_size : (held : Option Image) (s : ThinFields) → IfSome held (IsSoundWith s) → is_block_size_bad s.block_size ≡ true → HasLack held output pool blocks bad_block_size
   lacks_super_size None s sound bad = lacks_size None tt
@@ -246,14 +246,14 @@ module _ (held : Option Image) (map : SmRoot) (m : ThinPool) (end k output pool 
   missed_plans f.Output is = is
   missed_plans f.BlockSize is = absurd is
   missed_plans (f.NoRoom need there) is = record {
-    ground = ground_with is.free;
+    basis = ground_with is.free;
     goes_by = record { data_blocks = refl; room = refl; told = ground_told is.free is.told };
     lacks = moves_lacking (ground_with is.free) whole (no_room need there) (subst (λ (n : ℕ). lack_of_moves n (sources m end) (length is.free) end pool ≡ Some (no_room need there)) k_is is.lacks);
   }
 
   module _ (free : List ℕ) (moves : List MovedBlock) (has : HasMoves held m end k pool free moves) where
-    abbrev ground : ShrinkGround
-    ground = ground_with free
+    abbrev basis : ShrinkGround
+    basis = ground_with free
 
     room : lack_of_moves (blocks_each m.block_size) (sources m end) (length free) end pool ≡ None
     room = subst (λ (n : ℕ). lack_of_moves n (sources m end) (length free) end pool ≡ None) k_is has.room
@@ -263,10 +263,10 @@ module _ (held : Option Image) (map : SmRoot) (m : ThinPool) (end k output pool 
 
     pub finished_plans : (result : Result Shrink ShrinkFault) → Finishes (moved_pool m end (moves_in moves)) moves k output pool result → Plans held output pool blocks result
     finished_plans (Ok shrink) is = (
-      ground,
+      basis,
       record {
         goes_by = record { data_blocks = refl; room = refl; told = ground_told free has.told };
-        fits = nothing_lacking ground whole room (subst (λ (p : ThinPool). thin_need p (room_of output) ≤ room_of output) after_is is.fits);
+        fits = nothing_lacking basis whole room (subst (λ (p : ThinPool). thin_need p (room_of output) ≤ room_of output) after_is is.fits);
         plan = record { pool = is.moved ∙ after_is; moves = ap moves_in is.moves_are ∙ has.are; each = is.each ∙ k_is };
         output_blocks = is.output_blocks;
         pool_blocks = is.pool_blocks;
@@ -277,10 +277,10 @@ module _ (held : Option Image) (map : SmRoot) (m : ThinPool) (end k output pool 
     finished_plans (Err f.Output) is = is
     finished_plans (Err f.BlockSize) is = absurd is
     finished_plans (Err (f.NoRoom need there)) is = record {
-      ground = ground;
+      basis = basis;
       goes_by = record { data_blocks = refl; room = refl; told = ground_told free has.told };
       lacks =
-          output_lacking ground whole room (subst (λ (p : ThinPool). room_of output < thin_need p (room_of output)) after_is (subst (λ (n : ℕ). room_of output < n) is.0 is.1.1))
+          output_lacking basis whole room (subst (λ (p : ThinPool). room_of output < thin_need p (room_of output)) after_is (subst (λ (n : ℕ). room_of output < n) is.0 is.1.1))
           ∙ (ap (λ (n : ℕ). Some (no_room n (room_of output))) (sym (is.0 ∙ ap (λ (p : ThinPool). thin_need p (room_of output)) after_is))
           ∙ ap (λ (n : ℕ). Some (no_room need n)) (sym is.1.0));
     }

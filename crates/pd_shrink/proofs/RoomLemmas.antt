@@ -45,56 +45,56 @@ module _ (k : ℕ) (ds : List ℕ) (number end pool : ℕ) (none : lack_of_moves
   data_enough = (nothing_lacks (data_need k ds) pool None (nothing_lacks ((end - number) + length ds) end (or_lack (data_need k ds) pool None) none).1).0
 
 -- what a shrink lacks
-module _ (ground : ShrinkGround) where
+module _ (basis : ShrinkGround) where
   abbrev k : ℕ
-  k = blocks_each ground.pool.block_size
+  k = blocks_each basis.pool.block_size
 
   abbrev ds : List ℕ
-  ds = sources ground.pool ground.end
+  ds = sources basis.pool basis.end
 
   abbrev need : ℕ
-  need = thin_need (pool_after ground) ground.room
+  need = thin_need (pool_after basis) basis.room
 
   abbrev moves_lack : Option Lack
-  moves_lack = lack_of_moves k ds (length ground.free) ground.end ground.data_blocks
+  moves_lack = lack_of_moves k ds (length basis.free) basis.end basis.data_blocks
 
-  pub bad_size : is_block_size_bad ground.pool.block_size ≡ true → lack_of ground ≡ Some bad_block_size
+  pub bad_size : is_block_size_bad basis.pool.block_size ≡ true → lack_of basis ≡ Some bad_block_size
   unfolding lack_of
   bad_size bad = rw bad refl
 
-  module _ (whole : is_block_size_bad ground.pool.block_size ≡ false) where
-    lack_is : lack_of ground ≡ or_lack ((ground.end - length ground.free) + length ds) ground.end (or_lack (data_need k ds) ground.data_blocks (or_lack need ground.room None))
+  module _ (whole : is_block_size_bad basis.pool.block_size ≡ false) where
+    lack_is : lack_of basis ≡ or_lack ((basis.end - length basis.free) + length ds) basis.end (or_lack (data_need k ds) basis.data_blocks (or_lack need basis.room None))
     unfolding lack_of
     lack_is = rw whole refl
 
-    pub moves_lacking : (x : Lack) → moves_lack ≡ Some x → lack_of ground ≡ Some x
+    pub moves_lacking : (x : Lack) → moves_lack ≡ Some x → lack_of basis ≡ Some x
     moves_lacking x is =
         lack_is
-        ∙ still_lacks ((ground.end - length ground.free) + length ds) ground.end (or_lack (data_need k ds) ground.data_blocks None) (or_lack (data_need k ds) ground.data_blocks (or_lack need ground.room None)) x
-        (λ later. still_lacks (data_need k ds) ground.data_blocks None (or_lack need ground.room None) x (λ e. absurd (isnt_none (sym e))) later) is
+        ∙ still_lacks ((basis.end - length basis.free) + length ds) basis.end (or_lack (data_need k ds) basis.data_blocks None) (or_lack (data_need k ds) basis.data_blocks (or_lack need basis.room None)) x
+        (λ later. still_lacks (data_need k ds) basis.data_blocks None (or_lack need basis.room None) x (λ e. absurd (isnt_none (sym e))) later) is
 
     module _ (none : moves_lack ≡ None) where
-      after_moves : lack_of ground ≡ or_lack need ground.room None
+      after_moves : lack_of basis ≡ or_lack need basis.room None
       after_moves =
-          let first = nothing_lacks ((ground.end - length ground.free) + length ds) ground.end (or_lack (data_need k ds) ground.data_blocks None) none in
-          let second = nothing_lacks (data_need k ds) ground.data_blocks None first.1 in
+          let first = nothing_lacks ((basis.end - length basis.free) + length ds) basis.end (or_lack (data_need k ds) basis.data_blocks None) none in
+          let second = nothing_lacks (data_need k ds) basis.data_blocks None first.1 in
           lack_is
-          ∙ (enough ((ground.end - length ground.free) + length ds) ground.end (or_lack (data_need k ds) ground.data_blocks (or_lack need ground.room None)) first.0
-          ∙ enough (data_need k ds) ground.data_blocks (or_lack need ground.room None) second.0)
+          ∙ (enough ((basis.end - length basis.free) + length ds) basis.end (or_lack (data_need k ds) basis.data_blocks (or_lack need basis.room None)) first.0
+          ∙ enough (data_need k ds) basis.data_blocks (or_lack need basis.room None) second.0)
 
-      pub nothing_lacking : need ≤ ground.room → lack_of ground ≡ None
-      nothing_lacking few = after_moves ∙ enough need ground.room None few
+      pub nothing_lacking : need ≤ basis.room → lack_of basis ≡ None
+      nothing_lacking few = after_moves ∙ enough need basis.room None few
 
-      pub output_lacking : ground.room < need → lack_of ground ≡ Some (no_room need ground.room)
-      output_lacking many = after_moves ∙ too_few need ground.room None many
+      pub output_lacking : basis.room < need → lack_of basis ≡ Some (no_room need basis.room)
+      output_lacking many = after_moves ∙ too_few need basis.room None many
 
   -- where nothing is lacking, each source is moved
-  pub all_moved : lack_of ground ≡ None → length (moves_of ground) ≡ length ds
-  all_moved none = elim (cases_Bool (is_block_size_bad ground.pool.block_size)) [
+  pub all_moved : lack_of basis ≡ None → length (moves_of basis) ≡ length ds
+  all_moved none = elim (cases_Bool (is_block_size_bad basis.pool.block_size)) [
     | inl bad ↦ absurd (isnt_none (sym (bad_size bad) ∙ none))
     | inr whole ↦
-        let room = (nothing_lacks ((ground.end - length ground.free) + length ds) ground.end (or_lack (data_need k ds) ground.data_blocks (or_lack need ground.room None)) (sym (lack_is whole) ∙ none)).0 in
-        length-moves ds ground.free (omega arith)
+        let room = (nothing_lacks ((basis.end - length basis.free) + length ds) basis.end (or_lack (data_need k ds) basis.data_blocks (or_lack need basis.room None)) (sym (lack_is whole) ∙ none)).0 in
+        length-moves ds basis.free (omega arith)
   ]
     where
       length-moves : (ds free : List ℕ) → length ds ≤ length free → length (moves_to ds free) ≡ length ds

@@ -11,30 +11,30 @@ use Rattle.pd_shrink.specs.declared.plan.Shrink.{Shrink}
 use Rattle.pd_shrink.specs.Moves.{moves_in}
 
 -- it is a plan of what a shrink goes by: the pool afterwards, what is moved, and how many blocks a data block has
-pub record IsPlanOf (ground : ShrinkGround) (shrink : Shrink) : Type 0 where
-  pub pool : pool_of shrink.moved ≡ pool_after ground
-  pub moves : moves_in shrink.moves.items ≡ moves_of ground
-  pub each : shrink.each ≡ blocks_each ground.pool.block_size
+pub record IsPlanOf (basis : ShrinkGround) (shrink : Shrink) : Type 0 where
+  pub pool : pool_of shrink.moved ≡ pool_after basis
+  pub moves : moves_in shrink.moves.items ≡ moves_of basis
+  pub each : shrink.each ≡ blocks_each basis.pool.block_size
 
 -- what a shrink goes by, with an output and a data device of so many blocks, and so many data blocks that are asked for
-pub record GoesBy (held : Option (List (List ℕ))) (output pool blocks : ℕ) (ground : ShrinkGround) : Type 0 where
-  pub data_blocks : ground.data_blocks ≡ pool
-  pub room : ground.room ≡ room_of output
-  pub told : IfSome held (λ image. IsGroundOf image blocks ground)
+pub record GoesBy (held : Option (List (List ℕ))) (output pool blocks : ℕ) (basis : ShrinkGround) : Type 0 where
+  pub data_blocks : basis.data_blocks ≡ pool
+  pub room : basis.room ≡ room_of output
+  pub told : IfSome held (λ image. IsGroundOf image blocks basis)
 
 -- a plan was made of it
-pub record IsPlanned (held : Option (List (List ℕ))) (output pool blocks : ℕ) (ground : ShrinkGround) (shrink : Shrink) : Type 0 where
-  pub goes_by : GoesBy held output pool blocks ground
-  pub fits : lack_of ground ≡ None
-  pub plan : IsPlanOf ground shrink
+pub record IsPlanned (held : Option (List (List ℕ))) (output pool blocks : ℕ) (basis : ShrinkGround) (shrink : Shrink) : Type 0 where
+  pub goes_by : GoesBy held output pool blocks basis
+  pub fits : lack_of basis ≡ None
+  pub plan : IsPlanOf basis shrink
   pub output_blocks : shrink.output_blocks ≡ output
   pub pool_blocks : shrink.pool_blocks ≡ pool
 
 -- this is why there is none
 pub record HasLack (held : Option (List (List ℕ))) (output pool blocks : ℕ) (lack : Lack) : Type 0 where
-  pub ground : ShrinkGround
-  pub goes_by : GoesBy held output pool blocks ground
-  pub lacks : lack_of ground ≡ Some lack
+  pub basis : ShrinkGround
+  pub goes_by : GoesBy held output pool blocks basis
+  pub lacks : lack_of basis ≡ Some lack
 
 abbrev pub IsUnplanned : Option (List (List ℕ)) → ℕ → ℕ → ℕ → ShrinkFault → Type 0
 IsUnplanned held output pool blocks Memory = Unit {0}
@@ -45,7 +45,7 @@ IsUnplanned held output pool blocks (NoRoom need there) = HasLack held output po
 
 -- what the making of a plan answers
 abbrev pub Plans : Option (List (List ℕ)) → ℕ → ℕ → ℕ → Result Shrink ShrinkFault → Type 0
-Plans held output pool blocks (Ok shrink) = (ground : ShrinkGround) × IsPlanned held output pool blocks ground shrink
+Plans held output pool blocks (Ok shrink) = (basis : ShrinkGround) × IsPlanned held output pool blocks basis shrink
 Plans held output pool blocks (Err fault) = IsUnplanned held output pool blocks fault
 
 -- how the writing of the new metadata ended

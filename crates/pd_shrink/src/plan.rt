@@ -200,13 +200,13 @@ impl Shrink {
     pub fn copy<C: Device>(&self, pool: &mut C) -> Result<u64, Failed>
         requires writable { IsWritable (C.state pool.old) }
         requires blocks { (C.state pool.old).blocks ≡ self.now.pool_blocks }
-        ensures count { IfOk result (λ n. (ground : ShrinkGround) → IsPlanOf ground self.now → lack_of ground ≡ None → n ≡ length (sources ground.pool ground.end)) }
-        ensures copied { OnOk result ((ground : ShrinkGround) (held : List (List ℕ)) → IsPlanOf ground self.now → HoldsSynced held (C.state pool.old)
-            → HoldsSynced (data_after (blocks_each ground.pool.block_size) (moves_of ground) held) (C.state pool.new)) }
+        ensures count { IfOk result (λ n. (basis : ShrinkGround) → IsPlanOf basis self.now → lack_of basis ≡ None → n ≡ length (sources basis.pool basis.end)) }
+        ensures copied { OnOk result ((basis : ShrinkGround) (held : List (List ℕ)) → IsPlanOf basis self.now → HoldsSynced held (C.state pool.old)
+            → HoldsSynced (data_after (blocks_each basis.pool.block_size) (moves_of basis) held) (C.state pool.new)) }
 
         // Where nothing was unsynced, a crash at any moment leaves the data device as it was but for the targets.
-        ensures crash { (ground : ShrinkGround) (held : List (List ℕ)) → IsPlanOf ground self.now → HoldsSynced held (C.state pool.old)
-            → LeavesOnly (IsLeftKept (blocks_each ground.pool.block_size) (map copy_of_move (moves_of ground)) held) (C.state pool.old) (C.state pool.new) }
+        ensures crash { (basis : ShrinkGround) (held : List (List ℕ)) → IsPlanOf basis self.now → HoldsSynced held (C.state pool.old)
+            → LeavesOnly (IsLeftKept (blocks_each basis.pool.block_size) (map copy_of_move (moves_of basis)) held) (C.state pool.old) (C.state pool.new) }
         ensures cold { moves_in self.now.moves.items ≡ [] → IsUntouched (C.state pool.old) (C.state pool.new) }
         ensures place { KeepsPlace (C.state pool.old) (C.state pool.new) }
         ensures faults { CountsFault result (C.state pool.old).faults (C.state pool.new).faults }
@@ -227,7 +227,7 @@ impl Shrink {
     pub fn write<B: Device>(self, alloc: Global, output: &mut B) -> Result<(), ShrinkFault>
         requires writable { IsWritable (B.state output.old) }
         requires blocks { (B.state output.old).blocks ≡ self.output_blocks }
-        ensures made { (ground : ShrinkGround) → IsPlanOf ground self → IsMadeOf (pool_after ground) (ending_of_written result) (B.state output.old) (B.state output.new) }
+        ensures made { (basis : ShrinkGround) → IsPlanOf basis self → IsMadeOf (pool_after basis) (ending_of_written result) (B.state output.old) (B.state output.new) }
         ensures place { KeepsPlace (B.state output.old) (B.state output.new) }
         ensures faults { CountsWriting result (B.state output.old).faults (B.state output.new).faults }
     {

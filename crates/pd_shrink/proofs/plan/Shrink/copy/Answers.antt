@@ -8,15 +8,15 @@ use Rattle.pd_shrink.proofs.CopiedLemmas.{copied_synced, left_of_ground, none_mo
 use Rattle.pd_shrink.proofs.plan.Shrink.copy.Goals as goal
 
 pub returns-then-is_empty-clause-count : goal.returns-then-is_empty-clause-count
-returns-then-is_empty-clause-count g c ground of none =
+returns-then-is_empty-clause-count g c basis of none =
     let empty = eqb-true _ 0 (sym c.is_empty.ensures ∙ c.if-is_empty.true) in
-    let number = number_moved ground c.args.self.now of none in
+    let number = number_moved basis c.args.self.now of none in
     omega (arith, empty, number, c.args.self.now.moves.ok.0)
 
 pub returns-then-is_empty-clause-copied : goal.returns-then-is_empty-clause-copied
-returns-then-is_empty-clause-copied g c ground held of synced =
+returns-then-is_empty-clause-copied g c basis held of synced =
     let empty = eqb-true _ 0 (sym c.is_empty.ensures ∙ c.if-is_empty.true) in
-    none_moved ground c.args.self.now of held (g.C.Device.state c.args.pool.now) (omega (arith, empty, c.args.self.now.moves.ok.0)) synced
+    none_moved basis c.args.self.now of held (g.C.Device.state c.args.pool.now) (omega (arith, empty, c.args.self.now.moves.ok.0)) synced
 
 pub copy_moved-requires-clause-apart : goal.copy_moved-requires-clause-apart
 copy_moved-requires-clause-apart g c =
@@ -25,33 +25,33 @@ copy_moved-requires-clause-apart g c =
     rw (c.as_slice.ensures.value, c.requires.blocks) apart
 
 pub returns-in_err-copy_moved-clause-crash : goal.returns-in_err-copy_moved-clause-crash
-returns-in_err-copy_moved-clause-crash g c ground held of synced =
+returns-in_err-copy_moved-clause-crash g c basis held of synced =
     let plan = c.args.self.now in
-    left_of_ground ground plan of held
+    left_of_ground basis plan of held
     ((rw c.as_slice.ensures.value at (c.copy_moved.ensures.crash held)) (kept_here plan.each (map copy_of_move (moves_in plan.moves.items)) held (g.C.Device.state c.args.pool.now) synced))
 
 pub returns-in-Ok-clause-count : goal.returns-in-Ok-clause-count
-returns-in-Ok-clause-count g c ground of none =
-    let number = number_moved ground c.args.self.now of none in
+returns-in-Ok-clause-count g c basis of none =
+    let number = number_moved basis c.args.self.now of none in
     omega (arith, number, c.len.ensures, c.args.self.now.moves.ok.0)
 
 pub returns-in-Ok-clause-copied : goal.returns-in-Ok-clause-copied
-returns-in-Ok-clause-copied g c ground held of synced =
-    copied_synced ground c.args.self.now of held (g.C.Device.state c.args.pool.now) (g.C.Device.state c.copy_moved.new.pool) (g.C.Device.state c.sync.new.self)
+returns-in-Ok-clause-copied g c basis held of synced =
+    copied_synced basis c.args.self.now of held (g.C.Device.state c.args.pool.now) (g.C.Device.state c.copy_moved.new.pool) (g.C.Device.state c.sync.new.self)
     (rw c.as_slice.ensures.value at c.in_ok-copy_moved.ensures.copied) c.in-Ok.ensures.synced.crash c.sync.ensures.synced.held synced
 
 pub returns-in-Ok-clause-crash : goal.returns-in-Ok-clause-crash
-returns-in-Ok-clause-crash g c ground held of synced =
+returns-in-Ok-clause-crash g c basis held of synced =
     let plan = c.args.self.now in
     let copies = map copy_of_move (moves_in plan.moves.items) in
-    left_of_ground ground plan of held
+    left_of_ground basis plan of held
     (kept_synced plan.each copies held true ((rw c.as_slice.ensures.value at (c.copy_moved.ensures.crash held)) (kept_here plan.each copies held (g.C.Device.state c.args.pool.now) synced))
     c.in-Ok.ensures.synced.crash c.sync.ensures.synced.held)
 
 pub returns-in-Err-clause-crash : goal.returns-in-Err-clause-crash
-returns-in-Err-clause-crash g c ground held of synced =
+returns-in-Err-clause-crash g c basis held of synced =
     let plan = c.args.self.now in
     let copies = map copy_of_move (moves_in plan.moves.items) in
-    left_of_ground ground plan of held
+    left_of_ground basis plan of held
     (kept_synced plan.each copies held false ((rw c.as_slice.ensures.value at (c.copy_moved.ensures.crash held)) (kept_here plan.each copies held (g.C.Device.state c.args.pool.now) synced))
     c.in-Err.ensures.synced.crash c.sync.ensures.synced.held)

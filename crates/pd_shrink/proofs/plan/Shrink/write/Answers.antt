@@ -3,13 +3,13 @@ use Rattle.pd_shrink.proofs.CopiedLemmas.{has_room}
 use Rattle.pd_shrink.proofs.plan.Shrink.write.Goals as goal
 
 pub returns-in-Ok-clause-made : goal.returns-in-Ok-clause-made
-returns-in-Ok-clause-made g c ground of = rw of.pool at c.in-Ok.ensures.made
+returns-in-Ok-clause-made g c basis of = rw of.pool at c.in-Ok.ensures.made
 
 pub returns-in-Memory-clause-made : goal.returns-in-Memory-clause-made
-returns-in-Memory-clause-made g c ground of = rw (c.in-Memory.is, of.pool) at c.in-Err.ensures.made
+returns-in-Memory-clause-made g c basis of = rw (c.in-Memory.is, of.pool) at c.in-Err.ensures.made
 
 pub returns-in-Device-clause-made : goal.returns-in-Device-clause-made
-returns-in-Device-clause-made g c ground of = rw (c.in-Device.is, of.pool) at c.in-Err.ensures.made
+returns-in-Device-clause-made g c basis of = rw (c.in-Device.is, of.pool) at c.in-Err.ensures.made
 
 pub unreachable-requires : goal.unreachable-requires
 unreachable-requires g c =
