@@ -24,6 +24,7 @@ use Rattle.pd_answers.specs.Restores.{restore}
 use Rattle.pd_answers.specs.Repairs.{repair, search}
 use Rattle.pd_answers.specs.Rehearsals.{rehearse}
 use Rattle.pd_answers.specs.Writebacks.{writeback}
+use Rattle.pd_answers.specs.Shrinks.{shrink}
 
 -- no request
 abbrev pub refused : Terms
@@ -167,3 +168,4 @@ terms_of (Some (request.since era file path)) = since era file path
 terms_of (Some (request.generate number file)) = generate number file
 terms_of (Some (request.rehearse number path)) = rehearse number path
 terms_of (Some (request.writeback metadata fast origin)) = writeback metadata fast origin
+terms_of (Some (request.shrink input output pool blocks)) = shrink input output pool blocks

@@ -29,6 +29,8 @@ pub data Request : Type 0 where
   rehearse : ℕ → List ℕ → Request
   -- what is dirty in a cache, by its metadata, from its fast device to its origin
   writeback : List ℕ → List ℕ → List ℕ → Request
+  -- a pool with at most so many data blocks, from its metadata to other ones, on its data device
+  shrink : List ℕ → List ℕ → List ℕ → ℕ → Request
 
 -- the table of what is built
 unfoldable pub is_built : Request → Bool
@@ -50,6 +52,7 @@ is_built (since era file image) = true
 is_built (generate number file) = true
 is_built (rehearse number image) = true
 is_built (writeback metadata fast origin) = true
+is_built (shrink input output pool blocks) = true
 is_built _ = false
 
 -- whether a restore reads the second version of a pool's text, too

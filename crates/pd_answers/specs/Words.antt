@@ -8,7 +8,7 @@ use Rattle.pd_kinds.specs.declared.kind.Kind.{Kind}
 use Rattle.pd_kinds.specs.declared.kind.Kind.TheVariants.{Thin, Cache, Era}
 use Rattle.pd_kinds.specs.declared.kind.Stage.{Stage}
 use Rattle.pd_kinds.specs.declared.kind.Stage.TheVariants.{Super, Walk, Order, Whole, Counts}
-use Rattle.pd_answers.specs.Requests.{Request, check, dump, restore, repair, search, rmap, list_devices, since, generate, rehearse, writeback, is_built}
+use Rattle.pd_answers.specs.Requests.{Request, check, dump, restore, repair, search, rmap, list_devices, since, generate, rehearse, writeback, shrink, is_built}
 
 -- the next step needs the value of this one
 infixl 10 ◌>>=◌
@@ -172,6 +172,7 @@ pub data Tool : Type 0 where
   generate_tool : Tool
   rehearse_tool : Tool
   writeback_tool : Tool
+  shrink_tool : Tool
 
 -- a tool and its name
 pub record Named : Type 0 where
@@ -196,6 +197,7 @@ tools =
     ∷ record { name = codes "thin_generate"; tool = generate_tool }
     ∷ record { name = codes "thin_rehearse"; tool = rehearse_tool }
     ∷ record { name = codes "cache_writeback"; tool = writeback_tool }
+    ∷ record { name = codes "thin_shrink"; tool = shrink_tool }
     ∷ []
 
 -- the tool of this name
@@ -225,6 +227,7 @@ purposes_of since_tool = codes "--written-since" ∷ codes "-o" ∷ image_word �
 purposes_of generate_tool = codes "--number" ∷ codes "-o" ∷ []
 purposes_of rehearse_tool = codes "--number" ∷ codes "-o" ∷ []
 purposes_of writeback_tool = codes "--metadata-device" ∷ codes "--fast-device" ∷ codes "--origin-device" ∷ []
+purposes_of shrink_tool = codes "-i" ∷ codes "-o" ∷ codes "--data" ∷ codes "--nr-blocks" ∷ []
 
 -- the flag stands only where the whole image is checked
 abbrev pub check_with : Kind → Stage → Bool → List ℕ → Option Request
@@ -299,6 +302,13 @@ request_of writeback_tool items = do
   fast ← required (codes "--fast-device") items
   origin ← required (codes "--origin-device") items
   Some (writeback metadata fast origin)
+request_of shrink_tool items = do
+  input ← required (codes "-i") items
+  output ← required (codes "-o") items
+  pool ← required (codes "--data") items
+  word ← required (codes "--nr-blocks") items
+  blocks ← number_below (2 ^ 64) word
+  Some (shrink input output pool blocks)
 
 -- whether an item can be given to a tool
 abbrev pub is_known : Tool → Item → Bool
