@@ -1,0 +1,4 @@
+//! A laid pool with shared leaves, told part by part, as one needs it who writes one: its leaves and the trees of its devices
+//! stand one behind another, it takes just the blocks that its shape needs, and each block up to the metadata map is named
+//! once, but for a shared leaf, which is named as often as devices use it.
+#![tactic(auto)]
