@@ -50,7 +50,9 @@ impl BlockCounts {
     }
 
     /// Counts so many blocks in a row once more.
-    pub(crate) fn add_run(&mut self, first: u64, length: u64) -> Result<(), AllocError>
+    ///
+    /// Fails with `AllocError` where memory wasn't found; then some of them may be counted.
+    pub fn add_run(&mut self, first: u64, length: u64) -> Result<(), AllocError>
         requires within { first + length ≤ self.old.counts.size }
         requires few { self.old.total + length < 2 ^ 32 }
         ensures size { OnOk result (self.new.counts.size ≡ self.old.counts.size) }

@@ -1,0 +1,5 @@
+/// What there is none of.
+#[derive(Drop)]
+pub(crate) struct Never {
+    ghost never: { ⊥ },
+}
