@@ -39,7 +39,7 @@ use Rattle.pd_tools.proofs.Checks.{not_yet}
 use Rattle.pd_tools.proofs.Laying.{laid_kept, laid_leaves}
 use Rattle.pd_tools.proofs.Queries.{none_at_super, one_told, two_told}
 use Rattle.pd_tools.proofs.Restores.{Image, left_lost, room-held, room-told, room_in, same_held, still_synced, untouched_output}
-use Rattle.pd_tools.proofs.Writebacks.{and_same, blocks_in, blocks_told, has_blocks, here_kept, if_any, never_open}
+use Rattle.pd_tools.proofs.Writebacks.{and_same, blocks_in, blocks_told, has_blocks, here_kept, if_any, never_open, still_opened}
 
 -- what is right to find of the metadata
 abbrev IsRight : ℕ → Option Image → Reported → ShrinkGround → Type 0
@@ -517,3 +517,12 @@ module _ (from to pool : List ℕ) (blocks : ℕ) (others : Objects) (notes out 
         (λ e. absurd cc) (λ some. absurd (some zero)) (inr rose)
         (subst (λ (a : Answer). AppendsFront a.out out.written out'.written) (sym answered) front)
         (written_leaves 6 (λ e. omega arith) (λ e. omega arith) (λ e. omega arith) (λ _ other. other refl))
+
+-- devices that were attached, and of which the metadata was read without a fault
+pub shrink_read : (from to pool : List ℕ) (m m1 m2 o o1 t t1 : DeviceState) → AreOpened from to pool (devices m o t) (devices m1 o1 t1)
+    → m2.access ≡ m1.access → m2.path ≡ m1.path → IsUntouched m1 m2 → m2.faults ≡ m1.faults → AreOpened from to pool (devices m o t) (devices m2 o1 t1)
+shrink_read from to pool m m1 m2 o o1 t t1 opened access path same unfailed = record {
+  meta = still_opened opened.meta access path same unfailed;
+  output = opened.output;
+  pool = opened.pool;
+}

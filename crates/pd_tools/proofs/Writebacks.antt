@@ -32,7 +32,7 @@ use Rattle.pd_tools.specs.Ending.{ending_line, ending_status, plan_ended}
 use Rattle.pd_tools.specs.Read.{IsUnread}
 use Rattle.pd_tools.specs.Stop.{stop_status}
 use Rattle.pd_tools.specs.Work.{HasCause, IsFinished, IsStopped, IsWork}
-use Rattle.pd_tools.specs.Writeback.{AreOpened, AreUnopened, HasCopied, IsWritten, devices}
+use Rattle.pd_tools.specs.Writeback.{AreOpened, AreUnopened, HasCopied, IsOpened, IsWritten, devices}
 use Rattle.pd_tools.proofs.Checks.{not_yet, told}
 use Rattle.pd_tools.proofs.Queries.{none_at_super, one_told, two_told}
 use Rattle.pd_tools.proofs.Restores.{Image, here, still_synced}
@@ -523,16 +523,21 @@ module _ {T E : Type 0} (metadata fast origin : List ℕ) (others : Objects) (no
         (copied_line (length hot)) [] (lit≤ tt) refl (λ e. absurd cc) (λ some. absurd (some refl)) answered whole (λ _. attached)
         (leaves 0 (λ e. omega arith) (λ _. has) (λ _. marked))
 
+-- a device that was attached, and was read without a fault
+pub still_opened : {path : List ℕ} {access : ℕ} {m m1 m2 : DeviceState} → IsOpened path access m m1
+    → m2.access ≡ m1.access → m2.path ≡ m1.path → IsUntouched m1 m2 → m2.faults ≡ m1.faults → IsOpened path access m m2
+still_opened opened same_access same_path same unfailed = record {
+  attached = same_access ∙ opened.attached;
+  named = rw same_path opened.named;
+  untouched = and_same opened.untouched same;
+  faults = unfailed ∙ opened.faults;
+}
+
 -- devices that were attached, and of which the metadata was read without a fault
 pub opened_read : (metadata fast origin : List ℕ) (m m1 m2 o o1 t t1 : DeviceState) → AreOpened metadata fast origin (devices m o t) (devices m1 o1 t1)
     → m2.access ≡ m1.access → m2.path ≡ m1.path → IsUntouched m1 m2 → m2.faults ≡ m1.faults → AreOpened metadata fast origin (devices m o t) (devices m2 o1 t1)
 opened_read metadata fast origin m m1 m2 o o1 t t1 opened access path same unfailed = record {
-  meta = record {
-    attached = access ∙ opened.meta.attached;
-    named = rw path opened.meta.named;
-    untouched = and_same opened.meta.untouched same;
-    faults = unfailed ∙ opened.meta.faults;
-  };
+  meta = still_opened opened.meta access path same unfailed;
   origin = opened.origin;
   fast = opened.fast;
 }

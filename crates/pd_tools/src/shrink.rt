@@ -207,10 +207,8 @@ fn move_and_write<B: Device, C: Device>(
     };
     match plan.write(alloc, output) {
         Ok(()) => Ok(count),
-        Err(fault) => match fault {
-            ShrinkFault::Memory => Err(Stop::Memory),
-            _ => Err(Stop::Device),
-        },
+        Err(ShrinkFault::Memory) => Err(Stop::Memory),
+        Err(_) => Err(Stop::Device),
     }
 }
 
