@@ -11,7 +11,7 @@ use Rattle.pd_kinds.specs.Graph.{block_at}
 use Rattle.pd_kinds.specs.Meaning.{Mapping, ThinDevice, ThinPool}
 use Rattle.pd_spells.specs.Lawful.{AreDevices, AreMappings, IsLawfulPool}
 use Rattle.pd_answers.specs.CachedView.{blocks_each}
-use Rattle.pd_answers.specs.MovedPool.{Move, ReadTheSame, blocks_of_data, data_block_of, mapping_at, moved_device, moved_mapping, moved_pool, read_at}
+use Rattle.pd_answers.specs.MovedPool.{Move, blocks_of_data, data_block_of, mapping_at, moved_device, moved_mapping, moved_pool, read_at}
 use Rattle.pd_exact.specs.Shrink.{front_of_data, without_place, without_places, without_places_of}
 use Rattle.pd_exact.proofs.Restored.{Image, at_told}
 

@@ -1,5 +1,5 @@
 -- What an answered shrink comes to, by what is known of free blocks, of moved ones, and of a pool that is laid.
-use Rattle.std.proofs.Common.{◌≡◌, ◌⊎◌, inl, inr, ⊎_elim, ℕ, ◌≤◌, nat_eq, nat_lt, List, [], length, map, Option, Some, IfSome, refl, sym, ap, subst, ◌∙◌, arith}
+use Rattle.std.proofs.Common.{◌≡◌, ◌≢◌, ◌⊎◌, inl, inr, ⊎_elim, ℕ, ◌≤◌, nat_eq, nat_lt, List, [], length, map, Option, Some, IfSome, refl, sym, ap, subst, ◌∙◌, arith}
 use Rattle.std.proofs.lemmas.Bool.{cases_Bool, eqb-true, ltb-false}
 use Rattle.std.proofs.lemmas.Option.{IfSome_then}
 use Rattle.pd_kinds.specs.declared.kind.Kind.TheVariants.{Thin}

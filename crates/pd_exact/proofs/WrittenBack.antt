@@ -1,17 +1,14 @@
 -- What an answered writeback comes to, by what is known of the copied origin and of a cache in which nothing is dirty.
-use Rattle.std.proofs.Common.{◌≡◌, ◌≢◌, ◌⊎◌, inl, inr, ⊎_elim, ℕ, ◌≤◌, nat_eq, nat_lt, List, [], ◌∷◌, length, Option, Some, None, IfSome, refl, sym, ap, subst, ◌∙◌, arith}
-use Rattle.std.proofs.lemmas.Bool.{cases_Bool, eqb-false, eqb-true, ltb-false}
-use Rattle.pd_kinds.specs.declared.fault.Fault.{Fault}
+use Rattle.std.proofs.Common.{◌≡◌, ◌≢◌, ◌⊎◌, inl, inr, ⊎_elim, ℕ, ◌≤◌, nat_eq, nat_lt, List, [], length, Option, Some, None, IfSome, refl, sym, ap, subst, ◌∙◌, arith}
+use Rattle.std.proofs.lemmas.Bool.{cases_Bool, eqb-true, ltb-false}
 use Rattle.pd_kinds.specs.declared.kind.Kind.TheVariants.{Cache}
 use Rattle.pd_kinds.specs.declared.kind.Stage.TheVariants.{Whole}
-use Rattle.pd_kinds.specs.Crash.{HoldsSynced, IsSynced, IsUntouched, may_leave, moment}
+use Rattle.pd_kinds.specs.Crash.{HoldsSynced, IsSynced, IsUntouched}
 use Rattle.pd_kinds.specs.Image.{IsImage}
 use Rattle.pd_kinds.specs.Meaning.{cache_meaning}
-use Rattle.pd_kinds.specs.Moments.{now}
-use Rattle.pd_kinds.specs.Objects.{DeviceState}
 use Rattle.pd_kinds.specs.Report.{Reported, report_of}
 use Rattle.pd_kinds.specs.Stages.{IsClean, faults}
-use Rattle.pd_kinds.proofs.CrashLemmas.{left_now, left_synced, stays, weaken}
+use Rattle.pd_kinds.proofs.CrashLemmas.{stays, weaken}
 use Rattle.pd_answers.specs.Answer.{Objects}
 use Rattle.pd_answers.specs.CachedView.{blocks_each, copied, fast_need, hot_blocks, is_block_size_bad, settled, view}
 use Rattle.pd_answers.specs.Writebacks.{AllTold, KeepsOthers, WritebackFound, writeback_answer}

@@ -1,4 +1,3 @@
-use Rattle.std.proofs.Common.{tt}
 use Rattle.pd_kinds.specs.declared.kind.Stage.TheVariants.{Counts}
 use Rattle.pd_exact.proofs.Shrunk.{holds_shrunk}
 use Rattle.pd_exact.proofs.StageLemmas.{none_up_to_whole}
