@@ -70,7 +70,7 @@ fn make_smaller<K: Sink, A: Device, B: Device, C: Device>(
     requires input { (A.state input.old).access ≡ 0 }
     requires output { (B.state output.old).access ≡ 0 }
     requires third { (C.state third.old).access ≡ 0 }
-    ensures { (others : Objects) (notes : SinkState) →
+    ensures { (others : Objects) (notes : SinkState) → (B.state output.old).faults ≡ 0 → (C.state third.old).faults ≡ 0 →
         let before = record others { out = K.state out.old; input = A.state input.old; output = B.state output.old; third = C.state third.old } in
         let after = record others { out = K.state out.new; notes = notes; input = A.state input.new; output = B.state output.new; third = C.state third.new } in
         let terms = shrink from.now to.now pool.now blocks in
@@ -207,10 +207,8 @@ fn move_and_write<B: Device, C: Device>(
     };
     match plan.write(alloc, output) {
         Ok(()) => Ok(count),
-        Err(fault) => match fault {
-            ShrinkFault::Memory => Err(Stop::Memory),
-            _ => Err(Stop::Device),
-        },
+        Err(ShrinkFault::Memory) => Err(Stop::Memory),
+        Err(_) => Err(Stop::Device),
     }
 }
 
