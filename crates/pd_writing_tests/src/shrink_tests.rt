@@ -457,8 +457,8 @@ fn expect_refused(
 /// A leaf of mappings in which the virtual blocks 0 and 1 have these data blocks, at time 0.
 #[tactic(auto, unfolding(pd_kinds::specs::Node::is_ascending))]
 fn two_mappings(place: u64, first: u64, second: u64) -> Block
-    requires { first < 2 ^ 40 }
-    requires { second < 2 ^ 40 }
+    requires first { first < 2 ^ 40 }
+    requires second { second < 2 ^ 40 }
 {
     let at = |block| BlockTime { block, time: 0 };
     write_leaf(place, &[(0, at(first)), (1, at(second))])
