@@ -14,7 +14,7 @@ use Rattle.pd_kinds.proofs.AppendLemmas.{appends_none, front_none}
 use Rattle.pd_kinds.proofs.CrashLemmas.{and_then, stays}
 use Rattle.pd_spells.specs.Lines.{no_room_line, reported_lines}
 use Rattle.pd_answers.specs.Answer.{Answer, Objects, AreFresh, IsUsed, reading, writing}
-use Rattle.pd_answers.specs.CachedView.{CachedBlock, blocks_each}
+use Rattle.pd_answers.specs.CachedView.{blocks_each}
 use Rattle.pd_answers.specs.MovedPool.{copy_of_move, data_after, end_of_pool, free_blocks, moves_to, sources}
 use Rattle.pd_answers.specs.Outputs.{IsRoom, LeavesMade}
 use Rattle.pd_answers.specs.Repairs.{LaysPool}

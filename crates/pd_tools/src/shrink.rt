@@ -48,9 +48,7 @@ pub fn run_shrink<K: Sink, E: Sink, A: Device, B: Device, C: Device>(
         (record others { out = K.state out.old; input = A.state input.old; output = B.state output.old; third = C.state third.old })
         (record others { out = K.state out.new; notes = E.state notes.new; input = A.state input.new; output = B.state output.new; third = C.state third.new }) result }
 {
-    let ended = make_smaller(
-        alloc, from, to, pool, blocks, out, input, output, third,
-    );
+    let ended = make_smaller(alloc, from, to, pool, blocks, out, input, output, third);
     put_ending(ended, notes)
 }
 

@@ -1,14 +1,8 @@
-use Rattle.std.proofs.Common.{◌≡◌, ◌∙◌, ap, length, sym}
+use Rattle.std.proofs.Common.{◌≡◌, ◌∙◌, ap, length}
 use Rattle.pd_answers.specs.MovedPool.{sources}
 use Rattle.pd_answers.specs.Shrinks.{moved_line}
 use Rattle.pd_tools.proofs.Shrinks.{shrink_done, shrink_unplanned, shrink_unput, shrink_unwritten}
 use Rattle.pd_tools.proofs.shrink.shrink_sound.Goals as goal
-
-pub move_and_write-requires-clause-output_blocks : goal.move_and_write-requires-clause-output_blocks
-move_and_write-requires-clause-output_blocks g c = sym c.in-Ok.ensures.plans.1.output_blocks
-
-pub move_and_write-requires-clause-pool_blocks : goal.move_and_write-requires-clause-pool_blocks
-move_and_write-requires-clause-pool_blocks g c = sym c.in-Ok.ensures.plans.1.pool_blocks
 
 pub returns-in-Err : goal.returns-in-Err
 returns-in-Err g c from to pool meta_before output_before pool_before others notes output_synced output_unfailed pool_synced pool_unfailed opened =
@@ -44,8 +38,8 @@ returns-in-Ok-put_last_line g c from to pool meta_before output_before pool_befo
     (g.met.B.Device.measured c.args.output.now) (g.met.C.Device.measured c.args.third.now) c.in-Ok.plan ground planned _ written written.goes_as_far
     (g.K.Sink.state c.put_last_line.new.out) put.used (rw line at put.whole) put.access
 
-pub returns : goal.returns
-returns g c from to pool meta_before output_before pool_before others notes output_synced output_unfailed pool_synced pool_unfailed opened =
+pub returns-in-Err-put_last_line : goal.returns-in-Err-put_last_line
+returns-in-Err-put_last_line g c from to pool meta_before output_before pool_before others notes output_synced output_unfailed pool_synced pool_unfailed opened =
     let kept = c.in-Ok.ensures.kept in
     let (ground, planned) = c.in-Ok.ensures.plans in
     let worked = c.in-Ok-move_and_write.ensures in
