@@ -1,5 +1,7 @@
 //! Shrinks of pools: data blocks past the new end are moved below it, and new metadata is written after that.
 
+ghost use Rattle.std.specs.Prelude.{◌<◌, ◌^◌};
+
 use crate::expected::{ONES, THIN, expect, expect_held, expect_report, expect_said, holds, made};
 use crate::made::PICKS;
 use pd_bitmap::{seal_bitmap, set_two_bits};
