@@ -97,7 +97,7 @@ prefix=$tmp/prefix
 PREFIX=$prefix
 export PREFIX
 tools='thin_check cache_check era_check thin_dump cache_dump era_dump thin_restore cache_restore era_restore
-    thin_repair thin_rmap thin_ls era_invalidate thin_generate thin_rehearse cache_writeback'
+    thin_repair thin_rmap thin_ls era_invalidate thin_generate thin_rehearse cache_writeback thin_shrink'
 mkdir -p "$prefix/sbin"
 echo 'of another' >"$prefix/sbin/thin_check"
 try 1 "$here/install"
@@ -520,6 +520,78 @@ same out clean.txt
 rm -f far.img wide.img
 same origin.img before.img
 
+# A shrink: of four data blocks the first and the last one are used
+
+printf '%s\n' 'thin 1' 'pool 00000000-0000-0000-0000-000000000000 0 0 8 4' 'device 1 2 0 0 0' 'map 0 0 1 0' \
+    'map 1 3 1 0' end >pool.txt
+sed -e '2s/ 4$/ 2/' -e '4s/.*/map 0 0 2 0/' -e 5d pool.txt >smaller.txt
+for byte in '\240' '\241' '\242' '\243'; do
+    fill "$byte"
+done >whole.img
+for byte in '\240' '\243' '\242' '\243'; do
+    fill "$byte"
+done >moved.img
+zeros meta.img 16
+try 0 thin_restore -i pool.txt -o meta.img
+cp meta.img before.img
+cp whole.img data.img
+zeros smaller.img 16
+cp smaller.img empty.img
+try 2 thin_shrink -i meta.img -o smaller.img --data data.img
+for number in 02 -1 two 18446744073709551616; do
+    try 2 thin_shrink -i meta.img -o smaller.img --data data.img --nr-blocks $number
+done
+# no room: below the new end, on the data device, and on the output
+room='thin_shrink: the new end, in data blocks, or else the data device or the output, in blocks of 4 KiB, has no room'
+try 4 thin_shrink -i meta.img -o smaller.img --data data.img --nr-blocks 1
+out
+notes 'pdata_tools: no room: need 2, blocks 1' "$room"
+zeros cramped.img 3
+try 4 thin_shrink -i meta.img -o smaller.img --data cramped.img --nr-blocks 2
+notes 'pdata_tools: no room: need 4, blocks 3' "$room"
+zeros cramped.img 9
+try 4 thin_shrink -i meta.img -o cramped.img --data data.img --nr-blocks 2
+notes 'pdata_tools: no room: need 10, blocks 9' "$room"
+for missing in input output third; do
+    input=meta.img output=smaller.img third=data.img
+    eval "$missing=missing.img"
+    try 5 thin_shrink -i $input -o $output --data $third --nr-blocks 2
+    notes 'pdata_tools: device fault' "thin_shrink: missing.img isn't there"
+done
+try 1 thin_shrink -i leak.img -o smaller.img --data data.img --nr-blocks 2
+out
+notes 'fault data 15 leak stored 1 references 0' 'faults 1'
+same data.img whole.img
+same smaller.img empty.img
+try 0 thin_shrink --nr-blocks 2 --data data.img -o smaller.img -i meta.img
+out 'moved 1'
+notes
+same meta.img before.img
+same data.img moved.img
+try 0 thin_check smaller.img
+out clean
+try 0 thin_dump smaller.img
+same out smaller.txt
+# a pool isn't made larger
+try 0 thin_shrink -i meta.img -o smaller.img --data data.img --nr-blocks 9
+out 'moved 0'
+same data.img moved.img
+try 0 thin_dump smaller.img
+same out pool.txt
+# the real pool, with as many data blocks as it uses, on a made-up data device
+truncate -s 262144000 wide.img
+zeros fresh.img 1024
+try 0 thin_shrink -i thin-pool.img -o fresh.img --data wide.img --nr-blocks 665
+out 'moved 39'
+try 0 thin_check fresh.img
+out clean
+try 0 thin_ls thin-pool.img
+cp out devices.txt
+try 0 thin_ls fresh.img
+same out devices.txt
+try 4 thin_shrink -i thin-pool.img -o fresh.img --data wide.img --nr-blocks 664
+rm -f wide.img
+
 # no file of standard input, and a text from there
 zeros fresh.img 1024
 try 0 sh -c 'thin_restore -i /dev/stdin -o fresh.img <thin-pool.txt'
@@ -787,6 +859,12 @@ if mknod held b 250 250 2>/dev/null && [ -b held ]; then
             try 5 sbin-looking/cache_writeback --metadata-device $metadata --fast-device $fast --origin-device $origin
             notes "cache_writeback: held is $in_use: nothing is written"
         done
+        for missing in input output third; do
+            input=thin-pool.img output=fresh.img third=data.img
+            eval "$missing=held"
+            try 5 sbin-looking/thin_shrink -i $input -o $output --data $third --nr-blocks 2
+            notes "thin_shrink: held is $in_use: nothing is written"
+        done
         try 5 sbin-looking/thin_dump -o held thin-pool.img
         notes "thin_dump: held is $in_use: nothing is written"
         try 5 sbin-looking/thin_check held
@@ -875,6 +953,10 @@ END
     try 0 bash complete.bash "$complete" cache_writeback --fast-device fast.img ''
     out --metadata-device --origin-device
     try 0 bash complete.bash "$complete" cache_writeback --origin-device thin-pool.i
+    out thin-pool.img
+    try 0 bash complete.bash "$complete" thin_shrink -i thin-pool.img --data data.img -
+    out -o --nr-blocks
+    try 0 bash complete.bash "$complete" thin_shrink --data thin-pool.i
     out thin-pool.img
     try 0 bash complete.bash "$complete" thin_dump thin-pool.i
     out thin-pool.img

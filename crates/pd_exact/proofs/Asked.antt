@@ -1,8 +1,7 @@
 -- What an answered call at status 0 comes to, by the request that its words ask.
-use Rattle.std.proofs.Common.{◌≡◌, inl, inr, ℕ, List, [], ◌∷◌, length, nat_eq, Option, IfSome, refl, sym, ap, subst, ◌∙◌, arith}
+use Rattle.std.proofs.Common.{◌≡◌, inl, inr, ℕ, List, [], length, nat_eq, Option, IfSome, refl, sym, ap, subst, ◌∙◌, arith}
 use Rattle.std.proofs.lemmas.Bool.{cases_Bool, eqb-true}
 use Rattle.std.proofs.lemmas.Option.{IfSome_then}
-use Rattle.pd_kinds.specs.declared.fault.Fault.{Fault}
 use Rattle.pd_kinds.specs.declared.kind.Kind.{Kind}
 use Rattle.pd_kinds.specs.declared.kind.Stage.TheVariants.{Whole}
 use Rattle.pd_kinds.specs.Image.{IsImage}
@@ -25,6 +24,7 @@ use Rattle.pd_laid_thin.specs.CleanPool.{IsCleanPool}
 use Rattle.pd_answers.specs.Generated.{generated_text}
 use Rattle.pd_answers.specs.Rehearsals.{rehearse}
 use Rattle.pd_exact.proofs.Restored.{AreLaws, both_told, made_of_text}
+use Rattle.pd_exact.proofs.TellLemmas.{none_counted}
 use Rattle.pd_exact.specs.Words.{CallEnds, HoldsGenerated, PutsOfInput, PutsTextOfInput}
 
 abbrev Image : Type 0
@@ -34,11 +34,6 @@ Image = List (List ℕ)
 pub answered_for : (words : List (List ℕ)) (request : Option Request) (status : ℕ) (before after : Objects) → asked words ≡ request → CallEnds words status before after
     → IsAnswered (terms_of request) before after status
 answered_for words request status before after is ends = subst (λ (r : Option Request). IsAnswered (terms_of r) before after status) is ends
-
--- no list without elements but the empty one
-none_counted : (list : List Fault) → length list ≡ 0 → list ≡ []
-none_counted [] counted = refl
-none_counted (fault ∷ list) counted = absurd (omega arith)
 
 -- a query's answer is of status 0 where nothing was reported, and then its text is put
 is_queried : (queried : Queried) → (let zero : ℕ = 0 in zero ≡ (query_answer queried).status)

@@ -7,7 +7,7 @@ use Rattle.std.proofs.lemmas.Bool.{and_parts, cases_Bool, ltb-true}
 use Rattle.std.proofs.lemmas.Option.{same_Some}
 use Rattle.pd_kinds.specs.declared.kind.Kind.TheVariants.{Thin, Cache, Era}
 use Rattle.pd_kinds.specs.declared.kind.Stage.TheVariants.{Counts}
-use Rattle.pd_answers.specs.Requests.{check, dump, restore, repair, search, rmap, list_devices, since, generate, rehearse, writeback, is_built}
+use Rattle.pd_answers.specs.Requests.{check, dump, restore, repair, search, rmap, list_devices, since, generate, rehearse, writeback, shrink, is_built}
 use Rattle.pd_answers.specs.Words.{Region, is_flag, items_of, given, version_of, generated_number, number_below, region_of, tool_in, request_of, spelled, asked}
 use Rattle.pd_exact.specs.Search.{DoNumbersFit, NumberWords, SayNumbers, with_numbers}
 use Rattle.pd_exact.specs.Words.{IsName, to_file, in_version}
@@ -122,6 +122,11 @@ pub cache_writeback_asked : (metadata fast origin : List ℕ) → IsName metadat
     → asked (codes "cache_writeback" ∷ codes "--metadata-device" ∷ metadata ∷ codes "--fast-device" ∷ fast ∷ codes "--origin-device" ∷ origin ∷ []) ≡ Some (writeback metadata fast origin)
 unfolding is_built is_flag items_of given version_of tool_in request_of spelled asked
 cache_writeback_asked metadata fast origin is_metadata is_fast is_origin = rw (is_metadata, is_fast, is_origin) refl
+
+pub thin_shrink_asked : (from to pool word : List ℕ) (blocks : ℕ) → IsName from → IsName to → IsName pool → IsName word → number_below (2 ^ 64) word ≡ Some blocks
+    → asked (codes "thin_shrink" ∷ codes "-i" ∷ from ∷ codes "-o" ∷ to ∷ codes "--data" ∷ pool ∷ codes "--nr-blocks" ∷ word ∷ []) ≡ Some (shrink from to pool blocks)
+unfolding is_built is_flag items_of given version_of tool_in request_of spelled asked
+thin_shrink_asked from to pool word blocks is_from is_to is_pool is_word is = rw (is_from, is_to, is_pool, is_word, is) refl
 
 -- a word names version 1 or 2, and without one it is 1
 pub known_version : (word : Option (List ℕ)) (version : ℕ) → version_of word ≡ Some version → (version ≡ 1) ⊎ (version ≡ 2)

@@ -1,16 +1,15 @@
 -- What an answered repair comes to, where what is saved is lawful and what is laid of a lawful pool is clean.
-use Rattle.std.proofs.Common.{◌≡◌, ◌⊎◌, inl, inr, ⊎_elim, ℕ, suc, ◌≤◌, true, cond, nat_eq, nat_lt, List, [], ◌∷◌, length, IfSome, refl, sym, ap, ◌∙◌, arith}
-use Rattle.std.proofs.lemmas.Bool.{cases_Bool, eq-eqb, eqb-true, le-ltb, lt-ltb, ltb-false}
+use Rattle.std.proofs.Common.{◌≡◌, ◌⊎◌, inl, inr, ⊎_elim, ℕ, ◌≤◌, nat_eq, List, [], length, IfSome, refl, sym, ap, ◌∙◌}
+use Rattle.std.proofs.lemmas.Bool.{cases_Bool, eq-eqb, eqb-true, le-ltb, ltb-false}
 use Rattle.std.proofs.lemmas.Option.{IfSome_then}
 use Rattle.pd_kinds.specs.declared.fault.Fault.{Fault}
 use Rattle.pd_kinds.specs.declared.kind.Kind.TheVariants.{Thin}
-use Rattle.pd_kinds.specs.declared.kind.Stage.{Stage}
 use Rattle.pd_kinds.specs.declared.kind.Stage.TheVariants as stages
 use Rattle.pd_kinds.specs.Crash.{HoldsSynced, IsOldNoneOrMade, LeavesOnly}
 use Rattle.pd_kinds.specs.Limits.{room_of}
 use Rattle.pd_kinds.specs.Meaning.{ThinPool, thin_meaning}
 use Rattle.pd_kinds.specs.Report.{Reported, report_of}
-use Rattle.pd_kinds.specs.Stages.{Checked, checked_of, faults, first_failing, stage_faults}
+use Rattle.pd_kinds.specs.Stages.{faults}
 use Rattle.pd_kinds.proofs.CrashLemmas.{weaken}
 use Rattle.pd_laid.specs.Laid.{IsLaid}
 use Rattle.pd_laid.specs.LaidThin.{laid_pool}
@@ -23,6 +22,8 @@ use Rattle.pd_answers.specs.Answer.{NoFaults, Objects}
 use Rattle.pd_answers.specs.Repairs.{LaysPool, Salvaged, is_too_small, repair_answer}
 use Rattle.pd_exact.specs.Exact.{HoldsSalvage, IsRepairAnswered, IsSoundRepair, LeavesSalvage}
 use Rattle.pd_exact.proofs.Restored.{Image, at_told, both_told}
+use Rattle.pd_exact.proofs.StageLemmas.{none_of_super}
+use Rattle.pd_exact.proofs.TellLemmas.{four_zero, none_counted, one_zero}
 
 -- at the answer's status 0 nothing was refused: the report is empty, and there is room
 record IsNotRefused (saved : Salvaged) : Type 0 where
@@ -37,17 +38,6 @@ not_refused saved given = elim (cases_Bool (nat_eq saved.report.total 0)) [
     | inr enough ↦ record { none = eqb-true saved.report.total 0 none; room = ltb-false saved.room (thin_need saved.pool saved.room) enough }
   ]
 ]
-  where
-    one_zero : (let one : ℕ = 1 in one ≡ 0) → ⊥
-    one_zero e = omega arith
-
-    four_zero : (let four : ℕ = 4 in four ≡ 0) → ⊥
-    four_zero e = omega arith
-
--- no list without elements but the empty one
-none_counted : (list : List Fault) → length list ≡ 0 → list ≡ []
-none_counted [] counted = refl
-none_counted (fault ∷ list) counted = absurd (omega arith)
 
 module _ (lawful : (image : Image) → IsImage image → faults Thin stages.Super image ≡ [] → IsLawfulPool (salvage image))
     (clean : (m : ThinPool) (base image : Image) → IsLawfulPool m → thin_need m (room_of (length base)) ≤ room_of (length base)
@@ -84,21 +74,6 @@ module _ (lawful : (image : Image) → IsImage image → faults Thin stages.Supe
         answered.found.0.told answered.leaves.output.made.output.crash) (λ base told.
         weaken told.1 (λ left firsts outcome chance.
         ⊎_elim (λ old. inl old) (λ other. inr (⊎_elim (λ none. inl none) (λ made. inr (made_of_salvage image base left saved is right told.0 made)) other)) (outcome chance))))
-
--- the faults of a first stage, where there are none up to a later one
-none_first : (first later : List Fault) → cond (nat_lt 0 (length first)) first later ≡ [] → cond (nat_lt 0 (length first)) first [] ≡ []
-none_first [] later none = refl
-none_first (fault ∷ first) later none =
-    let some : nat_lt 0 (suc (length first)) ≡ true = lt-ltb 0 (suc (length first)) (omega arith) in
-    rw some (rw some at none)
-
-none_of_stage : (checked : Checked) (image : Image) (later : List Stage) → first_failing checked image (stages.Super ∷ later) ≡ [] → first_failing checked image (stages.Super ∷ []) ≡ []
-unfolding first_failing
-none_of_stage checked image later none = none_first (stage_faults checked image stages.Super) (first_failing checked image later) none
-
-pub none_of_super : (image : Image) → faults Thin stages.Whole image ≡ [] → faults Thin stages.Super image ≡ []
-unfolding faults
-none_of_super image none = none_of_stage (checked_of Thin image) image (stages.Walk ∷ stages.Order ∷ stages.Whole ∷ []) none
 
 -- where the superblock has no fault, and there is room, nothing is refused
 answers_zero : (saved : Salvaged) → saved.report.total ≡ 0 → thin_need saved.pool saved.room ≤ saved.room → (repair_answer saved).status ≡ 0

@@ -1,23 +1,21 @@
 -- What an answered writeback comes to, by what is known of the copied origin and of a cache in which nothing is dirty.
-use Rattle.std.proofs.Common.{◌≡◌, ◌≢◌, ◌⊎◌, inl, inr, ⊎_elim, ℕ, ◌≤◌, nat_eq, nat_lt, List, [], ◌∷◌, length, Option, Some, None, IfSome, refl, sym, ap, subst, ◌∙◌, arith}
-use Rattle.std.proofs.lemmas.Bool.{cases_Bool, eqb-false, eqb-true, ltb-false}
-use Rattle.pd_kinds.specs.declared.fault.Fault.{Fault}
+use Rattle.std.proofs.Common.{◌≡◌, ◌≢◌, ◌⊎◌, inl, inr, ⊎_elim, ℕ, ◌≤◌, nat_eq, nat_lt, List, [], length, Option, Some, None, IfSome, refl, sym, ap, subst, ◌∙◌, arith}
+use Rattle.std.proofs.lemmas.Bool.{cases_Bool, eqb-true, ltb-false}
 use Rattle.pd_kinds.specs.declared.kind.Kind.TheVariants.{Cache}
 use Rattle.pd_kinds.specs.declared.kind.Stage.TheVariants.{Whole}
-use Rattle.pd_kinds.specs.Crash.{HoldsSynced, IsSynced, IsUntouched, may_leave, moment}
+use Rattle.pd_kinds.specs.Crash.{HoldsSynced, IsSynced, IsUntouched}
 use Rattle.pd_kinds.specs.Image.{IsImage}
 use Rattle.pd_kinds.specs.Meaning.{cache_meaning}
-use Rattle.pd_kinds.specs.Moments.{now}
-use Rattle.pd_kinds.specs.Objects.{DeviceState}
 use Rattle.pd_kinds.specs.Report.{Reported, report_of}
 use Rattle.pd_kinds.specs.Stages.{IsClean, faults}
-use Rattle.pd_kinds.proofs.CrashLemmas.{left_now, left_synced, stays, weaken}
+use Rattle.pd_kinds.proofs.CrashLemmas.{stays, weaken}
 use Rattle.pd_answers.specs.Answer.{Objects}
 use Rattle.pd_answers.specs.CachedView.{blocks_each, copied, fast_need, hot_blocks, is_block_size_bad, settled, view}
 use Rattle.pd_answers.specs.Writebacks.{AllTold, KeepsOthers, WritebackFound, writeback_answer}
 use Rattle.pd_settled.specs.Premises.{HasHotBlocks, without_dirt}
 use Rattle.pd_exact.specs.Writeback.{HoldsWrittenBack, IsWritebackAnswered, IsWrittenBack, KeepsTheView, LeavesTheView, ReadsAlone}
 use Rattle.pd_exact.proofs.Restored.{at_told}
+use Rattle.pd_exact.proofs.TellLemmas.{four_zero, left_as_was, none_counted, one_zero, zero_or_not}
 
 abbrev Image : Type 0
 Image = List (List ℕ)
@@ -41,24 +39,6 @@ not_refused found given = elim (cases_Bool (nat_eq found.report.total 0)) [
     ]
   ]
 ]
-  where
-    one_zero : (let one : ℕ = 1 in one ≡ 0) → ⊥
-    one_zero e = omega arith
-
-    four_zero : (let four : ℕ = 4 in four ≡ 0) → ⊥
-    four_zero e = omega arith
-
--- it is 0, or is not
-zero_or_not : (n : ℕ) → (n ≡ 0) ⊎ (n ≢ 0)
-zero_or_not n = elim (cases_Bool (nat_eq n 0)) [
-  | inl zero_is ↦ inl (eqb-true n 0 zero_is)
-  | inr other ↦ inr (λ same. let apart = eqb-false n 0 other in apart same)
-]
-
--- no list without elements but the empty one
-none_counted : (list : List Fault) → length list ≡ 0 → list ≡ []
-none_counted [] counted = refl
-none_counted (fault ∷ list) counted = absurd (omega arith)
 
 -- what holds where three are told
 three : {X : Type 0} (a b c : Option X) (P : X → X → X → Type 0) → ((x y z : X) → a ≡ Some x → b ≡ Some y → c ≡ Some z → P x y z)
@@ -127,12 +107,6 @@ module _ (laws : AreViewLaws) (metadata fast_path origin_path : List ℕ) (befor
               (laws.alone image origin fast none, synced)))
               (at_three before image origin fast (λ i o f. IsUntouched before.input after.input ⊎ HoldsSynced (copied i o f) after.output) image_told origin_told fast_told answered.leaves.order);
         }
-
-    -- what a crash leaves of a device that is as it was, and was synced
-    left_as_was : (device : DeviceState) (held left firsts : Image) → device.held ≡ Some held → IsSynced device → may_leave device (moment device) left firsts → left ≡ held
-    left_as_was device held left firsts told synced leaves =
-        let is = at_told device.held held (λ (i : Image). HoldsSynced i device) told synced in
-        left_synced held left (now held device.history) refl is.unsynced (left_now device held left firsts told leaves).0
 
     -- one that is refused
     pub keeps_refused : IsSynced before.input → IsSynced before.output → (writeback_answer found).status ≢ 0 → KeepsTheView image origin fast before after

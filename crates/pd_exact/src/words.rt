@@ -12,6 +12,7 @@ ghost use Rattle.pd_answers.specs.Requests.{restore};
 ghost use Rattle.pd_answers.specs.Words.{Region, asked, generated_number, is_value, number_below, region_of, version_of};
 ghost use Rattle.pd_exact.specs.Exact.{HoldsCacheOfText, HoldsCleared, HoldsPoolOfText, HoldsSalvage, HoldsTargetOfText};
 ghost use Rattle.pd_exact.specs.Search.{HasNoRoots, HoldsFoundPool, NumberWords, SayNumbers, with_numbers};
+ghost use Rattle.pd_exact.specs.Shrink.{HoldsShrunk};
 ghost use Rattle.pd_exact.specs.Words.{CallEnds, HoldsGenerated, IsName, PutsGenerated, PutsOfInput, PutsTextOfInput, TellsWhetherClean, in_version, to_file};
 ghost use Rattle.pd_exact.specs.Writeback.{HoldsWrittenBack};
 
@@ -22,6 +23,7 @@ use crate::laws::{
 };
 use crate::repairs::repaired_pool_is_clean;
 use crate::searches::searched_pool_is_clean;
+use crate::shrinks::shrunk_pool_is_clean_and_reads_the_same;
 use crate::targets::{restored_target_is_clean, sound_targets_are_lawful};
 use crate::writebacks::written_back_cache_is_clean;
 use pd_laid_thin::laid_pool_is_clean;
@@ -171,6 +173,15 @@ pub fn cache_writeback_leaves_nothing_dirty()
     ensures { (metadata fast origin : List ℕ) (before after : Objects) → IsName metadata → IsName fast → IsName origin → CallEnds (codes "cache_writeback" ∷ codes "--metadata-device" ∷ metadata ∷ codes "--fast-device" ∷ fast ∷ codes "--origin-device" ∷ origin ∷ []) 0 before after → HoldsWrittenBack before after }
 {
     written_back_cache_is_clean();
+}
+
+/// `thin_shrink -i IMAGE -o IMAGE --data IMAGE --nr-blocks NUMBER`: status 0 says that the output is a clean pool with at most so many data
+/// blocks, the same devices and the same virtual blocks, and that each device reads by it, on the data device as it is then or cut to
+/// the pool's data blocks, what it read before by the input, with nothing unsynced.
+pub fn thin_shrink_makes_the_pool_smaller()
+    ensures { (from to pool word : List ℕ) (blocks : ℕ) (before after : Objects) → IsName from → IsName to → IsName pool → IsName word → number_below (2 ^ 64) word ≡ Some blocks → CallEnds (codes "thin_shrink" ∷ codes "-i" ∷ from ∷ codes "-o" ∷ to ∷ codes "--data" ∷ pool ∷ codes "--nr-blocks" ∷ word ∷ []) 0 before after → HoldsShrunk blocks before after }
+{
+    shrunk_pool_is_clean_and_reads_the_same();
 }
 
 /// The words `thin_restore -i FILE -o IMAGE`, in either order, ask for the restore of a pool from FILE to IMAGE.

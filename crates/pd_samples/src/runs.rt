@@ -48,6 +48,7 @@ pub struct Failing {
     pub third: Option<u64>,
     pub input_stops_after: u64,
     pub output_stops_after: u64,
+    pub third_stops_after: u64,
 }
 
 pub const NOTHING_FAILS: Failing = Failing {
@@ -59,6 +60,7 @@ pub const NOTHING_FAILS: Failing = Failing {
     third: None,
     input_stops_after: u64::MAX,
     output_stops_after: u64::MAX,
+    third_stops_after: u64::MAX,
 };
 
 /// Runs a tool over an image.
@@ -117,6 +119,7 @@ pub fn run_over(
     let mut output = device(alloc, held.output, failing.output)?;
     output.stop_after(failing.output_stops_after);
     let mut third = device(alloc, held.third, failing.third)?;
+    third.stop_after(failing.third_stops_after);
     let status = run_tool(
         alloc,
         texts.as_slice(),

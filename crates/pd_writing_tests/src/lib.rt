@@ -1,6 +1,6 @@
 //! Tests of whole runs, over objects in memory, that write a pool, and of all tools of caches and of era targets: restores,
-//! repairs, searches for the roots of pools whose superblock is lost, checks that clear the flag "needs check", and checks,
-//! dumps, queries and writebacks of caches and of targets.
+//! repairs, searches for the roots of pools whose superblock is lost, shrinks, checks that clear the flag "needs check", and
+//! checks, dumps, queries and writebacks of caches and of targets.
 #![tactic(auto)]
 
 #[cfg(test)]
@@ -25,6 +25,8 @@ mod repair_tests;
 mod restore_tests;
 #[cfg(test)]
 mod search_tests;
+#[cfg(test)]
+mod shrink_tests;
 #[cfg(test)]
 mod targets;
 #[cfg(test)]

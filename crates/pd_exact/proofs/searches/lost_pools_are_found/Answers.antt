@@ -4,7 +4,7 @@ use Rattle.pd_kinds.specs.Graph.{block_at}
 use Rattle.pd_kinds.specs.ThinFormat.{thin_graph}
 use Rattle.pd_alike.specs.Known.{IsKnown}
 use Rattle.pd_exact.proofs.LostPool.{keeps_roots}
-use Rattle.pd_exact.proofs.Repaired.{none_of_super}
+use Rattle.pd_exact.proofs.StageLemmas.{none_of_super}
 use Rattle.pd_exact.proofs.SalvageLawful.{sizes_are}
 use Rattle.pd_exact.proofs.searches.lost_pools_are_found.Goals as goal
 

@@ -1,0 +1,72 @@
+-- What a shrink leaves, where the devices tell what they hold.
+use Rattle.std.specs.Prelude.{◌≡◌, ◌⊎◌, ℕ, ◌*◌, min, List, map, take, Some, IfSome}
+use Rattle.pd_kinds.specs.declared.kind.Kind.TheVariants.{Thin}
+use Rattle.pd_kinds.specs.Crash.{HoldsSynced, IsOldNoneOrMade, IsUntouched, LeavesOnly}
+use Rattle.pd_kinds.specs.Image.{IsImage}
+use Rattle.pd_kinds.specs.Meaning.{Mapping, ThinDevice, ThinPool, thin_meaning}
+use Rattle.pd_kinds.specs.Stages.{IsClean}
+use Rattle.pd_answers.specs.Answer.{Objects}
+use Rattle.pd_answers.specs.CachedView.{blocks_each}
+use Rattle.pd_answers.specs.MovedPool.{ReadTheSame}
+use Rattle.pd_answers.specs.Promises.{terms_of}
+use Rattle.pd_answers.specs.Requests.{shrink}
+use Rattle.pd_answers.specs.Terms.{IsAnswered}
+
+-- a shrink was asked, by the paths of the metadata, the output and the data device and by the number of data blocks that are to be left,
+-- and was answered with this status
+abbrev pub IsShrinkAnswered : List ℕ → List ℕ → List ℕ → ℕ → Objects → Objects → ℕ → Type 0
+IsShrinkAnswered metadata output pool blocks = IsAnswered (terms_of (Some (shrink metadata output pool blocks)))
+
+-- a pool without what a shrink changes: how many data blocks it has, and which of them each mapping leads to
+abbrev pub without_place : Mapping → Mapping
+without_place x = record x { data_block = 0 }
+
+abbrev pub without_places_of : ThinDevice → ThinDevice
+without_places_of d = record d { mappings = map without_place d.mappings }
+
+abbrev pub without_places : ThinPool → ThinPool
+without_places m = record m { data_blocks = 0; devices = map without_places_of m.devices }
+
+-- the front of a data device that so many data blocks of the pool take
+abbrev pub front_of_data : ThinPool → List (List ℕ) → List (List ℕ)
+front_of_data m held = take (m.data_blocks * blocks_each m.block_size) held
+
+-- The smaller pool that a shrink leaves of another one, by its metadata and by what the data device then holds: it is clean, it has at
+-- most so many data blocks, and the same devices with the same details and virtual blocks. Each device reads what it read, also where
+-- the data device is cut to the smaller pool's data blocks
+pub record IsShrunk (blocks : ℕ) (image held smaller left : List (List ℕ)) : Type 0 where
+  pub clean : IsClean Thin smaller
+  pub size : (thin_meaning smaller).data_blocks ≡ min blocks (thin_meaning image).data_blocks
+  pub same : without_places (thin_meaning smaller) ≡ without_places (thin_meaning image)
+  pub reads : ReadTheSame (thin_meaning image) held (thin_meaning smaller) left
+  pub cut : ReadTheSame (thin_meaning image) held (thin_meaning smaller) (front_of_data (thin_meaning smaller) left)
+
+-- the metadata and the data device told what they hold
+abbrev pub BothTold : Objects → (List (List ℕ) → List (List ℕ) → Type 0) → Type 0
+BothTold before P = IfSome before.input.held (λ image. IfSome before.third.held (P image))
+
+-- the output and the data device hold such a pool, and nothing of it is unsynced
+abbrev pub HoldsShrunk : ℕ → Objects → Objects → Type 0
+HoldsShrunk blocks before after =
+    BothTold before (λ image held. IsImage image → IfSome before.output.held (λ base.
+    IfSome after.output.held (λ smaller. IfSome after.third.held (λ left.
+    IsShrunk blocks image held smaller left × HoldsSynced smaller after.output × HoldsSynced left after.third))))
+
+-- the data device holds, with nothing unsynced, what a crash at any moment may leave smaller metadata of: that of the output is by no
+-- chance anything but what it was, no valid superblock, or a smaller pool that reads the same there
+pub record AreMoved (blocks : ℕ) (image held left : List (List ℕ)) (before after : Objects) : Type 0 where
+  pub synced : HoldsSynced left after.third
+  pub output_left : IfSome before.output.held (λ base.
+      LeavesOnly (IsOldNoneOrMade base (λ smaller. IsShrunk blocks image held smaller left)) before.output after.output)
+
+-- what a crash at any moment of a shrink leaves
+pub record KeepsReads (blocks : ℕ) (image held : List (List ℕ)) (before after : Objects) : Type 0 where
+  -- the old metadata isn't written, and each device reads by it what it read, on what is left of the data device
+  pub metadata : IsUntouched before.input after.input
+  pub data_left : LeavesOnly (λ left firsts. ReadTheSame (thin_meaning image) held (thin_meaning image) left) before.third after.third
+  -- the output isn't written before the moved blocks are in their places
+  pub order : IsUntouched before.output after.output
+      ⊎ IfSome after.third.held (λ left. AreMoved blocks image held left before after)
+
+abbrev pub LeavesReads : ℕ → Objects → Objects → Type 0
+LeavesReads blocks before after = BothTold before (λ image held. IsImage image → KeepsReads blocks image held before after)

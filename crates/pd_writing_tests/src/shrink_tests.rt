@@ -1,0 +1,735 @@
+//! Shrinks of pools: data blocks past the new end are moved below it, and new metadata is written after that.
+
+ghost use Rattle.std.specs.Prelude.{◌<◌, ◌^◌};
+
+use crate::expected::{ONES, THIN, expect, expect_held, expect_report, expect_said, holds, made};
+use crate::made::PICKS;
+use pd_bitmap::{seal_bitmap, set_two_bits};
+use pd_crc::any_valid;
+use pd_image::Pick;
+use pd_kinds::{BLOCK_SIZE, Block};
+use pd_node::write_leaf;
+use pd_samples::pool::{
+    bitmap, damaged, device_leaf, empty_leaf, empty_super, held_copy, index, index_entry,
+    index_leaf, map_root,
+};
+use pd_samples::runs::{
+    Failing, Held, NOTHING_FAILS, Ran, blocks_after_crash, blocks_of, run_over,
+};
+use pd_supers::write_thin_super;
+use pd_value::{BlockTime, Count, Details};
+use std::alloc::{AllocError, Global};
+use std::process::Abort;
+use std::test::Fail;
+
+/// A pool of four data blocks of 4096 bytes, of which the first one and the last one are used.
+const POOL: &str =
+    "thin 1\npool 00000000-0000-0000-0000-000000000000 0 0 8 4\ndevice 1 2 0 0 0\nmap 0 0 1 0\nmap 1 3 1 0\nend\n";
+
+/// The same with two data blocks: the last one was moved.
+const SMALLER: &str =
+    "thin 1\npool 00000000-0000-0000-0000-000000000000 0 0 8 2\ndevice 1 2 0 0 0\nmap 0 0 2 0\nend\n";
+
+/// A pool whose last run is torn where one of its blocks is moved, and that pool with three data blocks.
+const RUN: &str =
+    "thin 1\npool 00000000-0000-0000-0000-000000000000 0 0 8 4\ndevice 1 3 0 0 0\nmap 0 2 2 0\nmap 5 1 1 0\nend\n";
+
+const TORN: &str =
+    "thin 1\npool 00000000-0000-0000-0000-000000000000 0 0 8 3\ndevice 1 3 0 0 0\nmap 0 2 1 0\nmap 1 0 1 0\nmap 5 1 1 0\nend\n";
+
+/// A pool of which all used blocks lie past the new end, and that pool with two data blocks.
+const BEHIND: &str =
+    "thin 1\npool 00000000-0000-0000-0000-000000000000 0 0 8 4\ndevice 1 2 0 0 0\nmap 0 2 2 0\nend\n";
+
+/// A pool without a free data block.
+const FULL: &str =
+    "thin 1\npool 00000000-0000-0000-0000-000000000000 0 0 8 4\ndevice 1 4 0 0 0\nmap 0 0 4 0\nend\n";
+
+/// A pool of two devices that share three data blocks, at several times, and that pool with six data blocks.
+const SHARED: &str =
+    "thin 1\npool 00010203-0405-0607-0809-0a0b0c0d0e0f 7 5 8 10\ndevice 1 4 1 2 6\nmap 0 8 2 3\nmap 4 1 1 7\nmap 9 6 1 0\ndevice 2 4 3 6 5\nmap 0 8 2 3\nmap 4 5 1 6\nmap 20 1 1 7\nend\n";
+
+const SHARED_SMALLER: &str =
+    "thin 1\npool 00010203-0405-0607-0809-0a0b0c0d0e0f 7 5 8 6\ndevice 1 4 1 2 6\nmap 0 2 2 3\nmap 4 1 1 7\nmap 9 0 1 0\ndevice 2 4 3 6 5\nmap 0 2 2 3\nmap 4 5 1 6\nmap 20 1 1 7\nend\n";
+
+/// A pool whose data blocks have 8192 bytes, and that pool with two of them.
+const TWO_EACH: &str =
+    "thin 1\npool 00000000-0000-0000-0000-000000000000 0 0 16 4\ndevice 1 2 0 0 0\nmap 0 0 1 0\nmap 1 3 1 0\nend\n";
+
+const TWO_EACH_SMALLER: &str =
+    "thin 1\npool 00000000-0000-0000-0000-000000000000 0 0 16 2\ndevice 1 2 0 0 0\nmap 0 0 2 0\nend\n";
+
+/// A pool without a device, and that pool without a data block.
+const EMPTY: &str = "thin 1\npool 00000000-0000-0000-0000-000000000000 0 0 8 4\nend\n";
+
+const NOTHING: &str = "thin 1\npool 00000000-0000-0000-0000-000000000000 0 0 8 0\nend\n";
+
+/// Pools whose data blocks aren't whole blocks of 4096 bytes: of 6144, of 2048, and of no bytes.
+const OF_12_SECTORS: &str = "thin 1\npool 00000000-0000-0000-0000-000000000000 0 0 12 4\nend\n";
+
+const OF_4_SECTORS: &str = "thin 1\npool 00000000-0000-0000-0000-000000000000 0 0 4 4\nend\n";
+
+const OF_NO_SECTORS: &str = "thin 1\npool 00000000-0000-0000-0000-000000000000 0 0 0 4\nend\n";
+
+const BAD_SIZE: &str = "pdata_tools: block size\n";
+
+/// The output isn't written.
+const UNTOUCHED: &str = "";
+
+/// What the blocks of the data device are filled with, one number a block.
+type Fill = &'static [u8];
+
+const FOUR: Fill = &[0xA0, 0xA1, 0xA2, 0xA3];
+
+/// `FOUR` where the last block was moved to the second place.
+const MOVED: Fill = &[0xA0, 0xA3, 0xA2, 0xA3];
+
+/// A shrink: the text of the pool, what the data device holds, how many blocks the output has, the number of data blocks
+/// that is asked for, the status, what is put, the notes, what the data device holds then, and the text of the output.
+type Row = (
+    &'static str,
+    Fill,
+    usize,
+    &'static str,
+    u8,
+    &'static str,
+    &'static str,
+    Fill,
+    &'static str,
+);
+
+const ROWS: &[Row] = &[
+    (POOL, FOUR, 16, "2", 0, "moved 1\n", "", MOVED, SMALLER),
+    // Ten blocks of metadata are just enough.
+    (POOL, FOUR, 10, "2", 0, "moved 1\n", "", MOVED, SMALLER),
+    (
+        POOL,
+        FOUR,
+        9,
+        "2",
+        4,
+        "",
+        "pdata_tools: no room: need 10, blocks 9\n",
+        FOUR,
+        UNTOUCHED,
+    ),
+    (
+        POOL,
+        FOUR,
+        16,
+        "1",
+        4,
+        "",
+        "pdata_tools: no room: need 2, blocks 1\n",
+        FOUR,
+        UNTOUCHED,
+    ),
+    (
+        POOL,
+        FOUR,
+        16,
+        "0",
+        4,
+        "",
+        "pdata_tools: no room: need 2, blocks 0\n",
+        FOUR,
+        UNTOUCHED,
+    ),
+    (POOL, FOUR, 16, "4", 0, "moved 0\n", "", FOUR, POOL),
+    // It isn't made larger.
+    (POOL, FOUR, 16, "9", 0, "moved 0\n", "", FOUR, POOL),
+    (
+        POOL,
+        FOUR,
+        16,
+        "18446744073709551615",
+        0,
+        "moved 0\n",
+        "",
+        FOUR,
+        POOL,
+    ),
+    // The last block that is moved isn't on the data device; where none is moved, none is looked for.
+    (
+        POOL,
+        &[0xA0, 0xA1, 0xA2],
+        16,
+        "2",
+        4,
+        "",
+        "pdata_tools: no room: need 4, blocks 3\n",
+        &[0xA0, 0xA1, 0xA2],
+        UNTOUCHED,
+    ),
+    (POOL, &[], 16, "4", 0, "moved 0\n", "", &[], POOL),
+    // What the smaller pool lacks comes before what the data device lacks, and that before what the output lacks.
+    (
+        POOL,
+        &[],
+        9,
+        "1",
+        4,
+        "",
+        "pdata_tools: no room: need 2, blocks 1\n",
+        &[],
+        UNTOUCHED,
+    ),
+    (
+        POOL,
+        &[],
+        9,
+        "2",
+        4,
+        "",
+        "pdata_tools: no room: need 4, blocks 0\n",
+        &[],
+        UNTOUCHED,
+    ),
+    (
+        RUN,
+        FOUR,
+        16,
+        "3",
+        0,
+        "moved 1\n",
+        "",
+        &[0xA3, 0xA1, 0xA2, 0xA3],
+        TORN,
+    ),
+    (
+        BEHIND,
+        FOUR,
+        16,
+        "2",
+        0,
+        "moved 2\n",
+        "",
+        &[0xA2, 0xA3, 0xA2, 0xA3],
+        SMALLER,
+    ),
+    (
+        FULL,
+        FOUR,
+        16,
+        "3",
+        4,
+        "",
+        "pdata_tools: no room: need 4, blocks 3\n",
+        FOUR,
+        UNTOUCHED,
+    ),
+    (
+        SHARED,
+        &[0, 1, 2, 3, 4, 5, 6, 7, 8, 9],
+        16,
+        "6",
+        0,
+        "moved 3\n",
+        "",
+        &[6, 1, 8, 9, 4, 5, 6, 7, 8, 9],
+        SHARED_SMALLER,
+    ),
+    (
+        SHARED,
+        &[0, 1, 2, 3, 4, 5, 6, 7, 8, 9],
+        16,
+        "4",
+        4,
+        "",
+        "pdata_tools: no room: need 5, blocks 4\n",
+        &[0, 1, 2, 3, 4, 5, 6, 7, 8, 9],
+        UNTOUCHED,
+    ),
+    (
+        TWO_EACH,
+        &[0, 1, 2, 3, 4, 5, 6, 7],
+        16,
+        "2",
+        0,
+        "moved 1\n",
+        "",
+        &[0, 1, 6, 7, 4, 5, 6, 7],
+        TWO_EACH_SMALLER,
+    ),
+    (
+        TWO_EACH,
+        &[0, 1, 2, 3, 4, 5, 6],
+        16,
+        "2",
+        4,
+        "",
+        "pdata_tools: no room: need 8, blocks 7\n",
+        &[0, 1, 2, 3, 4, 5, 6],
+        UNTOUCHED,
+    ),
+    (EMPTY, FOUR, 16, "0", 0, "moved 0\n", "", FOUR, NOTHING),
+    (
+        OF_12_SECTORS,
+        FOUR,
+        16,
+        "2",
+        1,
+        "",
+        BAD_SIZE,
+        FOUR,
+        UNTOUCHED,
+    ),
+    (
+        OF_4_SECTORS,
+        FOUR,
+        16,
+        "2",
+        1,
+        "",
+        BAD_SIZE,
+        FOUR,
+        UNTOUCHED,
+    ),
+    (
+        OF_NO_SECTORS,
+        FOUR,
+        16,
+        "2",
+        1,
+        "",
+        BAD_SIZE,
+        FOUR,
+        UNTOUCHED,
+    ),
+];
+
+/// Blocks that are filled so.
+fn filled(alloc: Global, fill: &[u8]) -> Result<Vec<Block>, AllocError> {
+    let mut blocks = Vec::new(alloc);
+    for byte in fill {
+        blocks.push(Block([*byte; BLOCK_SIZE]))?;
+    }
+    Ok(blocks)
+}
+
+/// What a shrink holds: the blocks of the metadata, of the output and of the data device.
+#[derive(Drop)]
+struct Devices {
+    meta: Vec<Block>,
+    output: Vec<Block>,
+    third: Vec<Block>,
+}
+
+/// The devices of a pool with this metadata. They are boxed, as runs are: dropped in place, they are three paths at each exit.
+fn devices_over(
+    alloc: Global,
+    meta: Vec<Block>,
+    output_blocks: usize,
+    fill: &[u8],
+) -> Result<Box<Devices>, AllocError> {
+    let devices = Devices {
+        meta,
+        output: vec![in alloc; ONES; output_blocks]?,
+        third: filled(alloc, fill)?,
+    };
+    Ok(Box::new(alloc, devices)?)
+}
+
+/// The devices of a pool of this text.
+fn devices_of(
+    rt: &impl Abort,
+    alloc: Global,
+    text: &str,
+    output_blocks: usize,
+    fill: &[u8],
+) -> Result<Box<Devices>, AllocError> {
+    let meta = made(rt, alloc, THIN, text, 16)?;
+    devices_over(alloc, meta, output_blocks, fill)
+}
+
+/// Makes a pool smaller, to at most so many data blocks.
+fn shrink(
+    alloc: Global,
+    devices: &Devices,
+    number: &str,
+    failing: Failing,
+) -> Result<Ran, AllocError> {
+    let held = Held {
+        text: b"",
+        input: devices.meta.as_slice(),
+        output: devices.output.as_slice(),
+        third: devices.third.as_slice(),
+    };
+    let words = [
+        "thin_shrink",
+        "-i",
+        "meta",
+        "-o",
+        "smaller",
+        "--data",
+        "third",
+        "--nr-blocks",
+        number,
+    ];
+    run_over(alloc, &words, held, failing)
+}
+
+/// The output is as it was, or is clean and dumps as this text.
+fn expect_text(
+    rt: &impl Abort,
+    alloc: Global,
+    before: &Devices,
+    ran: &Ran,
+    text: &str,
+) -> Result<(), AllocError> {
+    if text == UNTOUCHED {
+        return expect_held(
+            rt,
+            alloc,
+            &ran.output,
+            before.output.as_slice(),
+            "the output",
+        );
+    }
+    let image = blocks_of(alloc, &ran.output)?;
+    expect_report(rt, alloc, "thin_check", image.as_slice(), "clean\n")?;
+    expect(
+        rt,
+        alloc,
+        &["thin_dump", "image"],
+        image.as_slice(),
+        0,
+        text,
+    )
+}
+
+/// The metadata is as it was.
+fn expect_kept(
+    rt: &impl Abort,
+    alloc: Global,
+    before: &Devices,
+    ran: &Ran,
+) -> Result<(), AllocError> {
+    expect_held(
+        rt,
+        alloc,
+        &ran.input,
+        before.meta.as_slice(),
+        "the metadata",
+    )
+}
+
+/// The data device holds this.
+fn expect_data(rt: &impl Abort, alloc: Global, ran: &Ran, fill: &[u8]) -> Result<(), AllocError> {
+    let wanted = filled(alloc, fill)?;
+    expect_held(rt, alloc, &ran.third, wanted.as_slice(), "the data device")
+}
+
+/// Makes a pool smaller, which comes to this.
+fn expect_row(rt: &impl Abort, alloc: Global, row: &Row) -> Result<(), AllocError> {
+    let (text, fill, output_blocks, number, status, out, notes, after, text_after) = *row;
+    let before = devices_of(rt, alloc, text, output_blocks, fill)?;
+    let ran = shrink(alloc, &*before, number, NOTHING_FAILS)?;
+    expect_said(rt, &ran, status, out, notes);
+    expect_kept(rt, alloc, &*before, &ran)?;
+    expect_data(rt, alloc, &ran, after)?;
+    expect_text(rt, alloc, &*before, &ran, text_after)
+}
+
+#[test]
+fn shrinks_move_what_lies_behind_and_write_a_smaller_pool(rt: HostRuntime) -> Result<(), Fail> {
+    for row in ROWS {
+        expect_row(&rt, rt.alloc(), row)?;
+    }
+    Ok(())
+}
+
+/// A shrink of this metadata to so many data blocks, which writes nothing, and these are its status and its notes.
+fn expect_refused(
+    rt: &impl Abort,
+    alloc: Global,
+    meta: Vec<Block>,
+    number: &str,
+    status: u8,
+    notes: &str,
+) -> Result<(), AllocError> {
+    let before = devices_over(alloc, meta, 16, FOUR)?;
+    let ran = shrink(alloc, &*before, number, NOTHING_FAILS)?;
+    expect_said(rt, &ran, status, "", notes);
+    expect_kept(rt, alloc, &*before, &ran)?;
+    expect_data(rt, alloc, &ran, FOUR)?;
+    expect_text(rt, alloc, &*before, &ran, UNTOUCHED)
+}
+
+/// A leaf of mappings in which the virtual blocks 0 and 1 have these data blocks, at time 0.
+#[tactic(auto, unfolding(pd_kinds::specs::Node::is_ascending))]
+fn two_mappings(place: u64, first: u64, second: u64) -> Block
+    requires first { first < 2 ^ 40 }
+    requires second { second < 2 ^ 40 }
+{
+    let at = |block| BlockTime { block, time: 0 };
+    write_leaf(place, &[(0, at(first)), (1, at(second))])
+}
+
+/// A bitmap in which these places, each below 4, have one reference.
+fn counts(place: u64, used: &[usize]) -> Block {
+    let mut block = bitmap(place, 0);
+    for at in used {
+        if *at < 4 {
+            set_two_bits(&mut block, *at, 1);
+        }
+    }
+    seal_bitmap(&mut block, place);
+    block
+}
+
+/// The metadata of `POOL`, put together by hand, in which these data blocks have a reference.
+#[tactic(auto, unfolding(pd_kinds::specs::Node::is_ascending))]
+fn pool_with_counts(used: &[usize]) -> [Block; 16] {
+    let mut fields = empty_super();
+    fields.block_size = 8;
+    fields.data_map = map_root(4, 2, 5, 6);
+    fields.meta_map = map_root(16, 10, 7, 9);
+    fields.mapping_root = 2;
+    fields.details_root = 3;
+    fields.meta_blocks = 16;
+    let details = Details {
+        mapped: 2,
+        transaction: 0,
+        created: 0,
+        snapped: 0,
+    };
+    let mut image = [Block::zeros(); 16];
+    image[0] = write_thin_super(&fields);
+    image[1] = two_mappings(1, 0, 3);
+    image[2] = device_leaf(2, 1);
+    image[3] = write_leaf(3, &[(1, details)]);
+    image[4] = counts(4, used);
+    image[5] = index_leaf(5, 4);
+    image[6] = empty_leaf::<Count>(6);
+    image[7] = index(7, &[index_entry(8, 6)]);
+    image[8] = bitmap(8, 10);
+    image[9] = empty_leaf::<Count>(9);
+    image
+}
+
+/// The same with a held copy, which alone uses the data blocks 1 and 2.
+fn pool_with_held_blocks() -> [Block; 16] {
+    let mut fields = empty_super();
+    fields.block_size = 8;
+    fields.data_map = map_root(4, 4, 5, 6);
+    fields.meta_map = map_root(16, 13, 7, 9);
+    fields.mapping_root = 2;
+    fields.details_root = 3;
+    fields.meta_blocks = 16;
+    fields.held_root = 12;
+    let mut image = pool_with_counts(&[0, 1, 2, 3]);
+    image[0] = write_thin_super(&fields);
+    image[8] = bitmap(8, 13);
+    // The details are those of both.
+    set_two_bits(&mut image[8], 3, 2);
+    seal_bitmap(&mut image[8], 8);
+    image[10] = two_mappings(10, 1, 2);
+    image[11] = device_leaf(11, 10);
+    fields.mapping_root = 11;
+    fields.held_root = 0;
+    image[12] = held_copy(12, &fields);
+    image
+}
+
+/// The blocks of an image.
+fn blocks_in(alloc: Global, image: &[Block]) -> Result<Vec<Block>, AllocError> {
+    let mut blocks = Vec::new(alloc);
+    for block in image {
+        blocks.push(*block)?;
+    }
+    Ok(blocks)
+}
+
+#[test]
+fn metadata_with_faults_is_not_made_smaller(rt: HostRuntime) -> Result<(), Fail> {
+    let alloc = rt.alloc();
+    let leak = blocks_in(alloc, &pool_with_counts(&[0, 2, 3]))?;
+    let report = "fault data 2 leak stored 1 references 0\nfaults 1\n";
+    expect_refused(&rt, alloc, leak, "2", 1, report)?;
+    let mut torn = made(&rt, alloc, THIN, POOL, 16)?;
+    torn[1] = damaged(torn[1], 100);
+    let report = "fault meta 1 checksum\nfaults 1\n";
+    expect_refused(&rt, alloc, torn, "2", 1, report)?;
+    Ok(())
+}
+
+#[test]
+fn what_a_held_copy_uses_is_not_free(rt: HostRuntime) -> Result<(), Fail> {
+    let alloc = rt.alloc();
+    let held = blocks_in(alloc, &pool_with_held_blocks())?;
+    let notes = "pdata_tools: no room: need 4, blocks 3\n";
+    expect_refused(&rt, alloc, held, "3", 4, notes)?;
+    let alone = blocks_in(alloc, &pool_with_counts(&[0, 3]))?;
+    let before = devices_over(alloc, alone, 16, FOUR)?;
+    let ran = shrink(alloc, &*before, "2", NOTHING_FAILS)?;
+    expect_said(&rt, &ran, 0, "moved 1\n", "");
+    expect_data(&rt, alloc, &ran, MOVED)?;
+    expect_text(&rt, alloc, &*before, &ran, SMALLER)?;
+    Ok(())
+}
+
+/// What the device of `POOL` reads at its two virtual blocks, by the old metadata and by the new one: these data blocks.
+const BY_OLD: [usize; 2] = [0, 3];
+
+const BY_NEW: [usize; 2] = [0, 1];
+
+/// Whether two blocks of the data device are those that the device of `POOL` read.
+fn reads_the_same(third: &[Block], places: [usize; 2]) -> bool {
+    let [first, second] = places;
+    let is_first = third.get(first) == Some(&Block([0xA0; BLOCK_SIZE]));
+    let is_second = third.get(second) == Some(&Block([0xA3; BLOCK_SIZE]));
+    is_first & is_second
+}
+
+/// What of the output and of the data device of a shrink of `POOL` is left by a crash is the old output, the new one or none,
+/// and a data device on which the old metadata reads the same, and so does the new one where the output isn't the old one.
+fn expect_reads(
+    rt: &impl Abort,
+    (old, new): (&[Block], &[Block]),
+    (output, third): (&[Block], &[Block]),
+) {
+    let is_old = output == old;
+    let is_closed = match output.first() {
+        Some(first) => !any_valid(first),
+        None => false,
+    };
+    assert!(rt; is_old | (output == new) | is_closed);
+    assert!(rt; third.len() == 4);
+    assert!(rt; reads_the_same(third, BY_OLD));
+    assert!(rt; is_old | reads_the_same(third, BY_NEW));
+}
+
+/// What of a stopped or failed shrink of `POOL` a crash may leave by these picks.
+fn expect_left(
+    rt: &impl Abort,
+    alloc: Global,
+    before: &Devices,
+    whole: &[Block],
+    ran: &Ran,
+    (of_output, of_third): (Pick, Pick),
+) -> Result<(), AllocError> {
+    let output = blocks_after_crash(alloc, &ran.output, of_output)?;
+    let third = blocks_after_crash(alloc, &ran.third, of_third)?;
+    let wanted = (before.output.as_slice(), whole);
+    expect_reads(rt, wanted, (output.as_slice(), third.as_slice()));
+    Ok(())
+}
+
+/// What fails.
+#[derive(Clone, Copy)]
+enum Trouble {
+    Out,
+    Notes,
+    Meta,
+    Output,
+    Third,
+    OutputStops,
+    ThirdStops,
+}
+
+impl Trouble {
+    /// This at a call, from 0.
+    fn at(self, call: u64) -> Failing {
+        let mut failing = NOTHING_FAILS;
+        match self {
+            Trouble::Out => failing.out = Some(call),
+            Trouble::Notes => failing.notes = Some(call),
+            Trouble::Meta => failing.input = Some(call),
+            Trouble::Output => failing.output = Some(call),
+            Trouble::Third => failing.third = Some(call),
+            Trouble::OutputStops => failing.output_stops_after = call,
+            Trouble::ThirdStops => failing.third_stops_after = call,
+        }
+        failing
+    }
+
+    /// The status that it comes to.
+    fn status(self) -> u8 {
+        match self {
+            Trouble::Out | Trouble::Notes => 6,
+            Trouble::Meta
+            | Trouble::Output
+            | Trouble::Third
+            | Trouble::OutputStops
+            | Trouble::ThirdStops => 5,
+        }
+    }
+}
+
+const TROUBLES: &[Trouble] = &[
+    Trouble::Out,
+    Trouble::Notes,
+    Trouble::Meta,
+    Trouble::Output,
+    Trouble::Third,
+    Trouble::OutputStops,
+    Trouble::ThirdStops,
+];
+
+/// More calls than an object of a shrink gets.
+const MANY: u64 = 100;
+
+/// What a shrink that failed leaves.
+fn expect_failed(
+    rt: &impl Abort,
+    alloc: Global,
+    before: &Devices,
+    whole: &[Block],
+    ran: &Ran,
+) -> Result<(), AllocError> {
+    expect_kept(rt, alloc, before, ran)?;
+    for of_output in PICKS {
+        for of_third in PICKS {
+            expect_left(rt, alloc, before, whole, ran, (*of_output, *of_third))?;
+        }
+    }
+    Ok(())
+}
+
+/// Whether a trouble at this call comes to none. Where it comes to one, the shrink fails by it.
+fn is_past_trouble(
+    rt: &impl Abort,
+    alloc: Global,
+    before: &Devices,
+    whole: &[Block],
+    trouble: Trouble,
+    call: u64,
+) -> Result<bool, AllocError> {
+    let ran = shrink(alloc, before, "2", trouble.at(call))?;
+    if ran.status == 0 {
+        return Ok(true);
+    }
+    assert!(rt; ran.status == trouble.status(), "{call}");
+    expect_failed(rt, alloc, before, whole, &ran)?;
+    Ok(false)
+}
+
+/// Tries a trouble at each call, until it comes to none.
+fn expect_troubles(
+    rt: &impl Abort,
+    alloc: Global,
+    before: &Devices,
+    whole: &[Block],
+    trouble: Trouble,
+) -> Result<(), AllocError> {
+    for call in 0..MANY {
+        if is_past_trouble(rt, alloc, before, whole, trouble, call)? {
+            return Ok(());
+        }
+    }
+    assert!(rt; false, "there are more calls");
+    Ok(())
+}
+
+#[test]
+fn a_shrink_that_fails_or_stops_anywhere_reads_the_same(rt: HostRuntime) -> Result<(), Fail> {
+    let alloc = rt.alloc();
+    let before = devices_of(&rt, alloc, POOL, 16, FOUR)?;
+    let ran = shrink(alloc, &*before, "2", NOTHING_FAILS)?;
+    let whole = blocks_of(alloc, &ran.output)?;
+    for trouble in TROUBLES {
+        expect_troubles(&rt, alloc, &*before, whole.as_slice(), *trouble)?;
+    }
+    Ok(())
+}
