@@ -3,6 +3,8 @@
 
 mod find;
 mod never;
+mod part_search;
+mod parts;
 mod pieces;
 
 pub use find::SharedLeaves;
