@@ -2,8 +2,10 @@
 #![tactic(auto)]
 
 mod find;
+mod laws;
 mod never;
 mod pieces;
 
 pub use find::SharedLeaves;
+pub use laws::leaves_are_below_roots;
 pub use pieces::{Piece, PieceRuns};
