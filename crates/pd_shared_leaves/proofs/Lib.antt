@@ -1,3 +1,4 @@
+pub mod RootLemmas
 pub mod PartLemmas
 pub mod PieceLemmas
 pub mod ShapeLemmas

@@ -2,10 +2,12 @@
 #![tactic(auto)]
 
 mod find;
+mod laws;
 mod never;
 mod part_search;
 mod parts;
 mod pieces;
 
 pub use find::SharedLeaves;
+pub use laws::leaves_are_below_roots;
 pub use pieces::{Piece, PieceRuns};
