@@ -1,3 +1,4 @@
 pub mod Leaves
 pub mod Parts
 pub mod Pieces
+pub mod Given

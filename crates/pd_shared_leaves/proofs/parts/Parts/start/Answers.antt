@@ -1,7 +1,7 @@
 use Rattle.std.proofs.Common.{arith}
 use Rattle.std.proofs.lemmas.List.{append-nil}
 use Rattle.pd_tree.specs.Stack.{stacked}
-use Rattle.pd_shared_leaves.specs.Parts.{parts_below, read_below}
+use Rattle.pd_shared_leaves.specs.Parts.{parts_below}
 use Rattle.pd_shared_leaves.proofs.parts.Parts.start.Goals as goal
 
 pub returns-clause-parts : goal.returns-clause-parts
