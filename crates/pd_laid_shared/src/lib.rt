@@ -2,3 +2,7 @@
 //! stand one behind another, it takes just the blocks that its shape needs, and each block up to the metadata map is named
 //! once, but for a shared leaf, which is named as often as devices use it.
 #![tactic(auto)]
+
+mod written;
+
+pub use written::{device_tree_takes_its_need, later_devices_stand_behind, shape_is_written};

@@ -1,0 +1,2 @@
+pub mod DeviceNeed
+pub mod WrittenParts
