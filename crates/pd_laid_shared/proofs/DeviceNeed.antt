@@ -15,7 +15,7 @@ use Rattle.pd_laid.proofs.NeedLemmas.{length-heads, length-inners, length-leaves
 use Rattle.pd_shapes.specs.SharedNeed.{leaves_of_pieces, need_of_leaves, own_number}
 use Rattle.pd_laid_shared.specs.Written.{device_tree, device_trees, trees_need}
 
-length-items : (ms : List Mapping) → length (mapping_items ms) ≡ length ms
+pub length-items : (ms : List Mapping) → length (mapping_items ms) ≡ length ms
 unfolding mapping_items
 length-items ms = length-map ms (λ (m : Mapping). record { key = m.virtual_block; value = mapping_code m.data_block m.time })
 
@@ -49,7 +49,7 @@ own_length number (own ms ∷ shared k ∷ pieces) are = own_first ms (shared k 
 own_length number (shared k ∷ pieces) are = own_length number pieces are.1
 
 -- a row has a device's own leaves, and those that it uses
-row_length : (leaves : List (List Entry)) (place : ℕ) (pieces : List Piece)
+pub row_length : (leaves : List (List Entry)) (place : ℕ) (pieces : List Piece)
     → length (pieces_row leaves place pieces) ≡ length (flat_map own_leaves pieces) + length (flat_map uses_of_piece pieces)
 row_length leaves place [] = refl
 row_length leaves place (own ms ∷ pieces) =

@@ -1,2 +1,5 @@
+pub mod Counting
 pub mod DeviceNeed
+pub mod DeviceNames
+pub mod PoolNames
 pub mod WrittenParts
