@@ -20,7 +20,7 @@ use Rattle.pd_laid_shared.proofs.Counting.{all_range, behind_first, count_both, 
 use Rattle.pd_laid_shared.proofs.DeviceNames.{all_uses_below, devices_names, range_both}
 
 -- a used leaf is counted
-used_once : (uses : List ℕ) (k : ℕ) → list_any (λ used. nat_eq used k) uses ≡ true → 1 ≤ count_in uses k
+pub used_once : (uses : List ℕ) (k : ℕ) → list_any (λ used. nat_eq used k) uses ≡ true → 1 ≤ count_in uses k
 used_once uses k used = counted uses used
   where
     counted : (uses : List ℕ) → list_any (λ used. nat_eq used k) uses ≡ true → 1 ≤ count_in uses k
@@ -73,7 +73,7 @@ module _ (w : ThinShape) where
       omega (arith, whole, named, trees, places)
 
   -- a leaf's block, and any other
-  leaf_times : IsShape w → meta_map_at w ≤ 2 ^ 64 → (k : ℕ) → k < number → count_in (pool_named w) (suc k) ≡ used_times uses k
+  pub leaf_times : IsShape w → meta_map_at w ≤ 2 ^ 64 → (k : ℕ) → k < number → count_in (pool_named w) (suc k) ≡ used_times uses k
   leaf_times is fits k within =
       let all = sums fits (suc k) in
       let used = count_shift uses k in
@@ -89,7 +89,7 @@ module _ (w : ThinShape) where
           let first = range_lacks 1 (suc k) (omega arith) in
           omega (arith, both, whole, first)
 
-  other_times : IsShape w → meta_map_at w ≤ 2 ^ 64 → (b : ℕ) → (b ≡ 0) ⊎ (number < b) → count_in (pool_named w) b ≡ ones_below (meta_map_at w) b
+  pub other_times : IsShape w → meta_map_at w ≤ 2 ^ 64 → (b : ℕ) → (b ≡ 0) ⊎ (number < b) → count_in (pool_named w) b ≡ ones_below (meta_map_at w) b
   unfolding ones_below
   other_times is fits b outside =
       let all = sums fits b in
@@ -125,7 +125,7 @@ module _ (w : ThinShape) where
   ]
 
   -- which of the two a block is
-  which : (b : ℕ) → ((k : ℕ) × (k < number) × (b ≡ suc k)) ⊎ ((b ≡ 0) ⊎ (number < b))
+  pub which : (b : ℕ) → ((k : ℕ) × (k < number) × (b ≡ suc k)) ⊎ ((b ≡ 0) ⊎ (number < b))
   which zero = inr (inl refl)
   which (suc k) = elim (cases_lt k number) [
     | inl below ↦ inl (k, below, refl)
