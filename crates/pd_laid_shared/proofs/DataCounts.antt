@@ -1,8 +1,8 @@
 -- The data blocks that the leaves of a pool name are those that its leaves and its devices' own pieces tell.
-use Rattle.std.proofs.Common.{◌≡◌, ℕ, ◌+◌, ◌*◌, ◌^◌, ◌<◌, ◌≤◌, nat_eq, nat_le, List, [], ◌∷◌, ◌++◌, length, map, refl, sym, ◌∙◌, ap, ap₂, subst, arith}
+use Rattle.std.proofs.Common.{◌≡◌, ℕ, ◌+◌, ◌^◌, ◌<◌, nat_le, List, [], ◌∷◌, ◌++◌, length, map, refl, sym, ◌∙◌, ap, ap₂, subst}
 use Rattle.std.proofs.Math.Path.{fun_ext}
 use Rattle.std.specs.List.{AllByRecursion, count_by, flat_map, range_with_len}
-use Rattle.std.proofs.lemmas.List.{append-nil, append_assoc, map-append}
+use Rattle.std.proofs.lemmas.List.{append-nil, map-append}
 use Rattle.std.proofs.lemmas.Grind.{flat_map-append}
 use Rattle.std.proofs.lemmas.Nat.{div-mul-add}
 use Rattle.pd_kinds.specs.Layout.{Tree}
@@ -10,7 +10,7 @@ use Rattle.pd_kinds.specs.Meaning.{Mapping}
 use Rattle.pd_kinds.specs.Node.{Entry}
 use Rattle.pd_kinds.specs.ThinFormat.{mapped_block, mappings_tree}
 use Rattle.pd_laws.proofs.AllLemmas.{all_append, all_from, all_mapped}
-use Rattle.pd_spells.specs.Lawful.{AreDevices, AreMappings, IsLawfulPool}
+use Rattle.pd_spells.specs.Lawful.{AreDevices, IsLawfulPool}
 use Rattle.pd_spells.specs.ThinNeed.{overflows_in}
 use Rattle.pd_spells.specs.ThinText.{Run}
 use Rattle.pd_laid.specs.Laid.{LaidBlock, count_in, data_named_by, laid_inner, laid_leaf, tree_of}
@@ -20,7 +20,7 @@ use Rattle.pd_laid.proofs.DataNeed.{HasTimes}
 use Rattle.pd_laid_once.proofs.Need.{times_of_mappings}
 use Rattle.pd_laid_once.proofs.Rows.{entries_of}
 use Rattle.pd_laid_once.proofs.Trees.{leaves_joined}
-use Rattle.pd_shapes.specs.SharedNeed.{own_mappings, shape_data, told_mappings}
+use Rattle.pd_shapes.specs.SharedNeed.{own_mappings, shape_data}
 use Rattle.pd_shapes.specs.SharedText.{mappings_of_runs}
 use Rattle.pd_shapes.proofs.LeafRuns.{IsLeaf}
 use Rattle.pd_shapes.proofs.ShapeText.{shape_spelled}

@@ -1,6 +1,6 @@
 -- What the metadata map of a pool with shared leaves stores: a count for each block up to its own end.
-use Rattle.std.proofs.Common.{◌≡◌, inl, inr, ℕ, suc, ◌+◌, ◌^◌, ◌<◌, ◌≤◌, Bool, true, cond, not, nat_eq, nat_lt, ◌++◌, length, refl, sym, ◌∙◌, ap, zero-add, arith}
-use Rattle.std.specs.List.{count_by, list_any, range_with_len}
+use Rattle.std.proofs.Common.{◌≡◌, inl, inr, ℕ, suc, ◌+◌, ◌^◌, ◌<◌, ◌≤◌, Bool, not, nat_eq, length, refl, ◌∙◌, ap, zero-add, arith}
+use Rattle.std.specs.List.{count_by, range_with_len}
 use Rattle.std.proofs.lemmas.Bool.{lt-ltb, ne_eqb}
 use Rattle.std.proofs.lemmas.List.{length-append}
 use Rattle.pd_kinds.specs.Bitmap.{bitmaps_for}
@@ -16,7 +16,7 @@ use Rattle.pd_laid_once.proofs.Counts.{count-append, count_range}
 use Rattle.pd_laid_once.proofs.MapLemmas.{ones_allocated}
 use Rattle.pd_laid_shared.proofs.Counting.{all_range, same_count}
 use Rattle.pd_laid_shared.proofs.DeviceNames.{range_both}
-use Rattle.pd_laid_shared.proofs.PoolNames.{leaf_times, leaves_before_map, number, other_times, used_once, uses, which}
+use Rattle.pd_laid_shared.proofs.PoolNames.{leaf_times, leaves_before_map, other_times, used_once, uses, which}
 
 module _ (w : ThinShape) (n : ℕ) where
   abbrev place : ℕ

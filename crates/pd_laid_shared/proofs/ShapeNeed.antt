@@ -1,5 +1,5 @@
 -- A pool with shared leaves is laid in as many blocks as its shape needs.
-use Rattle.std.proofs.Common.{◌≡◌, ℕ, ◌+◌, ◌^◌, ◌≤◌, ◌<◌, not, nat_eq, List, ◌++◌, length, map, refl, sym, ◌∙◌, ap, arith}
+use Rattle.std.proofs.Common.{◌≡◌, ℕ, ◌+◌, ◌^◌, ◌≤◌, ◌<◌, not, nat_eq, ◌++◌, length, ◌∙◌, ap, arith}
 use Rattle.std.specs.List.{count_by, flat_map, range_with_len}
 use Rattle.std.proofs.lemmas.List.{length-append, length-map}
 use Rattle.pd_kinds.specs.Bitmap.{bitmaps_for}
