@@ -16,7 +16,7 @@ use Rattle.pd_laid_once.proofs.MapLemmas.{named_overflow}
 use Rattle.pd_laid_once.proofs.WrittenLemmas.{places_are}
 
 -- the times of lawful mappings have 24 bits, and lawful devices as many mappings as they say
-times_of_mappings : (blocks least : ℕ) (ms : List Mapping) → AreMappings blocks least ms → HasTimes ms
+pub times_of_mappings : (blocks least : ℕ) (ms : List Mapping) → AreMappings blocks least ms → HasTimes ms
 times_of_mappings blocks least [] are = tt
 times_of_mappings blocks least (m ∷ ms) are = (are.0.time_fits, times_of_mappings blocks (m.virtual_block + 1) ms are.1)
 

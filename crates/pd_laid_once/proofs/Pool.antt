@@ -1,4 +1,4 @@
--- What block 0 and the parts of a pool without shared leaves name up to the metadata map: each block there once.
+-- What block 0 and the parts of a pool name up to the metadata map. Where no leaf is shared it is each block there once.
 use Rattle.std.proofs.Common.{◌≡◌, ℕ, ◌+◌, ◌%◌, ◌^◌, ◌≤◌, List, [], ◌∷◌, ◌++◌, length, sym, ◌∙◌, ap, zero-add, arith}
 use Rattle.std.specs.List.{range_with_len}
 use Rattle.pd_kinds.specs.Layout.{tree_to, plain_tree}
@@ -106,6 +106,20 @@ module _ (w : ThinShape) (b : ℕ) where
       ∙ count-append (range_with_len 0 place) (range_with_len place n) b in
       omega (arith, more 1 (length (device_blocks w)), more (tops_at w) (length (top_blocks w)), more (details_at w) (length (details_blocks w)), more (bitmaps_at w) (length (bitmap_blocks w)), more (index_at w) (length (index_blocks w)), more (overflow_at w) (length (overflow_blocks w)))
 
+  -- so they name each block there once, but for what the devices' part names, with the roots that the mapping tree gives
+  pub named_with : meta_map_at w ≤ 2 ^ 64
+      → c (pool_named w) + in_places 1 (device_blocks w) ≡ c (range_with_len 0 (meta_map_at w)) + (c (named_by (device_blocks w)) + c (values_of (tops w)))
+  named_with fits =
+      let top = top_part (omega arith) in
+      let details = details_part (omega arith) in
+      let bitmaps = bitmaps_part in
+      let index = index_part (omega arith) (omega arith) in
+      let overflow = overflow_part (omega arith) in
+      let whole = pool_split in
+      let parts = parts_named in
+      let places = places_joined in
+      omega arith
+
 -- the devices' part, where no leaf is shared
 devices_part : (m : ThinPool) (b : ℕ) → length (device_blocks (shape_of m)) ≤ 2 ^ 64
     → count_in (named_by (device_blocks (shape_of m))) b + count_in (values_of (tops (shape_of m))) b
@@ -118,13 +132,6 @@ unfolding ones_below
 pool_named_once m fits b =
     let w = shape_of m in
     let devices = devices_part m b (omega arith) in
-    let top = top_part w b (omega arith) in
-    let details = details_part w b (omega arith) in
-    let bitmaps = bitmaps_part w b in
-    let index = index_part w b (omega arith) (omega arith) in
-    let overflow = overflow_part w b (omega arith) in
-    let whole = pool_split w b in
-    let parts = parts_named w b in
-    let places = places_joined w b in
+    let whole = named_with w b fits in
     let sums : count_in (pool_named w) b ≡ count_in (range_with_len 0 (meta_map_at w)) b = omega arith in
     sums ∙ count_range (meta_map_at w) b

@@ -25,7 +25,7 @@ pub named-append : (xs ys : List LaidBlock) → named_by (xs ++ ys) ≡ named_by
 unfolding named_by
 named-append xs ys = flat_map-append (λ (b : LaidBlock). blocks_of b.edges) xs ys
 
-leaves_named : (role : ℕ) (t : Tree) (leaves : List (List Entry)) → named_by (map (laid_leaf role t) leaves) ≡ item_names t (entries_of leaves)
+pub leaves_named : (role : ℕ) (t : Tree) (leaves : List (List Entry)) → named_by (map (laid_leaf role t) leaves) ≡ item_names t (entries_of leaves)
 unfolding named_by
 leaves_named role t [] = refl
 leaves_named role t (leaf ∷ leaves) =
@@ -37,7 +37,7 @@ inner_named : (role : ℕ) (entries : List Entry) → blocks_of (map (λ (e : En
 inner_named role [] = refl
 inner_named role (e ∷ entries) = ap (λ (rest : List ℕ). e.value ∷ rest) (inner_named role entries)
 
-inners_named : (role : ℕ) (inners : List (List Entry)) → named_by (map (laid_inner role) inners) ≡ values_of (entries_of inners)
+pub inners_named : (role : ℕ) (inners : List (List Entry)) → named_by (map (laid_inner role) inners) ≡ values_of (entries_of inners)
 unfolding named_by
 inners_named role [] = refl
 inners_named role (node ∷ inners) =
@@ -72,7 +72,7 @@ nodes_named role t place leaves some few =
     ∙ ap (λ (back : List ℕ). own ++ back) (above ∙ (places ∙ ap (range_with_len place) count)))
 
 -- a tree's leaves have its items
-leaves_joined : (size : ℕ) (items : List Entry) → entries_of (tree_leaves size items) ≡ items
+pub leaves_joined : (size : ℕ) (items : List Entry) → entries_of (tree_leaves size items) ≡ items
 unfolding tree_leaves
 leaves_joined size items =
     let leaves = max 1 (nodes_for (max_entries size) (length items)) in

@@ -1,5 +1,5 @@
 -- How often the metadata blocks of a pool with shared leaves are named: a shared leaf as often as devices use it.
-use Rattle.std.specs.Prelude.{ℕ, ◌-◌, nat_le, nat_lt, ◌&&◌, ◌==◌, if◌then◌else◌, List, count_by}
+use Rattle.std.specs.Prelude.{ℕ, ◌-◌, nat_le, ◌&&◌, ◌==◌, if◌then◌else◌, List, count_by}
 use Rattle.pd_laid_once.specs.Once.{ones_below}
 
 -- the leaves stand from block 1 on and are used so often; each other block below the end is named once

@@ -2,3 +2,11 @@
 //! stand one behind another, it takes just the blocks that its shape needs, and each block up to the metadata map is named
 //! once, but for a shared leaf, which is named as often as devices use it.
 #![tactic(auto)]
+
+mod named;
+mod needs;
+mod written;
+
+pub use named::leaves_are_named_as_they_are_used;
+pub use needs::shape_takes_its_need;
+pub use written::{device_tree_takes_its_need, later_devices_stand_behind, shape_is_written};

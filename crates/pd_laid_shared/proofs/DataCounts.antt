@@ -1,0 +1,173 @@
+-- The data blocks that the leaves of a pool name are those that its leaves and its devices' own pieces tell.
+use Rattle.std.proofs.Common.{◌≡◌, ℕ, ◌+◌, ◌^◌, ◌<◌, nat_le, List, [], ◌∷◌, ◌++◌, length, map, refl, sym, ◌∙◌, ap, ap₂, subst}
+use Rattle.std.proofs.Math.Path.{fun_ext}
+use Rattle.std.specs.List.{AllByRecursion, count_by, flat_map, range_with_len}
+use Rattle.std.proofs.lemmas.List.{append-nil, map-append}
+use Rattle.std.proofs.lemmas.Grind.{flat_map-append}
+use Rattle.std.proofs.lemmas.Nat.{div-mul-add}
+use Rattle.pd_kinds.specs.Layout.{Tree}
+use Rattle.pd_kinds.specs.Meaning.{Mapping}
+use Rattle.pd_kinds.specs.Node.{Entry}
+use Rattle.pd_kinds.specs.ThinFormat.{mapped_block, mappings_tree}
+use Rattle.pd_laws.proofs.AllLemmas.{all_append, all_from, all_mapped}
+use Rattle.pd_spells.specs.Lawful.{AreDevices, IsLawfulPool}
+use Rattle.pd_spells.specs.ThinNeed.{overflows_in}
+use Rattle.pd_spells.specs.ThinText.{Run}
+use Rattle.pd_laid.specs.Laid.{LaidBlock, count_in, data_named_by, laid_inner, laid_leaf, tree_of}
+use Rattle.pd_laid.specs.LaidThin.{data_counts, data_overflow, device_blocks, device_inners, device_leaves, devices_at, laid_device, laid_devices, mapping_items, own_leaves, shared_items, some_pieces}
+use Rattle.pd_laid.specs.Shape.{IsShape, Piece, ShapeDevice, ThinShape, device_of, own, piece_mappings, pool_of, shared}
+use Rattle.pd_laid.proofs.DataNeed.{HasTimes}
+use Rattle.pd_laid_once.proofs.Need.{times_of_mappings}
+use Rattle.pd_laid_once.proofs.Rows.{entries_of}
+use Rattle.pd_laid_once.proofs.Trees.{leaves_joined}
+use Rattle.pd_shapes.specs.SharedNeed.{own_mappings, shape_data}
+use Rattle.pd_shapes.specs.SharedText.{mappings_of_runs}
+use Rattle.pd_shapes.proofs.LeafRuns.{IsLeaf}
+use Rattle.pd_shapes.proofs.ShapeText.{shape_spelled}
+use Rattle.pd_shapes.proofs.UsedLeaves.{are_leaves}
+use Rattle.pd_laid_shared.proofs.Counting.{length-overflow}
+
+-- lawful mappings have times of 24 bits: those of devices' own pieces, and those of the shared leaves
+abbrev HasTime : Mapping → Type 0
+HasTime m = m.time < 2 ^ 24
+
+in_two : (P : Mapping → Type 0) (xs ys : List Mapping) → AllByRecursion P (xs ++ ys) → AllByRecursion P xs × AllByRecursion P ys
+in_two P [] ys all = (tt, all)
+in_two P (x ∷ xs) ys all = let rest = in_two P xs ys all.1 in ((all.0, rest.0), rest.1)
+
+own_times : (leaves : List (List Mapping)) (pieces : List Piece) → HasTimes (flat_map (piece_mappings leaves) pieces) → HasTimes (flat_map own_mappings pieces)
+own_times leaves [] times = tt
+own_times leaves (own ms ∷ pieces) times =
+    let both = in_two HasTime ms (flat_map (piece_mappings leaves) pieces) times in
+    all_append HasTime ms (flat_map own_mappings pieces) both.0 (own_times leaves pieces both.1)
+own_times leaves (shared k ∷ pieces) times =
+    own_times leaves pieces (in_two HasTime (piece_mappings leaves (shared k)) (flat_map (piece_mappings leaves) pieces) times).1
+
+abbrev all_own : List ShapeDevice → List Mapping
+all_own ds = flat_map (λ (d : ShapeDevice). flat_map own_mappings d.pieces) ds
+
+devices_times : (blocks least : ℕ) (leaves : List (List Mapping)) (ds : List ShapeDevice) → AreDevices blocks least (map (device_of leaves) ds) → HasTimes (all_own ds)
+devices_times blocks least leaves [] are = tt
+devices_times blocks least leaves (d ∷ ds) are =
+    all_append HasTime (flat_map own_mappings d.pieces) (all_own ds)
+    (own_times leaves d.pieces (times_of_mappings blocks 0 (flat_map (piece_mappings leaves) d.pieces) are.0.mappings))
+    (devices_times blocks (d.id + 1) leaves ds are.1)
+
+leaves_times : (w : ThinShape) → IsShape w → IsLawfulPool (pool_of w) → AllByRecursion HasTimes w.leaves
+leaves_times w is lawful =
+    let spelled = shape_spelled w is lawful in
+    let runs = spelled.means.leaves in
+    let leaves = are_leaves w runs spelled.means.leaves_are spelled.means.leaf_runs is lawful in
+    subst (λ (ls : List (List Mapping)). AllByRecursion HasTimes ls) spelled.means.leaves_are
+    (all_mapped mappings_of_runs HasTimes runs
+    (all_from (IsLeaf w.data_blocks) (λ (r : List Run). HasTimes (mappings_of_runs r)) (λ r leaf. times_of_mappings w.data_blocks 0 (mappings_of_runs r) leaf.mappings) runs leaves))
+
+joined_times : (leaves : List (List Mapping)) → AllByRecursion HasTimes leaves → HasTimes (flat_map (λ ms. ms) leaves)
+joined_times [] times = tt
+joined_times (leaf ∷ leaves) times = all_append HasTime leaf (flat_map (λ ms. ms) leaves) times.0 (joined_times leaves times.1)
+
+-- an entry of such a mapping names its data block
+abbrev data_of : List Entry → List ℕ
+data_of items = flat_map (λ (e : Entry). mapped_block e.value ∷ []) items
+
+abbrev blocks_of_mappings : List Mapping → List ℕ
+blocks_of_mappings ms = map (λ (m : Mapping). m.data_block) ms
+
+data_of_items : (ms : List Mapping) → HasTimes ms → data_of (mapping_items ms) ≡ blocks_of_mappings ms
+unfolding mapping_items
+data_of_items [] times = refl
+data_of_items (m ∷ ms) times = rw (div-mul-add m.data_block (2 ^ 24) m.time times.0, data_of_items ms times.1) refl
+
+items-append : (xs ys : List Mapping) → mapping_items (xs ++ ys) ≡ mapping_items xs ++ mapping_items ys
+unfolding mapping_items
+items-append xs ys = map-append _ xs ys
+
+-- the entries of the shared leaves, and of own ones
+shared_entries : (leaves : List (List Mapping)) → entries_of (map mapping_items leaves) ≡ mapping_items (flat_map (λ ms. ms) leaves)
+unfolding mapping_items
+shared_entries [] = refl
+shared_entries (leaf ∷ leaves) =
+    ap (λ (rest : List Entry). mapping_items leaf ++ rest) (shared_entries leaves) ∙ sym (items-append leaf (flat_map (λ ms. ms) leaves))
+
+own_entries : (pieces : List Piece) → entries_of (flat_map own_leaves pieces) ≡ mapping_items (flat_map own_mappings pieces)
+unfolding mapping_items
+own_entries [] = refl
+own_entries (own ms ∷ pieces) =
+    flat_map-append (λ (node : List Entry). node) (own_leaves (own ms)) (flat_map own_leaves pieces)
+    ∙ (ap₂ (λ (front back : List Entry). front ++ back) (leaves_joined 8 (mapping_items ms)) (own_entries pieces)
+    ∙ sym (items-append ms (flat_map own_mappings pieces)))
+own_entries (shared k ∷ pieces) = own_entries pieces
+
+some_own : (pieces : List Piece) → flat_map own_mappings (some_pieces pieces) ≡ flat_map own_mappings pieces
+some_own [] = refl
+some_own (piece ∷ pieces) = refl
+
+-- what laid blocks name
+data-append : (xs ys : List LaidBlock) → data_named_by (xs ++ ys) ≡ data_named_by xs ++ data_named_by ys
+unfolding data_named_by
+data-append xs ys = flat_map-append (λ (b : LaidBlock). b.data_refs) xs ys
+
+inners_data : (role : ℕ) (nodes : List (List Entry)) → data_named_by (map (laid_inner role) nodes) ≡ []
+unfolding data_named_by
+inners_data role [] = refl
+inners_data role (node ∷ nodes) = inners_data role nodes
+
+leaves_data : (role : ℕ) (t : Tree) (leaves : List (List Entry)) → data_named_by (map (laid_leaf role t) leaves) ≡ flat_map t.leaf_data (entries_of leaves)
+unfolding data_named_by
+leaves_data role t [] = refl
+leaves_data role t (leaf ∷ leaves) =
+    ap (λ (rest : List ℕ). flat_map t.leaf_data leaf ++ rest) (leaves_data role t leaves) ∙ sym (flat_map-append t.leaf_data leaf (entries_of leaves))
+
+module _ (data_blocks : ℕ) (leaves : List (List Entry)) where
+  abbrev t : Tree
+  t = tree_of (mappings_tree data_blocks)
+
+  device_data : (place : ℕ) (d : ShapeDevice) → HasTimes (flat_map own_mappings d.pieces)
+      → data_named_by (laid_device t leaves place d) ≡ blocks_of_mappings (flat_map own_mappings d.pieces)
+  unfolding laid_device
+  device_data place d times =
+      let mine = device_leaves d in
+      let inners = device_inners leaves place d in
+      data-append (map (laid_leaf 3 t) mine) (map (laid_inner 3) inners)
+      ∙ (ap₂ (λ (front rest : List ℕ). front ++ rest)
+      (leaves_data 3 t mine ∙ (ap data_of (own_entries (some_pieces d.pieces) ∙ ap mapping_items (some_own d.pieces)) ∙ data_of_items (flat_map own_mappings d.pieces) times))
+      (inners_data 3 inners)
+      ∙ append-nil (blocks_of_mappings (flat_map own_mappings d.pieces)))
+
+  devices_data : (place : ℕ) (ds : List ShapeDevice) → HasTimes (all_own ds) → data_named_by (laid_devices t leaves place ds) ≡ blocks_of_mappings (all_own ds)
+  unfolding laid_devices data_named_by
+  devices_data place [] times = refl
+  devices_data place (d ∷ ds) times =
+      let here = laid_device t leaves place d in
+      let mine = flat_map own_mappings d.pieces in
+      let both = in_two HasTime mine (all_own ds) times in
+      data-append here (laid_devices t leaves (place + length here) ds)
+      ∙ (ap₂ (λ (front rest : List ℕ). front ++ rest) (device_data place d both.0) (devices_data (place + length here) ds both.1)
+      ∙ sym (map-append (λ (m : Mapping). m.data_block) mine (all_own ds)))
+
+module _ (w : ThinShape) (is : IsShape w) (lawful : IsLawfulPool (pool_of w)) where
+  own_have : HasTimes (all_own w.devices)
+  unfolding pool_of
+  own_have = devices_times w.data_blocks 0 w.leaves w.devices lawful.devices
+
+  pool_data : data_named_by (device_blocks w) ≡ shape_data w
+  unfolding device_blocks shape_data
+  pool_data =
+      let t = tree_of (mappings_tree w.data_blocks) in
+      let joined = flat_map (λ (ms : List Mapping). ms) w.leaves in
+      let times = joined_times w.leaves (leaves_times w is lawful) in
+      data-append (map (laid_leaf 3 t) (shared_items w)) (laid_devices t (shared_items w) (devices_at w) w.devices)
+      ∙ (ap₂ (λ (front rest : List ℕ). front ++ rest)
+      (leaves_data 3 t (shared_items w) ∙ (ap data_of (shared_entries w.leaves) ∙ data_of_items joined times))
+      (devices_data w.data_blocks (shared_items w) (devices_at w) w.devices own_have)
+      ∙ sym (map-append (λ (m : Mapping). m.data_block) joined (all_own w.devices)))
+
+  pub counts_are : data_counts w ≡ count_in (shape_data w)
+  unfolding data_counts
+  counts_are = fun_ext (λ d. ap (λ (named : List ℕ). count_in named d) pool_data)
+
+  pub overflows_are : length (data_overflow w) ≡ overflows_in (shape_data w) w.data_blocks
+  unfolding overflows_in
+  overflows_are =
+      length-overflow (data_counts w) w.data_blocks
+      ∙ ap (λ (counts : ℕ → ℕ). count_by (λ d. nat_le 3 (counts d)) (range_with_len 0 w.data_blocks)) counts_are
