@@ -1,1 +1,4 @@
+mod MarkLemmas
+mod NumberLemmas
 mod RootLemmas
+mod WalkLemmas

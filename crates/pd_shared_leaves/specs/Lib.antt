@@ -1,2 +1,4 @@
 pub mod Leaves
+pub mod Marks
 pub mod Pieces
+pub mod Walk

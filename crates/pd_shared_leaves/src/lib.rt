@@ -3,8 +3,10 @@
 
 mod find;
 mod laws;
+mod marks;
 mod never;
 mod pieces;
+mod walk;
 
 pub use find::SharedLeaves;
 pub use laws::leaves_are_below_roots;

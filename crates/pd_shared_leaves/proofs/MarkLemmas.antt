@@ -1,0 +1,1 @@
+-- What a mark tells of a node.
