@@ -1,4 +1,6 @@
+mod BelowLemmas
 mod MarkLemmas
 mod NumberLemmas
+mod OccursLemmas
 mod RootLemmas
 mod WalkLemmas

@@ -72,11 +72,11 @@ abbrev pub mark_at : List Mark → ℕ → Mark
 mark_at marks b = slice_index_or marks b Unseen
 
 -- how often a block is in a list
-abbrev pub occurs : ℕ → List ℕ → ℕ
+unfoldable pub occurs : ℕ → List ℕ → ℕ
 occurs b blocks = count_by (λ c. nat_eq c b) blocks
 
 -- the nodes of the trees with these roots, one tree after another
-abbrev pub nodes_of : List (List ℕ) → List ℕ → List ℕ
+unfoldable pub nodes_of : List (List ℕ) → List ℕ → List ℕ
 nodes_of image roots = flat_map (nodes_below 8 image 63) roots
 
 -- each block's mark is that of a node that these trees have so many times
