@@ -1,4 +1,5 @@
 mod BelowLemmas
+mod DeviceLemmas
 mod MarkLemmas
 mod NumberLemmas
 mod OccursLemmas
