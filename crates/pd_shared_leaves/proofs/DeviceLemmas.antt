@@ -4,7 +4,8 @@ use Rattle.std.specs.List.{AllByRecursion}
 use Rattle.std.proofs.lemmas.List.{append-nil, append_assoc}
 use Rattle.pd_laws.proofs.AllLemmas.{all_append}
 use Rattle.pd_shared_leaves.specs.declared.marks.Mark.{Mark}
-use Rattle.pd_shared_leaves.specs.Leaves.{IsProperTree}
+use Rattle.pd_value.specs.declared.thin.Root.{Root}
+use Rattle.pd_shared_leaves.specs.Leaves.{IsProperTree, roots_of}
 use Rattle.pd_shared_leaves.specs.Marks.{AreMarked}
 use Rattle.pd_shared_leaves.specs.Walk.{AreProper, AreWalked}
 use Rattle.pd_shared_leaves.proofs.WalkLemmas.{all_back, all_front}
@@ -36,6 +37,11 @@ one_walked image all left root old marks new same to more = record {
       rw (sym (append_assoc before to.front (root ∷ [])))
       (more (before ++ to.front) (rw same (all_append (IsProperTree image (length old)) before to.front proper first)) (rw same last) so_far);
 }
+
+-- so with the next entry of those that are left
+pub next_walked : (image : List (List ℕ)) (all : List ℕ) (items rest : List (ℕ × Root)) (key : ℕ) (root : Root) (old marks new : List Mark) → length marks ≡ length old
+    → items ≡ (key, root) ∷ rest → AreWalkedTo image all (roots_of items) old marks → AreWalked image (root.0 ∷ []) marks new → AreWalkedTo image all (roots_of rest) old new
+next_walked image all items rest key root old marks new same next to more = one_walked image all (roots_of rest) root.0 old marks new same (rw next at to) more
 
 -- all, where none is left
 pub all_walked : (image : List (List ℕ)) (all : List ℕ) (old new : List Mark) → AreWalkedTo image all [] old new → AreWalked image all old new

@@ -8,8 +8,8 @@ use Rattle.pd_shared_leaves.proofs.DeviceLemmas.{AreWalkedTo}
 use Rattle.pd_shared_leaves.proofs.walk.walk_devices.Given as goal
 
 -- the trees of the roots that were given were walked
-abbrev pub invariant-loop-root : goal.invariant-loop-root
-invariant-loop-root g l = record {
+abbrev pub invariant-loop-waiting : goal.invariant-loop-waiting
+invariant-loop-waiting g l = record {
   walked : IfSome (g.D.Device.state l.initial.dev).held (λ image. AreWalkedTo image (roots_of (cursor_items 8 root_of image l.initial.devices)) (roots_of (cursor_items 8 root_of image l.devices)) l.initial.marks l.marks);
   none : l.waiting.items ≡ [];
   same_number : length l.marks ≡ length l.initial.marks;
@@ -20,5 +20,5 @@ invariant-loop-root g l = record {
   faults : (g.D.Device.state l.dev).faults ≡ (g.D.Device.state l.initial.dev).faults;
 }
 
-abbrev pub decreases-loop-root : goal.decreases-loop-root
-decreases-loop-root g l = cursor_number 8 l.devices
+abbrev pub decreases-loop-waiting : goal.decreases-loop-waiting
+decreases-loop-waiting g l = cursor_number 8 l.devices

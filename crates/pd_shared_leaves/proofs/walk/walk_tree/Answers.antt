@@ -1,5 +1,5 @@
 use Rattle.std.proofs.Common.{◌≡◌, ◌<◌, List, ℕ, [], ◌∷◌, ◌++◌, IfSome, length, refl, subst, ◌∙◌, arith}
-use Rattle.std.proofs.lemmas.Grind.{nil_from_length}
+use Rattle.std.proofs.lemmas.Grind.{common_steps}
 use Rattle.std.proofs.lemmas.Option.{IfSome_then}
 use Rattle.pd_image.proofs.ReadLemmas.{only_reads_both}
 use Rattle.pd_tree.proofs.NextLemmas.{if_both}
@@ -40,6 +40,6 @@ loop-b-preserved g c =
 
 pub returns-clause-walked : goal.returns-clause-walked
 returns-clause-walked g c =
-    let none : c.loop-b.waiting.items ≡ [] = nil_from_length c.loop-b.waiting.items c.in_default.ensures.cases.0 in
+    let none : c.loop-b.waiting.items ≡ [] = grind (arith, common_steps, c.in_default.ensures.cases, c.in_default.ensures.items) in
     IfSome_then (g.D.Device.state c.args.dev.now).held c.loop-b.invariant.walking (λ image walking before proper tree marked.
     ends image before c.args.root c.loop-b.marks (rw none at (walking before proper tree.0 marked)))
