@@ -1,7 +1,9 @@
 mod BelowLemmas
 mod DeviceLemmas
+mod FoundLemmas
 mod MarkLemmas
 mod NumberLemmas
+mod NumberedLemmas
 mod OccursLemmas
 mod RootLemmas
 mod WalkLemmas

@@ -1,3 +1,4 @@
+pub mod Found
 pub mod Leaves
 pub mod Marks
 pub mod Pieces

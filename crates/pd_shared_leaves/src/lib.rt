@@ -1,6 +1,7 @@
 //! The leaves that a pool's devices share, and the pieces of a device's mappings: runs of its own, and shared leaves.
 #![tactic(auto)]
 
+mod collect;
 mod find;
 mod laws;
 mod marks;

@@ -5,7 +5,8 @@ use Rattle.pd_tree.specs.Items.{root_of}
 use Rattle.pd_tree.proofs.NextLemmas.{if_both}
 use Rattle.pd_shared_leaves.specs.Leaves.{roots_of}
 use Rattle.pd_shared_leaves.specs.Walk.{AreWalked}
-use Rattle.pd_shared_leaves.proofs.DeviceLemmas.{AreWalkedTo, next_walked}
+use Rattle.pd_shared_leaves.proofs.DeviceLemmas.{next_walked}
+use Rattle.pd_shared_leaves.proofs.WalkLemmas.{both_some}
 use Rattle.pd_shared_leaves.proofs.walk.walk_devices.Goals as goal
 
 pub loop-waiting-preserved : goal.loop-waiting-preserved
@@ -24,10 +25,7 @@ loop-waiting-preserved g c =
           next_walked image (roots_of (cursor_items 8 root_of image c.args.devices.now)) (cursor_items 8 root_of image c.loop-waiting.devices) (cursor_items 8 root_of image c.next_root.new.devices)
           c.in-Some.field-0-0 c.in-Some.root c.args.marks.now c.loop-waiting.marks c.walk_tree.new.marks so_far.same_number step.0 to step.1)
           so_far.walked
-          (if_both held
-          {R = λ image. (cursor_items 8 root_of image c.loop-waiting.devices ≡ (c.in-Some.field-0-0, c.in-Some.root) ∷ cursor_items 8 root_of image c.next_root.new.devices)
-              × AreWalked image (c.in-Some.root.0 ∷ []) c.loop-waiting.marks c.walk_tree.new.marks}
-          (λ image is first second. (first, second)) next walk);
+          (both_some held next walk);
       none = c.in_ok-walk_tree.ensures.none;
       same_number = c.in_ok-walk_tree.ensures.same_number ∙ so_far.same_number;
       room = omega arith;

@@ -1,0 +1,13 @@
+use Rattle.std.proofs.Common.{◌≡◌, ◌∙◌, sym}
+use Rattle.pd_shared_leaves.specs.Found.{marked_blocks}
+use Rattle.pd_shared_leaves.specs.Marks.{is_shared, mark_at}
+use Rattle.pd_shared_leaves.proofs.FoundLemmas.{filter_more}
+use Rattle.pd_shared_leaves.proofs.collect.shared_blocks_of.Goals as goal
+
+pub loop-b-preserved : goal.loop-b-preserved
+loop-b-preserved c =
+    c.in_ok-add_if_shared.ensures.added ∙ (rw c.loop-b.invariant (sym (filter_more (λ b. is_shared (mark_at c.args.marks.now b)) c.loop-b.b)))
+
+pub returns-clause-blocks : goal.returns-clause-blocks
+unfolding marked_blocks
+returns-clause-blocks c = c.loop-b.invariant
