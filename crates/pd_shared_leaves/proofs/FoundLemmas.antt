@@ -19,12 +19,19 @@ use Rattle.pd_shared_leaves.specs.declared.marks.Mark.TheVariants.{Unseen}
 use Rattle.pd_shared_leaves.specs.Found.{marked_blocks}
 use Rattle.pd_shared_leaves.specs.Leaves.{leaves_below}
 use Rattle.pd_shared_leaves.specs.Marks.{AreMarked, has_few_entries, is_shared, mark_at, mark_of, mark_often, mark_once, nodes_of, occurs}
+use Rattle.pd_shared_leaves.specs.Walk.{AreProper, AreWalked}
 use Rattle.pd_shared_leaves.proofs.OccursLemmas.{occurs-append, occurs-none, occurs-other}
 
 -- no block has a mark before the first walk
 pub unseen_marked : (image : List (List ℕ)) (blocks : ℕ) → AreMarked image [] (replicate blocks Unseen)
 unfolding AreMarked mark_of nodes_of occurs
 unseen_marked image blocks = λ b within. get_or-replicate blocks b Unseen Unseen (rw (length-replicate blocks Unseen) at within)
+
+-- so after walks over the trees of some roots the marks tell of these
+pub first_walk : (image : List (List ℕ)) (roots left : List ℕ) (blocks : ℕ) (old new : List Mark) → old ≡ replicate blocks Unseen → length new ≡ length old → left ≡ roots
+    → AreWalked image left old new → AreProper image new roots → AreMarked image roots new
+first_walk image roots left blocks old new unseen same is walked proper =
+    rw is at (walked [] tt (rw (is, sym same) proper) (rw unseen (unseen_marked image blocks)))
 
 -- one number more in a row
 range_more : (a n : ℕ) → range_with_len a (suc n) ≡ range_with_len a n ++ (a + n) ∷ []
@@ -150,14 +157,14 @@ same_leaves : (graph : Graph) (image : List (List ℕ)) (roots : List ℕ) → A
 same_leaves graph image [] all = refl
 same_leaves graph image (root ∷ roots) all = rw (all.0, same_leaves graph image roots all.1) refl
 
+count_occurs : (b : ℕ) (xs : List ℕ) → count_by (λ leaf. nat_eq leaf b) xs ≡ occurs b xs
+unfolding occurs
+count_occurs b xs = refl
+
 count_is : (graph : Graph) (image : List (List ℕ)) (b : ℕ) → AllByRecursion (λ root. leaf_blocks graph image root ≡ leaves_below image 63 root) (device_roots graph image)
     → count_by (λ leaf. nat_eq leaf b) (flat_map (leaf_blocks graph image) (device_roots graph image)) ≡ cond (is_inner_node (block_at image b)) 0 (occurs b (nodes_of image (device_roots graph image)))
 count_is graph image b all =
     rw (same_leaves graph image (device_roots graph image) all) (count_occurs b (flat_map (leaves_below image 63) (device_roots graph image)) ∙ leaves_occur image b (device_roots graph image))
-  where
-    count_occurs : (b : ℕ) (xs : List ℕ) → count_by (λ leaf. nat_eq leaf b) xs ≡ occurs b xs
-    unfolding occurs
-    count_occurs b xs = refl
 
 mark_tells : (graph : Graph) (image : List (List ℕ)) (marks : List Mark) (b : ℕ) → AllByRecursion (λ root. leaf_blocks graph image root ≡ leaves_below image 63 root) (device_roots graph image)
     → AreMarked image (device_roots graph image) marks → b < length marks → is_shared (mark_at marks b) ≡ is_shared_leaf graph image b

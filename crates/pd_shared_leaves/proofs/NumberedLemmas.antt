@@ -1,9 +1,11 @@
 -- Where a number is in a list that ascends.
-use Rattle.std.proofs.Common.{◌≡◌, ℕ, ◌+◌, ◌<◌, ◌≤◌, true, false, nat_eq, get_or, List, length, Some, None, refl, sym, arith, eq-eqb, inl, inr, lt-ltb, le-ltb}
+use Rattle.std.proofs.Common.{◌≡◌, ℕ, ◌+◌, ◌<◌, ◌≤◌, true, false, nat_eq, get_or, List, length, Some, None, Ok, Err, refl, sym, arith, eq-eqb, inl, inr, lt-ltb, le-ltb}
 use Rattle.std.specs.List.{position}
-use Rattle.std.specs.List.Sorted.{IsStrictlyIncreasing}
-use Rattle.std.proofs.lemmas.Bool.{cases_eq, ne_eqb}
+use Rattle.std.specs.List.Sorted.{IsBinarySearchResult, IsStrictlyIncreasing}
+use Rattle.std.specs.Ordering.{nat_cmp}
+use Rattle.std.proofs.lemmas.Bool.{cases_eq, cases_lt, ne_eqb}
 use Rattle.std.proofs.lemmas.List.Kept.{AllPairs-from_increasing}
+use Rattle.std.proofs.lemmas.List.Sorted.{searched}
 use Rattle.std.proofs.lemmas.List.Sums.{position_or_len_is}
 
 -- the numbers rise
@@ -26,3 +28,17 @@ pub found_none : (xs : List ℕ) (b : ℕ) → ((k : ℕ) → k < length xs → 
 found_none xs b others =
     let place = position_or_len_is (λ x. nat_eq x b) xs (length xs) 0 (omega arith) (λ k within. ne_eqb (get_or xs k 0) b (others k within)) (λ inside. absurd (omega arith)) in
     rw (place, le-ltb (length xs) (length xs) (omega arith)) refl
+
+-- so what a search answers is its place
+pub at_search : (xs : List ℕ) (b i : ℕ) → IsStrictlyIncreasing xs → IsBinarySearchResult (λ y. nat_cmp y b) xs (Ok i) → Some i ≡ position (λ x. nat_eq x b) xs
+at_search xs b i ascend by =
+    let at = searched xs b (Ok i) by (rises xs ascend) in
+    found_at xs b i ascend at.0 at.1
+
+pub no_search : (xs : List ℕ) (b i : ℕ) → IsStrictlyIncreasing xs → IsBinarySearchResult (λ y. nat_cmp y b) xs (Err i) → None ≡ position (λ x. nat_eq x b) xs
+no_search xs b i ascend by =
+    let at = searched xs b (Err i) by (rises xs ascend) in
+    found_none xs b (λ k within same. elim (cases_lt k i) [
+      | inl before ↦ let below = at.1.0 k before in omega arith
+      | inr after ↦ let above = at.1.1 k after within in omega arith
+    ])

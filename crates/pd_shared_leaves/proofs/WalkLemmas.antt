@@ -25,9 +25,9 @@ of_any None all = tt
 of_any (Some x) all = all x
 
 -- and two facts at once
-pub both_some : {X : Type 0} {P Q : X → Type 0} → (o : Option X) → IfSome o P → IfSome o Q → IfSome o (λ x. P x × Q x)
-both_some None p q = tt
-both_some (Some x) p q = (p, q)
+pub both_some : {X : Type 0} → (P Q : X → Type 0) (o : Option X) → IfSome o P → IfSome o Q → IfSome o (λ x. P x × Q x)
+both_some P Q None p q = tt
+both_some P Q (Some x) p q = (p, q)
 
 -- both parts of a list
 pub all_front : {X : Type 0} → (P : X → Type 0) (xs ys : List X) → AllByRecursion P (xs ++ ys) → AllByRecursion P xs

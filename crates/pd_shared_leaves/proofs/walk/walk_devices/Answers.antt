@@ -25,7 +25,8 @@ loop-waiting-preserved g c =
           next_walked image (roots_of (cursor_items 8 root_of image c.args.devices.now)) (cursor_items 8 root_of image c.loop-waiting.devices) (cursor_items 8 root_of image c.next_root.new.devices)
           c.in-Some.field-0-0 c.in-Some.root c.args.marks.now c.loop-waiting.marks c.walk_tree.new.marks so_far.same_number step.0 to step.1)
           so_far.walked
-          (both_some held next walk);
+          (both_some (λ image. cursor_items 8 root_of image c.loop-waiting.devices ≡ (c.in-Some.field-0-0, c.in-Some.root) ∷ cursor_items 8 root_of image c.next_root.new.devices)
+          (λ image. AreWalked image (c.in-Some.root.0 ∷ []) c.loop-waiting.marks c.walk_tree.new.marks) held next walk);
       none = c.in_ok-walk_tree.ensures.none;
       same_number = c.in_ok-walk_tree.ensures.same_number ∙ so_far.same_number;
       room = omega arith;
