@@ -1,5 +1,5 @@
 -- The shared leaves that the marks tell are those of the pool.
-use Rattle.std.proofs.Common.{◌≡◌, ℕ, zero, suc, ◌+◌, ◌<◌, ◌≤◌, Bool, true, false, ◌&&◌, cond, nat_eq, nat_le, nat_lt, List, [], ◌∷◌, ◌++◌, length, map, replicate, get_or, refl, sym, ap, ◌∙◌, arith, lt-ltb}
+use Rattle.std.proofs.Common.{◌≡◌, ℕ, zero, suc, ◌+◌, ◌<◌, ◌≤◌, Bool, true, false, ◌&&◌, cond, nat_eq, nat_le, nat_lt, List, [], ◌∷◌, ◌++◌, length, map, replicate, get_or, refl, sym, ap, ◌∙◌, arith, lt-ltb, min, subst}
 use Rattle.std.specs.List.{AllByRecursion, count_by, filter, flat_map, range_with_len}
 use Rattle.std.specs.List.Sorted.{IsStrictlyIncreasing}
 use Rattle.std.proofs.lemmas.Bool.{eqb-true}
@@ -7,20 +7,27 @@ use Rattle.std.proofs.lemmas.List.{get_or-replicate, length-map, length-replicat
 use Rattle.std.proofs.lemmas.List.Elements.{filter-append}
 use Rattle.std.proofs.lemmas.List.FromFn.{get_or-range_with_len, length-map-range_with_len, length-range_with_len}
 use Rattle.std.proofs.lemmas.List.Kept.{IsStrictlyIncreasing-filter}
+use Rattle.pd_kinds.specs.declared.kind.Kind.TheVariants.{Thin}
+use Rattle.pd_kinds.specs.declared.kind.Stage.TheVariants.{Whole}
+use Rattle.pd_kinds.specs.declared.limits.TheConstants.{MAX_META_BLOCKS}
+use Rattle.pd_kinds.specs.declared.thin_super.ThinSuper.{ThinSuper}
 use Rattle.pd_kinds.specs.Node.{Entry, entry_count, is_inner_node, key_at, value_at}
 use Rattle.pd_kinds.specs.Graph.{Graph, block_at}
 use Rattle.pd_kinds.specs.Layout.{leaf_entries, node_entries_of}
-use Rattle.pd_kinds.specs.ThinFormat.{mapped_block, mapped_time}
+use Rattle.pd_kinds.specs.Stages.{faults}
+use Rattle.pd_kinds.specs.ThinFormat.{mapped_block, mapped_time, thin_graph}
+use Rattle.pd_kinds.specs.ThinSuper.{thin_fields}
 use Rattle.pd_shapes.specs.ImageShape.{device_roots, is_shared_leaf, leaf_blocks, mappings_in, shared_leaves}
 use Rattle.pd_tree.specs.Below.{gather, nodes_below}
 use Rattle.pd_tree.specs.Levels.{node_kids}
 use Rattle.pd_shared_leaves.specs.declared.marks.Mark.{Mark}
 use Rattle.pd_shared_leaves.specs.declared.marks.Mark.TheVariants.{Unseen}
 use Rattle.pd_shared_leaves.specs.Found.{marked_blocks}
-use Rattle.pd_shared_leaves.specs.Leaves.{leaves_below}
+use Rattle.pd_shared_leaves.specs.Leaves.{IsProperTree, leaves_below, roots_below}
 use Rattle.pd_shared_leaves.specs.Marks.{AreMarked, has_few_entries, is_shared, mark_at, mark_of, mark_often, mark_once, nodes_of, occurs}
 use Rattle.pd_shared_leaves.specs.Walk.{AreProper, AreWalked}
 use Rattle.pd_shared_leaves.proofs.OccursLemmas.{occurs-append, occurs-none, occurs-other}
+use Rattle.pd_shared_leaves.proofs.RootLemmas.{nr_fits, nr_is}
 
 -- no block has a mark before the first walk
 pub unseen_marked : (image : List (List ℕ)) (blocks : ℕ) → AreMarked image [] (replicate blocks Unseen)
@@ -34,19 +41,14 @@ first_walk image roots left blocks old new unseen same is walked proper =
     rw is at (walked [] tt (rw (is, sym same) proper) (rw unseen (unseen_marked image blocks)))
 
 -- one number more in a row
-range_more : (a n : ℕ) → range_with_len a (suc n) ≡ range_with_len a n ++ (a + n) ∷ []
-range_more a zero =
-    let same : a + 0 ≡ a = omega arith in
+range_more : (a n j : ℕ) → a + n ≡ j → range_with_len a (suc n) ≡ range_with_len a n ++ j ∷ []
+range_more a zero j is =
+    let same : a ≡ j = omega arith in
     rw same refl
-range_more a (suc n) =
-    let same : a + 1 + n ≡ a + suc n = omega arith in
-    ap (λ (xs : List ℕ). a ∷ xs) (rw same at (range_more (a + 1) n))
+range_more a (suc n) j is = ap (λ (xs : List ℕ). a ∷ xs) (range_more (a + 1) n j (omega arith))
 
 pub filter_more : (p : ℕ → Bool) (n : ℕ) → filter p (range_with_len 0 (n + 1)) ≡ filter p (range_with_len 0 n) ++ cond (p n) (n ∷ []) []
-filter_more p n =
-    let next : n + 1 ≡ suc n = omega arith in
-    let same : 0 + n ≡ n = omega arith in
-    rw (next, range_more 0 n, same) (filter-append p (range_with_len 0 n) (n ∷ []))
+filter_more p n = ap (λ (xs : List ℕ). filter p xs) (range_more 0 n n (omega arith)) ∙ filter-append p (range_with_len 0 n) (n ∷ [])
 
 -- the marked blocks ascend
 range_increases : (n : ℕ) → IsStrictlyIncreasing (range_with_len 0 n)
@@ -68,7 +70,7 @@ unless_add : (inner : Bool) (a c : ℕ) → cond inner 0 a + cond inner 0 c ≡ 
 unless_add true a c = refl
 unless_add false a c = refl
 
-unless_zero : (inner : Bool) → cond inner 0 0 ≡ 0
+unless_zero : (inner : Bool) → ◌≡◌ {A = ℕ} (cond inner 0 0) 0
 unless_zero true = refl
 unless_zero false = refl
 
@@ -180,3 +182,19 @@ unfolding marked_blocks shared_leaves
 found_leaves graph image marks leaves marked number =
     rw (← number) (same_filter (λ b. is_shared (mark_at marks b)) (is_shared_leaf graph image) 0 (length marks)
     (λ b within. mark_tells graph image marks b leaves marked (omega arith)))
+
+-- and so where an image has no faults
+pub found : (image : List (List ℕ)) (s : ThinSuper) (marks : List Mark) → faults Thin Whole image ≡ [] → s ≡ thin_fields (block_at image 0)
+    → device_roots (thin_graph (block_at image 0)) image ≡ roots_below image (thin_fields (block_at image 0)).mapping_root
+    → AllByRecursion (λ root. leaf_blocks (thin_graph (block_at image 0)) image root ≡ leaves_below image 63 root) (device_roots (thin_graph (block_at image 0)) image)
+    → AllByRecursion (IsProperTree image (thin_fields (block_at image 0)).meta_map.blocks) (device_roots (thin_graph (block_at image 0)) image)
+    → (AreProper image marks (roots_below image s.mapping_root) → AreMarked image (roots_below image s.mapping_root) marks)
+    → length marks ≡ min (min (length image) s.meta_map.blocks) MAX_META_BLOCKS
+    → marked_blocks marks ≡ shared_leaves (thin_graph (block_at image 0)) image
+found image s marks none same roots leaves trees marked number =
+    let graph = thin_graph (block_at image 0) in
+    let told = subst (λ (t : ThinSuper). AreProper image marks (roots_below image t.mapping_root) → AreMarked image (roots_below image t.mapping_root) marks) same marked in
+    let told_roots = subst (λ (rs : List ℕ). AreProper image marks rs → AreMarked image rs marks) (sym roots) told in
+    let size : length marks ≡ graph.nr = subst (λ (t : ThinSuper). length marks ≡ min (min (length image) t.meta_map.blocks) MAX_META_BLOCKS) same number ∙ nr_fits image none in
+    let proper = subst (λ (n : ℕ). AllByRecursion (IsProperTree image n) (device_roots graph image)) (sym (size ∙ nr_is (block_at image 0))) trees in
+    found_leaves graph image marks leaves (told_roots proper) size

@@ -39,6 +39,6 @@ pub no_search : (xs : List ℕ) (b i : ℕ) → IsStrictlyIncreasing xs → IsBi
 no_search xs b i ascend by =
     let at = searched xs b (Err i) by (rises xs ascend) in
     found_none xs b (λ k within same. elim (cases_lt k i) [
-      | inl before ↦ let below = at.1.0 k before in omega arith
-      | inr after ↦ let above = at.1.1 k after within in omega arith
+      | inl before ↦ let below = at.1 k before in omega arith
+      | inr after ↦ let above = at.2 k after within in omega arith
     ])

@@ -47,6 +47,27 @@ fn start_devices(alloc: Global, root: u64) -> Result<Cursor<Root>, CheckFault>
     }
 }
 
+/// Walks over the trees of all devices of the pool with this superblock, where no block has a mark yet.
+fn walk_pool<D: Device>(
+    alloc: Global,
+    dev: &mut D,
+    s: &ThinSuper,
+    marks: &mut [Mark],
+) -> Result<(), CheckFault>
+    requires attached { IsAttached (D.state dev.old) }
+    requires root { s.now.mapping_root < (D.state dev.old).blocks }
+    requires within { length marks.old ≤ (D.state dev.old).blocks }
+    requires unseen { marks.old ≡ replicate (length marks.old) Unseen }
+    ensures marked { OnOk result (IfSome (D.state dev.old).held (λ image. AreProper image marks.new (roots_below image s.now.mapping_root)
+        → AreMarked image (roots_below image s.now.mapping_root) marks.new)) }
+    ensures same_number { length marks.new ≡ length marks.old }
+    ensures kept { OnlyReads (D.state dev.old) (D.state dev.new) }
+    ensures faults { CountsCheckFault result (D.state dev.old).faults (D.state dev.new).faults }
+{
+    let mut devices = start_devices(alloc, s.mapping_root)?;
+    walk_devices(alloc, marks, &mut devices, dev)
+}
+
 /// The marks of the metadata blocks of the pool with this superblock, after walks over the trees of all devices.
 pub(crate) fn find_marks<D: Device>(
     alloc: Global,
@@ -64,8 +85,7 @@ pub(crate) fn find_marks<D: Device>(
 {
     let blocks = dev.blocks().min(s.meta_map.blocks).min(MAX_META_BLOCKS);
     let mut marks = no_marks(alloc, blocks)?;
-    let mut devices = start_devices(alloc, s.mapping_root)?;
-    walk_devices(alloc, marks.as_mut_slice(), &mut devices, dev)?;
+    walk_pool(alloc, dev, s, marks.as_mut_slice())?;
     Ok(marks)
 }
 

@@ -1,4 +1,5 @@
-use Rattle.std.proofs.Common.{◌≡◌, ◌∙◌, sym}
+use Rattle.std.proofs.Common.{◌≡◌, ℕ, ◌∙◌, length, sym, subst, arith}
+use Rattle.std.specs.List.{filter, range_with_len}
 use Rattle.pd_shared_leaves.specs.Found.{marked_blocks}
 use Rattle.pd_shared_leaves.specs.Marks.{is_shared, mark_at}
 use Rattle.pd_shared_leaves.proofs.FoundLemmas.{filter_more}
@@ -10,4 +11,6 @@ loop-b-preserved c =
 
 pub returns-clause-blocks : goal.returns-clause-blocks
 unfolding marked_blocks
-returns-clause-blocks c = c.loop-b.invariant
+returns-clause-blocks c =
+    let all : c.loop-b.b ≡ length c.args.marks.now = omega arith in
+    subst (λ (n : ℕ). c.loop-b.blocks.items ≡ filter (λ b. is_shared (mark_at c.args.marks.now b)) (range_with_len 0 n)) all c.loop-b.invariant
