@@ -48,7 +48,10 @@ range_more a zero j is =
 range_more a (suc n) j is = ap (λ (xs : List ℕ). a ∷ xs) (range_more (a + 1) n j (omega arith))
 
 pub filter_more : (p : ℕ → Bool) (n : ℕ) → filter p (range_with_len 0 (n + 1)) ≡ filter p (range_with_len 0 n) ++ cond (p n) (n ∷ []) []
-filter_more p n = ap (λ (xs : List ℕ). filter p xs) (range_more 0 n n (omega arith)) ∙ filter-append p (range_with_len 0 n) (n ∷ [])
+filter_more p n =
+    let next : suc n ≡ n + 1 = omega arith in
+    subst (λ (m : ℕ). filter p (range_with_len 0 m) ≡ filter p (range_with_len 0 n) ++ cond (p n) (n ∷ []) []) next
+    (ap (λ (xs : List ℕ). filter p xs) (range_more 0 n n (omega arith)) ∙ filter-append p (range_with_len 0 n) (n ∷ []))
 
 -- the marked blocks ascend
 range_increases : (n : ℕ) → IsStrictlyIncreasing (range_with_len 0 n)
@@ -180,8 +183,9 @@ pub found_leaves : (graph : Graph) (image : List (List ℕ)) (marks : List Mark)
     → AreMarked image (device_roots graph image) marks → length marks ≡ graph.nr → marked_blocks marks ≡ shared_leaves graph image
 unfolding marked_blocks shared_leaves
 found_leaves graph image marks leaves marked number =
-    rw (← number) (same_filter (λ b. is_shared (mark_at marks b)) (is_shared_leaf graph image) 0 (length marks)
-    (λ b within. mark_tells graph image marks b leaves marked (omega arith)))
+    same_filter (λ b. is_shared (mark_at marks b)) (is_shared_leaf graph image) 0 (length marks)
+    (λ b within. mark_tells graph image marks b leaves marked (omega arith))
+    ∙ ap (λ (n : ℕ). filter (is_shared_leaf graph image) (range_with_len 0 n)) number
 
 -- and so where an image has no faults
 pub found : (image : List (List ℕ)) (s : ThinSuper) (marks : List Mark) → faults Thin Whole image ≡ [] → s ≡ thin_fields (block_at image 0)
