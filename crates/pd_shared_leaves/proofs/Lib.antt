@@ -5,3 +5,11 @@ pub mod ShapeLemmas
 pub mod MemberLemmas
 pub mod LeafLemmas
 pub mod GivenLemmas
+mod BelowLemmas
+mod DeviceLemmas
+mod FoundLemmas
+mod MarkLemmas
+mod NumberLemmas
+mod NumberedLemmas
+mod OccursLemmas
+mod WalkLemmas
