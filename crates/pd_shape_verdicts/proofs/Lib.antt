@@ -1,0 +1,3 @@
+pub mod NeedGrows
+pub mod ToldLeaves
+pub mod WholeNeed
