@@ -1,3 +1,6 @@
 pub mod PieceLemmas
 pub mod LeafLemmas
 pub mod SoundShape
+pub mod RangeLemmas
+pub mod PiecesBack
+pub mod ShapeBack

@@ -1,6 +1,11 @@
-//! The shape of a pool's image: it is one, and means what the image does.
+//! The shape of a pool's image: it is one, and means what the image does; that of a laid shape is that shape; and what is laid of
+//! a sound pool's shape has the same shape again.
 #![tactic(auto)]
 
+mod exact;
+mod laid;
 mod sound;
 
+pub use exact::told_shapes_come_back;
+pub use laid::laid_shapes_keep_their_shape;
 pub use sound::sound_pools_have_a_shape;

@@ -52,7 +52,7 @@ AreLeast graph image size role h row = AllByRecursion (λ (e : Entry). BeginsWit
 
 module _ (graph : Graph) (image : List (List ℕ)) where
   -- what stands below a leaf is its own
-  leaf_gathered : {X : Type 0} → (own : ℕ → List X) (p j : ℕ) → is_inner_pair graph image p ≡ false
+  pub leaf_gathered : {X : Type 0} → (own : ℕ → List X) (p j : ℕ) → is_inner_pair graph image p ≡ false
       → gathered (is_inner_pair graph image) (children graph image) own j p ≡ own p
   unfolding gathered
   leaf_gathered own p zero leaf = rw leaf refl
@@ -69,7 +69,7 @@ module _ (graph : Graph) (image : List (List ℕ)) where
     children_are = let inner = at.inner in rw inner at.leads
 
     -- below an inner node stands what is below its children
-    inner_gathered : {X : Type 0} → (own : ℕ → List X) (j : ℕ)
+    pub inner_gathered : {X : Type 0} → (own : ℕ → List X) (j : ℕ)
         → gathered (is_inner_pair graph image) (children graph image) own (suc j) (pair place role)
         ≡ flat_map (λ (e : Entry). gathered (is_inner_pair graph image) (children graph image) own j (pair e.value role)) entries
     unfolding gathered

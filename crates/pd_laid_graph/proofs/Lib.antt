@@ -11,6 +11,7 @@ pub mod Levels
 pub mod Ascending
 pub mod Rows
 pub mod Roots
+pub mod LeafBlocks
 pub mod Nodes
 pub mod Trees
 pub mod Names

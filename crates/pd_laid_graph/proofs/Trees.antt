@@ -8,8 +8,8 @@ use Rattle.std.proofs.lemmas.Nat.{le-div}
 use Rattle.pd_kinds.specs.Edge.{Edge, edge_of}
 use Rattle.pd_kinds.specs.Node.{Entry, is_ascending, max_entries}
 use Rattle.pd_kinds.specs.Layout.{Tree, Layout, tree, graph_of}
-use Rattle.pd_kinds.specs.Graph.{Graph, pair, is_inner_pair}
-use Rattle.pd_kinds.specs.Order.{is_deep}
+use Rattle.pd_kinds.specs.Graph.{Graph, block_of, pair, is_inner_pair}
+use Rattle.pd_kinds.specs.Order.{children, gathered, is_deep}
 use Rattle.pd_kinds.specs.Trees.{keys_of}
 use Rattle.pd_laws.proofs.AllLemmas.{all_from, all_from_two, all_append, all_flat_map, all_mapped}
 use Rattle.pd_spells.specs.Need.{nodes_for}
@@ -23,6 +23,7 @@ use Rattle.pd_laid_graph.proofs.ListLemmas.{all_front, all_back}
 use Rattle.pd_laid_graph.proofs.FromLemmas.{from_front, from_back, from_both}
 use Rattle.pd_laid_graph.specs.Items.{AreItems, IsRoot, IsTreeSeen}
 use Rattle.pd_laid_graph.proofs.Ascending.{firsts_ascend, firsts_keep, parts_ascend}
+use Rattle.pd_laid_graph.proofs.LeafBlocks.{leaves_under, root_under, row_blocks}
 use Rattle.pd_laid_graph.proofs.Levels.{IsInnerAt, no_chain}
 use Rattle.pd_laid_graph.proofs.Nodes.{IsSeenInner, IsSeenLeaf, inner_seen, leaf_seen}
 use Rattle.pd_laid_graph.proofs.Roots.{AreLeavesAt, IsOrdered, all_above, leaves_keys, leaves_least, leaves_settled}
@@ -256,6 +257,8 @@ module _ (roles nr data_blocks : ℕ) (table : ℕ → Layout) (image : List (Li
     pub root : IsRoot this image t.size role (root_above place row) items
     pub fitting : AllFrom (IsFitting this image blocks limit) place (map (laid_inner role) (inners_above place row))
     pub named : AllByRecursion (λ (e : Entry). IsNamed blocks e.value) row
+    -- the leaves below the root are those of the row
+    pub leaves_are : gathered (is_inner_pair this image) (children this image) (λ p. block_of p ∷ []) 63 (pair (root_above place row) role) ≡ values_of row
 
   pub row_above : (place : ℕ) (row : List Entry) (groups : List (List Entry)) (items : List Entry) → 1 ≤ place → place + length (inners_above place row) ≤ limit
       → IsRow place row groups items → AllFrom (IsInPlace image blocks) place (map (laid_inner role) (inners_above place row))
@@ -276,6 +279,7 @@ module _ (roles nr data_blocks : ℕ) (table : ℕ → Layout) (image : List (Li
       let names = inners_name 10 place row row_is.some short in
       let seen = inners_seen place inners room stand nodes in
       let settled = leaves_settled this image t.size role row groups row_is.leaves in
+      let stable = leaves_under this image role (λ p. block_of p ∷ []) t.size row groups row_is.leaves in
       let all_is = settled.1 ∙ whole in
       let above = all_above this image t.size role 10 0 place row row_is.some short (omega arith) settled.0
       (λ many. leaves_least this image t.size role row groups row_is.leaves (row_is.filled many)) (rw all_is row_is.ascending) (inners_at place inners seen) in
@@ -296,6 +300,8 @@ module _ (roles nr data_blocks : ℕ) (table : ℕ → Layout) (image : List (Li
         fitting = inners_fit place inners room seen above.ordered nodes each_roles
             (from_range (IsNamed blocks) place inners (all_back (IsNamed blocks) (values_of row) (range_with_len place (length inners)) all_named));
         named = by_values (IsNamed blocks) row (all_front (IsNamed blocks) (values_of row) (range_with_len place (length inners)) all_named);
+        leaves_are = root_under this image role (λ p. block_of p ∷ []) 10 0 place row row_is.some short (omega arith) stable.0 (inners_at place inners seen)
+            ∙ (stable.1 ∙ row_blocks role small row);
       }
     where
       inner_roles : (place : ℕ) (inners : List (List Entry)) → AllFrom (IsInPlace image blocks) place (map (laid_inner role) inners) → AllFrom (λ q g. role_at blocks q ≡ role) place inners

@@ -31,7 +31,7 @@ use Rattle.pd_laid_shared.proofs.Counting.{length-overflow}
 abbrev HasTime : Mapping → Type 0
 HasTime m = m.time < 2 ^ 24
 
-in_two : (P : Mapping → Type 0) (xs ys : List Mapping) → AllByRecursion P (xs ++ ys) → AllByRecursion P xs × AllByRecursion P ys
+pub in_two : (P : Mapping → Type 0) (xs ys : List Mapping) → AllByRecursion P (xs ++ ys) → AllByRecursion P xs × AllByRecursion P ys
 in_two P [] ys all = (tt, all)
 in_two P (x ∷ xs) ys all = let rest = in_two P xs ys all.1 in ((all.0, rest.0), rest.1)
 
@@ -53,7 +53,7 @@ devices_times blocks least leaves (d ∷ ds) are =
     (own_times leaves d.pieces (times_of_mappings blocks 0 (flat_map (piece_mappings leaves) d.pieces) are.0.mappings))
     (devices_times blocks (d.id + 1) leaves ds are.1)
 
-leaves_times : (w : ThinShape) → IsShape w → IsLawfulPool (pool_of w) → AllByRecursion HasTimes w.leaves
+pub leaves_times : (w : ThinShape) → IsShape w → IsLawfulPool (pool_of w) → AllByRecursion HasTimes w.leaves
 leaves_times w is lawful =
     let spelled = shape_spelled w is lawful in
     let runs = spelled.means.leaves in

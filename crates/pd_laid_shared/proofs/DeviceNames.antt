@@ -24,7 +24,7 @@ range_both place m n b =
     ap (λ (range : List ℕ). count_in range b) (range_on place m n) ∙ count-append (range_with_len place m) (range_with_len (place + m) n) b
 
 -- a row names the places of a device's own leaves, and the shared leaves that it uses
-row_names : (leaves : List (List Entry)) (place : ℕ) (pieces : List Piece) (b : ℕ)
+pub row_names : (leaves : List (List Entry)) (place : ℕ) (pieces : List Piece) (b : ℕ)
     → count_in (values_of (pieces_row leaves place pieces)) b
     ≡ count_in (range_with_len place (length (flat_map own_leaves pieces))) b + count_in (behind_first (flat_map uses_of_piece pieces)) b
 row_names leaves place [] b = refl
@@ -61,7 +61,7 @@ row_some leaves place (own ms ∷ pieces) =
     omega (arith, number, both, one)
 row_some leaves place (shared k ∷ pieces) = omega arith
 
-some_uses : (pieces : List Piece) → flat_map uses_of_piece (some_pieces pieces) ≡ flat_map uses_of_piece pieces
+pub some_uses : (pieces : List Piece) → flat_map uses_of_piece (some_pieces pieces) ≡ flat_map uses_of_piece pieces
 some_uses [] = refl
 some_uses (piece ∷ pieces) = refl
 

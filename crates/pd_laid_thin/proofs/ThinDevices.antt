@@ -6,7 +6,8 @@ use Rattle.std.proofs.lemmas.List.{length-append, length-map}
 use Rattle.std.proofs.lemmas.Option.{unwrap_or-slice_get}
 use Rattle.pd_kinds.specs.Node.{Entry}
 use Rattle.pd_kinds.specs.Layout.{Tree, graph_of}
-use Rattle.pd_kinds.specs.Graph.{Graph}
+use Rattle.pd_kinds.specs.Graph.{Graph, block_of, is_inner_pair, pair}
+use Rattle.pd_kinds.specs.Order.{children, gathered}
 use Rattle.pd_kinds.specs.Meaning.{Mapping}
 use Rattle.pd_kinds.specs.ThinFormat.{mappings_tree, thin_layout}
 use Rattle.pd_kinds.specs.Trees.{entries_below}
@@ -21,10 +22,17 @@ use Rattle.pd_laid_graph.proofs.FromLemmas.{from_back, from_both, from_follows, 
 use Rattle.pd_laid_graph.specs.Items.{AreItems}
 use Rattle.pd_laid_graph.proofs.Names.{root_has}
 use Rattle.pd_laid_graph.proofs.Roots.{AreLeavesAt, leaves_both}
+use Rattle.pd_laid_graph.proofs.Rows.{values_of}
 use Rattle.pd_laid_graph.proofs.Trees.{IsRow, SeenLeaf, leaf_roles, leaves_are, leaves_fit, leaves_seen, parts_items, row_above, seen_at}
 use Rattle.pd_laid_thin.proofs.ThinItems.{DeviceFits, mapping_items_are}
 use Rattle.pd_laid_thin.proofs.ThinRoles.{mappings_role}
 use Rattle.pd_laid_thin.proofs.ThinRows.{PieceFits, all_by_index, from_by_index, groups_filled, groups_joined, holds_among, own_most, own_part, piece_groups, pieces_fit, row_all, row_own, row_uses, shared_part, some_mappings, uses_fit}
+
+-- the leaves below a device's root are those of its row, its own ones and those that it shares
+pub record IsRowSeen (graph : Graph) (image : List (List ℕ)) (leaves : List (List Mapping)) (place : ℕ) (d : ShapeDevice) : Type 0 where
+  pub blocks_are : gathered (is_inner_pair graph image) (children graph image) (λ p. block_of p ∷ []) 63 (pair (device_root (map mapping_items leaves) place d) 3)
+      ≡ values_of (device_row (map mapping_items leaves) place d)
+  pub leaves_at : AreLeavesAt graph image 8 3 (device_row (map mapping_items leaves) place d) (flat_map (piece_groups (map mapping_items leaves)) (some_pieces d.pieces))
 
 -- below the roots of devices stand their mappings
 abbrev pub AreRead : Graph → List (List ℕ) → Tree → List (List Mapping) → ℕ → List ShapeDevice → Type 0
@@ -32,6 +40,12 @@ AreRead graph image t leaves place [] = Unit {0}
 AreRead graph image t leaves place (d ∷ ds) =
     (entries_below graph image 8 3 (device_root (map mapping_items leaves) place d) ≡ mapping_items (flat_map (piece_mappings leaves) d.pieces))
     × AreRead graph image t leaves (place + length (laid_device t (map mapping_items leaves) place d)) ds
+
+-- and the leaves of their rows
+abbrev pub AreRows : Graph → List (List ℕ) → Tree → List (List Mapping) → ℕ → List ShapeDevice → Type 0
+AreRows graph image t leaves place [] = Unit {0}
+AreRows graph image t leaves place (d ∷ ds) =
+    IsRowSeen graph image leaves place d × AreRows graph image t leaves (place + length (laid_device t (map mapping_items leaves) place d)) ds
 
 -- mappings have a role, of few, and values of 8 bytes
 pub known : 3 < 11
@@ -169,6 +183,7 @@ module _ (n data_blocks : ℕ) (image : List (List ℕ)) (blocks : List LaidBloc
       pub entries_are : entries_below this image 8 3 (device_root groups place d) ≡ mapping_items (flat_map (piece_mappings leaves) d.pieces)
       pub fitting : AllFrom (IsFitting this image blocks limit) place (laid_device t groups place d)
       pub uses_named : AllByRecursion (λ k. IsNamed blocks (1 + k)) (uses_of d)
+      pub row_seen : IsRowSeen this image leaves place d
 
     one_row : (place : ℕ) → length (pieces_row groups place (own [] ∷ [])) ≡ 1
     unfolding mapping_items
@@ -235,6 +250,7 @@ module _ (n data_blocks : ℕ) (image : List (List ℕ)) (blocks : List LaidBloc
               place own_groups seen items (row_own (IsNamed blocks) groups place pieces above.named))
               (rw leaf_count above.fitting);
           uses_named = unused d.pieces (row_uses (IsNamed blocks) groups place pieces above.named);
+          row_seen = record { blocks_are = above.leaves_are; leaves_at = row_is.leaves };
         }
       where
         unused : (pieces : List Piece) → AllByRecursion (λ k. IsNamed blocks (1 + k)) (flat_map uses_of_piece (some_pieces pieces)) → AllByRecursion (λ k. IsNamed blocks (1 + k)) (flat_map uses_of_piece pieces)
@@ -246,13 +262,14 @@ module _ (n data_blocks : ℕ) (image : List (List ℕ)) (blocks : List LaidBloc
       pub entries_are : AreRead this image t leaves place ds
       pub fitting : AllFrom (IsFitting this image blocks limit) place (laid_devices t groups place ds)
       pub uses_named : AllByRecursion (λ k. IsNamed blocks (1 + k)) (flat_map uses_of ds)
+      pub rows : AreRows this image t leaves place ds
 
     pub devices_seen : (place : ℕ) (ds : List ShapeDevice) → 1 + length leaves ≤ place → place + length (laid_devices t groups place ds) ≤ limit
         → AllByRecursion (DeviceFits data_blocks leaves) ds → AllByRecursion (λ (d : ShapeDevice). ArePieces (length leaves) d.pieces) ds
         → AllFrom (IsInPlace image blocks) place (laid_devices t groups place ds)
         → AllByRecursion (λ (e : Entry). IsNamed blocks e.value) (top_items t groups place ds) → AreDevicesSeen place ds
     unfolding laid_devices top_items
-    devices_seen place [] behind_shared room fit are stand named = record { entries_are = tt; fitting = tt; uses_named = tt }
+    devices_seen place [] behind_shared room fit are stand named = record { entries_are = tt; fitting = tt; uses_named = tt; rows = tt }
     devices_seen place (d ∷ ds) behind_shared room fit are stand named =
         let here = laid_device t groups place d in
         let rest = laid_devices t groups (place + length here) ds in
@@ -263,4 +280,5 @@ module _ (n data_blocks : ℕ) (image : List (List ℕ)) (blocks : List LaidBloc
           entries_are = (first.entries_are, others.entries_are);
           fitting = from_both (IsFitting this image blocks limit) place here rest first.fitting others.fitting;
           uses_named = all_append (λ k. IsNamed blocks (1 + k)) (uses_of d) (flat_map uses_of ds) first.uses_named others.uses_named;
+          rows = (first.row_seen, others.rows);
         }

@@ -113,11 +113,11 @@ module _ (w : ThinShape) (n : ℕ) (image : List (List ℕ)) (few : n ≤ 416160
   index_is =
       ap (λ (f : ThinFields). entries_below this image 16 5 f.data_map.bitmap_root) super_is.fields_are ∙ (data_index_seen w n image few fits shape room stand).root.entries_are
 
-  tops_are : entries_below (graph_of 11 n w.data_blocks (thin_layout n w.data_blocks)) image 8 2 (thin_fields (block_at image 0)).mapping_root ≡ tops w
+  pub tops_are : entries_below (graph_of 11 n w.data_blocks (thin_layout n w.data_blocks)) image 8 2 (thin_fields (block_at image 0)).mapping_root ≡ tops w
   unfolding pool_fields
   tops_are = ap (λ (f : ThinFields). entries_below this image 8 2 f.mapping_root) super_is.fields_are ∙ (tops_seen w n image few fits shape room stand).root.entries_are
 
-  details_are : entries_below (graph_of 11 n w.data_blocks (thin_layout n w.data_blocks)) image 24 4 (thin_fields (block_at image 0)).details_root ≡ details_items w.devices
+  pub details_are : entries_below (graph_of 11 n w.data_blocks (thin_layout n w.data_blocks)) image 24 4 (thin_fields (block_at image 0)).details_root ≡ details_items w.devices
   unfolding pool_fields
   details_are = ap (λ (f : ThinFields). entries_below this image 24 4 f.details_root) super_is.fields_are ∙ (details_seen w n image few fits shape room stand).root.entries_are
 
@@ -194,7 +194,7 @@ module _ (w : ThinShape) (n : ℕ) (image : List (List ℕ)) (few : n ≤ 416160
     stored_data = stored_data_in image data_index data_over;
   }
 
-  graph_is : thin_graph (block_at image 0) ≡ graph_of 11 n w.data_blocks (thin_layout n w.data_blocks)
+  pub graph_is : thin_graph (block_at image 0) ≡ graph_of 11 n w.data_blocks (thin_layout n w.data_blocks)
   unfolding thin_graph pool_fields
   graph_is =
       ap₂ (λ (blocks data_blocks : ℕ). graph_of 11 blocks data_blocks (thin_layout blocks data_blocks))
@@ -236,7 +236,7 @@ module _ (w : ThinShape) (n : ℕ) (image : List (List ℕ)) (few : n ≤ 416160
     devices = devices;
   }
 
-  laid_means : thin_meaning image ≡ pool_of w
+  pub laid_means : thin_meaning image ≡ pool_of w
   unfolding thin_meaning pool_of pool_fields
   laid_means =
       let devices = ap (λ (g : Graph). map (thin_device g image (entries_below g image 24 4 fields_at.details_root)) (entries_below g image 8 2 fields_at.mapping_root)) graph_is

@@ -1,0 +1,4 @@
+pub mod NeedGrows
+pub mod ToldLeaves
+pub mod WholeNeed
+pub mod Unshared
