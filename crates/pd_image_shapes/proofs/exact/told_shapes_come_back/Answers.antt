@@ -3,7 +3,15 @@ use Rattle.pd_kinds.specs.Limits.{room_of}
 use Rattle.pd_spells.specs.Lawful.{IsLawfulPool}
 use Rattle.pd_laid_thin.specs.CleanPool.{IsCleanPool}
 use Rattle.pd_shapes.specs.ImageShape.{image_shape}
+use Rattle.pd_shapes.specs.SharedText.{text_of_shape}
 use Rattle.pd_image_shapes.proofs.exact.told_shapes_come_back.Goals as goal
+
+pub returns-clause-accepted_shape : goal.returns-clause-accepted_shape
+returns-clause-accepted_shape c image room is none fits =
+    let w = image_shape image in
+    let text = text_of_shape w in
+    c.pool_text_is_accepted_where_there_is_room.ensures.accepted text w room
+    (c.either_version_spells_a_shape.ensures.second text w (c.sound_pools_have_a_shape.ensures.spelled image is none)) fits
 
 pub returns-clause-clean : goal.returns-clause-clean
 returns-clause-clean c image base restored is none room laid =
