@@ -4,3 +4,4 @@ pub mod SoundShape
 pub mod RangeLemmas
 pub mod PiecesBack
 pub mod ShapeBack
+pub mod LaidCounts

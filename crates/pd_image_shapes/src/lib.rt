@@ -7,5 +7,5 @@ mod laid;
 mod sound;
 
 pub use exact::told_shapes_come_back;
-pub use laid::laid_shapes_keep_their_shape;
+pub use laid::{laid_shapes_count_each_leaf_once, laid_shapes_keep_their_shape};
 pub use sound::sound_pools_have_a_shape;

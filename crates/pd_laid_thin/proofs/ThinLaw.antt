@@ -82,7 +82,7 @@ module _ (w : ThinShape) (n : ℕ) (image : List (List ℕ)) (few : n ≤ 416160
   meta_count_is : (b : ℕ) → meta_count (graph_of 11 n w.data_blocks (thin_layout n w.data_blocks)) image b ≡ meta_counts 8 n (meta_map_at w) (pool_named w) b
   meta_count_is b = in_order.meta_counts b ∙ references_count w n few_meta b
 
-  data_count_is : (d : ℕ) → data_count (graph_of 11 n w.data_blocks (thin_layout n w.data_blocks)) image d ≡ data_counts w d
+  pub data_count_is : (d : ℕ) → data_count (graph_of 11 n w.data_blocks (thin_layout n w.data_blocks)) image d ≡ data_counts w d
   data_count_is d = in_order.data_counts d ∙ data_references w n d
 
   -- a bitmap is referred to once
