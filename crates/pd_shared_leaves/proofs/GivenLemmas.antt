@@ -1,6 +1,6 @@
 -- What the cursors give of an image without faults are the pieces of its shape's devices, and its shared leaves.
-use Rattle.std.proofs.Common.{◌≡◌, ℕ, ◌+◌, ◌^◌, ◌<◌, ◌≤◌, true, false, ◌&&◌, nat_eq, nat_lt, nat_le, List, [], ◌∷◌, Some, length, map, count_by, refl, sym, ap, ◌∙◌, subst, arith}
-use Rattle.std.specs.List.{AllByRecursion, flat_map, range_with_len}
+use Rattle.std.proofs.Common.{◌≡◌, ℕ, ◌<◌, ◌≤◌, true, false, ◌&&◌, nat_eq, nat_lt, nat_le, List, [], ◌∷◌, Some, length, map, count_by, refl, sym, ap, ◌∙◌, subst, arith}
+use Rattle.std.specs.List.{AllByRecursion, flat_map}
 use Rattle.std.proofs.lemmas.Bool.{and_parts, ltb-true}
 use Rattle.std.proofs.lemmas.List.{length-map}
 use Rattle.pd_kinds.specs.Graph.{Graph, block_at}
@@ -9,7 +9,7 @@ use Rattle.pd_kinds.specs.Meaning.{Mapping, thin_meaning}
 use Rattle.pd_kinds.specs.Node.{Entry, is_inner_node}
 use Rattle.pd_kinds.specs.ThinFormat.{thin_graph}
 use Rattle.pd_kinds.specs.ThinSuper.{thin_fields}
-use Rattle.pd_kinds.specs.Whole.{details_entries, top_entries}
+use Rattle.pd_kinds.specs.Whole.{top_entries}
 use Rattle.pd_laid.specs.Shape as shape
 use Rattle.pd_laws.proofs.AllLemmas.{all_flat_map, all_from, all_from_two, all_mapped}
 use Rattle.pd_shapes.specs.ImageShape.{all_leaf_blocks, is_shared_leaf, leaf_blocks, mappings_in, shared_leaves}

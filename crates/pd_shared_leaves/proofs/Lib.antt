@@ -1,15 +1,15 @@
-pub mod RootLemmas
+pub mod BelowLemmas
+pub mod DeviceLemmas
+pub mod FoundLemmas
+pub mod GivenLemmas
+pub mod LeafLemmas
+pub mod MarkLemmas
+pub mod MemberLemmas
+pub mod NumberLemmas
+pub mod NumberedLemmas
+pub mod OccursLemmas
 pub mod PartLemmas
 pub mod PieceLemmas
+pub mod RootLemmas
 pub mod ShapeLemmas
-pub mod MemberLemmas
-pub mod LeafLemmas
-pub mod GivenLemmas
-mod BelowLemmas
-mod DeviceLemmas
-mod FoundLemmas
-mod MarkLemmas
-mod NumberLemmas
-mod NumberedLemmas
-mod OccursLemmas
-mod WalkLemmas
+pub mod WalkLemmas

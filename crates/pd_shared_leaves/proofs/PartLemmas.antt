@@ -1,20 +1,18 @@
 -- What stands below a block is what stands at it, and then what stands below the blocks that it names.
-use Rattle.std.proofs.Common.{◌≡◌, ℕ, zero, suc, ◌+◌, ◌-◌, ◌≤◌, List, [], ◌∷◌, ◌++◌, Option, Some, None, length, map, refl, sym, ap, ◌∙◌, arith, length-append}
+use Rattle.std.proofs.Common.{◌≡◌, ℕ, zero, suc, ◌+◌, ◌≤◌, List, [], ◌∷◌, ◌++◌, Some, None, length, map, refl, ap, ◌∙◌, arith, length-append}
 use Rattle.std.specs.List.{flat_map}
 use Rattle.std.proofs.lemmas.Grind.{flat_map-append}
-use Rattle.std.proofs.lemmas.List.{append-nil}
 use Rattle.pd_kinds.specs.Graph.{block_at}
 use Rattle.pd_value.specs.declared.thin.BlockTime.{BlockTime}
 use Rattle.pd_tree.specs.Below.{each_below, items_from, kids_from}
-use Rattle.pd_tree.specs.Frontier.{Left, entry, node, left_of_item, left_at, left_in}
+use Rattle.pd_tree.specs.Frontier.{Left, node, left_of_item, left_at, left_in}
 use Rattle.pd_tree.specs.declared.stack.Stack.{Stack}
-use Rattle.pd_tree.specs.Steps.{GoesDown}
 use Rattle.pd_tree.proofs.BelowLemmas.{gather_is, each_none}
 use Rattle.pd_tree.proofs.FrontierLemmas.{child_alone}
 use Rattle.pd_tree.proofs.NextLemmas.{none_left, none_outside, no_items, no_kids}
 use Rattle.pd_thin_meaning.specs.Items.{block_time_of}
 use Rattle.pd_thin_meaning.specs.Joined.{mapping_of}
-use Rattle.pd_shared_leaves.specs.Parts.{Part, mapped, leaf, met_leaf, number_of, kids_of_block, parts_of_block, parts_below, read_of_block, read_below, parts_of_left, read_of_left, stack_parts, stack_reads}
+use Rattle.pd_shared_leaves.specs.Parts.{Part, mapped, leaf, number_of, kids_of_block, parts_of_block, parts_below, read_of_block, read_below, parts_of_left, read_of_left, stack_parts, stack_reads}
 
 -- what a node that was read gives: what its entries give, and then what each block that it names gives
 flat_each : {V X : Type 0} → (f : Left V → List X) (j : ℕ) (bs : List ℕ) → flat_map f (each_below child_alone j bs) ≡ each_below (λ i b. f (node i b)) j bs

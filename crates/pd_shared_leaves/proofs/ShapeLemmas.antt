@@ -1,6 +1,6 @@
 -- The pieces below a root are those of the shape's leaves.
 use Rattle.std.proofs.Common.{◌≡◌, ℕ, zero, suc, Bool, true, false, if◌then◌else◌, List, [], ◌∷◌, ◌++◌, Option, Some, None, map, refl, sym, ap, ◌∙◌, append_assoc}
-use Rattle.std.specs.List.{AllByRecursion, flat_map}
+use Rattle.std.specs.List.{flat_map}
 use Rattle.std.proofs.lemmas.Grind.{flat_map-append}
 use Rattle.std.proofs.lemmas.List.{append-nil}
 use Rattle.std.proofs.lemmas.Simd.{map-map}
@@ -13,10 +13,9 @@ use Rattle.pd_tree.specs.Below.{gather, items_from, kids_from}
 use Rattle.pd_tree.proofs.StackLemmas.{items_inner, kids_leaf}
 use Rattle.pd_thin_meaning.specs.Items.{block_time_of}
 use Rattle.pd_thin_meaning.specs.Joined.{given_runs, mapping_of}
-use Rattle.pd_shared_leaves.specs.declared.pieces.Piece.{Piece}
 use Rattle.pd_shared_leaves.specs.declared.pieces.Piece.TheVariants.{Run, SharedLeaf}
 use Rattle.pd_shared_leaves.specs.Leaves.{leaves_below}
-use Rattle.pd_shared_leaves.specs.Parts.{Part, mapped, leaf, kids_of_block, number_of, parts_below, parts_of_block}
+use Rattle.pd_shared_leaves.specs.Parts.{Part, mapped, kids_of_block, number_of, parts_below, parts_of_block}
 use Rattle.pd_shared_leaves.specs.Pieces.{given_piece, joined_pieces, pieces_below}
 
 -- what is gathered from nodes is what is gathered from their leaves, where each node's share is that of the leaf that it is

@@ -5,7 +5,6 @@ mod collect;
 mod find;
 mod laws;
 mod marks;
-mod never;
 mod part_search;
 mod parts;
 mod piece_laws;

@@ -1,11 +1,10 @@
-use Rattle.std.proofs.Common.{◌≡◌, ◌≤◌, ◌-◌, None, length, refl, sym, arith}
+use Rattle.std.proofs.Common.{◌≤◌, ◌-◌, length, refl, sym, arith}
 use Rattle.std.proofs.lemmas.Option.{IfSome_then}
 use Rattle.pd_tree.specs.Frontier.{frontier}
 use Rattle.pd_tree.proofs.StackLemmas.{unit_some}
-use Rattle.pd_tree.proofs.NextLemmas.{if_any, if_both}
+use Rattle.pd_tree.proofs.NextLemmas.{if_any}
 use Rattle.pd_thin_meaning.specs.Items.{block_time_of}
 use Rattle.pd_shared_leaves.specs.Leaves.{shared_blocks}
-use Rattle.pd_shared_leaves.specs.Parts.{stack_parts}
 use Rattle.pd_shared_leaves.proofs.PartLemmas.{parts_leaf, parts_outside, pushed_parts, pushed_reads, read_some}
 use Rattle.pd_shared_leaves.proofs.part_search.go_to.Goals as goal
 
