@@ -2,3 +2,4 @@ pub mod PutsLemmas
 pub mod TextLemmas
 pub mod CountLemmas
 pub mod QueryLemmas
+pub mod SharedTextLemmas
