@@ -1,2 +1,4 @@
 pub mod Leaves
+pub mod Parts
 pub mod Pieces
+pub mod Given

@@ -2,8 +2,14 @@
 #![tactic(auto)]
 
 mod find;
+mod laws;
 mod never;
+mod part_search;
+mod parts;
+mod piece_laws;
 mod pieces;
 
 pub use find::SharedLeaves;
+pub use laws::leaves_are_below_roots;
+pub use piece_laws::pieces_are_those_of_the_shape;
 pub use pieces::{Piece, PieceRuns};

@@ -1,16 +1,18 @@
 //! The pieces of a device's mappings.
 
-ghost use Rattle.std.specs.Prelude.{◌≡◌, ◌+◌, ◌<◌, ◌≤◌, ℕ, List, IfOk, IfSome};
+ghost use Rattle.std.specs.Prelude.{◌≡◌, ◌+◌, ◌<◌, ◌≤◌, ℕ, List, [], ◌++◌, None, length, IfOk, IfSome, OnOk};
 ghost use Rattle.pd_kinds.specs.Objects.{CountsFault};
 ghost use Rattle.pd_image.specs.Device.{IsAttached, OnlyReads};
 ghost use Rattle.pd_tree.specs.Next.{IsNext};
+ghost use Rattle.pd_thin_meaning.specs.Joined.{begun_mappings};
 ghost use Rattle.pd_shared_leaves.specs.Leaves.{shared_blocks};
-ghost use Rattle.pd_shared_leaves.specs.Pieces.{pieces_below, pieces_left, pieces_number, pieces_room};
+ghost use Rattle.pd_shared_leaves.specs.Parts.{Part, met_leaf, read_below};
+ghost use Rattle.pd_shared_leaves.specs.Pieces.{joined_pieces, pieces_below, pieces_left, pieces_number, pieces_reads, pieces_room};
 
 use crate::find::SharedLeaves;
-use crate::never::Never;
+use crate::parts::{Found, Parts};
 use pd_image::{Device, Failed};
-use pd_thin_meaning::Run;
+use pd_thin_meaning::{Joined, Run};
 use std::alloc::{AllocError, Global};
 
 /// A piece of a device's mappings.
@@ -26,8 +28,10 @@ pub enum Piece {
 /// which aren't read.
 #[derive(Drop)]
 pub struct PieceRuns {
-    root: u64,
-    never: Never,
+    parts: Parts,
+    joined: Joined,
+    /// The number of a shared leaf that stands behind the begun run.
+    waiting: Option<u64>,
 }
 
 impl PieceRuns {
@@ -37,17 +41,26 @@ impl PieceRuns {
     /// Fails with `AllocError` where that memory wasn't found.
     pub fn start(alloc: Global, root: u64) -> Result<PieceRuns, AllocError>
         ensures pieces { (shared : List ℕ) (image : List (List ℕ)) → IfOk result (λ pieces. pieces_left shared image pieces ≡ pieces_below shared image root) }
+        ensures reads { (shared : List ℕ) (image : List (List ℕ)) → IfOk result (λ pieces. pieces_reads shared image pieces ≡ length (read_below shared image 63 root)) }
         ensures room { IfOk result (λ pieces. pieces_room pieces ≡ root + 1) }
     {
-        Err(AllocError)
+        let parts = Parts::start(alloc, root)?;
+        Ok(PieceRuns {
+            parts,
+            joined: Joined::new(),
+            waiting: None,
+        })
     }
 
     /// Begins again, before the first piece of the device whose mappings have this root, with the memory that it has.
     pub fn restart(&mut self, root: u64)
         ensures pieces { (shared : List ℕ) (image : List (List ℕ)) → pieces_left shared image self.new ≡ pieces_below shared image root }
+        ensures reads { (shared : List ℕ) (image : List (List ℕ)) → pieces_reads shared image self.new ≡ length (read_below shared image 63 root) }
         ensures room { pieces_room self.new ≡ root + 1 }
     {
-        self.root = root;
+        self.parts.restart(root);
+        self.joined = Joined::new();
+        self.waiting = None;
     }
 
     /// The next piece, or `None` after the last one. It takes no memory.
@@ -65,13 +78,42 @@ impl PieceRuns {
         requires within { pieces_room self.old ≤ (D.state dev.old).blocks }
         ensures next { IfOk result (λ piece. IfSome (D.state dev.old).held (λ image.
             IsNext piece (pieces_left (shared_blocks shared.now) image self.old) (pieces_left (shared_blocks shared.now) image self.new))) }
+        ensures reads { IfSome (D.state dev.old).held (λ image. OnOk result (
+            (D.state dev.new).reads + pieces_reads (shared_blocks shared.now) image self.new ≤ (D.state dev.old).reads + pieces_reads (shared_blocks shared.now) image self.old)) }
+        ensures reads_failed { IfSome (D.state dev.old).held (λ image.
+            (D.state dev.new).reads ≤ (D.state dev.old).reads + pieces_reads (shared_blocks shared.now) image self.old) }
         ensures number { IfOk result (λ piece. IfSome piece (λ _. pieces_number self.new < pieces_number self.old)) }
         ensures room { pieces_room self.new ≤ pieces_room self.old }
         ensures kept { OnlyReads (D.state dev.old) (D.state dev.new) }
         ensures faults { CountsFault result (D.state dev.old).faults (D.state dev.new).faults }
     {
-        let _shared = shared.len();
-        let _blocks = dev.blocks();
-        Ok(None)
+        while self.waiting.is_none() {
+            match self.parts.next(shared, dev)? {
+                Some(Found::Mapping(virt, mapping)) => {
+                    if let Some(run) = self.joined.take(virt, mapping) {
+                        return Ok(Some(Piece::Run(run)));
+                    }
+                }
+                Some(Found::SharedLeaf(number)) => self.waiting = Some(number),
+                None => return Ok(self.give()),
+            }
+        }
+        Ok(self.give())
+    }
+
+    /// Gives the begun run, or else the leaf that waits behind it.
+    fn give(&mut self) -> Option<Piece>
+        ensures next { (parts : List Part) → (self.old.waiting ≡ None → parts ≡ [])
+            → IsNext result (joined_pieces (begun_mappings self.old.joined.begun) (met_leaf self.old.waiting ++ parts)) (joined_pieces (begun_mappings self.new.joined.begun) (met_leaf self.new.waiting ++ parts)) }
+        ensures parts { self.new.parts ≡ self.old.parts }
+        ensures number { IfSome result (λ _. pieces_number self.new < pieces_number self.old) }
+    {
+        if let Some(run) = self.joined.end() {
+            return Some(Piece::Run(run));
+        }
+        match self.waiting.take() {
+            Some(number) => Some(Piece::SharedLeaf(number)),
+            None => None,
+        }
     }
 }

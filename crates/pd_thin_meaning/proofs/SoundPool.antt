@@ -58,6 +58,14 @@ module _ {X : Type 0} (P : ℕ × X → Type 0) (graph : Graph) (image : List (L
   unfolding items_below
   all_items j b clean = all_gathered j b clean
 
+-- the entries of a node that is a leaf, as a cursor gives them
+pub leaf_items : (inner : Bool) (block : List ℕ) → is_inner_node block ≡ inner → items_from 8 block_time_of block 0 ≡ map (item_of block_time_of) (leaf_entries 8 block)
+unfolding items_from leaf_entries node_entries_of
+leaf_items true block inner = rw inner refl
+leaf_items false block leaf =
+    let whole : entry_count 8 block - 0 ≡ entry_count 8 block = omega arith in
+    rw (leaf, whole) (sym (map-map (item_of block_time_of) (λ (i : ℕ). record { key = key_at block i; value = value_at 8 block i }) (range_with_len 0 (entry_count 8 block))))
+
 -- the tree of a device's mappings
 abbrev bottom : ℕ → Tree
 bottom data_blocks = record {
@@ -87,13 +95,6 @@ module _ (super : List ℕ) (image : List (List ℕ)) where
   -- a mapping to a data block of the pool
   abbrev pub IsMapped : ℕ × BlockTime → Type 0
   IsMapped item = item.1.block < data_blocks
-
-  leaf_items : (inner : Bool) (block : List ℕ) → is_inner_node block ≡ inner → items_from 8 block_time_of block 0 ≡ map (item_of block_time_of) (leaf_entries 8 block)
-  unfolding items_from leaf_entries node_entries_of
-  leaf_items true block inner = rw inner refl
-  leaf_items false block leaf =
-      let whole : entry_count 8 block - 0 ≡ entry_count 8 block = omega arith in
-      rw (leaf, whole) (sym (map-map (item_of block_time_of) (λ (i : ℕ). record { key = key_at block i; value = value_at 8 block i }) (range_with_len 0 (entry_count 8 block))))
 
   node_within : (c : ℕ) → IsCleanPair (thin_graph super) image (pair c 3) → AllByRecursion IsMapped (items_from 8 block_time_of (block_at image c) 0)
   node_within c clean =

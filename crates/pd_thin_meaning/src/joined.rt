@@ -64,9 +64,11 @@ impl Begun {
     }
 }
 
-/// The mappings that were taken since the last run was given.
+/// The mappings that were taken since the last run was given: a run that may still become longer, or none.
+///
+/// It is for a caller who has mappings from elsewhere, by ascending virtual block; `MapRuns` joins those of a device.
 #[derive(Clone, Copy)]
-pub(crate) struct Joined {
+pub struct Joined {
     pub(crate) begun: Option<Begun>,
 }
 
@@ -75,8 +77,15 @@ impl Joined {
     ghost use Rattle.pd_kinds.specs.Meaning.{Mapping};
     ghost use Rattle.pd_thin_meaning.specs.Joined.{begun_mappings, begun_number, given_runs, IsGiven, mapping_of};
 
+    /// No mapping.
+    pub fn new() -> Joined
+        ensures { result.begun ≡ None }
+    {
+        Joined { begun: None }
+    }
+
     /// Takes the next mapping, and gives the run before it where the mapping doesn't follow that.
-    pub(crate) fn take(&mut self, virt: u64, mapping: BlockTime) -> Option<Run>
+    pub fn take(&mut self, virt: u64, mapping: BlockTime) -> Option<Run>
         ensures { (rest : List Mapping) → IsGiven result (given_runs (begun_mappings self.old.begun ++ (mapping_of (virt, mapping) ∷ rest)))
             (given_runs (begun_mappings self.new.begun ++ rest)) }
     {
@@ -98,8 +107,8 @@ impl Joined {
         }
     }
 
-    /// Gives the last run, if there is any.
-    pub(crate) fn end(&mut self) -> Option<Run>
+    /// Gives the last run, if there is any; then none is begun.
+    pub fn end(&mut self) -> Option<Run>
         ensures given { IsGiven result (given_runs (begun_mappings self.old.begun)) [] }
         ensures none_left { self.new.begun ≡ None }
         ensures number { IfSome result (λ _. begun_number self.old.begun ≡ 1) }

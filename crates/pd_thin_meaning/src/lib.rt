@@ -11,6 +11,6 @@ mod laws;
 mod runs;
 
 pub use devices::{DeviceRow, ThinDevices};
-pub use joined::Run;
+pub use joined::{Joined, Run};
 pub use laws::{given_lines_are_the_text, rows_are_the_devices, sound_pools_are_lawful};
 pub use runs::MapRuns;

@@ -35,7 +35,7 @@ impl MapRuns {
         let mappings = Cursor::start(alloc, root)?;
         Ok(MapRuns {
             mappings,
-            joined: Joined { begun: None },
+            joined: Joined::new(),
             ended: false,
         })
     }
@@ -47,7 +47,7 @@ impl MapRuns {
         ensures room { runs_room self.new ≡ root + 1 }
     {
         self.mappings.restart(root);
-        self.joined.begun = None;
+        self.joined = Joined::new();
         self.ended = false;
     }
 

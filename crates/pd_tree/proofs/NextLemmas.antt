@@ -23,11 +23,11 @@ none_outside (block ∷ image) zero outside = absurd (omega arith)
 none_outside (block ∷ image) (suc b) outside = let rest : length image ≤ b = omega arith in none_outside image b rest
 
 -- a block without bytes is no node
-no_items : {X : Type 0} → (size : ℕ) (decoded : ℕ → X) → items_from size decoded [] 0 ≡ []
+pub no_items : {X : Type 0} → (size : ℕ) (decoded : ℕ → X) → items_from size decoded [] 0 ≡ []
 unfolding items_from entry_count le
 no_items size decoded = refl
 
-no_kids : (size : ℕ) → kids_from size [] 0 ≡ []
+pub no_kids : (size : ℕ) → kids_from size [] 0 ≡ []
 unfolding kids_from entry_count le
 no_kids size = refl
 

@@ -1,0 +1,36 @@
+//! What the leaves and the roots over bytes come to for a pool without faults: those of its shape.
+
+ghost use Rattle.std.specs.Prelude.{◌≡◌, ℕ, List, []};
+ghost use Rattle.std.specs.List.{AllByRecursion};
+ghost use Rattle.pd_kinds.specs.declared.kind.Kind.TheVariants.{Thin};
+ghost use Rattle.pd_kinds.specs.declared.kind.Stage.TheVariants.{Whole};
+ghost use Rattle.pd_kinds.specs.Graph.{block_at};
+ghost use Rattle.pd_kinds.specs.Stages.{faults};
+ghost use Rattle.pd_kinds.specs.ThinFormat.{thin_graph};
+ghost use Rattle.pd_kinds.specs.ThinSuper.{thin_fields};
+ghost use Rattle.pd_shapes.specs.ImageShape.{device_roots, leaf_blocks};
+ghost use Rattle.pd_shared_leaves.specs.Leaves.{IsProperTree, leaves_below, roots_below};
+
+use pd_laws::{reached_by_paths, trees_are_in_order};
+use pd_tree::{
+    entries_lead_to_reached_pairs, formats_have_trees, reached_trees_are_sound,
+    superblocks_lead_to_reached_roots,
+};
+
+/// In a pool without faults up to the stage Whole the roots of the devices are those that a cursor over the mapping tree
+/// gives, the leaves of each are those below its root, and the nodes of its tree are metadata blocks, each met once.
+pub fn leaves_are_below_roots()
+    ensures roots { (image : List (List ℕ)) → faults Thin Whole image ≡ []
+        → device_roots (thin_graph (block_at image 0)) image ≡ roots_below image (thin_fields (block_at image 0)).mapping_root }
+    ensures leaves { (image : List (List ℕ)) → faults Thin Whole image ≡ []
+        → AllByRecursion (λ root. leaf_blocks (thin_graph (block_at image 0)) image root ≡ leaves_below image 63 root) (device_roots (thin_graph (block_at image 0)) image) }
+    ensures trees { (image : List (List ℕ)) → faults Thin Whole image ≡ []
+        → AllByRecursion (IsProperTree image (thin_fields (block_at image 0)).meta_map.blocks) (device_roots (thin_graph (block_at image 0)) image) }
+{
+    trees_are_in_order();
+    reached_by_paths();
+    formats_have_trees();
+    superblocks_lead_to_reached_roots();
+    entries_lead_to_reached_pairs();
+    reached_trees_are_sound();
+}
