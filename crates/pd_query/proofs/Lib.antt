@@ -3,3 +3,4 @@ pub mod TextLemmas
 pub mod CountLemmas
 pub mod QueryLemmas
 pub mod SharedTextLemmas
+pub mod ShapeTextLemmas

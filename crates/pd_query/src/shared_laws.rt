@@ -13,6 +13,7 @@ ghost use Rattle.pd_shapes.specs.SharedText.{text_of_shape};
 ghost use Rattle.pd_spells.specs.ThinText.{thin};
 ghost use Rattle.pd_query.specs.SharedLines.{shared_lines};
 
+use pd_shared_leaves::pieces_are_those_of_the_shape;
 use pd_thin_meaning::rows_are_the_devices;
 
 /// In a pool without faults up to the stage Whole the lines of the leaves that its devices share and those of the
@@ -23,4 +24,5 @@ pub fn shared_lines_are_the_text()
             ≡ text_of_shape (image_shape image) }
 {
     rows_are_the_devices();
+    pieces_are_those_of_the_shape();
 }

@@ -17,10 +17,10 @@ pub loop-run-preserved : goal.loop-run-preserved
 loop-run-preserved g c =
     let before = c.loop-run.invariant.room in
     let room = c.in_ok-run.ensures.room in
-    let sum = c.saturating_add.ensures in
+    let sum = c.saturating_add-entries.ensures in
     record {
       counted = two_told (g.D.Device.state c.args.dev.now).held
-          (λ image counted next. sym (entries_next c.loop-run.entries _ c.in-Some.run' (runs_left image c.loop-run.runs) (runs_left image c.next.new.self) next c.saturating_add.ensures) ∙ counted) c.loop-run.invariant.counted
+          (λ image counted next. sym (entries_next c.loop-run.entries _ c.in-Some.run' (runs_left image c.loop-run.runs) (runs_left image c.next.new.self) next c.saturating_add-entries.ensures) ∙ counted) c.loop-run.invariant.counted
           (subst (λ o. IfSome o (λ image. IsNext {X = Run} (Some c.in-Some.run') (runs_left image c.loop-run.runs) (runs_left image c.next.new.self))) c.loop-run.invariant.kept.held
           (rw c.in-Some.is at c.in_ok-run.ensures.next));
       fits = omega arith;
