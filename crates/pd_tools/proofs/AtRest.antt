@@ -9,7 +9,7 @@ use Rattle.pd_kinds.specs.Meaning.{thin_meaning, era_meaning}
 use Rattle.pd_kinds.specs.Report.{report_of}
 use Rattle.pd_kinds.specs.Stages.{faults}
 use Rattle.pd_answers.specs.Answer.{Objects, AreFresh}
-use Rattle.pd_answers.specs.Requests.{Request, check, dump, restore, repair, search, rmap, list_devices, since, generate, rehearse, writeback, is_built}
+use Rattle.pd_answers.specs.Requests.{Request, check, dump, restore, repair, search, rmap, list_devices, since, generate, rehearse, writeback, shrink, is_built}
 use Rattle.pd_answers.specs.QueryLines.{list_lines, rmap_lines, since_lines}
 use Rattle.pd_answers.specs.Words.{built, spelled, asked}
 use Rattle.pd_answers.specs.Promises.{image_text, terms_of}
@@ -29,6 +29,7 @@ use Rattle.pd_tools.proofs.Rehearses.{rehearse_at_rest}
 use Rattle.pd_tools.proofs.Repairs.{repair_at_rest}
 use Rattle.pd_tools.proofs.Restores.{restore_at_rest}
 use Rattle.pd_tools.proofs.Searches.{search_at_rest}
+use Rattle.pd_tools.proofs.Shrinks.{shrink_at_rest}
 use Rattle.pd_tools.proofs.Writebacks.{writeback_at_rest}
 
 -- shared leaves aren't built
@@ -76,6 +77,7 @@ at_rest (Some (since era file path)) before notes fresh verdicts is = query_at_r
 at_rest (Some (generate number file)) before notes fresh verdicts is = (tt, tt, tt)
 at_rest (Some (rehearse number path)) before notes fresh verdicts is = rehearse_at_rest number path before (record before { notes = notes }) before.output fresh.output.2 (verdicts Thin 1) fresh.output.0
 at_rest (Some (writeback metadata fast origin)) before notes fresh verdicts is = writeback_at_rest metadata fast origin before notes fresh
+at_rest (Some (shrink input output pool blocks)) before notes fresh verdicts is = shrink_at_rest input output pool blocks before notes fresh
 at_rest (Some (search from to transaction block_size blocks)) before notes fresh verdicts is =
     search_at_rest (record { transaction = transaction; block_size = block_size; blocks = blocks }) from to before notes fresh
 
@@ -98,4 +100,5 @@ reads_at_rest (Some (since era file path)) before notes is = tt
 reads_at_rest (Some (generate number file)) before notes is = tt
 reads_at_rest (Some (rehearse number path)) before notes is = tt
 reads_at_rest (Some (writeback metadata fast origin)) before notes is = tt
+reads_at_rest (Some (shrink input output pool blocks)) before notes is = tt
 reads_at_rest (Some (search from to transaction block_size blocks)) before notes is = tt

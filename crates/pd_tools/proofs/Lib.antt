@@ -12,3 +12,4 @@ pub mod Repairs
 pub mod BestRoots
 pub mod Searches
 pub mod Writebacks
+pub mod Shrinks

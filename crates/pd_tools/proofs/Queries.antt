@@ -27,8 +27,8 @@ told_or f otherwise None = otherwise
 told_or f otherwise (Some x) = f x
 
 -- a report without faults is that of an image without faults
-pub none_reported : (kind : Kind) (image : List (List ℕ)) (report : Reported) → report ≡ report_of (faults kind stages.Whole image) → (nat_eq report.total 0) ≡ true → faults kind stages.Whole image ≡ []
-none_reported kind image report is clean = none_of (faults kind stages.Whole image) (sym (ap (λ (r : Reported). r.total) is) ∙ eqb-true report.total 0 clean)
+pub none_reported : (kind : Kind) (until : Stage) (image : List (List ℕ)) (report : Reported) → report ≡ report_of (faults kind until image) → (nat_eq report.total 0) ≡ true → faults kind until image ≡ []
+none_reported kind until image report is clean = none_of (faults kind until image) (sym (ap (λ (r : Reported). r.total) is) ∙ eqb-true report.total 0 clean)
   where
     none_of : {X : Type 0} (xs : List X) → length xs ≡ 0 → xs ≡ []
     none_of [] none = refl
@@ -42,9 +42,14 @@ none_first checked image stage later none = elim (cases_Bool (nat_lt 0 (length (
   | inr nothing ↦ rw nothing refl
 ]
 
-pub none_at_super : (kind : Kind) (image : List (List ℕ)) → faults kind stages.Whole image ≡ [] → faults kind stages.Super image ≡ []
+pub none_at_super : (kind : Kind) (until : Stage) (image : List (List ℕ)) → faults kind until image ≡ [] → faults kind stages.Super image ≡ []
 unfolding faults
-none_at_super kind image none = none_first (checked_of kind image) image stages.Super (stages.Walk ∷ stages.Order ∷ stages.Whole ∷ []) none
+none_at_super kind stages.Super image none = none
+none_at_super kind stages.Walk image none = none_first (checked_of kind image) image stages.Super (stages.Walk ∷ []) none
+none_at_super kind stages.Order image none = none_first (checked_of kind image) image stages.Super (stages.Walk ∷ stages.Order ∷ []) none
+none_at_super kind stages.Whole image none = none_first (checked_of kind image) image stages.Super (stages.Walk ∷ stages.Order ∷ stages.Whole ∷ []) none
+none_at_super kind stages.Counts image none =
+    none_first (checked_of kind image) image stages.Super (stages.Walk ∷ stages.Order ∷ stages.Whole ∷ stages.Counts ∷ []) none
 
 pub two_told : {X : Type 0} {P Q R : X → Type 0} → (o : Option X) → ((x : X) → P x → Q x → R x) → IfSome o P → IfSome o Q → IfSome o R
 two_told None join p q = tt
@@ -144,7 +149,7 @@ module _ (q : Asked) (file : Option (List ℕ)) (path : List ℕ) (others : Obje
     module _ (clean : (nat_eq report.total 0) ≡ true) (out' : SinkState) (out_used : IsUsed (reading (unwrap_or file [])) out'.access out'.path)
         (text : List ℕ) (told : IfSome input.held (λ image. faults (kind_of q) stages.Whole image ≡ [] → text ≡ text_of q image)) where
       found_text : IfSome input.held (λ image. (report ≡ report_of (faults (kind_of q) stages.Whole image)) × (text ≡ text_of q image))
-      found_text = two_told input.held (λ image is answers. (is, answers (none_reported (kind_of q) image report is clean))) right told
+      found_text = two_told input.held (λ image is answers. (is, answers (none_reported (kind_of q) stages.Whole image report is clean))) right told
 
       pub query_done : out'.access ≡ 1 → Appends text out.written out'.written
           → IsFinished (terms_of_query q file path) (record others { out = out; input = input }) (record others { out = out'; notes = notes; input = input' }) (query_status report) (query_line report)
@@ -207,7 +212,7 @@ module _ (q : Asked) (file : Option (List ℕ)) (path : List ℕ) (others : Obje
         work = stopped_work Memory 7 refl (λ e. cc);
         cause = record {
           past_super = λ e. absurd cc;
-          sound = one_told input.held (λ image is. none_at_super (kind_of q) image (none_reported (kind_of q) image report is clean)) right;
+          sound = one_told input.held (λ image is. none_at_super (kind_of q) stages.Whole image (none_reported (kind_of q) stages.Whole image report is clean)) right;
         };
         front = rw clean front;
         lost = tt;

@@ -32,7 +32,7 @@ use Rattle.pd_tools.specs.Ending.{ending_line, ending_status, plan_ended}
 use Rattle.pd_tools.specs.Read.{IsUnread}
 use Rattle.pd_tools.specs.Stop.{stop_status}
 use Rattle.pd_tools.specs.Work.{HasCause, IsFinished, IsStopped, IsWork}
-use Rattle.pd_tools.specs.Writeback.{AreOpened, AreUnopened, HasCopied, IsWritten, devices}
+use Rattle.pd_tools.specs.Writeback.{AreOpened, AreUnopened, HasCopied, IsOpened, IsWritten, devices}
 use Rattle.pd_tools.proofs.Checks.{not_yet, told}
 use Rattle.pd_tools.proofs.Queries.{none_at_super, one_told, two_told}
 use Rattle.pd_tools.proofs.Restores.{Image, here, still_synced}
@@ -52,7 +52,7 @@ size_in held = option_map_or (λ (image : Image). (cache_meaning image).block_si
 hot_in : Option Image → List CachedBlock
 hot_in held = option_map_or (λ (image : Image). hot_blocks (cache_meaning image)) held []
 
-blocks_in : Option Image → ℕ
+pub blocks_in : Option Image → ℕ
 blocks_in held = option_map_or (λ (image : Image). length image) held 0
 
 sizes_told : (held : Option Image) → IfSome held (λ image. (size_in held ≡ (cache_meaning image).block_size) × (hot_in held ≡ hot_blocks (cache_meaning image)))
@@ -67,23 +67,23 @@ report_told : (held : Option Image) → IfSome held (λ image. report_in held �
 unfolding report_in
 report_told held = told held (λ image. report_of (faults Cache Whole image)) (report_of [])
 
-blocks_told : (held : Option Image) → IfSome held (λ image. blocks_in held ≡ length image)
+pub blocks_told : (held : Option Image) → IfSome held (λ image. blocks_in held ≡ length image)
 unfolding blocks_in
 blocks_told held = told held length 0
 
 -- whatever is told
-if_any : {X : Type 0} {P : X → Type 0} (o : Option X) → ((x : X) → P x) → IfSome o P
+pub if_any : {X : Type 0} {P : X → Type 0} (o : Option X) → ((x : X) → P x) → IfSome o P
 if_any None all = tt
 if_any (Some x) all = all x
 
 -- what is there before the first call
-here_kept : (k : ℕ) (hot : List CachedBlock) (image : Image) (device : DeviceState) → HoldsSynced image device → LeavesNow (λ left firsts. KeepsOthers k hot image left) device
+pub here_kept : (k : ℕ) (hot : List CachedBlock) (image : Image) (device : DeviceState) → HoldsSynced image device → LeavesNow (λ left firsts. KeepsOthers k hot image left) device
 here_kept k hot image device synced left firsts leaves =
     let same : left ≡ image = left_synced image left (now image device.history) refl synced.unsynced (left_now device image left firsts synced.held leaves).0 in
     record { number = ap length same; others = λ b none. ap (λ (i : Image). slice_get i b) same }
 
 -- one state after another that leave a device alone
-and_same : {a b c : DeviceState} → IsUntouched a b → IsUntouched b c → IsUntouched a c
+pub and_same : {a b c : DeviceState} → IsUntouched a b → IsUntouched b c → IsUntouched a c
 and_same {a} {b} {c} first next = record { held = next.held ∙ first.held; history = next.history ∙ first.history }
 
 -- metadata and an origin that were left alone, under each status but 0
@@ -114,7 +114,7 @@ writeback_lost before after found status some left = record {
   cold = left.cold;
 }
 
-never_open : {P : Type 0} (access : ℕ) → access ≡ 0 → (access ≡ 1) ⊎ (access ≡ 2) → P
+pub never_open : {P : Type 0} (access : ℕ) → access ≡ 0 → (access ≡ 1) ⊎ (access ≡ 2) → P
 never_open access none either = elim either [ inl e ↦ absurd (omega arith) | inr e ↦ absurd (omega arith) ]
 
 -- before anything was done
@@ -149,7 +149,7 @@ reads_alone path access name used closed (inr two) = elim used.allowed [
 ]
 
 -- a device that was measured has its blocks
-has_blocks : (old new last : DeviceState) → new.held ≡ old.held → IfSome new.held (λ image. length image ≡ new.blocks) → last.blocks ≡ new.blocks → HasBlocks old last new.blocks
+pub has_blocks : (old new last : DeviceState) → new.held ≡ old.held → IfSome new.held (λ image. length image ≡ new.blocks) → last.blocks ≡ new.blocks → HasBlocks old last new.blocks
 has_blocks old new last same measured blocks = record {
   told = subst (λ (h : Option Image). IfSome h (λ image. new.blocks ≡ length image)) same (one_told new.held (λ image is. sym is) measured);
   attached = λ _. sym blocks;
@@ -376,7 +376,7 @@ module _ (metadata fast origin : List ℕ) (others : Objects) (notes out : SinkS
     unplanned w.Memory un counts =
         read_stopped (report_of []) (none_right m.held sound_here) Memory (λ e. omega arith) refl (record {
           past_super = λ e. absurd cc;
-          sound = one_told m.held (λ image is. none_at_super Cache image is) sound_here;
+          sound = one_told m.held (λ image is. none_at_super Cache Whole image is) sound_here;
         })
     unplanned w.Meta un counts = read_stopped (report_of []) (none_right m.held sound_here) Device (λ e. omega arith) refl (inl (rw opened.meta.faults at counts.0))
     unplanned w.Origin un counts = absurd un
@@ -523,16 +523,21 @@ module _ {T E : Type 0} (metadata fast origin : List ℕ) (others : Objects) (no
         (copied_line (length hot)) [] (lit≤ tt) refl (λ e. absurd cc) (λ some. absurd (some refl)) answered whole (λ _. attached)
         (leaves 0 (λ e. omega arith) (λ _. has) (λ _. marked))
 
+-- a device that was attached, and was read without a fault
+pub still_opened : {path : List ℕ} {access : ℕ} {m m1 m2 : DeviceState} → IsOpened path access m m1
+    → m2.access ≡ m1.access → m2.path ≡ m1.path → IsUntouched m1 m2 → m2.faults ≡ m1.faults → IsOpened path access m m2
+still_opened opened same_access same_path same unfailed = record {
+  attached = same_access ∙ opened.attached;
+  named = rw same_path opened.named;
+  untouched = and_same opened.untouched same;
+  faults = unfailed ∙ opened.faults;
+}
+
 -- devices that were attached, and of which the metadata was read without a fault
 pub opened_read : (metadata fast origin : List ℕ) (m m1 m2 o o1 t t1 : DeviceState) → AreOpened metadata fast origin (devices m o t) (devices m1 o1 t1)
     → m2.access ≡ m1.access → m2.path ≡ m1.path → IsUntouched m1 m2 → m2.faults ≡ m1.faults → AreOpened metadata fast origin (devices m o t) (devices m2 o1 t1)
 opened_read metadata fast origin m m1 m2 o o1 t t1 opened access path same unfailed = record {
-  meta = record {
-    attached = access ∙ opened.meta.attached;
-    named = rw path opened.meta.named;
-    untouched = and_same opened.meta.untouched same;
-    faults = unfailed ∙ opened.meta.faults;
-  };
+  meta = still_opened opened.meta access path same unfailed;
   origin = opened.origin;
   fast = opened.fast;
 }

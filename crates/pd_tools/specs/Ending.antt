@@ -15,6 +15,8 @@ use Rattle.pd_rehearse.specs.declared.fault.RehearseFault.{RehearseFault}
 use Rattle.pd_rehearse.specs.declared.fault.RehearseFault.TheVariants as q
 use Rattle.pd_writeback.specs.declared.fault.WriteFault.{WriteFault}
 use Rattle.pd_writeback.specs.declared.fault.WriteFault.TheVariants as w
+use Rattle.pd_shrink.specs.declared.fault.ShrinkFault.{ShrinkFault}
+use Rattle.pd_shrink.specs.declared.fault.ShrinkFault.TheVariants as s
 use Rattle.pd_tools.specs.declared.ending.Ending.{Ending}
 use Rattle.pd_tools.specs.declared.ending.Ending.TheVariants.{Done, Faulty, Refused, NoRoom, BlockSize, NoRoots}
 use Rattle.pd_tools.specs.declared.stop.Stop.{Stop}
@@ -82,3 +84,11 @@ plan_ended w.Origin = Err Device
 plan_ended w.Fast = Err Device
 plan_ended w.BlockSize = Ok BlockSize
 plan_ended (w.NoRoom need blocks) = Ok (NoRoom need blocks)
+
+-- how a shrink ended of which no plan was made
+abbrev pub shrink_ended : ShrinkFault → Result Ending Stop
+shrink_ended s.Memory = Err Memory
+shrink_ended s.Meta = Err Device
+shrink_ended s.Output = Err Device
+shrink_ended s.BlockSize = Ok BlockSize
+shrink_ended (s.NoRoom need blocks) = Ok (NoRoom need blocks)

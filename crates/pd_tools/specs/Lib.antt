@@ -8,4 +8,5 @@ pub mod Query
 pub mod Rehearse
 pub mod Repair
 pub mod Search
+pub mod Shrink
 pub mod Ending

@@ -23,7 +23,7 @@ pub enum Ending {
     Refused(TextFault),
     /// So many blocks are needed, and so many are there.
     NoRoom { need: u128, blocks: u64 },
-    /// A block of the cache is no whole number of blocks.
+    /// A block of the cache, or a data block of the pool, is no whole number of blocks.
     BlockSize,
     /// No two trees of the image fit each other.
     NoRoots,

@@ -13,6 +13,7 @@ mod repair;
 mod restore;
 mod run;
 mod search;
+mod shrink;
 mod stop;
 mod writeback;
 

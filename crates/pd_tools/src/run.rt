@@ -18,6 +18,7 @@ use crate::rehearse::run_rehearse;
 use crate::repair::run_repair;
 use crate::restore::{run_restore, texts_have_verdicts};
 use crate::search::run_search;
+use crate::shrink::run_shrink;
 use crate::writeback::run_writeback;
 use pd_image::{Device, Sink, Source};
 use pd_words::{Name, Request, read_words};
@@ -31,10 +32,10 @@ use std::alloc::Global;
 /// | Status | Meaning |
 /// |---|---|
 /// | 0 | done; after a check, the image is clean |
-/// | 1 | the image has faults; the report is on `out`, or, where a dump was asked, on `notes`. Or the block size of a cache is no whole number of blocks, or no roots were found |
+/// | 1 | the image has faults; the report is on `out`, or, where a dump was asked, on `notes`. Or the block size of a cache, or of a pool that is to be smaller, is no whole number of blocks, or no roots were found |
 /// | 2 | the words spell no request |
 /// | 3 | a line of the text is refused |
-/// | 4 | more blocks are needed than the output has |
+/// | 4 | more blocks are needed than the output has, or the smaller pool, or a device that data is copied from or to |
 /// | 5 | a device failed in this call |
 /// | 6 | the source, `out` or `notes` failed in this call |
 /// | 7 | memory wasn't found; in a check only past the superblock, and only where that is sound |
@@ -213,6 +214,23 @@ fn run_request<S: Source, K: Sink, E: Sink, A: Device, B: Device, C: Device>(
             metadata.word_in(words),
             fast.word_in(words),
             origin.word_in(words),
+            out,
+            notes,
+            input,
+            output,
+            third,
+        ),
+        Request::Shrink {
+            input: from,
+            output: to,
+            pool,
+            blocks,
+        } => run_shrink(
+            alloc,
+            from.word_in(words),
+            to.word_in(words),
+            pool.word_in(words),
+            blocks,
             out,
             notes,
             input,

@@ -6,8 +6,8 @@ use Rattle.std.proofs.lemmas.Bool.{cases_Bool, true≢false}
 use Rattle.std.proofs.Math.Dec.{eqb-suc-zero}
 use Rattle.pd_kinds.specs.declared.kind.Kind.{Kind}
 use Rattle.pd_kinds.specs.declared.kind.Stage.{Stage}
-use Rattle.pd_answers.specs.Requests.{Request, dump, restore, rmap, list_devices, since, generate, rehearse, writeback}
-use Rattle.pd_answers.specs.Words.{Item, items_of, Given, given, sole, at_most_one, is_set, last_stage, version_of, Region, region_of, generated_number, number_below, image_word, clear_word, shared_word, until_word, check_with, repair_with, Tool, check_tool, dump_tool, restore_tool, repair_tool, rmap_tool, list_tool, since_tool, generate_tool, rehearse_tool, writeback_tool, tool_of, request_of, is_known, known, spelled, built, asked}
+use Rattle.pd_answers.specs.Requests.{Request, dump, restore, rmap, list_devices, since, generate, rehearse, writeback, shrink}
+use Rattle.pd_answers.specs.Words.{Item, items_of, Given, given, sole, at_most_one, is_set, last_stage, version_of, Region, region_of, generated_number, number_below, image_word, clear_word, shared_word, until_word, check_with, repair_with, Tool, check_tool, dump_tool, restore_tool, repair_tool, rmap_tool, list_tool, since_tool, generate_tool, rehearse_tool, writeback_tool, shrink_tool, tool_of, request_of, is_known, known, spelled, built, asked}
 use Rattle.pd_words.specs.Words.{dump_as}
 
 pub asked_nothing : {X : Type 0} (f : X → List ℕ) (xs : List X) → (length xs == 0) ≡ true → None ≡ asked (map f xs)
@@ -228,3 +228,39 @@ unfolding request_of
 no_origin_device None first second third metadata fast first_is one second_is two third_is none = tt
 no_origin_device (Some items) first second third metadata fast first_is one second_is two third_is none =
     rw (← first_is, ← one, ← second_is, ← two, ← third_is, ← none) refl
+
+-- a shrink, by what was given for the two images, for the data device and for the number of data blocks
+pub shrink_given : (items : Option (List Item)) (first second third fourth : Given) (input output pool word : List ℕ) (blocks : ℕ) (request : Option Request)
+    → IfSome items (λ all. first ≡ given (codes "-i") all) → Some input ≡ sole first
+    → IfSome items (λ all. second ≡ given (codes "-o") all) → Some output ≡ sole second
+    → IfSome items (λ all. third ≡ given (codes "--data") all) → Some pool ≡ sole third
+    → IfSome items (λ all. fourth ≡ given (codes "--nr-blocks") all) → Some word ≡ sole fourth → Some blocks ≡ number_below (2 ^ 64) word
+    → request ≡ Some (shrink input output pool blocks)
+    → IfSome items (λ all. request ≡ request_of shrink_tool all)
+unfolding request_of
+shrink_given None first second third fourth input output pool word blocks request first_is one second_is two third_is three fourth_is four number is = tt
+shrink_given (Some items) first second third fourth input output pool word blocks request first_is one second_is two third_is three fourth_is four number is =
+    rw (← first_is, ← one, ← second_is, ← two, ← third_is, ← three, ← fourth_is, ← four, ← number) is
+
+-- no number of data blocks was given, or a word that is none
+pub no_shrink_word : (items : Option (List Item)) (first second third fourth : Given) (input output pool : List ℕ)
+    → IfSome items (λ all. first ≡ given (codes "-i") all) → Some input ≡ sole first
+    → IfSome items (λ all. second ≡ given (codes "-o") all) → Some output ≡ sole second
+    → IfSome items (λ all. third ≡ given (codes "--data") all) → Some pool ≡ sole third
+    → IfSome items (λ all. fourth ≡ given (codes "--nr-blocks") all) → None ≡ sole fourth
+    → IfSome items (λ all. None ≡ request_of shrink_tool all)
+unfolding request_of
+no_shrink_word None first second third fourth input output pool first_is one second_is two third_is three fourth_is none = tt
+no_shrink_word (Some items) first second third fourth input output pool first_is one second_is two third_is three fourth_is none =
+    rw (← first_is, ← one, ← second_is, ← two, ← third_is, ← three, ← fourth_is, ← none) refl
+
+pub no_shrink_number : (items : Option (List Item)) (first second third fourth : Given) (input output pool word : List ℕ)
+    → IfSome items (λ all. first ≡ given (codes "-i") all) → Some input ≡ sole first
+    → IfSome items (λ all. second ≡ given (codes "-o") all) → Some output ≡ sole second
+    → IfSome items (λ all. third ≡ given (codes "--data") all) → Some pool ≡ sole third
+    → IfSome items (λ all. fourth ≡ given (codes "--nr-blocks") all) → Some word ≡ sole fourth → None ≡ number_below (2 ^ 64) word
+    → IfSome items (λ all. None ≡ request_of shrink_tool all)
+unfolding request_of
+no_shrink_number None first second third fourth input output pool word first_is one second_is two third_is three fourth_is four none = tt
+no_shrink_number (Some items) first second third fourth input output pool word first_is one second_is two third_is three fourth_is four none =
+    rw (← first_is, ← one, ← second_is, ← two, ← third_is, ← three, ← fourth_is, ← four, ← none) refl

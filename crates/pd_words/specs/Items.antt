@@ -8,7 +8,7 @@ use Rattle.pd_words.specs.declared.items.Place.{Place}
 use Rattle.pd_words.specs.declared.items.Given.{Given}
 use Rattle.pd_words.specs.declared.items.Given.TheVariants.{Never, Once, Often}
 use Rattle.pd_words.specs.declared.items.Tool.{Tool}
-use Rattle.pd_words.specs.declared.items.Tool.TheVariants.{Check, Dump, Restore, Repair, ReverseMap, DeviceList, Since, Generate, Rehearse, Writeback}
+use Rattle.pd_words.specs.declared.items.Tool.TheVariants.{Check, Dump, Restore, Repair, ReverseMap, DeviceList, Since, Generate, Rehearse, Writeback, Shrink}
 
 -- the word that a name stands for
 abbrev pub word_at : List (List ℕ) → ℕ → List ℕ
@@ -60,6 +60,7 @@ tool_as Since = asked.since_tool
 tool_as Generate = asked.generate_tool
 tool_as Rehearse = asked.rehearse_tool
 tool_as Writeback = asked.writeback_tool
+tool_as Shrink = asked.shrink_tool
 
 abbrev pub found_tool : Option Tool → Option asked.Tool
 found_tool None = None

@@ -4,7 +4,7 @@ use Rattle.std.specs.Option.{option_map}
 use Rattle.pd_kinds.specs.declared.kind.Kind.{Kind}
 use Rattle.pd_words.specs.declared.request.Name.{Name}
 use Rattle.pd_words.specs.declared.request.Request.{Request}
-use Rattle.pd_words.specs.declared.request.Request.TheVariants.{Check, Dump, Restore, Repair, Search, Rmap, List as ListDevices, Since, Generate, Rehearse, Writeback}
+use Rattle.pd_words.specs.declared.request.Request.TheVariants.{Check, Dump, Restore, Repair, Search, Rmap, List as ListDevices, Since, Generate, Rehearse, Writeback, Shrink}
 use Rattle.pd_words.specs.declared.request.WordFault.{WordFault}
 use Rattle.pd_words.specs.Items.{word_at}
 use Rattle.pd_answers.specs.Requests as requests
@@ -31,6 +31,8 @@ request_as words (Since era image out) = requests.since era (words_of words out)
 request_as words (Generate number out) = requests.generate number (words_of words out)
 request_as words (Rehearse number image) = requests.rehearse number (word_of words image)
 request_as words (Writeback metadata fast origin) = requests.writeback (word_of words metadata) (word_of words fast) (word_of words origin)
+request_as words (Shrink input output pool blocks) =
+    requests.shrink (word_of words input) (word_of words output) (word_of words pool) blocks
 
 -- the request that was read, if one was
 abbrev pub read_as : List (List ℕ) → Option Request → Option requests.Request
@@ -85,3 +87,4 @@ AreNames number (Since era image out) = IsName number image × IsNameIfAny numbe
 AreNames number (Generate generated out) = IsNameIfAny number out × IsGenerated generated
 AreNames number (Rehearse generated image) = IsName number image × IsGenerated generated
 AreNames number (Writeback metadata fast origin) = IsName number metadata × IsName number fast × IsName number origin
+AreNames number (Shrink input output pool blocks) = IsName number input × IsName number output × IsName number pool

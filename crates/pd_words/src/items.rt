@@ -3,7 +3,7 @@
 ghost use Rattle.std.specs.Prelude.{◌≡◌, ◌<◌, ◌||◌, codes, length, map, drop, string_bytes, IfSome, is_some};
 ghost use Rattle.std.specs.List.{list_any};
 ghost use Rattle.std.specs.Str.{bytes_eq};
-ghost use Rattle.pd_answers.specs.Words.{check_tool, dump_tool, is_value, is_flag, items_of, given, known, purposes_of, repair_tool, restore_tool, tool_of, writeback_tool};
+ghost use Rattle.pd_answers.specs.Words.{check_tool, dump_tool, is_value, is_flag, items_of, given, known, purposes_of, repair_tool, restore_tool, shrink_tool, tool_of, writeback_tool};
 ghost use Rattle.pd_words.specs.Items.{with_item, IsItemWithin, values_from, with_found, given_as, IsGivenWithin, tool_as, found_tool};
 
 use crate::request::Name;
@@ -32,6 +32,8 @@ pub enum Tool {
     Rehearse,
     /// cache_writeback
     Writeback,
+    /// thin_shrink
+    Shrink,
 }
 
 /// How often something was given.
@@ -88,6 +90,7 @@ pub fn tool_named(word: &str) -> Option<Tool>
         "thin_generate" => Some(Tool::Generate),
         "thin_rehearse" => Some(Tool::Rehearse),
         "cache_writeback" => Some(Tool::Writeback),
+        "thin_shrink" => Some(Tool::Shrink),
         _ => None,
     }
 }
@@ -107,6 +110,7 @@ pub fn is_purpose(tool: Tool, word: &str) -> bool
         Tool::Generate => is_number_purpose(word),
         Tool::Rehearse => is_number_purpose(word),
         Tool::Writeback => is_writeback_purpose(word),
+        Tool::Shrink => is_shrink_purpose(word),
     }
 }
 
@@ -160,6 +164,13 @@ fn is_writeback_purpose(word: &str) -> bool
     ensures { result ≡ list_any (bytes_eq word.now) (purposes_of writeback_tool) }
 {
     (word == "--metadata-device") | (word == "--fast-device") | (word == "--origin-device")
+}
+
+/// The same of a shrink.
+fn is_shrink_purpose(word: &str) -> bool
+    ensures { result ≡ list_any (bytes_eq word.now) (purposes_of shrink_tool) }
+{
+    is_copy_purpose(word) | (word == "--data") | (word == "--nr-blocks")
 }
 
 /// Whether this is the option for the output, or the operand.

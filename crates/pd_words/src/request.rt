@@ -91,6 +91,14 @@ pub enum Request {
         fast: Name,
         origin: Name,
     },
+    /// The pool of the metadata `input`, on the data device `pool`, with this many data blocks or fewer; its new metadata
+    /// are written to `output`.
+    Shrink {
+        input: Name,
+        output: Name,
+        pool: Name,
+        blocks: u64,
+    },
 }
 
 /// Why words have no request.

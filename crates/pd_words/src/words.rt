@@ -123,6 +123,12 @@ fn is_built(request: &Request) -> bool
             fast: _,
             origin: _,
         } => true,
+        Request::Shrink {
+            input: _,
+            output: _,
+            pool: _,
+            blocks: _,
+        } => true,
     }
 }
 
@@ -142,6 +148,7 @@ fn read_request(tool: Tool, words: &[String]) -> Option<Request>
         Tool::Generate => read_generate(words),
         Tool::Rehearse => read_rehearse(words),
         Tool::Writeback => read_writeback(words),
+        Tool::Shrink => read_shrink(words),
     }
 }
 
@@ -404,6 +411,32 @@ fn read_writeback(words: &[String]) -> Option<Request>
         fast,
         origin,
     })
+}
+
+/// What the words ask of a shrink.
+#[tactic(auto, unfolding(pd_answers::specs::Words::request_of))]
+fn read_shrink(words: &[String]) -> Option<Request>
+    ensures asked { IfSome (items_of (drop 1 (map string_bytes words.now))) (λ items. read_as (map string_bytes words.now) result ≡ words_spec.request_of words_spec.shrink_tool items) }
+    ensures names { IfSome result (AreNames (length words.now)) }
+{
+    let input = required(given_for(words, 1, "-i"))?;
+    let output = required(given_for(words, 1, "-o"))?;
+    let pool = required(given_for(words, 1, "--data"))?;
+    let blocks = number_named(words, required(given_for(words, 1, "--nr-blocks"))?)?;
+    Some(Request::Shrink {
+        input,
+        output,
+        pool,
+        blocks,
+    })
+}
+
+/// The number that a word names.
+fn number_named(words: &[String], name: Name) -> Option<u64>
+    requires { IsName (length words.now) name }
+    ensures { result ≡ words_spec.number_below (2 ^ 64) (word_of (map string_bytes words.now) name) }
+{
+    number(name.word_in(words))
 }
 
 /// The number from 1 to 10000 that a word is.

@@ -10,6 +10,7 @@ use Rattle.pd_answers.specs.Promises.{generate, terms_of}
 use Rattle.pd_answers.specs.Rehearsals.{rehearse}
 use Rattle.pd_answers.specs.Repairs.{repair, search}
 use Rattle.pd_answers.specs.Restores.{restore}
+use Rattle.pd_answers.specs.Shrinks.{shrink}
 use Rattle.pd_answers.specs.Writebacks.{writeback}
 use Rattle.std.specs.Option.{option_copied}
 use Rattle.pd_words.specs.Words.{word_of, words_of}
@@ -151,3 +152,19 @@ returns-in-Writeback g c others =
     c.word_in-in-Writeback.result.now c.word_in-in-Writeback-2.result.now c.word_in-in-Writeback-3.result.now _ _ _ _
     c.word_in-in-Writeback.ensures c.word_in-in-Writeback-2.ensures c.word_in-in-Writeback-3.ensures
     (c.run_writeback.ensures (record others { source = g.S.Source.state c.args.source.now })))
+
+-- so with the devices of a shrink
+shrunk_as_asked : (from to pool given_from given_to given_pool : List ℕ) (blocks : ℕ) (attached : SinkState) (before after : Objects) (status : ℕ)
+    → given_from ≡ from → given_to ≡ to → given_pool ≡ pool
+    → AnswersTerms (shrink given_from given_to given_pool blocks) attached before after status → AnswersTerms (shrink from to pool blocks) attached before after status
+shrunk_as_asked from to pool given_from given_to given_pool blocks attached before after status same_from same_to same_pool answers =
+    rw (same_from, same_to, same_pool) at answers
+
+pub returns-in-Shrink : goal.returns-in-Shrink
+returns-in-Shrink g c others =
+    let words = map string_bytes c.args.words.now in
+    let w = c.in-Shrink in
+    rw w.is (shrunk_as_asked (word_of words w.from) (word_of words w.to) (word_of words w.pool)
+    c.word_in-in-Shrink.result.now c.word_in-in-Shrink-2.result.now c.word_in-in-Shrink-3.result.now w.blocks _ _ _ _
+    c.word_in-in-Shrink.ensures c.word_in-in-Shrink-2.ensures c.word_in-in-Shrink-3.ensures
+    (c.run_shrink.ensures (record others { source = g.S.Source.state c.args.source.now })))

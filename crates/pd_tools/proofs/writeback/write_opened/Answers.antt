@@ -1,6 +1,7 @@
 use Rattle.std.proofs.Common.{◌≡◌, true, false, sym, ◌∙◌, arith, rules}
 use Rattle.std.proofs.lemmas.Bool.Decides.{nat_tests}
 use Rattle.pd_kinds.specs.declared.kind.Kind.TheVariants.{Cache}
+use Rattle.pd_kinds.specs.declared.kind.Stage.TheVariants.{Whole}
 use Rattle.pd_tools.proofs.Queries.{none_reported, one_told}
 use Rattle.pd_tools.proofs.Writebacks.{opened_read, writeback_faulty, writeback_unread}
 use Rattle.pd_tools.proofs.writeback.write_opened.Goals as goal
@@ -24,7 +25,7 @@ pub write_sound-requires-clause-sound : goal.write_sound-requires-clause-sound
 write_sound-requires-clause-sound g c =
     let clean : c.is_empty.result ≡ true = first_of (search rules, grind (arith, nat_tests)) in
     rw c.in-Ok.ensures.untouched.held
-    (one_told (g.A.Device.state c.args.input.now).held (λ image is. none_reported Cache image c.in-Ok.report is (sym c.is_empty.ensures ∙ clean)) c.in-Ok.ensures.report)
+    (one_told (g.A.Device.state c.args.input.now).held (λ image is. none_reported Cache Whole image c.in-Ok.report is (sym c.is_empty.ensures ∙ clean)) c.in-Ok.ensures.report)
 
 pub returns : goal.returns
 returns g c metadata fast origin meta_before origin_before fast_before others notes meta_synced origin_synced opened =

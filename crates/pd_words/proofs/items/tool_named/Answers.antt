@@ -69,6 +69,10 @@ pub returns-in-cache_writeback : goal.returns-in-cache_writeback
 unfolding tool_in
 returns-in-cache_writeback c = rw c.in-cache_writeback.is refl
 
+pub returns-in-thin_shrink : goal.returns-in-thin_shrink
+unfolding tool_in
+returns-in-thin_shrink c = rw c.in-thin_shrink.is refl
+
 -- tools with other names than the word
 abbrev AreOthers : List ℕ → List Named → Type 0
 AreOthers word [] = Unit {0}
@@ -85,4 +89,4 @@ no_tool (named ∷ tools) word others = elim (cases_Bool (bytes_eq word named.na
 pub returns-in_default : goal.returns-in_default
 returns-in_default c =
     let w = c.in_default in
-    sym (no_tool tools c.args.word.now (w.not-thin_check, (w.not-cache_check, (w.not-era_check, (w.not-thin_dump, (w.not-cache_dump, (w.not-era_dump, (w.not-thin_restore, (w.not-cache_restore, (w.not-era_restore, (w.not-thin_repair, (w.not-thin_rmap, (w.not-thin_ls, (w.not-era_invalidate, (w.not-thin_generate, (w.not-thin_rehearse, (w.not-cache_writeback, tt)))))))))))))))))
+    sym (no_tool tools c.args.word.now (w.not-thin_check, (w.not-cache_check, (w.not-era_check, (w.not-thin_dump, (w.not-cache_dump, (w.not-era_dump, (w.not-thin_restore, (w.not-cache_restore, (w.not-era_restore, (w.not-thin_repair, (w.not-thin_rmap, (w.not-thin_ls, (w.not-era_invalidate, (w.not-thin_generate, (w.not-thin_rehearse, (w.not-cache_writeback, (w.not-thin_shrink, tt))))))))))))))))))

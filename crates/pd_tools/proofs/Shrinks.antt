@@ -1,0 +1,528 @@
+-- What the work of a shrink comes to, over plain variables.
+use Rattle.std.proofs.Common.{◌≡◌, ◌≢◌, ◌⊎◌, inl, inr, ℕ, ◌≤◌, not, nat_eq, false, IsTrue, List, [], ◌∷◌, length, map, Option, Some, None, IfSome, Result, Err, refl, sym, ap, ◌∙◌, subst, arith, lit≤}
+use Rattle.std.specs.Prelude.{MatchResult}
+use Rattle.std.proofs.lemmas.Option.{IfSome_then}
+use Rattle.pd_kinds.specs.declared.kind.Kind.TheVariants.{Thin}
+use Rattle.pd_kinds.specs.declared.kind.Stage.TheVariants.{Counts}
+use Rattle.pd_kinds.specs.Crash.{HoldsOldOrNone, HoldsSynced, IsSynced, IsUntouched}
+use Rattle.pd_kinds.specs.Limits.{room_of}
+use Rattle.pd_kinds.specs.Meaning.{thin_meaning}
+use Rattle.pd_kinds.specs.Objects.{DeviceState, SinkState, Appends, AppendsFront, Rose}
+use Rattle.pd_kinds.specs.Report.{Reported, report_of}
+use Rattle.pd_kinds.specs.Stages.{faults}
+use Rattle.pd_kinds.proofs.AppendLemmas.{appends_none, front_none}
+use Rattle.pd_kinds.proofs.CrashLemmas.{and_then, stays}
+use Rattle.pd_spells.specs.Lines.{no_room_line, reported_lines}
+use Rattle.pd_answers.specs.Answer.{Answer, Objects, AreFresh, IsUsed, reading, writing}
+use Rattle.pd_answers.specs.CachedView.{blocks_each}
+use Rattle.pd_answers.specs.MovedPool.{copy_of_move, data_after, end_of_pool, free_blocks, moves_to, sources}
+use Rattle.pd_answers.specs.Outputs.{IsRoom, LeavesMade}
+use Rattle.pd_answers.specs.Repairs.{LaysPool}
+use Rattle.pd_answers.specs.Shrinks.{IsGroundOf, Lack, LeavesShrunk, ShrinkFound, ShrinkGround, answer_to, bad_block_size, lack_of, moved_line, moves_of, no_room, pool_after, shrink, shrink_answer}
+use Rattle.pd_answers.specs.Terms.{is_one_of, is_possible}
+use Rattle.pd_answers.specs.Writebacks.{HasBlocks, block_size_line}
+use Rattle.pd_restore.specs.Made.{Ending, IsDone, IsMadeOf, done, lacking}
+use Rattle.pd_shrink.specs.declared.fault.ShrinkFault.{ShrinkFault}
+use Rattle.pd_shrink.specs.declared.fault.ShrinkFault.TheVariants as s
+use Rattle.pd_shrink.specs.declared.plan.Shrink.{Shrink}
+use Rattle.pd_shrink.specs.Failing.{IsOfPlanning}
+use Rattle.pd_shrink.specs.Planned.{GoesBy, HasLack, IsPlanned, IsUnplanned}
+use Rattle.pd_tools.specs.declared.stop.Stop.{Stop}
+use Rattle.pd_tools.specs.declared.stop.Stop.TheVariants.{Device, Stream, Memory}
+use Rattle.pd_tools.specs.Ending.{ending_line, ending_status, shrink_ended}
+use Rattle.pd_tools.specs.Read.{IsUnread}
+use Rattle.pd_tools.specs.Shrink.{AreOpened, AreUnopened, FailsToMove, GoesAsFar, HasMoved, IsWritten, devices}
+use Rattle.pd_tools.specs.Stop.{stop_status}
+use Rattle.pd_tools.specs.Work.{HasCause, IsFinished, IsStopped, IsWork}
+use Rattle.pd_tools.proofs.Answered.{not_risen}
+use Rattle.pd_tools.proofs.Checks.{not_yet}
+use Rattle.pd_tools.proofs.Laying.{laid_kept, laid_leaves}
+use Rattle.pd_tools.proofs.Queries.{none_at_super, one_told, two_told}
+use Rattle.pd_tools.proofs.Restores.{Image, left_lost, room-held, room-told, room_in, same_held, still_synced, untouched_output}
+use Rattle.pd_tools.proofs.Writebacks.{and_same, blocks_in, blocks_told, has_blocks, here_kept, if_any, never_open, still_opened}
+
+-- what is right to find of the metadata
+abbrev IsRight : ℕ → Option Image → Reported → ShrinkGround → Type 0
+IsRight blocks held report ground = IfSome held (λ image. (report ≡ report_of (faults Thin Counts image)) × IsGroundOf image blocks ground)
+
+-- the image that is told, if one is
+image_in : Option Image → Image
+image_in None = []
+image_in (Some image) = image
+
+-- what a shrink of an image goes by
+abbrev ground_of : Image → ℕ → ℕ → ℕ → ShrinkGround
+ground_of image blocks data_blocks room =
+    let end = end_of_pool (thin_meaning image) blocks in
+    record { pool = thin_meaning image; end = end; free = free_blocks image end; data_blocks = data_blocks; room = room }
+
+ground_told : (held : Option Image) (blocks data_blocks room : ℕ) → IfSome held (λ image. IsGroundOf image blocks (ground_of (image_in held) blocks data_blocks room))
+unfolding image_in
+ground_told None blocks data_blocks room = tt
+ground_told (Some image) blocks data_blocks room = record { pool = refl; end = refl; free = refl }
+
+report_in : Option Image → Reported
+report_in held = report_of (faults Thin Counts (image_in held))
+
+report_told : (held : Option Image) → IfSome held (λ image. report_in held ≡ report_of (faults Thin Counts image))
+unfolding report_in image_in
+report_told None = tt
+report_told (Some image) = refl
+
+right_by : (blocks : ℕ) (held : Option Image) (report : Reported) (ground : ShrinkGround) → IfSome held (λ image. report ≡ report_of (faults Thin Counts image))
+    → IfSome held (λ image. IsGroundOf image blocks ground) → IsRight blocks held report ground
+right_by blocks held report ground = two_told held (λ image same is. (same, is))
+
+-- an output and a data device that were left alone, under each status but 0
+left_alone : (found : ShrinkFound) (before after : Objects) (status : ℕ) → IsSynced before.output → IsSynced before.third → status ≢ 0
+    → IsUntouched before.output after.output → IsUntouched before.third after.third → LeavesShrunk found before after status
+left_alone found before after status output_synced pool_synced some output pool = record {
+  copies = IfSome_then before.third.held pool_synced (λ image s.
+      stays pool.held pool.history (here_kept (blocks_each found.ground.pool.block_size) (map copy_of_move (moves_of found.ground)) image before.third s));
+  output = untouched_output (LaysPool (shrink_answer found) (pool_after found.ground) found.ground.room) (not (nat_eq (shrink_answer found).status 0)) status
+      before.output after.output output_synced output some;
+  order = if_any before.third.held (λ image. inl output);
+  moved = λ zero. absurd (some zero);
+  refused = λ _. (output, pool);
+  nothing_moved = λ _. pool;
+  kept = λ _ _ _. same_held before.output after.output output.held;
+  output_spared = λ _ _. output;
+  data_spared = λ _ _ _. pool;
+}
+
+-- what is left where a line is lost
+pub shrink_lost : (before after : Objects) (found : ShrinkFound) (status : ℕ) → LeavesShrunk found before after status → LeavesShrunk found before after 6
+shrink_lost before after found status left = record {
+  copies = left.copies;
+  output = left_lost _ _ status before.output after.output left.output;
+  order = left.order;
+  moved = λ e. absurd (omega arith);
+  refused = left.refused;
+  nothing_moved = left.nothing_moved;
+  kept = λ _ other. absurd (other refl);
+  output_spared = λ e. absurd (omega arith);
+  data_spared = λ e. absurd (omega arith);
+}
+
+-- before anything was done
+pub shrink_at_rest : (from to pool : List ℕ) (blocks : ℕ) (before : Objects) (notes : SinkState) → AreFresh before
+    → (finding : ShrinkFound) × ((shrink from to pool blocks).finds before (record before { notes = notes }) finding)
+    × ((shrink from to pool blocks).leaves finding before (record before { notes = notes }) 6)
+shrink_at_rest from to pool blocks before notes fresh =
+    let held = before.input.held in
+    let ground = ground_of (image_in held) blocks (blocks_in before.third.held) (room_in before.output.held) in
+    let finding : ShrinkFound = record { report = report_in held; ground = ground } in (
+      finding,
+      record {
+        pool_device = record { told = blocks_told before.third.held; attached = never_open before.third.access fresh.third.0 };
+        output = record { told = room-told before.output.held; attached = λ e. absurd (let closed = fresh.output.0 in omega arith) };
+        told = right_by blocks held (report_in held) ground (report_told held) (ground_told held blocks _ _);
+      },
+      left_alone finding before (record before { notes = notes }) 6 fresh.output.2 fresh.third.2 (λ e. omega arith)
+          (record { held = refl; history = refl }) (record { held = refl; history = refl }),
+    )
+
+-- a device for writing isn't open for reading
+writes_alone : {P : Type 0} (path : List ℕ) (access : ℕ) (name : Option (List ℕ)) → IsUsed (writing path) access name → access ≢ 2 → (access ≡ 1) ⊎ (access ≡ 2) → P
+writes_alone path access name used closed (inr two) = absurd (closed two)
+writes_alone path access name used closed (inl one) = elim used.allowed [
+  | inl e ↦ absurd (omega arith)
+  | inr rest ↦ elim rest [ inl e ↦ absurd (omega arith) | inr e ↦ absurd (omega arith) ]
+]
+
+module _ (from to pool : List ℕ) (blocks : ℕ) (others : Objects) (notes out : SinkState) (m m' o o' t t' : DeviceState) (fresh : out.access ≡ 0)
+    (output_synced : IsSynced o) (pool_synced : IsSynced t) where
+  -- a device couldn't be attached
+  pub shrink_unopened : IfSome o'.held (λ image. length image ≡ o'.blocks) → AreUnopened from to pool (devices m o t) (devices m' o' t')
+      → IsStopped (shrink from to pool blocks) (record others { out = out; input = m; output = o; third = t })
+      (record others { out = out; notes = notes; input = m'; output = o'; third = t' }) Device
+  shrink_unopened measured un =
+      let ground = ground_of (image_in m.held) blocks (blocks_in t.held) (room_of o'.blocks) in
+      let finding : ShrinkFound = record { report = report_in m.held; ground = ground } in
+      let before : Objects = record others { out = out; input = m; output = o; third = t } in
+      let after : Objects = record others { out = out; notes = notes; input = m'; output = o'; third = t' } in
+      let leaves : (status : ℕ) → status ≢ 0 → LeavesShrunk finding before after status =
+      λ status some. left_alone finding before after status output_synced pool_synced some un.output_untouched un.pool_untouched in
+      record {
+        finding = finding;
+        work = record {
+          found = record {
+            pool_device = record { told = blocks_told t.held; attached = writes_alone pool t'.access t'.path un.pool_used un.closed };
+            output = record { told = room-held o.held o'.held o'.blocks un.output_untouched.held measured; attached = λ _. refl };
+            told = right_by blocks m.held (report_in m.held) ground (report_told m.held) (ground_told m.held blocks _ _);
+          };
+          possible = refl;
+          followed = record { source = tt; out = not_yet [] out.access out.path fresh; input = un.meta_used; output = un.output_used; third = un.pool_used };
+          kept = record { source = refl; out = tt; input = un.meta_untouched; output = tt; third = tt };
+          order = record {
+            input = λ _. tt;
+            output = λ ne. (tt, un.output_order ne);
+            third = λ ne. (tt, un.pool_order ne);
+            out = λ ne. absurd (ne fresh);
+          };
+          silent = λ _. refl;
+          spared = λ _. refl;
+          reads = tt;
+          leaves = leaves 5 (λ e. omega arith);
+        };
+        cause = un.cause;
+        front = front_none _ out.written;
+        lost = leaves 6 (λ e. omega arith);
+      }
+
+-- how the devices stand once they were attached, at the end of a call that goes by this
+record AreEnded (from to pool : List ℕ) (m m' o o' t t' : DeviceState) (ground : ShrinkGround) : Type 0 where
+  meta_open : m'.access ≡ 1
+  meta_named : IfSome m'.path (λ told. told ≡ from)
+  meta_untouched : IsUntouched m m'
+  output_open : o'.access ≡ 2
+  output_named : IfSome o'.path (λ told. told ≡ to)
+  output_has : IsRoom o o' ground.room
+  pool_open : t'.access ≡ 2
+  pool_named : IfSome t'.path (λ told. told ≡ pool)
+  pool_has : HasBlocks t t' ground.data_blocks
+
+-- the number of blocks of the data device, and the room of the output, are those that it goes by
+has_data_blocks : (old new : DeviceState) (blocks data_blocks : ℕ) → data_blocks ≡ blocks → HasBlocks old new blocks → HasBlocks old new data_blocks
+has_data_blocks old new blocks data_blocks same has = rw same has
+
+has_room : (old opened new : DeviceState) (room : ℕ) → room ≡ room_of opened.blocks → opened.held ≡ old.held → IfSome opened.held (λ image. length image ≡ opened.blocks)
+    → new.blocks ≡ opened.blocks → IsRoom old new room
+has_room old opened new room same held measured number = record {
+  told = rw same (room-held old.held opened.held opened.blocks held measured);
+  attached = λ _. same ∙ ap room_of (sym number);
+}
+
+module _ (from to pool : List ℕ) (blocks : ℕ) (others : Objects) (notes out out' : SinkState) (m m' o o' t t' : DeviceState) (ground : ShrinkGround)
+    (ended : AreEnded from to pool m m' o o' t t' ground) (out_used : IsUsed (reading []) out'.access out'.path) where
+  abbrev before : Objects
+  before = record others { out = out; input = m; output = o; third = t }
+
+  abbrev after : Objects
+  after = record others { out = out'; notes = notes; input = m'; output = o'; third = t' }
+
+  abbrev finding : Reported → ShrinkFound
+  finding report = record { report = report; ground = ground }
+
+  work : (report : Reported) → IsRight blocks m.held report ground → (status : ℕ)
+      → IsTrue (is_possible (shrink from to pool blocks) status) → (IsTrue (is_one_of (1 ∷ 4 ∷ 5 ∷ 7 ∷ []) status) → out' ≡ out)
+      → ((shrink_answer (finding report)).status ≢ 0 → out' ≡ out)
+      → LeavesShrunk (finding report) before after status → IsWork (shrink from to pool blocks) (finding report) before after status
+  work report right status possible silent spared leaves = record {
+    found = record { pool_device = ended.pool_has; output = ended.output_has; told = right };
+    possible = possible;
+    followed = record {
+      source = tt;
+      out = out_used;
+      input = record { allowed = inr (inl ended.meta_open); named = λ _. ended.meta_named };
+      output = record { allowed = inr (inl ended.output_open); named = λ _. ended.output_named };
+      third = record { allowed = inr (inl ended.pool_open); named = λ _. ended.pool_named };
+    };
+    kept = record { source = refl; out = tt; input = ended.meta_untouched; output = tt; third = tt };
+    order = record {
+      input = λ _. tt;
+      output = λ _. (tt, ended.meta_open);
+      third = λ _. (tt, (ended.meta_open, ended.output_open));
+      out = λ _. record { source = tt; input = ended.meta_open; output = ended.output_open; third = ended.pool_open };
+    };
+    silent = silent;
+    spared = spared;
+    reads = tt;
+    leaves = leaves;
+  }
+
+  finished : (report : Reported) → IsRight blocks m.held report ground → (status : ℕ) (bytes line : List ℕ) → status ≤ 4
+      → IsTrue (is_possible (shrink from to pool blocks) status) → (IsTrue (is_one_of (1 ∷ 4 ∷ 5 ∷ 7 ∷ []) status) → out' ≡ out)
+      → (status ≢ 0 → out' ≡ out) → shrink_answer (finding report) ≡ record { status = status; out = bytes; notes = line }
+      → Appends bytes out.written out'.written → (status ≡ 0 → out'.access ≡ 1)
+      → LeavesShrunk (finding report) before after status → IsFinished (shrink from to pool blocks) before after status line
+  finished report right status bytes line low possible silent spared answer whole attached leaves = record {
+    finding = finding report;
+    work = work report right status possible silent (λ some. spared (λ zero. some (ap (λ (a : Answer). a.status) answer ∙ zero))) leaves;
+    low = low;
+    same_status = sym (ap (λ (a : Answer). a.status) answer);
+    same_line = sym (ap (λ (a : Answer). a.notes) answer);
+    out = subst (λ (a : Answer). Appends a.out out.written out'.written) (sym answer) whole;
+    open_devices = record { source = tt; input = ended.meta_open; output = ended.output_open; third = ended.pool_open };
+    open_out = attached;
+    read = λ _. tt;
+  }
+
+  stopped : (report : Reported) → IsRight blocks m.held report ground → (stop : Stop)
+      → IsTrue (is_possible (shrink from to pool blocks) (stop_status stop)) → (IsTrue (is_one_of (1 ∷ 4 ∷ 5 ∷ 7 ∷ []) (stop_status stop)) → out' ≡ out)
+      → ((shrink_answer (finding report)).status ≢ 0 → out' ≡ out) → HasCause (shrink from to pool blocks) before after stop
+      → AppendsFront (shrink_answer (finding report)).out out.written out'.written
+      → LeavesShrunk (finding report) before after (stop_status stop) → IsStopped (shrink from to pool blocks) before after stop
+  stopped report right stop possible silent spared cause front leaves = record {
+    finding = finding report;
+    work = work report right (stop_status stop) possible silent spared leaves;
+    cause = cause;
+    front = front;
+    lost = shrink_lost before after (finding report) (stop_status stop) leaves;
+  }
+
+-- what the answer to a report without faults comes to
+abbrev sound_finding : ShrinkGround → ShrinkFound
+sound_finding ground = record { report = report_of []; ground = ground }
+
+answer_sound : (ground : ShrinkGround) (lack : Option Lack) → lack_of ground ≡ lack → shrink_answer (sound_finding ground) ≡ answer_to lack ground
+answer_sound ground lack is = ap (λ (l : Option Lack). answer_to l ground) is
+
+-- the report of no faults is right where there are none
+none_right : (held : Option Image) → IfSome held (λ image. faults Thin Counts image ≡ []) → IfSome held (λ image. report_of [] ≡ report_of (faults Thin Counts image))
+none_right held none = one_told held (λ image is. sym (ap report_of is)) none
+
+-- devices that were attached, and then only read
+module _ (from to pool : List ℕ) (blocks : ℕ) (others : Objects) (notes out : SinkState) (m m1 m' o o1 t t1 : DeviceState) (fresh : out.access ≡ 0)
+    (output_synced : IsSynced o) (pool_synced : IsSynced t) (opened : AreOpened from to pool (devices m o t) (devices m1 o1 t1))
+    (access : m'.access ≡ m1.access) (path : m'.path ≡ m1.path) (same : IsUntouched m1 m')
+    (output_measured : IfSome o1.held (λ image. length image ≡ o1.blocks)) (pool_measured : IfSome t1.held (λ image. length image ≡ t1.blocks)) where
+  abbrev before_read : Objects
+  before_read = record others { out = out; input = m; output = o; third = t }
+
+  abbrev after_read : Objects
+  after_read = record others { out = out; notes = notes; input = m'; output = o1; third = t1 }
+
+  read_left : (found : ShrinkFound) (status : ℕ) → status ≢ 0 → LeavesShrunk found before_read after_read status
+  read_left found status some =
+      left_alone found before_read after_read status output_synced pool_synced some opened.output.untouched opened.pool.untouched
+
+  out_unused : IsUsed (reading []) out.access out.path
+  out_unused = not_yet [] out.access out.path fresh
+
+  -- what it goes by
+  module _ (ground : ShrinkGround) (number : ground.data_blocks ≡ t1.blocks) (room : ground.room ≡ room_of o1.blocks) where
+    read_only : AreEnded from to pool m m' o o1 t t1 ground
+    read_only = record {
+      meta_open = access ∙ opened.meta.attached;
+      meta_named = rw path opened.meta.named;
+      meta_untouched = and_same opened.meta.untouched same;
+      output_open = opened.output.attached;
+      output_named = opened.output.named;
+      output_has = has_room o o1 o1 ground.room room opened.output.untouched.held output_measured refl;
+      pool_open = opened.pool.attached;
+      pool_named = opened.pool.named;
+      pool_has = has_data_blocks t t1 t1.blocks ground.data_blocks number (has_blocks t t1 t1 opened.pool.untouched.held pool_measured refl);
+    }
+
+    -- nothing was written, and it came to an answer
+    read_finished : (report : Reported) → IsRight blocks m.held report ground → (status : ℕ) (line : List ℕ) → status ≤ 4 → status ≢ 0
+        → IsTrue (is_possible (shrink from to pool blocks) status)
+        → shrink_answer (record { report = report; ground = ground }) ≡ record { status = status; out = []; notes = line }
+        → IsFinished (shrink from to pool blocks) before_read after_read status line
+    read_finished report right status line low some possible answer =
+        finished from to pool blocks others notes out out m m' o o1 t t1 ground read_only out_unused report right status [] line low possible
+        (λ _. refl) (λ _. refl) answer (appends_none out.written) (λ zero. absurd (some zero)) (read_left _ status some)
+
+    -- it was stopped
+    read_stopped : (report : Reported) → IsRight blocks m.held report ground → (stop : Stop) → stop_status stop ≢ 0
+        → IsTrue (is_possible (shrink from to pool blocks) (stop_status stop)) → HasCause (shrink from to pool blocks) before_read after_read stop
+        → IsStopped (shrink from to pool blocks) before_read after_read stop
+    read_stopped report right stop some possible cause =
+        stopped from to pool blocks others notes out out m m' o o1 t t1 ground read_only out_unused report right stop possible
+        (λ _. refl) (λ _. refl) cause (front_none _ out.written) (read_left _ (stop_status stop) some)
+
+  -- what is told
+  abbrev ground_here : ShrinkGround
+  ground_here = ground_of (image_in m.held) blocks t1.blocks (room_of o1.blocks)
+
+  right_here : (report : Reported) → IfSome m.held (λ image. report ≡ report_of (faults Thin Counts image)) → IsRight blocks m.held report ground_here
+  right_here report right = right_by blocks m.held report ground_here right (ground_told m.held blocks t1.blocks (room_of o1.blocks))
+
+  -- the metadata wasn't read to a report
+  pub shrink_unread : (stop : Stop) → IsUnread Thin Counts m1 m' stop → IsStopped (shrink from to pool blocks) before_read after_read stop
+  shrink_unread Stream unread = absurd unread
+  shrink_unread Device unread =
+      read_stopped ground_here refl refl (report_in m.held) (right_here (report_in m.held) (report_told m.held)) Device (λ e. omega arith) refl (inl (rw opened.meta.faults at unread))
+  shrink_unread Memory unread =
+      read_stopped ground_here refl refl (report_in m.held) (right_here (report_in m.held) (report_told m.held)) Memory (λ e. omega arith) refl (rw opened.meta.untouched.held at unread)
+
+  -- it has faults
+  pub shrink_faulty : (report : Reported) → IfSome m1.held (λ image. report ≡ report_of (faults Thin Counts image)) → nat_eq report.total 0 ≡ false
+      → IsFinished (shrink from to pool blocks) before_read after_read 1 (reported_lines report)
+  shrink_faulty report right faulty =
+      let first_right : IfSome m.held (λ image. report ≡ report_of (faults Thin Counts image)) = rw opened.meta.untouched.held at right in
+      read_finished ground_here refl refl report (right_here report first_right) 1 (reported_lines report) (lit≤ tt) (λ e. omega arith) refl (rw faulty refl)
+
+  -- it has none, and there is no plan
+  module _ (sound : IfSome m1.held (λ image. faults Thin Counts image ≡ [])) where
+    sound_here : IfSome m.held (λ image. faults Thin Counts image ≡ [])
+    sound_here = rw opened.meta.untouched.held at sound
+
+    found_right : (ground : ShrinkGround) → GoesBy m1.held o1.blocks t1.blocks blocks ground → IsRight blocks m.held (report_of []) ground
+    found_right ground by = right_by blocks m.held (report_of []) ground (none_right m.held sound_here) (rw opened.meta.untouched.held at by.told)
+
+    lacking_ground : (lack : Lack) (un : HasLack m1.held o1.blocks t1.blocks blocks lack) (status : ℕ) (line : List ℕ) → status ≤ 4 → status ≢ 0
+        → IsTrue (is_possible (shrink from to pool blocks) status) → answer_to (Some lack) un.basis ≡ record { status = status; out = []; notes = line }
+        → IsFinished (shrink from to pool blocks) before_read after_read status line
+    lacking_ground lack un status line low some possible answer =
+        read_finished un.basis un.goes_by.data_blocks un.goes_by.room (report_of []) (found_right un.basis un.goes_by) status line low some possible
+        (answer_sound un.basis (Some lack) un.lacks ∙ answer)
+
+    pub shrink_unplanned : (fault : ShrinkFault) → IsUnplanned m1.held o1.blocks t1.blocks blocks fault → IsOfPlanning fault m1.faults m'.faults
+        → MatchResult (shrink_ended fault) (λ ending. IsFinished (shrink from to pool blocks) before_read after_read (ending_status ending) (ending_line ending))
+        (IsStopped (shrink from to pool blocks) before_read after_read)
+    shrink_unplanned s.Memory un counts =
+        read_stopped ground_here refl refl (report_of []) (right_here (report_of []) (none_right m.held sound_here)) Memory (λ e. omega arith) refl (record {
+          past_super = λ e. absurd cc;
+          sound = one_told m.held (λ image is. none_at_super Thin Counts image is) sound_here;
+        })
+    shrink_unplanned s.Meta un counts =
+        read_stopped ground_here refl refl (report_of []) (right_here (report_of []) (none_right m.held sound_here)) Device (λ e. omega arith) refl (inl (rw opened.meta.faults at counts.0))
+    shrink_unplanned s.Output un counts = absurd un
+    shrink_unplanned s.BlockSize un counts = lacking_ground bad_block_size un 1 block_size_line (lit≤ tt) (λ e. omega arith) refl refl
+    shrink_unplanned (s.NoRoom need there) un counts = lacking_ground (no_room need there) un 4 (no_room_line need there) (lit≤ tt) (λ e. omega arith) refl refl
+
+-- devices that a plan was made for, and that were written by it
+module _ (from to pool : List ℕ) (blocks : ℕ) (others : Objects) (notes out : SinkState) (m m1 m2 o o1 o' t t1 t' : DeviceState) (fresh : out.access ≡ 0)
+    (output_synced : IsSynced o) (output_unfailed : o.faults ≡ 0) (pool_synced : IsSynced t) (pool_unfailed : t.faults ≡ 0)
+    (opened : AreOpened from to pool (devices m o t) (devices m1 o1 t1))
+    (access : m2.access ≡ m1.access) (path : m2.path ≡ m1.path) (same : IsUntouched m1 m2)
+    (sound : IfSome m1.held (λ image. faults Thin Counts image ≡ []))
+    (output_measured : IfSome o1.held (λ image. length image ≡ o1.blocks)) (pool_measured : IfSome t1.held (λ image. length image ≡ t1.blocks))
+    (plan : Shrink) (ground : ShrinkGround) (planned : IsPlanned m1.held o1.blocks t1.blocks blocks ground plan)
+    (result : Result ℕ Stop) (written : IsWritten plan result (devices m2 o1 t1) (devices m2 o' t')) where
+  all_ended : AreEnded from to pool m m2 o o' t t' ground
+  all_ended = record {
+    meta_open = access ∙ opened.meta.attached;
+    meta_named = rw path opened.meta.named;
+    meta_untouched = and_same opened.meta.untouched same;
+    output_open = written.output_place.access ∙ opened.output.attached;
+    output_named = rw written.output_place.path opened.output.named;
+    output_has = has_room o o1 o' ground.room planned.goes_by.room opened.output.untouched.held output_measured written.output_place.blocks;
+    pool_open = written.pool_place.access ∙ opened.pool.attached;
+    pool_named = rw written.pool_place.path opened.pool.named;
+    pool_has = has_data_blocks t t' t1.blocks ground.data_blocks planned.goes_by.data_blocks
+        (has_blocks t t1 t' opened.pool.untouched.held pool_measured written.pool_place.blocks);
+  }
+
+  abbrev before_writing : Objects
+  before_writing = record others { out = out; input = m; output = o; third = t }
+
+  abbrev after_writing : SinkState → Objects
+  after_writing last = record others { out = last; notes = notes; input = m2; output = o'; third = t' }
+
+  abbrev found_here : ShrinkFound
+  found_here = sound_finding ground
+
+  sound_first : IfSome m.held (λ image. faults Thin Counts image ≡ [])
+  sound_first = rw opened.meta.untouched.held at sound
+
+  right_first : IsRight blocks m.held (report_of []) ground
+  right_first = right_by blocks m.held (report_of []) ground (none_right m.held sound_first) (rw opened.meta.untouched.held at planned.goes_by.told)
+
+  answered : shrink_answer found_here ≡ record { status = 0; out = moved_line (length (sources ground.pool ground.end)); notes = [] }
+  answered = answer_sound ground None planned.fits
+
+  zero : (shrink_answer found_here).status ≡ 0
+  zero = ap (λ (a : Answer). a.status) answered
+
+  -- what is left, by what is left of the output and of what was moved
+  leaves : (last : SinkState) (status : ℕ)
+      → LeavesMade (LaysPool (shrink_answer found_here) (pool_after ground) ground.room) (not (nat_eq (shrink_answer found_here).status 0)) status o o'
+      → IfSome t.held (λ image. IsUntouched o o' ⊎ HoldsSynced (data_after (blocks_each ground.pool.block_size) (moves_of ground) image) t')
+      → (status ≡ 0 → IfSome t.held (λ image. HoldsSynced (data_after (blocks_each ground.pool.block_size) (moves_of ground) image) t'))
+      → (status ≢ 0 → status ≢ 6 → o'.faults ≡ o.faults → HoldsOldOrNone o o')
+      → (status ≡ 5 → o'.faults ≡ o.faults → IsUntouched o o')
+      → (status ≡ 5 → o'.faults ≡ o.faults → t'.faults ≡ t.faults → IsUntouched t t')
+      → LeavesShrunk found_here before_writing (after_writing last) status
+  leaves last status output order moved kept output_spared data_spared = record {
+    copies = IfSome_then t.held pool_synced (λ image s.
+        and_then (stays opened.pool.untouched.held opened.pool.untouched.history (here_kept (blocks_each ground.pool.block_size) (map copy_of_move (moves_of ground)) image t s))
+        (written.crash ground image planned.plan (still_synced image t t1 opened.pool.untouched s)));
+    output = output;
+    order = order;
+    moved = moved;
+    refused = λ some. absurd (some zero);
+    nothing_moved = λ none. and_same opened.pool.untouched (written.cold (planned.plan.moves ∙ ap (λ (ds : List ℕ). moves_to ds ground.free) none));
+    kept = kept;
+    output_spared = output_spared;
+    data_spared = data_spared;
+  }
+
+  -- all was moved
+  module _ (ending : Ending) (has : HasMoved plan ending (devices m2 o1 t1) (devices m2 o' t')) where
+    all_moved : IfSome t.held (λ image. HoldsSynced (data_after (blocks_each ground.pool.block_size) (moves_of ground) image) t')
+    all_moved = IfSome_then t.held pool_synced (λ image s. has.moved ground image planned.plan (still_synced image t t1 opened.pool.untouched s))
+
+    made_here : IsMadeOf (pool_after ground) ending o1 o'
+    made_here = has.made ground planned.plan
+
+    moved_leaves : (last : SinkState) (status : ℕ) → (status ≡ 0 → IsDone ending) → status ≢ 3 → status ≢ 4
+        → (status ≢ 0 → status ≢ 6 → o'.faults ≡ o.faults → HoldsOldOrNone o o') → (status ≡ 5 → o'.faults ≡ o.faults → ⊥)
+        → LeavesShrunk found_here before_writing (after_writing last) status
+    moved_leaves last status is_done three four kept never =
+        leaves last status
+        (subst (λ (room : ℕ). LeavesMade (LaysPool (shrink_answer found_here) (pool_after ground) room) (not (nat_eq (shrink_answer found_here).status 0)) status o o')
+        (sym planned.goes_by.room)
+        (laid_leaves o o1 o' output_synced opened.output.untouched (pool_after ground) ending made_here (shrink_answer found_here) zero status is_done
+        (λ either. elim either [ inl e ↦ three e | inr e ↦ four e ])))
+        (one_told t.held (λ image is. inr is) all_moved) (λ _. all_moved) kept
+        (λ five unfailed. absurd (never five unfailed)) (λ five unfailed. absurd (never five unfailed))
+
+  -- the data device failed
+  unmoved_leaves : FailsToMove (devices m2 o1 t1) (devices m2 o' t') → (last : SinkState) (status : ℕ) → status ≢ 0
+      → LeavesShrunk found_here before_writing (after_writing last) status
+  unmoved_leaves fails last status some =
+      let alone : IsUntouched o o' = and_same opened.output.untouched fails.alone in
+      leaves last status
+      (untouched_output (LaysPool (shrink_answer found_here) (pool_after ground) ground.room) (not (nat_eq (shrink_answer found_here).status 0)) status o o' output_synced alone some)
+      (if_any t.held (λ image. inl alone)) (λ e. absurd (some e)) (λ _ _ _. same_held o o' alone.held) (λ _ _. alone)
+      (λ _ _ unfailed. absurd (not_risen t.faults t'.faults pool_unfailed unfailed (rw opened.pool.faults at fails.rose)))
+
+  -- where it was stopped before its line
+  unput : (stop : Stop) → IsTrue (is_possible (shrink from to pool blocks) (stop_status stop)) → HasCause (shrink from to pool blocks) before_writing (after_writing out) stop
+      → LeavesShrunk found_here before_writing (after_writing out) (stop_status stop) → IsStopped (shrink from to pool blocks) before_writing (after_writing out) stop
+  unput stop possible cause left =
+      stopped from to pool blocks others notes out out m m2 o o' t t' ground all_ended (not_yet [] out.access out.path fresh) (report_of []) right_first stop possible
+      (λ _. refl) (λ _. refl) cause (front_none _ out.written) left
+
+  pub shrink_unwritten : (stop : Stop) → GoesAsFar plan (Err stop) (devices m2 o1 t1) (devices m2 o' t') → IsStopped (shrink from to pool blocks) before_writing (after_writing out) stop
+  shrink_unwritten Stream far = absurd far
+  shrink_unwritten Memory has =
+      unput Memory refl (record {
+        past_super = λ e. absurd cc;
+        sound = one_told m.held (λ image is. none_at_super Thin Counts image is) sound_first;
+      })
+      (moved_leaves lacking has out 7 (λ e. absurd (omega arith)) (λ e. omega arith) (λ e. omega arith)
+      (λ _ _ _. laid_kept o o1 o' output_synced opened.output.untouched (pool_after ground) lacking (made_here lacking has) (shrink_answer found_here) tt)
+      (λ e. absurd (omega arith)))
+  shrink_unwritten Device (inl fails) =
+      unput Device refl (inr (inr (rw opened.pool.faults at fails.rose))) (unmoved_leaves fails out 5 (λ e. omega arith))
+  shrink_unwritten Device (inr fails) =
+      let risen : Rose o.faults o'.faults = rw opened.output.faults at fails.rose in
+      let never : o'.faults ≡ o.faults → ⊥ = λ unfailed. not_risen o.faults o'.faults output_unfailed unfailed risen in
+      unput Device refl (inr (inl risen))
+      (moved_leaves _ fails.has_moved out 5 (λ e. absurd (omega arith)) (λ e. omega arith) (λ e. omega arith) (λ _ _ unfailed. absurd (never unfailed)) (λ _ unfailed. never unfailed))
+
+  -- all was written
+  module _ (has : HasMoved plan done (devices m2 o1 t1) (devices m2 o' t')) (out' : SinkState) (used : IsUsed (reading []) out'.access out'.path) where
+    written_leaves : (status : ℕ) → status ≢ 3 → status ≢ 4 → status ≢ 5 → (status ≢ 0 → status ≢ 6 → ⊥) → LeavesShrunk found_here before_writing (after_writing out') status
+    written_leaves status three four five either =
+        moved_leaves done has out' status (λ _. tt) three four (λ some other. absurd (either some other)) (λ e. absurd (five e))
+
+    -- and the line was put
+    pub shrink_done : Appends (moved_line (length (sources ground.pool ground.end))) out.written out'.written → out'.access ≡ 1
+        → IsFinished (shrink from to pool blocks) before_writing (after_writing out') 0 []
+    shrink_done whole attached =
+        finished from to pool blocks others notes out out' m m2 o o' t t' ground all_ended used (report_of []) right_first 0
+        (moved_line (length (sources ground.pool ground.end))) [] (lit≤ tt) refl (λ e. absurd cc) (λ some. absurd (some refl)) answered whole (λ _. attached)
+        (written_leaves 0 (λ e. omega arith) (λ e. omega arith) (λ e. omega arith) (λ some. absurd (some refl)))
+
+    -- or a front of it, since `out` failed
+    pub shrink_unput : AppendsFront (moved_line (length (sources ground.pool ground.end))) out.written out'.written → Rose out.faults out'.faults
+        → IsStopped (shrink from to pool blocks) before_writing (after_writing out') Stream
+    shrink_unput front rose =
+        stopped from to pool blocks others notes out out' m m2 o o' t t' ground all_ended used (report_of []) right_first Stream refl
+        (λ e. absurd cc) (λ some. absurd (some zero)) (inr rose)
+        (subst (λ (a : Answer). AppendsFront a.out out.written out'.written) (sym answered) front)
+        (written_leaves 6 (λ e. omega arith) (λ e. omega arith) (λ e. omega arith) (λ _ other. other refl))
+
+-- devices that were attached, and of which the metadata was read without a fault
+pub shrink_read : (from to pool : List ℕ) (m m1 m2 o o1 t t1 : DeviceState) → AreOpened from to pool (devices m o t) (devices m1 o1 t1)
+    → m2.access ≡ m1.access → m2.path ≡ m1.path → IsUntouched m1 m2 → m2.faults ≡ m1.faults → AreOpened from to pool (devices m o t) (devices m2 o1 t1)
+shrink_read from to pool m m1 m2 o o1 t t1 opened access path same unfailed = record {
+  meta = still_opened opened.meta access path same unfailed;
+  output = opened.output;
+  pool = opened.pool;
+}
