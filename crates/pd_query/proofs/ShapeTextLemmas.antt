@@ -1,16 +1,16 @@
 -- The lines of shared leaves and of pieces in a pool without faults are those of its shape.
-use Rattle.std.proofs.Common.{◌≡◌, ℕ, ◌+◌, ◌-◌, ◌^◌, ◌<◌, ◌≤◌, ◌&&◌, true, nat_le, nat_lt, min, List, [], ◌∷◌, ◌++◌, length, map, refl, sym, ap, ◌∙◌, append_assoc, arith}
+use Rattle.std.proofs.Common.{◌≡◌, ℕ, ◌+◌, ◌<◌, ◌≤◌, true, nat_eq, nat_le, nat_lt, List, [], ◌∷◌, ◌++◌, length, map, refl, ap, ◌∙◌, append_assoc, arith}
 use Rattle.std.specs.Prelude.{count_by, sum_by}
 use Rattle.std.specs.List.{AllByRecursion, flat_map}
 use Rattle.std.proofs.lemmas.Bool.{and_parts, leb-true}
 use Rattle.std.proofs.lemmas.List.{map-append}
 use Rattle.std.proofs.lemmas.List.Sums.{sum_by-cons}
 use Rattle.pd_kinds.specs.Graph.{Graph, block_at}
-use Rattle.pd_kinds.specs.Meaning.{ThinDevice, thin_meaning}
+use Rattle.pd_kinds.specs.Meaning.{thin_meaning}
 use Rattle.pd_kinds.specs.ThinFormat.{thin_graph}
 use Rattle.pd_kinds.specs.ThinSuper.{thin_fields}
 use Rattle.pd_grammar.specs.Texts.{text_of_lines}
-use Rattle.pd_spells.specs.ThinText.{Line, Run, end_line, joined_runs, map_line, number_in, pool_format, pool_line, shared_first_line, thin}
+use Rattle.pd_spells.specs.ThinText.{Line, Run, end_line, joined_runs, map_line, number_in, pool_line, shared_first_line, thin}
 use Rattle.pd_spells.proofs.ThinLaws.{joined_mappings}
 use Rattle.pd_laid.specs.Shape as shape
 use Rattle.pd_laid.specs.Shape.{ShapeDevice}

@@ -1,17 +1,17 @@
 -- The text of shared leaves, of pieces and of devices, one after another.
-use Rattle.std.proofs.Common.{◌≡◌, inl, inr, ℕ, ◌+◌, ◌-◌, ◌^◌, ◌<◌, ◌≤◌, min, true, false, nat_lt, List, [], ◌∷◌, ◌++◌, length, map, drop, get_or, sum_by, refl, sym, ap, ◌∙◌, arith}
+use Rattle.std.proofs.Common.{◌≡◌, ℕ, ◌+◌, ◌-◌, ◌^◌, ◌<◌, ◌≤◌, min, List, [], ◌∷◌, ◌++◌, length, map, drop, get_or, sum_by, refl, ap, ◌∙◌, arith}
 use Rattle.std.specs.List.{flat_map}
 use Rattle.std.proofs.lemmas.Bool.{le-ltb, lt-ltb}
 use Rattle.std.proofs.lemmas.List.{append-nil, drop_more}
 use Rattle.std.proofs.lemmas.List.Sums.{sum_by-cons}
 use Rattle.pd_grammar.specs.Texts.{text_of_lines}
-use Rattle.pd_spells.specs.ThinText.{Line, leaf_line, thin}
+use Rattle.pd_spells.specs.ThinText.{Line, thin}
 use Rattle.pd_texts.specs.Printed.{text_of_line}
 use Rattle.pd_thin_meaning.specs.declared.devices.DeviceRow.{DeviceRow}
 use Rattle.pd_thin_meaning.specs.declared.joined.Run.{Run}
 use Rattle.pd_shared_leaves.specs.declared.pieces.Piece.{Piece}
 use Rattle.pd_shared_leaves.specs.Pieces.{pieces_below}
-use Rattle.pd_query.specs.SharedLines.{body_lines, entries_in, leaf_lines, leaves_lines, piece_line, pieces_lines, sharing_lines}
+use Rattle.pd_query.specs.SharedLines.{body_lines, leaf_lines, leaves_lines, piece_line, pieces_lines, sharing_lines}
 use Rattle.pd_query.proofs.TextLemmas.{text-append}
 
 -- a piece before others

@@ -1,11 +1,8 @@
-use Rattle.std.proofs.Common.{Some}
 use Rattle.std.specs.List.{flat_map}
 use Rattle.pd_grammar.specs.Texts.{text_of_lines}
-use Rattle.pd_lines.specs.Printer.{printing}
 use Rattle.pd_spells.specs.ThinText.{thin}
 use Rattle.pd_thin_meaning.specs.Devices.{rows_left}
 use Rattle.pd_shared_leaves.specs.Leaves.{shared_blocks}
-use Rattle.pd_query.specs.SharedDump.{body_left}
 use Rattle.pd_query.specs.SharedLines.{sharing_lines}
 use Rattle.pd_query.proofs.PutsLemmas.{first_lost, lost_with, some_then}
 use Rattle.pd_query.proofs.SharedTextLemmas.{leaves_first}

@@ -1,9 +1,8 @@
-use Rattle.std.proofs.Common.{◌≡◌, IfSome, length, map, sym, ap, ◌∙◌, subst, arith}
+use Rattle.std.proofs.Common.{map, sym, ap, ◌∙◌, arith}
 use Rattle.pd_grammar.specs.Texts.{text_of_lines}
 use Rattle.pd_lines.specs.Printer.{printing}
 use Rattle.pd_spells.specs.ThinText.{thin}
 use Rattle.pd_shared_leaves.specs.Leaves.{shared_blocks}
-use Rattle.pd_shared_leaves.specs.Pieces.{pieces_below, pieces_left}
 use Rattle.pd_query.specs.SharedLines.{piece_line, pieces_lines}
 use Rattle.pd_query.proofs.PutsLemmas.{one_told, prints_nothing, prints_told}
 use Rattle.pd_query.proofs.SharedTextLemmas.{no_pieces_outside, pieces_inside}

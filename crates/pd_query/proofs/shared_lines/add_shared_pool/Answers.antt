@@ -1,4 +1,4 @@
-use Rattle.std.proofs.Common.{ℕ, List, Err, refl, ◌∷◌, ◌++◌, []}
+use Rattle.std.proofs.Common.{Err, refl, ◌∷◌, ◌++◌, []}
 use Rattle.pd_grammar.specs.Texts.{text_of_lines}
 use Rattle.pd_spells.specs.ThinText.{end_line, pool_line, thin}
 use Rattle.pd_texts.specs.Printed.{text_of_line}

@@ -3,7 +3,7 @@ use Rattle.pd_image.proofs.ReadLemmas.{only_reads_both}
 use Rattle.pd_tree.specs.Next.{IsNext}
 use Rattle.pd_thin_meaning.specs.declared.joined.Run.{Run}
 use Rattle.pd_thin_meaning.specs.Runs.{runs_left}
-use Rattle.pd_query.proofs.PutsLemmas.{one_told, two_told}
+use Rattle.pd_query.proofs.PutsLemmas.{two_told}
 use Rattle.pd_query.proofs.SharedTextLemmas.{entries_end, entries_next}
 use Rattle.pd_query.proofs.shared_lines.count_runs.Goals as goal
 

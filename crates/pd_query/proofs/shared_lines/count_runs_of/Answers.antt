@@ -1,5 +1,4 @@
 use Rattle.std.proofs.Common.{refl, arith}
-use Rattle.pd_query.specs.SharedLines.{entries_in}
 use Rattle.pd_query.proofs.PutsLemmas.{one_told}
 use Rattle.pd_query.proofs.TextLemmas.{no_runs_outside}
 use Rattle.pd_query.proofs.shared_lines.count_runs_of.Goals as goal
