@@ -2,22 +2,13 @@
 use Rattle.std.proofs.Common.{◌≡◌, inl, inr, ℕ, zero, suc, ◌+◌, ◌<◌, ◌≤◌, Bool, true, false, cond, nat_eq, nat_lt, List, [], ◌∷◌, ◌++◌, Option, Some, None, length, filter, count_by, refl, ap, ◌∙◌, subst, arith}
 use Rattle.std.specs.List.{AllByRecursion, flat_map, position, position_or_len, range_with_len}
 use Rattle.std.proofs.lemmas.Bool.{cases_Bool, eqb-true, ltb-true}
-use Rattle.std.proofs.lemmas.List.Sums.{sum_by-cons}
+use Rattle.pd_shared_leaves.specs.Marks.{occurs}
+use Rattle.pd_shared_leaves.proofs.OccursLemmas.{among_there, holds_among}
 
 -- an element that is counted
-counted_later : (first : Bool) (all others : ℕ) → first ≡ false → all ≡ cond first 1 0 + others → 1 ≤ all → 1 ≤ others
-counted_later true all others isnt is some = absurd cc
-counted_later false all others isnt is some = omega arith
-
 pub at_counted : (P : ℕ → Type 0) (b : ℕ) (xs : List ℕ) → AllByRecursion P xs → 1 ≤ count_by (λ c. nat_eq c b) xs → P b
-at_counted P b [] all some = absurd (omega arith)
-at_counted P b (x ∷ xs) all some =
-    elim (cases_Bool (nat_eq x b)) [
-      | inl same ↦ subst P (eqb-true x b same) all.0
-      | inr other ↦
-          at_counted P b xs all.1
-          (counted_later (nat_eq x b) (count_by (λ c. nat_eq c b) (x ∷ xs)) (count_by (λ c. nat_eq c b) xs) other (sum_by-cons (λ c. cond (nat_eq c b) 1 0) x xs) some)
-    ]
+unfolding occurs
+at_counted P b xs all some = holds_among P b xs all (among_there b xs some)
 
 -- one that has a place
 at_place : (P : ℕ → Type 0) (b : ℕ) (xs : List ℕ) → AllByRecursion P xs → position_or_len (λ c. nat_eq c b) xs < length xs → P b

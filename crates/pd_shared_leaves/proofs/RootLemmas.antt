@@ -1,19 +1,24 @@
 -- The roots of a pool's devices, and their trees, in an image without faults.
-use Rattle.std.proofs.Common.{◌≡◌, ◌↔◌, ℕ, ◌*◌, ◌<◌, true, if◌then◌else◌, List, [], ◌∷◌, refl, sym, ◌∙◌, arith}
+use Rattle.std.proofs.Common.{◌≡◌, ◌↔◌, ℕ, ◌*◌, ◌<◌, ◌≤◌, min, length, true, if◌then◌else◌, List, [], ◌∷◌, refl, sym, ◌∙◌, arith}
 use Rattle.std.specs.List.{AllByRecursion}
 use Rattle.std.proofs.lemmas.List.{map-id}
 use Rattle.std.proofs.lemmas.Simd.{map-map}
+use Rattle.pd_kinds.specs.declared.kind.Kind.TheVariants.{Thin}
+use Rattle.pd_kinds.specs.declared.kind.Stage.TheVariants as stages
+use Rattle.pd_kinds.specs.declared.limits.TheConstants.{MAX_META_BLOCKS}
 use Rattle.pd_kinds.specs.Node.{Entry, is_inner_node}
 use Rattle.pd_kinds.specs.Graph.{Graph, block_at, pair, block_of, is_inner_pair, next, is_reached}
 use Rattle.pd_kinds.specs.Lawful.{IsLawful}
 use Rattle.pd_kinds.specs.Layout.{graph_of}
 use Rattle.pd_kinds.specs.Order.{children, gathered, is_deep}
 use Rattle.pd_kinds.specs.Paths.{IsOnPath}
-use Rattle.pd_kinds.specs.Stages.{IsReached}
+use Rattle.pd_kinds.specs.Stages.{HasCleanSuper, IsReached, faults, thin_checked}
 use Rattle.pd_kinds.specs.ThinFormat.{thin_graph}
 use Rattle.pd_kinds.specs.ThinSuper.{thin_fields}
 use Rattle.pd_kinds.specs.Whole.{top_entries}
 use Rattle.pd_laws.proofs.AllLemmas.{all_from, all_mapped}
+use Rattle.pd_laws.proofs.CleanLemmas.{clean_super_where_none}
+use Rattle.pd_laws.proofs.ThinTable.{super_sound}
 use Rattle.pd_shapes.specs.ImageShape.{device_roots, leaf_blocks}
 use Rattle.pd_value.specs.declared.thin.Root.{Root}
 use Rattle.pd_tree.specs.Below.{nodes_below}
@@ -66,6 +71,24 @@ module _ (graph : Graph) (image : List (List ℕ)) (is : IsTreeRole graph 3 8) w
 pub nr_is : (block : List ℕ) → (thin_graph block).nr ≡ (thin_fields block).meta_map.blocks
 unfolding thin_graph graph_of
 nr_is block = refl
+
+-- and that there is a mark for each
+sizes_if_clean : (image : List (List ℕ)) → HasCleanSuper (thin_checked image) image
+    → ((thin_fields (block_at image 0)).meta_map.blocks ≤ length image) × ((thin_fields (block_at image 0)).meta_map.blocks ≤ MAX_META_BLOCKS)
+unfolding thin_checked
+sizes_if_clean [] clean = absurd clean
+sizes_if_clean (block ∷ blocks) clean =
+    let sound = super_sound (length (block ∷ blocks)) block clean in
+    (sound.within, sound.few_blocks)
+
+pub nr_fits : (image : List (List ℕ)) → faults Thin stages.Whole image ≡ [] → min (min (length image) (thin_fields (block_at image 0)).meta_map.blocks) MAX_META_BLOCKS ≡ (thin_graph (block_at image 0)).nr
+unfolding faults
+nr_fits image none =
+    let sizes = sizes_if_clean image (clean_super_where_none (thin_checked image) image (stages.Walk ∷ stages.Order ∷ stages.Whole ∷ []) none) in
+    rw (nr_is (block_at image 0)) (least (length image) (thin_fields (block_at image 0)).meta_map.blocks MAX_META_BLOCKS sizes.0 sizes.1)
+  where
+    least : (device nr most : ℕ) → nr ≤ device → nr ≤ most → min (min device nr) most ≡ nr
+    least device nr most fits few = omega arith
 
 -- the roots of the devices are those that a cursor gives of the mapping tree
 pub roots_are : (image : List (List ℕ)) → IsTreeRole (thin_graph (block_at image 0)) 2 8 → IsSoundTree (thin_graph (block_at image 0)) image (pair (thin_fields (block_at image 0)).mapping_root 2)

@@ -1,4 +1,7 @@
+pub mod Found
+pub mod Given
 pub mod Leaves
+pub mod Marks
 pub mod Parts
 pub mod Pieces
-pub mod Given
+pub mod Walk

@@ -1,19 +1,9 @@
 //! Which leaves a pool's devices share.
 
-ghost use Rattle.std.specs.Prelude.{◌≡◌, ◌<◌, ℕ, List, [], length, IfOk, IfSome, nat_eq};
-ghost use Rattle.std.specs.List.{position, slice_index};
-ghost use Rattle.pd_kinds.specs.declared.kind.Kind.TheVariants.{Thin};
-ghost use Rattle.pd_kinds.specs.declared.kind.Stage.TheVariants.{Whole};
-ghost use Rattle.pd_kinds.specs.CheckFault.{CountsCheckFault};
-ghost use Rattle.pd_kinds.specs.Graph.{block_at};
-ghost use Rattle.pd_kinds.specs.Stages.{faults};
-ghost use Rattle.pd_kinds.specs.ThinFormat.{thin_graph};
-ghost use Rattle.pd_kinds.specs.ThinSuper.{thin_fields};
-ghost use Rattle.pd_image.specs.Device.{IsAttached, OnlyReads};
-ghost use Rattle.pd_shapes.specs.ImageShape.{shared_leaves};
-ghost use Rattle.pd_shared_leaves.specs.Leaves.{shared_blocks};
+ghost use Rattle.std.specs.List.Sorted.{IsStrictlyIncreasing};
 
-use crate::never::Never;
+use crate::collect::{find_marks, shared_blocks_of};
+use crate::laws::leaves_are_below_roots;
 use pd_image::Device;
 use pd_kinds::{CheckFault, ThinSuper};
 use std::alloc::Global;
@@ -23,11 +13,27 @@ use std::alloc::Global;
 #[derive(Drop)]
 pub struct SharedLeaves {
     blocks: Vec<u32>,
-    never: Never,
+    ghost ascend: { IsStrictlyIncreasing blocks.items },
 }
 
 impl SharedLeaves {
+    ghost use Rattle.std.specs.Prelude.{◌≡◌, ◌<◌, [], length, IfOk, IfSome, nat_eq};
+    ghost use Rattle.std.specs.List.{position, slice_index};
+    ghost use Rattle.pd_kinds.specs.declared.kind.Kind.TheVariants.{Thin};
+    ghost use Rattle.pd_kinds.specs.declared.kind.Stage.TheVariants.{Whole};
+    ghost use Rattle.pd_kinds.specs.CheckFault.{CountsCheckFault};
+    ghost use Rattle.pd_kinds.specs.Graph.{block_at};
+    ghost use Rattle.pd_kinds.specs.Stages.{faults};
+    ghost use Rattle.pd_kinds.specs.ThinFormat.{thin_graph};
+    ghost use Rattle.pd_kinds.specs.ThinSuper.{thin_fields};
+    ghost use Rattle.pd_image.specs.Device.{IsAttached, OnlyReads};
+    ghost use Rattle.pd_shapes.specs.ImageShape.{shared_leaves};
+    ghost use Rattle.pd_shared_leaves.specs.Leaves.{shared_blocks};
+
     /// Finds the shared leaves of the pool with this superblock.
+    ///
+    /// It takes a byte a metadata block, 4 bytes a shared leaf, and 8 bytes a child that waits until it is looked at. Each
+    /// leaf is read once at the most, and each inner node twice.
     ///
     /// Fails with `Device` where a read failed, and with `Memory` where memory wasn't found.
     pub fn find<D: Device>(
@@ -42,7 +48,10 @@ impl SharedLeaves {
         ensures kept { OnlyReads (D.state dev.old) (D.state dev.new) }
         ensures faults { CountsCheckFault result (D.state dev.old).faults (D.state dev.new).faults }
     {
-        Err(CheckFault::Memory)
+        leaves_are_below_roots();
+        let marks = find_marks(alloc, dev, s)?;
+        let blocks = shared_blocks_of(alloc, marks.as_slice())?;
+        Ok(SharedLeaves { blocks })
     }
 
     /// How many there are.
@@ -57,14 +66,19 @@ impl SharedLeaves {
         requires { number < length (shared_blocks self.now) }
         ensures { result ≡ slice_index (shared_blocks self.now) number }
     {
-        self.blocks[number as usize] as u64
+        u64::from(self.blocks[number as usize])
     }
 
     /// The number of the leaf in a block, if that is a shared one.
     pub fn number(&self, b: u64) -> Option<u64>
         ensures { result ≡ position (λ leaf. nat_eq leaf b) (shared_blocks self.now) }
     {
-        let _b = b;
-        None
+        match self
+            .blocks
+            .binary_search_by_key(&b, |block| u64::from(*block))
+        {
+            Ok(number) => Some(number as u64),
+            Err(_) => None,
+        }
     }
 }

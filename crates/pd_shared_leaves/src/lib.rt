@@ -1,13 +1,15 @@
 //! The leaves that a pool's devices share, and the pieces of a device's mappings: runs of its own, and shared leaves.
 #![tactic(auto)]
 
+mod collect;
 mod find;
 mod laws;
-mod never;
+mod marks;
 mod part_search;
 mod parts;
 mod piece_laws;
 mod pieces;
+mod walk;
 
 pub use find::SharedLeaves;
 pub use laws::leaves_are_below_roots;

@@ -1,0 +1,117 @@
+//! The marks of a pool's metadata blocks, and the shared leaves that they tell.
+
+ghost use Rattle.std.specs.Prelude.{◌≡◌, ℕ, ◌+◌, ◌<◌, ◌≤◌, ◌++◌, ◌∷◌, List, [], if◌then◌else◌, length, min, replicate, IfErr, IfOk, IfSome, OnOk};
+ghost use Rattle.pd_kinds.specs.declared.check_fault.CheckFault.TheVariants.{Memory};
+ghost use Rattle.pd_kinds.specs.declared.limits.TheConstants.{MAX_META_BLOCKS};
+ghost use Rattle.pd_kinds.specs.CheckFault.{CountsCheckFault};
+ghost use Rattle.pd_image.specs.Device.{IsAttached, OnlyReads};
+ghost use Rattle.pd_tree.specs.Below.{items_below, nodes_below};
+ghost use Rattle.pd_tree.specs.Cursor.{cursor_items, cursor_nodes, cursor_room};
+ghost use Rattle.pd_tree.specs.Items.{root_of};
+ghost use Rattle.pd_shared_leaves.specs.declared.marks.Mark.TheVariants.{Unseen};
+ghost use Rattle.pd_shared_leaves.specs.Found.{marked_blocks};
+ghost use Rattle.pd_shared_leaves.specs.Leaves.{roots_below};
+ghost use Rattle.pd_shared_leaves.specs.Marks.{AreMarked, is_shared};
+ghost use Rattle.pd_shared_leaves.specs.Walk.{AreProper};
+
+use crate::marks::Mark;
+use crate::walk::walk_devices;
+use pd_image::Device;
+use pd_kinds::{CheckFault, MAX_META_BLOCKS, ThinSuper};
+use pd_tree::Cursor;
+use pd_value::Root;
+use std::alloc::Global;
+
+/// The marks of so many blocks that no tree has, a byte each. Want of memory is the only error.
+fn no_marks(alloc: Global, blocks: u64) -> Result<Vec<Mark>, CheckFault>
+    ensures unseen { IfOk result (λ marks. marks.items ≡ replicate blocks Unseen) }
+    ensures memory { IfErr result (λ fault. fault ≡ Memory) }
+{
+    let mut marks = Vec::new(alloc);
+    match marks.resize(blocks as usize, Mark::Unseen) {
+        Ok(()) => Ok(marks),
+        Err(_) => Err(CheckFault::Memory),
+    }
+}
+
+/// A cursor over the mapping tree with this root. Want of memory is the only error.
+fn start_devices(alloc: Global, root: u64) -> Result<Cursor<Root>, CheckFault>
+    ensures roots { (image : List (List ℕ)) → IfOk result (λ devices. cursor_items 8 root_of image devices ≡ items_below 8 root_of image 63 root) }
+    ensures nodes { (image : List (List ℕ)) → IfOk result (λ devices. cursor_nodes 8 image devices ≡ nodes_below 8 image 63 root) }
+    ensures room { IfOk result (λ devices. cursor_room devices ≡ root + 1) }
+    ensures memory { IfErr result (λ fault. fault ≡ Memory) }
+{
+    match Cursor::start(alloc, root) {
+        Ok(devices) => Ok(devices),
+        Err(_) => Err(CheckFault::Memory),
+    }
+}
+
+/// Walks over the trees of all devices of the pool with this superblock, where no block has a mark yet.
+fn walk_pool<D: Device>(
+    alloc: Global,
+    dev: &mut D,
+    s: &ThinSuper,
+    marks: &mut [Mark],
+) -> Result<(), CheckFault>
+    requires attached { IsAttached (D.state dev.old) }
+    requires root { s.now.mapping_root < (D.state dev.old).blocks }
+    requires within { length marks.old ≤ (D.state dev.old).blocks }
+    requires unseen { marks.old ≡ replicate (length marks.old) Unseen }
+    ensures marked { OnOk result (IfSome (D.state dev.old).held (λ image. AreProper image marks.new (roots_below image s.now.mapping_root)
+        → AreMarked image (roots_below image s.now.mapping_root) marks.new)) }
+    ensures same_number { length marks.new ≡ length marks.old }
+    ensures kept { OnlyReads (D.state dev.old) (D.state dev.new) }
+    ensures faults { CountsCheckFault result (D.state dev.old).faults (D.state dev.new).faults }
+{
+    let mut devices = start_devices(alloc, s.mapping_root)?;
+    walk_devices(alloc, marks, &mut devices, dev)
+}
+
+/// The marks of the metadata blocks of the pool with this superblock, after walks over the trees of all devices.
+pub(crate) fn find_marks<D: Device>(
+    alloc: Global,
+    dev: &mut D,
+    s: &ThinSuper,
+) -> Result<Vec<Mark>, CheckFault>
+    requires attached { IsAttached (D.state dev.old) }
+    requires root { s.now.mapping_root < (D.state dev.old).blocks }
+    ensures marked { IfOk result (λ marks. IfSome (D.state dev.old).held (λ image. AreProper image marks.items (roots_below image s.now.mapping_root)
+        → AreMarked image (roots_below image s.now.mapping_root) marks.items)) }
+    ensures number { IfOk result (λ marks. IfSome (D.state dev.old).held (λ image. length marks.items ≡ min (min (length image) s.now.meta_map.blocks) MAX_META_BLOCKS)) }
+    ensures few { IfOk result (λ marks. length marks.items ≤ MAX_META_BLOCKS) }
+    ensures kept { OnlyReads (D.state dev.old) (D.state dev.new) }
+    ensures faults { CountsCheckFault result (D.state dev.old).faults (D.state dev.new).faults }
+{
+    let blocks = dev.blocks().min(s.meta_map.blocks).min(MAX_META_BLOCKS);
+    let mut marks = no_marks(alloc, blocks)?;
+    walk_pool(alloc, dev, s, marks.as_mut_slice())?;
+    Ok(marks)
+}
+
+/// The block is one of them, if it has the mark of a shared leaf. Want of memory is the only error.
+fn add_if_shared(blocks: &mut Vec<u32>, b: u32, mark: Mark) -> Result<(), CheckFault>
+    ensures added { OnOk result (blocks.new.items ≡ blocks.old.items ++ (if is_shared mark then b ∷ [] else [])) }
+    ensures memory { IfErr result (λ fault. fault ≡ Memory) }
+{
+    if !mark.is_shared() {
+        return Ok(());
+    }
+    match blocks.push(b) {
+        Ok(()) => Ok(()),
+        Err(_) => Err(CheckFault::Memory),
+    }
+}
+
+/// The blocks that have the mark of a shared leaf, ascending. Want of memory is the only error.
+pub(crate) fn shared_blocks_of(alloc: Global, marks: &[Mark]) -> Result<Vec<u32>, CheckFault>
+    requires few { length marks.now ≤ MAX_META_BLOCKS }
+    ensures blocks { IfOk result (λ blocks. blocks.items ≡ marked_blocks marks.now) }
+    ensures memory { IfErr result (λ fault. fault ≡ Memory) }
+{
+    let mut blocks = Vec::new(alloc);
+    for b in 0..marks.len() {
+        add_if_shared(&mut blocks, b as u32, marks[b])?;
+    }
+    Ok(blocks)
+}
