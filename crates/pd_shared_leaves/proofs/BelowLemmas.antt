@@ -1,8 +1,7 @@
 -- The nodes below a node, at any level.
-use Rattle.std.proofs.Common.{◌≡◌, ℕ, zero, suc, Bool, true, false, nat_eq, List, [], ◌∷◌, ◌++◌, refl, sym, ap, eq-eqb}
+use Rattle.std.proofs.Common.{◌≡◌, ℕ, zero, suc, true, false, nat_eq, List, [], ◌∷◌, refl, sym, ap, eq-eqb}
 use Rattle.std.specs.List.{AllByRecursion, flat_map, list_any}
 use Rattle.std.proofs.lemmas.Bool.{eqb-true, or_right}
-use Rattle.std.proofs.lemmas.List.{append-nil}
 use Rattle.pd_kinds.specs.Order.{has_chain}
 use Rattle.pd_laws.proofs.AllLemmas.{all_from}
 use Rattle.pd_tree.specs.Below.{gather, nodes_below}

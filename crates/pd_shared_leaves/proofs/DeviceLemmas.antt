@@ -1,13 +1,11 @@
 -- The walk over the trees of devices, one after another.
-use Rattle.std.proofs.Common.{◌≡◌, ℕ, List, [], ◌∷◌, ◌++◌, length, refl, sym, ◌∙◌, ap}
-use Rattle.std.specs.List.{AllByRecursion}
+use Rattle.std.proofs.Common.{◌≡◌, ℕ, List, [], ◌∷◌, ◌++◌, length, refl, sym, ◌∙◌}
 use Rattle.std.proofs.lemmas.List.{append-nil, append_assoc}
 use Rattle.pd_laws.proofs.AllLemmas.{all_append}
 use Rattle.pd_shared_leaves.specs.declared.marks.Mark.{Mark}
 use Rattle.pd_value.specs.declared.thin.Root.{Root}
 use Rattle.pd_shared_leaves.specs.Leaves.{IsProperTree, roots_of}
-use Rattle.pd_shared_leaves.specs.Marks.{AreMarked}
-use Rattle.pd_shared_leaves.specs.Walk.{AreProper, AreWalked}
+use Rattle.pd_shared_leaves.specs.Walk.{AreWalked}
 use Rattle.pd_shared_leaves.proofs.WalkLemmas.{all_back, all_front}
 
 -- of these roots those before the ones that are left were walked

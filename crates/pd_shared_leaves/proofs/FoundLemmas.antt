@@ -1,5 +1,5 @@
 -- The shared leaves that the marks tell are those of the pool.
-use Rattle.std.proofs.Common.{◌≡◌, ℕ, zero, suc, ◌+◌, ◌<◌, ◌≤◌, Bool, true, false, ◌&&◌, cond, nat_eq, nat_le, nat_lt, List, [], ◌∷◌, ◌++◌, length, map, replicate, get_or, refl, sym, ap, ◌∙◌, arith, lt-ltb, min, subst}
+use Rattle.std.proofs.Common.{◌≡◌, ℕ, zero, suc, ◌+◌, ◌<◌, Bool, true, false, ◌&&◌, cond, nat_eq, nat_le, nat_lt, List, [], ◌∷◌, ◌++◌, length, replicate, refl, sym, ap, ◌∙◌, arith, lt-ltb, min, subst}
 use Rattle.std.specs.List.{AllByRecursion, count_by, filter, flat_map, range_with_len}
 use Rattle.std.specs.List.Sorted.{IsStrictlyIncreasing}
 use Rattle.std.proofs.lemmas.Bool.{eqb-true}
@@ -109,8 +109,11 @@ module _ (image : List (List ℕ)) (x : ℕ) where
   gathered_occurs (suc j) b =
       let leaves = flat_map (gather own_leaf (node_kids 8 image) j) (node_kids 8 image b) in
       let nodes = flat_map (gather (λ c. c ∷ []) (node_kids 8 image) j) (node_kids 8 image b) in
-      rw (occurs-append x (own_leaf b) leaves, own_by (nat_eq b x) (is_inner_node (block_at image b)) b refl refl,
-      flat_occurs (gather own_leaf (node_kids 8 image) j) (gather (λ c. c ∷ []) (node_kids 8 image) j) (node_kids 8 image b) (gathered_occurs j))
+      rw (
+        occurs-append x (own_leaf b) leaves,
+        own_by (nat_eq b x) (is_inner_node (block_at image b)) b refl refl,
+        flat_occurs (gather own_leaf (node_kids 8 image) j) (gather (λ c. c ∷ []) (node_kids 8 image) j) (node_kids 8 image b) (gathered_occurs j),
+      )
       (unless_add inner (occurs x (b ∷ [])) (occurs x nodes) ∙ ap (λ (n : ℕ). cond inner 0 n) (sym (occurs-append x (b ∷ []) nodes)))
 
   -- how often a leaf is in the trees of some roots

@@ -1,5 +1,5 @@
 -- What a mark tells of a node.
-use Rattle.std.proofs.Common.{◌≡◌, ℕ, zero, suc, ◌+◌, ◌≤◌, Bool, true, false, List, refl, arith}
+use Rattle.std.proofs.Common.{◌≡◌, ℕ, zero, suc, ◌≤◌, Bool, true, false, List, refl, arith}
 use Rattle.pd_kinds.specs.Node.{is_inner_node}
 use Rattle.pd_shared_leaves.specs.Marks.{has_few_entries, is_followed, mark_after, mark_of, mark_often, mark_once}
 

@@ -1,6 +1,6 @@
 -- How many reads are left, and the number that falls with each block that is met.
 use Rattle.std.proofs.Common.{◌≡◌, ℕ, ◌+◌, ◌-◌, ◌<◌, ◌≤◌, Bool, true, false, List, ◌++◌, length, refl, arith}
-use Rattle.std.specs.List.{range_with_len, slice_set}
+use Rattle.std.specs.List.{slice_set}
 use Rattle.std.proofs.lemmas.List.{length-append}
 use Rattle.std.proofs.lemmas.List.FromFn.{length-map-range_with_len}
 use Rattle.std.proofs.lemmas.List.Sums.{sum_by-set}

@@ -1,5 +1,5 @@
 -- Where a number is in a list that ascends.
-use Rattle.std.proofs.Common.{◌≡◌, ℕ, ◌+◌, ◌<◌, ◌≤◌, true, false, nat_eq, get_or, List, length, Some, None, Ok, Err, refl, sym, arith, eq-eqb, inl, inr, lt-ltb, le-ltb}
+use Rattle.std.proofs.Common.{◌≡◌, ℕ, ◌<◌, ◌≤◌, nat_eq, get_or, List, length, Some, None, Ok, Err, refl, arith, eq-eqb, inl, inr, lt-ltb, le-ltb}
 use Rattle.std.specs.List.{position}
 use Rattle.std.specs.List.Sorted.{IsBinarySearchResult, IsStrictlyIncreasing}
 use Rattle.std.specs.Ordering.{nat_cmp}

@@ -1,20 +1,20 @@
 -- The walk over a tree of which some nodes were met before.
 use Rattle.std.proofs.Common.{◌≡◌, ℕ, zero, suc, ◌+◌, ◌-◌, ◌<◌, ◌≤◌, Bool, true, false, nat_eq, List, [], ◌∷◌, ◌++◌, length, refl, sym, ap, ◌∙◌, arith, inl, inr, Option, Some, None, IfSome}
 use Rattle.std.specs.List.{AllByRecursion, list_any, slice_set}
-use Rattle.std.proofs.lemmas.Bool.{cases_eq, eqb-true, ne_eqb}
+use Rattle.std.proofs.lemmas.Bool.{cases_eq, ne_eqb}
 use Rattle.std.proofs.lemmas.List.{append-nil, get_or-set_other, get_or-set_same, length-set}
 use Rattle.std.proofs.lemmas.List.Concat.{flat_map-append}
 use Rattle.pd_kinds.specs.Graph.{block_at}
 use Rattle.pd_kinds.specs.Node.{is_inner_node}
 use Rattle.pd_laws.proofs.AllLemmas.{all_append}
-use Rattle.pd_tree.specs.Below.{kids_from, nodes_below}
+use Rattle.pd_tree.specs.Below.{nodes_below}
 use Rattle.pd_tree.specs.Levels.{HasAtMostLevels, node_kids}
 use Rattle.pd_tree.proofs.StackLemmas.{kids_leaf}
 use Rattle.pd_shared_leaves.specs.declared.marks.Mark.{Mark}
 use Rattle.pd_shared_leaves.specs.declared.marks.Mark.TheVariants.{Unseen}
 use Rattle.pd_shared_leaves.specs.Leaves.{IsProperTree}
 use Rattle.pd_shared_leaves.specs.Marks.{AreMarked, is_followed, mark_after, mark_at, mark_of, nodes_of, occurs}
-use Rattle.pd_shared_leaves.specs.Walk.{AreProper, IsMet, waiting_after}
+use Rattle.pd_shared_leaves.specs.Walk.{IsMet, waiting_after}
 use Rattle.pd_shared_leaves.proofs.BelowLemmas.{levels_below, nodes_are, nodes_through}
 use Rattle.pd_shared_leaves.proofs.MarkLemmas.{after_is, passed_twice, same_often}
 use Rattle.pd_shared_leaves.proofs.OccursLemmas.{Among, among_there, holds_among, not_among, occurs-append, occurs-cons, occurs-itself, occurs-none, occurs-other, occurs_once, occurs_there}

@@ -1,5 +1,5 @@
 -- The walk over the trees of a pool's devices.
-use Rattle.std.specs.Prelude.{◌≡◌, ℕ, ◌+◌, ◌*◌, Bool, true, false, List, [], ◌++◌, length}
+use Rattle.std.specs.Prelude.{◌≡◌, ℕ, ◌+◌, ◌*◌, Bool, true, false, List, ◌++◌, length}
 use Rattle.std.specs.List.{AllByRecursion, slice_set}
 use Rattle.pd_kinds.specs.Graph.{block_at}
 use Rattle.pd_tree.specs.Below.{kids_from}

@@ -1,5 +1,4 @@
-use Rattle.std.proofs.Common.{◌≡◌, ◌+◌, ◌≤◌, sym, ◌∙◌, arith}
-use Rattle.pd_shared_leaves.specs.Marks.{mark_after, mark_at}
+use Rattle.std.proofs.Common.{sym, ◌∙◌, arith}
 use Rattle.pd_shared_leaves.proofs.NumberLemmas.{no_read}
 use Rattle.pd_shared_leaves.proofs.walk.meet.Goals as goal
 

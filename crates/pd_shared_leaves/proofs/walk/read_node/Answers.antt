@@ -1,8 +1,7 @@
-use Rattle.std.proofs.Common.{◌≡◌, ◌+◌, ◌≤◌, ◌++◌, arith}
-use Rattle.std.specs.List.{slice_set}
+use Rattle.std.proofs.Common.{◌≡◌, ◌++◌, arith}
 use Rattle.std.proofs.lemmas.Result.{on_ok_weaker}
 use Rattle.pd_tree.specs.Below.{kids_from}
-use Rattle.pd_shared_leaves.specs.Marks.{mark_after, mark_at, reads_left}
+use Rattle.pd_shared_leaves.specs.Marks.{mark_after, mark_at}
 use Rattle.pd_shared_leaves.proofs.NumberLemmas.{number_after, one_read}
 use Rattle.pd_shared_leaves.proofs.walk.read_node.Goals as goal
 

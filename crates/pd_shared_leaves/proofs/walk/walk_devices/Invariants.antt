@@ -1,4 +1,4 @@
-use Rattle.std.proofs.Common.{◌≡◌, ℕ, ◌+◌, ◌≤◌, List, [], length, IfSome}
+use Rattle.std.proofs.Common.{◌≡◌, ◌+◌, ◌≤◌, [], length, IfSome}
 use Rattle.pd_image.specs.Device.{OnlyReads}
 use Rattle.pd_tree.specs.Cursor.{cursor_items, cursor_nodes, cursor_number, cursor_room}
 use Rattle.pd_tree.specs.Items.{root_of}

@@ -1,4 +1,4 @@
-use Rattle.std.proofs.Common.{◌≡◌, ◌∙◌, sym, subst}
+use Rattle.std.proofs.Common.{◌∙◌, sym, subst}
 use Rattle.std.specs.List.Sorted.{IsStrictlyIncreasing}
 use Rattle.pd_tree.proofs.NextLemmas.{if_both}
 use Rattle.pd_shared_leaves.proofs.FoundLemmas.{found, marked_increase}

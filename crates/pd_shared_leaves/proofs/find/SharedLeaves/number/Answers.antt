@@ -1,7 +1,5 @@
-use Rattle.std.proofs.Common.{◌≡◌, ℕ, Ok, Err, rules, arith}
-use Rattle.std.specs.List.Sorted.{IsBinarySearchResult}
-use Rattle.std.specs.Ordering.{nat_cmp}
-use Rattle.std.proofs.lemmas.List.Sorted.{answers_always, searched}
+use Rattle.std.proofs.Common.{ℕ, rules}
+use Rattle.std.proofs.lemmas.List.Sorted.{answers_always}
 use Rattle.pd_shared_leaves.proofs.NumberedLemmas.{at_search, no_search}
 use Rattle.pd_shared_leaves.proofs.find.SharedLeaves.number.Goals as goal
 
