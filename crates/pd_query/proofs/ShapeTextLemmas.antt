@@ -96,7 +96,7 @@ module _ (image : List (List ℕ)) where
   rows_are [] inside below whole = refl
   rows_are (row ∷ rows) inside below whole =
       let lines : pieces_lines (pool_leaves image) image row.root ≡ flat_map lines_of_piece (map joined_piece (device_pieces image row.root)) =
-          pieces_inside (pool_leaves image) image row.root inside.0 ∙ (ap (map piece_line) below.0 ∙ all_piece_lines (device_pieces image row.root) whole.0) in
+      pieces_inside (pool_leaves image) image row.root inside.0 ∙ (ap (map piece_line) below.0 ∙ all_piece_lines (device_pieces image row.root) whole.0) in
       rw (lines, rows_are rows inside.1 below.1 whole.1) refl
 
   devices_are : GivesPool image → GivesShape image
@@ -108,7 +108,7 @@ module _ (image : List (List ℕ)) where
   body_are : GivesPool image → GivesShape image
       → body_lines (pool_leaves image) image (pool_rows image) ++ (end_line ∷ [])
       ≡ lines_of_leaves 0 (map joined_runs (map (mappings_in image) (pool_leaves image)))
-          ++ (flat_map lines_of_part (map joined_part (device_shapes graph image (thin_meaning image).devices (pool_roots image))) ++ (end_line ∷ []))
+      ++ (flat_map lines_of_part (map joined_part (device_shapes graph image (thin_meaning image).devices (pool_roots image))) ++ (end_line ∷ []))
   body_are pool gives =
       let leaves = leaves_are image 0 (pool_leaves image) gives.leaves (few_leaves image) in
       let devices = devices_are pool gives in

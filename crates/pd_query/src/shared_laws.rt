@@ -21,7 +21,7 @@ use pd_thin_meaning::rows_are_the_devices;
 pub fn shared_lines_are_the_text()
     ensures { (image : List (List ℕ)) → faults Thin Whole image ≡ []
         → text_of_lines thin (shared_lines (shared_leaves (thin_graph (block_at image 0)) image) image (thin_fields (block_at image 0)))
-            ≡ text_of_shape (image_shape image) }
+        ≡ text_of_shape (image_shape image) }
 {
     rows_are_the_devices();
     pieces_are_those_of_the_shape();
