@@ -282,6 +282,20 @@ for version in 1 2; do
 done
 try 0 thin_dump -o leak.txt leak.img
 same leak.txt thin-pool.txt
+# with its shared leaves told once, a pool has the same mappings
+try 0 thin_dump --shared -o shared.txt thin-pool.img
+[ "$(sed -n 1p shared.txt)" = 'thin 2' ] || bad 'not version 2'
+spread() {
+    awk '$1 == "leaf" { leaf = $2; device = "" } $1 == "device" { device = $2; print }
+        $1 == "map" { for (i = 0; i < $4; i++) {
+            line = "map " $2 + i " " $3 + i " " $5 "\n"
+            if (device == "") leaves[leaf] = leaves[leaf] line; else printf "%s", line } }
+        $1 == "use" { printf "%s", leaves[$2] }' "$1"
+}
+spread thin-pool.txt >spread.txt
+spread shared.txt >spread-shared.txt
+same spread-shared.txt spread.txt
+try 2 cache_dump --shared cache.img
 # a data block far out: the counts of all before it take blocks of their own
 printf '%s\n' 'thin 1' 'pool 00000000-0000-0000-0000-000000000000 0 0 128 100000000' 'device 1 1 0 0 0' \
     'map 0 99999999 1 0' end >far.txt

@@ -43,6 +43,7 @@ is_built (check Thin Counts true image) = true
 is_built (check Cache until false image) = true
 is_built (check Era until false image) = true
 is_built (dump kind false file image) = true
+is_built (dump Thin true file image) = true
 is_built (restore kind version text image) = true
 is_built (repair input output) = true
 is_built (search input output transaction block_size blocks) = true

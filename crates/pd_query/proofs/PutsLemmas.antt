@@ -128,3 +128,8 @@ module _ (held : Option (List (List ℕ))) where
       → PrintsSome held text_of (Err lost) (fresh first) mid → PutsText held text_of result first.written mid.sink.written
   text_stopped (Ok value) failed some = absurd (cc (failed))
   text_stopped (Err fault) failed some = record { text = some.text; told = some.told; whole = tt; front = all_begun some.prints }
+
+-- the same text in other words, where the device tells what it holds
+pub prints_told : {E : Type 0} {result : Result (Unit {0}) E} {text_of other : List (List ℕ) → List ℕ} {old new : Printing} (held : Option (List (List ℕ)))
+    → IfSome held (λ image. text_of image ≡ other image) → PrintsSome held text_of result old new → PrintsSome held other result old new
+prints_told held same some = record { text = some.text; told = two_told held (λ image is same. is ∙ same) some.told same; prints = some.prints }

@@ -22,7 +22,7 @@ use Rattle.pd_thin_meaning.proofs.LeftLemmas.{zip-nil}
 use Rattle.pd_query.specs.ThinText.{given_text, rest_text, row_text, rows_text, some_rows}
 
 -- the text of lines in a row
-text-append : (xs ys : List Line) → text_of_lines thin (xs ++ ys) ≡ text_of_lines thin xs ++ text_of_lines thin ys
+pub text-append : (xs ys : List Line) → text_of_lines thin (xs ++ ys) ≡ text_of_lines thin xs ++ text_of_lines thin ys
 text-append xs ys = flat_map-append (λ (line : Line). written thin line ++ (10 ∷ [])) xs ys
 
 -- a run before others

@@ -5,3 +5,5 @@ pub mod ThinDump
 pub mod Mapped
 pub mod Counts
 pub mod Sound
+pub mod SharedLines
+pub mod SharedDump

@@ -8,6 +8,10 @@ mod counts;
 mod fault;
 mod lines;
 mod query;
+mod shared_devices;
+mod shared_dump;
+mod shared_laws;
+mod shared_lines;
 mod thin_dump;
 mod thin_lines;
 
@@ -15,5 +19,7 @@ pub use counts::DumpCounts;
 pub use fault::QueryFault;
 pub use lines::print_line;
 pub use query::Query;
+pub use shared_dump::{SharedDump, TextOfShape};
+pub use shared_laws::shared_lines_are_the_text;
 pub use thin_dump::{TextOfPool, ThinDump};
 pub use thin_lines::{devices_of, read_super};

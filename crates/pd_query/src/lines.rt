@@ -30,6 +30,19 @@ pub fn print_line<K: Sink>(line: &[u8], printer: &mut Printer<'_, K>) -> Result<
     }
 }
 
+/// Prints a line of a pool's text.
+pub(crate) fn print_thin_line<K: Sink>(
+    line: &ThinLine,
+    printer: &mut Printer<'_, K>,
+) -> Result<(), QueryFault>
+    requires { (K.state printer.old.out.now).access ≡ 1 }
+    ensures same_reference { printer.new.out.ghost_name ≡ printer.old.out.ghost_name }
+    ensures prints { Prints (text_of_line thin (line_of line.now)) result (printing K.state printer.old) (printing K.state printer.new) }
+    ensures faults { SinkFails result (K.state printer.old.out.now).faults (K.state printer.new.out.now).faults }
+{
+    print_line(bytes_of_thin(line).as_bytes(), printer)
+}
+
 /// Prints a line of a pool's text, and counts it.
 pub(crate) fn add_line<K: Sink>(
     line: &ThinLine,
@@ -42,7 +55,7 @@ pub(crate) fn add_line<K: Sink>(
     ensures counted { OnOk result (Counted counts.old counts.new (line_of line.now ∷ [])) }
     ensures faults { SinkFails result (K.state printer.old.out.now).faults (K.state printer.new.out.now).faults }
 {
-    print_line(bytes_of_thin(line).as_bytes(), printer)?;
+    print_thin_line(line, printer)?;
     counts.count(line);
     Ok(())
 }

@@ -32,7 +32,7 @@ use pd_thin_meaning::{DeviceRow, MapRuns, Run, ThinDevices};
 use std::alloc::{AllocError, Global};
 
 /// The line of a pool.
-fn pool_line(s: &ThinSuper) -> ThinLine
+pub(crate) fn pool_line(s: &ThinSuper) -> ThinLine
     ensures { line_of result ≡ p.pool_line (super_head s.now) }
 {
     ThinLine::Pool {
@@ -45,7 +45,7 @@ fn pool_line(s: &ThinSuper) -> ThinLine
 }
 
 /// The line of a run.
-fn map_line(run: &Run) -> ThinLine
+pub(crate) fn map_line(run: &Run) -> ThinLine
     ensures { line_of result ≡ p.map_line (spelled run.now) }
 {
     ThinLine::Map(Run2 {
@@ -85,7 +85,7 @@ fn add_runs<D: Device, K: Sink>(
 }
 
 /// Prints the map lines of the runs below a root. There are none below a block outside of the device.
-fn add_runs_of<D: Device, K: Sink>(
+pub(crate) fn add_runs_of<D: Device, K: Sink>(
     root: u64,
     runs: &mut MapRuns,
     dev: &mut D,

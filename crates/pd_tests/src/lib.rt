@@ -31,6 +31,8 @@ mod requests;
 #[cfg(test)]
 mod reverse_map_tests;
 #[cfg(test)]
+mod shared_dump_tests;
+#[cfg(test)]
 mod stored_tests;
 #[cfg(test)]
 mod super_tests;

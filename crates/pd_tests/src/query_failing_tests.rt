@@ -8,10 +8,11 @@ use std::alloc::{AllocError, Global};
 use std::process::Abort;
 use std::test::Fail;
 
-/// The words of the two queries.
+/// The words of two queries, and of a dump with shared leaves.
 const QUERIES: &[&[&str]] = &[
     &["thin_rmap", "--region", "4..6", "thin.img"],
     &["thin_ls", "thin.img"],
+    &["thin_dump", "--shared", "thin.img"],
 ];
 
 /// Asks with this call of `out` failing.

@@ -25,7 +25,7 @@ const WHOLE: &[&str] = &["thin_check", "--until", "whole", "thin.img"];
 type Change = (usize, Block);
 
 /// The details of a device with so many mapped blocks.
-fn details(mapped: u64) -> Details {
+pub(crate) fn details(mapped: u64) -> Details {
     Details {
         mapped,
         transaction: 0,

@@ -13,6 +13,8 @@ use Rattle.pd_answers.specs.Requests.{Request, check, dump, restore, repair, sea
 use Rattle.pd_answers.specs.QueryLines.{list_lines, rmap_lines, since_lines}
 use Rattle.pd_answers.specs.Words.{built, spelled, asked}
 use Rattle.pd_answers.specs.Promises.{image_text, terms_of}
+use Rattle.pd_shapes.specs.ImageShape.{image_shape}
+use Rattle.pd_shapes.specs.SharedText.{text_of_shape}
 use Rattle.pd_spells.specs.Early.{is_pool_early, is_cache_early, is_era_early}
 use Rattle.pd_spells.specs.ThinNeed.{IsThinVerdict}
 use Rattle.pd_spells.specs.CacheNeed.{IsCacheVerdict}
@@ -32,12 +34,14 @@ use Rattle.pd_tools.proofs.Searches.{search_at_rest}
 use Rattle.pd_tools.proofs.Shrinks.{shrink_at_rest}
 use Rattle.pd_tools.proofs.Writebacks.{writeback_at_rest}
 
--- shared leaves aren't built
-pub no_shared : (kind : Kind) (file : Option (List ℕ)) (path : List ℕ) → is_built (dump kind true file path) ≡ false
+-- a dump with shared leaves isn't built of a cache and of an era target
+pub no_shared_cache : (file : Option (List ℕ)) (path : List ℕ) → is_built (dump Cache true file path) ≡ false
 unfolding is_built
-no_shared Thin file path = refl
-no_shared Cache file path = refl
-no_shared Era file path = refl
+no_shared_cache file path = refl
+
+pub no_shared_era : (file : Option (List ℕ)) (path : List ℕ) → is_built (dump Era true file path) ≡ false
+unfolding is_built
+no_shared_era file path = refl
 
 -- what is asked is built
 built_alone : (request : Option Request) → IfSome (built request) (λ r. is_built r ≡ true)
@@ -70,7 +74,9 @@ at_rest (Some (restore Era version file path)) before notes fresh verdicts is =
 at_rest (Some (repair from to)) before notes fresh verdicts is =
     repair_at_rest from to before (record before { notes = notes }) before.input before.output fresh.output.2 fresh.output.0
 at_rest (Some (dump kind false file path)) before notes fresh verdicts is = query_at_rest kind (image_text kind) before.input.held
-at_rest (Some (dump kind true file path)) before notes fresh verdicts is = absurd (true≢false (sym is ∙ no_shared kind file path))
+at_rest (Some (dump Thin true file path)) before notes fresh verdicts is = query_at_rest Thin (λ image. text_of_shape (image_shape image)) before.input.held
+at_rest (Some (dump Cache true file path)) before notes fresh verdicts is = absurd (true≢false (sym is ∙ no_shared_cache file path))
+at_rest (Some (dump Era true file path)) before notes fresh verdicts is = absurd (true≢false (sym is ∙ no_shared_era file path))
 at_rest (Some (rmap first end file path)) before notes fresh verdicts is = query_at_rest Thin (λ image. rmap_lines first end (thin_meaning image)) before.input.held
 at_rest (Some (list_devices file path)) before notes fresh verdicts is = query_at_rest Thin (λ image. list_lines (thin_meaning image)) before.input.held
 at_rest (Some (since era file path)) before notes fresh verdicts is = query_at_rest Era (λ image. since_lines era (era_meaning image)) before.input.held
@@ -93,7 +99,9 @@ reads_at_rest (Some (restore Cache version file path)) before notes is = tt
 reads_at_rest (Some (restore Era version file path)) before notes is = tt
 reads_at_rest (Some (repair from to)) before notes is = tt
 reads_at_rest (Some (dump kind false file path)) before notes is = tt
-reads_at_rest (Some (dump kind true file path)) before notes is = absurd (true≢false (sym is ∙ no_shared kind file path))
+reads_at_rest (Some (dump Thin true file path)) before notes is = tt
+reads_at_rest (Some (dump Cache true file path)) before notes is = absurd (true≢false (sym is ∙ no_shared_cache file path))
+reads_at_rest (Some (dump Era true file path)) before notes is = absurd (true≢false (sym is ∙ no_shared_era file path))
 reads_at_rest (Some (rmap first end file path)) before notes is = tt
 reads_at_rest (Some (list_devices file path)) before notes is = tt
 reads_at_rest (Some (since era file path)) before notes is = tt

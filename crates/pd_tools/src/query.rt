@@ -8,7 +8,7 @@ ghost use Rattle.pd_spells.specs.Lines.{reported_lines};
 ghost use Rattle.pd_answers.specs.Answer.{Objects, IsUsed, reading};
 ghost use Rattle.pd_query.specs.Puts.{PutsAnswer};
 ghost use Rattle.pd_tools.specs.Notes.{PutsLine};
-ghost use Rattle.pd_tools.specs.Query.{IsUnput, kind_of, query_line, query_status, stop_as, terms_of_query, text_of};
+ghost use Rattle.pd_tools.specs.Query.{IsUnput, dump_as, kind_of, query_line, query_status, stop_as, terms_of_query, text_of};
 ghost use Rattle.pd_tools.specs.Work.{IsFinished, IsStopped, AnswersTerms};
 
 use crate::check::read_report;
@@ -17,7 +17,7 @@ use pd_dumps::{TextOfCache, TextOfEra, WrittenSince};
 use pd_image::{Device, Sink};
 use pd_kinds::{Kind, Report, Stage};
 use pd_lines::print_report;
-use pd_query::{Query, QueryFault, TextOfPool};
+use pd_query::{Query, QueryFault, TextOfPool, TextOfShape};
 use pd_uses::{DeviceList, ReverseMap};
 use std::alloc::Global;
 
@@ -26,12 +26,25 @@ use std::alloc::Global;
 pub enum Asked {
     /// Its text.
     Dump(Kind),
+    /// The text of a pool in which each leaf that its devices share stands once.
+    SharedDump,
     /// The mappings of a pool to the data blocks from the first on and below the end.
     ReverseMap { first: u64, end: u64 },
     /// The thin devices of a pool.
     DeviceList,
     /// The blocks of an era target that were written in this era or later.
     Since { era: u32 },
+}
+
+/// The dump of this kind, with shared leaves or without. Of a cache or an era target no words ask one with them.
+pub fn dump_asked(kind: Kind, shared: bool) -> Asked
+    ensures { result ≡ dump_as kind shared }
+{
+    if shared {
+        Asked::SharedDump
+    } else {
+        Asked::Dump(kind)
+    }
 }
 
 /// Checks the image at the path up to the stage Whole, and puts the text that answers to the file, or to the
@@ -111,6 +124,7 @@ fn kind_of(asked: Asked) -> Kind
 {
     match asked {
         Asked::Dump(kind) => kind,
+        Asked::SharedDump => Kind::Thin,
         Asked::ReverseMap { first: _, end: _ } => Kind::Thin,
         Asked::DeviceList => Kind::Thin,
         Asked::Since { era: _ } => Kind::Era,
@@ -137,6 +151,7 @@ fn put_text<K: Sink, A: Device>(
         Asked::Dump(Kind::Thin) => put_answer(alloc, &TextOfPool, file, out, input),
         Asked::Dump(Kind::Cache) => put_answer(alloc, &TextOfCache, file, out, input),
         Asked::Dump(Kind::Era) => put_answer(alloc, &TextOfEra, file, out, input),
+        Asked::SharedDump => put_answer(alloc, &TextOfShape, file, out, input),
         Asked::ReverseMap { first, end } => {
             put_answer(alloc, &ReverseMap { first, end }, file, out, input)
         }

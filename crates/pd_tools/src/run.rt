@@ -13,7 +13,7 @@ ghost use Rattle.pd_tools.specs.Work.{AnswersTerms};
 use crate::clear::run_any_check;
 use crate::generate::run_generate;
 use crate::notes::{USAGE_LINE, put_line};
-use crate::query::{Asked, run_query};
+use crate::query::{Asked, dump_asked, run_query};
 use crate::rehearse::run_rehearse;
 use crate::repair::run_repair;
 use crate::restore::{run_restore, texts_have_verdicts};
@@ -112,10 +112,10 @@ fn run_request<S: Source, K: Sink, E: Sink, A: Device, B: Device, C: Device>(
             kind,
             image,
             out: file,
-            shared: _,
+            shared,
         } => run_query(
             alloc,
-            Asked::Dump(kind),
+            dump_asked(kind, shared),
             file_in(words, file),
             image.word_in(words),
             out,

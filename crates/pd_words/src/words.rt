@@ -79,11 +79,15 @@ fn is_built(request: &Request) -> bool
             Kind::Era => !clear,
         },
         Request::Dump {
-            kind: _,
+            kind,
             image: _,
             out: _,
             shared,
-        } => !shared,
+        } => match kind {
+            Kind::Thin => true,
+            Kind::Cache => !shared,
+            Kind::Era => !shared,
+        },
         Request::Restore {
             kind: _,
             text: _,

@@ -1,6 +1,7 @@
 use Rattle.std.proofs.Common.{◌≡◌, ℕ, Bool, true, false, List, Option, Some, map, string_bytes, sym, ◌∙◌}
 use Rattle.std.proofs.lemmas.Bool.{true≢false}
 use Rattle.pd_kinds.specs.declared.kind.Kind.{Kind}
+use Rattle.pd_kinds.specs.declared.kind.Kind.TheVariants.{Thin, Cache, Era}
 use Rattle.pd_kinds.specs.declared.kind.Stage.{Stage}
 use Rattle.pd_kinds.specs.Objects.{SinkState}
 use Rattle.pd_answers.specs.Requests as request
@@ -15,10 +16,10 @@ use Rattle.pd_answers.specs.Writebacks.{writeback}
 use Rattle.std.specs.Option.{option_copied}
 use Rattle.pd_words.specs.Words.{word_of, words_of}
 use Rattle.pd_tools.specs.declared.query.Asked.{Asked}
-use Rattle.pd_tools.specs.declared.query.Asked.TheVariants.{Dump, ReverseMap, DeviceList, Since}
-use Rattle.pd_tools.specs.Query.{terms_of_query}
+use Rattle.pd_tools.specs.declared.query.Asked.TheVariants.{ReverseMap, DeviceList, Since}
+use Rattle.pd_tools.specs.Query.{dump_as, terms_of_query}
 use Rattle.pd_tools.specs.Work.{AnswersTerms}
-use Rattle.pd_tools.proofs.AtRest.{no_shared}
+use Rattle.pd_tools.proofs.AtRest.{no_shared_cache, no_shared_era}
 use Rattle.pd_tools.proofs.run.run_request.Goals as goal
 
 -- the check of these words is the one that is asked
@@ -30,10 +31,12 @@ as_asked kind until clear path word attached before after status same answers = 
 -- so with the dump
 dump_as_asked : (kind : Kind) (shared : Bool) (file given : Option (List ℕ)) (path word : List ℕ) (attached : SinkState) (before after : Objects) (status : ℕ)
     → is_built (request.dump kind shared file path) ≡ true → given ≡ file → word ≡ path
-    → AnswersTerms (terms_of_query (Dump kind) given word) attached before after status
+    → AnswersTerms (terms_of_query (dump_as kind shared) given word) attached before after status
     → AnswersTerms (terms_of (Some (request.dump kind shared file path))) attached before after status
 dump_as_asked kind false file given path word attached before after status is file_is same answers = rw (file_is, same) at answers
-dump_as_asked kind true file given path word attached before after status is file_is same answers = absurd (true≢false (sym is ∙ no_shared kind file path))
+dump_as_asked Thin true file given path word attached before after status is file_is same answers = rw (file_is, same) at answers
+dump_as_asked Cache true file given path word attached before after status is file_is same answers = absurd (true≢false (sym is ∙ no_shared_cache file path))
+dump_as_asked Era true file given path word attached before after status is file_is same answers = absurd (true≢false (sym is ∙ no_shared_era file path))
 
 pub returns-in-Check : goal.returns-in-Check
 returns-in-Check g c others =
@@ -45,7 +48,8 @@ pub returns-in-Dump : goal.returns-in-Dump
 returns-in-Dump g c others =
     let words = map string_bytes c.args.words.now in
     rw c.in-Dump.is (dump_as_asked c.in-Dump.kind c.in-Dump.shared (words_of words c.in-Dump.file) (option_copied c.file_in.result) (word_of words c.in-Dump.image) c.word_in-in-Dump.result.now _ _ _ _
-    (rw c.in-Dump.is at c.requires.built) c.file_in.ensures c.word_in-in-Dump.ensures (c.run_query.ensures (record others { source = g.S.Source.state c.args.source.now; output = g.B.Device.state c.args.output.now; third = g.C.Device.state c.args.third.now })))
+    (rw c.in-Dump.is at c.requires.built) c.file_in.ensures c.word_in-in-Dump.ensures
+    (rw c.dump_asked.ensures at (c.run_query.ensures (record others { source = g.S.Source.state c.args.source.now; output = g.B.Device.state c.args.output.now; third = g.C.Device.state c.args.third.now }))))
 
 -- so with another query
 query_as_asked : (asked : Asked) (file given : Option (List ℕ)) (path word : List ℕ) (attached : SinkState) (before after : Objects) (status : ℕ)
