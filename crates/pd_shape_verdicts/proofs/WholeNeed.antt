@@ -235,26 +235,26 @@ parts_same number (p ∷ parts) are = ap₂ (λ (c : LeafCount) (rest : List Lea
 
 module _ (room : ℕ) (w : ThinShape) (leaves : List (List Run)) (parts : List SharedPart) (leaves_are : map mappings_of_runs leaves ≡ w.leaves) (devices_are : map device_of_part parts ≡ w.devices)
     (pieces : AllByRecursion (λ (d : ShapeDevice). ArePieces (length w.leaves) d.pieces) w.devices) where
-  abbrev start : List Line
+  abbrev pub start : List Line
   start = pool_line (head_of_shape w) ∷ shared_first_line ∷ []
 
-  abbrev middle : List Line
+  abbrev pub middle : List Line
   middle = lines_of_leaves 0 leaves ++ flat_map lines_of_part parts
 
   all_middle : AllByRecursion IsMiddle (lines_of_leaves 0 leaves ++ flat_map lines_of_part parts)
   all_middle = middle_both (lines_of_leaves 0 leaves) (flat_map lines_of_part parts) (leaves_middle 0 leaves) (parts_middle parts)
 
-  abbrev told : List Line
+  abbrev pub told : List Line
   told = pushed start middle
 
-  uses_counted : (k : ℕ) → count_of k (text.uses_of told) ≡ count_of k (flat_map uses_of w.devices)
+  pub uses_counted : (k : ℕ) → count_of k (text.uses_of told) ≡ count_of k (flat_map uses_of w.devices)
   uses_counted k =
       let total = pushed_total (count_of k) (sum_by-append (λ b. cond {A = ℕ} (eqb b k) 1 0)) use_of_line middle start in
       let order = ap (count_of k) (both use_of_line (lines_of_leaves 0 leaves) (flat_map lines_of_part parts) [] (flat_map uses_of (devices_of parts)) (leaves_use 0 leaves) (parts_use parts)
       ∙ ap (flat_map uses_of) devices_are) in
       ap (count_of k) (uses_are told) ∙ omega (arith, total, order)
 
-  number_counted : leaf_number told ≡ length w.leaves
+  pub number_counted : leaf_number told ≡ length w.leaves
   number_counted =
       let total = pushed_total (λ (xs : List ℕ). length xs) length-append leaf_of_line middle start in
       let order = ap (λ (xs : List ℕ). length xs) (both leaf_of_line (lines_of_leaves 0 leaves) (flat_map lines_of_part parts) (flat_map leaf_of_line (lines_of_leaves 0 leaves)) [] refl (parts_leaf parts)
@@ -262,7 +262,7 @@ module _ (room : ℕ) (w : ThinShape) (leaves : List (List Run)) (parts : List S
       let same = ap (λ (ls : List (List Mapping)). length ls) leaves_are in
       number_is told ∙ omega (arith, total, order, leaves_leaf 0 leaves, length-map leaves mappings_of_runs, same)
 
-  data_counted : (d : ℕ) → count_of d (flat_map data_of_line told) ≡ count_of d (shape_data w)
+  pub data_counted : (d : ℕ) → count_of d (flat_map data_of_line told) ≡ count_of d (shape_data w)
   unfolding shape_data
   data_counted d =
       let total = pushed_total (count_of d) (sum_by-append (λ b. cond {A = ℕ} (eqb b d) 1 0)) data_of_line middle start in
@@ -301,10 +301,10 @@ module _ (room : ℕ) (w : ThinShape) (leaves : List (List Run)) (parts : List S
         omega (arith, told_number true (told_devices told), number, found.1, empty_number, size, length-map parts part_count),
       )
 
-  blocks_are : data_blocks_of told ≡ w.data_blocks
+  pub blocks_are : data_blocks_of told ≡ w.data_blocks
   blocks_are = pushed_data middle start all_middle
 
-  end_need : shape_need_so_far room (end_line ∷ told) ≡ shape_need w room
+  pub end_need : shape_need_so_far room (end_line ∷ told) ≡ shape_need w room
   unfolding shape_need used_often
   end_need =
       let number = number_counted in
@@ -327,7 +327,7 @@ module _ (room : ℕ) (w : ThinShape) (leaves : List (List Run)) (parts : List S
       ∙ (ap (pool_need_so_far room) (pushed-append start middle (end_line ∷ []))
       ∙ (by_version room (end_line ∷ told) (version_kept middle start all_middle refl) ∙ end_need))
 
-  lines_joined : lines_of_leaves 0 leaves ++ (flat_map lines_of_part parts ++ (end_line ∷ [])) ≡ middle ++ (end_line ∷ [])
+  pub lines_joined : lines_of_leaves 0 leaves ++ (flat_map lines_of_part parts ++ (end_line ∷ [])) ≡ middle ++ (end_line ∷ [])
   lines_joined = sym (append_assoc (lines_of_leaves 0 leaves) (flat_map lines_of_part parts) (end_line ∷ []))
 
   whole_need : need_after (pool_need_so_far room) [] (lines_of_shape (head_of_shape w) leaves parts) ≡ shape_need w room

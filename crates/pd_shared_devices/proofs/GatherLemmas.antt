@@ -1,0 +1,252 @@
+-- What was gathered, line by line: where leaves and devices begin and end.
+use Rattle.std.proofs.Common.{◌≡◌, inl, inr, ℕ, zero, suc, ◌+◌, ◌-◌, ◌*◌, ◌≤◌, ◌<◌, ◌^◌, min, true, false, ltb, ◌&&◌, List, [], ◌∷◌, ◌++◌, length, length-append, map, sum, sum_by, refl, sym, ◌∙◌, ap, ap₂, subst, arith, Option, None, Some}
+use Rattle.std.specs.List.{All, AllByRecursion, flat_map}
+use Rattle.std.proofs.lemmas.List.{append-nil, map-append, length-map}
+use Rattle.std.proofs.lemmas.List.Sums.{sum_by-cons}
+use Rattle.std.proofs.lemmas.List.Elements.{All-push}
+use Rattle.std.proofs.lemmas.Bool.{lt-ltb, true≢false}
+use Rattle.pd_kinds.specs.Meaning.{Mapping}
+use Rattle.pd_kinds.specs.Node.{Entry, leaf_block}
+use Rattle.pd_kinds.specs.Value.{details_code}
+use Rattle.pd_value.specs.declared.thin.Root.{Root}
+use Rattle.pd_value.specs.declared.thin.Details.{Details}
+use Rattle.pd_node.specs.Items.{entries_of}
+use Rattle.pd_draft.specs.Closed.{IsClosed}
+use Rattle.pd_draft.specs.Placed.{Stand, Wrote}
+use Rattle.pd_draft.proofs.PlacedLemmas.{wrote_none, wrote_then}
+use Rattle.pd_count.specs.Counted.{HasCounted}
+use Rattle.pd_spells.specs.Lawful.{AreMappings}
+use Rattle.pd_spells.specs.ThinText.{Line, Head, LeafHead, Run, shared_first_line, pool_line, leaf_line, device_line, end_line, data_blocks_of, has_device, leaf_number, least_of, piece_end, unmapped}
+use Rattle.pd_spells.specs.ThinText as text
+use Rattle.pd_laid.specs.LaidThin.{details_items, device_root, mapping_items}
+use Rattle.pd_laid.specs.Shape.{ShapeDevice}
+use Rattle.pd_laid.specs.Tree.{blocks_from}
+use Rattle.pd_shapes.specs.SharedNeed.{Told, leaves_of_ended, leaves_of_told, leaves_of_pieces, need_of_leaves, told_devices, untold}
+use Rattle.pd_shapes.specs.SharedText.{mappings_of_runs}
+use Rattle.pd_shapes.proofs.LeafRuns.{HaveTold, IsLeaf, told_leaf}
+use Rattle.pd_laid_shared.specs.Written.{device_roots, device_tree, device_trees, leaves_and_trees, trees_need}
+use Rattle.pd_texts.specs.ThinNext.{IsLeafLine}
+use Rattle.pd_shared_devices.specs.Gathered.{AreAllTold, AreTold, HasCounts, HasGathered, HasLeaves, HasListed, IsDeviceOpen, IsLeafOpen, IsOpen, leaf_left, leaves_so_far}
+use Rattle.pd_shared_devices.specs.Growth.{Grown}
+use Rattle.pd_shared_devices.specs.Lines.{details_line}
+use Rattle.pd_shared_devices.specs.Piece.{HasHeld, items_of_runs}
+use Rattle.pd_shared_devices.specs.Rises.{AreHeld}
+use Rattle.pd_shared_devices.specs.Told.{Open, nothing_open, open_leaf, open_device, bare_device, opened, open_runs, ended_leaf, ended_device, whole_leaves, whole_devices, leaves_told, leaf_items}
+use Rattle.pd_shared_devices.specs.declared.devices.SharedDevices.{SharedDevices}
+use Rattle.pd_shared_devices.specs.declared.growing.Growing.{Growing}
+use Rattle.pd_shared_devices.specs.declared.piece.Held.{Held}
+use Rattle.pd_shared_devices.proofs.TreeLemmas.{leaf_more}
+
+-- the codes of what is listed
+abbrev pub root_code : Root → ℕ
+root_code r = r.0
+
+abbrev pub details_number : Details → ℕ
+details_number d = details_code d.mapped d.transaction d.created d.snapped
+
+abbrev pub root_fits : ℕ × Root → Type 0
+root_fits item = ltb item.1.0 (2 ^ 64) ≡ true
+
+abbrev pub details_fit : ℕ × Details → Type 0
+details_fit item = (ltb item.1.mapped (2 ^ 64) && (ltb item.1.transaction (2 ^ 64) && (ltb item.1.created (2 ^ 32) && ltb item.1.snapped (2 ^ 32)))) ≡ true
+
+-- nothing but a pool line was read
+pub gathered_start : (room : ℕ) (p : Head) (s : SharedDevices) (start : Stand) → start.place ≡ 1 → IsClosed start.device → p.data_blocks ≤ 2 ^ 40
+    → s.counts.counts.size ≡ p.data_blocks → HasCounted s.counts.counts [] → s.counts.total ≡ 0
+    → s.uses.counts.size ≡ room → HasCounted s.uses.counts [] → s.uses.total ≡ 0
+    → s.leaves ≡ 0 → s.firsts.items ≡ [] → s.trees ≡ 0 → s.roots.items ≡ [] → s.details.items ≡ [] → HasHeld [] s.held → s.growing ≡ None
+    → HasGathered room (pool_line p ∷ shared_first_line ∷ []) s start start
+unfolding device_trees device_roots details_items leaves_and_trees blocks_from
+gathered_start room p s start first closed small size counted total uses_size uses_counted uses_total leaves firsts trees roots details held growing = record {
+  version = refl;
+  begin = first;
+  counts = record {
+    counted = counted;
+    size = size;
+    small = small;
+    total = omega (arith, total);
+    uses_counted = uses_counted;
+    uses_size = uses_size;
+    uses_total = uses_total;
+    uses_within = tt;
+  };
+  leaves = record {
+    number = leaves;
+    told = record { number = refl; runs = λ n. refl };
+    lawful = tt;
+    firsts = firsts;
+    alone = λ none. refl;
+  };
+  listed = record {
+    roots = ap (entries_of root_code) roots;
+    details = ap (entries_of details_number) details;
+    roots_fit = rw roots (λ i d within. absurd (omega arith));
+    details_fit = rw details (λ i d within. absurd (omega arith));
+    trees = trees;
+    number = ap (λ (items : List (ℕ × Details)). length items) details;
+    told = record { trees = refl; number = refl };
+    so_far = refl;
+  };
+  held = held;
+  behind = start;
+  written = wrote_none start closed;
+  growing = rw growing (refl, refl);
+  place = omega (arith, first);
+}
+
+-- where nothing is open
+pub closed_here : (before : List Line) (o : Option Growing) (from to : Stand) → IsOpen before nothing_open o from to → (o ≡ None) × (from ≡ to)
+closed_here before None from to is = (refl, is.0)
+closed_here before (Some o) from to is = absurd is
+
+nothing_told : (told : List Told) → length told ≡ 0 → leaves_of_told false told ≡ map leaves_of_ended told
+nothing_told [] none = refl
+nothing_told (newest ∷ older) none = absurd (omega (arith, none))
+
+uses_more : (a room : ℕ) (ns : List ℕ) → AllByRecursion (λ n. (n < a) × (n < room)) ns → AllByRecursion (λ n. (n < suc a) × (n < room)) ns
+uses_more a room [] all = tt
+uses_more a room (n ∷ ns) all = ((omega (arith, all.0.0), all.0.1), uses_more a room ns all.1)
+
+without_none : (before : List Line) (leaves : List (List Run)) → HaveTold before (leaves ++ []) → HaveTold before leaves
+without_none before leaves told = subst (HaveTold before) (append-nil leaves) told
+
+-- a leaf begins
+pub gathered_leaf : {room : ℕ} {start now : Stand} (before : List Line) (old new : SharedDevices) (l : LeafHead) → HasGathered room (end_line ∷ before) old start now → IsLeafLine before l
+    → new.counts ≡ old.counts → new.uses ≡ old.uses → new.leaves ≡ old.leaves + 1 → new.firsts ≡ old.firsts → new.trees ≡ old.trees → new.roots ≡ old.roots
+    → new.details ≡ old.details → new.held ≡ old.held → new.growing ≡ old.growing → HasGathered room (leaf_line l ∷ before) new start now
+gathered_leaf {room} {start} {now} before old new l h line counts uses leaves firsts trees roots details held growing =
+    let w = whole_leaves (end_line ∷ before) in
+    let e : List Line = end_line ∷ before in
+    let c = h.counts in
+    let here = closed_here e old.growing h.behind now h.growing in
+    let none : whole_devices e ≡ [] = h.leaves.alone line.none in
+    let told_none : length (told_devices before) ≡ 0 = omega (arith, h.listed.told.number, ap (λ (ds : List ShapeDevice). length ds) none) in
+    record {
+      version = h.version;
+      begin = h.begin;
+      counts = record {
+        counted = rw counts c.counted;
+        size = rw counts c.size;
+        small = c.small;
+        total = rw counts (omega (arith, c.total, line.few));
+        uses_counted = rw uses c.uses_counted;
+        uses_size = rw uses c.uses_size;
+        uses_total = rw uses c.uses_total;
+        uses_within = uses_more (leaf_number before) room (text.uses_of before) c.uses_within;
+      };
+      leaves = record {
+        number = omega (arith, leaves, h.leaves.number);
+        told = told_leaf before l w (let t = without_none e w h.leaves.told in record { number = t.number; runs = t.runs });
+        lawful = h.leaves.lawful;
+        firsts = rw firsts h.leaves.firsts;
+        alone = λ none. h.leaves.alone none;
+      };
+      listed = record {
+        roots = rw roots h.listed.roots;
+        details = rw details h.listed.details;
+        roots_fit = rw roots h.listed.roots_fit;
+        details_fit = rw details h.listed.details_fit;
+        trees = rw trees h.listed.trees;
+        number = rw details h.listed.number;
+        told = h.listed.told;
+        so_far = nothing_told (told_devices before) told_none;
+      };
+      held = rw held h.held;
+      behind = h.behind;
+      written = h.written;
+      growing = rw (growing, here.0) (
+        here.1,
+        record {
+          none = line.none;
+          runs_are = record { have = tt; mappings = tt; ends = omega arith };
+          some = omega (arith, line.some);
+          few = omega (arith, line.few);
+        },
+      );
+      place = h.place;
+    }
+
+-- a device begins
+pub gathered_begun : {room : ℕ} {start now : Stand} (before : List Line) (old new : SharedDevices) (id : ℕ) (details : Details) (o : Growing) → HasGathered room (end_line ∷ before) old start now
+    → ((leaves : List (List Entry)) (d : ShapeDevice) → d.id ≡ id → d.pieces ≡ [] → Grown leaves d 0 o now now) → details_fit (id, details)
+    → new.counts ≡ old.counts → new.uses ≡ old.uses → new.leaves ≡ old.leaves → new.firsts ≡ old.firsts → new.trees ≡ old.trees → new.roots ≡ old.roots
+    → new.details.items ≡ old.details.items ++ (id, details) ∷ [] → new.held ≡ old.held → new.growing ≡ Some o
+    → HasGathered room (device_line (details_line id details) ∷ before) new start now
+unfolding details_items
+gathered_begun {room} {start} {now} before old new id details o h grown fits counts uses leaves firsts trees roots listed held growing =
+    let w = whole_leaves (end_line ∷ before) in
+    let e : List Line = end_line ∷ before in
+    let line : List Line = device_line (details_line id details) ∷ before in
+    let c = h.counts in
+    let d = bare_device (details_line id details) in
+    let here = closed_here e old.growing h.behind now h.growing in
+    let devices = whole_devices e in
+    let t = without_none e w h.leaves.told in
+    record {
+      version = h.version;
+      begin = h.begin;
+      counts = record {
+        counted = rw counts c.counted;
+        size = rw counts c.size;
+        small = c.small;
+        total = rw counts (omega (arith, c.total, sum_by-cons (λ (t : Told). sum t.own) untold (told_devices before)));
+        uses_counted = rw uses c.uses_counted;
+        uses_size = rw uses c.uses_size;
+        uses_total = rw uses (omega (arith, c.uses_total, sum_by-cons (λ (t : Told). t.uses) untold (told_devices before)));
+        uses_within = c.uses_within;
+      };
+      leaves = record {
+        number = rw leaves h.leaves.number;
+        told = subst (HaveTold line) (sym (append-nil w)) (record { number = t.number; runs = t.runs });
+        lawful = h.leaves.lawful;
+        firsts = rw firsts h.leaves.firsts;
+        alone = λ none. absurd (true≢false none);
+      };
+      listed = record {
+        roots = rw roots h.listed.roots;
+        details =
+            ap (entries_of details_number) listed
+            ∙ (map-append (λ (item : ℕ × Details). record { key = item.0; value = details_number item.1 }) old.details.items ((id, details) ∷ [])
+            ∙ (ap (λ (es : List Entry). es ++ record { key = id; value = details_number details } ∷ []) (h.listed.details ∙ ap details_items (append-nil devices))
+            ∙ sym (map-append (λ (d : ShapeDevice). record { key = d.id; value = details_code d.mapped d.transaction d.created d.snapped }) devices (d ∷ []))));
+        roots_fit = rw roots h.listed.roots_fit;
+        details_fit = rw listed (All-push details_fit old.details.items (id, details) h.listed.details_fit fits);
+        trees = rw trees h.listed.trees;
+        number = omega (arith, ap (λ (items : List (ℕ × Details)). length items) listed, length-append old.details.items ((id, details) ∷ []), h.listed.number);
+        told = record {
+          newest = untold;
+          older = told_devices before;
+          both = refl;
+          over = h.listed.told;
+          last = record { rest = []; in_run = refl; own = refl; spread = refl; pieces = refl; uses = refl };
+        };
+        so_far = refl;
+      };
+      held = rw held h.held;
+      behind = h.behind;
+      written = h.written;
+      growing = rw growing (record {
+        has = refl;
+        low = 0;
+        grown = rw here.1 (grown (leaf_items w) d refl refl);
+        runs_are = record { have = tt; mappings = tt; ends = omega arith };
+      });
+      place = h.place;
+    }
+
+-- Line by line: what is open, as a case
+pub data IsWhich (before : List Line) (opens : Open) (s : SharedDevices) (from to : Stand) : Type 0 where
+  is_nothing : opens ≡ nothing_open → s.growing ≡ None → from ≡ to → unmapped before ≡ 0 → IsWhich before opens s from to
+  is_leaf : (runs : List Run) → opens ≡ open_leaf runs → s.growing ≡ None → from ≡ to → IsLeafOpen before runs → IsWhich before opens s from to
+  is_device : (d : ShapeDevice) (runs : List Run) (o : Growing) → opens ≡ open_device d runs → s.growing ≡ Some o → IsDeviceOpen before d runs o from to → IsWhich before opens s from to
+
+which_of : (before : List Line) (s : SharedDevices) (opens : Open) (o : Option Growing) (from to : Stand) → s.growing ≡ o → IsOpen before opens o from to → IsWhich before opens s from to
+which_of before s nothing_open None from to e is = is_nothing refl e is.0 is.1
+which_of before s nothing_open (Some o) from to e is = absurd is
+which_of before s (open_leaf runs) None from to e is = is_leaf runs refl e is.0 is.1
+which_of before s (open_leaf runs) (Some o) from to e is = absurd is
+which_of before s (open_device d runs) None from to e is = absurd is
+which_of before s (open_device d runs) (Some o) from to e is = is_device d runs o refl e is
+
+pub which : {room : ℕ} {before : List Line} {s : SharedDevices} {start now : Stand} (h : HasGathered room before s start now) → IsWhich before (opened before) s h.behind now
+which {room} {before} {s} {start} {now} h = which_of before s (opened before) s.growing h.behind now refl h.growing

@@ -1,0 +1,115 @@
+-- What was gathered has room where its need has.
+use Rattle.std.proofs.Common.{◌≡◌, inl, inr, ℕ, zero, suc, ◌+◌, ◌*◌, ◌≤◌, ◌<◌, ◌^◌, true, false, eqb, nat_lt, ltb, List, [], ◌∷◌, ◌++◌, length, length-append, map, sum_by, refl, sym, ◌∙◌, ap, subst, arith}
+use Rattle.std.specs.List.{flat_map}
+use Rattle.std.proofs.lemmas.Bool.{cases_Bool}
+use Rattle.std.proofs.lemmas.Bool.Decides.{nat_tests}
+use Rattle.std.proofs.lemmas.List.Sums.{sum_by-cons, sum_by-append}
+use Rattle.pd_draft.specs.Placed.{Stand}
+use Rattle.pd_grammar.specs.Texts.{has_ended}
+use Rattle.pd_spells.specs.Need.{nodes_for, need_above, need_tree, nodes_of_tree}
+use Rattle.pd_spells.specs.ThinText.{Line, Run, pool_format, leaf_number, number_in}
+use Rattle.pd_laid.specs.Shape.{ShapeDevice}
+use Rattle.pd_shapes.specs.SharedNeed.{Told, leaf_count, leaves_of_ended, leaves_of_told, need_of_leaves, need_of_shared, own_number, shape_need_so_far, told_devices}
+use Rattle.pd_shapes.specs.SharedText.{mappings_of_runs}
+use Rattle.pd_shapes.proofs.LeafRuns.{number_mapped}
+use Rattle.pd_laid_shared.specs.Written.{trees_need}
+use Rattle.pd_shared_devices.specs.Gathered.{AreAllTold, AreToldWith, HasGathered, IsDeviceOpen, IsLeafOpen, number_of, leaves_so_far}
+use Rattle.pd_shared_devices.specs.Growth.{need_left}
+use Rattle.pd_shared_devices.specs.Told.{Open, open_leaf, open_device, opened, open_runs, ended_leaf, whole_leaves, whole_devices}
+use Rattle.pd_shared_devices.specs.declared.devices.SharedDevices.{SharedDevices}
+use Rattle.pd_shared_devices.specs.declared.growing.Growing.{Growing}
+use Rattle.pd_shared_devices.proofs.RowLemmas.{grown_place}
+use Rattle.pd_shared_devices.proofs.TreeLemmas.{own_length}
+
+-- the leaves, the trees, and at least one node of the mapping tree are within the need
+pub parts_within : (room : ℕ) (before : List Line)
+    → 2 + (leaf_number before + sum_by need_of_leaves (leaves_of_told (has_ended pool_format before) (told_devices before))) ≤ shape_need_so_far room before
+unfolding shape_need_so_far need_of_shared nodes_of_tree
+parts_within room before = omega arith
+
+-- where a leaf is open
+pub leaf_room : {room : ℕ} {before : List Line} {s : SharedDevices} {start now : Stand} (runs : List Run) (h : HasGathered room before s start now)
+    → opened before ≡ open_leaf runs → h.behind ≡ now → IsLeafOpen before runs → shape_need_so_far room before ≤ room → now.place < room
+leaf_room {room} {before} {s} {start} {now} runs h opens same lo need =
+    let number = h.leaves.told.number ∙ ap (λ (o : Open). length (whole_leaves before ++ ended_leaf o)) opens in
+    omega (
+      arith,
+      number,
+      length-append (whole_leaves before) (runs ∷ []),
+      h.place,
+      ap trees_need (h.leaves.alone lo.none),
+      ap (λ (at : Stand). at.place) same,
+      parts_within room before,
+      need,
+    )
+
+pub above_enough : (n : ℕ) → n ≤ 252 * need_above 10 n + 1
+unfolding need_above
+above_enough n = elim (cases_Bool (ltb 1 n)) [
+  | inl e ↦ rw e (omega arith)
+  | inr e ↦ let few : n ≤ 1 = grind (arith, nat_tests, e) in rw e (omega (arith, few))
+]
+
+left_little : (n : ℕ) → need_left n ≤ need_above 10 n + 1
+left_little n = elim (cases_Bool (eqb n 0)) [
+  | inl e ↦ rw e (omega arith)
+  | inr e ↦ rw e (omega arith)
+]
+
+held_nodes : (runs : List Run) → sum_by (λ n. nodes_for 252 n) (number_of runs) ≡ nodes_for 252 (length (mappings_of_runs runs))
+held_nodes [] = refl
+held_nodes (r ∷ runs) = omega (arith, sum_by-cons (λ n. nodes_for 252 n) (number_in (r ∷ runs)) [], ap (λ (n : ℕ). nodes_for 252 n) (number_mapped (r ∷ runs)))
+
+-- where a device is open: its own leaves and its uses are few, and what is left of its tree has room
+pub record HasDeviceRoom (room place : ℕ) (o : Growing) (nodes : ℕ) : Type 0 where
+  pub few : o.own + nodes + o.uses ≤ 2 ^ 60
+  pub room_is : place + nodes + need_left (o.own + nodes + o.uses) ≤ room
+  pub uses_few : o.uses ≤ 252 * need_above 10 (o.own + nodes + o.uses) + 1
+
+-- what the trees need then: its own leaves so far, the levels above all its leaves, and the trees of the devices before it
+pub device_sum : {room : ℕ} {before : List Line} {s : SharedDevices} {start now : Stand} (d : ShapeDevice) (runs : List Run) (o : Growing) (h : HasGathered room before s start now)
+    → opened before ≡ open_device d runs → IsDeviceOpen before d runs o h.behind now
+    → sum_by need_of_leaves (leaves_of_told (has_ended pool_format before) (told_devices before))
+    ≡ o.own + nodes_for 252 s.held.number + need_above 10 (o.own + nodes_for 252 s.held.number + o.uses) + trees_need (whole_devices before)
+device_sum {room} {before} {s} {start} {now} d runs o h opens do_ =
+    let told = told_devices before in
+    let t = subst (AreAllTold told (whole_devices before)) opens h.listed.told in
+    let so_far = h.listed.so_far ∙ ap (λ (o : Open). leaves_so_far o told) opens in
+    let nodes = nodes_for 252 s.held.number in
+    let number : s.held.number ≡ length (mappings_of_runs runs) = h.held.number ∙ ap (λ (o : Open). length (mappings_of_runs (open_runs o))) opens in
+    let spread : sum_by (λ n. nodes_for 252 n) t.newest.own ≡ o.own + nodes =
+    omega (
+      arith,
+      ap (λ (ns : List ℕ). sum_by (λ n. nodes_for 252 n) ns) t.last.own,
+      sum_by-append (λ n. nodes_for 252 n) (number_of runs) t.last.rest,
+      held_nodes runs,
+      t.last.spread,
+      own_length d.pieces do_.grown.filled,
+      do_.grown.own,
+      ap (λ (n : ℕ). nodes_for 252 n) number,
+    ) in
+    let uses : t.newest.uses ≡ o.uses = t.last.uses ∙ sym do_.grown.uses in
+    let all = o.own + nodes + o.uses in
+    let mine : need_of_leaves (leaf_count t.newest.own t.newest.uses) ≡ o.own + nodes + need_above 10 all =
+    rw (spread, uses) refl in
+    ap (sum_by need_of_leaves) so_far
+    ∙ (ap (λ (ts : List Told). sum_by need_of_leaves (leaves_of_told false ts)) t.both
+    ∙ (sum_by-cons need_of_leaves (leaf_count t.newest.own t.newest.uses) (map leaves_of_ended t.older) ∙ omega (arith, mine, t.over.trees)))
+
+pub device_room : {room : ℕ} {before : List Line} {s : SharedDevices} {start now : Stand} (d : ShapeDevice) (runs : List Run) (o : Growing) (h : HasGathered room before s start now)
+    → opened before ≡ open_device d runs → IsDeviceOpen before d runs o h.behind now → shape_need_so_far room before ≤ room → room ≤ 4161600
+    → HasDeviceRoom room now.place o (nodes_for 252 s.held.number)
+device_room {room} {before} {s} {start} {now} d runs o h opens do_ need most =
+    let nodes = nodes_for 252 s.held.number in
+    let all = o.own + nodes + o.uses in
+    let sums = device_sum d runs o h opens do_ in
+    let leaves = h.leaves.told.number ∙ ap (λ (o : Open). length (whole_leaves before ++ ended_leaf o)) opens in
+    let whole = length-append (whole_leaves before) [] in
+    let within = parts_within room before in
+    let left = left_little all in
+    let enough = above_enough all in
+    record {
+      few = omega (arith, sums, within, need, most, enough);
+      room_is = omega (arith, sums, within, need, left, leaves, whole, grown_place do_.grown, h.place);
+      uses_few = omega (arith, enough);
+    }

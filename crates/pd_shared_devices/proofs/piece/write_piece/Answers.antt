@@ -1,0 +1,26 @@
+use Rattle.std.proofs.Common.{◌≡◌, length, sym, ◌∙◌, arith}
+use Rattle.pd_kinds.specs.Node.{leaf_block}
+use Rattle.pd_draft.specs.Placed.{Wrote}
+use Rattle.pd_draft.specs.Stand.{stand}
+use Rattle.pd_laid.specs.Tree.{blocks_from, heads, tree_leaves}
+use Rattle.pd_devices.proofs.RunLemmas.{length-items}
+use Rattle.pd_shapes.specs.SharedText.{mappings_of_runs}
+use Rattle.pd_shared_devices.specs.Piece.{held_runs, items_of_runs}
+use Rattle.pd_shared_devices.proofs.PieceLemmas.{took_all}
+use Rattle.pd_shared_devices.proofs.piece.write_piece.Goals as goal
+
+pub returns-clause-wrote : goal.returns-clause-wrote
+returns-clause-wrote g c =
+    let runs = held_runs c.args.held.now in
+    let number : length (items_of_runs runs) ≡ c.args.held.now.number = length-items (mappings_of_runs runs) ∙ sym c.requires.number in
+    let takes = rw c.deref.ensures.value at c.in_ok-put_runs.ensures.takes in
+    let none = c.is_done-done.ensures.sizes (omega (arith, takes.items, c.in-Ok.ensures.items, number)) in
+    (took_all takes none (c.in-Ok.ensures.leaves (omega (arith, c.requires.some)) (items_of_runs runs) number)).0
+
+pub returns-clause-row_is : goal.returns-clause-row_is
+returns-clause-row_is g c =
+    let runs = held_runs c.args.held.now in
+    let number : length (items_of_runs runs) ≡ c.args.held.now.number = length-items (mappings_of_runs runs) ∙ sym c.requires.number in
+    let takes = rw c.deref.ensures.value at c.in_ok-put_runs.ensures.takes in
+    let none = c.is_done-done.ensures.sizes (omega (arith, takes.items, c.in-Ok.ensures.items, number)) in
+    (took_all takes none (c.in-Ok.ensures.leaves (omega (arith, c.requires.some)) (items_of_runs runs) number)).1

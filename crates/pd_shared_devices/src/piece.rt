@@ -1,0 +1,197 @@
+//! The runs of a leaf or of a device's own piece, which are held until it is over: only then is it known over how many
+//! leaves they are spread.
+
+ghost use Rattle.std.specs.Prelude.{◌≡◌, ◌+◌, ◌-◌, ◌<◌, ◌≤◌, ◌^◌, ◌++◌, List, [], ◌∷◌, length, OnOk, IfErr};
+ghost use Rattle.pd_kinds.specs.Node.{Entry, leaf_block};
+ghost use Rattle.pd_kinds.specs.Value.{mapping_code};
+ghost use Rattle.pd_image.specs.Device.{IsWritable};
+ghost use Rattle.pd_draft.specs.Closed.{IsClosed, StaysClosed};
+ghost use Rattle.pd_draft.specs.Placed.{Wrote};
+ghost use Rattle.pd_draft.specs.Stand.{stand};
+ghost use Rattle.pd_spells.specs.Need.{nodes_for};
+ghost use Rattle.pd_spells.specs.ThinText.{least_of, mappings_from};
+ghost use Rattle.pd_laid.specs.LaidThin.{mapping_items};
+ghost use Rattle.pd_laid.specs.Tree.{blocks_from, heads, tree_leaves};
+ghost use Rattle.pd_shapes.specs.SharedText.{mappings_of_runs};
+ghost use Rattle.pd_build.specs.Leaves.{items_to_come};
+ghost use Rattle.pd_build.specs.Causes.{CountsBuildFault};
+ghost use Rattle.pd_shared_devices.specs.Piece.{runs_of, held_runs, items_of_runs, CanBeLaid, HasHeld, TakesAll};
+ghost use Rattle.pd_devices.specs.Lines.{run_of};
+ghost use Rattle.pd_spells.specs.ThinText.{Run as Value};
+
+use pd_build::{BuildFault, LeafBuilder, UpperBuilder};
+use pd_devices::Run;
+use pd_draft::Draft;
+use pd_image::Device;
+use pd_value::BlockTime;
+use std::alloc::{AllocError, Global};
+
+/// The runs of a leaf or of a piece that isn't over.
+#[derive(Drop)]
+pub struct Held {
+    pub(crate) runs: Vec<Run>,
+    /// How many mappings they are.
+    pub(crate) number: u64,
+}
+
+impl Held {
+    /// No run.
+    pub(crate) fn new(alloc: Global) -> Held
+        ensures { HasHeld [] result }
+    {
+        Held {
+            runs: Vec::new(alloc),
+            number: 0,
+        }
+    }
+
+    /// Holds a run more.
+    pub(crate) fn add(&mut self, run: Run) -> Result<(), AllocError>
+        requires few { self.old.number + run.length < 2 ^ 64 }
+        ensures held { (runs : List Value) → HasHeld runs self.old → OnOk result (HasHeld (runs ++ run_of run ∷ []) self.new) }
+    {
+        self.runs.push(run)?;
+        self.number += run.length;
+        Ok(())
+    }
+
+    /// The first virtual block, where there is a run.
+    pub(crate) fn least(&self) -> u64
+        requires some { 1 ≤ self.now.number }
+        requires held { HasHeld (held_runs self.now) self.now }
+        ensures { result ≡ least_of (held_runs self.now) }
+    {
+        match self.runs.first() {
+            Some(run) => run.virtual_block,
+            None => 0,
+        }
+    }
+
+    /// Holds none from now on.
+    pub(crate) fn clear(&mut self)
+        ensures { HasHeld [] self.new }
+    {
+        self.runs.clear();
+        self.number = 0;
+    }
+}
+
+/// Writes the leaves of a piece, over which its mappings are spread, and adds the least key and the place of each to the row.
+pub(crate) fn write_piece<D: Device>(
+    alloc: Global,
+    draft: &mut Draft<'_, D>,
+    held: &Held,
+    row: &mut UpperBuilder,
+) -> Result<(), BuildFault>
+    requires can { CanBeLaid (held_runs held.now) 0 }
+    requires number { held.now.number ≡ length (mappings_of_runs (held_runs held.now)) }
+    requires some { 1 ≤ held.now.number }
+    requires writable { IsWritable (stand draft.old).device }
+    requires room { draft.old.next + nodes_for 252 held.now.number ≤ (stand draft.old).device.blocks }
+    requires closed { IsClosed (stand draft.old).device }
+    ensures same_reference { draft.new.dev.ghost_name ≡ draft.old.dev.ghost_name }
+    ensures wrote { OnOk result (Wrote (blocks_from (leaf_block 8) draft.old.next (tree_leaves 8 (items_of_runs (held_runs held.now)))) (stand draft.old) (stand draft.new)) }
+    ensures row_is { OnOk result (row.new ≡ row.old ++ heads draft.old.next (tree_leaves 8 (items_of_runs (held_runs held.now)))) }
+    ensures closed { StaysClosed (stand draft.old).device (stand draft.new).device }
+    ensures faults { CountsBuildFault result (stand draft.old).device.faults (stand draft.new).device.faults }
+{
+    let mut builder = match LeafBuilder::<BlockTime>::new(alloc, held.number) {
+        Ok(builder) => builder,
+        Err(_) => return Err(BuildFault::Memory),
+    };
+    put_runs(&mut builder, row, draft, &held.runs)?;
+    let _done = builder.is_done();
+    Ok(())
+}
+
+/// Puts the mappings of runs into their leaves. Each leaf is written as soon as its items were put.
+fn put_runs<D: Device>(
+    builder: &mut LeafBuilder<BlockTime>,
+    row: &mut UpperBuilder,
+    draft: &mut Draft<'_, D>,
+    runs: &[Run],
+) -> Result<(), BuildFault>
+    requires can { CanBeLaid (runs_of runs.now) builder.old.low }
+    requires more { items_to_come builder.old ≡ length (mappings_of_runs (runs_of runs.now)) }
+    requires writable { IsWritable (stand draft.old).device }
+    requires room { draft.old.next + length builder.old.sizes ≤ (stand draft.old).device.blocks }
+    requires closed { IsClosed (stand draft.old).device }
+    ensures same_reference { draft.new.dev.ghost_name ≡ draft.old.dev.ghost_name }
+    ensures takes { OnOk result (TakesAll 8 (items_of_runs (runs_of runs.now)) builder.old builder.new row.old row.new (stand draft.old) (stand draft.new)) }
+    ensures closed { StaysClosed (stand draft.old).device (stand draft.new).device }
+    ensures faults { CountsBuildFault result (stand draft.old).device.faults (stand draft.new).device.faults }
+{
+    for run in runs {
+        put_run(builder, row, draft, *run)?;
+    }
+    Ok(())
+}
+
+/// Puts the mappings of a run into their leaves.
+fn put_run<D: Device>(
+    builder: &mut LeafBuilder<BlockTime>,
+    row: &mut UpperBuilder,
+    draft: &mut Draft<'_, D>,
+    run: Run,
+) -> Result<(), BuildFault>
+    requires above { builder.old.low ≤ run.virtual_block }
+    requires ends { run.virtual_block + run.length ≤ 2 ^ 64 }
+    requires within { run.data_block + run.length ≤ 2 ^ 40 }
+    requires time { run.time < 2 ^ 24 }
+    requires more { run.length ≤ items_to_come builder.old }
+    requires writable { IsWritable (stand draft.old).device }
+    requires room { draft.old.next + length builder.old.sizes ≤ (stand draft.old).device.blocks }
+    requires closed { IsClosed (stand draft.old).device }
+    ensures same_reference { draft.new.dev.ghost_name ≡ draft.old.dev.ghost_name }
+    ensures takes { OnOk result (TakesAll 8 (mapping_items (mappings_from run.virtual_block run.data_block run.time run.length)) builder.old builder.new row.old row.new (stand draft.old) (stand draft.new)) }
+    ensures raised { OnOk result (builder.new.low ≤ run.virtual_block + run.length) }
+    ensures closed { StaysClosed (stand draft.old).device (stand draft.new).device }
+    ensures faults { CountsBuildFault result (stand draft.old).device.faults (stand draft.new).device.faults }
+{
+    for i in 0..run.length {
+        let mapping = BlockTime {
+            block: run.data_block + i,
+            time: run.time,
+        };
+        put_mapping(builder, row, draft, run.virtual_block + i, mapping)?;
+    }
+    Ok(())
+}
+
+/// Puts a mapping into its leaf. Where it ends that, the leaf is written, and its least key and place go to the row.
+fn put_mapping<D: Device>(
+    builder: &mut LeafBuilder<BlockTime>,
+    row: &mut UpperBuilder,
+    draft: &mut Draft<'_, D>,
+    key: u64,
+    mapping: BlockTime,
+) -> Result<(), BuildFault>
+    requires low { builder.old.low ≤ key }
+    requires block { mapping.block < 2 ^ 40 }
+    requires time { mapping.time < 2 ^ 24 }
+    requires more { 1 ≤ items_to_come builder.old }
+    requires writable { IsWritable (stand draft.old).device }
+    requires room { draft.old.next + length builder.old.sizes ≤ (stand draft.old).device.blocks }
+    requires closed { IsClosed (stand draft.old).device }
+    ensures same_reference { draft.new.dev.ghost_name ≡ draft.old.dev.ghost_name }
+    ensures takes { OnOk result (TakesAll 8 (record { key = key; value = mapping_code mapping.block mapping.time } ∷ []) builder.old builder.new row.old row.new (stand draft.old) (stand draft.new)) }
+    ensures raised { OnOk result (builder.new.low ≡ key + 1) }
+    ensures closed { StaysClosed (stand draft.old).device (stand draft.new).device }
+    ensures faults { CountsBuildFault result (stand draft.old).device.faults (stand draft.new).device.faults }
+{
+    match builder.put(draft, key, mapping)? {
+        None => Ok(()),
+        Some((least, place)) => add_head(row, least, place),
+    }
+}
+
+/// Adds the least key and the place of a leaf to a row.
+pub(crate) fn add_head(row: &mut UpperBuilder, least: u64, place: u64) -> Result<(), BuildFault>
+    ensures added { OnOk result (row.new ≡ row.old ++ record { key = least; value = place } ∷ []) }
+    ensures fault { IfErr result (λ fault. fault ≡ BuildFault.Memory) }
+{
+    match row.add(least, place) {
+        Ok(()) => Ok(()),
+        Err(_) => Err(BuildFault::Memory),
+    }
+}
