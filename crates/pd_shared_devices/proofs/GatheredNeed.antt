@@ -45,7 +45,7 @@ overflows_past uses a m (suc k) all =
     ap (λ (n : ℕ). count_by p (range_with_len 0 n)) next
     ∙ (passing_more p 0 (a + k) ∙ (rw (at, none) (omega (arith, overflows_past uses a m k all))))
 
-often_same : (uses : List ℕ) (leaves room : ℕ) → AllByRecursion (λ n. (n < leaves) × (n < room)) uses → overflows_in uses room ≡ used_often uses leaves
+pub often_same : (uses : List ℕ) (leaves room : ℕ) → AllByRecursion (λ n. (n < leaves) × (n < room)) uses → overflows_in uses room ≡ used_often uses leaves
 unfolding used_often
 often_same uses leaves room all = elim (cases_Bool (leb leaves room)) [
   | inl e ↦
@@ -60,7 +60,7 @@ often_same uses leaves room all = elim (cases_Bool (leb leaves room)) [
     swapped [] all = tt
     swapped (n ∷ ns) all = ((all.0.1, all.0.0), swapped ns all.1)
 
-told_number : (ended : Bool) (ts : List Told) → length (leaves_of_told ended ts) ≡ length ts
+pub told_number : (ended : Bool) (ts : List Told) → length (leaves_of_told ended ts) ≡ length ts
 told_number ended [] = refl
 told_number ended (t ∷ ts) = ap suc (same_number ts)
   where

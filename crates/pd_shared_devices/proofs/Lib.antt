@@ -16,3 +16,5 @@ pub mod GatheredNeed
 pub mod MapLemmas
 pub mod ToldLemmas
 pub mod WholeLemmas
+pub mod MoreLemmas
+pub mod NeedMore

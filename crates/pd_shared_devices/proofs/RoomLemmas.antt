@@ -56,7 +56,7 @@ left_little n = elim (cases_Bool (eqb n 0)) [
   | inr e ↦ rw e (omega arith)
 ]
 
-held_nodes : (runs : List Run) → sum_by (λ n. nodes_for 252 n) (number_of runs) ≡ nodes_for 252 (length (mappings_of_runs runs))
+pub held_nodes : (runs : List Run) → sum_by (λ n. nodes_for 252 n) (number_of runs) ≡ nodes_for 252 (length (mappings_of_runs runs))
 held_nodes [] = refl
 held_nodes (r ∷ runs) = omega (arith, sum_by-cons (λ n. nodes_for 252 n) (number_in (r ∷ runs)) [], ap (λ (n : ℕ). nodes_for 252 n) (number_mapped (r ∷ runs)))
 

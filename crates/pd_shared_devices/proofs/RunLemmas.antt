@@ -24,7 +24,7 @@ use Rattle.pd_shared_devices.specs.declared.growing.Growing.{Growing}
 use Rattle.pd_shared_devices.proofs.GatherLemmas.{IsWhich, is_nothing, is_leaf, is_device, which}
 use Rattle.pd_shared_devices.proofs.RiseLemmas.{held_behind, number_behind}
 
-none_told : (told : List Told) → length told ≡ 0 → told ≡ []
+pub none_told : (told : List Told) → length told ≡ 0 → told ≡ []
 none_told [] none = refl
 none_told (newest ∷ older) none = absurd (omega (arith, none))
 
@@ -35,7 +35,7 @@ more_numbers : (runs : List Run) (r : Run) → number_in (runs ++ r ∷ []) ≡ 
 more_numbers runs r = sum_by-append (λ (s : Run). s.length) runs (r ∷ []) ∙ ap (λ (n : ℕ). number_in runs + n) (one_number r)
 
 -- what is told of the newest device with a run more
-told_more : (t : Told) (d : ShapeDevice) (runs : List Run) (r : Run) → IsTold t d runs → IsTold (told.with_run r.length t) d (runs ++ r ∷ [])
+pub told_more : (t : Told) (d : ShapeDevice) (runs : List Run) (r : Run) → IsTold t d runs → IsTold (told.with_run r.length t) d (runs ++ r ∷ [])
 told_more t d [] r is = record {
   rest = is.rest;
   in_run = refl;

@@ -74,4 +74,4 @@ returns-clause-gathered g c room before start h next =
     (omega (arith, next.above, least)) (omega (arith, leaf.below, least)) (least ∙ leaf.first) in
     on_ok_three c.count_use.result c.count_use.ensures.size c.count_use.ensures.total (c.count_use.ensures.listed (text.uses_of before) h.counts.uses_counted)
     (λ size total counted. gathered_use before c.args.self.now _ n o _ h next found small refl size total counted refl refl refl refl refl did.none refl
-    (subst (λ (rs : List Run). Grown items (with_pieces (shared n ∷ []) (with_pieces (own_piece rs) found.device)) (end_of (runs_of_leaf before n)) _ h.behind _) runs_are grown))
+    (subst (λ (rs : List Run). Grown items (with_pieces (shared n ∷ []) (with_pieces (own_piece rs) found.device)) (end_of (runs_of_leaf before n)) c.use_leaf.new.growing h.behind (stand c.use_leaf.new.draft)) runs_are grown))
