@@ -23,7 +23,7 @@ use Rattle.pd_texts.proofs.LawLemmas.{read_lines_mean}
 use Rattle.pd_shared_devices.specs.declared.devices.SharedDevices.{SharedDevices}
 use Rattle.pd_shared_devices.specs.declared.growing.Growing.{Growing}
 use Rattle.pd_shared_devices.specs.Gathered.{HasGathered, IsOpen}
-use Rattle.pd_shared_devices.specs.Shape.{IsGatheredShape}
+use Rattle.pd_shared_devices.specs.Shape.{IsGatheredShape, uses_counted}
 use Rattle.pd_shared_devices.specs.Told.{nothing_open, whole_leaves, whole_devices}
 use Rattle.pd_shared_devices.proofs.ToldLemmas.{lines_tell}
 
@@ -124,13 +124,18 @@ module _ (room : ℕ) (lines : List Line) (s : SharedDevices) (start now : Stand
 -- so all lines that were read come to a shape
 pub lines_are_a_shape : (room : ℕ) (lines : List Line) (s : SharedDevices) (start now : Stand) → HasGathered room lines s start now
     → AreReadSoFar pool_format lines → has_ended pool_format lines ≡ true
-    → (w : ThinShape) × (MeansShape (in_order lines []) w × (IsGatheredShape w s start now × (shape_need_so_far room lines ≡ shape_need w room)))
+    → (w : ThinShape) × (MeansShape (in_order lines []) w × (IsGatheredShape w s start now × ((shape_need_so_far room lines ≡ shape_need w room) × ((uses_counted s).size ≡ room))))
 lines_are_a_shape room lines s start now g reads ended =
     let found = read_lines_mean pool_format MeansPoolShape FitsLine PlacedInPool pool_language lines reads ended in
     let version : is_shared (in_order lines []) ≡ true = shared_in_order lines [] g.version in
     let means : MeansShape (in_order lines []) found.0 = subst (λ (b : Bool). MeansAs b (in_order lines []) found.0) version found.1 in
-    let same = lines_same room lines s start now found.0 means in
-    (found.0, (means, (
-      gathered_shape room lines s start now found.0 means (subst (λ (ls : List Line). HasGathered room ls s start now) same g),
-      need_same room lines s start now found.0 means,
-    )))
+    let same = lines_same room lines s start now found.0 means in (
+      found.0,
+      (
+        means,
+        (
+          gathered_shape room lines s start now found.0 means (subst (λ (ls : List Line). HasGathered room ls s start now) same g),
+          (need_same room lines s start now found.0 means, g.counts.uses_size),
+        ),
+      ),
+    )

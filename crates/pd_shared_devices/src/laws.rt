@@ -10,11 +10,12 @@ ghost use Rattle.pd_spells.specs.ThinText.{Line, pool_format};
 ghost use Rattle.pd_texts.specs.Reader.{AreReadSoFar, in_order};
 ghost use Rattle.pd_shared_devices.specs.declared.devices.SharedDevices.{SharedDevices};
 ghost use Rattle.pd_shared_devices.specs.Gathered.{HasGathered};
-ghost use Rattle.pd_shared_devices.specs.Shape.{IsGatheredShape};
+ghost use Rattle.pd_shared_devices.specs.Shape.{IsGatheredShape, uses_counted};
 
 /// All lines of a text of version 2, read up to the last one, mean a shape: what was gathered of them is the shape's, its
-/// leaves and trees are written, and what the lines need is the shape's need.
+/// leaves and trees are written, and what the lines need is the shape's need. The uses of as many leaves are counted
+/// as there are metadata blocks.
 pub fn gathered_lines_are_a_shape()
     ensures { (room : ℕ) (lines : List Line) (s : SharedDevices) (start now : Stand) → HasGathered room lines s start now → AreReadSoFar pool_format lines → has_ended pool_format lines ≡ true
-        → (w : ThinShape) × (MeansShape (in_order lines []) w × (IsGatheredShape w s start now × (shape_need_so_far room lines ≡ shape_need w room))) }
+        → (w : ThinShape) × (MeansShape (in_order lines []) w × (IsGatheredShape w s start now × ((shape_need_so_far room lines ≡ shape_need w room) × ((uses_counted s).size ≡ room)))) }
 {}

@@ -18,7 +18,7 @@ use Rattle.pd_shared_devices.proofs.devices.SharedDevices.need_with.Goals as goa
 pub thirds_in-thirds-requires : goal.thirds_in-thirds-requires
 thirds_in-thirds-requires c =
     let g = c.requires.gathered.so_far in
-    record { within = omega (arith, c.requires.gathered.follows.within, g.gathered.counts.size, ap (λ (k : Counted). k.size) c.counts.ensures); }
+    record { within = omega (arith, c.requires.gathered.follows.within, g.gathered.counts.size, ap (λ (k : Counted). k.size) c.counts.ensures) }
 
 pub returns : goal.returns
 returns c before start now h next =

@@ -1,0 +1,143 @@
+-- A text that is read and restored, line by line.
+use Rattle.std.proofs.Common.{◌≡◌, ℕ, ◌-◌, ◌<◌, ◌≤◌, ◌^◌, Bool, true, false, List, [], ◌∷◌, ◌++◌, length, refl, sym, ◌∙◌, ap, arith, Option, Some, Result, Ok, Err}
+use Rattle.std.specs.Prelude.{MatchResult, IfOk, IfErr, OnOk}
+use Rattle.pd_draft.specs.Placed.{Stand}
+use Rattle.pd_grammar.specs.Spelling.{need_above_room}
+use Rattle.pd_grammar.specs.Texts as Texts
+use Rattle.pd_grammar.specs.Texts.{lines_after}
+use Rattle.pd_grammar.specs.Words.{split}
+use Rattle.pd_lines.specs.Reader.{held_of, lines_of}
+use Rattle.pd_shapes.specs.PoolText.{pool_need_so_far}
+use Rattle.pd_spells.specs.ThinText.{Line, Head, pool_line, end_line, pool_format}
+use Rattle.pd_texts.specs.declared.fault.ReadFault.{ReadFault}
+use Rattle.pd_texts.specs.declared.reader.TextReader.{TextReader}
+use Rattle.pd_texts.specs.declared.thin_line.ThinLine.{ThinLine}
+use Rattle.pd_texts.specs.declared.thin_state.ThinState.{ThinState}
+use Rattle.pd_texts.specs.Reader.{AreReadSoFar, ReadsOn, LeavesOf, IsWhole, RefusesNext}
+use Rattle.pd_texts.specs.ThinLine.{line_of}
+use Rattle.pd_texts.specs.ThinState.{ThinStands}
+use Rattle.pd_restoring.specs.declared.fault.RestoreFault.{RestoreFault}
+use Rattle.pd_restoring.specs.declared.fault.RestoreFault.TheVariants as r
+use Rattle.pd_restoring.specs.Reading.{SaysOf}
+use Rattle.pd_restoring.specs.Faults.{build_fault, read_fault}
+use Rattle.pd_build.specs.declared.fault.BuildFault.{BuildFault}
+use Rattle.pd_build.specs.declared.fault.BuildFault.TheVariants as b
+use Rattle.pd_restoring.proofs.ReadingLemmas.{above_next, above_here, next_says}
+use Rattle.pd_restore_shapes.specs.Reading.{Gathers, Reading, Steps, IsShort, IsOver}
+
+-- a look at the room that is exact says how much is needed
+pub over_if_short : {T : Type 0} (room need exact : ℕ) (result : Result T RestoreFault) → need ≡ exact → MatchResult result (λ more. need ≤ room) (IsShort room need)
+    → MatchResult result (λ more. exact ≤ room) (IsOver room exact)
+over_if_short room need exact (Ok more) same p = omega arith
+over_if_short room need exact (Err r.Memory) same p = tt
+over_if_short room need exact (Err r.Source) same p = absurd p
+over_if_short room need exact (Err r.Device) same p = tt
+over_if_short room need exact (Err (r.Text fault)) same p = absurd p
+over_if_short room need exact (Err (r.NoRoom needed blocks)) same p = (p.0 ∙ same, (p.1.0, omega (arith, p.1.1)))
+
+-- a line more was read
+pub grows_where : (result : Result Bool RestoreFault) (before : List Line) (line : Line) (old new : TextReader ThinState ThinLine) → ReadsOn pool_format ThinStands before old
+    → ReadsOn pool_format ThinStands (line ∷ before) new → length before < 2 ^ 64 - 1 → IfOk result (λ more. more ≡ true → lines_of old.reader < lines_of new.reader)
+grows_where (Err fault) before line old new was is few = tt
+grows_where (Ok more) before line old new was is few = λ e. omega (arith, was.so_far.count, is.so_far.count, few)
+
+-- a fault of what builds asks for no room
+pub no_room_asked : (fault : BuildFault) (room need : ℕ) → IsOver room need (build_fault fault)
+no_room_asked b.Memory room need = tt
+no_room_asked b.Device room need = tt
+
+module _ {G : Type 0} (Has : Gathers G) where
+  -- a step that took a line
+  pub stepped : (result : Result Bool RestoreFault) (before : List Line) (line : ThinLine) (room : ℕ) (old text : TextReader ThinState ThinLine) (was left : Option (List ℕ)) (s t : G) (start now to : Stand)
+      → Reading Has before room old s start now → to.device.blocks ≡ now.device.blocks → ReadsOn pool_format ThinStands (line_of line ∷ before) text
+      → ((x : List ℕ) → LeavesOf pool_format x before old was → LeavesOf pool_format x (line_of line ∷ before) text left)
+      → IfOk result (λ more. more ≡ true) → OnOk result (Has room (line_of line ∷ before) t start to)
+      → MatchResult result (λ more. pool_need_so_far room (line_of line ∷ before) ≤ room) (IsOver room (pool_need_so_far room (line_of line ∷ before)))
+      → IfOk result (λ more. Steps Has more before room old was text left t start to)
+  stepped (Err fault) before line room old text was left s t start now to h blocks reads told more gathered need = tt
+  stepped (Ok more) before line room old text was left s t start now to h blocks reads told is gathered need =
+      rw is (
+        line_of line,
+        (
+          record {
+            reads = reads;
+            later = omega (arith, h.later);
+            so_far = record { gathered = gathered; lines = reads.so_far.lines; need = need; most = h.so_far.most; there = omega (arith, h.so_far.there, blocks) };
+            above = above_next pool_need_so_far room before (line_of line) h.above need;
+          },
+          told,
+        ),
+      )
+
+  -- a step that found no room
+  pub lacking : (result : Result Bool RestoreFault) (before : List Line) (line : ThinLine) (room : ℕ) (old text : TextReader ThinState ThinLine) (left : Option (List ℕ)) (s : G) (start now : Stand) (t : List ℕ)
+      → Reading Has before room old s start now → LeavesOf pool_format t (line_of line ∷ before) text left
+      → MatchResult result (λ more. pool_need_so_far room (line_of line ∷ before) ≤ room) (IsOver room (pool_need_so_far room (line_of line ∷ before)))
+      → IfErr result (SaysOf pool_format pool_need_so_far room t)
+  lacking (Ok more) before line room old text left s start now t h told over = tt
+  lacking (Err r.Memory) before line room old text left s start now t h told over = tt
+  lacking (Err r.Source) before line room old text left s start now t h told over = tt
+  lacking (Err r.Device) before line room old text left s start now t h told over = tt
+  lacking (Err (r.Text fault)) before line room old text left s start now t h told over = absurd over
+  lacking (Err (r.NoRoom needed blocks)) before line room old text left s start now t h told over =
+      let more = (lines_after pool_format (line_of line ∷ before) (split 10 (held_of text.reader ++ told.rest))).lines in (
+        ap (λ (reading : Texts.Reading Line). need_above_room (pool_need_so_far room) room [] reading.lines) told.is
+            ∙ (above_here pool_need_so_far room before more (line_of line) h.above (omega (arith, h.later)) over.1.1 ∙ ap (λ n. Some n) (sym over.0)),
+        over.1.0,
+      )
+
+  -- a step that came to the end
+  pub came_to_end : (result : Result Bool RestoreFault) (before : List Line) (room : ℕ) (old text : TextReader ThinState ThinLine) (was left : Option (List ℕ)) (s t : G) (start now to : Stand)
+      → Reading Has before room old s start now → to.device.blocks ≡ now.device.blocks → AreReadSoFar pool_format (end_line ∷ before)
+      → ((x : List ℕ) → LeavesOf pool_format x before old was → IsWhole pool_format x (end_line ∷ before) left)
+      → IfOk result (λ more. more ≡ false) → OnOk result (Has room (end_line ∷ before) t start to)
+      → MatchResult result (λ more. pool_need_so_far room (end_line ∷ before) ≤ room) (IsOver room (pool_need_so_far room (end_line ∷ before)))
+      → IfOk result (λ more. Steps Has more before room old was text left t start to)
+  came_to_end (Err fault) before room old text was left s t start now to h blocks reads told more gathered need = tt
+  came_to_end (Ok more) before room old text was left s t start now to h blocks reads told is gathered need =
+      rw is (
+        record {
+          all = record { gathered = gathered; lines = reads; need = need; most = h.so_far.most; there = omega (arith, h.so_far.there, blocks) };
+          ended = refl;
+          above = above_next pool_need_so_far room before end_line h.above need;
+        },
+        told,
+      )
+
+  -- or found no room for it
+  pub lacking_end : (result : Result Bool RestoreFault) (before : List Line) (room : ℕ) (old : TextReader ThinState ThinLine) (left : Option (List ℕ)) (s : G) (start now : Stand) (t : List ℕ)
+      → Reading Has before room old s start now → IsWhole pool_format t (end_line ∷ before) left
+      → MatchResult result (λ more. pool_need_so_far room (end_line ∷ before) ≤ room) (IsOver room (pool_need_so_far room (end_line ∷ before)))
+      → IfErr result (SaysOf pool_format pool_need_so_far room t)
+  lacking_end (Ok more) before room old left s start now t h told over = tt
+  lacking_end (Err r.Memory) before room old left s start now t h told over = tt
+  lacking_end (Err r.Source) before room old left s start now t h told over = tt
+  lacking_end (Err r.Device) before room old left s start now t h told over = tt
+  lacking_end (Err (r.Text fault)) before room old left s start now t h told over = absurd over
+  lacking_end (Err (r.NoRoom needed blocks)) before room old left s start now t h told over = (
+    ap (λ (reading : Texts.Reading Line). need_above_room (pool_need_so_far room) room [] reading.lines) told.0
+        ∙ (above_here pool_need_so_far room before [] end_line h.above (omega (arith, h.later)) over.1.1 ∙ ap (λ n. Some n) (sym over.0)),
+    over.1.0,
+  )
+
+  -- a step by its answer
+  pub steps_as : (a b : Bool) (before : List Line) (room : ℕ) (old text : TextReader ThinState ThinLine) (was left : Option (List ℕ)) (s : G) (start now : Stand) → a ≡ b
+      → Steps Has a before room old was text left s start now → Steps Has b before room old was text left s start now
+  steps_as a b before room old text was left s start now is steps = rw is at steps
+
+  -- what a fault of the reader says after lines that have room
+  pub line_says : (fault : ReadFault) (first : Line) (room : ℕ) (t : List ℕ) (before : List Line) (text : TextReader ThinState ThinLine) (s : G) (start now : Stand) → Reading Has before room text s start now
+      → pool_need_so_far room (end_line ∷ before) ≤ room → RefusesNext pool_format first end_line t before fault → SaysOf pool_format pool_need_so_far room t (read_fault fault)
+  line_says fault first room t before text s start now h need refuses =
+      next_says pool_format pool_need_so_far first end_line fault room t before (omega (arith, h.later)) h.above need refuses
+
+  -- the first two lines were read
+  pub begun_reading : (first : Line) (p : Head) (room : ℕ) (text : TextReader ThinState ThinLine) (s : G) (start : Stand) → ReadsOn pool_format ThinStands (pool_line p ∷ first ∷ []) text
+      → Has room (pool_line p ∷ first ∷ []) s start start → pool_need_so_far room (pool_line p ∷ first ∷ []) ≤ room → room ≤ 4161600 → room ≤ start.device.blocks
+      → Reading Has (pool_line p ∷ first ∷ []) room text s start start
+  begun_reading first p room text s start reads gathered need most there = record {
+    reads = reads;
+    later = omega arith;
+    so_far = record { gathered = gathered; lines = reads.so_far.lines; need = need; most = most; there = there };
+    above = above_next pool_need_so_far room (first ∷ []) (pool_line p) (λ lines. refl) need;
+  }

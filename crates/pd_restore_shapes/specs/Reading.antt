@@ -1,0 +1,137 @@
+-- A pool's text of either version that is read and restored, line by line; of lines the newest comes first.
+use Rattle.std.specs.Prelude.{◌≡◌, ℕ, ◌<◌, ◌≤◌, Bool, true, false, List, [], ◌∷◌, ◌++◌, length, Option}
+use Rattle.pd_kinds.specs.declared.limits.TheConstants.{MAX_META_BLOCKS}
+use Rattle.pd_draft.specs.Placed.{Stand, Wrote}
+use Rattle.pd_grammar.specs.Texts.{has_ended}
+use Rattle.pd_laid.specs.Laid.{laid_number}
+use Rattle.pd_laid.specs.LaidThin.{laid_shape}
+use Rattle.pd_laid.specs.Shape.{ThinShape}
+use Rattle.pd_shapes.specs.PoolText.{MeansPoolShape, pool_need_so_far}
+use Rattle.pd_restore_shapes.specs.Either.{IsLawfulShape}
+use Rattle.pd_spells.specs.ThinText.{Line, end_line, pool_format}
+use Rattle.pd_texts.specs.declared.reader.TextReader.{TextReader}
+use Rattle.pd_texts.specs.declared.thin_line.ThinLine.{ThinLine}
+use Rattle.pd_texts.specs.declared.thin_state.ThinState.{ThinState}
+use Rattle.pd_texts.specs.Reader.{in_order, AreReadSoFar, ReadsOn, LeavesOf, IsWhole}
+use Rattle.pd_texts.specs.ThinState.{ThinStands}
+use Rattle.pd_restoring.specs.declared.fault.RestoreFault.{RestoreFault}
+use Rattle.pd_restoring.specs.declared.fault.RestoreFault.TheVariants as r
+use Rattle.pd_restoring.specs.Reading.{NoneAbove}
+use Rattle.pd_restore_shapes.specs.declared.parts.Parts.{Parts}
+use Rattle.pd_restore_shapes.specs.Parts.{AreParts}
+use Rattle.pd_restore_shapes.specs.Written.{shape_behind}
+
+-- What it is that of some lines all was gathered, where there are so many metadata blocks, and what is over of them is
+-- written from one stand to another
+abbrev pub Gathers : Type 0 → Type 1
+Gathers G = ℕ → List Line → G → Stand → Stand → Type 0
+
+-- these lines were gathered, and have room on the device
+pub record HasRoom {G : Type 0} (Has : Gathers G) (before : List Line) (room : ℕ) (s : G) (start now : Stand) : Type 0 where
+  pub gathered : Has room before s start now
+  pub lines : AreReadSoFar pool_format before
+  pub need : pool_need_so_far room before ≤ room
+  pub most : room ≤ MAX_META_BLOCKS
+  pub there : room ≤ now.device.blocks
+
+-- these lines were read and gathered, and have room
+pub record Reading {G : Type 0} (Has : Gathers G) (before : List Line) (room : ℕ) (text : TextReader ThinState ThinLine) (s : G) (start now : Stand) : Type 0 where
+  pub reads : ReadsOn pool_format ThinStands before text
+  pub later : 2 ≤ length before
+  pub so_far : HasRoom Has before room s start now
+  pub above : NoneAbove pool_need_so_far room before
+
+-- some lines were
+pub record CanRead {G : Type 0} (Has : Gathers G) (room : ℕ) (text : TextReader ThinState ThinLine) (s : G) (now : Stand) : Type 0 where
+  pub before : List Line
+  pub start : Stand
+  pub so_far : Reading Has before room text s start now
+
+-- this line was read after these ones
+pub record Follows {G : Type 0} (Has : Gathers G) (before : List Line) (room : ℕ) (s : G) (line : Line) (start now : Stand) : Type 0 where
+  pub so_far : HasRoom Has before room s start now
+  pub later : 2 ≤ length before
+  pub lines : AreReadSoFar pool_format (line ∷ before)
+
+-- a line may be taken
+pub record CanTake {G : Type 0} (Has : Gathers G) (room : ℕ) (s : G) (line : Line) (now : Stand) : Type 0 where
+  pub before : List Line
+  pub start : Stand
+  pub follows : Follows Has before room s line start now
+
+-- these are all lines, with the last one, and they have room
+pub record HasReadAll {G : Type 0} (Has : Gathers G) (lines : List Line) (room : ℕ) (s : G) (start now : Stand) : Type 0 where
+  pub all : HasRoom Has lines room s start now
+  pub ended : has_ended pool_format lines ≡ true
+  pub above : NoneAbove pool_need_so_far room lines
+
+-- all lines were gathered
+pub record CanWrite {G : Type 0} (Has : Gathers G) (room : ℕ) (s : G) (now : Stand) : Type 0 where
+  pub lines : List Line
+  pub start : Stand
+  pub all : HasReadAll Has lines room s start now
+
+-- the lines mean a shape, which has room and is written but for its superblock, and these are the parts that this one names
+pub record WritesParts (lines : List Line) (room : ℕ) (start now : Stand) (parts : Parts) : Type 0 where
+  pub shape : ThinShape
+  pub means : MeansPoolShape (in_order lines []) shape
+  pub lawful : IsLawfulShape shape
+  pub fits : laid_number (laid_shape shape room) ≤ room
+  pub wrote : Wrote (shape_behind shape room) start now
+  pub named : AreParts shape room parts
+
+-- one step after these lines: a line more, or the end
+abbrev pub Steps : {G : Type 0} → Gathers G → Bool → List Line → ℕ → TextReader ThinState ThinLine → Option (List ℕ) → TextReader ThinState ThinLine → Option (List ℕ) → G → Stand → Stand → Type 0
+Steps Has true before room old was text left s start now = (line : Line) × (Reading Has (line ∷ before) room text s start now
+    × ((t : List ℕ) → LeavesOf pool_format t before old was → LeavesOf pool_format t (line ∷ before) text left))
+Steps Has false before room old was text left s start now = HasReadAll Has (end_line ∷ before) room s start now
+    × ((t : List ℕ) → LeavesOf pool_format t before old was → IsWhole pool_format t (end_line ∷ before) left)
+
+-- after these lines all others were read
+pub record EndsAll {G : Type 0} (Has : Gathers G) (before : List Line) (room : ℕ) (old : TextReader ThinState ThinLine) (was left : Option (List ℕ)) (s : G) (start now : Stand) : Type 0 where
+  pub lines : List Line
+  pub later : List Line
+  pub front : (others : List Line) → in_order lines others ≡ in_order before (later ++ others)
+  pub all : HasReadAll Has lines room s start now
+  pub told : (t : List ℕ) → LeavesOf pool_format t before old was → IsWhole pool_format t lines left
+
+-- from the lines before some others were read
+pub record Went {G : Type 0} (Has : Gathers G) (before : List Line) (room : ℕ) (old : TextReader ThinState ThinLine) (was : Option (List ℕ)) (text : TextReader ThinState ThinLine)
+    (left : Option (List ℕ)) (s : G) (start now : Stand) : Type 0 where
+  pub lines : List Line
+  pub later : List Line
+  pub front : (others : List Line) → in_order lines others ≡ in_order before (later ++ others)
+  pub so_far : Reading Has lines room text s start now
+  pub told : (t : List ℕ) → LeavesOf pool_format t before old was → LeavesOf pool_format t lines text left
+
+-- a fault that says that so much is needed, and there is less
+abbrev pub IsShort : ℕ → ℕ → RestoreFault → Type 0
+IsShort room need (r.NoRoom needed blocks) = (needed ≡ need) × ((blocks ≡ room) × (room < need))
+IsShort room need r.Memory = ⊥
+IsShort room need r.Source = ⊥
+IsShort room need r.Device = ⊥
+IsShort room need (r.Text fault) = ⊥
+
+-- the same, or a fault that says nothing of the room
+abbrev pub IsOver : ℕ → ℕ → RestoreFault → Type 0
+IsOver room need (r.NoRoom needed blocks) = (needed ≡ need) × ((blocks ≡ room) × (room < need))
+IsOver room need r.Memory = Unit {0}
+IsOver room need r.Source = ⊥
+IsOver room need r.Device = Unit {0}
+IsOver room need (r.Text fault) = ⊥
+
+-- which faults the first ones are
+abbrev pub IsNoRoom : RestoreFault → Type 0
+IsNoRoom (r.NoRoom need blocks) = Unit {0}
+IsNoRoom r.Memory = ⊥
+IsNoRoom r.Source = ⊥
+IsNoRoom r.Device = ⊥
+IsNoRoom (r.Text fault) = ⊥
+
+-- a line is refused, or there is no room
+abbrev pub IsOfText : RestoreFault → Type 0
+IsOfText (r.NoRoom need blocks) = Unit {0}
+IsOfText r.Memory = ⊥
+IsOfText r.Source = ⊥
+IsOfText r.Device = ⊥
+IsOfText (r.Text fault) = Unit {0}
