@@ -150,15 +150,13 @@ dump kind file path = query kind (image_text kind) file path
 abbrev pub dump_shared : Option (List ℕ) → List ℕ → Terms
 dump_shared file path = query Thin (λ image. text_of_shape (image_shape image)) file path
 
--- The terms of a request. Of a cache or an era target no words ask a dump with shared leaves
+-- the terms of a request
 abbrev pub terms_of : Option request.Request → Terms
 terms_of None = refused
-terms_of (Some (request.check kind until false path)) = check kind until path
-terms_of (Some (request.check kind until true path)) = check_and_clear path
-terms_of (Some (request.dump kind false file path)) = dump kind file path
-terms_of (Some (request.dump Thin true file path)) = dump_shared file path
-terms_of (Some (request.dump Cache true file path)) = refused
-terms_of (Some (request.dump Era true file path)) = refused
+terms_of (Some (request.check kind until path)) = check kind until path
+terms_of (Some (request.check_and_clear path)) = check_and_clear path
+terms_of (Some (request.dump kind file path)) = dump kind file path
+terms_of (Some (request.dump_shared file path)) = dump_shared file path
 terms_of (Some (request.restore kind version file path)) = restore kind version file path
 terms_of (Some (request.repair from to)) = repair from to
 terms_of (Some (request.search from to transaction block_size blocks)) = search from to transaction block_size blocks

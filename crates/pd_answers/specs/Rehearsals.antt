@@ -1,13 +1,14 @@
 -- The terms of a rehearsal: the restore, check and dump of the generator's text.
 use Rattle.std.specs.Prelude.{◌≡◌, ◌≢◌, ℕ, not, ◌==◌, if◌then◌else◌, List, [], ◌∷◌, length, sum_by, count_by, IfSome}
 use Rattle.pd_kinds.specs.Report.{Reported, report_of}
-use Rattle.pd_kinds.specs.Meaning.{ThinPool, ThinDevice}
+use Rattle.pd_kinds.specs.Meaning.{ThinDevice}
 use Rattle.pd_grammar.specs.Spelling.{Verdict, accepted, refused, no_room}
 use Rattle.pd_spells.specs.ThinText.{text_of_pool}
-use Rattle.pd_spells.specs.ThinNeed.{thin_need, IsThinVerdict}
 use Rattle.pd_spells.specs.Lines.{reported_lines}
-use Rattle.pd_laid.specs.LaidThin.{laid_pool}
-use Rattle.pd_spells.specs.Early.{is_pool_early}
+use Rattle.pd_laid.specs.LaidThin.{laid_shape}
+use Rattle.pd_laid.specs.Shape.{ThinShape, pool_of}
+use Rattle.pd_shapes.specs.PoolText.{IsPoolTextVerdict, is_pool_text_early}
+use Rattle.pd_shapes.specs.SharedNeed.{shape_need}
 use Rattle.pd_laid.specs.Made.{Makes}
 use Rattle.pd_answers.specs.Generated.{generated_text, rehearsal_line}
 use Rattle.pd_answers.specs.Answer.{Answer, reading, writing}
@@ -20,21 +21,21 @@ use Rattle.pd_answers.specs.Restores.{restore_answer}
 -- what was restored, and the three numbers that it prints
 pub record Rehearsed : Type 0 where
   pub room : ℕ
-  pub verdict : Verdict ThinPool
+  pub verdict : Verdict ThinShape
   pub report : Reported
   pub used : ℕ
   pub mappings : ℕ
   pub lines : ℕ
 
 -- the numbers of a pool: the blocks that it needs, the mappings of its devices, the lines of its text
-pub record AreNumbersOf (pool : ThinPool) (rehearsed : Rehearsed) : Type 0 where
-  pub used : rehearsed.used ≡ thin_need pool rehearsed.room
-  pub mappings : rehearsed.mappings ≡ sum_by (λ (d : ThinDevice). length d.mappings) pool.devices
-  pub lines : rehearsed.lines ≡ count_by (λ byte. byte == 10) (text_of_pool pool)
+pub record AreNumbersOf (shape : ThinShape) (rehearsed : Rehearsed) : Type 0 where
+  pub used : rehearsed.used ≡ shape_need shape rehearsed.room
+  pub mappings : rehearsed.mappings ≡ sum_by (λ (d : ThinDevice). length d.mappings) (pool_of shape).devices
+  pub lines : rehearsed.lines ≡ count_by (λ byte. byte == 10) (text_of_pool (pool_of shape))
 
 -- of the text that is accepted
-abbrev pub AreNumbers : Verdict ThinPool → Rehearsed → Type 0
-AreNumbers (accepted pool) rehearsed = AreNumbersOf pool rehearsed
+abbrev pub AreNumbers : Verdict ThinShape → Rehearsed → Type 0
+AreNumbers (accepted shape) rehearsed = AreNumbersOf shape rehearsed
 AreNumbers (refused why) rehearsed = Unit {0}
 AreNumbers (no_room needed blocks) rehearsed = Unit {0}
 
@@ -54,7 +55,7 @@ rehearse number path = record {
   uses = record unnamed { out = reading []; output = writing path };
   Finding = Rehearsed;
   finds = λ before after rehearsed. IsRoom before.output after.output rehearsed.room
-      × (IsThinVerdict (generated_text number) rehearsed.room rehearsed.verdict
+      × (IsPoolTextVerdict (generated_text number) rehearsed.room rehearsed.verdict
       × IfSome before.output.held (λ image. (rehearsed.report ≡ report_of []) × AreNumbers rehearsed.verdict rehearsed));
   answer = rehearsal_answer number;
   statuses = 0 ∷ 1 ∷ 4 ∷ 5 ∷ 7 ∷ [];
@@ -62,6 +63,6 @@ rehearse number path = record {
   silent = 1 ∷ 4 ∷ 5 ∷ 7 ∷ [];
   spared = λ rehearsed. (rehearsal_answer number rehearsed).status ≢ 0;
   reads = any_reads;
-  leaves = λ rehearsed before after status. LeavesMade (Makes laid_pool rehearsed.room rehearsed.verdict)
-      (is_pool_early (generated_text number) rehearsed.room) status before.output after.output;
+  leaves = λ rehearsed before after status. LeavesMade (Makes laid_shape rehearsed.room rehearsed.verdict)
+      (is_pool_text_early (generated_text number) rehearsed.room) status before.output after.output;
 }

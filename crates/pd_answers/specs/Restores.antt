@@ -4,25 +4,21 @@ use Rattle.pd_kinds.specs.declared.kind.Kind.{Kind}
 use Rattle.pd_kinds.specs.declared.kind.Kind.TheVariants.{Thin, Cache, Era}
 use Rattle.pd_kinds.specs.Crash.{IsUntouched}
 use Rattle.pd_kinds.specs.Objects.{DeviceState}
-use Rattle.pd_grammar.specs.Texts.{reading as lines_read}
 use Rattle.pd_grammar.specs.Spelling.{Verdict, accepted, refused, no_room}
-use Rattle.pd_spells.specs.Early.{is_decided_early, is_pool_early, is_cache_early, is_era_early}
-use Rattle.pd_spells.specs.ThinNeed.{IsThinVerdict}
+use Rattle.pd_spells.specs.Early.{is_cache_early, is_era_early}
 use Rattle.pd_spells.specs.CacheNeed.{IsCacheVerdict}
 use Rattle.pd_spells.specs.EraNeed.{IsEraVerdict}
 use Rattle.pd_spells.specs.Lines.{refusal_line, no_room_line}
 use Rattle.pd_laid.specs.Laid.{Laid}
 use Rattle.pd_laid.specs.Made.{Makes}
-use Rattle.pd_laid.specs.LaidThin.{laid_pool, laid_shape}
+use Rattle.pd_laid.specs.LaidThin.{laid_shape}
 use Rattle.pd_laid.specs.LaidCache.{laid_cache}
 use Rattle.pd_laid.specs.LaidEra.{laid_era}
-use Rattle.pd_spells.specs.ThinText.{pool_format}
-use Rattle.pd_shapes.specs.PoolText.{pool_need_so_far, IsPoolTextVerdict}
+use Rattle.pd_shapes.specs.PoolText.{IsPoolTextVerdict, is_pool_text_early}
 use Rattle.pd_answers.specs.Answer.{Answer, reading, writing}
 use Rattle.pd_answers.specs.Reads.{any_reads}
 use Rattle.pd_answers.specs.Terms.{Terms, unnamed}
 use Rattle.pd_answers.specs.Outputs.{IsRoom, LeavesMadeLast}
-use Rattle.pd_answers.specs.Requests.{reads_second_version}
 
 -- what a restore finds: how many blocks there are for metadata, the verdict on the text, and whether the first two
 -- lines of the text decide it
@@ -65,18 +61,10 @@ restore_by {M} IsVerdictOn is_early laid file path = record {
   leaves = λ judged before after status. LeavesRestored laid judged status before.output after.output;
 }
 
--- whether the first two lines of a pool's text decide, in either version
-abbrev pub is_pool_text_early : List ℕ → ℕ → Bool
-is_pool_text_early text room = is_decided_early (pool_need_so_far room) room (lines_read pool_format text).lines
-
--- a restore of a pool from a text of version 1, and from a text of either version
-abbrev pub restore_pool : Bool → List ℕ → List ℕ → Terms
-restore_pool false file path = restore_by IsThinVerdict is_pool_early laid_pool file path
-restore_pool true file path = restore_by IsPoolTextVerdict is_pool_text_early laid_shape file path
-
--- a restore of each kind; only a cache is restored in more than one version of its metadata
+-- A restore of each kind: a pool from a text of either version, with the leaves shared that the text tells once; only a
+-- cache is restored in more than one version of its metadata
 abbrev pub restore : Kind → ℕ → List ℕ → List ℕ → Terms
-restore Thin version file path = restore_pool reads_second_version file path
+restore Thin version file path = restore_by IsPoolTextVerdict is_pool_text_early laid_shape file path
 restore Cache version file path =
     restore_by (IsCacheVerdict version) (is_cache_early version) (λ m room. laid_cache m version room) file path
 restore Era version file path = restore_by IsEraVerdict is_era_early laid_era file path

@@ -8,7 +8,7 @@ use Rattle.pd_kinds.specs.declared.kind.Kind.{Kind}
 use Rattle.pd_kinds.specs.declared.kind.Kind.TheVariants.{Thin, Cache, Era}
 use Rattle.pd_kinds.specs.declared.kind.Stage.{Stage}
 use Rattle.pd_kinds.specs.declared.kind.Stage.TheVariants.{Super, Walk, Order, Whole, Counts}
-use Rattle.pd_answers.specs.Requests.{Request, check, dump, restore, repair, search, rmap, list_devices, since, generate, rehearse, writeback, shrink, is_built}
+use Rattle.pd_answers.specs.Requests.{Request, check, check_and_clear, dump, dump_shared, restore, repair, search, rmap, list_devices, since, generate, rehearse, writeback, shrink}
 
 -- the next step needs the value of this one
 infixl 10 ◌>>=◌
@@ -229,11 +229,18 @@ purposes_of rehearse_tool = codes "--number" ∷ codes "-o" ∷ []
 purposes_of writeback_tool = codes "--metadata-device" ∷ codes "--fast-device" ∷ codes "--origin-device" ∷ []
 purposes_of shrink_tool = codes "-i" ∷ codes "-o" ∷ codes "--data" ∷ codes "--nr-blocks" ∷ []
 
--- the flag stands only where the whole image is checked
+-- the flag stands only where the whole of a pool is checked
 abbrev pub check_with : Kind → Stage → Bool → List ℕ → Option Request
-check_with kind until false image = Some (check kind until false image)
-check_with kind Counts true image = Some (check kind Counts true image)
-check_with kind _ true image = None
+check_with kind until false image = Some (check kind until image)
+check_with Thin Counts true image = Some (check_and_clear image)
+check_with kind until true image = None
+
+-- only of a pool the leaves that are shared are told once
+abbrev pub dump_with : Kind → Bool → Option (List ℕ) → List ℕ → Option Request
+dump_with kind false file image = Some (dump kind file image)
+dump_with Thin true file image = Some (dump_shared file image)
+dump_with Cache true file image = None
+dump_with Era true file image = None
 
 -- with all three numbers of the superblock that is wanting, or none
 abbrev pub repair_with : List ℕ → List ℕ → Option (List ℕ) → Option (List ℕ) → Option (List ℕ) → Option Request
@@ -257,7 +264,7 @@ request_of (dump_tool kind) items = do
   shared ← flag shared_word items
   file ← optional (codes "-o") items
   image ← required image_word items
-  Some (dump kind shared file image)
+  dump_with kind shared file image
 request_of (restore_tool kind) items = do
   word ← optional (codes "--metadata-version") items
   version ← version_of word
@@ -319,19 +326,10 @@ abbrev pub known : Tool → Option (List Item) → Option (List Item)
 known tool None = None
 known tool (Some items) = if list_all (is_known tool) items then Some items else None
 
--- what the words spell, without the program's own name, whether it is built or not
-unfoldable pub spelled : List (List ℕ) → Option Request
-spelled [] = None
-spelled (word ∷ words) = do
+-- what the words ask for, without the program's own name
+unfoldable pub asked : List (List ℕ) → Option Request
+asked [] = None
+asked (word ∷ words) = do
   tool ← tool_of word
   items ← known tool (items_of words)
   request_of tool items
-
--- a request that is built
-abbrev pub built : Option Request → Option Request
-built None = None
-built (Some request) = if is_built request then Some request else None
-
--- the request of the program's words: what isn't built yet is no request
-unfoldable pub asked : List (List ℕ) → Option Request
-asked words = built (spelled words)

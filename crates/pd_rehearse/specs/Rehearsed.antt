@@ -1,10 +1,10 @@
 -- What a rehearsal promises.
 use Rattle.std.specs.Prelude.{◌≡◌, ℕ, List, [], Some, Result, MatchResult, IfErr}
 use Rattle.pd_kinds.specs.Limits.{room_of}
-use Rattle.pd_kinds.specs.Meaning.{ThinPool}
 use Rattle.pd_kinds.specs.Objects.{DeviceState}
 use Rattle.pd_kinds.specs.Report.{report_of}
 use Rattle.pd_grammar.specs.Spelling.{Verdict}
+use Rattle.pd_laid.specs.Shape.{ThinShape}
 use Rattle.pd_answers.specs.Rehearsals.{AreNumbers, Rehearsed}
 use Rattle.pd_rehearse.specs.declared.fault.RehearseFault.{RehearseFault}
 use Rattle.pd_rehearse.specs.declared.run.Rehearsal.{Rehearsal}
@@ -12,7 +12,7 @@ use Rattle.pd_rehearse.specs.Failing.{IsFaulty, IsReported}
 use Rattle.pd_rehearse.specs.Restoring.{RestoresText}
 
 -- what was found, where the check found nothing
-abbrev pub found_of : ℕ → Verdict ThinPool → Rehearsal → Rehearsed
+abbrev pub found_of : ℕ → Verdict ThinShape → Rehearsal → Rehearsed
 found_of room verdict rehearsal = record {
   room = room;
   verdict = verdict;

@@ -2,9 +2,16 @@ pub mod OrderLemmas
 pub mod PartLemmas
 pub mod LineLemmas
 pub mod ReadingLemmas
+pub mod UnsharedLines
+pub mod UnsharedLemmas
+pub mod UnsharedParts
 pub mod PoolLemmas
 pub mod BeginLemmas
 pub mod NeedLemmas
+pub mod SharedLines
+pub mod SharedLemmas
+pub mod SharedWhole
+pub mod ShapeParts
 pub mod SavedTextLemmas
 pub mod OverflowingLemmas
 pub mod SavedNeedLemmas

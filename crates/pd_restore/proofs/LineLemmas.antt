@@ -9,7 +9,7 @@ use Rattle.pd_draft.specs.Placed.{Stand}
 use Rattle.pd_spells.specs.Need.{need_tree}
 use Rattle.pd_spells.specs.ThinNeed.{mapped_data, overflows_in, thin_need, thin_need_so_far}
 use Rattle.pd_spells.proofs.NeedLemmas.{devices-same, overflows-same}
-use Rattle.pd_spells.specs.ThinText.{Line, first_line, pool_line, device_line, map_line, end_line, Run, Part, mappings_of, device_of_part, head_of, lines_of_part, data_blocks_of, piece_end, unmapped, MeansPool, Head}
+use Rattle.pd_spells.specs.ThinText.{Line, first_line, pool_line, device_line, map_line, end_line, Run, Part, mappings_of, device_of_part, head_of, lines_of_part, data_blocks_of, piece_end, unmapped, MeansPool}
 use Rattle.pd_laid_once.proofs.Need.{data_counts_are}
 use Rattle.pd_texts.specs.Reader.{in_order}
 use Rattle.pd_devices.specs.declared.devices.Devices.{Devices}
@@ -157,15 +157,6 @@ devices_of_lines {start} {now} lines m s h means =
       )) ∙ sym (data_counts_are m means.lawful);
       size = h.size ∙ blocks;
     }
-
--- the pool line of lines that begin with it
-abbrev head_in : List Line → Head → Head
-head_in (first_line ∷ pool_line q ∷ lines) other = q
-head_in _ other = other
-
-pub head_is : (p : Head) (later lines : List Line) (m : ThinPool) → MeansPool (in_order lines []) m
-    → ((others : List Line) → in_order lines others ≡ in_order (pool_line p ∷ first_line ∷ []) (later ++ others)) → p ≡ head_of m
-head_is p later lines m means front = ap (λ (ls : List Line). head_in ls p) (sym (front []) ∙ means.lines_are)
 
 -- what adds up over the mapped numbers
 module _ (h : List ℕ → ℕ) (adds : (xs ys : List ℕ) → h (xs ++ ys) ≡ h xs + h ys) where

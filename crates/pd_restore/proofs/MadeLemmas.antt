@@ -8,30 +8,31 @@ use Rattle.pd_kinds.specs.Objects.{DeviceState, SourceState}
 use Rattle.pd_kinds.specs.Moments.{now}
 use Rattle.pd_kinds.proofs.CrashLemmas.{left_now, left_synced, stays, still_tells, weaken}
 use Rattle.pd_grammar.specs.Spelling.{Verdict, accepted}
-use Rattle.pd_laid.specs.LaidThin.{laid_pool}
+use Rattle.pd_laid.specs.LaidThin.{laid_pool, laid_shape}
 use Rattle.pd_laid.specs.Made.{Makes}
-use Rattle.pd_spells.specs.Early.{is_pool_early}
+use Rattle.pd_laid.specs.Shape.{ThinShape, shape_of}
+use Rattle.pd_shapes.specs.PoolText.{IsLawfulShape, IsPoolTextVerdict, is_pool_text_early}
 use Rattle.pd_spells.specs.Lawful.{IsLawfulPool}
-use Rattle.pd_spells.specs.ThinNeed.{IsThinVerdict, thin_need}
+use Rattle.pd_spells.specs.ThinNeed.{thin_need}
 use Rattle.pd_texts.specs.declared.fault.TextFault.{TextFault}
 use Rattle.pd_restoring.specs.declared.fault.RestoreFault.{RestoreFault}
 use Rattle.pd_restoring.specs.declared.fault.RestoreFault.TheVariants as r
-use Rattle.pd_restoring.specs.Restored.{AnswersFault, IsAccepted, IsRestored}
+use Rattle.pd_restoring.specs.Restored.{AnswersFault, IsRestored}
 use Rattle.pd_restore.specs.Made.{AnswersMade, Ending, IsDone, IsMadeOf, MakesPool, done, failed, lacking, short}
 
 abbrev Image : Type 0
 Image = List (List ℕ)
 
--- a restore of a pool
+-- a restore of a pool, which is one of its shape
 abbrev Restores : Result (Unit {0}) RestoreFault → SourceState → SourceState → DeviceState → DeviceState → Type 0
-Restores result from to old new = IsRestored IsLawfulPool IsThinVerdict is_pool_early laid_pool result from to old new
+Restores result from to old new = IsRestored IsLawfulShape IsPoolTextVerdict is_pool_text_early laid_shape result from to old new
 
 module _ (pool : ThinPool) (from to : SourceState) (old new : DeviceState) (fits : thin_need pool (room_of old.blocks) ≤ room_of old.blocks)
-    (only : (room : ℕ) (verdict : Verdict ThinPool) → thin_need pool room ≤ room → IfSome from.left (λ text. IsThinVerdict text room verdict) → verdict ≡ accepted pool) where
+    (only : (room : ℕ) (verdict : Verdict ThinShape) → thin_need pool room ≤ room → IfSome from.left (λ text. IsPoolTextVerdict text room verdict) → verdict ≡ accepted (shape_of pool)) where
   abbrev room : ℕ
   room = room_of old.blocks
 
-  verdict_is : (result : Result (Unit {0}) RestoreFault) (restored : Restores result from to old new) → restored.verdict ≡ accepted pool
+  verdict_is : (result : Result (Unit {0}) RestoreFault) (restored : Restores result from to old new) → restored.verdict ≡ accepted (shape_of pool)
   verdict_is result restored = only room restored.verdict fits (IfSome_then from.left restored.right (λ text right. right.0))
 
   -- no line is refused, and there is room
@@ -43,16 +44,18 @@ module _ (pool : ThinPool) (from to : SourceState) (old new : DeviceState) (fits
 
   crash_is : (result : Result (Unit {0}) RestoreFault) → Restores result from to old new
       → (image : Image) → HoldsSynced image old → LeavesOnly (IsOldNoneOrMade image (MakesPool pool room image)) old new
+  unfolding laid_pool
   crash_is result restored image synced =
-      weaken (subst (λ (v : Verdict ThinPool). LeavesOnly (IsOldNoneOrMade image (Makes laid_pool room v image)) old new) (verdict_is result restored) (restored.crash image synced))
+      weaken (subst (λ (v : Verdict ThinShape). LeavesOnly (IsOldNoneOrMade image (Makes laid_shape room v image)) old new) (verdict_is result restored) (restored.crash image synced))
       (λ left firsts is chance. ⊎_elim (λ same. inl same) (λ other. inr (⊎_elim (λ none. inl none) (λ laid. inr (fits, laid)) other)) (is chance))
 
   -- the pool is made
-  pub restored_made : Restores (Ok tt) from to old new → IsMadeOf pool done old new
-  restored_made restored = record {
-    answer = (subst (IsAccepted IsLawfulPool) (verdict_is (Ok tt) restored) restored.answer, fits);
+  pub restored_made : IsLawfulPool pool → Restores (Ok tt) from to old new → IsMadeOf pool done old new
+  unfolding laid_pool
+  restored_made lawful restored = record {
+    answer = (lawful, fits);
     crash = crash_is (Ok tt) restored;
-    made = λ _. subst (λ (v : Verdict ThinPool). IfSome old.held (λ image. IfSome new.held (λ now. Makes laid_pool room v image now × HoldsSynced now new))) (verdict_is (Ok tt) restored) restored.made;
+    made = λ _. subst (λ (v : Verdict ThinShape). IfSome old.held (λ image. IfSome new.held (λ now. Makes laid_shape room v image now × HoldsSynced now new))) (verdict_is (Ok tt) restored) restored.made;
     told = restored.told;
     kept = λ none. absurd none;
     untouched = λ small. absurd (omega arith);

@@ -1,12 +1,18 @@
 -- What the first two lines of a pool's text need.
-use Rattle.std.proofs.Common.{◌≡◌, ℕ, zero, suc, ◌+◌, ◌-◌, ◌^◌, ◌≤◌, min, false, [], refl, ◌∙◌, ap, arith, zero-add}
+use Rattle.std.proofs.Common.{◌≡◌, ℕ, zero, suc, ◌+◌, ◌-◌, ◌^◌, ◌≤◌, min, Bool, true, false, if◌then◌else◌, [], ◌∷◌, refl, sym, ◌∙◌, arith, zero-add}
 use Rattle.std.specs.List.{count_by, range_with_len}
 use Rattle.std.proofs.lemmas.List.Sums.{sum_by-cons}
 use Rattle.pd_kinds.specs.Bitmap.{bitmaps_for}
+use Rattle.pd_shapes.specs.PoolText.{pool_need_so_far}
+use Rattle.pd_shapes.specs.SharedNeed.{need_of_shared, shape_need_so_far, used_often}
+use Rattle.pd_spells.specs.ThinText.{Head, first_line, shared_first_line, pool_line}
+use Rattle.pd_texts.specs.declared.reader.TextReader.{TextReader}
+use Rattle.pd_texts.specs.declared.thin_line.ThinLine.{ThinLine}
+use Rattle.pd_texts.specs.declared.thin_state.ThinState.{ThinState}
 use Rattle.pd_spells.specs.ThinNeed.{need_of_devices, overflows_in, thin_need_so_far}
 use Rattle.pd_restore.specs.declared.pool.Pool.{Pool}
-use Rattle.pd_restore.specs.Whole.{begun_lines}
-use Rattle.pd_restore.proofs.ReadingLemmas.{tree_most}
+use Rattle.pd_restore.specs.Whole.{begun_lines, head_of_pool}
+use Rattle.pd_restore.proofs.UnsharedLines.{tree_most}
 
 -- no data block is mapped by them
 none_passes : (from n : ℕ) → count_by (λ d. false) (range_with_len from n) ≡ 0
@@ -17,9 +23,15 @@ no_overflows : (n : ℕ) → overflows_in [] n ≡ 0
 unfolding overflows_in
 no_overflows n = none_passes 0 n
 
-first_need : (p : Pool) (room : ℕ) → thin_need_so_far room (begun_lines p) ≡ need_of_devices [] p.blocks 0 room
-unfolding thin_need_so_far
-first_need p room = ap (λ (over : ℕ). need_of_devices [] p.blocks over room) (no_overflows p.blocks)
+-- the need of the first two lines is the same in either version
+begun_need : (shared : Bool) (head : Head) (room : ℕ)
+    → pool_need_so_far room (pool_line head ∷ (if shared then shared_first_line else first_line) ∷ []) ≡ need_of_devices [] head.data_blocks 0 room
+unfolding thin_need_so_far shape_need_so_far need_of_devices need_of_shared used_often
+begun_need true head room = rw (no_overflows head.data_blocks, no_overflows 0) (omega arith)
+begun_need false head room = rw (no_overflows head.data_blocks) refl
+
+first_need : (text : TextReader ThinState ThinLine) (p : Pool) (room : ℕ) → pool_need_so_far room (begun_lines text p) ≡ need_of_devices [] p.blocks 0 room
+first_need text p room = begun_need text.state.is_shared (head_of_pool p) room
 
 small_need : (blocks room : ℕ) → blocks ≤ 2 ^ 40 → room ≤ 4161600 → need_of_devices [] blocks 0 room ≤ 2 ^ 64 - 1
 unfolding need_of_devices
@@ -30,8 +42,12 @@ unfolding need_of_devices
 some_need blocks room = omega arith
 
 -- they need something, and it is a number of its type
-pub need_exact : (p : Pool) (room need : ℕ) → p.blocks ≤ 2 ^ 40 → room ≤ 4161600 → need ≡ min (need_of_devices [] p.blocks 0 room) (2 ^ 64 - 1) → need ≡ thin_need_so_far room (begun_lines p)
-need_exact p room need small most is = omega (arith, is, first_need p room, small_need p.blocks room small most)
+pub need_exact : (text : TextReader ThinState ThinLine) (p : Pool) (room need : ℕ) → p.blocks ≤ 2 ^ 40 → room ≤ 4161600 → need ≡ min (need_of_devices [] p.blocks 0 room) (2 ^ 64 - 1)
+    → need ≡ pool_need_so_far room (begun_lines text p)
+need_exact text p room need small most is = sym (first_need text p room ∙ fits)
+  where
+    fits : need_of_devices [] p.blocks 0 room ≡ need
+    fits = omega (arith, is, small_need p.blocks room small most)
 
 pub need_some : (p : Pool) (room need : ℕ) → need ≡ min (need_of_devices [] p.blocks 0 room) (2 ^ 64 - 1) → 1 ≤ need
 need_some p room need is = omega (arith, is, some_need p.blocks room)

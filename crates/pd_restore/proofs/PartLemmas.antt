@@ -33,7 +33,7 @@ use Rattle.pd_kinds.specs.Value.{details_code}
 use Rattle.pd_node.specs.Items.{entries_of}
 use Rattle.pd_count.specs.Counted.{Counted, count_of}
 use Rattle.pd_devices.specs.declared.devices.Devices.{Devices}
-use Rattle.pd_restore.specs.Written.{HasDevices, pool_behind}
+use Rattle.pd_restore.specs.Written.{HasDevices, shape_behind}
 use Rattle.pd_restore.proofs.OrderLemmas.{length-roots, length-details, roots_number, details_number}
 
 -- all blocks but the first
@@ -41,12 +41,12 @@ abbrev behind_first : List (List ℕ) → List (List ℕ)
 behind_first [] = []
 behind_first (block ∷ blocks) = blocks
 
-behind_is : (m : ThinPool) (room : ℕ) → pool_behind m room ≡ behind_first (pool_blocks m room)
+behind_is : (m : ThinPool) (room : ℕ) → shape_behind (shape_of m) room ≡ behind_first (pool_blocks m room)
 unfolding laid_blocks laid_pool laid_shape
 behind_is m room = ap behind_first (pool_written m room)
 
 -- how many blocks a data map has
-length-data_map : (counts : ℕ → ℕ) (n place : ℕ) → length (data_map_blocks counts n place) ≡ data_map_need counts n
+pub length-data_map : (counts : ℕ → ℕ) (n place : ℕ) → length (data_map_blocks counts n place) ≡ data_map_need counts n
 unfolding data_map_blocks data_map_need bitmap_blocks index_items
 length-data_map counts n place =
     let bitmaps = bitmap_blocks counts n place in
@@ -92,7 +92,7 @@ have_room m room lawful =
     }
 
 -- the blocks behind the superblock, part behind part
-behind_parts : (m : ThinPool) (room : ℕ) → let w = shape_of m in pool_behind m room ≡ device_trees 1 m.devices ++ (tree_blocks 8 (tops_at w) (device_roots 1 m.devices)
+behind_parts : (m : ThinPool) (room : ℕ) → let w = shape_of m in shape_behind (shape_of m) room ≡ device_trees 1 m.devices ++ (tree_blocks 8 (tops_at w) (device_roots 1 m.devices)
     ++ (tree_blocks 24 (details_at w) (device_details m.devices) ++ (bitmaps_from (data_counts w) m.data_blocks (bitmaps_at w) ++ (tree_blocks 16 (laid.index_at w) (data_index w)
     ++ (tree_blocks 4 (laid.overflow_at w) (data_overflow w)
     ++ meta_map_from (meta_counts 8 room (meta_map_at w) (pool_named w)) (meta_overflow room (pool_named w)) room (meta_map_at w))))))
@@ -127,17 +127,17 @@ regroup a b c d e f g = ap (λ (rest : List (List ℕ)). a ++ (b ++ (c ++ rest))
 pub behind_written : {start a b c d e : Stand} (m : ThinPool) (room : ℕ) → AreAt m a.place b.place c.place d.place → meta_map_at (shape_of m) ≤ 2 ^ 64
     → Wrote (device_trees 1 m.devices) start a → Wrote (tree_blocks 8 a.place (device_roots 1 m.devices)) a b → Wrote (tree_blocks 24 b.place (device_details m.devices)) b c
     → Wrote (data_map_blocks (data_counts (shape_of m)) m.data_blocks c.place) c d → Wrote (meta_map_blocks (ones_below (d.place + need_meta_map room)) room d.place) d e
-    → Wrote (pool_behind m room) start e
+    → Wrote (shape_behind (shape_of m) room) start e
 behind_written {start} {a} {b} {c} {d} {e} m room at fits w0 w1 w2 w3 w4 =
     subst (λ (blocks : List (List ℕ)). Wrote blocks start e) same (wrote_then w0 (wrote_then w1 (wrote_then w2 (wrote_then w3 w4))))
   where
     same : device_trees 1 m.devices ++ (tree_blocks 8 a.place (device_roots 1 m.devices) ++ (tree_blocks 24 b.place (device_details m.devices)
-        ++ (data_map_blocks (data_counts (shape_of m)) m.data_blocks c.place ++ meta_map_blocks (ones_below (d.place + need_meta_map room)) room d.place))) ≡ pool_behind m room
+        ++ (data_map_blocks (data_counts (shape_of m)) m.data_blocks c.place ++ meta_map_blocks (ones_below (d.place + need_meta_map room)) room d.place))) ≡ shape_behind (shape_of m) room
     same =
         let places = places_are m in
         let once = pool_named_once m fits in
         let w = shape_of m in
-        let is : pool_behind m room ≡ device_trees 1 m.devices ++ (tree_blocks 8 (tops_at w) (device_roots 1 m.devices) ++ (tree_blocks 24 (details_at w) (device_details m.devices)
+        let is : shape_behind (shape_of m) room ≡ device_trees 1 m.devices ++ (tree_blocks 8 (tops_at w) (device_roots 1 m.devices) ++ (tree_blocks 24 (details_at w) (device_details m.devices)
         ++ (bitmaps_from (data_counts w) m.data_blocks (bitmaps_at w) ++ (tree_blocks 16 (laid.index_at w) (data_index w) ++ (tree_blocks 4 (laid.overflow_at w) (data_overflow w)
         ++ meta_map_from (meta_counts 8 room (meta_map_at w) (pool_named w)) (meta_overflow room (pool_named w)) room (meta_map_at w)))))) = behind_parts m room in
         rw (is, at.tops, at.details, at.bitmaps, at.meta_map, data_map_same m, meta_map_same m room once) (regroup (device_trees 1 m.devices) (tree_blocks 8 (tops_at w) (device_roots 1 m.devices)) (tree_blocks 24 (details_at w) (device_details m.devices))

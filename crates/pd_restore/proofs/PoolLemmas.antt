@@ -1,38 +1,57 @@
 -- A pool from its own line on.
-use Rattle.std.proofs.Common.{◌≡◌, ℕ, ◌≤◌, refl, ap, arith}
-use Rattle.pd_kinds.specs.Meaning.{ThinPool}
+use Rattle.std.proofs.Common.{◌≡◌, ℕ, Bool, true, false, List, [], ◌∷◌, ◌++◌, refl, sym, ◌∙◌, ap}
 use Rattle.pd_kinds.specs.ThinSuper.{thin_super_block}
-use Rattle.pd_spells.specs.Lawful.{IsLawfulPool}
-use Rattle.pd_spells.specs.ThinNeed.{thin_need}
-use Rattle.pd_spells.specs.ThinText.{Head, head_of}
-use Rattle.pd_laid.specs.Laid.{laid_number, written_from}
-use Rattle.pd_laid.specs.LaidThin.{laid_pool, laid_shape, pool_fields}
-use Rattle.pd_laid.specs.Shape.{shape_of}
-use Rattle.pd_laid_once.proofs.Need.{laid_need}
+use Rattle.pd_grammar.specs.Texts.{reading, text_of_lines, whole}
+use Rattle.pd_grammar.proofs.GrammarLemmas.{is_reader}
+use Rattle.pd_spells.specs.ThinText.{Head, Line, is_shared, pool_format, pool_line}
+use Rattle.pd_spells.proofs.ThinRead.{FitsLine, PlacedInPool, pool_grammar}
+use Rattle.pd_laid.specs.Laid.{written_from}
+use Rattle.pd_laid.specs.LaidThin.{laid_shape, pool_fields}
+use Rattle.pd_laid.specs.Shape.{ThinShape, shape_of}
+use Rattle.pd_shapes.specs.PoolText.{MeansAs, MeansPoolShape}
+use Rattle.pd_shapes.specs.SharedText.{head_of_shape}
+use Rattle.pd_texts.specs.Reader.{in_order}
+use Rattle.pd_texts.proofs.LawLemmas as any
 use Rattle.pd_restore.specs.declared.parts.Parts.{Parts}
 use Rattle.pd_restore.specs.declared.pool.Pool.{Pool}
 use Rattle.pd_restore.specs.Parts.{AreParts}
 use Rattle.pd_restore.specs.Whole.{head_of_pool, fields_of}
-use Rattle.pd_restore.specs.Written.{pool_behind}
+use Rattle.pd_restore.specs.Written.{shape_behind}
 
--- the superblock's fields are those of the laid pool
-pub fields_are : (p : Pool) (parts : Parts) (room : ℕ) (m : ThinPool) → head_of_pool p ≡ head_of m → AreParts m room parts → fields_of p parts room ≡ pool_fields (shape_of m) room
-unfolding pool_fields shape_of
-fields_are p parts room m head are =
-    let uuid : p.uuid ≡ m.uuid = ap (λ (h : Head). h.uuid) head in
-    let time : p.time ≡ m.time = ap (λ (h : Head). h.time) head in
-    let transaction : p.transaction ≡ m.transaction = ap (λ (h : Head). h.transaction) head in
-    let size : p.block_size ≡ m.block_size = ap (λ (h : Head). h.block_size) head in
+-- the superblock's fields are those of the laid shape
+pub fields_are : (p : Pool) (parts : Parts) (room : ℕ) (w : ThinShape) → head_of_pool p ≡ head_of_shape w → AreParts w room parts → fields_of p parts room ≡ pool_fields w room
+unfolding pool_fields
+fields_are p parts room w head are =
+    let uuid : p.uuid ≡ w.uuid = ap (λ (h : Head). h.uuid) head in
+    let time : p.time ≡ w.time = ap (λ (h : Head). h.time) head in
+    let transaction : p.transaction ≡ w.transaction = ap (λ (h : Head). h.transaction) head in
+    let size : p.block_size ≡ w.block_size = ap (λ (h : Head). h.block_size) head in
     rw (uuid, time, transaction, size, are.mapping_root, are.details_root, are.data_map, are.meta_map) refl
 
--- a pool that is written but for its superblock is laid so
-pub laid_fits : (m : ThinPool) (room : ℕ) → IsLawfulPool m → thin_need m room ≤ room → room ≤ 4161600 → laid_number (laid_pool m room) ≤ room
-laid_fits m room lawful fits most = omega (arith, laid_need m lawful room (omega arith))
+-- a shape that is written but for its superblock is laid so
+pub super_is : (w : ThinShape) (room : ℕ) → (laid_shape w room).super_block ≡ thin_super_block (pool_fields w room)
+unfolding laid_shape
+super_is w room = refl
 
-pub super_is : (m : ThinPool) (room : ℕ) → (laid_pool m room).super_block ≡ thin_super_block (pool_fields (shape_of m) room)
-unfolding laid_pool laid_shape
-super_is m room = refl
+pub behind_is : (w : ThinShape) (room : ℕ) → written_from 1 (laid_shape w room).blocks ≡ shape_behind w room
+unfolding laid_shape
+behind_is w room = refl
 
-pub behind_is : (m : ThinPool) (room : ℕ) → written_from 1 (laid_pool m room).blocks ≡ pool_behind m room
-unfolding laid_pool laid_shape
-behind_is m room = refl
+-- a text of which no line is refused is that of its lines
+pub whole_bytes : (text : List ℕ) (lines : List Line) → reading pool_format text ≡ whole lines → text ≡ text_of_lines pool_format lines
+whole_bytes = any.whole_bytes pool_format (is_reader pool_format FitsLine PlacedInPool pool_grammar)
+
+-- the pool line of lines that mean a shape
+abbrev head_in : List Line → Head → Head
+head_in (line ∷ pool_line q ∷ lines) other = q
+head_in _ other = other
+
+head_as : (shared : Bool) (lines : List Line) (w : ThinShape) (other : Head) → MeansAs shared lines w → head_in lines other ≡ head_of_shape w
+unfolding shape_of
+head_as true lines w other means = ap (λ (ls : List Line). head_in ls other) means.lines_are
+head_as false lines w other means = ap (λ (ls : List Line). head_in ls other) means.means.lines_are ∙ ap head_of_shape (sym means.shape_is)
+
+pub head_is : (first : Line) (p : Head) (later lines : List Line) (w : ThinShape) → MeansPoolShape (in_order lines []) w
+    → ((others : List Line) → in_order lines others ≡ in_order (pool_line p ∷ first ∷ []) (later ++ others)) → p ≡ head_of_shape w
+head_is first p later lines w means front =
+    ap (λ (ls : List Line). head_in ls p) (sym (front [])) ∙ head_as (is_shared (in_order lines [])) (in_order lines []) w p means

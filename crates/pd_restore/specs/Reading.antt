@@ -1,79 +1,107 @@
--- A text that is read and restored, line by line; of lines the newest comes first.
-use Rattle.std.specs.Prelude.{◌≡◌, ℕ, ◌+◌, ◌<◌, ◌≤◌, Bool, true, false, List, ◌∷◌, ◌++◌, length, Option}
+-- A pool's text of either version that is read and restored, line by line; of lines the newest comes first.
+use Rattle.std.specs.Prelude.{◌≡◌, ℕ, ◌<◌, ◌≤◌, Bool, true, false, List, [], ◌∷◌, ◌++◌, length, Option}
 use Rattle.pd_kinds.specs.declared.limits.TheConstants.{MAX_META_BLOCKS}
-use Rattle.pd_draft.specs.Placed.{Stand}
+use Rattle.pd_draft.specs.Placed.{Stand, Wrote}
 use Rattle.pd_grammar.specs.Texts.{has_ended}
-use Rattle.pd_spells.specs.ThinText.{Line, end_line, thin}
-use Rattle.pd_spells.specs.ThinNeed.{thin_need_so_far}
+use Rattle.pd_laid.specs.Laid.{laid_number}
+use Rattle.pd_laid.specs.LaidThin.{laid_shape}
+use Rattle.pd_laid.specs.Shape.{ThinShape}
+use Rattle.pd_shapes.specs.PoolText.{IsLawfulShape, MeansPoolShape, pool_need_so_far}
+use Rattle.pd_spells.specs.ThinText.{Line, end_line, pool_format}
 use Rattle.pd_texts.specs.declared.reader.TextReader.{TextReader}
 use Rattle.pd_texts.specs.declared.thin_line.ThinLine.{ThinLine}
-use Rattle.pd_texts.specs.declared.first_thin_state.FirstThinState.{FirstThinState}
-use Rattle.pd_texts.specs.Reader.{in_order, IsReadAfter, AreReadSoFar, ReadsOn, LeavesOf, IsWhole}
-use Rattle.pd_texts.specs.ThinLine.{line_of}
-use Rattle.pd_texts.specs.FirstThinState.{FirstThinStands}
-use Rattle.pd_devices.specs.declared.devices.Devices.{Devices}
-use Rattle.pd_devices.specs.Gathered.{HasGathered, Gathered}
+use Rattle.pd_texts.specs.declared.thin_state.ThinState.{ThinState}
+use Rattle.pd_texts.specs.Reader.{in_order, AreReadSoFar, ReadsOn, LeavesOf, IsWhole}
+use Rattle.pd_texts.specs.ThinState.{ThinStands}
 use Rattle.pd_restoring.specs.declared.fault.RestoreFault.{RestoreFault}
 use Rattle.pd_restoring.specs.declared.fault.RestoreFault.TheVariants as r
 use Rattle.pd_restoring.specs.Reading.{NoneAbove}
+use Rattle.pd_restore.specs.declared.parts.Parts.{Parts}
+use Rattle.pd_restore.specs.Parts.{AreParts}
+use Rattle.pd_restore.specs.Written.{shape_behind}
 
--- these lines were read and restored, and have room
-pub record Reading (before : List Line) (room : ℕ) (text : TextReader FirstThinState ThinLine) (s : Devices) (start now : Stand) : Type 0 where
-  pub reads : ReadsOn thin FirstThinStands before text
-  pub later : 2 ≤ length before
-  pub gathered : HasGathered before s start now
-  pub need : thin_need_so_far room before ≤ room
-  pub above : NoneAbove thin_need_so_far room before
+-- What it is that of some lines all was gathered, where there are so many metadata blocks, and what is over of them is
+-- written from one stand to another
+abbrev pub Gathers : Type 0 → Type 1
+Gathers G = ℕ → List Line → G → Stand → Stand → Type 0
+
+-- these lines were gathered, and have room on the device
+pub record HasRoom {G : Type 0} (Has : Gathers G) (before : List Line) (room : ℕ) (s : G) (start now : Stand) : Type 0 where
+  pub gathered : Has room before s start now
+  pub lines : AreReadSoFar pool_format before
+  pub need : pool_need_so_far room before ≤ room
   pub most : room ≤ MAX_META_BLOCKS
   pub there : room ≤ now.device.blocks
 
+-- these lines were read and gathered, and have room
+pub record Reading {G : Type 0} (Has : Gathers G) (before : List Line) (room : ℕ) (text : TextReader ThinState ThinLine) (s : G) (start now : Stand) : Type 0 where
+  pub reads : ReadsOn pool_format ThinStands before text
+  pub later : 2 ≤ length before
+  pub so_far : HasRoom Has before room s start now
+  pub above : NoneAbove pool_need_so_far room before
+
 -- some lines were
-pub record CanRead (room : ℕ) (text : TextReader FirstThinState ThinLine) (s : Devices) (now : Stand) : Type 0 where
+pub record CanRead {G : Type 0} (Has : Gathers G) (room : ℕ) (text : TextReader ThinState ThinLine) (s : G) (now : Stand) : Type 0 where
   pub before : List Line
   pub start : Stand
-  pub so_far : Reading before room text s start now
+  pub so_far : Reading Has before room text s start now
+
+-- this line was read after these ones
+pub record Follows {G : Type 0} (Has : Gathers G) (before : List Line) (room : ℕ) (s : G) (line : Line) (start now : Stand) : Type 0 where
+  pub so_far : HasRoom Has before room s start now
+  pub later : 2 ≤ length before
+  pub lines : AreReadSoFar pool_format (line ∷ before)
+
+-- a line may be taken
+pub record CanTake {G : Type 0} (Has : Gathers G) (room : ℕ) (s : G) (line : Line) (now : Stand) : Type 0 where
+  pub before : List Line
+  pub start : Stand
+  pub follows : Follows Has before room s line start now
 
 -- these are all lines, with the last one, and they have room
-pub record HasReadAll (lines : List Line) (room : ℕ) (s : Devices) (start now : Stand) : Type 0 where
-  pub reads : AreReadSoFar thin lines
-  pub ended : has_ended thin lines ≡ true
-  pub gathered : HasGathered lines s start now
-  pub need : thin_need_so_far room lines ≤ room
-  pub above : NoneAbove thin_need_so_far room lines
+pub record HasReadAll {G : Type 0} (Has : Gathers G) (lines : List Line) (room : ℕ) (s : G) (start now : Stand) : Type 0 where
+  pub all : HasRoom Has lines room s start now
+  pub ended : has_ended pool_format lines ≡ true
+  pub above : NoneAbove pool_need_so_far room lines
 
--- a line may be put after what was gathered
-pub record CanPut (s : Devices) (line : ThinLine) (now : Stand) : Type 0 where
-  pub so_far : Gathered s now
-  pub later : 2 ≤ length so_far.before
-  pub after : IsReadAfter thin so_far.before (line_of line)
+-- all lines were gathered
+pub record CanWrite {G : Type 0} (Has : Gathers G) (room : ℕ) (s : G) (now : Stand) : Type 0 where
+  pub lines : List Line
+  pub start : Stand
+  pub all : HasReadAll Has lines room s start now
+
+-- the lines mean a shape, which has room and is written but for its superblock, and these are the parts that this one names
+pub record WritesParts (lines : List Line) (room : ℕ) (start now : Stand) (parts : Parts) : Type 0 where
+  pub shape : ThinShape
+  pub means : MeansPoolShape (in_order lines []) shape
+  pub lawful : IsLawfulShape shape
+  pub fits : laid_number (laid_shape shape room) ≤ room
+  pub wrote : Wrote (shape_behind shape room) start now
+  pub named : AreParts shape room parts
 
 -- one step after these lines: a line more, or the end
-abbrev pub StepsDevices : Bool → List Line → ℕ → TextReader FirstThinState ThinLine → Option (List ℕ) → TextReader FirstThinState ThinLine → Option (List ℕ) → Devices → Stand → Stand → Type 0
-StepsDevices true before room old was text left s start now = (line : Line) × (Reading (line ∷ before) room text s start now
-    × ((t : List ℕ) → LeavesOf thin t before old was → LeavesOf thin t (line ∷ before) text left))
-StepsDevices false before room old was text left s start now = HasReadAll (end_line ∷ before) room s start now
-    × ((t : List ℕ) → LeavesOf thin t before old was → IsWhole thin t (end_line ∷ before) left)
+abbrev pub Steps : {G : Type 0} → Gathers G → Bool → List Line → ℕ → TextReader ThinState ThinLine → Option (List ℕ) → TextReader ThinState ThinLine → Option (List ℕ) → G → Stand → Stand → Type 0
+Steps Has true before room old was text left s start now = (line : Line) × (Reading Has (line ∷ before) room text s start now
+    × ((t : List ℕ) → LeavesOf pool_format t before old was → LeavesOf pool_format t (line ∷ before) text left))
+Steps Has false before room old was text left s start now = HasReadAll Has (end_line ∷ before) room s start now
+    × ((t : List ℕ) → LeavesOf pool_format t before old was → IsWhole pool_format t (end_line ∷ before) left)
 
 -- after these lines all others were read
-pub record EndsDevices (before : List Line) (room : ℕ) (old : TextReader FirstThinState ThinLine) (was left : Option (List ℕ)) (s : Devices) (start now : Stand) : Type 0 where
+pub record EndsAll {G : Type 0} (Has : Gathers G) (before : List Line) (room : ℕ) (old : TextReader ThinState ThinLine) (was left : Option (List ℕ)) (s : G) (start now : Stand) : Type 0 where
   pub lines : List Line
   pub later : List Line
   pub front : (others : List Line) → in_order lines others ≡ in_order before (later ++ others)
-  pub all : HasReadAll lines room s start now
-  pub told : (t : List ℕ) → LeavesOf thin t before old was → IsWhole thin t lines left
+  pub all : HasReadAll Has lines room s start now
+  pub told : (t : List ℕ) → LeavesOf pool_format t before old was → IsWhole pool_format t lines left
 
 -- from the lines before some others were read
-pub record Went (before : List Line) (room : ℕ) (old : TextReader FirstThinState ThinLine) (was : Option (List ℕ)) (text : TextReader FirstThinState ThinLine) (left : Option (List ℕ)) (s : Devices)
-    (start now : Stand) : Type 0 where
+pub record Went {G : Type 0} (Has : Gathers G) (before : List Line) (room : ℕ) (old : TextReader ThinState ThinLine) (was : Option (List ℕ)) (text : TextReader ThinState ThinLine)
+    (left : Option (List ℕ)) (s : G) (start now : Stand) : Type 0 where
   pub lines : List Line
   pub later : List Line
   pub front : (others : List Line) → in_order lines others ≡ in_order before (later ++ others)
-  pub so_far : Reading lines room text s start now
-  pub told : (t : List ℕ) → LeavesOf thin t before old was → LeavesOf thin t lines text left
-
--- how far a text has come: each line adds a mapping or a device
-abbrev pub progress : Devices → ℕ
-progress s = s.counts.total + length s.details.items
+  pub so_far : Reading Has lines room text s start now
+  pub told : (t : List ℕ) → LeavesOf pool_format t before old was → LeavesOf pool_format t lines text left
 
 -- a fault that says that so much is needed, and there is less
 abbrev pub IsShort : ℕ → ℕ → RestoreFault → Type 0
@@ -98,3 +126,11 @@ IsNoRoom r.Memory = ⊥
 IsNoRoom r.Source = ⊥
 IsNoRoom r.Device = ⊥
 IsNoRoom (r.Text fault) = ⊥
+
+-- a line is refused, or there is no room
+abbrev pub IsOfText : RestoreFault → Type 0
+IsOfText (r.NoRoom need blocks) = Unit {0}
+IsOfText r.Memory = ⊥
+IsOfText r.Source = ⊥
+IsOfText r.Device = ⊥
+IsOfText (r.Text fault) = Unit {0}

@@ -1,23 +1,26 @@
 -- A pool from its own line on.
-use Rattle.std.specs.Prelude.{ℕ, List, [], ◌∷◌}
+use Rattle.std.specs.Prelude.{◌≡◌, ℕ, ◌≤◌, Bool, List, [], ◌∷◌}
+use Rattle.pd_kinds.specs.declared.limits.TheConstants.{MAX_META_BLOCKS}
 use Rattle.pd_kinds.specs.ThinSuper.{ThinFields}
 use Rattle.pd_draft.specs.Placed.{Stand}
-use Rattle.pd_spells.specs.ThinText.{Line, Head, first_line, pool_line}
+use Rattle.pd_spells.specs.ThinText.{Line, Head, pool_line, pool_format}
+use Rattle.pd_shapes.specs.PoolText.{pool_need_so_far}
 use Rattle.pd_texts.specs.declared.reader.TextReader.{TextReader}
 use Rattle.pd_texts.specs.declared.thin_line.ThinLine.{ThinLine}
-use Rattle.pd_texts.specs.declared.first_thin_state.FirstThinState.{FirstThinState}
-use Rattle.pd_devices.specs.declared.devices.Devices.{Devices}
+use Rattle.pd_texts.specs.declared.thin_state.ThinState.{ThinState}
+use Rattle.pd_texts.specs.Reader.{ReadsOn}
+use Rattle.pd_texts.specs.ThinState.{ThinStands, first_of}
 use Rattle.pd_restore.specs.declared.parts.Parts.{Parts}
 use Rattle.pd_restore.specs.declared.pool.Pool.{Pool}
-use Rattle.pd_restore.specs.Reading.{Reading}
+use Rattle.pd_restore.specs.Reading.{Gathers, Reading}
 
 -- the words of the pool line
 abbrev pub head_of_pool : Pool → Head
 head_of_pool p = record { uuid = p.uuid; time = p.time; transaction = p.transaction; block_size = p.block_size; data_blocks = p.blocks }
 
 -- the first two lines, the newest first
-abbrev pub begun_lines : Pool → List Line
-begun_lines p = pool_line (head_of_pool p) ∷ first_line ∷ []
+abbrev pub begun_lines : TextReader ThinState ThinLine → Pool → List Line
+begun_lines text p = pool_line (head_of_pool p) ∷ first_of text.state ∷ []
 
 -- the fields of the superblock
 abbrev pub fields_of : Pool → Parts → ℕ → ThinFields
@@ -41,6 +44,15 @@ fields_of p parts room = record {
 }
 
 -- the first two lines were read, and nothing is written
-pub record CanBegin (p : Pool) (room : ℕ) (text : TextReader FirstThinState ThinLine) (s : Devices) (now : Stand) : Type 0 where
+pub record CanBegin {G : Type 0} (Has : Gathers G) (p : Pool) (room : ℕ) (text : TextReader ThinState ThinLine) (s : G) (now : Stand) : Type 0 where
   pub start : Stand
-  pub reads : Reading (begun_lines p) room text s start now
+  pub reads : Reading Has (begun_lines text p) room text s start now
+
+-- the first two lines, of a text of this version, were read, and have room on a device of which nothing is written
+pub record HasBegun (shared : Bool) (text : TextReader ThinState ThinLine) (p : Pool) (room : ℕ) (now : Stand) : Type 0 where
+  pub version : text.state.is_shared ≡ shared
+  pub reads : ReadsOn pool_format ThinStands (begun_lines text p) text
+  pub place : now.place ≡ 1
+  pub need : pool_need_so_far room (begun_lines text p) ≤ room
+  pub most : room ≤ MAX_META_BLOCKS
+  pub there : room ≤ now.device.blocks

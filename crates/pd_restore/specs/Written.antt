@@ -13,7 +13,7 @@ use Rattle.pd_spells.specs.Lawful.{IsLawfulPool}
 use Rattle.pd_spells.specs.ThinNeed.{thin_need}
 use Rattle.pd_laid.specs.Laid.{written_from}
 use Rattle.pd_laid.specs.LaidThin.{data_counts, pool_parts, meta_map_blocks}
-use Rattle.pd_laid.specs.Shape.{shape_of}
+use Rattle.pd_laid.specs.Shape.{ThinShape, shape_of}
 use Rattle.pd_laid_once.specs.Written.{device_trees, device_roots, device_details}
 use Rattle.pd_devices.specs.declared.devices.Devices.{Devices}
 
@@ -31,7 +31,7 @@ pub record HasDevices (m : ThinPool) (s : Devices) (start now : Stand) : Type 0 
   pub size : s.counts.counts.size ≡ m.data_blocks
 
 -- what stands behind them has room on the device
-pub record CanWrite (s : Devices) (room : ℕ) (now : Stand) : Type 0 where
+pub record CanWriteParts (s : Devices) (room : ℕ) (now : Stand) : Type 0 where
   pub pool : ThinPool
   pub start : Stand
   pub devices : HasDevices pool s start now
@@ -40,5 +40,5 @@ pub record CanWrite (s : Devices) (room : ℕ) (now : Stand) : Type 0 where
   pub there : room ≤ now.device.blocks
 
 -- the blocks of a pool from block 1 on
-abbrev pub pool_behind : ThinPool → ℕ → List (List ℕ)
-pool_behind m room = written_from 1 (pool_parts (shape_of m) ++ meta_map_blocks (shape_of m) room)
+abbrev pub shape_behind : ThinShape → ℕ → List (List ℕ)
+shape_behind w room = written_from 1 (pool_parts w ++ meta_map_blocks w room)

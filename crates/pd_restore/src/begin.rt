@@ -2,11 +2,11 @@
 
 ghost use Rattle.std.specs.Prelude.{◌≡◌, ◌≤◌, ◌^◌, ℕ, List, [], IfOk, MatchResult};
 ghost use Rattle.pd_image.specs.Source.{KeepsSource};
-ghost use Rattle.pd_spells.specs.ThinText.{pool_line, thin};
+ghost use Rattle.pd_spells.specs.ThinText.{pool_line, pool_format};
 ghost use Rattle.pd_texts.specs.Reader.{LeavesOf, ReadsOn};
 ghost use Rattle.pd_texts.specs.ThinLine.{thin_meant};
-ghost use Rattle.pd_texts.specs.FirstThinState.{FirstThinStands};
-ghost use Rattle.pd_spells.specs.ThinNeed.{thin_need_so_far};
+ghost use Rattle.pd_texts.specs.ThinState.{ThinStands};
+ghost use Rattle.pd_shapes.specs.PoolText.{pool_need_so_far};
 ghost use Rattle.pd_restoring.specs.Begin.{BeginsOf, CountsBegin};
 ghost use Rattle.pd_restore.specs.Begin.{IsOfPool};
 ghost use Rattle.pd_restore.specs.Whole.{begun_lines, head_of_pool};
@@ -14,26 +14,26 @@ ghost use Rattle.pd_restore.specs.Whole.{begun_lines, head_of_pool};
 use crate::pool::Pool;
 use pd_image::Source;
 use pd_restoring::{RestoreFault, of_read};
-use pd_texts::{FirstThinText, ThinLine};
+use pd_texts::{ThinLine, ThinText};
 
 /// A text whose first two lines were read.
 #[derive(Drop)]
 pub(crate) struct Begun {
-    pub(crate) text: FirstThinText,
+    pub(crate) text: ThinText,
     pub(crate) pool: Pool,
 }
 
 /// Reads the first line and the pool line.
 pub(crate) fn read_pool<S: Source>(
-    text: &mut FirstThinText,
+    text: &mut ThinText,
     source: &mut S,
 ) -> Result<Pool, RestoreFault>
     requires attached { (S.state source.old).access ≡ 1 }
-    requires start { ReadsOn thin FirstThinStands [] text.old }
-    ensures reads { IfOk result (λ pool. ReadsOn thin FirstThinStands (begun_lines pool) text.new) }
+    requires start { ReadsOn pool_format ThinStands [] text.old }
+    ensures reads { IfOk result (λ pool. ReadsOn pool_format ThinStands (begun_lines text.new pool) text.new) }
     ensures small { IfOk result (λ pool. pool.blocks ≤ 2 ^ 40) }
-    ensures told { (t : List ℕ) → LeavesOf thin t [] text.old (S.state source.old).left
-        → MatchResult result (λ pool. LeavesOf thin t (begun_lines pool) text.new (S.state source.new).left) (λ fault. (room : ℕ) → BeginsOf thin thin_need_so_far room t fault) }
+    ensures told { (t : List ℕ) → LeavesOf pool_format t [] text.old (S.state source.old).left
+        → MatchResult result (λ pool. LeavesOf pool_format t (begun_lines text.new pool) text.new (S.state source.new).left) (λ fault. (room : ℕ) → BeginsOf pool_format pool_need_so_far room t fault) }
     ensures source { KeepsSource (S.state source.old) (S.state source.new) }
     ensures faults { CountsBegin result (S.state source.old).faults (S.state source.new).faults }
 {

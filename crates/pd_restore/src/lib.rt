@@ -1,7 +1,8 @@
-//! A pool that is restored: from its text, as a stream, or as it is held in memory.
+//! A pool that is restored: from its text of either version, as a stream, or as it is held in memory.
 #![tactic(auto)]
 
 mod begin;
+mod gathering;
 mod lines;
 mod made;
 mod overflowing;
@@ -9,7 +10,11 @@ mod parts;
 mod pool;
 mod saved_lines;
 mod saved_need;
+mod shape_parts;
+mod shared;
+mod shared_lines;
 mod thin;
+mod unshared;
 
 pub use made::{MadeFault, restore_made};
 pub use pd_devices::need_thin;

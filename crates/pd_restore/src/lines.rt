@@ -1,174 +1,146 @@
 //! The lines of a pool's text, restored as they are read.
 
-ghost use Rattle.std.specs.Prelude.{◌≡◌, ◌-◌, ◌<◌, ◌≤◌, ◌^◌, ℕ, List, ◌∷◌, length, min, true, false, IfOk, IfErr, OnOk, MatchResult};
+ghost use Rattle.std.specs.Prelude.{◌≡◌, ◌-◌, ◌<◌, ◌≤◌, ◌^◌, ℕ, List, ◌∷◌, length, true, false, IfOk, IfErr, OnOk, MatchResult};
 ghost use Rattle.pd_image.specs.Device.{IsWritable};
 ghost use Rattle.pd_image.specs.Source.{KeepsSource};
 ghost use Rattle.pd_draft.specs.Closed.{IsClosed, StaysClosed};
 ghost use Rattle.pd_draft.specs.Placed.{Stand};
 ghost use Rattle.pd_draft.specs.Stand.{stand};
-ghost use Rattle.pd_spells.specs.ThinText.{Line, end_line, thin, unmapped};
-ghost use Rattle.pd_spells.specs.ThinNeed.{thin_need_so_far};
-ghost use Rattle.pd_texts.specs.Reader.{IsReadAfter, LeavesOf};
+ghost use Rattle.pd_lines.specs.Reader.{lines_of};
+ghost use Rattle.pd_spells.specs.ThinText.{Line, end_line, pool_format};
+ghost use Rattle.pd_shapes.specs.PoolText.{pool_need_so_far};
+ghost use Rattle.pd_texts.specs.Reader.{LeavesOf, RefusesNext};
+ghost use Rattle.pd_texts.specs.Faults.{CountsRead};
+ghost use Rattle.pd_texts.specs.declared.reader.TextReader.{TextReader};
+ghost use Rattle.pd_texts.specs.declared.thin_state.ThinState.{ThinState};
 ghost use Rattle.pd_texts.specs.ThinLine.{line_of};
-ghost use Rattle.pd_devices.specs.Gathered.{HasGathered, CanEnd};
-ghost use Rattle.pd_build.specs.Causes.{CountsBuildFault};
-ghost use Rattle.pd_restoring.specs.Restored.{CountsRestore};
-ghost use Rattle.pd_restoring.specs.Reading.{CountsTake, IsOfBuild, IsOfLater, SaysOf};
-ghost use Rattle.pd_restore.specs.Reading.{Reading, CanRead, CanPut, StepsDevices, EndsDevices, progress, IsShort, IsOver, IsNoRoom};
+ghost use Rattle.pd_restoring.specs.Restored.{BlamesOne, CountsRestore};
+ghost use Rattle.pd_restoring.specs.Faults.{read_fault};
+ghost use Rattle.pd_restoring.specs.Reading.{CountsTake, IsOfLater, SaysOf};
+ghost use Rattle.pd_restore.specs.Reading.{Reading, CanRead, CanTake, Follows, Steps, EndsAll, IsOver};
 
-use pd_build::BuildFault;
-use pd_devices::{Devices, Run};
+use crate::gathering::Gathering;
 use pd_draft::Draft;
 use pd_image::{Device, Source};
-use pd_restoring::{RestoreFault, of_build, of_read};
-use pd_texts::{FirstThinText, ThinLine};
+use pd_restoring::RestoreFault;
+use pd_texts::{ReadFault, ThinLine, ThinText};
 
 /// Reads the lines of a text after these ones up to its end, and restores them.
-pub(crate) fn restore_lines<S: Source, D: Device>(
-    text: &mut FirstThinText,
+pub(crate) fn restore_lines<S: Source, D: Device, G: Gathering>(
+    text: &mut ThinText,
     source: &mut S,
     draft: &mut Draft<'_, D>,
-    devices: &mut Devices,
+    gathered: &mut G,
     room: u64,
 ) -> Result<(), RestoreFault>
     requires attached { (S.state source.old).access ≡ 1 }
-    requires reading { CanRead room text.old devices.old (stand draft.old) }
+    requires reading { CanRead G.HasGathered room text.old gathered.old (stand draft.old) }
     requires writable { IsWritable (stand draft.old).device }
     requires closed { IsClosed (stand draft.old).device }
     ensures same_reference { draft.new.dev.ghost_name ≡ draft.old.dev.ghost_name }
-    ensures all { (before : List Line) (start : Stand) → Reading before room text.old devices.old start (stand draft.old)
-        → OnOk result (EndsDevices before room text.old (S.state source.old).left (S.state source.new).left devices.new start (stand draft.new)) }
-    ensures room { (before : List Line) (start : Stand) → Reading before room text.old devices.old start (stand draft.old)
-        → (t : List ℕ) → LeavesOf thin t before text.old (S.state source.old).left → IfErr result (SaysOf thin thin_need_so_far room t) }
+    ensures all { (before : List Line) (start : Stand) → Reading G.HasGathered before room text.old gathered.old start (stand draft.old)
+        → OnOk result (EndsAll G.HasGathered before room text.old (S.state source.old).left (S.state source.new).left gathered.new start (stand draft.new)) }
+    ensures room { (before : List Line) (start : Stand) → Reading G.HasGathered before room text.old gathered.old start (stand draft.old)
+        → (t : List ℕ) → LeavesOf pool_format t before text.old (S.state source.old).left → IfErr result (SaysOf pool_format pool_need_so_far room t) }
     ensures later { IfErr result IsOfLater }
     ensures source { KeepsSource (S.state source.old) (S.state source.new) }
     ensures closed { StaysClosed (stand draft.old).device (stand draft.new).device }
     ensures faults { CountsRestore result (S.state source.old).faults (S.state source.new).faults (stand draft.old).device.faults (stand draft.new).device.faults }
 {
-    'lines: while step(text, source, draft, devices, room)? {}
+    'lines: while step(text, source, draft, gathered, room)? {}
     Ok(())
 }
 
 /// Reads a line and restores it, and answers whether it wasn't the end.
-pub(crate) fn step<S: Source, D: Device>(
-    text: &mut FirstThinText,
+pub(crate) fn step<S: Source, D: Device, G: Gathering>(
+    text: &mut ThinText,
     source: &mut S,
     draft: &mut Draft<'_, D>,
-    devices: &mut Devices,
+    gathered: &mut G,
     room: u64,
 ) -> Result<bool, RestoreFault>
     requires attached { (S.state source.old).access ≡ 1 }
-    requires reading { CanRead room text.old devices.old (stand draft.old) }
+    requires reading { CanRead G.HasGathered room text.old gathered.old (stand draft.old) }
     requires writable { IsWritable (stand draft.old).device }
     requires closed { IsClosed (stand draft.old).device }
     ensures same_reference { draft.new.dev.ghost_name ≡ draft.old.dev.ghost_name }
-    ensures steps { (before : List Line) (start : Stand) → Reading before room text.old devices.old start (stand draft.old)
-        → IfOk result (λ more. StepsDevices more before room text.old (S.state source.old).left text.new (S.state source.new).left devices.new start (stand draft.new)) }
-    ensures room { (before : List Line) (start : Stand) → Reading before room text.old devices.old start (stand draft.old)
-        → (t : List ℕ) → LeavesOf thin t before text.old (S.state source.old).left → IfErr result (SaysOf thin thin_need_so_far room t) }
-    ensures grows { IfOk result (λ more. more ≡ true → progress devices.old < progress devices.new) }
+    ensures steps { (before : List Line) (start : Stand) → Reading G.HasGathered before room text.old gathered.old start (stand draft.old)
+        → IfOk result (λ more. Steps G.HasGathered more before room text.old (S.state source.old).left text.new (S.state source.new).left gathered.new start (stand draft.new)) }
+    ensures room { (before : List Line) (start : Stand) → Reading G.HasGathered before room text.old gathered.old start (stand draft.old)
+        → (t : List ℕ) → LeavesOf pool_format t before text.old (S.state source.old).left → IfErr result (SaysOf pool_format pool_need_so_far room t) }
+    ensures grows { IfOk result (λ more. more ≡ true → lines_of text.old.reader < lines_of text.new.reader) }
     ensures later { IfErr result IsOfLater }
     ensures source { KeepsSource (S.state source.old) (S.state source.new) }
     ensures closed { StaysClosed (stand draft.old).device (stand draft.new).device }
     ensures faults { CountsRestore result (S.state source.old).faults (S.state source.new).faults (stand draft.old).device.faults (stand draft.new).device.faults }
 {
     match text.next(source) {
-        Ok(Some(line)) => take(draft, devices, line, room),
-        Ok(None) => end(draft, devices),
-        Err(fault) => Err(of_read(fault)),
+        Ok(Some(line)) => take(draft, gathered, line, room),
+        Ok(None) => end(draft, gathered, room),
+        Err(fault) => Err(fault_after(gathered, fault, room)),
     }
 }
 
-/// Restores a line, and looks at the room then.
-fn take<D: Device>(
+/// Restores a line, for which there is room.
+fn take<D: Device, G: Gathering>(
     draft: &mut Draft<'_, D>,
-    devices: &mut Devices,
+    gathered: &mut G,
     line: ThinLine,
     room: u64,
 ) -> Result<bool, RestoreFault>
-    requires put { CanPut devices.old line (stand draft.old) }
+    requires follows { CanTake G.HasGathered room gathered.old (line_of line) (stand draft.old) }
     requires writable { IsWritable (stand draft.old).device }
     requires closed { IsClosed (stand draft.old).device }
     ensures same_reference { draft.new.dev.ghost_name ≡ draft.old.dev.ghost_name }
     ensures more { IfOk result (λ more. more ≡ true) }
-    ensures gathered { (before : List Line) (start : Stand) → HasGathered before devices.old start (stand draft.old) → 2 ≤ length before → IsReadAfter thin before (line_of line)
-        → OnOk result (HasGathered (line_of line ∷ before) devices.new start (stand draft.new)) }
-    ensures need { (before : List Line) (start : Stand) → HasGathered before devices.old start (stand draft.old) → 2 ≤ length before → IsReadAfter thin before (line_of line)
-        → MatchResult result (λ _. min (thin_need_so_far room (line_of line ∷ before)) (2 ^ 64 - 1) ≤ room) (IsOver room (min (thin_need_so_far room (line_of line ∷ before)) (2 ^ 64 - 1))) }
+    ensures gathered { (before : List Line) (start : Stand) → Follows G.HasGathered before room gathered.old (line_of line) start (stand draft.old)
+        → OnOk result (G.HasGathered room (line_of line ∷ before) gathered.new start (stand draft.new)) }
+    ensures need { (before : List Line) (start : Stand) → Follows G.HasGathered before room gathered.old (line_of line) start (stand draft.old)
+        → MatchResult result (λ _. pool_need_so_far room (line_of line ∷ before) ≤ room) (IsOver room (pool_need_so_far room (line_of line ∷ before))) }
+    ensures few { (before : List Line) (start : Stand) → Follows G.HasGathered before room gathered.old (line_of line) start (stand draft.old) → length before < 2 ^ 64 - 1 }
     ensures closed { StaysClosed (stand draft.old).device (stand draft.new).device }
     ensures faults { CountsTake result (stand draft.old).device.faults (stand draft.new).device.faults }
 {
-    match put_line(draft, devices, line) {
-        Ok(()) => look(devices, room),
-        Err(fault) => Err(of_build(fault)),
+    match gathered.take_line(draft, line, room) {
+        Ok(()) => Ok(true),
+        Err(fault) => Err(fault),
     }
 }
 
-/// Whether there is room for what was restored so far.
-fn look(devices: &Devices, room: u64) -> Result<bool, RestoreFault>
-    ensures more { IfOk result (λ more. more ≡ true) }
-    ensures need { (before : List Line) (start now : Stand) → HasGathered before devices.now start now
-        → MatchResult result (λ _. min (thin_need_so_far room before) (2 ^ 64 - 1) ≤ room) (IsShort room (min (thin_need_so_far room before) (2 ^ 64 - 1))) }
-    ensures fault { IfErr result IsNoRoom }
-{
-    let needed = devices.need(room);
-    if needed > room {
-        Err(RestoreFault::NoRoom {
-            need: needed,
-            blocks: room,
-        })
-    } else {
-        Ok(true)
-    }
-}
-
-/// Restores a line after the pool line.
-fn put_line<D: Device>(
+/// Restores what is left at the end, where there is room for it.
+fn end<D: Device, G: Gathering>(
     draft: &mut Draft<'_, D>,
-    devices: &mut Devices,
-    line: ThinLine,
-) -> Result<(), BuildFault>
-    requires put { CanPut devices.old line (stand draft.old) }
-    requires writable { IsWritable (stand draft.old).device }
-    requires closed { IsClosed (stand draft.old).device }
-    ensures same_reference { draft.new.dev.ghost_name ≡ draft.old.dev.ghost_name }
-    ensures gathered { (before : List Line) (start : Stand) → HasGathered before devices.old start (stand draft.old) → 2 ≤ length before → IsReadAfter thin before (line_of line)
-        → OnOk result (HasGathered (line_of line ∷ before) devices.new start (stand draft.new)) }
-    ensures closed { StaysClosed (stand draft.old).device (stand draft.new).device }
-    ensures faults { CountsBuildFault result (stand draft.old).device.faults (stand draft.new).device.faults }
-{
-    match line {
-        ThinLine::Pool { .. } => Ok(()),
-        ThinLine::Leaf { .. } => Ok(()),
-        ThinLine::Device { id, details } => devices.add_device(draft, id, details),
-        ThinLine::UseLeaf { .. } => Ok(()),
-        ThinLine::Map(run) => devices.add_run(
-            draft,
-            Run {
-                virtual_block: run.virt,
-                data_block: run.target,
-                length: run.length,
-                time: run.time,
-            },
-        ),
-    }
-}
-
-/// Ends the last device.
-fn end<D: Device>(draft: &mut Draft<'_, D>, devices: &mut Devices) -> Result<bool, RestoreFault>
-    requires gathered { CanEnd devices.old (stand draft.old) }
+    gathered: &mut G,
+    room: u64,
+) -> Result<bool, RestoreFault>
+    requires follows { CanTake G.HasGathered room gathered.old end_line (stand draft.old) }
     requires writable { IsWritable (stand draft.old).device }
     requires closed { IsClosed (stand draft.old).device }
     ensures same_reference { draft.new.dev.ghost_name ≡ draft.old.dev.ghost_name }
     ensures more { IfOk result (λ more. more ≡ false) }
-    ensures gathered { (before : List Line) (start : Stand) → HasGathered before devices.old start (stand draft.old) → unmapped before ≡ 0
-        → OnOk result (HasGathered (end_line ∷ before) devices.new start (stand draft.new)) }
+    ensures gathered { (before : List Line) (start : Stand) → Follows G.HasGathered before room gathered.old end_line start (stand draft.old)
+        → OnOk result (G.HasGathered room (end_line ∷ before) gathered.new start (stand draft.new)) }
+    ensures need { (before : List Line) (start : Stand) → Follows G.HasGathered before room gathered.old end_line start (stand draft.old)
+        → MatchResult result (λ _. pool_need_so_far room (end_line ∷ before) ≤ room) (IsOver room (pool_need_so_far room (end_line ∷ before))) }
     ensures closed { StaysClosed (stand draft.old).device (stand draft.new).device }
     ensures faults { CountsTake result (stand draft.old).device.faults (stand draft.new).device.faults }
-    ensures fault { IfErr result IsOfBuild }
 {
-    match devices.end(draft) {
+    match gathered.take_end(draft, room) {
         Ok(()) => Ok(false),
-        Err(fault) => Err(of_build(fault)),
+        Err(fault) => Err(fault),
+    }
+}
+
+/// What is answered where the next line isn't given.
+fn fault_after<G: Gathering>(gathered: &G, fault: ReadFault, room: u64) -> RestoreFault
+    ensures says { (before : List Line) (text : TextReader ThinState ThinLine) (start now : Stand) → Reading G.HasGathered before room text gathered.now start now
+        → (first : Line) (t : List ℕ) → RefusesNext pool_format first end_line t before fault → SaysOf pool_format pool_need_so_far room t result }
+    ensures later { IsOfLater (read_fault fault) → IsOfLater result }
+    ensures counts { (s t d : ℕ) → CountsRead fault s t → BlamesOne result s t d d }
+{
+    match fault {
+        ReadFault::Memory => RestoreFault::Memory,
+        ReadFault::Source => RestoreFault::Source,
+        ReadFault::Text(fault) => gathered.refused(fault, room),
     }
 }

@@ -2,11 +2,13 @@
 
 ghost use Rattle.std.specs.Prelude.{◌≡◌, ◌≤◌, ℕ, IfSome};
 ghost use Rattle.pd_kinds.specs.Limits.{room_of};
-ghost use Rattle.pd_kinds.specs.Meaning.{ThinPool};
 ghost use Rattle.pd_image.specs.Device.{IsWritable, KeepsPlace};
 ghost use Rattle.pd_grammar.specs.Spelling.{Verdict, accepted};
+ghost use Rattle.pd_laid.specs.Shape.{ThinShape, shape_of};
 ghost use Rattle.pd_salvage.specs.Saved.{pool_of};
-ghost use Rattle.pd_spells.specs.ThinNeed.{IsThinVerdict, thin_need};
+ghost use Rattle.pd_shapes.specs.PoolText.{IsPoolTextVerdict};
+ghost use Rattle.pd_spells.specs.Lawful.{IsLawfulPool};
+ghost use Rattle.pd_spells.specs.ThinNeed.{thin_need};
 ghost use Rattle.pd_texts.specs.Made.{made_state};
 ghost use Rattle.pd_restore.specs.Made.{CountsMade, IsMadeOf, ending_of};
 
@@ -17,7 +19,8 @@ use pd_image::{Device, Source};
 use pd_kinds::MAX_META_BLOCKS;
 use pd_restoring::RestoreFault;
 use pd_salvage::Salvage;
-use pd_spells::{thin_text_has_one_verdict, thin_text_is_accepted_where_there_is_room};
+use pd_shape_verdicts::pool_text_is_accepted_where_there_is_room;
+use pd_shapes::{either_version_spells_a_shape, pool_text_has_one_verdict};
 use pd_texts::MadeSource;
 use std::alloc::Global;
 
@@ -77,14 +80,16 @@ fn restore_saved<D: Device>(alloc: Global, saved: Salvage, dev: &mut D) -> Resul
     }
 }
 
-/// The text of a pool, attached: where there is room for the pool, it is accepted.
+/// The text of a pool, attached: where there is room for the pool, it is accepted as that of a pool that shares no leaf.
 fn text_of_saved(saved: Salvage) -> MadeSource<SavedLines>
     ensures attached { (made_state result).access ≡ 1 }
-    ensures only { (room : ℕ) (verdict : Verdict ThinPool) → thin_need (pool_of saved) room ≤ room
-        → IfSome (made_state result).left (λ text. IsThinVerdict text room verdict) → verdict ≡ accepted (pool_of saved) }
+    ensures lawful { IsLawfulPool (pool_of saved) }
+    ensures only { (room : ℕ) (verdict : Verdict ThinShape) → thin_need (pool_of saved) room ≤ room
+        → IfSome (made_state result).left (λ text. IsPoolTextVerdict text room verdict) → verdict ≡ accepted (shape_of (pool_of saved)) }
 {
-    thin_text_is_accepted_where_there_is_room();
-    thin_text_has_one_verdict();
+    either_version_spells_a_shape();
+    pool_text_is_accepted_where_there_is_room();
+    pool_text_has_one_verdict();
     // What was saved is a lawful pool.
     let _ = saved.head();
     let mut source = MadeSource::new(SavedLines::new(saved));

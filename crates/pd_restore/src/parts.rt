@@ -6,8 +6,9 @@ ghost use Rattle.pd_kinds.specs.Meaning.{ThinPool};
 ghost use Rattle.pd_draft.specs.Closed.{IsClosed, StaysClosed};
 ghost use Rattle.pd_draft.specs.Placed.{Stand, Wrote};
 ghost use Rattle.pd_draft.specs.Stand.{stand};
+ghost use Rattle.pd_laid.specs.Shape.{shape_of};
 ghost use Rattle.pd_build.specs.Causes.{CountsBuildFault};
-ghost use Rattle.pd_restore.specs.Written.{HasDevices, CanWrite, pool_behind};
+ghost use Rattle.pd_restore.specs.Written.{HasDevices, CanWriteParts, shape_behind};
 ghost use Rattle.pd_restore.specs.Parts.{AreParts};
 
 use pd_build::{BuildFault, write_tree};
@@ -28,21 +29,21 @@ pub(crate) struct Parts {
     pub(crate) meta_map: SmRoot,
 }
 
-/// Writes the parts of a pool behind its devices, where there are so many blocks for metadata.
-pub(crate) fn write_parts<D: Device>(
+/// Writes the parts of a pool behind its devices, which share no leaf, where there are so many blocks for metadata.
+pub(crate) fn write_device_parts<D: Device>(
     alloc: Global,
     draft: &mut Draft<'_, D>,
     devices: &Devices,
     room: u64,
 ) -> Result<Parts, BuildFault>
-    requires room { CanWrite devices.now room (stand draft.old) }
+    requires room { CanWriteParts devices.now room (stand draft.old) }
     requires writable { IsWritable (stand draft.old).device }
     requires closed { IsClosed (stand draft.old).device }
     ensures same_reference { draft.new.dev.ghost_name ≡ draft.old.dev.ghost_name }
     ensures wrote { (m : ThinPool) (start : Stand) → HasDevices m devices.now start (stand draft.old)
-        → OnOk result (Wrote (pool_behind m room) start (stand draft.new)) }
+        → OnOk result (Wrote (shape_behind (shape_of m) room) start (stand draft.new)) }
     ensures parts { (m : ThinPool) (start : Stand) → HasDevices m devices.now start (stand draft.old)
-        → IfOk result (AreParts m room) }
+        → IfOk result (AreParts (shape_of m) room) }
     ensures closed { StaysClosed (stand draft.old).device (stand draft.new).device }
     ensures faults { CountsBuildFault result (stand draft.old).device.faults (stand draft.new).device.faults }
 {

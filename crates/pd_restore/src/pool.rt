@@ -6,8 +6,8 @@ ghost use Rattle.pd_image.specs.Source.{KeepsSource};
 ghost use Rattle.pd_draft.specs.Closed.{IsClosed, StaysClosed};
 ghost use Rattle.pd_draft.specs.Placed.{Stand};
 ghost use Rattle.pd_draft.specs.Stand.{stand};
-ghost use Rattle.pd_spells.specs.ThinNeed.{thin_need_so_far};
-ghost use Rattle.pd_spells.specs.ThinText.{thin};
+ghost use Rattle.pd_shapes.specs.PoolText.{pool_need_so_far};
+ghost use Rattle.pd_spells.specs.ThinText.{pool_format};
 ghost use Rattle.pd_texts.specs.Reader.{LeavesOf};
 ghost use Rattle.pd_restoring.specs.Reading.{IsOfLater, SaysOf};
 ghost use Rattle.pd_restoring.specs.Restored.{CountsRestore};
@@ -16,15 +16,15 @@ ghost use Rattle.pd_restore.specs.Pools.{pools};
 ghost use Rattle.pd_restore.specs.Reading.{Reading};
 ghost use Rattle.pd_restore.specs.Whole.{begun_lines, fields_of, CanBegin};
 
+use crate::gathering::Gathering;
 use crate::lines::restore_lines;
-use crate::parts::{Parts, write_parts};
-use pd_devices::Devices;
+use crate::parts::Parts;
 use pd_draft::Draft;
 use pd_image::{Device, Source};
 use pd_kinds::{Block, ThinSuper};
 use pd_restoring::{RestoreFault, of_build};
 use pd_supers::write_thin_super;
-use pd_texts::FirstThinText;
+use pd_texts::ThinText;
 use std::alloc::Global;
 
 /// The pool line of a text.
@@ -38,31 +38,31 @@ pub(crate) struct Pool {
 }
 
 /// Restores the lines after the pool line and writes all of the pool but its superblock, which it answers.
-pub(crate) fn write_pool<S: Source, D: Device>(
+pub(crate) fn write_pool<S: Source, D: Device, G: Gathering>(
     alloc: Global,
-    text: &mut FirstThinText,
+    text: &mut ThinText,
     source: &mut S,
     draft: &mut Draft<'_, D>,
-    devices: &mut Devices,
+    gathered: &mut G,
     pool: &Pool,
     room: u64,
 ) -> Result<Block, RestoreFault>
     requires attached { (S.state source.old).access ≡ 1 }
-    requires reading { CanBegin pool.now room text.old devices.old (stand draft.old) }
+    requires reading { CanBegin G.HasGathered pool.now room text.old gathered.old (stand draft.old) }
     requires writable { IsWritable (stand draft.old).device }
     requires closed { IsClosed (stand draft.old).device }
     ensures same_reference { draft.new.dev.ghost_name ≡ draft.old.dev.ghost_name }
-    ensures writes { (start : Stand) → Reading (begun_lines pool.now) room text.old devices.old start (stand draft.old)
-        → IfOk result (Writes pools room (λ t. LeavesOf thin t (begun_lines pool.now) text.old (S.state source.old).left) (S.state source.new).left start (stand draft.new)) }
-    ensures says { (start : Stand) → Reading (begun_lines pool.now) room text.old devices.old start (stand draft.old)
-        → (t : List ℕ) → LeavesOf thin t (begun_lines pool.now) text.old (S.state source.old).left → IfErr result (SaysOf thin thin_need_so_far room t) }
+    ensures writes { (start : Stand) → Reading G.HasGathered (begun_lines text.old pool.now) room text.old gathered.old start (stand draft.old)
+        → IfOk result (Writes pools room (λ t. LeavesOf pool_format t (begun_lines text.old pool.now) text.old (S.state source.old).left) (S.state source.new).left start (stand draft.new)) }
+    ensures says { (start : Stand) → Reading G.HasGathered (begun_lines text.old pool.now) room text.old gathered.old start (stand draft.old)
+        → (t : List ℕ) → LeavesOf pool_format t (begun_lines text.old pool.now) text.old (S.state source.old).left → IfErr result (SaysOf pool_format pool_need_so_far room t) }
     ensures later { IfErr result IsOfLater }
     ensures source { KeepsSource (S.state source.old) (S.state source.new) }
     ensures closed { StaysClosed (stand draft.old).device (stand draft.new).device }
     ensures faults { CountsRestore result (S.state source.old).faults (S.state source.new).faults (stand draft.old).device.faults (stand draft.new).device.faults }
 {
-    restore_lines(text, source, draft, devices, room)?;
-    match write_parts(alloc, draft, devices, room) {
+    restore_lines(text, source, draft, gathered, room)?;
+    match gathered.write_parts(alloc, draft, room) {
         Ok(parts) => Ok(write_thin_super(&super_of(pool, parts, room))),
         Err(fault) => Err(of_build(fault)),
     }

@@ -1,25 +1,33 @@
 //! A pool that is restored from its text.
 
-ghost use Rattle.std.specs.Prelude.{◌≡◌};
+ghost use Rattle.std.specs.Prelude.{◌≡◌, ℕ, List, false, true, IfOk, IfErr};
 ghost use Rattle.pd_image.specs.Device.{IsWritable, KeepsPlace};
 ghost use Rattle.pd_image.specs.Source.{KeepsSource};
-ghost use Rattle.pd_laid.specs.LaidThin.{laid_pool};
-ghost use Rattle.pd_spells.specs.Early.{is_pool_early};
-ghost use Rattle.pd_spells.specs.Lawful.{IsLawfulPool};
-ghost use Rattle.pd_spells.specs.ThinNeed.{IsThinVerdict};
+ghost use Rattle.pd_draft.specs.Closed.{IsClosed, StaysClosed};
+ghost use Rattle.pd_draft.specs.Stand.{stand};
+ghost use Rattle.pd_spells.specs.ThinText.{pool_format};
+ghost use Rattle.pd_laid.specs.LaidThin.{laid_shape};
+ghost use Rattle.pd_shapes.specs.PoolText.{IsLawfulShape, IsPoolTextVerdict, is_pool_text_early, pool_need_so_far};
+ghost use Rattle.pd_texts.specs.Reader.{LeavesOf};
+ghost use Rattle.pd_restoring.specs.Reading.{IsOfLater, SaysOf};
 ghost use Rattle.pd_restoring.specs.Restored.{CountsRestore, IsRestored};
+ghost use Rattle.pd_restoring.specs.Whole.{Writes};
+ghost use Rattle.pd_restore.specs.Pools.{pools};
+ghost use Rattle.pd_restore.specs.Whole.{HasBegun, begun_lines};
 
 use crate::begin::{Begun, read_pool};
-use crate::pool::write_pool;
+use crate::pool::{Pool, write_pool};
+use crate::shared::SharedLines;
 use pd_devices::{Devices, need_thin};
 use pd_draft::Draft;
 use pd_image::{Device, Source};
 use pd_kinds::Block;
 use pd_restoring::{RestoreFault, Restoring, restore};
-use pd_texts::FirstThinText;
+use pd_texts::ThinText;
 use std::alloc::Global;
 
-/// Restores a pool from its text onto a device.
+/// Restores a pool from its text, of either version, onto a device: the leaves that a text of version 2 tells once are laid
+/// once, and shared as it says.
 ///
 /// The device isn't written before the first two lines were accepted and have room. A line's own refusal comes before
 /// the want of room after it. Of the blocks of the device 4161600 at most are used.
@@ -30,7 +38,7 @@ pub fn restore_thin<S: Source, D: Device>(
 ) -> Result<(), RestoreFault>
     requires attached { (S.state source.old).access ≡ 1 }
     requires writable { IsWritable (D.state dev.old) }
-    ensures restored { IsRestored IsLawfulPool IsThinVerdict is_pool_early laid_pool result (S.state source.old) (S.state source.new) (D.state dev.old) (D.state dev.new) }
+    ensures restored { IsRestored IsLawfulShape IsPoolTextVerdict is_pool_text_early laid_shape result (S.state source.old) (S.state source.new) (D.state dev.old) (D.state dev.new) }
     ensures place { KeepsPlace (D.state dev.old) (D.state dev.new) }
     ensures source { KeepsSource (S.state source.old) (S.state source.new) }
     ensures causes { CountsRestore result (S.state source.old).faults (S.state source.new).faults (D.state dev.old).faults (D.state dev.new).faults }
@@ -43,7 +51,7 @@ pub fn restore_thin<S: Source, D: Device>(
 pub(crate) struct Pools;
 
 impl Restoring for Pools {
-    ghost use Rattle.pd_kinds.specs.Meaning.{ThinPool};
+    ghost use Rattle.pd_laid.specs.Shape.{ThinShape};
     ghost use Rattle.pd_spells.specs.ThinText.{Line};
     ghost use Rattle.pd_restore.specs.Pools.{pools, lines_of_begun, PoolStands, PoolLeaves, pool_verdicts, pool_goes_on};
 
@@ -51,7 +59,7 @@ impl Restoring for Pools {
 
     ghost Line = { Line };
 
-    ghost Meaning = { ThinPool };
+    ghost Meaning = { ThinShape };
 
     ghost subject = { λ kind. pools };
 
@@ -66,7 +74,7 @@ impl Restoring for Pools {
     ghost goes_on = { λ kind. pool_goes_on };
 
     fn begin<S: Source>(&self, alloc: Global, source: &mut S) -> Result<Begun, RestoreFault> {
-        let mut text = match FirstThinText::new(alloc) {
+        let mut text = match ThinText::new(alloc) {
             Ok(text) => text,
             Err(_) => return Err(RestoreFault::Memory),
         };
@@ -89,10 +97,66 @@ impl Restoring for Pools {
         room: u64,
     ) -> Result<Block, RestoreFault> {
         let Begun { mut text, pool } = begun;
-        let mut devices = match Devices::new(alloc, pool.blocks) {
-            Ok(devices) => devices,
-            Err(_) => return Err(RestoreFault::Memory),
-        };
-        write_pool(alloc, &mut text, source, draft, &mut devices, &pool, room)
+        if text.version() == 2 {
+            write_shared(alloc, &mut text, source, draft, &pool, room)
+        } else {
+            write_unshared(alloc, &mut text, source, draft, &pool, room)
+        }
     }
+}
+
+/// Restores the lines of a text of version 1 after the pool line.
+fn write_unshared<S: Source, D: Device>(
+    alloc: Global,
+    text: &mut ThinText,
+    source: &mut S,
+    draft: &mut Draft<'_, D>,
+    pool: &Pool,
+    room: u64,
+) -> Result<Block, RestoreFault>
+    requires attached { (S.state source.old).access ≡ 1 }
+    requires begun { HasBegun false text.old pool.now room (stand draft.old) }
+    requires writable { IsWritable (stand draft.old).device }
+    requires closed { IsClosed (stand draft.old).device }
+    ensures same_reference { draft.new.dev.ghost_name ≡ draft.old.dev.ghost_name }
+    ensures writes { IfOk result (Writes pools room (λ t. LeavesOf pool_format t (begun_lines text.old pool.now) text.old (S.state source.old).left) (S.state source.new).left (stand draft.old) (stand draft.new)) }
+    ensures says { (t : List ℕ) → LeavesOf pool_format t (begun_lines text.old pool.now) text.old (S.state source.old).left → IfErr result (SaysOf pool_format pool_need_so_far room t) }
+    ensures later { IfErr result IsOfLater }
+    ensures source { KeepsSource (S.state source.old) (S.state source.new) }
+    ensures closed { StaysClosed (stand draft.old).device (stand draft.new).device }
+    ensures faults { CountsRestore result (S.state source.old).faults (S.state source.new).faults (stand draft.old).device.faults (stand draft.new).device.faults }
+{
+    let mut devices = match Devices::new(alloc, pool.blocks) {
+        Ok(devices) => devices,
+        Err(_) => return Err(RestoreFault::Memory),
+    };
+    write_pool(alloc, text, source, draft, &mut devices, pool, room)
+}
+
+/// Restores the lines of a text of version 2 after the pool line.
+fn write_shared<S: Source, D: Device>(
+    alloc: Global,
+    text: &mut ThinText,
+    source: &mut S,
+    draft: &mut Draft<'_, D>,
+    pool: &Pool,
+    room: u64,
+) -> Result<Block, RestoreFault>
+    requires attached { (S.state source.old).access ≡ 1 }
+    requires begun { HasBegun true text.old pool.now room (stand draft.old) }
+    requires writable { IsWritable (stand draft.old).device }
+    requires closed { IsClosed (stand draft.old).device }
+    ensures same_reference { draft.new.dev.ghost_name ≡ draft.old.dev.ghost_name }
+    ensures writes { IfOk result (Writes pools room (λ t. LeavesOf pool_format t (begun_lines text.old pool.now) text.old (S.state source.old).left) (S.state source.new).left (stand draft.old) (stand draft.new)) }
+    ensures says { (t : List ℕ) → LeavesOf pool_format t (begun_lines text.old pool.now) text.old (S.state source.old).left → IfErr result (SaysOf pool_format pool_need_so_far room t) }
+    ensures later { IfErr result IsOfLater }
+    ensures source { KeepsSource (S.state source.old) (S.state source.new) }
+    ensures closed { StaysClosed (stand draft.old).device (stand draft.new).device }
+    ensures faults { CountsRestore result (S.state source.old).faults (S.state source.new).faults (stand draft.old).device.faults (stand draft.new).device.faults }
+{
+    let mut lines = match SharedLines::new(alloc, pool.blocks, room) {
+        Ok(lines) => lines,
+        Err(_) => return Err(RestoreFault::Memory),
+    };
+    write_pool(alloc, text, source, draft, &mut lines, pool, room)
 }

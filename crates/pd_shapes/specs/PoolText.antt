@@ -1,10 +1,13 @@
 -- A pool's text of either version, as a restore reads it: its first line says which.
 use Rattle.std.specs.Prelude.{◌≡◌, ℕ, Bool, true, false, if◌then◌else◌, List}
 use Rattle.pd_kinds.specs.Meaning.{ThinPool}
+use Rattle.pd_grammar.specs.Texts.{reading}
 use Rattle.pd_grammar.specs.Spelling.{Spells, Verdict, IsVerdict}
+use Rattle.pd_spells.specs.Early.{is_decided_early}
+use Rattle.pd_spells.specs.Lawful.{IsLawfulPool}
 use Rattle.pd_spells.specs.ThinText.{Line, is_shared, pool_format, MeansPool}
 use Rattle.pd_spells.specs.ThinNeed.{thin_need_so_far}
-use Rattle.pd_laid.specs.Shape.{ThinShape, shape_of, pool_of}
+use Rattle.pd_laid.specs.Shape.{IsShape, ThinShape, shape_of, pool_of}
 use Rattle.pd_shapes.specs.SharedText.{MeansShape}
 use Rattle.pd_shapes.specs.SharedNeed.{shape_need_so_far}
 
@@ -38,3 +41,12 @@ pool_need_so_far room before = if is_shared before then shape_need_so_far room b
 -- the verdict on a text of either version
 abbrev pub IsPoolTextVerdict : List ℕ → ℕ → Verdict ThinShape → Type 0
 IsPoolTextVerdict text room verdict = IsVerdict pool_format MeansPoolShape (pool_need_so_far room) text room verdict
+
+-- whether the first two lines of a text of either version decide what becomes of it
+abbrev pub is_pool_text_early : List ℕ → ℕ → Bool
+is_pool_text_early text room = is_decided_early (pool_need_so_far room) room (reading pool_format text).lines
+
+-- a shape that a text can spell: one that keeps what shapes keep, and whose meaning is lawful
+pub record IsLawfulShape (w : ThinShape) : Type 0 where
+  pub shape : IsShape w
+  pub pool : IsLawfulPool (pool_of w)

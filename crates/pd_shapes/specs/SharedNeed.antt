@@ -1,17 +1,15 @@
--- How many blocks a pool with shared leaves needs, and the verdict on the second version of a pool's text.
+-- How many blocks a pool with shared leaves needs, by its shape and by the lines of its text.
 use Rattle.std.specs.Prelude.{ℕ, ◌+◌, ◌==◌, Bool, true, false, if◌then◌else◌, List, [], ◌∷◌, ◌++◌, length, map, sum_by}
 use Rattle.std.specs.List.{flat_map}
 use Rattle.pd_kinds.specs.Node.{max_entries}
 use Rattle.pd_kinds.specs.Bitmap.{bitmaps_for}
 use Rattle.pd_kinds.specs.Meaning.{Mapping}
 use Rattle.pd_grammar.specs.Texts.{has_ended}
-use Rattle.pd_grammar.specs.Spelling.{Verdict, IsVerdict}
 use Rattle.pd_spells.specs.Need.{nodes_for, need_above, need_tree}
 use Rattle.pd_spells.specs.ThinText.{Line, first_line, shared_first_line, pool_line, leaf_line, device_line, use_line, map_line, end_line, pool_format, data_blocks_of, leaf_number}
 use Rattle.pd_spells.specs.ThinText as text
 use Rattle.pd_spells.specs.ThinNeed.{data_of_line, overflows_in}
 use Rattle.pd_laid.specs.Shape.{Piece, own, shared, ShapeDevice, ThinShape, uses_of_piece, uses_of}
-use Rattle.pd_shapes.specs.SharedText.{MeansShape}
 
 -- how many leaves a device has: its own ones, and all of them
 pub record LeafCount : Type 0 where
@@ -137,7 +135,3 @@ shape_need_so_far room before =
     need_of_shared (leaf_number before) (used_often (text.uses_of before) (leaf_number before))
     (leaves_of_told (has_ended pool_format before) (told_devices before)) (data_blocks_of before)
     (overflows_in (flat_map data_of_line before) (data_blocks_of before)) room
-
--- the verdict on a text of version 2 where so many metadata blocks are there
-abbrev pub IsShapeVerdict : List ℕ → ℕ → Verdict ThinShape → Type 0
-IsShapeVerdict text room verdict = IsVerdict pool_format MeansShape (shape_need_so_far room) text room verdict

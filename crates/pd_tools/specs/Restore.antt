@@ -5,15 +5,15 @@ use Rattle.pd_kinds.specs.declared.kind.Kind.TheVariants.{Thin, Cache, Era}
 use Rattle.pd_kinds.specs.Objects.{DeviceState, SourceState, Rose}
 use Rattle.pd_kinds.specs.Crash.{IsUntouched}
 use Rattle.pd_grammar.specs.Spelling.{Verdict}
-use Rattle.pd_spells.specs.Lawful.{IsLawfulPool, IsLawfulCache, IsLawfulEra}
-use Rattle.pd_spells.specs.ThinNeed.{IsThinVerdict}
+use Rattle.pd_spells.specs.Lawful.{IsLawfulCache, IsLawfulEra}
 use Rattle.pd_spells.specs.CacheNeed.{IsCacheVerdict}
 use Rattle.pd_spells.specs.EraNeed.{IsEraVerdict}
-use Rattle.pd_laid.specs.LaidThin.{laid_pool}
+use Rattle.pd_laid.specs.LaidThin.{laid_shape}
 use Rattle.pd_laid.specs.LaidCache.{laid_cache}
 use Rattle.pd_laid.specs.LaidEra.{laid_era}
 use Rattle.pd_answers.specs.Answer.{IsUsed, reading, writing}
-use Rattle.pd_spells.specs.Early.{is_pool_early, is_cache_early, is_era_early}
+use Rattle.pd_spells.specs.Early.{is_cache_early, is_era_early}
+use Rattle.pd_shapes.specs.PoolText.{IsLawfulShape, IsPoolTextVerdict, is_pool_text_early}
 use Rattle.pd_restoring.specs.declared.fault.RestoreFault.{RestoreFault}
 use Rattle.pd_restoring.specs.Restored.{IsRestored}
 use Rattle.pd_tools.specs.declared.stop.Stop.{Stop}
@@ -24,13 +24,13 @@ abbrev pub HaveVerdicts : {M : Type 0} → (List ℕ → ℕ → Verdict M → T
 HaveVerdicts {M} IsVerdictOn = (text : List ℕ) (room : ℕ) → (v : Verdict M) × IsVerdictOn text room v
 
 abbrev pub TextsHaveVerdicts : Kind → ℕ → Type 0
-TextsHaveVerdicts Thin version = HaveVerdicts IsThinVerdict
+TextsHaveVerdicts Thin version = HaveVerdicts IsPoolTextVerdict
 TextsHaveVerdicts Cache version = HaveVerdicts (IsCacheVerdict version)
 TextsHaveVerdicts Era version = HaveVerdicts IsEraVerdict
 
 -- what a restore of the kind did
 abbrev pub IsRestoredAs : Kind → ℕ → Result (Unit {0}) RestoreFault → SourceState → SourceState → DeviceState → DeviceState → Type 0
-IsRestoredAs Thin version = IsRestored IsLawfulPool IsThinVerdict is_pool_early laid_pool
+IsRestoredAs Thin version = IsRestored IsLawfulShape IsPoolTextVerdict is_pool_text_early laid_shape
 IsRestoredAs Cache version =
     IsRestored IsLawfulCache (IsCacheVerdict version) (is_cache_early version) (λ m room. laid_cache m version room)
 IsRestoredAs Era version = IsRestored IsLawfulEra IsEraVerdict is_era_early laid_era

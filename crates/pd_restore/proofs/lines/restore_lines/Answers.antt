@@ -2,7 +2,7 @@ use Rattle.std.proofs.Common.{rules, [], ◌∷◌, ◌++◌, refl, true, false,
 use Rattle.pd_draft.specs.Stand.{stand}
 use Rattle.pd_draft.proofs.StaysLemmas.{closed_start, closed_then}
 use Rattle.pd_spells.specs.ThinText.{end_line}
-use Rattle.pd_restore.proofs.ReadingLemmas.{steps_as, progress_most}
+use Rattle.pd_restore.proofs.ReadingLemmas.{steps_as}
 use Rattle.pd_restoring.proofs.ReadingLemmas.{one_later, keeps_source}
 use Rattle.pd_restore.proofs.lines.restore_lines.Goals as goal
 
@@ -21,17 +21,17 @@ lines-preserved g c =
     let was = (source c.lines.source).left in
     let left = (source c.step.new.source).left in
     let text = c.step.new.text in
-    let devices = c.step.new.devices in
+    let devices = c.step.new.gathered in
     let now = stand c.step.new.draft in
     let more = c.in_ok-step.field-0 in
     let ends = c.in_ok-step.ensures in
-    let mine = steps_as more true own.lines c.args.room c.lines.text text was left devices r.start now c.if-branch.true (ends.steps own.lines r.start own.so_far) in
+    let mine = steps_as g.G.Gathering.HasGathered more true own.lines c.args.room c.lines.text text was left devices r.start now c.if-branch.true (ends.steps own.lines r.start own.so_far) in
     record {
       same_reference = ends.same_reference ∙ c.lines.invariant.same_reference;
       reading = record { before = mine.0 ∷ own.lines; start = r.start; so_far = mine.1.0 };
       went = λ before start h.
           let w = c.lines.invariant.went before start h in
-          let s = steps_as more true w.lines c.args.room c.lines.text text was left devices start now c.if-branch.true (ends.steps w.lines start w.so_far) in
+          let s = steps_as g.G.Gathering.HasGathered more true w.lines c.args.room c.lines.text text was left devices start now c.if-branch.true (ends.steps w.lines start w.so_far) in
           record { lines = s.0 ∷ w.lines; later = w.later ++ s.0 ∷ []; front = one_later before w.lines w.later s.0 w.front; so_far = s.1.0; told = λ t leaves. s.1.1 t (w.told t leaves) };
       closed = closed_then c.lines.invariant.closed ends.closed;
       kept = keeps_source c.lines.invariant.kept ends.source;
@@ -45,17 +45,16 @@ lines-smaller g c =
     let own = c.lines.invariant.went r.before r.start r.so_far in
     let was = (g.S.Source.state c.lines.source).left in
     let left = (g.S.Source.state c.step.new.source).left in
-    let mine = steps_as c.in_ok-step.field-0 true own.lines c.args.room c.lines.text c.step.new.text was left c.step.new.devices r.start (stand c.step.new.draft) c.if-branch.true (c.in_ok-step.ensures.steps own.lines r.start own.so_far) in
+    let mine = steps_as g.G.Gathering.HasGathered c.in_ok-step.field-0 true own.lines c.args.room c.lines.text c.step.new.text was left c.step.new.gathered r.start (stand c.step.new.draft) c.if-branch.true (c.in_ok-step.ensures.steps own.lines r.start own.so_far) in
     let grows = c.in_ok-step.ensures.grows c.if-branch.true in
-    let most = progress_most (mine.0 ∷ own.lines) c.args.room c.step.new.text mine.1.0 in
-    omega arith
+    omega (arith, grows, mine.1.0.reads.so_far.count)
 
 pub returns-clause-all : goal.returns-clause-all
 returns-clause-all g c before start h =
     let w = c.lines.invariant.went before start h in
     let was = (g.S.Source.state c.lines.source).left in
     let left = (g.S.Source.state c.step.new.source).left in
-    let s = steps_as c.in_ok-step.field-0 false w.lines c.args.room c.lines.text c.step.new.text was left c.step.new.devices start (stand c.step.new.draft) c.if-branch.false (c.in_ok-step.ensures.steps w.lines start w.so_far) in
+    let s = steps_as g.G.Gathering.HasGathered c.in_ok-step.field-0 false w.lines c.args.room c.lines.text c.step.new.text was left c.step.new.gathered start (stand c.step.new.draft) c.if-branch.false (c.in_ok-step.ensures.steps w.lines start w.so_far) in
     record { lines = end_line ∷ w.lines; later = w.later ++ end_line ∷ []; front = one_later before w.lines w.later end_line w.front; all = s.0; told = λ t leaves. s.1 t (w.told t leaves) }
 
 pub lines-init : goal.lines-init

@@ -1,9 +1,10 @@
-use Rattle.std.proofs.Common.{◌≡◌, ◌-◌, ◌*◌, List}
+use Rattle.std.proofs.Common.{◌≡◌, ◌-◌, ◌^◌, List}
 use Rattle.pd_draft.specs.Closed.{StaysClosed}
 use Rattle.pd_draft.specs.Placed.{Stand}
 use Rattle.pd_image.specs.Source.{KeepsSource}
+use Rattle.pd_lines.specs.Reader.{lines_of}
 use Rattle.pd_spells.specs.ThinText.{Line}
-use Rattle.pd_restore.specs.Reading.{Reading, CanRead, Went, progress}
+use Rattle.pd_restore.specs.Reading.{Reading, CanRead, Went}
 use Rattle.pd_restore.proofs.lines.restore_lines.Given as goal
 
 abbrev pub invariant-lines : goal.invariant-lines
@@ -14,9 +15,9 @@ invariant-lines g l =
     let now : Stand = record { device = state l.draft.dev.now; place = l.draft.next } in
     record {
       same_reference : l.draft.dev.ghost_name ≡ l.initial.draft.dev.ghost_name;
-      reading : CanRead l.room l.text l.devices now;
-      went : (before : List Line) (start : Stand) → Reading before l.room l.initial.text l.initial.devices start first
-          → Went before l.room l.initial.text (source l.initial.source).left l.text (source l.source).left l.devices start now;
+      reading : CanRead g.G.Gathering.HasGathered l.room l.text l.gathered now;
+      went : (before : List Line) (start : Stand) → Reading g.G.Gathering.HasGathered before l.room l.initial.text l.initial.gathered start first
+          → Went g.G.Gathering.HasGathered before l.room l.initial.text (source l.initial.source).left l.text (source l.source).left l.gathered start now;
       closed : StaysClosed first.device now.device;
       kept : KeepsSource (source l.initial.source) (source l.source);
       source_faults : (source l.source).faults ≡ (source l.initial.source).faults;
@@ -24,4 +25,4 @@ invariant-lines g l =
     }
 
 abbrev pub decreases-lines : goal.decreases-lines
-decreases-lines g l = 253 * l.room - progress l.devices
+decreases-lines g l = 2 ^ 64 - 1 - lines_of l.text.reader

@@ -6,7 +6,7 @@ use Rattle.pd_restore.proofs.made.restore_saved.Goals as goal
 pub returns-in-Ok-clause-made : goal.returns-in-Ok-clause-made
 returns-in-Ok-clause-made g c =
     restored_made (pool_of c.args.saved) (made_state c.text_of_saved-source.result) (made_state c.restore_thin.new.source) (g.D.Device.state c.args.dev.now) (g.D.Device.state c.restore_thin.new.dev)
-    c.requires.room c.text_of_saved-source.ensures.only c.in-Ok.ensures.restored
+    c.requires.room c.text_of_saved-source.ensures.only c.text_of_saved-source.ensures.lawful c.in-Ok.ensures.restored
 
 pub returns-in-Memory-clause-made : goal.returns-in-Memory-clause-made
 returns-in-Memory-clause-made g c =

@@ -1,0 +1,198 @@
+-- What is gathered of a pool's text of version 2.
+use Rattle.std.proofs.Common.{◌≡◌, ⊎_elim, ℕ, suc, ◌+◌, ◌-◌, ◌<◌, ◌≤◌, ◌^◌, min, Bool, true, false, if◌then◌else◌, List, [], ◌∷◌, length, refl, sym, ◌∙◌, ap, subst, arith, Some, Result, Ok, Err}
+use Rattle.std.specs.Prelude.{OnOk}
+use Rattle.pd_draft.specs.Placed.{Stand}
+use Rattle.pd_grammar.specs.Spelling.{need_above_room}
+use Rattle.pd_grammar.specs.Texts as Texts
+use Rattle.pd_grammar.specs.Texts.{has_ended}
+use Rattle.pd_spells.specs.ThinText.{Line, LeafHead, Details, Run, first_line, shared_first_line, pool_line, leaf_line, device_line, use_line, map_line, end_line, is_shared, pool_format}
+use Rattle.pd_spells.proofs.ThinRead.{pool_grammar}
+use Rattle.pd_shapes.specs.PoolText.{pool_need_so_far}
+use Rattle.pd_shapes.specs.SharedNeed.{shape_need_so_far}
+use Rattle.pd_texts.specs.declared.fault.ReadFault.TheVariants as c
+use Rattle.pd_texts.specs.declared.fault.TextFault.{TextFault}
+use Rattle.pd_texts.specs.declared.reader.TextReader.{TextReader}
+use Rattle.pd_texts.specs.declared.thin_line.ThinLine.{ThinLine}
+use Rattle.pd_texts.specs.declared.thin_state.ThinState.{ThinState}
+use Rattle.pd_texts.specs.Reader.{IsRefusedAfter, RefusesNext, begun}
+use Rattle.pd_texts.specs.ThinNext.{IsLeafLine, IsDeviceLine, IsUseLine, IsRunLine, IsEndLine}
+use Rattle.pd_texts.specs.ThinState.{first_of}
+use Rattle.pd_texts.proofs.ThinNextLemmas.{leaf_read, device_read, use_read, run_read, end_read}
+use Rattle.pd_shared_devices.specs.declared.devices.SharedDevices.{SharedDevices}
+use Rattle.pd_shared_devices.specs.Gathered.{HasGathered, Gathered}
+use Rattle.pd_restoring.specs.declared.fault.RestoreFault.TheVariants as r
+use Rattle.pd_restoring.specs.Reading.{SaysOf}
+use Rattle.pd_restoring.proofs.ReadingLemmas.{above_here, refused_says}
+use Rattle.pd_restore.specs.declared.pool.Pool.{Pool}
+use Rattle.pd_restore.specs.declared.shared.SharedLines.{SharedLines}
+use Rattle.pd_restore.specs.Reading.{Follows, HasRoom, Reading}
+use Rattle.pd_restore.specs.Shared.{HasShared}
+use Rattle.pd_restore.specs.Whole.{HasBegun, begun_lines, head_of_pool}
+use Rattle.pd_restore.proofs.ReadingLemmas.{begun_reading}
+use Rattle.pd_restore.proofs.SharedLines.{device_fits, end_needs, few_lines, leaf_fits, map_fits, use_fits}
+
+-- the first lines that a text may have
+abbrev firsts : List Line
+firsts = first_line ∷ shared_first_line ∷ []
+
+abbrev top : ℕ
+top = 2 ^ 64 - 1
+
+-- what is needed of lines of version 2
+pub need_shared : (room : ℕ) (before : List Line) → is_shared before ≡ true → pool_need_so_far room before ≡ shape_need_so_far room before
+need_shared room before version = rw version refl
+
+-- what was gathered of lines that have room
+abbrev pub as_gathered : {s : SharedDevices} {start now : Stand} (before : List Line) (room : ℕ) → HasRoom HasGathered before room s start now → Gathered s now
+as_gathered {s} {start} {now} before room h = record {
+  room = room;
+  before = before;
+  start = start;
+  gathered = h.gathered;
+  need = subst (λ (n : ℕ). n ≤ room) (need_shared room before h.gathered.version) h.need;
+  most = h.most;
+  there = h.there;
+}
+
+-- what the wrapped lines have
+abbrev pub bare_follows : {s : SharedLines} {start now : Stand} (before : List Line) (room : ℕ) (line : Line) → Follows HasShared before room s line start now → Follows HasGathered before room s.devices line start now
+bare_follows before room line f = record {
+  so_far = record { gathered = f.so_far.gathered.gathered; lines = f.so_far.lines; need = f.so_far.need; most = f.so_far.most; there = f.so_far.there };
+  later = f.later;
+  lines = f.lines;
+}
+
+capped : {n m : ℕ} → n ≤ top → m ≡ n → min n top ≡ m
+capped most is = omega (arith, most, is)
+
+-- where a call went well, what holds, holds
+pub on_ok : {T E : Type 0} {P : Type 0} (result : Result T E) → P → OnOk result P
+on_ok (Ok value) p = p
+on_ok (Err fault) p = tt
+
+-- a line after these ones
+module _ {s : SharedDevices} {start now : Stand} (room : ℕ) (before : List Line) where
+  pub leaf_follows : (l : LeafHead) → Follows HasGathered before room s (leaf_line l) start now → IsLeafLine before l
+  leaf_follows l f = leaf_read firsts pool_grammar before l f.lines.0
+
+  pub device_follows : (e : Details) → Follows HasGathered before room s (device_line e) start now → IsDeviceLine before e
+  device_follows e f = device_read firsts pool_grammar before e f.lines.0
+
+  pub use_follows : (n : ℕ) → Follows HasGathered before room s (use_line n) start now → IsUseLine before n
+  use_follows n f = use_read firsts pool_grammar before n f.lines.0
+
+  pub run_follows : (m : Run) → Follows HasGathered before room s (map_line m) start now → IsRunLine before m
+  run_follows m f = run_read firsts pool_grammar before m f.lines.0
+
+  pub end_follows : Follows HasGathered before room s end_line start now → IsEndLine before
+  end_follows f = end_read firsts pool_grammar before f.lines.0
+
+  lacks : (line : Line) → Follows HasGathered before room s line start now → shape_need_so_far room before ≤ room
+  lacks line f = subst (λ (n : ℕ). n ≤ room) (need_shared room before f.so_far.gathered.version) f.so_far.need
+
+  -- what is needed with it is known
+  pub leaf_exact : (l : LeafHead) → Follows HasGathered before room s (leaf_line l) start now → min (shape_need_so_far room (leaf_line l ∷ before)) top ≡ pool_need_so_far room (leaf_line l ∷ before)
+  leaf_exact l f =
+      capped (leaf_fits room before f.so_far.lines f.lines.0.going (lacks (leaf_line l) f) f.so_far.most l) (need_shared room (leaf_line l ∷ before) f.so_far.gathered.version)
+
+  pub device_exact : (e : Details) → Follows HasGathered before room s (device_line e) start now → min (shape_need_so_far room (device_line e ∷ before)) top ≡ pool_need_so_far room (device_line e ∷ before)
+  device_exact e f =
+      capped (device_fits room before f.so_far.lines f.lines.0.going (lacks (device_line e) f) f.so_far.most e) (need_shared room (device_line e ∷ before) f.so_far.gathered.version)
+
+  pub use_exact : (n : ℕ) → Follows HasGathered before room s (use_line n) start now → min (shape_need_so_far room (use_line n ∷ before)) top ≡ pool_need_so_far room (use_line n ∷ before)
+  use_exact n f =
+      capped (use_fits room before f.so_far.lines f.lines.0.going (lacks (use_line n) f) f.so_far.most n) (need_shared room (use_line n ∷ before) f.so_far.gathered.version)
+
+  pub run_exact : (m : Run) → Follows HasGathered before room s (map_line m) start now → min (shape_need_so_far room (map_line m ∷ before)) top ≡ pool_need_so_far room (map_line m ∷ before)
+  run_exact m f =
+      let most : m.length ≤ 2 ^ 64 = omega (arith, (run_follows m f).virtual_fits) in
+      capped (map_fits room before f.so_far.lines f.lines.0.going (lacks (map_line m) f) f.so_far.most m most) (need_shared room (map_line m ∷ before) f.so_far.gathered.version)
+
+  -- a run for which there is room
+  pub run_fits : (m : Run) (needed : ℕ) → Follows HasGathered before room s (map_line m) start now → needed ≡ min (shape_need_so_far room (map_line m ∷ before)) top → needed ≤ room
+      → shape_need_so_far room (map_line m ∷ before) ≤ room
+  run_fits m needed f is within = omega (arith, is, within, f.so_far.most)
+
+-- a text that has room has few lines
+pub few_after : {s : SharedLines} {start now : Stand} (room : ℕ) (before : List Line) (line : Line) → Follows HasShared before room s line start now → length before < 2 ^ 62
+few_after room before line f =
+    few_lines room before f.so_far.lines f.lines.0.going (subst (λ (n : ℕ). n ≤ room) (need_shared room before f.so_far.gathered.gathered.version) f.so_far.need) f.so_far.most
+
+-- what the end needs, where the last device has no piece, and where it has some
+module _ {s : SharedLines} {start now : Stand} (room needed : ℕ) where
+  at_end : (before : List Line) (b : Bool) → HasShared room before s start now → has_ended pool_format before ≡ false → s.lacks_pieces ≡ b
+      → shape_need_so_far room (end_line ∷ before) ≡ shape_need_so_far room before + (if b then 1 else 0)
+  at_end before b h going is = end_needs room before going ∙ ap (λ (b : Bool). shape_need_so_far room before + (if b then 1 else 0)) (sym h.last ∙ is)
+
+  shared_lacks : (before : List Line) → HasShared room before s start now → pool_need_so_far room before ≤ room → shape_need_so_far room before ≤ room
+  shared_lacks before h need = subst (λ (n : ℕ). n ≤ room) (need_shared room before h.gathered.version) need
+
+  pub end_exact_with : (more : ℕ) (before : List Line) → HasShared room before s start now → has_ended pool_format before ≡ false → pool_need_so_far room before ≤ room → room ≤ 4161600
+      → needed ≡ min (shape_need_so_far room before) top → s.lacks_pieces ≡ true → more ≡ min (needed + 1) top → more ≡ pool_need_so_far room (end_line ∷ before)
+  end_exact_with more before h going need most is lacking added =
+      let last = at_end before true h going lacking in
+      let exact : more ≡ shape_need_so_far room (end_line ∷ before) = omega (arith, last, shared_lacks before h need, most, is, added) in
+      exact ∙ sym (need_shared room (end_line ∷ before) h.gathered.version)
+
+  pub end_exact_without : (before : List Line) → HasShared room before s start now → has_ended pool_format before ≡ false → pool_need_so_far room before ≤ room → room ≤ 4161600
+      → needed ≡ min (shape_need_so_far room before) top → s.lacks_pieces ≡ false → needed ≡ pool_need_so_far room (end_line ∷ before)
+  end_exact_without before h going need most is lacking =
+      let last = at_end before false h going lacking in
+      let exact : needed ≡ shape_need_so_far room (end_line ∷ before) = omega (arith, last, shared_lacks before h need, most, is) in
+      exact ∙ sym (need_shared room (end_line ∷ before) h.gathered.version)
+
+-- how many lines were taken
+pub taken_lines : (before : List Line) (lines more : ℕ) → lines ≡ length before → more ≡ min (lines + 1) top → length before < 2 ^ 62 → more ≡ suc (length before)
+taken_lines before lines more is added few = omega (arith, is, added, few)
+
+-- the first two lines of a text of version 2 were read
+pub begun_shared : (p : Pool) (room : ℕ) (text : TextReader ThinState ThinLine) (s : SharedLines) (start : Stand) → HasBegun true text p room start
+    → HasShared room (pool_line (head_of_pool p) ∷ shared_first_line ∷ []) s start start → Reading HasShared (begun_lines text p) room text s start start
+begun_shared p room text s start begun gathered =
+    begun_reading HasShared (first_of text.state) (head_of_pool p) room text s start begun.reads
+    (subst (λ (shared : Bool). HasShared room (pool_line (head_of_pool p) ∷ (if shared then shared_first_line else first_line) ∷ []) s start start) (sym begun.version) gathered)
+    begun.need begun.most begun.there
+
+begun_same : (first : Line) (before : List Line) → 1 ≤ length before → begun first before ≡ before
+begun_same first [] some = absurd (omega arith)
+begun_same first (line ∷ before) some = refl
+
+-- what a refusal says, behind the last line and before
+module _ (room : ℕ) (before : List Line) (text : TextReader ThinState ThinLine) (s : SharedLines) (start now : Stand) (h : Reading HasShared before room text s start now) (first : Line) (t : List ℕ) (fault : TextFault)
+    (refuses : RefusesNext pool_format first end_line t before (c.Text fault)) where
+  same : begun first before ≡ before
+  same = begun_same first before (omega (arith, h.later))
+
+  few : length before < 2 ^ 62
+  few = few_lines room before h.so_far.lines h.reads.going (subst (λ (n : ℕ). n ≤ room) (need_shared room before h.so_far.gathered.gathered.version) h.so_far.need) h.so_far.most
+
+  pub behind_says : (needed : ℕ) → length before + 1 < fault.line → room < needed → needed ≡ pool_need_so_far room (end_line ∷ before)
+      → SaysOf pool_format pool_need_so_far room t (r.NoRoom needed room)
+  behind_says needed behind short is =
+      ⊎_elim (λ here. absurd (omega (arith, here.number, behind)))
+      (⊎_elim (λ second. absurd (early (rw same at second)))
+      (λ end. ends (rw same at end))) refuses
+    where
+      early : IsRefusedAfter pool_format t before fault → ⊥
+      early here = omega (arith, here.number, behind)
+
+      ends : IsRefusedAfter pool_format t (end_line ∷ before) fault → SaysOf pool_format pool_need_so_far room t (r.NoRoom needed room)
+      ends end = (
+        ap (λ (reading : Texts.Reading Line). need_above_room (pool_need_so_far room) room [] reading.lines) end.is
+            ∙ (above_here pool_need_so_far room before [] end_line h.above (omega (arith, h.later)) (omega (arith, short, is)) ∙ ap (λ n. Some n) (sym is)),
+        refl,
+      )
+
+  pub before_says : fault.line ≤ length before + 1 → SaysOf pool_format pool_need_so_far room t (r.Text fault)
+  before_says within =
+      ⊎_elim (λ here. refused_says pool_format pool_need_so_far room t before fault h.above here)
+      (⊎_elim (λ second. refused_says pool_format pool_need_so_far room t before fault h.above (rw same at second))
+      (λ end. absurd (late (rw same at end)))) refuses
+    where
+      late : IsRefusedAfter pool_format t (end_line ∷ before) fault → ⊥
+      late end = omega (arith, end.number, within, few)
+
+-- so many lines were read
+pub few_lines_before : (room : ℕ) (before : List Line) (text : TextReader ThinState ThinLine) (s : SharedLines) (start now : Stand) → Reading HasShared before room text s start now → length before < 2 ^ 62
+few_lines_before room before text s start now h =
+    few_lines room before h.so_far.lines h.reads.going (subst (λ (n : ℕ). n ≤ room) (need_shared room before h.so_far.gathered.gathered.version) h.so_far.need) h.so_far.most

@@ -1,0 +1,67 @@
+-- What is gathered of a pool's text of version 1.
+use Rattle.std.proofs.Common.{◌≡◌, ℕ, ◌-◌, ◌<◌, ◌≤◌, ◌^◌, min, Bool, false, if◌then◌else◌, List, [], ◌∷◌, length, sym, ◌∙◌, subst, arith}
+use Rattle.pd_draft.specs.Placed.{Stand}
+use Rattle.pd_spells.specs.ThinText.{Line, first_line, shared_first_line, pool_line, end_line, is_shared, pool_format}
+use Rattle.pd_spells.specs.ThinNeed.{thin_need_so_far}
+use Rattle.pd_spells.proofs.ThinRead.{pool_grammar}
+use Rattle.pd_shapes.specs.PoolText.{pool_need_so_far}
+use Rattle.pd_texts.specs.Reader.{IsReadAfter}
+use Rattle.pd_texts.specs.ThinLine.{line_of}
+use Rattle.pd_texts.specs.ThinNext.{IsEndLine}
+use Rattle.pd_texts.proofs.ThinNextLemmas.{end_read}
+use Rattle.pd_texts.specs.declared.reader.TextReader.{TextReader}
+use Rattle.pd_texts.specs.declared.thin_line.ThinLine.{ThinLine}
+use Rattle.pd_texts.specs.declared.thin_state.ThinState.{ThinState}
+use Rattle.pd_texts.specs.ThinState.{first_of}
+use Rattle.pd_devices.specs.declared.devices.Devices.{Devices}
+use Rattle.pd_devices.specs.Gathered.{HasGathered, Gathered}
+use Rattle.pd_restore.specs.declared.pool.Pool.{Pool}
+use Rattle.pd_restore.specs.Reading.{Follows, HasRoom, Reading}
+use Rattle.pd_restore.specs.Unshared.{HasUnshared}
+use Rattle.pd_restore.specs.Whole.{HasBegun, begun_lines, head_of_pool}
+use Rattle.pd_restore.proofs.ReadingLemmas.{begun_reading}
+use Rattle.pd_restore.proofs.UnsharedLines.{need_is, need_fits, end_need, few_lines, same_version}
+
+-- what was gathered of lines that have room
+abbrev pub as_gathered : {s : Devices} {start now : Stand} (before : List Line) (room : ℕ) → HasRoom HasUnshared before room s start now → Gathered s now
+as_gathered {s} {start} {now} before room h = record {
+  before = before;
+  start = start;
+  gathered = h.gathered;
+  room = room;
+  need = subst (λ (n : ℕ). n ≤ room) (need_is room before h.gathered.version) h.need;
+  most = h.most;
+  there = h.there;
+}
+
+-- the first two lines of a text of version 1 were read
+pub begun_unshared : (p : Pool) (room : ℕ) (text : TextReader ThinState ThinLine) (s : Devices) (start : Stand) → HasBegun false text p room start
+    → HasGathered (pool_line (head_of_pool p) ∷ first_line ∷ []) s start start → Reading HasUnshared (begun_lines text p) room text s start start
+begun_unshared p room text s start begun gathered =
+    begun_reading HasUnshared (first_of text.state) (head_of_pool p) room text s start begun.reads
+    (subst (λ (shared : Bool). HasGathered (pool_line (head_of_pool p) ∷ (if shared then shared_first_line else first_line) ∷ []) s start start) (sym begun.version) gathered)
+    begun.need begun.most begun.there
+
+-- the last line after these ones
+pub end_follows : (before : List Line) → IsReadAfter pool_format before end_line → IsEndLine before
+end_follows before after = end_read (first_line ∷ shared_first_line ∷ []) pool_grammar before after
+
+-- it needs nothing
+pub end_fits : (room : ℕ) (before : List Line) → is_shared before ≡ false → pool_need_so_far room before ≤ room → pool_need_so_far room (end_line ∷ before) ≤ room
+end_fits room before version need = subst (λ (n : ℕ). n ≤ room) (sym (end_need room before version)) need
+
+-- what is needed after a line more is known
+pub line_fits : {s : Devices} {start now : Stand} (room : ℕ) (before : List Line) (line : ThinLine) → Follows HasUnshared before room s (line_of line) start now
+    → min (thin_need_so_far room (line_of line ∷ before)) (2 ^ 64 - 1) ≡ pool_need_so_far room (line_of line ∷ before)
+line_fits {s} {start} {now} room before line f =
+    let version = f.so_far.gathered.version in
+    let lacks : thin_need_so_far room before ≤ room = subst (λ (n : ℕ). n ≤ room) (need_is room before version) f.so_far.need in
+    let most = need_fits room before line f.later version f.lines.0 f.so_far.gathered.small lacks f.so_far.most in
+    capped most ∙ sym (need_is room (line_of line ∷ before) (same_version before line ∙ version))
+  where
+    capped : {n : ℕ} → n ≤ 2 ^ 64 - 1 → min n (2 ^ 64 - 1) ≡ n
+    capped most = omega arith
+
+-- a text that has room has few lines
+pub few_after : {s : Devices} {start now : Stand} (room : ℕ) (before : List Line) (line : ThinLine) → Follows HasUnshared before room s (line_of line) start now → length before < 2 ^ 64 - 1
+few_after room before line f = few_lines room before f.so_far.gathered f.so_far.lines f.lines.0.going f.so_far.need f.so_far.most

@@ -1,0 +1,34 @@
+use Rattle.std.proofs.Common.{refl, arith}
+use Rattle.pd_draft.specs.Stand.{stand}
+use Rattle.pd_restore.proofs.ReadingLemmas.{no_room_asked}
+use Rattle.pd_restore.proofs.SharedLemmas.{as_gathered, bare_follows, end_follows, few_after, taken_lines}
+use Rattle.pd_spells.specs.ThinText.{end_line}
+use Rattle.pd_restore.proofs.shared.SharedLinesGathering.take_end.Goals as goal
+
+pub returns-then-needed-room-clause-need : goal.returns-then-needed-room-clause-need
+returns-then-needed-room-clause-need g c before start f =
+    let is = c.need_at_end-needed.ensures before start (stand c.args.draft.now) f.so_far.gathered f.lines.0.going f.so_far.need f.so_far.most in
+    (is, (refl, omega (arith, is, c.if-needed-room.true)))
+
+pub end-requires-clause-gathered : goal.end-requires-clause-gathered
+end-requires-clause-gathered g c =
+    let p = c.requires.follows in
+    let f = bare_follows p.before c.args.room end_line p.follows in
+    record { so_far = as_gathered p.before c.args.room f.so_far; full = (end_follows c.args.room p.before f).complete }
+
+pub returns-in-Ok-clause-gathered : goal.returns-in-Ok-clause-gathered
+returns-in-Ok-clause-gathered g c before start f =
+    let bare = bare_follows before c.args.room end_line f in
+    record {
+      gathered = c.in-Ok.ensures.gathered c.args.room before start bare.so_far.gathered (end_follows c.args.room before bare);
+      lines = taken_lines before c.args.self.now.lines c.saturating_add-self.result f.so_far.gathered.lines (omega (arith, c.saturating_add-self.ensures)) (few_after c.args.room before end_line f);
+      last = f.so_far.gathered.last;
+    }
+
+pub returns-in-Ok-clause-need : goal.returns-in-Ok-clause-need
+returns-in-Ok-clause-need g c before start f =
+    let is = c.need_at_end-needed.ensures before start (stand c.args.draft.now) f.so_far.gathered f.lines.0.going f.so_far.need f.so_far.most in
+    omega (arith, is, c.if-needed-room.false)
+
+pub returns-in-Err-clause-need : goal.returns-in-Err-clause-need
+returns-in-Err-clause-need g c before start f = rw c.of_build.ensures (no_room_asked c.in-Err.fault c.args.room _)

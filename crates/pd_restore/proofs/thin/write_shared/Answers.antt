@@ -1,0 +1,27 @@
+use Rattle.std.proofs.Common.{refl}
+use Rattle.pd_draft.specs.Stand.{stand}
+use Rattle.pd_restore.specs.Whole.{head_of_pool}
+use Rattle.pd_restore.proofs.BeginLemmas.{pool_small}
+use Rattle.pd_restore.proofs.SharedLemmas.{begun_shared}
+use Rattle.pd_restore.proofs.thin.write_shared.Goals as goal
+
+pub new-requires-clause-blocks : goal.new-requires-clause-blocks
+new-requires-clause-blocks g c = pool_small c.args.pool.now c.args.text.now c.requires.begun.reads
+
+pub write_pool-requires-clause-reading : goal.write_pool-requires-clause-reading
+write_pool-requires-clause-reading g c =
+    let a = stand c.args.draft.now in
+    let b = c.requires.begun in
+    record { start = a; reads = begun_shared c.args.pool.now c.args.room c.args.text.now c.in-Ok.lines a b (c.in-Ok.ensures (head_of_pool c.args.pool.now) a refl b.place c.requires.closed) }
+
+pub returns-clause-writes : goal.returns-clause-writes
+returns-clause-writes g c =
+    let a = stand c.args.draft.now in
+    let b = c.requires.begun in
+    c.write_pool.ensures.writes a (begun_shared c.args.pool.now c.args.room c.args.text.now c.in-Ok.lines a b (c.in-Ok.ensures (head_of_pool c.args.pool.now) a refl b.place c.requires.closed))
+
+pub returns-clause-says : goal.returns-clause-says
+returns-clause-says g c t leaves =
+    let a = stand c.args.draft.now in
+    let b = c.requires.begun in
+    c.write_pool.ensures.says a (begun_shared c.args.pool.now c.args.room c.args.text.now c.in-Ok.lines a b (c.in-Ok.ensures (head_of_pool c.args.pool.now) a refl b.place c.requires.closed)) t leaves

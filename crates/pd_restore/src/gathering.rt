@@ -1,0 +1,91 @@
+//! What gathers the lines of a pool's text.
+
+ghost use Rattle.std.specs.Prelude.{◌≡◌, ◌-◌, ◌<◌, ◌≤◌, ◌^◌, ℕ, List, ◌∷◌, length, IfOk, OnOk, MatchResult};
+ghost use Rattle.pd_image.specs.Device.{IsWritable};
+ghost use Rattle.pd_draft.specs.Closed.{IsClosed, StaysClosed};
+ghost use Rattle.pd_draft.specs.Placed.{Stand};
+ghost use Rattle.pd_draft.specs.Stand.{stand};
+ghost use Rattle.pd_spells.specs.ThinText.{Line, end_line, pool_format};
+ghost use Rattle.pd_shapes.specs.PoolText.{pool_need_so_far};
+ghost use Rattle.pd_texts.specs.Reader.{RefusesNext};
+ghost use Rattle.pd_texts.specs.declared.reader.TextReader.{TextReader};
+ghost use Rattle.pd_texts.specs.declared.thin_state.ThinState.{ThinState};
+ghost use Rattle.pd_texts.specs.ThinLine.{line_of};
+ghost use Rattle.pd_build.specs.Causes.{CountsBuildFault};
+ghost use Rattle.pd_restoring.specs.Reading.{CountsTake, IsOfLater, SaysOf};
+ghost use Rattle.pd_restore.specs.Reading.{Gathers, Reading, CanTake, Follows, CanWrite, HasReadAll, WritesParts, IsOfText, IsOver};
+
+use crate::parts::Parts;
+use pd_build::BuildFault;
+use pd_draft::Draft;
+use pd_image::Device;
+use pd_restoring::RestoreFault;
+use pd_texts::{ReadFault, TextFault, ThinLine};
+use std::alloc::Global;
+
+/// What gathers the lines of a pool's text of one version, and writes what they mean.
+pub(crate) trait Gathering {
+    /// Of these lines, the newest first, all was gathered, where there are so many blocks for metadata, and what is over of
+    /// them is written from one stand to another.
+    ghost HasGathered: { Gathers Self };
+
+    /// Takes a line after the pool line, where there is room for it. A text that has room has few lines.
+    fn take_line<D: Device>(
+        &mut self,
+        draft: &mut Draft<'_, D>,
+        line: ThinLine,
+        room: u64,
+    ) -> Result<(), RestoreFault>
+        requires follows { CanTake HasGathered room self.old (line_of line) (stand draft.old) }
+        requires writable { IsWritable (stand draft.old).device }
+        requires closed { IsClosed (stand draft.old).device }
+        ensures same_reference { draft.new.dev.ghost_name ≡ draft.old.dev.ghost_name }
+        ensures gathered { (before : List Line) (start : Stand) → Follows HasGathered before room self.old (line_of line) start (stand draft.old)
+            → OnOk result (HasGathered room (line_of line ∷ before) self.new start (stand draft.new)) }
+        ensures need { (before : List Line) (start : Stand) → Follows HasGathered before room self.old (line_of line) start (stand draft.old)
+            → MatchResult result (λ _. pool_need_so_far room (line_of line ∷ before) ≤ room) (IsOver room (pool_need_so_far room (line_of line ∷ before))) }
+        ensures few { (before : List Line) (start : Stand) → Follows HasGathered before room self.old (line_of line) start (stand draft.old) → length before < 2 ^ 64 - 1 }
+        ensures closed { StaysClosed (stand draft.old).device (stand draft.new).device }
+        ensures faults { CountsTake result (stand draft.old).device.faults (stand draft.new).device.faults };
+
+    /// Takes the last line, where there is room for it.
+    fn take_end<D: Device>(
+        &mut self,
+        draft: &mut Draft<'_, D>,
+        room: u64,
+    ) -> Result<(), RestoreFault>
+        requires follows { CanTake HasGathered room self.old end_line (stand draft.old) }
+        requires writable { IsWritable (stand draft.old).device }
+        requires closed { IsClosed (stand draft.old).device }
+        ensures same_reference { draft.new.dev.ghost_name ≡ draft.old.dev.ghost_name }
+        ensures gathered { (before : List Line) (start : Stand) → Follows HasGathered before room self.old end_line start (stand draft.old)
+            → OnOk result (HasGathered room (end_line ∷ before) self.new start (stand draft.new)) }
+        ensures need { (before : List Line) (start : Stand) → Follows HasGathered before room self.old end_line start (stand draft.old)
+            → MatchResult result (λ _. pool_need_so_far room (end_line ∷ before) ≤ room) (IsOver room (pool_need_so_far room (end_line ∷ before))) }
+        ensures closed { StaysClosed (stand draft.old).device (stand draft.new).device }
+        ensures faults { CountsTake result (stand draft.old).device.faults (stand draft.new).device.faults };
+
+    /// What is answered where the text is refused: that there is no room where it is refused behind its last line, for which
+    /// there is none.
+    fn refused(&self, fault: TextFault, room: u64) -> RestoreFault
+        ensures says { (before : List Line) (text : TextReader ThinState ThinLine) (start now : Stand) → Reading HasGathered before room text self.now start now
+            → (first : Line) (t : List ℕ) → RefusesNext pool_format first end_line t before (ReadFault.Text fault) → SaysOf pool_format pool_need_so_far room t result }
+        ensures later { 3 ≤ fault.line → IsOfLater result }
+        ensures fault { IsOfText result };
+
+    /// Writes the parts of the pool behind its devices.
+    fn write_parts<D: Device>(
+        &self,
+        alloc: Global,
+        draft: &mut Draft<'_, D>,
+        room: u64,
+    ) -> Result<Parts, BuildFault>
+        requires whole { CanWrite HasGathered room self.now (stand draft.old) }
+        requires writable { IsWritable (stand draft.old).device }
+        requires closed { IsClosed (stand draft.old).device }
+        ensures same_reference { draft.new.dev.ghost_name ≡ draft.old.dev.ghost_name }
+        ensures writes { (lines : List Line) (start : Stand) → HasReadAll HasGathered lines room self.now start (stand draft.old)
+            → IfOk result (WritesParts lines room start (stand draft.new)) }
+        ensures closed { StaysClosed (stand draft.old).device (stand draft.new).device }
+        ensures faults { CountsBuildFault result (stand draft.old).device.faults (stand draft.new).device.faults };
+}

@@ -1,0 +1,118 @@
+//! A pool's text of version 1, whose devices share no leaf.
+
+ghost use Rattle.std.specs.Prelude.{◌≡◌, ◌-◌, ◌≤◌, ◌^◌, List, ◌∷◌, min, IfErr, OnOk, MatchResult};
+ghost use Rattle.pd_image.specs.Device.{IsWritable};
+ghost use Rattle.pd_draft.specs.Closed.{IsClosed, StaysClosed};
+ghost use Rattle.pd_draft.specs.Placed.{Stand};
+ghost use Rattle.pd_draft.specs.Stand.{stand};
+ghost use Rattle.pd_spells.specs.ThinNeed.{thin_need_so_far};
+ghost use Rattle.pd_spells.specs.ThinText.{Line};
+ghost use Rattle.pd_texts.specs.ThinLine.{line_of};
+ghost use Rattle.pd_devices.specs.Gathered.{HasGathered};
+ghost use Rattle.pd_build.specs.Causes.{CountsBuildFault};
+ghost use Rattle.pd_restore.specs.Reading.{CanTake, Follows, IsNoRoom, IsShort};
+ghost use Rattle.pd_restore.specs.Unshared.{HasUnshared};
+
+use crate::gathering::Gathering;
+use crate::parts::{Parts, write_device_parts};
+use pd_build::BuildFault;
+use pd_devices::{Devices, Run};
+use pd_draft::Draft;
+use pd_image::Device;
+use pd_restoring::{RestoreFault, of_build};
+use pd_texts::{TextFault, ThinLine};
+use std::alloc::Global;
+
+impl Gathering for Devices {
+    ghost use Rattle.pd_restore.specs.Unshared.{HasUnshared};
+
+    ghost HasGathered = { HasUnshared };
+
+    fn take_line<D: Device>(
+        &mut self,
+        draft: &mut Draft<'_, D>,
+        line: ThinLine,
+        room: u64,
+    ) -> Result<(), RestoreFault> {
+        match put_line(draft, self, line, room) {
+            Ok(()) => look(self, room),
+            Err(fault) => Err(of_build(fault)),
+        }
+    }
+
+    fn take_end<D: Device>(
+        &mut self,
+        draft: &mut Draft<'_, D>,
+        room: u64,
+    ) -> Result<(), RestoreFault> {
+        let _room = room;
+        match self.end(draft) {
+            Ok(()) => Ok(()),
+            Err(fault) => Err(of_build(fault)),
+        }
+    }
+
+    fn refused(&self, fault: TextFault, room: u64) -> RestoreFault {
+        let _room = room;
+        RestoreFault::Text(fault)
+    }
+
+    fn write_parts<D: Device>(
+        &self,
+        alloc: Global,
+        draft: &mut Draft<'_, D>,
+        room: u64,
+    ) -> Result<Parts, BuildFault> {
+        write_device_parts(alloc, draft, self, room)
+    }
+}
+
+/// Restores a line after the pool line.
+fn put_line<D: Device>(
+    draft: &mut Draft<'_, D>,
+    devices: &mut Devices,
+    line: ThinLine,
+    room: u64,
+) -> Result<(), BuildFault>
+    requires follows { CanTake HasUnshared room devices.old (line_of line) (stand draft.old) }
+    requires writable { IsWritable (stand draft.old).device }
+    requires closed { IsClosed (stand draft.old).device }
+    ensures same_reference { draft.new.dev.ghost_name ≡ draft.old.dev.ghost_name }
+    ensures gathered { (before : List Line) (start : Stand) → Follows HasUnshared before room devices.old (line_of line) start (stand draft.old)
+        → OnOk result (HasUnshared room (line_of line ∷ before) devices.new start (stand draft.new)) }
+    ensures closed { StaysClosed (stand draft.old).device (stand draft.new).device }
+    ensures faults { CountsBuildFault result (stand draft.old).device.faults (stand draft.new).device.faults }
+{
+    match line {
+        ThinLine::Pool { .. } => Ok(()),
+        ThinLine::Leaf { .. } => Ok(()),
+        ThinLine::Device { id, details } => devices.add_device(draft, id, details),
+        ThinLine::UseLeaf { .. } => Ok(()),
+        ThinLine::Map(run) => devices.add_run(
+            draft,
+            Run {
+                virtual_block: run.virt,
+                data_block: run.target,
+                length: run.length,
+                time: run.time,
+            },
+        ),
+    }
+}
+
+/// Whether there is room for what was restored so far.
+fn look(devices: &Devices, room: u64) -> Result<(), RestoreFault>
+    ensures need { (before : List Line) (start now : Stand) → HasGathered before devices.now start now
+        → MatchResult result (λ _. min (thin_need_so_far room before) (2 ^ 64 - 1) ≤ room) (IsShort room (min (thin_need_so_far room before) (2 ^ 64 - 1))) }
+    ensures fault { IfErr result IsNoRoom }
+{
+    let needed = devices.need(room);
+    if needed > room {
+        Err(RestoreFault::NoRoom {
+            need: needed,
+            blocks: room,
+        })
+    } else {
+        Ok(())
+    }
+}

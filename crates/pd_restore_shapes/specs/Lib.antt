@@ -1,9 +1,0 @@
-pub mod Either
-pub mod Written
-pub mod Parts
-pub mod Reading
-pub mod Begin
-pub mod Unshared
-pub mod Shared
-pub mod Whole
-pub mod Pools
