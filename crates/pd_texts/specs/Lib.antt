@@ -10,7 +10,6 @@ pub mod Leaves
 pub mod Printed
 pub mod ThinLaws
 pub mod ThinState
-pub mod FirstThinState
 pub mod ThinPrinted
 pub mod ThinNext
 pub mod Made

@@ -5,7 +5,6 @@
 #![tactic(auto)]
 
 mod fault;
-mod first_thin_state;
 mod leaves;
 mod made;
 mod print;
@@ -22,7 +21,6 @@ mod values;
 mod words;
 
 pub use fault::{ReadFault, TextFault};
-pub use first_thin_state::{FirstThinState, FirstThinText};
 pub use made::{MadeLines, MadeSource};
 pub use print::{add_uuid, add_word, bytes_of_end, bytes_of_first, print_end, print_first};
 pub use reader::TextReader;
