@@ -1,19 +1,24 @@
-//! A small copy of a pool's text: that it is printed as it was read follows from the contracts of the reader and the
-//! printers alone.
+//! A small copy of a pool's text of either version: that it is printed as it was read follows from the contracts of the
+//! reader and the printers alone.
 
-ghost use Rattle.std.specs.Prelude.{◌≡◌, List, ℕ, Option, MatchResult, Some};
+ghost use Rattle.std.specs.Prelude.{◌≡◌, ◌≤◌, length, [], List, ℕ, Option, MatchResult, Some};
 ghost use Rattle.std.specs.Bool.{MatchBool};
-ghost use Rattle.pd_kinds.specs.Meaning.{ThinPool};
 ghost use Rattle.pd_kinds.specs.Objects.{Appends};
-ghost use Rattle.pd_spells.specs.ThinText.{SpellsPool};
-ghost use Rattle.pd_text_tests.specs.Copied.{IsCopying, HasCopied, IsRefused};
+ghost use Rattle.pd_laid.specs.Shape.{ThinShape};
+ghost use Rattle.pd_lines.specs.Pieces.{Gathers};
+ghost use Rattle.pd_shapes.specs.PoolText.{SpellsPoolShape};
+ghost use Rattle.pd_spells.specs.ThinText.{Line, pool_format};
+ghost use Rattle.pd_texts.specs.Reader.{LeavesOf, ReadsOn};
+ghost use Rattle.pd_texts.specs.ThinState.{ThinStands};
+ghost use Rattle.pd_text_tests.specs.Copied.{IsCopying, HasCopied, IsRefused, first_printed};
 
 use pd_image::{Sink, Source};
 use pd_kinds::Kind;
 use pd_lines::Pieces;
+use pd_shapes::pool_text_unless_refused;
 use pd_texts::{
-    FirstThinText, ReadFault, bytes_of_end, bytes_of_first, bytes_of_thin,
-    thin_lines_are_printed_in_order, whole_thin_text_spells,
+    ReadFault, ThinText, bytes_of_end, bytes_of_first, bytes_of_shared_first, bytes_of_thin,
+    read_pool_lines_are_in_range, thin_lines_are_printed_in_order, whole_thin_text_spells,
 };
 use std::alloc::Global;
 
@@ -28,29 +33,72 @@ pub enum CopyFault {
     Length,
 }
 
-/// Reads a pool's text and prints it again.
+/// Reads a pool's text of either version and prints it again.
 pub fn copy<S: Source, K: Sink>(alloc: Global, source: &mut S, out: &mut K) -> Result<(), CopyFault>
     requires source { (S.state source.old).access ≡ 1 }
     requires sink { (K.state out.old).access ≡ 1 }
 
-    // What was read to its end is printed byte for byte, and spells a pool; a refusal is the text's.
+    // What was read to its end is printed byte for byte, and spells a pool's shape; a refusal is the text's.
     ensures { (text : List ℕ) → (S.state source.old).left ≡ Some text
-        → MatchResult result (λ _. Appends text (K.state out.old).written (K.state out.new).written × ((m : ThinPool) × SpellsPool text m)) (IsRefused text) }
+        → MatchResult result (λ _. Appends text (K.state out.old).written (K.state out.new).written × ((w : ThinShape) × SpellsPoolShape text w)) (IsRefused text) }
 {
-    let mut text = match FirstThinText::new(alloc) {
+    let mut text = match ThinText::new(alloc) {
         Ok(text) => text,
         Err(_) => return Err(CopyFault::Read(ReadFault::Memory)),
     };
     let mut pieces = Pieces::new();
-    match pieces.add(bytes_of_first(Kind::Thin), out) {
+    match copy_first(&mut text, source, &mut pieces, out) {
         Ok(()) => copy_after_first(&mut text, source, &mut pieces, out),
-        Err(_) => Err(CopyFault::Sink),
+        Err(fault) => Err(fault),
     }
 }
 
-/// Copies what follows the first line.
+/// Copies the first two lines, which the first answer gives.
+fn copy_first<S: Source, K: Sink>(
+    text: &mut ThinText,
+    source: &mut S,
+    pieces: &mut Pieces,
+    out: &mut K,
+) -> Result<(), CopyFault>
+    requires source { (S.state source.old).access ≡ 1 }
+    requires sink { (K.state out.old).access ≡ 1 }
+    requires reads { ReadsOn pool_format ThinStands [] text.old }
+    ensures copied { (t : List ℕ) (start : Option (List ℕ)) → LeavesOf pool_format t [] text.old (S.state source.old).left → Gathers [] pieces.old start (K.state out.old).written
+        → MatchResult result (λ _. IsCopying t start text.new (S.state source.new).left pieces.new (K.state out.new).written) (IsRefused t) }
+    ensures source { (S.state source.new).access ≡ 1 }
+    ensures sink { (K.state out.new).access ≡ 1 }
+{
+    read_pool_lines_are_in_range();
+    thin_lines_are_printed_in_order();
+    match text.next(source) {
+        Ok(Some(line)) => match pieces.add(bytes_of_version(text.version()), out) {
+            Ok(()) => match pieces.add(bytes_of_thin(&line).as_bytes(), out) {
+                Ok(()) => Ok(()),
+                Err(_) => Err(CopyFault::Sink),
+            },
+            Err(_) => Err(CopyFault::Sink),
+        },
+        // The second line is the pool's.
+        Ok(None) => unreachable!(),
+        Err(fault) => Err(CopyFault::Read(fault)),
+    }
+}
+
+/// The bytes of the first line of a text of this version.
+fn bytes_of_version(version: u32) -> &'static [u8]
+    ensures bytes { result.now ≡ first_printed version }
+    ensures len { length result.now ≤ 8 }
+{
+    if version == 2 {
+        bytes_of_shared_first()
+    } else {
+        bytes_of_first(Kind::Thin)
+    }
+}
+
+/// Copies what follows the first two lines.
 fn copy_after_first<S: Source, K: Sink>(
-    text: &mut FirstThinText,
+    text: &mut ThinText,
     source: &mut S,
     pieces: &mut Pieces,
     out: &mut K,
@@ -58,7 +106,7 @@ fn copy_after_first<S: Source, K: Sink>(
     requires source { (S.state source.old).access ≡ 1 }
     requires sink { (K.state out.old).access ≡ 1 }
     ensures { (t : List ℕ) (start : Option (List ℕ)) → IsCopying t start text.old (S.state source.old).left pieces.old (K.state out.old).written
-        → MatchResult result (λ _. Appends t start (K.state out.new).written × ((m : ThinPool) × SpellsPool t m)) (IsRefused t) }
+        → MatchResult result (λ _. Appends t start (K.state out.new).written × ((w : ThinShape) × SpellsPoolShape t w)) (IsRefused t) }
 {
     match copy_lines(text, source, pieces, out) {
         Ok(()) => put_end(pieces, out),
@@ -68,7 +116,7 @@ fn copy_after_first<S: Source, K: Sink>(
 
 /// Copies the lines up to the end of the text.
 fn copy_lines<S: Source, K: Sink>(
-    text: &mut FirstThinText,
+    text: &mut ThinText,
     source: &mut S,
     pieces: &mut Pieces,
     out: &mut K,
@@ -91,7 +139,7 @@ fn copy_lines<S: Source, K: Sink>(
 
 /// Copies a line, and answers whether there was one.
 fn copy_line<S: Source, K: Sink>(
-    text: &mut FirstThinText,
+    text: &mut ThinText,
     source: &mut S,
     pieces: &mut Pieces,
     out: &mut K,
@@ -120,8 +168,9 @@ fn copy_line<S: Source, K: Sink>(
 fn put_end<K: Sink>(pieces: &mut Pieces, out: &mut K) -> Result<(), CopyFault>
     requires { (K.state out.old).access ≡ 1 }
     ensures { (t : List ℕ) (start : Option (List ℕ)) → HasCopied t start pieces.old (K.state out.old).written
-        → MatchResult result (λ _. Appends t start (K.state out.new).written × ((m : ThinPool) × SpellsPool t m)) (IsRefused t) }
+        → MatchResult result (λ _. Appends t start (K.state out.new).written × ((w : ThinShape) × SpellsPoolShape t w)) (IsRefused t) }
 {
+    pool_text_unless_refused();
     whole_thin_text_spells();
     thin_lines_are_printed_in_order();
     match pieces.add(bytes_of_end(), out) {

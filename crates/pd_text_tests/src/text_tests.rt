@@ -12,8 +12,7 @@ use pd_image::{Failed, MemSink, MemSource, Sink, Source};
 use pd_kinds::Kind;
 use pd_lines::{LineFault, LineReader, put_number};
 use pd_texts::{
-    FirstThinState, FirstThinText, ReadFault, Run2, TextFault, TextReader, TextState, ThinLine,
-    ThinState, print_end, print_first, print_shared_first, print_thin,
+    ReadFault, Run2, TextFault, TextReader, TextState, ThinLine, ThinState, ThinText, print_end, print_first, print_shared_first, print_thin,
 };
 use pd_value::Details;
 use std::alloc::Global;
@@ -143,7 +142,7 @@ const REFUSED_TEXTS: &[Refused] = &[
     ),
     ("", 1, TextCause::NoEnd),
     ("thin 1", 1, TextCause::NoEnd),
-    ("thin 2\n", 1, TextCause::Header),
+    ("thin 2\n", 2, TextCause::NoEnd),
     ("thin 3\n", 1, TextCause::Header),
     ("thin 1 \n", 1, TextCause::Header),
     ("thin  1\n", 1, TextCause::Header),
@@ -194,7 +193,7 @@ const REFUSED_TEXTS: &[Refused] = &[
 fn texts_are_refused_at_their_line_for_their_cause(rt: HostRuntime) -> Result<(), Fail> {
     for row in REFUSED_TEXTS {
         let (text, line, cause) = *row;
-        expect_refused::<FirstThinState>(&rt, rt.alloc(), text.as_bytes(), line, cause, text)?;
+        expect_refused::<ThinState>(&rt, rt.alloc(), text.as_bytes(), line, cause, text)?;
     }
     Ok(())
 }
@@ -202,7 +201,7 @@ fn texts_are_refused_at_their_line_for_their_cause(rt: HostRuntime) -> Result<()
 #[test]
 fn bodies_are_refused_at_their_line_for_their_cause(rt: HostRuntime) -> Result<(), Fail> {
     for row in REFUSED_BODIES {
-        expect_refused_after::<FirstThinState>(&rt, rt.alloc(), FRONT, *row)?;
+        expect_refused_after::<ThinState>(&rt, rt.alloc(), FRONT, *row)?;
     }
     Ok(())
 }
@@ -219,7 +218,7 @@ fn expect_long_line_refused(
     let line = vec![in alloc; b'x'; length]?;
     text.extend_from_slice(line.as_slice())?;
     text.push(b'\n')?;
-    expect_refused::<FirstThinState>(rt, alloc, text.as_slice(), 3, cause, shown)
+    expect_refused::<ThinState>(rt, alloc, text.as_slice(), 3, cause, shown)
 }
 
 #[test]
@@ -234,7 +233,7 @@ fn lines_of_161_bytes_are_too_long(rt: HostRuntime) -> Result<(), Fail> {
 fn expect_byte_refused(rt: &impl Abort, alloc: Global, byte: u8) -> Result<(), Fail> {
     let mut text = Vec::from_slice(alloc, FRONT.as_bytes())?;
     text.extend_from_slice(&[b'e', b'n', b'd', byte, b'\n'])?;
-    expect_refused::<FirstThinState>(rt, alloc, text.as_slice(), 3, TextCause::Word, "a byte")
+    expect_refused::<ThinState>(rt, alloc, text.as_slice(), 3, TextCause::Word, "a byte")
 }
 
 #[test]
@@ -279,7 +278,7 @@ fn expect_one_mapping(rt: &impl Abort, alloc: Global, piece: usize) -> Result<()
     requires { 1 ≤ piece }
 {
     let mut source = source_of(alloc, ONE_MAPPING.as_bytes(), piece)?;
-    let mut text = FirstThinText::new(alloc)?;
+    let mut text = ThinText::new(alloc)?;
     assert!(rt; text.next(&mut *source) == Ok(Some(POOL)));
     assert!(rt; text.next(&mut *source) == Ok(Some(DEVICE)));
     assert!(rt; text.next(&mut *source) == Ok(Some(MAP)));
@@ -512,8 +511,6 @@ where
 
 #[test]
 fn bytes_for_ever_are_refused_at_once(rt: HostRuntime) -> Result<(), Fail> {
-    expect_endless_refused::<FirstThinState>(&rt, rt.alloc(), b'x', TextCause::TooLong)?;
-    expect_endless_refused::<FirstThinState>(&rt, rt.alloc(), b'\n', TextCause::Header)?;
     expect_endless_refused::<ThinState>(&rt, rt.alloc(), b'x', TextCause::TooLong)?;
     expect_endless_refused::<ThinState>(&rt, rt.alloc(), b'\n', TextCause::Header)?;
     Ok(())

@@ -5,22 +5,25 @@ ghost use Rattle.std.specs.List.{flat_map};
 ghost use Rattle.pd_kinds.specs.Meaning.{ThinPool};
 ghost use Rattle.pd_kinds.specs.declared.kind.Kind.TheVariants.{Thin};
 ghost use Rattle.pd_grammar.specs.Texts.{has_ended, reading, text_of_lines, whole};
-ghost use Rattle.pd_spells.specs.ThinText.{Line, Head, LeafHead, Details, Run, first_line, pool_line, leaf_line, device_line, use_line, map_line, end_line, head_of, thin, pool_format, text_of_pool, MeansPool, SpellsPool};
+ghost use Rattle.pd_spells.specs.ThinText.{Line, Head, LeafHead, Details, Run, first_line, shared_first_line, pool_line, leaf_line, device_line, use_line, map_line, end_line, head_of, thin, pool_format, text_of_pool, MeansPool, SpellsPool};
 ghost use Rattle.pd_texts.specs.Printed.{text_of_line, first_text, end_text};
 ghost use Rattle.pd_texts.specs.ThinPrinted.{device_text};
 ghost use Rattle.pd_texts.specs.ThinNext.{IsPoolLine, IsLeafLine, IsDeviceLine, IsUseLine, IsRunLine, IsMapLine, IsEndLine};
 ghost use Rattle.pd_texts.specs.Reader.{in_order, IsReadAfter, AreReadSoFar};
 
-/// A text of which no line is refused is the text of its lines; they mean a pool, which it spells.
+/// A text of which no line is refused is the text of its lines, in either version; in version 1 they mean a pool, which it spells.
 pub fn whole_thin_text_spells()
     ensures bytes { (text : List ℕ) (lines : List Line) → reading thin text ≡ whole lines → text ≡ text_of_lines thin lines }
+    ensures either { (text : List ℕ) (lines : List Line) → reading pool_format text ≡ whole lines → text ≡ text_of_lines pool_format lines }
     ensures spells { (text : List ℕ) (lines : List Line) → reading thin text ≡ whole lines → (m : ThinPool) × (MeansPool lines m × SpellsPool text m) }
 {}
 
-/// The bytes of the lines so far grow by those of the next line, and the first and the last line are printed as such.
+/// The bytes of the lines so far grow by those of the next line, and the first line, of either version, and the last one are
+/// printed as such.
 pub fn thin_lines_are_printed_in_order()
     ensures more { (before : List Line) (line : Line) → text_of_lines thin (in_order (line ∷ before) []) ≡ text_of_lines thin (in_order before []) ++ text_of_line thin line }
     ensures first { text_of_lines thin (in_order (first_line ∷ []) []) ≡ first_text Thin }
+    ensures shared { text_of_lines thin (in_order (shared_first_line ∷ []) []) ≡ text_of_line thin shared_first_line }
     ensures last { text_of_line thin end_line ≡ end_text }
 {}
 

@@ -1,29 +1,31 @@
 use Rattle.std.proofs.Common.{◌∷◌, []}
 use Rattle.pd_grammar.specs.Texts.{text_of_lines}
-use Rattle.pd_spells.specs.ThinText.{first_line, thin}
+use Rattle.pd_spells.specs.ThinText.{pool_format}
 use Rattle.pd_texts.specs.ThinLine.{line_of}
-use Rattle.pd_texts.specs.Reader.{begun, in_order}
+use Rattle.pd_texts.specs.Reader.{in_order}
 use Rattle.pd_text_tests.proofs.CopyLemmas.{refused_by}
 use Rattle.pd_text_tests.proofs.small_copy.copy_line.Goals as goal
 
 pub returns-in-Ok-clause-copied : goal.returns-in-Ok-clause-copied
 returns-in-Ok-clause-copied g c = λ t start copying.
-    let reads = rw c.in-Ok-Some.field-0-is at (c.in-Ok-Some.ensures.lines copying.before copying.reads) in
-    let leaves = rw c.in-Ok-Some.field-0-is at (c.in-Ok-Some.ensures.text t copying.before copying.reads copying.leaves) in
-    let before = begun first_line copying.before in
+    let before = copying.line ∷ copying.before in
     let line = line_of c.in-Ok-Some.line in
-    let total = text_of_lines thin (in_order before []) in
+    let total = text_of_lines pool_format (in_order before []) in
     record {
-      before = line ∷ before;
-      reads = reads;
-      leaves = leaves;
+      line = line;
+      before = before;
+      reads = rw c.in-Ok-Some.field-0-is at (c.in-Ok-Some.ensures.lines before copying.reads);
+      leaves = rw c.in-Ok-Some.field-0-is at (c.in-Ok-Some.ensures.text t before copying.reads copying.leaves);
       gathered = rw (c.thin_lines_are_printed_in_order.ensures.more before line) ((rw (c.as_bytes.ensures.bytes, c.bytes_of_thin.ensures.bytes) at c.in-Ok.ensures.gathered) total start copying.gathered);
     }
 
 pub returns-in-Ok-None-clause-copied : goal.returns-in-Ok-None-clause-copied
 returns-in-Ok-None-clause-copied g c = λ t start copying.
-    let gives = rw c.in-Ok-None.field-0-is at (c.in-Ok-None.ensures.text t copying.before copying.reads copying.leaves) in
-    record { lines = begun first_line copying.before; is = gives.0; gathered = copying.gathered }
+    let before = copying.line ∷ copying.before in
+    let gives = rw c.in-Ok-None.field-0-is at (c.in-Ok-None.ensures.text t before copying.reads copying.leaves) in
+    record { lines = before; is = gives.0; gathered = copying.gathered }
 
 pub returns-in-Err-clause-copied : goal.returns-in-Err-clause-copied
-returns-in-Err-clause-copied g c = λ t start copying. refused_by t copying.before c.in-Err.fault (c.in-Err.ensures.text t copying.before copying.reads copying.leaves)
+returns-in-Err-clause-copied g c = λ t start copying.
+    let before = copying.line ∷ copying.before in
+    refused_by t _ before c.in-Err.fault (c.in-Err.ensures.text t before copying.reads copying.leaves)
