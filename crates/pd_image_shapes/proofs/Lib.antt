@@ -5,3 +5,5 @@ pub mod RangeLemmas
 pub mod PiecesBack
 pub mod ShapeBack
 pub mod LaidCounts
+pub mod RangeSums
+pub mod ShapeCounts
