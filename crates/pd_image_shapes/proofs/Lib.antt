@@ -7,3 +7,5 @@ pub mod ShapeBack
 pub mod LaidCounts
 pub mod RangeSums
 pub mod ShapeCounts
+pub mod ReachedLeaves
+pub mod LeafCounts

@@ -116,7 +116,7 @@ module _ (image : List (List ℕ)) where
         data_both (flat_map (λ (ms : List Mapping). ms) leaves) owned d ∙ ap₂ (λ (m n : ℕ). m + n) front back
 
     -- that is a sum over the blocks
-    abbrev shape_share : ℕ → ℕ
+    abbrev pub shape_share : ℕ → ℕ
     shape_share b = cond (is_shared_leaf (graph image) image b) (times image d b) (count_in (all_leaf_blocks (graph image) image) b * times image d b)
 
     share_is : (b : ℕ) → b < (graph image).nr → (test : Bool) → is_shared_leaf (graph image) image b ≡ test
