@@ -1,11 +1,11 @@
 -- How often the data blocks of a sound pool are referred to: by each leaf that stands in the tree of a device, once.
-use Rattle.std.proofs.Common.{◌≡◌, ◌≢◌, ◌↔◌, inl, inr, ℕ, zero, suc, ◌+◌, ◌*◌, ◌<◌, ◌≤◌, Bool, true, false, ◌&&◌, nat_eq, nat_le, nat_lt, cond, List, [], ◌∷◌, length, map, filter, refl, sym, ap, ◌∙◌, arith}
+use Rattle.std.proofs.Common.{◌≡◌, ◌≢◌, ◌↔◌, inl, inr, ℕ, zero, suc, ◌*◌, ◌<◌, ◌≤◌, Bool, true, false, ◌&&◌, nat_eq, nat_le, nat_lt, cond, List, [], ◌∷◌, length, map, filter, refl, sym, ap, ◌∙◌, arith}
 use Rattle.std.proofs.Math.Nat.{mul-zero, zero-mul}
-use Rattle.std.specs.List.{AllByRecursion, flat_map, list_any, range_with_len, sum_by}
+use Rattle.std.specs.List.{AllByRecursion, flat_map, range_with_len, sum_by}
 use Rattle.std.proofs.lemmas.Bool.{both_ways, cases_Bool, cases_lt, cond_both, lt-ltb, le-leb, ltb-true, and_parts}
 use Rattle.pd_kinds.specs.Graph.{block_at, block_of, data_count, data_refs_of, is_inner_pair, is_reached, next, nodes, pair, role_of}
 use Rattle.pd_kinds.specs.Lawful.{IsLawful}
-use Rattle.pd_kinds.specs.Layout.{Layout, graph_of, is_bad, layout_data, leaf_entries}
+use Rattle.pd_kinds.specs.Layout.{graph_of, is_bad, layout_data, leaf_entries}
 use Rattle.pd_kinds.specs.Meaning.{Mapping}
 use Rattle.pd_kinds.specs.Node.{Entry}
 use Rattle.pd_kinds.specs.Paths.{IsOnPath}
@@ -70,9 +70,12 @@ module _ (image : List (List ℕ)) (ordered : AreInOrder (graph image) image) wh
   leaf_names : (c : ℕ) → IsReached (graph image) image c 3 → data_refs_of (graph image) image (pair c 3) ≡ map (λ (x : Mapping). x.data_block) (mappings_in image c)
   unfolding thin_graph graph_of
   leaf_names c reached =
-      rw (role_pair c 3 (omega arith), block_pair c 3 (omega arith),
-      not_bad 11 nr data_blocks (thin_layout nr data_blocks) image ordered (bottom_tree data_blocks) 3 (omega arith) (bottom_is nr data_blocks) c reached,
-      bottom_is nr data_blocks)
+      rw (
+        role_pair c 3 (omega arith),
+        block_pair c 3 (omega arith),
+        not_bad 11 nr data_blocks (thin_layout nr data_blocks) image ordered (bottom_tree data_blocks) 3 (omega arith) (bottom_is nr data_blocks) c reached,
+        bottom_is nr data_blocks,
+      )
       (entries_name (leaf_entries 8 (block_at image c)))
 
   other_names : (p : ℕ) → role_of p ≢ 3 → data_refs_of (graph image) image p ≡ []

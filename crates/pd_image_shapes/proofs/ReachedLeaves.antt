@@ -1,5 +1,5 @@
 -- The leaves of mappings that are reached are those in the trees of the devices, in a pool that holds no copy.
-use Rattle.std.proofs.Common.{◌≡◌, ◌↔◌, ◌⊎◌, inl, inr, ℕ, zero, suc, ◌+◌, ◌*◌, ◌<◌, ◌≤◌, Bool, true, false, nat_eq, cond, List, [], ◌∷◌, map, refl, sym, subst, ◌∙◌, arith, eq-eqb}
+use Rattle.std.proofs.Common.{◌≡◌, ◌↔◌, ◌⊎◌, inl, inr, ℕ, suc, ◌*◌, ◌<◌, ◌≤◌, Bool, true, false, nat_eq, cond, List, [], ◌∷◌, map, refl, sym, subst, ◌∙◌, arith, eq-eqb}
 use Rattle.std.specs.List.{AllByRecursion, flat_map, list_any}
 use Rattle.std.proofs.lemmas.Bool.{both_ways, cases_Bool, cases_lt, eqb-true, or_cases, or_left, or_right, cond_both}
 use Rattle.pd_kinds.specs.Edge.{Edge}
@@ -19,7 +19,7 @@ use Rattle.pd_laws.specs.InOrder.{AreInOrder}
 use Rattle.pd_laws.proofs.AllLemmas.{all_flat_map, all_from, all_from_two, all_mapped}
 use Rattle.pd_laid.proofs.NodeFacts.{any-map, block_pair, under_all}
 use Rattle.pd_laid.proofs.SalvageLemmas.{bottom_tree}
-use Rattle.pd_laid_graph.proofs.ListLemmas.{all_pairs, holds_of_found}
+use Rattle.pd_laid_graph.proofs.ListLemmas.{holds_of_found}
 use Rattle.pd_shapes.specs.ImageShape.{all_leaf_blocks, device_roots, leaf_blocks}
 use Rattle.pd_tree.specs.Sound.{IsCleanPair}
 use Rattle.pd_tree.specs.TreeRoles.{IsTreeTo}
@@ -76,12 +76,23 @@ module _ (image : List (List ℕ)) where
       let elsewhere : (block role : ℕ) → 4 ≤ role → role < 16 → IsPlaced (pair block role) = λ block role late few. other (omega arith) in
       rw (eq-eqb fields.held_root 0 none) (
         top (omega arith) 0 (at_once (pair fields.mapping_root 2)),
-        (elsewhere fields.details_root 4 (omega arith) (omega arith),
-        (elsewhere fields.data_map.bitmap_root 5 (omega arith) (omega arith),
-        (elsewhere fields.data_map.overflow_root 7 (omega arith) (omega arith),
-        (elsewhere fields.meta_map.bitmap_root 8 (omega arith) (omega arith),
-        (elsewhere fields.meta_map.overflow_root 10 (omega arith) (omega arith),
-        tt))))))
+        (
+          elsewhere fields.details_root 4 (omega arith) (omega arith),
+          (
+            elsewhere fields.data_map.bitmap_root 5 (omega arith) (omega arith),
+            (
+              elsewhere fields.data_map.overflow_root 7 (omega arith) (omega arith),
+              (
+                elsewhere fields.meta_map.bitmap_root 8 (omega arith) (omega arith),
+                (
+                  elsewhere fields.meta_map.overflow_root 10 (omega arith) (omega arith),
+                  tt,
+                ),
+              ),
+            ),
+          ),
+        ),
+      )
 
   super_edges : fields.held_root ≡ 0 → AllByRecursion IsPlacedEdge (edges_of graph image 0)
   unfolding thin_graph graph_of thin_layout

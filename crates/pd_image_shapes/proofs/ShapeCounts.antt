@@ -1,19 +1,18 @@
 -- How often the leaves of an image name a data block, and how often its shape tells it.
-use Rattle.std.proofs.Common.{◌≡◌, ◌≢◌, inl, inr, ℕ, zero, suc, ◌+◌, ◌*◌, ◌<◌, ◌≤◌, Bool, true, false, cond, nat_eq, nat_le, nat_lt, get_or, List, [], ◌∷◌, ◌++◌, length, map, filter, Option, Some, None, refl, sym, ◌∙◌, ap, ap₂, subst, eq-eqb, arith}
-use Rattle.std.specs.List.{AllByRecursion, count_by, flat_map, list_any, position, position_or_len, range_with_len, sum_by}
-use Rattle.std.proofs.lemmas.Bool.{cases_Bool, cases_eq, cases_lt, lt-ltb, le-ltb, le-leb, lt-leb, and_from, both_ways, ne_eqb, or_right}
+use Rattle.std.proofs.Common.{◌≡◌, inl, inr, ℕ, zero, suc, ◌+◌, ◌*◌, ◌<◌, ◌≤◌, Bool, true, false, cond, nat_eq, List, [], ◌∷◌, ◌++◌, length, map, filter, Option, Some, None, refl, sym, ◌∙◌, ap, ap₂, subst, eq-eqb, arith}
+use Rattle.std.specs.List.{AllByRecursion, flat_map, list_any, position_or_len, range_with_len, sum_by}
+use Rattle.std.proofs.lemmas.Bool.{cases_Bool, cases_eq, lt-ltb, both_ways, or_right}
 use Rattle.std.proofs.lemmas.Grind.{flat_map-append}
 use Rattle.std.proofs.lemmas.List.{append_assoc, map-append}
 use Rattle.std.proofs.lemmas.List.Folds.{flat_map-map}
-use Rattle.std.proofs.lemmas.List.Sums.{sum_by-append, sum_by-cons}
-use Rattle.pd_kinds.specs.Graph.{Graph}
+use Rattle.std.proofs.lemmas.List.Sums.{sum_by-append}
 use Rattle.pd_kinds.specs.Meaning.{Mapping, thin_meaning}
 use Rattle.pd_kinds.specs.Node.{Entry}
 use Rattle.pd_laid.specs.Laid.{count_in}
 use Rattle.pd_laid.specs.Shape.{Piece, ShapeDevice, own, shared}
 use Rattle.pd_shapes.specs.ImageShape.{all_leaf_blocks, image_shape, is_shared_leaf, leaf_blocks, mappings_in, pieces_of, shared_leaves, with_leaf, with_own}
-use Rattle.pd_shapes.specs.SharedNeed.{own_mappings, shape_data, told_mappings}
-use Rattle.pd_image_shapes.proofs.LeafLemmas.{at_place, filtered_all}
+use Rattle.pd_shapes.specs.SharedNeed.{own_mappings, shape_data}
+use Rattle.pd_image_shapes.proofs.LeafLemmas.{at_place}
 use Rattle.pd_image_shapes.proofs.PieceLemmas.{number_is, number_of}
 use Rattle.pd_image_shapes.proofs.RangeSums.{both_sums, count_joined, same_sums, sum_by_counts, sum_kept}
 use Rattle.pd_image_shapes.proofs.SoundShape.{are_shared, graph, shapes, shared_ones, tops}
