@@ -67,6 +67,7 @@ module _ (image : List (List ℕ)) (ordered : AreInOrder (graph image) image) wh
   abbrev data_blocks : ℕ
   data_blocks = (thin_fields (block_at image 0)).data_map.blocks
 
+  -- a reached leaf names the data blocks of its mappings; blocks in other roles name none, and an inner node has none
   leaf_names : (c : ℕ) → IsReached (graph image) image c 3 → data_refs_of (graph image) image (pair c 3) ≡ map (λ (x : Mapping). x.data_block) (mappings_in image c)
   unfolding thin_graph graph_of
   leaf_names c reached =
@@ -122,10 +123,11 @@ module _ (image : List (List ℕ)) (ordered : AreInOrder (graph image) image) wh
     all_reached : AllByRecursion (λ b. IsReached (graph image) image b 3) stands
     all_reached = stands_reached image lawful ordered paths to rooted devices
 
-    -- a leaf counts once that stands there, if it is shared or if it isn't
+    -- what a leaf counts in the shape, by whether it is shared
     abbrev share : ℕ → Bool → ℕ
     share b is_shared = cond is_shared (times image d b) (count_in stands b * times image d b)
 
+    -- one that stands there often and isn't shared names nothing, so each that stands there counts once
     nothing_often : (b : ℕ) → is_shared_leaf (graph image) image b ≡ false → 1 < count_in stands b → times image d b ≡ 0
     nothing_often b alone often =
         let many : nat_lt 1 (count_in stands b) ≡ true = lt-ltb 1 (count_in stands b) often in
@@ -152,6 +154,7 @@ module _ (image : List (List ℕ)) (ordered : AreInOrder (graph image) image) wh
     nothing_counted b true nothing = nothing
     nothing_counted b false nothing = ap (λ (t : ℕ). count_in stands b * t) nothing ∙ mul-zero (count_in stands b)
 
+    -- so a leaf counts in the shape just what it does among the references
     reached_share : (b : ℕ) → b < (graph image).nr → (there : Bool) → is_reached (graph image) image (pair b 3) ≡ there → cond there (times image d b) 0 ≡ shape_share image d b
     unfolding occurs
     reached_share b below false missed = elim (cases_lt 0 (count_in stands b)) [

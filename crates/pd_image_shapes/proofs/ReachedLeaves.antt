@@ -47,6 +47,7 @@ next_of_child : (inner : Bool) (xs : List ℕ) (c : ℕ) → list_any (λ t. nat
 next_of_child true xs c some = refl
 next_of_child false xs c some = absurd (both_ways false refl some)
 
+-- the tree of mappings has role 3
 pub bottom_is : (nr data_blocks : ℕ) → thin_layout nr data_blocks 3 ≡ tree (bottom_tree data_blocks)
 unfolding thin_layout
 bottom_is nr data_blocks = refl
