@@ -1,19 +1,16 @@
 -- What was counted is little where the need has room.
-use Rattle.std.proofs.Common.{◌≡◌, inl, inr, ℕ, zero, suc, ◌+◌, ◌*◌, ◌≤◌, ◌<◌, ◌^◌, true, false, Bool, eqb, ltb, List, [], ◌∷◌, ◌++◌, length, length-append, map, sum, sum_by, refl, sym, ◌∙◌, ap, subst, arith, Option, None, Some}
+use Rattle.std.proofs.Common.{◌≡◌, inl, inr, ℕ, suc, ◌+◌, ◌*◌, ◌≤◌, ◌<◌, ◌^◌, true, false, Bool, eqb, List, [], ◌∷◌, length, map, sum, sum_by, refl, ap, arith}
 use Rattle.std.proofs.lemmas.Bool.{cases_Bool}
 use Rattle.std.proofs.lemmas.Bool.Decides.{nat_tests}
 use Rattle.std.proofs.lemmas.List.Sums.{sum_by-cons}
 use Rattle.pd_draft.specs.Placed.{Stand}
 use Rattle.pd_grammar.specs.Texts.{has_ended}
-use Rattle.pd_spells.specs.Need.{nodes_for, need_above, need_tree, nodes_of_tree}
-use Rattle.pd_spells.specs.ThinText.{Line, Run, map_line, pool_format, leaf_number, unmapped}
+use Rattle.pd_spells.specs.Need.{nodes_for, need_tree, nodes_of_tree}
+use Rattle.pd_spells.specs.ThinText.{Line, pool_format}
 use Rattle.pd_shapes.specs.SharedNeed.{Told, leaf_count, leaves_of_ended, leaves_of_told, need_of_leaves, need_of_shared, shape_need_so_far, told_devices}
-use Rattle.pd_shapes.specs.SharedText.{mappings_of_runs}
-use Rattle.pd_texts.specs.ThinNext.{IsRunLine, IsUseLine}
-use Rattle.pd_shared_devices.specs.Gathered.{CanTake, CanUse, Gathered, HasGathered, leaf_left}
-use Rattle.pd_shared_devices.specs.Told.{Open, opened}
+use Rattle.pd_shared_devices.specs.Gathered.{HasGathered}
 use Rattle.pd_shared_devices.specs.declared.devices.SharedDevices.{SharedDevices}
-use Rattle.pd_shared_devices.proofs.RoomLemmas.{above_enough, parts_within}
+use Rattle.pd_shared_devices.proofs.RoomLemmas.{above_enough}
 
 nodes_most : (n : ℕ) → n ≤ 252 * nodes_for 252 n
 nodes_most n = omega arith

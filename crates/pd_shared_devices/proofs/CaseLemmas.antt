@@ -1,17 +1,17 @@
 -- What is open, by what is held of it.
-use Rattle.std.proofs.Common.{◌≡◌, ℕ, ◌+◌, ◌≤◌, ◌<◌, List, [], length, refl, sym, ◌∙◌, ap, subst, arith, unwrap_or, Option, None, Some}
+use Rattle.std.proofs.Common.{◌≡◌, ℕ, ◌≤◌, ◌<◌, List, length, refl, sym, ◌∙◌, ap, subst, arith, unwrap_or, Option, None, Some}
 use Rattle.pd_draft.specs.Placed.{Stand}
 use Rattle.pd_spells.specs.ThinText.{Line, Run, data_blocks_of, piece_end, unmapped}
 use Rattle.pd_laid.specs.Shape.{ShapeDevice}
 use Rattle.pd_shapes.specs.SharedText.{mappings_of_runs}
-use Rattle.pd_shared_devices.specs.Gathered.{CanEnd, Gathered, HasGathered, IsDeviceOpen, IsLeafOpen}
+use Rattle.pd_shared_devices.specs.Gathered.{Gathered, HasGathered, IsDeviceOpen, IsLeafOpen}
 use Rattle.pd_shared_devices.specs.Growth.{CanEndTree}
 use Rattle.pd_shared_devices.specs.Piece.{CanBeLaid, HasHeld, held_runs}
 use Rattle.pd_shared_devices.specs.Rises.{AreHeld}
 use Rattle.pd_shared_devices.specs.Told.{Open, nothing_open, open_leaf, open_device, opened, open_runs, leaf_items, whole_leaves}
 use Rattle.pd_shared_devices.specs.declared.devices.SharedDevices.{SharedDevices}
 use Rattle.pd_shared_devices.specs.declared.growing.Growing.{Growing}
-use Rattle.pd_shared_devices.proofs.GatherLemmas.{IsWhich, is_nothing, is_leaf, is_device, which}
+use Rattle.pd_shared_devices.proofs.GatherLemmas.{is_nothing, is_leaf, is_device, which}
 use Rattle.pd_shared_devices.proofs.RiseLemmas.{held_can}
 use Rattle.pd_shared_devices.proofs.RoomLemmas.{leaf_room, device_room}
 

@@ -1,35 +1,33 @@
 -- What was gathered where a leaf or a device ends.
-use Rattle.std.proofs.Common.{◌≡◌, ℕ, zero, suc, ◌+◌, ◌-◌, ◌*◌, ◌≤◌, ◌<◌, ◌^◌, min, true, false, eqb, ltb, cond, Bool, List, [], ◌∷◌, ◌++◌, length, length-append, map, sum, sum_by, refl, sym, ◌∙◌, ap, ap₂, subst, arith, Option, None, Some}
-use Rattle.std.specs.List.{All, AllByRecursion, flat_map}
+use Rattle.std.proofs.Common.{◌≡◌, ℕ, ◌+◌, ◌-◌, ◌≤◌, ◌<◌, ◌^◌, min, true, false, eqb, List, [], ◌∷◌, ◌++◌, length, length-append, map, sum_by, refl, sym, ◌∙◌, ap, ap₂, subst, arith, None}
+use Rattle.std.specs.List.{AllByRecursion, flat_map}
 use Rattle.std.proofs.lemmas.List.{append-nil, map-append, length-map}
 use Rattle.std.proofs.lemmas.List.Concat.{flat_map-append}
 use Rattle.std.proofs.lemmas.List.Sums.{sum_by-cons, sum_by-append}
 use Rattle.std.proofs.lemmas.List.Elements.{All-push}
 use Rattle.std.proofs.lemmas.Bool.{lt-ltb, true≢false}
 use Rattle.std.proofs.lemmas.Bool.Decides.{nat_tests}
-use Rattle.pd_kinds.specs.Meaning.{Mapping}
 use Rattle.pd_kinds.specs.Node.{Entry, leaf_block}
 use Rattle.pd_value.specs.declared.thin.Root.{Root}
-use Rattle.pd_value.specs.declared.thin.Details.{Details}
 use Rattle.pd_node.specs.Items.{entries_of}
 use Rattle.pd_draft.specs.Placed.{Stand, Wrote}
 use Rattle.pd_draft.proofs.PlacedLemmas.{wrote_then}
 use Rattle.pd_spells.specs.Need.{nodes_for, need_above}
-use Rattle.pd_spells.specs.ThinText.{Line, Run, end_line, data_blocks_of, has_device, least_of, unmapped}
-use Rattle.pd_laid.specs.LaidThin.{details_items, device_root, mapping_items, own_leaves}
+use Rattle.pd_spells.specs.ThinText.{Line, Run, end_line, data_blocks_of, least_of, unmapped}
+use Rattle.pd_laid.specs.LaidThin.{details_items, device_root, own_leaves}
 use Rattle.pd_laid.specs.Shape.{Piece, own, shared, ShapeDevice, uses_of_piece}
-use Rattle.pd_shapes.specs.SharedNeed.{Told, LeafCount, leaf_count, leaves_of_ended, leaves_of_told, leaves_of_pieces, need_of_leaves, own_number, told_devices}
+use Rattle.pd_shapes.specs.SharedNeed.{Told, leaves_of_ended, leaves_of_told, leaves_of_pieces, need_of_leaves, own_number, told_devices}
 use Rattle.pd_shapes.specs.SharedText.{mappings_of_runs}
 use Rattle.pd_shapes.proofs.LeafRuns.{HaveTold, IsLeaf, number_mapped}
 use Rattle.pd_laid_shared.specs.Written.{device_roots, device_tree, leaves_and_trees, trees_need}
-use Rattle.pd_shared_devices.specs.Gathered.{AreAllTold, AreTold, AreToldWith, HasCounts, HasGathered, HasLeaves, HasListed, IsDeviceOpen, IsLeafOpen, IsTold, number_of}
-use Rattle.pd_shared_devices.specs.Growth.{Grown, IsFilled, need_ended}
+use Rattle.pd_shared_devices.specs.Gathered.{AreAllTold, AreTold, AreToldWith, HasCounts, HasGathered, IsDeviceOpen, IsLeafOpen, IsTold, number_of}
+use Rattle.pd_shared_devices.specs.Growth.{IsFilled, need_ended}
 use Rattle.pd_shared_devices.specs.Piece.{HasHeld, held_runs, items_of_runs}
 use Rattle.pd_shared_devices.specs.Rises.{AreHeld}
 use Rattle.pd_shared_devices.specs.Told.{Open, nothing_open, open_leaf, open_device, opened, open_runs, ended_leaf, ended_device, whole_leaves, whole_devices, leaves_told, leaf_items, own_piece, with_pieces}
 use Rattle.pd_shared_devices.specs.declared.devices.SharedDevices.{SharedDevices}
 use Rattle.pd_shared_devices.specs.declared.growing.Growing.{Growing}
-use Rattle.pd_shared_devices.proofs.GatherLemmas.{IsWhich, is_nothing, is_leaf, is_device, which, root_code, details_number, root_fits}
+use Rattle.pd_shared_devices.proofs.GatherLemmas.{root_code, root_fits}
 use Rattle.pd_shared_devices.proofs.RiseLemmas.{runs_some}
 use Rattle.pd_shared_devices.proofs.RowLemmas.{leaves_number}
 use Rattle.pd_shared_devices.proofs.TreeLemmas.{leaf_more, device_more, root_more, own_length, tree_need, trees_more}

@@ -1,41 +1,35 @@
 -- What was gathered, line by line: where leaves and devices begin and end.
-use Rattle.std.proofs.Common.{◌≡◌, inl, inr, ℕ, zero, suc, ◌+◌, ◌-◌, ◌*◌, ◌≤◌, ◌<◌, ◌^◌, min, true, false, ltb, ◌&&◌, List, [], ◌∷◌, ◌++◌, length, length-append, map, sum, sum_by, refl, sym, ◌∙◌, ap, ap₂, subst, arith, Option, None, Some}
-use Rattle.std.specs.List.{All, AllByRecursion, flat_map}
-use Rattle.std.proofs.lemmas.List.{append-nil, map-append, length-map}
+use Rattle.std.proofs.Common.{◌≡◌, ℕ, suc, ◌+◌, ◌≤◌, ◌<◌, ◌^◌, true, false, ltb, ◌&&◌, List, [], ◌∷◌, ◌++◌, length, length-append, map, sum, refl, sym, ◌∙◌, ap, subst, arith, Option, None, Some}
+use Rattle.std.specs.List.{AllByRecursion}
+use Rattle.std.proofs.lemmas.List.{append-nil, map-append}
 use Rattle.std.proofs.lemmas.List.Sums.{sum_by-cons}
 use Rattle.std.proofs.lemmas.List.Elements.{All-push}
-use Rattle.std.proofs.lemmas.Bool.{lt-ltb, true≢false}
-use Rattle.pd_kinds.specs.Meaning.{Mapping}
-use Rattle.pd_kinds.specs.Node.{Entry, leaf_block}
+use Rattle.std.proofs.lemmas.Bool.{true≢false}
+use Rattle.pd_kinds.specs.Node.{Entry}
 use Rattle.pd_kinds.specs.Value.{details_code}
 use Rattle.pd_value.specs.declared.thin.Root.{Root}
 use Rattle.pd_value.specs.declared.thin.Details.{Details}
 use Rattle.pd_node.specs.Items.{entries_of}
 use Rattle.pd_draft.specs.Closed.{IsClosed}
-use Rattle.pd_draft.specs.Placed.{Stand, Wrote}
-use Rattle.pd_draft.proofs.PlacedLemmas.{wrote_none, wrote_then}
+use Rattle.pd_draft.specs.Placed.{Stand}
+use Rattle.pd_draft.proofs.PlacedLemmas.{wrote_none}
 use Rattle.pd_count.specs.Counted.{HasCounted}
-use Rattle.pd_spells.specs.Lawful.{AreMappings}
 use Rattle.pd_spells.specs.ThinText.{Line, Head, LeafHead, Run, shared_first_line, pool_line, leaf_line, device_line, end_line, data_blocks_of, has_device, leaf_number, least_of, piece_end, unmapped}
 use Rattle.pd_spells.specs.ThinText as text
-use Rattle.pd_laid.specs.LaidThin.{details_items, device_root, mapping_items}
+use Rattle.pd_laid.specs.LaidThin.{details_items}
 use Rattle.pd_laid.specs.Shape.{ShapeDevice}
 use Rattle.pd_laid.specs.Tree.{blocks_from}
-use Rattle.pd_shapes.specs.SharedNeed.{Told, leaves_of_ended, leaves_of_told, leaves_of_pieces, need_of_leaves, told_devices, untold}
-use Rattle.pd_shapes.specs.SharedText.{mappings_of_runs}
-use Rattle.pd_shapes.proofs.LeafRuns.{HaveTold, IsLeaf, told_leaf}
-use Rattle.pd_laid_shared.specs.Written.{device_roots, device_tree, device_trees, leaves_and_trees, trees_need}
+use Rattle.pd_shapes.specs.SharedNeed.{Told, leaves_of_ended, leaves_of_told, told_devices, untold}
+use Rattle.pd_shapes.proofs.LeafRuns.{HaveTold, told_leaf}
+use Rattle.pd_laid_shared.specs.Written.{device_roots, device_trees, leaves_and_trees}
 use Rattle.pd_texts.specs.ThinNext.{IsLeafLine}
-use Rattle.pd_shared_devices.specs.Gathered.{AreAllTold, AreTold, HasCounts, HasGathered, HasLeaves, HasListed, IsDeviceOpen, IsLeafOpen, IsOpen, leaf_left, leaves_so_far}
+use Rattle.pd_shared_devices.specs.Gathered.{HasGathered, IsDeviceOpen, IsLeafOpen, IsOpen}
 use Rattle.pd_shared_devices.specs.Growth.{Grown}
 use Rattle.pd_shared_devices.specs.Lines.{details_line}
-use Rattle.pd_shared_devices.specs.Piece.{HasHeld, items_of_runs}
-use Rattle.pd_shared_devices.specs.Rises.{AreHeld}
-use Rattle.pd_shared_devices.specs.Told.{Open, nothing_open, open_leaf, open_device, bare_device, opened, open_runs, ended_leaf, ended_device, whole_leaves, whole_devices, leaves_told, leaf_items}
+use Rattle.pd_shared_devices.specs.Piece.{HasHeld}
+use Rattle.pd_shared_devices.specs.Told.{Open, nothing_open, open_leaf, open_device, bare_device, opened, whole_leaves, whole_devices, leaf_items}
 use Rattle.pd_shared_devices.specs.declared.devices.SharedDevices.{SharedDevices}
 use Rattle.pd_shared_devices.specs.declared.growing.Growing.{Growing}
-use Rattle.pd_shared_devices.specs.declared.piece.Held.{Held}
-use Rattle.pd_shared_devices.proofs.TreeLemmas.{leaf_more}
 
 -- the codes of what is listed
 abbrev pub root_code : Root → ℕ

@@ -1,26 +1,25 @@
 -- The need of what was gathered, by the numbers that are kept.
-use Rattle.std.proofs.Common.{◌≡◌, inl, inr, ℕ, zero, suc, ◌+◌, ◌-◌, ◌*◌, ◌<◌, ◌≤◌, ◌^◌, min, Bool, cond, true, false, leb, eqb, List, [], ◌∷◌, ◌++◌, length, map, sum_by, refl, sym, ◌∙◌, ap, ap₂, subst, arith, Option, None, Some}
+use Rattle.std.proofs.Common.{◌≡◌, inl, inr, ℕ, zero, suc, ◌+◌, ◌-◌, ◌<◌, ◌≤◌, ◌^◌, min, Bool, cond, false, leb, eqb, List, [], ◌∷◌, length, map, sum_by, refl, sym, ◌∙◌, ap, subst, arith}
 use Rattle.std.specs.List.{AllByRecursion, count_by, flat_map, range_with_len}
 use Rattle.std.proofs.lemmas.Bool.{cases_Bool}
 use Rattle.std.proofs.lemmas.Bool.Decides.{nat_tests}
 use Rattle.std.proofs.lemmas.List.Sums.{sum_by-cons}
 use Rattle.pd_draft.specs.Placed.{Stand}
 use Rattle.pd_grammar.specs.Texts.{has_ended}
-use Rattle.pd_spells.specs.Need.{need_above, nodes_for}
 use Rattle.pd_spells.specs.ThinNeed.{data_of_line, overflows_in}
 use Rattle.pd_spells.specs.ThinText.{Line, data_blocks_of, leaf_number, pool_format}
 use Rattle.pd_spells.specs.ThinText as text
-use Rattle.pd_shapes.specs.SharedNeed.{Told, LeafCount, leaf_count, leaves_of_ended, leaves_of_told, need_of_leaves, need_of_shared, shape_need_so_far, told_devices, used_often}
+use Rattle.pd_shapes.specs.SharedNeed.{Told, leaves_of_ended, leaves_of_told, need_of_leaves, need_of_shared, shape_need_so_far, told_devices, used_often}
 use Rattle.pd_devices.specs.Counts.{overflows_of}
 use Rattle.pd_devices.proofs.CountLemmas.{overflows_listed, overflows-le}
 use Rattle.pd_laid_shared.specs.Written.{trees_need}
 use Rattle.pd_shared_devices.specs.Gathered.{AreAllTold, HasGathered, leaves_so_far}
 use Rattle.pd_shared_devices.specs.Growth.{open_need}
 use Rattle.pd_shared_devices.specs.Need.{need_of_parts}
-use Rattle.pd_shared_devices.specs.Told.{Open, opened, whole_devices}
+use Rattle.pd_shared_devices.specs.Told.{Open, whole_devices}
 use Rattle.pd_shared_devices.specs.declared.devices.SharedDevices.{SharedDevices}
 use Rattle.pd_shared_devices.specs.declared.need.Parts.{Parts}
-use Rattle.pd_shared_devices.proofs.GatherLemmas.{IsWhich, is_nothing, is_leaf, is_device, which}
+use Rattle.pd_shared_devices.proofs.GatherLemmas.{is_nothing, is_leaf, is_device, which}
 use Rattle.pd_shared_devices.proofs.NeedLemmas.{passing_more}
 use Rattle.pd_shared_devices.proofs.RoomLemmas.{device_sum}
 

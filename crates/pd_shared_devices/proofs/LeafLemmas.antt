@@ -1,5 +1,5 @@
 -- A shared leaf, whose mappings are in one block.
-use Rattle.std.proofs.Common.{◌≡◌, ℕ, ◌+◌, ◌/◌, ◌≤◌, max, List, [], ◌∷◌, length, take, refl, sym, ◌∙◌, ap, arith}
+use Rattle.std.proofs.Common.{◌≡◌, ℕ, ◌+◌, ◌/◌, ◌≤◌, max, List, [], ◌∷◌, length, refl, arith}
 use Rattle.std.proofs.Math.Seq.{take-length}
 use Rattle.pd_kinds.specs.Node.{Entry, leaf_block, max_entries}
 use Rattle.pd_spells.specs.Need.{nodes_for}

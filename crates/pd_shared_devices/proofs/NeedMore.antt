@@ -1,10 +1,9 @@
 -- The need of what was gathered with a run more, by the numbers that are kept.
-use Rattle.std.proofs.Common.{◌≡◌, ℕ, zero, suc, ◌+◌, ◌-◌, ◌*◌, ◌<◌, ◌≤◌, ◌^◌, min, Bool, cond, true, false, eqb, List, [], ◌∷◌, ◌++◌, length, map, sum, sum_by, refl, sym, ◌∙◌, ap, subst, arith, Option, None, Some}
+use Rattle.std.proofs.Common.{◌≡◌, ℕ, ◌+◌, ◌-◌, ◌<◌, ◌^◌, min, cond, false, eqb, List, [], ◌∷◌, ◌++◌, length, map, sum_by, refl, sym, ◌∙◌, ap, subst, arith}
 use Rattle.std.specs.List.{count_by, flat_map, range_with_len}
 use Rattle.std.proofs.lemmas.List.Sums.{sum_by-cons, sum_by-append}
 use Rattle.pd_draft.specs.Placed.{Stand}
 use Rattle.pd_count.specs.Counted.{count_of}
-use Rattle.pd_grammar.specs.Texts.{has_ended}
 use Rattle.pd_spells.specs.Need.{need_above, nodes_for}
 use Rattle.pd_spells.specs.ThinNeed.{data_of_line, overflows_in}
 use Rattle.pd_spells.specs.ThinText.{Line, Run, map_line, data_blocks_of, leaf_number, pool_format}
@@ -21,11 +20,11 @@ use Rattle.pd_laid_shared.specs.Written.{trees_need}
 use Rattle.pd_shared_devices.specs.Gathered.{AreAllTold, AreTold, HasGathered, IsDeviceOpen, IsTold, number_of}
 use Rattle.pd_shared_devices.specs.Growth.{open_need}
 use Rattle.pd_shared_devices.specs.Need.{need_of_parts}
-use Rattle.pd_shared_devices.specs.Told.{Open, open_device, opened, open_runs, whole_devices}
+use Rattle.pd_shared_devices.specs.Told.{Open, open_runs, whole_devices}
 use Rattle.pd_shared_devices.specs.declared.devices.SharedDevices.{SharedDevices}
 use Rattle.pd_shared_devices.specs.declared.growing.Growing.{Growing}
 use Rattle.pd_shared_devices.specs.declared.need.Parts.{Parts}
-use Rattle.pd_shared_devices.proofs.GatherLemmas.{IsWhich, is_nothing, is_leaf, is_device, which}
+use Rattle.pd_shared_devices.proofs.GatherLemmas.{is_nothing, is_leaf, is_device, which}
 use Rattle.pd_shared_devices.proofs.GatheredNeed.{often_same, told_number}
 use Rattle.pd_shared_devices.proofs.MoreLemmas.{overflows_row}
 use Rattle.pd_shared_devices.proofs.RiseLemmas.{number_behind}

@@ -1,5 +1,5 @@
 -- Leaves that take their items run by run.
-use Rattle.std.proofs.Common.{◌≡◌, ℕ, ◌+◌, ◌^◌, ◌≤◌, List, [], ◌∷◌, ◌++◌, length, length-append, map, refl, sym, ◌∙◌, ap, subst, append_assoc, arith, Option, Some, None, get_or, take, drop, ◌<◌}
+use Rattle.std.proofs.Common.{◌≡◌, ℕ, ◌+◌, ◌^◌, ◌≤◌, List, [], ◌∷◌, ◌++◌, length, length-append, refl, sym, ◌∙◌, ap, subst, append_assoc, arith, Option, get_or, take, drop, ◌<◌}
 use Rattle.std.proofs.lemmas.List.{append-nil, map-append, take_more, drop_more}
 use Rattle.std.proofs.lemmas.List.Concat.{flat_map-append}
 use Rattle.pd_kinds.specs.Meaning.{Mapping}
@@ -13,11 +13,11 @@ use Rattle.pd_spells.proofs.ThinMeaning.{RunFits, run_fits, mappings_length}
 use Rattle.pd_laid.specs.LaidThin.{mapping_items}
 use Rattle.pd_laid.specs.Tree.{blocks_from, heads}
 use Rattle.pd_laid.proofs.LaidLemmas.{blocks_from-append, length-blocks_from}
-use Rattle.pd_shapes.specs.SharedText.{HaveMappings, mappings_of_runs}
-use Rattle.pd_build.specs.Leaves.{LeavesLeft, items_to_come, leaves_to_come, TakesItem, ended, answered}
+use Rattle.pd_shapes.specs.SharedText.{mappings_of_runs}
+use Rattle.pd_build.specs.Leaves.{LeavesLeft, leaves_to_come, TakesItem, ended, answered}
 use Rattle.pd_build.specs.Parts.{cut}
 use Rattle.pd_build.proofs.UpperLemmas.{heads-append}
-use Rattle.pd_devices.proofs.RunLemmas.{items-append, length-items}
+use Rattle.pd_devices.proofs.RunLemmas.{items-append}
 use Rattle.pd_devices.specs.Lines.{run_of}
 use Rattle.pd_devices.specs.declared.runs.Run.{Run as Value}
 use Rattle.pd_shared_devices.specs.Piece.{runs_of, items_of_runs, CanBeLaid, TakesAll}

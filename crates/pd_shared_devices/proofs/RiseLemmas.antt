@@ -1,5 +1,5 @@
 -- Keys that ascend, and runs that stand one behind another.
-use Rattle.std.proofs.Common.{◌≡◌, ℕ, zero, suc, ◌+◌, ◌^◌, ◌<◌, ◌≤◌, max, true, nat_lt, List, [], ◌∷◌, ◌++◌, length, length-append, map, refl, sym, ◌∙◌, ap, subst, arith, append-nil}
+use Rattle.std.proofs.Common.{◌≡◌, ℕ, zero, suc, ◌+◌, ◌^◌, ◌<◌, ◌≤◌, max, true, nat_lt, List, [], ◌∷◌, ◌++◌, length, length-append, refl, sym, ◌∙◌, ap, subst, arith, append-nil}
 use Rattle.std.specs.List.{AllByRecursion, flat_map}
 use Rattle.std.proofs.lemmas.Bool.{and_from, lt-ltb}
 use Rattle.std.proofs.lemmas.List.{map-append}
@@ -8,13 +8,13 @@ use Rattle.pd_kinds.specs.Meaning.{Mapping}
 use Rattle.pd_kinds.specs.Node.{Entry, is_ascending}
 use Rattle.pd_spells.specs.Lawful.{AreMappings}
 use Rattle.pd_spells.specs.Need.{nodes_for}
-use Rattle.pd_spells.specs.ThinText.{Run, end_of, least_of, mappings_of, mappings_from}
+use Rattle.pd_spells.specs.ThinText.{Run, mappings_of, mappings_from}
 use Rattle.pd_spells.proofs.ThinMeaning.{run_fits, run_mappings, mappings_length}
 use Rattle.pd_laid.specs.LaidThin.{mapping_items}
 use Rattle.pd_laid.specs.Tree.{heads, tree_leaves}
 use Rattle.pd_build.proofs.SpreadLemmas.{level_spread}
 use Rattle.pd_shapes.specs.SharedText.{HaveMappings, mappings_of_runs}
-use Rattle.pd_devices.proofs.RunLemmas.{items-append, length-items}
+use Rattle.pd_devices.proofs.RunLemmas.{items-append}
 use Rattle.pd_shared_devices.specs.Piece.{items_of_runs, CanBeLaid}
 use Rattle.pd_shared_devices.specs.Rises.{Rises, keys_in, end_after, AreHeld}
 

@@ -1,19 +1,18 @@
 -- What was gathered has room where its need has.
-use Rattle.std.proofs.Common.{◌≡◌, inl, inr, ℕ, zero, suc, ◌+◌, ◌*◌, ◌≤◌, ◌<◌, ◌^◌, true, false, eqb, nat_lt, ltb, List, [], ◌∷◌, ◌++◌, length, length-append, map, sum_by, refl, sym, ◌∙◌, ap, subst, arith}
-use Rattle.std.specs.List.{flat_map}
+use Rattle.std.proofs.Common.{◌≡◌, inl, inr, ℕ, ◌+◌, ◌*◌, ◌≤◌, ◌<◌, ◌^◌, false, eqb, ltb, List, [], ◌∷◌, ◌++◌, length, length-append, map, sum_by, refl, sym, ◌∙◌, ap, subst, arith}
 use Rattle.std.proofs.lemmas.Bool.{cases_Bool}
 use Rattle.std.proofs.lemmas.Bool.Decides.{nat_tests}
 use Rattle.std.proofs.lemmas.List.Sums.{sum_by-cons, sum_by-append}
 use Rattle.pd_draft.specs.Placed.{Stand}
 use Rattle.pd_grammar.specs.Texts.{has_ended}
-use Rattle.pd_spells.specs.Need.{nodes_for, need_above, need_tree, nodes_of_tree}
+use Rattle.pd_spells.specs.Need.{nodes_for, need_above, nodes_of_tree}
 use Rattle.pd_spells.specs.ThinText.{Line, Run, pool_format, leaf_number, number_in}
 use Rattle.pd_laid.specs.Shape.{ShapeDevice}
-use Rattle.pd_shapes.specs.SharedNeed.{Told, leaf_count, leaves_of_ended, leaves_of_told, need_of_leaves, need_of_shared, own_number, shape_need_so_far, told_devices}
+use Rattle.pd_shapes.specs.SharedNeed.{Told, leaf_count, leaves_of_ended, leaves_of_told, need_of_leaves, need_of_shared, shape_need_so_far, told_devices}
 use Rattle.pd_shapes.specs.SharedText.{mappings_of_runs}
 use Rattle.pd_shapes.proofs.LeafRuns.{number_mapped}
 use Rattle.pd_laid_shared.specs.Written.{trees_need}
-use Rattle.pd_shared_devices.specs.Gathered.{AreAllTold, AreToldWith, HasGathered, IsDeviceOpen, IsLeafOpen, number_of, leaves_so_far}
+use Rattle.pd_shared_devices.specs.Gathered.{AreAllTold, HasGathered, IsDeviceOpen, IsLeafOpen, number_of, leaves_so_far}
 use Rattle.pd_shared_devices.specs.Growth.{need_left}
 use Rattle.pd_shared_devices.specs.Told.{Open, open_leaf, open_device, opened, open_runs, ended_leaf, whole_leaves, whole_devices}
 use Rattle.pd_shared_devices.specs.declared.devices.SharedDevices.{SharedDevices}

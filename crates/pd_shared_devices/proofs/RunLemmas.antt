@@ -1,11 +1,11 @@
 -- What was gathered with a run more.
-use Rattle.std.proofs.Common.{◌≡◌, ℕ, zero, suc, ◌+◌, ◌-◌, ◌*◌, ◌≤◌, ◌<◌, ◌^◌, min, true, false, List, [], ◌∷◌, ◌++◌, length, length-append, map, sum, sum_by, refl, sym, ◌∙◌, ap, subst, arith, Option, None, Some}
+use Rattle.std.proofs.Common.{◌≡◌, ℕ, ◌+◌, ◌-◌, ◌*◌, ◌≤◌, false, List, [], ◌∷◌, ◌++◌, length, map, sum, sum_by, refl, sym, ◌∙◌, ap, subst, arith, Option, None, Some}
 use Rattle.std.specs.List.{flat_map, range_with_len}
 use Rattle.std.proofs.lemmas.List.Sums.{sum_by-cons, sum_by-append}
 use Rattle.pd_draft.specs.Placed.{Stand}
 use Rattle.pd_count.specs.Counted.{HasCounted}
 use Rattle.pd_spells.specs.ThinNeed.{data_of_line}
-use Rattle.pd_spells.specs.ThinText.{Line, Run, map_line, data_blocks_of, has_device, leaf_number, number_in, unmapped}
+use Rattle.pd_spells.specs.ThinText.{Line, Run, map_line, leaf_number, number_in, unmapped}
 use Rattle.pd_laid.specs.LaidThin.{details_items}
 use Rattle.pd_laid.specs.Shape.{Piece, ShapeDevice}
 use Rattle.pd_kinds.specs.Node.{Entry}
@@ -16,12 +16,12 @@ use Rattle.pd_shapes.specs.SharedText.{mappings_of_runs}
 use Rattle.pd_shapes.proofs.LeafRuns.{HaveTold, number_mapped, told_run, told_map}
 use Rattle.pd_texts.specs.ThinNext.{IsRunLine}
 use Rattle.pd_devices.proofs.RunLemmas.{run_data}
-use Rattle.pd_shared_devices.specs.Gathered.{AreAllTold, AreTold, AreToldWith, HasGathered, IsDeviceOpen, IsLeafOpen, IsOpen, IsTold, has_runs, leaf_left, leaves_so_far, number_of}
+use Rattle.pd_shared_devices.specs.Gathered.{AreAllTold, AreTold, HasGathered, IsDeviceOpen, IsLeafOpen, IsOpen, IsTold, leaf_left, leaves_so_far, number_of}
 use Rattle.pd_shared_devices.specs.Piece.{HasHeld}
-use Rattle.pd_shared_devices.specs.Told.{Open, nothing_open, open_leaf, open_device, after_run, opened, open_runs, ended_leaf, ended_device, whole_leaves, whole_devices, own_piece, with_pieces}
+use Rattle.pd_shared_devices.specs.Told.{Open, open_leaf, open_device, after_run, opened, open_runs, ended_leaf, ended_device, whole_leaves, whole_devices, own_piece, with_pieces}
 use Rattle.pd_shared_devices.specs.declared.devices.SharedDevices.{SharedDevices}
 use Rattle.pd_shared_devices.specs.declared.growing.Growing.{Growing}
-use Rattle.pd_shared_devices.proofs.GatherLemmas.{IsWhich, is_nothing, is_leaf, is_device, which}
+use Rattle.pd_shared_devices.proofs.GatherLemmas.{is_nothing, is_leaf, is_device, which}
 use Rattle.pd_shared_devices.proofs.RiseLemmas.{held_behind, number_behind}
 
 pub none_told : (told : List Told) → length told ≡ 0 → told ≡ []

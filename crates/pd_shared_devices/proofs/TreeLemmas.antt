@@ -1,18 +1,18 @@
 -- The trees of devices, one behind another, and how many blocks they have.
-use Rattle.std.proofs.Common.{◌≡◌, ℕ, ◌+◌, ◌≤◌, List, [], ◌∷◌, ◌++◌, length, length-append, map, sum_by, refl, sym, ◌∙◌, ap, ap₂, arith, append_assoc}
+use Rattle.std.proofs.Common.{◌≡◌, ℕ, ◌+◌, List, [], ◌∷◌, ◌++◌, length, length-append, map, sum_by, refl, sym, ◌∙◌, ap, ap₂, arith, append_assoc}
 use Rattle.std.proofs.lemmas.List.{append-nil, length-map, map-append}
 use Rattle.std.proofs.lemmas.List.Sums.{sum_by-cons, sum_by_push}
 use Rattle.std.specs.List.{AllByRecursion, flat_map}
 use Rattle.pd_kinds.specs.Meaning.{Mapping}
 use Rattle.pd_kinds.specs.Node.{Entry, leaf_block, inner_block}
 use Rattle.pd_spells.specs.Need.{nodes_for, need_above}
-use Rattle.pd_laid.specs.LaidThin.{mapping_items, device_leaves, device_inners, device_root, device_row, own_leaves, pieces_row, some_pieces}
+use Rattle.pd_laid.specs.LaidThin.{mapping_items, device_leaves, device_inners, device_root, device_row, own_leaves, some_pieces}
 use Rattle.pd_laid.specs.Shape.{Piece, own, shared, ShapeDevice, uses_of_piece}
 use Rattle.pd_laid.specs.Tree.{blocks_from}
 use Rattle.pd_laid.proofs.LaidLemmas.{blocks_from-append, length-blocks_from}
 use Rattle.pd_laid.proofs.NeedLemmas.{length-inners, length-leaves}
 use Rattle.pd_shapes.specs.SharedNeed.{leaves_of_pieces, need_of_leaves, own_number}
-use Rattle.pd_laid_shared.specs.Written.{device_tree, device_trees, device_roots, leaf_blocks_from, leaves_and_trees, own_blocks_from, trees_need}
+use Rattle.pd_laid_shared.specs.Written.{device_tree, device_trees, device_roots, leaf_blocks_from, leaves_and_trees, trees_need}
 use Rattle.pd_shared_devices.specs.Growth.{IsFilled}
 use Rattle.pd_shared_devices.proofs.RowLemmas.{row_number, leaves_number}
 

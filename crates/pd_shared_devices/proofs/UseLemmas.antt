@@ -1,5 +1,5 @@
 -- What was gathered with the use of a leaf more.
-use Rattle.std.proofs.Common.{◌≡◌, ℕ, zero, suc, ◌+◌, ◌-◌, ◌*◌, ◌≤◌, ◌<◌, ◌^◌, true, false, List, [], ◌∷◌, ◌++◌, length, length-append, map, sum, sum_by, get_or, slice_get, unwrap_or, refl, sym, ◌∙◌, ap, subst, arith, append_assoc, Option, None, Some}
+use Rattle.std.proofs.Common.{◌≡◌, ℕ, zero, suc, ◌+◌, ◌<◌, false, List, [], ◌∷◌, ◌++◌, length, length-append, map, sum, sum_by, get_or, slice_get, unwrap_or, refl, sym, ◌∙◌, ap, subst, arith, append_assoc, Option, None, Some}
 use Rattle.std.specs.List.{AllByRecursion, flat_map}
 use Rattle.std.proofs.lemmas.Bool.{true≢false}
 use Rattle.std.proofs.lemmas.List.{append-nil}
@@ -7,28 +7,27 @@ use Rattle.std.proofs.lemmas.List.Concat.{flat_map-append}
 use Rattle.std.proofs.lemmas.List.Sums.{sum_by-cons, sum_by-append}
 use Rattle.pd_draft.specs.Placed.{Stand}
 use Rattle.pd_count.specs.Counted.{HasCounted}
-use Rattle.pd_spells.specs.Lawful.{AreMappings}
 use Rattle.pd_spells.specs.Need.{nodes_for}
 use Rattle.pd_spells.specs.ThinText.{Line, Run, use_line, data_blocks_of, end_of, has_device, leaf_number, least_of, number_in, piece_end, runs_of_leaf, unmapped}
 use Rattle.pd_spells.specs.ThinText as text
 use Rattle.pd_spells.proofs.ThinMeaning.{run_fits}
 use Rattle.pd_laid.specs.LaidThin.{details_items}
-use Rattle.pd_laid.specs.Shape.{Piece, own, shared, ShapeDevice, uses_of_piece}
+use Rattle.pd_laid.specs.Shape.{Piece, shared, ShapeDevice, uses_of_piece}
 use Rattle.pd_laid.specs.Tree.{first_key}
 use Rattle.pd_shapes.specs.SharedNeed.{Told, leaves_of_told, own_number, tell, told_devices}
 use Rattle.pd_shapes.specs.SharedNeed as told
-use Rattle.pd_shapes.specs.SharedText.{HaveMappings, mappings_of_runs}
+use Rattle.pd_shapes.specs.SharedText.{mappings_of_runs}
 use Rattle.pd_shapes.proofs.LeafRuns.{HaveTold, IsLeaf, all_at, list_at, number_mapped, told_use}
 use Rattle.pd_texts.specs.ThinNext.{IsUseLine}
-use Rattle.pd_shared_devices.specs.Gathered.{AreAllTold, HasGathered, IsDeviceOpen, IsOpen, IsTold, leaf_left, leaves_so_far, number_of}
+use Rattle.pd_shared_devices.specs.Gathered.{AreAllTold, HasGathered, IsOpen, IsTold, leaf_left, leaves_so_far, number_of}
 use Rattle.pd_shared_devices.specs.Growth.{Grown}
 use Rattle.pd_shared_devices.specs.Piece.{HasHeld}
-use Rattle.pd_shared_devices.specs.Told.{Open, nothing_open, open_leaf, open_device, after_use, opened, open_runs, ended_leaf, ended_device, leaf_items, whole_leaves, whole_devices, own_piece, with_pieces}
+use Rattle.pd_shared_devices.specs.Told.{Open, open_device, after_use, opened, open_runs, ended_leaf, ended_device, leaf_items, whole_leaves, whole_devices, own_piece, with_pieces}
 use Rattle.pd_shared_devices.specs.declared.devices.SharedDevices.{SharedDevices}
 use Rattle.pd_shared_devices.specs.declared.growing.Growing.{Growing}
 use Rattle.pd_shared_devices.proofs.CaseLemmas.{DeviceCase}
 use Rattle.pd_shared_devices.proofs.EndedLemmas.{piece_numbers, piece_one, piece_uses}
-use Rattle.pd_shared_devices.proofs.GatherLemmas.{IsWhich, is_nothing, is_leaf, is_device, which}
+use Rattle.pd_shared_devices.proofs.GatherLemmas.{is_nothing, is_leaf, is_device, which}
 use Rattle.pd_shared_devices.proofs.RiseLemmas.{end_next, first_of_runs, rises_least, runs_rise}
 use Rattle.pd_shared_devices.proofs.RunLemmas.{details_kept}
 

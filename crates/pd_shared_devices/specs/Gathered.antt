@@ -6,16 +6,15 @@ use Rattle.pd_kinds.specs.Value.{details_code}
 use Rattle.pd_value.specs.declared.thin.Root.{Root}
 use Rattle.pd_value.specs.declared.thin.Details.{Details}
 use Rattle.pd_node.specs.Items.{entries_of}
-use Rattle.pd_draft.specs.Closed.{IsClosed}
 use Rattle.pd_draft.specs.Placed.{Stand, Wrote}
-use Rattle.pd_count.specs.Counted.{Counted, HasCounted}
+use Rattle.pd_count.specs.Counted.{HasCounted}
 use Rattle.pd_spells.specs.Need.{nodes_for}
 use Rattle.pd_grammar.specs.Texts.{has_ended}
 use Rattle.pd_spells.specs.ThinText.{Line, pool_format, Run, data_blocks_of, has_device, is_shared, leaf_number, least_of, map_line, number_in, piece_end, unmapped}
 use Rattle.pd_spells.specs.ThinText as text
 use Rattle.pd_spells.specs.ThinNeed.{data_of_line}
 use Rattle.pd_laid.specs.LaidThin.{details_items}
-use Rattle.pd_laid.specs.Shape.{Piece, ShapeDevice, uses_of_piece}
+use Rattle.pd_laid.specs.Shape.{ShapeDevice, uses_of_piece}
 use Rattle.pd_shapes.specs.SharedNeed.{LeafCount, Told, leaves_of_ended, leaves_of_told, need_of_leaves, own_number, shape_need_so_far, told_devices}
 use Rattle.pd_shapes.specs.SharedText.{mappings_of_runs}
 use Rattle.pd_shapes.proofs.LeafRuns.{HaveTold, IsLeaf}

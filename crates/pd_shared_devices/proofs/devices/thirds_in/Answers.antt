@@ -1,5 +1,5 @@
 use Rattle.std.proofs.Common.{◌+◌, eqb, arith}
-use Rattle.std.specs.List.{count_by, range_with_len}
+use Rattle.std.specs.List.{range_with_len}
 use Rattle.std.proofs.lemmas.List.Sums.{count_by-le-length}
 use Rattle.std.proofs.lemmas.List.FromFn.{length-range_with_len}
 use Rattle.pd_count.specs.Counted.{count_of}

@@ -1,6 +1,4 @@
-use Rattle.std.proofs.Common.{ℕ, ◌+◌, ◌≤◌, subst, sym, ◌∙◌, ap₂, arith}
-use Rattle.pd_draft.specs.Stand.{stand}
-use Rattle.pd_shared_devices.specs.Growth.{need_left}
+use Rattle.std.proofs.Common.{ℕ, ◌+◌, ap₂}
 use Rattle.pd_shared_devices.specs.Piece.{held_runs}
 use Rattle.pd_shared_devices.specs.Told.{own_piece, with_pieces}
 use Rattle.pd_shared_devices.proofs.RiseLemmas.{held_can}

@@ -1,8 +1,6 @@
-use Rattle.std.proofs.Common.{List, ℕ, ap, subst, arith}
-use Rattle.pd_kinds.specs.Node.{Entry, leaf_block}
+use Rattle.std.proofs.Common.{List, ℕ, subst, arith}
 use Rattle.pd_draft.specs.Placed.{Wrote}
 use Rattle.pd_draft.specs.Stand.{stand}
-use Rattle.pd_laid.specs.Tree.{blocks_from}
 use Rattle.pd_shared_devices.specs.Piece.{held_runs}
 use Rattle.pd_shared_devices.proofs.LeafLemmas.{one_leaf}
 use Rattle.pd_shared_devices.proofs.ending.write_shared_leaf.Goals as goal

@@ -1,4 +1,4 @@
-use Rattle.std.proofs.Common.{List, sym, subst, ap, arith, rules}
+use Rattle.std.proofs.Common.{List, sym, subst, arith, rules}
 use Rattle.pd_kinds.specs.Node.{Entry, leaf_block}
 use Rattle.pd_draft.specs.Placed.{Stand}
 use Rattle.pd_laid.proofs.LaidLemmas.{length-blocks_from}

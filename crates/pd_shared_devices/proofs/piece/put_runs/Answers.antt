@@ -1,4 +1,4 @@
-use Rattle.std.proofs.Common.{◌≡◌, ◌+◌, List, get_or, subst, sym, arith, rules}
+use Rattle.std.proofs.Common.{List, get_or, subst, sym, arith, rules}
 use Rattle.pd_kinds.specs.Node.{Entry, leaf_block}
 use Rattle.pd_draft.specs.Placed.{Stand}
 use Rattle.pd_laid.specs.LaidThin.{mapping_items}

@@ -1,8 +1,4 @@
 use Rattle.std.proofs.Common.{◌≡◌, length, sym, ◌∙◌, arith}
-use Rattle.pd_kinds.specs.Node.{leaf_block}
-use Rattle.pd_draft.specs.Placed.{Wrote}
-use Rattle.pd_draft.specs.Stand.{stand}
-use Rattle.pd_laid.specs.Tree.{blocks_from, heads, tree_leaves}
 use Rattle.pd_devices.proofs.RunLemmas.{length-items}
 use Rattle.pd_shapes.specs.SharedText.{mappings_of_runs}
 use Rattle.pd_shared_devices.specs.Piece.{held_runs, items_of_runs}

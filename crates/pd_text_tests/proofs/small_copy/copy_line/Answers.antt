@@ -3,6 +3,7 @@ use Rattle.pd_grammar.specs.Texts.{text_of_lines}
 use Rattle.pd_spells.specs.ThinText.{pool_format}
 use Rattle.pd_texts.specs.ThinLine.{line_of}
 use Rattle.pd_texts.specs.Reader.{in_order}
+use Rattle.pd_texts.specs.ThinState.{first_of}
 use Rattle.pd_text_tests.proofs.CopyLemmas.{refused_by}
 use Rattle.pd_text_tests.proofs.small_copy.copy_line.Goals as goal
 
@@ -28,4 +29,4 @@ returns-in-Ok-None-clause-copied g c = λ t start copying.
 pub returns-in-Err-clause-copied : goal.returns-in-Err-clause-copied
 returns-in-Err-clause-copied g c = λ t start copying.
     let before = copying.line ∷ copying.before in
-    refused_by t _ before c.in-Err.fault (c.in-Err.ensures.text t before copying.reads copying.leaves)
+    refused_by t (first_of c.next.new.self.state) before c.in-Err.fault (c.in-Err.ensures.text t before copying.reads copying.leaves)

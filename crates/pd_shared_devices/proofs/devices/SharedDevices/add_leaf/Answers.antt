@@ -1,4 +1,4 @@
-use Rattle.std.proofs.Common.{refl, arith}
+use Rattle.std.proofs.Common.{refl}
 use Rattle.pd_shared_devices.proofs.GatherLemmas.{gathered_leaf}
 use Rattle.pd_shared_devices.proofs.devices.SharedDevices.add_leaf.Goals as goal
 

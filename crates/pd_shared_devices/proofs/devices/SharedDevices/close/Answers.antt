@@ -1,7 +1,7 @@
-use Rattle.std.proofs.Common.{◌≡◌, ◌≤◌, ◌<◌, ◌^◌, None, Some, refl, sym, ◌∙◌, arith}
-use Rattle.pd_shared_devices.proofs.CaseLemmas.{can_end_tree, can_write_leaf, device_case, device_held, leaf_case, nothing_case, held_is}
+use Rattle.std.proofs.Common.{◌≡◌, ◌<◌, ◌^◌, None, Some, refl, sym, ◌∙◌, arith}
+use Rattle.pd_shared_devices.proofs.CaseLemmas.{can_end_tree, can_write_leaf, device_case, device_held, leaf_case}
 use Rattle.pd_shared_devices.proofs.EndLemmas.{on_ok_then}
-use Rattle.pd_shared_devices.proofs.EndedLemmas.{ended_nothing, ended_with_leaf, ended_with_device}
+use Rattle.pd_shared_devices.proofs.EndedLemmas.{ended_with_leaf, ended_with_device}
 use Rattle.pd_shared_devices.specs.Told.{leaf_items, whole_leaves}
 use Rattle.pd_spells.specs.ThinText.{data_blocks_of, piece_end}
 use Rattle.pd_shared_devices.proofs.devices.SharedDevices.close.Goals as goal

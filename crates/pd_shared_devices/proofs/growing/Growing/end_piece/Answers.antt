@@ -5,7 +5,7 @@ use Rattle.pd_laid.specs.Tree.{tree_leaves}
 use Rattle.pd_laid.proofs.LaidLemmas.{length-blocks_from}
 use Rattle.pd_spells.specs.Need.{nodes_for}
 use Rattle.pd_shapes.specs.SharedText.{mappings_of_runs}
-use Rattle.pd_shared_devices.specs.Piece.{held_runs, items_of_runs}
+use Rattle.pd_shared_devices.specs.Piece.{held_runs}
 use Rattle.pd_shared_devices.proofs.RowLemmas.{grown_without, grown_with, leaves_number}
 use Rattle.pd_shared_devices.proofs.growing.Growing.end_piece.Goals as goal
 

@@ -1,8 +1,4 @@
-use Rattle.std.proofs.Common.{◌≡◌, ◌+◌, ◌≤◌, ◌<◌, ℕ, eqb, true, false, length, subst, sym, ◌∙◌, arith}
-use Rattle.std.proofs.lemmas.Bool.{true≢false}
-use Rattle.std.proofs.lemmas.Bool.Decides.{nat_tests}
-use Rattle.pd_draft.specs.Stand.{stand}
-use Rattle.pd_shared_devices.specs.Growth.{need_left}
+use Rattle.std.proofs.Common.{◌+◌, length, sym, ◌∙◌}
 use Rattle.pd_shared_devices.proofs.RowLemmas.{grown_number}
 use Rattle.pd_shared_devices.proofs.RiseLemmas.{rises_ascend}
 use Rattle.pd_shared_devices.proofs.EndLemmas.{tree_empty, root_empty, tree_done, root_done, none_left, some_left, row_none, row_some, on_ok_then, if_ok_then}
