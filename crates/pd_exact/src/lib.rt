@@ -7,6 +7,7 @@ mod caches;
 mod laws;
 mod repairs;
 mod searches;
+mod shared;
 mod shrinks;
 mod targets;
 mod words;
@@ -29,6 +30,7 @@ pub use searches::{
     crashed_search_leaves_no_other_pool, found_pools_are_lawful, lost_pool_is_repaired,
     lost_pools_are_found, searched_pool_is_clean,
 };
+pub use shared::{laid_shapes_are_clean, restored_shared_dump_keeps_the_shape};
 pub use shrinks::{shrunk_pool_is_clean_and_reads_the_same, stopped_shrink_keeps_what_is_read};
 pub use targets::{
     crashed_restore_leaves_no_other_target, restored_target_dump_means_the_same,
@@ -41,6 +43,7 @@ pub use words::{
     thin_check_tells_clean_and_clears, thin_dump_puts_the_text, thin_generate_puts_its_text,
     thin_ls_puts_the_devices, thin_rehearse_makes_its_pool, thin_repair_finds_the_roots,
     thin_repair_makes_what_is_saved, thin_restore_is_asked, thin_restore_makes_the_pool,
-    thin_rmap_puts_the_mappings, thin_shrink_makes_the_pool_smaller,
+    thin_rmap_puts_the_mappings, thin_shared_dump_puts_the_shape,
+    thin_shrink_makes_the_pool_smaller,
 };
 pub use writebacks::{stopped_writeback_keeps_the_view, written_back_cache_is_clean};
