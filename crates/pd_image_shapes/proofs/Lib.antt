@@ -5,3 +5,7 @@ pub mod RangeLemmas
 pub mod PiecesBack
 pub mod ShapeBack
 pub mod LaidCounts
+pub mod RangeSums
+pub mod ShapeCounts
+pub mod ReachedLeaves
+pub mod LeafCounts

@@ -78,13 +78,13 @@ module _ (image : List (List ℕ)) where
   pub mappings_are : (root : ℕ) → map mapping_of_entry (mapping_entries graph image root) ≡ flat_map (mappings_in image) (leaf_blocks graph image root)
   mappings_are root = ap (map mapping_of_entry) (entries_are root) ∙ map_flat image (leaf_blocks graph image root)
 
-  abbrev details : List Entry
+  abbrev pub details : List Entry
   details = details_entries graph image (thin_fields (block_at image 0)).details_root
 
-  abbrev tops : List Entry
+  abbrev pub tops : List Entry
   tops = top_entries graph image (thin_fields (block_at image 0)).mapping_root
 
-  abbrev shapes : List Entry → List ShapeDevice
+  abbrev pub shapes : List Entry → List ShapeDevice
   shapes es = device_shapes graph image (map (thin_device graph image details) es) (map (λ (e : Entry). e.value) es)
 
   -- the devices of the shape mean those of the image
@@ -116,7 +116,7 @@ module _ (image : List (List ℕ)) where
   unfolding shared_leaves
   ascend = filtered_ascend (is_shared_leaf graph image) 0 graph.nr
 
-  are_shared : AllByRecursion (λ b. is_shared_leaf graph image b ≡ true) shared_ones
+  pub are_shared : AllByRecursion (λ b. is_shared_leaf graph image b ≡ true) shared_ones
   unfolding shared_leaves
   are_shared = filtered_all (λ b. is_shared_leaf graph image b ≡ true) (is_shared_leaf graph image) (λ b e. e) (range_with_len 0 graph.nr)
 
