@@ -1,4 +1,4 @@
-use Rattle.std.proofs.Common.{subst}
+use Rattle.std.proofs.Common.{◌∙◌, subst, sym}
 use Rattle.std.proofs.lemmas.Option.{IfSome_then}
 use Rattle.pd_laid.specs.LaidThin.{laid_shape}
 use Rattle.pd_laid_thin.specs.CleanPool.{IsCleanPool}
@@ -33,3 +33,14 @@ returns-clause-same c image base file path before after dump answered =
       subst (IsCleanPool restored) (c.sound_pools_have_a_shape.ensures.means image) clean.pool,
       clean.shared (c.sound_pools_have_a_shape.ensures.twice image),
     ))
+
+pub returns-clause-counts : goal.returns-clause-counts
+returns-clause-counts c image base file path before after dump no_copy few answered =
+    let w = image_shape image in
+    let text = text_of_shape w in
+    let spells = c.either_version_spells_a_shape.ensures.second text w (c.sound_pools_have_a_shape.ensures.spelled image dump.is dump.sound) in
+    let counted = c.sound_pools_count_each_leaf_once.ensures image dump.is dump.sound no_copy few in
+    IfSome_then after.output.held
+    (dump_same SpellsPoolShape IsCleanShape before after text w base dump.text dump.held spells c.pool_text_has_one_shape.ensures
+    (c.restored_pool_is_clean.ensures file path before after answered))
+    (λ restored clean d. clean.counts d ∙ sym (counted d))
