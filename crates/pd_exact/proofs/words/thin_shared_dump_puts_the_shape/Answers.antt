@@ -1,3 +1,4 @@
+use Rattle.std.proofs.Common.{ℕ, List}
 use Rattle.pd_kinds.specs.declared.kind.Kind.TheVariants.{Thin}
 use Rattle.pd_shapes.specs.ImageShape.{image_shape}
 use Rattle.pd_shapes.specs.PoolText.{SpellsPoolShape}
