@@ -1,9 +1,9 @@
 -- What a pool's text of either version spells: a lawful shape, of version 1 that of the pool that it spells.
-use Rattle.std.proofs.Common.{◌≡◌, ℕ, Bool, true, false, List, sym, ap, subst, ◌∙◌}
+use Rattle.std.proofs.Common.{◌≡◌, ℕ, Bool, true, false, List, sym, subst}
 use Rattle.pd_kinds.specs.Meaning.{ThinPool}
 use Rattle.pd_spells.specs.Lawful.{IsLawfulPool}
 use Rattle.pd_spells.specs.ThinText.{Line, SpellsPool, is_shared}
-use Rattle.pd_laid.specs.Shape.{ThinShape, pool_of, shape_of}
+use Rattle.pd_laid.specs.Shape.{ThinShape, shape_of}
 use Rattle.pd_laid.proofs.ShapeLemmas.{is_shape, pool_kept}
 use Rattle.pd_shapes.specs.PoolText.{IsLawfulShape, MeansAs, SpellsPoolShape}
 use Rattle.pd_laid_thin.specs.CleanPool.{IsCleanPool}

@@ -1,6 +1,7 @@
-//! What a restored pool, cache or era target is, what a repaired or found pool is, what a check says of an image, what a pool is whose
-//! flag was cleared, what a cache is that was written back, and what a pool is that was made smaller: the laws of laid images, of sound
-//! images, of what is saved, of texts, of clean images, of alike ones, of settled ones and of moved data blocks, in the terms of the tools.
+//! What a restored pool, cache or era target is, and which leaves the pool's devices share, what a repaired or found pool is, what a check
+//! says of an image, what a pool is whose flag was cleared, what a cache is that was written back, and what a pool is that was made smaller:
+//! the laws of laid images, of sound images, of shapes, of what is saved, of texts, of clean images, of alike ones, of settled ones and of
+//! moved data blocks, in the terms of the tools.
 #![tactic(auto)]
 
 mod caches;
