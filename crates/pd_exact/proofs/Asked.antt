@@ -9,23 +9,26 @@ use Rattle.pd_kinds.specs.Objects.{Appends}
 use Rattle.pd_kinds.specs.Report.{Reported}
 use Rattle.pd_kinds.specs.Stages.{faults}
 use Rattle.pd_answers.specs.Answer.{Objects}
-use Rattle.pd_answers.specs.Promises.{Queried, image_text, query, query_answer, terms_of}
+use Rattle.pd_answers.specs.Promises.{Queried, query, query_answer, terms_of}
 use Rattle.pd_answers.specs.Requests.{Request}
 use Rattle.pd_answers.specs.Terms.{IsAnswered}
 use Rattle.pd_answers.specs.Words.{asked}
 use Rattle.pd_kinds.specs.Crash.{HoldsSynced}
 use Rattle.pd_kinds.specs.Limits.{room_of}
-use Rattle.pd_spells.specs.Early.{is_pool_early}
-use Rattle.pd_spells.specs.ThinNeed.{thin_need, IsThinVerdict}
+use Rattle.pd_kinds.specs.Meaning.{ThinPool}
 use Rattle.pd_spells.specs.ThinText.{SpellsPool}
-use Rattle.pd_laid.specs.LaidThin.{laid_pool}
+use Rattle.pd_laid.specs.LaidThin.{laid_shape}
 use Rattle.pd_laid.specs.Made.{Makes}
-use Rattle.pd_laid_thin.specs.CleanPool.{IsCleanPool}
+use Rattle.pd_laid.specs.Shape.{ThinShape, shape_of}
+use Rattle.pd_shapes.specs.PoolText.{IsPoolTextVerdict, SpellsPoolShape, is_pool_text_early}
+use Rattle.pd_shapes.specs.SharedNeed.{shape_need}
 use Rattle.pd_answers.specs.Generated.{generated_text}
 use Rattle.pd_answers.specs.Rehearsals.{rehearse}
 use Rattle.pd_exact.proofs.Restored.{AreLaws, both_told, made_of_text}
 use Rattle.pd_exact.proofs.TellLemmas.{none_counted}
-use Rattle.pd_exact.specs.Words.{CallEnds, HoldsGenerated, PutsOfInput, PutsTextOfInput}
+use Rattle.pd_exact.proofs.SpelledShapes.{unshared_of_text}
+use Rattle.pd_exact.specs.Exact.{IsCleanShape}
+use Rattle.pd_exact.specs.Words.{CallEnds, HoldsGenerated, PutsOfInput, PutsSpelled}
 
 abbrev Image : Type 0
 Image = List (List ℕ)
@@ -57,20 +60,23 @@ module _ (kind : Kind) (text_of : Image → List ℕ) (file : Option (List ℕ))
       })
 
 -- what a dump puts spells what the image means
-module _ {M : Type 0} (kind : Kind) (Spells : List ℕ → M → Type 0) (meaning_of : Image → M)
-    (spells : (image : Image) → IsImage image → faults kind Whole image ≡ [] → Spells (image_text kind image) (meaning_of image)) where
-  pub puts_text : (before after : Objects) → PutsOfInput kind (image_text kind) before after → PutsTextOfInput kind Spells meaning_of before after
+module _ {M : Type 0} (kind : Kind) (Spells : List ℕ → M → Type 0) (meaning_of : Image → M) (text_of : Image → List ℕ)
+    (spells : (image : Image) → IsImage image → faults kind Whole image ≡ [] → Spells (text_of image) (meaning_of image)) where
+  pub puts_text : (before after : Objects) → PutsOfInput kind text_of before after
+      → IfSome before.input.held (λ image. PutsSpelled kind Spells (meaning_of image) (text_of image) image before after)
   puts_text before after put = IfSome_then before.input.held put (λ image is. record { text = is; spells = λ image_is. spells image image_is is.sound })
 
 -- what a rehearsal's output holds
-pub holds_generated : AreLaws IsThinVerdict laid_pool SpellsPool thin_need IsCleanPool → (number : ℕ) (path : List ℕ) (before after : Objects)
-    → IsAnswered (rehearse number path) before after 0 → HoldsGenerated number before after
-holds_generated laws number path before after answered =
+pub holds_generated : AreLaws IsPoolTextVerdict laid_shape SpellsPoolShape shape_need IsCleanShape
+    → ((text : List ℕ) (w x : ThinShape) → SpellsPoolShape text w → SpellsPoolShape text x → w ≡ x)
+    → (number : ℕ) (m : ThinPool) → SpellsPool (generated_text number) m → SpellsPoolShape (generated_text number) (shape_of m)
+    → (path : List ℕ) (before after : Objects) → IsAnswered (rehearse number path) before after 0 → HoldsGenerated number before after
+holds_generated laws one number m pool shape path before after answered =
     let found = answered.finding in
+    let text = generated_text number in
     IfSome_then before.output.held (both_told before.output.held (λ (base : Image). found.room ≡ room_of (length base))
-    (λ (base : Image). IfSome after.output.held (λ (image : Image). Makes laid_pool found.room found.verdict base image × HoldsSynced image after.output))
+    (λ (base : Image). IfSome after.output.held (λ (image : Image). Makes laid_shape found.room found.verdict base image × HoldsSynced image after.output))
     answered.found.0.told (answered.leaves.output.made refl)) (λ base told.
-    IfSome_then after.output.held told.1 (λ image held. (
-      made_of_text IsThinVerdict is_pool_early laid_pool SpellsPool thin_need IsCleanPool laws (generated_text number) base image found.room found.verdict answered.found.1.0 told.0 held.0,
-      held.1,
-    )))
+    IfSome_then after.output.held told.1 (λ image held.
+    let made = made_of_text IsPoolTextVerdict is_pool_text_early laid_shape SpellsPoolShape shape_need IsCleanShape laws text base image found.room found.verdict answered.found.1.0 told.0 held.0 in
+    (unshared_of_text one text m image pool shape made, held.1)))

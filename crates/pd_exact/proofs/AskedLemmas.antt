@@ -1,5 +1,5 @@
 -- What the words of each tool ask.
-use Rattle.std.proofs.Common.{◌≡◌, ◌⊎◌, inl, inr, ℕ, ◌+◌, ◌^◌, ◌<◌, true, false, ◌&&◌, nat_lt, List, [], ◌∷◌, ◌++◌, Option, Some, None, IfSome, refl, sym, arith}
+use Rattle.std.proofs.Common.{◌≡◌, ◌⊎◌, inl, inr, ℕ, ◌+◌, ◌^◌, ◌<◌, ◌≤◌, ◌==◌, ◌&&◌, if◌then◌else◌, nat_eq, nat_lt, List, [], ◌∷◌, ◌++◌, Option, Some, None, IfSome, option_and_then, refl, sym, arith}
 use Rattle.std.specs.Prelude.{codes, decimal}
 use Rattle.std.specs.Str.Parse.{digits_value}
 use Rattle.std.specs.Str.{bytes_eq}
@@ -7,62 +7,68 @@ use Rattle.std.proofs.lemmas.Bool.{and_parts, cases_Bool, ltb-true}
 use Rattle.std.proofs.lemmas.Option.{same_Some}
 use Rattle.pd_kinds.specs.declared.kind.Kind.TheVariants.{Thin, Cache, Era}
 use Rattle.pd_kinds.specs.declared.kind.Stage.TheVariants.{Counts}
-use Rattle.pd_answers.specs.Requests.{check, dump, restore, repair, search, rmap, list_devices, since, generate, rehearse, writeback, shrink, is_built}
-use Rattle.pd_answers.specs.Words.{Region, is_flag, items_of, given, version_of, generated_number, number_below, region_of, tool_in, request_of, spelled, asked}
+use Rattle.pd_answers.specs.Requests.{check, check_and_clear, dump, dump_shared, restore, repair, search, rmap, list_devices, since, generate, rehearse, writeback, shrink}
+use Rattle.pd_answers.specs.Words.{Region, is_flag, items_of, given, version_of, generated_number, number_below, region_of, tool_in, request_of, asked}
 use Rattle.pd_exact.specs.Search.{DoNumbersFit, NumberWords, SayNumbers, with_numbers}
 use Rattle.pd_exact.specs.Words.{IsName, to_file, in_version}
 
-pub thin_check_asked : (image : List ℕ) → IsName image → asked (codes "thin_check" ∷ image ∷ []) ≡ Some (check Thin Counts false image)
-unfolding is_built is_flag items_of given version_of tool_in request_of spelled asked
+pub thin_check_asked : (image : List ℕ) → IsName image → asked (codes "thin_check" ∷ image ∷ []) ≡ Some (check Thin Counts image)
+unfolding is_flag items_of given version_of tool_in request_of asked
 thin_check_asked image is_image = rw is_image refl
 
-pub cache_check_asked : (image : List ℕ) → IsName image → asked (codes "cache_check" ∷ image ∷ []) ≡ Some (check Cache Counts false image)
-unfolding is_built is_flag items_of given version_of tool_in request_of spelled asked
+pub cache_check_asked : (image : List ℕ) → IsName image → asked (codes "cache_check" ∷ image ∷ []) ≡ Some (check Cache Counts image)
+unfolding is_flag items_of given version_of tool_in request_of asked
 cache_check_asked image is_image = rw is_image refl
 
-pub era_check_asked : (image : List ℕ) → IsName image → asked (codes "era_check" ∷ image ∷ []) ≡ Some (check Era Counts false image)
-unfolding is_built is_flag items_of given version_of tool_in request_of spelled asked
+pub era_check_asked : (image : List ℕ) → IsName image → asked (codes "era_check" ∷ image ∷ []) ≡ Some (check Era Counts image)
+unfolding is_flag items_of given version_of tool_in request_of asked
 era_check_asked image is_image = rw is_image refl
 
-pub thin_clearing_asked : (image : List ℕ) → IsName image → asked (codes "thin_check" ∷ codes "--clear-needs-check-flag" ∷ image ∷ []) ≡ Some (check Thin Counts true image)
-unfolding is_built is_flag items_of given version_of tool_in request_of spelled asked
+pub thin_clearing_asked : (image : List ℕ) → IsName image → asked (codes "thin_check" ∷ codes "--clear-needs-check-flag" ∷ image ∷ []) ≡ Some (check_and_clear image)
+unfolding is_flag items_of given version_of tool_in request_of asked
 thin_clearing_asked image is_image = rw is_image refl
 
-pub thin_dump_asked : (file : Option (List ℕ)) (image : List ℕ) → IfSome file IsName → IsName image → asked (codes "thin_dump" ∷ (to_file file ++ (image ∷ []))) ≡ Some (dump Thin false file image)
-unfolding is_built is_flag items_of given version_of tool_in request_of spelled asked
+pub thin_dump_asked : (file : Option (List ℕ)) (image : List ℕ) → IfSome file IsName → IsName image → asked (codes "thin_dump" ∷ (to_file file ++ (image ∷ []))) ≡ Some (dump Thin file image)
+unfolding is_flag items_of given version_of tool_in request_of asked
 thin_dump_asked None image is_file is_image = rw (is_image) refl
 thin_dump_asked (Some file) image is_file is_image = rw (is_file, is_image) refl
 
-pub cache_dump_asked : (file : Option (List ℕ)) (image : List ℕ) → IfSome file IsName → IsName image → asked (codes "cache_dump" ∷ (to_file file ++ (image ∷ []))) ≡ Some (dump Cache false file image)
-unfolding is_built is_flag items_of given version_of tool_in request_of spelled asked
+pub thin_shared_dump_asked : (file : Option (List ℕ)) (image : List ℕ) → IfSome file IsName → IsName image
+    → asked (codes "thin_dump" ∷ codes "--shared" ∷ (to_file file ++ (image ∷ []))) ≡ Some (dump_shared file image)
+unfolding is_flag items_of given version_of tool_in request_of asked
+thin_shared_dump_asked None image is_file is_image = rw (is_image) refl
+thin_shared_dump_asked (Some file) image is_file is_image = rw (is_file, is_image) refl
+
+pub cache_dump_asked : (file : Option (List ℕ)) (image : List ℕ) → IfSome file IsName → IsName image → asked (codes "cache_dump" ∷ (to_file file ++ (image ∷ []))) ≡ Some (dump Cache file image)
+unfolding is_flag items_of given version_of tool_in request_of asked
 cache_dump_asked None image is_file is_image = rw (is_image) refl
 cache_dump_asked (Some file) image is_file is_image = rw (is_file, is_image) refl
 
-pub era_dump_asked : (file : Option (List ℕ)) (image : List ℕ) → IfSome file IsName → IsName image → asked (codes "era_dump" ∷ (to_file file ++ (image ∷ []))) ≡ Some (dump Era false file image)
-unfolding is_built is_flag items_of given version_of tool_in request_of spelled asked
+pub era_dump_asked : (file : Option (List ℕ)) (image : List ℕ) → IfSome file IsName → IsName image → asked (codes "era_dump" ∷ (to_file file ++ (image ∷ []))) ≡ Some (dump Era file image)
+unfolding is_flag items_of given version_of tool_in request_of asked
 era_dump_asked None image is_file is_image = rw (is_image) refl
 era_dump_asked (Some file) image is_file is_image = rw (is_file, is_image) refl
 
 pub thin_ls_asked : (file : Option (List ℕ)) (image : List ℕ) → IfSome file IsName → IsName image → asked (codes "thin_ls" ∷ (to_file file ++ (image ∷ []))) ≡ Some (list_devices file image)
-unfolding is_built is_flag items_of given version_of tool_in request_of spelled asked
+unfolding is_flag items_of given version_of tool_in request_of asked
 thin_ls_asked None image is_file is_image = rw (is_image) refl
 thin_ls_asked (Some file) image is_file is_image = rw (is_file, is_image) refl
 
 pub thin_restore_asked : (file path : List ℕ) → IsName file → IsName path → asked (codes "thin_restore" ∷ codes "-i" ∷ file ∷ codes "-o" ∷ path ∷ []) ≡ Some (restore Thin 1 file path)
-unfolding is_built is_flag items_of given version_of tool_in request_of spelled asked
+unfolding is_flag items_of given version_of tool_in request_of asked
 thin_restore_asked file path is_file is_path = rw (is_file, is_path) refl
 
 pub era_restore_asked : (file path : List ℕ) → IsName file → IsName path → asked (codes "era_restore" ∷ codes "-i" ∷ file ∷ codes "-o" ∷ path ∷ []) ≡ Some (restore Era 1 file path)
-unfolding is_built is_flag items_of given version_of tool_in request_of spelled asked
+unfolding is_flag items_of given version_of tool_in request_of asked
 era_restore_asked file path is_file is_path = rw (is_file, is_path) refl
 
 pub thin_repair_asked : (from to : List ℕ) → IsName from → IsName to → asked (codes "thin_repair" ∷ codes "-i" ∷ from ∷ codes "-o" ∷ to ∷ []) ≡ Some (repair from to)
-unfolding is_built is_flag items_of given version_of tool_in request_of spelled asked
+unfolding is_flag items_of given version_of tool_in request_of asked
 thin_repair_asked from to is_from is_to = rw (is_from, is_to) refl
 
 pub thin_search_asked : (from to : List ℕ) (words : NumberWords) (transaction block_size blocks : ℕ) → IsName from → IsName to → SayNumbers words transaction block_size blocks
     → asked (codes "thin_repair" ∷ codes "-i" ∷ from ∷ codes "-o" ∷ to ∷ with_numbers words) ≡ Some (search from to transaction block_size blocks)
-unfolding is_built is_flag items_of given version_of tool_in request_of spelled asked
+unfolding is_flag items_of given version_of tool_in request_of asked
 thin_search_asked from to words transaction block_size blocks is_from is_to say =
     rw (is_from, is_to, say.names.0, say.names.1.0, say.names.1.1, say.transaction_is, say.block_size_is, say.blocks_is) refl
 
@@ -80,6 +86,23 @@ below_bound bound word number is = elim (cases_Bool (nat_lt (digits_value 10 wor
     nothing : (number : ℕ) → (let none : Option ℕ = None in none ≡ Some number) → ⊥
     nothing number is = cc
 
+-- a generator's number is at most 10000
+above_zero : (o : Option ℕ) (number : ℕ) → option_and_then (λ (n : ℕ). if n == 0 then None else Some n) o ≡ Some number → o ≡ Some number
+above_zero None number is = is
+above_zero (Some n) number is = elim (cases_Bool (nat_eq n 0)) [
+  | inl none ↦ absurd (nothing number (rw none at is))
+  | inr some ↦ rw some at is
+]
+  where
+    nothing : (number : ℕ) → (let none : Option ℕ = None in none ≡ Some number) → ⊥
+    nothing number is = cc
+
+pub generated_few : (word : List ℕ) (number : ℕ) → generated_number word ≡ Some number → number ≤ 10000
+unfolding generated_number
+generated_few word number is =
+    let below = below_bound 10001 word number (above_zero (number_below 10001 word) number is) in
+    omega arith
+
 pub said_numbers_fit : (words : NumberWords) (transaction block_size blocks : ℕ) → SayNumbers words transaction block_size blocks → DoNumbersFit transaction block_size blocks
 said_numbers_fit words transaction block_size blocks say =
     let few = below_bound (2 ^ 40 + 1) words.blocks blocks say.blocks_is in
@@ -91,41 +114,41 @@ said_numbers_fit words transaction block_size blocks say =
 
 pub cache_restore_asked : (word : Option (List ℕ)) (version : ℕ) (file path : List ℕ) → IfSome word IsName → version_of word ≡ Some version → IsName file → IsName path
     → asked (codes "cache_restore" ∷ (in_version word ++ (codes "-i" ∷ file ∷ codes "-o" ∷ path ∷ []))) ≡ Some (restore Cache version file path)
-unfolding is_built is_flag items_of given tool_in request_of spelled asked
+unfolding is_flag items_of given tool_in request_of asked
 cache_restore_asked None version file path is_word is is_file is_path = rw (is_file, is_path, is) refl
 cache_restore_asked (Some word) version file path is_word is is_file is_path = rw (is_word, is_file, is_path, is) refl
 
 pub era_invalidate_asked : (word : List ℕ) (era : ℕ) (file : Option (List ℕ)) (image : List ℕ) → IsName word → number_below (2 ^ 32) word ≡ Some era → IfSome file IsName → IsName image
     → asked (codes "era_invalidate" ∷ codes "--written-since" ∷ word ∷ (to_file file ++ (image ∷ []))) ≡ Some (since era file image)
-unfolding is_built is_flag items_of given version_of tool_in request_of spelled asked
+unfolding is_flag items_of given version_of tool_in request_of asked
 era_invalidate_asked word era None image is_word is is_file is_image = rw (is_word, is_image, is) refl
 era_invalidate_asked word era (Some file) image is_word is is_file is_image = rw (is_word, is_file, is_image, is) refl
 
 pub thin_rmap_asked : (word : List ℕ) (region : Region) (file : Option (List ℕ)) (image : List ℕ) → IsName word → region_of word ≡ Some region → IfSome file IsName → IsName image
     → asked (codes "thin_rmap" ∷ codes "--region" ∷ word ∷ (to_file file ++ (image ∷ []))) ≡ Some (rmap region.first region.end file image)
-unfolding is_built is_flag items_of given version_of tool_in request_of spelled asked
+unfolding is_flag items_of given version_of tool_in request_of asked
 thin_rmap_asked word region None image is_word is is_file is_image = rw (is_word, is_image, is) refl
 thin_rmap_asked word region (Some file) image is_word is is_file is_image = rw (is_word, is_file, is_image, is) refl
 
 pub thin_generate_asked : (word : List ℕ) (number : ℕ) (file : Option (List ℕ)) → IsName word → generated_number word ≡ Some number → IfSome file IsName
     → asked (codes "thin_generate" ∷ codes "--number" ∷ word ∷ to_file file) ≡ Some (generate number file)
-unfolding is_built is_flag items_of given version_of tool_in request_of spelled asked
+unfolding is_flag items_of given version_of tool_in request_of asked
 thin_generate_asked word number None is_word is is_file = rw (is_word, is) refl
 thin_generate_asked word number (Some file) is_word is is_file = rw (is_word, is_file, is) refl
 
 pub thin_rehearse_asked : (word : List ℕ) (number : ℕ) (path : List ℕ) → IsName word → generated_number word ≡ Some number → IsName path
     → asked (codes "thin_rehearse" ∷ codes "--number" ∷ word ∷ codes "-o" ∷ path ∷ []) ≡ Some (rehearse number path)
-unfolding is_built is_flag items_of given version_of tool_in request_of spelled asked
+unfolding is_flag items_of given version_of tool_in request_of asked
 thin_rehearse_asked word number path is_word is is_path = rw (is_word, is_path, is) refl
 
 pub cache_writeback_asked : (metadata fast origin : List ℕ) → IsName metadata → IsName fast → IsName origin
     → asked (codes "cache_writeback" ∷ codes "--metadata-device" ∷ metadata ∷ codes "--fast-device" ∷ fast ∷ codes "--origin-device" ∷ origin ∷ []) ≡ Some (writeback metadata fast origin)
-unfolding is_built is_flag items_of given version_of tool_in request_of spelled asked
+unfolding is_flag items_of given version_of tool_in request_of asked
 cache_writeback_asked metadata fast origin is_metadata is_fast is_origin = rw (is_metadata, is_fast, is_origin) refl
 
 pub thin_shrink_asked : (from to pool word : List ℕ) (blocks : ℕ) → IsName from → IsName to → IsName pool → IsName word → number_below (2 ^ 64) word ≡ Some blocks
     → asked (codes "thin_shrink" ∷ codes "-i" ∷ from ∷ codes "-o" ∷ to ∷ codes "--data" ∷ pool ∷ codes "--nr-blocks" ∷ word ∷ []) ≡ Some (shrink from to pool blocks)
-unfolding is_built is_flag items_of given version_of tool_in request_of spelled asked
+unfolding is_flag items_of given version_of tool_in request_of asked
 thin_shrink_asked from to pool word blocks is_from is_to is_pool is_word is = rw (is_from, is_to, is_pool, is_word, is) refl
 
 -- a word names version 1 or 2, and without one it is 1

@@ -1,21 +1,28 @@
 -- What restores leave and what checks tell, where the objects tell what they hold.
-use Rattle.std.specs.Prelude.{◌≡◌, ◌⊎◌, ℕ, ◌≤◌, false, true, List, [], Some, IfSome, length}
+use Rattle.std.specs.Prelude.{◌≡◌, ◌⊎◌, ℕ, ◌≤◌, false, List, [], Some, IfSome, length}
 use Rattle.pd_kinds.specs.declared.kind.Kind.{Kind}
 use Rattle.pd_kinds.specs.declared.kind.Kind.TheVariants.{Thin, Cache, Era}
 use Rattle.pd_kinds.specs.declared.kind.Stage.TheVariants.{Counts, Whole}
 use Rattle.pd_kinds.specs.CacheFormat.{cache_fields}
 use Rattle.pd_kinds.specs.Crash.{HoldsSynced, IsOldNoneOrMade, LeavesOnly}
-use Rattle.pd_kinds.specs.Graph.{block_at}
+use Rattle.pd_kinds.specs.Graph.{block_at, data_count}
 use Rattle.pd_kinds.specs.Meaning.{CacheMeaning, thin_meaning, cache_meaning, era_meaning}
 use Rattle.pd_kinds.specs.Stages.{IsClean, faults}
+use Rattle.pd_kinds.specs.ThinFormat.{thin_graph}
 use Rattle.pd_spells.specs.ThinNeed.{thin_need}
-use Rattle.pd_spells.specs.ThinText.{SpellsPool}
 use Rattle.pd_spells.specs.CacheNeed.{cache_need}
 use Rattle.pd_spells.specs.CacheText.{SpellsCache}
 use Rattle.pd_spells.specs.EraNeed.{era_need}
 use Rattle.pd_spells.specs.EraText.{SpellsEra}
 use Rattle.pd_kinds.specs.Image.{IsImage}
+use Rattle.pd_laid.specs.Laid.{count_in}
 use Rattle.pd_laid.specs.Salvage.{salvage}
+use Rattle.pd_laid.specs.Shape.{ThinShape, pool_of}
+use Rattle.pd_shapes.specs.ImageShape.{image_shape}
+use Rattle.pd_shapes.specs.PoolText.{SpellsPoolShape}
+use Rattle.pd_shapes.specs.SharedNeed.{shape_data, shape_need}
+use Rattle.pd_shapes.specs.SharedText.{text_of_shape}
+use Rattle.pd_image_shapes.specs.Uses.{IsSharedTwice}
 use Rattle.pd_kinds.specs.Limits.{room_of}
 use Rattle.pd_laid_thin.specs.CleanPool.{IsCleanPool}
 use Rattle.pd_laid_cache.specs.CleanCache.{IsCleanCache}
@@ -23,7 +30,7 @@ use Rattle.pd_laid_era.specs.CleanEra.{IsCleanEra}
 use Rattle.pd_answers.specs.Answer.{NoFaults, Objects}
 use Rattle.pd_answers.specs.Flag.{needs_check}
 use Rattle.pd_answers.specs.Promises.{image_text, terms_of}
-use Rattle.pd_answers.specs.Requests.{check, repair, restore}
+use Rattle.pd_answers.specs.Requests.{check, check_and_clear, repair, restore}
 use Rattle.pd_answers.specs.Terms.{IsAnswered}
 
 -- a restore of this kind, in this version of its metadata, was asked, and was answered with this status
@@ -48,13 +55,20 @@ LeavesOfText Spells IsCleanOf before after =
     IfSome before.source.left (λ text. IfSome before.output.held (λ base.
     LeavesOnly (IsOldNoneOrMade base (IsOfText Spells IsCleanOf text)) before.output after.output))
 
--- the output holds an image that is clean and means the pool of the text
+-- The image is clean and means the pool of the shape; its devices share the leaves that the shape says, where each of these
+-- is used twice or more; and it counts each data block as often as the shape tells it: a shared leaf's once
+pub record IsCleanShape (image : List (List ℕ)) (w : ThinShape) : Type 0 where
+  pub pool : IsCleanPool image (pool_of w)
+  pub shared : IsSharedTwice w → image_shape image ≡ w
+  pub counts : (d : ℕ) → data_count (thin_graph (block_at image 0)) image d ≡ count_in (shape_data w) d
+
+-- the output holds such an image of the shape of the text, whichever its version
 abbrev pub HoldsPoolOfText : Objects → Objects → Type 0
-HoldsPoolOfText = HoldsOfText SpellsPool IsCleanPool
+HoldsPoolOfText = HoldsOfText SpellsPoolShape IsCleanShape
 
 -- a crash leaves no other pool
 abbrev pub LeavesPoolOfText : Objects → Objects → Type 0
-LeavesPoolOfText = LeavesOfText SpellsPool IsCleanPool
+LeavesPoolOfText = LeavesOfText SpellsPoolShape IsCleanShape
 
 -- the image is clean, means the cache, and its superblock gives this version
 pub record IsCleanCacheIn (version : ℕ) (image : List (List ℕ)) (m : CacheMeaning) : Type 0 where
@@ -91,13 +105,21 @@ pub record IsDumpOf (kind : Kind) (version : ℕ) (image base : List (List ℕ))
   pub held : before.output.held ≡ Some base
   pub room : image_need kind version image (room_of (length base)) ≤ room_of (length base)
 
+-- a sound pool's text with its shared leaves is to be restored, and there is room for it
+pub record IsSharedDumpOf (image base : List (List ℕ)) (before : Objects) : Type 0 where
+  pub is : IsImage image
+  pub sound : faults Thin Whole image ≡ []
+  pub text : before.source.left ≡ Some (text_of_shape (image_shape image))
+  pub held : before.output.held ≡ Some base
+  pub room : shape_need (image_shape image) (room_of (length base)) ≤ room_of (length base)
+
 -- a check of this kind of metadata to its end was asked, and was answered with this status
 abbrev pub IsCheckAnswered : Kind → List ℕ → Objects → Objects → ℕ → Type 0
-IsCheckAnswered kind path = IsAnswered (terms_of (Some (check kind Counts false path)))
+IsCheckAnswered kind path = IsAnswered (terms_of (Some (check kind Counts path)))
 
 -- the same check of a thin pool was asked, which clears the flag where nothing was reported
 abbrev pub IsClearingAnswered : List ℕ → Objects → Objects → ℕ → Type 0
-IsClearingAnswered path = IsAnswered (terms_of (Some (check Thin Counts true path)))
+IsClearingAnswered path = IsAnswered (terms_of (Some (check_and_clear path)))
 
 -- status 0 says that the image that was read is clean, status 1 that it isn't, and where it is clean and nothing fails
 -- the status is 0, or memory was wanting

@@ -2,12 +2,16 @@
 -- the output holds.
 use Rattle.std.specs.Prelude.{◌≡◌, ℕ, true, List, [], ◌∷◌, Option, Some, None, IfSome, codes}
 use Rattle.pd_kinds.specs.declared.kind.Kind.{Kind}
+use Rattle.pd_kinds.specs.declared.kind.Kind.TheVariants.{Thin}
 use Rattle.pd_kinds.specs.declared.kind.Stage.TheVariants.{Whole}
 use Rattle.pd_kinds.specs.Crash.{HoldsSynced}
 use Rattle.pd_kinds.specs.Image.{IsImage}
 use Rattle.pd_kinds.specs.Objects.{Appends}
 use Rattle.pd_kinds.specs.Stages.{faults}
 use Rattle.pd_spells.specs.ThinText.{SpellsPool}
+use Rattle.pd_shapes.specs.ImageShape.{image_shape}
+use Rattle.pd_shapes.specs.PoolText.{SpellsPoolShape}
+use Rattle.pd_shapes.specs.SharedText.{text_of_shape}
 use Rattle.pd_laid_thin.specs.CleanPool.{IsCleanPool}
 use Rattle.pd_answers.specs.Answer.{Objects}
 use Rattle.pd_answers.specs.Generated.{generated_text}
@@ -47,14 +51,20 @@ pub record PutsOfSound (kind : Kind) (bytes : List ℕ) (image : List (List ℕ)
 abbrev pub PutsOfInput : Kind → (List (List ℕ) → List ℕ) → Objects → Objects → Type 0
 PutsOfInput kind bytes_of before after = IfSome before.input.held (λ image. PutsOfSound kind (bytes_of image) image before after)
 
--- the image's text was put, and it spells what the image means
-pub record PutsItsText {M : Type 0} (kind : Kind) (Spells : List ℕ → M → Type 0) (meaning_of : List (List ℕ) → M) (image : List (List ℕ)) (before after : Objects) : Type 0 where
-  pub text : PutsOfSound kind (image_text kind image) image before after
-  pub spells : IsImage image → Spells (image_text kind image) (meaning_of image)
+-- these bytes were put, and they spell this
+pub record PutsSpelled {M : Type 0} (kind : Kind) (Spells : List ℕ → M → Type 0) (meaning : M) (bytes : List ℕ) (image : List (List ℕ)) (before after : Objects) : Type 0 where
+  pub text : PutsOfSound kind bytes image before after
+  pub spells : IsImage image → Spells bytes meaning
 
+-- the image's text was put, and it spells what the image means
 abbrev pub PutsTextOfInput : {M : Type 0} → Kind → (List ℕ → M → Type 0) → (List (List ℕ) → M) → Objects → Objects → Type 0
 PutsTextOfInput kind Spells meaning_of before after =
-    IfSome before.input.held (λ image. PutsItsText kind Spells meaning_of image before after)
+    IfSome before.input.held (λ image. PutsSpelled kind Spells (meaning_of image) (image_text kind image) image before after)
+
+-- the text of the pool's shape was put, which tells each shared leaf once, and it spells this shape
+abbrev pub PutsShapeOfInput : Objects → Objects → Type 0
+PutsShapeOfInput before after =
+    IfSome before.input.held (λ image. PutsSpelled Thin SpellsPoolShape (image_shape image) (text_of_shape (image_shape image)) image before after)
 
 -- the generator's text was put
 abbrev pub PutsGenerated : ℕ → Objects → Objects → Type 0

@@ -10,36 +10,38 @@ ghost use Rattle.pd_answers.specs.Answer.{NoFaults, Objects};
 ghost use Rattle.pd_answers.specs.Flag.{cleared, needs_check};
 ghost use Rattle.pd_exact.specs.Exact.{HoldsCleared, HoldsPoolOfText, IsCheckAnswered, IsClearingAnswered, IsDumpOf, IsRestoreAnswered, LeavesPoolOfText, TellsClean};
 
+use crate::shared::laid_shapes_are_clean;
 use pd_alike::{alike_pools_have_the_same_faults, alike_pools_mean_the_same};
-use pd_laid_thin::laid_pool_is_clean;
 use pd_laws::faults_are_none_where_clean;
-use pd_spells::{
-    thin_text_has_one_meaning, thin_text_has_one_verdict,
-    thin_text_is_accepted_where_there_is_room, thin_text_spells,
+use pd_shape_verdicts::pool_text_is_accepted_where_there_is_room;
+use pd_shapes::{
+    either_version_spells_a_shape, pool_text_has_one_shape, pool_text_has_one_verdict,
 };
+use pd_spells::thin_text_spells;
 use pd_thin_meaning::sound_pools_are_lawful;
 
-/// At status 0 the text that was restored spells a pool, and the output holds, with nothing unsynced, an image
-/// that is clean and means that pool.
+/// At status 0 the text that was restored, of either version, spells the shape of a pool, and the output holds, with nothing
+/// unsynced, an image that is clean and means that pool. Its devices share the leaves that the text tells, where each is used
+/// twice or more, and each data block is counted as often as the text tells it: those of a shared leaf once.
 pub fn restored_pool_is_clean()
     ensures { (file path : List ℕ) (before after : Objects) → IsRestoreAnswered Thin 1 file path before after 0 → HoldsPoolOfText before after }
 {
-    laid_pool_is_clean();
-    thin_text_has_one_verdict();
-    thin_text_is_accepted_where_there_is_room();
+    laid_shapes_are_clean();
+    pool_text_has_one_verdict();
+    pool_text_is_accepted_where_there_is_room();
 }
 
 /// Under every status a crash at any moment of the call leaves, by no chance, the old image, no valid superblock,
-/// or an image that is clean and means the pool of the text.
+/// or an image that is clean and means the pool of the text, of either version, with its shared leaves.
 pub fn crashed_restore_leaves_no_other_pool()
     ensures { (file path : List ℕ) (before after : Objects) (status : ℕ) → IsRestoreAnswered Thin 1 file path before after status → LeavesPoolOfText before after }
 {
-    laid_pool_is_clean();
-    thin_text_has_one_verdict();
-    thin_text_is_accepted_where_there_is_room();
+    laid_shapes_are_clean();
+    pool_text_has_one_verdict();
+    pool_text_is_accepted_where_there_is_room();
 }
 
-/// The dump of a pool without faults up to the stage Whole is restored, where there is room for it, nothing fails
+/// The plain dump of a pool without faults up to the stage Whole is restored, where there is room for it, nothing fails
 /// and memory isn't wanting; and what is restored of it means the same pool.
 pub fn restored_dump_means_the_same()
     ensures restored { (image base : List (List ℕ)) (file path : List ℕ) (before after : Objects) (status : ℕ) → IsDumpOf Thin 1 image base before
@@ -48,12 +50,13 @@ pub fn restored_dump_means_the_same()
         → IsRestoreAnswered Thin 1 file path before after 0 → IfSome after.output.held (λ restored. thin_meaning restored ≡ thin_meaning image) }
 {
     restored_pool_is_clean();
-    laid_pool_is_clean();
+    laid_shapes_are_clean();
     sound_pools_are_lawful();
     thin_text_spells();
-    thin_text_has_one_meaning();
-    thin_text_has_one_verdict();
-    thin_text_is_accepted_where_there_is_room();
+    either_version_spells_a_shape();
+    pool_text_has_one_shape();
+    pool_text_has_one_verdict();
+    pool_text_is_accepted_where_there_is_room();
 }
 
 /// A check to its end tells by its status whether the image that it read is clean: 0 says that it is, 1 that it isn't.

@@ -1,12 +1,14 @@
-//! What a restored pool, cache or era target is, what a repaired or found pool is, what a check says of an image, what a pool is whose
-//! flag was cleared, what a cache is that was written back, and what a pool is that was made smaller: the laws of laid images, of sound
-//! images, of what is saved, of texts, of clean images, of alike ones, of settled ones and of moved data blocks, in the terms of the tools.
+//! What a restored pool, cache or era target is, and which leaves the pool's devices share, what a repaired or found pool is, what a check
+//! says of an image, what a pool is whose flag was cleared, what a cache is that was written back, and what a pool is that was made smaller:
+//! the laws of laid images, of sound images, of shapes, of what is saved, of texts, of clean images, of alike ones, of settled ones and of
+//! moved data blocks, in the terms of the tools.
 #![tactic(auto)]
 
 mod caches;
 mod laws;
 mod repairs;
 mod searches;
+mod shared;
 mod shrinks;
 mod targets;
 mod words;
@@ -29,6 +31,7 @@ pub use searches::{
     crashed_search_leaves_no_other_pool, found_pools_are_lawful, lost_pool_is_repaired,
     lost_pools_are_found, searched_pool_is_clean,
 };
+pub use shared::{laid_shapes_are_clean, restored_shared_dump_keeps_the_shape};
 pub use shrinks::{shrunk_pool_is_clean_and_reads_the_same, stopped_shrink_keeps_what_is_read};
 pub use targets::{
     crashed_restore_leaves_no_other_target, restored_target_dump_means_the_same,
@@ -41,6 +44,7 @@ pub use words::{
     thin_check_tells_clean_and_clears, thin_dump_puts_the_text, thin_generate_puts_its_text,
     thin_ls_puts_the_devices, thin_rehearse_makes_its_pool, thin_repair_finds_the_roots,
     thin_repair_makes_what_is_saved, thin_restore_is_asked, thin_restore_makes_the_pool,
-    thin_rmap_puts_the_mappings, thin_shrink_makes_the_pool_smaller,
+    thin_rmap_puts_the_mappings, thin_shared_dump_puts_the_shape,
+    thin_shrink_makes_the_pool_smaller,
 };
 pub use writebacks::{stopped_writeback_keeps_the_view, written_back_cache_is_clean};

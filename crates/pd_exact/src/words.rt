@@ -13,7 +13,7 @@ ghost use Rattle.pd_answers.specs.Words.{Region, asked, generated_number, is_val
 ghost use Rattle.pd_exact.specs.Exact.{HoldsCacheOfText, HoldsCleared, HoldsPoolOfText, HoldsSalvage, HoldsTargetOfText};
 ghost use Rattle.pd_exact.specs.Search.{HasNoRoots, HoldsFoundPool, NumberWords, SayNumbers, with_numbers};
 ghost use Rattle.pd_exact.specs.Shrink.{HoldsShrunk};
-ghost use Rattle.pd_exact.specs.Words.{CallEnds, HoldsGenerated, IsName, PutsGenerated, PutsOfInput, PutsTextOfInput, TellsWhetherClean, in_version, to_file};
+ghost use Rattle.pd_exact.specs.Words.{CallEnds, HoldsGenerated, IsName, PutsGenerated, PutsOfInput, PutsShapeOfInput, PutsTextOfInput, TellsWhetherClean, in_version, to_file};
 ghost use Rattle.pd_exact.specs.Writeback.{HoldsWrittenBack};
 
 use crate::caches::{restored_cache_is_clean, sound_caches_are_lawful};
@@ -23,14 +23,17 @@ use crate::laws::{
 };
 use crate::repairs::repaired_pool_is_clean;
 use crate::searches::searched_pool_is_clean;
+use crate::shared::laid_shapes_are_clean;
 use crate::shrinks::shrunk_pool_is_clean_and_reads_the_same;
 use crate::targets::{restored_target_is_clean, sound_targets_are_lawful};
 use crate::writebacks::written_back_cache_is_clean;
-use pd_laid_thin::laid_pool_is_clean;
-use pd_spells::{
-    cache_text_spells, era_text_spells, thin_text_has_one_verdict,
-    thin_text_is_accepted_where_there_is_room, thin_text_spells,
+use pd_gen::generated_text_spells_a_pool;
+use pd_image_shapes::sound_pools_have_a_shape;
+use pd_shape_verdicts::pool_text_is_accepted_where_there_is_room;
+use pd_shapes::{
+    either_version_spells_a_shape, pool_text_has_one_shape, pool_text_has_one_verdict,
 };
+use pd_spells::{cache_text_spells, era_text_spells, thin_text_spells};
 use pd_thin_meaning::sound_pools_are_lawful;
 
 /// `thin_check IMAGE`: status 0 says that the pool's image is clean, and 1 that it isn't.
@@ -73,6 +76,15 @@ pub fn thin_dump_puts_the_text()
     thin_text_spells();
 }
 
+/// `thin_dump --shared IMAGE`, to a file or not: status 0 says that the image has no faults up to the stage Whole, and that a text was
+/// put that spells the pool's shape: each leaf that its devices share is told once.
+pub fn thin_shared_dump_puts_the_shape()
+    ensures { (file : Option (List ℕ)) (image : List ℕ) (before after : Objects) → IfSome file IsName → IsName image → CallEnds (codes "thin_dump" ∷ codes "--shared" ∷ (to_file file ++ (image ∷ []))) 0 before after → PutsShapeOfInput before after }
+{
+    sound_pools_have_a_shape();
+    either_version_spells_a_shape();
+}
+
 /// `cache_dump IMAGE`, to a file or not: status 0 says that the image has no faults up to the stage Whole, and that a text of the
 /// cache that it means was put.
 pub fn cache_dump_puts_the_text()
@@ -91,8 +103,9 @@ pub fn era_dump_puts_the_text()
     era_text_spells();
 }
 
-/// `thin_restore -i FILE -o IMAGE`: status 0 says that the text spells a pool, and that the image is clean and means it, with
-/// nothing unsynced.
+/// `thin_restore -i FILE -o IMAGE`: status 0 says that the text, of either version, spells the shape of a pool, and that the image is
+/// clean and means the pool, its devices share the leaves that the text tells, where each is used twice or more, and each data block
+/// is counted as often as the text tells it, with nothing unsynced.
 pub fn thin_restore_makes_the_pool()
     ensures { (file path : List ℕ) (before after : Objects) → IsName file → IsName path → CallEnds (codes "thin_restore" ∷ codes "-i" ∷ file ∷ codes "-o" ∷ path ∷ []) 0 before after → HoldsPoolOfText before after }
 {
@@ -161,9 +174,12 @@ pub fn thin_generate_puts_its_text()
 pub fn thin_rehearse_makes_its_pool()
     ensures { (word : List ℕ) (number : ℕ) (path : List ℕ) (before after : Objects) → IsName word → generated_number word ≡ Some number → IsName path → CallEnds (codes "thin_rehearse" ∷ codes "--number" ∷ word ∷ codes "-o" ∷ path ∷ []) 0 before after → HoldsGenerated number before after }
 {
-    laid_pool_is_clean();
-    thin_text_has_one_verdict();
-    thin_text_is_accepted_where_there_is_room();
+    laid_shapes_are_clean();
+    generated_text_spells_a_pool();
+    either_version_spells_a_shape();
+    pool_text_has_one_shape();
+    pool_text_has_one_verdict();
+    pool_text_is_accepted_where_there_is_room();
 }
 
 /// `cache_writeback --metadata-device IMAGE --fast-device IMAGE --origin-device IMAGE`: status 0 says that nothing in the cache is dirty,

@@ -1,9 +1,15 @@
+use Rattle.pd_answers.specs.Generated.{generated_text}
+use Rattle.pd_gen.specs.Pool.{generated_pool}
 use Rattle.pd_exact.proofs.Asked.{answered_for, holds_generated}
-use Rattle.pd_exact.proofs.AskedLemmas.{thin_rehearse_asked}
+use Rattle.pd_exact.proofs.AskedLemmas.{generated_few, thin_rehearse_asked}
 use Rattle.pd_exact.proofs.KindLaws.{pool_laws}
 use Rattle.pd_exact.proofs.words.thin_rehearse_makes_its_pool.Goals as goal
 
 pub returns : goal.returns
 returns c = λ word number path before after is_word is is_path ends.
-    holds_generated (pool_laws c.thin_text_has_one_verdict.ensures.one c.thin_text_is_accepted_where_there_is_room.ensures.no_room c.laid_pool_is_clean.ensures.clean)
-    number path before after (answered_for _ _ 0 before after (thin_rehearse_asked word number path is_word is is_path) ends)
+    let text = generated_text number in
+    let m = generated_pool number in
+    let pool = c.generated_text_spells_a_pool.ensures number (generated_few word number is) in
+    holds_generated (pool_laws c.pool_text_has_one_verdict.ensures.one c.pool_text_is_accepted_where_there_is_room.ensures.no_room c.laid_shapes_are_clean.ensures)
+    c.pool_text_has_one_shape.ensures number m pool (c.either_version_spells_a_shape.ensures.first text m pool)
+    path before after (answered_for _ _ 0 before after (thin_rehearse_asked word number path is_word is is_path) ends)
