@@ -282,9 +282,15 @@ for version in 1 2; do
 done
 try 0 thin_dump -o leak.txt leak.img
 same leak.txt thin-pool.txt
+try 0 thin_dump --shared -o leak.txt leak.img
+zeros new.img 1024
+try 0 thin_restore -i leak.txt -o new.img
+try 0 thin_check new.img
+out clean
 # with its shared leaves told once, a pool has the same mappings
 try 0 thin_dump --shared -o shared.txt thin-pool.img
 [ "$(sed -n 1p shared.txt)" = 'thin 2' ] || bad 'not version 2'
+same leak.txt shared.txt
 spread() {
     awk '$1 == "leaf" { leaf = $2; device = "" } $1 == "device" { device = $2; print }
         $1 == "map" { for (i = 0; i < $4; i++) {
@@ -296,6 +302,49 @@ spread thin-pool.txt >spread.txt
 spread shared.txt >spread-shared.txt
 same spread-shared.txt spread.txt
 try 2 cache_dump --shared cache.img
+# what is restored of it shares the same leaves, and is the same pool
+zeros new.img 1024
+try 0 thin_restore -i shared.txt -o new.img
+out
+notes
+try 0 thin_check new.img
+out clean
+try 0 thin_dump --shared new.img
+same out shared.txt
+try 0 thin_dump new.img
+same out thin-pool.txt
+# leaves that are told once take fewer blocks than one for each device
+used() {
+    od -A n -t u8 -j 200 -N 8 "$1" | tr -d ' '
+}
+together=$(used new.img)
+zeros new.img 1024
+try 0 thin_restore -i thin-pool.txt -o new.img
+[ "$together" -lt "$(used new.img)" ] || bad 'no fewer blocks than without shared leaves'
+zeros small.img $((together - 1))
+try 4 thin_restore -i shared.txt -o small.img
+out
+notes "pdata_tools: no room: need $together, blocks $((together - 1))" \
+    'thin_restore: a block has 4 KiB: the blocks needed, divided by 256, are the MiB to give lvcreate -L'
+# a number of mappings that no leaf has, a leaf that no device uses, and the second version of no other text
+sed '3s/^leaf 0 .*/leaf 0 253/' shared.txt >refused.txt
+zeros new.img 1024
+try 3 thin_restore -i refused.txt -o new.img
+notes 'pdata_tools: line 3: out of range'
+printf '%s\n' 'thin 2' 'pool 00000000-0000-0000-0000-000000000000 0 0 128 1' 'leaf 0 1' 'map 0 0 1 0' end >refused.txt
+try 3 thin_restore -i refused.txt -o new.img
+out
+notes 'pdata_tools: line 5: unused'
+sed '1s/.*/thin 1/' shared.txt >refused.txt
+try 3 thin_restore -i refused.txt -o new.img
+notes 'pdata_tools: line 3: word'
+cp new.img before.img
+for kind in cache era; do
+    sed "1s/.*/$kind 2/" $kind.txt >refused.txt
+    try 3 ${kind}_restore -i refused.txt -o new.img
+    notes 'pdata_tools: line 1: header'
+    same new.img before.img
+done
 # a data block far out: the counts of all before it take blocks of their own
 printf '%s\n' 'thin 1' 'pool 00000000-0000-0000-0000-000000000000 0 0 128 100000000' 'device 1 1 0 0 0' \
     'map 0 99999999 1 0' end >far.txt
@@ -304,7 +353,7 @@ try 0 thin_restore -i far.txt -o new.img
 out
 notes
 what='the blocks that are used'
-[ "$(od -A n -t u8 -j 200 -N 8 new.img | tr -d ' ')" = 6174 ] || bad 'not 6174'
+[ "$(used new.img)" = 6174 ] || bad 'not 6174'
 try 0 thin_check new.img
 out clean
 try 0 thin_dump new.img
