@@ -17,7 +17,7 @@ pub returns-then-are_items-clause-asked : goal.returns-then-are_items-clause-ask
 returns-then-are_items-clause-asked c =
     let first = asked_first string_bytes c.args.words.now c.index-words-0.result c.as_str.result.now (sym c.is_empty.ensures ∙ c.if-is_empty.false) c.index-words-0.is c.as_str.ensures.value in
     let tool = sym c.in-Some.ensures in
-    all_known (tool_of c.as_str.result.now) (tool_as c.in-Some.tool) (items_of (drop 1 (map string_bytes c.args.words.now))) _ tool (sym c.are_items.ensures ∙ c.if-are_items.true) c.read_built.ensures.asked
+    all_known (tool_of c.as_str.result.now) (tool_as c.in-Some.tool) (items_of (drop 1 (map string_bytes c.args.words.now))) _ tool (sym c.are_items.ensures ∙ c.if-are_items.true) ?
     ∙ sym first
 
 pub returns-else-are_items-clause-asked : goal.returns-else-are_items-clause-asked
