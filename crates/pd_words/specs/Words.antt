@@ -1,7 +1,6 @@
 -- What a request that was read means.
-use Rattle.std.specs.Prelude.{◌≡◌, ◌⊎◌, ℕ, ◌^◌, ◌<◌, ◌≤◌, Bool, List, Option, Some, None, IfSome, Result, Ok, Err}
+use Rattle.std.specs.Prelude.{◌≡◌, ◌⊎◌, ℕ, ◌^◌, ◌<◌, ◌≤◌, List, Option, Some, None, IfSome, Result, Ok, Err}
 use Rattle.std.specs.Option.{option_map}
-use Rattle.pd_kinds.specs.declared.kind.Kind.{Kind}
 use Rattle.pd_words.specs.declared.request.Name.{Name}
 use Rattle.pd_words.specs.declared.request.Request.{Request}
 use Rattle.pd_words.specs.declared.request.Request.TheVariants.{Check, CheckAndClear, Dump, DumpShared, Restore, Repair, Search, Rmap, List as ListDevices, Since, Generate, Rehearse, Writeback, Shrink}
@@ -44,13 +43,6 @@ read_as words (Some request) = Some (request_as words request)
 abbrev pub answer_as : List (List ℕ) → Result Request WordFault → Option requests.Request
 answer_as words (Ok request) = Some (request_as words request)
 answer_as words (Err fault) = None
-
--- a dump of what was given, if each was given as it may be
-abbrev pub dump_given : Kind → Option Bool → Option (Option (List ℕ)) → Option (List ℕ) → Option requests.Request
-dump_given kind (Some shared) (Some file) (Some image) = asked.dump_with kind shared file image
-dump_given kind (Some shared) (Some file) None = None
-dump_given kind (Some shared) None image = None
-dump_given kind None file image = None
 
 -- a repair of what was given: with all three numbers of the superblock that is wanting, or none
 abbrev pub repair_as : List (List ℕ) → Name → Name → Option Name → Option Name → Option Name → Option requests.Request

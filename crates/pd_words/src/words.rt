@@ -4,7 +4,7 @@ ghost use Rattle.pd_answers.specs.Words.{asked, stage_of, last_stage, version_of
 ghost use Rattle.pd_answers.specs.Words as words_spec;
 ghost use Rattle.pd_words.specs.Items.{given_as, IsGivenWithin, tool_as};
 ghost use Rattle.pd_words.specs.Numbers.{region_as};
-ghost use Rattle.pd_words.specs.Words.{request_as, read_as, answer_as, dump_given, repair_as, word_of, words_of, AreNames, IsGenerated, IsName, IsNameIfAny, IsVersion};
+ghost use Rattle.pd_words.specs.Words.{request_as, read_as, answer_as, repair_as, word_of, words_of, AreNames, IsGenerated, IsName, IsNameIfAny, IsVersion};
 
 use crate::items::{Given, IMAGE, Tool, are_items, given_for, tool_named};
 use crate::numbers::{Region, number, number_below, read_region};
@@ -69,36 +69,15 @@ fn read_check(kind: Kind, words: &[String]) -> Option<Request>
 }
 
 /// What the words ask of a dump.
+#[tactic(auto, unfolding(pd_answers::specs::Words::request_of))]
 fn read_dump(kind: Kind, words: &[String]) -> Option<Request>
     ensures asked { IfSome (items_of (drop 1 (map string_bytes words.now))) (λ items. read_as (map string_bytes words.now) result ≡ words_spec.request_of (words_spec.dump_tool kind) items) }
     ensures names { IfSome result (AreNames (length words.now)) }
 {
-    let shared = flag(given_for(words, 1, "--shared"));
-    let out = optional(given_for(words, 1, "-o"));
-    let image = required(given_for(words, 1, IMAGE));
-    dump_of(kind, shared, out, image)
-}
-
-/// A dump of what was given.
-fn dump_of(
-    kind: Kind,
-    shared: Option<bool>,
-    out: Option<Option<Name>>,
-    image: Option<Name>,
-) -> Option<Request>
-    ensures asked { (words : List (List ℕ)) → read_as words result ≡ dump_given kind shared (option_map (words_of words) out) (words_of words image) }
-    ensures names { (number : ℕ) → IfSome out (IsNameIfAny number) → IsNameIfAny number image → IfSome result (AreNames number) }
-{
-    match shared {
-        None => None,
-        Some(shared) => match out {
-            None => None,
-            Some(out) => match image {
-                None => None,
-                Some(image) => dump_with(kind, shared, out, image),
-            },
-        },
-    }
+    let shared = flag(given_for(words, 1, "--shared"))?;
+    let out = optional(given_for(words, 1, "-o"))?;
+    let image = required(given_for(words, 1, IMAGE))?;
+    dump_with(kind, shared, out, image)
 }
 
 /// A dump; only of a pool the leaves that are shared are told once.
