@@ -1,7 +1,6 @@
 -- What a request finds before anything was done.
-use Rattle.std.proofs.Common.{◌≡◌, inl, inr, true, false, List, [], ℕ, Option, Some, None, IfSome, refl, sym, ◌∙◌}
+use Rattle.std.proofs.Common.{[], ℕ, Option, Some, None}
 use Rattle.std.specs.Option.{option_map_or}
-use Rattle.std.proofs.lemmas.Bool.{true≢false, cases_Bool}
 use Rattle.pd_kinds.specs.declared.kind.Kind.{Kind}
 use Rattle.pd_kinds.specs.declared.kind.Kind.TheVariants.{Thin, Cache, Era}
 use Rattle.pd_kinds.specs.Objects.{SinkState}
@@ -9,17 +8,16 @@ use Rattle.pd_kinds.specs.Meaning.{thin_meaning, era_meaning}
 use Rattle.pd_kinds.specs.Report.{report_of}
 use Rattle.pd_kinds.specs.Stages.{faults}
 use Rattle.pd_answers.specs.Answer.{Objects, AreFresh}
-use Rattle.pd_answers.specs.Requests.{Request, check, dump, restore, repair, search, rmap, list_devices, since, generate, rehearse, writeback, shrink, is_built}
+use Rattle.pd_answers.specs.Requests.{Request, check, check_and_clear, dump, dump_shared, restore, repair, search, rmap, list_devices, since, generate, rehearse, writeback, shrink}
 use Rattle.pd_answers.specs.QueryLines.{list_lines, rmap_lines, since_lines}
-use Rattle.pd_answers.specs.Words.{built, spelled, asked}
 use Rattle.pd_answers.specs.Promises.{image_text, terms_of}
 use Rattle.pd_shapes.specs.ImageShape.{image_shape}
 use Rattle.pd_shapes.specs.SharedText.{text_of_shape}
-use Rattle.pd_spells.specs.Early.{is_pool_early, is_cache_early, is_era_early}
-use Rattle.pd_spells.specs.ThinNeed.{IsThinVerdict}
+use Rattle.pd_shapes.specs.PoolText.{IsPoolTextVerdict, is_pool_text_early}
+use Rattle.pd_spells.specs.Early.{is_cache_early, is_era_early}
 use Rattle.pd_spells.specs.CacheNeed.{IsCacheVerdict}
 use Rattle.pd_spells.specs.EraNeed.{IsEraVerdict}
-use Rattle.pd_laid.specs.LaidThin.{laid_pool}
+use Rattle.pd_laid.specs.LaidThin.{laid_shape}
 use Rattle.pd_laid.specs.LaidCache.{laid_cache}
 use Rattle.pd_laid.specs.LaidEra.{laid_era}
 use Rattle.pd_tools.specs.Restore.{TextsHaveVerdicts}
@@ -34,79 +32,54 @@ use Rattle.pd_tools.proofs.Searches.{search_at_rest}
 use Rattle.pd_tools.proofs.Shrinks.{shrink_at_rest}
 use Rattle.pd_tools.proofs.Writebacks.{writeback_at_rest}
 
--- a dump with shared leaves isn't built of a cache and of an era target
-pub no_shared_cache : (file : Option (List ℕ)) (path : List ℕ) → is_built (dump Cache true file path) ≡ false
-unfolding is_built
-no_shared_cache file path = refl
-
-pub no_shared_era : (file : Option (List ℕ)) (path : List ℕ) → is_built (dump Era true file path) ≡ false
-unfolding is_built
-no_shared_era file path = refl
-
--- what is asked is built
-built_alone : (request : Option Request) → IfSome (built request) (λ r. is_built r ≡ true)
-built_alone None = tt
-built_alone (Some request) = elim (cases_Bool (is_built request)) [ inl e ↦ rw e e | inr e ↦ rw e tt ]
-
-pub asked_alone : (words : List (List ℕ)) → IfSome (asked words) (λ r. is_built r ≡ true)
-unfolding asked
-asked_alone words = built_alone (spelled words)
-
 -- something is right to find, and nothing was written
 pub at_rest : (request : Option Request) (before : Objects) (notes : SinkState) → AreFresh before → ((kind : Kind) (version : ℕ) → TextsHaveVerdicts kind version)
-    → IfSome request (λ r. is_built r ≡ true)
     → (finding : (terms_of request).Finding) × ((terms_of request).finds before (record before { notes = notes }) finding)
     × ((terms_of request).leaves finding before (record before { notes = notes }) 6)
-unfolding is_built
-at_rest None before notes fresh verdicts is = (tt, tt, tt)
-at_rest (Some (check kind until false path)) before notes fresh verdicts is = (
+at_rest None before notes fresh verdicts = (tt, tt, tt)
+at_rest (Some (check kind until path)) before notes fresh verdicts = (
   option_map_or (λ image. report_of (faults kind until image)) before.input.held (report_of []),
   told before.input.held (λ image. report_of (faults kind until image)) (report_of []),
   tt,
 )
-at_rest (Some (check kind until true path)) before notes fresh verdicts is = clearing_at_rest path before notes fresh.input.2
-at_rest (Some (restore Thin version file path)) before notes fresh verdicts is =
-    restore_at_rest IsThinVerdict is_pool_early laid_pool file path before (record before { notes = notes }) before.source before.output fresh.output.2 (verdicts Thin version) fresh.output.0
-at_rest (Some (restore Cache version file path)) before notes fresh verdicts is =
+at_rest (Some (check_and_clear path)) before notes fresh verdicts = clearing_at_rest path before notes fresh.input.2
+at_rest (Some (restore Thin version file path)) before notes fresh verdicts =
+    restore_at_rest IsPoolTextVerdict is_pool_text_early laid_shape file path before (record before { notes = notes }) before.source before.output fresh.output.2 (verdicts Thin version) fresh.output.0
+at_rest (Some (restore Cache version file path)) before notes fresh verdicts =
     restore_at_rest (IsCacheVerdict version) (is_cache_early version) (λ m room. laid_cache m version room) file path before (record before { notes = notes }) before.source before.output fresh.output.2 (verdicts Cache version) fresh.output.0
-at_rest (Some (restore Era version file path)) before notes fresh verdicts is =
+at_rest (Some (restore Era version file path)) before notes fresh verdicts =
     restore_at_rest IsEraVerdict is_era_early laid_era file path before (record before { notes = notes }) before.source before.output fresh.output.2 (verdicts Era version) fresh.output.0
-at_rest (Some (repair from to)) before notes fresh verdicts is =
+at_rest (Some (repair from to)) before notes fresh verdicts =
     repair_at_rest from to before (record before { notes = notes }) before.input before.output fresh.output.2 fresh.output.0
-at_rest (Some (dump kind false file path)) before notes fresh verdicts is = query_at_rest kind (image_text kind) before.input.held
-at_rest (Some (dump Thin true file path)) before notes fresh verdicts is = query_at_rest Thin (λ image. text_of_shape (image_shape image)) before.input.held
-at_rest (Some (dump Cache true file path)) before notes fresh verdicts is = absurd (true≢false (sym is ∙ no_shared_cache file path))
-at_rest (Some (dump Era true file path)) before notes fresh verdicts is = absurd (true≢false (sym is ∙ no_shared_era file path))
-at_rest (Some (rmap first end file path)) before notes fresh verdicts is = query_at_rest Thin (λ image. rmap_lines first end (thin_meaning image)) before.input.held
-at_rest (Some (list_devices file path)) before notes fresh verdicts is = query_at_rest Thin (λ image. list_lines (thin_meaning image)) before.input.held
-at_rest (Some (since era file path)) before notes fresh verdicts is = query_at_rest Era (λ image. since_lines era (era_meaning image)) before.input.held
-at_rest (Some (generate number file)) before notes fresh verdicts is = (tt, tt, tt)
-at_rest (Some (rehearse number path)) before notes fresh verdicts is = rehearse_at_rest number path before (record before { notes = notes }) before.output fresh.output.2 (verdicts Thin 1) fresh.output.0
-at_rest (Some (writeback metadata fast origin)) before notes fresh verdicts is = writeback_at_rest metadata fast origin before notes fresh
-at_rest (Some (shrink input output pool blocks)) before notes fresh verdicts is = shrink_at_rest input output pool blocks before notes fresh
-at_rest (Some (search from to transaction block_size blocks)) before notes fresh verdicts is =
+at_rest (Some (dump kind file path)) before notes fresh verdicts = query_at_rest kind (image_text kind) before.input.held
+at_rest (Some (dump_shared file path)) before notes fresh verdicts = query_at_rest Thin (λ image. text_of_shape (image_shape image)) before.input.held
+at_rest (Some (rmap first end file path)) before notes fresh verdicts = query_at_rest Thin (λ image. rmap_lines first end (thin_meaning image)) before.input.held
+at_rest (Some (list_devices file path)) before notes fresh verdicts = query_at_rest Thin (λ image. list_lines (thin_meaning image)) before.input.held
+at_rest (Some (since era file path)) before notes fresh verdicts = query_at_rest Era (λ image. since_lines era (era_meaning image)) before.input.held
+at_rest (Some (generate number file)) before notes fresh verdicts = (tt, tt, tt)
+at_rest (Some (rehearse number path)) before notes fresh verdicts = rehearse_at_rest number path before (record before { notes = notes }) before.output fresh.output.2 (verdicts Thin 1) fresh.output.0
+at_rest (Some (writeback metadata fast origin)) before notes fresh verdicts = writeback_at_rest metadata fast origin before notes fresh
+at_rest (Some (shrink input output pool blocks)) before notes fresh verdicts = shrink_at_rest input output pool blocks before notes fresh
+at_rest (Some (search from to transaction block_size blocks)) before notes fresh verdicts =
     search_at_rest (record { transaction = transaction; block_size = block_size; blocks = blocks }) from to before notes fresh
 
 -- and nothing was read
-pub reads_at_rest : (request : Option Request) (before : Objects) (notes : SinkState) → IfSome request (λ r. is_built r ≡ true)
+pub reads_at_rest : (request : Option Request) (before : Objects) (notes : SinkState)
     → (terms_of request).reads before (record before { notes = notes })
-unfolding is_built
-reads_at_rest None before notes is = tt
-reads_at_rest (Some (check kind until false path)) before notes is = unread kind before.input.held before.input.reads
-reads_at_rest (Some (check kind until true path)) before notes is = unread Thin before.input.held before.input.reads
-reads_at_rest (Some (restore Thin version file path)) before notes is = tt
-reads_at_rest (Some (restore Cache version file path)) before notes is = tt
-reads_at_rest (Some (restore Era version file path)) before notes is = tt
-reads_at_rest (Some (repair from to)) before notes is = tt
-reads_at_rest (Some (dump kind false file path)) before notes is = tt
-reads_at_rest (Some (dump Thin true file path)) before notes is = tt
-reads_at_rest (Some (dump Cache true file path)) before notes is = absurd (true≢false (sym is ∙ no_shared_cache file path))
-reads_at_rest (Some (dump Era true file path)) before notes is = absurd (true≢false (sym is ∙ no_shared_era file path))
-reads_at_rest (Some (rmap first end file path)) before notes is = tt
-reads_at_rest (Some (list_devices file path)) before notes is = tt
-reads_at_rest (Some (since era file path)) before notes is = tt
-reads_at_rest (Some (generate number file)) before notes is = tt
-reads_at_rest (Some (rehearse number path)) before notes is = tt
-reads_at_rest (Some (writeback metadata fast origin)) before notes is = tt
-reads_at_rest (Some (shrink input output pool blocks)) before notes is = tt
-reads_at_rest (Some (search from to transaction block_size blocks)) before notes is = tt
+reads_at_rest None before notes = tt
+reads_at_rest (Some (check kind until path)) before notes = unread kind before.input.held before.input.reads
+reads_at_rest (Some (check_and_clear path)) before notes = unread Thin before.input.held before.input.reads
+reads_at_rest (Some (restore Thin version file path)) before notes = tt
+reads_at_rest (Some (restore Cache version file path)) before notes = tt
+reads_at_rest (Some (restore Era version file path)) before notes = tt
+reads_at_rest (Some (repair from to)) before notes = tt
+reads_at_rest (Some (dump kind file path)) before notes = tt
+reads_at_rest (Some (dump_shared file path)) before notes = tt
+reads_at_rest (Some (rmap first end file path)) before notes = tt
+reads_at_rest (Some (list_devices file path)) before notes = tt
+reads_at_rest (Some (since era file path)) before notes = tt
+reads_at_rest (Some (generate number file)) before notes = tt
+reads_at_rest (Some (rehearse number path)) before notes = tt
+reads_at_rest (Some (writeback metadata fast origin)) before notes = tt
+reads_at_rest (Some (shrink input output pool blocks)) before notes = tt
+reads_at_rest (Some (search from to transaction block_size blocks)) before notes = tt

@@ -6,18 +6,18 @@ use Rattle.std.proofs.lemmas.Option.{IfSome_then}
 use Rattle.pd_kinds.specs.Objects.{DeviceState, SinkState, Rose, Appends, AppendsFront}
 use Rattle.pd_kinds.specs.Crash.{IsSynced, HoldsSynced, HasNoSuper, IsUntouched}
 use Rattle.pd_kinds.specs.Limits.{room_of}
-use Rattle.pd_kinds.specs.Meaning.{ThinPool, ThinDevice}
+use Rattle.pd_kinds.specs.Meaning.{ThinDevice}
 use Rattle.pd_kinds.specs.Report.{Reported, report_of}
 use Rattle.pd_kinds.proofs.AppendLemmas.{appends_none, front_none}
 use Rattle.pd_kinds.proofs.CrashLemmas.{and_then, stays}
 use Rattle.pd_grammar.specs.Spelling.{Verdict, accepted, refused, no_room}
-use Rattle.pd_spells.specs.Early.{is_pool_early}
-use Rattle.pd_spells.specs.Lawful.{IsLawfulPool}
 use Rattle.pd_spells.specs.Lines.{no_room_line, reported_lines}
-use Rattle.pd_spells.specs.ThinNeed.{thin_need, IsThinVerdict}
 use Rattle.pd_spells.specs.ThinText.{text_of_pool}
-use Rattle.pd_laid.specs.LaidThin.{laid_pool}
+use Rattle.pd_laid.specs.LaidThin.{laid_shape}
 use Rattle.pd_laid.specs.Made.{Makes}
+use Rattle.pd_laid.specs.Shape.{ThinShape, pool_of}
+use Rattle.pd_shapes.specs.PoolText.{IsLawfulShape, IsPoolTextVerdict, is_pool_text_early}
+use Rattle.pd_shapes.specs.SharedNeed.{shape_need}
 use Rattle.pd_image.specs.Device.{AttachesDevice, KeepsPlace}
 use Rattle.pd_answers.specs.Answer.{Objects, IsUsed, reading, writing}
 use Rattle.pd_answers.specs.Generated.{generated_text}
@@ -39,27 +39,27 @@ use Rattle.pd_tools.proofs.Checks.{not_yet}
 use Rattle.pd_tools.proofs.Restores.{Image, answer_accepted, answer_no_room, here, room-held, room-told, room_in, still_synced, untouched_output}
 
 -- the numbers of a verdict
-abbrev used_in : Verdict ThinPool → ℕ → ℕ
-used_in (accepted m) room = thin_need m room
+abbrev used_in : Verdict ThinShape → ℕ → ℕ
+used_in (accepted shape) room = shape_need shape room
 used_in (refused why) room = 0
 used_in (no_room needed blocks) room = 0
 
-abbrev mappings_in : Verdict ThinPool → ℕ
-mappings_in (accepted m) = sum_by (λ (d : ThinDevice). length d.mappings) m.devices
+abbrev mappings_in : Verdict ThinShape → ℕ
+mappings_in (accepted shape) = sum_by (λ (d : ThinDevice). length d.mappings) (pool_of shape).devices
 mappings_in (refused why) = 0
 mappings_in (no_room needed blocks) = 0
 
-abbrev lines_in : Verdict ThinPool → ℕ
-lines_in (accepted m) = count_by (λ (byte : ℕ). nat_eq byte 10) (text_of_pool m)
+abbrev lines_in : Verdict ThinShape → ℕ
+lines_in (accepted shape) = count_by (λ (byte : ℕ). nat_eq byte 10) (text_of_pool (pool_of shape))
 lines_in (refused why) = 0
 lines_in (no_room needed blocks) = 0
 
 -- what would have been found
-abbrev meant : ℕ → Verdict ThinPool → Rehearsed
+abbrev meant : ℕ → Verdict ThinShape → Rehearsed
 meant room v = record { room = room; verdict = v; report = report_of []; used = used_in v room; mappings = mappings_in v; lines = lines_in v }
 
-meant_numbers : (room : ℕ) (v : Verdict ThinPool) → AreNumbers v (meant room v)
-meant_numbers room (accepted m) = record { used = refl; mappings = refl; lines = refl }
+meant_numbers : (room : ℕ) (v : Verdict ThinShape) → AreNumbers v (meant room v)
+meant_numbers room (accepted shape) = record { used = refl; mappings = refl; lines = refl }
 meant_numbers room (refused why) = tt
 meant_numbers room (no_room needed blocks) = tt
 
@@ -92,7 +92,7 @@ where_down (Ok r) kept is = absurd is
 where_down (Err fault) kept is = kept is
 
 -- before anything was done
-pub rehearse_at_rest : (number : ℕ) (path : List ℕ) (before after : Objects) (output : DeviceState) → IsSynced output → HaveVerdicts IsThinVerdict → output.access ≡ 0
+pub rehearse_at_rest : (number : ℕ) (path : List ℕ) (before after : Objects) (output : DeviceState) → IsSynced output → HaveVerdicts IsPoolTextVerdict → output.access ≡ 0
     → (finding : Rehearsed) × ((rehearse number path).finds (record before { output = output }) (record after { output = output }) finding)
     × ((rehearse number path).leaves finding (record before { output = output }) (record after { output = output }) 6)
 rehearse_at_rest number path before after output synced verdicts closed =
@@ -103,18 +103,18 @@ rehearse_at_rest number path before after output synced verdicts closed =
         record { told = room-told output.held; attached = λ e. absurd (omega arith) },
         (v.1, all_told output.held _ (refl, meant_numbers room v.0)),
       ),
-      untouched_output (Makes laid_pool room v.0) (is_pool_early (generated_text number) room) 6 output output synced (record { held = refl; history = refl }) (λ e. omega arith),
+      untouched_output (Makes laid_shape room v.0) (is_pool_text_early (generated_text number) room) 6 output output synced (record { held = refl; history = refl }) (λ e. omega arith),
     )
 
 module _ (number : ℕ) (path : List ℕ) (others : Objects) (notes out : SinkState) (output : DeviceState) (synced : IsSynced output) (fresh : out.access ≡ 0) where
   -- the image couldn't be attached
-  pub rehearse_unattached : (last : DeviceState) → HaveVerdicts IsThinVerdict → AttachesDevice path true false output last → Rose output.faults last.faults
+  pub rehearse_unattached : (last : DeviceState) → HaveVerdicts IsPoolTextVerdict → AttachesDevice path true false output last → Rose output.faults last.faults
       → IsStopped (rehearse number path) (record others { out = out; output = output }) (record others { out = out; notes = notes; output = last }) Device
   rehearse_unattached last verdicts attached rose =
       let room = room_in output.held in
       let v = verdicts (generated_text number) room in
       let same : IsUntouched output last = record { held = attached.held; history = attached.history } in
-      let leaves = λ (status : ℕ) (some : status ≢ 0). untouched_output (Makes laid_pool room v.0) (is_pool_early (generated_text number) room) status output last synced same some in
+      let leaves = λ (status : ℕ) (some : status ≢ 0). untouched_output (Makes laid_shape room v.0) (is_pool_text_early (generated_text number) room) status output last synced same some in
       record {
         finding = meant room v.0;
         work = record {
@@ -142,7 +142,7 @@ module _ (number : ℕ) (path : List ℕ) (others : Objects) (notes out : SinkSt
     abbrev room : ℕ
     room = room_of opened.blocks
 
-    abbrev verdict : Verdict ThinPool
+    abbrev verdict : Verdict ThinShape
     verdict = done.restores.verdict
 
     untouched : IsUntouched output opened
@@ -168,26 +168,26 @@ module _ (number : ℕ) (path : List ℕ) (others : Objects) (notes out : SinkSt
 
     -- what the output holds
     leaves : (status : ℕ) → (status ≡ 0 → IsDone result) → ((status ≡ 3) ⊎ (status ≡ 4) → IsDown result)
-        → LeavesMade (Makes laid_pool room verdict) (is_pool_early (generated_text number) room) status output last
+        → LeavesMade (Makes laid_shape room verdict) (is_pool_text_early (generated_text number) room) status output last
     leaves status is_done is_down = record {
       output = record {
         told = subst (λ (h : Option Image). IfSome h (λ image. IsSome last.held)) attached.held done.restores.told;
         crash = IfSome_then output.held synced (λ image s.
-            and_then (stays {old = output} {new = opened} attached.held attached.history (here image (Makes laid_pool room verdict image) output s))
+            and_then (stays {old = output} {new = opened} attached.held attached.history (here image (Makes laid_shape room verdict image) output s))
             (done.restores.crash image (still_synced image output opened untouched s)));
-        made = λ zero. subst (λ (h : Option Image). IfSome h (λ image. IfSome last.held (λ now. Makes laid_pool room verdict image now × HoldsSynced now last)))
+        made = λ zero. subst (λ (h : Option Image). IfSome h (λ image. IfSome last.held (λ now. Makes laid_shape room verdict image now × HoldsSynced now last)))
             attached.held (where_done result done.restores.made (is_done zero));
         refused = λ either. subst (λ (h : Option Image). IfSome h (λ image. IfSome last.held (λ now. (now ≡ image) ⊎ HasNoSuper now))) attached.held (where_down result done.restores.kept (is_down either));
       };
       untouched = λ early. let same = done.restores.untouched early in record { held = same.held ∙ attached.held; history = same.history ∙ attached.history };
     }
 
-    no_status : (status : ℕ) → status ≢ 0 → status ≢ 3 → status ≢ 4 → LeavesMade (Makes laid_pool room verdict) (is_pool_early (generated_text number) room) status output last
+    no_status : (status : ℕ) → status ≢ 0 → status ≢ 3 → status ≢ 4 → LeavesMade (Makes laid_shape room verdict) (is_pool_text_early (generated_text number) room) status output last
     no_status status zero three four = leaves status (λ e. absurd (zero e)) (λ either. absurd (elim either [ inl e ↦ three e | inr e ↦ four e ]))
 
     -- the work without its line
     quiet : (report : Reported) (used mappings lines : ℕ) → IsRight report used mappings lines → (status : ℕ) → IsTrue (is_possible (rehearse number path) status)
-        → LeavesMade (Makes laid_pool room verdict) (is_pool_early (generated_text number) room) status output last
+        → LeavesMade (Makes laid_shape room verdict) (is_pool_text_early (generated_text number) room) status output last
         → IsWork (rehearse number path) (finding_of report used mappings lines) (record others { out = out; output = output }) (record others { out = out; notes = notes; output = last }) status
     quiet report used mappings lines right status possible left = record {
       found = found report used mappings lines right out;
@@ -245,7 +245,7 @@ module _ (number : ℕ) (path : List ℕ) (others : Objects) (notes out : SinkSt
     rehearse_faulty : (report : Reported) → result ≡ Err (f.Faulty report) → report.total ≢ 0
         → IsFinished (rehearse number path) (record others { out = out; output = output }) (record others { out = out; notes = notes; output = last }) 1 (reported_lines report)
     rehearse_faulty report is some =
-        let answer = answer_accepted IsLawfulPool verdict (match_err _ _ result (f.Faulty report) is done.restores.answer) in
+        let answer = answer_accepted IsLawfulShape verdict (match_err _ _ result (f.Faulty report) is done.restores.answer) in
         let never = match_err _ _ result (f.Faulty report) is done.numbers in
         let faulty : nat_eq report.total 0 ≡ false = ne_eqb report.total 0 some in
         record {
@@ -275,10 +275,10 @@ module _ (number : ℕ) (path : List ℕ) (others : Objects) (notes out : SinkSt
       right image s = (refl, match_ok _ _ result r is done.numbers image s)
 
       answer : restore_answer verdict ≡ record { status = 0; out = []; notes = [] }
-      answer = answer_accepted IsLawfulPool verdict (match_ok _ _ result r is done.restores.answer)
+      answer = answer_accepted IsLawfulShape verdict (match_ok _ _ result r is done.restores.answer)
 
       loud : (status : ℕ) → IsTrue (is_possible (rehearse number path) status) → (IsTrue (is_one_of (rehearse number path).silent status) → ⊥)
-          → LeavesMade (Makes laid_pool room verdict) (is_pool_early (generated_text number) room) status output last
+          → LeavesMade (Makes laid_shape room verdict) (is_pool_text_early (generated_text number) room) status output last
           → IsWork (rehearse number path) (found_of room verdict r) (record others { out = out; output = output }) (record others { out = out'; notes = notes; output = last }) status
       loud status possible heard left = record {
         found = found (report_of []) r.used r.counts.mappings r.counts.lines right out';

@@ -11,12 +11,11 @@ use Rattle.pd_kinds.specs.Crash.{IsSynced, LeavesNow, HoldsOldOrNone, HoldsSynce
 use Rattle.pd_kinds.proofs.AppendLemmas.{appends_none, front_none}
 use Rattle.pd_kinds.proofs.CrashLemmas.{and_then, stays, still_tells, left_now, left_synced}
 use Rattle.pd_grammar.specs.Spelling.{Verdict, accepted, refused, no_room}
-use Rattle.pd_spells.specs.ThinNeed.{IsThinVerdict}
 use Rattle.pd_spells.specs.CacheNeed.{IsCacheVerdict}
 use Rattle.pd_spells.specs.EraNeed.{IsEraVerdict}
-use Rattle.pd_spells.specs.Lawful.{IsLawfulPool, IsLawfulCache, IsLawfulEra}
+use Rattle.pd_spells.specs.Lawful.{IsLawfulCache, IsLawfulEra}
 use Rattle.pd_laid.specs.Laid.{Laid}
-use Rattle.pd_laid.specs.LaidThin.{laid_pool}
+use Rattle.pd_laid.specs.LaidThin.{laid_shape}
 use Rattle.pd_laid.specs.LaidCache.{laid_cache}
 use Rattle.pd_laid.specs.LaidEra.{laid_era}
 use Rattle.pd_image.specs.Device.{KeepsPlace}
@@ -26,7 +25,8 @@ use Rattle.pd_answers.specs.Terms.{is_possible}
 use Rattle.pd_kinds.specs.Limits.{room_of}
 use Rattle.pd_answers.specs.Outputs.{LeavesMade, LeavesMadeLast}
 use Rattle.pd_answers.specs.Restores.{IsRefusedEarly, Judged, LeavesRestored, restore_answer, restore_by, restore}
-use Rattle.pd_spells.specs.Early.{is_pool_early, is_cache_early, is_era_early}
+use Rattle.pd_spells.specs.Early.{is_cache_early, is_era_early}
+use Rattle.pd_shapes.specs.PoolText.{IsLawfulShape, IsPoolTextVerdict, is_pool_text_early}
 use Rattle.pd_laid.specs.Made.{Makes}
 use Rattle.pd_restoring.specs.declared.fault.RestoreFault.{RestoreFault}
 use Rattle.pd_restoring.specs.declared.fault.RestoreFault.TheVariants as fault
@@ -45,7 +45,7 @@ abbrev pub Image : Type 0
 Image = List (List ℕ)
 
 -- the verdicts of all kinds
-pub all_kinds : HaveVerdicts IsThinVerdict → ((version : ℕ) → HaveVerdicts (IsCacheVerdict version)) → HaveVerdicts IsEraVerdict
+pub all_kinds : HaveVerdicts IsPoolTextVerdict → ((version : ℕ) → HaveVerdicts (IsCacheVerdict version)) → HaveVerdicts IsEraVerdict
     → (kind : Kind) (version : ℕ) → TextsHaveVerdicts kind version
 all_kinds thin cache era Thin version = thin
 all_kinds thin cache era Cache version = cache version
@@ -407,7 +407,7 @@ pub ends_as : (kind : Kind) (version : ℕ) (file path : List ℕ) (others : Obj
     → MatchResult (restore_ended result) (λ ending. IsFinished (restore kind version file path) (record others { source = source; output = output })
     (record others { source = last_source; notes = notes; output = last_output }) (ending_status ending) (ending_line ending))
     (IsStopped (restore kind version file path) (record others { source = source; output = output }) (record others { source = last_source; notes = notes; output = last_output }))
-ends_as Thin version = ends IsLawfulPool IsThinVerdict is_pool_early laid_pool
+ends_as Thin version = ends IsLawfulShape IsPoolTextVerdict is_pool_text_early laid_shape
 ends_as Cache version = ends IsLawfulCache (IsCacheVerdict version) (is_cache_early version) (λ m room. laid_cache m version room)
 ends_as Era version = ends IsLawfulEra IsEraVerdict is_era_early laid_era
 
@@ -416,7 +416,7 @@ pub not_attached_as : (kind : Kind) (version : ℕ) (file path : List ℕ) (othe
     → IsSynced output → TextsHaveVerdicts kind version → (stop : Stop) → AreUnattached file path source last_source output last_output stop
     → IsStopped (restore kind version file path) (record others { source = source; output = output })
     (record others { source = last_source; notes = notes; output = last_output }) stop
-not_attached_as Thin version file path others notes source last_source output last_output synced = not_attached IsLawfulPool IsThinVerdict is_pool_early laid_pool file path others notes source last_source output last_output synced
+not_attached_as Thin version file path others notes source last_source output last_output synced = not_attached IsLawfulShape IsPoolTextVerdict is_pool_text_early laid_shape file path others notes source last_source output last_output synced
 not_attached_as Cache version file path others notes source last_source output last_output synced = not_attached IsLawfulCache (IsCacheVerdict version) (is_cache_early version) (λ m room. laid_cache m version room) file path others notes source last_source output last_output synced
 not_attached_as Era version file path others notes source last_source output last_output synced = not_attached IsLawfulEra IsEraVerdict is_era_early laid_era file path others notes source last_source output last_output synced
 
@@ -448,7 +448,7 @@ restored_lost laid judged status old new some left = record {
 
 pub lost_as : (kind : Kind) (version : ℕ) (file path : List ℕ) (before after : Objects) (finding : (restore kind version file path).Finding) (status : ℕ) → status ≢ 0
     → (restore kind version file path).leaves finding before after status → (restore kind version file path).leaves finding before after 6
-lost_as Thin version file path before after judged status some left = restored_lost laid_pool judged status before.output after.output some left
+lost_as Thin version file path before after judged status some left = restored_lost laid_shape judged status before.output after.output some left
 lost_as Cache version file path before after judged status some left = restored_lost (λ m room. laid_cache m version room) judged status before.output after.output some left
 lost_as Era version file path before after judged status some left = restored_lost laid_era judged status before.output after.output some left
 

@@ -1,5 +1,5 @@
 -- What a query of an image does.
-use Rattle.std.specs.Prelude.{ℕ, ◌==◌, Bool, true, false, if◌then◌else◌, List, [], Option}
+use Rattle.std.specs.Prelude.{ℕ, ◌==◌, if◌then◌else◌, List, [], Option}
 use Rattle.pd_kinds.specs.declared.kind.Kind.{Kind}
 use Rattle.pd_kinds.specs.declared.kind.Kind.TheVariants.{Thin, Era}
 use Rattle.pd_kinds.specs.Meaning.{thin_meaning, era_meaning}
@@ -17,11 +17,6 @@ use Rattle.pd_tools.specs.declared.query.Asked.{Asked}
 use Rattle.pd_tools.specs.declared.query.Asked.TheVariants.{Dump, SharedDump, ReverseMap, DeviceList, Since}
 use Rattle.pd_tools.specs.declared.stop.Stop.{Stop}
 use Rattle.pd_tools.specs.declared.stop.Stop.TheVariants.{Device, Stream, Memory}
-
--- the dump of a kind, with shared leaves or without
-abbrev pub dump_as : Kind → Bool → Asked
-dump_as kind false = Dump kind
-dump_as kind true = SharedDump
 
 -- the kind of metadata that is asked about, and the text that answers
 abbrev pub kind_of : Asked → Kind

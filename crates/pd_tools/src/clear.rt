@@ -1,6 +1,6 @@
-//! A check as it is asked: with the flag, a pool's "needs check" is cleared where nothing was found.
+//! The whole check of a pool, by which "needs check" is cleared where nothing was found.
 
-ghost use Rattle.std.specs.Prelude.{◌≡◌, ◌≢◌, ◌==◌, ◌+◌, ◌≤◌, ℕ, [], Some, OnOk, IfOk, IfErr, IfSome, MatchResult, if◌then◌else◌};
+ghost use Rattle.std.specs.Prelude.{◌≡◌, ◌≢◌, ◌==◌, ◌+◌, ◌≤◌, ℕ, [], OnOk, IfOk, IfErr, IfSome, MatchResult, if◌then◌else◌};
 ghost use Rattle.pd_kinds.specs.declared.kind.Kind.TheVariants.{Thin};
 ghost use Rattle.pd_kinds.specs.declared.kind.Stage.TheVariants.{Counts};
 ghost use Rattle.pd_kinds.specs.Objects.{CountsFault, SinkState};
@@ -10,48 +10,21 @@ ghost use Rattle.pd_kinds.specs.Crash.{IsSynced, IsUntouched};
 ghost use Rattle.pd_image.specs.Device.{IsWritable, KeepsPlace};
 ghost use Rattle.pd_answers.specs.Answer.{Objects, IsUsed, writing};
 ghost use Rattle.pd_answers.specs.Flag.{LeavesCleared};
-ghost use Rattle.pd_answers.specs.Promises.{check_and_clear, terms_of};
-ghost use Rattle.pd_answers.specs.Requests.{check as asked_check};
+ghost use Rattle.pd_answers.specs.Promises.{check_and_clear};
 ghost use Rattle.pd_check.specs.Check.{ReadsFew};
 ghost use Rattle.pd_tools.specs.Read.{IsUnread};
 ghost use Rattle.pd_tools.specs.Work.{IsFinished, IsStopped, AnswersTerms};
 
-use crate::check::{check_attached, put_report, run_check};
+use crate::check::{check_attached, put_report};
 use crate::stop::Stop;
 use pd_flag::clear_needs_check;
 use pd_image::{Device, Failed, Sink};
 use pd_kinds::{Kind, Report, Stage};
 use std::alloc::Global;
 
-/// Checks the metadata in the image at the path up to a stage, with or without clearing the flag, and puts the report.
-/// The flag is asked for in checks of pools to the end alone.
-pub fn run_any_check<K: Sink, E: Sink, A: Device>(
-    alloc: Global,
-    kind: Kind,
-    until: Stage,
-    clear: bool,
-    image: &str,
-    out: &mut K,
-    notes: &mut E,
-    input: &mut A,
-) -> u8
-    requires out { (K.state out.old).access ≡ 0 }
-    requires notes { (E.state notes.old).access ≡ 1 }
-    requires input { (A.state input.old).access ≡ 0 }
-    ensures { (others : Objects) → AnswersTerms (terms_of (Some (asked_check kind until clear image.now))) (E.state notes.old)
-        (record others { out = K.state out.old; input = A.state input.old })
-        (record others { out = K.state out.new; notes = E.state notes.new; input = A.state input.new }) result }
-{
-    if clear {
-        run_clearing_check(alloc, image, out, notes, input)
-    } else {
-        run_check(alloc, kind, until, image, out, notes, input)
-    }
-}
-
 /// Checks the pool in the image at the path to the end, puts the report, and then clears the flag where it is set and
 /// nothing was reported.
-fn run_clearing_check<K: Sink, E: Sink, A: Device>(
+pub fn run_clearing_check<K: Sink, E: Sink, A: Device>(
     alloc: Global,
     image: &str,
     out: &mut K,

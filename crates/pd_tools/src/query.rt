@@ -8,7 +8,7 @@ ghost use Rattle.pd_spells.specs.Lines.{reported_lines};
 ghost use Rattle.pd_answers.specs.Answer.{Objects, IsUsed, reading};
 ghost use Rattle.pd_query.specs.Puts.{PutsAnswer};
 ghost use Rattle.pd_tools.specs.Notes.{PutsLine};
-ghost use Rattle.pd_tools.specs.Query.{IsUnput, dump_as, kind_of, query_line, query_status, stop_as, terms_of_query, text_of};
+ghost use Rattle.pd_tools.specs.Query.{IsUnput, kind_of, query_line, query_status, stop_as, terms_of_query, text_of};
 ghost use Rattle.pd_tools.specs.Work.{IsFinished, IsStopped, AnswersTerms};
 
 use crate::check::read_report;
@@ -34,17 +34,6 @@ pub enum Asked {
     DeviceList,
     /// The blocks of an era target that were written in this era or later.
     Since { era: u32 },
-}
-
-/// The dump of this kind, with shared leaves or without. Of a cache or an era target no words ask one with them.
-pub fn dump_asked(kind: Kind, shared: bool) -> Asked
-    ensures { result ≡ dump_as kind shared }
-{
-    if shared {
-        Asked::SharedDump
-    } else {
-        Asked::Dump(kind)
-    }
 }
 
 /// Checks the image at the path up to the stage Whole, and puts the text that answers to the file, or to the

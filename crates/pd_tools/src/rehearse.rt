@@ -14,7 +14,7 @@ use crate::stop::Stop;
 use pd_image::{Device, Sink};
 use pd_lines::LineBuffer;
 use pd_rehearse::{Rehearsal, RehearseFault, rehearse};
-use pd_spells::thin_text_has_one_verdict;
+use pd_shapes::pool_text_has_one_verdict;
 use std::alloc::Global;
 
 /// Rehearses with the generator's text of the number, over the image at the path.
@@ -55,7 +55,7 @@ fn rehearse_image<K: Sink, B: Device>(
         MatchResult result (λ ending. IsFinished (rehearse number image.now) before after (ending_status ending) (ending_line ending))
         (IsStopped (rehearse number image.now) before after) }
 {
-    thin_text_has_one_verdict();
+    pool_text_has_one_verdict();
     match output.attach(image, true) {
         Ok(()) => {}
         Err(_) => return Err(Stop::Device),

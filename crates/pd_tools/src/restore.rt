@@ -22,7 +22,8 @@ use pd_restore::restore_thin;
 use pd_restore_cache::restore_cache;
 use pd_restore_era::restore_era;
 use pd_restoring::RestoreFault;
-use pd_spells::{cache_text_has_one_verdict, era_text_has_one_verdict, thin_text_has_one_verdict};
+use pd_shapes::pool_text_has_one_verdict;
+use pd_spells::{cache_text_has_one_verdict, era_text_has_one_verdict};
 use std::alloc::Global;
 
 /// Restores an image of this kind, and of a cache's version, from the text at a path.
@@ -79,7 +80,7 @@ fn restore_image<S: Source, B: Device>(
 pub fn texts_have_verdicts()
     ensures { (kind : Kind) (version : ℕ) → TextsHaveVerdicts kind version }
 {
-    thin_text_has_one_verdict();
+    pool_text_has_one_verdict();
     cache_text_has_one_verdict();
     era_text_has_one_verdict();
 }

@@ -2,7 +2,6 @@
 
 ghost use Rattle.std.specs.Prelude.{◌≡◌, true, Some, length, map, string_bytes};
 ghost use Rattle.pd_answers.specs.Words.{asked};
-ghost use Rattle.pd_answers.specs.Requests.{is_built};
 ghost use Rattle.pd_answers.specs.Answer.{Objects, objects, AreFresh};
 ghost use Rattle.pd_answers.specs.Terms.{IsAnswered};
 ghost use Rattle.pd_answers.specs.Promises.{terms_of};
@@ -10,10 +9,11 @@ ghost use Rattle.std.specs.Option.{option_copied};
 ghost use Rattle.pd_words.specs.Words.{AreNames, IsNameIfAny, request_as, words_of};
 ghost use Rattle.pd_tools.specs.Work.{AnswersTerms};
 
-use crate::clear::run_any_check;
+use crate::check::run_check;
+use crate::clear::run_clearing_check;
 use crate::generate::run_generate;
 use crate::notes::{USAGE_LINE, put_line};
-use crate::query::{Asked, dump_asked, run_query};
+use crate::query::{Asked, run_query};
 use crate::rehearse::run_rehearse;
 use crate::repair::run_repair;
 use crate::restore::{run_restore, texts_have_verdicts};
@@ -68,7 +68,6 @@ pub fn run_tool<S: Source, K: Sink, E: Sink, A: Device, B: Device, C: Device>(
 
 /// Does a request of these words, with `notes` attached: its clause is that of the top call, whatever the other objects
 /// are.
-#[tactic(auto, unfolding(pd_answers::specs::Requests::is_built))]
 fn run_request<S: Source, K: Sink, E: Sink, A: Device, B: Device, C: Device>(
     alloc: Global,
     words: &[String],
@@ -81,7 +80,6 @@ fn run_request<S: Source, K: Sink, E: Sink, A: Device, B: Device, C: Device>(
     third: &mut C,
 ) -> u8
     requires names { AreNames (length words.now) request }
-    requires built { is_built (request_as (map string_bytes words.now) request) ≡ true }
     requires source { (S.state source.old).access ≡ 0 }
     requires out { (K.state out.old).access ≡ 0 }
     requires notes { (E.state notes.old).access ≡ 1 }
@@ -93,29 +91,34 @@ fn run_request<S: Source, K: Sink, E: Sink, A: Device, B: Device, C: Device>(
         (record others { source = S.state source.new; out = K.state out.new; notes = E.state notes.new; input = A.state input.new; output = B.state output.new; third = C.state third.new }) result }
 {
     match request {
-        Request::Check {
-            kind,
-            until,
-            clear,
-            image,
-        } => run_any_check(
+        Request::Check { kind, until, image } => run_check(
             alloc,
             kind,
             until,
-            clear,
             image.word_in(words),
             out,
             notes,
             input,
         ),
+        Request::CheckAndClear { image } => {
+            run_clearing_check(alloc, image.word_in(words), out, notes, input)
+        }
         Request::Dump {
             kind,
             image,
             out: file,
-            shared,
         } => run_query(
             alloc,
-            dump_asked(kind, shared),
+            Asked::Dump(kind),
+            file_in(words, file),
+            image.word_in(words),
+            out,
+            notes,
+            input,
+        ),
+        Request::DumpShared { image, out: file } => run_query(
+            alloc,
+            Asked::SharedDump,
             file_in(words, file),
             image.word_in(words),
             out,

@@ -6,22 +6,21 @@ use Rattle.std.proofs.lemmas.Bool.{cases_Bool, true≢false}
 use Rattle.std.proofs.Math.Dec.{eqb-suc-zero}
 use Rattle.pd_kinds.specs.declared.kind.Kind.{Kind}
 use Rattle.pd_kinds.specs.declared.kind.Stage.{Stage}
-use Rattle.pd_answers.specs.Requests.{Request, dump, restore, rmap, list_devices, since, generate, rehearse, writeback, shrink}
-use Rattle.pd_answers.specs.Words.{Item, items_of, Given, given, sole, at_most_one, is_set, last_stage, version_of, Region, region_of, generated_number, number_below, image_word, clear_word, shared_word, until_word, check_with, repair_with, Tool, check_tool, dump_tool, restore_tool, repair_tool, rmap_tool, list_tool, since_tool, generate_tool, rehearse_tool, writeback_tool, shrink_tool, tool_of, request_of, is_known, known, spelled, built, asked}
-use Rattle.pd_words.specs.Words.{dump_as}
+use Rattle.pd_answers.specs.Requests.{Request, restore, rmap, list_devices, since, generate, rehearse, writeback, shrink}
+use Rattle.pd_answers.specs.Words.{Item, items_of, Given, given, sole, at_most_one, is_set, last_stage, version_of, Region, region_of, generated_number, number_below, image_word, clear_word, shared_word, until_word, check_with, dump_with, repair_with, Tool, check_tool, dump_tool, restore_tool, repair_tool, rmap_tool, list_tool, since_tool, generate_tool, rehearse_tool, writeback_tool, shrink_tool, tool_of, request_of, is_known, known, asked}
 
 pub asked_nothing : {X : Type 0} (f : X → List ℕ) (xs : List X) → (length xs == 0) ≡ true → None ≡ asked (map f xs)
-unfolding asked spelled
+unfolding asked
 asked_nothing f [] none = refl
 asked_nothing f (x ∷ xs) none = absurd (true≢false (sym none ∙ eqb-suc-zero (length xs)))
 
--- what is asked of a tool with these items, if it is built
+-- what is asked of a tool with these items
 abbrev pub asked_of : Option Tool → Option (List Item) → Option Request
-asked_of tool items = built (option_and_then (λ (t : Tool). option_and_then (request_of t) (known t items)) tool)
+asked_of tool items = option_and_then (λ (t : Tool). option_and_then (request_of t) (known t items)) tool
 
 pub asked_first : {X : Type 0} (f : X → List ℕ) (xs : List X) (x : X) (word : List ℕ) → (length xs == 0) ≡ false → x ≡ get_or xs 0 x → word ≡ f x
     → asked (map f xs) ≡ asked_of (tool_of word) (items_of (drop 1 (map f xs)))
-unfolding asked spelled
+unfolding asked
 asked_first f [] x word some at is = absurd (true≢false some)
 asked_first f (y ∷ ys) x word some at is =
     let same : word ≡ f y = is ∙ ap f at in rw same refl
@@ -32,7 +31,7 @@ no_tool_asked items = refl
 
 -- the items can be given to the tool
 pub all_known : (named : Option Tool) (tool : Tool) (items : Option (List Item)) (request : Option Request) → named ≡ Some tool → is_some (known tool items) ≡ true
-    → IfSome items (λ all. request ≡ built (request_of tool all)) → request ≡ asked_of named items
+    → IfSome items (λ all. request ≡ request_of tool all) → request ≡ asked_of named items
 all_known named tool None request same some is = absurd (true≢false (sym some))
 all_known named tool (Some items) request same some is = elim (cases_Bool (list_all (is_known tool) items)) [
   | inl e ↦ rw (same, e) is
@@ -68,22 +67,28 @@ check_given kind None stage clear image word until set path request stage_is at_
 check_given kind (Some items) stage clear image word until set path request stage_is at_most named clear_is at_most_clear image_is one is =
     rw (← stage_is, ← at_most, ← named, ← clear_is, ← at_most_clear, ← image_is, ← one) is
 
--- a dump, by what was given for the flag, for the file and for the image
-dump_steps : (kind : Kind) (shared : Option Bool) (file : Option (Option (List ℕ))) (image : Option (List ℕ))
-    → dump_as kind shared file image ≡ option_and_then (λ s. option_and_then (λ f. option_and_then (λ i. Some (dump kind s f i)) image) file) shared
-dump_steps kind None file image = refl
-dump_steps kind (Some s) None image = refl
-dump_steps kind (Some s) (Some f) None = refl
-dump_steps kind (Some s) (Some f) (Some i) = refl
+-- no image was given for a dump
+pub no_dump_image : (kind : Kind) (items : Option (List Item)) (shared file image : Given) (set : Bool) (path : Option (List ℕ))
+    → IfSome items (λ all. shared ≡ given shared_word all) → Some set ≡ is_set shared
+    → IfSome items (λ all. file ≡ given (codes "-o") all) → Some path ≡ at_most_one file
+    → IfSome items (λ all. image ≡ given image_word all) → None ≡ sole image
+    → IfSome items (λ all. None ≡ request_of (dump_tool kind) all)
+unfolding request_of
+no_dump_image kind None shared file image set path shared_is at_most_shared file_is at_most image_is none = tt
+no_dump_image kind (Some items) shared file image set path shared_is at_most_shared file_is at_most image_is none =
+    rw (← shared_is, ← at_most_shared, ← file_is, ← at_most, ← image_is, ← none) refl
 
-pub dump_given : (kind : Kind) (items : Option (List Item)) (shared file image : Given) (request : Option Request)
-    → IfSome items (λ all. shared ≡ given shared_word all) → IfSome items (λ all. file ≡ given (codes "-o") all) → IfSome items (λ all. image ≡ given image_word all)
-    → request ≡ dump_as kind (is_set shared) (at_most_one file) (sole image)
+-- a dump, by what was given for the flag, for the file and for the image
+pub dump_given : (kind : Kind) (items : Option (List Item)) (shared file image : Given) (set : Bool) (path : Option (List ℕ)) (of : List ℕ) (request : Option Request)
+    → IfSome items (λ all. shared ≡ given shared_word all) → Some set ≡ is_set shared
+    → IfSome items (λ all. file ≡ given (codes "-o") all) → Some path ≡ at_most_one file
+    → IfSome items (λ all. image ≡ given image_word all) → Some of ≡ sole image
+    → request ≡ dump_with kind set path of
     → IfSome items (λ all. request ≡ request_of (dump_tool kind) all)
 unfolding request_of
-dump_given kind None shared file image request shared_is file_is image_is is = tt
-dump_given kind (Some items) shared file image request shared_is file_is image_is is =
-    is ∙ (dump_steps kind (is_set shared) (at_most_one file) (sole image) ∙ rw (← shared_is, ← file_is, ← image_is) refl)
+dump_given kind None shared file image set path of request shared_is at_most_shared file_is at_most image_is one is = tt
+dump_given kind (Some items) shared file image set path of request shared_is at_most_shared file_is at_most image_is one is =
+    rw (← shared_is, ← at_most_shared, ← file_is, ← at_most, ← image_is, ← one) is
 
 -- a restore, by what was given for its version, for the text and for the image
 pub restore_given : (kind : Kind) (items : Option (List Item)) (named text image : Given) (word : Option (List ℕ)) (version : ℕ) (file path : List ℕ) (request : Option Request)

@@ -1,10 +1,9 @@
 -- What a request that was read means.
-use Rattle.std.specs.Prelude.{◌≡◌, ◌⊎◌, ℕ, ◌^◌, ◌<◌, ◌≤◌, Bool, List, Option, Some, None, IfSome, Result, Ok, Err}
+use Rattle.std.specs.Prelude.{◌≡◌, ◌⊎◌, ℕ, ◌^◌, ◌<◌, ◌≤◌, List, Option, Some, None, IfSome, Result, Ok, Err}
 use Rattle.std.specs.Option.{option_map}
-use Rattle.pd_kinds.specs.declared.kind.Kind.{Kind}
 use Rattle.pd_words.specs.declared.request.Name.{Name}
 use Rattle.pd_words.specs.declared.request.Request.{Request}
-use Rattle.pd_words.specs.declared.request.Request.TheVariants.{Check, Dump, Restore, Repair, Search, Rmap, List as ListDevices, Since, Generate, Rehearse, Writeback, Shrink}
+use Rattle.pd_words.specs.declared.request.Request.TheVariants.{Check, CheckAndClear, Dump, DumpShared, Restore, Repair, Search, Rmap, List as ListDevices, Since, Generate, Rehearse, Writeback, Shrink}
 use Rattle.pd_words.specs.declared.request.WordFault.{WordFault}
 use Rattle.pd_words.specs.Items.{word_at}
 use Rattle.pd_answers.specs.Requests as requests
@@ -19,8 +18,10 @@ words_of words name = option_map (word_of words) name
 
 -- the request as the definitions speak of it, with the words that its names stand for
 abbrev pub request_as : List (List ℕ) → Request → requests.Request
-request_as words (Check kind until clear image) = requests.check kind until clear (word_of words image)
-request_as words (Dump kind image out shared) = requests.dump kind shared (words_of words out) (word_of words image)
+request_as words (Check kind until image) = requests.check kind until (word_of words image)
+request_as words (CheckAndClear image) = requests.check_and_clear (word_of words image)
+request_as words (Dump kind image out) = requests.dump kind (words_of words out) (word_of words image)
+request_as words (DumpShared image out) = requests.dump_shared (words_of words out) (word_of words image)
 request_as words (Restore kind text image version) = requests.restore kind version (word_of words text) (word_of words image)
 request_as words (Repair input output) = requests.repair (word_of words input) (word_of words output)
 request_as words (Search input output transaction block_size blocks) =
@@ -42,13 +43,6 @@ read_as words (Some request) = Some (request_as words request)
 abbrev pub answer_as : List (List ℕ) → Result Request WordFault → Option requests.Request
 answer_as words (Ok request) = Some (request_as words request)
 answer_as words (Err fault) = None
-
--- a dump of what was given, if each was given as it may be
-abbrev pub dump_as : Kind → Option Bool → Option (Option (List ℕ)) → Option (List ℕ) → Option requests.Request
-dump_as kind (Some shared) (Some file) (Some image) = Some (requests.dump kind shared file image)
-dump_as kind (Some shared) (Some file) None = None
-dump_as kind (Some shared) None image = None
-dump_as kind None file image = None
 
 -- a repair of what was given: with all three numbers of the superblock that is wanting, or none
 abbrev pub repair_as : List (List ℕ) → Name → Name → Option Name → Option Name → Option Name → Option requests.Request
@@ -76,8 +70,10 @@ IsPoolSize blocks = blocks ≤ 2 ^ 40
 
 -- each name of a request is, its version is one, and so are the generator's number and that of a pool's data blocks
 abbrev pub AreNames : ℕ → Request → Type 0
-AreNames number (Check kind until clear image) = IsName number image
-AreNames number (Dump kind image out shared) = IsName number image × IsNameIfAny number out
+AreNames number (Check kind until image) = IsName number image
+AreNames number (CheckAndClear image) = IsName number image
+AreNames number (Dump kind image out) = IsName number image × IsNameIfAny number out
+AreNames number (DumpShared image out) = IsName number image × IsNameIfAny number out
 AreNames number (Restore kind text image version) = IsName number text × IsName number image × IsVersion version
 AreNames number (Repair input output) = IsName number input × IsName number output
 AreNames number (Search input output transaction block_size blocks) = IsName number input × IsName number output × IsPoolSize blocks

@@ -22,20 +22,26 @@ impl Name {
 /// file of a text, and `out` the file for what is printed, without which it is the standard output.
 #[derive(Clone, Copy)]
 pub enum Request {
-    /// The check of an image up to a stage. With `clear`, the flag "needs check" of a thin pool's superblock is
-    /// cleared where the check found nothing.
+    /// The check of an image up to a stage.
     Check {
         kind: Kind,
         until: Stage,
-        clear: bool,
         image: Name,
     },
-    /// The text of an image. With `shared`, the leaves that thin devices share are printed once.
+    /// The whole check of a thin pool; where it found nothing, the flag "needs check" of the superblock is cleared.
+    CheckAndClear {
+        image: Name,
+    },
+    /// The text of an image.
     Dump {
         kind: Kind,
         image: Name,
         out: Option<Name>,
-        shared: bool,
+    },
+    /// The text of a pool in which the leaves that its devices share are told once.
+    DumpShared {
+        image: Name,
+        out: Option<Name>,
     },
     /// An image from a text, with this version of the metadata, 1 but for a cache.
     Restore {
@@ -104,6 +110,6 @@ pub enum Request {
 /// Why words have no request.
 #[derive(Clone, Copy, Debug, PartialEq, Eq)]
 pub enum WordFault {
-    /// The words spell no request, or one that isn't built.
+    /// The words spell no request.
     Usage,
 }

@@ -1,11 +1,10 @@
 ghost use Rattle.std.specs.Prelude.{◌≡◌, ◌^◌, ℕ, List, Some, true, map, drop, string_bytes, length, IfSome, IfOk};
 ghost use Rattle.std.specs.Option.{option_map};
-ghost use Rattle.pd_answers.specs.Words.{asked, stage_of, last_stage, version_of, region_of, generated_number, items_of, sole, at_most_one, is_set, check_with};
+ghost use Rattle.pd_answers.specs.Words.{asked, stage_of, last_stage, version_of, region_of, generated_number, items_of, sole, at_most_one, is_set, check_with, dump_with};
 ghost use Rattle.pd_answers.specs.Words as words_spec;
-ghost use Rattle.pd_answers.specs.Requests.{is_built};
 ghost use Rattle.pd_words.specs.Items.{given_as, IsGivenWithin, tool_as};
 ghost use Rattle.pd_words.specs.Numbers.{region_as};
-ghost use Rattle.pd_words.specs.Words.{request_as, read_as, answer_as, dump_as, repair_as, word_of, words_of, AreNames, IsGenerated, IsName, IsNameIfAny, IsVersion};
+ghost use Rattle.pd_words.specs.Words.{request_as, read_as, answer_as, repair_as, word_of, words_of, AreNames, IsGenerated, IsName, IsNameIfAny, IsVersion};
 
 use crate::items::{Given, IMAGE, Tool, are_items, given_for, tool_named};
 use crate::numbers::{Region, number, number_below, read_region};
@@ -17,11 +16,10 @@ use pd_kinds::{Kind, Stage};
 /// The first word is the name of a tool. After it come, in any order, an option's word followed by its value, a flag's
 /// word, or the one operand. Each comes at most once. A value or an operand isn't empty and doesn't begin with `-`.
 ///
-/// Fails with `WordFault::Usage` where the words spell no request that is built. It takes no memory.
+/// Fails with `WordFault::Usage` where the words spell no request. It takes no memory.
 pub fn read_words(words: &[String]) -> Result<Request, WordFault>
     ensures asked { answer_as (map string_bytes words.now) result ≡ asked (map string_bytes words.now) }
     ensures names { IfOk result (AreNames (length words.now)) }
-    ensures built { IfOk result (λ request. is_built (request_as (map string_bytes words.now) request) ≡ true) }
 {
     if words.is_empty() {
         return Err(WordFault::Usage);
@@ -30,109 +28,11 @@ pub fn read_words(words: &[String]) -> Result<Request, WordFault>
         None => Err(WordFault::Usage),
         Some(tool) => {
             if are_items(tool, words, 1) {
-                read_built(tool, words)
+                read_request(tool, words).ok_or(WordFault::Usage)
             } else {
                 Err(WordFault::Usage)
             }
         }
-    }
-}
-
-/// What the words ask of a tool, if it is built.
-fn read_built(tool: Tool, words: &[String]) -> Result<Request, WordFault>
-    ensures asked { IfSome (items_of (drop 1 (map string_bytes words.now))) (λ items. answer_as (map string_bytes words.now) result ≡ words_spec.built (words_spec.request_of (tool_as tool) items)) }
-    ensures names { IfOk result (AreNames (length words.now)) }
-    ensures built { IfOk result (λ request. is_built (request_as (map string_bytes words.now) request) ≡ true) }
-{
-    match read_request(tool, words) {
-        None => Err(WordFault::Usage),
-        Some(request) => {
-            if is_built(&request) {
-                Ok(request)
-            } else {
-                Err(WordFault::Usage)
-            }
-        }
-    }
-}
-
-/// The table of what is built.
-#[tactic(auto, unfolding(pd_answers::specs::Requests::is_built))]
-fn is_built(request: &Request) -> bool
-    ensures { (words : List (List ℕ)) → result ≡ is_built (request_as words request.now) }
-{
-    match *request {
-        Request::Check {
-            kind,
-            until,
-            clear,
-            image: _,
-        } => match kind {
-            Kind::Thin => match until {
-                Stage::Super => !clear,
-                Stage::Walk => !clear,
-                Stage::Order => !clear,
-                Stage::Whole => !clear,
-                Stage::Counts => true,
-            },
-            Kind::Cache => !clear,
-            Kind::Era => !clear,
-        },
-        Request::Dump {
-            kind,
-            image: _,
-            out: _,
-            shared,
-        } => match kind {
-            Kind::Thin => true,
-            Kind::Cache => !shared,
-            Kind::Era => !shared,
-        },
-        Request::Restore {
-            kind: _,
-            text: _,
-            image: _,
-            version: _,
-        } => true,
-        Request::Repair {
-            input: _,
-            output: _,
-        } => true,
-        Request::Search {
-            input: _,
-            output: _,
-            transaction: _,
-            block_size: _,
-            blocks: _,
-        } => true,
-        Request::Rmap {
-            first: _,
-            end: _,
-            image: _,
-            out: _,
-        } => true,
-        Request::List { image: _, out: _ } => true,
-        Request::Since {
-            era: _,
-            image: _,
-            out: _,
-        } => true,
-        Request::Generate { number: _, out: _ } => true,
-        Request::Rehearse {
-            number: _,
-            image: _,
-        } => true,
-        Request::Writeback {
-            metadata: _,
-            fast: _,
-            origin: _,
-        } => true,
-        Request::Shrink {
-            input: _,
-            output: _,
-            pool: _,
-            blocks: _,
-        } => true,
     }
 }
 
@@ -169,60 +69,44 @@ fn read_check(kind: Kind, words: &[String]) -> Option<Request>
 }
 
 /// What the words ask of a dump.
+#[tactic(auto, unfolding(pd_answers::specs::Words::request_of))]
 fn read_dump(kind: Kind, words: &[String]) -> Option<Request>
     ensures asked { IfSome (items_of (drop 1 (map string_bytes words.now))) (λ items. read_as (map string_bytes words.now) result ≡ words_spec.request_of (words_spec.dump_tool kind) items) }
     ensures names { IfSome result (AreNames (length words.now)) }
 {
-    let shared = flag(given_for(words, 1, "--shared"));
-    let out = optional(given_for(words, 1, "-o"));
-    let image = required(given_for(words, 1, IMAGE));
+    let shared = flag(given_for(words, 1, "--shared"))?;
+    let out = optional(given_for(words, 1, "-o"))?;
+    let image = required(given_for(words, 1, IMAGE))?;
     dump_with(kind, shared, out, image)
 }
 
-/// A dump of what was given.
-fn dump_with(
-    kind: Kind,
-    shared: Option<bool>,
-    out: Option<Option<Name>>,
-    image: Option<Name>,
-) -> Option<Request>
-    ensures asked { (words : List (List ℕ)) → read_as words result ≡ dump_as kind shared (option_map (words_of words) out) (words_of words image) }
-    ensures names { (number : ℕ) → IfSome out (IsNameIfAny number) → IsNameIfAny number image → IfSome result (AreNames number) }
+/// A dump; only of a pool the leaves that are shared are told once.
+fn dump_with(kind: Kind, shared: bool, out: Option<Name>, image: Name) -> Option<Request>
+    ensures asked { (words : List (List ℕ)) → read_as words result ≡ dump_with kind shared (words_of words out) (word_of words image) }
+    ensures names { (number : ℕ) → IsNameIfAny number out → IsName number image → IfSome result (AreNames number) }
 {
-    match shared {
-        None => None,
-        Some(shared) => match out {
-            None => None,
-            Some(out) => match image {
-                None => None,
-                Some(image) => Some(Request::Dump {
-                    kind,
-                    image,
-                    out,
-                    shared,
-                }),
-            },
-        },
+    if !shared {
+        return Some(Request::Dump { kind, image, out });
+    }
+    match kind {
+        Kind::Thin => Some(Request::DumpShared { image, out }),
+        Kind::Cache => None,
+        Kind::Era => None,
     }
 }
 
-/// A check; the flag stands only where the whole image is checked.
+/// A check; the flag stands only where the whole of a pool is checked.
 fn check_with(kind: Kind, until: Stage, clear: bool, image: Name) -> Option<Request>
     ensures asked { (words : List (List ℕ)) → read_as words result ≡ check_with kind until clear (word_of words image) }
     ensures names { (number : ℕ) → IsName number image → IfSome result (AreNames number) }
 {
-    if clear {
-        match until {
-            Stage::Counts => {}
-            _ => return None,
-        }
+    if !clear {
+        return Some(Request::Check { kind, until, image });
     }
-    Some(Request::Check {
-        kind,
-        until,
-        clear,
-        image,
-    })
+    match (kind, until) {
+        (Kind::Thin, Stage::Counts) => Some(Request::CheckAndClear { image }),
+        _ => None,
+    }
 }
 
 /// What the words ask of a restore.

@@ -6,7 +6,7 @@ use Rattle.pd_tools.proofs.rehearse.rehearse_image.Goals as goal
 pub returns-in-Err : goal.returns-in-Err
 returns-in-Err g c others notes =
     rehearse_unattached c.args.number c.args.image.now others notes (g.K.Sink.state c.args.out.now) (g.B.Device.state c.args.output.now)
-    (g.met.B.Device.unwritten c.args.output.now c.requires.output) c.requires.out (g.B.Device.state c.attach.new.self) c.thin_text_has_one_verdict.ensures.some c.in-Err.ensures.attached c.in-Err.ensures.faults.0
+    (g.met.B.Device.unwritten c.args.output.now c.requires.output) c.requires.out (g.B.Device.state c.attach.new.self) c.pool_text_has_one_verdict.ensures.some c.in-Err.ensures.attached c.in-Err.ensures.faults.0
 
 pub returns-in-Err-rehearse : goal.returns-in-Err-rehearse
 returns-in-Err-rehearse g c others notes =

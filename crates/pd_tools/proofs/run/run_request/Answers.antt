@@ -1,60 +1,59 @@
-use Rattle.std.proofs.Common.{◌≡◌, ℕ, Bool, true, false, List, Option, Some, map, string_bytes, sym, ◌∙◌}
-use Rattle.std.proofs.lemmas.Bool.{true≢false}
+use Rattle.std.proofs.Common.{◌≡◌, ℕ, List, Option, map, string_bytes}
 use Rattle.pd_kinds.specs.declared.kind.Kind.{Kind}
-use Rattle.pd_kinds.specs.declared.kind.Kind.TheVariants.{Thin, Cache, Era}
-use Rattle.pd_kinds.specs.declared.kind.Stage.{Stage}
 use Rattle.pd_kinds.specs.Objects.{SinkState}
-use Rattle.pd_answers.specs.Requests as request
-use Rattle.pd_answers.specs.Requests.{is_built}
 use Rattle.pd_answers.specs.Answer.{Objects}
-use Rattle.pd_answers.specs.Promises.{generate, terms_of}
+use Rattle.pd_answers.specs.Promises.{check, check_and_clear, generate}
 use Rattle.pd_answers.specs.Rehearsals.{rehearse}
 use Rattle.pd_answers.specs.Repairs.{repair, search}
 use Rattle.pd_answers.specs.Restores.{restore}
 use Rattle.pd_answers.specs.Shrinks.{shrink}
+use Rattle.pd_answers.specs.Terms.{Terms}
 use Rattle.pd_answers.specs.Writebacks.{writeback}
 use Rattle.std.specs.Option.{option_copied}
 use Rattle.pd_words.specs.Words.{word_of, words_of}
 use Rattle.pd_tools.specs.declared.query.Asked.{Asked}
-use Rattle.pd_tools.specs.declared.query.Asked.TheVariants.{ReverseMap, DeviceList, Since}
-use Rattle.pd_tools.specs.Query.{dump_as, terms_of_query}
+use Rattle.pd_tools.specs.declared.query.Asked.TheVariants.{Dump, SharedDump, ReverseMap, DeviceList, Since}
+use Rattle.pd_tools.specs.Query.{terms_of_query}
 use Rattle.pd_tools.specs.Work.{AnswersTerms}
-use Rattle.pd_tools.proofs.AtRest.{no_shared_cache, no_shared_era}
 use Rattle.pd_tools.proofs.run.run_request.Goals as goal
 
 -- the check of these words is the one that is asked
-as_asked : (kind : Kind) (until : Stage) (clear : Bool) (path word : List ℕ) (attached : SinkState) (before after : Objects) (status : ℕ) → word ≡ path
-    → AnswersTerms (terms_of (Some (request.check kind until clear word))) attached before after status
-    → AnswersTerms (terms_of (Some (request.check kind until clear path))) attached before after status
-as_asked kind until clear path word attached before after status same answers = rw same at answers
-
--- so with the dump
-dump_as_asked : (kind : Kind) (shared : Bool) (file given : Option (List ℕ)) (path word : List ℕ) (attached : SinkState) (before after : Objects) (status : ℕ)
-    → is_built (request.dump kind shared file path) ≡ true → given ≡ file → word ≡ path
-    → AnswersTerms (terms_of_query (dump_as kind shared) given word) attached before after status
-    → AnswersTerms (terms_of (Some (request.dump kind shared file path))) attached before after status
-dump_as_asked kind false file given path word attached before after status is file_is same answers = rw (file_is, same) at answers
-dump_as_asked Thin true file given path word attached before after status is file_is same answers = rw (file_is, same) at answers
-dump_as_asked Cache true file given path word attached before after status is file_is same answers = absurd (true≢false (sym is ∙ no_shared_cache file path))
-dump_as_asked Era true file given path word attached before after status is file_is same answers = absurd (true≢false (sym is ∙ no_shared_era file path))
+as_asked : (terms : List ℕ → Terms) (path word : List ℕ) (attached : SinkState) (before after : Objects) (status : ℕ) → word ≡ path
+    → AnswersTerms (terms word) attached before after status → AnswersTerms (terms path) attached before after status
+as_asked terms path word attached before after status same answers = rw same at answers
 
 pub returns-in-Check : goal.returns-in-Check
 returns-in-Check g c others =
     let words = map string_bytes c.args.words.now in
-    rw c.in-Check.is (as_asked c.in-Check.kind c.in-Check.until c.in-Check.clear (word_of words c.in-Check.image) c.word_in.result.now _ _ _ _ c.word_in.ensures
-    (c.run_any_check.ensures (record others { source = g.S.Source.state c.args.source.now; output = g.B.Device.state c.args.output.now; third = g.C.Device.state c.args.third.now })))
+    let w = c.in-Check in
+    rw w.is (as_asked (check w.kind w.until) (word_of words w.image) c.word_in.result.now _ _ _ _ c.word_in.ensures
+    (c.run_check.ensures (record others { source = g.S.Source.state c.args.source.now; output = g.B.Device.state c.args.output.now; third = g.C.Device.state c.args.third.now })))
+
+pub returns-in-CheckAndClear : goal.returns-in-CheckAndClear
+returns-in-CheckAndClear g c others =
+    let words = map string_bytes c.args.words.now in
+    let w = c.in-CheckAndClear in
+    rw w.is (as_asked check_and_clear (word_of words w.image) c.word_in-in-CheckAndClear.result.now _ _ _ _ c.word_in-in-CheckAndClear.ensures
+    (c.run_clearing_check.ensures (record others { source = g.S.Source.state c.args.source.now; output = g.B.Device.state c.args.output.now; third = g.C.Device.state c.args.third.now })))
+
+-- so with a query
+query_as_asked : (asked : Asked) (file given : Option (List ℕ)) (path word : List ℕ) (attached : SinkState) (before after : Objects) (status : ℕ)
+    → given ≡ file → word ≡ path → AnswersTerms (terms_of_query asked given word) attached before after status → AnswersTerms (terms_of_query asked file path) attached before after status
+query_as_asked asked file given path word attached before after status file_is same answers = rw (file_is, same) at answers
 
 pub returns-in-Dump : goal.returns-in-Dump
 returns-in-Dump g c others =
     let words = map string_bytes c.args.words.now in
-    rw c.in-Dump.is (dump_as_asked c.in-Dump.kind c.in-Dump.shared (words_of words c.in-Dump.file) (option_copied c.file_in.result) (word_of words c.in-Dump.image) c.word_in-in-Dump.result.now _ _ _ _
-    (rw c.in-Dump.is at c.requires.built) c.file_in.ensures c.word_in-in-Dump.ensures
-    (rw c.dump_asked.ensures at (c.run_query.ensures (record others { source = g.S.Source.state c.args.source.now; output = g.B.Device.state c.args.output.now; third = g.C.Device.state c.args.third.now }))))
+    let w = c.in-Dump in
+    rw w.is (query_as_asked (Dump w.kind) (words_of words w.file) (option_copied c.file_in.result) (word_of words w.image) c.word_in-in-Dump.result.now _ _ _ _
+    c.file_in.ensures c.word_in-in-Dump.ensures (c.run_query.ensures (record others { source = g.S.Source.state c.args.source.now; output = g.B.Device.state c.args.output.now; third = g.C.Device.state c.args.third.now })))
 
--- so with another query
-query_as_asked : (asked : Asked) (file given : Option (List ℕ)) (path word : List ℕ) (attached : SinkState) (before after : Objects) (status : ℕ)
-    → given ≡ file → word ≡ path → AnswersTerms (terms_of_query asked given word) attached before after status → AnswersTerms (terms_of_query asked file path) attached before after status
-query_as_asked asked file given path word attached before after status file_is same answers = rw (file_is, same) at answers
+pub returns-in-DumpShared : goal.returns-in-DumpShared
+returns-in-DumpShared g c others =
+    let words = map string_bytes c.args.words.now in
+    let w = c.in-DumpShared in
+    rw w.is (query_as_asked SharedDump (words_of words w.file) (option_copied c.file_in-in-DumpShared.result) (word_of words w.image) c.word_in-in-DumpShared.result.now _ _ _ _
+    c.file_in-in-DumpShared.ensures c.word_in-in-DumpShared.ensures (c.run_query-in-DumpShared.ensures (record others { source = g.S.Source.state c.args.source.now; output = g.B.Device.state c.args.output.now; third = g.C.Device.state c.args.third.now })))
 
 pub returns-in-Rmap : goal.returns-in-Rmap
 returns-in-Rmap g c others =

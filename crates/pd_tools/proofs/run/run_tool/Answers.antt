@@ -6,7 +6,7 @@ use Rattle.pd_answers.specs.Promises.{refused, terms_of}
 use Rattle.pd_kinds.proofs.AppendLemmas.{appends_none}
 use Rattle.pd_tools.specs.Notes.{IsAttachedNotes}
 use Rattle.pd_tools.proofs.Answered.{answered_put, answered_unattached}
-use Rattle.pd_tools.proofs.AtRest.{asked_alone, at_rest, reads_at_rest}
+use Rattle.pd_tools.proofs.AtRest.{at_rest, reads_at_rest}
 use Rattle.pd_tools.proofs.run.run_tool.Goals as goal
 
 pub returns-in-Err-read_words : goal.returns-in-Err-read_words
@@ -55,7 +55,7 @@ returns-in-Err g c =
     let before = objects (g.S.Source.state c.args.source.now) (g.K.Sink.state c.args.out.now) (g.E.Sink.state c.args.notes.now)
     (g.A.Device.state c.args.input.now) (g.B.Device.state c.args.output.now) (g.C.Device.state c.args.third.now) in
     let request = asked (map string_bytes c.args.words.now) in
-    let rest = at_rest request before (g.E.Sink.state c.attach.new.self) c.requires c.texts_have_verdicts.ensures (asked_alone (map string_bytes c.args.words.now)) in
+    let rest = at_rest request before (g.E.Sink.state c.attach.new.self) c.requires c.texts_have_verdicts.ensures in
     answered_unattached (terms_of request) before (g.E.Sink.state c.attach.new.self) rest.0 c.requires rest.1
-    (reads_at_rest request before (g.E.Sink.state c.attach.new.self) (asked_alone (map string_bytes c.args.words.now))) rest.2
+    (reads_at_rest request before (g.E.Sink.state c.attach.new.self)) rest.2
     c.in-Err.ensures.attached.access c.in-Err.ensures.attached.path c.in-Err.ensures.attached.written c.in-Err.ensures.faults.0
