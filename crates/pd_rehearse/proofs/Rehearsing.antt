@@ -1,7 +1,6 @@
 -- What a rehearsal comes to: the restore, and then the check and the dump, which only read.
-use Rattle.std.proofs.Common.{◌≡◌, ℕ, ◌≤◌, ◌<◌, inl, inr, List, length, Option, Some, None, IfSome, IsSome, Result, Ok, Err, refl, sym, ap, subst, ◌∙◌, arith}
+use Rattle.std.proofs.Common.{◌≡◌, ℕ, ◌≤◌, List, length, Option, Some, None, IfSome, IsSome, Result, Ok, Err, refl, sym, ap, subst, ◌∙◌, arith}
 use Rattle.std.specs.Prelude.{MatchResult}
-use Rattle.std.proofs.lemmas.Bool.{cases_lt}
 use Rattle.pd_kinds.specs.declared.limits.TheConstants.{MAX_META_BLOCKS}
 use Rattle.pd_kinds.specs.Crash.{HoldsSynced, IsOldNoneOrMade, IsUntouched, LeavesOnly}
 use Rattle.pd_kinds.specs.Graph.{block_at}
@@ -23,7 +22,6 @@ use Rattle.pd_laid_thin.proofs.ThinLaw.{meaning_law, takes_need}
 use Rattle.pd_laid_thin.proofs.ThinUsed.{used_is}
 use Rattle.pd_shapes.specs.PoolText.{IsPoolTextVerdict}
 use Rattle.pd_shapes.specs.SharedNeed.{shape_need}
-use Rattle.pd_shape_verdicts.proofs.Unshared.{unshared_need}
 use Rattle.pd_answers.specs.Generated.{generated_text}
 use Rattle.pd_answers.specs.Rehearsals.{AreNumbers}
 use Rattle.pd_gen.specs.Pool.{generated_pool}
@@ -34,7 +32,7 @@ use Rattle.pd_rehearse.specs.Counted.{IsCountOfPool}
 use Rattle.pd_rehearse.specs.Failing.{FindsFaults, HasFaults, IsFaulty, IsReported, IsTurnedDown}
 use Rattle.pd_rehearse.specs.Rehearsed.{Rehearses, found_of}
 use Rattle.pd_rehearse.specs.Restoring.{AnswersFault, RestoresText}
-use Rattle.pd_rehearse.proofs.GeneratedShape.{generated_shape, has_room, lawful, only_shape}
+use Rattle.pd_rehearse.proofs.GeneratedShape.{generated_shape, has_room, lawful, need_is, only_shape}
 use Rattle.pd_rehearse.proofs.Numbers.{numbers_of}
 
 abbrev Image : Type 0
@@ -66,7 +64,7 @@ module _ (number : ℕ) (few : number ≤ 10000) (result : Result Rehearsal Rehe
       let room = room_of (length image) in
       let limit : room ≤ MAX_META_BLOCKS = omega arith in
       let is_lawful = lawful number few in
-      let need = unshared_need m room is_lawful in
+      let need = need_is number few room in
       let some : thin_need m room ≤ room = omega (arith, need, has_room number few room right) in
       let laid_need = takes_need m room is_lawful limit some in
       let used = used_is m image now is_lawful (omega (arith, laid_need, some)) laid in
