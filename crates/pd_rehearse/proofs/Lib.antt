@@ -1,3 +1,4 @@
 pub mod Counting
+pub mod GeneratedShape
 pub mod Numbers
 pub mod Rehearsing

@@ -6,8 +6,10 @@ use Rattle.std.proofs.lemmas.List.FromFn.{length-map-range_with_len}
 use Rattle.std.proofs.lemmas.List.Sums.{sum_by-append, sum_by-cons}
 use Rattle.pd_kinds.specs.Meaning.{Mapping, ThinDevice, ThinPool}
 use Rattle.pd_grammar.specs.Spelling.{Verdict}
-use Rattle.pd_spells.specs.ThinNeed.{thin_need}
 use Rattle.pd_spells.specs.ThinText.{Line, device_line, end_line, first_line, map_line, pool_line, head_of, joined_part, lines_of_parts, text_of_pool}
+use Rattle.pd_laid.specs.Shape.{ThinShape}
+use Rattle.pd_laid.proofs.ShapeLemmas.{pool_kept}
+use Rattle.pd_shapes.specs.SharedNeed.{shape_need}
 use Rattle.pd_answers.specs.Generated.{generated_mapped}
 use Rattle.pd_answers.specs.Rehearsals.{AreNumbersOf}
 use Rattle.pd_gen.specs.Pool.{device_mapping, generated_device, snapshot_mapping, generated_pool}
@@ -17,6 +19,7 @@ use Rattle.pd_query.specs.Counts.{IsCountOf}
 use Rattle.pd_query.specs.Mapped.{mappings_of_line}
 use Rattle.pd_rehearse.specs.declared.run.Rehearsal.{Rehearsal}
 use Rattle.pd_rehearse.specs.Rehearsed.{found_of}
+use Rattle.pd_rehearse.proofs.GeneratedShape.{generated_shape}
 
 -- the mappings of runs of one mapping each
 sum_maps : (ms : List Mapping) → sum_by mappings_of_line (map map_line (map run_of ms)) ≡ length ms
@@ -63,14 +66,16 @@ mapped_number number =
       length-map-range_with_len snapshot_mapping 0 (generated_mapped number),
     )
 
-pub numbers_of : (number : ℕ) → number ≤ 10000 → (m : ThinPool) → m ≡ generated_pool number → (room : ℕ) (v : Verdict ThinPool) (r : Rehearsal) → r.used ≡ thin_need m room
-    → IsCountOf r.counts (lines_of_parts (head_of m) (map joined_part m.devices)) → AreNumbersOf m (found_of room v r)
-numbers_of number few m is room v r used counts =
-    let lines = ap (λ (p : ThinPool). lines_of_parts (head_of p) (map joined_part p.devices)) is ∙ lines_joined number in
+-- what is found of the generator's pool, by what was counted of it
+pub numbers_of : (number : ℕ) → number ≤ 10000 → (room : ℕ) (v : Verdict ThinShape) (r : Rehearsal) → r.used ≡ shape_need (generated_shape number) room
+    → IsCountOf r.counts (lines_of_parts (head_of (generated_pool number)) (map joined_part (generated_pool number).devices)) → AreNumbersOf (generated_shape number) (found_of room v r)
+numbers_of number few room v r used counts =
+    let lines = lines_joined number in
     let length_is = ap length lines ∙ lines_number number in
     let sum_is = ap (sum_by mappings_of_line) lines ∙ mapped_number number in
-    let feeds = ap (λ (p : ThinPool). feeds_of (text_of_pool p)) is ∙ (feeds_are number few ∙ lines_number number) in
-    let mappings = ap (λ (p : ThinPool). sum_by (λ (d : ThinDevice). length d.mappings) p.devices) is ∙ mappings_number number in
+    let pool = pool_kept (generated_pool number) in
+    let feeds = ap (λ (p : ThinPool). feeds_of (text_of_pool p)) pool ∙ (feeds_are number few ∙ lines_number number) in
+    let mappings = ap (λ (p : ThinPool). sum_by (λ (d : ThinDevice). length d.mappings) p.devices) pool ∙ mappings_number number in
     let counted_mappings = counts.mappings_are in
     let counted_lines = counts.lines_are in
     record {

@@ -1,7 +1,6 @@
 -- What a rehearsal comes to: the restore, and then the check and the dump, which only read.
-use Rattle.std.proofs.Common.{◌≡◌, ℕ, ◌≤◌, ◌<◌, inl, inr, List, length, Option, Some, None, IfSome, IsSome, Result, Ok, Err, refl, sym, ap, subst, ◌∙◌, arith}
+use Rattle.std.proofs.Common.{◌≡◌, ℕ, ◌≤◌, List, length, Option, Some, None, IfSome, IsSome, Result, Ok, Err, refl, sym, ap, subst, ◌∙◌, arith}
 use Rattle.std.specs.Prelude.{MatchResult}
-use Rattle.std.proofs.lemmas.Bool.{cases_lt}
 use Rattle.pd_kinds.specs.declared.limits.TheConstants.{MAX_META_BLOCKS}
 use Rattle.pd_kinds.specs.Crash.{HoldsSynced, IsOldNoneOrMade, IsUntouched, LeavesOnly}
 use Rattle.pd_kinds.specs.Graph.{block_at}
@@ -12,18 +11,20 @@ use Rattle.pd_kinds.specs.Objects.{DeviceState}
 use Rattle.pd_kinds.specs.ThinSuper.{thin_fields}
 use Rattle.pd_kinds.proofs.CrashLemmas.{and_then, stays, tells_same}
 use Rattle.pd_grammar.specs.Spelling.{Verdict, accepted, refused, no_room}
-use Rattle.pd_spells.specs.Lawful.{IsLawfulPool}
-use Rattle.pd_spells.specs.ThinNeed.{thin_need, IsThinVerdict}
-use Rattle.pd_spells.specs.ThinText.{SpellsPool}
+use Rattle.pd_spells.specs.ThinNeed.{thin_need}
 use Rattle.pd_image.specs.Device.{OnlyReads}
-use Rattle.pd_laid.specs.Laid.{IsLaid, laid_number}
-use Rattle.pd_laid.specs.LaidThin.{laid_pool}
+use Rattle.pd_laid.specs.Laid.{IsLaid}
+use Rattle.pd_laid.specs.LaidThin.{laid_pool, laid_shape}
 use Rattle.pd_laid.specs.Made.{Makes}
+use Rattle.pd_laid.specs.Shape.{ThinShape}
 use Rattle.pd_laid_thin.specs.CleanPool.{IsCleanPool}
+use Rattle.pd_laid_thin.proofs.ThinLaw.{meaning_law, takes_need}
+use Rattle.pd_laid_thin.proofs.ThinUsed.{used_is}
+use Rattle.pd_shapes.specs.PoolText.{IsPoolTextVerdict}
+use Rattle.pd_shapes.specs.SharedNeed.{shape_need}
 use Rattle.pd_answers.specs.Generated.{generated_text}
 use Rattle.pd_answers.specs.Rehearsals.{AreNumbers}
 use Rattle.pd_gen.specs.Pool.{generated_pool}
-use Rattle.pd_restoring.specs.Restored.{IsAccepted}
 use Rattle.pd_rehearse.specs.declared.fault.RehearseFault.{RehearseFault}
 use Rattle.pd_rehearse.specs.declared.fault.RehearseFault.TheVariants as f
 use Rattle.pd_rehearse.specs.declared.run.Rehearsal.{Rehearsal}
@@ -31,72 +32,61 @@ use Rattle.pd_rehearse.specs.Counted.{IsCountOfPool}
 use Rattle.pd_rehearse.specs.Failing.{FindsFaults, HasFaults, IsFaulty, IsReported, IsTurnedDown}
 use Rattle.pd_rehearse.specs.Rehearsed.{Rehearses, found_of}
 use Rattle.pd_rehearse.specs.Restoring.{AnswersFault, RestoresText}
+use Rattle.pd_rehearse.proofs.GeneratedShape.{generated_shape, has_room, lawful, need_is, only_shape}
 use Rattle.pd_rehearse.proofs.Numbers.{numbers_of}
 
 abbrev Image : Type 0
 Image = List (List ℕ)
 
--- the laws of texts and of laid pools
-pub record Laws (number : ℕ) : Type 0 where
-  pub few : number ≤ 10000
-  pub spells : SpellsPool (generated_text number) (generated_pool number)
-  pub one : (text : List ℕ) (m n : ThinPool) → SpellsPool text m → SpellsPool text n → m ≡ n
-  pub verdict : (text : List ℕ) (room : ℕ) (v w : Verdict ThinPool) → IsThinVerdict text room v → IsThinVerdict text room w → v ≡ w
-  pub above : (text : List ℕ) (m : ThinPool) (room : ℕ) → SpellsPool text m → room < thin_need m room
-      → (needed : ℕ) × (IsThinVerdict text room (no_room needed room) × ((room < needed) × (needed ≤ thin_need m room)))
-  pub clean : (m : ThinPool) (base image : Image) → IsLawfulPool m → thin_need m (room_of (length base)) ≤ room_of (length base)
-      → IsLaid (laid_pool m (room_of (length base))) base image → IsCleanPool image m
-  pub need : (m : ThinPool) (n : ℕ) → IsLawfulPool m → n ≤ MAX_META_BLOCKS → thin_need m n ≤ n → laid_number (laid_pool m n) ≡ thin_need m n
-  pub used : (m : ThinPool) (base image : Image) → IsLawfulPool m → laid_number (laid_pool m (room_of (length base))) ≤ room_of (length base)
-      → IsLaid (laid_pool m (room_of (length base))) base image → (thin_fields (block_at image 0)).meta_map.allocated ≡ laid_number (laid_pool m (room_of (length base)))
-
 -- the restore came to its end
 abbrev pub done : Result (Unit {0}) RehearseFault
 done = Ok tt
 
--- what is right of the result, by the numbers of a pool
-abbrev Finds : Result Rehearsal RehearseFault → ℕ → Verdict ThinPool → Type 0
+-- what is right of the result, by the numbers of a shape
+abbrev Finds : Result Rehearsal RehearseFault → ℕ → Verdict ThinShape → Type 0
 Finds result room v = MatchResult result (λ r. AreNumbers v (found_of room v r)) (λ fault. IsFaulty fault → ⊥)
 
-module _ (number : ℕ) (laws : Laws number) (result : Result Rehearsal RehearseFault) where
-  -- an accepted pool has room
-  enough : (m : ThinPool) (room : ℕ) → IsThinVerdict (generated_text number) room (accepted m) → thin_need m room ≤ room
-  enough m room is = elim (cases_lt room (thin_need m room)) [
-    | inr some ↦ some
-    | inl less ↦
-        let other = laws.above (generated_text number) m room is.1 less in
-        absurd (apart (laws.verdict (generated_text number) room (accepted m) (no_room other.0 room) is other.1.0))
-  ]
-    where
-      apart : {needed blocks : ℕ} → accepted m ≡ no_room needed blocks → ⊥
-      apart e = cc
+-- of what means the generator's pool
+finds_pool : (number : ℕ) → number ≤ 10000 → (room : ℕ) (now : Image) → (thin_fields (block_at now 0)).meta_map.allocated ≡ shape_need (generated_shape number) room
+    → (result : Result Rehearsal RehearseFault) → MatchResult result (IsCountOfPool now (generated_pool number)) (λ fault. IsFaulty fault → ⊥) → Finds result room (accepted (generated_shape number))
+finds_pool number few room now used (Ok r) counted = numbers_of number few room (accepted (generated_shape number)) r (counted.used ∙ used) counted.counts
+finds_pool number few room now used (Err fault) counted = counted
 
-  finds_pool : (m : ThinPool) (room : ℕ) (now : Image) → m ≡ generated_pool number → (thin_fields (block_at now 0)).meta_map.allocated ≡ thin_need m room
-      → (result : Result Rehearsal RehearseFault) → MatchResult result (IsCountOfPool now m) (λ fault. IsFaulty fault → ⊥) → Finds result room (accepted m)
-  finds_pool m room now is used (Ok r) counted = numbers_of number laws.few m is room (accepted m) r (counted.used ∙ used) counted.counts
-  finds_pool m room now is used (Err fault) counted = counted
+module _ (number : ℕ) (few : number ≤ 10000) (result : Result Rehearsal RehearseFault) where
+  -- what was laid of the generator's pool is found
+  finds_laid : (image now : Image) → IsPoolTextVerdict (generated_text number) (room_of (length image)) (accepted (generated_shape number))
+      → IsLaid (laid_shape (generated_shape number) (room_of (length image))) image now
+      → ((m : ThinPool) → IsCleanPool now m → MatchResult result (IsCountOfPool now m) (λ fault. IsFaulty fault → ⊥))
+      → Finds result (room_of (length image)) (accepted (generated_shape number))
+  unfolding laid_pool
+  finds_laid image now right laid counted =
+      let m = generated_pool number in
+      let room = room_of (length image) in
+      let limit : room ≤ MAX_META_BLOCKS = omega arith in
+      let is_lawful = lawful number few in
+      let need = need_is number few room in
+      let some : thin_need m room ≤ room = omega (arith, need, has_room number few room right) in
+      let laid_need = takes_need m room is_lawful limit some in
+      let used = used_is m image now is_lawful (omega (arith, laid_need, some)) laid in
+      finds_pool number few room now (used ∙ (laid_need ∙ sym need)) result (counted m (meaning_law m image now is_lawful some laid))
 
-  -- what was made of the text is found
-  finds_made : (image now : Image) (v : Verdict ThinPool) → IsThinVerdict (generated_text number) (room_of (length image)) v → IsAccepted IsLawfulPool v
-      → Makes laid_pool (room_of (length image)) v image now
+  -- and so what was made of its text
+  finds_made : (image now : Image) (v : Verdict ThinShape) → IsPoolTextVerdict (generated_text number) (room_of (length image)) v
+      → Makes laid_shape (room_of (length image)) v image now
       → ((m : ThinPool) → IsCleanPool now m → MatchResult result (IsCountOfPool now m) (λ fault. IsFaulty fault → ⊥))
       → Finds result (room_of (length image)) v
-  finds_made image now (accepted m) right lawful laid counted =
-      let room = room_of (length image) in
-      let some = enough m room right in
-      let limit : room ≤ MAX_META_BLOCKS = omega arith in
-      let need = laws.need m room lawful limit some in
-      let used = laws.used m image now lawful (omega arith) laid in
-      finds_pool m room now (laws.one (generated_text number) m (generated_pool number) right.1 laws.spells) (used ∙ need) result (counted m (laws.clean m image now lawful some laid))
-  finds_made image now (refused why) right lawful laid counted = absurd laid
-  finds_made image now (no_room needed blocks) right lawful laid counted = absurd laid
+  finds_made image now (accepted w) right laid counted =
+      let only = only_shape number few (room_of (length image)) w right in
+      rw only (finds_laid image now (rw only at right) (rw only at laid) counted)
+  finds_made image now (refused why) right laid counted = absurd laid
+  finds_made image now (no_room needed blocks) right laid counted = absurd laid
 
-  finds_in : (image now : Image) (blocks : ℕ) (v : Verdict ThinPool) → length image ≡ blocks → IsThinVerdict (generated_text number) (room_of blocks) v → IsAccepted IsLawfulPool v
-      → Makes laid_pool (room_of blocks) v image now
+  finds_in : (image now : Image) (blocks : ℕ) (v : Verdict ThinShape) → length image ≡ blocks → IsPoolTextVerdict (generated_text number) (room_of blocks) v
+      → Makes laid_shape (room_of blocks) v image now
       → ((m : ThinPool) → IsCleanPool now m → MatchResult result (IsCountOfPool now m) (λ fault. IsFaulty fault → ⊥))
       → Finds result (room_of blocks) v
-  finds_in image now blocks v same right lawful laid counted =
-      rw (← same) (finds_made image now v (rw (← same) at right) lawful (rw (← same) at laid) counted)
+  finds_in image now blocks v same right laid counted =
+      rw (← same) (finds_made image now v (rw (← same) at right) (rw (← same) at laid) counted)
 
   module _ (old mid new : DeviceState) (measured : IfSome old.held (λ image. length image ≡ old.blocks)) (restored : RestoresText number done old mid) (kept : OnlyReads mid new)
       (counted : (m : ThinPool) (image : Image) → mid.held ≡ Some image → IsCleanPool image m → MatchResult result (IsCountOfPool image m) (λ fault. IsFaulty fault → ⊥)) where
@@ -107,12 +97,12 @@ module _ (number : ℕ) (laws : Laws number) (result : Result Rehearsal Rehearse
 
     numbers : (image : Image) → old.held ≡ Some image → Finds result (room_of old.blocks) restored.verdict
     numbers image held =
-        let now = told_in mid.held (λ now. Makes laid_pool (room_of old.blocks) restored.verdict image now × HoldsSynced now mid) (rw held at restored.told) (rw held at restored.made) in
+        let now = told_in mid.held (λ now. Makes laid_shape (room_of old.blocks) restored.verdict image now × HoldsSynced now mid) (rw held at restored.told) (rw held at restored.made) in
         let blocks : length image ≡ old.blocks = rw held at measured in
-        finds_in image now.0 old.blocks restored.verdict blocks restored.right restored.answer now.1.1.0 (λ m clean. counted m now.0 now.1.0 clean)
+        finds_in image now.0 old.blocks restored.verdict blocks restored.right now.1.1.0 (λ m clean. counted m now.0 now.1.0 clean)
 
     -- the device after the check and the dump
-    crash : (image : Image) → HoldsSynced image old → LeavesOnly (IsOldNoneOrMade image (Makes laid_pool (room_of old.blocks) restored.verdict image)) old new
+    crash : (image : Image) → HoldsSynced image old → LeavesOnly (IsOldNoneOrMade image (Makes laid_shape (room_of old.blocks) restored.verdict image)) old new
     crash image synced = let first = restored.crash image synced in and_then first (stays {old = mid} {new = new} kept.held kept.history first.now)
 
     still_synced : (image : Image) → HoldsSynced image mid → HoldsSynced image new
@@ -126,11 +116,11 @@ module _ (number : ℕ) (laws : Laws number) (result : Result Rehearsal Rehearse
     made_in None P Q each all = tt
     made_in (Some x) P Q each all = each x all
 
-    made : IfSome old.held (λ image. IfSome new.held (λ now. Makes laid_pool (room_of old.blocks) restored.verdict image now × HoldsSynced now new))
+    made : IfSome old.held (λ image. IfSome new.held (λ now. Makes laid_shape (room_of old.blocks) restored.verdict image now × HoldsSynced now new))
     made =
-        made_in old.held (λ image. IfSome mid.held (λ now. Makes laid_pool (room_of old.blocks) restored.verdict image now × HoldsSynced now mid)) _
-        (λ image all. subst (λ (o : Option Image). IfSome o (λ now. Makes laid_pool (room_of old.blocks) restored.verdict image now × HoldsSynced now new)) (sym kept.held)
-        (made_in mid.held (λ now. Makes laid_pool (room_of old.blocks) restored.verdict image now × HoldsSynced now mid) _ (λ now is. (is.0, still_synced now is.1)) all)) restored.made
+        made_in old.held (λ image. IfSome mid.held (λ now. Makes laid_shape (room_of old.blocks) restored.verdict image now × HoldsSynced now mid)) _
+        (λ image all. subst (λ (o : Option Image). IfSome o (λ now. Makes laid_shape (room_of old.blocks) restored.verdict image now × HoldsSynced now new)) (sym kept.held)
+        (made_in mid.held (λ now. Makes laid_shape (room_of old.blocks) restored.verdict image now × HoldsSynced now mid) _ (λ now is. (is.0, still_synced now is.1)) all)) restored.made
 
     untouched : IsUntouched old mid → IsUntouched old new
     untouched same = record { held = kept.held ∙ same.held; history = kept.history ∙ same.history }
@@ -196,18 +186,18 @@ restores_not number fault old new restored = record {
   untouched = restored.untouched;
 }
 
-pub rehearses : (number : ℕ) (laws : Laws number) (result : Result Rehearsal RehearseFault) (old mid new : DeviceState) → IfSome old.held (λ image. length image ≡ old.blocks)
+pub rehearses : (number : ℕ) (few : number ≤ 10000) (result : Result Rehearsal RehearseFault) (old mid new : DeviceState) → IfSome old.held (λ image. length image ≡ old.blocks)
     → RestoresText number done old mid → OnlyReads mid new
     → ((m : ThinPool) (image : Image) → mid.held ≡ Some image → IsCleanPool image m → MatchResult result (IsCountOfPool image m) (λ fault. IsFaulty fault → ⊥))
     → FindsFaults result → Rehearses number result old new
 unfolding restores
-rehearses number laws (Ok r) old mid new measured restored kept counted finds = record {
-  restores = restores number laws (Ok r) old mid new measured restored kept counted (Ok r) finds;
-  numbers = numbers number laws (Ok r) old mid new measured restored kept counted;
+rehearses number few (Ok r) old mid new measured restored kept counted finds = record {
+  restores = restores number few (Ok r) old mid new measured restored kept counted (Ok r) finds;
+  numbers = numbers number few (Ok r) old mid new measured restored kept counted;
   reported = tt;
 }
-rehearses number laws (Err fault) old mid new measured restored kept counted finds = record {
-  restores = restores number laws (Err fault) old mid new measured restored kept counted (Err fault) finds;
-  numbers = numbers number laws (Err fault) old mid new measured restored kept counted;
+rehearses number few (Err fault) old mid new measured restored kept counted finds = record {
+  restores = restores number few (Err fault) old mid new measured restored kept counted (Err fault) finds;
+  numbers = numbers number few (Err fault) old mid new measured restored kept counted;
   reported = reported fault finds;
 }

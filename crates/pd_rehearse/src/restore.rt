@@ -6,10 +6,9 @@ ghost use Rattle.pd_rehearse.specs.Failing.{CountsRehearsal, IsFaulty};
 ghost use Rattle.pd_rehearse.specs.Restoring.{RestoresText};
 
 use crate::fault::RehearseFault;
-use pd_gen::{GenSource, generated_text_spells_a_pool};
+use pd_gen::GenSource;
 use pd_image::{Device, Source};
 use pd_restore::{RestoreFault, restore_thin};
-use pd_spells::thin_text_unless_refused;
 use std::alloc::Global;
 
 /// Restores the generator's text of the number onto the device. No line of it is refused.
@@ -25,8 +24,6 @@ pub(crate) fn restore_text<D: Device>(
     ensures place { KeepsPlace (D.state dev.old) (D.state dev.new) }
     ensures causes { CountsRehearsal result (D.state dev.old).faults (D.state dev.new).faults }
 {
-    generated_text_spells_a_pool();
-    thin_text_unless_refused();
     let mut source = GenSource::new(number);
     if source.attach("").is_err() {
         unreachable!();

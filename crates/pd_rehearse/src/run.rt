@@ -11,15 +11,10 @@ ghost use Rattle.pd_rehearse.specs.Rehearsed.{Rehearses};
 use crate::count::count_dump;
 use crate::fault::RehearseFault;
 use crate::restore::restore_text;
-use pd_gen::generated_text_spells_a_pool;
 use pd_image::Device;
 use pd_kinds::{CheckFault, Stage};
-use pd_laid_thin::{laid_pool_is_clean, laid_pool_says_its_number};
 use pd_laws::faults_are_none_where_clean;
 use pd_query::DumpCounts;
-use pd_spells::{
-    thin_text_has_one_meaning, thin_text_has_one_verdict, thin_text_is_accepted_where_there_is_room,
-};
 use pd_thin::check_thin;
 use pd_thin_meaning::rows_are_the_devices;
 use std::alloc::Global;
@@ -48,12 +43,6 @@ pub fn rehearse<D: Device>(
     ensures place { KeepsPlace (D.state dev.old) (D.state dev.new) }
     ensures causes { CountsRehearsal result (D.state dev.old).faults (D.state dev.new).faults }
 {
-    generated_text_spells_a_pool();
-    thin_text_has_one_meaning();
-    thin_text_has_one_verdict();
-    thin_text_is_accepted_where_there_is_room();
-    laid_pool_is_clean();
-    laid_pool_says_its_number();
     match restore_text(alloc, number, dev) {
         Ok(()) => check_and_count(alloc, dev),
         Err(fault) => Err(fault),
