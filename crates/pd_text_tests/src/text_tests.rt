@@ -23,6 +23,10 @@ use std::test::Fail;
 const ONE_MAPPING: &str =
     "thin 1\npool 00000000-0000-0000-0000-000000000000 0 0 128 1\ndevice 1 1 0 0 0\nmap 0 0 1 0\nend\n";
 
+/// A pool with two devices that share a leaf, of version 2.
+const SHARED_LEAVES: &str =
+    "thin 2\npool 01234567-89ab-cdef-0123-456789abcdef 5 7 128 300\nleaf 0 3\nmap 4 10 2 0\nmap 9 299 1 4\ndevice 0 4 0 0 3\nmap 1 7 1 2\nuse 0\ndevice 1 3 6 3 3\nuse 0\nend\n";
+
 /// A pool with devices that share blocks, and with one that has none.
 const SHARED: &str =
     "thin 1\npool 01234567-89ab-cdef-0123-456789abcdef 5 7 128 300\ndevice 0 3 0 0 3\nmap 0 10 2 0\nmap 9 299 1 4\ndevice 1 2 6 3 3\nmap 0 10 2 0\ndevice 16777215 0 7 5 5\nend\n";
@@ -455,9 +459,11 @@ fn expect_copied(rt: &impl Abort, alloc: Global, text: &str, piece: usize) -> Re
 
 #[test]
 fn a_text_is_printed_again_however_it_is_cut(rt: HostRuntime) -> Result<(), Fail> {
-    expect_copied(&rt, rt.alloc(), SHARED, 1)?;
-    expect_copied(&rt, rt.alloc(), SHARED, 7)?;
-    expect_copied(&rt, rt.alloc(), SHARED, 4096)?;
+    for text in [SHARED, SHARED_LEAVES] {
+        expect_copied(&rt, rt.alloc(), text, 1)?;
+        expect_copied(&rt, rt.alloc(), text, 7)?;
+        expect_copied(&rt, rt.alloc(), text, 4096)?;
+    }
     Ok(())
 }
 
