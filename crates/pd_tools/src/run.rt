@@ -1,6 +1,6 @@
 //! The top call.
 
-ghost use Rattle.std.specs.Prelude.{◌≡◌, true, Some, length, map, string_bytes};
+ghost use Rattle.std.specs.Prelude.{◌≡◌, Some, length, map, string_bytes};
 ghost use Rattle.pd_answers.specs.Words.{asked};
 ghost use Rattle.pd_answers.specs.Answer.{Objects, objects, AreFresh};
 ghost use Rattle.pd_answers.specs.Terms.{IsAnswered};

@@ -4,7 +4,7 @@ ghost use Rattle.pd_answers.specs.Words.{asked, stage_of, last_stage, version_of
 ghost use Rattle.pd_answers.specs.Words as words_spec;
 ghost use Rattle.pd_words.specs.Items.{given_as, IsGivenWithin, tool_as};
 ghost use Rattle.pd_words.specs.Numbers.{region_as};
-ghost use Rattle.pd_words.specs.Words.{request_as, read_as, answer_as, repair_as, word_of, words_of, AreNames, IsGenerated, IsName, IsNameIfAny, IsVersion};
+ghost use Rattle.pd_words.specs.Words.{read_as, answer_as, repair_as, word_of, words_of, AreNames, IsGenerated, IsName, IsNameIfAny, IsVersion};
 
 use crate::items::{Given, IMAGE, Tool, are_items, given_for, tool_named};
 use crate::numbers::{Region, number, number_below, read_region};
