@@ -26,6 +26,10 @@ mod restore_tests;
 #[cfg(test)]
 mod search_tests;
 #[cfg(test)]
+mod shared_pool;
+#[cfg(test)]
+mod shared_restore_tests;
+#[cfg(test)]
 mod shrink_tests;
 #[cfg(test)]
 mod targets;

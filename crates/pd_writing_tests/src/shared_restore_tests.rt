@@ -1,0 +1,357 @@
+//! Restores of texts of version 2: what is restored, what is refused, and where there is no room.
+
+use crate::expected::{
+    First, ONES, Row, THIN, expect, expect_restored, expect_said, left_of, made, restore,
+};
+use crate::shared_pool::{image_of_many, text_of_many};
+use pd_samples::runs::{NOTHING_FAILS, blocks_of};
+use std::alloc::{AllocError, Global};
+use std::process::Abort;
+use std::test::Fail;
+
+/// Two devices on one leaf.
+const TWO_USERS: &str =
+    "thin 2\npool 00000000-0000-0000-0000-000000000000 0 0 128 1\nleaf 0 1\nmap 0 0 1 0\ndevice 1 1 0 0 0\nuse 0\ndevice 2 1 0 0 0\nuse 0\nend\n";
+
+/// The same with another number in the first line that uses a leaf.
+const NO_SUCH_LEAF: &str =
+    "thin 2\npool 00000000-0000-0000-0000-000000000000 0 0 128 1\nleaf 0 1\nmap 0 0 1 0\ndevice 1 1 0 0 0\nuse 1\ndevice 2 1 0 0 0\nuse 0\nend\n";
+
+/// A leaf that no device uses.
+const UNUSED: &str =
+    "thin 2\npool 00000000-0000-0000-0000-000000000000 0 0 128 1\nleaf 0 1\nmap 0 0 1 0\nend\n";
+
+/// Two devices on two leaves, below an inner node each.
+const TWO_LEAVES: &str =
+    "thin 2\npool 00000000-0000-0000-0000-000000000000 0 0 128 2\nleaf 0 1\nmap 0 0 1 0\nleaf 1 1\nmap 1 1 1 0\ndevice 1 2 0 0 0\nuse 0\nuse 1\ndevice 2 2 0 0 0\nuse 0\nuse 1\nend\n";
+
+/// Two devices without mappings, which have an empty leaf each.
+const NO_PIECES: &str =
+    "thin 2\npool 00000000-0000-0000-0000-000000000000 0 0 128 1\ndevice 1 0 0 0 0\ndevice 2 0 0 0 0\nend\n";
+
+/// Three devices that map as many data blocks, each of its own: their counts take three blocks of the overflow tree.
+const THREE_OF_EACH: &str =
+    "thin 2\npool 00000000-0000-0000-0000-000000000000 0 0 128 337\ndevice 1 337 0 0 0\nmap 0 0 337 0\ndevice 2 337 0 0 0\nmap 0 0 337 0\ndevice 3 337 0 0 0\nmap 0 0 337 0\nend\n";
+
+/// The same data blocks in leaves that three devices use count once.
+const TWO_OF_A_THIRD: &str =
+    "thin 2\npool 00000000-0000-0000-0000-000000000000 0 0 128 252\nleaf 0 252\nmap 0 0 252 0\ndevice 1 252 0 0 0\nuse 0\ndevice 2 252 0 0 0\nuse 0\ndevice 3 252 0 0 0\nuse 0\nend\n";
+
+/// A last line that is refused, where it would want more room, too; and one behind a line for which there is no room.
+const REFUSED_FIRST: &str =
+    "thin 2\npool 00000000-0000-0000-0000-000000000000 0 0 128 1\nleaf 0 1\nmap 0 0 1 0\ndevice 1 1 0 0 0\nmap 0 1 1 0\n";
+
+const NO_ROOM_FIRST: &str =
+    "thin 2\npool 00000000-0000-0000-0000-000000000000 0 0 128 1\nleaf 0 1\nx\n";
+
+/// A pool without devices, also without its last line.
+const EMPTY: &str = "thin 2\npool 00000000-0000-0000-0000-000000000000 0 0 128 0\nend\n";
+
+const NO_END: &str = "thin 2\npool 00000000-0000-0000-0000-000000000000 0 0 128 0\n";
+
+const HUGE: &str =
+    "thin 2\npool 00000000-0000-0000-0000-000000000000 0 0 128 1099511627776\ndevice 1 1099511627776 0 0 0\nmap 0 0 1099511627776 0\nend\n";
+
+/// What is said where so many blocks are needed.
+const NEED_8: &str = "pdata_tools: no room: need 8, blocks 7\n";
+
+const NEED_9: &str = "pdata_tools: no room: need 9, blocks 8\n";
+
+const NEED_10: &str = "pdata_tools: no room: need 10, blocks 9\n";
+
+const NEED_11: &str = "pdata_tools: no room: need 11, blocks 10\n";
+
+const NEED_12: &str = "pdata_tools: no room: need 12, blocks 11\n";
+
+const NEED_13: &str = "pdata_tools: no room: need 13, blocks 12\n";
+
+const NEED_20: &str = "pdata_tools: no room: need 20, blocks 19\n";
+
+const NEED_HUGE: &str = "pdata_tools: no room: need 67774669, blocks 1000\n";
+
+/// Restores, with what they come to.
+const ROWS: &[Row] = &[
+    (THIN, TWO_USERS, 16, 0, "", First::Made),
+    (THIN, TWO_USERS, 10, 0, "", First::Made),
+    (THIN, TWO_USERS, 9, 4, NEED_10, First::Closed),
+    (THIN, TWO_USERS, 8, 4, NEED_9, First::Untouched),
+    (THIN, TWO_LEAVES, 13, 0, "", First::Made),
+    (THIN, TWO_LEAVES, 12, 4, NEED_13, First::Closed),
+    (THIN, TWO_LEAVES, 11, 4, NEED_12, First::Closed),
+    (THIN, TWO_LEAVES, 10, 4, NEED_11, First::Closed),
+    (THIN, NO_PIECES, 11, 0, "", First::Made),
+    (THIN, NO_PIECES, 10, 4, NEED_11, First::Closed),
+    (THIN, NO_PIECES, 9, 4, NEED_10, First::Closed),
+    (THIN, THREE_OF_EACH, 20, 0, "", First::Made),
+    (THIN, THREE_OF_EACH, 19, 4, NEED_20, First::Closed),
+    (THIN, TWO_OF_A_THIRD, 10, 0, "", First::Made),
+    (THIN, EMPTY, 8, 0, "", First::Made),
+    (THIN, EMPTY, 7, 4, NEED_8, First::Untouched),
+    (THIN, HUGE, 1000, 4, NEED_HUGE, First::Untouched),
+    (
+        THIN,
+        REFUSED_FIRST,
+        10,
+        3,
+        "pdata_tools: line 6: out of range\n",
+        First::Closed,
+    ),
+    (THIN, NO_ROOM_FIRST, 9, 4, NEED_10, First::Closed),
+    (
+        THIN,
+        UNUSED,
+        16,
+        3,
+        "pdata_tools: line 5: unused\n",
+        First::Closed,
+    ),
+    (
+        THIN,
+        NO_SUCH_LEAF,
+        16,
+        3,
+        "pdata_tools: line 6: out of range\n",
+        First::Closed,
+    ),
+    (
+        THIN,
+        NO_END,
+        16,
+        3,
+        "pdata_tools: line 3: no end\n",
+        First::Closed,
+    ),
+    (
+        THIN,
+        "thin 2\npool 00000000-0000-0000-0000-000000000000 0 0 128 x\n",
+        16,
+        3,
+        "pdata_tools: line 2: number\n",
+        First::Untouched,
+    ),
+    (
+        THIN,
+        "thin 2\nleaf 0 1\n",
+        16,
+        3,
+        "pdata_tools: line 2: word\n",
+        First::Untouched,
+    ),
+    (
+        THIN,
+        "thin 2 \n",
+        16,
+        3,
+        "pdata_tools: line 1: header\n",
+        First::Untouched,
+    ),
+    (
+        THIN,
+        "thin 02\n",
+        16,
+        3,
+        "pdata_tools: line 1: header\n",
+        First::Untouched,
+    ),
+    (
+        THIN,
+        "thin 2",
+        16,
+        3,
+        "pdata_tools: line 1: no end\n",
+        First::Untouched,
+    ),
+];
+
+#[test]
+fn restores_of_shared_leaves_come_to_their_status(rt: HostRuntime) -> Result<(), Fail> {
+    for row in ROWS {
+        expect_restored(&rt, rt.alloc(), row)?;
+    }
+    Ok(())
+}
+
+/// Restores a text of this version and these lines behind that of the pool, which has four data blocks. The line is refused.
+fn expect_refused(
+    rt: &impl Abort,
+    alloc: Global,
+    version: u8,
+    lines: &str,
+    refusal: &str,
+) -> Result<(), AllocError> {
+    let text = format!(in alloc;
+        "thin {version}\npool 00000000-0000-0000-0000-000000000000 0 0 128 4\n{lines}"
+    )?;
+    let notes = format!(in alloc; "pdata_tools: line {refusal}\n")?;
+    let refused = restore(alloc, THIN, text.as_str(), &[ONES; 16], NOTHING_FAILS)?;
+    expect_said(rt, &refused, 3, "", notes.as_str());
+    let image = blocks_of(alloc, &refused.output)?;
+    assert!(rt; left_of(image.as_slice()) == First::Closed, "{lines}");
+    Ok(())
+}
+
+/// Lines from the third one on, and the line that is refused with its cause.
+type Refused = (&'static str, &'static str);
+
+const REFUSALS: &[Refused] = &[
+    // A line in a place in which it may not stand, or with another number of words.
+    ("map 0 0 1 0\n", "3: word"),
+    ("use 0\n", "3: word"),
+    ("thin 2\n", "3: word"),
+    ("leaf 0 1\nuse 0\n", "4: word"),
+    ("leaf 0\n", "3: word"),
+    ("leaf 0 1 0\n", "3: word"),
+    ("leaf  0 1\n", "3: word"),
+    ("leaf 0 1\nmap 0 0 1 0\ndevice 1 1 0 0 0\nuse\n", "6: word"),
+    (
+        "leaf 0 1\nmap 0 0 1 0\ndevice 1 1 0 0 0\nuse 0 0\n",
+        "6: word",
+    ),
+    ("device 1 0 0 0 0\nleaf 0 1\n", "4: word"),
+    // A number that hasn't its form.
+    ("leaf 00 1\n", "3: number"),
+    ("leaf 0 -1\n", "3: number"),
+    ("leaf 0 18446744073709551616\n", "3: number"),
+    (
+        "leaf 0 1\nmap 0 0 1 0\ndevice 1 1 0 0 0\nuse x\n",
+        "6: number",
+    ),
+    // Mappings of a leaf, the number of a leaf, and what lies outside the pool.
+    ("leaf 0 0\n", "3: out of range"),
+    ("leaf 0 253\n", "3: out of range"),
+    ("leaf 1 253\n", "3: out of range"),
+    ("leaf 0 1\nmap 0 4 1 0\n", "4: out of range"),
+    ("leaf 0 1\nmap 0 0 0 0\n", "4: out of range"),
+    ("leaf 0 1\nmap 0 0 1 16777216\n", "4: out of range"),
+    (
+        "leaf 0 2\nmap 18446744073709551615 0 2 0\n",
+        "4: out of range",
+    ),
+    ("device 1 1 0 0 0\nuse 0\n", "4: out of range"),
+    (
+        "leaf 0 1\nmap 0 0 1 0\ndevice 1 1 0 0 0\nuse 18446744073709551615\n",
+        "6: out of range",
+    ),
+    // Leaves by their numbers, devices by their ids, runs and leaves by their virtual blocks.
+    ("leaf 1 1\n", "3: order"),
+    ("leaf 0 1\nmap 0 0 1 0\nleaf 0 1\n", "5: order"),
+    ("leaf 0 2\nmap 1 0 1 0\nmap 0 1 1 0\n", "5: order"),
+    ("leaf 0 2\nmap 0 0 1 0\nmap 0 1 1 0\n", "5: order"),
+    (
+        "leaf 0 1\nmap 1 0 1 0\ndevice 1 2 0 0 0\nmap 1 1 1 0\nuse 0\n",
+        "7: order",
+    ),
+    (
+        "leaf 0 2\nmap 1 0 1 0\nmap 9 1 1 0\ndevice 1 3 0 0 0\nuse 0\nmap 5 2 1 0\n",
+        "8: order",
+    ),
+    (
+        "leaf 0 1\nmap 1 0 1 0\ndevice 1 2 0 0 0\nuse 0\nuse 0\n",
+        "7: order",
+    ),
+    ("device 1 0 0 0 0\ndevice 1 0 0 0 0\n", "4: order"),
+    // Too many mappings, and too few.
+    ("leaf 0 1\nmap 0 0 2 0\n", "4: mapped differs"),
+    ("leaf 0 2\nmap 0 0 1 0\nleaf 1 1\n", "5: mapped differs"),
+    (
+        "leaf 0 2\nmap 0 0 1 0\ndevice 1 2 0 0 0\n",
+        "5: mapped differs",
+    ),
+    ("leaf 0 1\nend\n", "4: mapped differs"),
+    (
+        "leaf 0 2\nmap 0 0 2 0\ndevice 1 1 0 0 0\nuse 0\n",
+        "6: mapped differs",
+    ),
+    (
+        "leaf 0 1\nmap 0 0 1 0\ndevice 1 2 0 0 0\nuse 0\ndevice 2 0 0 0 0\n",
+        "7: mapped differs",
+    ),
+    (
+        "leaf 0 1\nmap 0 0 1 0\ndevice 1 2 0 0 0\nuse 0\nend\n",
+        "7: mapped differs",
+    ),
+    // A leaf without a use, which is looked at after that.
+    (
+        "leaf 0 1\nmap 0 0 1 0\nleaf 1 1\nmap 1 1 1 0\ndevice 1 1 0 0 0\nuse 1\nend\n",
+        "9: unused",
+    ),
+    (
+        "leaf 0 1\nmap 0 0 1 0\ndevice 1 1 0 0 0\nend\n",
+        "6: mapped differs",
+    ),
+    ("device 1 0 0 0 0\nend\nend\n", "5: after end"),
+    ("device 1 0 0 0 0\n", "4: no end"),
+];
+
+/// In version 1 there are neither leaves nor uses.
+const REFUSALS_OF_FIRST: &[Refused] = &[
+    ("leaf 0 1\n", "3: word"),
+    ("device 1 1 0 0 0\nuse 0\n", "4: word"),
+    ("device 1 0 0 0 0\nleaf 0 1\n", "4: word"),
+];
+
+#[test]
+fn lines_of_shared_leaves_are_refused_in_their_place(rt: HostRuntime) -> Result<(), Fail> {
+    for (lines, refusal) in REFUSALS {
+        expect_refused(&rt, rt.alloc(), 2, lines, refusal)?;
+    }
+    for (lines, refusal) in REFUSALS_OF_FIRST {
+        expect_refused(&rt, rt.alloc(), 1, lines, refusal)?;
+    }
+    Ok(())
+}
+
+#[test]
+fn a_pool_of_many_runs_is_that_put_together_by_hand(rt: HostRuntime) -> Result<(), Fail> {
+    let alloc = rt.alloc();
+    let text = text_of_many(alloc)?;
+    let base = [ONES; 16];
+    let restored = restore(alloc, THIN, text.as_str(), &base, NOTHING_FAILS)?;
+    expect_said(&rt, &restored, 0, "", "");
+    let image = blocks_of(alloc, &restored.output)?;
+    assert!(rt; image.as_slice() == image_of_many().as_slice());
+    Ok(())
+}
+
+#[test]
+fn a_pool_of_many_runs_is_clean_and_is_told_again(rt: HostRuntime) -> Result<(), Fail> {
+    let alloc = rt.alloc();
+    let text = text_of_many(alloc)?;
+    let image = image_of_many();
+    expect(&rt, alloc, &["thin_check", "image"], &image, 0, "clean\n")?;
+    let words = &["thin_dump", "--shared", "image"];
+    expect(&rt, alloc, words, &image, 0, text.as_str())?;
+    Ok(())
+}
+
+/// Restores the pool of many runs onto so many blocks, where it needs more.
+fn expect_no_room(
+    rt: &impl Abort,
+    alloc: Global,
+    text: &str,
+    blocks: usize,
+    need: u64,
+) -> Result<(), AllocError> {
+    let base = vec![in alloc; ONES; blocks]?;
+    let notes = format!(in alloc; "pdata_tools: no room: need {need}, blocks {blocks}\n")?;
+    let refused = restore(alloc, THIN, text, base.as_slice(), NOTHING_FAILS)?;
+    expect_said(rt, &refused, 4, "", notes.as_str());
+    Ok(())
+}
+
+/// Blocks, and how many are needed where there are no more. The need passes them at the line of the pool, of the leaf, of the
+/// first run of the first device, at its 253rd one, with which the piece has a second leaf and its device an inner node, and
+/// at the end line, with which the last device has an empty leaf.
+const NEEDS: &[(usize, u64)] = &[(8, 9), (9, 10), (10, 11), (11, 13), (12, 13), (13, 14)];
+
+#[test]
+fn the_need_grows_with_the_lines(rt: HostRuntime) -> Result<(), Fail> {
+    let alloc = rt.alloc();
+    let text = text_of_many(alloc)?;
+    for (blocks, need) in NEEDS {
+        expect_no_room(&rt, alloc, text.as_str(), *blocks, *need)?;
+    }
+    let least = made(&rt, alloc, THIN, text.as_str(), 14)?;
+    assert!(rt; left_of(least.as_slice()) == First::Made);
+    Ok(())
+}
