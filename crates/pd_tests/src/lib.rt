@@ -33,6 +33,8 @@ mod reverse_map_tests;
 #[cfg(test)]
 mod shared_dump_tests;
 #[cfg(test)]
+mod shared_restore_tests;
+#[cfg(test)]
 mod stored_tests;
 #[cfg(test)]
 mod super_tests;

@@ -12,43 +12,43 @@ use std::process::Abort;
 use std::test::Fail;
 
 /// The words of such a dump to standard output.
-const SHARED_DUMP: &[&str] = &["thin_dump", "--shared", "thin.img"];
+pub(crate) const SHARED_DUMP: &[&str] = &["thin_dump", "--shared", "thin.img"];
 
 /// The root of a device, and how many mappings are below it.
 #[derive(Clone, Copy)]
-struct Top {
+pub(crate) struct Top {
     root: u64,
     mapped: u64,
 }
 
 /// The leaf in block 1: virtual block 0 in data block 0.
-const FIRST: Top = Top { root: 1, mapped: 1 };
+pub(crate) const FIRST: Top = Top { root: 1, mapped: 1 };
 
 /// The leaf in block 10: virtual block 1 in data block 1.
-const SECOND: Top = Top {
+pub(crate) const SECOND: Top = Top {
     root: 10,
     mapped: 1,
 };
 
 /// The leaf in block 11, without entries.
-const EMPTY: Top = Top {
+pub(crate) const EMPTY: Top = Top {
     root: 11,
     mapped: 0,
 };
 
 /// The inner node in block 12, over the leaves in 1 and 10.
-const BOTH: Top = Top {
+pub(crate) const BOTH: Top = Top {
     root: 12,
     mapped: 2,
 };
 
 /// The inner nodes in the blocks 14 and 15, over that in block 13, which is over the leaf in block 1.
-const ABOVE: Top = Top {
+pub(crate) const ABOVE: Top = Top {
     root: 14,
     mapped: 1,
 };
 
-const BESIDE: Top = Top {
+pub(crate) const BESIDE: Top = Top {
     root: 15,
     mapped: 1,
 };
@@ -69,7 +69,7 @@ fn nodes() -> [Block; 16] {
 
 /// The same with the devices 1 and 2.
 #[tactic(auto, unfolding(pd_kinds::specs::Node::is_ascending))]
-fn of_two(first: Top, second: Top) -> [Block; 16] {
+pub(crate) fn of_two(first: Top, second: Top) -> [Block; 16] {
     let mut image = nodes();
     image[2] = write_leaf(2, &[(1, Root(first.root)), (2, Root(second.root))]);
     image[3] = write_leaf(
@@ -81,7 +81,7 @@ fn of_two(first: Top, second: Top) -> [Block; 16] {
 
 /// The same with the devices 1, 2 and 3.
 #[tactic(auto, unfolding(pd_kinds::specs::Node::is_ascending))]
-fn of_three(first: Top, second: Top, third: Top) -> [Block; 16] {
+pub(crate) fn of_three(first: Top, second: Top, third: Top) -> [Block; 16] {
     let mut image = nodes();
     image[2] = write_leaf(
         2,

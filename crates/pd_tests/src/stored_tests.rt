@@ -167,7 +167,7 @@ fn leaves_that_two_devices_share(rt: HostRuntime) -> Result<(), Fail> {
 
 /// The same pool with a third device, the count 3 in the two bits of the leaf, and this overflow tree.
 #[tactic(auto, unfolding(pd_kinds::specs::Node::is_ascending))]
-fn pool_of_a_leaf_of_three(overflow: Block) -> [Block; 16] {
+pub(crate) fn pool_of_a_leaf_of_three(overflow: Block) -> [Block; 16] {
     let mut image = pool_of_two_devices(3);
     image[2] = write_leaf(2, &[(1, Root(1)), (2, Root(1)), (3, Root(1))]);
     image[3] = write_leaf(3, &[(1, ONE), (2, ONE), (3, ONE)]);
@@ -177,7 +177,7 @@ fn pool_of_a_leaf_of_three(overflow: Block) -> [Block; 16] {
 
 /// An overflow tree in this block with this one entry.
 #[tactic(auto, unfolding(pd_kinds::specs::Node::is_ascending))]
-fn overflow_of(place: u64, block: u64, count: u32) -> Block {
+pub(crate) fn overflow_of(place: u64, block: u64, count: u32) -> Block {
     write_leaf(place, &[(block, Count(count))])
 }
 
