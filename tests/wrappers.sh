@@ -302,7 +302,23 @@ spread thin-pool.txt >spread.txt
 spread shared.txt >spread-shared.txt
 same spread-shared.txt spread.txt
 try 2 cache_dump --shared cache.img
-# what is restored of it shares the same leaves, and is the same pool
+# what is restored of it is the same pool; these devices share data blocks, and no leaf
+zeros new.img 1024
+try 0 thin_restore -i shared.txt -o new.img
+try 0 thin_check new.img
+out clean
+try 0 thin_dump new.img
+same out thin-pool.txt
+# six devices that share two full leaves, one of them with mappings of its own besides
+{
+    printf '%s\n' 'thin 2' 'pool 00000000-0000-0000-0000-000000000000 0 0 128 600' 'leaf 0 252' 'map 0 0 252 0' \
+        'leaf 1 252' 'map 252 252 252 0' 'device 0 600 0 0 0' 'use 0' 'use 1' 'map 1000 504 96 0'
+    for device in 1 2 3 4 5; do
+        printf '%s\n' "device $device 504 0 0 0" 'use 0' 'use 1'
+    done
+    echo end
+} >shared.txt
+spread shared.txt >spread-shared.txt
 zeros new.img 1024
 try 0 thin_restore -i shared.txt -o new.img
 out
@@ -311,20 +327,25 @@ try 0 thin_check new.img
 out clean
 try 0 thin_dump --shared new.img
 same out shared.txt
-try 0 thin_dump new.img
-same out thin-pool.txt
-# leaves that are told once take fewer blocks than one for each device
+try 0 thin_dump -o apart.txt new.img
+[ "$(sed -n 1p apart.txt)" = 'thin 1' ] || bad 'not version 1'
+spread apart.txt >spread.txt
+same spread-shared.txt spread.txt
+# the superblock, the two leaves, a leaf of the first device's own, a node above the leaves for each device, two trees of devices,
+# three blocks for the map of the data, and three for that of the metadata
 used() {
     od -A n -t u8 -j 200 -N 8 "$1" | tr -d ' '
 }
-together=$(used new.img)
+[ "$(used new.img)" = 18 ] || bad 'not 18'
 zeros new.img 1024
-try 0 thin_restore -i thin-pool.txt -o new.img
-[ "$together" -lt "$(used new.img)" ] || bad 'no fewer blocks than without shared leaves'
-zeros small.img $((together - 1))
+try 0 thin_restore -i apart.txt -o new.img
+try 0 thin_dump new.img
+same out apart.txt
+[ "$(used new.img)" = 30 ] || bad 'not 30'
+zeros small.img 17
 try 4 thin_restore -i shared.txt -o small.img
 out
-notes "pdata_tools: no room: need $together, blocks $((together - 1))" \
+notes 'pdata_tools: no room: need 18, blocks 17' \
     'thin_restore: a block has 4 KiB: the blocks needed, divided by 256, are the MiB to give lvcreate -L'
 # a number of mappings that no leaf has, a leaf that no device uses, and the second version of no other text
 sed '3s/^leaf 0 .*/leaf 0 253/' shared.txt >refused.txt
