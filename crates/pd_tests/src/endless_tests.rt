@@ -1,7 +1,7 @@
 //! Restores of texts that never end.
 
 use crate::asked::ONE;
-use crate::requests::{CACHE_TEXT, TARGET_TEXT};
+use crate::requests::{CACHE_TEXT, SHARED_LEAF, TARGET_TEXT};
 use pd_image::{Device, Failed, MemDevice, MemSink, Source};
 use pd_kinds::Block;
 use pd_samples::runs::{blocks_of, texts_of};
@@ -87,6 +87,8 @@ fn a_text_that_goes_on_for_ever_is_refused(rt: HostRuntime) -> Result<(), Fail> 
     }
     let pool = "pdata_tools: line 6: after end\n";
     expect_refused(&rt, rt.alloc(), "thin_restore", ONE, pool)?;
+    let shared = "pdata_tools: line 12: after end\n";
+    expect_refused(&rt, rt.alloc(), "thin_restore", SHARED_LEAF, shared)?;
     let cache = "pdata_tools: line 6: after end\n";
     expect_refused(&rt, rt.alloc(), "cache_restore", CACHE_TEXT, cache)?;
     let target = "pdata_tools: line 9: after end\n";

@@ -2,7 +2,7 @@
 
 use crate::asked::{ONE, SHARED};
 use crate::hidden::{Hidden, Shown};
-use crate::requests::{CACHE_TEXT, TARGET_TEXT};
+use crate::requests::{CACHE_TEXT, SHARED_LEAF, TARGET_TEXT};
 use pd_image::{MemDevice, MemSink, MemSource};
 use pd_kinds::Block;
 use pd_samples::runs::{Held, NOTHING_FAILS, blocks_of, run, run_over, texts_of};
@@ -128,6 +128,7 @@ const READING: &[Row] = &[
 /// Tools that write the output. What they write is what that restore makes of that text on a device that tells.
 const WRITING: &[Row] = &[
     (THIN, ONE, THIN, ""),
+    (THIN, SHARED_LEAF, THIN, ""),
     (CACHE, CACHE_TEXT, CACHE, ""),
     (ERA, TARGET_TEXT, ERA, ""),
     (THIN, ONE, &["thin_repair", "-i", "a", "-o", "x"], ""),

@@ -42,7 +42,7 @@ pub(crate) const TARGET_TEXT: &str =
     "era 1\nera 00000000-0000-0000-0000-000000000000 128 100 9\nrun 0 3 0\nrun 3 1 5\nrun 4 60 0\nrun 64 1 9\nrun 65 35 0\nend\n";
 
 /// A text of version 2: a leaf that two devices use, a run that one of them has besides, and a device without mappings.
-const SHARED: &str =
+pub(crate) const SHARED_LEAF: &str =
     "thin 2\npool 00000000-0000-0000-0000-000000000000 0 0 128 2\nleaf 0 1\nmap 0 0 1 0\ndevice 1 2 0 0 0\nuse 0\nmap 1 1 1 0\ndevice 2 1 0 0 0\nuse 0\ndevice 3 0 0 0 0\nend\n";
 
 /// A text of version 2 in which no device uses the leaf.
@@ -104,7 +104,7 @@ pub(crate) const WRITINGS: &[Asked] = &[
     (CLEAR, "", FlaggedPool, Nothing, 0),
     (CLEAR, "", DamagedPool, Nothing, 1),
     ("thin_restore -i t -o x", ONE, Nothing, Ones, 0),
-    ("thin_restore -i t -o x", SHARED, Nothing, Pool, 0),
+    ("thin_restore -i t -o x", SHARED_LEAF, Nothing, Pool, 0),
     ("thin_restore -i t -o x", REFUSED, Nothing, Pool, 3),
     ("thin_restore -i t -o x", UNUSED, Nothing, Pool, 3),
     ("thin_restore -i t -o x", CACHE_TEXT, Nothing, Cache, 3),

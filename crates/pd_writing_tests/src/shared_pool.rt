@@ -30,6 +30,32 @@ pub(crate) fn text_of_many(alloc: Global) -> Result<String, Fail> {
     Ok(text)
 }
 
+/// The text of a pool of so many leaves of one mapping, all of which three devices use.
+pub(crate) fn text_of_leaves(alloc: Global, leaves: u64) -> Result<String, Fail> {
+    let mut text = String::new(alloc);
+    writeln!(
+        text,
+        "thin 2\npool 00000000-0000-0000-0000-000000000000 0 0 128 {leaves}"
+    )?;
+    for n in 0..leaves {
+        writeln!(text, "leaf {n} 1\nmap {n} {n} 1 0")?;
+    }
+    for id in 0u64..3 {
+        add_user(&mut text, id, leaves)?;
+    }
+    writeln!(text, "end")?;
+    Ok(text)
+}
+
+/// A device that uses as many leaves of one mapping, from the first one on.
+fn add_user(text: &mut String, id: u64, leaves: u64) -> Result<(), Fail> {
+    writeln!(text, "device {id} {leaves} 0 0 0")?;
+    for n in 0..leaves {
+        writeln!(text, "use {n}")?;
+    }
+    Ok(())
+}
+
 /// Its sixteen blocks, of which fourteen are used. Those before the mapping tree, which is in block 6, are the leaf, the two
 /// leaves of the first device, the node above all three, and the leaf of the last device.
 #[tactic(auto, unfolding(pd_kinds::specs::Node::is_ascending))]

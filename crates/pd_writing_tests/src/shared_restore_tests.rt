@@ -3,7 +3,7 @@
 use crate::expected::{
     First, ONES, Row, THIN, expect, expect_restored, expect_said, left_of, made, restore,
 };
-use crate::shared_pool::{image_of_many, text_of_many};
+use crate::shared_pool::{image_of_many, text_of_leaves, text_of_many};
 use pd_samples::runs::{NOTHING_FAILS, blocks_of};
 use std::alloc::{AllocError, Global};
 use std::process::Abort;
@@ -353,5 +353,22 @@ fn the_need_grows_with_the_lines(rt: HostRuntime) -> Result<(), Fail> {
     }
     let least = made(&rt, alloc, THIN, text.as_str(), 14)?;
     assert!(rt; left_of(least.as_slice()) == First::Made);
+    Ok(())
+}
+
+// Beside the leaves each device has two nodes above them and a root. The counts of 336 leaves stand in one block of the overflow
+// tree of the metadata, and those of one more in two, below a third.
+#[test]
+fn leaves_of_three_devices_have_counts_of_their_own(rt: HostRuntime) -> Result<(), Fail> {
+    let alloc = rt.alloc();
+    let text = text_of_leaves(alloc, 336)?;
+    expect_no_room(&rt, alloc, text.as_str(), 353, 354)?;
+    let text = text_of_leaves(alloc, 337)?;
+    expect_no_room(&rt, alloc, text.as_str(), 356, 357)?;
+    let image = made(&rt, alloc, THIN, text.as_str(), 357)?;
+    let image = image.as_slice();
+    expect(&rt, alloc, &["thin_check", "image"], image, 0, "clean\n")?;
+    let words = &["thin_dump", "--shared", "image"];
+    expect(&rt, alloc, words, image, 0, text.as_str())?;
     Ok(())
 }
