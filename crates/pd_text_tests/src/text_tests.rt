@@ -12,7 +12,8 @@ use pd_image::{Failed, MemSink, MemSource, Sink, Source};
 use pd_kinds::Kind;
 use pd_lines::{LineFault, LineReader, put_number};
 use pd_texts::{
-    ReadFault, Run2, TextFault, TextReader, TextState, ThinLine, ThinState, ThinText, print_end, print_first, print_shared_first, print_thin,
+    ReadFault, Run2, TextFault, TextReader, TextState, ThinLine, ThinState, ThinText, print_end,
+    print_first, print_shared_first, print_thin,
 };
 use pd_value::Details;
 use std::alloc::Global;

@@ -22,7 +22,7 @@ returns-in-Ok-add-clause-copied g c = λ t start leaves gathers.
     let reads = rw c.in-Ok-Some.field-0-is at (c.in-Ok-Some.ensures.lines [] c.requires.reads) in
     let total = text_of_lines pool_format (in_order before []) in
     let printed : c.bytes_of_version.result.now ≡ total =
-        c.bytes_of_version.ensures.bytes ∙ ap first_printed (c.version.ensures (line ∷ before) reads) ∙ first_is c.in-Ok-Some.line state.is_shared in
+    c.bytes_of_version.ensures.bytes ∙ ap first_printed (c.version.ensures (line ∷ before) reads) ∙ first_is c.in-Ok-Some.line state.is_shared in
     record {
       line = line;
       before = before;
