@@ -127,8 +127,10 @@ fn shared_pools_are_those_put_together_by_hand(rt: HostRuntime) -> Result<(), Fa
     let two = pool_of_two_devices(2);
     expect_made(&rt, alloc, TWO_USERS, &two)?;
     let three = pool_of_a_leaf_of_three(overflow_of(9, 1, 3));
-    assert!(rt; three[8].0[16..19] == [0xae, 0xaa, 0x0a]);
-    assert!(rt; three[4].0[16] == 2);
+    assert!(rt; three[4].0[16] == 0x02);
+    assert!(rt; three[8].0[16] == 0xae);
+    assert!(rt; three[8].0[17] == 0xaa);
+    assert!(rt; three[8].0[18] == 0x0a);
     expect_made(&rt, alloc, THREE_USERS, &three)?;
     Ok(())
 }
