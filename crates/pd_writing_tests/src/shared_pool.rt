@@ -1,4 +1,5 @@
-//! A pool of a shared leaf, of a piece that takes two leaves, and of a device without mappings: its text, and its blocks.
+//! A pool of a shared leaf, of a piece that takes two leaves, and of a device without mappings: its text, and its blocks. And
+//! the text of a pool of many shared leaves.
 
 ghost use Rattle.std.specs.Prelude.{◌≤◌, ◌<◌, ◌^◌};
 
@@ -28,32 +29,6 @@ pub(crate) fn text_of_many(alloc: Global) -> Result<String, Fail> {
         "use 0\ndevice 2 1 0 0 0\nuse 0\ndevice 3 0 0 0 0\nend\n"
     )?;
     Ok(text)
-}
-
-/// The text of a pool of so many leaves of one mapping, all of which three devices use.
-pub(crate) fn text_of_leaves(alloc: Global, leaves: u64) -> Result<String, Fail> {
-    let mut text = String::new(alloc);
-    writeln!(
-        text,
-        "thin 2\npool 00000000-0000-0000-0000-000000000000 0 0 128 {leaves}"
-    )?;
-    for n in 0..leaves {
-        writeln!(text, "leaf {n} 1\nmap {n} {n} 1 0")?;
-    }
-    for id in 0u64..3 {
-        add_user(&mut text, id, leaves)?;
-    }
-    writeln!(text, "end")?;
-    Ok(text)
-}
-
-/// A device that uses as many leaves of one mapping, from the first one on.
-fn add_user(text: &mut String, id: u64, leaves: u64) -> Result<(), Fail> {
-    writeln!(text, "device {id} {leaves} 0 0 0")?;
-    for n in 0..leaves {
-        writeln!(text, "use {n}")?;
-    }
-    Ok(())
 }
 
 /// Its sixteen blocks, of which fourteen are used. Those before the mapping tree, which is in block 6, are the leaf, the two
@@ -133,4 +108,30 @@ fn half_of_many(place: u64, first: u64) -> Block
     }
     seal(&mut block, NODE_SALT);
     block
+}
+
+/// The text of a pool of so many leaves of one mapping, all of which three devices use.
+pub(crate) fn text_of_leaves(alloc: Global, leaves: u64) -> Result<String, Fail> {
+    let mut text = String::new(alloc);
+    writeln!(
+        text,
+        "thin 2\npool 00000000-0000-0000-0000-000000000000 0 0 128 {leaves}"
+    )?;
+    for n in 0..leaves {
+        writeln!(text, "leaf {n} 1\nmap {n} {n} 1 0")?;
+    }
+    for id in 0u64..3 {
+        add_user(&mut text, id, leaves)?;
+    }
+    writeln!(text, "end")?;
+    Ok(text)
+}
+
+/// A device that uses as many leaves of one mapping, from the first one on.
+fn add_user(text: &mut String, id: u64, leaves: u64) -> Result<(), Fail> {
+    writeln!(text, "device {id} {leaves} 0 0 0")?;
+    for n in 0..leaves {
+        writeln!(text, "use {n}")?;
+    }
+    Ok(())
 }

@@ -356,8 +356,8 @@ fn the_need_grows_with_the_lines(rt: HostRuntime) -> Result<(), Fail> {
     Ok(())
 }
 
-// Beside the leaves each device has two nodes above them and a root. The counts of 336 leaves stand in one block of the overflow
-// tree of the metadata, and those of one more in two, below a third.
+// Beside the leaves each device of 337 has two nodes above them and a root. The counts of 336 leaves stand in one block of the
+// overflow tree of the metadata, and those of one more in two, below a third.
 #[test]
 fn leaves_of_three_devices_have_counts_of_their_own(rt: HostRuntime) -> Result<(), Fail> {
     let alloc = rt.alloc();
