@@ -1,6 +1,6 @@
 //! The marks of a pool's metadata blocks, and the shared leaves that they tell.
 
-ghost use Rattle.std.specs.Prelude.{◌≡◌, ℕ, ◌+◌, ◌<◌, ◌≤◌, ◌++◌, ◌∷◌, List, [], if◌then◌else◌, length, min, replicate, IfErr, IfOk, IfSome, OnOk};
+ghost use Rattle.std.specs.Prelude.{◌≡◌, ℕ, ◌+◌, ◌*◌, ◌<◌, ◌≤◌, ◌++◌, ◌∷◌, List, [], if◌then◌else◌, length, min, replicate, IfErr, IfOk, IfSome, OnOk};
 ghost use Rattle.pd_kinds.specs.declared.check_fault.CheckFault.TheVariants.{Memory};
 ghost use Rattle.pd_kinds.specs.declared.limits.TheConstants.{MAX_META_BLOCKS};
 ghost use Rattle.pd_kinds.specs.CheckFault.{CountsCheckFault};
@@ -61,6 +61,8 @@ fn walk_pool<D: Device>(
     ensures marked { OnOk result (IfSome (D.state dev.old).held (λ image. AreProper image marks.new (roots_below image s.now.mapping_root)
         → AreMarked image (roots_below image s.now.mapping_root) marks.new)) }
     ensures same_number { length marks.new ≡ length marks.old }
+    ensures reads { IfSome (D.state dev.old).held (λ image.
+        (D.state dev.new).reads ≤ (D.state dev.old).reads + length (nodes_below 8 image 63 s.now.mapping_root) + 2 * length marks.old) }
     ensures kept { OnlyReads (D.state dev.old) (D.state dev.new) }
     ensures faults { CountsCheckFault result (D.state dev.old).faults (D.state dev.new).faults }
 {
@@ -80,6 +82,8 @@ pub(crate) fn find_marks<D: Device>(
         → AreMarked image (roots_below image s.now.mapping_root) marks.items)) }
     ensures number { IfOk result (λ marks. IfSome (D.state dev.old).held (λ image. length marks.items ≡ min (min (length image) s.now.meta_map.blocks) MAX_META_BLOCKS)) }
     ensures few { IfOk result (λ marks. length marks.items ≤ MAX_META_BLOCKS) }
+    ensures reads { IfSome (D.state dev.old).held (λ image. (D.state dev.new).reads ≤ (D.state dev.old).reads
+        + length (nodes_below 8 image 63 s.now.mapping_root) + 2 * min (length image) s.now.meta_map.blocks) }
     ensures kept { OnlyReads (D.state dev.old) (D.state dev.new) }
     ensures faults { CountsCheckFault result (D.state dev.old).faults (D.state dev.new).faults }
 {

@@ -17,7 +17,7 @@ pub struct SharedLeaves {
 }
 
 impl SharedLeaves {
-    ghost use Rattle.std.specs.Prelude.{◌≡◌, ◌<◌, [], length, IfOk, IfSome, nat_eq};
+    ghost use Rattle.std.specs.Prelude.{◌≡◌, ◌+◌, ◌*◌, ◌<◌, ◌≤◌, [], length, min, IfOk, IfSome, nat_eq};
     ghost use Rattle.std.specs.List.{position, slice_index};
     ghost use Rattle.pd_kinds.specs.declared.kind.Kind.TheVariants.{Thin};
     ghost use Rattle.pd_kinds.specs.declared.kind.Stage.TheVariants.{Whole};
@@ -28,12 +28,14 @@ impl SharedLeaves {
     ghost use Rattle.pd_kinds.specs.ThinSuper.{thin_fields};
     ghost use Rattle.pd_image.specs.Device.{IsAttached, OnlyReads};
     ghost use Rattle.pd_shapes.specs.ImageShape.{shared_leaves};
+    ghost use Rattle.pd_tree.specs.Below.{nodes_below};
     ghost use Rattle.pd_shared_leaves.specs.Leaves.{shared_blocks};
 
     /// Finds the shared leaves of the pool with this superblock.
     ///
-    /// It takes a byte a metadata block, 4 bytes a shared leaf, and 8 bytes a child that waits until it is looked at. Each
-    /// leaf is read once at the most, and each inner node twice.
+    /// It takes a byte a metadata block, 4 bytes a shared leaf, and 8 bytes a child that waits until it is looked at. Each node of
+    /// the mapping tree is read once at the most, each other inner node twice, and each leaf once: no node is followed for each of
+    /// the devices that share it.
     ///
     /// Fails with `Device` where a read failed, and with `Memory` where memory wasn't found.
     pub fn find<D: Device>(
@@ -45,6 +47,8 @@ impl SharedLeaves {
         requires root { s.now.mapping_root < (D.state dev.old).blocks }
         ensures shared { IfOk result (λ shared. IfSome (D.state dev.old).held (λ image. faults Thin Whole image ≡ [] → s.now ≡ thin_fields (block_at image 0)
             → shared_blocks shared ≡ shared_leaves (thin_graph (block_at image 0)) image)) }
+        ensures reads { IfSome (D.state dev.old).held (λ image. (D.state dev.new).reads ≤ (D.state dev.old).reads
+            + length (nodes_below 8 image 63 s.now.mapping_root) + 2 * min (length image) s.now.meta_map.blocks) }
         ensures kept { OnlyReads (D.state dev.old) (D.state dev.new) }
         ensures faults { CountsCheckFault result (D.state dev.old).faults (D.state dev.new).faults }
     {
