@@ -59,7 +59,7 @@ pub room_for : (kind : ThinKind) (names : List (List ℕ)) (numbers : List ℕ) 
     → HasRoomNext state → may_stand (kind_meant kind).place before ≡ true → x ≡ made_of (kind_meant kind) names numbers → HasRoomFor x state
 room_for k.Pool names numbers state before x stands room may is = λ leaf e. cc
 room_for k.Leaf names numbers state before x stands room may is = λ leaf e.
-    room (stands.is_shared ∙ (and_parts (is_shared before) (not (has_device before)) (and_parts (ltb 1 (length before)) (is_shared before && not (has_device before)) may).1).0)
+    room (rw (stands.is_shared, stands.has_device) (and_parts (ltb 1 (length before)) (is_shared before && not (has_device before)) may).1)
 room_for k.Device names numbers state before x stands room may is = λ leaf e. cc
 room_for k.Use names numbers state before x stands room may is = λ leaf e. cc
 room_for k.Map names numbers state before x stands room may is = λ leaf e. cc

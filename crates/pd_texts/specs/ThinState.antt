@@ -1,6 +1,6 @@
 -- What the lines so far of a pool's text say of the next one.
 use Rattle.std.proofs.Common.{refl}
-use Rattle.std.specs.Prelude.{◌≡◌, ℕ, nat_lt, length, ◌+◌, ◌-◌, ◌≤◌, Bool, true, false, if◌then◌else◌, List}
+use Rattle.std.specs.Prelude.{◌≡◌, ℕ, nat_lt, length, ◌+◌, ◌-◌, ◌≤◌, Bool, true, false, not, ◌&&◌, if◌then◌else◌, List}
 use Rattle.pd_spells.specs.ThinText.{Line, LeafHead, first_line, shared_first_line, leaf_line, is_shared, data_blocks_of, leaf_number, runs_of_leaf, number_in, least_id, has_device, piece_end, unmapped, pool_format}
 use Rattle.pd_texts.specs.Stage.{stage_of}
 use Rattle.pd_texts.specs.Leaves.{AreLeaves, HasRoom}
@@ -30,13 +30,13 @@ pub record ThinStands (state : ThinState) (before : List Line) : Type 0 where
 abbrev pub version_after : List Line → ℕ
 version_after before = if nat_lt 1 (length before) then (if is_shared before then 2 else 1) else 0
 
--- only lines of version 2 want memory
+-- a leaf line may come next, which alone wants memory: in version 2, up to the first device
 abbrev pub CanWant : ThinState → Type 0
-CanWant state = state.is_shared ≡ true
+CanWant state = (state.is_shared && not state.has_device) ≡ true
 
 -- there is the memory that the next line may want, and that this one wants
 abbrev pub HasRoomNext : ThinState → Type 0
-HasRoomNext state = state.is_shared ≡ true → HasRoom state.leaves
+HasRoomNext state = CanWant state → HasRoom state.leaves
 
 abbrev pub HasRoomFor : Line → ThinState → Type 0
 HasRoomFor line state = (leaf : LeafHead) → line ≡ leaf_line leaf → HasRoom state.leaves

@@ -95,7 +95,7 @@ impl TextState for ThinState {
     }
 
     fn make_room(&mut self) -> Result<(), AllocError> {
-        if self.is_shared {
+        if self.is_shared & !self.has_device {
             self.leaves.make_room()
         } else {
             Ok(())
