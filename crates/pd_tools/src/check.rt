@@ -10,7 +10,7 @@ ghost use Rattle.pd_spells.specs.Lines.{reported_lines};
 ghost use Rattle.pd_answers.specs.Answer.{Objects, IsUsed, reading};
 ghost use Rattle.pd_answers.specs.Promises.{check};
 ghost use Rattle.pd_check.specs.Check.{ReadsFew};
-ghost use Rattle.pd_tools.specs.Read.{IsUnread};
+ghost use Rattle.pd_tools.specs.Read.{IsUnread, attached_for};
 ghost use Rattle.pd_tools.specs.Work.{IsFinished, IsStopped, AnswersTerms};
 
 use crate::stop::Stop;
@@ -62,7 +62,7 @@ fn check_image<K: Sink, A: Device>(
         MatchResult result (λ clean. IsFinished (check kind until image.now) before after (if clean then 0 else 1) [])
         (IsStopped (check kind until image.now) before after) }
 {
-    let report = match read_report(alloc, kind, until, image, input) {
+    let report = match read_report(alloc, kind, until, image, false, input) {
         Ok(report) => report,
         Err(stop) => return Err(stop),
     };
@@ -72,24 +72,25 @@ fn check_image<K: Sink, A: Device>(
     }
 }
 
-/// Attaches the device for reading, and checks what it holds.
+/// Attaches the device, for writing too where that is asked, and checks what it holds.
 pub fn read_report<A: Device>(
     alloc: Global,
     kind: Kind,
     until: Stage,
     image: &str,
+    write: bool,
     input: &mut A,
 ) -> Result<Report, Stop>
     requires input { (A.state input.old).access ≡ 0 }
     ensures report { IfOk result (λ report. IfSome (A.state input.old).held (λ image. report ≡ report_of (faults kind until image))) }
-    ensures access { OnOk result ((A.state input.new).access ≡ 1) }
-    ensures used { IsUsed (reading image.now) (A.state input.new).access (A.state input.new).path }
+    ensures access { OnOk result ((A.state input.new).access ≡ (if write then 2 else 1)) }
+    ensures used { IsUsed (attached_for write image.now) (A.state input.new).access (A.state input.new).path }
     ensures untouched { IsUntouched (A.state input.old) (A.state input.new) }
     ensures kept { OnOk result ((A.state input.new).faults ≡ (A.state input.old).faults) }
     ensures reads { IfSome (A.state input.old).held (λ image. ReadsFew kind until image ((A.state input.old).reads + 1) (A.state input.new).reads) }
     ensures stopped { IfErr result (IsUnread kind until (A.state input.old) (A.state input.new)) }
 {
-    if input.attach(image, false).is_err() {
+    if input.attach(image, write).is_err() {
         return Err(Stop::Device);
     }
     check_attached(alloc, kind, until, input)

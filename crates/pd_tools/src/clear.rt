@@ -15,7 +15,7 @@ ghost use Rattle.pd_check.specs.Check.{ReadsFew};
 ghost use Rattle.pd_tools.specs.Read.{IsUnread};
 ghost use Rattle.pd_tools.specs.Work.{IsFinished, IsStopped, AnswersTerms};
 
-use crate::check::{check_attached, put_report};
+use crate::check::{put_report, read_report};
 use crate::stop::Stop;
 use pd_flag::clear_needs_check;
 use pd_image::{Device, Failed, Sink};
@@ -59,7 +59,7 @@ fn check_and_clear<K: Sink, A: Device>(
         MatchResult result (λ clean. IsFinished (check_and_clear image.now) before after (if clean then 0 else 1) [])
         (IsStopped (check_and_clear image.now) before after) }
 {
-    let report = match open_report(alloc, image, input) {
+    let report = match read_report(alloc, Kind::Thin, Stage::Counts, image, true, input) {
         Ok(report) => report,
         Err(stop) => return Err(stop),
     };
@@ -70,23 +70,6 @@ fn check_and_clear<K: Sink, A: Device>(
         },
         Err(_) => Err(Stop::Stream),
     }
-}
-
-/// Attaches the device for writing, and checks what it holds.
-fn open_report<A: Device>(alloc: Global, image: &str, input: &mut A) -> Result<Report, Stop>
-    requires { (A.state input.old).access ≡ 0 }
-    ensures report { IfOk result (λ report. IfSome (A.state input.old).held (λ image. report ≡ report_of (faults Thin Counts image))) }
-    ensures access { OnOk result ((A.state input.new).access ≡ 2) }
-    ensures used { IsUsed (writing image.now) (A.state input.new).access (A.state input.new).path }
-    ensures untouched { IsUntouched (A.state input.old) (A.state input.new) }
-    ensures kept { OnOk result ((A.state input.new).faults ≡ (A.state input.old).faults) }
-    ensures reads { IfSome (A.state input.old).held (λ image. ReadsFew Thin Counts image ((A.state input.old).reads + 1) (A.state input.new).reads) }
-    ensures stopped { IfErr result (IsUnread Thin Counts (A.state input.old) (A.state input.new)) }
-{
-    if input.attach(image, true).is_err() {
-        return Err(Stop::Device);
-    }
-    check_attached(alloc, Kind::Thin, Stage::Counts, input)
 }
 
 /// Clears the flag where nothing was reported: whether nothing was.

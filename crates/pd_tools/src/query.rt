@@ -94,7 +94,7 @@ fn query_image<K: Sink, A: Device>(
         let terms = terms_of_query asked (option_copied file.entry) image.now in
         MatchResult result (λ report. IsFinished terms before after (query_status report) (query_line report)) (IsStopped terms before after) }
 {
-    let report = match read_report(alloc, kind_of(asked), Stage::Whole, image, input) {
+    let report = match read_report(alloc, kind_of(asked), Stage::Whole, image, false, input) {
         Ok(report) => report,
         Err(stop) => return Err(stop),
     };

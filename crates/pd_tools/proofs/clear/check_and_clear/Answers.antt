@@ -7,13 +7,13 @@ use Rattle.pd_tools.proofs.clear.check_and_clear.Goals as goal
 
 pub returns-in-Err : goal.returns-in-Err
 returns-in-Err g c others notes fresh =
-    clearing_unread c.args.image.now others notes (g.K.Sink.state c.args.out.now) (g.A.Device.state c.args.input.now) (g.A.Device.state c.open_report.new.input) c.in-Err.stop
+    clearing_unread c.args.image.now others notes (g.K.Sink.state c.args.out.now) (g.A.Device.state c.args.input.now) (g.A.Device.state c.read_report.new.input) c.in-Err.stop
     c.requires.out (g.met.A.Device.unwritten c.args.input.now c.requires.input) c.in-Err.ensures.used c.in-Err.ensures.untouched c.in-Err.ensures.reads c.in-Err.ensures.stopped
 
 pub returns-in-Ok-clear_if_clean : goal.returns-in-Ok-clear_if_clean
 returns-in-Ok-clear_if_clean g c others notes fresh =
     let old = g.A.Device.state c.args.input.now in
-    let read = g.A.Device.state c.open_report.new.input in
+    let read = g.A.Device.state c.read_report.new.input in
     let new = g.A.Device.state c.clear_if_clean.new.input in
     let synced = g.met.A.Device.unwritten c.args.input.now c.requires.input in
     let kept = c.clear_if_clean.ensures.kept in
@@ -27,7 +27,7 @@ returns-in-Ok-clear_if_clean g c others notes fresh =
 pub returns-in-Err-clear_if_clean : goal.returns-in-Err-clear_if_clean
 returns-in-Err-clear_if_clean g c others notes fresh =
     let old = g.A.Device.state c.args.input.now in
-    let read = g.A.Device.state c.open_report.new.input in
+    let read = g.A.Device.state c.read_report.new.input in
     let new = g.A.Device.state c.clear_if_clean.new.input in
     let synced = g.met.A.Device.unwritten c.args.input.now c.requires.input in
     let kept = c.clear_if_clean.ensures.kept in
@@ -41,7 +41,7 @@ returns-in-Err-clear_if_clean g c others notes fresh =
 pub returns-in-Err-put_report : goal.returns-in-Err-put_report
 returns-in-Err-put_report g c others notes fresh =
     let old = g.A.Device.state c.args.input.now in
-    let read = g.A.Device.state c.open_report.new.input in
+    let read = g.A.Device.state c.read_report.new.input in
     let synced = g.met.A.Device.unwritten c.args.input.now c.requires.input in
     clearing_unput c.args.image.now others notes (g.K.Sink.state c.args.out.now) (g.K.Sink.state c.put_report.new.out) old read c.in-Ok.report
     c.in-Ok.ensures.report c.put_report.ensures.used c.in-Ok.ensures.access (c.in-Ok.ensures.used.named (λ e. omega (arith, c.in-Ok.ensures.access)))
