@@ -1,14 +1,14 @@
 -- A step on the way: whatever is told of the places, what is left before it is what it takes, and then what is left after it.
-use Rattle.std.proofs.Common.{◌≡◌, ℕ, suc, ◌+◌, ◌-◌, ◌*◌, ◌<◌, ◌≤◌, true, false, List, [], ◌∷◌, ◌++◌, length, set, refl, arith, map, sym, append_assoc}
+use Rattle.std.proofs.Common.{◌≡◌, ℕ, suc, ◌+◌, ◌-◌, ◌<◌, ◌≤◌, true, false, List, [], ◌∷◌, ◌++◌, length, set, refl, arith, map, append_assoc}
 use Rattle.std.proofs.lemmas.List.{get_or-set_same}
 use Rattle.pd_kinds.specs.Node.{entry_count, is_inner_node, child_at, key_at, value_at}
 use Rattle.pd_tree.specs.declared.place.Place.{Place}
 use Rattle.pd_tree.specs.declared.stack.Stack.{Stack}
 use Rattle.pd_tree.specs.Below.{each_below, items_below, nodes_below}
-use Rattle.pd_tree.specs.Frontier.{Left, entry, node, left_of_item, left_at}
-use Rattle.pd_tree.specs.Place.{after, no_place, place_items, place_kids, place_left, TakesNothing, TakesChild, TakesEntry}
-use Rattle.pd_tree.specs.Stack.{last_place, place_at, stacked, items_at, nodes_at, unit, weigh}
-use Rattle.pd_tree.specs.Steps.{TakesLast, IsPassed, ended, deep, Passes, GoesDown, Gives}
+use Rattle.pd_tree.specs.Frontier.{entry, left_of_item, left_at}
+use Rattle.pd_tree.specs.Place.{after, no_place, place_items, place_kids, place_left}
+use Rattle.pd_tree.specs.Stack.{last_place, stacked, items_at, nodes_at, unit, weigh}
+use Rattle.pd_tree.specs.Steps.{TakesLast, ended, deep, Passes, GoesDown, Gives}
 use Rattle.pd_tree.proofs.BelowLemmas.{each_first, each_none, each_deep}
 use Rattle.pd_tree.proofs.FrontierLemmas.{child_alone}
 use Rattle.pd_tree.proofs.PlaceLemmas.{one_less, first_kid, first_item}
@@ -17,9 +17,6 @@ use Rattle.pd_tree.proofs.StackLemmas.{stacked_is, stacked_set, weigh_is, weigh_
 -- what is told of a place, and then what is told below its children
 abbrev told_at : {X : Type 0} → ℕ → (Place → List X) → (ℕ → ℕ → List X) → ℕ → Place → List X
 told_at size here below d place = here place ++ each_below below (63 - d) (place_kids size place)
-
-abbrev Here : (X : Type 0) → Type 0
-Here X = Place → List X
 
 -- a step at the last place
 module _ (size : ℕ) (old new : Stack) (some : 0 < old.depth) (room : old.depth ≤ length old.places.items) where
