@@ -9,14 +9,13 @@ use Rattle.pd_kinds.specs.Layout.{leaf_entries, node_entries_of}
 use Rattle.pd_kinds.specs.Node.{Entry, entry_count, is_ascending, is_inner_node, key_at, value_at, child_at, node_bad, node_keys, node_tests}
 use Rattle.pd_laid.specs.Salvage.{give, given, is_damaged, child_low, child_high}
 use Rattle.pd_laws.proofs.SoundLemmas.{none_broken, tests_after_one}
+use Rattle.pd_tree.specs.Cursor.{root_left}
 use Rattle.pd_tree.specs.Items.{item_of}
 use Rattle.pd_tree.specs.Search.{KeysAscend}
 use Rattle.pd_tree.proofs.OrderLemmas.{keys_say}
 use Rattle.pd_tree.specs.Next.{IsNext}
 use Rattle.pd_salvage.specs.Ascending.{IsNextFrom, ascending_from}
-use Rattle.pd_salvage.specs.Cursor.{root_child, root_left}
-use Rattle.pd_salvage.specs.Place.{saved_below}
-use Rattle.pd_salvage.specs.declared.place.Child.{Child}
+use Rattle.pd_salvage.specs.Range.{all_keys, saved_below}
 
 -- keys ascend, from one number on and below another
 abbrev pub AreAscending : ℕ → ℕ → List Entry → Type 0
@@ -141,14 +140,14 @@ ascending_none {X} least = refl
 
 -- a cursor at its start, before a root that wasn't read
 pub started : {X : Type 0} (size : ℕ) (decoded : ℕ → X) (nr : ℕ) (image : List (List ℕ)) (root : ℕ) (left : List (ℕ × X)) → left ≡ []
-    → ascending_from 0 (saved_below size decoded nr image 64 (root_child root) ++ left) ≡ map (item_of decoded) (given size nr image root)
+    → ascending_from 0 (saved_below size decoded nr image 64 all_keys root ++ left) ≡ map (item_of decoded) (given size nr image root)
 unfolding saved_below given
 started {X} size decoded nr image root left none =
     rw (none, append-nil (map (item_of decoded) (give size nr image 64 root 0 (2 ^ 64))))
     (all_ascend decoded 0 (2 ^ 64) (give size nr image 64 root 0 (2 ^ 64)) (give_ascends size nr image 64 root 0 (2 ^ 64)))
 
 -- nothing is left below a root that was read
-pub none_below : {X : Type 0} (below : Child → List X) (root : Option ℕ) → root ≡ None → root_left below root ≡ []
+pub none_below : {X : Type 0} (below : ℕ → List X) (root : Option ℕ) → root ≡ None → root_left below root ≡ []
 none_below below root none = rw none refl
 
 -- nothing is left where nothing was left from the least key on

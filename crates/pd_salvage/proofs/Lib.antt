@@ -1,4 +1,4 @@
-pub mod PlaceLemmas
+pub mod RangeLemmas
 pub mod AscendLemmas
 pub mod TrailLemmas
 pub mod DetailsLemmas

@@ -1,4 +1,4 @@
-pub mod Place
+pub mod Range
 pub mod Trail
 pub mod Steps
 pub mod Ascending

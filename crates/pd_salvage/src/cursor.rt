@@ -3,7 +3,7 @@
 ghost use Rattle.std.specs.Prelude.{◌≡◌};
 ghost use Rattle.std.specs.Option.{ForSome};
 
-use crate::place::Child;
+use crate::range::Range;
 use crate::trail::Trail;
 use crate::walk::next_entry;
 use pd_image::{Device, Failed};
@@ -27,7 +27,7 @@ pub struct SavedCursor<V> {
     /// The least key that may come: one above that of the last entry.
     least: u128,
     of: PhantomData<V>,
-    ghost fresh: { ForSome root (λ _. trail.depth ≡ 0) },
+    ghost fresh: { ForSome root (λ _. trail.stack.depth ≡ 0) },
 }
 
 impl<V: Value> SavedCursor<V> {
@@ -35,10 +35,11 @@ impl<V: Value> SavedCursor<V> {
     ghost use Rattle.pd_kinds.specs.Objects.{CountsFault};
     ghost use Rattle.pd_image.specs.Device.{IsAttached, OnlyReads};
     ghost use Rattle.pd_laid.specs.Salvage.{given};
+    ghost use Rattle.pd_tree.specs.Cursor.{root_left};
     ghost use Rattle.pd_tree.specs.Items.{item_of};
     ghost use Rattle.pd_tree.specs.Next.{IsNext};
-    ghost use Rattle.pd_salvage.specs.Cursor.{root_left, saved_left, saved_least, saved_number, saved_room};
-    ghost use Rattle.pd_salvage.specs.Place.{saved_below};
+    ghost use Rattle.pd_salvage.specs.Cursor.{saved_left, saved_least, saved_number, saved_room};
+    ghost use Rattle.pd_salvage.specs.Range.{all_keys, saved_below};
     ghost use Rattle.pd_salvage.specs.Trail.{trail_left, trail_number};
 
     /// A cursor before the first entry of the tree with this root, of a pool with so many metadata blocks. It takes
@@ -102,7 +103,7 @@ impl<V: Value> SavedCursor<V> {
         requires attached { IsAttached (D.state dev.old) }
         requires within { saved_room self.old ≤ (D.state dev.old).blocks }
         ensures left { OnOk result (IfSome (D.state dev.old).held (λ image. trail_left V.SIZE V.decoded image self.new.trail
-            ≡ root_left (saved_below V.SIZE V.decoded self.old.trail.nr image 64) self.old.root ++ trail_left V.SIZE V.decoded image self.old.trail)) }
+            ≡ root_left (saved_below V.SIZE V.decoded self.old.trail.nr image 64 all_keys) self.old.root ++ trail_left V.SIZE V.decoded image self.old.trail)) }
         ensures number { OnOk result (trail_number V.SIZE self.new.trail ≤ saved_number V.SIZE self.old) }
         ensures entered { self.new.root ≡ None }
         ensures same { (self.new.least ≡ self.old.least) × (saved_room self.new ≡ saved_room self.old) }
@@ -111,12 +112,11 @@ impl<V: Value> SavedCursor<V> {
     {
         match self.root.take() {
             Some(root) => {
-                let child = Child {
-                    place: root,
+                let all = Range {
                     low: 0,
                     high: KEYS_END,
                 };
-                self.trail.enter::<V, D>(dev, child)
+                self.trail.enter::<V, D>(dev, root, all)
             }
             None => Ok(()),
         }

@@ -7,8 +7,8 @@
 mod cursor;
 mod details;
 mod gather;
-mod place;
 mod pool;
+mod range;
 mod saved;
 mod saving;
 mod trail;

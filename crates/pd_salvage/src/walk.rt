@@ -6,7 +6,7 @@ ghost use Rattle.pd_image.specs.Device.{IsAttached, OnlyReads};
 ghost use Rattle.pd_salvage.specs.Ascending.{IsNextFrom};
 ghost use Rattle.pd_salvage.specs.Trail.{trail_left, trail_number};
 
-use crate::trail::{Step, Trail};
+use crate::trail::{Taken, Trail};
 use pd_image::{Device, Failed};
 use pd_value::Value;
 
@@ -29,9 +29,9 @@ pub(crate) fn next_entry<V: Value, D: Device>(
 {
     while !trail.is_empty() {
         match trail.step::<V>() {
-            Step::Passed => {}
-            Step::Child(child) => trail.enter::<V, D>(dev, child)?,
-            Step::Entry(key, value) => {
+            Taken::Passed => {}
+            Taken::Child(b, range) => trail.enter::<V, D>(dev, b, range)?,
+            Taken::Entry(key, value) => {
                 if key as u128 >= least {
                     return Ok(Some((key, value)));
                 }

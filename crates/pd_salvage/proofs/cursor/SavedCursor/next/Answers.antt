@@ -1,8 +1,8 @@
 use Rattle.std.proofs.Common.{None, IfSome, subst}
+use Rattle.pd_tree.specs.Cursor.{root_left}
 use Rattle.pd_tree.proofs.NextLemmas.{if_both}
 use Rattle.pd_salvage.specs.Ascending.{IsNextFrom}
-use Rattle.pd_salvage.specs.Cursor.{root_left}
-use Rattle.pd_salvage.specs.Place.{saved_below}
+use Rattle.pd_salvage.specs.Range.{all_keys, saved_below}
 use Rattle.pd_salvage.specs.Trail.{trail_left}
 use Rattle.pd_salvage.proofs.AscendLemmas.{none_answer, none_below}
 use Rattle.pd_salvage.proofs.cursor.SavedCursor.next.Goals as goal
@@ -16,8 +16,8 @@ returns-in-None-clause-next g c =
     if_both (g.D.Device.state c.args.dev.now).held
     (λ image held left next.
     none_answer before.least entered.least _ (trail_left size decoded image entered.trail)
-    (root_left (saved_below size decoded c.next_entry.new.trail.nr image 64) entered.root) (trail_left size decoded image c.next_entry.new.trail)
-    c.in_ok-enter_root.ensures.same.0 left (none_below (saved_below size decoded c.next_entry.new.trail.nr image 64) entered.root c.in_ok-enter_root.ensures.entered) next)
+    (root_left (saved_below size decoded c.next_entry.new.trail.nr image 64 all_keys) entered.root) (trail_left size decoded image c.next_entry.new.trail)
+    c.in_ok-enter_root.ensures.same.0 left (none_below (saved_below size decoded c.next_entry.new.trail.nr image 64 all_keys) entered.root c.in_ok-enter_root.ensures.entered) next)
     c.in_ok-enter_root.ensures.left
     (subst (λ o. IfSome o (λ image. IsNextFrom entered.least None (trail_left size decoded image entered.trail) (trail_left size decoded image c.next_entry.new.trail)))
     c.in_ok-enter_root.ensures.kept.held
