@@ -29,6 +29,16 @@ pub fn print_cache<K: Sink>(line: &CacheLine, out: &mut K) -> Result<(), Failed>
 pub fn bytes_of_cache(line: &CacheLine) -> LineBuffer
     ensures bytes { result ≡ text_of_line cache (line_of line.now) }
 {
+    let mut text = LineBuffer::new();
+    add_cache(&mut text, line);
+    text
+}
+
+/// Adds the bytes of a line to a text without bytes.
+fn add_cache(text: &mut LineBuffer, line: &CacheLine)
+    requires { text.old ≡ [] }
+    ensures { text.new ≡ text_of_line cache (line_of line.now) }
+{
     match line {
         CacheLine::Cache {
             uuid,
@@ -39,32 +49,30 @@ pub fn bytes_of_cache(line: &CacheLine) -> LineBuffer
             versions,
             hint_size,
         } => {
-            let mut text = head_text(*uuid, *block_size, *blocks, *clean);
-            add_policy_words(&mut text, *policy, *versions, *hint_size);
-            text
+            add_head(text, *uuid, *block_size, *blocks, *clean);
+            add_policy_words(text, *policy, *versions, *hint_size);
         }
         CacheLine::Map {
             block,
             origin,
             dirty,
             hint,
-        } => map_text(*block, *origin, *dirty, *hint),
+        } => add_map(text, *block, *origin, *dirty, *hint),
     }
 }
 
-/// The bytes of a cache line up to its policy name.
-fn head_text(uuid: [u8; 16], block_size: u32, blocks: u32, clean: bool) -> LineBuffer
-    ensures bytes { result ≡ codes "cache " ++ (hyphenated_text lower uuid
+/// Adds the bytes of a cache line up to its policy name.
+fn add_head(line: &mut LineBuffer, uuid: [u8; 16], block_size: u32, blocks: u32, clean: bool)
+    requires { line.old ≡ [] }
+    ensures bytes { line.new ≡ codes "cache " ++ (hyphenated_text lower uuid
         ++ (32 ∷ decimal block_size ++ (32 ∷ decimal blocks ++ (32 ∷ decimal (flag_number clean))))) }
-    ensures len { length result ≤ 66 }
+    ensures len { length line.new ≤ 66 }
 {
-    let mut line = LineBuffer::new();
     line.add(b"cache ");
-    add_uuid(&mut line, uuid);
-    add_small(&mut line, block_size);
-    add_small(&mut line, blocks);
-    add_flag(&mut line, clean);
-    line
+    add_uuid(line, uuid);
+    add_small(line, block_size);
+    add_small(line, blocks);
+    add_flag(line, clean);
 }
 
 /// Adds the rest of a cache line.
@@ -81,18 +89,17 @@ fn add_policy_words(line: &mut LineBuffer, policy: [u8; 16], versions: [u32; 3],
     line.add(b"\n");
 }
 
-/// The bytes of a map line.
-fn map_text(block: u32, origin: u64, dirty: bool, hint: u32) -> LineBuffer
-    ensures bytes { result ≡ text_of_line cache (map_line (record { block = block; origin = origin; dirty = flag_number dirty; hint = hint })) }
+/// Adds the bytes of a map line.
+fn add_map(line: &mut LineBuffer, block: u32, origin: u64, dirty: bool, hint: u32)
+    requires { line.old ≡ [] }
+    ensures { line.new ≡ text_of_line cache (map_line (record { block = block; origin = origin; dirty = flag_number dirty; hint = hint })) }
 {
-    let mut line = LineBuffer::new();
     line.add(b"map");
-    add_small(&mut line, block);
-    add_word(&mut line, origin);
-    add_flag(&mut line, dirty);
-    add_small(&mut line, hint);
+    add_small(line, block);
+    add_word(line, origin);
+    add_flag(line, dirty);
+    add_small(line, hint);
     line.add(b"\n");
-    line
 }
 
 /// Adds a space and a number below 2^32.

@@ -1,6 +1,6 @@
 //! The lines of an era target's text, printed.
 
-ghost use Rattle.std.specs.Prelude.{◌≡◌, OnOk};
+ghost use Rattle.std.specs.Prelude.{◌≡◌, [], OnOk};
 ghost use Rattle.pd_kinds.specs.Objects.{CountsFault, Appends, AppendsFront};
 ghost use Rattle.pd_image.specs.Sink.{KeepsSink};
 ghost use Rattle.pd_spells.specs.EraText.{era, era_line, run_line};
@@ -27,40 +27,48 @@ pub fn print_era<K: Sink>(line: &EraLine, out: &mut K) -> Result<(), Failed>
 pub fn bytes_of_era(line: &EraLine) -> LineBuffer
     ensures bytes { result ≡ text_of_line era (line_of line.now) }
 {
+    let mut text = LineBuffer::new();
+    add_era(&mut text, line);
+    text
+}
+
+/// Adds the bytes of a line to a text without bytes.
+fn add_era(text: &mut LineBuffer, line: &EraLine)
+    requires { text.old ≡ [] }
+    ensures { text.new ≡ text_of_line era (line_of line.now) }
+{
     match line {
         EraLine::Era {
             uuid,
             block_size,
             blocks,
             era,
-        } => head_text(*uuid, *block_size, *blocks, *era),
-        EraLine::Run { first, length, era } => run_text(*first, *length, *era),
+        } => add_head(text, *uuid, *block_size, *blocks, *era),
+        EraLine::Run { first, length, era } => add_run(text, *first, *length, *era),
     }
 }
 
-/// The bytes of an era line.
-fn head_text(uuid: [u8; 16], block_size: u32, blocks: u32, current: u32) -> LineBuffer
-    ensures bytes { result ≡ text_of_line era (era_line (record { uuid = uuid; block_size = block_size; blocks = blocks; era = current })) }
+/// Adds the bytes of an era line.
+fn add_head(line: &mut LineBuffer, uuid: [u8; 16], block_size: u32, blocks: u32, current: u32)
+    requires { line.old ≡ [] }
+    ensures { line.new ≡ text_of_line era (era_line (record { uuid = uuid; block_size = block_size; blocks = blocks; era = current })) }
 {
-    let mut line = LineBuffer::new();
     line.add(b"era ");
-    add_uuid(&mut line, uuid);
-    add_word(&mut line, block_size as u64);
-    add_word(&mut line, blocks as u64);
-    add_word(&mut line, current as u64);
+    add_uuid(line, uuid);
+    add_word(line, block_size as u64);
+    add_word(line, blocks as u64);
+    add_word(line, current as u64);
     line.add(b"\n");
-    line
 }
 
-/// The bytes of a run line.
-fn run_text(first: u32, count: u32, last: u32) -> LineBuffer
-    ensures bytes { result ≡ text_of_line era (run_line (record { first = first; length = count; era = last })) }
+/// Adds the bytes of a run line.
+fn add_run(line: &mut LineBuffer, first: u32, count: u32, last: u32)
+    requires { line.old ≡ [] }
+    ensures { line.new ≡ text_of_line era (run_line (record { first = first; length = count; era = last })) }
 {
-    let mut line = LineBuffer::new();
     line.add(b"run");
-    add_word(&mut line, first as u64);
-    add_word(&mut line, count as u64);
-    add_word(&mut line, last as u64);
+    add_word(line, first as u64);
+    add_word(line, count as u64);
+    add_word(line, last as u64);
     line.add(b"\n");
-    line
 }

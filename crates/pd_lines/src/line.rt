@@ -1,6 +1,6 @@
 ghost use Rattle.std.specs.Prelude.{◌≡◌, ℕ, ◌+◌, ◌≤◌, ◌++◌, List, [], length, take, decimal};
 
-use itoa::Buffer;
+use crate::number::write_number;
 use std::marker::Model;
 
 /// The greatest number of bytes of a line, without its line feed.
@@ -49,8 +49,7 @@ impl LineBuffer {
         ensures bytes { self.new ≡ self.old ++ decimal number }
         ensures len { length self.new ≤ length self.old + 20 }
     {
-        let mut buffer = Buffer::new();
-        self.add(buffer.format(number).as_bytes());
+        self.len = write_number(&mut self.bytes, self.len, number);
     }
 
     /// The bytes so far.

@@ -1,6 +1,6 @@
 //! The lines of a pool's text, printed.
 
-ghost use Rattle.std.specs.Prelude.{◌≡◌, ◌≤◌, length, OnOk};
+ghost use Rattle.std.specs.Prelude.{◌≡◌, ◌≤◌, [], length, OnOk};
 ghost use Rattle.pd_kinds.specs.Objects.{CountsFault, Appends, AppendsFront};
 ghost use Rattle.pd_image.specs.Sink.{KeepsSink};
 ghost use Rattle.pd_spells.specs.ThinText.{thin, shared_first_line, pool_line, leaf_line, device_line, use_line, map_line};
@@ -47,6 +47,16 @@ pub fn print_thin<K: Sink>(line: &ThinLine, out: &mut K) -> Result<(), Failed>
 pub fn bytes_of_thin(line: &ThinLine) -> LineBuffer
     ensures bytes { result ≡ text_of_line thin (line_of line.now) }
 {
+    let mut text = LineBuffer::new();
+    add_thin(&mut text, line);
+    text
+}
+
+/// Adds the bytes of a line to a text without bytes.
+fn add_thin(text: &mut LineBuffer, line: &ThinLine)
+    requires { text.old ≡ [] }
+    ensures { text.new ≡ text_of_line thin (line_of line.now) }
+{
     match line {
         ThinLine::Pool {
             uuid,
@@ -55,7 +65,8 @@ pub fn bytes_of_thin(line: &ThinLine) -> LineBuffer
             block_size,
             blocks,
         } => {
-            pool_text(
+            add_pool(
+                text,
                 *uuid,
                 *time as u64,
                 *transaction,
@@ -63,82 +74,78 @@ pub fn bytes_of_thin(line: &ThinLine) -> LineBuffer
                 *blocks,
             )
         }
-        ThinLine::Leaf { number, entries } => leaf_text(*number, *entries),
-        ThinLine::Device { id, details } => device_text(*id, details),
-        ThinLine::UseLeaf { number } => use_text(*number),
-        ThinLine::Map(run) => map_text(run),
+        ThinLine::Leaf { number, entries } => add_leaf(text, *number, *entries),
+        ThinLine::Device { id, details } => add_device(text, *id, details),
+        ThinLine::UseLeaf { number } => add_use(text, *number),
+        ThinLine::Map(run) => add_map(text, run),
     }
 }
 
-/// The bytes of a pool line.
-fn pool_text(
+/// Adds the bytes of a pool line.
+fn add_pool(
+    line: &mut LineBuffer,
     uuid: [u8; 16],
     time: u64,
     transaction: u64,
     block_size: u64,
     blocks: u64,
-) -> LineBuffer
-    ensures bytes { result ≡ text_of_line thin (pool_line (record { uuid = uuid; time = time; transaction = transaction; block_size = block_size; data_blocks = blocks })) }
+)
+    requires { line.old ≡ [] }
+    ensures { line.new ≡ text_of_line thin (pool_line (record { uuid = uuid; time = time; transaction = transaction; block_size = block_size; data_blocks = blocks })) }
 {
-    let mut line = LineBuffer::new();
     line.add(b"pool ");
-    add_uuid(&mut line, uuid);
-    add_word(&mut line, time);
-    add_word(&mut line, transaction);
-    add_word(&mut line, block_size);
-    add_word(&mut line, blocks);
+    add_uuid(line, uuid);
+    add_word(line, time);
+    add_word(line, transaction);
+    add_word(line, block_size);
+    add_word(line, blocks);
     line.add(b"\n");
-    line
 }
 
-/// The bytes of a leaf line.
-fn leaf_text(number: u64, entries: u64) -> LineBuffer
-    ensures bytes { result ≡ text_of_line thin (leaf_line (record { number = number; entries = entries })) }
+/// Adds the bytes of a leaf line.
+fn add_leaf(line: &mut LineBuffer, number: u64, entries: u64)
+    requires { line.old ≡ [] }
+    ensures { line.new ≡ text_of_line thin (leaf_line (record { number = number; entries = entries })) }
 {
-    let mut line = LineBuffer::new();
     line.add(b"leaf");
-    add_word(&mut line, number);
-    add_word(&mut line, entries);
+    add_word(line, number);
+    add_word(line, entries);
     line.add(b"\n");
-    line
 }
 
-/// The bytes of a device line.
-fn device_text(id: u64, details: &Details) -> LineBuffer
-    ensures bytes { result ≡ text_of_line thin (device_line (details_of id details.now)) }
+/// Adds the bytes of a device line.
+fn add_device(line: &mut LineBuffer, id: u64, details: &Details)
+    requires { line.old ≡ [] }
+    ensures { line.new ≡ text_of_line thin (device_line (details_of id details.now)) }
 {
-    let mut line = LineBuffer::new();
     line.add(b"device");
-    add_word(&mut line, id);
-    add_word(&mut line, details.mapped);
-    add_word(&mut line, details.transaction);
-    add_word(&mut line, details.created as u64);
-    add_word(&mut line, details.snapped as u64);
+    add_word(line, id);
+    add_word(line, details.mapped);
+    add_word(line, details.transaction);
+    add_word(line, details.created as u64);
+    add_word(line, details.snapped as u64);
     line.add(b"\n");
-    line
 }
 
-/// The bytes of a use line.
-fn use_text(number: u64) -> LineBuffer
-    ensures bytes { result ≡ text_of_line thin (use_line number) }
+/// Adds the bytes of a use line.
+fn add_use(line: &mut LineBuffer, number: u64)
+    requires { line.old ≡ [] }
+    ensures { line.new ≡ text_of_line thin (use_line number) }
 {
-    let mut line = LineBuffer::new();
     line.add(b"use");
-    add_word(&mut line, number);
+    add_word(line, number);
     line.add(b"\n");
-    line
 }
 
-/// The bytes of a map line.
-fn map_text(run: &Run2) -> LineBuffer
-    ensures bytes { result ≡ text_of_line thin (map_line (run_of run.now)) }
+/// Adds the bytes of a map line.
+fn add_map(line: &mut LineBuffer, run: &Run2)
+    requires { line.old ≡ [] }
+    ensures { line.new ≡ text_of_line thin (map_line (run_of run.now)) }
 {
-    let mut line = LineBuffer::new();
     line.add(b"map");
-    add_word(&mut line, run.virt);
-    add_word(&mut line, run.target);
-    add_word(&mut line, run.length);
-    add_word(&mut line, run.time as u64);
+    add_word(line, run.virt);
+    add_word(line, run.target);
+    add_word(line, run.length);
+    add_word(line, run.time as u64);
     line.add(b"\n");
-    line
 }
