@@ -1,6 +1,8 @@
 pub mod RowLemmas
 pub mod WordLemmas
+pub mod RepeatLemmas
 pub mod GatherLemmas
+pub mod OriginLemmas
 pub mod LineLemmas
 pub mod PartLemmas
 pub mod NeedLemmas

@@ -1,9 +1,13 @@
 -- Rows that are gone through by cache block.
-use Rattle.std.proofs.Common.{◌≡◌, ℕ, ◌+◌, ◌<◌, ◌≤◌, ◌^◌, List, [], ◌∷◌, length, drop, get_or, Some, None, refl, sym, ◌∙◌, ap, subst, arith}
+use Rattle.std.proofs.Common.{◌≡◌, ℕ, ◌+◌, ◌<◌, ◌≤◌, ◌^◌, false, List, [], ◌∷◌, length, drop, get_or, Some, None, refl, sym, ◌∙◌, ap, subst, arith}
 use Rattle.std.proofs.lemmas.Bool.{eq-eqb, ne_eqb}
 use Rattle.std.proofs.lemmas.List.{drop_more, drop_all}
 use Rattle.pd_restore_cache.specs.declared.row.Row.{Row}
 use Rattle.pd_restore_cache.specs.Rows.{entry, found, AreRows, StandsAt}
+
+-- the row of no place
+abbrev pub none : Row
+none = record { block = 0; dirty = false; hint = 0; origin = 0 }
 
 -- rows behind a cache block don't have it
 none_found : (least : ℕ) (rows : List Row) (block : ℕ) → AreRows least rows → block < least → found rows block ≡ None

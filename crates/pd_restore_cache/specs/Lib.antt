@@ -4,5 +4,6 @@ pub mod Gathered
 pub mod Meaning
 pub mod Parts
 pub mod Reading
+pub mod Repeats
 pub mod Rows
 pub mod Words

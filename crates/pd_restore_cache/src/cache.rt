@@ -22,8 +22,8 @@ use std::alloc::Global;
 /// Restores a cache from its text onto a device, in this version of the metadata, which is 1 or 2.
 ///
 /// The device isn't written before the first two lines were accepted and have room. A line that has the origin of an
-/// earlier one is refused. Of the blocks of the device 4161600 at most are used. It holds the entries and the set of
-/// their origins.
+/// earlier one is refused. Of the blocks of the device 4161600 at most are used. It holds the entries, and while it looks
+/// for an origin that repeats, once they are read, the origins with their places.
 pub fn restore_cache<S: Source, D: Device>(
     alloc: Global,
     source: &mut S,

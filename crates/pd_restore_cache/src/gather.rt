@@ -1,14 +1,16 @@
 //! A cache whose entries are gathered from its text.
 
-ghost use Rattle.std.specs.Prelude.{◌≡◌, ◌^◌, ◌≤◌, [], ◌∷◌, ◌++◌, length, true, IfOk, IfErr};
-ghost use Rattle.pd_restore_cache.specs.Gathered.{Adds, HasOrigins, IsNotAdded, repeats_after};
+ghost use Rattle.std.specs.Prelude.{◌≡◌, ◌+◌, ◌^◌, ◌<◌, [], ◌∷◌, ◌++◌, true, IfOk, IfErr, OnOk};
+ghost use Rattle.pd_cache_texts.specs.Origins.{OriginsDiffer};
+ghost use Rattle.pd_restore_cache.specs.Gathered.{lines_of};
+ghost use Rattle.pd_restore_cache.specs.Repeats.{IsRepeatIn};
 
+use crate::repeats::rows_before_repeat;
 use crate::row::Row;
 use pd_grammar::TextCause;
 use pd_restoring::RestoreFault;
 use pd_texts::TextFault;
 use std::alloc::Global;
-use std::collections::BTreeSet;
 
 /// The cache line of a text.
 #[derive(Clone, Copy, Debug, PartialEq, Eq)]
@@ -25,12 +27,11 @@ pub(crate) struct Cache {
     pub(crate) hint_size: u32,
 }
 
-/// The entries of a cache that were read, with the set of their origins.
+/// The entries of a cache that were read.
 #[derive(Drop)]
 pub(crate) struct Gathered {
     pub(crate) cache: Cache,
     pub(crate) rows: Vec<Row>,
-    pub(crate) origins: BTreeSet<u64>,
 }
 
 impl Gathered {
@@ -38,35 +39,17 @@ impl Gathered {
     pub(crate) fn new(alloc: Global, cache: Cache) -> Gathered
         ensures cache { result.cache ≡ cache }
         ensures none { result.rows.items ≡ [] }
-        ensures origins { HasOrigins result }
     {
         Gathered {
             cache,
             rows: Vec::new(alloc),
-            origins: BTreeSet::new(alloc),
-        }
-    }
-
-    /// Adds an entry, whose origin no entry has that was read before.
-    pub(crate) fn add(&mut self, row: Row) -> Result<bool, RestoreFault>
-        requires origins { HasOrigins self.old }
-        requires few { length self.old.rows.items ≤ 2 ^ 32 }
-        ensures more { IfOk result (λ more. more ≡ true) }
-        ensures adds { IfOk result (λ more. Adds row self.old self.new) }
-        ensures repeated { IfErr result (IsNotAdded row self.old) }
-    {
-        match self.origins.insert(row.origin) {
-            Ok(true) => self.push(row),
-            Ok(false) => Err(self.repeated()),
-            Err(_) => Err(RestoreFault::Memory),
         }
     }
 
     /// Puts an entry behind the others.
-    fn push(&mut self, row: Row) -> Result<bool, RestoreFault>
+    pub(crate) fn add(&mut self, row: Row) -> Result<bool, RestoreFault>
         ensures more { IfOk result (λ more. more ≡ true) }
         ensures cache { self.new.cache ≡ self.old.cache }
-        ensures origins { self.new.origins ≡ self.old.origins }
         ensures rows { IfOk result (λ more. self.new.rows.items ≡ self.old.rows.items ++ row ∷ []) }
         ensures fault { IfErr result (λ fault. fault ≡ RestoreFault.Memory) }
     {
@@ -76,14 +59,27 @@ impl Gathered {
         }
     }
 
-    /// The next line has the origin of an earlier one.
-    fn repeated(&self) -> RestoreFault
-        requires few { length self.now.rows.items ≤ 2 ^ 32 }
-        ensures { result ≡ repeats_after self.now }
+    /// Refuses the first line that has the origin of an earlier one.
+    pub(crate) fn check_origins(&self, alloc: Global) -> Result<(), RestoreFault>
+        ensures differ { OnOk result (OriginsDiffer (lines_of self.now)) }
+        ensures repeated { IfErr result (IsRepeatIn self.now) }
     {
-        RestoreFault::Text(TextFault {
-            line: self.rows.len() as u64 + 3,
-            cause: TextCause::Repeated,
-        })
+        let rows = &self.rows;
+        match rows_before_repeat(alloc, rows) {
+            Ok(before) if before < rows.len() => Err(repeated_after(before)),
+            Ok(_) => Ok(()),
+            Err(_) => Err(RestoreFault::Memory),
+        }
     }
+}
+
+/// The line after those of so many entries has the origin of an earlier one.
+fn repeated_after(before: usize) -> RestoreFault
+    requires few { before < 2 ^ 63 }
+    ensures { result ≡ RestoreFault.Text (record { line = before + 3; cause = TextCause.Repeated }) }
+{
+    RestoreFault::Text(TextFault {
+        line: before as u64 + 3,
+        cause: TextCause::Repeated,
+    })
 }

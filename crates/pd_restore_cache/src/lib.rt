@@ -8,6 +8,7 @@ mod gather;
 mod lines;
 mod need;
 mod parts;
+mod repeats;
 mod row;
 mod words;
 mod write;

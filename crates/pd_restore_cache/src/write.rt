@@ -58,7 +58,7 @@ pub(crate) fn write_cache<S: Source, D: Device>(
 {
     let Begun { mut text, cache } = begun;
     let mut gathered = Gathered::new(alloc, cache);
-    match gather_lines(&mut text, source, &mut gathered) {
+    match gather_lines(alloc, &mut text, source, &mut gathered) {
         Ok(()) => write_gathered(alloc, draft, &gathered, version, room),
         Err(fault) => Err(fault),
     }

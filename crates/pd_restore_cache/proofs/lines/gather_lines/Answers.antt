@@ -1,46 +1,41 @@
-use Rattle.std.proofs.Common.{rules, true, false, refl, ◌∙◌, subst, arith}
-use Rattle.pd_restoring.proofs.ReadingLemmas.{keeps_source}
+use Rattle.std.proofs.Common.{rules, subst, [], ◌∷◌, Err}
+use Rattle.std.specs.Prelude.{IfErr}
+use Rattle.pd_grammar.specs.Texts.{whole}
+use Rattle.pd_spells.specs.CacheText.{end_line}
+use Rattle.pd_restoring.specs.declared.fault.RestoreFault.TheVariants.{Text}
 use Rattle.pd_restore_cache.specs.declared.gather.Cache.{Cache}
 use Rattle.pd_restore_cache.specs.Reading.{SaysAfter}
-use Rattle.pd_restore_cache.proofs.LineLemmas.{steps_as}
+use Rattle.pd_restore_cache.proofs.LineLemmas.{single_rest, single_says}
+use Rattle.pd_restore_cache.proofs.OriginLemmas.{repeats_say, repeats_later}
 use Rattle.pd_restore_cache.proofs.lines.gather_lines.Goals as goal
 
-pub lines-init : goal.lines-init
-lines-init g c = record { reads = c.requires.reads; cache_is = refl; told = λ t leaves. leaves; kept = record { access = refl; path = refl }; faults = refl }
+pub returns-in-Ok-clause-says : goal.returns-in-Ok-clause-says
+returns-in-Ok-clause-says g c t leaves =
+    let e = c.in-Ok.ensures in
+    let all = e.ends.told t leaves in
+    subst (λ (cache : Cache). IfErr c.check_origins.result (SaysAfter cache t)) e.cache
+    (repeats_say c.check_origins.result c.read_lines.new.gathered t (whole (end_line ∷ [])) all.0 c.check_origins.ensures.repeated)
 
-pub returns-in_err-step-clause-says : goal.returns-in_err-step-clause-says
-returns-in_err-step-clause-says g c t leaves =
-    let says = subst (λ (cache : Cache). SaysAfter cache t c.in_err-step.field-0.0) c.lines.invariant.cache_is (c.in_err-step.ensures.says t (c.lines.invariant.told t leaves)) in
+pub returns-in-Ok-clause-later : goal.returns-in-Ok-clause-later
+returns-in-Ok-clause-later g c = repeats_later c.check_origins.result c.read_lines.new.gathered c.check_origins.ensures.repeated
+
+pub returns-in_err-check_origins-in-Err-Text-clause-says : goal.returns-in_err-check_origins-in-Err-Text-clause-says
+returns-in_err-check_origins-in-Err-Text-clause-says g c t leaves =
+    let e = c.in-Err-Text.ensures in
+    let fault = c.in_err-check_origins-in-Err-Text.field-0.0 in
+    let front = single_rest t c.read_lines.new.gathered c.in-Err-Text.fault (rw c.in-Err-Text.field-0-is at (e.says t leaves)) in
+    let says = subst (λ (cache : Cache). SaysAfter cache t fault) e.cache
+    (repeats_say (Err fault) c.read_lines.new.gathered t front.0 front.1 c.in_err-check_origins-in-Err-Text.ensures.repeated) in
     search rules
 
-pub lines-preserved : goal.lines-preserved
-lines-preserved g c =
-    let source = g.S.Source.state in
-    let was = (source c.lines.source).left in
-    let left = (source c.step.new.source).left in
-    let ends = c.in_ok-step.ensures in
-    let s = steps_as c.in_ok-step.field-0 true c.lines.text c.step.new.text was left c.lines.gathered c.step.new.gathered c.if-branch.true ends.steps in
-    record {
-      reads = s.0;
-      cache_is = s.1.0 ∙ c.lines.invariant.cache_is;
-      told = λ t leaves. s.1.1.1 t (c.lines.invariant.told t leaves);
-      kept = keeps_source c.lines.invariant.kept ends.source;
-      faults = ends.faults ∙ c.lines.invariant.faults;
-    }
+pub returns-in_err-check_origins-in-Err-Text-clause-later : goal.returns-in_err-check_origins-in-Err-Text-clause-later
+returns-in_err-check_origins-in-Err-Text-clause-later g c =
+    let fault = c.in_err-check_origins-in-Err-Text.field-0.0 in
+    let later = repeats_later (Err fault) c.read_lines.new.gathered c.in_err-check_origins-in-Err-Text.ensures.repeated in
+    search rules
 
-pub lines-smaller : goal.lines-smaller
-lines-smaller g c =
-    let source = g.S.Source.state in
-    let was = (source c.lines.source).left in
-    let left = (source c.step.new.source).left in
-    let ends = c.in_ok-step.ensures in
-    let s = steps_as c.in_ok-step.field-0 true c.lines.text c.step.new.text was left c.lines.gathered c.step.new.gathered c.if-branch.true ends.steps in
-    omega (arith, s.1.1.0, s.0.few, s.0.low)
-
-pub returns-clause-ends : goal.returns-clause-ends
-returns-clause-ends g c =
-    let source = g.S.Source.state in
-    let was = (source c.lines.source).left in
-    let left = (source c.step.new.source).left in
-    let s = steps_as c.in_ok-step.field-0 false c.lines.text c.step.new.text was left c.lines.gathered c.step.new.gathered c.if-branch.false c.in_ok-step.ensures.steps in
-    record { all = s.0; cache_is = s.1.0 ∙ c.lines.invariant.cache_is; told = λ t leaves. s.1.1 t (c.lines.invariant.told t leaves) }
+pub returns-in_ok-check_origins-in-Err-Text-clause-says : goal.returns-in_ok-check_origins-in-Err-Text-clause-says
+returns-in_ok-check_origins-in-Err-Text-clause-says g c t leaves =
+    let e = c.in-Err-Text.ensures in
+    subst (λ (cache : Cache). SaysAfter cache t (Text c.in-Err-Text.fault)) e.cache
+    (single_says t c.read_lines.new.gathered (Text c.in-Err-Text.fault) c.in_ok-check_origins-in-Err-Text.ensures.differ (rw c.in-Err-Text.field-0-is at (e.says t leaves)))

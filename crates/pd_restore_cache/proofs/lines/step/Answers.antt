@@ -4,7 +4,7 @@ use Rattle.pd_cache_texts.specs.CacheLine.{cache_meant}
 use Rattle.pd_cache_texts.specs.CacheState.{CacheStands}
 use Rattle.pd_restoring.proofs.ReadingLemmas.{line_given, line_told, end_given, end_told, later_read}
 use Rattle.pd_restore_cache.specs.Gathered.{lines_of}
-use Rattle.pd_restore_cache.proofs.LineLemmas.{two_lines, stepped, ended, not_taken_later, not_taken_says, next_says}
+use Rattle.pd_restore_cache.proofs.LineLemmas.{two_lines, stepped, next_says}
 use Rattle.pd_restore_cache.proofs.lines.step.Goals as goal
 
 pub take-requires : goal.take-requires
@@ -13,7 +13,7 @@ take-requires g c =
     let n = c.in-Ok-Some in
     let lines = lines_of c.args.gathered.now in
     let reads = line_given cache_single CacheStands first_line cache_meant n.field-0 n.line lines c.next.new.self n.field-0-is (omega (arith, two_lines c.args.gathered.now)) (n.ensures.lines lines h.reads) in
-    record { take = record { origins = h.origins; few = omega (arith, h.few, h.low); after = reads.so_far.lines.0 } }
+    record { after = reads.so_far.lines.0 }
 
 pub returns-in-Ok-Some-clause-steps : goal.returns-in-Ok-Some-clause-steps
 returns-in-Ok-Some-clause-steps g c =
@@ -26,18 +26,7 @@ returns-in-Ok-Some-clause-steps g c =
     stepped c.take.result n.line c.args.text.now c.next.new.self was left c.args.gathered.now c.take.new.gathered h reads
     (λ t leaves. line_told cache_single CacheStands first_line cache_meant n.field-0 n.line t lines c.next.new.self left n.field-0-is (omega (arith, two_lines c.args.gathered.now))
     (n.ensures.text t lines h.reads leaves))
-    c.take.ensures.more c.take.ensures.takes
-
-pub returns-in-Ok-Some-clause-says : goal.returns-in-Ok-Some-clause-says
-returns-in-Ok-Some-clause-says g c t leaves =
-    let h = c.requires.reads in
-    let n = c.in-Ok-Some in
-    let lines = lines_of c.args.gathered.now in
-    let left = (g.S.Source.state c.next.new.source).left in
-    not_taken_says c.take.result n.line t c.next.new.self left c.args.gathered.now h.differ
-    (line_told cache_single CacheStands first_line cache_meant n.field-0 n.line t lines c.next.new.self left n.field-0-is (omega (arith, two_lines c.args.gathered.now))
-    (n.ensures.text t lines h.reads leaves))
-    c.take.ensures.repeated
+    c.take.ensures.cache c.take.ensures.more c.take.ensures.takes
 
 pub returns-in-Ok-None-clause-steps : goal.returns-in-Ok-None-clause-steps
 returns-in-Ok-None-clause-steps g c =
@@ -46,18 +35,16 @@ returns-in-Ok-None-clause-steps g c =
     let lines = lines_of c.args.gathered.now in
     let was = (g.S.Source.state c.args.source.now).left in
     let left = (g.S.Source.state c.next.new.source).left in
-    ended c.args.gathered.now c.args.text.now c.next.new.self was left h
-    (end_given cache_single CacheStands first_line cache_meant n.field-0 lines c.next.new.self n.field-0-is (omega (arith, two_lines c.args.gathered.now)) (n.ensures.lines lines h.reads))
-    (λ t leaves. end_told cache_single CacheStands first_line cache_meant n.field-0 t lines c.next.new.self left n.field-0-is (omega (arith, two_lines c.args.gathered.now))
-    (n.ensures.text t lines h.reads leaves))
+    record {
+      lines = end_given cache_single CacheStands first_line cache_meant n.field-0 lines c.next.new.self n.field-0-is (omega (arith, two_lines c.args.gathered.now)) (n.ensures.lines lines h.reads);
+      told = λ t leaves. end_told cache_single CacheStands first_line cache_meant n.field-0 t lines c.next.new.self left n.field-0-is (omega (arith, two_lines c.args.gathered.now))
+          (n.ensures.text t lines h.reads leaves);
+    }
 
 pub returns-in-Err-clause-says : goal.returns-in-Err-clause-says
 returns-in-Err-clause-says g c t leaves =
     let h = c.requires.reads in
-    rw c.of_read.ensures (next_says c.in-Err.fault t c.args.gathered.now h.differ (c.in-Err.ensures.text t (lines_of c.args.gathered.now) h.reads leaves))
-
-pub returns-in-Ok-Some-clause-later : goal.returns-in-Ok-Some-clause-later
-returns-in-Ok-Some-clause-later g c = not_taken_later c.take.result c.in-Ok-Some.line c.args.gathered.now c.take.ensures.repeated
+    rw c.of_read.ensures (next_says c.in-Err.fault t c.args.gathered.now (c.in-Err.ensures.text t (lines_of c.args.gathered.now) h.reads leaves))
 
 pub returns-in-Err-clause-later : goal.returns-in-Err-clause-later
 returns-in-Err-clause-later g c =

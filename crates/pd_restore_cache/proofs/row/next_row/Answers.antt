@@ -1,11 +1,6 @@
-use Rattle.std.proofs.Common.{false, arith}
-use Rattle.pd_restore_cache.specs.declared.row.Row.{Row}
-use Rattle.pd_restore_cache.proofs.RowLemmas.{found_here, none_here, none_past, small_here, stands_next, stands_past, stands_still}
+use Rattle.std.proofs.Common.{arith}
+use Rattle.pd_restore_cache.proofs.RowLemmas.{none, found_here, none_here, none_past, small_here, stands_next, stands_past, stands_still}
 use Rattle.pd_restore_cache.proofs.row.next_row.Goals as goal
-
--- the row of no place
-abbrev none : Row
-none = record { block = 0; dirty = false; hint = 0; origin = 0 }
 
 pub returns-then-row-block-clause-row : goal.returns-then-row-block-clause-row
 returns-then-row-block-clause-row c = found_here c.args.rows.now c.args.at c.args.block c.requires none c.if-at-rows.true c.if-row-block.true

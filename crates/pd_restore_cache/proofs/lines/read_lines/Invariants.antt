@@ -4,7 +4,7 @@ use Rattle.pd_spells.specs.CacheText.{cache_single}
 use Rattle.pd_texts.specs.Reader.{LeavesOf}
 use Rattle.pd_restore_cache.specs.Gathered.{lines_of}
 use Rattle.pd_restore_cache.specs.Reading.{Reads}
-use Rattle.pd_restore_cache.proofs.lines.gather_lines.Given as goal
+use Rattle.pd_restore_cache.proofs.lines.read_lines.Given as goal
 
 abbrev pub invariant-lines : goal.invariant-lines
 invariant-lines g l =
