@@ -1,5 +1,3 @@
-pub mod OrderLemmas
-pub mod PartLemmas
 pub mod LineLemmas
 pub mod ReadingLemmas
 pub mod UnsharedLines
@@ -16,3 +14,4 @@ pub mod SavedTextLemmas
 pub mod OverflowingLemmas
 pub mod SavedNeedLemmas
 pub mod MadeLemmas
+pub mod UnsharedTrees
