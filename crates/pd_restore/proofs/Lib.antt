@@ -14,4 +14,3 @@ pub mod SavedTextLemmas
 pub mod OverflowingLemmas
 pub mod SavedNeedLemmas
 pub mod MadeLemmas
-pub mod UnsharedTrees

@@ -15,8 +15,7 @@ use Rattle.pd_spells.specs.ThinText.{Line, first_line, pool_line, device_line, m
 use Rattle.pd_laid.specs.Tree.{blocks_from}
 use Rattle.pd_laid.specs.Shape.{shape_of, unshared_device, unshared_pieces, uses_of, uses_of_piece}
 use Rattle.pd_laid.proofs.ShapeLemmas.{is_shape, pool_kept}
-use Rattle.pd_laid_once.proofs.Need.{data_counts_are}
-use Rattle.pd_restore.proofs.UnsharedTrees.{trees_are, roots_are, details_are}
+use Rattle.pd_laid_shared.proofs.PoolCase.{data_counts_are, trees_are, roots_are, details_are}
 use Rattle.pd_laid_shared.specs.Named.{used_times}
 use Rattle.pd_laid_shared.specs.Written.{leaves_and_trees}
 use Rattle.pd_texts.specs.Reader.{in_order}

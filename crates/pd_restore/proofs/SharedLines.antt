@@ -1,10 +1,11 @@
 -- The lines of a pool's text of version 2, and what they need.
-use Rattle.std.proofs.Common.{◌≡◌, inl, inr, ℕ, suc, ◌+◌, ◌-◌, ◌*◌, ◌<◌, ◌≤◌, ◌^◌, Bool, true, false, if◌then◌else◌, eqb, List, [], ◌∷◌, length, map, sum, sum_by, refl, sym, ap, subst, arith}
-use Rattle.std.specs.List.{flat_map}
-use Rattle.std.proofs.lemmas.Bool.{cases_Bool, cases_lt, lt-ltb, true≢false}
+use Rattle.std.proofs.Common.{◌≡◌, inl, inr, ℕ, zero, suc, ◌+◌, ◌-◌, ◌*◌, ◌<◌, ◌≤◌, ◌^◌, max, Bool, true, false, if◌then◌else◌, eqb, leb, List, [], ◌∷◌, length, map, sum, sum_by, refl, sym, ap, subst, arith}
+use Rattle.std.specs.List.{count_by, flat_map, range_with_len}
+use Rattle.std.proofs.lemmas.Bool.{cases_Bool, cases_lt, lt-ltb, le-ltb, true≢false}
 use Rattle.std.proofs.lemmas.Bool.Decides.{nat_tests}
 use Rattle.std.proofs.lemmas.List.{length-map}
-use Rattle.std.proofs.lemmas.List.Sums.{sum_by-cons}
+use Rattle.std.proofs.lemmas.List.FromFn.{length-range_with_len}
+use Rattle.std.proofs.lemmas.List.Sums.{sum_by-cons, count_by-le-length}
 use Rattle.pd_kinds.specs.Bitmap.{bitmaps_for}
 use Rattle.pd_kinds.specs.Node.{max_entries}
 use Rattle.pd_grammar.specs.Texts.{has_ended}
@@ -16,7 +17,6 @@ use Rattle.pd_spells.specs.ThinText as d
 use Rattle.pd_spells.specs.ThinText.{Line, first_line, shared_first_line, pool_line, leaf_line, device_line, use_line, map_line, end_line, pool_format, data_blocks_of, has_device, leaf_number, unmapped, uses_of}
 use Rattle.pd_spells.proofs.ThinRead.{FitsLine, PlacedInPool, pool_grammar}
 use Rattle.pd_restore.specs.Shared.{lacks_pieces}
-use Rattle.pd_restore.proofs.UnsharedLines.{above_most, overflows_most, tree_most}
 use Rattle.pd_texts.specs.Reader.{IsReadAfter, AreReadSoFar}
 use Rattle.pd_texts.proofs.ThinNextLemmas.{pool_read, leaf_read, use_read, run_read}
 
@@ -27,7 +27,15 @@ firsts = first_line ∷ shared_first_line ∷ []
 abbrev top : ℕ
 top = 2 ^ 64 - 1
 
--- how many nodes stand above so many at least
+-- how many nodes stand above so many, at most and at least
+above_most : (levels nodes : ℕ) → need_above levels nodes ≤ nodes
+unfolding need_above
+above_most zero nodes = omega arith
+above_most (suc levels) nodes = elim (cases_lt 1 nodes) [
+  | inl some ↦ rw (lt-ltb 1 nodes some) (let rest = above_most levels (nodes_for 252 nodes) in omega arith)
+  | inr none ↦ rw (le-ltb 1 nodes none) (omega arith)
+]
+
 above_least : (levels nodes : ℕ) → nodes ≤ 252 * need_above (suc levels) nodes + 1
 unfolding need_above
 above_least levels nodes = elim (cases_lt 1 nodes) [
@@ -35,9 +43,18 @@ above_least levels nodes = elim (cases_lt 1 nodes) [
   | inr none ↦ omega arith
 ]
 
+tree_most : (most n : ℕ) → nodes_of_tree most n ≤ 2 * max 1 (nodes_for most n)
+unfolding nodes_of_tree
+tree_most most n = let above = above_most 10 (max 1 (nodes_for most n)) in omega arith
+
 tree_least : (n : ℕ) → n ≤ 252 * need_tree 8 n
 unfolding nodes_of_tree
 tree_least n = omega arith
+
+overflows_most : (ns : List ℕ) (blocks : ℕ) → overflows_in ns blocks ≤ blocks
+unfolding overflows_in
+overflows_most ns blocks =
+    omega (arith, count_by-le-length (λ d. leb 3 (count_by (λ b. eqb b d) ns)) (range_with_len 0 blocks), length-range_with_len 0 blocks)
 
 often_most : (uses : List ℕ) (leaves : ℕ) → used_often uses leaves ≤ leaves
 unfolding used_often

@@ -62,7 +62,7 @@ map_after before line run is after =
     record { some = m.some; fits = m.virtual_fits; within = m.within; time = m.time_fits; above = m.above; enough = m.mapped }
 
 -- how many nodes stand above so many at most
-pub above_most : (levels nodes : ℕ) → need_above levels nodes ≤ nodes
+above_most : (levels nodes : ℕ) → need_above levels nodes ≤ nodes
 unfolding need_above
 above_most zero nodes = omega arith
 above_most (suc levels) nodes = elim (cases_lt 1 nodes) [
@@ -81,7 +81,7 @@ mappings_most n fits = let most = tree_most 252 n in omega arith
 small_most : (n : ℕ) → n ≤ 2 ^ 41 → (need_tree 8 n < 2 ^ 58) × ((need_tree 24 n < 2 ^ 58) × (need_tree 4 n < 2 ^ 58))
 small_most n few = (let most = tree_most 252 n in omega arith, (let most = tree_most 126 n in omega arith, let most = tree_most 336 n in omega arith))
 
-pub overflows_most : (ns : List ℕ) (blocks : ℕ) → overflows_in ns blocks ≤ blocks
+overflows_most : (ns : List ℕ) (blocks : ℕ) → overflows_in ns blocks ≤ blocks
 unfolding overflows_in
 overflows_most ns blocks =
     omega (arith, count_by-le-length (λ d. leb 3 (count_by (λ b. eqb b d) ns)) (range_with_len 0 blocks), length-range_with_len 0 blocks)
