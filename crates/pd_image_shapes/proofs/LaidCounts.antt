@@ -8,7 +8,8 @@ use Rattle.pd_laid.specs.LaidThin.{laid_shape}
 use Rattle.pd_laid.specs.Shape.{IsShape, ThinShape, pool_of}
 use Rattle.pd_laid_shared.proofs.DataCounts.{counts_are}
 use Rattle.pd_laid_thin.proofs.ThinLaw.{data_count_is, graph_is}
-use Rattle.pd_laid_thin.proofs.ThinPool.{pool_in_place, pool_number, shape_fits}
+use Rattle.pd_laid_thin.proofs.ThinPool.{pool_in_place, shape_fits}
+use Rattle.pd_laid_shared.proofs.ShapeNeed.{number_with}
 use Rattle.pd_shapes.specs.SharedNeed.{shape_data}
 use Rattle.pd_spells.specs.Lawful.{IsLawfulPool}
 
@@ -17,7 +18,7 @@ pub laid_counts : (w : ThinShape) (base image : List (List ℕ)) → IsLawfulPoo
     → (d : ℕ) → data_count (thin_graph (block_at image 0)) image d ≡ count_in (shape_data w) d
 laid_counts w base image lawful shape room is d =
     let n = room_of (length base) in
-    let number = pool_number w n in
+    let number = number_with w n in
     let fits = shape_fits w lawful in
     let stand = pool_in_place w n base image is in
     ap (λ (g : Graph). data_count g image d) (graph_is w n image (omega arith) fits shape (omega arith) stand)

@@ -11,8 +11,8 @@ use Rattle.pd_kinds.specs.Value.{mapping_code}
 use Rattle.pd_laid.specs.LaidThin.{mapping_items, own_leaves, pieces_row, some_pieces}
 use Rattle.pd_laid.specs.Shape.{ArePieces, Piece, own, piece_mappings, shared}
 use Rattle.pd_laid.specs.Tree.{heads}
-use Rattle.pd_laid.proofs.DataNeed.{HasTimes}
-use Rattle.pd_laid_once.proofs.Rows.{entries_of, values_of}
+use Rattle.pd_laid.proofs.ItemLemmas.{HasTimes}
+use Rattle.pd_laid.proofs.Rows.{entries_of, values_of}
 use Rattle.pd_laid_once.proofs.Trees.{leaves_joined}
 use Rattle.pd_laid_graph.proofs.Levels.{IsLeafAt}
 use Rattle.pd_laid_graph.proofs.Roots.{AreLeavesAt}

@@ -9,7 +9,7 @@ use Rattle.pd_laid.specs.Laid.{count_in, laid_inner, laid_leaf}
 use Rattle.pd_laid.specs.LaidThin.{device_inners, device_leaves, device_row, laid_device, some_pieces}
 use Rattle.pd_laid.specs.Shape.{ShapeDevice, uses_of}
 use Rattle.pd_laid_once.proofs.Counts.{count-append}
-use Rattle.pd_laid_once.proofs.Rows.{values_of}
+use Rattle.pd_laid.proofs.Rows.{values_of}
 use Rattle.pd_laid_shared.proofs.Counting.{behind_first, range_has, range_lacks}
 use Rattle.pd_laid_shared.proofs.DeviceNames.{range_both, row_names, some_uses}
 use Rattle.std.proofs.lemmas.List.{map-append}

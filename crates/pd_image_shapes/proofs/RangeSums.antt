@@ -5,7 +5,7 @@ use Rattle.std.proofs.lemmas.Bool.{cases_eq, ne_eqb}
 use Rattle.std.proofs.lemmas.List.Sums.{sum_by-append, sum_by-cons}
 use Rattle.pd_kinds.specs.Graph.{pair, role_of}
 use Rattle.pd_laid.specs.Laid.{count_in}
-use Rattle.pd_laid_graph.proofs.ListLemmas.{range_on}
+use Rattle.pd_laid.proofs.Rows.{range_on}
 
 -- what is counted in lists in a row
 pub count_joined : {X : Type 0} → (test : ℕ → Bool) (f : X → List ℕ) (xs : List X) → count_by test (flat_map f xs) ≡ sum_by (λ x. count_by test (f x)) xs

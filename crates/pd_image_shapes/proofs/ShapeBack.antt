@@ -12,18 +12,18 @@ use Rattle.pd_spells.specs.Lawful.{AreDevices, IsLawfulPool}
 use Rattle.pd_laid.specs.Laid.{IsLaid, count_in, laid_number, tree_of}
 use Rattle.pd_laid.specs.LaidThin.{device_row, devices_at, laid_device, laid_shape, mapping_items, meta_map_at, meta_map_blocks, top_items, tops}
 use Rattle.pd_laid.specs.Shape.{ArePieces, IsShape, Piece, ShapeDevice, ThinShape, device_of, piece_mappings, pool_of, uses_of}
-use Rattle.pd_laid.proofs.DataNeed.{HasTimes}
+use Rattle.pd_laid.proofs.ItemLemmas.{HasTimes}
 use Rattle.pd_laid_graph.specs.LaidOut.{AllFrom, IsInPlace}
 use Rattle.pd_laid_graph.proofs.Levels.{IsLeafAt}
-use Rattle.pd_laid_once.proofs.Need.{times_of_mappings}
-use Rattle.pd_laid_once.proofs.Rows.{range_on, values_of}
+use Rattle.pd_laid_shared.proofs.DataCounts.{times_of_mappings, leaves_times}
+use Rattle.pd_laid.proofs.Rows.{range_on, values_of}
 use Rattle.pd_laid_shared.proofs.Counting.{all_range, behind_first, count_outside, count_shift}
-use Rattle.pd_laid_shared.proofs.DataCounts.{leaves_times}
 use Rattle.pd_laid_shared.proofs.DeviceNames.{all_uses_below}
 use Rattle.pd_laid_shared.proofs.PoolNames.{leaves_before_map}
 use Rattle.pd_laid_thin.proofs.ThinDevices.{AreRows}
 use Rattle.pd_laid_thin.proofs.ThinLaw.{graph_is, laid_means, tops_are}
-use Rattle.pd_laid_thin.proofs.ThinPool.{ShapeFits, devices_all_seen, pool_blocks, pool_in_place, pool_number, shape_fits, shared_seen}
+use Rattle.pd_laid_thin.proofs.ThinPool.{ShapeFits, devices_all_seen, pool_blocks, pool_in_place, shape_fits, shared_seen}
+use Rattle.pd_laid_shared.proofs.ShapeNeed.{number_with}
 use Rattle.pd_shapes.specs.ImageShape.{all_leaf_blocks, device_roots, device_shapes, image_shape, is_shared_leaf, leaf_blocks, mappings_in, pieces_of, shared_leaves}
 use Rattle.pd_image_shapes.specs.Uses.{IsSharedTwice}
 use Rattle.pd_image_shapes.proofs.PiecesBack.{device_back, leaf_mappings_at, mappings_back}
@@ -188,5 +188,5 @@ pub laid_shape_back : (w : ThinShape) (base image : List (List ℕ)) → IsLawfu
     → laid_number (laid_shape w (room_of (length base))) ≤ room_of (length base) → IsLaid (laid_shape w (room_of (length base))) base image → image_shape image ≡ w
 laid_shape_back w base image lawful shape twice room is =
     let n = room_of (length base) in
-    let number = pool_number w n in
+    let number = number_with w n in
     shape_back w n image (omega arith) (shape_fits w lawful) shape (omega arith) (pool_in_place w n base image is) (leaves_times w shape lawful) twice

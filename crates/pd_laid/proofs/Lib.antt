@@ -1,9 +1,11 @@
 pub mod LaidLemmas
 pub mod SpreadLemmas
+pub mod SpreadParts
 pub mod NeedLemmas
 pub mod CacheNeed
-pub mod PoolNeed
-pub mod DataNeed
+pub mod Rows
+pub mod ItemLemmas
+pub mod PartSizes
 pub mod ShapeLemmas
 pub mod NodeFacts
 pub mod GatherLemmas

@@ -1,5 +1,5 @@
 -- How many blocks are laid.
-use Rattle.std.proofs.Common.{◌≡◌, ℕ, zero, suc, ◌+◌, Bool, true, false, cond, max, nat_lt, List, [], ◌∷◌, ◌++◌, length, map, refl, ◌∙◌, ap, arith}
+use Rattle.std.proofs.Common.{◌≡◌, ℕ, zero, suc, ◌+◌, Bool, true, false, cond, max, nat_lt, List, [], ◌∷◌, ◌++◌, length, map, refl, sym, ◌∙◌, ap, arith}
 use Rattle.std.proofs.lemmas.List.{length-append, length-map}
 use Rattle.std.proofs.lemmas.List.FromFn.{length-map-range_with_len}
 use Rattle.pd_kinds.specs.Layout.{Tree, tree_to, plain_tree}
@@ -9,12 +9,13 @@ use Rattle.pd_kinds.specs.Node.{Entry, max_entries}
 use Rattle.pd_kinds.specs.Array.{max_words}
 use Rattle.pd_kinds.specs.Bitmap.{bitmaps_for}
 use Rattle.pd_spells.specs.Need.{nodes_for, need_above, need_tree, need_array, need_meta_map, nodes_of_tree}
-use Rattle.pd_laid.specs.Tree.{heads, levels_above, inners_above, tree_leaves, tree_inners, leaf_row, behind_leaves, spread}
-use Rattle.pd_laid.specs.Laid.{laid_number, tree_of, laid_leaf, laid_inner, laid_tree}
+use Rattle.pd_laid.specs.Tree.{heads, levels_above, inners_above, tree_blocks, tree_leaves, tree_inners, leaf_row, behind_leaves, spread}
+use Rattle.pd_laid.specs.Laid.{LaidBlock, laid_number, tree_of, laid_leaf, laid_inner, laid_tree}
 use Rattle.pd_laid.specs.Array.{pieces, array_pieces, array_items, laid_words, laid_array}
 use Rattle.pd_laid.specs.Map.{laid_bitmap, laid_bitmaps, meta_overflow, meta_overflow_at, meta_overflow_blocks, meta_counts, laid_meta_map}
 use Rattle.pd_spells.specs.EraNeed.{need_of_era}
 use Rattle.pd_laid.specs.LaidEra.{era_blocks, writeset_blocks, writesets_at, era_parts, era_named, meta_map_at, meta_map_blocks, laid_era}
+use Rattle.pd_laid.proofs.LaidLemmas.{length-blocks_from, tree_written}
 use Rattle.pd_laid.proofs.SpreadLemmas.{length-spread}
 
 pub length-heads : (place : ℕ) (nodes : List (List Entry)) → length (heads place nodes) ≡ length nodes
@@ -59,6 +60,13 @@ length-tree role t place items =
     let row = length-heads place leaves in
     let levels = ap (need_above 10) (row ∙ number) in
     omega (arith, both, first, last, number, above, levels)
+
+-- and as it is written
+pub length-tree_blocks : (size place : ℕ) (items : List Entry) → length (tree_blocks size place items) ≡ need_tree size (length items)
+length-tree_blocks size place items =
+    let t = tree_of (plain_tree size) in
+    ap (λ (blocks : List (List ℕ)). length blocks) (sym (tree_written 3 t place items))
+    ∙ (length-blocks_from (λ at (b : LaidBlock). b.written at) place (laid_tree 3 t place items) ∙ length-tree 3 t place items)
 
 -- an array
 length-pieces : (most k : ℕ) (words : List ℕ) → length (pieces most k words) ≡ k

@@ -13,7 +13,8 @@ use Rattle.pd_laid_graph.specs.LaidOut.{AllFrom}
 use Rattle.pd_laid_graph.proofs.FromLemmas.{from_back, from_front}
 use Rattle.pd_laid_graph.proofs.Levels.{IsInnerAt, flat_agree, inner_gathered, leaf_gathered}
 use Rattle.pd_laid_graph.proofs.Roots.{AreLeavesAt}
-use Rattle.pd_laid_graph.proofs.Rows.{all_parts, flat_joined, level_of, level_spread, levels_more, root_more, root_of, upper_of, values_of}
+use Rattle.pd_laid_graph.proofs.Rows.{all_parts, flat_joined, level_spread}
+use Rattle.pd_laid.proofs.Rows.{level_of, levels_more, root_more, root_of, upper_of, values_of}
 
 module _ {X : Type 0} (graph : Graph) (image : List (List ℕ)) (role : ℕ) (own : ℕ → List X) where
   -- what is below a block within so many inner edges

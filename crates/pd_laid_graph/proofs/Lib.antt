@@ -6,7 +6,6 @@ pub mod PlaceLemmas
 pub mod FitLemmas
 pub mod CheckLemmas
 pub mod Bytes
-pub mod Spread
 pub mod Levels
 pub mod Ascending
 pub mod Rows

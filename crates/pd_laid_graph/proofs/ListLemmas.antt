@@ -63,14 +63,6 @@ pub all_back : {X : Type 0} → (P : X → Type 0) (xs ys : List X) → AllByRec
 all_back P [] ys all = all
 all_back P (x ∷ xs) ys all = all_back P xs ys all.1
 
--- ranges in a row
-pub range_on : (a m n : ℕ) → range_with_len a (m + n) ≡ range_with_len a m ++ range_with_len (a + m) n
-range_on a zero n = let e : a + 0 ≡ a = omega arith in let f : 0 + n ≡ n = omega arith in rw (e, f) refl
-range_on a (suc m) n =
-    let e : a + suc m ≡ (a + 1) + m = omega arith in
-    let f : suc m + n ≡ suc (m + n) = omega arith in
-    rw (e, f) (ap (λ (rest : List ℕ). a ∷ rest) (range_on (a + 1) m n))
-
 -- lists in a row, counted
 pub count_append : {X : Type 0} → (test : X → Bool) (xs ys : List X) → count_by test (xs ++ ys) ≡ count_by test xs + count_by test ys
 count_append test xs ys = sum_by-append (λ x. cond (test x) 1 0) xs ys

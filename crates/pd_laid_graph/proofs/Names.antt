@@ -14,8 +14,9 @@ use Rattle.pd_laid.proofs.NeedLemmas.{length-heads}
 use Rattle.pd_laws.proofs.AllLemmas.{all_append, all_map}
 use Rattle.pd_laid_graph.specs.LaidOut.{AllFrom, IsInPlace, LeadsBelow}
 use Rattle.pd_laid_graph.proofs.PlaceLemmas.{role_of_places}
-use Rattle.pd_laid_graph.proofs.ListLemmas.{map_flat, map_twice, range_on}
-use Rattle.pd_laid_graph.proofs.Rows.{flat_joined, inners_name, row_few, values-heads, values_of}
+use Rattle.pd_laid_graph.proofs.ListLemmas.{map_flat, map_twice}
+use Rattle.pd_laid.proofs.Rows.{range_on, row_named, values-heads, values_of}
+use Rattle.pd_laid_graph.proofs.Rows.{flat_joined, row_few}
 use Rattle.pd_laid_graph.proofs.Trees.{heads_from, leaves_are}
 
 -- the blocks of edges
@@ -47,7 +48,7 @@ pub above_names : (role place : ℕ) (row : List Entry) → 1 ≤ length row →
 unfolding root_above
 above_names role place row some few =
     ap (λ (front : List ℕ). front ++ (root_above place row ∷ [])) (named-inners role (inners_above place row))
-    ∙ inners_name 10 place row some (omega (arith, row_few 9 place row))
+    ∙ row_named 10 place row some (omega (arith, row_few 9 place row))
 
 -- a tree of few blocks
 pub tree_names : (role : ℕ) (t : Tree) (place : ℕ) (items : List Entry) → t.size ≤ 24 → length (laid_tree role t place items) ≤ 4161600

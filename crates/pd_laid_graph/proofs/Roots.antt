@@ -14,7 +14,8 @@ use Rattle.pd_laid_graph.proofs.FromLemmas.{from_front, from_back, from_both}
 use Rattle.pd_laid_graph.specs.Items.{IsRoot}
 use Rattle.pd_laid_graph.proofs.Ascending.{BeginsWith, asc_left, asc_right}
 use Rattle.pd_laid_graph.proofs.Levels.{IsInnerAt, IsLeafAt, IsSettled, AreSettled, AreLeast, below, leaf_settled, inner_settled, inner_in_range}
-use Rattle.pd_laid_graph.proofs.Rows.{all_parts, flat_joined, level_of, upper_of, level_spread, levels_one, levels_more, root_of, root_more}
+use Rattle.pd_laid_graph.proofs.Rows.{all_parts, flat_joined, level_spread}
+use Rattle.pd_laid.proofs.Rows.{level_of, upper_of, levels_one, levels_more, root_of, root_more}
 
 -- a node that isn't deep, and whose children are in range
 pub record IsOrdered (graph : Graph) (image : List (List ℕ)) (role place : ℕ) : Type 0 where

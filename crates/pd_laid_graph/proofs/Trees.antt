@@ -27,8 +27,9 @@ use Rattle.pd_laid_graph.proofs.LeafBlocks.{leaves_under, root_under, row_blocks
 use Rattle.pd_laid_graph.proofs.Levels.{IsInnerAt, no_chain}
 use Rattle.pd_laid_graph.proofs.Nodes.{IsSeenInner, IsSeenLeaf, inner_seen, leaf_seen}
 use Rattle.pd_laid_graph.proofs.Roots.{AreLeavesAt, IsOrdered, all_above, leaves_keys, leaves_least, leaves_settled}
-use Rattle.pd_laid_graph.proofs.Rows.{IsInnerNode, all_parts, by_keys, by_values, heads_inside, inners_are, inners_name, levels_one, row_few, values_of}
-use Rattle.pd_laid_graph.proofs.Spread.{spread_most, spread_some}
+use Rattle.pd_laid_graph.proofs.Rows.{IsInnerNode, all_parts, by_keys, by_values, heads_inside, inners_are, row_few}
+use Rattle.pd_laid.proofs.Rows.{row_named, levels_one, values_of}
+use Rattle.pd_laid.proofs.SpreadParts.{spread_most, spread_some}
 
 -- the leaves of a tree
 pub record AreLeaves (size : ℕ) (items : List Entry) (leaves : List (List Entry)) : Type 0 where
@@ -276,7 +277,7 @@ module _ (roles nr data_blocks : ℕ) (table : ℕ → Layout) (image : List (Li
             inners_are 10 place row short (rw keys (firsts_ascend groups filled (rw whole row_is.ascending)))
             (by_keys (λ key. key < 2 ^ 64) row (rw keys (firsts_keep (λ key. key < 2 ^ 64) groups filled (rw whole row_is.keys_fit)))) row_is.inside from
       ] in
-      let names = inners_name 10 place row row_is.some short in
+      let names = row_named 10 place row row_is.some short in
       let seen = inners_seen place inners room stand nodes in
       let settled = leaves_settled this image t.size role row groups row_is.leaves in
       let stable = leaves_under this image role (λ p. block_of p ∷ []) t.size row groups row_is.leaves in

@@ -11,7 +11,8 @@ use Rattle.pd_laid.specs.Laid.{LaidBlock, data_named_by, laid_inner, laid_leaf, 
 use Rattle.pd_laid.specs.Map.{laid_bitmap, laid_bitmaps, laid_index, laid_meta_map, meta_counts, meta_map_number, meta_overflow, meta_overflow_at, meta_overflow_blocks, meta_overflow_root}
 use Rattle.pd_laid.specs.Tree.{tree_inners, tree_leaves}
 use Rattle.pd_laid.proofs.NeedLemmas.{length-bitmaps}
-use Rattle.pd_laid_graph.proofs.ListLemmas.{map_twice, range_on}
+use Rattle.pd_laid_graph.proofs.ListLemmas.{map_twice}
+use Rattle.pd_laid.proofs.Rows.{range_on}
 use Rattle.pd_laid_graph.proofs.Names.{named-append, tree_names}
 use Rattle.pd_laid_maps.proofs.Index.{range_of}
 

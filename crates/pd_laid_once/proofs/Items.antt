@@ -8,7 +8,7 @@ use Rattle.pd_kinds.specs.Node.{Entry}
 use Rattle.pd_kinds.specs.Value.{index_code}
 use Rattle.pd_laid.specs.Laid.{named_by, tree_of}
 use Rattle.pd_laid.specs.Map.{index_items, index_entry_of, free_in, laid_bitmap}
-use Rattle.pd_laid_once.proofs.Rows.{values_of}
+use Rattle.pd_laid.proofs.Rows.{values_of}
 use Rattle.pd_laid_once.proofs.Trees.{blocks_of, item_names}
 
 -- the items of a plain tree name nothing

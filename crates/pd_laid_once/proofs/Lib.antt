@@ -1,9 +1,6 @@
-pub mod Rows
 pub mod Counts
 pub mod Trees
 pub mod Items
-pub mod Devices
 pub mod Pool
 pub mod MapLemmas
 pub mod WrittenLemmas
-pub mod Need

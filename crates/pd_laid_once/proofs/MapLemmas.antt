@@ -11,7 +11,7 @@ use Rattle.pd_laid.specs.Laid.{count_in, tree_of}
 use Rattle.pd_laid.specs.Map.{overflow_items, meta_overflow, meta_overflow_at, meta_overflow_blocks, meta_map_number, meta_counts}
 use Rattle.pd_laid.proofs.NeedLemmas.{length-tree}
 use Rattle.pd_laid_once.specs.Once.{ones_below, NamesEachOnce}
-use Rattle.pd_laid_once.proofs.Rows.{range_on}
+use Rattle.pd_laid.proofs.Rows.{range_on}
 use Rattle.pd_laid_once.proofs.Counts.{count-append, count_range}
 
 -- a count of one at most

@@ -1,20 +1,17 @@
--- What block 0 and the parts of a pool name up to the metadata map. Where no leaf is shared it is each block there once.
+-- What block 0 and the parts of a pool name up to the metadata map.
 use Rattle.std.proofs.Common.{◌≡◌, ℕ, ◌+◌, ◌%◌, ◌^◌, ◌≤◌, List, [], ◌∷◌, ◌++◌, length, sym, ◌∙◌, ap, zero-add, arith}
 use Rattle.std.specs.List.{range_with_len}
 use Rattle.pd_kinds.specs.Layout.{tree_to, plain_tree}
-use Rattle.pd_kinds.specs.Meaning.{ThinPool}
 use Rattle.pd_kinds.specs.Bitmap.{bitmaps_for}
 use Rattle.pd_laid.specs.Laid.{LaidBlock, named_by, count_in, tree_of}
-use Rattle.pd_laid.specs.Shape.{ThinShape, shape_of}
+use Rattle.pd_laid.specs.Shape.{ThinShape}
 use Rattle.pd_laid.specs.Map.{laid_bitmaps}
-use Rattle.pd_laid.specs.LaidThin.{mappings, device_blocks, tops_at, tops, top_blocks, details_at, details_items, details_blocks, data_counts, bitmaps_at, bitmap_blocks, index_at, data_index, index_blocks, overflow_at, data_overflow, overflow_blocks, pool_parts, meta_map_at, mapping_root, details_root, data_index_root, data_overflow_root, pool_named}
+use Rattle.pd_laid.specs.LaidThin.{device_blocks, tops_at, tops, top_blocks, details_at, details_items, details_blocks, data_counts, bitmaps_at, bitmap_blocks, index_at, data_index, index_blocks, overflow_at, data_overflow, overflow_blocks, pool_parts, meta_map_at, mapping_root, details_root, data_index_root, data_overflow_root, pool_named}
 use Rattle.pd_laid.proofs.NeedLemmas.{length-bitmaps}
-use Rattle.pd_laid_once.specs.Once.{ones_below, NamesEachOnce}
-use Rattle.pd_laid_once.proofs.Rows.{values_of, range_on}
-use Rattle.pd_laid_once.proofs.Counts.{count-append, count-cons, count_range}
+use Rattle.pd_laid.proofs.Rows.{values_of, range_on}
+use Rattle.pd_laid_once.proofs.Counts.{count-append, count-cons}
 use Rattle.pd_laid_once.proofs.Trees.{named-append, tree_named}
 use Rattle.pd_laid_once.proofs.Items.{none_named, each_named, index_named, bitmaps_named}
-use Rattle.pd_laid_once.proofs.Devices.{devices_named}
 
 module _ (w : ThinShape) (b : ℕ) where
   -- how often the block stands in a list, and in the places of a part
@@ -119,19 +116,3 @@ module _ (w : ThinShape) (b : ℕ) where
       let parts = parts_named in
       let places = places_joined in
       omega arith
-
--- the devices' part, where no leaf is shared
-devices_part : (m : ThinPool) (b : ℕ) → length (device_blocks (shape_of m)) ≤ 2 ^ 64
-    → count_in (named_by (device_blocks (shape_of m))) b + count_in (values_of (tops (shape_of m))) b
-    ≡ count_in (range_with_len 1 (length (device_blocks (shape_of m)))) b
-unfolding device_blocks shape_of
-devices_part m b few = devices_named (mappings (shape_of m)) [] none_named 1 m.devices few b
-
-pub pool_named_once : (m : ThinPool) → meta_map_at (shape_of m) ≤ 2 ^ 64 → NamesEachOnce (meta_map_at (shape_of m)) (pool_named (shape_of m))
-unfolding ones_below
-pool_named_once m fits b =
-    let w = shape_of m in
-    let devices = devices_part m b (omega arith) in
-    let whole = named_with w b fits in
-    let sums : count_in (pool_named w) b ≡ count_in (range_with_len 0 (meta_map_at w)) b = omega arith in
-    sums ∙ count_range (meta_map_at w) b

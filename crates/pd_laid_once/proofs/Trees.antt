@@ -11,7 +11,7 @@ use Rattle.pd_laid.specs.Tree.{heads, tree_leaves, inners_above, root_above, tre
 use Rattle.pd_laid.specs.Laid.{LaidBlock, named_by, laid_leaf, laid_inner, laid_tree}
 use Rattle.pd_laid.proofs.NeedLemmas.{length-heads, length-leaves}
 use Rattle.pd_laid.proofs.SpreadLemmas.{joined_spread}
-use Rattle.pd_laid_once.proofs.Rows.{values_of, entries_of, values-heads, range_on, row_named}
+use Rattle.pd_laid.proofs.Rows.{values_of, entries_of, values-heads, range_on, row_named}
 
 -- the blocks that edges name
 abbrev pub blocks_of : List Edge → List ℕ

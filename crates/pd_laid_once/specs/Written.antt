@@ -1,16 +1,14 @@
 -- A pool without shared leaves as one writes it who is given its devices one after another.
-use Rattle.std.specs.Prelude.{◌≡◌, ℕ, ◌+◌, ◌*◌, List, [], ◌∷◌, ◌++◌, length, map, sum_by}
+use Rattle.std.specs.Prelude.{ℕ, ◌+◌, ◌*◌, List, [], ◌∷◌, ◌++◌, length, map, sum_by}
 use Rattle.std.specs.List.{range_with_len}
 use Rattle.pd_kinds.specs.Bitmap.{bitmap_salt, index_salt, placed_block, unsealed_index, bitmaps_for}
-use Rattle.pd_kinds.specs.Meaning.{ThinDevice, ThinPool}
+use Rattle.pd_kinds.specs.Meaning.{ThinDevice}
 use Rattle.pd_kinds.specs.Node.{Entry}
-use Rattle.pd_kinds.specs.ThinSuper.{thin_super_block}
 use Rattle.pd_kinds.specs.Value.{details_code}
 use Rattle.pd_spells.specs.Need.{need_tree}
 use Rattle.pd_laid.specs.Tree.{blocks_from, tree_blocks, tree_root}
-use Rattle.pd_laid.specs.Map.{bitmap_of, index_entry_of, meta_overflow, meta_overflow_at, meta_counts}
-use Rattle.pd_laid.specs.Shape.{shape_of}
-use Rattle.pd_laid.specs.LaidThin.{mapping_items, tops_at, details_at, data_counts, bitmaps_at, index_at, data_index, overflow_at, data_overflow, meta_map_at, pool_named, pool_fields}
+use Rattle.pd_laid.specs.Map.{bitmap_of, index_entry_of, meta_overflow_at}
+use Rattle.pd_laid.specs.LaidThin.{mapping_items}
 
 -- how many blocks the trees of devices have
 abbrev pub trees_need : List ThinDevice → ℕ
@@ -44,26 +42,3 @@ unfoldable pub meta_map_from : (ℕ → ℕ) → List Entry → ℕ → ℕ → 
 meta_map_from counts overflow n place =
     placed_block index_salt place (unsealed_index (map (index_entry_of counts n (place + 1)) (range_with_len 0 (bitmaps_for n))))
     ∷ (bitmaps_from counts n (place + 1) ++ tree_blocks 4 (meta_overflow_at n place) overflow)
-
--- the blocks of a laid pool: the superblock, then part behind part
-unfoldable pub pool_blocks : ThinPool → ℕ → List (List ℕ)
-pool_blocks m n =
-    let w = shape_of m in
-    let place = meta_map_at w in
-    thin_super_block (pool_fields w n)
-    ∷ (device_trees 1 m.devices
-    ++ (tree_blocks 8 (tops_at w) (device_roots 1 m.devices)
-    ++ (tree_blocks 24 (details_at w) (device_details m.devices)
-    ++ (bitmaps_from (data_counts w) m.data_blocks (bitmaps_at w)
-    ++ (tree_blocks 16 (index_at w) (data_index w)
-    ++ (tree_blocks 4 (overflow_at w) (data_overflow w)
-    ++ meta_map_from (meta_counts 8 n place (pool_named w)) (meta_overflow n (pool_named w)) n place))))))
-
--- where its parts begin
-pub record ArePlaces (m : ThinPool) : Type 0 where
-  pub tops : tops_at (shape_of m) ≡ 1 + trees_need m.devices
-  pub details : details_at (shape_of m) ≡ tops_at (shape_of m) + need_tree 8 (length m.devices)
-  pub bitmaps : bitmaps_at (shape_of m) ≡ details_at (shape_of m) + need_tree 24 (length m.devices)
-  pub index : index_at (shape_of m) ≡ bitmaps_at (shape_of m) + bitmaps_for m.data_blocks
-  pub overflow : overflow_at (shape_of m) ≡ index_at (shape_of m) + need_tree 16 (bitmaps_for m.data_blocks)
-  pub meta_map : meta_map_at (shape_of m) ≡ overflow_at (shape_of m) + need_tree 4 (length (data_overflow (shape_of m)))

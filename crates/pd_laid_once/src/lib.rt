@@ -1,14 +1,10 @@
-//! A laid image without shared leaves, told part by part, as one needs it who writes one: each block up to the
-//! metadata map is named just once, so that map stores ones below its end and zeros from there on; a pool's
-//! parts are trees that stand one behind another, and it takes just the blocks that it needs.
+//! What laid blocks name, and what one writes of them who knows the items of trees alone: the parts of a pool, a metadata map
+//! before which each block is named once, so that it stores ones below its end and zeros from there on, and the trees of
+//! devices that share no leaf, one behind another.
 #![tactic(auto)]
 
 mod maps;
-mod named;
-mod needs;
 mod written;
 
 pub use maps::{metadata_map_is_written, ones_are_stored};
-pub use named::each_block_is_named_once;
-pub use needs::lawful_pool_takes_its_need;
-pub use written::{later_devices_stand_behind, pool_is_written};
+pub use written::later_devices_stand_behind;

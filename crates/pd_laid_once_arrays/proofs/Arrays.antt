@@ -7,7 +7,7 @@ use Rattle.pd_laid.specs.Tree.{tree_root}
 use Rattle.pd_laid.specs.Laid.{LaidBlock, named_by, count_in, tree_of, laid_tree}
 use Rattle.pd_laid.specs.Array.{array_pieces, array_items, laid_words, laid_array, array_root}
 use Rattle.pd_laid_once.specs.Once.{ones_below, NamesEachOnce}
-use Rattle.pd_laid_once.proofs.Rows.{values_of, range_on}
+use Rattle.pd_laid.proofs.Rows.{values_of, range_on}
 use Rattle.pd_laid_once.proofs.Counts.{count-append, count_range}
 use Rattle.pd_laid_once.proofs.Trees.{named-append, tree_named}
 use Rattle.pd_laid_once.proofs.Items.{each_named}

@@ -4,21 +4,19 @@ use Rattle.std.proofs.Math.Path.{fun_ext}
 use Rattle.std.specs.List.{AllByRecursion, count_by, flat_map, range_with_len}
 use Rattle.std.proofs.lemmas.List.{append-nil, map-append}
 use Rattle.std.proofs.lemmas.Grind.{flat_map-append}
-use Rattle.std.proofs.lemmas.Nat.{div-mul-add}
 use Rattle.pd_kinds.specs.Layout.{Tree}
 use Rattle.pd_kinds.specs.Meaning.{Mapping}
 use Rattle.pd_kinds.specs.Node.{Entry}
 use Rattle.pd_kinds.specs.ThinFormat.{mapped_block, mappings_tree}
 use Rattle.pd_laws.proofs.AllLemmas.{all_append, all_from, all_mapped}
-use Rattle.pd_spells.specs.Lawful.{AreDevices, IsLawfulPool}
+use Rattle.pd_spells.specs.Lawful.{AreDevices, AreMappings, IsLawfulPool}
 use Rattle.pd_spells.specs.ThinNeed.{overflows_in}
 use Rattle.pd_spells.specs.ThinText.{Run}
 use Rattle.pd_laid.specs.Laid.{LaidBlock, count_in, data_named_by, laid_inner, laid_leaf, tree_of}
 use Rattle.pd_laid.specs.LaidThin.{data_counts, data_overflow, device_blocks, device_inners, device_leaves, devices_at, laid_device, laid_devices, mapping_items, own_leaves, shared_items, some_pieces}
 use Rattle.pd_laid.specs.Shape.{IsShape, Piece, ShapeDevice, ThinShape, device_of, own, piece_mappings, pool_of, shared}
-use Rattle.pd_laid.proofs.DataNeed.{HasTimes}
-use Rattle.pd_laid_once.proofs.Need.{times_of_mappings}
-use Rattle.pd_laid_once.proofs.Rows.{entries_of}
+use Rattle.pd_laid.proofs.ItemLemmas.{HasTimes, data_of_items, items-append}
+use Rattle.pd_laid.proofs.Rows.{entries_of}
 use Rattle.pd_laid_once.proofs.Trees.{leaves_joined}
 use Rattle.pd_shapes.specs.SharedNeed.{own_mappings, shape_data}
 use Rattle.pd_shapes.specs.SharedText.{mappings_of_runs}
@@ -27,8 +25,13 @@ use Rattle.pd_shapes.proofs.ShapeText.{shape_spelled}
 use Rattle.pd_shapes.proofs.UsedLeaves.{are_leaves}
 use Rattle.pd_laid_shared.proofs.Counting.{length-overflow}
 
--- lawful mappings have times of 24 bits: those of devices' own pieces, and those of the shared leaves
-abbrev HasTime : Mapping → Type 0
+-- lawful mappings have times of 24 bits
+pub times_of_mappings : (blocks least : ℕ) (ms : List Mapping) → AreMappings blocks least ms → HasTimes ms
+times_of_mappings blocks least [] are = tt
+times_of_mappings blocks least (m ∷ ms) are = (are.0.time_fits, times_of_mappings blocks (m.virtual_block + 1) ms are.1)
+
+-- those of devices' own pieces have, and those of the shared leaves
+abbrev pub HasTime : Mapping → Type 0
 HasTime m = m.time < 2 ^ 24
 
 pub in_two : (P : Mapping → Type 0) (xs ys : List Mapping) → AllByRecursion P (xs ++ ys) → AllByRecursion P xs × AllByRecursion P ys
@@ -43,7 +46,7 @@ own_times leaves (own ms ∷ pieces) times =
 own_times leaves (shared k ∷ pieces) times =
     own_times leaves pieces (in_two HasTime (piece_mappings leaves (shared k)) (flat_map (piece_mappings leaves) pieces) times).1
 
-abbrev all_own : List ShapeDevice → List Mapping
+abbrev pub all_own : List ShapeDevice → List Mapping
 all_own ds = flat_map (λ (d : ShapeDevice). flat_map own_mappings d.pieces) ds
 
 devices_times : (blocks least : ℕ) (leaves : List (List Mapping)) (ds : List ShapeDevice) → AreDevices blocks least (map (device_of leaves) ds) → HasTimes (all_own ds)
@@ -72,15 +75,6 @@ data_of items = flat_map (λ (e : Entry). mapped_block e.value ∷ []) items
 
 abbrev blocks_of_mappings : List Mapping → List ℕ
 blocks_of_mappings ms = map (λ (m : Mapping). m.data_block) ms
-
-data_of_items : (ms : List Mapping) → HasTimes ms → data_of (mapping_items ms) ≡ blocks_of_mappings ms
-unfolding mapping_items
-data_of_items [] times = refl
-data_of_items (m ∷ ms) times = rw (div-mul-add m.data_block (2 ^ 24) m.time times.0, data_of_items ms times.1) refl
-
-items-append : (xs ys : List Mapping) → mapping_items (xs ++ ys) ≡ mapping_items xs ++ mapping_items ys
-unfolding mapping_items
-items-append xs ys = map-append _ xs ys
 
 -- the entries of the shared leaves, and of own ones
 shared_entries : (leaves : List (List Mapping)) → entries_of (map mapping_items leaves) ≡ mapping_items (flat_map (λ ms. ms) leaves)
@@ -145,29 +139,37 @@ module _ (data_blocks : ℕ) (leaves : List (List Entry)) where
       ∙ (ap₂ (λ (front rest : List ℕ). front ++ rest) (device_data place d both.0) (devices_data (place + length here) ds both.1)
       ∙ sym (map-append (λ (m : Mapping). m.data_block) mine (all_own ds)))
 
-module _ (w : ThinShape) (is : IsShape w) (lawful : IsLawfulPool (pool_of w)) where
-  own_have : HasTimes (all_own w.devices)
-  unfolding pool_of
-  own_have = devices_times w.data_blocks 0 w.leaves w.devices lawful.devices
-
+-- where their times have 24 bits
+module _ (w : ThinShape) (leaf_times : HasTimes (flat_map (λ (ms : List Mapping). ms) w.leaves)) (own_have : HasTimes (all_own w.devices)) where
   pool_data : data_named_by (device_blocks w) ≡ shape_data w
   unfolding device_blocks shape_data
   pool_data =
       let t = tree_of (mappings_tree w.data_blocks) in
       let joined = flat_map (λ (ms : List Mapping). ms) w.leaves in
-      let times = joined_times w.leaves (leaves_times w is lawful) in
       data-append (map (laid_leaf 3 t) (shared_items w)) (laid_devices t (shared_items w) (devices_at w) w.devices)
       ∙ (ap₂ (λ (front rest : List ℕ). front ++ rest)
-      (leaves_data 3 t (shared_items w) ∙ (ap data_of (shared_entries w.leaves) ∙ data_of_items joined times))
+      (leaves_data 3 t (shared_items w) ∙ (ap data_of (shared_entries w.leaves) ∙ data_of_items joined leaf_times))
       (devices_data w.data_blocks (shared_items w) (devices_at w) w.devices own_have)
       ∙ sym (map-append (λ (m : Mapping). m.data_block) joined (all_own w.devices)))
 
-  pub counts_are : data_counts w ≡ count_in (shape_data w)
+  pub counts_with : data_counts w ≡ count_in (shape_data w)
   unfolding data_counts
-  counts_are = fun_ext (λ d. ap (λ (named : List ℕ). count_in named d) pool_data)
+  counts_with = fun_ext (λ d. ap (λ (named : List ℕ). count_in named d) pool_data)
+
+  pub overflows_with : length (data_overflow w) ≡ overflows_in (shape_data w) w.data_blocks
+  unfolding overflows_in
+  overflows_with =
+      length-overflow (data_counts w) w.data_blocks
+      ∙ ap (λ (counts : ℕ → ℕ). count_by (λ d. nat_le 3 (counts d)) (range_with_len 0 w.data_blocks)) counts_with
+
+-- so of lawful shapes
+module _ (w : ThinShape) (is : IsShape w) (lawful : IsLawfulPool (pool_of w)) where
+  own_have : HasTimes (all_own w.devices)
+  unfolding pool_of
+  own_have = devices_times w.data_blocks 0 w.leaves w.devices lawful.devices
+
+  pub counts_are : data_counts w ≡ count_in (shape_data w)
+  counts_are = counts_with w (joined_times w.leaves (leaves_times w is lawful)) own_have
 
   pub overflows_are : length (data_overflow w) ≡ overflows_in (shape_data w) w.data_blocks
-  unfolding overflows_in
-  overflows_are =
-      length-overflow (data_counts w) w.data_blocks
-      ∙ ap (λ (counts : ℕ → ℕ). count_by (λ d. nat_le 3 (counts d)) (range_with_len 0 w.data_blocks)) counts_are
+  overflows_are = overflows_with w (joined_times w.leaves (leaves_times w is lawful)) own_have

@@ -13,7 +13,7 @@ use Rattle.pd_laid.specs.Shape.{ArePieces, Piece, ShapeDevice, own, shared, uses
 use Rattle.pd_laid.specs.Tree.{heads, inners_above, root_above}
 use Rattle.pd_laid.proofs.NeedLemmas.{length-inners, length-leaves}
 use Rattle.pd_laid_once.proofs.Counts.{count-append, count-cons}
-use Rattle.pd_laid_once.proofs.Rows.{entries_of, range_on, row_named, values-heads, values_of}
+use Rattle.pd_laid.proofs.Rows.{entries_of, range_on, row_named, values-heads, values_of}
 use Rattle.pd_laid_once.proofs.Trees.{inners_named, item_names, leaves_named, named-append}
 use Rattle.pd_laid_shared.proofs.Counting.{behind_first}
 use Rattle.pd_laid_shared.proofs.DeviceNeed.{row_length}

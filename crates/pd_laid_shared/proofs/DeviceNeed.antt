@@ -1,23 +1,19 @@
 -- How many blocks the tree of a device takes.
 use Rattle.std.proofs.Common.{◌≡◌, ℕ, ◌+◌, ◌≤◌, List, [], ◌∷◌, length, map, sum_by, refl, sym, ◌∙◌, ap, ap₂, arith}
 use Rattle.std.specs.List.{AllByRecursion, flat_map}
-use Rattle.std.proofs.lemmas.List.{length-append, length-map}
+use Rattle.std.proofs.lemmas.List.{length-append}
 use Rattle.std.proofs.lemmas.List.Sums.{sum_by-cons}
 use Rattle.pd_kinds.specs.Meaning.{Mapping}
 use Rattle.pd_kinds.specs.Node.{Entry, max_entries, leaf_block, inner_block}
-use Rattle.pd_kinds.specs.Value.{mapping_code}
 use Rattle.pd_spells.specs.Need.{nodes_for, need_above}
 use Rattle.pd_laid.specs.LaidThin.{mapping_items, some_pieces, own_leaves, pieces_row, device_row, device_leaves, device_inners}
 use Rattle.pd_laid.specs.Shape.{ArePieces, Piece, ShapeDevice, own, shared, uses_of_piece}
 use Rattle.pd_laid.specs.Tree.{blocks_from, heads}
+use Rattle.pd_laid.proofs.ItemLemmas.{length-items}
 use Rattle.pd_laid.proofs.LaidLemmas.{length-blocks_from}
 use Rattle.pd_laid.proofs.NeedLemmas.{length-heads, length-inners, length-leaves}
 use Rattle.pd_shapes.specs.SharedNeed.{leaves_of_pieces, need_of_leaves, own_number}
 use Rattle.pd_laid_shared.specs.Written.{device_tree, device_trees, trees_need}
-
-pub length-items : (ms : List Mapping) → length (mapping_items ms) ≡ length ms
-unfolding mapping_items
-length-items ms = length-map ms (λ (m : Mapping). record { key = m.virtual_block; value = mapping_code m.data_block m.time })
 
 -- a piece of some mappings has as many leaves as hold them
 abbrev leaves_for : ℕ → ℕ

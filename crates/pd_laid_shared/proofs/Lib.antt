@@ -6,3 +6,4 @@ pub mod MapStored
 pub mod DataCounts
 pub mod WrittenParts
 pub mod ShapeNeed
+pub mod PoolCase

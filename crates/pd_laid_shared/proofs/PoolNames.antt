@@ -12,7 +12,7 @@ use Rattle.pd_laid_once.specs.Once.{ones_below}
 use Rattle.pd_laid_once.proofs.Counts.{count-append, count_range}
 use Rattle.pd_laid_once.proofs.Items.{none_named}
 use Rattle.pd_laid_once.proofs.Pool.{named_with}
-use Rattle.pd_laid_once.proofs.Rows.{entries_of, range_on}
+use Rattle.pd_laid.proofs.Rows.{entries_of, range_on}
 use Rattle.pd_laid_once.proofs.Trees.{leaves_named, named-append}
 use Rattle.pd_shapes.specs.SharedNeed.{used_often}
 use Rattle.pd_laid_shared.specs.Named.{named_times, used_times}

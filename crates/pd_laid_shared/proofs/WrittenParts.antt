@@ -1,19 +1,14 @@
 -- How a pool with shared leaves is written, and where its parts begin.
-use Rattle.std.proofs.Common.{◌≡◌, ℕ, suc, ◌+◌, ◌%◌, ◌^◌, List, [], ◌∷◌, ◌++◌, length, map, refl, sym, ◌∙◌, ap, ap₂, arith}
+use Rattle.std.proofs.Common.{◌≡◌, ℕ, ◌+◌, List, [], ◌∷◌, ◌++◌, length, map, refl, sym, ◌∙◌, ap, ap₂, arith}
 use Rattle.std.proofs.lemmas.List.{append_assoc, length-append, length-map}
-use Rattle.std.proofs.lemmas.List.FromFn.{length-map-range_with_len}
-use Rattle.pd_kinds.specs.Bitmap.{bitmaps_for}
 use Rattle.pd_kinds.specs.Layout.{Tree, tree_to, plain_tree}
 use Rattle.pd_kinds.specs.Node.{Entry, leaf_block}
-use Rattle.pd_kinds.specs.Value.{details_code}
-use Rattle.pd_spells.specs.Need.{need_tree}
 use Rattle.pd_laid.specs.Tree.{blocks_from, tree_blocks}
 use Rattle.pd_laid.specs.Laid.{LaidBlock, written_from, tree_of, laid_leaf}
-use Rattle.pd_laid.specs.Map.{index_items, index_entry_of}
 use Rattle.pd_laid.specs.Shape.{IsShape, ShapeDevice, ThinShape}
-use Rattle.pd_laid.specs.LaidThin.{device_root, laid_device, laid_devices, top_items, details_items, mapping_items, mappings, shared_items, devices_at, device_blocks, tops_at, tops, top_blocks, details_at, details_blocks, data_counts, bitmaps_at, bitmap_blocks, index_at, data_index, index_blocks, overflow_at, data_overflow, overflow_blocks, pool_parts, meta_map_at, meta_map_blocks}
+use Rattle.pd_laid.specs.LaidThin.{device_root, laid_device, laid_devices, top_items, details_items, mapping_items, mappings, shared_items, devices_at, device_blocks, tops_at, tops, top_blocks, details_at, details_blocks, bitmaps_at, bitmap_blocks, index_at, index_blocks, overflow_at, overflow_blocks, pool_parts, meta_map_at, meta_map_blocks}
 use Rattle.pd_laid.proofs.LaidLemmas.{blocks_from-append, blocks_from-map, device_written, length-blocks_from, tree_written}
-use Rattle.pd_laid.proofs.NeedLemmas.{length-tree, length-bitmaps}
+use Rattle.pd_laid.proofs.PartSizes.{tops_size, details_size, bitmaps_size, index_size, overflow_size}
 use Rattle.pd_laid_shared.specs.Written.{AreShapePlaces, device_roots, device_tree, device_trees, leaf_blocks_from, leaves_and_trees, shape_parts, trees_need}
 use Rattle.pd_laid_shared.proofs.DeviceNeed.{devices_need}
 
@@ -51,11 +46,6 @@ module _ (t : Tree) (eight : t.size ≡ 8) (leaves : List (List Entry)) where
       let number = ap (λ (n : ℕ). place + n) (one_number place d) in
       ap (λ (rest : List Entry). record { key = d.id; value = device_root leaves place d } ∷ rest)
       (roots_are next ds ∙ ap (λ (from : ℕ). device_roots leaves from ds) number)
-
-roots_number : (leaves : List (List Entry)) (place : ℕ) (ds : List ShapeDevice) → length (device_roots leaves place ds) ≡ length ds
-unfolding device_roots
-roots_number leaves place [] = refl
-roots_number leaves place (d ∷ ds) = ap suc (roots_number leaves (place + length (device_tree leaves place d)) ds)
 
 -- parts in a row, and what is behind them all
 parts_joined : (a b c d e : List LaidBlock) → (a ++ (b ++ (c ++ d))) ++ e ≡ a ++ (b ++ (c ++ (d ++ e)))
@@ -113,32 +103,6 @@ module _ (w : ThinShape) where
       (part (bitmaps_at w) maps behind _ _ refl (ap (λ (place : ℕ). written_from place behind) maps_end))))
 
   -- the places
-  tops_size : length (top_blocks w) ≡ need_tree 8 (length w.devices)
-  unfolding top_blocks
-  tops_size =
-      length-tree 2 (tree_of (tree_to 8 3 (λ v. v))) (tops_at w) (tops w)
-      ∙ ap (need_tree 8) (ap (λ (items : List Entry). length items) tops_are ∙ roots_number (shared_items w) (devices_at w) w.devices)
-
-  details_size : length (details_blocks w) ≡ need_tree 24 (length w.devices)
-  unfolding details_blocks details_items
-  details_size =
-      length-tree 4 (tree_of (plain_tree 24)) (details_at w) (details_items w.devices)
-      ∙ ap (need_tree 24) (length-map w.devices (λ (d : ShapeDevice). record { key = d.id; value = details_code d.mapped d.transaction d.created d.snapped }))
-
-  bitmaps_size : length (bitmap_blocks w) ≡ bitmaps_for w.data_blocks
-  unfolding bitmap_blocks
-  bitmaps_size = length-bitmaps 6 (data_counts w) w.data_blocks
-
-  index_size : length (index_blocks w) ≡ need_tree 16 (bitmaps_for w.data_blocks)
-  unfolding index_blocks index_items
-  index_size =
-      length-tree 5 (tree_of (tree_to 16 6 (λ v. v % 2 ^ 64))) (index_at w) (data_index w)
-      ∙ ap (need_tree 16) (length-map-range_with_len (λ (i : ℕ). record { key = i; value = index_entry_of (data_counts w) w.data_blocks (bitmaps_at w) i }) 0 (bitmaps_for w.data_blocks))
-
-  overflow_size : length (overflow_blocks w) ≡ need_tree 4 (length (data_overflow w))
-  unfolding overflow_blocks
-  overflow_size = length-tree 7 (tree_of (plain_tree 4)) (overflow_at w) (data_overflow w)
-
   leaves_number : length (device_blocks w) ≡ length (leaves_and_trees w.leaves w.devices)
   leaves_number = written_number 1 (device_blocks w) (leaves_and_trees w.leaves w.devices) leaves_part
 
@@ -156,11 +120,11 @@ module _ (w : ThinShape) where
   places_are is = record {
     tops = ap (λ (n : ℕ). 1 + n) leaves_number;
     trees = trees_number is;
-    details = ap (λ (n : ℕ). tops_at w + n) tops_size;
-    bitmaps = ap (λ (n : ℕ). details_at w + n) details_size;
-    index = ap (λ (n : ℕ). bitmaps_at w + n) bitmaps_size;
-    overflow = ap (λ (n : ℕ). index_at w + n) index_size;
-    meta_map = ap (λ (n : ℕ). overflow_at w + n) overflow_size;
+    details = ap (λ (n : ℕ). tops_at w + n) (tops_size w);
+    bitmaps = ap (λ (n : ℕ). details_at w + n) (details_size w);
+    index = ap (λ (n : ℕ). bitmaps_at w + n) (bitmaps_size w);
+    overflow = ap (λ (n : ℕ). index_at w + n) (index_size w);
+    meta_map = ap (λ (n : ℕ). overflow_at w + n) (overflow_size w);
   }
 
 -- devices that come later

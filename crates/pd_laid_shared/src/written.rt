@@ -1,6 +1,6 @@
 //! What is written of a laid pool with shared leaves, part by part.
 
-ghost use Rattle.std.specs.Prelude.{◌≡◌, ◌++◌, ◌+◌, ◌≤◌, List, ℕ, length};
+ghost use Rattle.std.specs.Prelude.{◌≡◌, ◌++◌, ◌+◌, List, ℕ, length};
 ghost use Rattle.pd_kinds.specs.Node.{Entry};
 ghost use Rattle.pd_laid.specs.Laid.{written_from};
 ghost use Rattle.pd_laid.specs.LaidThin.{devices_at, meta_map_blocks, pool_parts, shared_items, tops};

@@ -22,7 +22,7 @@ use Rattle.pd_laid_graph.proofs.FromLemmas.{from_back, from_both, from_follows, 
 use Rattle.pd_laid_graph.specs.Items.{AreItems}
 use Rattle.pd_laid_graph.proofs.Names.{root_has}
 use Rattle.pd_laid_graph.proofs.Roots.{AreLeavesAt, leaves_both}
-use Rattle.pd_laid_graph.proofs.Rows.{values_of}
+use Rattle.pd_laid.proofs.Rows.{values_of}
 use Rattle.pd_laid_graph.proofs.Trees.{IsRow, SeenLeaf, leaf_roles, leaves_are, leaves_fit, leaves_seen, parts_items, row_above, seen_at}
 use Rattle.pd_laid_thin.proofs.ThinItems.{DeviceFits, mapping_items_are}
 use Rattle.pd_laid_thin.proofs.ThinRoles.{mappings_role}

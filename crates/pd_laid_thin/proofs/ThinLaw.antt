@@ -25,7 +25,7 @@ use Rattle.pd_laid.specs.LaidThin.{bitmaps_at, data_counts, data_index, data_ove
 use Rattle.pd_laid.specs.Map.{index_entry_of, index_items, meta_counts, meta_map_number, meta_overflow}
 use Rattle.pd_laid.specs.Shape.{IsShape, ShapeDevice, ThinShape, pool_of, shape_of}
 use Rattle.pd_laid.proofs.ShapeLemmas.{is_shape, pool_kept}
-use Rattle.pd_laid_once.proofs.Need.{laid_need}
+use Rattle.pd_laid_shared.proofs.PoolCase.{laid_need}
 use Rattle.pd_laid_graph.specs.LaidOut.{AllFrom, AreLaidInOrder, IsInPlace, IsLaidOut, role_at}
 use Rattle.pd_laid_graph.proofs.CheckLemmas.{clean_super, same_bytes, whole_holds}
 use Rattle.pd_laid_graph.proofs.LaidLemmas.{laid_in_order}
@@ -38,7 +38,9 @@ use Rattle.pd_laid_thin.specs.CleanPool.{IsCleanPool}
 use Rattle.pd_laid_thin.proofs.ThinCounts.{bitmap_once, data_references, references_count}
 use Rattle.pd_laid_thin.proofs.ThinDevices.{AreRead}
 use Rattle.pd_laid_thin.proofs.ThinItems.{details_value}
-use Rattle.pd_laid_thin.proofs.ThinPool.{ShapeFits, bitmap_count, data_bitmap_stands, data_index_seen, data_overflow_seen, details_seen, device_fits, devices_all_seen, ids_ascend, lawful_graph, meta_fitting, meta_map_seen, parts_end, parts_fitting, pool_blocks, pool_in_place, pool_number, shape_fits, super_edges, top_keys, tops_seen}
+use Rattle.pd_laid_thin.proofs.ThinPool.{ShapeFits, bitmap_count, data_bitmap_stands, data_index_seen, data_overflow_seen, details_seen, device_fits, devices_all_seen, ids_ascend, lawful_graph, meta_fitting, meta_map_seen, parts_fitting, pool_blocks, pool_in_place, shape_fits, super_edges, top_keys, tops_seen}
+use Rattle.pd_laid_shared.proofs.ShapeNeed.{number_with}
+use Rattle.pd_laid.proofs.PartSizes.{parts_number}
 use Rattle.pd_laid_thin.proofs.ThinSuper.{IsSuperLaid, super_laid, super_leads, super_seen}
 use Rattle.pd_laid_thin.proofs.ThinWhole.{AreFound, devices_back, keyed, mapped_holds}
 
@@ -69,7 +71,7 @@ module _ (w : ThinShape) (n : ℕ) (image : List (List ℕ)) (few : n ≤ 416160
   laid_out : IsLaidOut (graph_of 11 n w.data_blocks (thin_layout n w.data_blocks)) image (pool_blocks w n)
   unfolding graph_of pool_blocks
   laid_out =
-      laid_out_of this image (thin_super_block (pool_fields w n)) (super_edges w n) (pool_parts w) (meta_map_blocks w n) (meta_map_at w) end (parts_end w) refl room
+      laid_out_of this image (thin_super_block (pool_fields w n)) (super_edges w n) (pool_parts w) (meta_map_blocks w n) (meta_map_at w) end (parts_number w) refl room
       (super_seen w n image few fits shape room stand) (super_leads w n image few fits shape room stand) (parts_fitting w n image few fits shape room stand) (meta_fitting w n image few fits shape room stand)
 
   in_order : AreLaidInOrder (graph_of 11 n w.data_blocks (thin_layout n w.data_blocks)) image (pool_blocks w n)
@@ -251,7 +253,7 @@ law w base image lawful shape room is =
     let fits = shape_fits w lawful in
     let stand = pool_in_place w n base image is in
     let few : n ≤ 4161600 = omega arith in
-    let number = pool_number w n in
+    let number = number_with w n in
     let enough : meta_map_at w + length (meta_map_blocks w n) ≤ n = omega arith in
     let size = is.number in
     record {

@@ -17,11 +17,12 @@ use Rattle.pd_kinds.specs.Trees.{keys_of}
 use Rattle.pd_laws.proofs.AllLemmas.{all_append, all_flat_map, all_from, all_map, all_mapped, all_of}
 use Rattle.pd_laws.proofs.ThinTable.{thin_table}
 use Rattle.pd_spells.specs.Lawful.{AreDevices, IsLawfulPool}
-use Rattle.pd_laid.specs.Laid.{IsLaid, LaidBlock, data_named_by, laid_inner, laid_leaf, laid_number, tree_of}
+use Rattle.pd_laid.specs.Laid.{IsLaid, LaidBlock, data_named_by, laid_inner, laid_leaf, tree_of}
 use Rattle.pd_laid.specs.LaidThin.{bitmap_blocks, bitmaps_at, data_counts, data_index, data_index_root, data_overflow, data_overflow_root, details_at, details_blocks, details_items, details_root, device_blocks, device_inners, device_leaves, devices_at, index_at, index_blocks, laid_device, laid_devices, laid_shape, mapping_items, mapping_root, mappings, meta_map_at, meta_map_blocks, overflow_at, overflow_blocks, pool_fields, pool_named, pool_parts, shared_items, top_blocks, top_items, tops, tops_at}
 use Rattle.pd_laid.specs.Map.{laid_bitmap, meta_overflow_root}
 use Rattle.pd_laid.specs.Shape.{IsShape, ShapeDevice, ThinShape, device_of, pool_of, uses_of}
 use Rattle.pd_laid.proofs.NeedLemmas.{length-bitmaps}
+use Rattle.pd_laid.proofs.PartSizes.{parts_number}
 use Rattle.pd_laid_graph.specs.LaidOut.{AllFrom, IsFitting, IsInPlace, IsNamed, LeadsBelow, laid_super, role_at}
 use Rattle.pd_laid_graph.proofs.FitLemmas.{few_data, few_named, named_lower}
 use Rattle.pd_laid_graph.proofs.FromLemmas.{from_back, from_both, from_front}
@@ -37,7 +38,8 @@ use Rattle.pd_laid_maps.proofs.MetaMap.{map_seen, unmapped}
 use Rattle.pd_laid_thin.proofs.ThinDevices.{AreDevicesSeen, devices_seen, few_roles, known, leaves_are_items, tops_inside, wide}
 use Rattle.pd_laid_thin.proofs.ThinItems.{DeviceFits, details_items_are, devices_ascend, devices_fit}
 use Rattle.pd_laid_thin.proofs.ThinRoles as roles
-use Rattle.pd_laid_thin.proofs.ThinRows.{holds_among, length-items}
+use Rattle.pd_laid_thin.proofs.ThinRows.{holds_among}
+use Rattle.pd_laid.proofs.ItemLemmas.{length-items}
 
 -- what a shape with a lawful meaning keeps
 pub record ShapeFits (w : ThinShape) : Type 0 where
@@ -91,23 +93,9 @@ pub pool_in_place : (w : ThinShape) (n : ℕ) (base image : List (List ℕ)) →
 unfolding laid_shape pool_blocks
 pool_in_place w n base image is = laid_in_place (laid_shape w n) (super_edges w n) base image is
 
-pub parts_end : (w : ThinShape) → 1 + length (pool_parts w) ≡ meta_map_at w
-unfolding pool_parts
-parts_end w =
-    let over = length-append (index_blocks w) (overflow_blocks w) in
-    let index = length-append (bitmap_blocks w) (index_blocks w ++ overflow_blocks w) in
-    let bitmaps = length-append (details_blocks w) (bitmap_blocks w ++ (index_blocks w ++ overflow_blocks w)) in
-    let details = length-append (top_blocks w) (details_blocks w ++ (bitmap_blocks w ++ (index_blocks w ++ overflow_blocks w))) in
-    let tops = length-append (device_blocks w) (top_blocks w ++ (details_blocks w ++ (bitmap_blocks w ++ (index_blocks w ++ overflow_blocks w)))) in
-    omega arith
-
 pub blocks_number : (w : ThinShape) (n : ℕ) → length (pool_blocks w n) ≡ meta_map_at w + length (meta_map_blocks w n)
 unfolding pool_blocks
-blocks_number w n = omega (arith, parts_end w, length-append (pool_parts w) (meta_map_blocks w n))
-
-pub pool_number : (w : ThinShape) (n : ℕ) → laid_number (laid_shape w n) ≡ meta_map_at w + length (meta_map_blocks w n)
-unfolding laid_shape pool_blocks
-pool_number w n = omega (arith, blocks_number w n)
+blocks_number w n = omega (arith, parts_number w, length-append (pool_parts w) (meta_map_blocks w n))
 
 -- what holds of each block of each part, in its place
 pub record PartsHold (P : ℕ → LaidBlock → Type 0) (w : ThinShape) : Type 0 where
@@ -194,7 +182,7 @@ module _ (w : ThinShape) (n : ℕ) (image : List (List ℕ)) (few : n ≤ 416160
 
   pub meta_stands : AllFrom (IsInPlace image (pool_blocks w n)) (meta_map_at w) (meta_map_blocks w n)
   meta_stands =
-      let e = parts_end w in
+      let e = parts_number w in
       rw e at (from_back (IsInPlace image blocks) 1 (pool_parts w) (meta_map_blocks w n) rest_stands)
 
   -- the devices' blocks, first what is needed of them above
@@ -411,7 +399,7 @@ module _ (w : ThinShape) (n : ℕ) (image : List (List ℕ)) (few : n ≤ 416160
 
   few_named_before : length (pool_named w) < 2 ^ 32
   unfolding pool_named
-  few_named_before = omega (arith, few_named this image blocks (meta_map_at w) lawful_graph 1 (pool_parts w) parts_fitting, parts_end w)
+  few_named_before = omega (arith, few_named this image blocks (meta_map_at w) lawful_graph 1 (pool_parts w) parts_fitting, parts_number w)
 
   -- the metadata map
   abbrev pub end : ℕ

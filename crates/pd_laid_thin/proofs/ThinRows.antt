@@ -1,9 +1,9 @@
 -- The row of the leaves of a device: its own, and those that it shares.
-use Rattle.std.proofs.Common.{◌≡◌, inl, inr, ℕ, zero, suc, ◌+◌, ◌<◌, ◌≤◌, true, nat_eq, get_or, List, [], ◌∷◌, ◌++◌, length, map, refl, sym, ◌∙◌, ap, ap₂, arith}
+use Rattle.std.proofs.Common.{◌≡◌, inl, inr, ℕ, zero, suc, ◌+◌, ◌<◌, ◌≤◌, true, nat_eq, get_or, List, [], ◌∷◌, ◌++◌, length, map, refl, sym, ◌∙◌, ap₂, arith}
 use Rattle.std.specs.List.{AllByRecursion, flat_map, list_any, slice_get}
 use Rattle.std.specs.Option.{unwrap_or}
 use Rattle.std.proofs.lemmas.Bool.{both_ways, or_cases, eqb-true}
-use Rattle.std.proofs.lemmas.List.{append-nil, map-append}
+use Rattle.std.proofs.lemmas.List.{append-nil}
 use Rattle.std.proofs.lemmas.Grind.{flat_map-append}
 use Rattle.pd_kinds.specs.Node.{Entry, max_entries}
 use Rattle.pd_kinds.specs.Meaning.{Mapping}
@@ -12,6 +12,7 @@ use Rattle.pd_laid.specs.LaidThin.{mapping_items, own_leaves, pieces_row, some_p
 use Rattle.pd_laid.specs.Shape.{ArePieces, Piece, leaf_mappings, own, piece_mappings, shared, uses_of_piece}
 use Rattle.pd_laid.specs.Tree.{heads}
 use Rattle.pd_laid_graph.specs.LaidOut.{AllFrom}
+use Rattle.pd_laid.proofs.ItemLemmas.{items-append, length-items}
 use Rattle.pd_laid_graph.proofs.ListLemmas.{all_back, all_front}
 use Rattle.pd_laid_graph.proofs.FromLemmas.{from_back, from_both, from_front}
 use Rattle.pd_laid_graph.proofs.Trees.{from_heads, heads_from, leaves_are}
@@ -64,10 +65,6 @@ piece_joined : (leaves : List (List Mapping)) (piece : Piece)
     → flat_map (λ (g : List Entry). g) (piece_groups (map mapping_items leaves) piece) ≡ mapping_items (piece_mappings leaves piece)
 piece_joined leaves (own mappings) = (leaves_are 8 (mapping_items mappings) (omega arith)).joined_is
 piece_joined leaves (shared number) = append-nil (unwrap_or (slice_get (map mapping_items leaves) number) []) ∙ mapped_leaf leaves number
-
-items-append : (xs ys : List Mapping) → mapping_items (xs ++ ys) ≡ mapping_items xs ++ mapping_items ys
-unfolding mapping_items
-items-append xs ys = map-append _ xs ys
 
 pub groups_joined : (leaves : List (List Mapping)) (pieces : List Piece)
     → flat_map (λ (g : List Entry). g) (flat_map (piece_groups (map mapping_items leaves)) pieces) ≡ mapping_items (flat_map (piece_mappings leaves) pieces)
@@ -144,11 +141,6 @@ own_most (own mappings ∷ pieces) =
     all_append (λ (g : List Entry). length g ≤ max_entries 8) (own_leaves (own mappings)) (flat_map own_leaves pieces)
     (leaves_are 8 (mapping_items mappings) (omega arith)).most (own_most pieces)
 own_most (shared number ∷ pieces) = own_most pieces
-
-pub length-items : (ms : List Mapping) → length (mapping_items ms) ≡ length ms
-unfolding mapping_items
-length-items [] = refl
-length-items (x ∷ ms) = ap suc (length-items ms)
 
 pub groups_filled : (leaves : List (List Mapping)) (pieces : List Piece) → AllByRecursion (λ (ms : List Mapping). 1 ≤ length ms) leaves → AllByRecursion (PieceFits (length leaves)) pieces
     → AllByRecursion (λ (g : List Entry). 1 ≤ length g) (flat_map (piece_groups (map mapping_items leaves)) pieces)

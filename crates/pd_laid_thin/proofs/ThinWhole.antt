@@ -19,7 +19,7 @@ use Rattle.pd_laid.specs.Shape.{ShapeDevice, device_of, piece_mappings}
 use Rattle.pd_laid_graph.proofs.Ascending.{asc_tail, first_less}
 use Rattle.pd_laid_thin.proofs.ThinDevices.{AreRead}
 use Rattle.pd_laid_thin.proofs.ThinItems.{DeviceFits, MappingFits, details_value, mappings_fit}
-use Rattle.pd_laid_thin.proofs.ThinRows.{length-items}
+use Rattle.pd_laid.proofs.ItemLemmas.{length-items}
 
 -- entries with ascending keys are found by their keys
 module _ {X : Type 0} (key value : X → ℕ) where

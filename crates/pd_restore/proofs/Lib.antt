@@ -1,5 +1,3 @@
-pub mod OrderLemmas
-pub mod PartLemmas
 pub mod LineLemmas
 pub mod ReadingLemmas
 pub mod UnsharedLines

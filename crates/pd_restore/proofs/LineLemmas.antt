@@ -1,23 +1,30 @@
 -- The devices that the lines of a whole text give.
-use Rattle.std.proofs.Common.{◌≡◌, ℕ, ◌+◌, eqb, cond, List, [], ◌∷◌, ◌++◌, length, length-append, map, sum_by, refl, sym, ◌∙◌, ap, ap₂, append_assoc, arith, Option, None, Some}
+use Rattle.std.proofs.Common.{◌≡◌, ℕ, ◌+◌, eqb, cond, List, [], ◌∷◌, ◌++◌, length, length-append, map, sum_by, refl, sym, ◌∙◌, ap, ap₂, append_assoc, subst, arith, Option, None, Some}
 use Rattle.std.proofs.Math.Path.{fun_ext}
 use Rattle.std.specs.List.{count_by, flat_map}
 use Rattle.std.proofs.lemmas.List.{append-nil, map-append}
 use Rattle.std.proofs.lemmas.List.Sums.{sum_by-append}
 use Rattle.pd_kinds.specs.Meaning.{ThinPool, ThinDevice, Mapping}
-use Rattle.pd_draft.specs.Placed.{Stand}
+use Rattle.pd_draft.specs.Placed.{Stand, Wrote}
+use Rattle.pd_count.specs.Counted.{Counted, HasCounted}
+use Rattle.pd_spells.specs.Lawful.{IsLawfulPool}
 use Rattle.pd_spells.specs.Need.{need_tree}
 use Rattle.pd_spells.specs.ThinNeed.{mapped_data, overflows_in, thin_need, thin_need_so_far}
 use Rattle.pd_spells.proofs.NeedLemmas.{devices-same, overflows-same}
 use Rattle.pd_spells.specs.ThinText.{Line, first_line, pool_line, device_line, map_line, end_line, Run, Part, mappings_of, device_of_part, head_of, lines_of_part, data_blocks_of, piece_end, unmapped, MeansPool}
-use Rattle.pd_laid_once.proofs.Need.{data_counts_are}
+use Rattle.pd_laid.specs.Tree.{blocks_from}
+use Rattle.pd_laid.specs.Shape.{shape_of, unshared_device, unshared_pieces, uses_of, uses_of_piece}
+use Rattle.pd_laid.proofs.ShapeLemmas.{is_shape, pool_kept}
+use Rattle.pd_laid_shared.proofs.PoolCase.{data_counts_are, trees_are, roots_are, details_are}
+use Rattle.pd_laid_shared.specs.Named.{used_times}
+use Rattle.pd_laid_shared.specs.Written.{leaves_and_trees}
 use Rattle.pd_texts.specs.Reader.{in_order}
 use Rattle.pd_devices.specs.declared.devices.Devices.{Devices}
 use Rattle.pd_devices.specs.Devices.{bare_device, with_run, open_device, whole_devices}
 use Rattle.pd_devices.specs.Gathered.{HasGathered, IsOpen, data_in, mapped_in}
 use Rattle.pd_devices.specs.declared.devices.Growing.{Growing}
 use Rattle.pd_laid_once.specs.Written.{device_details}
-use Rattle.pd_restore.specs.Written.{HasDevices}
+use Rattle.pd_restore.specs.Written.{HasDevices, Known}
 
 -- more lines, the newest first
 abbrev pushed : List Line → List Line → List Line
@@ -130,22 +137,37 @@ closed_at {start} {now} lines s h closed = closed_by s.growing (piece_end lines)
     closed_by None low left from to is = is
     closed_by (Some o) low left from to is = absurd is
 
--- so what was gathered of all lines of a pool is what the pool has
-pub devices_of_lines : {start now : Stand} (lines : List Line) (m : ThinPool) (s : Devices) → HasGathered lines s start now → MeansPool (in_order lines []) m → HasDevices m s start now
-devices_of_lines {start} {now} lines m s h means =
+-- no device uses a shared leaf
+no_uses : (ds : List ThinDevice) → flat_map uses_of (map unshared_device ds) ≡ []
+no_uses [] = refl
+no_uses (d ∷ ds) = rw (unshared_uses d.mappings, no_uses ds) refl
+  where
+    unshared_uses : (ms : List Mapping) → flat_map uses_of_piece (unshared_pieces ms) ≡ []
+    unshared_uses [] = refl
+    unshared_uses (m ∷ ms) = refl
+
+-- what is known of devices that share no leaf
+abbrev pub known_of : Devices → Counted → Known
+known_of s uses = record { roots = s.roots.items; details = s.details.items; counts = s.counts.counts; leaves = 0; uses = uses }
+
+-- so what was gathered of all lines of a pool is what its shape has
+pub devices_of_lines : {start now : Stand} (lines : List Line) (m : ThinPool) (s : Devices) (uses : Counted) → HasGathered lines s start now → MeansPool (in_order lines []) m → HasCounted uses []
+    → HasDevices (shape_of m) (known_of s uses) start now
+unfolding blocks_from leaves_and_trees shape_of
+devices_of_lines {start} {now} lines m s uses h means none =
     let head : List Line = pool_line (head_of m) ∷ first_line ∷ [] in
     let is = lines_are lines m means in
-    let all = pushed head (flat_map lines_of_part means.parts ++ end_line ∷ []) in
     let whole : whole_devices lines ≡ m.devices = ap whole_devices is ∙ (parts_whole means.parts head ∙ means.devices) in
     let closed : open_device lines ≡ [] = ap open_device is ∙ none_open means.parts head in
     let blocks : data_blocks_of lines ≡ m.data_blocks = ap data_blocks_of is ∙ parts_blocks means.parts head in
     let here : h.behind ≡ now = closed_at lines s h closed in
     record {
-      lawful = means.lawful;
+      shape = is_shape m;
+      lawful = subst IsLawfulPool (sym (pool_kept m)) means.lawful;
       begin = h.begin;
-      written = rw (← whole, ← here) h.written;
-      roots = rw (← whole) h.roots;
-      details = h.details ∙ ap device_details (ap₂ (λ (ws os : List ThinDevice). ws ++ os) whole closed ∙ append-nil m.devices);
+      written = subst (λ (blocks : List (List ℕ)). Wrote blocks start now) (sym (trees_are 1 m.devices)) (rw (← whole, ← here) h.written);
+      roots = rw (← whole) h.roots ∙ sym (roots_are 1 m.devices);
+      details = h.details ∙ (ap device_details (ap₂ (λ (ws os : List ThinDevice). ws ++ os) whole closed ∙ append-nil m.devices) ∙ sym (details_are m.devices));
       roots_fit = h.roots_fit;
       details_fit = h.details_fit;
       counted = fun_ext (λ b. omega (
@@ -156,6 +178,8 @@ devices_of_lines {start} {now} lines m s h means =
         ap (λ (ds : List ThinDevice). count b (devices_data b ds)) means.devices,
       )) ∙ sym (data_counts_are m means.lawful);
       size = h.size ∙ blocks;
+      leaves = refl;
+      uses = λ number. none number ∙ ap (λ (used : List ℕ). used_times used number) (sym (no_uses m.devices));
     }
 
 -- what adds up over the mapped numbers

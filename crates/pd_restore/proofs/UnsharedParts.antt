@@ -1,18 +1,16 @@
 -- What all lines of a pool's text of version 1 mean is written.
-use Rattle.std.proofs.Common.{◌≡◌, ℕ, ◌≤◌, Bool, true, false, ◌||◌, List, [], ◌∷◌, refl, sym, ◌∙◌, ap, subst, arith, Result, Ok, Err}
+use Rattle.std.proofs.Common.{◌≡◌, ℕ, ◌≤◌, Bool, true, false, ◌||◌, List, [], ◌∷◌, refl, sym, ◌∙◌, ap, subst, arith, Result}
 use Rattle.std.specs.Prelude.{IfOk, OnOk}
 use Rattle.pd_build.specs.declared.fault.BuildFault.{BuildFault}
 use Rattle.pd_kinds.specs.Meaning.{ThinPool}
 use Rattle.pd_draft.specs.Placed.{Stand, Wrote}
+use Rattle.pd_count.specs.Counted.{Counted, HasCounted}
 use Rattle.pd_spells.specs.Lawful.{IsLawfulPool}
 use Rattle.pd_spells.specs.ThinNeed.{thin_need, thin_need_so_far}
 use Rattle.pd_spells.specs.ThinText.{Line, first_line, shared_first_line, pool_line, leaf_line, device_line, use_line, map_line, end_line, MeansPool, is_shared, pool_format}
 use Rattle.pd_spells.proofs.ThinRead.{FitsLine, PlacedInPool}
-use Rattle.pd_laid.specs.Laid.{laid_number}
-use Rattle.pd_laid.specs.LaidThin.{laid_pool, laid_shape}
-use Rattle.pd_laid.specs.Shape.{shape_of}
-use Rattle.pd_laid.proofs.ShapeLemmas.{is_shape, pool_kept}
-use Rattle.pd_laid_once.proofs.Need.{laid_need}
+use Rattle.pd_laid.specs.Shape.{ThinShape, shape_of}
+use Rattle.pd_shapes.specs.SharedNeed.{shape_need}
 use Rattle.pd_shapes.specs.PoolText.{MeansAs, MeansPoolShape, MeansUnshared}
 use Rattle.pd_shapes.proofs.PoolLaws.{pool_language}
 use Rattle.pd_texts.specs.Reader.{in_order}
@@ -23,7 +21,8 @@ use Rattle.pd_restore.specs.Parts.{AreParts}
 use Rattle.pd_restore.specs.Reading.{HasReadAll, WritesParts}
 use Rattle.pd_restore.specs.Unshared.{HasUnshared}
 use Rattle.pd_restore.specs.Written.{CanWriteParts, HasDevices, shape_behind}
-use Rattle.pd_restore.proofs.LineLemmas.{devices_of_lines, whole_need}
+use Rattle.pd_restore.proofs.ShapeParts.{whole_written}
+use Rattle.pd_restore.proofs.LineLemmas.{devices_of_lines, known_of, whole_need}
 use Rattle.pd_restore.proofs.UnsharedLines.{need_is}
 
 -- the version of lines in their order is that of the lines with the newest first
@@ -56,7 +55,8 @@ version_in_order [] lines = refl
 version_in_order (line ∷ before) lines =
     version_in_order before (line ∷ lines) ∙ shared_after line lines (is_shared before) ∙ ap (λ (b : Bool). b || is_shared lines) (sym (shared_with line before))
 
-module _ (room : ℕ) (lines : List Line) (s : Devices) (start now : Stand) (h : HasReadAll HasUnshared lines room s start now) where
+module _ (room : ℕ) (lines : List Line) (s : Devices) (uses : Counted) (start now : Stand) (h : HasReadAll HasUnshared lines room s start now) (none : HasCounted uses [])
+    (need_of : (m : ThinPool) (room : ℕ) → IsLawfulPool m → shape_need (shape_of m) room ≡ thin_need m room) where
   version : is_shared (in_order lines []) ≡ false
   version = version_in_order lines [] ∙ ap (λ (b : Bool). b || false) h.all.gathered.version
 
@@ -70,36 +70,24 @@ module _ (room : ℕ) (lines : List Line) (s : Devices) (start now : Stand) (h :
   abbrev pool : ThinPool
   pool = unshared.0
 
-  has_room : thin_need pool room ≤ room
+  has_room : shape_need (shape_of pool) room ≤ room
   has_room =
       let lacks : thin_need_so_far room lines ≤ room = subst (λ (n : ℕ). n ≤ room) (need_is room lines h.all.gathered.version) h.all.need in
-      omega (arith, whole_need lines pool room unshared.1, lacks)
+      omega (arith, need_of pool room unshared.1.lawful, whole_need lines pool room unshared.1, lacks)
 
-  devices : HasDevices pool s start now
-  devices = devices_of_lines lines pool s h.all.gathered unshared.1
+  devices : HasDevices (shape_of pool) (known_of s uses) start now
+  devices = devices_of_lines lines pool s uses h.all.gathered unshared.1 none
 
   -- its parts may be written
-  pub can_write_parts : CanWriteParts s room now
-  can_write_parts = record { pool = pool; start = start; devices = devices; need = has_room; most = h.all.most; there = h.all.there }
-
-  fits : laid_number (laid_shape (shape_of pool) room) ≤ room
-  unfolding laid_pool
-  fits = omega (arith, laid_need pool unshared.1.lawful room (omega (arith, has_room, h.all.most)), has_room)
-
-  written : (to : Stand) (parts : Parts) → Wrote (shape_behind (shape_of pool) room) start to → AreParts (shape_of pool) room parts → WritesParts lines room start to parts
-  written to parts wrote are = record {
-    shape = shape_of pool;
-    means = subst (λ (b : Bool). MeansAs b (in_order lines []) (shape_of pool)) (sym version) (record { pool = pool; means = unshared.1; shape_is = refl });
-    lawful = record { shape = is_shape pool; pool = subst IsLawfulPool (sym (pool_kept pool)) unshared.1.lawful };
-    fits = fits;
-    wrote = wrote;
-    named = are;
-  }
+  pub can_write_parts : CanWriteParts (known_of s uses) room now
+  can_write_parts = record { shape = shape_of pool; start = start; devices = devices; need = has_room; most = h.all.most; there = h.all.there; used = omega arith }
 
   -- and then they are
   pub parts_written : (to : Stand) (result : Result Parts BuildFault)
-      → ((m : ThinPool) (start : Stand) → HasDevices m s start now → OnOk result (Wrote (shape_behind (shape_of m) room) start to))
-      → ((m : ThinPool) (start : Stand) → HasDevices m s start now → IfOk result (AreParts (shape_of m) room))
+      → ((w : ThinShape) (start : Stand) → HasDevices w (known_of s uses) start now → shape_need w room ≤ room → OnOk result (Wrote (shape_behind w room) start to))
+      → ((w : ThinShape) (start : Stand) → HasDevices w (known_of s uses) start now → shape_need w room ≤ room → IfOk result (AreParts w room))
       → IfOk result (WritesParts lines room start to)
-  parts_written to (Ok parts) wrote are = written to parts (wrote pool start devices) (are pool start devices)
-  parts_written to (Err fault) wrote are = tt
+  parts_written to result wrote named =
+      whole_written (shape_of pool) (known_of s uses) start now to room lines devices
+      (subst (λ (b : Bool). MeansAs b (in_order lines []) (shape_of pool)) (sym version) (record { pool = pool; means = unshared.1; shape_is = refl }))
+      has_room h.all.most result (wrote (shape_of pool) start devices has_room) (named (shape_of pool) start devices has_room)

@@ -1,13 +1,10 @@
 -- What is gathered of a pool's text of version 2.
-use Rattle.std.specs.Prelude.{◌≡◌, ℕ, ◌+◌, ◌≤◌, ◌==◌, Bool, false, List, [], ◌∷◌, length}
-use Rattle.pd_kinds.specs.declared.limits.TheConstants.{MAX_META_BLOCKS}
+use Rattle.std.specs.Prelude.{◌≡◌, ℕ, ◌+◌, ◌==◌, Bool, false, List, [], ◌∷◌, length}
 use Rattle.pd_draft.specs.Placed.{Stand}
-use Rattle.pd_laid.specs.Shape.{ThinShape}
-use Rattle.pd_shapes.specs.SharedNeed.{Told, shape_need, told_devices}
+use Rattle.pd_shapes.specs.SharedNeed.{Told, told_devices}
 use Rattle.pd_spells.specs.ThinText.{Line, Run, map_line}
 use Rattle.pd_shared_devices.specs.declared.devices.SharedDevices.{SharedDevices}
 use Rattle.pd_shared_devices.specs.Gathered.{HasGathered}
-use Rattle.pd_shared_devices.specs.Shape.{IsGatheredShape, leaves_of, uses_counted}
 use Rattle.pd_restore.specs.declared.shared.SharedLines.{SharedLines}
 use Rattle.pd_restore.specs.Reading.{CanTake}
 
@@ -26,13 +23,3 @@ pub record HasShared (room : ℕ) (before : List Line) (s : SharedLines) (start 
 pub record CanPutRun (room : ℕ) (s : SharedDevices) (r : Run) : Type 0 where
   pub now : Stand
   pub can : CanTake HasGathered room s (map_line r) now
-
--- what was gathered is a shape, which has room on the device
-pub record CanWriteShape (s : SharedDevices) (room : ℕ) (now : Stand) : Type 0 where
-  pub shape : ThinShape
-  pub start : Stand
-  pub devices : IsGatheredShape shape s start now
-  pub need : shape_need shape room ≤ room
-  pub most : room ≤ MAX_META_BLOCKS
-  pub there : room ≤ now.device.blocks
-  pub used : leaves_of s ≤ (uses_counted s).size

@@ -10,7 +10,6 @@ mod parts;
 mod pool;
 mod saved_lines;
 mod saved_need;
-mod shape_parts;
 mod shared;
 mod shared_lines;
 mod thin;

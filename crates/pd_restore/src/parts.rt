@@ -1,23 +1,24 @@
-//! The parts of a pool behind its devices.
+//! The parts of a pool behind the trees of its devices.
 
-ghost use Rattle.std.specs.Prelude.{◌≡◌, IfOk, OnOk};
+ghost use Rattle.std.specs.Prelude.{◌≡◌, ◌≤◌, IfOk, OnOk};
 ghost use Rattle.pd_image.specs.Device.{IsWritable};
-ghost use Rattle.pd_kinds.specs.Meaning.{ThinPool};
 ghost use Rattle.pd_draft.specs.Closed.{IsClosed, StaysClosed};
 ghost use Rattle.pd_draft.specs.Placed.{Stand, Wrote};
 ghost use Rattle.pd_draft.specs.Stand.{stand};
-ghost use Rattle.pd_laid.specs.Shape.{shape_of};
+ghost use Rattle.pd_laid.specs.Shape.{ThinShape};
+ghost use Rattle.pd_shapes.specs.SharedNeed.{shape_need};
 ghost use Rattle.pd_build.specs.Causes.{CountsBuildFault};
-ghost use Rattle.pd_restore.specs.Written.{HasDevices, CanWriteParts, shape_behind};
+ghost use Rattle.pd_restore.specs.Written.{CanWriteParts, HasDevices, shape_behind};
 ghost use Rattle.pd_restore.specs.Parts.{AreParts};
 
 use pd_build::{BuildFault, write_tree};
-use pd_devices::Devices;
+use pd_count::Counts;
 use pd_draft::Draft;
 use pd_image::Device;
 use pd_kinds::SmRoot;
-use pd_restoring::write_own_map;
+use pd_shared_devices::write_leaves_map;
 use pd_smwrite::write_data_map;
+use pd_value::{Details, Root};
 use std::alloc::Global;
 
 /// The roots that the superblock of a pool names.
@@ -29,28 +30,35 @@ pub(crate) struct Parts {
     pub(crate) meta_map: SmRoot,
 }
 
-/// Writes the parts of a pool behind its devices, which share no leaf, where there are so many blocks for metadata.
-pub(crate) fn write_device_parts<D: Device>(
+/// Writes the parts of a pool behind the trees of its devices, of which these are the roots and the details, where there are
+/// so many blocks for metadata. The devices share so many leaves, each used as often as was counted.
+pub(crate) fn write_behind<D: Device>(
     alloc: Global,
     draft: &mut Draft<'_, D>,
-    devices: &Devices,
+    roots: &[(u64, Root)],
+    details: &[(u64, Details)],
+    counts: &Counts,
+    leaves: u64,
+    uses: &Counts,
     room: u64,
 ) -> Result<Parts, BuildFault>
-    requires room { CanWriteParts devices.now room (stand draft.old) }
+    requires room { CanWriteParts (record { roots = roots.now; details = details.now; counts = counts.now; leaves = leaves; uses = uses.now }) room (stand draft.old) }
     requires writable { IsWritable (stand draft.old).device }
     requires closed { IsClosed (stand draft.old).device }
     ensures same_reference { draft.new.dev.ghost_name ≡ draft.old.dev.ghost_name }
-    ensures wrote { (m : ThinPool) (start : Stand) → HasDevices m devices.now start (stand draft.old)
-        → OnOk result (Wrote (shape_behind (shape_of m) room) start (stand draft.new)) }
-    ensures parts { (m : ThinPool) (start : Stand) → HasDevices m devices.now start (stand draft.old)
-        → IfOk result (AreParts (shape_of m) room) }
+    ensures wrote { (w : ThinShape) (start : Stand)
+        → HasDevices w (record { roots = roots.now; details = details.now; counts = counts.now; leaves = leaves; uses = uses.now }) start (stand draft.old)
+        → shape_need w room ≤ room → OnOk result (Wrote (shape_behind w room) start (stand draft.new)) }
+    ensures parts { (w : ThinShape) (start : Stand)
+        → HasDevices w (record { roots = roots.now; details = details.now; counts = counts.now; leaves = leaves; uses = uses.now }) start (stand draft.old)
+        → shape_need w room ≤ room → IfOk result (AreParts w room) }
     ensures closed { StaysClosed (stand draft.old).device (stand draft.new).device }
     ensures faults { CountsBuildFault result (stand draft.old).device.faults (stand draft.new).device.faults }
 {
-    let mapping_root = write_tree(alloc, draft, devices.roots())?;
-    let details_root = write_tree(alloc, draft, devices.details())?;
-    let data_map = write_data_map(alloc, draft, devices.counts())?;
-    let meta_map = write_own_map(alloc, draft, room)?;
+    let mapping_root = write_tree(alloc, draft, roots)?;
+    let details_root = write_tree(alloc, draft, details)?;
+    let data_map = write_data_map(alloc, draft, counts)?;
+    let meta_map = write_leaves_map(alloc, draft, leaves, uses, room)?;
     Ok(Parts {
         mapping_root,
         details_root,

@@ -1,6 +1,6 @@
 //! A pool's text of version 2, whose devices share leaves.
 
-ghost use Rattle.std.specs.Prelude.{◌≡◌, ◌≤◌, ◌^◌, ℕ, List, [], ◌∷◌, false, IfOk};
+ghost use Rattle.std.specs.Prelude.{◌≡◌, ◌≤◌, ◌^◌, List, [], ◌∷◌, false, IfOk};
 ghost use Rattle.pd_draft.specs.Closed.{IsClosed};
 ghost use Rattle.pd_draft.specs.Placed.{Stand};
 ghost use Rattle.pd_grammar.specs.Texts.{has_ended};
@@ -11,13 +11,11 @@ ghost use Rattle.pd_texts.specs.ThinLine.{line_of};
 ghost use Rattle.pd_restore.specs.Shared.{HasShared, lacks_pieces};
 
 use crate::gathering::Gathering;
-use crate::parts::Parts;
-use crate::shape_parts::write_shape_parts;
+use crate::parts::{Parts, write_behind};
 use crate::shared_lines::put_shared;
 use pd_build::BuildFault;
 use pd_draft::Draft;
 use pd_image::Device;
-use pd_laid_shared::shape_takes_its_need;
 use pd_restoring::{RestoreFault, of_build};
 use pd_shared_devices::{SharedDevices, gathered_lines_are_a_shape};
 use pd_texts::{TextFault, ThinLine};
@@ -126,8 +124,16 @@ impl Gathering for SharedLines {
         room: u64,
     ) -> Result<Parts, BuildFault> {
         gathered_lines_are_a_shape();
-        shape_takes_its_need();
-        write_shape_parts(alloc, draft, &self.devices, room)
+        write_behind(
+            alloc,
+            draft,
+            self.devices.roots(),
+            self.devices.details(),
+            self.devices.counts(),
+            self.devices.leaves(),
+            self.devices.uses(),
+            room,
+        )
     }
 }
 

@@ -14,12 +14,14 @@ ghost use Rattle.pd_restore.specs.Reading.{CanTake, Follows, IsNoRoom, IsShort};
 ghost use Rattle.pd_restore.specs.Unshared.{HasUnshared};
 
 use crate::gathering::Gathering;
-use crate::parts::{Parts, write_device_parts};
+use crate::parts::{Parts, write_behind};
 use pd_build::BuildFault;
+use pd_count::Counts;
 use pd_devices::{Devices, Run};
 use pd_draft::Draft;
 use pd_image::Device;
 use pd_restoring::{RestoreFault, of_build};
+use pd_shape_verdicts::pool_text_is_accepted_where_there_is_room;
 use pd_texts::{TextFault, ThinLine};
 use std::alloc::Global;
 
@@ -63,7 +65,21 @@ impl Gathering for Devices {
         draft: &mut Draft<'_, D>,
         room: u64,
     ) -> Result<Parts, BuildFault> {
-        write_device_parts(alloc, draft, self, room)
+        pool_text_is_accepted_where_there_is_room();
+        let uses = match Counts::new(alloc, 0) {
+            Ok(uses) => uses,
+            Err(_) => return Err(BuildFault::Memory),
+        };
+        write_behind(
+            alloc,
+            draft,
+            self.roots(),
+            self.details(),
+            self.counts(),
+            0,
+            &uses,
+            room,
+        )
     }
 }
 

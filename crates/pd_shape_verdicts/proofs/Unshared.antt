@@ -1,78 +1,20 @@
 -- What a text of version 1 needs is what the shape of its pool needs.
-use Rattle.std.proofs.Common.{◌≡◌, ℕ, suc, ◌+◌, ◌≤◌, ◌<◌, max, Bool, true, false, List, [], ◌∷◌, ◌++◌, length, map, sum_by, refl, sym, ◌∙◌, ap, ap₂, append-nil, arith}
-use Rattle.std.specs.List.{flat_map}
+use Rattle.std.proofs.Common.{◌≡◌, ℕ, ◌≤◌, ◌<◌, Bool, true, false, List, [], ◌∷◌, refl, sym, ◌∙◌, ap, arith}
 use Rattle.std.proofs.lemmas.Bool.{true≢false}
-use Rattle.std.proofs.lemmas.List.{length-map, map-append}
-use Rattle.std.proofs.lemmas.List.Sums.{sum_by-cons}
-use Rattle.pd_kinds.specs.Meaning.{Mapping, ThinDevice, ThinPool}
-use Rattle.pd_kinds.specs.Node.{max_entries}
 use Rattle.pd_grammar.specs.Spelling.{accepted, need_above_room, no_room}
 use Rattle.pd_grammar.specs.Texts.{Reading, reading}
 use Rattle.pd_grammar.proofs.SpellingLemmas.{reading_if_spelled}
-use Rattle.pd_spells.specs.Lawful.{AreDevices, IsLawfulPool}
-use Rattle.pd_spells.specs.Need.{need_above, need_tree, nodes_for, nodes_of_tree}
-use Rattle.pd_spells.specs.ThinNeed.{need_of_devices, overflows_in, thin_need, thin_need_so_far}
+use Rattle.pd_spells.specs.ThinNeed.{thin_need, thin_need_so_far}
 use Rattle.pd_spells.specs.ThinText.{Line, MeansPool, SpellsPool, first_line, shared_first_line, pool_line, leaf_line, device_line, use_line, map_line, end_line, is_shared, pool_format, thin}
 use Rattle.pd_spells.proofs.ThinLaws.{thin_language}
 use Rattle.pd_spells.proofs.ThinRead.{FitsLine, Placed, PlacedInPool}
 use Rattle.pd_spells.proofs.ThinVerdict.{pool_accepted, pool_without_room}
-use Rattle.pd_laid.specs.Shape.{ShapeDevice, ThinShape, shape_of, unshared_device, unshared_pieces}
+use Rattle.pd_laid.specs.Shape.{ThinShape}
 use Rattle.pd_shapes.specs.PoolText.{IsPoolTextVerdict, MeansAs, MeansPoolShape, MeansUnshared, SpellsPoolShape, pool_need_so_far}
-use Rattle.pd_shapes.specs.SharedNeed.{LeafCount, leaves_of_pieces, need_of_leaves, need_of_shared, own_mappings, shape_data, shape_need, used_often}
+use Rattle.pd_shapes.specs.SharedNeed.{shape_need}
 use Rattle.pd_shapes.proofs.PoolLaws.{pool_language}
-use Rattle.pd_shape_verdicts.proofs.NeedGrows.{needs}
+use Rattle.pd_shapes.proofs.Unshared.{unshared_need}
 use Rattle.pd_shape_verdicts.proofs.WholeNeed.{shape_accepted, shape_without_room}
-
--- a device without shared leaves has a tree of its mappings
-device_tree : (ms : List Mapping) → need_of_leaves (leaves_of_pieces (unshared_pieces ms)) ≡ need_tree 8 (length ms)
-unfolding nodes_of_tree
-device_tree [] = refl
-device_tree (m ∷ ms) =
-    let nodes = nodes_for (max_entries 8) (suc (length ms)) in
-    let one = sum_by-cons (λ n. nodes_for (max_entries 8) n) (suc (length ms)) [] in
-    let some : max 1 nodes ≡ nodes = omega arith in
-    let same : sum_by (λ n. nodes_for (max_entries 8) n) (suc (length ms) ∷ []) ≡ nodes = omega (arith, one) in
-    let all : sum_by (λ n. nodes_for (max_entries 8) n) (suc (length ms) ∷ []) + 0 ≡ nodes = omega (arith, same) in
-    ap₂ (λ (own levels : ℕ). own + levels) same (ap (need_above 10) all) ∙ ap (λ (leaves : ℕ). leaves + need_above 10 leaves) (sym some)
-
-abbrev mapped_numbers : List ThinDevice → List ℕ
-mapped_numbers ds = map (λ (d : ThinDevice). d.mapped) ds
-
-abbrev counts_of : List ThinDevice → List LeafCount
-counts_of ds = map (λ (d : ShapeDevice). leaves_of_pieces d.pieces) (map unshared_device ds)
-
-devices_trees : (blocks least : ℕ) (ds : List ThinDevice) → AreDevices blocks least ds → needs (counts_of ds) ≡ sum_by (need_tree 8) (mapped_numbers ds)
-devices_trees blocks least [] are = refl
-devices_trees blocks least (d ∷ ds) are =
-    let here = device_tree d.mappings in
-    let mapped = ap (need_tree 8) are.0.mapped in
-    let rest = devices_trees blocks (d.id + 1) ds are.1 in
-    omega (arith, here, mapped, rest, sum_by-cons need_of_leaves (leaves_of_pieces (unshared_pieces d.mappings)) (counts_of ds), sum_by-cons (need_tree 8) d.mapped (mapped_numbers ds))
-
-own_kept : (ms : List Mapping) → flat_map own_mappings (unshared_pieces ms) ≡ ms
-own_kept [] = refl
-own_kept (m ∷ ms) = append-nil (m ∷ ms)
-
-data_kept : (ds : List ThinDevice) → map (λ (x : Mapping). x.data_block) (flat_map (λ (d : ShapeDevice). flat_map own_mappings d.pieces) (map unshared_device ds))
-    ≡ flat_map (λ (d : ThinDevice). map (λ (x : Mapping). x.data_block) d.mappings) ds
-data_kept [] = refl
-data_kept (d ∷ ds) =
-    let block = λ (x : Mapping). x.data_block in
-    map-append block (flat_map own_mappings (unshared_pieces d.mappings)) (flat_map (λ (d : ShapeDevice). flat_map own_mappings d.pieces) (map unshared_device ds))
-    ∙ ap₂ (λ (xs ys : List ℕ). xs ++ ys) (ap (map block) (own_kept d.mappings)) (data_kept ds)
-
--- so the need of its shape is the pool's
-pub unshared_need : (m : ThinPool) (room : ℕ) → IsLawfulPool m → shape_need (shape_of m) room ≡ thin_need m room
-unfolding shape_need thin_need need_of_shared need_of_devices shape_of shape_data used_often overflows_in
-unshared_need m room lawful =
-    let trees = devices_trees m.data_blocks 0 m.devices lawful.devices in
-    let over = ap (λ (xs : List ℕ). overflows_in xs m.data_blocks) (data_kept m.devices) in
-    let over_tree = ap (need_tree 4) over in
-    let number : length (counts_of m.devices) ≡ length (mapped_numbers m.devices) =
-    length-map (map unshared_device m.devices) (λ (d : ShapeDevice). leaves_of_pieces d.pieces) ∙ (length-map m.devices unshared_device ∙ sym (length-map m.devices (λ (d : ThinDevice). d.mapped))) in
-    let top = ap (need_tree 8) number in
-    let details = ap (need_tree 24) number in
-    omega (arith, trees, over_tree, top, details)
 
 -- the version of all lines is that of each front of them
 stays_unshared : (line : Line) (before lines : List Line) → is_shared (line ∷ lines) ≡ false → is_shared before ≡ false → (is_shared (line ∷ before) ≡ false) × (is_shared lines ≡ false)

@@ -6,3 +6,4 @@ pub mod ShapeCut
 pub mod SharedPieces
 pub mod SharedMeaning
 pub mod PoolLaws
+pub mod Unshared

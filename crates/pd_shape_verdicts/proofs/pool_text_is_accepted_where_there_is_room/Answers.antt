@@ -1,4 +1,5 @@
-use Rattle.pd_shape_verdicts.proofs.Unshared.{either_accepted, either_without_room, unshared_need}
+use Rattle.pd_shapes.proofs.Unshared.{unshared_need}
+use Rattle.pd_shape_verdicts.proofs.Unshared.{either_accepted, either_without_room}
 use Rattle.pd_shape_verdicts.proofs.pool_text_is_accepted_where_there_is_room.Goals as goal
 
 pub returns-clause-accepted : goal.returns-clause-accepted

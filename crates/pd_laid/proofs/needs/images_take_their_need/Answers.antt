@@ -1,10 +1,6 @@
 use Rattle.pd_laid.proofs.CacheNeed.{cache_number}
 use Rattle.pd_laid.proofs.NeedLemmas.{era_number}
-use Rattle.pd_laid.proofs.DataNeed.{pool_need}
 use Rattle.pd_laid.proofs.needs.images_take_their_need.Goals as goal
-
-pub returns-clause-thin : goal.returns-clause-thin
-returns-clause-thin c = pool_need
 
 pub returns-clause-cache : goal.returns-clause-cache
 returns-clause-cache c = cache_number

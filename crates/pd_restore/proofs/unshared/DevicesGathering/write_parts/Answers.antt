@@ -2,12 +2,14 @@ use Rattle.pd_draft.specs.Stand.{stand}
 use Rattle.pd_restore.proofs.UnsharedParts.{can_write_parts, parts_written}
 use Rattle.pd_restore.proofs.unshared.DevicesGathering.write_parts.Goals as goal
 
-pub write_device_parts-requires-clause-room : goal.write_device_parts-requires-clause-room
-write_device_parts-requires-clause-room g c =
-    let w = c.requires.whole in
-    can_write_parts c.args.room w.lines c.args.self.now w.start (stand c.args.draft.now) w.all
+pub write_behind-requires-clause-room : goal.write_behind-requires-clause-room
+write_behind-requires-clause-room g c =
+    let p = c.requires.whole in
+    rw (c.roots.ensures, c.details.ensures, c.counts.ensures)
+    (can_write_parts c.args.room p.lines c.args.self.now c.in-Ok.uses p.start (stand c.args.draft.now) p.all c.in-Ok.ensures.none c.pool_text_is_accepted_where_there_is_room.ensures.unshared)
 
 pub returns-clause-writes : goal.returns-clause-writes
 returns-clause-writes g c lines start all =
-    parts_written c.args.room lines c.args.self.now start (stand c.args.draft.now) all (stand c.write_device_parts.new.draft) c.write_device_parts.result
-    c.write_device_parts.ensures.wrote c.write_device_parts.ensures.parts
+    parts_written c.args.room lines c.args.self.now c.in-Ok.uses start (stand c.args.draft.now) all c.in-Ok.ensures.none c.pool_text_is_accepted_where_there_is_room.ensures.unshared
+    (stand c.write_behind.new.draft) c.write_behind.result
+    (rw (c.roots.ensures, c.details.ensures, c.counts.ensures) at c.write_behind.ensures.wrote) (rw (c.roots.ensures, c.details.ensures, c.counts.ensures) at c.write_behind.ensures.parts)

@@ -7,12 +7,12 @@ use Rattle.std.proofs.lemmas.List.{length-drop, length-take-le}
 use Rattle.pd_laid.specs.Tree.{spread}
 
 -- the size of the first part
-record IsFirstOf (n k c : ℕ) : Type 0 where
-  enough : n ≤ c * k + c
-  few : c * k + c ≤ n + k
-  within : c ≤ n
+pub record IsFirstOf (n k c : ℕ) : Type 0 where
+  pub enough : n ≤ c * k + c
+  pub few : c * k + c ≤ n + k
+  pub within : c ≤ n
 
-first_of : (n k : ℕ) → IsFirstOf n k ((n + k) / suc k)
+pub first_of : (n k : ℕ) → IsFirstOf n k ((n + k) / suc k)
 first_of n k =
     let c = (n + k) / suc k in
     let below : c * suc k ≤ n + k = div-mul-le_self (n + k) (suc k) in

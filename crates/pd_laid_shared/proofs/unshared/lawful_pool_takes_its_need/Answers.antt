@@ -1,5 +1,5 @@
-use Rattle.pd_laid_once.proofs.Need.{laid_need, map_place, data_counts_are, overflows_are}
-use Rattle.pd_laid_once.proofs.needs.lawful_pool_takes_its_need.Goals as goal
+use Rattle.pd_laid_shared.proofs.PoolCase.{data_counts_are, data_overflows_are, laid_need, map_place, timed_need}
+use Rattle.pd_laid_shared.proofs.unshared.lawful_pool_takes_its_need.Goals as goal
 
 pub returns-clause-number : goal.returns-clause-number
 returns-clause-number c = λ m n lawful. laid_need m lawful n
@@ -11,4 +11,7 @@ pub returns-clause-counts : goal.returns-clause-counts
 returns-clause-counts c = data_counts_are
 
 pub returns-clause-overflows : goal.returns-clause-overflows
-returns-clause-overflows c = overflows_are
+returns-clause-overflows c = data_overflows_are
+
+pub returns-clause-thin : goal.returns-clause-thin
+returns-clause-thin c = timed_need

@@ -33,24 +33,24 @@ values-heads place [] = refl
 values-heads place (node ∷ nodes) = ap (λ (rest : List ℕ). place ∷ rest) (values-heads (place + 1) nodes)
 
 -- the level above a row
-abbrev level_of : List Entry → List (List Entry)
+abbrev pub level_of : List Entry → List (List Entry)
 level_of row = spread (nodes_for 252 (length row)) row
 
-abbrev upper_of : ℕ → ℕ → List Entry → List (List Entry)
+abbrev pub upper_of : ℕ → ℕ → List Entry → List (List Entry)
 upper_of k place row = levels_above k (place + length (level_of row)) (heads place (level_of row))
 
-level_joined : (row : List Entry) → 1 ≤ length row → entries_of (level_of row) ≡ row
+pub level_joined : (row : List Entry) → 1 ≤ length row → entries_of (level_of row) ≡ row
 level_joined row some =
     let number : suc (nodes_for 252 (length row) - 1) ≡ nodes_for 252 (length row) = omega arith in
     rw number at (joined_spread (nodes_for 252 (length row) - 1) row)
 
 -- the levels above one node, and above more
-levels_one : (k place : ℕ) (row : List Entry) → length row ≤ 1 → levels_above k place row ≡ []
+pub levels_one : (k place : ℕ) (row : List Entry) → length row ≤ 1 → levels_above k place row ≡ []
 unfolding levels_above
 levels_one zero place row few = refl
 levels_one (suc k) place row few = rw (le-ltb 1 (length row) few) refl
 
-levels_more : (k place : ℕ) (row : List Entry) → 1 < length row → levels_above (suc k) place row ≡ level_of row ++ upper_of k place row
+pub levels_more : (k place : ℕ) (row : List Entry) → 1 < length row → levels_above (suc k) place row ≡ level_of row ++ upper_of k place row
 unfolding levels_above
 levels_more k place row many = rw (lt-ltb 1 (length row) many) refl
 
@@ -58,13 +58,13 @@ levels_more k place row many = rw (lt-ltb 1 (length row) many) refl
 abbrev pub root_of : ℕ → ℕ → List Entry → ℕ
 root_of k place row = cond (nat_lt 1 (length row)) (place + length (levels_above k place row) - 1) (first_place row)
 
-first_head : (place : ℕ) (nodes : List (List Entry)) → 1 ≤ length nodes → first_place (heads place nodes) ≡ place
+pub first_head : (place : ℕ) (nodes : List (List Entry)) → 1 ≤ length nodes → first_place (heads place nodes) ≡ place
 unfolding heads
 first_head place [] some = absurd (omega arith)
 first_head place (node ∷ nodes) some = refl
 
 -- it is the root of the level above
-root_more : (k place : ℕ) (row : List Entry) → 1 < length row
+pub root_more : (k place : ℕ) (row : List Entry) → 1 < length row
     → root_of (suc k) place row ≡ root_of k (place + length (level_of row)) (heads place (level_of row))
 root_more k place row many =
     let level = level_of row in
