@@ -8,7 +8,7 @@ use Rattle.pd_texts.specs.declared.reader.TextReader.{TextReader}
 use Rattle.pd_texts.specs.declared.thin_line.ThinLine.{ThinLine}
 use Rattle.pd_texts.specs.declared.thin_line.ThinLine.TheVariants.{Pool, Leaf, Device, UseLeaf, Map}
 use Rattle.pd_texts.specs.declared.thin_state.ThinState.{ThinState}
-use Rattle.pd_texts.specs.Reader.{ReadsOn, LeavesOf, GivesLine, GivesOf}
+use Rattle.pd_texts.specs.Reader.{IsReadAfter, ReadsOn, LeavesOf, GivesLine, GivesOf}
 use Rattle.pd_texts.specs.ThinLine.{line_of, thin_meant}
 use Rattle.pd_texts.specs.ThinState.{ThinStands, first_of, version_after}
 use Rattle.pd_texts.proofs.ThinNextLemmas.{pool_read}
@@ -51,9 +51,8 @@ pub pool_told : (next : Option ThinLine) (pool : p.Pool) (t : List ℕ) (new : T
 pool_told None pool t new left is same gives = absurd is
 pool_told (Some line) pool t new left is same gives = rw same at gives
 
-pub pool_small : (pool : p.Pool) (new : TextReader ThinState ThinLine) → ReadsOn pool_format ThinStands (begun_lines new pool) new → pool.blocks ≤ 2 ^ 40
-pool_small pool new reads =
-    (pool_read (first_line ∷ shared_first_line ∷ []) pool_grammar (first_of new.state ∷ []) (head_of_pool pool) reads.so_far.lines.0).data_blocks_fit
+pub pool_small : (first : Line) (pool : p.Pool) → IsReadAfter pool_format (first ∷ []) (pool_line (head_of_pool pool)) → pool.blocks ≤ 2 ^ 40
+pool_small first pool read = (pool_read (first_line ∷ shared_first_line ∷ []) pool_grammar (first ∷ []) (head_of_pool pool) read).data_blocks_fit
 
 -- the version is told by the first line
 module _ (head : Head) (version : ℕ) where

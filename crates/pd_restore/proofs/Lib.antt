@@ -5,6 +5,7 @@ pub mod UnsharedLemmas
 pub mod UnsharedParts
 pub mod PoolLemmas
 pub mod BeginLemmas
+pub mod ComingLemmas
 pub mod NeedLemmas
 pub mod SharedLines
 pub mod SharedLemmas

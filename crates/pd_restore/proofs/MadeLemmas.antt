@@ -1,6 +1,6 @@
 -- What a restore of a pool that is held in memory comes to.
-use Rattle.std.proofs.Common.{◌≡◌, ◌⊎◌, inl, inr, ⊎_elim, ℕ, ◌<◌, ◌≤◌, List, Option, Some, None, IfSome, Result, Ok, Err, refl, ap, subst, ◌∙◌, arith}
-use Rattle.std.proofs.lemmas.Option.{IfSome_then}
+use Rattle.std.proofs.Common.{◌≡◌, ◌⊎◌, inl, inr, ⊎_elim, ℕ, ◌<◌, ◌≤◌, List, [], Option, Some, None, IfSome, Result, Ok, Err, refl, ap, subst, ◌∙◌, arith}
+use Rattle.std.proofs.lemmas.Option.{IfSome_then, same_Some}
 use Rattle.pd_kinds.specs.Crash.{HasNoSuper, HoldsSynced, IsOldNoneOrMade, LeavesOnly}
 use Rattle.pd_kinds.specs.Limits.{room_of}
 use Rattle.pd_kinds.specs.Meaning.{ThinPool}
@@ -18,6 +18,8 @@ use Rattle.pd_texts.specs.declared.fault.TextFault.{TextFault}
 use Rattle.pd_restoring.specs.declared.fault.RestoreFault.{RestoreFault}
 use Rattle.pd_restoring.specs.declared.fault.RestoreFault.TheVariants as r
 use Rattle.pd_restoring.specs.Restored.{AnswersFault, IsRestored}
+use Rattle.pd_restore.specs.declared.begin.Begun.{Begun}
+use Rattle.pd_restore.specs.Pools.{PoolLeaves}
 use Rattle.pd_restore.specs.Made.{AnswersMade, Ending, IsDone, IsMadeOf, MakesPool, done, failed, lacking, short}
 
 abbrev Image : Type 0
@@ -26,6 +28,14 @@ Image = List (List ℕ)
 -- a restore of a pool, which is one of its shape
 abbrev Restores : Result (Unit {0}) RestoreFault → SourceState → SourceState → DeviceState → DeviceState → Type 0
 Restores result from to old new = IsRestored IsLawfulShape IsPoolTextVerdict is_pool_text_early laid_shape result from to old new
+
+-- a source that gives the text
+abbrev pub given : List ℕ → SourceState
+given text = record { access = 0; path = None; left = Some text; faults = 0 }
+
+-- it is the text of a pool whose own line is known
+pub text_given : (text : List ℕ) (begun : Begun) → PoolLeaves text begun (Some []) → (t : List ℕ) → (given text).left ≡ Some t → PoolLeaves t begun (Some [])
+text_given text begun leaves t is = subst (λ (t : List ℕ). PoolLeaves t begun (Some [])) (same_Some text t is) leaves
 
 module _ (pool : ThinPool) (from to : SourceState) (old new : DeviceState) (fits : thin_need pool (room_of old.blocks) ≤ room_of old.blocks)
     (only : (room : ℕ) (verdict : Verdict ThinShape) → thin_need pool room ≤ room → IfSome from.left (λ text. IsPoolTextVerdict text room verdict) → verdict ≡ accepted (shape_of pool)) where

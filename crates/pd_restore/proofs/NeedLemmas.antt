@@ -6,12 +6,15 @@ use Rattle.pd_kinds.specs.Bitmap.{bitmaps_for}
 use Rattle.pd_shapes.specs.PoolText.{pool_need_so_far}
 use Rattle.pd_shapes.specs.SharedNeed.{need_of_shared, shape_need_so_far, used_often}
 use Rattle.pd_spells.specs.ThinText.{Head, first_line, shared_first_line, pool_line}
-use Rattle.pd_texts.specs.declared.reader.TextReader.{TextReader}
-use Rattle.pd_texts.specs.declared.thin_line.ThinLine.{ThinLine}
-use Rattle.pd_texts.specs.declared.thin_state.ThinState.{ThinState}
+use Rattle.pd_texts.specs.ThinState.{first_of}
 use Rattle.pd_spells.specs.ThinNeed.{need_of_devices, overflows_in, thin_need_so_far}
 use Rattle.pd_restore.specs.declared.pool.Pool.{Pool}
-use Rattle.pd_restore.specs.Whole.{begun_lines, head_of_pool}
+use Rattle.pd_restore.specs.declared.begin.Rest.{Rest}
+use Rattle.pd_restore.specs.declared.begin.Rest.TheVariants.{Text, Saved}
+use Rattle.pd_restore.specs.Pools.{StandsBefore, lines_before}
+use Rattle.pd_restore.specs.Whole.{head_of_pool}
+use Rattle.pd_restore.proofs.BeginLemmas.{pool_small}
+use Rattle.pd_restore.proofs.ComingLemmas.{made_pool}
 use Rattle.pd_restore.proofs.UnsharedLines.{tree_most}
 
 -- no data block is mapped by them
@@ -30,9 +33,6 @@ unfolding thin_need_so_far shape_need_so_far need_of_devices need_of_shared used
 begun_need true head room = rw (no_overflows head.data_blocks, no_overflows 0) (omega arith)
 begun_need false head room = rw (no_overflows head.data_blocks) refl
 
-first_need : (text : TextReader ThinState ThinLine) (p : Pool) (room : ℕ) → pool_need_so_far room (begun_lines text p) ≡ need_of_devices [] p.blocks 0 room
-first_need text p room = begun_need text.state.is_shared (head_of_pool p) room
-
 small_need : (blocks room : ℕ) → blocks ≤ 2 ^ 40 → room ≤ 4161600 → need_of_devices [] blocks 0 room ≤ 2 ^ 64 - 1
 unfolding need_of_devices
 small_need blocks room small most = omega (arith, tree_most 252 0, tree_most 126 0, tree_most 336 0, tree_most 168 (bitmaps_for blocks))
@@ -42,12 +42,16 @@ unfolding need_of_devices
 some_need blocks room = omega arith
 
 -- they need something, and it is a number of its type
-pub need_exact : (text : TextReader ThinState ThinLine) (p : Pool) (room need : ℕ) → p.blocks ≤ 2 ^ 40 → room ≤ 4161600 → need ≡ min (need_of_devices [] p.blocks 0 room) (2 ^ 64 - 1)
-    → need ≡ pool_need_so_far room (begun_lines text p)
-need_exact text p room need small most is = sym (first_need text p room ∙ fits)
+pub need_exact : (p : Pool) (rest : Rest) (room need : ℕ) → StandsBefore p rest → room ≤ 4161600 → need ≡ min (need_of_devices [] p.blocks 0 room) (2 ^ 64 - 1)
+    → need ≡ pool_need_so_far room (lines_before p rest)
+need_exact p rest room need stands most is = by rest stands
   where
-    fits : need_of_devices [] p.blocks 0 room ≡ need
-    fits = omega (arith, is, small_need p.blocks room small most)
+    fits : p.blocks ≤ 2 ^ 40 → need_of_devices [] p.blocks 0 room ≡ need
+    fits small = omega (arith, is, small_need p.blocks room small most)
+
+    by : (rest : Rest) → StandsBefore p rest → need ≡ pool_need_so_far room (lines_before p rest)
+    by (Text text) stands = sym (begun_need text.state.is_shared (head_of_pool p) room ∙ fits (pool_small (first_of text.state) p stands.so_far.lines.0))
+    by (Saved made) stands = sym (begun_need false (head_of_pool p) room ∙ fits (pool_small first_line p (made_pool p made stands)))
 
 pub need_some : (p : Pool) (room need : ℕ) → need ≡ min (need_of_devices [] p.blocks 0 room) (2 ^ 64 - 1) → 1 ≤ need
 need_some p room need is = omega (arith, is, some_need p.blocks room)

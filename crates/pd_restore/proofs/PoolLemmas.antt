@@ -1,5 +1,8 @@
 -- A pool from its own line on.
-use Rattle.std.proofs.Common.{◌≡◌, ℕ, Bool, true, false, List, [], ◌∷◌, ◌++◌, refl, sym, ◌∙◌, ap}
+use Rattle.std.proofs.Common.{◌≡◌, ℕ, Bool, true, false, List, [], ◌∷◌, Option, Result, Ok, Err, refl, sym, ◌∙◌, ap}
+use Rattle.std.specs.Prelude.{IfOk}
+use Rattle.pd_kinds.specs.declared.block.Block.{Block}
+use Rattle.pd_draft.specs.Placed.{Stand}
 use Rattle.pd_kinds.specs.ThinSuper.{thin_super_block}
 use Rattle.pd_grammar.specs.Texts.{reading, text_of_lines, whole}
 use Rattle.pd_grammar.proofs.GrammarLemmas.{is_reader}
@@ -10,11 +13,14 @@ use Rattle.pd_laid.specs.LaidThin.{laid_shape, pool_fields}
 use Rattle.pd_laid.specs.Shape.{ThinShape, shape_of}
 use Rattle.pd_shapes.specs.PoolText.{MeansAs, MeansPoolShape}
 use Rattle.pd_shapes.specs.SharedText.{head_of_shape}
-use Rattle.pd_texts.specs.Reader.{in_order}
+use Rattle.pd_texts.specs.Reader.{in_order, IsWhole}
 use Rattle.pd_texts.proofs.LawLemmas as any
+use Rattle.pd_restoring.specs.declared.fault.RestoreFault.{RestoreFault}
+use Rattle.pd_restoring.specs.Whole.{Writes}
 use Rattle.pd_restore.specs.declared.parts.Parts.{Parts}
 use Rattle.pd_restore.specs.declared.pool.Pool.{Pool}
 use Rattle.pd_restore.specs.Parts.{AreParts}
+use Rattle.pd_restore.specs.Pools.{pools}
 use Rattle.pd_restore.specs.Whole.{head_of_pool, fields_of}
 use Rattle.pd_restore.specs.Written.{shape_behind}
 
@@ -52,6 +58,19 @@ head_as true lines w other means = ap (λ (ls : List Line). head_in ls other) me
 head_as false lines w other means = ap (λ (ls : List Line). head_in ls other) means.means.lines_are ∙ ap head_of_shape (sym means.shape_is)
 
 pub head_is : (first : Line) (p : Head) (later lines : List Line) (w : ThinShape) → MeansPoolShape (in_order lines []) w
-    → ((others : List Line) → in_order lines others ≡ in_order (pool_line p ∷ first ∷ []) (later ++ others)) → p ≡ head_of_shape w
+    → in_order lines [] ≡ in_order (pool_line p ∷ first ∷ []) later → p ≡ head_of_shape w
 head_is first p later lines w means front =
-    ap (λ (ls : List Line). head_in ls p) (sym (front [])) ∙ head_as (is_shared (in_order lines [])) (in_order lines []) w p means
+    ap (λ (ls : List Line). head_in ls p) (sym front) ∙ head_as (is_shared (in_order lines [])) (in_order lines []) w p means
+
+-- what is written of those lines is of each text that has them
+pub writes_of : (lines : List Line) (room : ℕ) (left : Option (List ℕ)) (start now : Stand) (IsOf : List ℕ → Type 0) → ((t : List ℕ) → IsOf t → IsWhole pool_format t lines left)
+    → (result : Result Block RestoreFault) → IfOk result (Writes pools room (λ t. IsWhole pool_format t lines left) left start now) → IfOk result (Writes pools room IsOf left start now)
+writes_of lines room left start now IsOf of (Err fault) w = tt
+writes_of lines room left start now IsOf of (Ok block) w = record {
+  meaning = w.meaning;
+  lawful = w.lawful;
+  fits = w.fits;
+  super_is = w.super_is;
+  wrote = w.wrote;
+  told = λ t is. w.told t (of t is);
+}

@@ -1,24 +1,22 @@
 -- A text that is read and restored, line by line.
-use Rattle.std.proofs.Common.{◌≡◌, ℕ, ◌-◌, ◌<◌, ◌≤◌, ◌^◌, Bool, true, false, List, [], ◌∷◌, ◌++◌, length, refl, sym, ◌∙◌, ap, arith, Option, Some, Result, Ok, Err}
+use Rattle.std.proofs.Common.{◌≡◌, ℕ, ◌-◌, ◌<◌, ◌≤◌, ◌^◌, Bool, true, false, List, [], ◌∷◌, length, refl, sym, ◌∙◌, ap, arith, Option, Some, Result, Ok, Err}
 use Rattle.std.specs.Prelude.{MatchResult, IfOk, IfErr, OnOk}
 use Rattle.pd_draft.specs.Placed.{Stand}
 use Rattle.pd_grammar.specs.Spelling.{need_above_room}
-use Rattle.pd_grammar.specs.Texts as Texts
-use Rattle.pd_grammar.specs.Texts.{lines_after}
-use Rattle.pd_grammar.specs.Words.{split}
-use Rattle.pd_lines.specs.Reader.{held_of, lines_of}
+use Rattle.pd_grammar.specs.Texts.{reading}
+use Rattle.pd_lines.specs.Reader.{lines_of}
 use Rattle.pd_shapes.specs.PoolText.{pool_need_so_far}
 use Rattle.pd_spells.specs.ThinText.{Line, Head, pool_line, end_line, pool_format}
 use Rattle.pd_texts.specs.declared.fault.ReadFault.{ReadFault}
 use Rattle.pd_texts.specs.declared.reader.TextReader.{TextReader}
 use Rattle.pd_texts.specs.declared.thin_line.ThinLine.{ThinLine}
 use Rattle.pd_texts.specs.declared.thin_state.ThinState.{ThinState}
-use Rattle.pd_texts.specs.Reader.{AreReadSoFar, ReadsOn, LeavesOf, IsWhole, RefusesNext}
+use Rattle.pd_texts.specs.Reader.{in_order, AreReadSoFar, ReadsOn, LeavesOf, IsWhole, RefusesNext}
 use Rattle.pd_texts.specs.ThinLine.{line_of}
 use Rattle.pd_texts.specs.ThinState.{ThinStands}
 use Rattle.pd_restoring.specs.declared.fault.RestoreFault.{RestoreFault}
 use Rattle.pd_restoring.specs.declared.fault.RestoreFault.TheVariants as r
-use Rattle.pd_restoring.specs.Reading.{SaysOf}
+use Rattle.pd_restoring.specs.Reading.{IsOfBuild, NoneAbove, SaysOf}
 use Rattle.pd_restoring.specs.Faults.{build_fault, read_fault}
 use Rattle.pd_build.specs.declared.fault.BuildFault.{BuildFault}
 use Rattle.pd_build.specs.declared.fault.BuildFault.TheVariants as b
@@ -41,10 +39,28 @@ pub grows_where : (result : Result Bool RestoreFault) (before : List Line) (line
 grows_where (Err fault) before line old new was is few = tt
 grows_where (Ok more) before line old new was is few = λ e. omega (arith, was.so_far.count, is.so_far.count, few)
 
--- a fault of what builds asks for no room
+-- a fault of what builds is no other, and asks for no room
+pub build_is : (fault : BuildFault) → IsOfBuild (build_fault fault)
+build_is b.Memory = tt
+build_is b.Device = tt
+
 pub no_room_asked : (fault : BuildFault) (room need : ℕ) → IsOver room need (build_fault fault)
 no_room_asked b.Memory room need = tt
 no_room_asked b.Device room need = tt
+
+-- where there is no room for a line, so much is needed of a text with it
+pub lacking : {T : Type 0} (result : Result T RestoreFault) (before more : List Line) (line : Line) (room : ℕ) (t : List ℕ) → NoneAbove pool_need_so_far room before → 1 ≤ length before
+    → (reading pool_format t).lines ≡ in_order before (line ∷ more)
+    → MatchResult result (λ _. pool_need_so_far room (line ∷ before) ≤ room) (IsOver room (pool_need_so_far room (line ∷ before))) → IfErr result (SaysOf pool_format pool_need_so_far room t)
+lacking (Ok taken) before more line room t above some told over = tt
+lacking (Err r.Memory) before more line room t above some told over = tt
+lacking (Err r.Source) before more line room t above some told over = tt
+lacking (Err r.Device) before more line room t above some told over = tt
+lacking (Err (r.Text fault)) before more line room t above some told over = absurd over
+lacking (Err (r.NoRoom needed blocks)) before more line room t above some told over = (
+  ap (need_above_room (pool_need_so_far room) room []) told ∙ (above_here pool_need_so_far room before more line above some over.1.1 ∙ ap (λ n. Some n) (sym over.0)),
+  over.1.0,
+)
 
 module _ {G : Type 0} (Has : Gathers G) where
   -- a step that took a line
@@ -69,23 +85,6 @@ module _ {G : Type 0} (Has : Gathers G) where
         ),
       )
 
-  -- a step that found no room
-  pub lacking : (result : Result Bool RestoreFault) (before : List Line) (line : ThinLine) (room : ℕ) (old text : TextReader ThinState ThinLine) (left : Option (List ℕ)) (s : G) (start now : Stand) (t : List ℕ)
-      → Reading Has before room old s start now → LeavesOf pool_format t (line_of line ∷ before) text left
-      → MatchResult result (λ more. pool_need_so_far room (line_of line ∷ before) ≤ room) (IsOver room (pool_need_so_far room (line_of line ∷ before)))
-      → IfErr result (SaysOf pool_format pool_need_so_far room t)
-  lacking (Ok more) before line room old text left s start now t h told over = tt
-  lacking (Err r.Memory) before line room old text left s start now t h told over = tt
-  lacking (Err r.Source) before line room old text left s start now t h told over = tt
-  lacking (Err r.Device) before line room old text left s start now t h told over = tt
-  lacking (Err (r.Text fault)) before line room old text left s start now t h told over = absurd over
-  lacking (Err (r.NoRoom needed blocks)) before line room old text left s start now t h told over =
-      let more = (lines_after pool_format (line_of line ∷ before) (split 10 (held_of text.reader ++ told.rest))).lines in (
-        ap (λ (reading : Texts.Reading Line). need_above_room (pool_need_so_far room) room [] reading.lines) told.is
-            ∙ (above_here pool_need_so_far room before more (line_of line) h.above (omega (arith, h.later)) over.1.1 ∙ ap (λ n. Some n) (sym over.0)),
-        over.1.0,
-      )
-
   -- a step that came to the end
   pub came_to_end : (result : Result Bool RestoreFault) (before : List Line) (room : ℕ) (old text : TextReader ThinState ThinLine) (was left : Option (List ℕ)) (s t : G) (start now to : Stand)
       → Reading Has before room old s start now → to.device.blocks ≡ now.device.blocks → AreReadSoFar pool_format (end_line ∷ before)
@@ -103,22 +102,6 @@ module _ {G : Type 0} (Has : Gathers G) where
         },
         told,
       )
-
-  -- or found no room for it
-  pub lacking_end : (result : Result Bool RestoreFault) (before : List Line) (room : ℕ) (old : TextReader ThinState ThinLine) (left : Option (List ℕ)) (s : G) (start now : Stand) (t : List ℕ)
-      → Reading Has before room old s start now → IsWhole pool_format t (end_line ∷ before) left
-      → MatchResult result (λ more. pool_need_so_far room (end_line ∷ before) ≤ room) (IsOver room (pool_need_so_far room (end_line ∷ before)))
-      → IfErr result (SaysOf pool_format pool_need_so_far room t)
-  lacking_end (Ok more) before room old left s start now t h told over = tt
-  lacking_end (Err r.Memory) before room old left s start now t h told over = tt
-  lacking_end (Err r.Source) before room old left s start now t h told over = tt
-  lacking_end (Err r.Device) before room old left s start now t h told over = tt
-  lacking_end (Err (r.Text fault)) before room old left s start now t h told over = absurd over
-  lacking_end (Err (r.NoRoom needed blocks)) before room old left s start now t h told over = (
-    ap (λ (reading : Texts.Reading Line). need_above_room (pool_need_so_far room) room [] reading.lines) told.0
-        ∙ (above_here pool_need_so_far room before [] end_line h.above (omega (arith, h.later)) over.1.1 ∙ ap (λ n. Some n) (sym over.0)),
-    over.1.0,
-  )
 
   -- a step by its answer
   pub steps_as : (a b : Bool) (before : List Line) (room : ℕ) (old text : TextReader ThinState ThinLine) (was left : Option (List ℕ)) (s : G) (start now : Stand) → a ≡ b

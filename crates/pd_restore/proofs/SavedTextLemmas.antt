@@ -1,19 +1,30 @@
 -- The text of a saved pool: what it spells, and its lines from a place on.
-use Rattle.std.proofs.Common.{◌≡◌, inl, inr, ℕ, zero, suc, ◌+◌, ◌-◌, ◌<◌, ◌≤◌, true, false, ltb, List, [], ◌∷◌, ◌++◌, length, map, take, drop, drop-cons, add-one, get_or, refl, ap, sym, subst, ◌∙◌, arith, lit≤}
+use Rattle.std.proofs.Common.{◌≡◌, Bool, inl, inr, ℕ, zero, suc, ◌+◌, ◌-◌, ◌<◌, ◌≤◌, true, false, ltb, List, [], ◌∷◌, ◌++◌, length, map, take, drop, drop-cons, add-one, get_or, refl, ap, ap₂, sym, subst, ◌∙◌, arith, lit≤}
 use Rattle.std.specs.List.{AllByRecursion, flat_map}
 use Rattle.std.proofs.lemmas.Bool.{cases_Bool, ltb-true, ltb-false}
 use Rattle.std.proofs.lemmas.List.{drop-drop, drop_all}
 use Rattle.pd_kinds.specs.Meaning.{Mapping}
+use Rattle.pd_grammar.specs.Texts.{reading, whole}
+use Rattle.pd_grammar.proofs.GrammarLemmas.{read_if_lines}
+use Rattle.pd_grammar.proofs.LineLemmas.{AreRead}
+use Rattle.pd_grammar.proofs.SpellingLemmas.{reading_if_spelled}
 use Rattle.pd_thin_meaning.specs.declared.joined.Run.{Run as SavedRun}
 use Rattle.pd_thin_meaning.specs.Joined.{spelled}
-use Rattle.pd_spells.specs.ThinText.{device_line, map_line, pool_line, Part, Run, HasMappings, SpellsPool, follows, head_of, joined_runs, lines_of_part, lines_of_parts, mappings_of, with_mapping}
+use Rattle.pd_texts.specs.Reader.{in_order}
+use Rattle.pd_spells.specs.ThinText.{Head, Line, first_line, pool_line, device_line, map_line, end_line, Part, Run, HasMappings, follows, joined_runs, lines_of_part, mappings_of, pool_format, with_mapping}
+use Rattle.pd_spells.proofs.ThinRead.{FitsLine, PlacedInPool}
+use Rattle.pd_laid.specs.Shape.{shape_of}
+use Rattle.pd_shapes.specs.PoolText.{MeansAs, MeansPoolShape, SpellsPoolShape}
+use Rattle.pd_shapes.proofs.PoolLaws.{pool_language}
+use Rattle.pd_shapes.proofs.ShapeText.{parts_unshared}
 use Rattle.pd_salvage.specs.declared.saved.SavedDevice.{SavedDevice}
-use Rattle.pd_salvage.specs.declared.saved.SavedHead.{SavedHead}
 use Rattle.pd_salvage.specs.Saved.{IsJoined, IsSavedPool, SavedPool, parts_of, pool_of}
-use Rattle.pd_texts.specs.Made.{made_text}
 use Rattle.pd_texts.specs.ThinLine.{details_of}
-use Rattle.pd_restore.specs.declared.saved_lines.Place.TheVariants.{Head}
-use Rattle.pd_restore.specs.SavedLines.{lines_at, lines_from, words_of_head}
+use Rattle.pd_restore.specs.declared.pool.Pool.{Pool}
+use Rattle.pd_restore.specs.declared.saved_lines.SavedLines.{SavedLines}
+use Rattle.pd_restore.specs.Coming.{lines_to_end, made_begun}
+use Rattle.pd_restore.specs.SavedLines.{lines_at, lines_left, saved_lines, saved_text, words_of_head}
+use Rattle.pd_restore.specs.Whole.{head_of_pool}
 
 -- each run of the joined ones has a mapping
 with_mapping_some : (m : Mapping) (rs : List Run) → AllByRecursion (λ (r : Run). 1 ≤ r.length) rs → AllByRecursion (λ (r : Run). 1 ≤ r.length) (with_mapping m rs)
@@ -32,20 +43,40 @@ have_mappings [] joined = tt
 have_mappings (p ∷ parts) joined =
     (subst (λ (rs : List Run). AllByRecursion (λ (r : Run). 1 ≤ r.length) rs) joined.0 (joined_some (flat_map mappings_of p.runs)), have_mappings parts joined.1)
 
--- the text of a saved pool spells the pool
-pub saved_spells : (saved : SavedPool) → IsSavedPool saved → SpellsPool (made_text (lines_from saved Head)) (pool_of saved)
+-- the lines of a saved pool mean its shape
+saved_means : (saved : SavedPool) → IsSavedPool saved → MeansPoolShape (saved_lines saved) (shape_of (pool_of saved))
 unfolding pool_of
-saved_spells saved sound = record {
-  lines = lines_of_parts (head_of (pool_of saved)) (parts_of saved.devices saved.runs);
-  bytes = refl;
-  means = record {
-    parts = parts_of saved.devices saved.runs;
-    lines_are = refl;
-    devices = refl;
-    runs = have_mappings (parts_of saved.devices saved.runs) sound.joined;
-    lawful = sound.lawful;
-  };
-}
+saved_means saved sound =
+    let parts = parts_of saved.devices saved.runs in
+    subst (λ (shared : Bool). MeansAs shared (saved_lines saved) (shape_of (pool_of saved))) (sym (parts_unshared parts)) (record {
+      pool = pool_of saved;
+      means = record { parts = parts; lines_are = refl; devices = refl; runs = have_mappings parts sound.joined; lawful = sound.lawful };
+      shape_is = refl;
+    })
+
+-- so its text spells it
+pub saved_spells : (saved : SavedPool) → IsSavedPool saved → SpellsPoolShape (saved_text saved) (shape_of (pool_of saved))
+saved_spells saved sound = record { lines = saved_lines saved; bytes = refl; means = saved_means saved sound }
+
+-- and is read as its lines
+pub saved_reading : (saved : SavedPool) → IsSavedPool saved → reading pool_format (saved_text saved) ≡ whole (saved_lines saved)
+unfolding saved_spells
+saved_reading saved sound =
+    reading_if_spelled pool_format MeansPoolShape FitsLine PlacedInPool pool_language (saved_text saved) (shape_of (pool_of saved)) (saved_spells saved sound)
+
+pub saved_read : (saved : SavedPool) → IsSavedPool saved → AreRead pool_format [] (saved_lines saved)
+saved_read saved sound =
+    read_if_lines pool_format FitsLine PlacedInPool pool_language.grammar [] (saved_lines saved)
+    (pool_language.lines (saved_lines saved) (shape_of (pool_of saved)) (saved_means saved sound))
+
+-- all lines come at first
+pub all_left : (saved : SavedPool) → lines_at saved.devices saved.runs 0 0 0 ≡ flat_map lines_of_part (parts_of saved.devices saved.runs)
+unfolding lines_at
+all_left saved = refl
+
+pub all_lines : (saved : SavedPool) (p : Pool) (made : SavedLines) → head_of_pool p ≡ words_of_head saved.head → lines_left made ≡ flat_map lines_of_part (parts_of saved.devices saved.runs)
+    → in_order (made_begun p) (lines_to_end made) ≡ saved_lines saved
+all_lines saved p made head rest = ap₂ (λ (h : Head) (ls : List Line). first_line ∷ pool_line h ∷ (ls ++ end_line ∷ [])) head rest
 
 -- a run, and what comes after it
 pub run_first : (devices : List SavedDevice) (runs : List SavedRun) (device run left : ℕ) (r : SavedRun) → 0 < left → drop run runs ≡ r ∷ drop (run + 1) runs
@@ -82,12 +113,6 @@ device_first devices runs device run d there =
 pub no_device : (devices : List SavedDevice) (runs : List SavedRun) (device run : ℕ) → drop device devices ≡ [] → lines_at devices runs device run 0 ≡ []
 unfolding lines_at
 no_device devices runs device run none = rw none refl
-
--- the pool's line, and all lines after it
-pub head_first : (saved : SavedPool) (head : SavedHead) → head ≡ saved.head
-    → lines_from saved Head ≡ pool_line (words_of_head head) ∷ lines_at saved.devices saved.runs 0 0 0
-unfolding lines_at
-head_first saved head same = rw same refl
 
 -- what is at a place comes first from there on
 pub drop_there : {A : Type 0} (xs : List A) (i : ℕ) (x : A) → true ≡ ltb i (length xs) → x ≡ get_or xs i x → drop i xs ≡ x ∷ drop (i + 1) xs

@@ -1,13 +1,14 @@
 -- What becomes of a device on which a pool is written that is held in memory.
-use Rattle.std.specs.Prelude.{◌≡◌, ℕ, ◌<◌, ◌≤◌, List, Result, Ok, Err, IfSome}
+use Rattle.std.specs.Prelude.{◌≡◌, ℕ, ◌<◌, ◌≤◌, List, [], None, Some, Result, Ok, Err, IfSome}
 use Rattle.pd_kinds.specs.Crash.{HoldsOldOrNone, HoldsSynced, IsOldNoneOrMade, IsUntouched, LeavesOnly, StillTells}
 use Rattle.pd_kinds.specs.Limits.{room_of}
 use Rattle.pd_kinds.specs.Meaning.{ThinPool}
-use Rattle.pd_kinds.specs.Objects.{DeviceState, Rose}
+use Rattle.pd_kinds.specs.Objects.{DeviceState, SourceState, Rose}
 use Rattle.pd_laid.specs.Laid.{IsLaid}
 use Rattle.pd_laid.specs.LaidThin.{laid_pool}
 use Rattle.pd_spells.specs.Lawful.{IsLawfulPool}
 use Rattle.pd_spells.specs.ThinNeed.{thin_need}
+use Rattle.pd_restore.specs.declared.made.Ended.{Ended}
 use Rattle.pd_restore.specs.declared.made.MadeFault.{MadeFault}
 use Rattle.pd_restore.specs.declared.made.MadeFault.TheVariants as m
 
@@ -82,3 +83,7 @@ CountsMade (Ok answer) old new = new ≡ old
 CountsMade (Err m.Memory) old new = new ≡ old
 CountsMade (Err m.Device) old new = Rose old new × (old ≤ new)
 CountsMade (Err (m.NoRoom need blocks)) old new = new ≡ old
+
+-- a source of which nothing is left
+abbrev pub ended_state : Ended → SourceState
+ended_state ended = record { access = 1; path = None; left = Some []; faults = 0 }

@@ -86,13 +86,13 @@ Steps Has true before room old was text left s start now = (line : Line) × (Rea
 Steps Has false before room old was text left s start now = HasReadAll Has (end_line ∷ before) room s start now
     × ((t : List ℕ) → LeavesOf pool_format t before old was → IsWhole pool_format t (end_line ∷ before) left)
 
--- after these lines all others were read
-pub record EndsAll {G : Type 0} (Has : Gathers G) (before : List Line) (room : ℕ) (old : TextReader ThinState ThinLine) (was left : Option (List ℕ)) (s : G) (start now : Stand) : Type 0 where
+-- after these lines all others were gathered, which are those of the texts in question
+pub record EndsAll {G : Type 0} (Has : Gathers G) (before : List Line) (room : ℕ) (IsOf : List ℕ → Type 0) (left : Option (List ℕ)) (s : G) (start now : Stand) : Type 0 where
   pub lines : List Line
   pub later : List Line
-  pub front : (others : List Line) → in_order lines others ≡ in_order before (later ++ others)
+  pub front : in_order lines [] ≡ in_order before later
   pub all : HasReadAll Has lines room s start now
-  pub told : (t : List ℕ) → LeavesOf pool_format t before old was → IsWhole pool_format t lines left
+  pub told : (t : List ℕ) → IsOf t → IsWhole pool_format t lines left
 
 -- from the lines before some others were read
 pub record Went {G : Type 0} (Has : Gathers G) (before : List Line) (room : ℕ) (old : TextReader ThinState ThinLine) (was : Option (List ℕ)) (text : TextReader ThinState ThinLine)

@@ -1,17 +1,14 @@
 -- The lines of what was saved of a pool, as they stand in a text.
-use Rattle.std.specs.Prelude.{◌≡◌, ℕ, ◌+◌, List, ◌∷◌, ◌++◌, map, take, drop}
+use Rattle.std.specs.Prelude.{ℕ, ◌+◌, List, ◌++◌, map, take, drop}
 use Rattle.std.specs.List.{flat_map}
+use Rattle.pd_grammar.specs.Texts.{text_of_lines}
 use Rattle.pd_thin_meaning.specs.declared.joined.Run.{Run}
 use Rattle.pd_thin_meaning.specs.Joined.{spelled}
-use Rattle.pd_spells.specs.ThinText.{Head, Line, lines_of_part, map_line, pool_line}
-use Rattle.pd_texts.specs.ThinLine.{line_of}
+use Rattle.pd_spells.specs.ThinText.{Head, Line, lines_of_part, lines_of_parts, map_line, pool_format}
 use Rattle.pd_salvage.specs.declared.saved.SavedDevice.{SavedDevice}
 use Rattle.pd_salvage.specs.declared.saved.SavedHead.{SavedHead}
 use Rattle.pd_salvage.specs.Saved.{SavedPool, parts_of}
-use Rattle.pd_restore.specs.declared.saved_lines.Place.{Place}
-use Rattle.pd_restore.specs.declared.saved_lines.Place.TheVariants as at
 use Rattle.pd_restore.specs.declared.saved_lines.SavedLines.{SavedLines}
-use Rattle.pd_restore.specs.declared.saved_lines.Step.{Step}
 
 -- the words of the pool's line
 abbrev pub words_of_head : SavedHead → Head
@@ -22,15 +19,13 @@ unfoldable pub lines_at : List SavedDevice → List Run → ℕ → ℕ → ℕ 
 lines_at devices runs device run left =
     map map_line (map spelled (take left (drop run runs))) ++ flat_map lines_of_part (parts_of (drop device devices) (drop (run + left) runs))
 
--- the lines from a place on, but for the last one
-abbrev pub lines_from : SavedPool → Place → List Line
-lines_from saved at.Head = pool_line (words_of_head saved.head) ∷ flat_map lines_of_part (parts_of saved.devices saved.runs)
-lines_from saved (at.Lines device run left) = lines_at saved.devices saved.runs device run left
-
--- the lines that are still to come
+-- the lines that are still to come, but for the last one
 abbrev pub lines_left : SavedLines → List Line
-lines_left made = lines_from made.saved made.next
+lines_left made = lines_at made.saved.devices made.saved.runs made.device made.run made.left
 
--- the line in a place was given, and the place after it
-pub record Gives (saved : SavedPool) (place : Place) (step : Step) : Type 0 where
-  pub line : lines_from saved place ≡ line_of step.line ∷ lines_from saved step.next
+-- the text of the pool
+abbrev pub saved_lines : SavedPool → List Line
+saved_lines saved = lines_of_parts (words_of_head saved.head) (parts_of saved.devices saved.runs)
+
+abbrev pub saved_text : SavedPool → List ℕ
+saved_text saved = text_of_lines pool_format (saved_lines saved)

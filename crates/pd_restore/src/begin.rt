@@ -12,15 +12,25 @@ ghost use Rattle.pd_restore.specs.Begin.{IsOfPool};
 ghost use Rattle.pd_restore.specs.Whole.{begun_lines, head_of_pool};
 
 use crate::pool::Pool;
+use crate::saved_lines::SavedLines;
 use pd_image::Source;
 use pd_restoring::{RestoreFault, of_read};
 use pd_texts::{ThinLine, ThinText};
 
-/// A text whose first two lines were read.
+/// A pool whose own line is known, and what gives the lines after it.
 #[derive(Drop)]
 pub(crate) struct Begun {
-    pub(crate) text: ThinText,
     pub(crate) pool: Pool,
+    pub(crate) rest: Rest,
+}
+
+/// What gives the lines after a pool's own.
+#[derive(Drop)]
+pub(crate) enum Rest {
+    /// A text whose first two lines were read.
+    Text(ThinText),
+    /// A pool that is held in memory.
+    Saved(SavedLines),
 }
 
 /// Reads the first line and the pool line.

@@ -8,6 +8,7 @@ mod made;
 mod overflowing;
 mod parts;
 mod pool;
+mod saved;
 mod saved_lines;
 mod saved_need;
 mod shared;

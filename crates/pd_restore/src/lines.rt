@@ -39,7 +39,7 @@ pub(crate) fn restore_lines<S: Source, D: Device, G: Gathering>(
     requires closed { IsClosed (stand draft.old).device }
     ensures same_reference { draft.new.dev.ghost_name ≡ draft.old.dev.ghost_name }
     ensures all { (before : List Line) (start : Stand) → Reading G.HasGathered before room text.old gathered.old start (stand draft.old)
-        → OnOk result (EndsAll G.HasGathered before room text.old (S.state source.old).left (S.state source.new).left gathered.new start (stand draft.new)) }
+        → OnOk result (EndsAll G.HasGathered before room (λ t. LeavesOf pool_format t before text.old (S.state source.old).left) (S.state source.new).left gathered.new start (stand draft.new)) }
     ensures room { (before : List Line) (start : Stand) → Reading G.HasGathered before room text.old gathered.old start (stand draft.old)
         → (t : List ℕ) → LeavesOf pool_format t before text.old (S.state source.old).left → IfErr result (SaysOf pool_format pool_need_so_far room t) }
     ensures later { IfErr result IsOfLater }

@@ -1,6 +1,6 @@
 //! A pool that is held in memory, written to a device.
 
-ghost use Rattle.std.specs.Prelude.{◌≡◌, ◌≤◌, ℕ, IfSome};
+ghost use Rattle.std.specs.Prelude.{◌≡◌, ◌≤◌, ℕ, [], Some};
 ghost use Rattle.pd_kinds.specs.Limits.{room_of};
 ghost use Rattle.pd_image.specs.Device.{IsWritable, KeepsPlace};
 ghost use Rattle.pd_grammar.specs.Spelling.{Verdict, accepted};
@@ -9,19 +9,22 @@ ghost use Rattle.pd_salvage.specs.Saved.{pool_of};
 ghost use Rattle.pd_shapes.specs.PoolText.{IsPoolTextVerdict};
 ghost use Rattle.pd_spells.specs.Lawful.{IsLawfulPool};
 ghost use Rattle.pd_spells.specs.ThinNeed.{thin_need};
-ghost use Rattle.pd_texts.specs.Made.{made_state};
 ghost use Rattle.pd_restore.specs.Made.{CountsMade, IsMadeOf, ending_of};
+ghost use Rattle.pd_restore.specs.Pools.{PoolLeaves, PoolStands};
+ghost use Rattle.pd_restore.specs.SavedLines.{saved_text, words_of_head};
+ghost use Rattle.pd_restore.specs.Whole.{head_of_pool};
 
+use crate::begin::{Begun, Rest};
+use crate::pool::Pool;
 use crate::saved_lines::SavedLines;
 use crate::saved_need::need_of_saved;
-use crate::thin::restore_thin;
-use pd_image::{Device, Source};
+use crate::thin::Pools;
+use pd_image::{Device, Failed, Source};
 use pd_kinds::MAX_META_BLOCKS;
-use pd_restoring::RestoreFault;
-use pd_salvage::Salvage;
+use pd_restoring::{RestoreFault, restore_begun};
+use pd_salvage::{Salvage, SavedHead};
 use pd_shape_verdicts::pool_text_is_accepted_where_there_is_room;
-use pd_shapes::{either_version_spells_a_shape, pool_text_has_one_verdict};
-use pd_texts::MadeSource;
+use pd_shapes::pool_text_has_one_verdict;
 use std::alloc::Global;
 
 /// Why a pool wasn't written.
@@ -56,19 +59,25 @@ pub fn restore_made<D: Device>(alloc: Global, saved: Salvage, dev: &mut D) -> Re
     if need > room {
         return Err(MadeFault::NoRoom { need, blocks: room });
     }
-    restore_saved(alloc, saved, dev)
+    restore_saved(alloc, saved, dev, room)
 }
 
 /// Writes a pool for which there is room.
-fn restore_saved<D: Device>(alloc: Global, saved: Salvage, dev: &mut D) -> Result<(), MadeFault>
+fn restore_saved<D: Device>(
+    alloc: Global,
+    saved: Salvage,
+    dev: &mut D,
+    room: u64,
+) -> Result<(), MadeFault>
     requires writable { IsWritable (D.state dev.old) }
+    requires here { room ≡ room_of (D.state dev.old).blocks }
     requires room { thin_need (pool_of saved) (room_of (D.state dev.old).blocks) ≤ room_of (D.state dev.old).blocks }
     ensures made { IsMadeOf (pool_of saved) (ending_of result) (D.state dev.old) (D.state dev.new) }
     ensures place { KeepsPlace (D.state dev.old) (D.state dev.new) }
     ensures causes { CountsMade result (D.state dev.old).faults (D.state dev.new).faults }
 {
-    let mut source = text_of_saved(saved);
-    match restore_thin(alloc, &mut source, dev) {
+    let begun = begun_of(saved);
+    match restore_begun(&Pools, alloc, begun, &mut Ended, dev, room) {
         Ok(()) => Ok(()),
         Err(fault) => match fault {
             RestoreFault::Memory => Err(MadeFault::Memory),
@@ -80,21 +89,54 @@ fn restore_saved<D: Device>(alloc: Global, saved: Salvage, dev: &mut D) -> Resul
     }
 }
 
-/// The text of a pool, attached: where there is room for the pool, it is accepted as that of a pool that shares no leaf.
-fn text_of_saved(saved: Salvage) -> MadeSource<SavedLines>
-    ensures attached { (made_state result).access ≡ 1 }
+/// What is restored of a pool: its text, where there is room for the pool, is accepted as that of a pool that shares no leaf.
+fn begun_of(saved: Salvage) -> Begun
+    ensures stands { PoolStands result }
+    ensures leaves { PoolLeaves (saved_text saved) result (Some []) }
     ensures lawful { IsLawfulPool (pool_of saved) }
     ensures only { (room : ℕ) (verdict : Verdict ThinShape) → thin_need (pool_of saved) room ≤ room
-        → IfSome (made_state result).left (λ text. IsPoolTextVerdict text room verdict) → verdict ≡ accepted (shape_of (pool_of saved)) }
+        → IsPoolTextVerdict (saved_text saved) room verdict → verdict ≡ accepted (shape_of (pool_of saved)) }
 {
-    either_version_spells_a_shape();
     pool_text_is_accepted_where_there_is_room();
     pool_text_has_one_verdict();
     // What was saved is a lawful pool.
-    let _ = saved.head();
-    let mut source = MadeSource::new(SavedLines::new(saved));
-    if source.attach("").is_err() {
-        unreachable!();
+    let pool = pool_of_head(saved.head());
+    Begun {
+        pool,
+        rest: Rest::Saved(SavedLines::new(saved)),
     }
-    source
+}
+
+/// The pool line.
+fn pool_of_head(head: &SavedHead) -> Pool
+    ensures { head_of_pool result ≡ words_of_head head.now }
+{
+    Pool {
+        uuid: head.uuid,
+        time: head.time,
+        transaction: head.transaction,
+        block_size: head.block_size,
+        blocks: head.blocks,
+    }
+}
+
+/// A source of which nothing is left: the lines stand in memory.
+#[derive(Drop)]
+struct Ended;
+
+impl Source for Ended {
+    ghost use Rattle.std.proofs.Common.{refl};
+    ghost use Rattle.pd_restore.specs.Made.{ended_state};
+
+    ghost state = { ended_state };
+
+    ghost unnamed = { λ _ _. refl };
+
+    fn attach(&mut self, _path: &str) -> Result<(), Failed> {
+        Ok(())
+    }
+
+    fn take(&mut self, _into: &mut [u8]) -> Result<usize, Failed> {
+        Ok(0)
+    }
 }

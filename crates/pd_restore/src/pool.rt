@@ -1,20 +1,20 @@
 //! A pool, from the lines after its own.
 
-ghost use Rattle.std.specs.Prelude.{◌≡◌, ℕ, List, IfOk, IfErr};
+ghost use Rattle.std.specs.Prelude.{◌≡◌, ℕ, List, [], ◌∷◌, Option, IfOk, IfErr};
 ghost use Rattle.pd_image.specs.Device.{IsWritable};
 ghost use Rattle.pd_image.specs.Source.{KeepsSource};
 ghost use Rattle.pd_draft.specs.Closed.{IsClosed, StaysClosed};
 ghost use Rattle.pd_draft.specs.Placed.{Stand};
 ghost use Rattle.pd_draft.specs.Stand.{stand};
 ghost use Rattle.pd_shapes.specs.PoolText.{pool_need_so_far};
-ghost use Rattle.pd_spells.specs.ThinText.{pool_format};
-ghost use Rattle.pd_texts.specs.Reader.{LeavesOf};
-ghost use Rattle.pd_restoring.specs.Reading.{IsOfLater, SaysOf};
+ghost use Rattle.pd_spells.specs.ThinText.{Line, pool_line, pool_format};
+ghost use Rattle.pd_texts.specs.Reader.{in_order, IsWhole, LeavesOf};
+ghost use Rattle.pd_restoring.specs.Reading.{CountsTake, IsOfBuild, IsOfLater, SaysOf};
 ghost use Rattle.pd_restoring.specs.Restored.{CountsRestore};
 ghost use Rattle.pd_restoring.specs.Whole.{Writes};
 ghost use Rattle.pd_restore.specs.Pools.{pools};
-ghost use Rattle.pd_restore.specs.Reading.{Reading};
-ghost use Rattle.pd_restore.specs.Whole.{begun_lines, fields_of, CanBegin};
+ghost use Rattle.pd_restore.specs.Reading.{CanWrite, HasReadAll, Reading};
+ghost use Rattle.pd_restore.specs.Whole.{begun_lines, fields_of, head_of_pool, CanBegin};
 
 use crate::gathering::Gathering;
 use crate::lines::restore_lines;
@@ -62,6 +62,28 @@ pub(crate) fn write_pool<S: Source, D: Device, G: Gathering>(
     ensures faults { CountsRestore result (S.state source.old).faults (S.state source.new).faults (stand draft.old).device.faults (stand draft.new).device.faults }
 {
     restore_lines(text, source, draft, gathered, room)?;
+    write_behind(alloc, draft, gathered, pool, room)
+}
+
+/// Writes all that is left of a pool whose lines were gathered but its superblock, which it answers.
+pub(crate) fn write_behind<D: Device, G: Gathering>(
+    alloc: Global,
+    draft: &mut Draft<'_, D>,
+    gathered: &G,
+    pool: &Pool,
+    room: u64,
+) -> Result<Block, RestoreFault>
+    requires whole { CanWrite G.HasGathered room gathered.now (stand draft.old) }
+    requires writable { IsWritable (stand draft.old).device }
+    requires closed { IsClosed (stand draft.old).device }
+    ensures same_reference { draft.new.dev.ghost_name ≡ draft.old.dev.ghost_name }
+    ensures writes { (first : Line) (lines later : List Line) (left : Option (List ℕ)) (start : Stand)
+        → in_order lines [] ≡ in_order (pool_line (head_of_pool pool.now) ∷ first ∷ []) later → HasReadAll G.HasGathered lines room gathered.now start (stand draft.old)
+        → IfOk result (Writes pools room (λ t. IsWhole pool_format t lines left) left start (stand draft.new)) }
+    ensures build { IfErr result IsOfBuild }
+    ensures closed { StaysClosed (stand draft.old).device (stand draft.new).device }
+    ensures faults { CountsTake result (stand draft.old).device.faults (stand draft.new).device.faults }
+{
     match gathered.write_parts(alloc, draft, room) {
         Ok(parts) => Ok(write_thin_super(&super_of(pool, parts, room))),
         Err(fault) => Err(of_build(fault)),

@@ -1,140 +1,80 @@
-//! The lines of a saved pool's text, made one by one.
+//! The lines of a saved pool, made one by one.
 
-ghost use Rattle.std.specs.Prelude.{◌≡◌, [], IfNone, IfSome};
+ghost use Rattle.std.specs.Prelude.{◌≡◌, ◌∷◌, [], IfNone, IfSome};
+ghost use Rattle.std.specs.List.{flat_map};
+ghost use Rattle.pd_salvage.specs.Saved.{parts_of};
 ghost use Rattle.pd_thin_meaning.specs.Joined.{spelled};
 ghost use Rattle.pd_spells.specs.ThinText as p;
+ghost use Rattle.pd_spells.specs.ThinText.{lines_of_part};
 ghost use Rattle.pd_texts.specs.ThinLine.{line_of};
-ghost use Rattle.pd_restore.specs.SavedLines.{Gives, lines_from, words_of_head};
 
-use pd_salvage::{Salvage, SavedHead};
-use pd_texts::{MadeLines, Run2, ThinLine};
+use pd_salvage::Salvage;
+use pd_texts::{Run2, ThinLine};
 use pd_thin_meaning::Run;
 
-/// The next line.
-#[derive(Clone, Copy)]
-enum Place {
-    /// The pool's.
-    Head,
-    /// That of this run, of which with it so many are still the last device's; and where there are none, that of this
-    /// device, or after the last of these none.
-    Lines {
-        device: usize,
-        run: usize,
-        left: usize,
-    },
-}
-
-/// A line, and the place after it.
-#[derive(Drop)]
-struct Step {
-    line: ThinLine,
-    next: Place,
-}
-
-/// The lines of a saved pool's text that stand between its first and its last one. They take no more memory.
+/// The lines of a saved pool's text that stand between its pool line and its last one. They take no more memory.
+///
+/// The next one is that of this run, of which with it so many are still the last device's; and where there are none, that
+/// of this device, or after the last of these none.
 #[derive(Drop)]
 pub(crate) struct SavedLines {
     saved: Salvage,
-    next: Place,
+    device: usize,
+    run: usize,
+    left: usize,
 }
 
 impl SavedLines {
-    ghost use Rattle.pd_restore.specs.SavedLines.{lines_left};
+    ghost use Rattle.pd_restore.specs.SavedLines.{lines_at, lines_left};
 
     /// All of them.
     pub(crate) fn new(saved: Salvage) -> SavedLines
-        ensures { lines_left result ≡ lines_from saved Place.Head }
+        ensures { lines_left result ≡ flat_map lines_of_part (parts_of saved.devices saved.runs) }
     {
         SavedLines {
             saved,
-            next: Place::Head,
+            device: 0,
+            run: 0,
+            left: 0,
         }
     }
-}
 
-impl MadeLines for SavedLines {
-    ghost use Rattle.pd_restore.specs.SavedLines.{lines_left};
-
-    ghost left = { lines_left };
-
-    fn next(&mut self) -> Option<ThinLine> {
-        let step = step_at(&self.saved, self.next)?;
-        self.next = step.next;
-        Some(step.line)
-    }
-}
-
-/// The line in a place of the text of the pool.
-fn step_at(saved: &Salvage, place: Place) -> Option<Step>
-    ensures some { IfSome result (Gives saved.now place) }
-    ensures none { IfNone result (lines_from saved.now place ≡ []) }
-{
-    match place {
-        Place::Head => Some(Step {
-            line: head_line(saved.head()),
-            next: Place::Lines {
-                device: 0,
-                run: 0,
-                left: 0,
-            },
-        }),
-        Place::Lines { device, run, left } => line_step(saved, device, run, left),
-    }
-}
-
-/// The line of a run, or where none is left that of a device.
-fn line_step(saved: &Salvage, device: usize, run: usize, left: usize) -> Option<Step>
-    ensures some { IfSome result (Gives saved.now (Place.Lines device run left)) }
-    ensures none { IfNone result (lines_from saved.now (Place.Lines device run left) ≡ []) }
-{
-    if left > 0 {
-        match saved.runs().get(run) {
-            Some(mapped) => Some(Step {
-                line: map_line(mapped),
-                next: Place::Lines {
-                    device,
-                    run: run + 1,
-                    left: left - 1,
-                },
-            }),
-            None => device_step(saved, device, run),
+    /// The next line, or none where all were made.
+    pub(crate) fn next(&mut self) -> Option<ThinLine>
+        ensures some { IfSome result (λ line. lines_left self.old ≡ line_of line ∷ lines_left self.new) }
+        ensures none { IfNone result (lines_left self.old ≡ []) }
+    {
+        if self.left == 0 {
+            return self.next_device();
         }
-    } else {
-        device_step(saved, device, run)
+        match self.saved.runs().get(self.run) {
+            Some(mapped) => {
+                let line = map_line(mapped);
+                self.run += 1;
+                self.left -= 1;
+                Some(line)
+            }
+            None => self.next_device(),
+        }
     }
-}
 
-/// The line of a device whose runs begin here.
-fn device_step(saved: &Salvage, device: usize, run: usize) -> Option<Step>
-    ensures some { IfSome result (Gives saved.now (Place.Lines device run 0)) }
-    ensures none { IfNone result (lines_from saved.now (Place.Lines device run 0) ≡ []) }
-{
-    match saved.devices().get(device) {
-        Some(next) => Some(Step {
-            line: ThinLine::Device {
-                id: next.id,
-                details: next.details,
-            },
-            next: Place::Lines {
-                device: device + 1,
-                run,
-                left: next.runs,
-            },
-        }),
-        None => None,
-    }
-}
-
-/// The line of the pool.
-fn head_line(head: &SavedHead) -> ThinLine
-    ensures { line_of result ≡ p.pool_line (words_of_head head.now) }
-{
-    ThinLine::Pool {
-        uuid: head.uuid,
-        time: head.time,
-        transaction: head.transaction,
-        block_size: head.block_size,
-        blocks: head.blocks,
+    /// The line of a device whose runs begin here.
+    fn next_device(&mut self) -> Option<ThinLine>
+        ensures some { IfSome result (λ line. lines_at self.old.saved.devices self.old.saved.runs self.old.device self.old.run 0 ≡ line_of line ∷ lines_left self.new) }
+        ensures none { IfNone result (lines_at self.old.saved.devices self.old.saved.runs self.old.device self.old.run 0 ≡ []) }
+    {
+        match self.saved.devices().get(self.device) {
+            Some(next) => {
+                let line = ThinLine::Device {
+                    id: next.id,
+                    details: next.details,
+                };
+                self.left = next.runs;
+                self.device += 1;
+                Some(line)
+            }
+            None => None,
+        }
     }
 }
 

@@ -15,8 +15,9 @@ ghost use Rattle.pd_restoring.specs.Whole.{Writes};
 ghost use Rattle.pd_restore.specs.Pools.{pools};
 ghost use Rattle.pd_restore.specs.Whole.{HasBegun, begun_lines};
 
-use crate::begin::{Begun, read_pool};
+use crate::begin::{Begun, Rest, read_pool};
 use crate::pool::{Pool, write_pool};
+use crate::saved::write_saved;
 use crate::shared::SharedLines;
 use pd_devices::{Devices, need_thin};
 use pd_draft::Draft;
@@ -79,7 +80,10 @@ impl Restoring for Pools {
             Err(_) => return Err(RestoreFault::Memory),
         };
         match read_pool(&mut text, source) {
-            Ok(pool) => Ok(Begun { text, pool }),
+            Ok(pool) => Ok(Begun {
+                pool,
+                rest: Rest::Text(text),
+            }),
             Err(fault) => Err(fault),
         }
     }
@@ -96,11 +100,16 @@ impl Restoring for Pools {
         draft: &mut Draft<'_, D>,
         room: u64,
     ) -> Result<Block, RestoreFault> {
-        let Begun { mut text, pool } = begun;
-        if text.version() == 2 {
-            write_shared(alloc, &mut text, source, draft, &pool, room)
-        } else {
-            write_unshared(alloc, &mut text, source, draft, &pool, room)
+        let Begun { pool, rest } = begun;
+        match rest {
+            Rest::Text(mut text) => {
+                if text.version() == 2 {
+                    write_shared(alloc, &mut text, source, draft, &pool, room)
+                } else {
+                    write_unshared(alloc, &mut text, source, draft, &pool, room)
+                }
+            }
+            Rest::Saved(mut lines) => write_saved(alloc, &mut lines, draft, &pool, room),
         }
     }
 }

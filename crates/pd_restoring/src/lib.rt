@@ -9,4 +9,4 @@ mod whole;
 pub use fault::{RestoreFault, of_build, of_read};
 pub use own_map::write_own_map;
 pub use restoring::Restoring;
-pub use whole::restore;
+pub use whole::{restore, restore_begun};

@@ -42,8 +42,8 @@ pub fn restore<K: Restoring, S: Source, D: Device>(
     }
 }
 
-/// Restores what a text spells whose first two lines were read.
-fn restore_begun<K: Restoring, S: Source, D: Device>(
+/// Restores what a text spells whose first two lines were read, from whatever source.
+pub fn restore_begun<K: Restoring, S: Source, D: Device>(
     kind: &K,
     alloc: Global,
     begun: K::Begun,

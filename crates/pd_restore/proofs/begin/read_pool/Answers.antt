@@ -17,7 +17,8 @@ returns-in-Ok-clause-reads g c =
 pub returns-in-Ok-clause-small : goal.returns-in-Ok-clause-small
 returns-in-Ok-clause-small g c =
     let lines = c.in-Ok.ensures.lines [] c.requires.start in
-    pool_small c.pool_of.result c.next.new.self (pool_reads c.in-Ok.line c.pool_of.result c.next.new.self (given_pool (first_of c.next.new.self.state) c.in-Ok.line c.next.new.self lines) c.pool_of.ensures lines)
+    let reads = pool_reads c.in-Ok.line c.pool_of.result c.next.new.self (given_pool (first_of c.next.new.self.state) c.in-Ok.line c.next.new.self lines) c.pool_of.ensures lines in
+    pool_small (first_of c.next.new.self.state) c.pool_of.result reads.so_far.lines.0
 
 pub returns-in-Ok-clause-told : goal.returns-in-Ok-clause-told
 returns-in-Ok-clause-told g c t leaves =

@@ -55,7 +55,7 @@ returns-clause-all g c before start h =
     let was = (g.S.Source.state c.lines.source).left in
     let left = (g.S.Source.state c.step.new.source).left in
     let s = steps_as g.G.Gathering.HasGathered c.in_ok-step.field-0 false w.lines c.args.room c.lines.text c.step.new.text was left c.step.new.gathered start (stand c.step.new.draft) c.if-branch.false (c.in_ok-step.ensures.steps w.lines start w.so_far) in
-    record { lines = end_line ∷ w.lines; later = w.later ++ end_line ∷ []; front = one_later before w.lines w.later end_line w.front; all = s.0; told = λ t leaves. s.1 t (w.told t leaves) }
+    record { lines = end_line ∷ w.lines; later = w.later ++ end_line ∷ []; front = w.front (end_line ∷ []); all = s.0; told = λ t leaves. s.1 t (w.told t leaves) }
 
 pub lines-init : goal.lines-init
 lines-init g c = record {

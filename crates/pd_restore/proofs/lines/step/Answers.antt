@@ -1,11 +1,14 @@
-use Rattle.std.proofs.Common.{arith}
+use Rattle.std.proofs.Common.{[], ◌∷◌, ◌++◌, ap, arith}
 use Rattle.pd_draft.specs.Stand.{stand}
-use Rattle.pd_spells.specs.ThinText.{end_line, pool_format}
+use Rattle.pd_grammar.specs.Texts.{Reading, lines_after}
+use Rattle.pd_grammar.specs.Words.{split}
+use Rattle.pd_lines.specs.Reader.{held_of}
+use Rattle.pd_spells.specs.ThinText.{Line, end_line, pool_format}
 use Rattle.pd_texts.specs.ThinLine.{line_of, thin_meant}
 use Rattle.pd_texts.specs.ThinState.{ThinStands, first_of}
 use Rattle.pd_restoring.proofs.ReadingLemmas.{line_given, line_told, end_given, end_told, later_read, later_take}
 use Rattle.pd_restore.specs.Reading.{Follows}
-use Rattle.pd_restore.proofs.ReadingLemmas.{stepped, lacking, came_to_end, lacking_end, grows_where}
+use Rattle.pd_restore.proofs.ReadingLemmas.{stepped, lacking, came_to_end, grows_where}
 use Rattle.pd_restore.proofs.lines.step.Goals as goal
 
 pub take-requires-clause-follows : goal.take-requires-clause-follows
@@ -47,8 +50,8 @@ returns-in-Ok-Some-clause-room g c before start h t leaves =
     let first = first_of c.next.new.self.state in
     let reads = line_given pool_format ThinStands first thin_meant n.field-0 n.line before c.next.new.self n.field-0-is (omega (arith, h.later)) (n.ensures.lines before h.reads) in
     let told = line_told pool_format ThinStands first thin_meant n.field-0 n.line t before c.next.new.self left n.field-0-is (omega (arith, h.later)) (n.ensures.text t before h.reads leaves) in
-    lacking g.G.Gathering.HasGathered c.take.result before n.line c.args.room c.args.text.now c.next.new.self left c.args.gathered.now start (stand c.args.draft.now) t h told
-    (c.take.ensures.need before start (record { so_far = h.so_far; later = h.later; lines = reads.so_far.lines }))
+    lacking c.take.result before (lines_after pool_format (line_of n.line ∷ before) (split 10 (held_of c.next.new.self.reader ++ told.rest))).lines (line_of n.line) c.args.room t h.above
+    (omega (arith, h.later)) (ap (λ (r : Reading Line). r.lines) told.is) (c.take.ensures.need before start (record { so_far = h.so_far; later = h.later; lines = reads.so_far.lines }))
 
 pub returns-in-Ok-Some-clause-grows : goal.returns-in-Ok-Some-clause-grows
 returns-in-Ok-Some-clause-grows g c =
@@ -80,9 +83,8 @@ returns-in-Ok-None-clause-room g c before start h t leaves =
     let left = (g.S.Source.state c.next.new.source).left in
     let first = first_of c.next.new.self.state in
     let reads = end_given pool_format ThinStands first thin_meant n.field-0 before c.next.new.self n.field-0-is (omega (arith, h.later)) (n.ensures.lines before h.reads) in
-    lacking_end g.G.Gathering.HasGathered c.end.result before c.args.room c.args.text.now left c.args.gathered.now start (stand c.args.draft.now) t h
-    (end_told pool_format ThinStands first thin_meant n.field-0 t before c.next.new.self left n.field-0-is (omega (arith, h.later)) (n.ensures.text t before h.reads leaves))
-    (c.end.ensures.need before start (record { so_far = h.so_far; later = h.later; lines = reads }))
+    let told = end_told pool_format ThinStands first thin_meant n.field-0 t before c.next.new.self left n.field-0-is (omega (arith, h.later)) (n.ensures.text t before h.reads leaves) in
+    lacking c.end.result before [] end_line c.args.room t h.above (omega (arith, h.later)) (ap (λ (r : Reading Line). r.lines) told.0) (c.end.ensures.need before start (record { so_far = h.so_far; later = h.later; lines = reads }))
 
 pub returns-in-Err-clause-room : goal.returns-in-Err-clause-room
 returns-in-Err-clause-room g c before start h t leaves =

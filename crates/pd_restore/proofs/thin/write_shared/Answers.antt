@@ -1,12 +1,13 @@
 use Rattle.std.proofs.Common.{refl}
 use Rattle.pd_draft.specs.Stand.{stand}
+use Rattle.pd_texts.specs.ThinState.{first_of}
 use Rattle.pd_restore.specs.Whole.{head_of_pool}
 use Rattle.pd_restore.proofs.BeginLemmas.{pool_small}
 use Rattle.pd_restore.proofs.SharedLemmas.{begun_shared}
 use Rattle.pd_restore.proofs.thin.write_shared.Goals as goal
 
 pub new-requires-clause-blocks : goal.new-requires-clause-blocks
-new-requires-clause-blocks g c = pool_small c.args.pool.now c.args.text.now c.requires.begun.reads
+new-requires-clause-blocks g c = pool_small (first_of c.args.text.now.state) c.args.pool.now c.requires.begun.reads.so_far.lines.0
 
 pub write_pool-requires-clause-reading : goal.write_pool-requires-clause-reading
 write_pool-requires-clause-reading g c =

@@ -1,12 +1,13 @@
 use Rattle.std.proofs.Common.{refl}
 use Rattle.pd_draft.specs.Stand.{stand}
+use Rattle.pd_texts.specs.ThinState.{first_of}
 use Rattle.pd_restore.specs.Whole.{head_of_pool}
 use Rattle.pd_restore.proofs.BeginLemmas.{pool_small}
 use Rattle.pd_restore.proofs.UnsharedLemmas.{begun_unshared}
 use Rattle.pd_restore.proofs.thin.write_unshared.Goals as goal
 
 pub new-requires : goal.new-requires
-new-requires g c = pool_small c.args.pool.now c.args.text.now c.requires.begun.reads
+new-requires g c = pool_small (first_of c.args.text.now.state) c.args.pool.now c.requires.begun.reads.so_far.lines.0
 
 pub write_pool-requires-clause-reading : goal.write_pool-requires-clause-reading
 write_pool-requires-clause-reading g c =
