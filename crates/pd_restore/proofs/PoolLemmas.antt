@@ -1,5 +1,5 @@
 -- A pool from its own line on.
-use Rattle.std.proofs.Common.{◌≡◌, ℕ, Bool, true, false, List, [], ◌∷◌, Option, Result, Ok, Err, refl, sym, ◌∙◌, ap}
+use Rattle.std.proofs.Common.{◌≡◌, ℕ, Bool, true, false, List, [], ◌∷◌, Option, Result, Ok, Err, refl, sym, subst, ◌∙◌, ap}
 use Rattle.std.specs.Prelude.{IfOk}
 use Rattle.pd_kinds.specs.declared.block.Block.{Block}
 use Rattle.pd_draft.specs.Placed.{Stand}
@@ -17,10 +17,11 @@ use Rattle.pd_texts.specs.Reader.{in_order, IsWhole}
 use Rattle.pd_texts.proofs.LawLemmas as any
 use Rattle.pd_restoring.specs.declared.fault.RestoreFault.{RestoreFault}
 use Rattle.pd_restoring.specs.Whole.{Writes}
+use Rattle.pd_restore.specs.declared.begin.Rest.{Rest}
 use Rattle.pd_restore.specs.declared.parts.Parts.{Parts}
 use Rattle.pd_restore.specs.declared.pool.Pool.{Pool}
 use Rattle.pd_restore.specs.Parts.{AreParts}
-use Rattle.pd_restore.specs.Pools.{pools}
+use Rattle.pd_restore.specs.Pools.{LeavesBefore, pools}
 use Rattle.pd_restore.specs.Whole.{head_of_pool, fields_of}
 use Rattle.pd_restore.specs.Written.{shape_behind}
 
@@ -74,3 +75,9 @@ writes_of lines room left start now IsOf of (Ok block) w = record {
   wrote = w.wrote;
   told = λ t is. w.told t (of t is);
 }
+
+-- and is the same under each name of what gives the lines
+pub rest_writes : (p : Pool) (named rest : Rest) (room : ℕ) (was left : Option (List ℕ)) (start now : Stand) (result : Result Block RestoreFault) → named ≡ rest
+    → IfOk result (Writes pools room (λ t. LeavesBefore t p rest was) left start now) → IfOk result (Writes pools room (λ t. LeavesBefore t p named was) left start now)
+rest_writes p named rest room was left start now result is w =
+    subst (λ (other : Rest). IfOk result (Writes pools room (λ t. LeavesBefore t p other was) left start now)) (sym is) w

@@ -1,6 +1,9 @@
 use Rattle.std.proofs.Common.{arith}
+use Rattle.pd_draft.specs.Stand.{stand}
+use Rattle.pd_restore.specs.declared.begin.Rest.TheVariants.{Text, Saved}
 use Rattle.pd_restore.specs.Whole.{begun_lines, head_of_pool}
 use Rattle.pd_restore.proofs.BeginLemmas.{first_version, second_version}
+use Rattle.pd_restore.proofs.PoolLemmas.{rest_writes}
 use Rattle.pd_restore.proofs.thin.PoolsRestoring.write.Goals as goal
 
 pub write_unshared-requires-clause-begun : goal.write_unshared-requires-clause-begun
@@ -39,3 +42,19 @@ write_saved-requires-clause-made g c = record {
   most = c.requires.most;
   there = c.requires.there;
 }
+
+pub returns-then-version-eq2-clause-writes : goal.returns-then-version-eq2-clause-writes
+returns-then-version-eq2-clause-writes g c =
+    rest_writes c.args.begun.pool c.args.begun.rest (Text c.in-Text.text) c.args.room (g.S.Source.state c.args.source.now).left (g.S.Source.state c.write_shared.new.source).left
+    (stand c.args.draft.now) (stand c.write_shared.new.draft) c.write_shared.result c.in-Text.is c.write_shared.ensures.writes
+
+pub returns-in-Text-clause-writes : goal.returns-in-Text-clause-writes
+returns-in-Text-clause-writes g c =
+    rest_writes c.args.begun.pool c.args.begun.rest (Text c.in-Text.text) c.args.room (g.S.Source.state c.args.source.now).left (g.S.Source.state c.write_unshared.new.source).left
+    (stand c.args.draft.now) (stand c.write_unshared.new.draft) c.write_unshared.result c.in-Text.is c.write_unshared.ensures.writes
+
+pub returns-clause-writes : goal.returns-clause-writes
+returns-clause-writes g c =
+    let left = (g.S.Source.state c.args.source.now).left in
+    rest_writes c.args.begun.pool c.args.begun.rest (Saved c.in-Saved.lines) c.args.room left left
+    (stand c.args.draft.now) (stand c.write_saved.new.draft) c.write_saved.result c.in-Saved.is (c.write_saved.ensures.writes left)
