@@ -40,10 +40,10 @@ fn run_untold(alloc: Global, words: &[&str], untold: Untold<'_>) -> Result<Box<C
         shown,
     } = untold;
     let texts = texts_of(alloc, words)?;
+    let mut third = MemDevice::of(alloc, &[])?;
     let mut source = MemSource::of(alloc, text.as_bytes(), 7)?;
     let mut out = MemSink::new(alloc);
     let mut notes = MemSink::new(alloc);
-    let mut third = MemDevice::of(alloc, &[])?;
     let mut input = Hidden::new(input, u64::MAX, Shown::Damaged);
     let mut output = Hidden::new(output, shows_from, shown);
     let status = run_tool(

@@ -21,8 +21,6 @@ mod hidden_tests;
 #[cfg(test)]
 mod order_tests;
 #[cfg(test)]
-mod query_failing_tests;
-#[cfg(test)]
 mod rehearse_tests;
 #[cfg(test)]
 mod reports;

@@ -1,6 +1,6 @@
 //! Rehearsals over devices in memory.
 
-use crate::asked::expect_put;
+use crate::asked::{Came, DEVICE, expect_came, expect_put};
 use pd_crc::any_valid;
 use pd_image::{MemDevice, Pick};
 use pd_kinds::Block;
@@ -29,14 +29,10 @@ fn expect_rehearsal(
     rt: &impl Abort,
     alloc: Global,
     blocks: usize,
-    status: u8,
-    out: &str,
-    notes: &str,
+    came: Came<'_>,
 ) -> Result<Ran, AllocError> {
     let ran = rehearse(alloc, blocks, NOTHING_FAILS)?;
-    assert!(rt; ran.status == status, "{blocks}");
-    assert!(rt; ran.out.bytes() == out.as_bytes(), "{blocks}");
-    assert!(rt; ran.notes.bytes() == notes.as_bytes(), "{blocks}");
+    expect_came(rt, &ran, came, came.1);
     Ok(ran)
 }
 
@@ -50,7 +46,7 @@ const LIST: &str =
 #[test]
 fn a_rehearsed_pool_is_clean_and_listed(rt: HostRuntime) -> Result<(), Fail> {
     let alloc = rt.alloc();
-    let ran = expect_rehearsal(&rt, alloc, 32, 0, LINE, "")?;
+    let ran = expect_rehearsal(&rt, alloc, 32, (0, LINE, ""))?;
     let image = blocks_of(alloc, &ran.output)?;
     let check = &["thin_check", "x"];
     expect_put(&rt, alloc, check, image.as_slice(), "", "clean\n")?;
@@ -75,7 +71,7 @@ fn a_rehearsed_pool_is_what_the_generated_text_is_restored_to(rt: HostRuntime) -
 #[test]
 fn a_rehearsal_needs_room(rt: HostRuntime) -> Result<(), Fail> {
     let notes = "pdata_tools: no room: need 19, blocks 18\n";
-    expect_rehearsal(&rt, rt.alloc(), 18, 4, "", notes)?;
+    expect_rehearsal(&rt, rt.alloc(), 18, (4, "", notes))?;
     Ok(())
 }
 
@@ -106,18 +102,13 @@ fn expect_failure(
     };
     let ran = rehearse(alloc, pool.len(), failing)?;
     for pick in [Pick::Old, Pick::New, Pick::Other(0)] {
-        assert!(rt; is_outcome(alloc, &ran.output, pick, pool)?, "{call}");
+        assert!(rt; is_outcome(alloc, &ran.output, pick, pool)?);
     }
     if ran.status == 0 {
-        assert!(rt; call > 60, "{call}");
+        assert!(rt; call > 60);
         return Ok(());
     }
-    assert!(rt; ran.status == 5, "{call}");
-    assert!(rt; ran.out.bytes().is_empty(), "{call}");
-    assert!(rt;
-        ran.notes.bytes() == "pdata_tools: device fault\n".as_bytes(),
-        "{call}"
-    );
+    expect_came(rt, &ran, (5, "", DEVICE), "rehearsal");
     Ok(())
 }
 

@@ -1,7 +1,7 @@
 //! Requests of all tools but the rehearsal, and the images that they are made over.
 
-use crate::asked::ONE;
-use Image::{Cache, DamagedPool, FlaggedPool, NoPool, Nothing, Ones, Pool, Target};
+use crate::asked::{ONE, TWICE};
+use Image::{Cache, DamagedPool, FlaggedPool, NoPool, Nothing, Ones, Pool, Target, Twice};
 use pd_kinds::Block;
 use pd_samples::pool::{damaged, pool_of_one_mapping};
 use pd_samples::runs::{Held, NOTHING_FAILS, blocks_of, run_over};
@@ -24,6 +24,8 @@ pub(crate) enum Image {
     DamagedPool,
     /// The same pool with a superblock whose checksum is wrong.
     NoPool,
+    /// The pool of the text of that name.
+    Twice,
     /// A cache with two mapped blocks, in the second version of the metadata.
     Cache,
     /// An era target of a hundred blocks.
@@ -94,6 +96,9 @@ pub(crate) const READINGS: &[Asked] = &[
     ("thin_rmap --region 0..1 x", "", Pool, Nothing, 0),
     ("thin_ls x", "", Pool, Nothing, 0),
     ("thin_ls -o f x", "", NoPool, Nothing, 1),
+    ("thin_rmap --region 4..6 x", "", Twice, Nothing, 0),
+    ("thin_ls x", "", Twice, Nothing, 0),
+    ("thin_dump --shared x", "", Twice, Nothing, 0),
     ("era_invalidate --written-since 5 x", "", Target, Nothing, 0),
     ("thin_generate --number 1", "", Nothing, Nothing, 0),
     ("thin_check", "", Pool, Nothing, 2),
@@ -131,7 +136,9 @@ const MAKE_CACHE: &[&str] = &[
     "x",
 ];
 
-/// The words of the restore that makes the era target.
+/// The words of the restores that make the pool and the era target.
+const MAKE_POOL: &[&str] = &["thin_restore", "-i", "t", "-o", "x"];
+
 const MAKE_TARGET: &[&str] = &["era_restore", "-i", "t", "-o", "x"];
 
 /// The blocks of an image.
@@ -142,11 +149,10 @@ pub(crate) fn blocks(
 ) -> Result<Vec<Block>, AllocError> {
     match image {
         Image::Nothing => Ok(Vec::new(alloc)),
+        Image::Twice => restored(rt, alloc, MAKE_POOL, TWICE),
         Image::Cache => restored(rt, alloc, MAKE_CACHE, CACHE_TEXT),
         Image::Target => restored(rt, alloc, MAKE_TARGET, TARGET_TEXT),
-        Image::Ones | Image::Pool | Image::FlaggedPool | Image::DamagedPool | Image::NoPool => {
-            Vec::from_slice(alloc, &pool(image))
-        }
+        _ => Vec::from_slice(alloc, &pool(image)),
     }
 }
 
@@ -158,7 +164,7 @@ fn pool(image: Image) -> [Block; 16] {
         Image::DamagedPool => pool[1] = damaged(pool[1], 100),
         Image::NoPool => pool[0] = damaged(pool[0], 100),
         Image::Pool => {}
-        Image::Nothing | Image::Ones | Image::Cache | Image::Target => {
+        _ => {
             pool = [Block([1; 4096]); 16];
         }
     }

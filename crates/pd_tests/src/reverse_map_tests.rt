@@ -1,7 +1,6 @@
 //! The reverse map of regions.
 
 use crate::asked::{SHARED, TWICE, ask, expect_lines};
-use pd_samples::runs::NOTHING_FAILS;
 use std::alloc::{AllocError, Global};
 use std::process::Abort;
 use std::test::Fail;
@@ -84,7 +83,7 @@ const REFUSED: &[&str] = &[
 /// Asks for what is no region.
 fn expect_refused(rt: &impl Abort, alloc: Global, region: &str) -> Result<(), AllocError> {
     let words = ["thin_rmap", "--region", region, "thin.img"];
-    let ran = ask(alloc, SHARED, &words, NOTHING_FAILS)?;
+    let ran = ask(alloc, SHARED, &words)?;
     assert!(rt; ran.status == 2, "{region}");
     Ok(())
 }

@@ -1,10 +1,10 @@
 //! Dumps of pools in which each leaf that devices share stands once.
 
+use crate::reports::expect_told;
 use crate::whole_tests::{details, superblock};
 use pd_kinds::Block;
 use pd_node::{write_inner, write_leaf};
 use pd_samples::pool::{empty_leaf, inner, pool_of_one_mapping};
-use pd_samples::runs::{NOTHING_FAILS, blocks_of, run};
 use pd_supers::write_thin_super;
 use pd_value::{BlockTime, Root};
 use std::alloc::{AllocError, Global};
@@ -110,18 +110,10 @@ fn expect_shared(
     data_blocks: &str,
     lines: &str,
 ) -> Result<(), AllocError> {
-    let ran = run(alloc, SHARED_DUMP, image, NOTHING_FAILS)?;
     let text = format!(in alloc;
         "thin 2\npool 00000000-0000-0000-0000-000000000000 0 0 128 {data_blocks}\n{lines}end\n"
     )?;
-    assert!(rt; ran.out.bytes() == text.as_bytes(), "{lines}");
-    assert!(rt; ran.status == 0, "{lines}");
-    assert!(rt; ran.notes.bytes().is_empty(), "{lines}");
-    assert!(rt;
-        blocks_of(alloc, &ran.input)?.as_slice() == image,
-        "{lines}"
-    );
-    Ok(())
+    expect_told(rt, alloc, SHARED_DUMP, lines, image, 0, text.as_str())
 }
 
 /// The lines of two devices that have one mapping, in one leaf.

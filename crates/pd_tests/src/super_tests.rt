@@ -1,5 +1,6 @@
 //! Checks of the superblock alone, and the words of a check.
 
+use crate::asked::{Came, DEVICE, SINK, expect_came, expect_run};
 use crate::reports::{WHOLE_CHECK, expect_report};
 use pd_kinds::{Block, Kind};
 use pd_samples::pool::{damaged, empty_super, resealed, zeros_behind};
@@ -12,10 +13,6 @@ use std::test::Fail;
 const CHECK: &[&str] = &["thin_check", "--until", "super", "thin.img"];
 
 const USAGE: &str = "pdata_tools: the words spell no request\n";
-
-const DEVICE: &str = "pdata_tools: device fault\n";
-
-const SINK: &str = "pdata_tools: source or sink fault\n";
 
 /// An empty pool's superblock with zeros behind it.
 fn pool() -> [Block; 8] {
@@ -73,45 +70,34 @@ fn reports_a_damaged_superblock_and_a_device_without_blocks(rt: HostRuntime) -> 
     Ok(())
 }
 
-/// The calls of `input`, `out` and `notes` that fail, and the status, `out` and `notes`.
-type Failure = (
-    Option<u64>,
-    Option<u64>,
-    Option<u64>,
-    u8,
-    &'static str,
-    &'static str,
-);
+/// The calls of `input`, `out` and `notes` that fail, and what the run comes to.
+type Failure = ([Option<u64>; 3], Came<'static>);
 
 const FAILURES: &[Failure] = &[
-    (Some(0), None, None, 5, "", DEVICE),
-    (Some(1), None, None, 5, "", DEVICE),
-    (Some(2), None, None, 0, "clean\n", ""),
-    (None, Some(0), None, 6, "", SINK),
-    (None, Some(1), None, 6, "", SINK),
-    (None, Some(2), None, 0, "clean\n", ""),
-    (None, None, Some(0), 6, "", ""),
-    (None, None, Some(1), 0, "clean\n", ""),
-    (Some(0), None, Some(1), 6, "", ""),
-    (Some(1), None, Some(1), 6, "", ""),
-    (None, Some(0), Some(1), 6, "", ""),
-    (None, Some(1), Some(1), 6, "", ""),
+    ([Some(0), None, None], (5, "", DEVICE)),
+    ([Some(1), None, None], (5, "", DEVICE)),
+    ([Some(2), None, None], (0, "clean\n", "")),
+    ([None, Some(0), None], (6, "", SINK)),
+    ([None, Some(1), None], (6, "", SINK)),
+    ([None, Some(2), None], (0, "clean\n", "")),
+    ([None, None, Some(0)], (6, "", "")),
+    ([None, None, Some(1)], (0, "clean\n", "")),
+    ([Some(0), None, Some(1)], (6, "", "")),
+    ([Some(1), None, Some(1)], (6, "", "")),
+    ([None, Some(0), Some(1)], (6, "", "")),
+    ([None, Some(1), Some(1)], (6, "", "")),
 ];
 
 /// Checks the pool with these calls failing.
 fn expect_failure(rt: &impl Abort, alloc: Global, failure: Failure) -> Result<(), AllocError> {
-    let (input, out, notes, status, report, line) = failure;
+    let ([input, out, notes], came) = failure;
     let failing = Failing {
         input,
         out,
         notes,
         ..NOTHING_FAILS
     };
-    let ran = run(alloc, CHECK, &pool(), failing)?;
-    assert!(rt; ran.status == status, "{input:?} {out:?} {notes:?}");
-    assert!(rt; ran.out.bytes() == report.as_bytes());
-    assert!(rt; ran.notes.bytes() == line.as_bytes());
-    Ok(())
+    expect_run(rt, alloc, CHECK, &pool(), failing, came)
 }
 
 #[test]
@@ -152,9 +138,7 @@ const REFUSED: &[&[&str]] = &[
 /// Runs words that spell no request.
 fn expect_refused(rt: &impl Abort, alloc: Global, words: &[&str]) -> Result<(), AllocError> {
     let ran = run(alloc, words, &[], NOTHING_FAILS)?;
-    assert!(rt; ran.status == 2, "{words:?}");
-    assert!(rt; ran.out.bytes().is_empty());
-    assert!(rt; ran.notes.bytes() == USAGE.as_bytes());
+    expect_came(rt, &ran, (2, "", USAGE), "refused");
     assert!(rt; ran.input.path().is_none());
     Ok(())
 }

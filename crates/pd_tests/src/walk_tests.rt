@@ -1,5 +1,6 @@
 //! Checks up to the walk: the rules of each block by itself, and its roles.
 
+use crate::asked::{DEVICE, expect_run};
 use crate::reports::expect_report;
 use pd_kinds::{Block, Kind};
 use pd_samples::pool::{
@@ -7,7 +8,7 @@ use pd_samples::pool::{
     index_entry, index_leaf, inner, map_root, mapping_leaf, pool_of_one_mapping,
     pool_with_held_copy, resealed, zeros_behind,
 };
-use pd_samples::runs::{Failing, NOTHING_FAILS, run};
+use pd_samples::runs::{Failing, NOTHING_FAILS};
 use pd_supers::write_thin_super;
 use std::alloc::{AllocError, Global};
 use std::process::Abort;
@@ -17,22 +18,36 @@ use std::test::Fail;
 const WALK: &[&str] = &["thin_check", "--until", "walk", "thin.img"];
 
 /// An image that differs from another one in one block: what it shows, the number of the block and the
-/// block, and the block that breaks rules then, and the words for these rules in their order.
-type Case = (&'static str, usize, Block, u64, &'static str);
+/// block, and the number of the block that breaks rules then, and the words for these rules in their order.
+type Case = (&'static str, usize, Block, &'static str, &'static str);
 
-/// The printed report where this block breaks these rules.
-fn report_on(alloc: Global, b: u64, rules: &str) -> Result<String, Fail> {
+/// Puts these parts of a line.
+fn put_parts(report: &mut String, parts: &[&str]) -> Result<(), AllocError> {
+    for part in parts {
+        report.push_str(part)?;
+    }
+    Ok(())
+}
+
+/// How a report of so many faults ends.
+fn end_of(total: u8) -> &'static str {
+    match total {
+        0 => "clean\n",
+        1 => "faults 1\n",
+        2 => "faults 2\n",
+        _ => "faults 3\n",
+    }
+}
+
+/// The printed report where this block breaks these rules, up to three.
+fn report_on(alloc: Global, b: &str, rules: &str) -> Result<String, AllocError> {
     let mut report = String::new(alloc);
-    let mut total: u64 = 0;
+    let mut total: u8 = 0;
     for rule in rules.split_whitespace() {
-        writeln!(report, "fault meta {b} {rule}")?;
+        put_parts(&mut report, &["fault meta ", b, " ", rule, "\n"])?;
         total = total.saturating_add(1);
     }
-    if total == 0 {
-        writeln!(report, "clean")?;
-    } else {
-        writeln!(report, "faults {total}")?;
-    }
+    put_parts(&mut report, &[end_of(total)])?;
     Ok(report)
 }
 
@@ -47,7 +62,7 @@ fn expect_case(rt: &impl Abort, alloc: Global, image: &[Block], case: &Case) -> 
     let mut changed = Vec::from_slice(alloc, image)?;
     assert!(rt; *b < changed.len());
     changed[*b] = *block;
-    let report = report_on(alloc, *at, rules)?;
+    let report = report_on(alloc, at, rules)?;
     expect_report(rt, alloc, WALK, shows, changed.as_slice(), report.as_str())?;
     Ok(())
 }
@@ -105,26 +120,26 @@ fn reports_what_a_block_of_a_pool_breaks(rt: HostRuntime) -> Result<(), Fail> {
     let bitmap_16 = index(7, &[index_entry(16, 6); 255]);
     let bitmap_7 = index(7, &[index_entry(7, 6); 255]);
     let cases: [Case; 13] = [
-        ("a leaf's bit", 1, damaged(pool[1], 100), 1, "checksum"),
-        ("a checksum", 8, damaged(pool[8], 0), 8, "checksum"),
-        ("a root of 0", 2, device_leaf(2, 0), 2, "pointer"),
-        ("past the end", 2, device_leaf(2, 16), 2, "pointer"),
+        ("a leaf's bit", 1, damaged(pool[1], 100), "1", "checksum"),
+        ("a checksum", 8, damaged(pool[8], 0), "8", "checksum"),
+        ("a root of 0", 2, device_leaf(2, 0), "2", "pointer"),
+        ("past the end", 2, device_leaf(2, 16), "2", "pointer"),
         // The last block may be named; it is zero here.
-        ("the last block", 2, device_leaf(2, 15), 15, "checksum"),
-        ("a child of 0", 1, inner(1, 0), 1, "pointer"),
+        ("the last block", 2, device_leaf(2, 15), "15", "checksum"),
+        ("a child of 0", 1, inner(1, 0), "1", "pointer"),
         // The pool has data block 0 alone.
-        ("past the data", 1, mapping_leaf(1, 1), 1, "beyond"),
+        ("past the data", 1, mapping_leaf(1, 1), "1", "beyond"),
         // A cycle in one role breaks no rule of a block by itself.
-        ("a node that names itself", 1, inner(1, 1), 1, ""),
+        ("a node that names itself", 1, inner(1, 1), "1", ""),
         // Its value 2, read as a mapping, is data block 0 at time 2.
-        ("a tree in itself", 2, device_leaf(2, 2), 2, "role"),
+        ("a tree in itself", 2, device_leaf(2, 2), "2", "role"),
         // Sixteen blocks have one bitmap: only the first of 255 entries is looked at.
-        ("an index of one bitmap", 7, bitmap_8, 7, ""),
-        ("a bitmap past the end", 7, bitmap_16, 7, "pointer"),
+        ("an index of one bitmap", 7, bitmap_8, "7", ""),
+        ("a bitmap past the end", 7, bitmap_16, "7", "pointer"),
         // A bitmap has another salt than an index block.
-        ("an index of itself", 7, bitmap_7, 7, "checksum role"),
+        ("an index of itself", 7, bitmap_7, "7", "checksum role"),
         // Bitmaps of data and of metadata are alike.
-        ("one bitmap for both", 5, index_leaf(5, 8), 8, "role"),
+        ("one bitmap for both", 5, index_leaf(5, 8), "8", "role"),
     ];
     expect_each(&rt, rt.alloc(), &pool, &cases)?;
     Ok(())
@@ -153,7 +168,7 @@ fn expect_field(rt: &impl Abort, alloc: Global, field: Field) -> Result<(), Fail
     let pool = pool_of_one_mapping();
     assert!(rt; offset < 4088);
     let leaf = resealed(pool[1], NODE_SALT, offset, value);
-    expect_case(rt, alloc, &pool, &(shows, 1, leaf, 1, rules))
+    expect_case(rt, alloc, &pool, &(shows, 1, leaf, "1", rules))
 }
 
 #[test]
@@ -178,16 +193,16 @@ fn reports_blocks_in_several_roles(rt: HostRuntime) -> Result<(), Fail> {
     let flipped = damaged(pool[6], 16);
     let cases: [Case; 4] = [
         // A leaf of roots has values of 8 bytes, and one of details has values of 24.
-        ("one root for two", 0, shared, 1, "shape role"),
+        ("one root for two", 0, shared, "1", "shape role"),
         // It is sealed neither as a held copy nor as an index block.
-        ("for all", 0, one_root, 1, "checksum shape role"),
-        ("a bitmap's bit", 6, flipped, 6, "checksum"),
-        ("a bitmap's place", 6, bitmap(7, 8), 6, "place"),
+        ("for all", 0, one_root, "1", "checksum shape role"),
+        ("a bitmap's bit", 6, flipped, "6", "checksum"),
+        ("a bitmap's place", 6, bitmap(7, 8), "6", "place"),
     ];
     expect_each(&rt, rt.alloc(), &pool, &cases)?;
     // An inner node has the shape that each tree wants, and names itself in five roles here.
     pool[1] = inner(1, 1);
-    let case: Case = ("a node for all", 0, one_root, 1, "checksum role");
+    let case: Case = ("a node for all", 0, one_root, "1", "checksum role");
     expect_each(&rt, rt.alloc(), &pool, &[case])?;
     Ok(())
 }
@@ -203,11 +218,11 @@ fn reports_what_a_held_copy_breaks(rt: HostRuntime) -> Result<(), Fail> {
     fields.details_root = 1;
     let one_tree = held_copy(8, &fields);
     let cases: [Case; 4] = [
-        ("a bit", 8, flipped, 8, "checksum"),
-        ("no magic", 8, bare, 8, "magic"),
-        ("place and root", 8, moved, 8, "place pointer"),
+        ("a bit", 8, flipped, "8", "checksum"),
+        ("no magic", 8, bare, "8", "magic"),
+        ("place and root", 8, moved, "8", "place pointer"),
         // The mapping tree is read as a tree of details too.
-        ("one tree for two", 8, one_tree, 1, "shape role"),
+        ("one tree for two", 8, one_tree, "1", "shape role"),
     ];
     expect_each(&rt, rt.alloc(), &pool, &cases)?;
     Ok(())
@@ -218,14 +233,14 @@ fn follows_inner_nodes(rt: HostRuntime) -> Result<(), Fail> {
     let mut pool = pool_of_one_mapping();
     pool[10] = inner(10, 1);
     let cases: [Case; 2] = [
-        ("two levels", 2, device_leaf(2, 10), 2, ""),
+        ("two levels", 2, device_leaf(2, 10), "2", ""),
         // Two nodes that name each other.
-        ("a cycle", 1, inner(1, 10), 1, ""),
+        ("a cycle", 1, inner(1, 10), "1", ""),
     ];
     expect_each(&rt, rt.alloc(), &pool, &cases)?;
     // Of the sixteen blocks ten are the pool's: block 10 is outside.
     pool[0] = resealed(pool[0], Kind::Thin.salt(), 192, 10);
-    let case: Case = ("outside", 1, inner(1, 10), 1, "pointer");
+    let case: Case = ("outside", 1, inner(1, 10), "1", "pointer");
     expect_each(&rt, rt.alloc(), &pool, &[case])?;
     Ok(())
 }
@@ -236,17 +251,12 @@ fn expect_failure(rt: &impl Abort, alloc: Global, call: u64) -> Result<(), Alloc
         input: Some(call),
         ..NOTHING_FAILS
     };
-    let ran = run(alloc, WALK, &pool_of_one_mapping(), failing)?;
-    let status = if call < 12 { 5 } else { 0 };
-    assert!(rt; ran.status == status, "{call}");
-    assert!(rt; ran.out.bytes().is_empty() == (call < 12), "{call}");
-    let notes = if call < 12 {
-        "pdata_tools: device fault\n"
+    let came = if call < 12 {
+        (5, "", DEVICE)
     } else {
-        ""
+        (0, "clean\n", "")
     };
-    assert!(rt; ran.notes.bytes() == notes.as_bytes(), "{call}");
-    Ok(())
+    expect_run(rt, alloc, WALK, &pool_of_one_mapping(), failing, came)
 }
 
 #[test]
