@@ -62,10 +62,7 @@ fn check_image<K: Sink, A: Device>(
         MatchResult result (λ clean. IsFinished (check kind until image.now) before after (if clean then 0 else 1) [])
         (IsStopped (check kind until image.now) before after) }
 {
-    let report = match read_report(alloc, kind, until, image, false, input) {
-        Ok(report) => report,
-        Err(stop) => return Err(stop),
-    };
+    let report = read_report(alloc, kind, until, image, false, input)?;
     match put_report(&report, out) {
         Ok(()) => Ok(report.is_empty()),
         Err(_) => Err(Stop::Stream),

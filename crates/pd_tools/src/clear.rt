@@ -59,10 +59,7 @@ fn check_and_clear<K: Sink, A: Device>(
         MatchResult result (λ clean. IsFinished (check_and_clear image.now) before after (if clean then 0 else 1) [])
         (IsStopped (check_and_clear image.now) before after) }
 {
-    let report = match read_report(alloc, Kind::Thin, Stage::Counts, image, true, input) {
-        Ok(report) => report,
-        Err(stop) => return Err(stop),
-    };
+    let report = read_report(alloc, Kind::Thin, Stage::Counts, image, true, input)?;
     match put_report(&report, out) {
         Ok(()) => match clear_if_clean(&report, input) {
             Ok(clean) => Ok(clean),

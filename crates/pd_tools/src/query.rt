@@ -94,17 +94,12 @@ fn query_image<K: Sink, A: Device>(
         let terms = terms_of_query asked (option_copied file.entry) image.now in
         MatchResult result (λ report. IsFinished terms before after (query_status report) (query_line report)) (IsStopped terms before after) }
 {
-    let report = match read_report(alloc, kind_of(asked), Stage::Whole, image, false, input) {
-        Ok(report) => report,
-        Err(stop) => return Err(stop),
-    };
+    let report = read_report(alloc, kind_of(asked), Stage::Whole, image, false, input)?;
     if !report.is_empty() {
         return Ok(report);
     }
-    match put_text(alloc, asked, file, out, input) {
-        Ok(()) => Ok(report),
-        Err(stop) => Err(stop),
-    }
+    put_text(alloc, asked, file, out, input)?;
+    Ok(report)
 }
 
 /// The kind of metadata that is asked about.

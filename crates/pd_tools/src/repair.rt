@@ -75,13 +75,8 @@ pub(crate) fn open_both<A: Device, B: Device>(
     ensures opened { OnOk result (AreOpened from.now to.now (A.state input.old) (A.state input.new) (B.state output.old) (B.state output.new)) }
     ensures unopened { IfErr result (λ failed. AreUnopened from.now to.now (A.state input.old) (A.state input.new) (B.state output.old) (B.state output.new)) }
 {
-    match input.attach(from, false) {
-        Ok(()) => match output.attach(to, true) {
-            Ok(()) => Ok(()),
-            Err(failed) => Err(failed),
-        },
-        Err(failed) => Err(failed),
-    }
+    input.attach(from, false)?;
+    output.attach(to, true)
 }
 
 /// Repairs one image to another, which are both attached.

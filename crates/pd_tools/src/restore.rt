@@ -70,10 +70,8 @@ fn restore_image<S: Source, B: Device>(
         (IsStopped terms before after) }
 {
     texts_have_verdicts();
-    match attach_both(text, image, source, output) {
-        Ok(()) => restore_attached(alloc, kind, version, source, output),
-        Err(stop) => Err(stop),
-    }
+    attach_both(text, image, source, output)?;
+    restore_attached(alloc, kind, version, source, output)
 }
 
 /// Each text has a verdict.

@@ -97,13 +97,9 @@ fn open_all<A: Device, B: Device, C: Device>(
     ensures unopened { IfErr result (λ failed. AreUnopened from.now to.now pool.now
         (devices (A.state input.old) (B.state output.old) (C.state third.old)) (devices (A.state input.new) (B.state output.new) (C.state third.new))) }
 {
-    match input.attach(from, false) {
-        Ok(()) => match output.attach(to, true) {
-            Ok(()) => third.attach(pool, true),
-            Err(failed) => Err(failed),
-        },
-        Err(failed) => Err(failed),
-    }
+    input.attach(from, false)?;
+    output.attach(to, true)?;
+    third.attach(pool, true)
 }
 
 /// Checks the metadata of devices that are attached, and makes the pool smaller where that is sound.
@@ -127,10 +123,7 @@ fn shrink_opened<K: Sink, A: Device, B: Device, C: Device>(
         let terms = shrink from to pool blocks in
         MatchResult result (λ ending. IsFinished terms before after (ending_status ending) (ending_line ending)) (IsStopped terms before after) }
 {
-    let report = match check_attached(alloc, Kind::Thin, Stage::Counts, input) {
-        Ok(report) => report,
-        Err(stop) => return Err(stop),
-    };
+    let report = check_attached(alloc, Kind::Thin, Stage::Counts, input)?;
     if !report.is_empty() {
         return Ok(Ending::Faulty(report));
     }
@@ -163,10 +156,7 @@ fn shrink_sound<K: Sink, A: Device, B: Device, C: Device>(
         Ok(plan) => plan,
         Err(fault) => return ended_without_plan(fault),
     };
-    let count = match move_and_write(alloc, plan, output, third) {
-        Ok(count) => count,
-        Err(stop) => return Err(stop),
-    };
+    let count = move_and_write(alloc, plan, output, third)?;
     match put_last_line(out, moved_text(count).as_bytes()) {
         Ok(()) => Ok(Ending::Done),
         Err(_) => Err(Stop::Stream),

@@ -94,13 +94,9 @@ fn open_all<A: Device, B: Device, C: Device>(
     ensures unopened { IfErr result (λ failed. AreUnopened metadata.now fast.now origin.now
         (devices (A.state input.old) (B.state output.old) (C.state third.old)) (devices (A.state input.new) (B.state output.new) (C.state third.new))) }
 {
-    match input.attach(metadata, true) {
-        Ok(()) => match output.attach(origin, true) {
-            Ok(()) => third.attach(fast, false),
-            Err(failed) => Err(failed),
-        },
-        Err(failed) => Err(failed),
-    }
+    input.attach(metadata, true)?;
+    output.attach(origin, true)?;
+    third.attach(fast, false)
 }
 
 /// Checks the metadata of devices that are attached, and writes the cache back where that is sound.
@@ -123,10 +119,7 @@ fn write_opened<K: Sink, A: Device, B: Device, C: Device>(
         let terms = writeback metadata fast origin in
         MatchResult result (λ ending. IsFinished terms before after (ending_status ending) (ending_line ending)) (IsStopped terms before after) }
 {
-    let report = match check_attached(alloc, Kind::Cache, Stage::Whole, input) {
-        Ok(report) => report,
-        Err(stop) => return Err(stop),
-    };
+    let report = check_attached(alloc, Kind::Cache, Stage::Whole, input)?;
     if !report.is_empty() {
         return Ok(Ending::Faulty(report));
     }

@@ -1,14 +1,16 @@
-use Rattle.std.proofs.Common.{arith, ◌∙◌}
+use Rattle.std.proofs.Common.{rules, arith, ◌∙◌}
 use Rattle.pd_kinds.specs.declared.kind.Kind.TheVariants.{Thin}
 use Rattle.pd_kinds.specs.declared.kind.Stage.TheVariants.{Counts}
 use Rattle.pd_tools.proofs.Clears.{untouched_left, left_before, synced_too, clearing_unread, clearing_done, clearing_unput, clearing_failed}
 use Rattle.pd_tools.proofs.FewReads.{few, few_clearing}
 use Rattle.pd_tools.proofs.clear.check_and_clear.Goals as goal
 
-pub returns-in-Err : goal.returns-in-Err
-returns-in-Err g c others notes fresh =
-    clearing_unread c.args.image.now others notes (g.K.Sink.state c.args.out.now) (g.A.Device.state c.args.input.now) (g.A.Device.state c.read_report.new.input) c.in-Err.stop
-    c.requires.out (g.met.A.Device.unwritten c.args.input.now c.requires.input) c.in-Err.ensures.used c.in-Err.ensures.untouched c.in-Err.ensures.reads c.in-Err.ensures.stopped
+pub returns-in_err-report : goal.returns-in_err-report
+returns-in_err-report g c others notes fresh =
+    let stopped =
+    clearing_unread c.args.image.now others notes (g.K.Sink.state c.args.out.now) (g.A.Device.state c.args.input.now) (g.A.Device.state c.read_report.new.input) c.in_err-report.field-0.0
+    c.requires.out (g.met.A.Device.unwritten c.args.input.now c.requires.input) c.in_err-report.ensures.used c.in_err-report.ensures.untouched c.in_err-report.ensures.reads c.in_err-report.ensures.stopped in
+    search rules
 
 pub returns-in-Ok-clear_if_clean : goal.returns-in-Ok-clear_if_clean
 returns-in-Ok-clear_if_clean g c others notes fresh =
@@ -17,12 +19,12 @@ returns-in-Ok-clear_if_clean g c others notes fresh =
     let new = g.A.Device.state c.clear_if_clean.new.input in
     let synced = g.met.A.Device.unwritten c.args.input.now c.requires.input in
     let kept = c.clear_if_clean.ensures.kept in
-    clearing_done c.args.image.now others notes (g.K.Sink.state c.args.out.now) (g.K.Sink.state c.put_report.new.out) old new c.in-Ok.report
-    c.in-Ok.ensures.report c.put_report.ensures.used (kept.access ∙ c.in-Ok.ensures.access) (rw kept.path (c.in-Ok.ensures.used.named (λ e. omega (arith, c.in-Ok.ensures.access))))
-    (few_clearing c.in-Ok.report old.held old.reads read.reads new.reads c.in-Ok.ensures.report c.in-Ok.ensures.reads c.clear_if_clean.ensures.reads c.clear_if_clean.ensures.unread)
-    c.in-Ok-clear_if_clean.clean c.in-Ok-clear_if_clean.ensures.clean c.in-Ok-put_report.ensures.whole c.in-Ok-put_report.ensures.access
-    (left_before c.in-Ok.report _ old read new synced c.in-Ok.ensures.untouched c.in-Ok.ensures.kept
-    (c.in-Ok-clear_if_clean.ensures.left (synced_too old read synced c.in-Ok.ensures.untouched)))
+    clearing_done c.args.image.now others notes (g.K.Sink.state c.args.out.now) (g.K.Sink.state c.put_report.new.out) old new c.in_ok-report.report
+    c.in_ok-report.ensures.report c.put_report.ensures.used (kept.access ∙ c.in_ok-report.ensures.access) (rw kept.path (c.in_ok-report.ensures.used.named (λ e. omega (arith, c.in_ok-report.ensures.access))))
+    (few_clearing c.in_ok-report.report old.held old.reads read.reads new.reads c.in_ok-report.ensures.report c.in_ok-report.ensures.reads c.clear_if_clean.ensures.reads c.clear_if_clean.ensures.unread)
+    c.in-Ok-clear_if_clean.clean c.in-Ok-clear_if_clean.ensures.clean c.in-Ok.ensures.whole c.in-Ok.ensures.access
+    (left_before c.in_ok-report.report _ old read new synced c.in_ok-report.ensures.untouched c.in_ok-report.ensures.kept
+    (c.in-Ok-clear_if_clean.ensures.left (synced_too old read synced c.in_ok-report.ensures.untouched)))
 
 pub returns-in-Err-clear_if_clean : goal.returns-in-Err-clear_if_clean
 returns-in-Err-clear_if_clean g c others notes fresh =
@@ -31,20 +33,20 @@ returns-in-Err-clear_if_clean g c others notes fresh =
     let new = g.A.Device.state c.clear_if_clean.new.input in
     let synced = g.met.A.Device.unwritten c.args.input.now c.requires.input in
     let kept = c.clear_if_clean.ensures.kept in
-    clearing_failed c.args.image.now others notes (g.K.Sink.state c.args.out.now) (g.K.Sink.state c.put_report.new.out) old new c.in-Ok.report
-    c.in-Ok.ensures.report c.put_report.ensures.used (kept.access ∙ c.in-Ok.ensures.access) (rw kept.path (c.in-Ok.ensures.used.named (λ e. omega (arith, c.in-Ok.ensures.access))))
-    (few_clearing c.in-Ok.report old.held old.reads read.reads new.reads c.in-Ok.ensures.report c.in-Ok.ensures.reads c.clear_if_clean.ensures.reads c.clear_if_clean.ensures.unread)
-    c.in-Ok-put_report.ensures.whole (rw c.in-Ok.ensures.kept at c.in-Err-clear_if_clean.ensures.faults.0)
-    (λ status some. left_before c.in-Ok.report status old read new synced c.in-Ok.ensures.untouched c.in-Ok.ensures.kept
-    (c.in-Err-clear_if_clean.ensures.left (synced_too old read synced c.in-Ok.ensures.untouched) (c.in-Ok.ensures.kept ∙ fresh) status some))
+    clearing_failed c.args.image.now others notes (g.K.Sink.state c.args.out.now) (g.K.Sink.state c.put_report.new.out) old new c.in_ok-report.report
+    c.in_ok-report.ensures.report c.put_report.ensures.used (kept.access ∙ c.in_ok-report.ensures.access) (rw kept.path (c.in_ok-report.ensures.used.named (λ e. omega (arith, c.in_ok-report.ensures.access))))
+    (few_clearing c.in_ok-report.report old.held old.reads read.reads new.reads c.in_ok-report.ensures.report c.in_ok-report.ensures.reads c.clear_if_clean.ensures.reads c.clear_if_clean.ensures.unread)
+    c.in-Ok.ensures.whole (rw c.in_ok-report.ensures.kept at c.in-Err-clear_if_clean.ensures.faults.0)
+    (λ status some. left_before c.in_ok-report.report status old read new synced c.in_ok-report.ensures.untouched c.in_ok-report.ensures.kept
+    (c.in-Err-clear_if_clean.ensures.left (synced_too old read synced c.in_ok-report.ensures.untouched) (c.in_ok-report.ensures.kept ∙ fresh) status some))
 
-pub returns-in-Err-put_report : goal.returns-in-Err-put_report
-returns-in-Err-put_report g c others notes fresh =
+pub returns-in-Err : goal.returns-in-Err
+returns-in-Err g c others notes fresh =
     let old = g.A.Device.state c.args.input.now in
     let read = g.A.Device.state c.read_report.new.input in
     let synced = g.met.A.Device.unwritten c.args.input.now c.requires.input in
-    clearing_unput c.args.image.now others notes (g.K.Sink.state c.args.out.now) (g.K.Sink.state c.put_report.new.out) old read c.in-Ok.report
-    c.in-Ok.ensures.report c.put_report.ensures.used c.in-Ok.ensures.access (c.in-Ok.ensures.used.named (λ e. omega (arith, c.in-Ok.ensures.access)))
-    (few Thin Counts old.held old.reads read.reads c.in-Ok.ensures.reads)
-    c.put_report.ensures.front c.in-Err-put_report.ensures.faults.0
-    (untouched_left c.in-Ok.report old read synced 6 (λ e. omega arith) c.in-Ok.ensures.untouched)
+    clearing_unput c.args.image.now others notes (g.K.Sink.state c.args.out.now) (g.K.Sink.state c.put_report.new.out) old read c.in_ok-report.report
+    c.in_ok-report.ensures.report c.put_report.ensures.used c.in_ok-report.ensures.access (c.in_ok-report.ensures.used.named (λ e. omega (arith, c.in_ok-report.ensures.access)))
+    (few Thin Counts old.held old.reads read.reads c.in_ok-report.ensures.reads)
+    c.put_report.ensures.front c.in-Err.ensures.faults.0
+    (untouched_left c.in_ok-report.report old read synced 6 (λ e. omega arith) c.in_ok-report.ensures.untouched)

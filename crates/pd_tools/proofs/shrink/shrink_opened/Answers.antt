@@ -6,30 +6,32 @@ use Rattle.pd_tools.proofs.Queries.{none_reported, one_told}
 use Rattle.pd_tools.proofs.Shrinks.{shrink_faulty, shrink_read, shrink_unread}
 use Rattle.pd_tools.proofs.shrink.shrink_opened.Goals as goal
 
-pub returns-in-Err : goal.returns-in-Err
-returns-in-Err g c from to pool meta_before output_before pool_before others notes output_synced output_unfailed pool_synced pool_unfailed opened =
+pub returns-in_err-report : goal.returns-in_err-report
+returns-in_err-report g c from to pool meta_before output_before pool_before others notes output_synced output_unfailed pool_synced pool_unfailed opened =
+    let stopped =
     shrink_unread from to pool c.args.blocks others notes (g.K.Sink.state c.args.out.now) meta_before (g.A.Device.state c.args.input.now) (g.A.Device.state c.check_attached.new.input)
     output_before (g.B.Device.state c.args.output.now) pool_before (g.C.Device.state c.args.third.now) c.requires.out output_synced pool_synced opened
-    c.in-Err.ensures.access c.in-Err.ensures.path c.in-Err.ensures.untouched
-    (g.met.B.Device.measured c.args.output.now) (g.met.C.Device.measured c.args.third.now) c.in-Err.stop c.in-Err.ensures.stopped
+    c.in_err-report.ensures.access c.in_err-report.ensures.path c.in_err-report.ensures.untouched
+    (g.met.B.Device.measured c.args.output.now) (g.met.C.Device.measured c.args.third.now) c.in_err-report.field-0.0 c.in_err-report.ensures.stopped in
+    search rules
 
 pub returns-then-not-is_empty : goal.returns-then-not-is_empty
 returns-then-not-is_empty g c from to pool meta_before output_before pool_before others notes output_synced output_unfailed pool_synced pool_unfailed opened =
     let faulty : c.is_empty.result ≡ false = first_of (search rules, grind (arith, nat_tests)) in
     shrink_faulty from to pool c.args.blocks others notes (g.K.Sink.state c.args.out.now) meta_before (g.A.Device.state c.args.input.now) (g.A.Device.state c.check_attached.new.input)
     output_before (g.B.Device.state c.args.output.now) pool_before (g.C.Device.state c.args.third.now) c.requires.out output_synced pool_synced opened
-    c.in-Ok.ensures.access c.in-Ok.ensures.path c.in-Ok.ensures.untouched
-    (g.met.B.Device.measured c.args.output.now) (g.met.C.Device.measured c.args.third.now) c.in-Ok.report c.in-Ok.ensures.report (sym c.is_empty.ensures ∙ faulty)
+    c.in_ok-report.ensures.access c.in_ok-report.ensures.path c.in_ok-report.ensures.untouched
+    (g.met.B.Device.measured c.args.output.now) (g.met.C.Device.measured c.args.third.now) c.in_ok-report.report c.in_ok-report.ensures.report (sym c.is_empty.ensures ∙ faulty)
 
 pub shrink_sound-requires-clause-sound : goal.shrink_sound-requires-clause-sound
 shrink_sound-requires-clause-sound g c =
     let clean : c.is_empty.result ≡ true = first_of (search rules, grind (arith, nat_tests)) in
-    rw c.in-Ok.ensures.untouched.held
-    (one_told (g.A.Device.state c.args.input.now).held (λ image is. none_reported Thin Counts image c.in-Ok.report is (sym c.is_empty.ensures ∙ clean)) c.in-Ok.ensures.report)
+    rw c.in_ok-report.ensures.untouched.held
+    (one_told (g.A.Device.state c.args.input.now).held (λ image is. none_reported Thin Counts image c.in_ok-report.report is (sym c.is_empty.ensures ∙ clean)) c.in_ok-report.ensures.report)
 
 pub returns : goal.returns
 returns g c from to pool meta_before output_before pool_before others notes output_synced output_unfailed pool_synced pool_unfailed opened =
     c.shrink_sound.ensures from to pool meta_before output_before pool_before others notes output_synced output_unfailed pool_synced pool_unfailed
     (shrink_read from to pool meta_before (g.A.Device.state c.args.input.now) (g.A.Device.state c.check_attached.new.input)
     output_before (g.B.Device.state c.args.output.now) pool_before (g.C.Device.state c.args.third.now) opened
-    c.in-Ok.ensures.access c.in-Ok.ensures.path c.in-Ok.ensures.untouched c.in-Ok.ensures.kept)
+    c.in_ok-report.ensures.access c.in_ok-report.ensures.path c.in_ok-report.ensures.untouched c.in_ok-report.ensures.kept)
