@@ -15,13 +15,9 @@ fn audit_keeps_a_mark_and_a_note(rt: HostRuntime) -> Result<(), Fail> {
     };
     audit.mark(1, Rule::Level);
     audit.set_note(2, note);
-    assert!(rt; audit.rules(1).has(Rule::Level));
-    assert!(rt; audit.rules(2).is_empty());
-    assert!(rt; audit.note(2) == note);
-    assert!(rt; audit.note(1).least.is_none());
-    assert!(rt; audit.roles(0) == 0);
-    assert!(rt; audit.meta_count(0) == 0);
-    assert!(rt; audit.nr() == 3);
-    assert!(rt; !audit.is_walked());
+    let has_marks = audit.rules(1).has(Rule::Level) & audit.rules(2).is_empty();
+    let has_notes = (audit.note(2) == note) & audit.note(1).least.is_none();
+    let has_counts = (audit.roles(0) == 0) & (audit.meta_count(0) == 0) & (audit.nr() == 3);
+    assert!(rt; has_marks & has_notes & has_counts & !audit.is_walked());
     Ok(())
 }

@@ -5,7 +5,7 @@ ghost use Rattle.pd_image.specs.MemDevice.{mem_device_state};
 use crate::built::{build_array, build_tree, has_numbers, has_words, is_closed, numbered};
 use crate::objects::{NEVER, device_of, zeros_device};
 use pd_build::{BuildFault, need_tree, need_upper};
-use pd_image::{Device, MemDevice, Pick};
+use pd_image::{Device, MemDevice};
 use pd_kinds::{BLOCK_SIZE, Block};
 use pd_node::entries;
 use pd_value::BlockTime;
@@ -43,8 +43,9 @@ fn expect_tree(rt: &impl Abort, alloc: Global, count: u64, last: u64) -> Result<
     let items = numbered(alloc, count)?;
     let mut dev = zeros_device(alloc, 257)?;
     assert!(rt; last < dev.blocks());
-    assert!(rt; build_tree(alloc, &mut *dev, &items) == Ok(last), "{count}");
-    assert!(rt; has_numbers(alloc, &mut *dev, last, count)?, "{count}");
+    let is_built = build_tree(alloc, &mut *dev, &items) == Ok(last);
+    let is_read = has_numbers(alloc, &mut *dev, last, count)?;
+    assert!(rt; is_built & is_read, "{count}");
     Ok(())
 }
 
@@ -62,9 +63,10 @@ fn leaves_of_253_items_have_127_and_126(rt: HostRuntime) -> Result<(), Fail> {
     let items = numbered(rt.alloc(), 253)?;
     let mut dev = zeros_device(rt.alloc(), 4)?;
     assert!(rt; dev.blocks() >= 3);
-    assert!(rt; build_tree(rt.alloc(), &mut *dev, &items) == Ok(3));
-    assert!(rt; entries::<BlockTime>(&dev.block(1)) == 127);
-    assert!(rt; entries::<BlockTime>(&dev.block(2)) == 126);
+    let is_built = build_tree(rt.alloc(), &mut *dev, &items) == Ok(3);
+    let first = entries::<BlockTime>(&dev.block(1));
+    let second = entries::<BlockTime>(&dev.block(2));
+    assert!(rt; is_built & (first == 127) & (second == 126));
     Ok(())
 }
 
@@ -72,8 +74,9 @@ fn leaves_of_253_items_have_127_and_126(rt: HostRuntime) -> Result<(), Fail> {
 fn expect_array(rt: &impl Abort, alloc: Global, count: u64, last: u64) -> Result<(), Fail> {
     let mut dev = zeros_device(alloc, 4)?;
     assert!(rt; last < dev.blocks());
-    assert!(rt; build_array(alloc, &mut *dev, count) == Ok(last), "{count}");
-    assert!(rt; has_words(alloc, &mut *dev, last, count)?, "{count}");
+    let is_built = build_array(alloc, &mut *dev, count) == Ok(last);
+    let is_read = has_words(alloc, &mut *dev, last, count)?;
+    assert!(rt; is_built & is_read, "{count}");
     Ok(())
 }
 
@@ -124,9 +127,9 @@ fn expect_no_superblock(rt: &impl Abort, alloc: Global, part: Part, call: u64) -
     } else {
         Ok(3)
     };
-    assert!(rt; build(alloc, &mut *dev, part)? == wanted, "{call}");
-    assert!(rt; is_closed(alloc, &dev, &OLD[0], call, Pick::Old)?, "{call}");
-    assert!(rt; is_closed(alloc, &dev, &OLD[0], call, Pick::New)?, "{call}");
+    let is_told = build(alloc, &mut *dev, part)? == wanted;
+    let is_safe = is_closed(alloc, &dev, &OLD[0], call)?;
+    assert!(rt; is_told & is_safe, "{call}");
     Ok(())
 }
 

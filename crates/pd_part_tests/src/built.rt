@@ -166,9 +166,9 @@ pub(crate) fn has_words<D: Device>(
     Ok(cursor.next(dev)?.is_none())
 }
 
-/// Whether block 0 is zeros as a crash now may leave it. Where one of the two calls that close it fails, it may still be the
-/// old one.
-pub(crate) fn is_closed(
+/// Whether block 0 is zeros as a crash now may leave it by the pick. Where one of the two calls that close it fails, it may
+/// still be the old one.
+fn is_closed_by(
     alloc: Global,
     dev: &MemDevice,
     old: &Block,
@@ -182,4 +182,16 @@ pub(crate) fn is_closed(
     }
     let first = after.block(0);
     Ok(first == Block::zeros() || (call <= 2 && first == *old))
+}
+
+/// The same by each pick.
+pub(crate) fn is_closed(
+    alloc: Global,
+    dev: &MemDevice,
+    old: &Block,
+    call: u64,
+) -> Result<bool, Fail> {
+    let old_kept = is_closed_by(alloc, dev, old, call, Pick::Old)?;
+    let new_kept = is_closed_by(alloc, dev, old, call, Pick::New)?;
+    Ok(old_kept & new_kept)
 }

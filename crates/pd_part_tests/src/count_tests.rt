@@ -32,8 +32,7 @@ fn a_block_is_counted_as_often_as_it_was_added(rt: HostRuntime) -> Result<(), Fa
     let mut counts = Counts::new(rt.alloc(), 10)?;
     count(&rt, &mut counts, 3)?;
     count(&rt, &mut counts, 3)?;
-    assert!(rt; counts.get(3) == 2);
-    assert!(rt; counts.get(4) == 0);
+    assert!(rt; [counts.get(3), counts.get(4)] == [2, 0]);
     Ok(())
 }
 
@@ -42,9 +41,8 @@ fn a_huge_table_takes_memory_where_a_block_is_counted(rt: HostRuntime) -> Result
     let mut counts = Counts::new(rt.alloc(), 68719476736)?;
     count(&rt, &mut counts, 0)?;
     count(&rt, &mut counts, 68719476735)?;
-    assert!(rt; counts.get(0) == 1);
-    assert!(rt; counts.get(68719476735) == 1);
-    assert!(rt; counts.get(1) == 0);
+    let found = [counts.get(0), counts.get(68719476735), counts.get(1)];
+    assert!(rt; found == [1, 1, 0]);
     Ok(())
 }
 
@@ -147,8 +145,9 @@ fn expect_meta_faults(rt: &impl Abort, alloc: Global, device: &mut MemDevice) ->
 fn metadata_counts_differ_from_no_references(rt: HostRuntime) -> Result<(), Fail> {
     let image = counts_of_each_kind(index_block());
     let mut device = device_of(rt.alloc(), &image, false, NEVER, NEVER)?;
-    assert!(rt; stored_meta(&mut *device, &EACH_KIND, 2) == Ok(Some(5)));
-    assert!(rt; stored_meta(&mut *device, &EACH_KIND, 3) == Ok(None));
+    let is_five = stored_meta(&mut *device, &EACH_KIND, 2) == Ok(Some(5));
+    let is_none = stored_meta(&mut *device, &EACH_KIND, 3) == Ok(None);
+    assert!(rt; is_five & is_none);
     expect_meta_faults(&rt, rt.alloc(), &mut *device)
 }
 

@@ -75,9 +75,10 @@ fn outcomes(alloc: Global, call: u64, stop: u64) -> Result<(bool, [Found; 3]), F
 /// Makes the new image with this call failing.
 fn expect_outcome(rt: &impl Abort, alloc: Global, call: u64) -> Result<(), Fail> {
     let (done, found) = outcomes(alloc, call, NEVER)?;
-    assert!(rt; done == (call > 7), "{call}");
-    assert!(rt; !found.contains(&Found::Other), "{call}");
-    assert!(rt; call <= 7 || found == [Found::New; 3], "{call}");
+    let is_told = done == (call > 7);
+    let is_outcome = !found.contains(&Found::Other);
+    let is_new = call <= 7 || found == [Found::New; 3];
+    assert!(rt; is_told & is_outcome & is_new, "{call}");
     Ok(())
 }
 
@@ -104,8 +105,9 @@ fn left_by(calls: u64) -> (Found, Found) {
 fn expect_stopped(rt: &impl Abort, alloc: Global, calls: u64) -> Result<(), Fail> {
     let (done, found) = outcomes(alloc, NEVER, calls)?;
     let (one, two) = left_by(calls);
-    assert!(rt; done == (calls == 8), "{calls}");
-    assert!(rt; found.iter().all(|f| *f == one || *f == two), "{calls}");
+    let is_told = done == (calls == 8);
+    let is_outcome = found.iter().all(|f| *f == one || *f == two);
+    assert!(rt; is_told & is_outcome, "{calls}");
     Ok(())
 }
 
@@ -142,10 +144,12 @@ fn replace_twice<D: Device>(dev: &mut D) -> Result<(), Failed>
 #[test]
 fn an_image_is_changed_where_it_stands(rt: HostRuntime) -> Result<(), Fail> {
     let mut dev = device_of(rt.alloc(), &OLD, true, NEVER, NEVER)?;
-    assert!(rt; replace(&mut *dev).is_ok());
-    assert!(rt; three_left(rt.alloc(), &dev, Pick::New)? == Some([NEW[0], OLD[1], OLD[1]]));
+    let is_done = replace(&mut *dev).is_ok();
+    let once = three_left(rt.alloc(), &dev, Pick::New)?;
+    assert!(rt; is_done & (once == Some([NEW[0], OLD[1], OLD[1]])));
     let mut dev = device_of(rt.alloc(), &OLD, true, NEVER, NEVER)?;
-    assert!(rt; replace_twice(&mut *dev).is_ok());
-    assert!(rt; three_left(rt.alloc(), &dev, Pick::New)? == Some([NEW[1], OLD[1], OLD[1]]));
+    let is_done = replace_twice(&mut *dev).is_ok();
+    let twice = three_left(rt.alloc(), &dev, Pick::New)?;
+    assert!(rt; is_done & (twice == Some([NEW[1], OLD[1], OLD[1]])));
     Ok(())
 }

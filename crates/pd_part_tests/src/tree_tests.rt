@@ -138,9 +138,10 @@ fn a_cursor_reads_each_node_of_three_levels_once(rt: HostRuntime) -> Result<(), 
     // The calls are 0 for attaching, and six for the nodes.
     let mut device = device_of(rt.alloc(), &three_levels(), false, 7, NEVER)?;
     let mut cursor = Cursor::<Root>::start(rt.alloc(), 0)?;
-    assert!(rt; cursor.next(&mut *device) == Ok(Some((2, Root(12)))));
-    assert!(rt; cursor.count(&mut *device) == Ok(4));
-    assert!(rt; find::<Root, MemDevice>(&mut *device, 0, 2).is_err());
+    let is_first = cursor.next(&mut *device) == Ok(Some((2, Root(12))));
+    let is_rest = cursor.count(&mut *device) == Ok(4);
+    let is_past = find::<Root, MemDevice>(&mut *device, 0, 2).is_err();
+    assert!(rt; is_first & is_rest & is_past);
     Ok(())
 }
 
@@ -154,8 +155,9 @@ fn a_read_that_fails_in_the_middle_is_answered(rt: HostRuntime) -> Result<(), Fa
     ];
     let mut device = device_of(rt.alloc(), &image, false, 3, NEVER)?;
     let mut cursor = Cursor::<Root>::start(rt.alloc(), 0)?;
-    assert!(rt; cursor.next(&mut *device) == Ok(Some((1, Root(11)))));
-    assert!(rt; cursor.next(&mut *device).is_err());
+    let is_first = cursor.next(&mut *device) == Ok(Some((1, Root(11))));
+    let is_failed = cursor.next(&mut *device).is_err();
+    assert!(rt; is_first & is_failed);
     let entries = [(1, Root(11)), (9, Root(19))];
     expect_entries(&rt, rt.alloc(), &mut *device, 0, &entries)
 }
@@ -207,7 +209,8 @@ fn an_array_of_510_words_is_given_whole(rt: HostRuntime) -> Result<(), Fail> {
     let mut device = device_of(rt.alloc(), &image, false, NEVER, NEVER)?;
     let mut cursor = ArrayCursor::start(rt.alloc(), 0, Word::Eight)?;
     expect_sevens(&rt, &mut cursor, &mut *device);
-    assert!(rt; cursor.next(&mut *device) == Ok(Some(9)));
-    assert!(rt; cursor.next(&mut *device) == Ok(None));
+    let is_last = cursor.next(&mut *device) == Ok(Some(9));
+    let is_end = cursor.next(&mut *device) == Ok(None);
+    assert!(rt; is_last & is_end);
     Ok(())
 }

@@ -11,8 +11,8 @@ use std::alloc::Global;
 use std::process::Abort;
 use std::test::Fail;
 
-/// A text, the line that is refused, and why.
-pub(crate) type Refused = (&'static str, u64, TextCause);
+/// The line that is refused, why, and the texts of which it is.
+pub(crate) type Refused = (u64, TextCause, &'static [&'static str]);
 
 /// Reads a text to its end, or to what is refused.
 fn refusal_of<P: TextState>(reader: &mut TextReader<P>, source: &mut MemSource) -> Option<ReadFault>
@@ -31,7 +31,7 @@ where
 }
 
 /// What a text of which so many bytes come at a time is refused for.
-pub(crate) fn refusal_in_pieces<P: TextState>(
+fn refusal_in_pieces<P: TextState>(
     alloc: Global,
     text: &[u8],
     piece: usize,
@@ -45,7 +45,38 @@ where
     Ok(refusal_of(&mut reader, &mut *source))
 }
 
-/// Reads a text in pieces of 1, 7 and 4096 bytes: each time this line is refused for this cause.
+/// Reads a text in pieces of 1, 7 and 4096 bytes: each time it is refused for this, or not at all.
+fn expect_read<P: TextState>(
+    rt: &impl Abort,
+    alloc: Global,
+    text: &[u8],
+    wanted: Option<ReadFault>,
+    shown: &str,
+) -> Result<(), Fail>
+where
+    P::Line: Drop,
+{
+    let by_bytes = refusal_in_pieces::<P>(alloc, text, 1)?;
+    let by_sevens = refusal_in_pieces::<P>(alloc, text, 7)?;
+    let whole = refusal_in_pieces::<P>(alloc, text, 4096)?;
+    assert!(rt; [by_bytes, by_sevens, whole] == [wanted; 3], "{shown}");
+    Ok(())
+}
+
+/// Nothing of this text is refused, however it is cut.
+pub(crate) fn expect_good<P: TextState>(
+    rt: &impl Abort,
+    alloc: Global,
+    text: &[u8],
+    shown: &str,
+) -> Result<(), Fail>
+where
+    P::Line: Drop,
+{
+    expect_read::<P>(rt, alloc, text, None, shown)
+}
+
+/// This line of a text is refused for this cause, however the text is cut.
 pub(crate) fn expect_refused<P: TextState>(
     rt: &impl Abort,
     alloc: Global,
@@ -58,26 +89,40 @@ where
     P::Line: Drop,
 {
     let wanted = Some(ReadFault::Text(TextFault { line, cause }));
-    let by_bytes = refusal_in_pieces::<P>(alloc, text, 1)?;
-    let by_sevens = refusal_in_pieces::<P>(alloc, text, 7)?;
-    let whole = refusal_in_pieces::<P>(alloc, text, 4096)?;
-    assert!(rt; by_bytes == wanted, "{shown}");
-    assert!(rt; by_sevens == wanted, "{shown}");
-    assert!(rt; whole == wanted, "{shown}");
-    Ok(())
+    expect_read::<P>(rt, alloc, text, wanted, shown)
 }
 
 /// The same of what follows these first lines.
-pub(crate) fn expect_refused_after<P: TextState>(
+fn expect_refused_after<P: TextState>(
     rt: &impl Abort,
     alloc: Global,
     front: &str,
-    (body, line, cause): Refused,
+    row: Refused,
 ) -> Result<(), Fail>
 where
     P::Line: Drop,
 {
-    let mut text = Vec::from_slice(alloc, front.as_bytes())?;
-    text.extend_from_slice(body.as_bytes())?;
-    expect_refused::<P>(rt, alloc, text.as_slice(), line, cause, body)
+    let (line, cause, bodies) = row;
+    for body in bodies {
+        let mut text = Vec::from_slice(alloc, front.as_bytes())?;
+        text.extend_from_slice(body.as_bytes())?;
+        expect_refused::<P>(rt, alloc, text.as_slice(), line, cause, body)?;
+    }
+    Ok(())
+}
+
+/// The same of each row.
+pub(crate) fn expect_each_refused<P: TextState>(
+    rt: &impl Abort,
+    alloc: Global,
+    front: &str,
+    rows: &[Refused],
+) -> Result<(), Fail>
+where
+    P::Line: Drop,
+{
+    for row in rows {
+        expect_refused_after::<P>(rt, alloc, front, *row)?;
+    }
+    Ok(())
 }

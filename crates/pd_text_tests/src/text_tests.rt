@@ -5,7 +5,8 @@ ghost use Rattle.pd_image.specs.MemSink.{mem_sink_state};
 ghost use Rattle.pd_image.specs.MemSource.{mem_source_state};
 
 use crate::objects::{sink_of, source_of};
-use crate::refusals::{Refused, expect_refused, expect_refused_after};
+use crate::pool_text_tests::FIRST_FRONT;
+use crate::refusals::expect_refused;
 use crate::small_copy::copy;
 use pd_grammar::TextCause;
 use pd_image::{Failed, MemSink, MemSource, Sink, Source};
@@ -32,185 +33,6 @@ const SHARED_LEAVES: &str =
 const SHARED: &str =
     "thin 1\npool 01234567-89ab-cdef-0123-456789abcdef 5 7 128 300\ndevice 0 3 0 0 3\nmap 0 10 2 0\nmap 9 299 1 4\ndevice 1 2 6 3 3\nmap 0 10 2 0\ndevice 16777215 0 7 5 5\nend\n";
 
-/// What comes before the refused bodies.
-const FRONT: &str = "thin 1\npool 00000000-0000-0000-0000-000000000000 0 0 128 8\n";
-
-/// What follows those lines, the line that is refused, and why.
-const REFUSED_BODIES: &[Refused] = &[
-    ("", 3, TextCause::NoEnd),
-    ("end", 3, TextCause::NoEnd),
-    ("end\nx", 4, TextCause::AfterEnd),
-    ("end\n\n", 4, TextCause::AfterEnd),
-    ("end\nend\n", 4, TextCause::AfterEnd),
-    ("end\n\x00\n", 4, TextCause::AfterEnd),
-    ("end \n", 3, TextCause::Word),
-    ("\n", 3, TextCause::Word),
-    ("ende\n", 3, TextCause::Word),
-    (
-        "pool 00000000-0000-0000-0000-000000000000 0 0 128 1\n",
-        3,
-        TextCause::Word,
-    ),
-    ("thin 1\n", 3, TextCause::Word),
-    ("leaf 0 1\n", 3, TextCause::Word),
-    ("map 0 0 1 0\n", 3, TextCause::Word),
-    ("device 1 1 0 0\n", 3, TextCause::Word),
-    ("device 1 1 0 0 0 0\n", 3, TextCause::Word),
-    ("device 1 1 0 0 0 \n", 3, TextCause::Word),
-    ("device 1  0 0 0\n", 3, TextCause::Number),
-    ("device 1 1 0 0 \n", 3, TextCause::Number),
-    ("device +1 1 0 0 0\n", 3, TextCause::Number),
-    ("device -1 1 0 0 0\n", 3, TextCause::Number),
-    ("device 01 1 0 0 0\n", 3, TextCause::Number),
-    ("device 00 1 0 0 0\n", 3, TextCause::Number),
-    (
-        "device 18446744073709551616 1 0 0 0\n",
-        3,
-        TextCause::Number,
-    ),
-    (
-        "device 99999999999999999999999 1 0 0 0\n",
-        3,
-        TextCause::Number,
-    ),
-    (
-        "device 18446744073709551615 1 0 0 0\nend\n",
-        4,
-        TextCause::MappedDiffers,
-    ),
-    ("device 1 1 0 4294967296 0\n", 3, TextCause::OutOfRange),
-    ("device 1 1 0 0 4294967296\n", 3, TextCause::OutOfRange),
-    ("device 1 0 0 0 0\ndevice 1 0 0 0 0\n", 4, TextCause::Order),
-    (
-        "device 1 0 0 0 0\ndevice 0 0 0 0 4294967296\n",
-        4,
-        TextCause::OutOfRange,
-    ),
-    (
-        "device 1 2 0 0 0\nmap 0 0 1 0\ndevice 1 0 0 0 0\n",
-        5,
-        TextCause::Order,
-    ),
-    (
-        "device 1 2 0 0 0\nmap 0 0 1 0\ndevice 2 0 0 0 0\n",
-        5,
-        TextCause::MappedDiffers,
-    ),
-    (
-        "device 1 2 0 0 0\nmap 0 0 1 0\nend\n",
-        5,
-        TextCause::MappedDiffers,
-    ),
-    ("device 1 1 0 0 0\nuse 0\n", 4, TextCause::Word),
-    ("device 1 1 0 0 0\nmap 0 0 01 0\n", 4, TextCause::Number),
-    ("device 1 1 0 0 0\nmap 0 0 0 0\n", 4, TextCause::OutOfRange),
-    ("device 1 9 0 0 0\nmap 0 0 9 0\n", 4, TextCause::OutOfRange),
-    (
-        "device 1 1 0 0 0\nmap 0 0 1 16777216\n",
-        4,
-        TextCause::OutOfRange,
-    ),
-    (
-        "device 1 2 0 0 0\nmap 18446744073709551615 0 2 0\n",
-        4,
-        TextCause::OutOfRange,
-    ),
-    (
-        "device 1 2 0 0 0\nmap 0 18446744073709551615 2 0\n",
-        4,
-        TextCause::OutOfRange,
-    ),
-    (
-        "device 1 3 0 0 0\nmap 0 0 2 0\nmap 1 0 1 0\n",
-        5,
-        TextCause::Order,
-    ),
-    (
-        "device 1 1 0 0 0\nmap 0 0 2 0\n",
-        4,
-        TextCause::MappedDiffers,
-    ),
-    ("device 1 1 0 0 0\x7F\n", 3, TextCause::Word),
-];
-
-/// Whole texts that are refused.
-const REFUSED_TEXTS: &[Refused] = &[
-    (
-        "thin 1\npool 00000000-0000-0000-0000-000000000000 0 0 128 0\n",
-        3,
-        TextCause::NoEnd,
-    ),
-    (
-        "thin 1\npool 00000000-0000-0000-0000-000000000000 0 0 128 0\nend\nx",
-        4,
-        TextCause::AfterEnd,
-    ),
-    ("", 1, TextCause::NoEnd),
-    ("thin 1", 1, TextCause::NoEnd),
-    ("thin 2\n", 2, TextCause::NoEnd),
-    ("thin 3\n", 1, TextCause::Header),
-    ("thin 1 \n", 1, TextCause::Header),
-    ("thin  1\n", 1, TextCause::Header),
-    ("cache 1\n", 1, TextCause::Header),
-    ("\n", 1, TextCause::Header),
-    ("thin\x001\n", 1, TextCause::Header),
-    ("thin 1\n", 2, TextCause::NoEnd),
-    ("thin 1\nend\n", 2, TextCause::Word),
-    ("thin 1\npool\n", 2, TextCause::Word),
-    (
-        "thin 1\npool 00000000000000000000000000000000 0 0 128 1\n",
-        2,
-        TextCause::Word,
-    ),
-    (
-        "thin 1\npool 0000000A-0000-0000-0000-000000000000 0 0 128 1\n",
-        2,
-        TextCause::Word,
-    ),
-    (
-        "thin 1\npool 00000000-0000-0000-0000-000000000000 0 0 128\n",
-        2,
-        TextCause::Word,
-    ),
-    (
-        "thin 1\npool 00000000-0000-0000-0000-000000000000 0 0 x 1\n",
-        2,
-        TextCause::Number,
-    ),
-    (
-        "thin 1\npool 00000000-0000-0000-0000-000000000000 4294967296 0 128 1\n",
-        2,
-        TextCause::OutOfRange,
-    ),
-    (
-        "thin 1\npool 00000000-0000-0000-0000-000000000000 0 0 4294967296 1\n",
-        2,
-        TextCause::OutOfRange,
-    ),
-    (
-        "thin 1\npool 00000000-0000-0000-0000-000000000000 0 0 128 1099511627777\n",
-        2,
-        TextCause::OutOfRange,
-    ),
-];
-
-#[test]
-fn texts_are_refused_at_their_line_for_their_cause(rt: HostRuntime) -> Result<(), Fail> {
-    for row in REFUSED_TEXTS {
-        let (text, line, cause) = *row;
-        expect_refused::<ThinState>(&rt, rt.alloc(), text.as_bytes(), line, cause, text)?;
-    }
-    Ok(())
-}
-
-#[test]
-fn bodies_are_refused_at_their_line_for_their_cause(rt: HostRuntime) -> Result<(), Fail> {
-    for row in REFUSED_BODIES {
-        expect_refused_after::<ThinState>(&rt, rt.alloc(), FRONT, *row)?;
-    }
-    Ok(())
-}
-
 /// A third line of so many letters is refused for this cause.
 fn expect_long_line_refused(
     rt: &impl Abort,
@@ -219,7 +41,7 @@ fn expect_long_line_refused(
     cause: TextCause,
     shown: &str,
 ) -> Result<(), Fail> {
-    let mut text = Vec::from_slice(alloc, FRONT.as_bytes())?;
+    let mut text = Vec::from_slice(alloc, FIRST_FRONT.as_bytes())?;
     let line = vec![in alloc; b'x'; length]?;
     text.extend_from_slice(line.as_slice())?;
     text.push(b'\n')?;
@@ -236,7 +58,7 @@ fn lines_of_161_bytes_are_too_long(rt: HostRuntime) -> Result<(), Fail> {
 
 /// A third line that is the last one with this byte behind it is refused.
 fn expect_byte_refused(rt: &impl Abort, alloc: Global, byte: u8) -> Result<(), Fail> {
-    let mut text = Vec::from_slice(alloc, FRONT.as_bytes())?;
+    let mut text = Vec::from_slice(alloc, FIRST_FRONT.as_bytes())?;
     text.extend_from_slice(&[b'e', b'n', b'd', byte, b'\n'])?;
     expect_refused::<ThinState>(rt, alloc, text.as_slice(), 3, TextCause::Word, "a byte")
 }
@@ -284,10 +106,11 @@ fn expect_one_mapping(rt: &impl Abort, alloc: Global, piece: usize) -> Result<()
 {
     let mut source = source_of(alloc, ONE_MAPPING.as_bytes(), piece)?;
     let mut text = ThinText::new(alloc)?;
-    assert!(rt; text.next(&mut *source) == Ok(Some(POOL)));
-    assert!(rt; text.next(&mut *source) == Ok(Some(DEVICE)));
-    assert!(rt; text.next(&mut *source) == Ok(Some(MAP)));
-    assert!(rt; text.next(&mut *source) == Ok(None));
+    let is_pool = text.next(&mut *source) == Ok(Some(POOL));
+    let is_device = text.next(&mut *source) == Ok(Some(DEVICE));
+    let is_map = text.next(&mut *source) == Ok(Some(MAP));
+    let is_end = text.next(&mut *source) == Ok(None);
+    assert!(rt; is_pool & is_device & is_map & is_end);
     Ok(())
 }
 
@@ -430,8 +253,8 @@ fn expect_failed_source(rt: &impl Abort, alloc: Global, call: u64) -> Result<(),
     let mut source = source_of(alloc, ONE_MAPPING.as_bytes(), 40)?;
     let mut sink = sink_of(alloc)?;
     source.fail_at(call)?;
-    assert!(rt; copy(alloc, &mut *source, &mut *sink).is_err());
-    assert!(rt; sink.bytes().is_empty());
+    let is_refused = copy(alloc, &mut *source, &mut *sink).is_err();
+    assert!(rt; is_refused & sink.bytes().is_empty());
     Ok(())
 }
 
@@ -453,8 +276,8 @@ fn expect_copied(rt: &impl Abort, alloc: Global, text: &str, piece: usize) -> Re
 {
     let mut source = source_of(alloc, text.as_bytes(), piece)?;
     let mut sink = sink_of(alloc)?;
-    assert!(rt; copy(alloc, &mut *source, &mut *sink).is_ok());
-    assert!(rt; sink.bytes() == text.as_bytes());
+    let is_read = copy(alloc, &mut *source, &mut *sink).is_ok();
+    assert!(rt; is_read & (sink.bytes() == text.as_bytes()), "{text}");
     Ok(())
 }
 

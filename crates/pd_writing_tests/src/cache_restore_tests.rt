@@ -1,8 +1,10 @@
 //! Restores of caches: what is restored, what is refused, and what the output holds then.
 
 use crate::cache_tests::{EMPTY, TWO_MAPPED};
+use crate::expected::End::{Done, NoRoom, Refused};
+use crate::expected::Left::{Closed, Old, Written};
 use crate::expected::{
-    FIRST, First, ONES, Row, SECOND, expect_output_faults, expect_restored, expect_source_fault,
+    FIRST, Left, ONES, Row, SECOND, expect_output_faults, expect_restored, left_by_source_fault,
     restore,
 };
 use pd_samples::runs::NOTHING_FAILS;
@@ -27,65 +29,16 @@ const NO_NUMBER: &str =
 
 /// Restores, with what they come to.
 const ROWS: &[Row] = &[
-    (FIRST, EMPTY, 6, 0, "", First::Made),
-    (
-        FIRST,
-        EMPTY,
-        5,
-        4,
-        "pdata_tools: no room: need 6, blocks 5\n",
-        First::Untouched,
-    ),
-    (FIRST, TWO_MAPPED, 10, 0, "", First::Made),
-    (
-        FIRST,
-        TWO_MAPPED,
-        9,
-        4,
-        "pdata_tools: no room: need 10, blocks 9\n",
-        First::Untouched,
-    ),
-    (SECOND, TWO_MAPPED, 12, 0, "", First::Made),
-    (
-        SECOND,
-        TWO_MAPPED,
-        11,
-        4,
-        "pdata_tools: no room: need 12, blocks 11\n",
-        First::Untouched,
-    ),
-    (
-        FIRST,
-        REPEATED,
-        16,
-        3,
-        "pdata_tools: line 4: repeated\n",
-        First::Closed,
-    ),
-    (
-        SECOND,
-        HINT,
-        16,
-        3,
-        "pdata_tools: line 3: out of range\n",
-        First::Closed,
-    ),
-    (
-        FIRST,
-        NO_END,
-        16,
-        3,
-        "pdata_tools: line 3: no end\n",
-        First::Closed,
-    ),
-    (
-        FIRST,
-        NO_NUMBER,
-        16,
-        3,
-        "pdata_tools: line 2: number\n",
-        First::Untouched,
-    ),
+    (FIRST, EMPTY, 6, Done(""), Written),
+    (FIRST, EMPTY, 5, NoRoom(6, 5), Old),
+    (FIRST, TWO_MAPPED, 10, Done(""), Written),
+    (FIRST, TWO_MAPPED, 9, NoRoom(10, 9), Old),
+    (SECOND, TWO_MAPPED, 12, Done(""), Written),
+    (SECOND, TWO_MAPPED, 11, NoRoom(12, 11), Old),
+    (FIRST, REPEATED, 16, Refused(4, "repeated"), Closed),
+    (SECOND, HINT, 16, Refused(3, "out of range"), Closed),
+    (FIRST, NO_END, 16, Refused(3, "no end"), Closed),
+    (FIRST, NO_NUMBER, 16, Refused(2, "number"), Old),
 ];
 
 #[test]
@@ -136,7 +89,8 @@ fn a_version_is_1_or_2_and_1_where_none_is_given(rt: HostRuntime) -> Result<(), 
 #[test]
 fn a_source_of_a_cache_that_fails_is_blamed(rt: HostRuntime) -> Result<(), Fail> {
     for call in 0..20 {
-        expect_source_fault(&rt, rt.alloc(), SECOND, TWO_MAPPED, call)?;
+        let left = left_by_source_fault(&rt, rt.alloc(), SECOND, TWO_MAPPED, call)?;
+        assert!(rt; left != Left::Written, "{call}");
     }
     Ok(())
 }

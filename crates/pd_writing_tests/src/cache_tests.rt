@@ -1,12 +1,15 @@
 //! Checks and dumps of caches, sound and broken ones.
 
+use crate::cache_tests::Change::{
+    Damage, Eighth, First, GapIndex, Hints, Magic, OneHint, SevenWords, ShortIndex, Version,
+};
 use crate::expected::{
-    FIRST, SECOND, expect, expect_device_faults, expect_fault_in_notes, expect_out_fault,
-    expect_report, made,
+    FIRST, SECOND, Trouble, expect, expect_device_faults, expect_dumped, expect_fault_in_notes,
+    expect_faults_of, made, status_in,
 };
 use pd_array::{Word, write_array};
 use pd_bitmap::index_entry;
-use pd_kinds::{Block, CacheSuper, Kind, u64_at};
+use pd_kinds::{Block, Kind, u64_at};
 use pd_node::write_leaf;
 use pd_samples::pool::{damaged, resealed};
 use pd_supers::{read_cache_super, write_cache_super};
@@ -35,64 +38,189 @@ const CHECK: &[&str] = &["cache_check", "image"];
 /// The words of a dump.
 const DUMP: &[&str] = &["cache_dump", "image"];
 
-/// An image in which one block is another one.
-fn with_block(
-    alloc: Global,
-    image: &[Block],
-    b: usize,
-    block: Block,
-) -> Result<Vec<Block>, AllocError> {
-    let mut changed = Vec::from_slice(alloc, image)?;
-    if b < changed.len() {
-        changed[b] = block;
+/// How a block is changed.
+#[derive(Clone, Copy)]
+enum Change {
+    /// The first eight bytes of an array's words.
+    First(u64),
+    /// Their eighth eight bytes.
+    Eighth(u64),
+    /// It is an array's block of one hint.
+    OneHint,
+    /// It is an array's block of seven words of dirty bits.
+    SevenWords,
+    /// It is an index of one block, or of two with a gap.
+    ShortIndex,
+    GapIndex,
+    /// One bit of it is another one.
+    Damage,
+    /// A superblock's magic number.
+    Magic,
+    /// Its version, without dirty bits.
+    Version(u32),
+    /// The root of the hints, and their size.
+    Hints(u64, u32),
+}
+
+/// A superblock with this version, and without dirty bits.
+fn of_version(first: &Block, version: u32) -> Block {
+    let mut fields = read_cache_super(first);
+    fields.version = version;
+    fields.dirty_root = 0;
+    write_cache_super(&fields)
+}
+
+/// A superblock with these hints, of the second version.
+fn with_hints(first: &Block, root: u64, size: u32) -> Block {
+    let mut fields = read_cache_super(first);
+    fields.version = 2;
+    fields.hint_root = root;
+    fields.hint_size = size;
+    write_cache_super(&fields)
+}
+
+/// A block that is changed so.
+#[tactic(auto, unfolding(pd_kinds::specs::Node::is_ascending))]
+fn changed(block: &Block, change: Change) -> Block {
+    match change {
+        First(value) => resealed(*block, ARRAY_SALT, WORDS_AT, value),
+        Eighth(value) => resealed(*block, ARRAY_SALT, WORDS_AT + 56, value),
+        OneHint => write_array(4, Word::Four, &[9]),
+        SevenWords => write_array(6, Word::Eight, &[0, 0, 0, 0, 0, 0, 0]),
+        ShortIndex => write_leaf(3, &[(0, Root(1))]),
+        GapIndex => write_leaf(3, &[(0, Root(1)), (2, Root(2))]),
+        Damage => damaged(*block, 100),
+        Magic => resealed(*block, Kind::Cache.salt(), 32, 5),
+        Version(version) => of_version(block, version),
+        Hints(root, size) => with_hints(block, root, size),
     }
-    Ok(changed)
 }
 
-/// Checks a cache of which one block is another one.
-fn expect_changed(
+/// `TWO_MAPPED` in this version, with these blocks changed.
+fn changed_cache(
     rt: &impl Abort,
     alloc: Global,
-    image: &[Block],
-    b: usize,
-    block: Block,
-    report: &str,
-) -> Result<(), AllocError> {
-    let changed = with_block(alloc, image, b, block)?;
-    expect_report(rt, alloc, "cache_check", changed.as_slice(), report)
+    version: &[&str],
+    changes: &[(usize, Change)],
+) -> Result<Vec<Block>, AllocError> {
+    let mut image = made(rt, alloc, version, TWO_MAPPED, 16)?;
+    for (b, change) in changes {
+        if *b < image.len() {
+            image[*b] = changed(&image[*b], *change);
+        }
+    }
+    Ok(image)
 }
 
-/// Dumps a cache of which one block is another one.
-fn expect_changed_text(
-    rt: &impl Abort,
-    alloc: Global,
-    image: &[Block],
-    b: usize,
-    block: Block,
-    text: &str,
-) -> Result<(), AllocError> {
-    let changed = with_block(alloc, image, b, block)?;
-    expect(rt, alloc, DUMP, changed.as_slice(), 0, text)
+/// A version, the blocks that are changed, and the fault that a check reports, or the text of a dump.
+type Row = (
+    &'static [&'static str],
+    &'static [(usize, Change)],
+    &'static str,
+);
+
+/// Caches that are clean.
+const CLEAN_ROWS: &[Row] = &[
+    // In the second version the bit of the mapping word isn't looked at. In the first one it is.
+    (SECOND, &[(6, Eighth(0))], CLEAN),
+    (SECOND, &[(6, Eighth(0)), (2, First(524291))], CLEAN),
+    (FIRST, &[(2, First(524289))], CLEAN),
+    // An invalid word has no line, no hint and no origin.
+    (FIRST, &[(2, First(0))], ONE_MAPPED),
+    (FIRST, &[(2, First(458754))], ONE_MAPPED),
+    // Hints past the end of their array are 0.
+    (FIRST, &[(4, OneHint)], ONE_HINT),
+];
+
+/// Caches that break a rule.
+const ROWS: &[Row] = &[
+    // Two origins are one.
+    (FIRST, &[(2, First(458755))], "3 origin"),
+    // A mapping array that is a word short, and an index that leaves a block out.
+    (FIRST, &[(3, ShortIndex)], "3 length"),
+    (FIRST, &[(3, GapIndex)], "3 index"),
+    // A hint block with a changed bit.
+    (FIRST, &[(4, Damage)], "4 checksum"),
+    // Dirty bits have a bit for each block.
+    (SECOND, &[(6, SevenWords)], "7 length"),
+    // A version that isn't known, no dirty bits in the second version, a root outside, and no hints.
+    (SECOND, &[(0, Version(3))], "0 version"),
+    (SECOND, &[(0, Version(2))], "0 pointer"),
+    (SECOND, &[(0, Hints(16, 4))], "0 pointer"),
+    (SECOND, &[(0, Hints(0, 0))], TWO_LEAKS),
+];
+
+/// The text where the last block isn't dirty, where there is none, and where there is one hint.
+const CLEAN: &str =
+    "cache 1\ncache 00000000-0000-0000-0000-000000000000 128 510 1 736d7100000000000000000000000000 2 0 0 4\nmap 0 7 0 5\nmap 509 8 0 6\nend\n";
+
+const ONE_MAPPED: &str =
+    "cache 1\ncache 00000000-0000-0000-0000-000000000000 128 510 1 736d7100000000000000000000000000 2 0 0 4\nmap 0 7 0 5\nend\n";
+
+const ONE_HINT: &str =
+    "cache 1\ncache 00000000-0000-0000-0000-000000000000 128 510 1 736d7100000000000000000000000000 2 0 0 4\nmap 0 7 0 9\nmap 509 8 1 0\nend\n";
+
+const TWO_LEAKS: &str = "4 leak stored 1 references 0\nfault meta 5 leak stored 1 references 0";
+
+/// Checks and dumps a changed cache.
+fn expect_clean(rt: &impl Abort, alloc: Global, row: &Row) -> Result<(), AllocError> {
+    let (version, changes, text) = *row;
+    let image = changed_cache(rt, alloc, version, changes)?;
+    expect_dumped(
+        rt,
+        alloc,
+        ("cache_check", "cache_dump"),
+        image.as_slice(),
+        text,
+    )
+}
+
+#[test]
+fn changed_caches_are_dumped_as_they_are(rt: HostRuntime) -> Result<(), Fail> {
+    for row in CLEAN_ROWS {
+        expect_clean(&rt, rt.alloc(), row)?;
+    }
+    Ok(())
+}
+
+/// Checks a cache that breaks a rule.
+fn expect_broken(rt: &impl Abort, alloc: Global, row: &Row) -> Result<(), AllocError> {
+    let (version, changes, faults) = *row;
+    let image = changed_cache(rt, alloc, version, changes)?;
+    expect_faults_of(rt, alloc, "cache_check", image.as_slice(), faults)
+}
+
+#[test]
+fn rules_that_caches_break(rt: HostRuntime) -> Result<(), Fail> {
+    for row in ROWS {
+        expect_broken(&rt, rt.alloc(), row)?;
+    }
+    Ok(())
 }
 
 /// Restores a text, and checks and dumps the cache.
-fn expect_dumped(
+fn expect_same(
     rt: &impl Abort,
     alloc: Global,
     words: &[&str],
     text: &str,
 ) -> Result<(), AllocError> {
     let image = made(rt, alloc, words, text, 16)?;
-    expect_report(rt, alloc, "cache_check", image.as_slice(), "clean\n")?;
-    expect(rt, alloc, DUMP, image.as_slice(), 0, text)
+    expect_dumped(
+        rt,
+        alloc,
+        ("cache_check", "cache_dump"),
+        image.as_slice(),
+        text,
+    )
 }
 
 #[test]
 fn restored_caches_are_clean_and_dumped_as_they_were(rt: HostRuntime) -> Result<(), Fail> {
-    expect_dumped(&rt, rt.alloc(), FIRST, TWO_MAPPED)?;
-    expect_dumped(&rt, rt.alloc(), SECOND, TWO_MAPPED)?;
-    expect_dumped(&rt, rt.alloc(), FIRST, EMPTY)?;
-    expect_dumped(&rt, rt.alloc(), SECOND, EMPTY)?;
+    for text in [TWO_MAPPED, EMPTY] {
+        expect_same(&rt, rt.alloc(), FIRST, text)?;
+        expect_same(&rt, rt.alloc(), SECOND, text)?;
+    }
     Ok(())
 }
 
@@ -141,183 +269,15 @@ fn words_and_roots_of_the_second_version(rt: HostRuntime) -> Result<(), Fail> {
     Ok(())
 }
 
-/// The text where the last block isn't dirty.
-const CLEAN: &str =
-    "cache 1\ncache 00000000-0000-0000-0000-000000000000 128 510 1 736d7100000000000000000000000000 2 0 0 4\nmap 0 7 0 5\nmap 509 8 0 6\nend\n";
-
-#[test]
-fn dirty_is_what_the_version_says(rt: HostRuntime) -> Result<(), Fail> {
-    let alloc = rt.alloc();
-    // In the second version the bit of the mapping word isn't looked at.
-    let second = made(&rt, alloc, SECOND, TWO_MAPPED, 16)?;
-    let bits = resealed(second[6], ARRAY_SALT, WORDS_AT + 56, 0);
-    expect_changed_text(&rt, alloc, second.as_slice(), 6, bits, CLEAN)?;
-    let word = resealed(second[2], ARRAY_SALT, WORDS_AT, 524291);
-    let undone = with_block(alloc, second.as_slice(), 6, bits)?;
-    expect_changed_text(&rt, alloc, undone.as_slice(), 2, word, CLEAN)?;
-    // In the first one it is.
-    let first = made(&rt, alloc, FIRST, TWO_MAPPED, 16)?;
-    let word = resealed(first[2], ARRAY_SALT, WORDS_AT, 524289);
-    expect_changed_text(&rt, alloc, first.as_slice(), 2, word, CLEAN)?;
-    Ok(())
-}
-
-#[test]
-fn an_invalid_word_has_no_line_and_no_hint(rt: HostRuntime) -> Result<(), Fail> {
-    let alloc = rt.alloc();
-    let image = made(&rt, alloc, FIRST, TWO_MAPPED, 16)?;
-    let word = resealed(image[2], ARRAY_SALT, WORDS_AT, 0);
-    let text =
-        "cache 1\ncache 00000000-0000-0000-0000-000000000000 128 510 1 736d7100000000000000000000000000 2 0 0 4\nmap 0 7 0 5\nend\n";
-    expect_changed(&rt, alloc, image.as_slice(), 2, word, "clean\n")?;
-    expect_changed_text(&rt, alloc, image.as_slice(), 2, word, text)?;
-    Ok(())
-}
-
-#[test]
-#[tactic(auto, unfolding(pd_kinds::specs::Node::is_ascending))]
-fn hints_past_the_end_of_their_array_are_0(rt: HostRuntime) -> Result<(), Fail> {
-    let alloc = rt.alloc();
-    let image = made(&rt, alloc, FIRST, TWO_MAPPED, 16)?;
-    let short = write_array(4, Word::Four, &[9]);
-    let text =
-        "cache 1\ncache 00000000-0000-0000-0000-000000000000 128 510 1 736d7100000000000000000000000000 2 0 0 4\nmap 0 7 0 9\nmap 509 8 1 0\nend\n";
-    expect_changed(&rt, alloc, image.as_slice(), 4, short, "clean\n")?;
-    expect_changed_text(&rt, alloc, image.as_slice(), 4, short, text)?;
-    Ok(())
-}
-
-#[test]
-#[tactic(auto, unfolding(pd_kinds::specs::Node::is_ascending))]
-fn rules_of_whole_caches(rt: HostRuntime) -> Result<(), Fail> {
-    let alloc = rt.alloc();
-    let first = made(&rt, alloc, FIRST, TWO_MAPPED, 16)?;
-    let first = first.as_slice();
-    // Two origins are one.
-    let word = resealed(first[2], ARRAY_SALT, WORDS_AT, 458755);
-    expect_changed(
-        &rt,
-        alloc,
-        first,
-        2,
-        word,
-        "fault meta 3 origin\nfaults 1\n",
-    )?;
-    // Invalid words have no origin.
-    let word = resealed(first[2], ARRAY_SALT, WORDS_AT, 458754);
-    expect_changed(&rt, alloc, first, 2, word, "clean\n")?;
-    // A mapping array that is a word short.
-    let index = write_leaf(3, &[(0, Root(1))]);
-    expect_changed(
-        &rt,
-        alloc,
-        first,
-        3,
-        index,
-        "fault meta 3 length\nfaults 1\n",
-    )?;
-    // An index that leaves a block out.
-    let index = write_leaf(3, &[(0, Root(1)), (2, Root(2))]);
-    expect_changed(
-        &rt,
-        alloc,
-        first,
-        3,
-        index,
-        "fault meta 3 index\nfaults 1\n",
-    )?;
-    // A hint block with a changed bit.
-    let hints = damaged(first[4], 100);
-    expect_changed(
-        &rt,
-        alloc,
-        first,
-        4,
-        hints,
-        "fault meta 4 checksum\nfaults 1\n",
-    )?;
-    Ok(())
-}
-
-#[test]
-#[tactic(auto, unfolding(pd_kinds::specs::Node::is_ascending))]
-fn dirty_bits_have_a_bit_for_each_block(rt: HostRuntime) -> Result<(), Fail> {
-    let second = made(&rt, rt.alloc(), SECOND, TWO_MAPPED, 16)?;
-    let short = write_array(6, Word::Eight, &[0, 0, 0, 0, 0, 0, 0]);
-    let report = "fault meta 7 length\nfaults 1\n";
-    expect_changed(&rt, rt.alloc(), second.as_slice(), 6, short, report)?;
-    Ok(())
-}
-
-/// Checks a cache with other fields of its superblock.
-fn expect_super(
-    rt: &impl Abort,
-    alloc: Global,
-    image: &[Block],
-    fields: CacheSuper,
-    report: &str,
-) -> Result<(), AllocError> {
-    let mut kept = fields;
-    if kept.version != 2 {
-        kept.dirty_root = 0;
-    }
-    expect_changed(rt, alloc, image, 0, write_cache_super(&kept), report)
-}
-
-#[test]
-fn rules_of_the_superblock_of_a_cache(rt: HostRuntime) -> Result<(), Fail> {
-    let alloc = rt.alloc();
-    let image = made(&rt, alloc, SECOND, TWO_MAPPED, 16)?;
-    let sound = read_cache_super(&image[0]);
-    let image = image.as_slice();
-    // A version that isn't known.
-    let mut fields = sound;
-    fields.version = 3;
-    expect_super(
-        &rt,
-        alloc,
-        image,
-        fields,
-        "fault meta 0 version\nfaults 1\n",
-    )?;
-    // No dirty bits in the second version.
-    fields = sound;
-    fields.dirty_root = 0;
-    expect_super(
-        &rt,
-        alloc,
-        image,
-        fields,
-        "fault meta 0 pointer\nfaults 1\n",
-    )?;
-    // A root outside.
-    fields = sound;
-    fields.hint_root = 16;
-    expect_super(
-        &rt,
-        alloc,
-        image,
-        fields,
-        "fault meta 0 pointer\nfaults 1\n",
-    )?;
-    // Without hints.
-    fields = sound;
-    fields.hint_root = 0;
-    fields.hint_size = 0;
-    let leaks =
-        "fault meta 4 leak stored 1 references 0\nfault meta 5 leak stored 1 references 0\nfaults 2\n";
-    expect_super(&rt, alloc, image, fields, leaks)?;
-    Ok(())
-}
-
 #[test]
 fn a_dump_reports_faults_and_says_which_object_failed(rt: HostRuntime) -> Result<(), Fail> {
     let alloc = rt.alloc();
-    let image = made(&rt, alloc, FIRST, TWO_MAPPED, 16)?;
-    let broken = with_block(alloc, image.as_slice(), 4, damaged(image[4], 100))?;
+    let broken = changed_cache(&rt, alloc, FIRST, &[(4, Damage)])?;
     let report = "fault meta 4 checksum\nfaults 1\n";
     expect_fault_in_notes(&rt, alloc, DUMP, broken.as_slice(), report)?;
-    expect_out_fault(&rt, alloc, DUMP, image.as_slice())?;
+    let image = made(&rt, alloc, FIRST, TWO_MAPPED, 16)?;
+    let status = status_in(alloc, DUMP, image.as_slice(), Trouble::Out, 1)?;
+    assert!(rt; status == 6);
     Ok(())
 }
 
@@ -335,18 +295,27 @@ fn each_call_of_the_device_of_a_cache_may_fail(rt: HostRuntime) -> Result<(), Fa
     Ok(())
 }
 
+/// Checks caches up to this stage, a sound one and one whose superblock breaks a rule.
+fn expect_stage(rt: &impl Abort, alloc: Global, stage: &str) -> Result<(), AllocError> {
+    let words = ["cache_check", "--until", stage, "image"];
+    let image = changed_cache(rt, alloc, SECOND, &[])?;
+    expect(rt, alloc, &words, image.as_slice(), 0, "clean\n")?;
+    let broken = changed_cache(rt, alloc, SECOND, &[(0, Magic)])?;
+    expect(
+        rt,
+        alloc,
+        &words,
+        broken.as_slice(),
+        1,
+        "fault meta 0 magic\nfaults 1\n",
+    )
+}
+
+// What a superblock breaks is reported by each of them.
 #[test]
 fn stages_of_a_check(rt: HostRuntime) -> Result<(), Fail> {
-    let alloc = rt.alloc();
-    let image = made(&rt, alloc, SECOND, TWO_MAPPED, 16)?;
-    // What a superblock breaks is reported by each of them.
-    let magic = resealed(image[0], Kind::Cache.salt(), 32, 5);
-    let broken = with_block(alloc, image.as_slice(), 0, magic)?;
-    let report = "fault meta 0 magic\nfaults 1\n";
     for stage in ["super", "walk", "order", "whole", "counts"] {
-        let words = ["cache_check", "--until", stage, "image"];
-        expect(&rt, alloc, &words, image.as_slice(), 0, "clean\n")?;
-        expect(&rt, alloc, &words, broken.as_slice(), 1, report)?;
+        expect_stage(&rt, rt.alloc(), stage)?;
     }
     Ok(())
 }

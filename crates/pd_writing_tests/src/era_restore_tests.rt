@@ -1,7 +1,9 @@
 //! Restores of era targets: what is restored, what is refused, and what the output holds then.
 
+use crate::expected::End::{Done, NoRoom, Refused};
+use crate::expected::Left::{Closed, Old, Written};
 use crate::expected::{
-    ERA, First, Row, expect_output_faults, expect_restored, expect_source_fault,
+    ERA, Left, Row, expect_output_faults, expect_restored, left_by_source_fault,
 };
 use crate::targets::{EMPTY, WRITTEN};
 use std::test::Fail;
@@ -15,48 +17,19 @@ const SHORT: &str = "era 1\nera 00000000-0000-0000-0000-000000000000 128 100 9\n
 
 /// Restores, with what they come to.
 const ROWS: &[Row] = &[
-    (ERA, WRITTEN, 7, 0, "", First::Made),
-    (
-        ERA,
-        WRITTEN,
-        6,
-        4,
-        "pdata_tools: no room: need 7, blocks 6\n",
-        First::Untouched,
-    ),
-    (ERA, EMPTY, 6, 0, "", First::Made),
-    (
-        ERA,
-        GAP,
-        16,
-        3,
-        "pdata_tools: line 4: order\n",
-        First::Closed,
-    ),
-    (
-        ERA,
-        SHORT,
-        16,
-        3,
-        "pdata_tools: line 4: mapped differs\n",
-        First::Closed,
-    ),
+    (ERA, WRITTEN, 7, Done(""), Written),
+    (ERA, WRITTEN, 6, NoRoom(7, 6), Old),
+    (ERA, EMPTY, 6, Done(""), Written),
+    (ERA, GAP, 16, Refused(4, "order"), Closed),
+    (ERA, SHORT, 16, Refused(4, "mapped differs"), Closed),
     (
         ERA,
         "era 1\nera 00000000-0000-0000-0000-000000000000 128 x 9\n",
         16,
-        3,
-        "pdata_tools: line 2: number\n",
-        First::Untouched,
+        Refused(2, "number"),
+        Old,
     ),
-    (
-        ERA,
-        "cache 1\n",
-        16,
-        3,
-        "pdata_tools: line 1: header\n",
-        First::Untouched,
-    ),
+    (ERA, "cache 1\n", 16, Refused(1, "header"), Old),
 ];
 
 #[test]
@@ -70,7 +43,8 @@ fn restores_of_targets_come_to_their_status(rt: HostRuntime) -> Result<(), Fail>
 #[test]
 fn a_source_of_a_target_that_fails_is_blamed(rt: HostRuntime) -> Result<(), Fail> {
     for call in 0..16 {
-        expect_source_fault(&rt, rt.alloc(), ERA, WRITTEN, call)?;
+        let left = left_by_source_fault(&rt, rt.alloc(), ERA, WRITTEN, call)?;
+        assert!(rt; left != Left::Written, "{call}");
     }
     Ok(())
 }

@@ -2,8 +2,13 @@
 
 ghost use Rattle.std.specs.Prelude.{◌<◌};
 
+use crate::era_tests::Change::{
+    CurrentBits, Damage, LateIndex, LateWriteset, NoCurrent, OneMoreBit, ShortArray, ShortWriteset,
+    Version,
+};
 use crate::expected::{
-    ERA, expect, expect_device_faults, expect_fault_in_notes, expect_out_fault, expect_report, made,
+    ERA, Trouble, expect, expect_device_faults, expect_dumped, expect_fault_in_notes,
+    expect_faults_of, expect_said, made, status_in,
 };
 use crate::targets::{EMPTY, SUPER, WRITTEN, writeset, written_target, zero_words};
 use pd_array::{Word, write_array};
@@ -12,7 +17,7 @@ use pd_crc::seal;
 use pd_kinds::{Block, EraSuper, Kind, put_u32, put_u64};
 use pd_node::{write_inner, write_leaf};
 use pd_samples::pool::{NODE_SALT, bitmap, damaged, index, index_entry, resealed};
-use pd_samples::runs::{Failing, NOTHING_FAILS, run};
+use pd_samples::runs::run;
 use pd_supers::write_era_super;
 use pd_value::{Count, Root, Writeset};
 use std::alloc::{AllocError, Global};
@@ -25,13 +30,8 @@ const CHECK: &str = "era_check";
 /// The words of a dump.
 const DUMP: &[&str] = &["era_dump", "image"];
 
-#[test]
-fn eras_are_the_greatest_of_all_writesets(rt: HostRuntime) -> Result<(), Fail> {
-    let image = written_target();
-    expect_report(&rt, rt.alloc(), CHECK, &image, "clean\n")?;
-    expect(&rt, rt.alloc(), DUMP, &image, 0, WRITTEN)?;
-    Ok(())
-}
+/// Both tools.
+const TOOLS: (&str, &str) = ("era_check", "era_dump");
 
 /// Asks for the blocks of that target that were written since an era.
 fn expect_since(rt: &impl Abort, alloc: Global, era: &str, lines: &str) -> Result<(), AllocError> {
@@ -49,100 +49,118 @@ fn blocks_that_were_written_since_an_era(rt: HostRuntime) -> Result<(), Fail> {
 }
 
 /// Restores a text onto so many blocks, and checks and dumps the target.
-fn expect_dumped(
+fn expect_same(
     rt: &impl Abort,
     alloc: Global,
     text: &str,
     blocks: usize,
 ) -> Result<(), AllocError> {
     let image = made(rt, alloc, ERA, text, blocks)?;
-    expect_report(rt, alloc, CHECK, image.as_slice(), "clean\n")?;
-    expect(rt, alloc, DUMP, image.as_slice(), 0, text)
+    expect_dumped(rt, alloc, TOOLS, image.as_slice(), text)
 }
 
 #[test]
 fn a_dump_is_restored_to_a_target_that_dumps_the_same(rt: HostRuntime) -> Result<(), Fail> {
-    expect_dumped(&rt, rt.alloc(), WRITTEN, 7)?;
-    expect_dumped(&rt, rt.alloc(), EMPTY, 6)?;
+    expect_same(&rt, rt.alloc(), WRITTEN, 7)?;
+    expect_same(&rt, rt.alloc(), EMPTY, 6)?;
     Ok(())
 }
 
-#[test]
+/// How a block of that target is changed.
+#[derive(Clone, Copy)]
+enum Change {
+    /// The bits of the current writeset.
+    CurrentBits(u32),
+    /// The version.
+    Version(u32),
+    /// There is no current writeset.
+    NoCurrent,
+    /// The era array has a word less.
+    ShortArray,
+    /// A writeset has less bits than its array.
+    ShortWriteset,
+    /// A writeset's era is past the last one.
+    LateWriteset,
+    /// A writeset's array begins with its second block.
+    LateIndex,
+    /// A bit past those of the current writeset is set, too.
+    OneMoreBit,
+    /// One bit of the current writeset's block is another one.
+    Damage,
+}
+
+/// The superblock of that target, with these in place of its own.
+fn super_of(version: u32, current_bits: u32, current_root: u64) -> Block {
+    write_era_super(&EraSuper {
+        version,
+        current_bits,
+        current_root,
+        ..SUPER
+    })
+}
+
+/// The block that is changed so, and its place.
 #[tactic(auto, unfolding(pd_kinds::specs::Node::is_ascending))]
-fn bits_past_those_of_a_writeset_do_not_count(rt: HostRuntime) -> Result<(), Fail> {
-    let mut image = written_target();
-    image[0] = write_era_super(&EraSuper {
-        current_bits: 70,
-        ..SUPER
-    });
-    image[12] = write_array(12, Word::Eight, &[0, 65537]);
-    expect_report(&rt, rt.alloc(), CHECK, &image, "clean\n")?;
-    expect(&rt, rt.alloc(), DUMP, &image, 0, WRITTEN)?;
-    image[0] = write_era_super(&EraSuper {
-        current_bits: 60,
-        ..SUPER
-    });
-    expect_report(
-        &rt,
-        rt.alloc(),
-        CHECK,
-        &image,
-        "fault meta 11 length\nfaults 1\n",
-    )?;
-    Ok(())
+fn changed(change: Change) -> (usize, Block) {
+    let short = Writeset { bits: 60, root: 7 };
+    match change {
+        CurrentBits(bits) => (0, super_of(1, bits, 11)),
+        Version(version) => (0, super_of(version, 100, 11)),
+        NoCurrent => (0, super_of(1, 100, 0)),
+        ShortArray => (1, zero_words(1, 99)),
+        ShortWriteset => (3, write_leaf(3, &[(3, short), (5, writeset(9))])),
+        LateWriteset => (
+            3,
+            write_leaf(3, &[(3, writeset(7)), (4294967296, writeset(9))]),
+        ),
+        LateIndex => (7, write_leaf(7, &[(1, Root(8))])),
+        OneMoreBit => (12, write_array(12, Word::Eight, &[0, 65537])),
+        Damage => (12, damaged(write_array(12, Word::Eight, &[0, 1]), 100)),
+    }
 }
 
-/// A target whose block b is another one.
-fn with_block(b: usize, block: Block) -> [Block; 16]
-    requires { b < 16 }
-{
+/// That target with these blocks changed.
+fn changed_target(changes: &[Change]) -> [Block; 16] {
     let mut image = written_target();
-    image[b] = block;
+    for change in changes {
+        let (b, block) = changed(*change);
+        if b < 16 {
+            image[b] = block;
+        }
+    }
     image
 }
 
-/// Checks a target of which block b is another one.
-fn expect_broken(
-    rt: &impl Abort,
-    alloc: Global,
-    b: usize,
-    block: Block,
-    report: &str,
-) -> Result<(), AllocError>
-    requires { b < 16 }
-{
-    expect_report(rt, alloc, CHECK, &with_block(b, block), report)
-}
+/// What is changed of a target that is clean and is dumped the same: nothing, or bits past those of a writeset.
+const CLEAN_ROWS: &[&[Change]] = &[&[], &[CurrentBits(70), OneMoreBit]];
+
+/// What is changed of that target, and the fault that a check reports.
+const ROWS: &[(&[Change], &str)] = &[
+    (&[CurrentBits(60), OneMoreBit], "11 length"),
+    (&[ShortArray], "2 length"),
+    (&[ShortWriteset], "7 length"),
+    (&[LateIndex], "7 index"),
+    (&[LateWriteset], "3 beyond"),
+    (&[Damage], "12 checksum"),
+    (&[Version(2)], "0 version"),
+    (&[NoCurrent], TWO_LEAKS),
+];
+
+const TWO_LEAKS: &str = "11 leak stored 1 references 0\nfault meta 12 leak stored 1 references 0";
 
 #[test]
-#[tactic(auto, unfolding(pd_kinds::specs::Node::is_ascending))]
-fn rules_that_targets_break(rt: HostRuntime) -> Result<(), Fail> {
-    let alloc = rt.alloc();
-    let words = zero_words(1, 99);
-    expect_broken(&rt, alloc, 1, words, "fault meta 2 length\nfaults 1\n")?;
-    let short = Writeset { bits: 60, root: 7 };
-    let writesets = write_leaf(3, &[(3, short), (5, writeset(9))]);
-    expect_broken(&rt, alloc, 3, writesets, "fault meta 7 length\nfaults 1\n")?;
-    let index = write_leaf(7, &[(1, Root(8))]);
-    expect_broken(&rt, alloc, 7, index, "fault meta 7 index\nfaults 1\n")?;
-    let writesets = write_leaf(3, &[(3, writeset(7)), (4294967296, writeset(9))]);
-    expect_broken(&rt, alloc, 3, writesets, "fault meta 3 beyond\nfaults 1\n")?;
-    let words = damaged(write_array(12, Word::Eight, &[0, 1]), 100);
-    expect_broken(&rt, alloc, 12, words, "fault meta 12 checksum\nfaults 1\n")?;
+fn eras_are_the_greatest_of_all_writesets(rt: HostRuntime) -> Result<(), Fail> {
+    for changes in CLEAN_ROWS {
+        expect_dumped(&rt, rt.alloc(), TOOLS, &changed_target(changes), WRITTEN)?;
+    }
     Ok(())
 }
 
 #[test]
-fn rules_of_the_superblock_of_a_target(rt: HostRuntime) -> Result<(), Fail> {
-    let mut fields = SUPER;
-    fields.version = 2;
-    let report = "fault meta 0 version\nfaults 1\n";
-    expect_broken(&rt, rt.alloc(), 0, write_era_super(&fields), report)?;
-    fields = SUPER;
-    fields.current_root = 0;
-    let report =
-        "fault meta 11 leak stored 1 references 0\nfault meta 12 leak stored 1 references 0\nfaults 2\n";
-    expect_broken(&rt, rt.alloc(), 0, write_era_super(&fields), report)?;
+fn rules_that_targets_break(rt: HostRuntime) -> Result<(), Fail> {
+    for (changes, faults) in ROWS {
+        expect_faults_of(&rt, rt.alloc(), CHECK, &changed_target(changes), faults)?;
+    }
     Ok(())
 }
 
@@ -175,18 +193,25 @@ fn target_with_snapshot(bits: u32) -> [Block; 18] {
 
 #[test]
 fn trees_of_a_snapshot_are_checked_and_do_not_count(rt: HostRuntime) -> Result<(), Fail> {
-    let image = target_with_snapshot(100);
-    expect_report(&rt, rt.alloc(), CHECK, &image, "clean\n")?;
-    expect(&rt, rt.alloc(), DUMP, &image, 0, WRITTEN)?;
-    let image = target_with_snapshot(60);
-    expect_report(
+    expect_dumped(&rt, rt.alloc(), TOOLS, &target_with_snapshot(100), WRITTEN)?;
+    expect_faults_of(
         &rt,
         rt.alloc(),
         CHECK,
-        &image,
-        "fault meta 7 length\nfaults 1\n",
+        &target_with_snapshot(60),
+        "7 length",
     )?;
     Ok(())
+}
+
+/// Puts an era and its writeset, of a hundred bits and the root 7, into these places.
+fn put_writeset(block: &mut Block, key_at: usize, value_at: usize, era: u64)
+    requires key { key_at < 4000 }
+    requires value { value_at < 4080 }
+{
+    put_u64(&mut block.0, key_at, era);
+    put_u32(&mut block.0, value_at, 100);
+    put_u64(&mut block.0, value_at + 4, 7);
 }
 
 /// A leaf of two hundred writesets of the root 7, of the eras from this one on.
@@ -196,9 +221,7 @@ fn two_hundred_writesets(place: u64, first: u64) -> Block
 {
     let mut block = write_leaf(place, &[(first, writeset(7))]);
     for i in 0..200 {
-        put_u64(&mut block.0, 32 + 8 * i, first + i as u64);
-        put_u32(&mut block.0, 32 + 8 * 201 + 12 * i, 100);
-        put_u64(&mut block.0, 32 + 8 * 201 + 12 * i + 4, 7);
+        put_writeset(&mut block, 32 + 8 * i, 1640 + 12 * i, first + i as u64);
     }
     put_u32(&mut block.0, 16, 200);
     seal(&mut block, NODE_SALT);
@@ -233,13 +256,8 @@ fn a_thousand_writesets_over_one_array(rt: HostRuntime) -> Result<(), Fail> {
     let image = thousand_writesets();
     // Fourteen blocks are in one role each, so at most 85 reads follow the call that attaches the image: a failure of the
     // next call shows nowhere.
-    let failing = Failing {
-        input: Some(87),
-        ..NOTHING_FAILS
-    };
-    let ran = run(rt.alloc(), &[CHECK, "image"], &image, failing)?;
-    assert!(rt; ran.out.bytes() == b"clean\n".as_slice());
-    assert!(rt; ran.status == 0);
+    let ran = run(rt.alloc(), &[CHECK, "image"], &image, Trouble::Input.at(87))?;
+    expect_said(&rt, &ran, 0, "clean\n", "");
     let text =
         "era 1\nera 00000000-0000-0000-0000-000000000000 128 100 2000\nrun 0 3 0\nrun 3 1 1000\nrun 4 96 0\nend\n";
     expect(&rt, rt.alloc(), DUMP, &image, 0, text)?;
@@ -261,12 +279,13 @@ fn each_call_of_the_device_of_a_target_may_fail(rt: HostRuntime) -> Result<(), F
 #[test]
 fn a_query_reports_faults_and_says_that_out_failed(rt: HostRuntime) -> Result<(), Fail> {
     let alloc = rt.alloc();
+    let broken = changed_target(&[Damage]);
     let image = written_target();
-    let broken = with_block(12, damaged(image[12], 100));
     let report = "fault meta 12 checksum\nfaults 1\n";
-    expect_fault_in_notes(&rt, alloc, DUMP, &broken, report)?;
-    expect_fault_in_notes(&rt, alloc, SINCE, &broken, report)?;
-    expect_out_fault(&rt, alloc, DUMP, &image)?;
-    expect_out_fault(&rt, alloc, SINCE, &image)?;
+    for words in [DUMP, SINCE] {
+        expect_fault_in_notes(&rt, alloc, words, &broken, report)?;
+        let status = status_in(alloc, words, &image, Trouble::Out, 1)?;
+        assert!(rt; status == 6);
+    }
     Ok(())
 }

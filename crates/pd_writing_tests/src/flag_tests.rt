@@ -1,7 +1,6 @@
 //! Checks that clear the flag "needs check" of a pool's superblock.
 
-use crate::expected::expect_held;
-use crate::made::PICKS;
+use crate::expected::{PICKS, Trouble, expect_held};
 use pd_crc::any_valid;
 use pd_image::Pick;
 use pd_kinds::Block;
@@ -88,11 +87,7 @@ fn the_flag_alone_is_cleared_where_a_whole_check_found_nothing(
 
 /// Checks a pool with this call of `out` failing, which leaves the flag.
 fn expect_kept(rt: &impl Abort, alloc: Global, call: u64) -> Result<(), AllocError> {
-    let failing = Failing {
-        out: Some(call),
-        ..NOTHING_FAILS
-    };
-    let ran = run(alloc, CLEAR, &flagged(1, false), failing)?;
+    let ran = run(alloc, CLEAR, &flagged(1, false), Trouble::Out.at(call))?;
     assert!(rt; ran.status == 6, "{call}");
     expect_held(rt, alloc, &ran.input, &flagged(1, false), "the flag")
 }
@@ -139,16 +134,8 @@ fn fails_late(rt: &impl Abort, alloc: Global, failing: Failing) -> Result<bool, 
 /// How often the device fails after the report was put, of a check in which this call of it fails, and one before
 /// which it stops.
 fn late_failures(rt: &impl Abort, alloc: Global, call: u64) -> Result<u32, AllocError> {
-    let fails = Failing {
-        input: Some(call),
-        ..NOTHING_FAILS
-    };
-    let stops = Failing {
-        input_stops_after: call,
-        ..NOTHING_FAILS
-    };
-    let failed = fails_late(rt, alloc, fails)?;
-    let stopped = fails_late(rt, alloc, stops)?;
+    let failed = fails_late(rt, alloc, Trouble::Input.at(call))?;
+    let stopped = fails_late(rt, alloc, Trouble::InputStops.at(call))?;
     Ok(failed as u32 + stopped as u32)
 }
 

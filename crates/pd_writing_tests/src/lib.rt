@@ -8,6 +8,8 @@ mod cache_restore_tests;
 #[cfg(test)]
 mod cache_tests;
 #[cfg(test)]
+mod devices;
+#[cfg(test)]
 mod era_restore_tests;
 #[cfg(test)]
 mod era_tests;
@@ -17,8 +19,6 @@ mod expected;
 mod flag_tests;
 #[cfg(test)]
 mod lost;
-#[cfg(test)]
-mod made;
 #[cfg(test)]
 mod repair_tests;
 #[cfg(test)]

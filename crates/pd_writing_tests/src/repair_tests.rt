@@ -1,7 +1,11 @@
 //! Repairs of damaged pools: what is kept, what is refused, and what the output holds then.
 
-use crate::expected::{ONES, expect, expect_held, expect_report, expect_said};
-use crate::made::{Left, ONE_MAPPING, PICKS, left_by, pool_of};
+ghost use Rattle.std.specs.Prelude.{◌<◌};
+
+use crate::expected::{
+    ONE_MAPPING, ONES, Trouble, expect_dumped, expect_held, expect_output_fault, expect_report,
+    expect_said, pool_of,
+};
 use pd_bitmap::{seal_bitmap, set_two_bits};
 use pd_kinds::Block;
 use pd_node::write_inner;
@@ -22,9 +26,6 @@ const THREE_LEAVES: &str =
 /// The tool that checks.
 const CHECK: &str = "thin_check";
 
-/// The words of a dump.
-const DUMP: &[&str] = &["thin_dump", "image"];
-
 /// Repairs an image onto these blocks.
 fn repair(
     alloc: Global,
@@ -38,12 +39,8 @@ fn repair(
         output: base,
         third: &[],
     };
-    run_over(
-        alloc,
-        &["thin_repair", "-i", "image", "-o", "repaired"],
-        held,
-        failing,
-    )
+    let words = ["thin_repair", "-i", "image", "-o", "repaired"];
+    run_over(alloc, &words, held, failing)
 }
 
 /// Repairs an image onto sixteen blocks of ones, where this must be the text of the pool that is made.
@@ -57,8 +54,7 @@ fn expect_saved(
     expect_said(rt, &repaired, 0, "", "");
     expect_held(rt, alloc, &repaired.input, image, text)?;
     let made = blocks_of(alloc, &repaired.output)?;
-    expect_report(rt, alloc, CHECK, made.as_slice(), "clean\n")?;
-    expect(rt, alloc, DUMP, made.as_slice(), 0, text)
+    expect_dumped(rt, alloc, (CHECK, "thin_dump"), made.as_slice(), text)
 }
 
 /// Repairs an image onto these blocks, which the repair refuses by this status and notes, with nothing written.
@@ -84,48 +80,88 @@ fn sound_pools_are_kept_whole(rt: HostRuntime) -> Result<(), Fail> {
     Ok(())
 }
 
+/// The pool of this text with one block damaged.
+fn broken_pool(
+    rt: &impl Abort,
+    alloc: Global,
+    text: &str,
+    b: usize,
+) -> Result<Vec<Block>, AllocError>
+    requires { b < 16 }
+{
+    let mut image = pool_of(rt, alloc, text, 16)?;
+    image[b] = damaged(image[b], 100);
+    Ok(image)
+}
+
+/// Pools, the block that is damaged, and the text of what is kept: a device without details has the transaction of its pool,
+/// nothing is kept below a damaged mapping tree, and the other leaves of a device are kept.
+const BROKEN: &[(&str, usize, &str)] = &[
+    (ONE, 3, WITHOUT_DETAILS),
+    (ONE, 2, WITHOUT_DEVICES),
+    (THREE_LEAVES, 2, TWO_OF_THREE_LEAVES),
+];
+
+const WITHOUT_DETAILS: &str =
+    "thin 1\npool 00000000-0000-0000-0000-000000000000 0 7 128 1\ndevice 1 1 7 0 0\nmap 0 0 1 0\nend\n";
+
+const WITHOUT_DEVICES: &str = "thin 1\npool 00000000-0000-0000-0000-000000000000 0 7 128 1\nend\n";
+
+const TWO_OF_THREE_LEAVES: &str =
+    "thin 1\npool 00000000-0000-0000-0000-000000000000 0 0 128 600\ndevice 1 400 0 0 0\nmap 0 0 200 0\nmap 400 400 200 0\nend\n";
+
 #[test]
-fn a_device_without_details_has_the_transaction_of_its_pool(rt: HostRuntime) -> Result<(), Fail> {
-    let mut image = pool_of(&rt, rt.alloc(), ONE, 16)?;
-    image[3] = damaged(image[3], 100);
-    let text =
-        "thin 1\npool 00000000-0000-0000-0000-000000000000 0 7 128 1\ndevice 1 1 7 0 0\nmap 0 0 1 0\nend\n";
-    expect_saved(&rt, rt.alloc(), image.as_slice(), text)?;
+fn what_is_not_damaged_is_kept(rt: HostRuntime) -> Result<(), Fail> {
+    for (text, b, kept) in BROKEN {
+        assert!(rt; *b < 16);
+        let image = broken_pool(&rt, rt.alloc(), text, *b)?;
+        expect_saved(&rt, rt.alloc(), image.as_slice(), kept)?;
+    }
     Ok(())
 }
 
-#[test]
-fn nothing_is_kept_below_a_damaged_mapping_tree(rt: HostRuntime) -> Result<(), Fail> {
-    let mut image = pool_of(&rt, rt.alloc(), ONE, 16)?;
-    image[2] = damaged(image[2], 100);
-    let text = "thin 1\npool 00000000-0000-0000-0000-000000000000 0 7 128 1\nend\n";
-    expect_saved(&rt, rt.alloc(), image.as_slice(), text)?;
-    Ok(())
+/// A repair of the pool of three leaves with this block damaged is refused.
+fn expect_none(
+    rt: &impl Abort,
+    alloc: Global,
+    b: usize,
+    base: &[Block],
+    status: u8,
+    notes: &str,
+) -> Result<(), AllocError>
+    requires { b < 16 }
+{
+    let image = broken_pool(rt, alloc, THREE_LEAVES, b)?;
+    expect_refused(rt, alloc, image.as_slice(), base, status, notes)
 }
 
+// The need is looked at before anything is written.
 #[test]
-fn the_other_leaves_of_a_device_are_kept(rt: HostRuntime) -> Result<(), Fail> {
-    let mut image = pool_of(&rt, rt.alloc(), THREE_LEAVES, 16)?;
-    image[2] = damaged(image[2], 100);
-    let text =
-        "thin 1\npool 00000000-0000-0000-0000-000000000000 0 0 128 600\ndevice 1 400 0 0 0\nmap 0 0 200 0\nmap 400 400 200 0\nend\n";
-    expect_saved(&rt, rt.alloc(), image.as_slice(), text)?;
-    // The need is looked at before anything is written.
-    let base = [ONES; 11];
+fn a_repaired_pool_needs_room(rt: HostRuntime) -> Result<(), Fail> {
     let notes = "pdata_tools: no room: need 12, blocks 11\n";
-    expect_refused(&rt, rt.alloc(), image.as_slice(), &base, 4, notes)?;
+    expect_none(&rt, rt.alloc(), 2, &[ONES; 11], 4, notes)?;
     Ok(())
 }
 
 #[test]
 fn a_superblock_with_faults_is_reported(rt: HostRuntime) -> Result<(), Fail> {
-    let mut image = pool_of(&rt, rt.alloc(), THREE_LEAVES, 16)?;
-    image[0] = damaged(image[0], 100);
     let base = [ONES; 16];
-    let notes = "fault meta 0 checksum\nfaults 1\n";
-    expect_refused(&rt, rt.alloc(), image.as_slice(), &base, 1, notes)?;
-    let notes = "fault meta 0 size\nfaults 1\n";
-    expect_refused(&rt, rt.alloc(), &[], &base, 1, notes)?;
+    expect_none(
+        &rt,
+        rt.alloc(),
+        0,
+        &base,
+        1,
+        "fault meta 0 checksum\nfaults 1\n",
+    )?;
+    expect_refused(
+        &rt,
+        rt.alloc(),
+        &[],
+        &base,
+        1,
+        "fault meta 0 size\nfaults 1\n",
+    )?;
     Ok(())
 }
 
@@ -177,17 +213,13 @@ fn is_past_input(
     base: &[Block],
     call: u64,
 ) -> Result<bool, AllocError> {
-    let failing = Failing {
-        input: Some(call),
-        ..NOTHING_FAILS
-    };
-    let ran = repair(alloc, image, base, failing)?;
-    if ran.status == 0 {
-        return Ok(true);
+    let ran = repair(alloc, image, base, Trouble::Input.at(call))?;
+    let is_past = ran.status == 0;
+    assert!(rt; is_past | (ran.status == 5), "{call}");
+    if !is_past {
+        expect_held(rt, alloc, &ran.output, base, "the output")?;
     }
-    assert!(rt; ran.status == 5, "{call}");
-    expect_held(rt, alloc, &ran.output, base, "the output")?;
-    Ok(false)
+    Ok(is_past)
 }
 
 #[test]
@@ -213,20 +245,12 @@ fn is_past_output(
     new: &[Block],
     call: u64,
 ) -> Result<bool, AllocError> {
-    let failing = Failing {
-        output: Some(call),
-        ..NOTHING_FAILS
-    };
-    let ran = repair(alloc, image, base, failing)?;
-    if ran.status == 0 {
-        return Ok(true);
+    let ran = repair(alloc, image, base, Trouble::Output.at(call))?;
+    let is_past = ran.status == 0;
+    if !is_past {
+        expect_output_fault(rt, alloc, &ran, base, new)?;
     }
-    assert!(rt; ran.status == 5, "{call}");
-    for pick in PICKS {
-        let left = left_by(alloc, &ran.output, *pick, base, new)?;
-        assert!(rt; left != Left::Other, "{call}");
-    }
-    Ok(false)
+    Ok(is_past)
 }
 
 #[test]

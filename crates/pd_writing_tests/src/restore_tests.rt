@@ -1,19 +1,17 @@
 //! Whole runs of `thin_restore` over objects in memory: what is restored, what is refused, and what the output holds then.
 
+use crate::expected::End::{Done, NoRoom, Refused};
+use crate::expected::Left::{Closed, Old, Written};
 use crate::expected::{
-    First, ONES, THIN, expect, expect_output_faults, expect_report, expect_restored, expect_said,
-    left_of, made, made_over, restore,
+    Left, ONE_MAPPING, ONES, PICKS, Row, THIN, Trouble, expect, expect_output_faults,
+    expect_restored, expect_said, left_by, left_by_source_fault, left_of, made, made_over, restore,
 };
-use crate::made::{Left, ONE_MAPPING, PICKS, left_by};
 use pd_kinds::Block;
 use pd_samples::pool::{bitmap, empty_pool, pool_of_one_mapping};
-use pd_samples::runs::{self, Failing, NOTHING_FAILS, blocks_of, restored};
+use pd_samples::runs::{self, NOTHING_FAILS, blocks_of, restored};
 use std::alloc::{AllocError, Global};
 use std::process::Abort;
 use std::test::Fail;
-
-/// A text, the blocks of the output, and the status, the notes and what is left.
-type Row = (&'static str, usize, u8, &'static str, First);
 
 /// The pool without a mapping.
 const EMPTY: &str = "thin 1\npool 00000000-0000-0000-0000-000000000000 0 0 128 0\nend\n";
@@ -33,124 +31,53 @@ const FULL_LEAF: &str =
 const LONG: &str =
     "thin 1\npool 00000000-0000-0000-0000-000000000000 0 0 128 0\nxxxxxxxxxxxxxxxxxxxxxxxxxxxxxxxxxxxxxxxxxxxxxxxxxxxxxxxxxxxxxxxxxxxxxxxxxxxxxxxxxxxxxxxxxxxxxxxxxxxxxxxxxxxxxxxxxxxxxxxxxxxxxxxxxxxxxxxxxxxxxxxxxxxxxxxxxxxxxxxxx\n";
 
+/// A pool of more data blocks than there is room for.
+const HUGE: &str =
+    "thin 1\npool 00000000-0000-0000-0000-000000000000 0 0 128 1099511627776\ndevice 1 1099511627776 0 0 0\nmap 0 0 1099511627776 0\nend\n";
+
+/// Texts that are refused.
+const NO_END: &str = "thin 1\npool 00000000-0000-0000-0000-000000000000 0 0 128 0\n";
+
+const AFTER_END: &str = "thin 1\npool 00000000-0000-0000-0000-000000000000 0 0 128 0\nend\nx";
+
+const TOO_FEW: &str =
+    "thin 1\npool 00000000-0000-0000-0000-000000000000 0 0 128 2\ndevice 1 2 0 0 0\nmap 0 0 1 0\nend\n";
+
+const NO_NUMBER: &str =
+    "thin 1\npool 00000000-0000-0000-0000-000000000000 0 0 128 1\ndevice 1 1 0 0 0\nmap 0 0 01 0\nend\n";
+
+const NO_SIZE: &str = "thin 1\npool 00000000-0000-0000-0000-000000000000 0 0 128 x\n";
+
+const NO_WORD: &str =
+    "thin 1\npool 00000000-0000-0000-0000-000000000000 0 0 128 1\ndevice 1 1 0 0 0\nmap 0 0 1 0\nx\n";
+
 /// Restores, with what they come to.
 const ROWS: &[Row] = &[
-    (TWO_LEAVES, 12, 0, "", First::Made),
-    (
-        TWO_LEAVES,
-        11,
-        4,
-        "pdata_tools: no room: need 12, blocks 11\n",
-        First::Closed,
-    ),
-    (FULL_LEAF, 10, 0, "", First::Made),
-    (
-        FULL_LEAF,
-        9,
-        4,
-        "pdata_tools: no room: need 10, blocks 9\n",
-        First::Closed,
-    ),
-    (
-        EMPTY,
-        0,
-        4,
-        "pdata_tools: no room: need 7, blocks 0\n",
-        First::Untouched,
-    ),
-    (
-        WIDE,
-        6173,
-        4,
-        "pdata_tools: no room: need 6174, blocks 6173\n",
-        First::Closed,
-    ),
-    (EMPTY, 8, 0, "", First::Made),
-    (
-        EMPTY,
-        7,
-        4,
-        "pdata_tools: no room: need 8, blocks 7\n",
-        First::Untouched,
-    ),
-    (ONE_MAPPING, 16, 0, "", First::Made),
-    (
-        ONE_MAPPING,
-        9,
-        4,
-        "pdata_tools: no room: need 10, blocks 9\n",
-        First::Closed,
-    ),
-    (
-        "thin 1\npool 00000000-0000-0000-0000-000000000000 0 0 128 1099511627776\ndevice 1 1099511627776 0 0 0\nmap 0 0 1099511627776 0\nend\n",
-        1000,
-        4,
-        "pdata_tools: no room: need 67774669, blocks 1000\n",
-        First::Untouched,
-    ),
-    (
-        "thin 1\npool 00000000-0000-0000-0000-000000000000 0 0 128 0\n",
-        100,
-        3,
-        "pdata_tools: line 3: no end\n",
-        First::Closed,
-    ),
-    (
-        LONG,
-        100,
-        3,
-        "pdata_tools: line 3: too long\n",
-        First::Closed,
-    ),
-    (
-        "thin 1\npool 00000000-0000-0000-0000-000000000000 0 0 128 0\nend\nx",
-        100,
-        3,
-        "pdata_tools: line 4: after end\n",
-        First::Closed,
-    ),
-    (
-        "thin 1\npool 00000000-0000-0000-0000-000000000000 0 0 128 2\ndevice 1 2 0 0 0\nmap 0 0 1 0\nend\n",
-        100,
-        3,
-        "pdata_tools: line 5: mapped differs\n",
-        First::Closed,
-    ),
-    (
-        "thin 1\npool 00000000-0000-0000-0000-000000000000 0 0 128 1\ndevice 1 1 0 0 0\nmap 0 0 01 0\nend\n",
-        100,
-        3,
-        "pdata_tools: line 4: number\n",
-        First::Closed,
-    ),
-    (
-        "",
-        100,
-        3,
-        "pdata_tools: line 1: no end\n",
-        First::Untouched,
-    ),
-    (
-        "thin 3\n",
-        100,
-        3,
-        "pdata_tools: line 1: header\n",
-        First::Untouched,
-    ),
-    (
-        "thin 1\npool 00000000-0000-0000-0000-000000000000 0 0 128 x\n",
-        100,
-        3,
-        "pdata_tools: line 2: number\n",
-        First::Untouched,
-    ),
+    (THIN, TWO_LEAVES, 12, Done(""), Written),
+    (THIN, TWO_LEAVES, 11, NoRoom(12, 11), Closed),
+    (THIN, FULL_LEAF, 10, Done(""), Written),
+    (THIN, FULL_LEAF, 9, NoRoom(10, 9), Closed),
+    (THIN, EMPTY, 0, NoRoom(7, 0), Old),
+    (THIN, WIDE, 6173, NoRoom(6174, 6173), Closed),
+    (THIN, EMPTY, 8, Done(""), Written),
+    (THIN, EMPTY, 7, NoRoom(8, 7), Old),
+    (THIN, ONE_MAPPING, 16, Done(""), Written),
+    (THIN, ONE_MAPPING, 9, NoRoom(10, 9), Closed),
+    (THIN, HUGE, 1000, NoRoom(67774669, 1000), Old),
+    (THIN, NO_END, 100, Refused(3, "no end"), Closed),
+    (THIN, LONG, 100, Refused(3, "too long"), Closed),
+    (THIN, AFTER_END, 100, Refused(4, "after end"), Closed),
+    (THIN, TOO_FEW, 100, Refused(5, "mapped differs"), Closed),
+    (THIN, NO_NUMBER, 100, Refused(4, "number"), Closed),
+    (THIN, "", 100, Refused(1, "no end"), Old),
+    (THIN, "thin 3\n", 100, Refused(1, "header"), Old),
+    (THIN, NO_SIZE, 100, Refused(2, "number"), Old),
 ];
 
 #[test]
 fn restores_come_to_their_status(rt: HostRuntime) -> Result<(), Fail> {
-    for (text, blocks, status, notes, first) in ROWS {
-        let row = (THIN, *text, *blocks, *status, *notes, *first);
-        expect_restored(&rt, rt.alloc(), &row)?;
+    for row in ROWS {
+        expect_restored(&rt, rt.alloc(), row)?;
     }
     Ok(())
 }
@@ -220,32 +147,14 @@ fn restored_pools_are_dumped_with_their_runs_joined(rt: HostRuntime) -> Result<(
     Ok(())
 }
 
-/// Restores a pool from a source of which this call fails, which is blamed.
-fn expect_blame(rt: &impl Abort, alloc: Global, call: u64) -> Result<(), AllocError> {
-    let failing = Failing {
-        source: Some(call),
-        ..NOTHING_FAILS
-    };
-    let restored = restore(alloc, THIN, ONE_MAPPING, &[ONES; 16], failing)?;
-    assert!(rt; restored.status == 6, "{call}");
-    let notes = "pdata_tools: source or sink fault\n";
-    assert!(rt; restored.notes.bytes() == notes.as_bytes(), "{call}");
-    let image = blocks_of(alloc, &restored.output)?;
-    // The first two lines are 59 bytes, which take nine pieces.
-    let wanted = if call < 10 {
-        First::Untouched
-    } else {
-        First::Closed
-    };
-    assert!(rt; left_of(image.as_slice()) == wanted, "{call}");
-    Ok(())
-}
-
-// The calls of the source are 0 for attaching, and one for each piece of seven bytes.
+// The calls of the source are 0 for attaching, and one for each piece of seven bytes. The first two lines are 59 bytes, which
+// take nine pieces.
 #[test]
 fn a_source_that_fails_is_blamed(rt: HostRuntime) -> Result<(), Fail> {
     for call in 0..14 {
-        expect_blame(&rt, rt.alloc(), call)?;
+        let left = left_by_source_fault(&rt, rt.alloc(), THIN, ONE_MAPPING, call)?;
+        let wanted = if call < 10 { Left::Old } else { Left::Closed };
+        assert!(rt; left == wanted, "{call}");
     }
     Ok(())
 }
@@ -276,14 +185,13 @@ fn a_text_that_ends_early_has_no_end(rt: HostRuntime) -> Result<(), Fail> {
 
 #[test]
 fn leaves_are_written_as_their_lines_come(rt: HostRuntime) -> Result<(), Fail> {
-    let text =
-        "thin 1\npool 00000000-0000-0000-0000-000000000000 0 0 128 1\ndevice 1 1 0 0 0\nmap 0 0 1 0\nx\n";
     let alloc = rt.alloc();
-    let refused = restore(alloc, THIN, text, &[ONES; 16], NOTHING_FAILS)?;
+    let base = [ONES; 16];
+    let refused = restore(alloc, THIN, NO_WORD, &base, NOTHING_FAILS)?;
     expect_said(&rt, &refused, 3, "", "pdata_tools: line 5: word\n");
     let found = blocks_of(alloc, &refused.output)?;
     let whole = made(&rt, alloc, THIN, ONE_MAPPING, 16)?;
-    assert!(rt; left_of(found.as_slice()) == First::Closed);
+    assert!(rt; left_of(found.as_slice(), &base, whole.as_slice()) == Left::Closed);
     assert!(rt; found.get(1) == whole.get(1));
     Ok(())
 }
@@ -306,15 +214,17 @@ fn expect_stopped(
     old: &[Block],
     new: &[Block],
 ) -> Result<(), AllocError> {
-    let failing = Failing {
-        output_stops_after: calls,
-        ..NOTHING_FAILS
-    };
-    let restored = restore(alloc, THIN, ONE_MAPPING, old, failing)?;
+    let restored = restore(
+        alloc,
+        THIN,
+        ONE_MAPPING,
+        old,
+        Trouble::OutputStops.at(calls),
+    )?;
     let status = if calls < 15 { 5 } else { 0 };
     assert!(rt; restored.status == status, "{calls}");
     for pick in PICKS {
-        let found = left_by(alloc, &restored.output, *pick, old, new)?;
+        let found = left_by(alloc, &restored, *pick, old, new)?;
         assert!(rt; may_be_left(calls, found), "{calls}");
     }
     Ok(())
@@ -323,7 +233,7 @@ fn expect_stopped(
 #[test]
 fn a_stop_leaves_the_old_pool_none_or_the_new_one(rt: HostRuntime) -> Result<(), Fail> {
     let old = made(&rt, rt.alloc(), THIN, EMPTY, 16)?;
-    let new = made_over(rt.alloc(), THIN, ONE_MAPPING, old.as_slice())?;
+    let new = made_over(&rt, rt.alloc(), THIN, ONE_MAPPING, old.as_slice())?;
     for calls in 0..17 {
         expect_stopped(&rt, rt.alloc(), calls, old.as_slice(), new.as_slice())?;
     }
@@ -353,14 +263,15 @@ fn a_thousand_and_one_leaks_are_counted(rt: HostRuntime) -> Result<(), Fail> {
     let mut image = made(&rt, alloc, THIN, text, 16)?;
     image[3] = bitmap(3, 1001);
     let report = leaks(alloc, 1001)?;
-    expect_report(&rt, alloc, "thin_check", image.as_slice(), report.as_str())?;
+    let image = image.as_slice();
     expect(
         &rt,
         alloc,
-        &["thin_dump", "image"],
-        image.as_slice(),
-        0,
-        text,
+        &["thin_check", "image"],
+        image,
+        1,
+        report.as_str(),
     )?;
+    expect(&rt, alloc, &["thin_dump", "image"], image, 0, text)?;
     Ok(())
 }

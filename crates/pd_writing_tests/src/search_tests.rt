@@ -1,9 +1,13 @@
 //! Searches for the roots of pools whose superblock is lost: which trees are taken, what is refused, and what the output
 //! holds then.
 
-use crate::expected::{ONES, expect_held, expect_report, expect_said};
+use crate::expected::{ONE_MAPPING, ONES, expect_held, expect_report, expect_said, pool_of};
+use crate::lost::Lost::{
+    Copies, DamagedMappings, FewerMappings, HeldCopy, LaterDetails, LaterTime, MoreMappings,
+    OneFingerprint, OneMapping, OtherDevice, OtherNumber, OwnChild, SameNodes, TopInBlockZero,
+    Zeros,
+};
 use crate::lost::{Lost, lost_pool};
-use crate::made::{ONE_MAPPING, pool_of};
 use pd_kinds::Block;
 use pd_samples::pool::{device_leaf, inner};
 use pd_samples::runs::{Held, NOTHING_FAILS, Ran, blocks_of, run, run_over};
@@ -11,84 +15,49 @@ use std::alloc::{AllocError, Global};
 use std::process::Abort;
 use std::test::Fail;
 
-/// A pool whose superblock is lost, the number of its data blocks, the line that the search puts, and how the dump of what
+/// A pool whose superblock is lost, the number of its data blocks, the roots that the search puts, and how the dump of what
 /// it makes ends.
 type Found = (Lost, &'static str, &'static str, &'static str);
 
+/// The line and the ends of dumps of several of them.
+const PLAIN: &str = "2 3 mappings 1 time 0";
+
+const ONE_MAPPED: &str = " 0 7 128 1\ndevice 1 1 0 0 0\nmap 0 0 1 0\nend\n";
+
+const OF_NINE: &str = " 0 7 128 9\ndevice 1 1 0 0 0\nmap 0 0 1 0\nend\n";
+
+const TWO_MAPPINGS: &str = " 1 7 128 2\ndevice 1 2 0 0 0\nmap 0 0 1 0\nmap 1 1 1 1\nend\n";
+
+const LATER_TIME: &str = " 3 7 128 1\ndevice 1 1 0 0 0\nmap 0 0 1 3\nend\n";
+
+const LATER_DETAILS: &str = " 4 7 128 1\ndevice 1 1 0 4 0\nmap 0 0 1 0\nend\n";
+
+const OTHER_DEVICE: &str = " 0 7 128 1\ndevice 4194304 0 0 0 0\nend\n";
+
 const FOUND: &[Found] = &[
-    (
-        Lost::OneMapping,
-        "1",
-        "roots 2 3 mappings 1 time 0\n",
-        " 0 7 128 1\ndevice 1 1 0 0 0\nmap 0 0 1 0\nend\n",
-    ),
-    (
-        Lost::OneMapping,
-        "9",
-        "roots 2 3 mappings 1 time 0\n",
-        " 0 7 128 9\ndevice 1 1 0 0 0\nmap 0 0 1 0\nend\n",
-    ),
-    (
-        Lost::HeldCopy,
-        "0",
-        "roots 1 2 mappings 0 time 0\n",
-        " 0 7 128 0\nend\n",
-    ),
-    (
-        Lost::MoreMappings,
-        "2",
-        "roots 11 12 mappings 2 time 1\n",
-        " 1 7 128 2\ndevice 1 2 0 0 0\nmap 0 0 1 0\nmap 1 1 1 1\nend\n",
-    ),
+    (OneMapping, "1", PLAIN, ONE_MAPPED),
+    (OneMapping, "9", PLAIN, OF_NINE),
+    (HeldCopy, "0", "1 2 mappings 0 time 0", " 0 7 128 0\nend\n"),
+    (MoreMappings, "2", "11 12 mappings 2 time 1", TWO_MAPPINGS),
     // The second mapping is past the pool's last data block.
-    (
-        Lost::MoreMappings,
-        "1",
-        "roots 2 3 mappings 1 time 0\n",
-        " 0 7 128 1\ndevice 1 1 0 0 0\nmap 0 0 1 0\nend\n",
-    ),
-    (
-        Lost::LaterTime,
-        "1",
-        "roots 11 3 mappings 1 time 3\n",
-        " 3 7 128 1\ndevice 1 1 0 0 0\nmap 0 0 1 3\nend\n",
-    ),
-    (
-        Lost::LaterDetails,
-        "1",
-        "roots 2 12 mappings 1 time 4\n",
-        " 4 7 128 1\ndevice 1 1 0 4 0\nmap 0 0 1 0\nend\n",
-    ),
-    (
-        Lost::FewerMappings,
-        "1",
-        "roots 2 3 mappings 1 time 0\n",
-        " 0 7 128 1\ndevice 1 1 0 0 0\nmap 0 0 1 0\nend\n",
-    ),
-    (
-        Lost::Copies,
-        "1",
-        "roots 2 3 mappings 1 time 0\n",
-        " 0 7 128 1\ndevice 1 1 0 0 0\nmap 0 0 1 0\nend\n",
-    ),
-    (
-        Lost::OneFingerprint,
-        "1",
-        "roots 2 12 mappings 0 time 0\n",
-        " 0 7 128 1\ndevice 4194304 0 0 0 0\nend\n",
-    ),
+    (MoreMappings, "1", PLAIN, ONE_MAPPED),
+    (LaterTime, "1", "11 3 mappings 1 time 3", LATER_TIME),
+    (LaterDetails, "1", "2 12 mappings 1 time 4", LATER_DETAILS),
+    (FewerMappings, "1", PLAIN, ONE_MAPPED),
+    (Copies, "1", PLAIN, ONE_MAPPED),
+    (OneFingerprint, "1", "2 12 mappings 0 time 0", OTHER_DEVICE),
 ];
 
 /// Pools in which no two trees fit each other, and the number of their data blocks.
 const NOT_FOUND: &[(Lost, &str)] = &[
-    (Lost::Zeros, "1"),
-    (Lost::OneMapping, "0"),
-    (Lost::DamagedMappings, "1"),
-    (Lost::OtherDevice, "1"),
-    (Lost::OtherNumber, "1"),
-    (Lost::TopInBlockZero, "1"),
-    (Lost::OwnChild, "1"),
-    (Lost::SameNodes, "1"),
+    (Zeros, "1"),
+    (OneMapping, "0"),
+    (DamagedMappings, "1"),
+    (OtherDevice, "1"),
+    (OtherNumber, "1"),
+    (TopInBlockZero, "1"),
+    (OwnChild, "1"),
+    (SameNodes, "1"),
 ];
 
 const NO_ROOTS: &str = "pdata_tools: no roots\n";
@@ -122,15 +91,17 @@ fn search(
     run_over(alloc, &words, held, NOTHING_FAILS)
 }
 
-/// Searches an image, where this is the line that is put, and the dump of the pool that is made ends so.
+/// Searches an image, where these are the roots that are put, and the dump of the pool that is made ends so.
 fn expect_found(
     rt: &impl Abort,
     alloc: Global,
     image: &[Block],
     data_blocks: &str,
-    line: &str,
+    roots: &str,
     text: &str,
 ) -> Result<(), AllocError> {
+    let line = format!(in alloc; "roots {roots}\n")?;
+    let line = line.as_str();
     let found = search(alloc, image, &[ONES; 16], data_blocks)?;
     expect_said(rt, &found, 0, line, "");
     expect_held(rt, alloc, &found.input, image, line)?;
@@ -158,9 +129,9 @@ fn expect_refused(
 
 #[test]
 fn the_best_trees_that_fit_are_found(rt: HostRuntime) -> Result<(), Fail> {
-    for (lost, data_blocks, line, text) in FOUND {
+    for (lost, data_blocks, roots, text) in FOUND {
         let image = lost_pool(*lost);
-        expect_found(&rt, rt.alloc(), &image, data_blocks, line, text)?;
+        expect_found(&rt, rt.alloc(), &image, data_blocks, roots, text)?;
     }
     Ok(())
 }
@@ -179,7 +150,7 @@ fn trees_that_do_not_fit_are_not_found(rt: HostRuntime) -> Result<(), Fail> {
 
 #[test]
 fn a_found_pool_needs_room(rt: HostRuntime) -> Result<(), Fail> {
-    let image = lost_pool(Lost::OneMapping);
+    let image = lost_pool(OneMapping);
     let notes = "pdata_tools: no room: need 10, blocks 9\n";
     expect_refused(&rt, rt.alloc(), &image, "1", &[ONES; 9], 4, notes)?;
     Ok(())
@@ -196,9 +167,7 @@ fn trees_of_64_nodes_in_a_row_are_sound_and_no_deeper_ones(rt: HostRuntime) -> R
     }
     image[19] = inner(19, 20);
     image[2] = device_leaf(2, 20);
-    let found = " 0 7 128 1\ndevice 1 1 0 0 0\nmap 0 0 1 0\nend\n";
-    let line = "roots 2 3 mappings 1 time 0\n";
-    expect_found(&rt, rt.alloc(), image.as_slice(), "1", line, found)?;
+    expect_found(&rt, rt.alloc(), image.as_slice(), "1", PLAIN, ONE_MAPPED)?;
     image[2] = device_leaf(2, 19);
     let base = [ONES; 16];
     expect_refused(&rt, rt.alloc(), image.as_slice(), "1", &base, 1, NO_ROOTS)?;

@@ -1,10 +1,13 @@
 //! Restores of texts of version 2: what is restored, what is refused, and where there is no room.
 
+use crate::expected::End::{Done, NoRoom, Refused};
+use crate::expected::Left::{Closed, Old, Written};
 use crate::expected::{
-    First, ONES, Row, THIN, expect, expect_restored, expect_said, left_of, made, restore,
+    Left, ONES, Row, THIN, expect, expect_end, expect_left, expect_restored, expect_said, left_of,
+    made, made_over, restore,
 };
 use crate::shared_pool::{image_of_many, text_of_leaves, text_of_many};
-use pd_samples::runs::{NOTHING_FAILS, blocks_of};
+use pd_samples::runs::NOTHING_FAILS;
 use std::alloc::{AllocError, Global};
 use std::process::Abort;
 use std::test::Fail;
@@ -49,118 +52,40 @@ const EMPTY: &str = "thin 2\npool 00000000-0000-0000-0000-000000000000 0 0 128 0
 
 const NO_END: &str = "thin 2\npool 00000000-0000-0000-0000-000000000000 0 0 128 0\n";
 
+const NO_SIZE: &str = "thin 2\npool 00000000-0000-0000-0000-000000000000 0 0 128 x\n";
+
 const HUGE: &str =
     "thin 2\npool 00000000-0000-0000-0000-000000000000 0 0 128 1099511627776\ndevice 1 1099511627776 0 0 0\nmap 0 0 1099511627776 0\nend\n";
 
-/// What is said where so many blocks are needed.
-const NEED_8: &str = "pdata_tools: no room: need 8, blocks 7\n";
-
-const NEED_9: &str = "pdata_tools: no room: need 9, blocks 8\n";
-
-const NEED_10: &str = "pdata_tools: no room: need 10, blocks 9\n";
-
-const NEED_11: &str = "pdata_tools: no room: need 11, blocks 10\n";
-
-const NEED_12: &str = "pdata_tools: no room: need 12, blocks 11\n";
-
-const NEED_13: &str = "pdata_tools: no room: need 13, blocks 12\n";
-
-const NEED_20: &str = "pdata_tools: no room: need 20, blocks 19\n";
-
-const NEED_HUGE: &str = "pdata_tools: no room: need 67774669, blocks 1000\n";
-
 /// Restores, with what they come to.
 const ROWS: &[Row] = &[
-    (THIN, TWO_USERS, 16, 0, "", First::Made),
-    (THIN, TWO_USERS, 10, 0, "", First::Made),
-    (THIN, TWO_USERS, 9, 4, NEED_10, First::Closed),
-    (THIN, TWO_USERS, 8, 4, NEED_9, First::Untouched),
-    (THIN, TWO_LEAVES, 13, 0, "", First::Made),
-    (THIN, TWO_LEAVES, 12, 4, NEED_13, First::Closed),
-    (THIN, TWO_LEAVES, 11, 4, NEED_12, First::Closed),
-    (THIN, TWO_LEAVES, 10, 4, NEED_11, First::Closed),
-    (THIN, NO_PIECES, 11, 0, "", First::Made),
-    (THIN, NO_PIECES, 10, 4, NEED_11, First::Closed),
-    (THIN, NO_PIECES, 9, 4, NEED_10, First::Closed),
-    (THIN, THREE_OF_EACH, 20, 0, "", First::Made),
-    (THIN, THREE_OF_EACH, 19, 4, NEED_20, First::Closed),
-    (THIN, TWO_OF_A_THIRD, 10, 0, "", First::Made),
-    (THIN, EMPTY, 8, 0, "", First::Made),
-    (THIN, EMPTY, 7, 4, NEED_8, First::Untouched),
-    (THIN, HUGE, 1000, 4, NEED_HUGE, First::Untouched),
-    (
-        THIN,
-        REFUSED_FIRST,
-        10,
-        3,
-        "pdata_tools: line 6: out of range\n",
-        First::Closed,
-    ),
-    (THIN, NO_ROOM_FIRST, 9, 4, NEED_10, First::Closed),
-    (
-        THIN,
-        UNUSED,
-        16,
-        3,
-        "pdata_tools: line 5: unused\n",
-        First::Closed,
-    ),
-    (
-        THIN,
-        NO_SUCH_LEAF,
-        16,
-        3,
-        "pdata_tools: line 6: out of range\n",
-        First::Closed,
-    ),
-    (
-        THIN,
-        NO_END,
-        16,
-        3,
-        "pdata_tools: line 3: no end\n",
-        First::Closed,
-    ),
-    (
-        THIN,
-        "thin 2\npool 00000000-0000-0000-0000-000000000000 0 0 128 x\n",
-        16,
-        3,
-        "pdata_tools: line 2: number\n",
-        First::Untouched,
-    ),
-    (
-        THIN,
-        "thin 2\nleaf 0 1\n",
-        16,
-        3,
-        "pdata_tools: line 2: word\n",
-        First::Untouched,
-    ),
-    (
-        THIN,
-        "thin 2 \n",
-        16,
-        3,
-        "pdata_tools: line 1: header\n",
-        First::Untouched,
-    ),
-    (
-        THIN,
-        "thin 02\n",
-        16,
-        3,
-        "pdata_tools: line 1: header\n",
-        First::Untouched,
-    ),
-    (
-        THIN,
-        "thin 2",
-        16,
-        3,
-        "pdata_tools: line 1: no end\n",
-        First::Untouched,
-    ),
+    (THIN, TWO_USERS, 16, Done(""), Written),
+    (THIN, TWO_USERS, 10, Done(""), Written),
+    (THIN, TWO_USERS, 9, NoRoom(10, 9), Closed),
+    (THIN, TWO_USERS, 8, NoRoom(9, 8), Old),
+    (THIN, TWO_LEAVES, 13, Done(""), Written),
+    (THIN, TWO_LEAVES, 12, NoRoom(13, 12), Closed),
+    (THIN, TWO_LEAVES, 11, NoRoom(12, 11), Closed),
+    (THIN, TWO_LEAVES, 10, NoRoom(11, 10), Closed),
+    (THIN, NO_PIECES, 11, Done(""), Written),
+    (THIN, NO_PIECES, 10, NoRoom(11, 10), Closed),
+    (THIN, NO_PIECES, 9, NoRoom(10, 9), Closed),
+    (THIN, THREE_OF_EACH, 20, Done(""), Written),
+    (THIN, THREE_OF_EACH, 19, NoRoom(20, 19), Closed),
+    (THIN, TWO_OF_A_THIRD, 10, Done(""), Written),
+    (THIN, EMPTY, 8, Done(""), Written),
+    (THIN, EMPTY, 7, NoRoom(8, 7), Old),
+    (THIN, HUGE, 1000, NoRoom(67774669, 1000), Old),
+    (THIN, REFUSED_FIRST, 10, Refused(6, "out of range"), Closed),
+    (THIN, NO_ROOM_FIRST, 9, NoRoom(10, 9), Closed),
+    (THIN, UNUSED, 16, Refused(5, "unused"), Closed),
+    (THIN, NO_SUCH_LEAF, 16, Refused(6, "out of range"), Closed),
+    (THIN, NO_END, 16, Refused(3, "no end"), Closed),
+    (THIN, NO_SIZE, 16, Refused(2, "number"), Old),
+    (THIN, "thin 2\nleaf 0 1\n", 16, Refused(2, "word"), Old),
+    (THIN, "thin 2 \n", 16, Refused(1, "header"), Old),
+    (THIN, "thin 02\n", 16, Refused(1, "header"), Old),
+    (THIN, "thin 2", 16, Refused(1, "no end"), Old),
 ];
 
 #[test]
@@ -183,17 +108,16 @@ fn expect_refused(
         "thin {version}\npool 00000000-0000-0000-0000-000000000000 0 0 128 4\n{lines}"
     )?;
     let notes = format!(in alloc; "pdata_tools: line {refusal}\n")?;
-    let refused = restore(alloc, THIN, text.as_str(), &[ONES; 16], NOTHING_FAILS)?;
+    let base = [ONES; 16];
+    let refused = restore(alloc, THIN, text.as_str(), &base, NOTHING_FAILS)?;
     expect_said(rt, &refused, 3, "", notes.as_str());
-    let image = blocks_of(alloc, &refused.output)?;
-    assert!(rt; left_of(image.as_slice()) == First::Closed, "{lines}");
-    Ok(())
+    expect_left(rt, alloc, &refused, &base, Left::Closed, lines)
 }
 
 /// Lines from the third one on, and the line that is refused with its cause.
-type Refused = (&'static str, &'static str);
+type Refusal = (&'static str, &'static str);
 
-const REFUSALS: &[Refused] = &[
+const REFUSALS: &[Refusal] = &[
     // A line in a place in which it may not stand, or with another number of words.
     ("map 0 0 1 0\n", "3: word"),
     ("use 0\n", "3: word"),
@@ -284,7 +208,7 @@ const REFUSALS: &[Refused] = &[
 ];
 
 /// In version 1 there are neither leaves nor uses.
-const REFUSALS_OF_FIRST: &[Refused] = &[
+const REFUSALS_OF_FIRST: &[Refusal] = &[
     ("leaf 0 1\n", "3: word"),
     ("device 1 1 0 0 0\nuse 0\n", "4: word"),
     ("device 1 0 0 0 0\nleaf 0 1\n", "4: word"),
@@ -306,9 +230,7 @@ fn a_pool_of_many_runs_is_that_put_together_by_hand(rt: HostRuntime) -> Result<(
     let alloc = rt.alloc();
     let text = text_of_many(alloc)?;
     let base = [ONES; 16];
-    let restored = restore(alloc, THIN, text.as_str(), &base, NOTHING_FAILS)?;
-    expect_said(&rt, &restored, 0, "", "");
-    let image = blocks_of(alloc, &restored.output)?;
+    let image = made_over(&rt, alloc, THIN, text.as_str(), &base)?;
     assert!(rt; image.as_slice() == image_of_many().as_slice());
     Ok(())
 }
@@ -333,10 +255,8 @@ fn expect_no_room(
     need: u64,
 ) -> Result<(), AllocError> {
     let base = vec![in alloc; ONES; blocks]?;
-    let notes = format!(in alloc; "pdata_tools: no room: need {need}, blocks {blocks}\n")?;
     let refused = restore(alloc, THIN, text, base.as_slice(), NOTHING_FAILS)?;
-    expect_said(rt, &refused, 4, "", notes.as_str());
-    Ok(())
+    expect_end(rt, alloc, &refused, NoRoom(need, blocks as u64))
 }
 
 /// Blocks, and how many are needed where there are no more. The need passes them at the line of the pool, of the leaf, of the
@@ -352,7 +272,7 @@ fn the_need_grows_with_the_lines(rt: HostRuntime) -> Result<(), Fail> {
         expect_no_room(&rt, alloc, text.as_str(), *blocks, *need)?;
     }
     let least = made(&rt, alloc, THIN, text.as_str(), 14)?;
-    assert!(rt; left_of(least.as_slice()) == First::Made);
+    assert!(rt; left_of(least.as_slice(), &[ONES; 14], &[]) == Left::Written);
     Ok(())
 }
 
