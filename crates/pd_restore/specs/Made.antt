@@ -1,5 +1,5 @@
 -- What becomes of a device on which a pool is written that is held in memory.
-use Rattle.std.specs.Prelude.{◌≡◌, ℕ, ◌<◌, ◌≤◌, List, [], None, Some, Result, Ok, Err, IfSome}
+use Rattle.std.specs.Prelude.{◌≡◌, ℕ, ◌<◌, ◌≤◌, if◌then◌else◌, List, [], None, Some, Result, Ok, Err, IfSome}
 use Rattle.pd_kinds.specs.Crash.{HoldsOldOrNone, HoldsSynced, IsOldNoneOrMade, IsUntouched, LeavesOnly, StillTells}
 use Rattle.pd_kinds.specs.Limits.{room_of}
 use Rattle.pd_kinds.specs.Meaning.{ThinPool}
@@ -86,4 +86,4 @@ CountsMade (Err (m.NoRoom need blocks)) old new = new ≡ old
 
 -- a source of which nothing is left
 abbrev pub ended_state : Ended → SourceState
-ended_state ended = record { access = 1; path = None; left = Some []; faults = 0 }
+ended_state ended = record { access = if ended.attached then 1 else 0; path = None; left = Some []; faults = 0 }

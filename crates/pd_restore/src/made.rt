@@ -77,7 +77,8 @@ fn restore_saved<D: Device>(
     ensures causes { CountsMade result (D.state dev.old).faults (D.state dev.new).faults }
 {
     let begun = begun_of(saved);
-    match restore_begun(&Pools, alloc, begun, &mut Ended, dev, room) {
+    let mut source = Ended { attached: true };
+    match restore_begun(&Pools, alloc, begun, &mut source, dev, room) {
         Ok(()) => Ok(()),
         Err(fault) => match fault {
             RestoreFault::Memory => Err(MadeFault::Memory),
@@ -122,7 +123,9 @@ fn pool_of_head(head: &SavedHead) -> Pool
 
 /// A source of which nothing is left: the lines stand in memory.
 #[derive(Drop)]
-struct Ended;
+struct Ended {
+    attached: bool,
+}
 
 impl Source for Ended {
     ghost use Rattle.std.proofs.Common.{refl};
@@ -133,6 +136,7 @@ impl Source for Ended {
     ghost unnamed = { λ _ _. refl };
 
     fn attach(&mut self, _path: &str) -> Result<(), Failed> {
+        self.attached = true;
         Ok(())
     }
 
