@@ -15,10 +15,10 @@ use Rattle.pd_laid.specs.Array.{array_root}
 use Rattle.pd_laid.specs.Laid.{IsLaid, LaidBlock, laid_number, named_by, tree_of}
 use Rattle.pd_laid.specs.LaidCache.{cache_laid_fields, cache_named, cache_parts, dirty_at, dirty_blocks, dirty_root, dirty_words, discard_blocks, discard_root, discards_at, has_hints, hint_blocks, hint_root, hint_words, hints_at, laid_cache, mapping_blocks, mapping_root, mapping_words, meta_map_at, meta_map_blocks}
 use Rattle.pd_laid.specs.Map.{meta_overflow_root}
+use Rattle.pd_laid.proofs.GatherLemmas.{all_first, all_last}
 use Rattle.pd_laid_graph.specs.LaidOut.{AllFrom, IsFitting, IsInPlace, IsNamed, LeadsBelow, laid_super}
 use Rattle.pd_laid_graph.proofs.FitLemmas.{few_named, named_lower}
 use Rattle.pd_laid_graph.proofs.FromLemmas.{from_back, from_both, from_front}
-use Rattle.pd_laid_graph.proofs.ListLemmas.{all_back, all_front}
 use Rattle.pd_laid_graph.proofs.PlaceLemmas.{laid_in_place}
 use Rattle.pd_laid_graph.specs.Items.{IsTreeSeen}
 use Rattle.pd_laid_graph.proofs.Names.{root_leads}
@@ -171,10 +171,10 @@ module _ (m : CacheMeaning) (version n : ℕ) (image : List (List ℕ)) (few : n
 
   -- what the superblock names is named
   hints_named : AllByRecursion Named (hint_edges m version)
-  hints_named = all_front Named (hint_edges m version) (behind_hints m version n) super_stands.names.1
+  hints_named = all_first Named (hint_edges m version) (behind_hints m version n) super_stands.names.1
 
   rest_named : AllByRecursion Named (behind_hints m version n)
-  rest_named = all_back Named (hint_edges m version) (behind_hints m version n) super_stands.names.1
+  rest_named = all_last Named (hint_edges m version) (behind_hints m version n) super_stands.names.1
 
   -- each part as the graph sees it
   pub mapping_is : IsArraySeen (graph_of 12 n 0 (cache_layout n)) image (cache_all m version n) (meta_map_at m version) 1 8 1 (mapping_words m version)

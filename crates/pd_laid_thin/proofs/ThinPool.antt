@@ -21,8 +21,7 @@ use Rattle.pd_laid.specs.Laid.{IsLaid, LaidBlock, data_named_by, laid_inner, lai
 use Rattle.pd_laid.specs.LaidThin.{bitmap_blocks, bitmaps_at, data_counts, data_index, data_index_root, data_overflow, data_overflow_root, details_at, details_blocks, details_items, details_root, device_blocks, device_inners, device_leaves, devices_at, index_at, index_blocks, laid_device, laid_devices, laid_shape, mapping_items, mapping_root, mappings, meta_map_at, meta_map_blocks, overflow_at, overflow_blocks, pool_fields, pool_named, pool_parts, shared_items, top_blocks, top_items, tops, tops_at}
 use Rattle.pd_laid.specs.Map.{laid_bitmap, meta_overflow_root}
 use Rattle.pd_laid.specs.Shape.{IsShape, ShapeDevice, ThinShape, device_of, pool_of, uses_of}
-use Rattle.pd_laid.proofs.NeedLemmas.{length-bitmaps}
-use Rattle.pd_laid.proofs.PartSizes.{parts_number}
+use Rattle.pd_laid.proofs.PartSizes.{parts_number, bitmaps_size}
 use Rattle.pd_laid_graph.specs.LaidOut.{AllFrom, IsFitting, IsInPlace, IsNamed, LeadsBelow, laid_super, role_at}
 use Rattle.pd_laid_graph.proofs.FitLemmas.{few_data, few_named, named_lower}
 use Rattle.pd_laid_graph.proofs.FromLemmas.{from_back, from_both, from_front}
@@ -315,22 +314,18 @@ module _ (w : ThinShape) (n : ℕ) (image : List (List ℕ)) (few : n ≤ 416160
   unfolding bitmap_blocks
   data_bitmap_stands i inside = bitmap_at (IsInPlace image blocks) 6 (data_counts w) (bitmaps_at w) w.data_blocks i inside standing.bitmaps
 
-  pub bitmap_count : length (bitmap_blocks w) ≡ bitmaps_for w.data_blocks
-  unfolding bitmap_blocks
-  bitmap_count = length-bitmaps 6 (data_counts w) w.data_blocks
-
   pub data_index_seen : IsTreeSeen (graph_of 11 n w.data_blocks (thin_layout n w.data_blocks)) image (pool_blocks w n) (meta_map_at w) 5 (tree_of (tree_to 16 6 (λ v. v % 2 ^ 64))) (index_at w) (data_index w)
   unfolding index_blocks
   data_index_seen =
       let data_few = fits.data_blocks_fit in
       tree_seen 11 n w.data_blocks (thin_layout n w.data_blocks) image blocks (meta_map_at w) 5 (tree_of (tree_to 16 6 (λ v. v % 2 ^ 64))) (roles.data_index_role n w.data_blocks) (omega arith) few_roles (omega arith) few within
       (index_at w) (data_index w) (omega arith) (omega arith)
-      (index_are blocks (meta_map_at w) 6 (data_counts w) w.data_blocks (bitmaps_at w) (omega arith) (omega arith) (omega arith) (omega (arith, bitmap_count)) (λ i inside. (data_bitmap_stands i inside).role_is))
+      (index_are blocks (meta_map_at w) 6 (data_counts w) w.data_blocks (bitmaps_at w) (omega arith) (omega arith) (omega arith) (omega (arith, bitmaps_size w)) (λ i inside. (data_bitmap_stands i inside).role_is))
       standing.index super_stands.names.1.1.0
 
   bitmaps_named : AllByRecursion (IsNamed (pool_blocks w n)) (range_with_len (bitmaps_at w) (bitmaps_for w.data_blocks))
   bitmaps_named =
-      let edges = index_edges 6 (data_counts w) w.data_blocks (bitmaps_at w) (omega (arith, bitmap_count)) in
+      let edges = index_edges 6 (data_counts w) w.data_blocks (bitmaps_at w) (omega (arith, bitmaps_size w)) in
       unmapped (edge_of 6) (λ (edge : Edge). IsNamed blocks edge.block) (range_with_len (bitmaps_at w) (bitmaps_for w.data_blocks))
       (rw edges at (all_flat_map (λ (e : Entry). edge_of 6 (e.value % 2 ^ 64) ∷ []) (λ (edge : Edge). IsNamed blocks edge.block) (data_index w) data_index_seen.named))
 
@@ -338,7 +333,7 @@ module _ (w : ThinShape) (n : ℕ) (image : List (List ℕ)) (few : n ≤ 416160
   unfolding bitmap_blocks
   bitmaps_fitting =
       bitmaps_fit 11 n w.data_blocks (thin_layout n w.data_blocks) image blocks (meta_map_at w) 6 (data_counts w) (roles.data_bitmap_role n w.data_blocks) (omega arith) few_roles few
-      (bitmaps_at w) w.data_blocks (omega (arith, bitmap_count)) standing.bitmaps bitmaps_named
+      (bitmaps_at w) w.data_blocks (omega (arith, bitmaps_size w)) standing.bitmaps bitmaps_named
 
   pub data_overflow_seen : IsTreeSeen (graph_of 11 n w.data_blocks (thin_layout n w.data_blocks)) image (pool_blocks w n) (meta_map_at w) 7 (tree_of (plain_tree 4)) (overflow_at w) (data_overflow w)
   unfolding overflow_blocks

@@ -15,7 +15,7 @@ use Rattle.pd_restore.specs.Pools.{StandsBefore, lines_before}
 use Rattle.pd_restore.specs.Whole.{head_of_pool}
 use Rattle.pd_restore.proofs.BeginLemmas.{pool_small}
 use Rattle.pd_restore.proofs.ComingLemmas.{made_pool}
-use Rattle.pd_restore.proofs.UnsharedLines.{tree_most}
+use Rattle.pd_restoring.proofs.NeedLemmas.{tree_most}
 
 -- no data block is mapped by them
 none_passes : (from n : ℕ) → count_by (λ d. false) (range_with_len from n) ≡ 0

@@ -6,7 +6,6 @@
 
 mod fault;
 mod leaves;
-mod made;
 mod print;
 mod reader;
 mod stage;
@@ -21,7 +20,6 @@ mod values;
 mod words;
 
 pub use fault::{ReadFault, TextFault};
-pub use made::{MadeLines, MadeSource};
 pub use print::{add_uuid, add_word, bytes_of_end, bytes_of_first, print_end, print_first};
 pub use reader::TextReader;
 pub use stage::Stage;

@@ -7,10 +7,10 @@ ghost use Rattle.pd_thin_meaning.specs.Joined.{spelled};
 use pd_thin_meaning::Run;
 use std::alloc::AllocError;
 
-/// The run that may still become longer.
+/// The last of the runs that were taken, which may still become longer.
 #[derive(Clone, Copy)]
-pub(crate) struct Joining {
-    pub(crate) begun: Option<Run>,
+pub struct Joining {
+    pub begun: Option<Run>,
 }
 
 /// Whether a run follows another.
@@ -29,11 +29,10 @@ impl Joining {
     ghost use Rattle.pd_spells.specs.ThinText.{mappings_of};
     ghost use Rattle.pd_thin_meaning.specs.declared.joined.Run.{Run};
     ghost use Rattle.pd_thin_meaning.specs.Joined.{spelled};
-    ghost use Rattle.pd_salvage.specs.Gather.{HasRuns};
-    ghost use Rattle.pd_shrink.specs.Moving.{IsJoining, Takes};
+    ghost use Rattle.pd_salvage.specs.Gather.{HasRuns, IsJoining, Takes};
 
     /// Takes the next run, and adds the one before it where it doesn't follow that.
-    pub(crate) fn take(&mut self, runs: &mut Vec<Run>, next: Run) -> Result<(), AllocError>
+    pub fn take(&mut self, runs: &mut Vec<Run>, next: Run) -> Result<(), AllocError>
         requires some { 1 ≤ next.length }
         requires fits { next.target + next.length ≤ 2 ^ 40 }
         ensures { OnOk result (Takes (mappings_of (spelled next)) runs.old.items runs.new.items self.old self.new) }
@@ -54,7 +53,7 @@ impl Joining {
     }
 
     /// Adds the last run, if there is any.
-    pub(crate) fn end(&mut self, runs: &mut Vec<Run>) -> Result<(), AllocError>
+    pub fn end(&mut self, runs: &mut Vec<Run>) -> Result<(), AllocError>
         ensures { OnOk result ((before : List Run) (ms : List Mapping) → IsJoining before runs.old.items self.old ms → HasRuns before runs.new.items ms) }
     {
         if let Some(begun) = self.begun {

@@ -1,6 +1,6 @@
 use Rattle.std.proofs.Common.{sym}
-use Rattle.pd_shrink.proofs.JoiningLemmas.{joins_apart, joins_on}
-use Rattle.pd_shrink.proofs.joining.Joining.take.Goals as goal
+use Rattle.pd_salvage.proofs.JoiningLemmas.{joins_apart, joins_on}
+use Rattle.pd_salvage.proofs.joined.Joining.take.Goals as goal
 
 pub returns-then-follows : goal.returns-then-follows
 returns-then-follows c = λ before ms is.

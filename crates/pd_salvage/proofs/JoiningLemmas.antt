@@ -1,17 +1,18 @@
 -- Runs that are joined as they come.
-use Rattle.std.proofs.Common.{◌≡◌, ℕ, zero, suc, ◌+◌, ◌-◌, ◌≤◌, true, false, ◌&&◌, nat_eq, List, [], ◌∷◌, ◌++◌, map, None, Some, sym, ap, ◌∙◌, arith, append_assoc}
+use Rattle.std.proofs.Common.{◌≡◌, ℕ, zero, suc, ◌+◌, ◌-◌, ◌≤◌, true, false, ◌&&◌, nat_eq, List, [], ◌∷◌, ◌++◌, map, Some, sym, ap, ◌∙◌, arith, append_assoc, Bool, cond}
 use Rattle.std.proofs.lemmas.List.{append-nil, map-append}
 use Rattle.std.proofs.lemmas.Bool.{and_parts, eqb-true}
 use Rattle.pd_kinds.specs.Meaning.{Mapping}
 use Rattle.pd_spells.specs.ThinText as text
-use Rattle.pd_spells.specs.ThinText.{mappings_from, mappings_of, joined_runs}
+use Rattle.pd_spells.specs.ThinText.{mappings_from, mappings_of, joined_runs, with_mapping, follows}
 use Rattle.pd_thin_meaning.specs.declared.joined.Run.{Run}
 use Rattle.pd_thin_meaning.specs.Joined.{spelled}
-use Rattle.pd_thin_meaning.proofs.JoinedLemmas.{IsApart}
-use Rattle.pd_salvage.specs.Gather.{HasRuns, begun_mappings, mappings_of_runs}
-use Rattle.pd_salvage.proofs.GatherLemmas.{apart_first, run_before_at, runs_more, taken_last}
-use Rattle.pd_shrink.specs.declared.joining.Joining.{Joining}
-use Rattle.pd_shrink.specs.Moving.{IsJoining}
+use Rattle.pd_thin_meaning.proofs.JoinedLemmas.{IsApart, run_before}
+use Rattle.pd_salvage.specs.Gather.{HasRuns, IsJoining, begun_mappings, mappings_of_runs}
+use Rattle.pd_salvage.specs.declared.joined.Joining.{Joining}
+
+abbrev run : ℕ → ℕ → ℕ → ℕ → text.Run
+run v d n t = record { virtual_block = v; data_block = d; length = n; time = t }
 
 -- the mappings of a run and of one that follows it are those of a longer run
 pub longer_run : (v d t n k : ℕ) → mappings_from v d t n ++ mappings_from (v + n) (d + n) t k ≡ mappings_from v d t (n + k)
@@ -42,6 +43,23 @@ taken_on begun next is =
     let length_is : begun.target + begun.length - begun.target + next.length ≡ begun.length + next.length = omega arith in
     rw (virtual, target, time, length_is) (longer_run begun.virt begun.target begun.time begun.length next.length)
 
+-- the first run begins with the first mapping
+apart_if : (r : text.Run) (m : Mapping) (s : text.Run) (joined : Bool) (rs : List text.Run)
+    → ((n : ℕ) → text.joins r (run m.virtual_block m.data_block n m.time) ≡ false)
+    → IsApart r (cond joined (run m.virtual_block m.data_block (suc s.length) m.time ∷ rs) (run m.virtual_block m.data_block 1 m.time ∷ s ∷ rs))
+apart_if r m s true rs apart = apart (suc s.length)
+apart_if r m s false rs apart = apart 1
+
+apart_first : (r : text.Run) (m : Mapping) (rs : List text.Run) → ((n : ℕ) → text.joins r (run m.virtual_block m.data_block n m.time) ≡ false) → IsApart r (with_mapping m rs)
+apart_first r m [] apart = apart 1
+apart_first r m (s ∷ rs) apart = apart_if r m s (follows m s) rs apart
+
+-- the mappings of a run, before mappings whose first run doesn't join it
+run_before_at : (v d t n : ℕ) (rest : List Mapping) → 1 ≤ n → IsApart (run v d n t) (joined_runs rest)
+    → joined_runs (mappings_from v d t n ++ rest) ≡ run v d n t ∷ joined_runs rest
+run_before_at v d t zero rest some apart = absurd (omega arith)
+run_before_at v d t (suc n) rest some apart = run_before v d t n rest apart
+
 -- a run that doesn't follow another ends it
 apart_next : (r : text.Run) (v d t n : ℕ) (rest : List Mapping) → 1 ≤ n
     → ((k : ℕ) → text.joins r (record { virtual_block = v; data_block = d; length = k; time = t }) ≡ false)
@@ -56,23 +74,22 @@ taken_apart begun next rest some first apart =
     run_before_at begun.virt begun.target begun.time begun.length (mappings_of (spelled next) ++ rest) some
     (apart_next (spelled begun) next.virt next.target next.time next.length rest first (λ k. apart))
 
+-- so does the end
+taken_last : (begun : Run) → 1 ≤ begun.length → joined_runs (begun_mappings (Some begun)) ≡ spelled begun ∷ []
+taken_last begun some =
+    ap joined_runs (sym (append-nil (begun_mappings (Some begun)))) ∙ run_before_at begun.virt begun.target begun.time begun.length [] some tt
+
+-- the mappings of runs with one more
+pub runs_more : (given : List Run) (begun : Run) → mappings_of_runs (given ++ begun ∷ []) ≡ mappings_of_runs given ++ begun_mappings (Some begun)
+runs_more [] begun = append-nil (begun_mappings (Some begun))
+runs_more (r ∷ given) begun =
+    ap (λ (ms : List Mapping). mappings_of (spelled r) ++ ms) (runs_more given begun)
+    ∙ sym (append_assoc (mappings_of (spelled r)) (mappings_of_runs given) (begun_mappings (Some begun)))
+
 module _ (before runs : List Run) (joining : Joining) (ms : List Mapping) (is : IsJoining before runs joining ms) where
   module _ (next : Run) (first : 1 ≤ next.length) where
     abbrev more : List Mapping
     more = mappings_of (spelled next)
-
-    -- the first run of all
-    pub joins_first : joining.begun ≡ None → IsJoining before runs (record { begun = Some next }) (ms ++ more)
-    joins_first none =
-        let written = rw none at is.written in
-        let joined = rw none at is.joined in
-        record {
-          given = is.given;
-          runs_are = is.runs_are;
-          some = first;
-          written = ap (λ (xs : List Mapping). xs ++ more) (written ∙ append-nil (mappings_of_runs is.given));
-          joined = λ rest. ap joined_runs (append_assoc ms more rest) ∙ joined (more ++ rest);
-        }
 
     -- one that follows the begun run
     pub joins_on : (begun : Run) → joining.begun ≡ Some begun → text.joins (spelled begun) (spelled next) ≡ true
@@ -116,17 +133,6 @@ module _ (before runs : List Run) (joining : Joining) (ms : List Mapping) (is : 
         }
 
   -- the end
-  pub ends_none : joining.begun ≡ None → HasRuns before runs ms
-  ends_none none =
-      let written = rw none at is.written in
-      let joined = rw none at is.joined in
-      record {
-        given = is.given;
-        runs_are = is.runs_are;
-        written = written ∙ append-nil (mappings_of_runs is.given);
-        joined = ap joined_runs (sym (append-nil ms)) ∙ (joined [] ∙ append-nil (map spelled is.given));
-      }
-
   pub ends_with : (begun : Run) (new : List Run) → joining.begun ≡ Some begun → new ≡ runs ++ begun ∷ [] → HasRuns before new ms
   ends_with begun new here pushed =
       let written = rw here at is.written in

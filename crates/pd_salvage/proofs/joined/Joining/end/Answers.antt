@@ -1,5 +1,5 @@
-use Rattle.pd_shrink.proofs.JoiningLemmas.{ends_with}
-use Rattle.pd_shrink.proofs.joining.Joining.end.Goals as goal
+use Rattle.pd_salvage.proofs.JoiningLemmas.{ends_with}
+use Rattle.pd_salvage.proofs.joined.Joining.end.Goals as goal
 
 pub returns-in_ok-push : goal.returns-in_ok-push
 returns-in_ok-push c = λ before ms is.

@@ -1,10 +1,10 @@
 use Rattle.std.proofs.Common.{◌-◌, ◌≤◌, length, ◌∙◌}
-use Rattle.pd_texts.specs.Made.{text_left}
-use Rattle.pd_texts.proofs.Filling.{moved_more, moved_within}
-use Rattle.pd_texts.proofs.made.MadeSource.fill.Goals as goal
+use Rattle.pd_gen.specs.GenSource.{text_left}
+use Rattle.pd_gen.proofs.Filling.{moved_more, moved_within}
+use Rattle.pd_gen.proofs.source.GenSource.fill.Goals as goal
 
 pub loop-filled-preserved : goal.loop-filled-preserved
-loop-filled-preserved g c =
+loop-filled-preserved c =
     let a = c.loop-filled.filled in
     let n = c.give-filled.result in
     let xs = c.loop-filled.into in
