@@ -23,12 +23,20 @@ use pd_image::Device;
 use pd_restoring::{RestoreFault, of_build};
 use pd_shape_verdicts::pool_text_is_accepted_where_there_is_room;
 use pd_texts::{TextFault, ThinLine};
-use std::alloc::Global;
+use std::alloc::{AllocError, Global};
 
 impl Gathering for Devices {
+    ghost use Rattle.std.specs.Prelude.{false};
     ghost use Rattle.pd_restore.specs.Unshared.{HasUnshared};
 
     ghost HasGathered = { HasUnshared };
+
+    ghost shared = { false };
+
+    fn start(alloc: Global, blocks: u64, room: u64) -> Result<Devices, AllocError> {
+        let _room = room;
+        Devices::new(alloc, blocks)
+    }
 
     fn take_line<D: Device>(
         &mut self,

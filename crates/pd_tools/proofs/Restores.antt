@@ -31,7 +31,6 @@ use Rattle.pd_laid.specs.Made.{Makes}
 use Rattle.pd_restoring.specs.declared.fault.RestoreFault.{RestoreFault}
 use Rattle.pd_restoring.specs.declared.fault.RestoreFault.TheVariants as fault
 use Rattle.pd_restoring.specs.Restored.{CountsRestore, IsRestored, AnswersVerdict, IsAccepted, IsOfFirstLines, IsOfOthers, IsRefused, IsWithoutRoom}
-use Rattle.pd_restoring.proofs.RestoreLemmas.{kept_same}
 use Rattle.pd_tools.specs.declared.ending.Ending.TheVariants.{Refused, NoRoom}
 use Rattle.pd_texts.specs.declared.fault.TextFault.{TextFault}
 use Rattle.pd_tools.proofs.Answered.{not_risen, stop_status-low}
@@ -64,6 +63,10 @@ still_synced image old new same synced = record {
   unsynced = ap (λ (h : History). h.unsynced) same.history ∙ synced.unsynced;
   firsts = ap (λ (h : History). h.firsts) same.history ∙ synced.firsts;
 }
+
+kept_same : (held : Option Image) → IfSome held (λ image. IfSome held (λ now. (now ≡ image) ⊎ HasNoSuper now))
+kept_same None = tt
+kept_same (Some image) = inl refl
 
 -- what a device that was left alone holds
 pub same_held : (old new : DeviceState) → new.held ≡ old.held → HoldsOldOrNone old new
