@@ -7,12 +7,11 @@ use Rattle.pd_gen.proofs.Putting.{nothing_put, piece_put, piece_front}
 use Rattle.pd_gen.proofs.put.put_generated.Goals as goal
 
 pub loop-source-init : goal.loop-source-init
-loop-source-init g c =
-    (
-      nothing_put (generated_text c.args.number) (text_left c.new-source.result) (g.K.Sink.state c.args.out.now).written (ap (λ (s : SourceState). s.left) c.new-source.ensures),
-      record { access = refl; path = refl },
-      refl,
-    )
+loop-source-init g c = (
+  nothing_put (generated_text c.args.number) (text_left c.new-source.result) (g.K.Sink.state c.args.out.now).written (ap (λ (s : SourceState). s.left) c.new-source.ensures),
+  record { access = refl; path = refl },
+  refl,
+)
 
 pub loop-source-preserved : goal.loop-source-preserved
 loop-source-preserved g c =
