@@ -1,11 +1,10 @@
 -- What a restore of a pool that is held in memory comes to.
-use Rattle.std.proofs.Common.{◌≡◌, ◌⊎◌, inl, inr, ⊎_elim, ℕ, ◌<◌, ◌≤◌, List, [], Some, None, IfSome, Result, Ok, Err, refl, ap, subst, ◌∙◌, arith}
+use Rattle.std.proofs.Common.{◌≡◌, inl, inr, ⊎_elim, ℕ, ◌<◌, ◌≤◌, List, [], Some, None, IfSome, Result, Ok, Err, refl, ap, subst, ◌∙◌, arith}
 use Rattle.std.proofs.lemmas.Option.{IfSome_then, same_Some}
 use Rattle.pd_kinds.specs.Crash.{HoldsSynced, IsOldNoneOrMade, LeavesOnly}
 use Rattle.pd_kinds.specs.Limits.{room_of}
 use Rattle.pd_kinds.specs.Meaning.{ThinPool}
 use Rattle.pd_kinds.specs.Objects.{DeviceState, SourceState}
-use Rattle.pd_kinds.specs.Moments.{now}
 use Rattle.pd_kinds.proofs.CrashLemmas.{still_tells, weaken}
 use Rattle.pd_grammar.specs.Spelling.{Verdict, accepted}
 use Rattle.pd_laid.specs.LaidThin.{laid_pool, laid_shape}

@@ -1,5 +1,5 @@
 -- The mappings of a device, joined to runs as they come.
-use Rattle.std.specs.Prelude.{◌≡◌, ℕ, ◌+◌, ◌≤◌, nat_lt, List, [], ◌++◌, length, map, filter, Option, Some, None, IfSome}
+use Rattle.std.specs.Prelude.{◌≡◌, ℕ, ◌≤◌, nat_lt, List, [], ◌++◌, length, map, filter, Option, Some, None, IfSome}
 use Rattle.std.specs.List.{flat_map}
 use Rattle.pd_kinds.specs.Meaning.{Mapping}
 use Rattle.pd_value.specs.declared.thin.BlockTime.{BlockTime}

@@ -1,4 +1,4 @@
-use Rattle.std.proofs.Common.{map, drop, string_bytes, refl}
+use Rattle.std.proofs.Common.{map, drop, string_bytes}
 use Rattle.pd_answers.specs.Words.{items_of, request_of}
 use Rattle.pd_words.proofs.AskedLemmas.{five_told}
 use Rattle.pd_words.proofs.words.read_repair.Goals as goal
