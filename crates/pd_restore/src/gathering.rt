@@ -1,6 +1,6 @@
 //! What gathers the lines of a pool's text.
 
-ghost use Rattle.std.specs.Prelude.{◌≡◌, ◌-◌, ◌<◌, ◌≤◌, ◌^◌, ℕ, Bool, if◌then◌else◌, List, [], ◌∷◌, length, IfOk, OnOk, MatchResult};
+ghost use Rattle.std.specs.Prelude.{◌≡◌, ◌-◌, ◌<◌, ◌≤◌, ◌^◌, ℕ, Bool, if◌then◌else◌, List, [], ◌∷◌, length, IfOk, IfErr, OnOk, MatchResult};
 ghost use Rattle.pd_image.specs.Device.{IsWritable};
 ghost use Rattle.pd_draft.specs.Closed.{IsClosed, StaysClosed};
 ghost use Rattle.pd_draft.specs.Placed.{Stand};
@@ -13,7 +13,7 @@ ghost use Rattle.pd_texts.specs.declared.thin_state.ThinState.{ThinState};
 ghost use Rattle.pd_texts.specs.ThinLine.{line_of};
 ghost use Rattle.pd_build.specs.Causes.{CountsBuildFault};
 ghost use Rattle.pd_restoring.specs.Reading.{CountsTake, IsOfLater, SaysOf};
-ghost use Rattle.pd_restore.specs.Reading.{Gathers, Reading, CanTake, Follows, CanWrite, HasReadAll, WritesParts, IsOfText, IsOver};
+ghost use Rattle.pd_restore.specs.Reading.{Gathers, Reading, CanTake, Follows, CanWrite, HasReadAll, WritesParts, IsNoRoom, IsOfText, IsOver, IsShort};
 
 use crate::parts::Parts;
 use pd_build::BuildFault;
@@ -98,4 +98,16 @@ pub(crate) trait Gathering: Drop {
             → IfOk result (WritesParts lines room start (stand draft.new)) }
         ensures closed { StaysClosed (stand draft.old).device (stand draft.new).device }
         ensures faults { CountsBuildFault result (stand draft.old).device.faults (stand draft.new).device.faults };
+}
+
+/// Whether there is room for so many blocks.
+pub(crate) fn within(need: u64, room: u64) -> Result<(), RestoreFault>
+    ensures need { MatchResult result (λ _. need ≤ room) (IsShort room need) }
+    ensures fault { IfErr result IsNoRoom }
+{
+    if need > room {
+        Err(RestoreFault::NoRoom { need, blocks: room })
+    } else {
+        Ok(())
+    }
 }

@@ -9,7 +9,7 @@ ghost use Rattle.pd_shapes.specs.SharedNeed.{told_devices};
 ghost use Rattle.pd_texts.specs.ThinLine.{line_of};
 ghost use Rattle.pd_restore.specs.Shared.{HasShared, lacks_pieces};
 
-use crate::gathering::Gathering;
+use crate::gathering::{Gathering, within};
 use crate::parts::{Parts, write_behind};
 use crate::shared_lines::put_shared;
 use pd_build::BuildFault;
@@ -84,12 +84,7 @@ impl Gathering for SharedLines {
         room: u64,
     ) -> Result<(), RestoreFault> {
         let needed = self.need_at_end(room);
-        if needed > room {
-            return Err(RestoreFault::NoRoom {
-                need: needed,
-                blocks: room,
-            });
-        }
+        within(needed, room)?;
         match self.devices.end(draft) {
             Ok(()) => {
                 self.lines = self.lines.saturating_add(1);

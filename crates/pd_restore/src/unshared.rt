@@ -13,7 +13,7 @@ ghost use Rattle.pd_build.specs.Causes.{CountsBuildFault};
 ghost use Rattle.pd_restore.specs.Reading.{CanTake, Follows, IsNoRoom, IsShort};
 ghost use Rattle.pd_restore.specs.Unshared.{HasUnshared};
 
-use crate::gathering::Gathering;
+use crate::gathering::{Gathering, within};
 use crate::parts::{Parts, write_behind};
 use pd_build::BuildFault;
 use pd_count::Counts;
@@ -130,13 +130,5 @@ fn look(devices: &Devices, room: u64) -> Result<(), RestoreFault>
         → MatchResult result (λ _. min (thin_need_so_far room before) (2 ^ 64 - 1) ≤ room) (IsShort room (min (thin_need_so_far room before) (2 ^ 64 - 1))) }
     ensures fault { IfErr result IsNoRoom }
 {
-    let needed = devices.need(room);
-    if needed > room {
-        Err(RestoreFault::NoRoom {
-            need: needed,
-            blocks: room,
-        })
-    } else {
-        Ok(())
-    }
+    within(devices.need(room), room)
 }
