@@ -23,7 +23,7 @@ ghost use Rattle.pd_query.specs.SharedLines.{body_lines, entries_in, leaf_lines,
 
 use crate::counts::DumpCounts;
 use crate::fault::QueryFault;
-use crate::lines::{print_line, print_thin_line};
+use crate::lines::{print_line, print_text_line};
 use crate::shared_devices::SharingDevices;
 use crate::thin_lines::{add_runs_of, map_line, pool_line};
 use pd_image::{Device, Failed, Sink};
@@ -93,7 +93,7 @@ fn add_leaf<D: Device, K: Sink>(
         Ok(entries) => entries,
         Err(_) => return Err(QueryFault::Device),
     };
-    print_thin_line(&ThinLine::Leaf { number, entries }, printer)?;
+    print_text_line(&ThinLine::Leaf { number, entries }, printer)?;
     add_runs_of(block, runs, dev, printer, &mut DumpCounts::none())
 }
 
@@ -138,7 +138,7 @@ fn add_pieces<D: Device, K: Sink>(
             Err(_) => return Err(QueryFault::Device),
         };
         match piece {
-            Some(piece) => print_thin_line(&piece_line(&piece), printer)?,
+            Some(piece) => print_text_line(&piece_line(&piece), printer)?,
             None => return Ok(()),
         }
     }
@@ -185,7 +185,7 @@ fn add_sharing_device<D: Device, K: Sink>(
         id: row.id,
         details: row.details,
     };
-    print_thin_line(&line, printer)?;
+    print_text_line(&line, printer)?;
     add_pieces_of(row.root, pieces, shared, dev, printer)
 }
 
@@ -270,7 +270,7 @@ pub(crate) fn add_shared_pool<D: Device, K: Sink>(
     ensures faults { Fails result (D.state dev.old).faults (D.state dev.new).faults (K.state printer.old.out.now).faults (K.state printer.new.out.now).faults }
 {
     add_shared_first(printer)?;
-    print_thin_line(&pool_line(s), printer)?;
+    print_text_line(&pool_line(s), printer)?;
     add_body(sharing, dev, printer)?;
     print_line(bytes_of_end(), printer)
 }

@@ -7,10 +7,9 @@ ghost use Rattle.pd_texts.specs.ThinLine.{line_of};
 
 use crate::print::{bytes_of_end, bytes_of_first};
 use crate::thin_line::ThinLine;
-use crate::thin_print::bytes_of_thin;
 use pd_image::{Failed, Source};
 use pd_kinds::Kind;
-use pd_lines::LineBuffer;
+use pd_lines::{PieceBuffer, TextLine};
 
 /// What makes the lines of a pool's text that stand between its first and its last one.
 pub trait MadeLines: Drop {
@@ -29,7 +28,7 @@ pub trait MadeLines: Drop {
 pub struct MadeSource<L: MadeLines> {
     lines: L,
     /// The line that is given now.
-    line: LineBuffer,
+    line: PieceBuffer,
     /// How many of its bytes were given.
     given: usize,
     /// Whether it is the last one.
@@ -85,14 +84,15 @@ impl<L: MadeLines> MadeSource<L> {
         if self.ended {
             return false;
         }
+        self.given = 0;
+        self.line.clear();
         match self.lines.next() {
-            Some(line) => self.line = bytes_of_thin(&line),
+            Some(line) => line.add_to(&mut self.line),
             None => {
-                self.line = end_text();
+                self.line.add(bytes_of_end());
                 self.ended = true;
             }
         }
-        self.given = 0;
         true
     }
 
@@ -130,20 +130,11 @@ impl<L: MadeLines> Source for MadeSource<L> {
 }
 
 /// The bytes of the first line.
-fn first_text() -> LineBuffer
+fn first_text() -> PieceBuffer
     ensures { result ≡ text_of_line thin first_line }
 {
-    let mut line = LineBuffer::new();
+    let mut line = PieceBuffer::new();
     line.add(bytes_of_first(Kind::Thin));
-    line
-}
-
-/// The bytes of the last line.
-fn end_text() -> LineBuffer
-    ensures { result ≡ text_of_line thin end_line }
-{
-    let mut line = LineBuffer::new();
-    line.add(bytes_of_end());
     line
 }
 
