@@ -16,7 +16,7 @@ use pd_era_texts::{EraLine, EraRuns};
 use pd_image::Sink;
 use pd_kinds::{EraSuper, Kind};
 use pd_lines::Printer;
-use pd_query::{QueryFault, print_line, print_text_line};
+use pd_query::{QueryFault, finish, print_line, print_text_line};
 use pd_texts::{bytes_of_end, bytes_of_first};
 
 /// The line of an era target.
@@ -74,8 +74,5 @@ pub(crate) fn put_eras<K: Sink>(s: &EraSuper, eras: &[u32], out: &mut K) -> Resu
 {
     let mut printer = Printer::over(out);
     add_target(s, eras, &mut printer)?;
-    match printer.finish() {
-        Ok(()) => Ok(()),
-        Err(_) => Err(QueryFault::Sink),
-    }
+    finish(printer)
 }

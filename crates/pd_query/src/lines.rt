@@ -2,7 +2,7 @@
 
 ghost use Rattle.std.specs.Prelude.{◌≡◌, ◌≤◌, ◌∷◌, [], OnOk, length};
 ghost use Rattle.pd_lines.specs.Printer.{printing};
-ghost use Rattle.pd_lines.specs.Printing.{Prints};
+ghost use Rattle.pd_lines.specs.Printing.{Finishes, Prints};
 ghost use Rattle.pd_spells.specs.ThinText.{end_line, first_line, thin};
 ghost use Rattle.pd_texts.specs.Printed.{text_of_line};
 ghost use Rattle.pd_texts.specs.ThinLine.{line_of};
@@ -41,6 +41,18 @@ pub fn print_text_line<L: TextLine, K: Sink>(
     ensures faults { SinkFails result (K.state printer.old.out.now).faults (K.state printer.new.out.now).faults }
 {
     match printer.print_line(line) {
+        Ok(()) => Ok(()),
+        Err(_) => Err(QueryFault::Sink),
+    }
+}
+
+/// Puts what is pending. Fails with `Sink` where the sink failed.
+pub fn finish<K: Sink>(printer: Printer<'_, K>) -> Result<(), QueryFault>
+    requires { (K.state printer.out.now).access ≡ 1 }
+    ensures finishes { Finishes result (printing K.state printer.entry) (K.state printer.exit.0.now) }
+    ensures faults { SinkFails result (K.state printer.entry.out.now).faults (K.state printer.exit.0.now).faults }
+{
+    match printer.finish() {
         Ok(()) => Ok(()),
         Err(_) => Err(QueryFault::Sink),
     }

@@ -33,13 +33,19 @@ use pd_shared_leaves::{Piece, PieceRuns, SharedLeaves};
 use pd_texts::{ThinLine, bytes_of_end, bytes_of_shared_first};
 use pd_thin_meaning::{DeviceRow, MapRuns, ThinDevices};
 
-/// The line of a piece.
-fn piece_line(piece: &Piece) -> ThinLine
-    ensures { line_of result ≡ piece_line piece.now }
+/// Prints the line of a piece.
+fn print_piece<K: Sink>(piece: &Piece, printer: &mut Printer<'_, K>) -> Result<(), QueryFault>
+    requires { (K.state printer.old.out.now).access ≡ 1 }
+    ensures same_reference { printer.new.out.ghost_name ≡ printer.old.out.ghost_name }
+    ensures prints { Prints (text_of_line thin (piece_line piece.now)) result (printing K.state printer.old) (printing K.state printer.new) }
+    ensures faults { SinkFails result (K.state printer.old.out.now).faults (K.state printer.new.out.now).faults }
 {
     match piece {
-        Piece::Run(run) => map_line(run),
-        Piece::SharedLeaf(number) => ThinLine::UseLeaf { number: *number },
+        Piece::Run(run) => print_text_line(&map_line(run), printer),
+        Piece::SharedLeaf(number) => print_text_line(
+            &ThinLine::UseLeaf { number: *number },
+            printer,
+        ),
     }
 }
 
@@ -138,7 +144,7 @@ fn add_pieces<D: Device, K: Sink>(
             Err(_) => return Err(QueryFault::Device),
         };
         match piece {
-            Some(piece) => print_text_line(&piece_line(&piece), printer)?,
+            Some(piece) => print_piece(&piece, printer)?,
             None => return Ok(()),
         }
     }
