@@ -7,8 +7,8 @@ ghost use Rattle.pd_texts.specs.Printed.{text_of_line};
 use crate::lines::Generated;
 use pd_image::{Failed, Source};
 use pd_kinds::Kind;
-use pd_lines::LineBuffer;
-use pd_texts::{bytes_of_end, bytes_of_first, bytes_of_thin};
+use pd_lines::{PieceBuffer, TextLine};
+use pd_texts::{bytes_of_end, bytes_of_first};
 
 /// A source whose text is that of the generator for a number. It opens every path and tells none, never fails, and takes
 /// no memory: it holds one line at a time.
@@ -16,7 +16,7 @@ use pd_texts::{bytes_of_end, bytes_of_first, bytes_of_thin};
 pub struct GenSource {
     lines: Generated,
     /// The line that is given now.
-    line: LineBuffer,
+    line: PieceBuffer,
     /// How many of its bytes were given.
     given: usize,
     /// Whether it is the last one.
@@ -72,14 +72,15 @@ impl GenSource {
         if self.ended {
             return false;
         }
+        self.given = 0;
+        self.line.clear();
         match self.lines.next() {
-            Some(line) => self.line = bytes_of_thin(&line),
+            Some(line) => line.add_to(&mut self.line),
             None => {
-                self.line = end_text();
+                self.line.add(bytes_of_end());
                 self.ended = true;
             }
         }
-        self.given = 0;
         true
     }
 
@@ -117,20 +118,11 @@ impl Source for GenSource {
 }
 
 /// The bytes of the first line.
-fn first_text() -> LineBuffer
+fn first_text() -> PieceBuffer
     ensures { result ≡ text_of_line thin first_line }
 {
-    let mut line = LineBuffer::new();
+    let mut line = PieceBuffer::new();
     line.add(bytes_of_first(Kind::Thin));
-    line
-}
-
-/// The bytes of the last line.
-fn end_text() -> LineBuffer
-    ensures { result ≡ text_of_line thin end_line }
-{
-    let mut line = LineBuffer::new();
-    line.add(bytes_of_end());
     line
 }
 

@@ -29,7 +29,7 @@ pub use thin_laws::{
     read_thin_lines_mean_a_pool, thin_lines_are_printed_in_order, whole_thin_text_spells,
 };
 pub use thin_line::{Run2, ThinLine};
-pub use thin_print::{bytes_of_shared_first, bytes_of_thin, print_shared_first, print_thin};
+pub use thin_print::{bytes_of_shared_first, print_shared_first, print_thin};
 pub use thin_state::ThinState;
 pub use thin_text::ThinText;
 pub use values::read_values;
