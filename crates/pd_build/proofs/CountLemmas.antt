@@ -5,7 +5,7 @@ use Rattle.std.proofs.lemmas.Bool.{cases_lt, cases_eq}
 use Rattle.std.proofs.lemmas.Nat.{le-div}
 use Rattle.pd_kinds.specs.Node.{max_entries}
 use Rattle.pd_spells.specs.Need.{nodes_for}
-use Rattle.pd_build.proofs.SpreadLemmas.{IsFirstOf, first_of}
+use Rattle.pd_laid.proofs.SpreadParts.{IsFirstOf, first_of}
 use Rattle.pd_build.specs.Leaves.{AreCounts}
 
 pub parts_none : (most : ℕ) → 1 ≤ most → nodes_for most 0 ≡ 0

@@ -15,7 +15,7 @@ unfolding need_above
 need_one zero nodes few = refl
 need_one (suc k) nodes few = rw (le-ltb 1 nodes few) refl
 
-need_more : (k nodes : ℕ) → 1 < nodes → need_above (suc k) nodes ≡ nodes_for 252 nodes + need_above k (nodes_for 252 nodes)
+pub need_more : (k nodes : ℕ) → 1 < nodes → need_above (suc k) nodes ≡ nodes_for 252 nodes + need_above k (nodes_for 252 nodes)
 unfolding need_above
 need_more k nodes many = rw (lt-ltb 1 nodes many) refl
 

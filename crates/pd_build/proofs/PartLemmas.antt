@@ -5,7 +5,7 @@ use Rattle.std.proofs.Math.Seq.{take-append_seam, drop-append_seam}
 use Rattle.std.proofs.lemmas.List.{length-drop}
 use Rattle.std.proofs.lemmas.List.Sums.{sum_by-cons}
 use Rattle.pd_laid.specs.Tree.{spread}
-use Rattle.pd_build.proofs.SpreadLemmas.{first_of}
+use Rattle.pd_laid.proofs.SpreadParts.{first_of}
 use Rattle.pd_build.specs.Parts.{even_sizes, cut}
 
 pub length-even : (k n : ℕ) → length (even_sizes k n) ≡ k

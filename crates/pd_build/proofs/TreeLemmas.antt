@@ -15,7 +15,8 @@ use Rattle.pd_build.specs.Leaves.{LeavesLeft, items_to_come, leaves_to_come, end
 use Rattle.pd_build.specs.Tree.{TreeLeft, leaf_number, leaves_left, blocks_left, root_left, number_left, Grows, AreKeysInOrder}
 use Rattle.pd_build.proofs.CountLemmas.{parts_none, parts_some}
 use Rattle.pd_laid.proofs.LaidLemmas.{blocks_from-append}
-use Rattle.pd_build.proofs.UpperLemmas.{heads-append, uppers_one, root_one}
+use Rattle.pd_laid.proofs.Rows.{levels_one}
+use Rattle.pd_build.proofs.UpperLemmas.{heads-append, root_one}
 use Rattle.pd_build.proofs.RowLemmas.{moved_by}
 
 -- a tree of these leaves below what stands above
@@ -185,7 +186,7 @@ one_leaf : (size place : ℕ) → all_blocks size place [] ([] ∷ []) ≡ leaf_
 unfolding blocks_from
 one_leaf size place =
     let few = length-heads place ([] ∷ []) in
-    ap (λ (up : List (List Entry)). leaf_block size place [] ∷ blocks_from inner_block (place + 1) up) (uppers_one 10 (place + 1) (heads place ([] ∷ [])) (omega arith))
+    ap (λ (up : List (List Entry)). leaf_block size place [] ∷ blocks_from inner_block (place + 1) up) (levels_one 10 (place + 1) (heads place ([] ∷ [])) (omega arith))
 
 one_root : (place q : ℕ) → root_above q (heads place ([] ∷ [])) ≡ place
 unfolding heads

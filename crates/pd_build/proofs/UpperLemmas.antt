@@ -13,11 +13,13 @@ use Rattle.pd_spells.specs.Need.{nodes_for, need_above}
 use Rattle.pd_laid.proofs.SpreadLemmas.{length-spread}
 use Rattle.pd_build.proofs.OrderLemmas.{keys, asc_left, asc_right, heads_ascend}
 use Rattle.pd_laid.proofs.NeedLemmas.{length-heads}
+use Rattle.pd_laid.proofs.Rows.{levels_one, levels_more, first_head}
 use Rattle.pd_build.proofs.RowLemmas.{moved_by, rows_then, row_next, wrote_nothing}
 use Rattle.pd_build.proofs.SpreadLemmas.{level_spread}
 use Rattle.pd_build.specs.Leaves.{AreCounts}
 use Rattle.pd_build.specs.Rows.{links}
 use Rattle.pd_build.proofs.CountLemmas.{IsEndOf, end_of, parts_some, nodes_at}
+use Rattle.pd_build.proofs.NeedLemmas.{need_more}
 
 -- where a level is half written: the first parts of the level below were used up
 pub record IsHalf (nodes : ℕ) (all : List Entry) (i used : ℕ) : Type 0 where
@@ -200,23 +202,6 @@ half_moved nodes i all from to within wrote =
 pub all_parts_taken : (nodes : ℕ) (all : List Entry) → take nodes (spread nodes all) ≡ spread nodes all
 all_parts_taken nodes all = take_all nodes (spread nodes all) (omega (arith, length-spread nodes all))
 
--- the levels above one node, and above more
-pub uppers_one : (k place : ℕ) (below : List Entry) → length below ≤ 1 → levels_above k place below ≡ []
-unfolding levels_above
-uppers_one zero place below few = refl
-uppers_one (suc k) place below few = rw (le-ltb 1 (length below) few) refl
-
-pub uppers_more : (k place : ℕ) (below : List Entry) → 1 < length below
-    → levels_above (suc k) place below
-    ≡ spread (nodes_for 252 (length below)) below
-    ++ levels_above k (place + length (spread (nodes_for 252 (length below)) below)) (heads place (spread (nodes_for 252 (length below)) below))
-unfolding levels_above
-uppers_more k place below many = rw (lt-ltb 1 (length below) many) refl
-
-need_more : (k nodes : ℕ) → 1 < nodes → need_above (suc k) nodes ≡ nodes_for 252 nodes + need_above k (nodes_for 252 nodes)
-unfolding need_above
-need_more k nodes many = rw (lt-ltb 1 nodes many) refl
-
 pub root_one : (place : ℕ) (below : List Entry) → length below ≤ 1 → root_above place below ≡ first_place below
 unfolding root_above
 root_one place below few = rw (le-ltb 1 (length below) few) refl
@@ -239,11 +224,6 @@ rising_start all stand some few asc closed = record {
   need = refl;
 }
 
-first_head : (place : ℕ) (nodes : List (List Entry)) → 1 ≤ length nodes → first_place (heads place nodes) ≡ place
-unfolding heads
-first_head place [] some = absurd (omega arith)
-first_head place (node ∷ nodes) some = refl
-
 -- one level more
 rising_by : (fuel : ℕ) (done : List (List Entry)) (all level next : List Entry) (from mid to : Stand)
     → length level ≤ 252 ^ fuel → is_ascending (keys level) ≡ true
@@ -262,7 +242,7 @@ rising_by (suc k) done all level next from mid to high asc whole before need man
     let at : mid.place ≡ from.place + length done = moved_by inner_block done before in
     let count : length next ≡ length row = ap length is ∙ length-heads mid.place row in
     let up : levels_above (suc k) mid.place level ≡ row ++ levels_above k to.place next =
-    uppers_more k mid.place level many
+    levels_more k mid.place level many
     ∙ sym (ap₂ (λ (p : ℕ) (hs : List Entry). row ++ levels_above k p hs) moved is) in
     let all_up : levels_above 10 from.place all ≡ (done ++ row) ++ levels_above k to.place next =
     whole ∙ (ap (λ (rest : List (List Entry)). done ++ rest) up ∙ sym (append_assoc done row (levels_above k to.place next))) in
@@ -277,14 +257,14 @@ rising_by (suc k) done all level next from mid to high asc whole before need man
       wrote = rows_then inner_block done row before wrote;
       top = λ one.
           let last : levels_above 10 from.place all ≡ done ++ row =
-          all_up ∙ (ap (λ (rest : List (List Entry)). (done ++ row) ++ rest) (uppers_one k to.place next (omega arith)) ∙ append-nil (done ++ row)) in
+          all_up ∙ (ap (λ (rest : List (List Entry)). (done ++ row) ++ rest) (levels_one k to.place next (omega arith)) ∙ append-nil (done ++ row)) in
           let total : length (levels_above 10 from.place all) ≡ length done + length row = ap length last ∙ length-append done row in
           elim (cases_lt 1 (length all)) [
             | inl more ↦
                 ap first_place is ∙ (first_head mid.place row (omega arith)
                 ∙ sym (root_more from.place all more ∙ omega arith))
             | inr few ↦
-                let nothing : length (levels_above 10 from.place all) ≡ 0 = ap length (uppers_one 10 from.place all few) in
+                let nothing : length (levels_above 10 from.place all) ≡ 0 = ap length (levels_one 10 from.place all few) in
                 absurd (omega arith)
           ];
       need =
@@ -313,7 +293,7 @@ pub rising_end : {all level : List Entry} {from to : Stand} → IsRising all lev
     → Wrote (blocks_from inner_block from.place (levels_above 10 from.place all)) from to
 rising_end {all} {level} {from} {to} r few =
     let last : levels_above 10 from.place all ≡ r.done =
-    r.whole ∙ (ap (λ (rest : List (List Entry)). r.done ++ rest) (uppers_one r.fuel to.place level few) ∙ append-nil r.done) in
+    r.whole ∙ (ap (λ (rest : List (List Entry)). r.done ++ rest) (levels_one r.fuel to.place level few) ∙ append-nil r.done) in
     rw last r.wrote
 
 -- a whole vector that was lent as a slice

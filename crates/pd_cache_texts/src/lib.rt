@@ -17,5 +17,5 @@ pub use laws::{
     read_cache_lines_mean_a_cache, whole_cache_text_spells,
 };
 pub use line::CacheLine;
-pub use print::{bytes_of_cache, print_cache};
+pub use print::print_cache;
 pub use state::{CacheState, CacheText};

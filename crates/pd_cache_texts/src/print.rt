@@ -1,6 +1,6 @@
 //! The lines of a cache's text, printed.
 
-ghost use Rattle.std.specs.Prelude.{◌≡◌, ◌≤◌, ◌+◌, ◌++◌, ◌∷◌, OnOk, length, decimal, codes, slice_index, []};
+ghost use Rattle.std.specs.Prelude.{◌≡◌, OnOk, ◌≤◌, ◌+◌, ◌++◌, ◌∷◌, length, decimal, codes, slice_index, []};
 ghost use Rattle.hex.specs.Hex.{encode_lower};
 ghost use Rattle.uuid.specs.Text.{hyphenated_text, lower};
 ghost use Rattle.pd_kinds.specs.Objects.{CountsFault, Appends, AppendsFront};
@@ -11,7 +11,7 @@ ghost use Rattle.pd_cache_texts.specs.CacheLine.{line_of};
 
 use crate::line::CacheLine;
 use pd_image::{Failed, Sink};
-use pd_lines::LineBuffer;
+use pd_lines::{PieceBuffer, TextLine, put_line};
 use pd_texts::{add_uuid, add_word};
 
 /// Prints a line. It takes no memory.
@@ -22,51 +22,42 @@ pub fn print_cache<K: Sink>(line: &CacheLine, out: &mut K) -> Result<(), Failed>
     ensures kept { KeepsSink (K.state out.old) (K.state out.new) }
     ensures faults { CountsFault result (K.state out.old).faults (K.state out.new).faults }
 {
-    out.put(bytes_of_cache(line).as_bytes())
+    put_line(line, out)
 }
 
-/// The bytes of a line, with its line feed.
-pub fn bytes_of_cache(line: &CacheLine) -> LineBuffer
-    ensures bytes { result ≡ text_of_line cache (line_of line.now) }
-{
-    let mut text = LineBuffer::new();
-    add_cache(&mut text, line);
-    text
-}
+impl TextLine for CacheLine {
+    ghost bytes = { λ line. text_of_line cache (line_of line) };
 
-/// Adds the bytes of a line to a text without bytes.
-fn add_cache(text: &mut LineBuffer, line: &CacheLine)
-    requires { text.old ≡ [] }
-    ensures { text.new ≡ text_of_line cache (line_of line.now) }
-{
-    match line {
-        CacheLine::Cache {
-            uuid,
-            block_size,
-            blocks,
-            clean,
-            policy,
-            versions,
-            hint_size,
-        } => {
-            add_head(text, *uuid, *block_size, *blocks, *clean);
-            add_policy_words(text, *policy, *versions, *hint_size);
+    fn add_to(&self, text: &mut PieceBuffer) {
+        match self {
+            CacheLine::Cache {
+                uuid,
+                block_size,
+                blocks,
+                clean,
+                policy,
+                versions,
+                hint_size,
+            } => {
+                add_head(text, *uuid, *block_size, *blocks, *clean);
+                add_policy_words(text, *policy, *versions, *hint_size);
+            }
+            CacheLine::Map {
+                block,
+                origin,
+                dirty,
+                hint,
+            } => add_map(text, *block, *origin, *dirty, *hint),
         }
-        CacheLine::Map {
-            block,
-            origin,
-            dirty,
-            hint,
-        } => add_map(text, *block, *origin, *dirty, *hint),
     }
 }
 
 /// Adds the bytes of a cache line up to its policy name.
-fn add_head(line: &mut LineBuffer, uuid: [u8; 16], block_size: u32, blocks: u32, clean: bool)
-    requires { line.old ≡ [] }
-    ensures bytes { line.new ≡ codes "cache " ++ (hyphenated_text lower uuid
-        ++ (32 ∷ decimal block_size ++ (32 ∷ decimal blocks ++ (32 ∷ decimal (flag_number clean))))) }
-    ensures len { length line.new ≤ 66 }
+fn add_head(line: &mut PieceBuffer, uuid: [u8; 16], block_size: u32, blocks: u32, clean: bool)
+    requires { length line.old + 161 ≤ 16384 }
+    ensures bytes { line.new ≡ line.old ++ (codes "cache " ++ (hyphenated_text lower uuid
+        ++ (32 ∷ decimal block_size ++ (32 ∷ decimal blocks ++ (32 ∷ decimal (flag_number clean)))))) }
+    ensures len { length line.new ≤ length line.old + 66 }
 {
     line.add(b"cache ");
     add_uuid(line, uuid);
@@ -76,8 +67,8 @@ fn add_head(line: &mut LineBuffer, uuid: [u8; 16], block_size: u32, blocks: u32,
 }
 
 /// Adds the rest of a cache line.
-fn add_policy_words(line: &mut LineBuffer, policy: [u8; 16], versions: [u32; 3], hint_size: u32)
-    requires { length line.old ≤ 66 }
+fn add_policy_words(line: &mut PieceBuffer, policy: [u8; 16], versions: [u32; 3], hint_size: u32)
+    requires { length line.old + 95 ≤ 16384 }
     ensures bytes { line.new ≡ line.old ++ (32 ∷ encode_lower policy ++ (32 ∷ decimal (slice_index versions 0)
         ++ (32 ∷ decimal (slice_index versions 1) ++ (32 ∷ decimal (slice_index versions 2) ++ (32 ∷ decimal hint_size ++ (10 ∷ [])))))) }
 {
@@ -90,9 +81,9 @@ fn add_policy_words(line: &mut LineBuffer, policy: [u8; 16], versions: [u32; 3],
 }
 
 /// Adds the bytes of a map line.
-fn add_map(line: &mut LineBuffer, block: u32, origin: u64, dirty: bool, hint: u32)
-    requires { line.old ≡ [] }
-    ensures { line.new ≡ text_of_line cache (map_line (record { block = block; origin = origin; dirty = flag_number dirty; hint = hint })) }
+fn add_map(line: &mut PieceBuffer, block: u32, origin: u64, dirty: bool, hint: u32)
+    requires { length line.old + 161 ≤ 16384 }
+    ensures { line.new ≡ line.old ++ text_of_line cache (map_line (record { block = block; origin = origin; dirty = flag_number dirty; hint = hint })) }
 {
     line.add(b"map");
     add_small(line, block);
@@ -103,8 +94,8 @@ fn add_map(line: &mut LineBuffer, block: u32, origin: u64, dirty: bool, hint: u3
 }
 
 /// Adds a space and a number below 2^32.
-fn add_small(line: &mut LineBuffer, number: u32)
-    requires { length line.old + 21 ≤ 161 }
+fn add_small(line: &mut PieceBuffer, number: u32)
+    requires { length line.old + 21 ≤ 16384 }
     ensures bytes { line.new ≡ line.old ++ (32 ∷ decimal number) }
     ensures len { length line.new ≤ length line.old + 11 }
 {
@@ -112,8 +103,8 @@ fn add_small(line: &mut LineBuffer, number: u32)
 }
 
 /// Adds a space and a flag, 0 or 1.
-fn add_flag(line: &mut LineBuffer, flag: bool)
-    requires { length line.old + 2 ≤ 161 }
+fn add_flag(line: &mut PieceBuffer, flag: bool)
+    requires { length line.old + 2 ≤ 16384 }
     ensures bytes { line.new ≡ line.old ++ (32 ∷ decimal (flag_number flag)) }
     ensures len { length line.new ≡ length line.old + 2 }
 {
@@ -125,8 +116,8 @@ fn add_flag(line: &mut LineBuffer, flag: bool)
 }
 
 /// Adds a space and a policy name, as 32 hexadecimal digits in lower case.
-fn add_policy(line: &mut LineBuffer, policy: [u8; 16])
-    requires { length line.old + 33 ≤ 161 }
+fn add_policy(line: &mut PieceBuffer, policy: [u8; 16])
+    requires { length line.old + 33 ≤ 16384 }
     ensures bytes { line.new ≡ line.old ++ (32 ∷ encode_lower policy) }
     ensures len { length line.new ≡ length line.old + 33 }
 {

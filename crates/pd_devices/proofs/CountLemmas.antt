@@ -10,10 +10,10 @@ use Rattle.pd_spells.specs.ThinNeed.{overflows_in}
 use Rattle.pd_devices.specs.Counts.{overflows_of}
 
 -- how many numbers of a row pass a test
-abbrev passing : (ℕ → Bool) → ℕ → ℕ → ℕ
+abbrev pub passing : (ℕ → Bool) → ℕ → ℕ → ℕ
 passing p a n = count_by p (range_with_len a n)
 
-passing-cons : (p : ℕ → Bool) (a n : ℕ) → passing p a (suc n) ≡ cond (p a) 1 0 + passing p (a + 1) n
+pub passing-cons : (p : ℕ → Bool) (a n : ℕ) → passing p a (suc n) ≡ cond (p a) 1 0 + passing p (a + 1) n
 passing-cons p a n = sum_by-cons (λ (x : ℕ). cond (p x) 1 0) a (range_with_len (a + 1) n)
 
 -- tests that say the same in a row
@@ -24,7 +24,7 @@ same_row p q a (suc n) same =
     ∙ (ap (λ (k : ℕ). cond (q a) 1 0 + k) (same_row p q (a + 1) n (λ d above. same d (omega arith))) ∙ sym (passing-cons q a n)))
 
 -- tests that say the same but at one place of a row
-one_apart : (p q : ℕ → Bool) (b a n : ℕ) → ((d : ℕ) → d ≢ b → p d ≡ q d) → a ≤ b → b < a + n
+pub one_apart : (p q : ℕ → Bool) (b a n : ℕ) → ((d : ℕ) → d ≢ b → p d ≡ q d) → a ≤ b → b < a + n
     → passing q a n + cond (p b) 1 0 ≡ passing p a n + cond (q b) 1 0
 one_apart p q b a zero others above below = absurd (omega arith)
 one_apart p q b a (suc n) others above below = elim (cases_eq a b) [

@@ -25,6 +25,7 @@ use Rattle.pd_devices.proofs.CountLemmas.{overflows_listed}
 use Rattle.pd_devices.proofs.NeedLemmas.{need_by_sum, need_capped}
 use Rattle.pd_laid.specs.LaidThin.{mapping_items}
 use Rattle.pd_laid.specs.Tree.{tree_blocks, tree_root}
+use Rattle.pd_laid.proofs.NeedLemmas.{length-tree_blocks}
 use Rattle.pd_laid_once.specs.Written.{device_trees, device_roots, device_details, trees_need}
 use Rattle.pd_build.specs.Leaves.{items_to_come}
 use Rattle.pd_build.specs.Tree.{TreeLeft, blocks_left, root_left, number_left}
@@ -36,7 +37,7 @@ use Rattle.pd_devices.specs.Gathered.{Grown, IsOpen, open_need, mapped_in, data_
 use Rattle.pd_devices.specs.Lines.{details_line}
 use Rattle.pd_devices.proofs.GrowthLemmas.{grows_none, grows_then, grown_end, grown_root}
 use Rattle.pd_devices.proofs.RunLemmas.{length-items, items-append, length-mappings, run_data}
-use Rattle.pd_devices.proofs.TreeLemmas.{length-tree_blocks, length-device_trees, one_tree_more, one_root_more, sum_few}
+use Rattle.pd_devices.proofs.TreeLemmas.{length-device_trees, one_tree_more, one_root_more, sum_few}
 
 -- the open tree is that of the open device
 pub opened_some : (devices : List ThinDevice) (low left : ℕ) (o : Growing) (from to : Stand) → IsOpen devices low left (Some o) from to

@@ -3,24 +3,13 @@ use Rattle.std.proofs.Common.{◌≡◌, ℕ, ◌+◌, ◌*◌, ◌≤◌, List,
 use Rattle.std.proofs.lemmas.List.{append-nil}
 use Rattle.std.proofs.lemmas.List.Sums.{sum_by-cons}
 use Rattle.pd_kinds.specs.Meaning.{ThinDevice}
-use Rattle.pd_kinds.specs.Node.{Entry}
-use Rattle.pd_kinds.specs.Layout.{plain_tree}
-use Rattle.pd_laid.specs.Laid.{LaidBlock, tree_of, laid_tree}
 use Rattle.pd_laid.specs.LaidThin.{mapping_items}
 use Rattle.pd_laid.specs.Tree.{tree_blocks, tree_root}
-use Rattle.pd_laid.proofs.LaidLemmas.{tree_written, length-blocks_from}
-use Rattle.pd_laid.proofs.NeedLemmas.{length-tree}
+use Rattle.pd_laid.proofs.NeedLemmas.{length-tree_blocks}
 use Rattle.pd_laid_once.specs.Written.{device_trees, device_roots, trees_need}
 use Rattle.pd_laid_once.proofs.WrittenLemmas.{trees-append, roots-append}
 use Rattle.pd_spells.specs.Need.{nodes_for, nodes_of_tree, need_tree}
 use Rattle.pd_devices.proofs.RunLemmas.{length-items}
-
--- a tree has as many blocks as it needs
-pub length-tree_blocks : (size place : ℕ) (items : List Entry) → length (tree_blocks size place items) ≡ need_tree size (length items)
-length-tree_blocks size place items =
-    ap (λ (blocks : List (List ℕ)). length blocks) (sym (tree_written 3 (tree_of (plain_tree size)) place items))
-    ∙ (length-blocks_from (λ at (b : LaidBlock). b.written at) place (laid_tree 3 (tree_of (plain_tree size)) place items)
-    ∙ length-tree 3 (tree_of (plain_tree size)) place items)
 
 pub length-device_trees : (place : ℕ) (devices : List ThinDevice) → length (device_trees place devices) ≡ trees_need devices
 unfolding device_trees
@@ -58,7 +47,7 @@ one_root_more devices d place here =
 nodes_most : (n : ℕ) → n ≤ 252 * nodes_for 252 n
 nodes_most n = omega arith
 
-need_tree_some : (n : ℕ) → n ≤ 252 * need_tree 8 n
+pub need_tree_some : (n : ℕ) → n ≤ 252 * need_tree 8 n
 unfolding nodes_of_tree
 need_tree_some n = omega (arith, nodes_most n)
 

@@ -7,7 +7,7 @@ use pd_cache_meaning::CacheMaps;
 use pd_image::{Device, Sink};
 use pd_kinds::CacheSuper;
 use pd_lines::Printer;
-use pd_query::{Query, QueryFault};
+use pd_query::{Query, QueryFault, finish};
 use std::alloc::{AllocError, Global};
 
 /// The dump of a cache, with the memory that it takes.
@@ -79,10 +79,7 @@ impl CacheDump {
     {
         let mut printer = Printer::over(out);
         add_cache(&self.s, &mut self.maps, dev, &mut printer)?;
-        match printer.finish() {
-            Ok(()) => Ok(()),
-            Err(_) => Err(QueryFault::Sink),
-        }
+        finish(printer)
     }
 }
 

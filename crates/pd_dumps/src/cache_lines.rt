@@ -16,11 +16,11 @@ ghost use Rattle.pd_dumps.specs.CacheDump.{some_room, some_rows};
 ghost use Rattle.pd_dumps.specs.CacheLines.{are_roots_below, dump_lines, given_line, rows_text, super_head, super_rows};
 
 use pd_cache_meaning::{CacheMaps, CacheRow};
-use pd_cache_texts::{CacheLine, bytes_of_cache};
+use pd_cache_texts::CacheLine;
 use pd_image::{Device, Sink};
 use pd_kinds::{CacheSuper, Kind};
 use pd_lines::Printer;
-use pd_query::{QueryFault, print_line};
+use pd_query::{QueryFault, print_line, print_text_line};
 use pd_texts::{bytes_of_end, bytes_of_first};
 use std::alloc::{AllocError, Global};
 
@@ -51,16 +51,6 @@ fn map_line(row: &CacheRow) -> CacheLine
     }
 }
 
-/// Prints a line.
-fn add_line<K: Sink>(line: &CacheLine, printer: &mut Printer<'_, K>) -> Result<(), QueryFault>
-    requires { (K.state printer.old.out.now).access ≡ 1 }
-    ensures same_reference { printer.new.out.ghost_name ≡ printer.old.out.ghost_name }
-    ensures prints { Prints (text_of_line cache (line_of line.now)) result (printing K.state printer.old) (printing K.state printer.new) }
-    ensures faults { SinkFails result (K.state printer.old.out.now).faults (K.state printer.new.out.now).faults }
-{
-    print_line(bytes_of_cache(line).as_bytes(), printer)
-}
-
 /// Prints the lines of the mappings that are left.
 fn add_rows<D: Device, K: Sink>(
     maps: &mut CacheMaps,
@@ -81,7 +71,7 @@ fn add_rows<D: Device, K: Sink>(
             Err(_) => return Err(QueryFault::Device),
         };
         match row {
-            Some(row) => add_line(&map_line(&row), printer)?,
+            Some(row) => print_text_line(&map_line(&row), printer)?,
             None => return Ok(()),
         }
     }
@@ -123,7 +113,7 @@ pub(crate) fn add_cache<D: Device, K: Sink>(
     ensures faults { Fails result (D.state dev.old).faults (D.state dev.new).faults (K.state printer.old.out.now).faults (K.state printer.new.out.now).faults }
 {
     print_line(bytes_of_first(Kind::Cache), printer)?;
-    add_line(&cache_line(s), printer)?;
+    print_text_line(&cache_line(s), printer)?;
     add_some_rows(maps, dev, printer)?;
     print_line(bytes_of_end(), printer)
 }

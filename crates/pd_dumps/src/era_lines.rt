@@ -12,11 +12,11 @@ ghost use Rattle.pd_era_texts.specs.EraLine.{line_of};
 ghost use Rattle.pd_query.specs.Failing.{SinkFails};
 ghost use Rattle.pd_dumps.specs.EraLines.{era_dump_text, runs_text, super_head};
 
-use pd_era_texts::{EraLine, EraRuns, bytes_of_era};
+use pd_era_texts::{EraLine, EraRuns};
 use pd_image::Sink;
 use pd_kinds::{EraSuper, Kind};
 use pd_lines::Printer;
-use pd_query::{QueryFault, print_line};
+use pd_query::{QueryFault, finish, print_line, print_text_line};
 use pd_texts::{bytes_of_end, bytes_of_first};
 
 /// The line of an era target.
@@ -31,16 +31,6 @@ fn era_line(s: &EraSuper) -> EraLine
     }
 }
 
-/// Prints a line.
-fn add_line<K: Sink>(line: &EraLine, printer: &mut Printer<'_, K>) -> Result<(), QueryFault>
-    requires { (K.state printer.old.out.now).access ≡ 1 }
-    ensures same_reference { printer.new.out.ghost_name ≡ printer.old.out.ghost_name }
-    ensures prints { Prints (text_of_line era (line_of line.now)) result (printing K.state printer.old) (printing K.state printer.new) }
-    ensures faults { SinkFails result (K.state printer.old.out.now).faults (K.state printer.new.out.now).faults }
-{
-    print_line(bytes_of_era(line).as_bytes(), printer)
-}
-
 /// Prints the lines of the runs of eras.
 fn add_runs<K: Sink>(eras: &[u32], printer: &mut Printer<'_, K>) -> Result<(), QueryFault>
     requires few { length eras.now < 2 ^ 32 }
@@ -50,7 +40,7 @@ fn add_runs<K: Sink>(eras: &[u32], printer: &mut Printer<'_, K>) -> Result<(), Q
     ensures faults { SinkFails result (K.state printer.old.out.now).faults (K.state printer.new.out.now).faults }
 {
     for line in EraRuns::new(eras) {
-        add_line(&line, printer)?;
+        print_text_line(&line, printer)?;
     }
     Ok(())
 }
@@ -68,7 +58,7 @@ fn add_target<K: Sink>(
     ensures faults { SinkFails result (K.state printer.old.out.now).faults (K.state printer.new.out.now).faults }
 {
     print_line(bytes_of_first(Kind::Era), printer)?;
-    add_line(&era_line(s), printer)?;
+    print_text_line(&era_line(s), printer)?;
     add_runs(eras, printer)?;
     print_line(bytes_of_end(), printer)
 }
@@ -84,8 +74,5 @@ pub(crate) fn put_eras<K: Sink>(s: &EraSuper, eras: &[u32], out: &mut K) -> Resu
 {
     let mut printer = Printer::over(out);
     add_target(s, eras, &mut printer)?;
-    match printer.finish() {
-        Ok(()) => Ok(()),
-        Err(_) => Err(QueryFault::Sink),
-    }
+    finish(printer)
 }

@@ -12,7 +12,7 @@ ghost use Rattle.pd_dumps.specs.SinceLines.{since_of, since_text};
 
 use pd_image::Sink;
 use pd_lines::{LineBuffer, Printer};
-use pd_query::{QueryFault, print_line};
+use pd_query::{QueryFault, finish, print_line};
 
 /// Whether a longest run of blocks that were written in an era or later begins with a block.
 fn begins_run(since: u32, eras: &[u32], block: usize) -> bool
@@ -102,8 +102,5 @@ pub(crate) fn put_since<K: Sink>(since: u32, eras: &[u32], out: &mut K) -> Resul
 {
     let mut printer = Printer::over(out);
     add_since(since, eras, &mut printer)?;
-    match printer.finish() {
-        Ok(()) => Ok(()),
-        Err(_) => Err(QueryFault::Sink),
-    }
+    finish(printer)
 }

@@ -1,7 +1,7 @@
 -- The archived writesets of all blocks that are reached as nodes of their trees.
-use Rattle.std.proofs.Common.{◌≡◌, ℕ, zero, suc, ◌+◌, ◌*◌, ◌<◌, Bool, true, false, cond, nat_eq, List, [], ◌∷◌, ◌++◌, map, filter, inl, inr, refl, sym, ap, ◌∙◌, subst, arith, append-nil}
+use Rattle.std.proofs.Common.{◌≡◌, ℕ, zero, suc, ◌+◌, ◌*◌, ◌<◌, Bool, true, false, cond, nat_eq, List, [], ◌∷◌, ◌++◌, map, filter, refl, sym, ap, ◌∙◌, subst, arith, append-nil}
 use Rattle.std.specs.List.{AllByRecursion, flat_map, range_with_len}
-use Rattle.std.proofs.lemmas.Bool.{cases_Bool, ne_eqb}
+use Rattle.std.proofs.lemmas.Bool.{ne_eqb}
 use Rattle.std.proofs.lemmas.Grind.{flat_map-append}
 use Rattle.std.proofs.lemmas.List.{map-append}
 use Rattle.std.proofs.lemmas.List.FromFn.{map-range_with_len_more}
@@ -18,52 +18,12 @@ use Rattle.pd_graph.proofs.BitLemmas.{pair_block, pair_role, range_more}
 use Rattle.pd_tree.specs.Sound.{IsCleanPair}
 use Rattle.pd_tree.specs.TreeRoles.{HasEraTrees}
 use Rattle.pd_tree.proofs.TableLemmas.{block_pair, leaf_edges_at, role_pair}
+use Rattle.pd_refs.proofs.RoleLemmas.{one_of, passing, range_split}
 use Rattle.pd_whole.specs.Charges.{Charges}
 use Rattle.pd_whole.proofs.ChargeLemmas.{charges_none, charges_then}
 use Rattle.pd_era.specs.Whole.{first_sets, set_array, set_tests, sets_at, sets_before}
 
--- numbers in a row, cut in two
-range_split : (a m n : ℕ) → range_with_len a (m + n) ≡ range_with_len a m ++ range_with_len (a + m) n
-range_split a zero n =
-    let none : zero + n ≡ n = omega arith in
-    let same : a ≡ a + 0 = omega arith in
-    ap (range_with_len a) none ∙ ap (λ k. range_with_len k n) same
-range_split a (suc m) n =
-    let more : suc m + n ≡ suc (m + n) = omega arith in
-    let next : a + 1 + m ≡ a + suc m = omega arith in
-    ap (range_with_len a) more
-    ∙ ap (λ (xs : List ℕ). a ∷ xs) (range_split (a + 1) m n ∙ ap (λ k. range_with_len (a + 1) m ++ range_with_len k n) next)
-
 module _ {Y : Type 0} where
-  -- what the numbers that pass give
-  passing : (p : ℕ → Bool) (f : ℕ → List Y) (xs : List ℕ) → flat_map f (filter p xs) ≡ flat_map (λ x. cond (p x) (f x) []) xs
-  passing p f [] = refl
-  passing p f (x ∷ xs) = elim (cases_Bool (p x)) [
-    | inl passes ↦ rw passes (ap (λ (ys : List Y). f x ++ ys) (passing p f xs))
-    | inr fails ↦ rw fails (passing p f xs)
-  ]
-
-  -- one of a row alone gives something
-  none_of : (g : ℕ → List Y) (n a : ℕ) → ((i : ℕ) → i < n → g (a + i) ≡ []) → flat_map g (range_with_len a n) ≡ []
-  none_of g zero a none = refl
-  none_of g (suc n) a none =
-      let first : a ≡ a + 0 = omega arith in
-      ap (λ (ys : List Y). ys ++ flat_map g (range_with_len (a + 1) n)) (ap g first ∙ none 0 (omega arith))
-      ∙ none_of g n (a + 1) (λ i below. let next : a + 1 + i ≡ a + (i + 1) = omega arith in ap g next ∙ none (i + 1) (omega arith))
-
-  one_of : (g : ℕ → List Y) (n k a : ℕ) → k < n → ((i : ℕ) → i < n → (i ≡ k → ⊥) → g (a + i) ≡ []) → flat_map g (range_with_len a n) ≡ g (a + k)
-  one_of g zero k a within none = absurd (omega arith)
-  one_of g (suc n) zero a within none =
-      let first : a ≡ a + 0 = omega arith in
-      ap (λ (ys : List Y). g a ++ ys) (none_of g n (a + 1) (λ i below. let next : a + 1 + i ≡ a + (i + 1) = omega arith in ap g next ∙ none (i + 1) (omega arith) (λ same. omega (arith, same))))
-      ∙ append-nil (g a) ∙ ap g first
-  one_of g (suc n) (suc k) a within none =
-      let first : a ≡ a + 0 = omega arith in
-      let last : a + 1 + k ≡ a + suc k = omega arith in
-      ap (λ (ys : List Y). ys ++ flat_map g (range_with_len (a + 1) n)) (ap g first ∙ none 0 (omega arith) (λ same. omega (arith, same)))
-      ∙ one_of g n k (a + 1) (omega arith) (λ i below other. let next : a + 1 + i ≡ a + (i + 1) = omega arith in ap g next ∙ none (i + 1) (omega arith) (λ same. other (omega (arith, same))))
-      ∙ ap g last
-
   -- each element of a row has what all have
   at_range : (P : Y → Type 0) (f : ℕ → Y) (n i : ℕ) → AllByRecursion P (map f (range_with_len 0 n)) → i < n → P (f i)
   at_range P f n i all within = let same : 0 + i ≡ i = omega arith in subst (λ k. P (f k)) same (from n 0 i all within)

@@ -15,6 +15,6 @@ pub use laws::{
     read_era_lines_mean_a_target, runs_of_eras_are_apart, whole_era_text_spells,
 };
 pub use line::EraLine;
-pub use print::{bytes_of_era, print_era};
+pub use print::print_era;
 pub use runs::EraRuns;
 pub use state::{EraState, EraText};

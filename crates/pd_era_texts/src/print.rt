@@ -1,6 +1,6 @@
 //! The lines of an era target's text, printed.
 
-ghost use Rattle.std.specs.Prelude.{◌≡◌, [], OnOk};
+ghost use Rattle.std.specs.Prelude.{◌≡◌, OnOk, ◌+◌, ◌≤◌, ◌++◌, length};
 ghost use Rattle.pd_kinds.specs.Objects.{CountsFault, Appends, AppendsFront};
 ghost use Rattle.pd_image.specs.Sink.{KeepsSink};
 ghost use Rattle.pd_spells.specs.EraText.{era, era_line, run_line};
@@ -9,7 +9,7 @@ ghost use Rattle.pd_era_texts.specs.EraLine.{line_of};
 
 use crate::line::EraLine;
 use pd_image::{Failed, Sink};
-use pd_lines::LineBuffer;
+use pd_lines::{PieceBuffer, TextLine, put_line};
 use pd_texts::{add_uuid, add_word};
 
 /// Prints a line. It takes no memory.
@@ -20,38 +20,29 @@ pub fn print_era<K: Sink>(line: &EraLine, out: &mut K) -> Result<(), Failed>
     ensures kept { KeepsSink (K.state out.old) (K.state out.new) }
     ensures faults { CountsFault result (K.state out.old).faults (K.state out.new).faults }
 {
-    out.put(bytes_of_era(line).as_bytes())
+    put_line(line, out)
 }
 
-/// The bytes of a line, with its line feed.
-pub fn bytes_of_era(line: &EraLine) -> LineBuffer
-    ensures bytes { result ≡ text_of_line era (line_of line.now) }
-{
-    let mut text = LineBuffer::new();
-    add_era(&mut text, line);
-    text
-}
+impl TextLine for EraLine {
+    ghost bytes = { λ line. text_of_line era (line_of line) };
 
-/// Adds the bytes of a line to a text without bytes.
-fn add_era(text: &mut LineBuffer, line: &EraLine)
-    requires { text.old ≡ [] }
-    ensures { text.new ≡ text_of_line era (line_of line.now) }
-{
-    match line {
-        EraLine::Era {
-            uuid,
-            block_size,
-            blocks,
-            era,
-        } => add_head(text, *uuid, *block_size, *blocks, *era),
-        EraLine::Run { first, length, era } => add_run(text, *first, *length, *era),
+    fn add_to(&self, text: &mut PieceBuffer) {
+        match self {
+            EraLine::Era {
+                uuid,
+                block_size,
+                blocks,
+                era,
+            } => add_head(text, *uuid, *block_size, *blocks, *era),
+            EraLine::Run { first, length, era } => add_run(text, *first, *length, *era),
+        }
     }
 }
 
 /// Adds the bytes of an era line.
-fn add_head(line: &mut LineBuffer, uuid: [u8; 16], block_size: u32, blocks: u32, current: u32)
-    requires { line.old ≡ [] }
-    ensures { line.new ≡ text_of_line era (era_line (record { uuid = uuid; block_size = block_size; blocks = blocks; era = current })) }
+fn add_head(line: &mut PieceBuffer, uuid: [u8; 16], block_size: u32, blocks: u32, current: u32)
+    requires { length line.old + 161 ≤ 16384 }
+    ensures { line.new ≡ line.old ++ text_of_line era (era_line (record { uuid = uuid; block_size = block_size; blocks = blocks; era = current })) }
 {
     line.add(b"era ");
     add_uuid(line, uuid);
@@ -62,9 +53,9 @@ fn add_head(line: &mut LineBuffer, uuid: [u8; 16], block_size: u32, blocks: u32,
 }
 
 /// Adds the bytes of a run line.
-fn add_run(line: &mut LineBuffer, first: u32, count: u32, last: u32)
-    requires { line.old ≡ [] }
-    ensures { line.new ≡ text_of_line era (run_line (record { first = first; length = count; era = last })) }
+fn add_run(line: &mut PieceBuffer, first: u32, count: u32, last: u32)
+    requires { length line.old + 161 ≤ 16384 }
+    ensures { line.new ≡ line.old ++ text_of_line era (run_line (record { first = first; length = count; era = last })) }
 {
     line.add(b"run");
     add_word(line, first as u64);

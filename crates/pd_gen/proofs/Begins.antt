@@ -1,15 +1,12 @@
 -- The text of the generator's lines.
-use Rattle.std.proofs.Common.{◌≡◌, ℕ, List, [], ◌∷◌, ◌++◌, map, Some, None, refl, ap, sym, ◌∙◌}
+use Rattle.std.proofs.Common.{◌≡◌, ℕ, List, [], ◌∷◌, ◌++◌, map, refl, ap, sym, ◌∙◌}
 use Rattle.std.specs.List.{range_with_len}
 use Rattle.std.proofs.Math.Nat.{sub-zero}
 use Rattle.std.proofs.lemmas.List.{append-nil}
-use Rattle.pd_kinds.specs.Objects.{SourceState}
 use Rattle.pd_grammar.specs.Texts.{text_of_lines}
 use Rattle.pd_spells.specs.ThinText.{Line, end_line, first_line, map_line, thin}
-use Rattle.pd_texts.specs.Made.{made_text, unattached}
 use Rattle.pd_answers.specs.Generated.{generated_mapped, generated_text}
 use Rattle.pd_gen.specs.declared.lines.Place.TheVariants.{Pool}
-use Rattle.pd_gen.specs.GenSource.{unattached_generator}
 use Rattle.pd_gen.specs.Lines.{generated_lines, lines_from, run_of}
 use Rattle.pd_gen.specs.Pool.{generated_pool, snapshot_mapping}
 use Rattle.pd_gen.proofs.Spelled.{text_is}
@@ -19,13 +16,8 @@ unfolding generated_pool
 all_lines number =
     rw (sub-zero (generated_mapped number), append-nil (map map_line (map run_of (map snapshot_mapping (range_with_len 0 (generated_mapped number)))))) refl
 
-text_of_all : (number : ℕ) → made_text (lines_from number Pool) ≡ generated_text number
-text_of_all number = ap (λ (lines : List Line). text_of_lines thin lines) (all_lines number) ∙ sym (text_is number)
-
 -- a text that has all lines left
-pub all_left : (number : ℕ) (lines : List Line) → lines ≡ lines_from number Pool → unattached lines ≡ unattached_generator number
+pub all_left : (number : ℕ) (lines : List Line) → lines ≡ lines_from number Pool → text_of_lines thin (first_line ∷ (lines ++ (end_line ∷ []))) ≡ generated_text number
 all_left number lines all =
-    ap (λ (text : List ℕ). state_of text) (ap (λ (lines : List Line). made_text lines) all ∙ text_of_all number)
-  where
-    state_of : List ℕ → SourceState
-    state_of text = record { access = 0; path = None; left = Some text; faults = 0 }
+    ap (λ (lines : List Line). text_of_lines thin (first_line ∷ (lines ++ (end_line ∷ [])))) all
+    ∙ (ap (text_of_lines thin) (all_lines number) ∙ sym (text_is number))

@@ -2,3 +2,4 @@ pub mod Begins
 pub mod Putting
 pub mod Spelled
 pub mod Numbers
+pub mod Filling

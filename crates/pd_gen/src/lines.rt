@@ -1,12 +1,12 @@
 //! The lines of the generator's text, made one by one.
 
-ghost use Rattle.std.specs.Prelude.{◌≡◌, ◌<◌, ◌^◌, [], IfNone, IfSome};
+ghost use Rattle.std.specs.Prelude.{◌≡◌, ◌<◌, ◌^◌, ◌∷◌, [], IfNone, IfSome};
 ghost use Rattle.pd_spells.specs.ThinText as p;
 ghost use Rattle.pd_texts.specs.ThinLine.{line_of};
 ghost use Rattle.pd_gen.specs.Lines.{Gives, lines_from, run_of};
 ghost use Rattle.pd_gen.specs.Pool.{device_mapping, details_with, generated_head, snapshot_mapping};
 
-use pd_texts::{MadeLines, Run2, ThinLine};
+use pd_texts::{Run2, ThinLine};
 use pd_value::Details;
 
 /// At which virtual blocks the snapshot has a block of its own: at the multiples of this number.
@@ -51,14 +51,12 @@ impl Generated {
             next: Place::Pool,
         }
     }
-}
 
-impl MadeLines for Generated {
-    ghost use Rattle.pd_gen.specs.Lines.{lines_left};
-
-    ghost left = { lines_left };
-
-    fn next(&mut self) -> Option<ThinLine> {
+    /// The next line, or none where all were made.
+    pub(crate) fn next(&mut self) -> Option<ThinLine>
+        ensures none { IfNone result (lines_left self.old ≡ []) }
+        ensures some { IfSome result (λ line. lines_left self.old ≡ line_of line ∷ lines_left self.new) }
+    {
         let step = step_at(self.number, self.next)?;
         self.next = step.next;
         Some(step.line)

@@ -5,10 +5,9 @@ ghost use Rattle.pd_kinds.specs.Objects.{CountsFault, Appends, AppendsFront};
 ghost use Rattle.pd_image.specs.Sink.{KeepsSink};
 ghost use Rattle.pd_answers.specs.Generated.{generated_text};
 
-use crate::lines::Generated;
+use crate::source::GenSource;
 use pd_image::{Failed, Sink};
 use pd_lines::PIECE_ROOM;
-use pd_texts::MadeSource;
 
 /// Puts the text of a number, in pieces. It takes no memory.
 ///
@@ -20,7 +19,7 @@ pub fn put_generated<K: Sink>(number: u32, out: &mut K) -> Result<(), Failed>
     ensures kept { KeepsSink (K.state out.old) (K.state out.new) }
     ensures faults { CountsFault result (K.state out.old).faults (K.state out.new).faults }
 {
-    let mut source = MadeSource::new(Generated::new(number));
+    let mut source = GenSource::new(number);
     let mut piece = [0; PIECE_ROOM];
     loop {
         let n = source.fill(&mut piece);

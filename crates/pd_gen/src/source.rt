@@ -1,28 +1,101 @@
 //! The generator's text as a source.
 
-ghost use Rattle.std.specs.Prelude.{◌≡◌};
+ghost use Rattle.std.specs.Prelude.{true, false, ◌≡◌, ◌+◌, ◌<◌, ◌≤◌, ◌++◌, [], length, take, min};
+ghost use Rattle.pd_spells.specs.ThinText.{end_line, first_line, thin};
+ghost use Rattle.pd_texts.specs.Printed.{text_of_line};
 
 use crate::lines::Generated;
 use pd_image::{Failed, Source};
-use pd_texts::MadeSource;
+use pd_kinds::Kind;
+use pd_lines::{PieceBuffer, TextLine};
+use pd_texts::{bytes_of_end, bytes_of_first};
 
 /// A source whose text is that of the generator for a number. It opens every path and tells none, never fails, and takes
 /// no memory: it holds one line at a time.
 #[derive(Drop)]
 pub struct GenSource {
-    text: MadeSource<Generated>,
+    lines: Generated,
+    /// The line that is given now.
+    line: PieceBuffer,
+    /// How many of its bytes were given.
+    given: usize,
+    /// Whether it is the last one.
+    ended: bool,
+    attached: bool,
+    ghost within: { given ≤ length line },
 }
 
 impl GenSource {
-    ghost use Rattle.pd_gen.specs.GenSource.{gen_source_state, unattached_generator};
+    ghost use Rattle.pd_gen.specs.GenSource.{gen_source_state, text_left, unattached_generator};
 
     /// The text of the number, 1 to 10000 where it is a request's, which isn't attached yet.
     pub fn new(number: u32) -> GenSource
         ensures { gen_source_state result ≡ unattached_generator number }
     {
         GenSource {
-            text: MadeSource::new(Generated::new(number)),
+            lines: Generated::new(number),
+            line: first_text(),
+            given: 0,
+            ended: false,
+            attached: false,
         }
+    }
+
+    /// Moves bytes to the front of `into`, until there is no room or no text: how many.
+    pub(crate) fn fill(&mut self, into: &mut [u8]) -> usize
+        requires { 0 < length into.old }
+        ensures within { result ≤ length into.new }
+        ensures moved { take result into.new ++ text_left self.new ≡ text_left self.old }
+        ensures end { result ≡ 0 → text_left self.new ≡ [] }
+        ensures kept { self.new.attached ≡ self.old.attached }
+    {
+        let mut filled = 0;
+        while filled < into.len() {
+            if !self.has_more() {
+                return filled;
+            }
+            filled += self.give(&mut into[filled..]);
+        }
+        filled
+    }
+
+    /// Whether there is text left; then some of it is in the line.
+    fn has_more(&mut self) -> bool
+        ensures more { result ≡ true → self.new.given < length self.new.line }
+        ensures end { result ≡ false → text_left self.new ≡ [] }
+        ensures left { text_left self.new ≡ text_left self.old }
+        ensures kept { self.new.attached ≡ self.old.attached }
+    {
+        if self.given < self.line.as_bytes().len() {
+            return true;
+        }
+        if self.ended {
+            return false;
+        }
+        self.given = 0;
+        self.line.clear();
+        match self.lines.next() {
+            Some(line) => line.add_to(&mut self.line),
+            None => {
+                self.line.add(bytes_of_end());
+                self.ended = true;
+            }
+        }
+        true
+    }
+
+    /// Moves bytes of the line to the front of `into`: how many.
+    fn give(&mut self, into: &mut [u8]) -> usize
+        requires more { self.old.given < length self.old.line }
+        requires room { 0 < length into.old }
+        ensures some { 0 < result }
+        ensures within { result ≤ length into.new }
+        ensures moved { take result into.new ++ text_left self.new ≡ text_left self.old }
+        ensures kept { self.new.attached ≡ self.old.attached }
+    {
+        let n = copy_front(&self.line.as_bytes()[self.given..], into);
+        self.given += n;
+        n
     }
 }
 
@@ -34,11 +107,31 @@ impl Source for GenSource {
 
     ghost unnamed = { λ _ _. refl };
 
-    fn attach(&mut self, path: &str) -> Result<(), Failed> {
-        self.text.attach(path)
+    fn attach(&mut self, _path: &str) -> Result<(), Failed> {
+        self.attached = true;
+        Ok(())
     }
 
     fn take(&mut self, into: &mut [u8]) -> Result<usize, Failed> {
-        self.text.take(into)
+        Ok(self.fill(into))
     }
+}
+
+/// The bytes of the first line.
+fn first_text() -> PieceBuffer
+    ensures { result ≡ text_of_line thin first_line }
+{
+    let mut line = PieceBuffer::new();
+    line.add(bytes_of_first(Kind::Thin));
+    line
+}
+
+/// Copies as many bytes as there are, and as there is room for: how many.
+fn copy_front(from: &[u8], into: &mut [u8]) -> usize
+    ensures number { result ≡ min (length into.old) (length from.now) }
+    ensures front { take result into.new ≡ take result from.now }
+{
+    let n = from.len().min(into.len());
+    into[..n].copy_from_slice(&from[..n]);
+    n
 }

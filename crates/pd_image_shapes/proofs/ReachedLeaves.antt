@@ -1,7 +1,7 @@
 -- The leaves of mappings that are reached are those in the trees of the devices, in a pool that holds no copy.
-use Rattle.std.proofs.Common.{◌≡◌, ◌↔◌, ◌⊎◌, inl, inr, ℕ, suc, ◌*◌, ◌<◌, ◌≤◌, Bool, true, false, nat_eq, cond, List, [], ◌∷◌, map, refl, sym, subst, ◌∙◌, arith, eq-eqb}
-use Rattle.std.specs.List.{AllByRecursion, flat_map, list_any}
-use Rattle.std.proofs.lemmas.Bool.{both_ways, cases_Bool, cases_lt, eqb-true, or_cases, or_left, or_right, cond_both}
+use Rattle.std.proofs.Common.{◌≡◌, ◌↔◌, ◌⊎◌, inl, inr, ℕ, suc, ◌*◌, ◌<◌, ◌≤◌, true, false, nat_eq, List, [], ◌∷◌, map, refl, sym, subst, ◌∙◌, arith, eq-eqb}
+use Rattle.std.specs.List.{AllByRecursion, list_any}
+use Rattle.std.proofs.lemmas.Bool.{cases_Bool, cases_lt, or_left, cond_both}
 use Rattle.pd_kinds.specs.Edge.{Edge}
 use Rattle.pd_kinds.specs.Graph.{Graph, block_at, block_of, edges_of, is_inner_pair, is_reached, next, pair, role_of}
 use Rattle.pd_kinds.specs.Lawful.{IsLawful, IsWithin}
@@ -28,24 +28,7 @@ use Rattle.pd_tree.proofs.TableLemmas.{leaf_edges_at, tree_at}
 use Rattle.pd_shared_leaves.proofs.OccursLemmas.{among_flat, holds_among}
 use Rattle.pd_settled.proofs.TreePaths.{IsDown, further, is_gathered, short}
 use Rattle.pd_settled.proofs.TreePaths.IsDown.{at_once}
-
--- the entry whose edge leads to a pair
-any_named : (target p : ℕ) → target < 16 → (es : List Entry)
-    → list_any (λ t. nat_eq t p) (map (λ (edge : Edge). pair edge.block edge.role) (flat_map (λ (e : Entry). record { role = target; block = e.value } ∷ []) es)) ≡ true
-    → list_any (λ (e : Entry). nat_eq e.value (block_of p)) es ≡ true
-any_named target p few [] some = absurd (both_ways false refl some)
-any_named target p few (e ∷ es) some = elim (or_cases (nat_eq (pair e.value target) p) _ some) [
-  | inl here ↦
-      let same : pair e.value target ≡ p = eqb-true (pair e.value target) p here in
-      let block : e.value ≡ block_of p = omega arith in
-      or_left (nat_eq e.value (block_of p)) _ (eq-eqb e.value (block_of p) block)
-  | inr later ↦ or_right (nat_eq e.value (block_of p)) _ (any_named target p few es later)
-]
-
--- children are what an inner node leads to, and only an inner node has them
-next_of_child : (inner : Bool) (xs : List ℕ) (c : ℕ) → list_any (λ t. nat_eq t c) (cond inner xs []) ≡ true → inner ≡ true
-next_of_child true xs c some = refl
-next_of_child false xs c some = absurd (both_ways false refl some)
+use Rattle.pd_settled.proofs.DirtyPlaces.{any_named, next_of_child}
 
 -- the tree of mappings has role 3
 pub bottom_is : (nr data_blocks : ℕ) → thin_layout nr data_blocks 3 ≡ tree (bottom_tree data_blocks)

@@ -6,7 +6,7 @@ use Rattle.pd_kinds.specs.Edge.{Edge, edge_of, optional_edge}
 use Rattle.pd_kinds.specs.CacheFormat.{cache_layout, cache_super_block, cache_super_edges, has_dirty_bits}
 use Rattle.pd_kinds.specs.Graph.{Graph}
 use Rattle.pd_kinds.specs.Lawful.{IsLawful}
-use Rattle.pd_kinds.specs.Layout.{array, bitmap, graph_of, index, plain_tree, tree_to}
+use Rattle.pd_kinds.specs.Layout.{array, bitmap, graph_of, index, plain_tree, tree_to, Layout}
 use Rattle.pd_kinds.specs.Meaning.{CacheMeaning}
 use Rattle.pd_laws.proofs.AllLemmas.{all_append, all_from}
 use Rattle.pd_laws.proofs.CacheTable.{cache_table}
@@ -15,10 +15,10 @@ use Rattle.pd_laid.specs.Array.{array_root}
 use Rattle.pd_laid.specs.Laid.{IsLaid, LaidBlock, laid_number, named_by, tree_of}
 use Rattle.pd_laid.specs.LaidCache.{cache_laid_fields, cache_named, cache_parts, dirty_at, dirty_blocks, dirty_root, dirty_words, discard_blocks, discard_root, discards_at, has_hints, hint_blocks, hint_root, hint_words, hints_at, laid_cache, mapping_blocks, mapping_root, mapping_words, meta_map_at, meta_map_blocks}
 use Rattle.pd_laid.specs.Map.{meta_overflow_root}
+use Rattle.pd_laid.proofs.GatherLemmas.{all_first, all_last}
 use Rattle.pd_laid_graph.specs.LaidOut.{AllFrom, IsFitting, IsInPlace, IsNamed, LeadsBelow, laid_super}
 use Rattle.pd_laid_graph.proofs.FitLemmas.{few_named, named_lower}
 use Rattle.pd_laid_graph.proofs.FromLemmas.{from_back, from_both, from_front}
-use Rattle.pd_laid_graph.proofs.ListLemmas.{all_back, all_front}
 use Rattle.pd_laid_graph.proofs.PlaceLemmas.{laid_in_place}
 use Rattle.pd_laid_graph.specs.Items.{IsTreeSeen}
 use Rattle.pd_laid_graph.proofs.Names.{root_leads}
@@ -73,46 +73,21 @@ unfolding laid_cache
 cache_number m version n = omega (arith, parts_end m version, length-append (cache_parts m version) (meta_map_blocks m version n))
 
 -- the roles
-module _ (n : ℕ) where
-  mapping_role : cache_layout n 1 ≡ tree_to 8 2 (λ v. v)
-  unfolding cache_layout
-  mapping_role = refl
+record HasRoles (layout : ℕ → Layout) : Type 0 where
+  mapping : layout 1 ≡ tree_to 8 2 (λ v. v)
+  mapping_words : layout 2 ≡ array 8
+  hint : layout 3 ≡ tree_to 8 4 (λ v. v)
+  hint_words : layout 4 ≡ array 4
+  discard : layout 5 ≡ tree_to 8 6 (λ v. v)
+  map_index : layout 7 ≡ index 8
+  map_bitmap : layout 8 ≡ bitmap
+  map_overflow : layout 9 ≡ plain_tree 4
+  dirty : layout 10 ≡ tree_to 8 11 (λ v. v)
+  dirty_words : layout 11 ≡ array 8
 
-  mapping_words_role : cache_layout n 2 ≡ array 8
-  unfolding cache_layout
-  mapping_words_role = refl
-
-  hint_role : cache_layout n 3 ≡ tree_to 8 4 (λ v. v)
-  unfolding cache_layout
-  hint_role = refl
-
-  hint_words_role : cache_layout n 4 ≡ array 4
-  unfolding cache_layout
-  hint_words_role = refl
-
-  discard_role : cache_layout n 5 ≡ tree_to 8 6 (λ v. v)
-  unfolding cache_layout
-  discard_role = refl
-
-  index_role : cache_layout n 7 ≡ index 8
-  unfolding cache_layout
-  index_role = refl
-
-  bitmap_role : cache_layout n 8 ≡ bitmap
-  unfolding cache_layout
-  bitmap_role = refl
-
-  overflow_role : cache_layout n 9 ≡ plain_tree 4
-  unfolding cache_layout
-  overflow_role = refl
-
-  dirty_role : cache_layout n 10 ≡ tree_to 8 11 (λ v. v)
-  unfolding cache_layout
-  dirty_role = refl
-
-  dirty_words_role : cache_layout n 11 ≡ array 8
-  unfolding cache_layout
-  dirty_words_role = refl
+roles : (n : ℕ) → HasRoles (cache_layout n)
+unfolding cache_layout
+roles n = record { mapping = refl; mapping_words = refl; hint = refl; hint_words = refl; discard = refl; map_index = refl; map_bitmap = refl; map_overflow = refl; dirty = refl; dirty_words = refl }
 
 module _ (m : CacheMeaning) (version n : ℕ) (image : List (List ℕ)) (few : n ≤ 4161600) (lawful : IsLawfulCache m)
     (room : meta_map_at m version + length (meta_map_blocks m version n) ≤ n) (stand : AllFrom (IsInPlace image (cache_all m version n)) 0 (cache_all m version n)) where
@@ -171,34 +146,34 @@ module _ (m : CacheMeaning) (version n : ℕ) (image : List (List ℕ)) (few : n
 
   -- what the superblock names is named
   hints_named : AllByRecursion Named (hint_edges m version)
-  hints_named = all_front Named (hint_edges m version) (behind_hints m version n) super_stands.names.1
+  hints_named = all_first Named (hint_edges m version) (behind_hints m version n) super_stands.names.1
 
   rest_named : AllByRecursion Named (behind_hints m version n)
-  rest_named = all_back Named (hint_edges m version) (behind_hints m version n) super_stands.names.1
+  rest_named = all_last Named (hint_edges m version) (behind_hints m version n) super_stands.names.1
 
   -- each part as the graph sees it
   pub mapping_is : IsArraySeen (graph_of 12 n 0 (cache_layout n)) image (cache_all m version n) (meta_map_at m version) 1 8 1 (mapping_words m version)
   unfolding mapping_blocks
   mapping_is =
-      array_seen 12 n 0 (cache_layout n) image blocks (meta_map_at m version) 1 8 1 (mapping_words m version) (mapping_role n) (mapping_words_role n) (omega arith) (omega arith) (omega arith) (omega arith)
+      array_seen 12 n 0 (cache_layout n) image blocks (meta_map_at m version) 1 8 1 (mapping_words m version) (roles n).mapping (roles n).mapping_words (omega arith) (omega arith) (omega arith) (omega arith)
       few within (omega arith) (omega arith) (mapping_words_fit m lawful version) mapping_stands super_stands.names.0
 
   pub hints_are : MayBeSeen (graph_of 12 n 0 (cache_layout n)) image (cache_all m version n) (meta_map_at m version) (has_hints m) 3 4 (hints_at m version) (hint_words m)
   unfolding hint_blocks
   hints_are =
-      may_see 12 n 0 (cache_layout n) image blocks (meta_map_at m version) 3 4 (hints_at m version) (hint_words m) (hint_role n) (hint_words_role n) (omega arith) (omega arith) (omega arith) (omega arith)
+      may_see 12 n 0 (cache_layout n) image blocks (meta_map_at m version) 3 4 (hints_at m version) (hint_words m) (roles n).hint (roles n).hint_words (omega arith) (omega arith) (omega arith) (omega arith)
       few within (omega arith) (hint_words_fit m lawful) (has_hints m) (omega arith) hints_stand hints_named
 
   pub dirty_is : MayBeSeen (graph_of 12 n 0 (cache_layout n)) image (cache_all m version n) (meta_map_at m version) (has_dirty_bits version) 10 8 (dirty_at m version) (dirty_words m)
   unfolding dirty_blocks
   dirty_is =
-      may_see 12 n 0 (cache_layout n) image blocks (meta_map_at m version) 10 8 (dirty_at m version) (dirty_words m) (dirty_role n) (dirty_words_role n) (omega arith) (omega arith) (omega arith) (omega arith)
+      may_see 12 n 0 (cache_layout n) image blocks (meta_map_at m version) 10 8 (dirty_at m version) (dirty_words m) (roles n).dirty (roles n).dirty_words (omega arith) (omega arith) (omega arith) (omega arith)
       few within (omega arith) (dirty_words_fit m lawful) (has_dirty_bits version) (omega arith) dirty_stand rest_named.1.1.1
 
   pub discards_are : IsTreeSeen (graph_of 12 n 0 (cache_layout n)) image (cache_all m version n) (meta_map_at m version) 5 (tree_of (tree_to 8 6 (λ v. v))) (discards_at m version) []
   unfolding discard_blocks
   discards_are =
-      tree_seen 12 n 0 (cache_layout n) image blocks (meta_map_at m version) 5 (tree_of (tree_to 8 6 (λ v. v))) (discard_role n) (omega arith) (omega arith) (omega arith) few within
+      tree_seen 12 n 0 (cache_layout n) image blocks (meta_map_at m version) 5 (tree_of (tree_to 8 6 (λ v. v))) (roles n).discard (omega arith) (omega arith) (omega arith) few within
       (discards_at m version) [] (omega arith) (omega arith) (no_items blocks (meta_map_at m version) (tree_of (tree_to 8 6 (λ v. v)))) discards_stand rest_named.0
 
   pub discards_lead : LeadsBelow (cache_all m version n) (meta_map_at m version) (edge_of 5 (discard_root m version))
@@ -263,7 +238,7 @@ module _ (m : CacheMeaning) (version n : ℕ) (image : List (List ℕ)) (few : n
   unfolding meta_map_blocks
   meta_is =
       map_seen 12 n 0 (cache_layout n) image blocks (meta_map_at m version + length (meta_map_blocks m version n)) 7 (meta_map_at m version) (cache_named m version)
-      (index_role n) (bitmap_role n) (overflow_role n) (omega arith) (omega arith) few room (omega arith) (omega arith)
+      (roles n).map_index (roles n).map_bitmap (roles n).map_overflow (omega arith) (omega arith) few room (omega arith) (omega arith)
       named_before few_named_before meta_stands rest_named.1.0 rest_named.1.1.0
 
   pub meta_fitting : AllFrom (IsFitting (graph_of 12 n 0 (cache_layout n)) image (cache_all m version n) (meta_map_at m version + length (meta_map_blocks m version n))) (meta_map_at m version) (meta_map_blocks m version n)

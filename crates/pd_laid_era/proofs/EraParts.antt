@@ -6,7 +6,7 @@ use Rattle.pd_kinds.specs.Edge.{Edge, edge_of}
 use Rattle.pd_kinds.specs.EraFormat.{era_layout, era_super_block, era_super_edges, writesets_tree}
 use Rattle.pd_kinds.specs.Graph.{Graph, block_at, block_of, pair}
 use Rattle.pd_kinds.specs.Lawful.{IsLawful}
-use Rattle.pd_kinds.specs.Layout.{array, bitmap, graph_of, index, leaf_entries, plain_tree, tree, tree_to}
+use Rattle.pd_kinds.specs.Layout.{array, bitmap, graph_of, index, leaf_entries, plain_tree, tree, tree_to, Layout}
 use Rattle.pd_kinds.specs.Meaning.{EraMeaning}
 use Rattle.pd_laws.proofs.EraTable.{era_table}
 use Rattle.pd_spells.specs.Lawful.{IsLawfulEra}
@@ -72,30 +72,17 @@ unfolding laid_era era_all
 era_number m n = omega (arith, blocks_number m n)
 
 -- the roles
-module _ (n : ℕ) where
-  pub writesets_role : era_layout n 2 ≡ tree (tree_of writesets_tree)
-  unfolding era_layout
-  writesets_role = refl
+record HasRoles (layout : ℕ → Layout) : Type 0 where
+  writesets : layout 2 ≡ tree (tree_of writesets_tree)
+  eras : layout 5 ≡ tree_to 8 6 (λ v. v)
+  era_words : layout 6 ≡ array 4
+  map_index : layout 7 ≡ index 8
+  map_bitmap : layout 8 ≡ bitmap
+  map_overflow : layout 9 ≡ plain_tree 4
 
-  array_role : era_layout n 5 ≡ tree_to 8 6 (λ v. v)
-  unfolding era_layout
-  array_role = refl
-
-  words_role : era_layout n 6 ≡ array 4
-  unfolding era_layout
-  words_role = refl
-
-  index_role : era_layout n 7 ≡ index 8
-  unfolding era_layout
-  index_role = refl
-
-  bitmap_role : era_layout n 8 ≡ bitmap
-  unfolding era_layout
-  bitmap_role = refl
-
-  overflow_role : era_layout n 9 ≡ plain_tree 4
-  unfolding era_layout
-  overflow_role = refl
+roles : (n : ℕ) → HasRoles (era_layout n)
+unfolding era_layout
+roles n = record { writesets = refl; eras = refl; era_words = refl; map_index = refl; map_bitmap = refl; map_overflow = refl }
 
 -- the tree of writesets is one empty leaf
 pub one_leaf : (m : EraMeaning) → writeset_blocks m ≡ laid_leaf 2 (tree_of writesets_tree) [] ∷ []
@@ -141,13 +128,13 @@ module _ (m : EraMeaning) (n : ℕ) (image : List (List ℕ)) (few : n ≤ 41616
   pub array_is : IsArraySeen (graph_of 10 n 0 (era_layout n)) image (era_all m n) (meta_map_at m) 5 4 1 m.eras
   unfolding era_blocks
   array_is =
-      array_seen 10 n 0 (era_layout n) image blocks (meta_map_at m) 5 4 1 m.eras (array_role n) (words_role n) (omega arith) (omega arith) (omega arith) (omega arith) few within (omega arith)
+      array_seen 10 n 0 (era_layout n) image blocks (meta_map_at m) 5 4 1 m.eras (roles n).eras (roles n).era_words (omega arith) (omega arith) (omega arith) (omega arith) few within (omega arith)
       (omega arith) lawful.eras_fit eras_stand super_stands.names.1.0
 
   pub writesets_are : IsTreeSeen (graph_of 10 n 0 (era_layout n)) image (era_all m n) (meta_map_at m) 2 (tree_of writesets_tree) (writesets_at m) []
   unfolding writeset_blocks
   writesets_are =
-      tree_seen 10 n 0 (era_layout n) image blocks (meta_map_at m) 2 (tree_of writesets_tree) (writesets_role n) (omega arith) (omega arith) (omega arith) few within
+      tree_seen 10 n 0 (era_layout n) image blocks (meta_map_at m) 2 (tree_of writesets_tree) (roles n).writesets (omega arith) (omega arith) (omega arith) few within
       (writesets_at m) [] (omega arith) (omega arith) (no_items blocks (meta_map_at m) (tree_of writesets_tree)) writesets_stand super_stands.names.0
 
   pub writesets_lead : LeadsBelow (era_all m n) (meta_map_at m) (edge_of 2 (writesets_root m))
@@ -170,7 +157,7 @@ module _ (m : EraMeaning) (n : ℕ) (image : List (List ℕ)) (few : n ≤ 41616
   unfolding meta_map_blocks
   meta_is =
       map_seen 10 n 0 (era_layout n) image blocks (meta_map_at m + length (meta_map_blocks m n)) 7 (meta_map_at m) (era_named m)
-      (index_role n) (bitmap_role n) (overflow_role n) (omega arith) (omega arith) few room (omega arith) (omega arith)
+      (roles n).map_index (roles n).map_bitmap (roles n).map_overflow (omega arith) (omega arith) few room (omega arith) (omega arith)
       named_before few_named_before meta_stands super_stands.names.1.1.0 super_stands.names.1.1.1.0
 
   pub meta_fitting : AllFrom (IsFitting (graph_of 10 n 0 (era_layout n)) image (era_all m n) (meta_map_at m + length (meta_map_blocks m n))) (meta_map_at m) (meta_map_blocks m n)
@@ -187,7 +174,7 @@ module _ (m : EraMeaning) (n : ℕ) (image : List (List ℕ)) (few : n ≤ 41616
   no_writesets =
       let e : block_of (pair (writesets_at m) 2) ≡ writesets_at m = omega arith in
       let stands = leaf_stands (writeset_blocks m) (one_leaf m) writesets_stand in
-      let seen = leaf_seen 10 n 0 (era_layout n) image 2 (tree_of writesets_tree) (writesets_role n) (omega arith) (writesets_at m) [] (omega (arith, ap length (one_leaf m))) (omega arith) (omega arith)
+      let seen = leaf_seen 10 n 0 (era_layout n) image 2 (tree_of writesets_tree) (roles n).writesets (omega arith) (writesets_at m) [] (omega (arith, ap length (one_leaf m))) (omega arith) (omega arith)
       stands.stands blocks (meta_map_at m) within (omega arith) (no_items blocks (meta_map_at m) (tree_of writesets_tree)) tt in
       sym (ap (λ (b : ℕ). leaf_entries 12 (block_at image b)) e) ∙ seen.at.entries_are
     where

@@ -9,7 +9,7 @@ use Rattle.pd_kinds.specs.Order.{are_children_in_range, is_child_in_range}
 use Rattle.pd_kinds.specs.Trees.{keys_of}
 use Rattle.pd_laws.proofs.AllLemmas.{all_from}
 use Rattle.pd_laid.specs.Tree.{first_key}
-use Rattle.pd_laid_graph.proofs.ListLemmas.{all_back}
+use Rattle.pd_laid.proofs.GatherLemmas.{all_last}
 
 -- a list begins with a key
 abbrev pub BeginsWith : ℕ → List ℕ → Type 0
@@ -50,7 +50,7 @@ asc_right (x ∷ xs) ys asc = asc_right xs ys (asc_tail x (xs ++ ys) asc)
 less_before : (xs : List ℕ) (y : ℕ) (ys : List ℕ) → is_ascending (xs ++ y ∷ ys) ≡ true → AllByRecursion (λ k. k < y) xs
 less_before [] y ys asc = tt
 less_before (x ∷ xs) y ys asc =
-    ((all_back (λ k. x < k) xs (y ∷ ys) (first_less x (xs ++ y ∷ ys) asc)).0, less_before xs y ys (asc_tail x (xs ++ y ∷ ys) asc))
+    ((all_last (λ k. x < k) xs (y ∷ ys) (first_less x (xs ++ y ∷ ys) asc)).0, less_before xs y ys (asc_tail x (xs ++ y ∷ ys) asc))
 
 -- the first keys of parts ascend where the parts do
 pub firsts_ascend : (groups : List (List Entry)) → AllByRecursion (λ (g : List Entry). 1 ≤ length g) groups
@@ -72,7 +72,7 @@ pub firsts_keep : (P : ℕ → Type 0) (groups : List (List Entry)) → AllByRec
 firsts_keep P [] some all = tt
 firsts_keep P ([] ∷ groups) some all = absurd (omega (arith, some.0))
 firsts_keep P ((e ∷ es) ∷ groups) some all =
-    (all.0, firsts_keep P groups some.1 (all_back (λ (e : Entry). P e.key) (e ∷ es) (flat_map (λ (g : List Entry). g) groups) all))
+    (all.0, firsts_keep P groups some.1 (all_last (λ (e : Entry). P e.key) (e ∷ es) (flat_map (λ (g : List Entry). g) groups) all))
 
 pub parts_ascend : (groups : List (List Entry)) → is_ascending (keys_of (flat_map (λ (g : List Entry). g) groups)) ≡ true
     → AllByRecursion (λ (g : List Entry). is_ascending (keys_of g) ≡ true) groups

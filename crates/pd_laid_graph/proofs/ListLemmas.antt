@@ -54,15 +54,6 @@ pub all_pairs : {X : Type 0} → (P Q : X → Type 0) (xs : List X) → AllByRec
 all_pairs P Q [] ps qs = tt
 all_pairs P Q (x ∷ xs) ps qs = ((ps.0, qs.0), all_pairs P Q xs ps.1 qs.1)
 
--- the parts of lists in a row
-pub all_front : {X : Type 0} → (P : X → Type 0) (xs ys : List X) → AllByRecursion P (xs ++ ys) → AllByRecursion P xs
-all_front P [] ys all = tt
-all_front P (x ∷ xs) ys all = (all.0, all_front P xs ys all.1)
-
-pub all_back : {X : Type 0} → (P : X → Type 0) (xs ys : List X) → AllByRecursion P (xs ++ ys) → AllByRecursion P ys
-all_back P [] ys all = all
-all_back P (x ∷ xs) ys all = all_back P xs ys all.1
-
 -- lists in a row, counted
 pub count_append : {X : Type 0} → (test : X → Bool) (xs ys : List X) → count_by test (xs ++ ys) ≡ count_by test xs + count_by test ys
 count_append test xs ys = sum_by-append (λ x. cond (test x) 1 0) xs ys

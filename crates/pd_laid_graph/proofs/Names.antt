@@ -1,81 +1,20 @@
--- What a laid tree names, with its root: what its items name, and each of its own blocks.
-use Rattle.std.proofs.Common.{◌≡◌, inl, inr, ℕ, ◌+◌, ◌-◌, ◌<◌, ◌≤◌, List, [], ◌∷◌, ◌++◌, length, map, refl, sym, ◌∙◌, ap, ap₂, arith}
-use Rattle.std.specs.List.{AllByRecursion, flat_map, range_with_len}
+-- The root of a laid tree, and the role of its blocks.
+use Rattle.std.proofs.Common.{◌≡◌, inl, inr, ℕ, ◌+◌, ◌-◌, ◌<◌, ◌≤◌, List, [], ◌∷◌, ◌++◌, length, map, refl, ◌∙◌, ap₂, arith}
+use Rattle.std.specs.List.{AllByRecursion}
 use Rattle.std.proofs.lemmas.Bool.{cases_lt, le-ltb, lt-ltb}
-use Rattle.std.proofs.lemmas.List.{append_assoc, length-append, length-map, map-append}
-use Rattle.std.proofs.lemmas.List.Folds.{flat_map-map}
-use Rattle.std.proofs.lemmas.Grind.{flat_map-append}
-use Rattle.pd_kinds.specs.Edge.{Edge, edge_of}
+use Rattle.std.proofs.lemmas.List.{length-append, length-map}
+use Rattle.pd_kinds.specs.Edge.{edge_of}
 use Rattle.pd_kinds.specs.Layout.{Tree}
 use Rattle.pd_kinds.specs.Node.{Entry}
-use Rattle.pd_laid.specs.Laid.{LaidBlock, laid_inner, laid_leaf, laid_tree, named_by}
+use Rattle.pd_laid.specs.Laid.{LaidBlock, laid_inner, laid_leaf, laid_tree}
 use Rattle.pd_laid.specs.Tree.{first_place, inners_above, leaf_row, root_above, tree_inners, tree_leaves, tree_root}
 use Rattle.pd_laid.proofs.NeedLemmas.{length-heads}
+pub use Rattle.pd_laid_once.proofs.Trees.{blocks_of, named-append, tree_named}
 use Rattle.pd_laws.proofs.AllLemmas.{all_append, all_map}
 use Rattle.pd_laid_graph.specs.LaidOut.{AllFrom, IsInPlace, LeadsBelow}
 use Rattle.pd_laid_graph.proofs.PlaceLemmas.{role_of_places}
-use Rattle.pd_laid_graph.proofs.ListLemmas.{map_flat, map_twice}
-use Rattle.pd_laid.proofs.Rows.{range_on, row_named, values-heads, values_of}
-use Rattle.pd_laid_graph.proofs.Rows.{flat_joined, row_few}
+use Rattle.pd_laid_graph.proofs.Rows.{row_few}
 use Rattle.pd_laid_graph.proofs.Trees.{heads_from, leaves_are}
-
--- the blocks of edges
-abbrev pub blocks_of : List Edge → List ℕ
-blocks_of edges = map (λ (edge : Edge). edge.block) edges
-
-pub named-append : (xs ys : List LaidBlock) → named_by (xs ++ ys) ≡ named_by xs ++ named_by ys
-unfolding named_by
-named-append xs ys = flat_map-append (λ (x : LaidBlock). blocks_of x.edges) xs ys
-
--- inner nodes
-pub named-inners : (role : ℕ) (inners : List (List Entry)) → named_by (map (laid_inner role) inners) ≡ values_of (flat_map (λ (g : List Entry). g) inners)
-unfolding named_by
-named-inners role [] = refl
-named-inners role (g ∷ inners) =
-    ap₂ (λ (front back : List ℕ). front ++ back) (map_twice (λ (edge : Edge). edge.block) (λ (e : Entry). edge_of role e.value) g) (named-inners role inners)
-    ∙ sym (map-append (λ (e : Entry). e.value) g (flat_map (λ (g : List Entry). g) inners))
-
--- leaves
-pub named-leaves : (role : ℕ) (t : Tree) (leaves : List (List Entry)) → named_by (map (laid_leaf role t) leaves) ≡ blocks_of (flat_map t.leaf_edges (flat_map (λ (g : List Entry). g) leaves))
-unfolding named_by
-named-leaves role t leaves =
-    flat_map-map (λ (x : LaidBlock). blocks_of x.edges) (laid_leaf role t) leaves
-    ∙ (sym (map_flat (λ (edge : Edge). edge.block) (flat_map t.leaf_edges) leaves) ∙ ap blocks_of (sym (flat_joined t.leaf_edges leaves)))
-
--- the inner nodes above a row, where they are few
-pub above_names : (role place : ℕ) (row : List Entry) → 1 ≤ length row → length (inners_above place row) ≤ 4161600
-    → named_by (map (laid_inner role) (inners_above place row)) ++ (root_above place row ∷ []) ≡ values_of row ++ range_with_len place (length (inners_above place row))
-unfolding root_above
-above_names role place row some few =
-    ap (λ (front : List ℕ). front ++ (root_above place row ∷ [])) (named-inners role (inners_above place row))
-    ∙ row_named 10 place row some (omega (arith, row_few 9 place row))
-
--- a tree of few blocks
-pub tree_names : (role : ℕ) (t : Tree) (place : ℕ) (items : List Entry) → t.size ≤ 24 → length (laid_tree role t place items) ≤ 4161600
-    → named_by (laid_tree role t place items) ++ (tree_root t.size place items ∷ [])
-    ≡ blocks_of (flat_map t.leaf_edges items) ++ range_with_len place (length (laid_tree role t place items))
-unfolding laid_tree
-tree_names role t place items wide few =
-    let leaves = tree_leaves t.size items in
-    let inners = tree_inners t.size place items in
-    let row = leaf_row t.size place items in
-    let n = length leaves in
-    let root = tree_root t.size place items in
-    let front = map (laid_leaf role t) leaves in
-    let back = map (laid_inner role) inners in
-    let are = leaves_are t.size items wide in
-    let size = length-heads place leaves in
-    let count : length (front ++ back) ≡ n + length inners =
-    length-append front back ∙ ap₂ (λ (a b : ℕ). a + b) (length-map leaves (laid_leaf role t)) (length-map inners (laid_inner role)) in
-    let above = above_names role (place + n) row (rw size are.some) (omega arith) in
-    let own = blocks_of (flat_map t.leaf_edges items) in
-    let leaf_names : named_by front ≡ own = named-leaves role t leaves ∙ ap (λ (es : List Entry). blocks_of (flat_map t.leaf_edges es)) are.joined_is in
-    ap (λ (names : List ℕ). names ++ (root ∷ [])) (named-append front back)
-    ∙ (append_assoc (named_by front) (named_by back) (root ∷ [])
-    ∙ (ap₂ (λ (first rest : List ℕ). first ++ rest) leaf_names above
-    ∙ ap (λ (rest : List ℕ). own ++ rest)
-    (ap (λ (first : List ℕ). first ++ range_with_len (place + n) (length inners)) (values-heads place leaves)
-    ∙ (sym (range_on place n (length inners)) ∙ ap (range_with_len place) (sym count)))))
 
 -- what holds of what a row names, and of the inner nodes above it, holds of the root
 pub root_has : (P : ℕ → Type 0) (place : ℕ) (row : List Entry) → 1 ≤ length row → AllByRecursion (λ (e : Entry). P e.value) row

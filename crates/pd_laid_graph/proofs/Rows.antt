@@ -13,14 +13,14 @@ use Rattle.pd_laid.proofs.NeedLemmas.{length-heads}
 use Rattle.pd_laid.proofs.Rows.{level_of, levels_more, levels_one, upper_of, values_of}
 use Rattle.pd_laid.proofs.SpreadLemmas.{length-spread, joined_spread}
 use Rattle.pd_laid_graph.specs.LaidOut.{AllFrom}
-use Rattle.pd_laid_graph.proofs.ListLemmas.{all_front, all_back}
 use Rattle.pd_laid_graph.proofs.FromLemmas.{from_both}
 use Rattle.pd_laid_graph.proofs.Ascending.{firsts_ascend, firsts_keep, parts_ascend}
 use Rattle.pd_laid.proofs.SpreadParts.{spread_some, spread_most}
+use Rattle.pd_laid.proofs.GatherLemmas.{all_first, all_last}
 
 pub all_parts : {X : Type 0} → (P : X → Type 0) (xss : List (List X)) → AllByRecursion P (flat_map (λ (xs : List X). xs) xss) → AllByRecursion (AllByRecursion P) xss
 all_parts P [] all = tt
-all_parts P (xs ∷ xss) all = (all_front P xs _ all, all_parts P xss (all_back P xs _ all))
+all_parts P (xs ∷ xss) all = (all_first P xs _ all, all_parts P xss (all_last P xs _ all))
 
 pub flat_joined : {X Y : Type 0} → (f : X → List Y) (xss : List (List X)) → flat_map f (flat_map (λ (xs : List X). xs) xss) ≡ flat_map (flat_map f) xss
 flat_joined f [] = refl

@@ -19,7 +19,6 @@ use Rattle.pd_laid.proofs.NeedLemmas.{length-heads}
 use Rattle.pd_laid.proofs.SpreadLemmas.{length-spread, joined_spread}
 use Rattle.pd_laid.proofs.NodeFacts as facts
 use Rattle.pd_laid_graph.specs.LaidOut.{AllFrom, role_at, IsFitting, IsInPlace, IsNamed, LeadsBelow}
-use Rattle.pd_laid_graph.proofs.ListLemmas.{all_front, all_back}
 use Rattle.pd_laid_graph.proofs.FromLemmas.{from_front, from_back, from_both}
 use Rattle.pd_laid_graph.specs.Items.{AreItems, IsRoot, IsTreeSeen}
 use Rattle.pd_laid_graph.proofs.Ascending.{firsts_ascend, firsts_keep, parts_ascend}
@@ -30,6 +29,7 @@ use Rattle.pd_laid_graph.proofs.Roots.{AreLeavesAt, IsOrdered, all_above, leaves
 use Rattle.pd_laid_graph.proofs.Rows.{IsInnerNode, all_parts, by_keys, by_values, heads_inside, inners_are, row_few}
 use Rattle.pd_laid.proofs.Rows.{row_named, levels_one, values_of}
 use Rattle.pd_laid.proofs.SpreadParts.{spread_most, spread_some}
+use Rattle.pd_laid.proofs.GatherLemmas.{all_first, all_last}
 
 -- the leaves of a tree
 pub record AreLeaves (size : ℕ) (items : List Entry) (leaves : List (List Entry)) : Type 0 where
@@ -293,14 +293,14 @@ module _ (roles nr data_blocks : ℕ) (table : ℕ → Layout) (image : List (Li
       let each_roles : AllByRecursion (AllByRecursion (λ (e : Entry). role_at blocks e.value ≡ role)) inners =
       all_parts (λ (e : Entry). role_at blocks e.value ≡ role) inners
       (by_values (λ q. role_at blocks q ≡ role) (flat_map (λ (g : List Entry). g) inners)
-      (all_front (λ q. role_at blocks q ≡ role) (values_of (flat_map (λ (g : List Entry). g) inners)) (root_above place row ∷ []) all_roles)) in
+      (all_first (λ q. role_at blocks q ≡ role) (values_of (flat_map (λ (g : List Entry). g) inners)) (root_above place row ∷ []) all_roles)) in
       let all_named : AllByRecursion (IsNamed blocks) (values_of row ++ range_with_len place (length inners)) =
       rw names at (all_append (IsNamed blocks) (values_of (flat_map (λ (g : List Entry). g) inners)) (root_above place row ∷ []) (these_name place inners stand) (root_named, tt)) in
       record {
         root = rw all_is at root_is;
         fitting = inners_fit place inners room seen above.ordered nodes each_roles
-            (from_range (IsNamed blocks) place inners (all_back (IsNamed blocks) (values_of row) (range_with_len place (length inners)) all_named));
-        named = by_values (IsNamed blocks) row (all_front (IsNamed blocks) (values_of row) (range_with_len place (length inners)) all_named);
+            (from_range (IsNamed blocks) place inners (all_last (IsNamed blocks) (values_of row) (range_with_len place (length inners)) all_named));
+        named = by_values (IsNamed blocks) row (all_first (IsNamed blocks) (values_of row) (range_with_len place (length inners)) all_named);
         leaves_are = root_under this image role (λ p. block_of p ∷ []) 10 0 place row row_is.some short (omega arith) stable.0 (inners_at place inners seen)
             ∙ (stable.1 ∙ row_blocks role small row);
       }

@@ -13,7 +13,7 @@ use Rattle.pd_laid.specs.Tree.{tree_inners, tree_leaves}
 use Rattle.pd_laid.proofs.NeedLemmas.{length-bitmaps}
 use Rattle.pd_laid_graph.proofs.ListLemmas.{map_twice}
 use Rattle.pd_laid.proofs.Rows.{range_on}
-use Rattle.pd_laid_graph.proofs.Names.{named-append, tree_names}
+use Rattle.pd_laid_graph.proofs.Names.{named-append, tree_named}
 use Rattle.pd_laid_maps.proofs.Index.{range_of}
 
 pub no_edges_of : (items : List Entry) → flat_map {X = Entry} {A = Edge} (λ e. []) items ≡ []
@@ -53,7 +53,7 @@ meta_names role n place named few =
     let k = bitmaps_for n in
     let behind : (place + 1) + k ≡ meta_overflow_at n place = refl in
     let tree : named_by over ++ (root ∷ []) ≡ range_with_len (meta_overflow_at n place) (length over) =
-    tree_names (role + 2) (tree_of (plain_tree 4)) (meta_overflow_at n place) (meta_overflow n named) (omega arith) (omega arith)
+    tree_named (role + 2) (tree_of (plain_tree 4)) (meta_overflow_at n place) (meta_overflow n named) (omega arith)
     ∙ ap (λ (edges : List Edge). map (λ (edge : Edge). edge.block) edges ++ range_with_len (meta_overflow_at n place) (length over)) (no_edges_of (meta_overflow n named)) in
     let whole : named_by (laid_index role counts n (place + 1) ∷ (bitmaps ++ over)) ≡ range_with_len (place + 1) k ++ named_by over =
     index_names role counts n (place + 1) (bitmaps ++ over)

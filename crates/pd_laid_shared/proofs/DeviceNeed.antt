@@ -4,45 +4,35 @@ use Rattle.std.specs.List.{AllByRecursion, flat_map}
 use Rattle.std.proofs.lemmas.List.{length-append}
 use Rattle.std.proofs.lemmas.List.Sums.{sum_by-cons}
 use Rattle.pd_kinds.specs.Meaning.{Mapping}
-use Rattle.pd_kinds.specs.Node.{Entry, max_entries, leaf_block, inner_block}
+use Rattle.pd_kinds.specs.Node.{Entry, leaf_block, inner_block}
 use Rattle.pd_spells.specs.Need.{nodes_for, need_above}
 use Rattle.pd_laid.specs.LaidThin.{mapping_items, some_pieces, own_leaves, pieces_row, device_row, device_leaves, device_inners}
 use Rattle.pd_laid.specs.Shape.{ArePieces, Piece, ShapeDevice, own, shared, uses_of_piece}
-use Rattle.pd_laid.specs.Tree.{blocks_from, heads}
+use Rattle.pd_laid.specs.Tree.{blocks_from, heads, tree_leaves}
 use Rattle.pd_laid.proofs.ItemLemmas.{length-items}
 use Rattle.pd_laid.proofs.LaidLemmas.{length-blocks_from}
 use Rattle.pd_laid.proofs.NeedLemmas.{length-heads, length-inners, length-leaves}
 use Rattle.pd_shapes.specs.SharedNeed.{leaves_of_pieces, need_of_leaves, own_number}
-use Rattle.pd_laid_shared.specs.Written.{device_tree, device_trees, trees_need}
+use Rattle.pd_laid_shared.specs.Written.{IsFilled, device_tree, device_trees, trees_need}
 
--- a piece of some mappings has as many leaves as hold them
-abbrev leaves_for : ℕ → ℕ
-leaves_for n = nodes_for (max_entries 8) n
-
-abbrev own_need : List Piece → ℕ
-own_need pieces = sum_by (λ n. leaves_for n) (flat_map own_number pieces)
-
-own_number_is : (ms : List Mapping) → 1 ≤ length ms → length (own_leaves (own ms)) ≡ leaves_for (length ms)
-own_number_is ms some =
-    let number = length-leaves 8 (mapping_items ms) in
+-- as many leaves as hold some mappings
+pub leaves_number : (ms : List Mapping) → 1 ≤ length ms → length (tree_leaves 8 (mapping_items ms)) ≡ nodes_for 252 (length ms)
+leaves_number ms some =
     let items = length-items ms in
-    let same : length (mapping_items ms) ≡ length ms = items in
-    number ∙ rw items (omega arith)
+    length-leaves 8 (mapping_items ms) ∙ rw items (omega (arith, some))
 
-own_first : (ms : List Mapping) (pieces : List Piece) → 1 ≤ length ms → length (flat_map own_leaves pieces) ≡ own_need pieces
-    → length (flat_map own_leaves (own ms ∷ pieces)) ≡ own_need (own ms ∷ pieces)
-own_first ms pieces some rest =
-    let both = length-append (own_leaves (own ms)) (flat_map own_leaves pieces) in
-    let first = own_number_is ms some in
-    let sums = sum_by-cons (λ n. leaves_for n) (length ms) (flat_map own_number pieces) in
-    both ∙ (rw (first, rest) (sym sums))
-
-own_length : (number : ℕ) (pieces : List Piece) → ArePieces number pieces → length (flat_map own_leaves pieces) ≡ own_need pieces
-own_length number [] are = refl
-own_length number (own ms ∷ []) are = own_first ms [] are refl
-own_length number (own ms ∷ own others ∷ pieces) are = absurd are
-own_length number (own ms ∷ shared k ∷ pieces) are = own_first ms (shared k ∷ pieces) are.0 (own_length number pieces are.1.1)
-own_length number (shared k ∷ pieces) are = own_length number pieces are.1
+-- the own leaves of pieces that have mappings
+pub own_length : (pieces : List Piece) → AllByRecursion IsFilled pieces → length (flat_map own_leaves pieces) ≡ sum_by (λ n. nodes_for 252 n) (flat_map own_number pieces)
+own_length [] filled = refl
+own_length (own ms ∷ pieces) filled =
+    omega (
+      arith,
+      length-append (own_leaves (own ms)) (flat_map own_leaves pieces),
+      leaves_number ms filled.0,
+      own_length pieces filled.1,
+      sum_by-cons (λ n. nodes_for 252 n) (length ms) (flat_map own_number pieces),
+    )
+own_length (shared n ∷ pieces) filled = own_length pieces filled.1
 
 -- a row has a device's own leaves, and those that it uses
 pub row_length : (leaves : List (List Entry)) (place : ℕ) (pieces : List Piece)
@@ -50,14 +40,14 @@ pub row_length : (leaves : List (List Entry)) (place : ℕ) (pieces : List Piece
 row_length leaves place [] = refl
 row_length leaves place (own ms ∷ pieces) =
     let here = own_leaves (own ms) in
-    let both = length-append (heads place here) (pieces_row leaves (place + length here) pieces) in
-    let first = length-heads place here in
-    let rest = row_length leaves (place + length here) pieces in
-    let own_both = length-append here (flat_map own_leaves pieces) in
-    omega (arith, both, first, rest, own_both)
-row_length leaves place (shared k ∷ pieces) =
-    let rest = row_length leaves (place + 0) pieces in
-    omega (arith, rest)
+    omega (
+      arith,
+      length-append (heads place here) (pieces_row leaves (place + length here) pieces),
+      length-heads place here,
+      row_length leaves (place + length here) pieces,
+      length-append here (flat_map own_leaves pieces),
+    )
+row_length leaves place (shared k ∷ pieces) = omega (arith, row_length leaves (place + 0) pieces)
 
 -- the blocks of a device's tree, by the leaves of its row
 tree_length : (leaves : List (List Entry)) (place : ℕ) (d : ShapeDevice)
@@ -68,33 +58,42 @@ unfolding device_tree device_row
 tree_length leaves place d =
     let mine = device_leaves d in
     let inners = device_inners leaves place d in
-    let both = length-append (blocks_from (leaf_block 8) place mine) (blocks_from inner_block (place + length mine) inners) in
-    let first = length-blocks_from (leaf_block 8) place mine in
-    let last = length-blocks_from inner_block (place + length mine) inners in
-    let above = length-inners (place + length mine) (device_row leaves place d) in
-    let row = ap (need_above 10) (row_length leaves place (some_pieces d.pieces)) in
-    omega (arith, both, first, last, above, row)
+    omega (
+      arith,
+      length-append (blocks_from (leaf_block 8) place mine) (blocks_from inner_block (place + length mine) inners),
+      length-blocks_from (leaf_block 8) place mine,
+      length-blocks_from inner_block (place + length mine) inners,
+      length-inners (place + length mine) (device_row leaves place d),
+      ap (need_above 10) (row_length leaves place (some_pieces d.pieces)),
+    )
 
 -- a device without pieces has one leaf
-empty_number : length (own_leaves (own [])) ≡ 1
-unfolding mapping_items
-empty_number = length-leaves 8 (mapping_items [])
-
 empty_need : length (flat_map own_leaves (own [] ∷ [])) + need_above 10 (length (flat_map own_leaves (own [] ∷ [])) + 0) ≡ 1 + need_above 10 1
+unfolding mapping_items
 empty_need =
-    let both = length-append (own_leaves (own [])) [] in
-    let one : length (flat_map own_leaves (own [] ∷ [])) ≡ 1 = both ∙ rw empty_number refl in
+    let one : length (flat_map own_leaves (own [] ∷ [])) ≡ 1 = length-append (own_leaves (own [])) [] ∙ rw (length-leaves 8 (mapping_items [])) refl in
     rw one refl
+
+-- a tree has as many blocks as it needs
+pub tree_need : (leaves : List (List Entry)) (place : ℕ) (d : ShapeDevice) → AllByRecursion IsFilled d.pieces → length (device_tree leaves place d) ≡ need_of_leaves (leaves_of_pieces d.pieces)
+tree_need leaves place d filled = tree_length leaves place d ∙ of_pieces d.pieces filled
+  where
+    of_pieces : (pieces : List Piece) → AllByRecursion IsFilled pieces
+        → length (flat_map own_leaves (some_pieces pieces)) + need_above 10 (length (flat_map own_leaves (some_pieces pieces)) + length (flat_map uses_of_piece (some_pieces pieces)))
+        ≡ need_of_leaves (leaves_of_pieces pieces)
+    of_pieces [] filled = empty_need
+    of_pieces (piece ∷ pieces) filled = rw (own_length (piece ∷ pieces) filled) refl
+
+pieces_filled : (number : ℕ) (pieces : List Piece) → ArePieces number pieces → AllByRecursion IsFilled pieces
+pieces_filled number [] are = tt
+pieces_filled number (own ms ∷ []) are = (are, tt)
+pieces_filled number (own ms ∷ own others ∷ pieces) are = absurd are
+pieces_filled number (own ms ∷ shared k ∷ pieces) are = (are.0, (tt, pieces_filled number pieces are.1.1))
+pieces_filled number (shared k ∷ pieces) are = (tt, pieces_filled number pieces are.1)
 
 pub device_need : (leaves : List (List Entry)) (place number : ℕ) (d : ShapeDevice) → ArePieces number d.pieces
     → length (device_tree leaves place d) ≡ need_of_leaves (leaves_of_pieces d.pieces)
-device_need leaves place number d are = tree_length leaves place d ∙ of_pieces d.pieces are
-  where
-    of_pieces : (pieces : List Piece) → ArePieces number pieces
-        → length (flat_map own_leaves (some_pieces pieces)) + need_above 10 (length (flat_map own_leaves (some_pieces pieces)) + length (flat_map uses_of_piece (some_pieces pieces)))
-        ≡ need_of_leaves (leaves_of_pieces pieces)
-    of_pieces [] are = empty_need
-    of_pieces (piece ∷ pieces) are = rw (own_length number (piece ∷ pieces) are) refl
+device_need leaves place number d are = tree_need leaves place d (pieces_filled number d.pieces are)
 
 -- and of the trees of all devices
 pub devices_need : (leaves : List (List Entry)) (place number : ℕ) (ds : List ShapeDevice) → AllByRecursion (λ (d : ShapeDevice). ArePieces number d.pieces) ds

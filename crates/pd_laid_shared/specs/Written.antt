@@ -1,5 +1,5 @@
 -- A pool with shared leaves as one writes it who is given its leaves and then its devices one after another.
-use Rattle.std.specs.Prelude.{◌≡◌, ℕ, ◌+◌, List, [], ◌∷◌, ◌++◌, length, map, sum_by}
+use Rattle.std.specs.Prelude.{◌≡◌, ℕ, ◌+◌, ◌≤◌, List, [], ◌∷◌, ◌++◌, length, map, sum_by}
 use Rattle.std.specs.List.{flat_map}
 use Rattle.pd_kinds.specs.Bitmap.{bitmaps_for}
 use Rattle.pd_kinds.specs.Meaning.{Mapping}
@@ -7,7 +7,7 @@ use Rattle.pd_kinds.specs.Node.{Entry, leaf_block, inner_block}
 use Rattle.pd_spells.specs.Need.{need_tree}
 use Rattle.pd_laid.specs.Laid.{written_from}
 use Rattle.pd_laid.specs.LaidThin.{mapping_items, shared_items, some_pieces, own_leaves, device_leaves, device_inners, device_root, devices_at, tops_at, details_at, details_items, bitmaps_at, bitmap_blocks, index_at, index_blocks, overflow_at, overflow_blocks, data_overflow, meta_map_at, meta_map_blocks}
-use Rattle.pd_laid.specs.Shape.{Piece, ShapeDevice, ThinShape}
+use Rattle.pd_laid.specs.Shape.{Piece, ShapeDevice, ThinShape, own, shared}
 use Rattle.pd_laid.specs.Tree.{blocks_from, tree_blocks}
 use Rattle.pd_shapes.specs.SharedNeed.{leaves_of_pieces, need_of_leaves}
 
@@ -52,6 +52,11 @@ shape_parts w n =
     ++ (tree_blocks 24 (details_at w) (details_items w.devices)
     ++ (written_from (bitmaps_at w) (bitmap_blocks w ++ (index_blocks w ++ overflow_blocks w))
     ++ written_from (meta_map_at w) (meta_map_blocks w n))))
+
+-- an own piece has a mapping
+abbrev pub IsFilled : Piece → Type 0
+IsFilled (own mappings) = 1 ≤ length mappings
+IsFilled (shared number) = Unit {0}
 
 -- how many blocks the trees of devices have
 abbrev pub trees_need : List ShapeDevice → ℕ

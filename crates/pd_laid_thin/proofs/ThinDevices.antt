@@ -25,7 +25,7 @@ use Rattle.pd_laid_graph.proofs.Roots.{AreLeavesAt, leaves_both}
 use Rattle.pd_laid.proofs.Rows.{values_of}
 use Rattle.pd_laid_graph.proofs.Trees.{IsRow, SeenLeaf, leaf_roles, leaves_are, leaves_fit, leaves_seen, parts_items, row_above, seen_at}
 use Rattle.pd_laid_thin.proofs.ThinItems.{DeviceFits, mapping_items_are}
-use Rattle.pd_laid_thin.proofs.ThinRoles.{mappings_role}
+use Rattle.pd_laid_thin.proofs.ThinRoles.{layout_roles}
 use Rattle.pd_laid_thin.proofs.ThinRows.{PieceFits, all_by_index, from_by_index, groups_filled, groups_joined, holds_among, own_most, own_part, piece_groups, pieces_fit, row_all, row_own, row_uses, shared_part, some_mappings, uses_fit}
 
 -- the leaves below a device's root are those of its row, its own ones and those that it shares
@@ -70,7 +70,7 @@ module _ (n data_blocks : ℕ) (image : List (List ℕ)) (blocks : List LaidBloc
   groups = map mapping_items leaves
 
   abbrev SeenLeafAt : ℕ → List Entry → Type 0
-  SeenLeafAt q g = SeenLeaf 11 n data_blocks (thin_layout n data_blocks) image blocks limit 3 t (mappings_role n data_blocks) known few_roles wide few within q g
+  SeenLeafAt q g = SeenLeaf 11 n data_blocks (thin_layout n data_blocks) image blocks limit 3 t (layout_roles n data_blocks).mappings known few_roles wide few within q g
 
   -- the leaves of a device can be laid
   groups_are : (d : ShapeDevice) → DeviceFits data_blocks leaves d
@@ -158,7 +158,7 @@ module _ (n data_blocks : ℕ) (image : List (List ℕ)) (blocks : List LaidBloc
       let e : (place + length here) + length rest ≡ place + length (here ++ rest) = omega arith in
       ((root.0, omega (arith, root.1)), rw e at (tops_inside (place + length here) ds (omega arith) are.1))
 
-  module _ (shared_seen : AllFrom (λ q g. SeenLeaf 11 n data_blocks (thin_layout n data_blocks) image blocks limit 3 (tree_of (mappings_tree data_blocks)) (mappings_role n data_blocks) known few_roles wide few within q g) 1 (map mapping_items leaves))
+  module _ (shared_seen : AllFrom (λ q g. SeenLeaf 11 n data_blocks (thin_layout n data_blocks) image blocks limit 3 (tree_of (mappings_tree data_blocks)) (layout_roles n data_blocks).mappings known few_roles wide few within q g) 1 (map mapping_items leaves))
       (shared_roles : AllFrom (λ q (g : List Entry). role_at blocks q ≡ 3) 1 (map mapping_items leaves)) where
     -- the row of a device's leaves names leaves
     row_leaves : (place : ℕ) (pieces : List Piece) → AllByRecursion (λ k. k < length leaves) (flat_map uses_of_piece pieces) → AllFrom SeenLeafAt place (flat_map own_leaves pieces)
@@ -167,7 +167,7 @@ module _ (n data_blocks : ℕ) (image : List (List ℕ)) (blocks : List LaidBloc
     row_leaves place (own mappings ∷ pieces) uses seen =
         let here = own_leaves (own mappings) in
         leaves_both this image 8 3 (heads place here) (pieces_row groups (place + length here) pieces) here (flat_map (piece_groups groups) pieces)
-        (seen_at 11 n data_blocks (thin_layout n data_blocks) image blocks limit 3 t (mappings_role n data_blocks) known few_roles wide few within place here
+        (seen_at 11 n data_blocks (thin_layout n data_blocks) image blocks limit 3 t (layout_roles n data_blocks).mappings known few_roles wide few within place here
         (from_front SeenLeafAt place here (flat_map own_leaves pieces) seen))
         (row_leaves (place + length here) pieces uses (from_back SeenLeafAt place here (flat_map own_leaves pieces) seen))
     row_leaves place (shared number ∷ pieces) uses seen =
@@ -219,14 +219,14 @@ module _ (n data_blocks : ℕ) (image : List (List ℕ)) (blocks : List LaidBloc
         let back : AllFrom (IsInPlace image blocks) end (map (laid_inner 3) inners) =
         rw leaf_count at (from_back (IsInPlace image blocks) place laid_leaves (map (laid_inner 3) inners) stand) in
         let items = own_part (AreItems blocks limit t) groups pieces (groups_are d fit) in
-        let seen = leaves_seen 11 n data_blocks (thin_layout n data_blocks) image blocks limit 3 t (mappings_role n data_blocks) known few_roles wide few within
+        let seen = leaves_seen 11 n data_blocks (thin_layout n data_blocks) image blocks limit 3 t (layout_roles n data_blocks).mappings known few_roles wide few within
         place own_groups (omega arith) (own_most pieces) items front in
         let whole = groups_joined leaves pieces ∙ ap mapping_items (some_mappings leaves d.pieces) in
         let all_items = mapping_items_are blocks limit data_blocks (flat_map (piece_mappings leaves) d.pieces) few_data fit.mappings_are in
-        let roles = leaf_roles 11 n data_blocks (thin_layout n data_blocks) image blocks limit 3 t (mappings_role n data_blocks) known few_roles wide few within
+        let roles = leaf_roles 11 n data_blocks (thin_layout n data_blocks) image blocks limit 3 t (layout_roles n data_blocks).mappings known few_roles wide few within
         place own_groups front in
         let size = length-map leaves mapping_items in
-        let row_is : IsRow 11 n data_blocks (thin_layout n data_blocks) image blocks limit 3 t (mappings_role n data_blocks) known few_roles wide few within
+        let row_is : IsRow 11 n data_blocks (thin_layout n data_blocks) image blocks limit 3 t (layout_roles n data_blocks).mappings known few_roles wide few within
         end row all_groups (mapping_items (flat_map (piece_mappings leaves) d.pieces)) = record {
           leaves = row_leaves place pieces uses seen;
           joined_is = whole;
@@ -241,12 +241,12 @@ module _ (n data_blocks : ℕ) (image : List (List ℕ)) (blocks : List LaidBloc
               (all_from (λ k. k < length leaves) (λ k. role_at blocks (1 + k) ≡ 3)
               (λ k inside. from_by_index (λ q (g : List Entry). role_at blocks q ≡ 3) 1 groups shared_roles [] k (omega arith)) (flat_map uses_of_piece pieces) uses);
         } in
-        let above = row_above 11 n data_blocks (thin_layout n data_blocks) image blocks limit 3 t (mappings_role n data_blocks) known few_roles wide few within
+        let above = row_above 11 n data_blocks (thin_layout n data_blocks) image blocks limit 3 t (layout_roles n data_blocks).mappings known few_roles wide few within
         end row all_groups (mapping_items (flat_map (piece_mappings leaves) d.pieces)) (omega arith) (omega arith) row_is back root_named in
         record {
           entries_are = above.root.entries_are;
           fitting = from_both (IsFitting this image blocks limit) place laid_leaves (map (laid_inner 3) inners)
-              (leaves_fit 11 n data_blocks (thin_layout n data_blocks) image blocks limit 3 t (mappings_role n data_blocks) known few_roles wide few within
+              (leaves_fit 11 n data_blocks (thin_layout n data_blocks) image blocks limit 3 t (layout_roles n data_blocks).mappings known few_roles wide few within
               place own_groups seen items (row_own (IsNamed blocks) groups place pieces above.named))
               (rw leaf_count above.fitting);
           uses_named = unused d.pieces (row_uses (IsNamed blocks) groups place pieces above.named);

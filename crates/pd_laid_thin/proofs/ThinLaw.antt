@@ -38,9 +38,9 @@ use Rattle.pd_laid_thin.specs.CleanPool.{IsCleanPool}
 use Rattle.pd_laid_thin.proofs.ThinCounts.{bitmap_once, data_references, references_count}
 use Rattle.pd_laid_thin.proofs.ThinDevices.{AreRead}
 use Rattle.pd_laid_thin.proofs.ThinItems.{details_value}
-use Rattle.pd_laid_thin.proofs.ThinPool.{ShapeFits, bitmap_count, data_bitmap_stands, data_index_seen, data_overflow_seen, details_seen, device_fits, devices_all_seen, ids_ascend, lawful_graph, meta_fitting, meta_map_seen, parts_fitting, pool_blocks, pool_in_place, shape_fits, super_edges, top_keys, tops_seen}
+use Rattle.pd_laid_thin.proofs.ThinPool.{ShapeFits, data_bitmap_stands, data_index_seen, data_overflow_seen, details_seen, device_fits, devices_all_seen, ids_ascend, lawful_graph, meta_fitting, meta_map_seen, parts_fitting, pool_blocks, pool_in_place, shape_fits, super_edges, top_keys, tops_seen}
 use Rattle.pd_laid_shared.proofs.ShapeNeed.{number_with}
-use Rattle.pd_laid.proofs.PartSizes.{parts_number}
+use Rattle.pd_laid.proofs.PartSizes.{parts_number, bitmaps_size}
 use Rattle.pd_laid_thin.proofs.ThinSuper.{IsSuperLaid, super_laid, super_leads, super_seen}
 use Rattle.pd_laid_thin.proofs.ThinWhole.{AreFound, devices_back, keyed, mapped_holds}
 
@@ -90,7 +90,7 @@ module _ (w : ThinShape) (n : ℕ) (image : List (List ℕ)) (few : n ≤ 416160
   -- a bitmap is referred to once
   bitmap_few : (b role : ℕ) → role_at (pool_blocks w n) b ≡ role → (role ≡ 6) ⊎ (role ≡ 9) → meta_count (graph_of 11 n w.data_blocks (thin_layout n w.data_blocks)) image b ≤ 1
   bitmap_few b role is which =
-      let small : bitmaps_at w + bitmaps_for w.data_blocks ≤ 2 ^ 63 = omega (arith, bitmap_count w n image few fits shape room stand) in
+      let small : bitmaps_at w + bitmaps_for w.data_blocks ≤ 2 ^ 63 = omega (arith, bitmaps_size w) in
       let some : 1 ≤ role = elim which [ inl six ↦ omega arith | inr nine ↦ omega arith ] in
       referred_few this image blocks in_order role b laid_out some is (bitmap_once w n role b which small)
 
@@ -184,7 +184,7 @@ module _ (w : ThinShape) (n : ℕ) (image : List (List ℕ)) (few : n ≤ 416160
   data_stored : (d : ℕ) → d < w.data_blocks → stored_data_in image (data_index w) (data_overflow w) d ≡ Some (data_counts w d)
   data_stored =
       stored_by_tree image (data_counts w) (data_counts w) w.data_blocks (bitmaps_at w) (λ d many. refl)
-      (λ i covered. (data_bitmap_stands w n image few fits shape room stand i covered).stands) (omega (arith, bitmap_count w n image few fits shape room stand))
+      (λ i covered. (data_bitmap_stands w n image few fits shape room stand i covered).stands) (omega (arith, bitmaps_size w))
 
   -- what is looked at in the image
   abbrev looked_at : Graph → ℕ → List Entry → List Entry → List Entry → Checked

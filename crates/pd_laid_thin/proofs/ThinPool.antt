@@ -21,8 +21,7 @@ use Rattle.pd_laid.specs.Laid.{IsLaid, LaidBlock, data_named_by, laid_inner, lai
 use Rattle.pd_laid.specs.LaidThin.{bitmap_blocks, bitmaps_at, data_counts, data_index, data_index_root, data_overflow, data_overflow_root, details_at, details_blocks, details_items, details_root, device_blocks, device_inners, device_leaves, devices_at, index_at, index_blocks, laid_device, laid_devices, laid_shape, mapping_items, mapping_root, mappings, meta_map_at, meta_map_blocks, overflow_at, overflow_blocks, pool_fields, pool_named, pool_parts, shared_items, top_blocks, top_items, tops, tops_at}
 use Rattle.pd_laid.specs.Map.{laid_bitmap, meta_overflow_root}
 use Rattle.pd_laid.specs.Shape.{IsShape, ShapeDevice, ThinShape, device_of, pool_of, uses_of}
-use Rattle.pd_laid.proofs.NeedLemmas.{length-bitmaps}
-use Rattle.pd_laid.proofs.PartSizes.{parts_number}
+use Rattle.pd_laid.proofs.PartSizes.{parts_number, bitmaps_size}
 use Rattle.pd_laid_graph.specs.LaidOut.{AllFrom, IsFitting, IsInPlace, IsNamed, LeadsBelow, laid_super, role_at}
 use Rattle.pd_laid_graph.proofs.FitLemmas.{few_data, few_named, named_lower}
 use Rattle.pd_laid_graph.proofs.FromLemmas.{from_back, from_both, from_front}
@@ -37,7 +36,7 @@ use Rattle.pd_laid_maps.proofs.MapItems.{index_are, index_edges, overflow_are}
 use Rattle.pd_laid_maps.proofs.MetaMap.{map_seen, unmapped}
 use Rattle.pd_laid_thin.proofs.ThinDevices.{AreDevicesSeen, devices_seen, few_roles, known, leaves_are_items, tops_inside, wide}
 use Rattle.pd_laid_thin.proofs.ThinItems.{DeviceFits, details_items_are, devices_ascend, devices_fit}
-use Rattle.pd_laid_thin.proofs.ThinRoles as roles
+use Rattle.pd_laid_thin.proofs.ThinRoles.{layout_roles}
 use Rattle.pd_laid_thin.proofs.ThinRows.{holds_among}
 use Rattle.pd_laid.proofs.ItemLemmas.{length-items}
 
@@ -242,7 +241,7 @@ module _ (w : ThinShape) (n : ℕ) (image : List (List ℕ)) (few : n ≤ 416160
   pub tops_seen : IsTreeSeen (graph_of 11 n w.data_blocks (thin_layout n w.data_blocks)) image (pool_blocks w n) (meta_map_at w) 2 (tree_of (tree_to 8 3 (λ v. v))) (tops_at w) (tops w)
   unfolding top_blocks
   tops_seen =
-      tree_seen 11 n w.data_blocks (thin_layout n w.data_blocks) image blocks (meta_map_at w) 2 (tree_of (tree_to 8 3 (λ v. v))) (roles.top_role n w.data_blocks) (omega arith) few_roles wide few within
+      tree_seen 11 n w.data_blocks (thin_layout n w.data_blocks) image blocks (meta_map_at w) 2 (tree_of (tree_to 8 3 (λ v. v))) (layout_roles n w.data_blocks).top (omega arith) few_roles wide few within
       (tops_at w) (tops w) (omega arith) (omega arith) top_items_are standing.tops super_stands.names.0
 
   tops_named : AllByRecursion (λ (e : Entry). IsNamed (pool_blocks w n) e.value) (tops w)
@@ -270,17 +269,17 @@ module _ (w : ThinShape) (n : ℕ) (image : List (List ℕ)) (few : n ≤ 416160
       rw count at (from_back (IsInPlace image blocks) 1 of_leaves of_devices
       (subst (λ (xs : List LaidBlock). AllFrom (IsInPlace image blocks) 1 xs) devices_split standing.devices))
 
-  pub shared_seen : AllFrom (λ q g. SeenLeaf 11 n w.data_blocks (thin_layout n w.data_blocks) image (pool_blocks w n) (meta_map_at w) 3 (tree_of (mappings_tree w.data_blocks)) (roles.mappings_role n w.data_blocks) known few_roles wide few within q g) 1 (map mapping_items w.leaves)
+  pub shared_seen : AllFrom (λ q g. SeenLeaf 11 n w.data_blocks (thin_layout n w.data_blocks) image (pool_blocks w n) (meta_map_at w) 3 (tree_of (mappings_tree w.data_blocks)) (layout_roles n w.data_blocks).mappings known few_roles wide few within q g) 1 (map mapping_items w.leaves)
   shared_seen =
-      leaves_seen 11 n w.data_blocks (thin_layout n w.data_blocks) image blocks (meta_map_at w) 3 t (roles.mappings_role n w.data_blocks) known few_roles wide few within
+      leaves_seen 11 n w.data_blocks (thin_layout n w.data_blocks) image blocks (meta_map_at w) 3 t (layout_roles n w.data_blocks).mappings known few_roles wide few within
       1 groups (omega (arith, length-map w.leaves mapping_items, devices_end)) leaf_most leaf_items leaves_stand
 
   pub devices_all_seen : AreDevicesSeen n w.data_blocks image (pool_blocks w n) (meta_map_at w) w.leaves few within fits.data_blocks_fit filled shared_seen
-      (leaf_roles 11 n w.data_blocks (thin_layout n w.data_blocks) image (pool_blocks w n) (meta_map_at w) 3 (tree_of (mappings_tree w.data_blocks)) (roles.mappings_role n w.data_blocks) known few_roles wide few within 1 (map mapping_items w.leaves) leaves_stand)
+      (leaf_roles 11 n w.data_blocks (thin_layout n w.data_blocks) image (pool_blocks w n) (meta_map_at w) 3 (tree_of (mappings_tree w.data_blocks)) (layout_roles n w.data_blocks).mappings known few_roles wide few within 1 (map mapping_items w.leaves) leaves_stand)
       (devices_at w) w.devices
   devices_all_seen =
       devices_seen n w.data_blocks image blocks (meta_map_at w) w.leaves few within fits.data_blocks_fit filled shared_seen
-      (leaf_roles 11 n w.data_blocks (thin_layout n w.data_blocks) image blocks (meta_map_at w) 3 t (roles.mappings_role n w.data_blocks) known few_roles wide few within 1 groups leaves_stand)
+      (leaf_roles 11 n w.data_blocks (thin_layout n w.data_blocks) image blocks (meta_map_at w) 3 t (layout_roles n w.data_blocks).mappings known few_roles wide few within 1 groups leaves_stand)
       (devices_at w) w.devices (omega arith) (omega (arith, devices_end)) device_fits shape.pieces devices_stand tops_named
 
   shared_named : AllFrom (λ q (g : List Entry). IsNamed (pool_blocks w n) q) 1 (map mapping_items w.leaves)
@@ -293,14 +292,14 @@ module _ (w : ThinShape) (n : ℕ) (image : List (List ℕ)) (few : n ≤ 416160
       let count = leaf_count in
       subst (λ (xs : List LaidBlock). AllFrom Fitting 1 xs) (sym devices_split)
       (from_both Fitting 1 of_leaves of_devices
-      (leaves_fit 11 n w.data_blocks (thin_layout n w.data_blocks) image blocks (meta_map_at w) 3 t (roles.mappings_role n w.data_blocks) known few_roles wide few within 1 groups shared_seen leaf_items shared_named)
+      (leaves_fit 11 n w.data_blocks (thin_layout n w.data_blocks) image blocks (meta_map_at w) 3 t (layout_roles n w.data_blocks).mappings known few_roles wide few within 1 groups shared_seen leaf_items shared_named)
       (rw count devices_all_seen.fitting))
 
   -- the details
   pub details_seen : IsTreeSeen (graph_of 11 n w.data_blocks (thin_layout n w.data_blocks)) image (pool_blocks w n) (meta_map_at w) 4 (tree_of (plain_tree 24)) (details_at w) (details_items w.devices)
   unfolding details_blocks
   details_seen =
-      tree_seen 11 n w.data_blocks (thin_layout n w.data_blocks) image blocks (meta_map_at w) 4 (tree_of (plain_tree 24)) (roles.details_role n w.data_blocks) (omega arith) few_roles (omega arith) few within
+      tree_seen 11 n w.data_blocks (thin_layout n w.data_blocks) image blocks (meta_map_at w) 4 (tree_of (plain_tree 24)) (layout_roles n w.data_blocks).details (omega arith) few_roles (omega arith) few within
       (details_at w) (details_items w.devices) (omega arith) (omega arith) (details_items_are blocks (meta_map_at w) w.data_blocks w.leaves w.devices device_fits ids_ascend)
       standing.details super_stands.names.1.0
 
@@ -315,36 +314,32 @@ module _ (w : ThinShape) (n : ℕ) (image : List (List ℕ)) (few : n ≤ 416160
   unfolding bitmap_blocks
   data_bitmap_stands i inside = bitmap_at (IsInPlace image blocks) 6 (data_counts w) (bitmaps_at w) w.data_blocks i inside standing.bitmaps
 
-  pub bitmap_count : length (bitmap_blocks w) ≡ bitmaps_for w.data_blocks
-  unfolding bitmap_blocks
-  bitmap_count = length-bitmaps 6 (data_counts w) w.data_blocks
-
   pub data_index_seen : IsTreeSeen (graph_of 11 n w.data_blocks (thin_layout n w.data_blocks)) image (pool_blocks w n) (meta_map_at w) 5 (tree_of (tree_to 16 6 (λ v. v % 2 ^ 64))) (index_at w) (data_index w)
   unfolding index_blocks
   data_index_seen =
       let data_few = fits.data_blocks_fit in
-      tree_seen 11 n w.data_blocks (thin_layout n w.data_blocks) image blocks (meta_map_at w) 5 (tree_of (tree_to 16 6 (λ v. v % 2 ^ 64))) (roles.data_index_role n w.data_blocks) (omega arith) few_roles (omega arith) few within
+      tree_seen 11 n w.data_blocks (thin_layout n w.data_blocks) image blocks (meta_map_at w) 5 (tree_of (tree_to 16 6 (λ v. v % 2 ^ 64))) (layout_roles n w.data_blocks).data_index (omega arith) few_roles (omega arith) few within
       (index_at w) (data_index w) (omega arith) (omega arith)
-      (index_are blocks (meta_map_at w) 6 (data_counts w) w.data_blocks (bitmaps_at w) (omega arith) (omega arith) (omega arith) (omega (arith, bitmap_count)) (λ i inside. (data_bitmap_stands i inside).role_is))
+      (index_are blocks (meta_map_at w) 6 (data_counts w) w.data_blocks (bitmaps_at w) (omega arith) (omega arith) (omega arith) (omega (arith, bitmaps_size w)) (λ i inside. (data_bitmap_stands i inside).role_is))
       standing.index super_stands.names.1.1.0
 
   bitmaps_named : AllByRecursion (IsNamed (pool_blocks w n)) (range_with_len (bitmaps_at w) (bitmaps_for w.data_blocks))
   bitmaps_named =
-      let edges = index_edges 6 (data_counts w) w.data_blocks (bitmaps_at w) (omega (arith, bitmap_count)) in
+      let edges = index_edges 6 (data_counts w) w.data_blocks (bitmaps_at w) (omega (arith, bitmaps_size w)) in
       unmapped (edge_of 6) (λ (edge : Edge). IsNamed blocks edge.block) (range_with_len (bitmaps_at w) (bitmaps_for w.data_blocks))
       (rw edges at (all_flat_map (λ (e : Entry). edge_of 6 (e.value % 2 ^ 64) ∷ []) (λ (edge : Edge). IsNamed blocks edge.block) (data_index w) data_index_seen.named))
 
   bitmaps_fitting : AllFrom (IsFitting (graph_of 11 n w.data_blocks (thin_layout n w.data_blocks)) image (pool_blocks w n) (meta_map_at w)) (bitmaps_at w) (bitmap_blocks w)
   unfolding bitmap_blocks
   bitmaps_fitting =
-      bitmaps_fit 11 n w.data_blocks (thin_layout n w.data_blocks) image blocks (meta_map_at w) 6 (data_counts w) (roles.data_bitmap_role n w.data_blocks) (omega arith) few_roles few
-      (bitmaps_at w) w.data_blocks (omega (arith, bitmap_count)) standing.bitmaps bitmaps_named
+      bitmaps_fit 11 n w.data_blocks (thin_layout n w.data_blocks) image blocks (meta_map_at w) 6 (data_counts w) (layout_roles n w.data_blocks).data_bitmap (omega arith) few_roles few
+      (bitmaps_at w) w.data_blocks (omega (arith, bitmaps_size w)) standing.bitmaps bitmaps_named
 
   pub data_overflow_seen : IsTreeSeen (graph_of 11 n w.data_blocks (thin_layout n w.data_blocks)) image (pool_blocks w n) (meta_map_at w) 7 (tree_of (plain_tree 4)) (overflow_at w) (data_overflow w)
   unfolding overflow_blocks
   data_overflow_seen =
       let data_few = fits.data_blocks_fit in
-      tree_seen 11 n w.data_blocks (thin_layout n w.data_blocks) image blocks (meta_map_at w) 7 (tree_of (plain_tree 4)) (roles.data_overflow_role n w.data_blocks) (omega arith) few_roles (omega arith) few within
+      tree_seen 11 n w.data_blocks (thin_layout n w.data_blocks) image blocks (meta_map_at w) 7 (tree_of (plain_tree 4)) (layout_roles n w.data_blocks).data_overflow (omega arith) few_roles (omega arith) few within
       (overflow_at w) (data_overflow w) (omega arith) (omega arith) (overflow_are blocks (meta_map_at w) (data_counts w) w.data_blocks (omega arith) (λ d within. few_counts d))
       standing.overflow super_stands.names.1.1.1.0
 
@@ -409,7 +404,7 @@ module _ (w : ThinShape) (n : ℕ) (image : List (List ℕ)) (few : n ≤ 416160
   unfolding meta_map_blocks
   meta_map_seen =
       map_seen 11 n w.data_blocks (thin_layout n w.data_blocks) image blocks end 8 (meta_map_at w) (pool_named w)
-      (roles.meta_index_role n w.data_blocks) (roles.meta_bitmap_role n w.data_blocks) (roles.meta_overflow_role n w.data_blocks) (omega arith) few_roles few room (omega arith) (omega arith)
+      (layout_roles n w.data_blocks).meta_index (layout_roles n w.data_blocks).meta_bitmap (layout_roles n w.data_blocks).meta_overflow (omega arith) few_roles few room (omega arith) (omega arith)
       named_before few_named_before meta_stands super_stands.names.1.1.1.1.0 super_stands.names.1.1.1.1.1.0
 
   pub meta_fitting : AllFrom (IsFitting (graph_of 11 n w.data_blocks (thin_layout n w.data_blocks)) image (pool_blocks w n) (meta_map_at w + length (meta_map_blocks w n))) (meta_map_at w) (meta_map_blocks w n)

@@ -13,7 +13,7 @@ use Rattle.pd_laid.specs.Shape.{ArePieces, Piece, leaf_mappings, own, piece_mapp
 use Rattle.pd_laid.specs.Tree.{heads}
 use Rattle.pd_laid_graph.specs.LaidOut.{AllFrom}
 use Rattle.pd_laid.proofs.ItemLemmas.{items-append, length-items}
-use Rattle.pd_laid_graph.proofs.ListLemmas.{all_back, all_front}
+use Rattle.pd_laid.proofs.GatherLemmas.{all_first, all_last}
 use Rattle.pd_laid_graph.proofs.FromLemmas.{from_back, from_both, from_front}
 use Rattle.pd_laid_graph.proofs.Trees.{from_heads, heads_from, leaves_are}
 
@@ -85,14 +85,14 @@ pub own_part : (P : List Entry → Type 0) (leaves : List (List Entry)) (pieces 
     → AllByRecursion P (flat_map own_leaves pieces)
 own_part P leaves [] all = tt
 own_part P leaves (own mappings ∷ pieces) all =
-    all_append P (own_leaves (own mappings)) (flat_map own_leaves pieces) (all_front P (own_leaves (own mappings)) (flat_map (piece_groups leaves) pieces) all)
-    (own_part P leaves pieces (all_back P (own_leaves (own mappings)) (flat_map (piece_groups leaves) pieces) all))
+    all_append P (own_leaves (own mappings)) (flat_map own_leaves pieces) (all_first P (own_leaves (own mappings)) (flat_map (piece_groups leaves) pieces) all)
+    (own_part P leaves pieces (all_last P (own_leaves (own mappings)) (flat_map (piece_groups leaves) pieces) all))
 own_part P leaves (shared number ∷ pieces) all = own_part P leaves pieces all.1
 
 pub shared_part : (P : List Entry → Type 0) (leaves : List (List Entry)) (pieces : List Piece) → AllByRecursion P (flat_map (piece_groups leaves) pieces)
     → AllByRecursion (λ k. P (unwrap_or (slice_get leaves k) [])) (flat_map uses_of_piece pieces)
 shared_part P leaves [] all = tt
-shared_part P leaves (own mappings ∷ pieces) all = shared_part P leaves pieces (all_back P (own_leaves (own mappings)) (flat_map (piece_groups leaves) pieces) all)
+shared_part P leaves (own mappings ∷ pieces) all = shared_part P leaves pieces (all_last P (own_leaves (own mappings)) (flat_map (piece_groups leaves) pieces) all)
 shared_part P leaves (shared number ∷ pieces) all = (all.0, shared_part P leaves pieces all.1)
 
 pub uses_fit : (leaves : ℕ) (pieces : List Piece) → AllByRecursion (PieceFits leaves) pieces → AllByRecursion (λ k. k < leaves) (flat_map uses_of_piece pieces)
@@ -120,8 +120,8 @@ row_own P leaves place (own mappings ∷ pieces) all =
     let here = own_leaves (own mappings) in
     let holds = λ (e : Entry). P e.value in
     from_both (λ q g. P q) place here (flat_map own_leaves pieces)
-    (from_heads P place here (all_front holds (heads place here) (pieces_row leaves (place + length here) pieces) all))
-    (row_own P leaves (place + length here) pieces (all_back holds (heads place here) (pieces_row leaves (place + length here) pieces) all))
+    (from_heads P place here (all_first holds (heads place here) (pieces_row leaves (place + length here) pieces) all))
+    (row_own P leaves (place + length here) pieces (all_last holds (heads place here) (pieces_row leaves (place + length here) pieces) all))
 row_own P leaves place (shared number ∷ pieces) all =
     let e : place + 0 ≡ place = omega arith in
     rw e at (row_own P leaves (place + 0) pieces all.1)
@@ -131,7 +131,7 @@ pub row_uses : (P : ℕ → Type 0) (leaves : List (List Entry)) (place : ℕ) (
 row_uses P leaves place [] all = tt
 row_uses P leaves place (own mappings ∷ pieces) all =
     let here = own_leaves (own mappings) in
-    row_uses P leaves (place + length here) pieces (all_back (λ (e : Entry). P e.value) (heads place here) (pieces_row leaves (place + length here) pieces) all)
+    row_uses P leaves (place + length here) pieces (all_last (λ (e : Entry). P e.value) (heads place here) (pieces_row leaves (place + length here) pieces) all)
 row_uses P leaves place (shared number ∷ pieces) all = (all.0, row_uses P leaves (place + 0) pieces all.1)
 
 -- each own leaf has room, and where pieces fit no leaf is empty

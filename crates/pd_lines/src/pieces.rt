@@ -2,25 +2,21 @@ ghost use Rattle.std.specs.Prelude.{◌≡◌, ℕ, ◌+◌, ◌≤◌, ◌++◌
 ghost use Rattle.pd_kinds.specs.Objects.{CountsFault, Appends, AppendsFront};
 ghost use Rattle.pd_lines.specs.Pieces.{Gathers};
 
+use crate::line::{LINE_ROOM, PieceBuffer};
+use crate::text_line::TextLine;
 use pd_image::{Failed, Sink};
 use std::marker::Model;
-
-/// How many bytes are gathered before they are put.
-pub const PIECE_ROOM: usize = 16384;
 
 /// Bytes that are gathered into large pieces, so that a sink isn't called for each line.
 #[derive(Drop)]
 pub struct Pieces {
-    bytes: [u8; 16384],
-    len: usize,
+    text: PieceBuffer,
 }
 
 impl Model for Pieces {
     ghost Value = { List ℕ };
 
-    ghost view = { λ pieces. take pieces.len pieces.bytes };
-
-    ghost invariant = { λ pieces. pieces.len ≤ 16384 };
+    ghost view = { λ pieces. pieces.text };
 }
 
 impl Pieces {
@@ -30,8 +26,7 @@ impl Pieces {
         ensures start { (start : Option (List ℕ)) → Gathers [] result start start }
     {
         Pieces {
-            bytes: [0; 16384],
-            len: 0,
+            text: PieceBuffer::new(),
         }
     }
 
@@ -49,10 +44,29 @@ impl Pieces {
         ensures faults { CountsFault result (K.state out.old).faults (K.state out.new).faults }
         ensures failed { OnErr result (self.new ≡ self.old) }
     {
-        if PIECE_ROOM - self.len < line.len() {
+        if self.text.room() < line.len() {
             self.put(out)?;
         }
-        self.gather(line);
+        self.text.add(line);
+        Ok(())
+    }
+
+    /// Gathers a line in the same way.
+    pub fn add_line<L: TextLine, K: Sink>(&mut self, line: &L, out: &mut K) -> Result<(), Failed>
+        requires { (K.state out.old).access ≡ 1 }
+        ensures gathered { (total : List ℕ) (start : Option (List ℕ)) → Gathers total self.old start (K.state out.old).written
+            → OnOk result (Gathers (total ++ L.bytes line.now) self.new start (K.state out.new).written) }
+        ensures front { (total : List ℕ) (start : Option (List ℕ)) → Gathers total self.old start (K.state out.old).written
+            → AppendsFront total start (K.state out.new).written }
+        ensures access { (K.state out.new).access ≡ (K.state out.old).access }
+        ensures path { (K.state out.new).path ≡ (K.state out.old).path }
+        ensures faults { CountsFault result (K.state out.old).faults (K.state out.new).faults }
+        ensures failed { OnErr result (self.new ≡ self.old) }
+    {
+        if self.text.room() < LINE_ROOM + 1 {
+            self.put(out)?;
+        }
+        line.add_to(&mut self.text);
         Ok(())
     }
 
@@ -69,18 +83,8 @@ impl Pieces {
         ensures faults { CountsFault result (K.state out.old).faults (K.state out.new).faults }
         ensures failed { OnErr result (self.new ≡ self.old) }
     {
-        out.put(&self.bytes[..self.len])?;
-        self.len = 0;
+        out.put(self.text.as_bytes())?;
+        self.text.clear();
         Ok(())
-    }
-
-    /// Adds bytes for which there is room.
-    fn gather(&mut self, line: &[u8])
-        requires { length self.old + length line.now ≤ 16384 }
-        ensures { self.new ≡ self.old ++ line.now }
-    {
-        let end = self.len + line.len();
-        self.bytes[self.len..end].copy_from_slice(line);
-        self.len = end;
     }
 }

@@ -3,6 +3,7 @@ ghost use Rattle.pd_kinds.specs.Objects.{CountsFault};
 ghost use Rattle.pd_lines.specs.Printing.{Finishes, Prints};
 
 use crate::pieces::Pieces;
+use crate::text_line::TextLine;
 use pd_image::{Failed, Sink};
 
 /// Lines that are put to a sink in large pieces, so that it isn't called for each line. What is gathered and not yet
@@ -37,6 +38,16 @@ impl<'a, K: Sink> Printer<'a, K> {
         ensures faults { CountsFault result (printing K.state self.old).sink.faults (printing K.state self.new).sink.faults }
     {
         self.pieces.add(line, self.out)
+    }
+
+    /// Prints a line of a text in the same way.
+    pub fn print_line<L: TextLine>(&mut self, line: &L) -> Result<(), Failed>
+        requires { (printing K.state self.old).sink.access ≡ 1 }
+        ensures same_reference { self.new.out.ghost_name ≡ self.old.out.ghost_name }
+        ensures prints { Prints (L.bytes line.now) result (printing K.state self.old) (printing K.state self.new) }
+        ensures faults { CountsFault result (printing K.state self.old).sink.faults (printing K.state self.new).sink.faults }
+    {
+        self.pieces.add_line(line, self.out)
     }
 
     /// Puts what is pending. After an error the sink may have a front of it.

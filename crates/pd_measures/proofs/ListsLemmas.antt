@@ -1,14 +1,13 @@
 -- Lists of devices, compared entry by entry.
-use Rattle.std.proofs.Common.{◌≡◌, ℕ, Bool, true, false, ◌&&◌, cond, nat_eq, List, [], ◌∷◌, map, Option, Some, None, refl, sym, ◌∙◌, ap, subst, eq-eqb}
+use Rattle.std.proofs.Common.{◌≡◌, ℕ, Bool, true, false, ◌&&◌, cond, nat_eq, List, [], ◌∷◌, map, Some, None, refl, sym, ◌∙◌, ap, subst, eq-eqb}
 use Rattle.std.specs.List.{AllByRecursion}
 use Rattle.std.proofs.lemmas.Bool.{and_parts, and_from, both_ways, eqb-true}
 use Rattle.pd_kinds.specs.Node.{Entry}
 use Rattle.pd_value.specs.declared.thin.Root.{Root}
 use Rattle.pd_value.specs.declared.thin.Details.{Details}
 use Rattle.pd_tree.specs.Items.{item_of, root_of}
-use Rattle.pd_tree.specs.Next.{IsNext}
 use Rattle.pd_measures.specs.Counts.{DeviceCount, counts_by_details, counts_by_roots}
-use Rattle.pd_measures.specs.Lists.{are_one, decided, details_of, is_one, IsDecided}
+use Rattle.pd_measures.specs.Lists.{are_one, details_of, is_one, IsDecided}
 
 abbrev the_count : ℕ → ℕ → DeviceCount
 the_count id mapped = record { id = id; mapped = mapped }
@@ -25,25 +24,6 @@ module _ (below : ℕ → ℕ) where
       subst (λ (ts : List (ℕ × Root)). IsDecided below ts details tops' details' (cond test None (Some false))) (sym first)
       (subst (λ (ds : List (ℕ × Details)). IsDecided below (top ∷ tops') ds tops' details' (cond test None (Some false))) (sym second)
       (both_by test top detail tops' details' e))
-
-  -- the next entries of both decide, or leave it to the others
-  pub decided_by : (top : Option (ℕ × Root)) (detail : Option (ℕ × Details)) (tops tops' : List (ℕ × Root)) (details details' : List (ℕ × Details))
-      → IsNext top tops tops' → IsNext detail details details' → IsDecided below tops details tops' details' (decided below top detail)
-  decided_by None None tops tops' details details' first second =
-      ap (λ (ts : List (ℕ × Root)). are_one below ts details) first.0 ∙ ap (are_one below []) second.0
-  decided_by None (Some detail) tops tops' details details' first second =
-      ap (λ (ts : List (ℕ × Root)). are_one below ts details) first.0 ∙ ap (are_one below []) second
-  decided_by (Some top) None tops tops' details details' first second =
-      ap (λ (ts : List (ℕ × Root)). are_one below ts details) first ∙ ap (are_one below (top ∷ tops')) second.0
-  decided_by (Some top) (Some detail) tops tops' details details' first second =
-      by_test (is_one below top detail) top detail tops tops' details details' first second refl
-
-  -- where they leave it, the first tree has an entry
-  pub undecided_some : (top : Option (ℕ × Root)) (detail : Option (ℕ × Details)) → decided below top detail ≡ None → (x : ℕ × Root) × (top ≡ Some x)
-  undecided_some None None e = absurd (cc)
-  undecided_some None (Some detail) e = absurd (cc)
-  undecided_some (Some top) None e = absurd (cc)
-  undecided_some (Some top) (Some detail) e = (top, refl)
 
 -- entries as cursors give them
 module _ (below number : ℕ → ℕ) where

@@ -26,7 +26,7 @@ first_all : (f : ℕ → Bool) (b : Bool) (x : ℕ) (kept : List ℕ) → b ≡ 
 first_all f true x kept e all = (and_parts (f x) (list_all f kept) all).0
 first_all f false x kept e all = absurd (both_ways false refl e)
 
-kept_from : (f g : ℕ → Bool) (a n q : ℕ) → a ≤ q → q < a + n → g q ≡ true → list_all f (filter g (range_with_len a n)) ≡ true → f q ≡ true
+pub kept_from : (f g : ℕ → Bool) (a n q : ℕ) → a ≤ q → q < a + n → g q ≡ true → list_all f (filter g (range_with_len a n)) ≡ true → f q ≡ true
 kept_from f g a zero q low high passes all = absurd (omega arith)
 kept_from f g a (suc n) q low high passes all = elim (cases_eq a q) [
   | inl same ↦ ap f (sym same) ∙ first_all f (g a) a (filter g (range_with_len (a + 1) n)) (ap g same ∙ passes) all
@@ -70,7 +70,7 @@ pub lost_roles : (image : List (List ℕ)) (data_blocks : ℕ) → (lost_graph i
 unfolding lost_graph graph_of
 lost_roles image data_blocks = refl
 
-less_of : (zero less : Bool) → not (zero || not less) ≡ true → (zero ≡ false) × (less ≡ true)
+pub less_of : (zero less : Bool) → not (zero || not less) ≡ true → (zero ≡ false) × (less ≡ true)
 less_of true less e = absurd (both_ways false refl e)
 less_of false true e = (refl, refl)
 less_of false false e = absurd (both_ways false refl e)

@@ -1,10 +1,9 @@
 -- The entries of a mapping tree and of a details tree, as cursors give them, as lists of devices.
-use Rattle.std.specs.Prelude.{◌≡◌, ℕ, ◌+◌, ◌/◌, ◌%◌, ◌^◌, Bool, true, false, ◌==◌, ◌&&◌, if◌then◌else◌, List, [], ◌∷◌, length, map, Option, Some, None}
+use Rattle.std.specs.Prelude.{◌≡◌, ℕ, ◌+◌, ◌/◌, ◌%◌, ◌^◌, Bool, true, false, ◌==◌, ◌&&◌, if◌then◌else◌, List, [], ◌∷◌, length, Option, Some, None}
 use Rattle.pd_value.specs.declared.thin.Root.{Root}
 use Rattle.pd_value.specs.declared.thin.Details.{Details}
 use Rattle.pd_tree.specs.Cursor.{cursor_nodes}
 use Rattle.pd_measures.specs.declared.comparing.ListCursors.{ListCursors}
-use Rattle.pd_measures.specs.Counts.{DeviceCount}
 
 -- the details that a number of 24 bytes stands for
 abbrev pub details_of : ℕ → Details
@@ -14,13 +13,6 @@ details_of number = record {
   created = number / 2 ^ 128 % 2 ^ 32;
   snapped = number / 2 ^ 160;
 }
-
--- the devices of entries, by how many mappings stand below each root, and by their mapped numbers
-abbrev pub roots_list : (ℕ → ℕ) → List (ℕ × Root) → List DeviceCount
-roots_list below items = map (λ (item : ℕ × Root). record { id = item.0; mapped = below item.1.0 }) items
-
-abbrev pub details_list : List (ℕ × Details) → List DeviceCount
-details_list items = map (λ (item : ℕ × Details). record { id = item.0; mapped = item.1.mapped }) items
 
 -- whether two devices are one
 abbrev pub is_one : (ℕ → ℕ) → ℕ × Root → ℕ × Details → Bool

@@ -19,8 +19,9 @@ use Rattle.pd_laws.specs.InOrder.{AreInOrder}
 use Rattle.pd_laws.proofs.AllLemmas.{all_flat_map, all_from, all_mapped, all_of}
 use Rattle.pd_laid.proofs.NodeFacts.{all_parts, block_pair, not_bad, role_pair, under_all}
 use Rattle.pd_laid.proofs.SalvageLemmas.{bottom_tree}
+use Rattle.pd_laid.proofs.GatherLemmas.{all_first, all_last}
 use Rattle.pd_laid_graph.proofs.CheckLemmas.{all_filtered}
-use Rattle.pd_laid_graph.proofs.ListLemmas.{all_back, all_front, any_none}
+use Rattle.pd_laid_graph.proofs.ListLemmas.{any_none}
 use Rattle.pd_moved.specs.Moving.{AreBelow, AreFree, Ascend}
 
 -- what is kept of a range is below its end, and ascends
@@ -56,9 +57,9 @@ at_found : (found : ℕ → Bool) (f : ℕ → List ℕ) (Q : ℕ → Type 0) (a
     → AllByRecursion Q (flat_map f (filter found (range_with_len a n))) → AllByRecursion Q (f p)
 at_found found f Q a zero p from below is all = absurd (omega arith)
 at_found found f Q a (suc n) p from below is all = elim (cases_eq a p) [
-  | inl same ↦ all_front Q (f p) (flat_map f (filter found (range_with_len (p + 1) n))) (rw (same, is) at all)
+  | inl same ↦ all_first Q (f p) (flat_map f (filter found (range_with_len (p + 1) n))) (rw (same, is) at all)
   | inr apart ↦ at_found found f Q (a + 1) n p (omega arith) (omega arith) is (elim (cases_Bool (found a)) [
-    | inl kept ↦ all_back Q (f a) (flat_map f (filter found (range_with_len (a + 1) n))) (rw kept at all)
+    | inl kept ↦ all_last Q (f a) (flat_map f (filter found (range_with_len (a + 1) n))) (rw kept at all)
     | inr missed ↦ rw missed at all
   ])
 ]

@@ -8,10 +8,10 @@ use Rattle.pd_spells.specs.Lawful.{AreDevices, AreMappings, IsDevice, IsLawfulPo
 use Rattle.pd_spells.specs.ThinNeed.{mapped_data}
 use Rattle.pd_answers.specs.MovedPool.{Move, moved_device, moved_mapping, moved_pool, moved_to, moves_to, sources}
 use Rattle.pd_laws.proofs.AllLemmas.{all_append, all_from_two}
-use Rattle.pd_laid_graph.proofs.ListLemmas.{all_back, all_front}
 use Rattle.pd_moved.specs.Moving.{IsMoving}
 use Rattle.pd_moved.proofs.Places.{moved_below}
 use Rattle.pd_moved.proofs.Sources.{IsNamed, moved_or_below}
+use Rattle.pd_laid.proofs.GatherLemmas.{all_first, all_last}
 
 -- the data blocks of mappings and of devices
 abbrev blocks_of : List Mapping → List ℕ
@@ -60,8 +60,8 @@ module _ (moves : List Move) (blocks end : ℕ) where
   devices_lawful : (least : ℕ) (ds : List ThinDevice) → AreDevices blocks least ds → AllByRecursion GoesBelow (blocks_of_all ds) → AreDevices end least (map (moved_device moves) ds)
   devices_lawful least [] are below = tt
   devices_lawful least (d ∷ ds) are below = (
-    device_lawful least d are.0 (all_front GoesBelow (blocks_of d.mappings) (blocks_of_all ds) below),
-    devices_lawful (d.id + 1) ds are.1 (all_back GoesBelow (blocks_of d.mappings) (blocks_of_all ds) below),
+    device_lawful least d are.0 (all_first GoesBelow (blocks_of d.mappings) (blocks_of_all ds) below),
+    devices_lawful (d.id + 1) ds are.1 (all_last GoesBelow (blocks_of d.mappings) (blocks_of_all ds) below),
   )
 
 pub pool_lawful : (m : ThinPool) (end : ℕ) (free : List ℕ) → IsLawfulPool m → IsMoving m end free → IsLawfulPool (moved_pool m end (moves_to (sources m end) free))

@@ -1,9 +1,9 @@
 -- The data blocks that mappings name, and those of them that are to be moved.
-use Rattle.std.proofs.Common.{◌≡◌, inl, inr, ℕ, zero, suc, ◌+◌, ◌*◌, ◌<◌, ◌≤◌, max, Bool, true, false, nat_eq, nat_le, ◌&&◌, List, [], ◌∷◌, map, filter, fold, Some, refl, le_trans, subst, arith, eq-eqb}
+use Rattle.std.proofs.Common.{◌≡◌, inl, inr, ℕ, ◌+◌, ◌*◌, ◌<◌, ◌≤◌, max, Bool, true, false, nat_eq, nat_le, ◌&&◌, List, [], ◌∷◌, map, fold, Some, le_trans, subst, arith, eq-eqb}
 use Rattle.std.specs.List.{AllByRecursion, find, flat_map, list_any, range_with_len}
 use Rattle.std.specs.Option.{option_and_then, option_map}
 use Rattle.std.proofs.Math.Nat.{le-max_right}
-use Rattle.std.proofs.lemmas.Bool.{and_from, and_parts, both_ways, cases_Bool, cases_eq, cases_lt, le-leb, leb-true, or_left, or_right}
+use Rattle.std.proofs.lemmas.Bool.{and_from, and_parts, both_ways, cases_Bool, cases_lt, le-leb, leb-true, or_left, or_right}
 use Rattle.std.proofs.lemmas.Option.{none-some, same_Some}
 use Rattle.pd_kinds.specs.Meaning.{Mapping, ThinDevice, ThinPool}
 use Rattle.pd_spells.specs.ThinNeed.{mapped_data}
@@ -12,6 +12,7 @@ use Rattle.pd_laws.proofs.AllLemmas.{all_from, all_from_two, all_of}
 use Rattle.pd_laid_graph.proofs.CheckLemmas.{all_filtered}
 use Rattle.pd_laid_graph.proofs.ListLemmas.{any_back, any_front}
 use Rattle.pd_settled.proofs.PlaceLemmas.{from_first}
+use Rattle.pd_settled.proofs.DirtyPlaces.{kept_in}
 use Rattle.pd_moved.specs.Moving.{AreUnnamed}
 
 -- a mapping names the block
@@ -45,19 +46,6 @@ pub apart_from : (m : ThinPool) (d : ℕ) (free : List ℕ) → IsNamed m d → 
 apart_from m d free named unnamed =
     all_from (λ b. list_any (λ x. nat_eq x b) (mapped_data m) ≡ false) (λ b. d ≡ b → ⊥)
     (λ b none same. both_ways (list_any (λ x. nat_eq x b) (mapped_data m)) none (subst (IsNamed m) same named)) free unnamed
-
--- what a filter keeps of a range has each number that passes
-kept_in : (test : ℕ → Bool) (a n d : ℕ) → a ≤ d → d < a + n → test d ≡ true → list_any (λ x. nat_eq x d) (filter test (range_with_len a n)) ≡ true
-kept_in test a zero d from below passes = absurd (omega arith)
-kept_in test a (suc n) d from below passes = elim (cases_eq a d) [
-  | inl same ↦ rw (same, passes) (or_left (nat_eq d d) _ (eq-eqb d d refl))
-  | inr apart ↦
-      let rest = kept_in test (a + 1) n d (omega arith) (omega arith) passes in
-      elim (cases_Bool (test a)) [
-        | inl kept ↦ rw kept (or_right (nat_eq a d) _ rest)
-        | inr missed ↦ rw missed rest
-      ]
-]
 
 -- a data block of the pool that is named is to be moved, or it is below the new end
 pub moved_or_below : (m : ThinPool) (end d : ℕ) → IsNamed m d → d < m.data_blocks → list_any (λ x. nat_eq x d) (sources m end) ≡ false → d < end

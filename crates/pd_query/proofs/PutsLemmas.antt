@@ -1,8 +1,8 @@
 -- Text that is printed, one part after another, and put.
-use Rattle.std.proofs.Common.{◌≡◌, ℕ, List, [], ◌++◌, Option, None, Some, IfSome, Result, Ok, Err, refl, sym, ap, ◌∙◌, append_assoc}
+use Rattle.std.proofs.Common.{◌≡◌, ℕ, List, [], ◌++◌, Option, None, Some, IfSome, Result, Ok, Err, OnOk, refl, sym, ap, ◌∙◌, append_assoc}
 use Rattle.std.specs.Result.{IsErr}
 use Rattle.std.proofs.lemmas.List.{append-nil}
-use Rattle.pd_kinds.specs.Objects.{SinkState}
+use Rattle.pd_kinds.specs.Objects.{Appends, SinkState}
 use Rattle.pd_kinds.proofs.AppendLemmas.{front_from_whole}
 use Rattle.pd_lines.specs.Printing.{Finishes, Printed, Printing, Prints}
 use Rattle.pd_lines.proofs.Printing.{all_begun, all_lost, all_put, begun_after, begun_first, begun_none, fresh, printed_both, printed_none}
@@ -124,6 +124,11 @@ module _ (held : Option (List (List ℕ))) where
       → Finishes {T = Unit {0}} (Err lost) mid sink → PutsText {T = T} held text_of (Err fault) first.written sink.written
   text_lost fault some finishes = record { text = some.text; told = some.told; whole = tt; front = all_lost some.prints finishes }
 
+  pub text_finished : {E F : Type 0} {done : Unit {0}} (result : Result (Unit {0}) E) {text_of : List (List ℕ) → List ℕ} {first sink : SinkState} {mid : Printing} → PrintsSome {E = F} held text_of (Ok done) (fresh first) mid
+      → Finishes result mid sink → PutsText held text_of result first.written sink.written
+  text_finished (Ok last) {first = first} {sink = sink} some finishes = text_put last {first = first} {sink = sink} some finishes
+  text_finished (Err fault) {first = first} {sink = sink} some finishes = text_lost fault {first = first} {sink = sink} some finishes
+
   pub text_stopped : {T E F : Type 0} {lost : F} (result : Result T E) {text_of : List (List ℕ) → List ℕ} {first : SinkState} {mid : Printing} → IsErr result
       → PrintsSome held text_of (Err lost) (fresh first) mid → PutsText held text_of result first.written mid.sink.written
   text_stopped (Ok value) failed some = absurd (cc (failed))
@@ -133,3 +138,9 @@ module _ (held : Option (List (List ℕ))) where
 pub prints_told : {E : Type 0} {result : Result (Unit {0}) E} {text_of other : List (List ℕ) → List ℕ} {old new : Printing} (held : Option (List (List ℕ)))
     → IfSome held (λ image. text_of image ≡ other image) → PrintsSome held text_of result old new → PrintsSome held other result old new
 prints_told held same some = record { text = some.text; told = two_told held (λ image is same. is ∙ same) some.told same; prints = some.prints }
+
+-- all that was printed since then was put, where nothing failed
+pub put_all : {E : Type 0} (result : Result (Unit {0}) E) {text : List ℕ} {first sink : SinkState} {mid : Printing} → Printed text (fresh first) mid → Finishes result mid sink
+    → OnOk result (Appends text first.written sink.written)
+put_all (Ok done) {first = first} {sink = sink} printed finishes = all_put {first = first} {sink = sink} printed finishes
+put_all (Err fault) printed finishes = tt

@@ -17,7 +17,7 @@ mod thin_lines;
 
 pub use counts::DumpCounts;
 pub use fault::QueryFault;
-pub use lines::print_line;
+pub use lines::{finish, print_line, print_text_line};
 pub use query::Query;
 pub use shared_dump::{SharedDump, TextOfShape};
 pub use shared_laws::shared_lines_are_the_text;

@@ -2,7 +2,7 @@
 
 ghost use Rattle.std.specs.Prelude.{◌≡◌, ◌≤◌, ◌∷◌, [], OnOk, length};
 ghost use Rattle.pd_lines.specs.Printer.{printing};
-ghost use Rattle.pd_lines.specs.Printing.{Prints};
+ghost use Rattle.pd_lines.specs.Printing.{Finishes, Prints};
 ghost use Rattle.pd_spells.specs.ThinText.{end_line, first_line, thin};
 ghost use Rattle.pd_texts.specs.Printed.{text_of_line};
 ghost use Rattle.pd_texts.specs.ThinLine.{line_of};
@@ -13,8 +13,8 @@ use crate::counts::DumpCounts;
 use crate::fault::QueryFault;
 use pd_image::Sink;
 use pd_kinds::Kind;
-use pd_lines::Printer;
-use pd_texts::{ThinLine, bytes_of_end, bytes_of_first, bytes_of_thin};
+use pd_lines::{Printer, TextLine};
+use pd_texts::{ThinLine, bytes_of_end, bytes_of_first};
 
 /// Prints the bytes of a line, or of a part of one, at most 16384. Fails with `Sink` where the sink failed.
 pub fn print_line<K: Sink>(line: &[u8], printer: &mut Printer<'_, K>) -> Result<(), QueryFault>
@@ -30,17 +30,32 @@ pub fn print_line<K: Sink>(line: &[u8], printer: &mut Printer<'_, K>) -> Result<
     }
 }
 
-/// Prints a line of a pool's text.
-pub(crate) fn print_thin_line<K: Sink>(
-    line: &ThinLine,
+/// Prints a line of a text. Fails with `Sink` where the sink failed.
+pub fn print_text_line<L: TextLine, K: Sink>(
+    line: &L,
     printer: &mut Printer<'_, K>,
 ) -> Result<(), QueryFault>
     requires { (K.state printer.old.out.now).access ≡ 1 }
     ensures same_reference { printer.new.out.ghost_name ≡ printer.old.out.ghost_name }
-    ensures prints { Prints (text_of_line thin (line_of line.now)) result (printing K.state printer.old) (printing K.state printer.new) }
+    ensures prints { Prints (L.bytes line.now) result (printing K.state printer.old) (printing K.state printer.new) }
     ensures faults { SinkFails result (K.state printer.old.out.now).faults (K.state printer.new.out.now).faults }
 {
-    print_line(bytes_of_thin(line).as_bytes(), printer)
+    match printer.print_line(line) {
+        Ok(()) => Ok(()),
+        Err(_) => Err(QueryFault::Sink),
+    }
+}
+
+/// Puts what is pending. Fails with `Sink` where the sink failed.
+pub fn finish<K: Sink>(printer: Printer<'_, K>) -> Result<(), QueryFault>
+    requires { (K.state printer.out.now).access ≡ 1 }
+    ensures finishes { Finishes result (printing K.state printer.entry) (K.state printer.exit.0.now) }
+    ensures faults { SinkFails result (K.state printer.entry.out.now).faults (K.state printer.exit.0.now).faults }
+{
+    match printer.finish() {
+        Ok(()) => Ok(()),
+        Err(_) => Err(QueryFault::Sink),
+    }
 }
 
 /// Prints a line of a pool's text, and counts it.
@@ -55,7 +70,7 @@ pub(crate) fn add_line<K: Sink>(
     ensures counted { OnOk result (Counted counts.old counts.new (line_of line.now ∷ [])) }
     ensures faults { SinkFails result (K.state printer.old.out.now).faults (K.state printer.new.out.now).faults }
 {
-    print_thin_line(line, printer)?;
+    print_text_line(line, printer)?;
     counts.count(line);
     Ok(())
 }

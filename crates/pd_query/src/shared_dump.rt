@@ -1,6 +1,7 @@
 //! The dump of a pool in whose text each leaf that devices share stands once.
 
 use crate::fault::QueryFault;
+use crate::lines::finish;
 use crate::query::Query;
 use crate::shared_devices::SharingDevices;
 use crate::shared_laws::shared_lines_are_the_text;
@@ -68,10 +69,7 @@ impl SharedDump {
     {
         let mut printer = Printer::over(out);
         add_shared_pool(&self.s, &mut self.sharing, dev, &mut printer)?;
-        match printer.finish() {
-            Ok(()) => Ok(()),
-            Err(_) => Err(QueryFault::Sink),
-        }
+        finish(printer)
     }
 }
 

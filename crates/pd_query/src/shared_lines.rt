@@ -23,7 +23,7 @@ ghost use Rattle.pd_query.specs.SharedLines.{body_lines, entries_in, leaf_lines,
 
 use crate::counts::DumpCounts;
 use crate::fault::QueryFault;
-use crate::lines::{print_line, print_thin_line};
+use crate::lines::{print_line, print_text_line};
 use crate::shared_devices::SharingDevices;
 use crate::thin_lines::{add_runs_of, map_line, pool_line};
 use pd_image::{Device, Failed, Sink};
@@ -33,13 +33,19 @@ use pd_shared_leaves::{Piece, PieceRuns, SharedLeaves};
 use pd_texts::{ThinLine, bytes_of_end, bytes_of_shared_first};
 use pd_thin_meaning::{DeviceRow, MapRuns, ThinDevices};
 
-/// The line of a piece.
-fn piece_line(piece: &Piece) -> ThinLine
-    ensures { line_of result ≡ piece_line piece.now }
+/// Prints the line of a piece.
+fn print_piece<K: Sink>(piece: &Piece, printer: &mut Printer<'_, K>) -> Result<(), QueryFault>
+    requires { (K.state printer.old.out.now).access ≡ 1 }
+    ensures same_reference { printer.new.out.ghost_name ≡ printer.old.out.ghost_name }
+    ensures prints { Prints (text_of_line thin (piece_line piece.now)) result (printing K.state printer.old) (printing K.state printer.new) }
+    ensures faults { SinkFails result (K.state printer.old.out.now).faults (K.state printer.new.out.now).faults }
 {
     match piece {
-        Piece::Run(run) => map_line(run),
-        Piece::SharedLeaf(number) => ThinLine::UseLeaf { number: *number },
+        Piece::Run(run) => print_text_line(&map_line(run), printer),
+        Piece::SharedLeaf(number) => print_text_line(
+            &ThinLine::UseLeaf { number: *number },
+            printer,
+        ),
     }
 }
 
@@ -93,7 +99,7 @@ fn add_leaf<D: Device, K: Sink>(
         Ok(entries) => entries,
         Err(_) => return Err(QueryFault::Device),
     };
-    print_thin_line(&ThinLine::Leaf { number, entries }, printer)?;
+    print_text_line(&ThinLine::Leaf { number, entries }, printer)?;
     add_runs_of(block, runs, dev, printer, &mut DumpCounts::none())
 }
 
@@ -138,7 +144,7 @@ fn add_pieces<D: Device, K: Sink>(
             Err(_) => return Err(QueryFault::Device),
         };
         match piece {
-            Some(piece) => print_thin_line(&piece_line(&piece), printer)?,
+            Some(piece) => print_piece(&piece, printer)?,
             None => return Ok(()),
         }
     }
@@ -185,7 +191,7 @@ fn add_sharing_device<D: Device, K: Sink>(
         id: row.id,
         details: row.details,
     };
-    print_thin_line(&line, printer)?;
+    print_text_line(&line, printer)?;
     add_pieces_of(row.root, pieces, shared, dev, printer)
 }
 
@@ -270,7 +276,7 @@ pub(crate) fn add_shared_pool<D: Device, K: Sink>(
     ensures faults { Fails result (D.state dev.old).faults (D.state dev.new).faults (K.state printer.old.out.now).faults (K.state printer.new.out.now).faults }
 {
     add_shared_first(printer)?;
-    print_thin_line(&pool_line(s), printer)?;
+    print_text_line(&pool_line(s), printer)?;
     add_body(sharing, dev, printer)?;
     print_line(bytes_of_end(), printer)
 }

@@ -9,45 +9,42 @@ use Rattle.pd_refs.specs.Refs.{refs_at, refs_before}
 use Rattle.pd_refs.proofs.RefsLemmas.{refs_more}
 
 -- numbers in a row, cut in two
-range_split : (a m n : ℕ) → range_with_len a (m + n) ≡ range_with_len a m ++ range_with_len (a + m) n
-range_split a zero n =
-    let none : zero + n ≡ n = omega arith in
-    let same : a ≡ a + 0 = omega arith in
-    ap (range_with_len a) none ∙ ap (λ k. range_with_len k n) same
+pub range_split : (a m n : ℕ) → range_with_len a (m + n) ≡ range_with_len a m ++ range_with_len (a + m) n
+range_split a zero n = let e : a + 0 ≡ a = omega arith in let f : 0 + n ≡ n = omega arith in rw (e, f) refl
 range_split a (suc m) n =
-    let more : suc m + n ≡ suc (m + n) = omega arith in
-    let next : a + 1 + m ≡ a + suc m = omega arith in
-    ap (range_with_len a) more
-    ∙ ap (λ (xs : List ℕ). a ∷ xs) (range_split (a + 1) m n ∙ ap (λ k. range_with_len (a + 1) m ++ range_with_len k n) next)
+    let e : a + suc m ≡ (a + 1) + m = omega arith in
+    let f : suc m + n ≡ suc (m + n) = omega arith in
+    rw (e, f) (ap (λ (xs : List ℕ). a ∷ xs) (range_split (a + 1) m n))
 
--- what the pairs that pass name
-passing : (p : ℕ → Bool) (f : ℕ → List ℕ) (xs : List ℕ) → flat_map f (filter p xs) ≡ flat_map (λ x. cond (p x) (f x) []) xs
-passing p f [] = refl
-passing p f (x ∷ xs) = elim (cases_Bool (p x)) [
-  | inl passes ↦ rw passes (ap (λ (ys : List ℕ). f x ++ ys) (passing p f xs))
-  | inr fails ↦ rw fails (passing p f xs)
-]
+module _ {Y : Type 0} where
+  -- what the numbers that pass give
+  pub passing : (p : ℕ → Bool) (f : ℕ → List Y) (xs : List ℕ) → flat_map f (filter p xs) ≡ flat_map (λ x. cond (p x) (f x) []) xs
+  passing p f [] = refl
+  passing p f (x ∷ xs) = elim (cases_Bool (p x)) [
+    | inl passes ↦ rw passes (ap (λ (ys : List Y). f x ++ ys) (passing p f xs))
+    | inr fails ↦ rw fails (passing p f xs)
+  ]
 
--- one of a row alone names something
-none_of : (g : ℕ → List ℕ) (n a : ℕ) → ((i : ℕ) → i < n → g (a + i) ≡ []) → flat_map g (range_with_len a n) ≡ []
-none_of g zero a none = refl
-none_of g (suc n) a none =
-    let first : a ≡ a + 0 = omega arith in
-    ap (λ (ys : List ℕ). ys ++ flat_map g (range_with_len (a + 1) n)) (ap g first ∙ none 0 (omega arith))
-    ∙ none_of g n (a + 1) (λ i below. let next : a + 1 + i ≡ a + (i + 1) = omega arith in ap g next ∙ none (i + 1) (omega arith))
+  -- one of a row alone gives something
+  none_of : (g : ℕ → List Y) (n a : ℕ) → ((i : ℕ) → i < n → g (a + i) ≡ []) → flat_map g (range_with_len a n) ≡ []
+  none_of g zero a none = refl
+  none_of g (suc n) a none =
+      let first : a ≡ a + 0 = omega arith in
+      ap (λ (ys : List Y). ys ++ flat_map g (range_with_len (a + 1) n)) (ap g first ∙ none 0 (omega arith))
+      ∙ none_of g n (a + 1) (λ i below. let next : a + 1 + i ≡ a + (i + 1) = omega arith in ap g next ∙ none (i + 1) (omega arith))
 
-one_of : (g : ℕ → List ℕ) (n k a : ℕ) → k < n → ((i : ℕ) → i < n → (i ≡ k → ⊥) → g (a + i) ≡ []) → flat_map g (range_with_len a n) ≡ g (a + k)
-one_of g zero k a within none = absurd (omega arith)
-one_of g (suc n) zero a within none =
-    let first : a ≡ a + 0 = omega arith in
-    ap (λ (ys : List ℕ). g a ++ ys) (none_of g n (a + 1) (λ i below. let next : a + 1 + i ≡ a + (i + 1) = omega arith in ap g next ∙ none (i + 1) (omega arith) (λ same. omega (arith, same))))
-    ∙ append-nil (g a) ∙ ap g first
-one_of g (suc n) (suc k) a within none =
-    let first : a ≡ a + 0 = omega arith in
-    let last : a + 1 + k ≡ a + suc k = omega arith in
-    ap (λ (ys : List ℕ). ys ++ flat_map g (range_with_len (a + 1) n)) (ap g first ∙ none 0 (omega arith) (λ same. omega (arith, same)))
-    ∙ one_of g n k (a + 1) (omega arith) (λ i below other. let next : a + 1 + i ≡ a + (i + 1) = omega arith in ap g next ∙ none (i + 1) (omega arith) (λ same. other (omega (arith, same))))
-    ∙ ap g last
+  pub one_of : (g : ℕ → List Y) (n k a : ℕ) → k < n → ((i : ℕ) → i < n → (i ≡ k → ⊥) → g (a + i) ≡ []) → flat_map g (range_with_len a n) ≡ g (a + k)
+  one_of g zero k a within none = absurd (omega arith)
+  one_of g (suc n) zero a within none =
+      let first : a ≡ a + 0 = omega arith in
+      ap (λ (ys : List Y). g a ++ ys) (none_of g n (a + 1) (λ i below. let next : a + 1 + i ≡ a + (i + 1) = omega arith in ap g next ∙ none (i + 1) (omega arith) (λ same. omega (arith, same))))
+      ∙ append-nil (g a) ∙ ap g first
+  one_of g (suc n) (suc k) a within none =
+      let first : a ≡ a + 0 = omega arith in
+      let last : a + 1 + k ≡ a + suc k = omega arith in
+      ap (λ (ys : List Y). ys ++ flat_map g (range_with_len (a + 1) n)) (ap g first ∙ none 0 (omega arith) (λ same. omega (arith, same)))
+      ∙ one_of g n k (a + 1) (omega arith) (λ i below other. let next : a + 1 + i ≡ a + (i + 1) = omega arith in ap g next ∙ none (i + 1) (omega arith) (λ same. other (omega (arith, same))))
+      ∙ ap g last
 
 -- what a pair names, where it is reached
 abbrev named : Graph → List (List ℕ) → ℕ → List ℕ

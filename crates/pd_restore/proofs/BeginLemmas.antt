@@ -12,7 +12,7 @@ use Rattle.pd_texts.specs.Reader.{IsReadAfter, ReadsOn, LeavesOf, GivesLine, Giv
 use Rattle.pd_texts.specs.ThinLine.{line_of, thin_meant}
 use Rattle.pd_texts.specs.ThinState.{ThinStands, first_of, version_after}
 use Rattle.pd_texts.proofs.ThinNextLemmas.{pool_read}
-use Rattle.pd_restore.specs.declared.pool.Pool as p
+use Rattle.pd_salvage.specs.declared.saved.SavedHead as p
 use Rattle.pd_restore.specs.Begin.{IsOfPool}
 use Rattle.pd_restore.specs.Whole.{begun_lines, head_of_pool}
 
@@ -41,17 +41,17 @@ module _ (first : Line) where
       let late : 2 ≤ 1 = (placed_second (line_of (Map run)) one.bytes one.is).0 in omega arith
 
 -- the pool that was read
-pub pool_reads : (next : Option ThinLine) (pool : p.Pool) (new : TextReader ThinState ThinLine) → IsOfPool next → thin_meant next ≡ pool_line (head_of_pool pool)
+pub pool_reads : (next : Option ThinLine) (pool : p.SavedHead) (new : TextReader ThinState ThinLine) → IsOfPool next → thin_meant next ≡ pool_line (head_of_pool pool)
     → GivesLine pool_format ThinStands (first_of new.state) thin_meant (Ok next) [] new → ReadsOn pool_format ThinStands (begun_lines new pool) new
 pool_reads None pool new is same gives = absurd is
 pool_reads (Some line) pool new is same gives = rw same at gives
 
-pub pool_told : (next : Option ThinLine) (pool : p.Pool) (t : List ℕ) (new : TextReader ThinState ThinLine) (left : Option (List ℕ)) → IsOfPool next → thin_meant next ≡ pool_line (head_of_pool pool)
+pub pool_told : (next : Option ThinLine) (pool : p.SavedHead) (t : List ℕ) (new : TextReader ThinState ThinLine) (left : Option (List ℕ)) → IsOfPool next → thin_meant next ≡ pool_line (head_of_pool pool)
     → GivesOf pool_format (first_of new.state) thin_meant (Ok next) t [] new left → LeavesOf pool_format t (begun_lines new pool) new left
 pool_told None pool t new left is same gives = absurd is
 pool_told (Some line) pool t new left is same gives = rw same at gives
 
-pub pool_small : (first : Line) (pool : p.Pool) → IsReadAfter pool_format (first ∷ []) (pool_line (head_of_pool pool)) → pool.blocks ≤ 2 ^ 40
+pub pool_small : (first : Line) (pool : p.SavedHead) → IsReadAfter pool_format (first ∷ []) (pool_line (head_of_pool pool)) → pool.blocks ≤ 2 ^ 40
 pool_small first pool read = (pool_read (first_line ∷ shared_first_line ∷ []) pool_grammar (first ∷ []) (head_of_pool pool) read).data_blocks_fit
 
 -- the version is told by the first line

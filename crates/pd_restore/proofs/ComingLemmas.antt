@@ -12,7 +12,7 @@ use Rattle.pd_devices.specs.Gathered.{HasGathered}
 use Rattle.pd_restoring.specs.declared.fault.RestoreFault.{RestoreFault}
 use Rattle.pd_restoring.specs.Reading.{SaysOf}
 use Rattle.pd_restoring.proofs.ReadingLemmas.{above_next}
-use Rattle.pd_restore.specs.declared.pool.Pool.{Pool}
+use Rattle.pd_salvage.specs.declared.saved.SavedHead.{SavedHead}
 use Rattle.pd_restore.specs.declared.saved_lines.SavedLines.{SavedLines}
 use Rattle.pd_restore.specs.Coming.{Coming, HasMade, IsTextOf, Took, lines_to_end, made_begun}
 use Rattle.pd_restore.specs.Reading.{EndsAll, Follows, HasRoom, IsOver}
@@ -26,11 +26,11 @@ first_read : (before : List Line) (line : Line) (lines : List Line) → AreRead 
 first_read before line lines reads = record { going = reads.0; bytes = written pool_format line; short = reads.1.0; is = reads.1.1.0 }
 
 -- the pool line of a pool that is held in memory
-pub made_pool : (p : Pool) (made : SavedLines) → AreRead pool_format [] (in_order (made_begun p) (lines_to_end made)) → IsReadAfter pool_format (first_line ∷ []) (pool_line (head_of_pool p))
+pub made_pool : (p : SavedHead) (made : SavedLines) → AreRead pool_format [] (in_order (made_begun p) (lines_to_end made)) → IsReadAfter pool_format (first_line ∷ []) (pool_line (head_of_pool p))
 made_pool p made reads = first_read (first_line ∷ []) (pool_line (head_of_pool p)) (lines_to_end made) reads.1.1.1
 
 -- the first two lines, with what comes after them
-pub made_coming : (p : Pool) (room : ℕ) (made : SavedLines) (s : Devices) (start : Stand) → HasMade made p room start → HasGathered (made_begun p) s start start → Coming (made_begun p) room made s start start
+pub made_coming : (p : SavedHead) (room : ℕ) (made : SavedLines) (s : Devices) (start : Stand) → HasMade made p room start → HasGathered (made_begun p) s start start → Coming (made_begun p) room made s start start
 made_coming p room made s start has gathered = record {
   so_far = record {
     gathered = gathered;

@@ -25,19 +25,8 @@ use Rattle.pd_devices.specs.Gathered.{HasGathered, IsOpen, data_in, mapped_in}
 use Rattle.pd_devices.specs.declared.devices.Growing.{Growing}
 use Rattle.pd_laid_once.specs.Written.{device_details}
 use Rattle.pd_restore.specs.Written.{HasDevices, Known}
-
--- more lines, the newest first
-abbrev pushed : List Line → List Line → List Line
-pushed before [] = before
-pushed before (line ∷ lines) = pushed (line ∷ before) lines
-
-pushed-append : (before xs ys : List Line) → pushed before (xs ++ ys) ≡ pushed (pushed before xs) ys
-pushed-append before [] ys = refl
-pushed-append before (x ∷ xs) ys = pushed-append (x ∷ before) xs ys
-
-pushed-in_order : (before lines : List Line) → pushed [] (in_order before lines) ≡ pushed before lines
-pushed-in_order [] lines = refl
-pushed-in_order (line ∷ before) lines = pushed-in_order before (line ∷ lines)
+use Rattle.pd_shape_verdicts.proofs.ToldLeaves.{pushed, pushed-append}
+use Rattle.pd_shared_devices.proofs.WholeLemmas.{pushed_again}
 
 -- the runs of a device
 abbrev longer : ThinDevice → List Mapping → ThinDevice
@@ -123,7 +112,7 @@ module _ (b : ℕ) where
 -- the lines of a pool, the newest first
 lines_are : (lines : List Line) (m : ThinPool) (means : MeansPool (in_order lines []) m)
     → lines ≡ pushed (pool_line (head_of m) ∷ first_line ∷ []) (flat_map lines_of_part means.parts ++ end_line ∷ [])
-lines_are lines m means = sym (pushed-in_order lines []) ∙ ap (pushed []) means.lines_are
+lines_are lines m means = sym (pushed_again lines []) ∙ ap (pushed []) means.lines_are
 
 -- behind the last line no device is open
 none_open : (parts : List Part) (before : List Line) → open_device (pushed before (flat_map lines_of_part parts ++ end_line ∷ [])) ≡ []

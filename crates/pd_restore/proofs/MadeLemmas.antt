@@ -1,12 +1,11 @@
 -- What a restore of a pool that is held in memory comes to.
-use Rattle.std.proofs.Common.{◌≡◌, ◌⊎◌, inl, inr, ⊎_elim, ℕ, ◌<◌, ◌≤◌, List, [], Option, Some, None, IfSome, Result, Ok, Err, refl, ap, subst, ◌∙◌, arith}
+use Rattle.std.proofs.Common.{◌≡◌, inl, inr, ⊎_elim, ℕ, ◌<◌, ◌≤◌, List, [], Some, None, IfSome, Result, Ok, Err, refl, ap, subst, ◌∙◌, arith}
 use Rattle.std.proofs.lemmas.Option.{IfSome_then, same_Some}
-use Rattle.pd_kinds.specs.Crash.{HasNoSuper, HoldsSynced, IsOldNoneOrMade, LeavesOnly}
+use Rattle.pd_kinds.specs.Crash.{HoldsSynced, IsOldNoneOrMade, LeavesOnly}
 use Rattle.pd_kinds.specs.Limits.{room_of}
 use Rattle.pd_kinds.specs.Meaning.{ThinPool}
 use Rattle.pd_kinds.specs.Objects.{DeviceState, SourceState}
-use Rattle.pd_kinds.specs.Moments.{now}
-use Rattle.pd_kinds.proofs.CrashLemmas.{left_now, left_synced, stays, still_tells, weaken}
+use Rattle.pd_kinds.proofs.CrashLemmas.{still_tells, weaken}
 use Rattle.pd_grammar.specs.Spelling.{Verdict, accepted}
 use Rattle.pd_laid.specs.LaidThin.{laid_pool, laid_shape}
 use Rattle.pd_laid.specs.Made.{Makes}
@@ -18,6 +17,7 @@ use Rattle.pd_texts.specs.declared.fault.TextFault.{TextFault}
 use Rattle.pd_restoring.specs.declared.fault.RestoreFault.{RestoreFault}
 use Rattle.pd_restoring.specs.declared.fault.RestoreFault.TheVariants as r
 use Rattle.pd_restoring.specs.Restored.{AnswersFault, IsRestored}
+use Rattle.pd_restoring.proofs.RestoreLemmas.{at_rest, kept_same}
 use Rattle.pd_restore.specs.declared.begin.Begun.{Begun}
 use Rattle.pd_restore.specs.Pools.{PoolLeaves}
 use Rattle.pd_restore.specs.Made.{AnswersMade, Ending, IsDone, IsMadeOf, MakesPool, done, failed, lacking, short}
@@ -94,15 +94,6 @@ module _ (pool : ThinPool) (from to : SourceState) (old new : DeviceState) (fits
     untouched = λ small. absurd (omega arith);
     early = λ none. absurd none;
   }
-
--- what a crash leaves of a device that is left alone, where nothing is unsynced
-at_rest : (image : Image) (Made : Image → Type 0) (device : DeviceState) → HoldsSynced image device → LeavesOnly (IsOldNoneOrMade image Made) device device
-at_rest image Made device synced =
-    stays refl refl (λ left firsts leaves chance. inl (left_synced image left (now image device.history) refl synced.unsynced (left_now device image left firsts synced.held leaves).0))
-
-kept_same : (held : Option Image) → IfSome held (λ image. IfSome held (λ now. (now ≡ image) ⊎ HasNoSuper now))
-kept_same None = tt
-kept_same (Some image) = inl refl
 
 -- a device that was left alone
 pub resting : (pool : ThinPool) (ending : Ending) (device : DeviceState) → (IsDone ending → ⊥) → AnswersMade ending pool (room_of device.blocks) → IsMadeOf pool ending device device

@@ -8,14 +8,14 @@ use Rattle.pd_shapes.specs.SharedNeed.{need_of_shared, shape_need_so_far, used_o
 use Rattle.pd_spells.specs.ThinText.{Head, first_line, shared_first_line, pool_line}
 use Rattle.pd_texts.specs.ThinState.{first_of}
 use Rattle.pd_spells.specs.ThinNeed.{need_of_devices, overflows_in, thin_need_so_far}
-use Rattle.pd_restore.specs.declared.pool.Pool.{Pool}
+use Rattle.pd_salvage.specs.declared.saved.SavedHead.{SavedHead}
 use Rattle.pd_restore.specs.declared.begin.Rest.{Rest}
 use Rattle.pd_restore.specs.declared.begin.Rest.TheVariants.{Text, Saved}
 use Rattle.pd_restore.specs.Pools.{StandsBefore, lines_before}
 use Rattle.pd_restore.specs.Whole.{head_of_pool}
 use Rattle.pd_restore.proofs.BeginLemmas.{pool_small}
 use Rattle.pd_restore.proofs.ComingLemmas.{made_pool}
-use Rattle.pd_restore.proofs.UnsharedLines.{tree_most}
+use Rattle.pd_restoring.proofs.NeedLemmas.{tree_most}
 
 -- no data block is mapped by them
 none_passes : (from n : ℕ) → count_by (λ d. false) (range_with_len from n) ≡ 0
@@ -42,7 +42,7 @@ unfolding need_of_devices
 some_need blocks room = omega arith
 
 -- they need something, and it is a number of its type
-pub need_exact : (p : Pool) (rest : Rest) (room need : ℕ) → StandsBefore p rest → room ≤ 4161600 → need ≡ min (need_of_devices [] p.blocks 0 room) (2 ^ 64 - 1)
+pub need_exact : (p : SavedHead) (rest : Rest) (room need : ℕ) → StandsBefore p rest → room ≤ 4161600 → need ≡ min (need_of_devices [] p.blocks 0 room) (2 ^ 64 - 1)
     → need ≡ pool_need_so_far room (lines_before p rest)
 need_exact p rest room need stands most is = by rest stands
   where
@@ -53,5 +53,5 @@ need_exact p rest room need stands most is = by rest stands
     by (Text text) stands = sym (begun_need text.state.is_shared (head_of_pool p) room ∙ fits (pool_small (first_of text.state) p stands.so_far.lines.0))
     by (Saved made) stands = sym (begun_need false (head_of_pool p) room ∙ fits (pool_small first_line p (made_pool p made stands)))
 
-pub need_some : (p : Pool) (room need : ℕ) → need ≡ min (need_of_devices [] p.blocks 0 room) (2 ^ 64 - 1) → 1 ≤ need
+pub need_some : (p : SavedHead) (room need : ℕ) → need ≡ min (need_of_devices [] p.blocks 0 room) (2 ^ 64 - 1) → 1 ≤ need
 need_some p room need is = omega (arith, is, some_need p.blocks room)

@@ -19,14 +19,14 @@ use Rattle.pd_restoring.specs.declared.fault.RestoreFault.{RestoreFault}
 use Rattle.pd_restoring.specs.Whole.{Writes}
 use Rattle.pd_restore.specs.declared.begin.Rest.{Rest}
 use Rattle.pd_restore.specs.declared.parts.Parts.{Parts}
-use Rattle.pd_restore.specs.declared.pool.Pool.{Pool}
+use Rattle.pd_salvage.specs.declared.saved.SavedHead.{SavedHead}
 use Rattle.pd_restore.specs.Parts.{AreParts}
 use Rattle.pd_restore.specs.Pools.{LeavesBefore, pools}
 use Rattle.pd_restore.specs.Whole.{head_of_pool, fields_of}
 use Rattle.pd_restore.specs.Written.{shape_behind}
 
 -- the superblock's fields are those of the laid shape
-pub fields_are : (p : Pool) (parts : Parts) (room : ℕ) (w : ThinShape) → head_of_pool p ≡ head_of_shape w → AreParts w room parts → fields_of p parts room ≡ pool_fields w room
+pub fields_are : (p : SavedHead) (parts : Parts) (room : ℕ) (w : ThinShape) → head_of_pool p ≡ head_of_shape w → AreParts w room parts → fields_of p parts room ≡ pool_fields w room
 unfolding pool_fields
 fields_are p parts room w head are =
     let uuid : p.uuid ≡ w.uuid = ap (λ (h : Head). h.uuid) head in
@@ -77,7 +77,7 @@ writes_of lines room left start now IsOf of (Ok block) w = record {
 }
 
 -- and is the same under each name of what gives the lines
-pub rest_writes : (p : Pool) (named rest : Rest) (room : ℕ) (was left : Option (List ℕ)) (start now : Stand) (result : Result Block RestoreFault) → named ≡ rest
+pub rest_writes : (p : SavedHead) (named rest : Rest) (room : ℕ) (was left : Option (List ℕ)) (start now : Stand) (result : Result Block RestoreFault) → named ≡ rest
     → IfOk result (Writes pools room (λ t. LeavesBefore t p rest was) left start now) → IfOk result (Writes pools room (λ t. LeavesBefore t p named was) left start now)
 rest_writes p named rest room was left start now result is w =
     subst (λ (other : Rest). IfOk result (Writes pools room (λ t. LeavesBefore t p other was) left start now)) (sym is) w

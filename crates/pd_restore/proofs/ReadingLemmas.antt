@@ -1,19 +1,19 @@
 -- A text that is read and restored, line by line.
-use Rattle.std.proofs.Common.{◌≡◌, ℕ, ◌-◌, ◌<◌, ◌≤◌, ◌^◌, Bool, true, false, List, [], ◌∷◌, length, refl, sym, ◌∙◌, ap, arith, Option, Some, Result, Ok, Err}
+use Rattle.std.proofs.Common.{◌≡◌, ℕ, ◌-◌, ◌<◌, ◌≤◌, ◌^◌, Bool, true, false, List, [], ◌∷◌, length, refl, sym, ◌∙◌, ap, arith, Option, Some, Result, Ok, Err, subst, if◌then◌else◌}
 use Rattle.std.specs.Prelude.{MatchResult, IfOk, IfErr, OnOk}
 use Rattle.pd_draft.specs.Placed.{Stand}
 use Rattle.pd_grammar.specs.Spelling.{need_above_room}
 use Rattle.pd_grammar.specs.Texts.{reading}
 use Rattle.pd_lines.specs.Reader.{lines_of}
 use Rattle.pd_shapes.specs.PoolText.{pool_need_so_far}
-use Rattle.pd_spells.specs.ThinText.{Line, Head, pool_line, end_line, pool_format}
+use Rattle.pd_spells.specs.ThinText.{Line, pool_line, end_line, pool_format, first_line, shared_first_line}
 use Rattle.pd_texts.specs.declared.fault.ReadFault.{ReadFault}
 use Rattle.pd_texts.specs.declared.reader.TextReader.{TextReader}
 use Rattle.pd_texts.specs.declared.thin_line.ThinLine.{ThinLine}
 use Rattle.pd_texts.specs.declared.thin_state.ThinState.{ThinState}
 use Rattle.pd_texts.specs.Reader.{in_order, AreReadSoFar, ReadsOn, LeavesOf, IsWhole, RefusesNext}
 use Rattle.pd_texts.specs.ThinLine.{line_of}
-use Rattle.pd_texts.specs.ThinState.{ThinStands}
+use Rattle.pd_texts.specs.ThinState.{ThinStands, first_of}
 use Rattle.pd_restoring.specs.declared.fault.RestoreFault.{RestoreFault}
 use Rattle.pd_restoring.specs.declared.fault.RestoreFault.TheVariants as r
 use Rattle.pd_restoring.specs.Reading.{IsOfBuild, NoneAbove, SaysOf}
@@ -22,6 +22,8 @@ use Rattle.pd_build.specs.declared.fault.BuildFault.{BuildFault}
 use Rattle.pd_build.specs.declared.fault.BuildFault.TheVariants as b
 use Rattle.pd_restoring.proofs.ReadingLemmas.{above_next, above_here, next_says}
 use Rattle.pd_restore.specs.Reading.{Gathers, Reading, Steps, IsShort, IsOver}
+use Rattle.pd_restore.specs.Whole.{HasBegun, begun_lines, head_of_pool}
+use Rattle.pd_salvage.specs.declared.saved.SavedHead.{SavedHead}
 
 -- a look at the room that is exact says how much is needed
 pub over_if_short : {T : Type 0} (room need exact : ℕ) (result : Result T RestoreFault) → need ≡ exact → MatchResult result (λ more. need ≤ room) (IsShort room need)
@@ -115,12 +117,17 @@ module _ {G : Type 0} (Has : Gathers G) where
       next_says pool_format pool_need_so_far first end_line fault room t before (omega (arith, h.later)) h.above need refuses
 
   -- the first two lines were read
-  pub begun_reading : (first : Line) (p : Head) (room : ℕ) (text : TextReader ThinState ThinLine) (s : G) (start : Stand) → ReadsOn pool_format ThinStands (pool_line p ∷ first ∷ []) text
-      → Has room (pool_line p ∷ first ∷ []) s start start → pool_need_so_far room (pool_line p ∷ first ∷ []) ≤ room → room ≤ 4161600 → room ≤ start.device.blocks
-      → Reading Has (pool_line p ∷ first ∷ []) room text s start start
-  begun_reading first p room text s start reads gathered need most there = record {
-    reads = reads;
+  pub begun_text : (shared : Bool) (p : SavedHead) (room : ℕ) (text : TextReader ThinState ThinLine) (s : G) (start : Stand) → HasBegun shared text p room start
+      → Has room (pool_line (head_of_pool p) ∷ (if shared then shared_first_line else first_line) ∷ []) s start start → Reading Has (begun_lines text p) room text s start start
+  begun_text shared p room text s start begun gathered = record {
+    reads = begun.reads;
     later = omega arith;
-    so_far = record { gathered = gathered; lines = reads.so_far.lines; need = need; most = most; there = there };
-    above = above_next pool_need_so_far room (first ∷ []) (pool_line p) (λ lines. refl) need;
+    so_far = record {
+      gathered = subst (λ (b : Bool). Has room (pool_line (head_of_pool p) ∷ (if b then shared_first_line else first_line) ∷ []) s start start) (sym begun.version) gathered;
+      lines = begun.reads.so_far.lines;
+      need = begun.need;
+      most = begun.most;
+      there = begun.there;
+    };
+    above = above_next pool_need_so_far room (first_of text.state ∷ []) (pool_line (head_of_pool p)) (λ lines. refl) begun.need;
   }

@@ -11,7 +11,7 @@ use Rattle.pd_grammar.proofs.SpellingLemmas.{reading_if_spelled}
 use Rattle.pd_thin_meaning.specs.declared.joined.Run.{Run as SavedRun}
 use Rattle.pd_thin_meaning.specs.Joined.{spelled}
 use Rattle.pd_texts.specs.Reader.{in_order}
-use Rattle.pd_spells.specs.ThinText.{Head, Line, first_line, pool_line, device_line, map_line, end_line, Part, Run, HasMappings, follows, joined_runs, lines_of_part, mappings_of, pool_format, with_mapping}
+use Rattle.pd_spells.specs.ThinText.{Line, first_line, pool_line, device_line, map_line, end_line, Part, Run, HasMappings, follows, joined_runs, lines_of_part, mappings_of, pool_format, with_mapping}
 use Rattle.pd_spells.proofs.ThinRead.{FitsLine, PlacedInPool}
 use Rattle.pd_laid.specs.Shape.{shape_of}
 use Rattle.pd_shapes.specs.PoolText.{MeansAs, MeansPoolShape, SpellsPoolShape}
@@ -20,10 +20,10 @@ use Rattle.pd_shapes.proofs.ShapeText.{parts_unshared}
 use Rattle.pd_salvage.specs.declared.saved.SavedDevice.{SavedDevice}
 use Rattle.pd_salvage.specs.Saved.{IsJoined, IsSavedPool, SavedPool, parts_of, pool_of}
 use Rattle.pd_texts.specs.ThinLine.{details_of}
-use Rattle.pd_restore.specs.declared.pool.Pool.{Pool}
+use Rattle.pd_salvage.specs.declared.saved.SavedHead.{SavedHead}
 use Rattle.pd_restore.specs.declared.saved_lines.SavedLines.{SavedLines}
 use Rattle.pd_restore.specs.Coming.{lines_to_end, made_begun}
-use Rattle.pd_restore.specs.SavedLines.{lines_at, lines_left, saved_lines, saved_text, words_of_head}
+use Rattle.pd_restore.specs.SavedLines.{lines_at, lines_left, saved_lines, saved_text}
 use Rattle.pd_restore.specs.Whole.{head_of_pool}
 
 -- each run of the joined ones has a mapping
@@ -74,9 +74,9 @@ pub all_left : (saved : SavedPool) → lines_at saved.devices saved.runs 0 0 0 �
 unfolding lines_at
 all_left saved = refl
 
-pub all_lines : (saved : SavedPool) (p : Pool) (made : SavedLines) → head_of_pool p ≡ words_of_head saved.head → lines_left made ≡ flat_map lines_of_part (parts_of saved.devices saved.runs)
+pub all_lines : (saved : SavedPool) (p : SavedHead) (made : SavedLines) → p ≡ saved.head → lines_left made ≡ flat_map lines_of_part (parts_of saved.devices saved.runs)
     → in_order (made_begun p) (lines_to_end made) ≡ saved_lines saved
-all_lines saved p made head rest = ap₂ (λ (h : Head) (ls : List Line). first_line ∷ pool_line h ∷ (ls ++ end_line ∷ [])) head rest
+all_lines saved p made head rest = ap₂ (λ (h : SavedHead) (ls : List Line). first_line ∷ pool_line (head_of_pool h) ∷ (ls ++ end_line ∷ [])) head rest
 
 -- a run, and what comes after it
 pub run_first : (devices : List SavedDevice) (runs : List SavedRun) (device run left : ℕ) (r : SavedRun) → 0 < left → drop run runs ≡ r ∷ drop (run + 1) runs

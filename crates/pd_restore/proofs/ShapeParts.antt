@@ -28,6 +28,7 @@ use Rattle.pd_laid.specs.Map.{index_entry_of, index_items, laid_bitmap, laid_bit
 use Rattle.pd_laid.specs.Shape.{ShapeDevice, ThinShape, device_of, pool_of, uses_of}
 use Rattle.pd_laid.specs.Tree.{tree_blocks, tree_root}
 use Rattle.pd_laid.proofs.LaidLemmas.{blocks_from-append, blocks_from-map, length-blocks_from, tree_written}
+use Rattle.pd_laid.proofs.NeedLemmas.{length-tree_blocks}
 use Rattle.pd_laid_shared.specs.Named.{named_times, used_times}
 use Rattle.pd_laid_shared.specs.Written.{AreShapePlaces, device_roots, device_tree, leaves_and_trees, shape_parts}
 use Rattle.pd_laid_shared.proofs.PoolNames.{leaves_before_map}
@@ -38,7 +39,6 @@ use Rattle.pd_shapes.specs.SharedNeed.{shape_need, used_often}
 use Rattle.pd_smwrite.specs.Map as smap
 use Rattle.pd_smwrite.specs.Map.{data_map_blocks, data_map_need, data_map_root, allocated_of, meta_map_need, written_bitmap}
 use Rattle.pd_texts.specs.Reader.{in_order}
-use Rattle.pd_devices.proofs.TreeLemmas.{length-tree_blocks}
 use Rattle.pd_restore.specs.declared.parts.Parts.{Parts}
 use Rattle.pd_restore.specs.Parts.{AreParts}
 use Rattle.pd_restore.specs.Reading.{WritesParts}

@@ -5,7 +5,7 @@ use Rattle.pd_draft.specs.Placed.{Stand}
 use Rattle.pd_grammar.specs.Spelling.{need_above_room}
 use Rattle.pd_grammar.specs.Texts as Texts
 use Rattle.pd_grammar.specs.Texts.{has_ended}
-use Rattle.pd_spells.specs.ThinText.{Line, LeafHead, Details, Run, first_line, shared_first_line, pool_line, leaf_line, device_line, use_line, map_line, end_line, is_shared, pool_format}
+use Rattle.pd_spells.specs.ThinText.{Line, LeafHead, Details, Run, first_line, shared_first_line, leaf_line, device_line, use_line, map_line, end_line, is_shared, pool_format}
 use Rattle.pd_spells.proofs.ThinRead.{pool_grammar}
 use Rattle.pd_shapes.specs.PoolText.{pool_need_so_far}
 use Rattle.pd_shapes.specs.SharedNeed.{shape_need_so_far}
@@ -16,19 +16,15 @@ use Rattle.pd_texts.specs.declared.thin_line.ThinLine.{ThinLine}
 use Rattle.pd_texts.specs.declared.thin_state.ThinState.{ThinState}
 use Rattle.pd_texts.specs.Reader.{IsRefusedAfter, RefusesNext, begun}
 use Rattle.pd_texts.specs.ThinNext.{IsLeafLine, IsDeviceLine, IsUseLine, IsRunLine, IsEndLine}
-use Rattle.pd_texts.specs.ThinState.{first_of}
 use Rattle.pd_texts.proofs.ThinNextLemmas.{leaf_read, device_read, use_read, run_read, end_read}
 use Rattle.pd_shared_devices.specs.declared.devices.SharedDevices.{SharedDevices}
 use Rattle.pd_shared_devices.specs.Gathered.{HasGathered, Gathered}
 use Rattle.pd_restoring.specs.declared.fault.RestoreFault.TheVariants as r
 use Rattle.pd_restoring.specs.Reading.{SaysOf}
 use Rattle.pd_restoring.proofs.ReadingLemmas.{above_here, refused_says}
-use Rattle.pd_restore.specs.declared.pool.Pool.{Pool}
 use Rattle.pd_restore.specs.declared.shared.SharedLines.{SharedLines}
 use Rattle.pd_restore.specs.Reading.{Follows, HasRoom, Reading}
 use Rattle.pd_restore.specs.Shared.{HasShared}
-use Rattle.pd_restore.specs.Whole.{HasBegun, begun_lines, head_of_pool}
-use Rattle.pd_restore.proofs.ReadingLemmas.{begun_reading}
 use Rattle.pd_restore.proofs.SharedLines.{device_fits, end_needs, few_lines, leaf_fits, map_fits, use_fits}
 
 -- the first lines that a text may have
@@ -144,14 +140,6 @@ module _ {s : SharedLines} {start now : Stand} (room needed : ℕ) where
 -- how many lines were taken
 pub taken_lines : (before : List Line) (lines more : ℕ) → lines ≡ length before → more ≡ min (lines + 1) top → length before < 2 ^ 62 → more ≡ suc (length before)
 taken_lines before lines more is added few = omega (arith, is, added, few)
-
--- the first two lines of a text of version 2 were read
-pub begun_shared : (p : Pool) (room : ℕ) (text : TextReader ThinState ThinLine) (s : SharedLines) (start : Stand) → HasBegun true text p room start
-    → HasShared room (pool_line (head_of_pool p) ∷ shared_first_line ∷ []) s start start → Reading HasShared (begun_lines text p) room text s start start
-begun_shared p room text s start begun gathered =
-    begun_reading HasShared (first_of text.state) (head_of_pool p) room text s start begun.reads
-    (subst (λ (shared : Bool). HasShared room (pool_line (head_of_pool p) ∷ (if shared then shared_first_line else first_line) ∷ []) s start start) (sym begun.version) gathered)
-    begun.need begun.most begun.there
 
 begun_same : (first : Line) (before : List Line) → 1 ≤ length before → begun first before ≡ before
 begun_same first [] some = absurd (omega arith)

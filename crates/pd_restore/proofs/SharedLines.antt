@@ -1,24 +1,26 @@
 -- The lines of a pool's text of version 2, and what they need.
-use Rattle.std.proofs.Common.{◌≡◌, inl, inr, ℕ, zero, suc, ◌+◌, ◌-◌, ◌*◌, ◌<◌, ◌≤◌, ◌^◌, max, Bool, true, false, if◌then◌else◌, eqb, leb, List, [], ◌∷◌, length, map, sum, sum_by, refl, sym, ap, subst, arith}
-use Rattle.std.specs.List.{count_by, flat_map, range_with_len}
-use Rattle.std.proofs.lemmas.Bool.{cases_Bool, cases_lt, lt-ltb, le-ltb, true≢false}
+use Rattle.std.proofs.Common.{◌≡◌, inl, inr, ℕ, suc, ◌+◌, ◌-◌, ◌*◌, ◌<◌, ◌≤◌, ◌^◌, Bool, true, false, if◌then◌else◌, eqb, List, [], ◌∷◌, length, map, sum, sum_by, refl, sym, ap, subst, arith}
+use Rattle.std.specs.List.{flat_map}
+use Rattle.std.proofs.lemmas.Bool.{cases_Bool, cases_lt, lt-ltb, true≢false}
 use Rattle.std.proofs.lemmas.Bool.Decides.{nat_tests}
 use Rattle.std.proofs.lemmas.List.{length-map}
-use Rattle.std.proofs.lemmas.List.FromFn.{length-range_with_len}
-use Rattle.std.proofs.lemmas.List.Sums.{sum_by-cons, count_by-le-length}
+use Rattle.std.proofs.lemmas.List.Sums.{sum_by-cons}
 use Rattle.pd_kinds.specs.Bitmap.{bitmaps_for}
 use Rattle.pd_kinds.specs.Node.{max_entries}
 use Rattle.pd_grammar.specs.Texts.{has_ended}
 use Rattle.pd_grammar.proofs.GrammarLemmas.{is_read}
 use Rattle.pd_shapes.specs.SharedNeed.{Told, leaf_count, leaves_of_ended, leaves_of_told, lengthened, need_of_leaves, need_of_shared, shape_need_so_far, tell, told_devices, untold, used_often, with_run, with_use}
-use Rattle.pd_spells.specs.Need.{nodes_for, need_above, nodes_of_tree, need_tree}
+use Rattle.pd_spells.specs.Need.{nodes_for, need_above, need_tree}
 use Rattle.pd_spells.specs.ThinNeed.{data_of_line, overflows_in}
 use Rattle.pd_spells.specs.ThinText as d
 use Rattle.pd_spells.specs.ThinText.{Line, first_line, shared_first_line, pool_line, leaf_line, device_line, use_line, map_line, end_line, pool_format, data_blocks_of, has_device, leaf_number, unmapped, uses_of}
 use Rattle.pd_spells.proofs.ThinRead.{FitsLine, PlacedInPool, pool_grammar}
 use Rattle.pd_restore.specs.Shared.{lacks_pieces}
+use Rattle.pd_restore.proofs.UnsharedLines.{overflows_most}
 use Rattle.pd_texts.specs.Reader.{IsReadAfter, AreReadSoFar}
 use Rattle.pd_texts.proofs.ThinNextLemmas.{pool_read, leaf_read, use_read, run_read}
+use Rattle.pd_restoring.proofs.NeedLemmas.{above_most, tree_most}
+use Rattle.pd_devices.proofs.TreeLemmas.{need_tree_some}
 
 -- the first lines that a text may have
 abbrev firsts : List Line
@@ -27,34 +29,12 @@ firsts = first_line ∷ shared_first_line ∷ []
 abbrev top : ℕ
 top = 2 ^ 64 - 1
 
--- how many nodes stand above so many, at most and at least
-above_most : (levels nodes : ℕ) → need_above levels nodes ≤ nodes
-unfolding need_above
-above_most zero nodes = omega arith
-above_most (suc levels) nodes = elim (cases_lt 1 nodes) [
-  | inl some ↦ rw (lt-ltb 1 nodes some) (let rest = above_most levels (nodes_for 252 nodes) in omega arith)
-  | inr none ↦ rw (le-ltb 1 nodes none) (omega arith)
-]
-
 above_least : (levels nodes : ℕ) → nodes ≤ 252 * need_above (suc levels) nodes + 1
 unfolding need_above
 above_least levels nodes = elim (cases_lt 1 nodes) [
   | inl some ↦ rw (lt-ltb 1 nodes some) (omega arith)
   | inr none ↦ omega arith
 ]
-
-tree_most : (most n : ℕ) → nodes_of_tree most n ≤ 2 * max 1 (nodes_for most n)
-unfolding nodes_of_tree
-tree_most most n = let above = above_most 10 (max 1 (nodes_for most n)) in omega arith
-
-tree_least : (n : ℕ) → n ≤ 252 * need_tree 8 n
-unfolding nodes_of_tree
-tree_least n = omega arith
-
-overflows_most : (ns : List ℕ) (blocks : ℕ) → overflows_in ns blocks ≤ blocks
-unfolding overflows_in
-overflows_most ns blocks =
-    omega (arith, count_by-le-length (λ d. leb 3 (count_by (λ b. eqb b d) ns)) (range_with_len 0 blocks), length-range_with_len 0 blocks)
 
 often_most : (uses : List ℕ) (leaves : ℕ) → used_often uses leaves ≤ leaves
 unfolding used_often
@@ -215,7 +195,7 @@ count_lines (end_line ∷ before) so_far going = absurd (true≢false going)
 pub few_lines : (room : ℕ) (before : List Line) → AreReadSoFar pool_format before → has_ended pool_format before ≡ false → shape_need_so_far room before ≤ room → room ≤ 4161600
     → length before < 2 ^ 62
 few_lines room before lines going need most =
-    omega (arith, count_lines before lines going, parts_are false room before going, weights (told_devices before), tree_least (length (told_devices before)))
+    omega (arith, count_lines before lines going, parts_are false room before going, weights (told_devices before), need_tree_some (length (told_devices before)))
 
 -- the data blocks fit
 pub blocks_small : (before : List Line) → AreReadSoFar pool_format before → data_blocks_of before ≤ 2 ^ 40
@@ -236,7 +216,7 @@ small_most n few = (let most = tree_most 252 n in omega arith, (let most = tree_
 total_fits : (leaves below devices blocks over often more grown number another again room : ℕ) → total leaves below devices blocks over often room ≤ room → room ≤ 4161600
     → more ≤ leaves + 1 → grown ≤ 2 ^ 62 → number ≤ devices + 1 → another ≤ blocks → again ≤ more → blocks ≤ 2 ^ 40 → total more grown number blocks another again room ≤ top
 total_fits leaves below devices blocks over often more grown number another again room need most a b c e f small =
-    let many = small_most number (omega (arith, tree_least devices)) in
+    let many = small_most number (omega (arith, need_tree_some devices)) in
     let overs = (small_most another (omega arith)).1.1 in
     let oftens = (small_most again (omega arith)).1.1 in
     omega (arith, many.0, many.1.0, overs, oftens)

@@ -1,7 +1,7 @@
 -- What is gathered of a pool's text of version 1.
-use Rattle.std.proofs.Common.{◌≡◌, ℕ, ◌-◌, ◌<◌, ◌≤◌, ◌^◌, min, Bool, false, if◌then◌else◌, List, [], ◌∷◌, length, sym, ◌∙◌, subst, arith}
+use Rattle.std.proofs.Common.{◌≡◌, ℕ, ◌-◌, ◌<◌, ◌≤◌, ◌^◌, min, false, List, [], ◌∷◌, length, sym, ◌∙◌, subst, arith}
 use Rattle.pd_draft.specs.Placed.{Stand}
-use Rattle.pd_spells.specs.ThinText.{Line, first_line, shared_first_line, pool_line, end_line, is_shared, pool_format}
+use Rattle.pd_spells.specs.ThinText.{Line, first_line, shared_first_line, end_line, is_shared, pool_format}
 use Rattle.pd_spells.specs.ThinNeed.{thin_need_so_far}
 use Rattle.pd_spells.proofs.ThinRead.{pool_grammar}
 use Rattle.pd_shapes.specs.PoolText.{pool_need_so_far}
@@ -9,17 +9,11 @@ use Rattle.pd_texts.specs.Reader.{IsReadAfter}
 use Rattle.pd_texts.specs.ThinLine.{line_of}
 use Rattle.pd_texts.specs.ThinNext.{IsEndLine}
 use Rattle.pd_texts.proofs.ThinNextLemmas.{end_read}
-use Rattle.pd_texts.specs.declared.reader.TextReader.{TextReader}
 use Rattle.pd_texts.specs.declared.thin_line.ThinLine.{ThinLine}
-use Rattle.pd_texts.specs.declared.thin_state.ThinState.{ThinState}
-use Rattle.pd_texts.specs.ThinState.{first_of}
 use Rattle.pd_devices.specs.declared.devices.Devices.{Devices}
-use Rattle.pd_devices.specs.Gathered.{HasGathered, Gathered}
-use Rattle.pd_restore.specs.declared.pool.Pool.{Pool}
-use Rattle.pd_restore.specs.Reading.{Follows, HasRoom, Reading}
+use Rattle.pd_devices.specs.Gathered.{Gathered}
+use Rattle.pd_restore.specs.Reading.{Follows, HasRoom}
 use Rattle.pd_restore.specs.Unshared.{HasUnshared}
-use Rattle.pd_restore.specs.Whole.{HasBegun, begun_lines, head_of_pool}
-use Rattle.pd_restore.proofs.ReadingLemmas.{begun_reading}
 use Rattle.pd_restore.proofs.UnsharedLines.{need_is, need_fits, end_need, few_lines, same_version}
 
 -- what was gathered of lines that have room
@@ -33,14 +27,6 @@ as_gathered {s} {start} {now} before room h = record {
   most = h.most;
   there = h.there;
 }
-
--- the first two lines of a text of version 1 were read
-pub begun_unshared : (p : Pool) (room : ℕ) (text : TextReader ThinState ThinLine) (s : Devices) (start : Stand) → HasBegun false text p room start
-    → HasGathered (pool_line (head_of_pool p) ∷ first_line ∷ []) s start start → Reading HasUnshared (begun_lines text p) room text s start start
-begun_unshared p room text s start begun gathered =
-    begun_reading HasUnshared (first_of text.state) (head_of_pool p) room text s start begun.reads
-    (subst (λ (shared : Bool). HasGathered (pool_line (head_of_pool p) ∷ (if shared then shared_first_line else first_line) ∷ []) s start start) (sym begun.version) gathered)
-    begun.need begun.most begun.there
 
 -- the last line after these ones
 pub end_follows : (before : List Line) → IsReadAfter pool_format before end_line → IsEndLine before

@@ -1,14 +1,14 @@
 -- The lines of a pool's text of version 1, and what they need.
-use Rattle.std.proofs.Common.{◌≡◌, inl, inr, ℕ, zero, suc, ◌+◌, ◌-◌, ◌*◌, ◌<◌, ◌≤◌, ◌^◌, max, false, leb, eqb, List, [], ◌∷◌, length, sum, sum_by, refl, sym, ◌∙◌, subst, arith}
+use Rattle.std.proofs.Common.{◌≡◌, ℕ, suc, ◌+◌, ◌-◌, ◌<◌, ◌≤◌, ◌^◌, false, leb, eqb, List, [], ◌∷◌, length, sum, sum_by, refl, sym, ◌∙◌, subst, arith}
 use Rattle.std.specs.List.{count_by, flat_map, range_with_len}
-use Rattle.std.proofs.lemmas.Bool.{cases_lt, lt-ltb, le-ltb, true≢false}
+use Rattle.std.proofs.lemmas.Bool.{true≢false}
 use Rattle.std.proofs.lemmas.List.FromFn.{length-range_with_len}
 use Rattle.std.proofs.lemmas.List.Sums.{sum_by-cons, count_by-le-length}
 use Rattle.pd_draft.specs.Placed.{Stand}
 use Rattle.pd_grammar.specs.Texts.{has_ended}
 use Rattle.pd_grammar.proofs.GrammarLemmas.{is_read}
 use Rattle.pd_shapes.specs.PoolText.{pool_need_so_far}
-use Rattle.pd_spells.specs.Need.{nodes_for, need_above, nodes_of_tree, need_tree}
+use Rattle.pd_spells.specs.Need.{nodes_of_tree, need_tree}
 use Rattle.pd_spells.specs.ThinNeed.{data_of_line, thin_need_so_far, need_of_devices, overflows_in}
 use Rattle.pd_spells.specs.ThinText as d
 use Rattle.pd_spells.specs.ThinText.{Line, first_line, shared_first_line, pool_line, leaf_line, device_line, use_line, map_line, end_line, pool_format, data_blocks_of, is_shared, unmapped}
@@ -25,6 +25,7 @@ use Rattle.pd_devices.proofs.TreeLemmas.{sum_few}
 use Rattle.pd_devices.proofs.GatherLemmas.{trees_within}
 use Rattle.pd_devices.specs.Devices.{MayFollow}
 use Rattle.pd_devices.specs.Gathered.{HasGathered, mapped_in}
+use Rattle.pd_restoring.proofs.NeedLemmas.{tree_most}
 
 -- the first lines that a text may have
 abbrev firsts : List Line
@@ -61,27 +62,13 @@ map_after before line run is after =
     let m = run_read firsts pool_grammar before (run_of run) (rw is at after) in
     record { some = m.some; fits = m.virtual_fits; within = m.within; time = m.time_fits; above = m.above; enough = m.mapped }
 
--- how many nodes stand above so many at most
-above_most : (levels nodes : ℕ) → need_above levels nodes ≤ nodes
-unfolding need_above
-above_most zero nodes = omega arith
-above_most (suc levels) nodes = elim (cases_lt 1 nodes) [
-  | inl some ↦ rw (lt-ltb 1 nodes some) (let rest = above_most levels (nodes_for 252 nodes) in omega arith)
-  | inr none ↦ rw (le-ltb 1 nodes none) (omega arith)
-]
-
--- and how many a tree has
-pub tree_most : (most n : ℕ) → nodes_of_tree most n ≤ 2 * max 1 (nodes_for most n)
-unfolding nodes_of_tree
-tree_most most n = let above = above_most 10 (max 1 (nodes_for most n)) in omega arith
-
 mappings_most : (n : ℕ) → n < 2 ^ 64 → need_tree 8 n < 2 ^ 58
 mappings_most n fits = let most = tree_most 252 n in omega arith
 
 small_most : (n : ℕ) → n ≤ 2 ^ 41 → (need_tree 8 n < 2 ^ 58) × ((need_tree 24 n < 2 ^ 58) × (need_tree 4 n < 2 ^ 58))
 small_most n few = (let most = tree_most 252 n in omega arith, (let most = tree_most 126 n in omega arith, let most = tree_most 336 n in omega arith))
 
-overflows_most : (ns : List ℕ) (blocks : ℕ) → overflows_in ns blocks ≤ blocks
+pub overflows_most : (ns : List ℕ) (blocks : ℕ) → overflows_in ns blocks ≤ blocks
 unfolding overflows_in
 overflows_most ns blocks =
     omega (arith, count_by-le-length (λ d. leb 3 (count_by (λ b. eqb b d) ns)) (range_with_len 0 blocks), length-range_with_len 0 blocks)

@@ -9,7 +9,7 @@ use Rattle.pd_shapes.specs.PoolText.{pool_need_so_far}
 use Rattle.pd_texts.specs.Reader.{in_order}
 use Rattle.pd_devices.specs.declared.devices.Devices.{Devices}
 use Rattle.pd_restoring.specs.Reading.{NoneAbove}
-use Rattle.pd_restore.specs.declared.pool.Pool.{Pool}
+use Rattle.pd_salvage.specs.declared.saved.SavedHead.{SavedHead}
 use Rattle.pd_restore.specs.declared.saved_lines.SavedLines.{SavedLines}
 use Rattle.pd_restore.specs.Reading.{HasRoom}
 use Rattle.pd_restore.specs.SavedLines.{lines_left}
@@ -21,7 +21,7 @@ abbrev pub lines_to_end : SavedLines → List Line
 lines_to_end made = lines_left made ++ end_line ∷ []
 
 -- the first two lines
-abbrev pub made_begun : Pool → List Line
+abbrev pub made_begun : SavedHead → List Line
 made_begun p = pool_line (head_of_pool p) ∷ first_line ∷ []
 
 -- the text is that of some lines and of those that come, and nothing of it is left
@@ -48,7 +48,7 @@ pub record Took (before : List Line) (room : ℕ) (old made : SavedLines) (s : D
   pub same : in_order lines (lines_to_end made) ≡ in_order before (lines_to_end old)
 
 -- the first two lines are known, and have room on a device of which nothing is written
-pub record HasMade (made : SavedLines) (p : Pool) (room : ℕ) (now : Stand) : Type 0 where
+pub record HasMade (made : SavedLines) (p : SavedHead) (room : ℕ) (now : Stand) : Type 0 where
   pub reads : AreRead pool_format [] (in_order (made_begun p) (lines_to_end made))
   pub place : now.place ≡ 1
   pub need : pool_need_so_far room (made_begun p) ≤ room

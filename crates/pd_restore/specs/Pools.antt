@@ -18,7 +18,7 @@ use Rattle.pd_restoring.proofs.BeginLemmas.{begins_with}
 use Rattle.pd_restore.specs.declared.begin.Begun.{Begun}
 use Rattle.pd_restore.specs.declared.begin.Rest.{Rest}
 use Rattle.pd_restore.specs.declared.begin.Rest.TheVariants.{Text, Saved}
-use Rattle.pd_restore.specs.declared.pool.Pool.{Pool}
+use Rattle.pd_salvage.specs.declared.saved.SavedHead.{SavedHead}
 use Rattle.pd_restore.specs.Coming.{IsTextOf, lines_to_end, made_begun}
 use Rattle.pd_restore.specs.Whole.{begun_lines, head_of_pool}
 
@@ -27,7 +27,7 @@ abbrev pub pools : Subject Line ThinShape
 pools = record { format = pool_format; Means = MeansPoolShape; need = pool_need_so_far; Lawful = IsLawfulShape; laid = laid_shape }
 
 -- the first two lines, the newest first
-abbrev pub lines_before : Pool → Rest → List Line
+abbrev pub lines_before : SavedHead → Rest → List Line
 lines_before pool (Text text) = begun_lines text pool
 lines_before pool (Saved made) = made_begun pool
 
@@ -35,7 +35,7 @@ abbrev pub lines_of_begun : Begun → List Line
 lines_of_begun begun = lines_before begun.pool begun.rest
 
 -- they were read, from whatever source, or those that come may follow them
-abbrev pub StandsBefore : Pool → Rest → Type 0
+abbrev pub StandsBefore : SavedHead → Rest → Type 0
 StandsBefore pool (Text text) = ReadsOn pool_format ThinStands (begun_lines text pool) text
 StandsBefore pool (Saved made) = AreRead pool_format [] (in_order (made_begun pool) (lines_to_end made))
 
@@ -43,7 +43,7 @@ abbrev pub PoolStands : Begun → Type 0
 PoolStands begun = StandsBefore begun.pool begun.rest
 
 -- they were read of this text, and this is left of the source
-abbrev pub LeavesBefore : List ℕ → Pool → Rest → Option (List ℕ) → Type 0
+abbrev pub LeavesBefore : List ℕ → SavedHead → Rest → Option (List ℕ) → Type 0
 LeavesBefore text pool (Text reader) left = LeavesOf pool_format text (begun_lines reader pool) reader left
 LeavesBefore text pool (Saved made) left = IsTextOf (made_begun pool) made left text
 

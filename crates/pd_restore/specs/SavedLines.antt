@@ -4,15 +4,11 @@ use Rattle.std.specs.List.{flat_map}
 use Rattle.pd_grammar.specs.Texts.{text_of_lines}
 use Rattle.pd_thin_meaning.specs.declared.joined.Run.{Run}
 use Rattle.pd_thin_meaning.specs.Joined.{spelled}
-use Rattle.pd_spells.specs.ThinText.{Head, Line, lines_of_part, lines_of_parts, map_line, pool_format}
+use Rattle.pd_spells.specs.ThinText.{Line, lines_of_part, lines_of_parts, map_line, pool_format}
 use Rattle.pd_salvage.specs.declared.saved.SavedDevice.{SavedDevice}
-use Rattle.pd_salvage.specs.declared.saved.SavedHead.{SavedHead}
 use Rattle.pd_salvage.specs.Saved.{SavedPool, parts_of}
 use Rattle.pd_restore.specs.declared.saved_lines.SavedLines.{SavedLines}
-
--- the words of the pool's line
-abbrev pub words_of_head : SavedHead → Head
-words_of_head head = record { uuid = head.uuid; time = head.time; transaction = head.transaction; block_size = head.block_size; data_blocks = head.blocks }
+use Rattle.pd_restore.specs.Whole.{head_of_pool}
 
 -- the lines of so many runs from this one on, and those of the devices from this one on, each with its runs
 unfoldable pub lines_at : List SavedDevice → List Run → ℕ → ℕ → ℕ → List Line
@@ -25,7 +21,7 @@ lines_left made = lines_at made.saved.devices made.saved.runs made.device made.r
 
 -- the text of the pool
 abbrev pub saved_lines : SavedPool → List Line
-saved_lines saved = lines_of_parts (words_of_head saved.head) (parts_of saved.devices saved.runs)
+saved_lines saved = lines_of_parts (head_of_pool saved.head) (parts_of saved.devices saved.runs)
 
 abbrev pub saved_text : SavedPool → List ℕ
 saved_text saved = text_of_lines pool_format (saved_lines saved)

@@ -11,19 +11,19 @@ use Rattle.pd_texts.specs.declared.thin_state.ThinState.{ThinState}
 use Rattle.pd_texts.specs.Reader.{ReadsOn}
 use Rattle.pd_texts.specs.ThinState.{ThinStands, first_of}
 use Rattle.pd_restore.specs.declared.parts.Parts.{Parts}
-use Rattle.pd_restore.specs.declared.pool.Pool.{Pool}
+use Rattle.pd_salvage.specs.declared.saved.SavedHead.{SavedHead}
 use Rattle.pd_restore.specs.Reading.{Gathers, Reading}
 
 -- the words of the pool line
-abbrev pub head_of_pool : Pool → Head
+abbrev pub head_of_pool : SavedHead → Head
 head_of_pool p = record { uuid = p.uuid; time = p.time; transaction = p.transaction; block_size = p.block_size; data_blocks = p.blocks }
 
 -- the first two lines, the newest first
-abbrev pub begun_lines : TextReader ThinState ThinLine → Pool → List Line
+abbrev pub begun_lines : TextReader ThinState ThinLine → SavedHead → List Line
 begun_lines text p = pool_line (head_of_pool p) ∷ first_of text.state ∷ []
 
 -- the fields of the superblock
-abbrev pub fields_of : Pool → Parts → ℕ → ThinFields
+abbrev pub fields_of : SavedHead → Parts → ℕ → ThinFields
 fields_of p parts room = record {
   flags = 0;
   uuid = p.uuid;
@@ -44,12 +44,12 @@ fields_of p parts room = record {
 }
 
 -- the first two lines were read, and nothing is written
-pub record CanBegin {G : Type 0} (Has : Gathers G) (p : Pool) (room : ℕ) (text : TextReader ThinState ThinLine) (s : G) (now : Stand) : Type 0 where
+pub record CanBegin {G : Type 0} (Has : Gathers G) (p : SavedHead) (room : ℕ) (text : TextReader ThinState ThinLine) (s : G) (now : Stand) : Type 0 where
   pub start : Stand
   pub reads : Reading Has (begun_lines text p) room text s start now
 
 -- the first two lines, of a text of this version, were read, and have room on a device of which nothing is written
-pub record HasBegun (shared : Bool) (text : TextReader ThinState ThinLine) (p : Pool) (room : ℕ) (now : Stand) : Type 0 where
+pub record HasBegun (shared : Bool) (text : TextReader ThinState ThinLine) (p : SavedHead) (room : ℕ) (now : Stand) : Type 0 where
   pub version : text.state.is_shared ≡ shared
   pub reads : ReadsOn pool_format ThinStands (begun_lines text p) text
   pub place : now.place ≡ 1

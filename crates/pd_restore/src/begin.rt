@@ -11,16 +11,16 @@ ghost use Rattle.pd_restoring.specs.Begin.{BeginsOf, CountsBegin};
 ghost use Rattle.pd_restore.specs.Begin.{IsOfPool};
 ghost use Rattle.pd_restore.specs.Whole.{begun_lines, head_of_pool};
 
-use crate::pool::Pool;
 use crate::saved_lines::SavedLines;
 use pd_image::Source;
 use pd_restoring::{RestoreFault, of_read};
+use pd_salvage::SavedHead;
 use pd_texts::{ThinLine, ThinText};
 
 /// A pool whose own line is known, and what gives the lines after it.
 #[derive(Drop)]
 pub(crate) struct Begun {
-    pub(crate) pool: Pool,
+    pub(crate) pool: SavedHead,
     pub(crate) rest: Rest,
 }
 
@@ -37,7 +37,7 @@ pub(crate) enum Rest {
 pub(crate) fn read_pool<S: Source>(
     text: &mut ThinText,
     source: &mut S,
-) -> Result<Pool, RestoreFault>
+) -> Result<SavedHead, RestoreFault>
     requires attached { (S.state source.old).access ≡ 1 }
     requires start { ReadsOn pool_format ThinStands [] text.old }
     ensures reads { IfOk result (λ pool. ReadsOn pool_format ThinStands (begun_lines text.new pool) text.new) }
@@ -54,7 +54,7 @@ pub(crate) fn read_pool<S: Source>(
 }
 
 /// The pool of the second line.
-fn pool_of(line: Option<ThinLine>) -> Pool
+fn pool_of(line: Option<ThinLine>) -> SavedHead
     requires { IsOfPool line }
     ensures { thin_meant line ≡ pool_line (head_of_pool result) }
 {
@@ -67,7 +67,7 @@ fn pool_of(line: Option<ThinLine>) -> Pool
                 block_size,
                 blocks,
             },
-        ) => Pool {
+        ) => SavedHead {
             uuid,
             time,
             transaction,

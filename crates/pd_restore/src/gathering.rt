@@ -1,11 +1,11 @@
 //! What gathers the lines of a pool's text.
 
-ghost use Rattle.std.specs.Prelude.{◌≡◌, ◌-◌, ◌<◌, ◌≤◌, ◌^◌, ℕ, List, ◌∷◌, length, IfOk, OnOk, MatchResult};
+ghost use Rattle.std.specs.Prelude.{◌≡◌, ◌-◌, ◌<◌, ◌≤◌, ◌^◌, ℕ, Bool, if◌then◌else◌, List, [], ◌∷◌, length, IfOk, IfErr, OnOk, MatchResult};
 ghost use Rattle.pd_image.specs.Device.{IsWritable};
 ghost use Rattle.pd_draft.specs.Closed.{IsClosed, StaysClosed};
 ghost use Rattle.pd_draft.specs.Placed.{Stand};
 ghost use Rattle.pd_draft.specs.Stand.{stand};
-ghost use Rattle.pd_spells.specs.ThinText.{Line, end_line, pool_format};
+ghost use Rattle.pd_spells.specs.ThinText.{Head, Line, end_line, first_line, pool_format, pool_line, shared_first_line};
 ghost use Rattle.pd_shapes.specs.PoolText.{pool_need_so_far};
 ghost use Rattle.pd_texts.specs.Reader.{RefusesNext};
 ghost use Rattle.pd_texts.specs.declared.reader.TextReader.{TextReader};
@@ -13,7 +13,7 @@ ghost use Rattle.pd_texts.specs.declared.thin_state.ThinState.{ThinState};
 ghost use Rattle.pd_texts.specs.ThinLine.{line_of};
 ghost use Rattle.pd_build.specs.Causes.{CountsBuildFault};
 ghost use Rattle.pd_restoring.specs.Reading.{CountsTake, IsOfLater, SaysOf};
-ghost use Rattle.pd_restore.specs.Reading.{Gathers, Reading, CanTake, Follows, CanWrite, HasReadAll, WritesParts, IsOfText, IsOver};
+ghost use Rattle.pd_restore.specs.Reading.{Gathers, Reading, CanTake, Follows, CanWrite, HasReadAll, WritesParts, IsNoRoom, IsOfText, IsOver, IsShort};
 
 use crate::parts::Parts;
 use pd_build::BuildFault;
@@ -21,13 +21,23 @@ use pd_draft::Draft;
 use pd_image::Device;
 use pd_restoring::RestoreFault;
 use pd_texts::{ReadFault, TextFault, ThinLine};
-use std::alloc::Global;
+use std::alloc::{AllocError, Global};
 
 /// What gathers the lines of a pool's text of one version, and writes what they mean.
-pub(crate) trait Gathering {
+pub(crate) trait Gathering: Drop {
     /// Of these lines, the newest first, all was gathered, where there are so many blocks for metadata, and what is over of
     /// them is written from one stand to another.
     ghost HasGathered: { Gathers Self };
+
+    /// Whether the text is of version 2.
+    ghost shared: { Bool };
+
+    /// The first two lines of a text were read, and nothing else.
+    fn start(alloc: Global, blocks: u64, room: u64) -> Result<Self, AllocError>
+        requires blocks { blocks ≤ 2 ^ 40 }
+        requires room { room ≤ 4161600 }
+        ensures { (p : Head) (start : Stand) → p.data_blocks ≡ blocks → start.place ≡ 1 → IsClosed start.device
+            → IfOk result (λ s. HasGathered room (pool_line p ∷ (if shared then shared_first_line else first_line) ∷ []) s start start) };
 
     /// Takes a line after the pool line, where there is room for it. A text that has room has few lines.
     fn take_line<D: Device>(
@@ -88,4 +98,16 @@ pub(crate) trait Gathering {
             → IfOk result (WritesParts lines room start (stand draft.new)) }
         ensures closed { StaysClosed (stand draft.old).device (stand draft.new).device }
         ensures faults { CountsBuildFault result (stand draft.old).device.faults (stand draft.new).device.faults };
+}
+
+/// Whether there is room for so many blocks.
+pub(crate) fn within(need: u64, room: u64) -> Result<(), RestoreFault>
+    ensures need { MatchResult result (λ _. need ≤ room) (IsShort room need) }
+    ensures fault { IfErr result IsNoRoom }
+{
+    if need > room {
+        Err(RestoreFault::NoRoom { need, blocks: room })
+    } else {
+        Ok(())
+    }
 }

@@ -11,18 +11,16 @@ ghost use Rattle.pd_spells.specs.Lawful.{IsLawfulPool};
 ghost use Rattle.pd_spells.specs.ThinNeed.{thin_need};
 ghost use Rattle.pd_restore.specs.Made.{CountsMade, IsMadeOf, ending_of};
 ghost use Rattle.pd_restore.specs.Pools.{PoolLeaves, PoolStands};
-ghost use Rattle.pd_restore.specs.SavedLines.{saved_text, words_of_head};
-ghost use Rattle.pd_restore.specs.Whole.{head_of_pool};
+ghost use Rattle.pd_restore.specs.SavedLines.{saved_text};
 
 use crate::begin::{Begun, Rest};
-use crate::pool::Pool;
 use crate::saved_lines::SavedLines;
 use crate::saved_need::need_of_saved;
 use crate::thin::Pools;
 use pd_image::{Device, Failed, Source};
 use pd_kinds::MAX_META_BLOCKS;
 use pd_restoring::{RestoreFault, restore_begun};
-use pd_salvage::{Salvage, SavedHead};
+use pd_salvage::Salvage;
 use pd_shape_verdicts::pool_text_is_accepted_where_there_is_room;
 use pd_shapes::pool_text_has_one_verdict;
 use std::alloc::Global;
@@ -101,23 +99,10 @@ fn begun_of(saved: Salvage) -> Begun
     pool_text_is_accepted_where_there_is_room();
     pool_text_has_one_verdict();
     // What was saved is a lawful pool.
-    let pool = pool_of_head(saved.head());
+    let pool = *saved.head();
     Begun {
         pool,
         rest: Rest::Saved(SavedLines::new(saved)),
-    }
-}
-
-/// The pool line.
-fn pool_of_head(head: &SavedHead) -> Pool
-    ensures { head_of_pool result ≡ words_of_head head.now }
-{
-    Pool {
-        uuid: head.uuid,
-        time: head.time,
-        transaction: head.transaction,
-        block_size: head.block_size,
-        blocks: head.blocks,
     }
 }
 

@@ -23,19 +23,10 @@ use pd_draft::Draft;
 use pd_image::{Device, Source};
 use pd_kinds::{Block, ThinSuper};
 use pd_restoring::{RestoreFault, of_build};
+use pd_salvage::SavedHead;
 use pd_supers::write_thin_super;
 use pd_texts::ThinText;
 use std::alloc::Global;
-
-/// The pool line of a text.
-#[derive(Clone, Copy, Debug, PartialEq, Eq)]
-pub(crate) struct Pool {
-    pub(crate) uuid: [u8; 16],
-    pub(crate) time: u32,
-    pub(crate) transaction: u64,
-    pub(crate) block_size: u32,
-    pub(crate) blocks: u64,
-}
 
 /// Restores the lines after the pool line and writes all of the pool but its superblock, which it answers.
 pub(crate) fn write_pool<S: Source, D: Device, G: Gathering>(
@@ -44,7 +35,7 @@ pub(crate) fn write_pool<S: Source, D: Device, G: Gathering>(
     source: &mut S,
     draft: &mut Draft<'_, D>,
     gathered: &mut G,
-    pool: &Pool,
+    pool: &SavedHead,
     room: u64,
 ) -> Result<Block, RestoreFault>
     requires attached { (S.state source.old).access ≡ 1 }
@@ -70,7 +61,7 @@ pub(crate) fn write_behind<D: Device, G: Gathering>(
     alloc: Global,
     draft: &mut Draft<'_, D>,
     gathered: &G,
-    pool: &Pool,
+    pool: &SavedHead,
     room: u64,
 ) -> Result<Block, RestoreFault>
     requires whole { CanWrite G.HasGathered room gathered.now (stand draft.old) }
@@ -91,7 +82,7 @@ pub(crate) fn write_behind<D: Device, G: Gathering>(
 }
 
 /// The superblock's fields.
-fn super_of(pool: &Pool, parts: Parts, room: u64) -> ThinSuper
+fn super_of(pool: &SavedHead, parts: Parts, room: u64) -> ThinSuper
     ensures { result ≡ fields_of pool.now parts room }
 {
     ThinSuper {

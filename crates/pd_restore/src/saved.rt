@@ -15,13 +15,14 @@ ghost use Rattle.pd_restore.specs.Reading.{EndsAll};
 ghost use Rattle.pd_restore.specs.Unshared.{HasUnshared};
 
 use crate::gathering::Gathering;
-use crate::pool::{Pool, write_behind};
+use crate::pool::write_behind;
 use crate::saved_lines::SavedLines;
 use pd_devices::Devices;
 use pd_draft::Draft;
 use pd_image::Device;
 use pd_kinds::Block;
 use pd_restoring::RestoreFault;
+use pd_salvage::SavedHead;
 use std::alloc::Global;
 
 /// Restores the lines of a saved pool after its own and writes all of it but its superblock, which it answers.
@@ -29,7 +30,7 @@ pub(crate) fn write_saved<D: Device>(
     alloc: Global,
     lines: &mut SavedLines,
     draft: &mut Draft<'_, D>,
-    pool: &Pool,
+    pool: &SavedHead,
     room: u64,
 ) -> Result<Block, RestoreFault>
     requires made { HasMade lines.old pool.now room (stand draft.old) }

@@ -1,16 +1,15 @@
 //! A pool's text of version 2, whose devices share leaves.
 
-ghost use Rattle.std.specs.Prelude.{◌≡◌, ◌≤◌, ◌^◌, List, [], ◌∷◌, false, IfOk};
-ghost use Rattle.pd_draft.specs.Closed.{IsClosed};
+ghost use Rattle.std.specs.Prelude.{◌≡◌, ◌≤◌, List, ◌∷◌, false};
 ghost use Rattle.pd_draft.specs.Placed.{Stand};
 ghost use Rattle.pd_grammar.specs.Texts.{has_ended};
-ghost use Rattle.pd_spells.specs.ThinText.{Head, Line, end_line, pool_format, pool_line, shared_first_line};
+ghost use Rattle.pd_spells.specs.ThinText.{Line, end_line, pool_format};
 ghost use Rattle.pd_shapes.specs.PoolText.{pool_need_so_far};
 ghost use Rattle.pd_shapes.specs.SharedNeed.{told_devices};
 ghost use Rattle.pd_texts.specs.ThinLine.{line_of};
 ghost use Rattle.pd_restore.specs.Shared.{HasShared, lacks_pieces};
 
-use crate::gathering::Gathering;
+use crate::gathering::{Gathering, within};
 use crate::parts::{Parts, write_behind};
 use crate::shared_lines::put_shared;
 use pd_build::BuildFault;
@@ -32,20 +31,6 @@ pub(crate) struct SharedLines {
 }
 
 impl SharedLines {
-    /// The first two lines of a text were read, and nothing else.
-    pub(crate) fn new(alloc: Global, blocks: u64, room: u64) -> Result<SharedLines, AllocError>
-        requires blocks { blocks ≤ 2 ^ 40 }
-        requires room { room ≤ 4161600 }
-        ensures { (p : Head) (start : Stand) → p.data_blocks ≡ blocks → start.place ≡ 1 → IsClosed start.device
-            → IfOk result (λ s. HasShared room (pool_line p ∷ shared_first_line ∷ []) s start start) }
-    {
-        Ok(SharedLines {
-            devices: SharedDevices::new(alloc, blocks, room)?,
-            lines: 2,
-            lacks_pieces: false,
-        })
-    }
-
     /// How many blocks the pool needs where the next line is the last one.
     fn need_at_end(&self, room: u64) -> u64
         ensures { (before : List Line) (start now : Stand) → HasShared room before self.now start now → has_ended pool_format before ≡ false
@@ -61,9 +46,20 @@ impl SharedLines {
 }
 
 impl Gathering for SharedLines {
+    ghost use Rattle.std.specs.Prelude.{true};
     ghost use Rattle.pd_restore.specs.Shared.{HasShared};
 
     ghost HasGathered = { HasShared };
+
+    ghost shared = { true };
+
+    fn start(alloc: Global, blocks: u64, room: u64) -> Result<SharedLines, AllocError> {
+        Ok(SharedLines {
+            devices: SharedDevices::new(alloc, blocks, room)?,
+            lines: 2,
+            lacks_pieces: false,
+        })
+    }
 
     fn take_line<D: Device>(
         &mut self,
@@ -88,12 +84,7 @@ impl Gathering for SharedLines {
         room: u64,
     ) -> Result<(), RestoreFault> {
         let needed = self.need_at_end(room);
-        if needed > room {
-            return Err(RestoreFault::NoRoom {
-                need: needed,
-                blocks: room,
-            });
-        }
+        within(needed, room)?;
         match self.devices.end(draft) {
             Ok(()) => {
                 self.lines = self.lines.saturating_add(1);

@@ -14,6 +14,7 @@ ghost use Rattle.pd_restoring.specs.Reading.{CountsTake};
 ghost use Rattle.pd_restore.specs.Reading.{CanTake, Follows, IsNoRoom, IsOver, IsShort};
 ghost use Rattle.pd_restore.specs.Shared.{CanPutRun};
 
+use crate::gathering::within;
 use pd_devices::Run;
 use pd_draft::Draft;
 use pd_image::Device;
@@ -137,12 +138,7 @@ fn put_run(devices: &mut SharedDevices, run: Run2, room: u64) -> Result<(), Rest
         time: run.time,
     };
     let needed = devices.need_with(&run, room);
-    if needed > room {
-        return Err(RestoreFault::NoRoom {
-            need: needed,
-            blocks: room,
-        });
-    }
+    within(needed, room)?;
     match devices.add_run(run) {
         Ok(()) => Ok(()),
         Err(_) => Err(RestoreFault::Memory),
@@ -155,13 +151,5 @@ fn look(devices: &SharedDevices, room: u64) -> Result<(), RestoreFault>
         → MatchResult result (λ _. min (shape_need_so_far room before) (2 ^ 64 - 1) ≤ room) (IsShort room (min (shape_need_so_far room before) (2 ^ 64 - 1))) }
     ensures fault { IfErr result IsNoRoom }
 {
-    let needed = devices.need(room);
-    if needed > room {
-        Err(RestoreFault::NoRoom {
-            need: needed,
-            blocks: room,
-        })
-    } else {
-        Ok(())
-    }
+    within(devices.need(room), room)
 }

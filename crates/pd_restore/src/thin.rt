@@ -1,6 +1,6 @@
 //! A pool that is restored from its text.
 
-ghost use Rattle.std.specs.Prelude.{◌≡◌, ℕ, List, false, true, IfOk, IfErr};
+ghost use Rattle.std.specs.Prelude.{◌≡◌, ℕ, List, IfOk, IfErr};
 ghost use Rattle.pd_image.specs.Device.{IsWritable, KeepsPlace};
 ghost use Rattle.pd_image.specs.Source.{KeepsSource};
 ghost use Rattle.pd_draft.specs.Closed.{IsClosed, StaysClosed};
@@ -16,7 +16,8 @@ ghost use Rattle.pd_restore.specs.Pools.{pools};
 ghost use Rattle.pd_restore.specs.Whole.{HasBegun, begun_lines};
 
 use crate::begin::{Begun, Rest, read_pool};
-use crate::pool::{Pool, write_pool};
+use crate::gathering::Gathering;
+use crate::pool::write_pool;
 use crate::saved::write_saved;
 use crate::shared::SharedLines;
 use pd_devices::{Devices, need_thin};
@@ -24,6 +25,7 @@ use pd_draft::Draft;
 use pd_image::{Device, Source};
 use pd_kinds::Block;
 use pd_restoring::{RestoreFault, Restoring, restore};
+use pd_salvage::SavedHead;
 use pd_texts::ThinText;
 use std::alloc::Global;
 
@@ -104,9 +106,9 @@ impl Restoring for Pools {
         match rest {
             Rest::Text(mut text) => {
                 if text.version() == 2 {
-                    write_shared(alloc, &mut text, source, draft, &pool, room)
+                    write_text::<S, D, SharedLines>(alloc, &mut text, source, draft, &pool, room)
                 } else {
-                    write_unshared(alloc, &mut text, source, draft, &pool, room)
+                    write_text::<S, D, Devices>(alloc, &mut text, source, draft, &pool, room)
                 }
             }
             Rest::Saved(mut lines) => write_saved(alloc, &mut lines, draft, &pool, room),
@@ -114,17 +116,17 @@ impl Restoring for Pools {
     }
 }
 
-/// Restores the lines of a text of version 1 after the pool line.
-fn write_unshared<S: Source, D: Device>(
+/// Restores the lines of a text after the pool line, by what gathers those of its version.
+fn write_text<S: Source, D: Device, G: Gathering>(
     alloc: Global,
     text: &mut ThinText,
     source: &mut S,
     draft: &mut Draft<'_, D>,
-    pool: &Pool,
+    pool: &SavedHead,
     room: u64,
 ) -> Result<Block, RestoreFault>
     requires attached { (S.state source.old).access ≡ 1 }
-    requires begun { HasBegun false text.old pool.now room (stand draft.old) }
+    requires begun { HasBegun G.shared text.old pool.now room (stand draft.old) }
     requires writable { IsWritable (stand draft.old).device }
     requires closed { IsClosed (stand draft.old).device }
     ensures same_reference { draft.new.dev.ghost_name ≡ draft.old.dev.ghost_name }
@@ -135,37 +137,9 @@ fn write_unshared<S: Source, D: Device>(
     ensures closed { StaysClosed (stand draft.old).device (stand draft.new).device }
     ensures faults { CountsRestore result (S.state source.old).faults (S.state source.new).faults (stand draft.old).device.faults (stand draft.new).device.faults }
 {
-    let mut devices = match Devices::new(alloc, pool.blocks) {
-        Ok(devices) => devices,
+    let mut gathered = match G::start(alloc, pool.blocks, room) {
+        Ok(gathered) => gathered,
         Err(_) => return Err(RestoreFault::Memory),
     };
-    write_pool(alloc, text, source, draft, &mut devices, pool, room)
-}
-
-/// Restores the lines of a text of version 2 after the pool line.
-fn write_shared<S: Source, D: Device>(
-    alloc: Global,
-    text: &mut ThinText,
-    source: &mut S,
-    draft: &mut Draft<'_, D>,
-    pool: &Pool,
-    room: u64,
-) -> Result<Block, RestoreFault>
-    requires attached { (S.state source.old).access ≡ 1 }
-    requires begun { HasBegun true text.old pool.now room (stand draft.old) }
-    requires writable { IsWritable (stand draft.old).device }
-    requires closed { IsClosed (stand draft.old).device }
-    ensures same_reference { draft.new.dev.ghost_name ≡ draft.old.dev.ghost_name }
-    ensures writes { IfOk result (Writes pools room (λ t. LeavesOf pool_format t (begun_lines text.old pool.now) text.old (S.state source.old).left) (S.state source.new).left (stand draft.old) (stand draft.new)) }
-    ensures says { (t : List ℕ) → LeavesOf pool_format t (begun_lines text.old pool.now) text.old (S.state source.old).left → IfErr result (SaysOf pool_format pool_need_so_far room t) }
-    ensures later { IfErr result IsOfLater }
-    ensures source { KeepsSource (S.state source.old) (S.state source.new) }
-    ensures closed { StaysClosed (stand draft.old).device (stand draft.new).device }
-    ensures faults { CountsRestore result (S.state source.old).faults (S.state source.new).faults (stand draft.old).device.faults (stand draft.new).device.faults }
-{
-    let mut lines = match SharedLines::new(alloc, pool.blocks, room) {
-        Ok(lines) => lines,
-        Err(_) => return Err(RestoreFault::Memory),
-    };
-    write_pool(alloc, text, source, draft, &mut lines, pool, room)
+    write_pool(alloc, text, source, draft, &mut gathered, pool, room)
 }

@@ -13,7 +13,7 @@ ghost use Rattle.pd_build.specs.Causes.{CountsBuildFault};
 ghost use Rattle.pd_restore.specs.Reading.{CanTake, Follows, IsNoRoom, IsShort};
 ghost use Rattle.pd_restore.specs.Unshared.{HasUnshared};
 
-use crate::gathering::Gathering;
+use crate::gathering::{Gathering, within};
 use crate::parts::{Parts, write_behind};
 use pd_build::BuildFault;
 use pd_count::Counts;
@@ -23,12 +23,20 @@ use pd_image::Device;
 use pd_restoring::{RestoreFault, of_build};
 use pd_shape_verdicts::pool_text_is_accepted_where_there_is_room;
 use pd_texts::{TextFault, ThinLine};
-use std::alloc::Global;
+use std::alloc::{AllocError, Global};
 
 impl Gathering for Devices {
+    ghost use Rattle.std.specs.Prelude.{false};
     ghost use Rattle.pd_restore.specs.Unshared.{HasUnshared};
 
     ghost HasGathered = { HasUnshared };
+
+    ghost shared = { false };
+
+    fn start(alloc: Global, blocks: u64, room: u64) -> Result<Devices, AllocError> {
+        let _room = room;
+        Devices::new(alloc, blocks)
+    }
 
     fn take_line<D: Device>(
         &mut self,
@@ -122,13 +130,5 @@ fn look(devices: &Devices, room: u64) -> Result<(), RestoreFault>
         → MatchResult result (λ _. min (thin_need_so_far room before) (2 ^ 64 - 1) ≤ room) (IsShort room (min (thin_need_so_far room before) (2 ^ 64 - 1))) }
     ensures fault { IfErr result IsNoRoom }
 {
-    let needed = devices.need(room);
-    if needed > room {
-        Err(RestoreFault::NoRoom {
-            need: needed,
-            blocks: room,
-        })
-    } else {
-        Ok(())
-    }
+    within(devices.need(room), room)
 }

@@ -3,4 +3,3 @@ pub mod ReadingLemmas
 pub mod PartLemmas
 pub mod LineLemmas
 pub mod BeginLemmas
-pub mod NeedLemmas

@@ -49,11 +49,11 @@ both_told None P Q p q = tt
 both_told (Some text) P Q p q = (p, q)
 
 -- the device as it was
-at_rest : (image : Image) (Made : Image → Type 0) (device : DeviceState) → HoldsSynced image device → LeavesOnly (IsOldNoneOrMade image Made) device device
+pub at_rest : (image : Image) (Made : Image → Type 0) (device : DeviceState) → HoldsSynced image device → LeavesOnly (IsOldNoneOrMade image Made) device device
 at_rest image Made device synced =
     stays refl refl (λ left firsts leaves chance. inl (left_synced image left (now image device.history) refl synced.unsynced (left_now device image left firsts synced.held leaves).0))
 
-kept_same : (held : Option Image) → IfSome held (λ image. IfSome held (λ now. (now ≡ image) ⊎ HasNoSuper now))
+pub kept_same : (held : Option Image) → IfSome held (λ image. IfSome held (λ now. (now ≡ image) ⊎ HasNoSuper now))
 kept_same None = tt
 kept_same (Some image) = inl refl
 

@@ -4,19 +4,20 @@ ghost use Rattle.std.specs.Prelude.{◌≡◌, ◌^◌, ◌<◌, ◌≤◌, IfOk
 ghost use Rattle.pd_image.specs.Device.{IsAttached, OnlyReads};
 ghost use Rattle.pd_salvage.specs.Cursor.{saved_least, saved_room};
 ghost use Rattle.pd_salvage.specs.Faults.{CountsSalvage};
-ghost use Rattle.pd_salvage.specs.Gather.{is_followed_by, IsGathered, run_of_mapping, to_come};
+ghost use Rattle.pd_salvage.specs.Gather.{IsGathered, run_of_mapping, to_come};
 
 use crate::cursor::SavedCursor;
+use crate::joined::Joining;
 use crate::saved::SalvageFault;
 use pd_image::Device;
 use pd_thin_meaning::Run;
 use pd_value::BlockTime;
 use std::alloc::AllocError;
 
-/// The run that may still become longer, and how many mappings were taken.
+/// The runs of the mappings that were taken, and how many of these there were.
 #[derive(Clone, Copy)]
 pub(crate) struct Gathering {
-    pub(crate) begun: Option<Run>,
+    pub(crate) joining: Joining,
     pub(crate) mapped: u64,
 }
 
@@ -32,21 +33,11 @@ fn run_of(virt: u64, mapping: BlockTime) -> Run
     }
 }
 
-/// Whether the mapping follows the run's last one.
-fn follows(run: &Run, virt: u64, mapping: BlockTime) -> bool
-    ensures { result ≡ is_followed_by run.now virt mapping }
-{
-    let next_virtual = virt >= run.virt && virt - run.virt == run.length;
-    let next_data = mapping.block >= run.target && mapping.block - run.target == run.length;
-    let same_time = mapping.time == run.time;
-    next_virtual & next_data & same_time
-}
-
 impl Gathering {
     ghost use Rattle.std.specs.Prelude.{◌≡◌, ◌^◌, ◌<◌, ◌++◌, ◌∷◌, [], List, OnOk};
     ghost use Rattle.pd_kinds.specs.Meaning.{Mapping};
     ghost use Rattle.pd_thin_meaning.specs.Joined.{mapping_of};
-    ghost use Rattle.pd_salvage.specs.Gather.{HasRuns, IsGathering};
+    ghost use Rattle.pd_salvage.specs.Gather.{IsGathering};
 
     /// Takes the next mapping, and adds the run before it where the mapping doesn't follow that.
     fn take(&mut self, runs: &mut Vec<Run>, virt: u64, mapping: BlockTime) -> Result<(), AllocError>
@@ -59,32 +50,7 @@ impl Gathering {
             return Err(AllocError);
         }
         self.mapped += 1;
-        match self.begun {
-            Some(mut begun) => {
-                if follows(&begun, virt, mapping) {
-                    begun.length = mapping.block - begun.target + 1;
-                    self.begun = Some(begun);
-                } else {
-                    runs.push(begun)?;
-                    self.begun = Some(run_of(virt, mapping));
-                }
-            }
-            None => self.begun = Some(run_of(virt, mapping)),
-        }
-        Ok(())
-    }
-
-    /// Adds the last run, if there is any.
-    fn end(&mut self, runs: &mut Vec<Run>) -> Result<(), AllocError>
-        ensures same { self.new.mapped ≡ self.old.mapped }
-        ensures ends { OnOk result ((before : List Run) (ms : List Mapping) → IsGathering before runs.old.items self.old ms
-            → HasRuns before runs.new.items ms) }
-    {
-        if let Some(begun) = self.begun {
-            runs.push(begun)?;
-            self.begun = None;
-        }
-        Ok(())
+        self.joining.take(runs, run_of(virt, mapping))
     }
 }
 
@@ -105,7 +71,7 @@ pub(crate) fn gather<D: Device>(
     ensures faults { CountsSalvage result (D.state dev.old).faults (D.state dev.new).faults }
 {
     let mut gathering = Gathering {
-        begun: None,
+        joining: Joining { begun: None },
         mapped: 0,
     };
     loop {
@@ -119,7 +85,7 @@ pub(crate) fn gather<D: Device>(
                 }
             }
             Ok(None) => {
-                return match gathering.end(runs) {
+                return match gathering.joining.end(runs) {
                     Ok(()) => Ok(gathering.mapped),
                     Err(_) => Err(SalvageFault::Memory),
                 };

@@ -7,6 +7,7 @@
 mod cursor;
 mod details;
 mod gather;
+mod joined;
 mod pool;
 mod range;
 mod saved;
@@ -15,5 +16,6 @@ mod trail;
 mod walk;
 
 pub use cursor::SavedCursor;
+pub use joined::Joining;
 pub use pool::salvage;
 pub use saved::{Salvage, SalvageFault, SavedDevice, SavedHead};

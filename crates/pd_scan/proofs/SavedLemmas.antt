@@ -8,20 +8,20 @@ use Rattle.pd_kinds.specs.Edge.{Edge, is_outside}
 use Rattle.pd_kinds.specs.Graph.{Graph, block_at, pair}
 use Rattle.pd_kinds.specs.Image.{HasBytes}
 use Rattle.pd_kinds.specs.Lawful.{IsLawful}
-use Rattle.pd_kinds.specs.Layout.{Layout, Tree, tree, tree_to, plain_tree, graph_of, leaf_entries}
+use Rattle.pd_kinds.specs.Layout.{Layout, tree, graph_of, leaf_entries}
 use Rattle.pd_kinds.specs.Meaning.{ThinDevice, thin_device}
 use Rattle.pd_kinds.specs.Node.{Entry}
 use Rattle.pd_kinds.specs.Stages.{IsReached}
-use Rattle.pd_kinds.specs.ThinFormat.{thin_layout, mappings_tree, mapped_block, mapped_time}
+use Rattle.pd_kinds.specs.ThinFormat.{thin_layout, mapped_block, mapped_time}
 use Rattle.pd_kinds.specs.ThinSuper.{ThinFields}
 use Rattle.pd_kinds.specs.Trees.{entries_below, keys_of, value_of_key}
 use Rattle.pd_kinds.specs.Whole.{top_entries, mapping_entries, details_entries}
 use Rattle.pd_laws.specs.InOrder.{AreInOrder}
 use Rattle.pd_laws.proofs.AllLemmas.{all_from, all_from_two, none_passes}
 use Rattle.pd_laid.specs.FoundRoots.{FoundRoots, are_fitting, devices_below, found_pool, is_sound_tree}
-use Rattle.pd_laid.specs.Laid.{tree_of}
 use Rattle.pd_laid.specs.Salvage.{given, given_mappings, given_device, salvage_from}
 use Rattle.pd_laid.proofs.NodeFacts.{among_mapped, block_pair, given_root, leaf_named, under_all, within_at}
+use Rattle.pd_laid.proofs.SalvageLemmas.{top_tree, bottom_tree, details_tree}
 use Rattle.pd_scan.specs.Roots.{lost_fields}
 use Rattle.pd_scan.proofs.NamedTrees.{IsNamed, IsPart, entries_named, ordered, part_is, roots_reached, with_roots}
 use Rattle.pd_scan.proofs.SameBelow.{map_same}
@@ -57,16 +57,6 @@ all_counted make [] all = tt
 all_counted make (top ∷ tops) all =
     let parts = and_parts _ _ all in
     (eqb-true (make top).mapped (length (make top).mappings) parts.0, all_counted make tops parts.1)
-
--- the trees of a pool
-abbrev top_tree : Tree
-top_tree = tree_of (tree_to 8 3 (λ v. v))
-
-abbrev bottom_tree : ℕ → Tree
-bottom_tree data_blocks = tree_of (mappings_tree data_blocks)
-
-abbrev details_tree : Tree
-details_tree = tree_of (plain_tree 24)
 
 top_is : (nr data_blocks : ℕ) → thin_layout nr data_blocks 2 ≡ tree top_tree
 unfolding thin_layout

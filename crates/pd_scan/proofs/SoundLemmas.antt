@@ -18,18 +18,14 @@ use Rattle.pd_settle.proofs.NotedLemmas.{chain_none}
 use Rattle.pd_settle.proofs.ReachLemmas.{child_of, role_of_child}
 use Rattle.pd_scan.specs.Fit.{is_unbroken, is_fit_root}
 use Rattle.pd_scan.proofs.PathLemmas.{path_after, all_kept, kept_passes}
+use Rattle.pd_measures.proofs.SoundLemmas.{less_of}
 
 pub inside_by : (nr b : ℕ) → 1 ≤ b → b < nr → not (is_outside nr b) ≡ true
 inside_by nr b low small = rw (ne_eqb b 0 (λ e. absurd (omega arith)), lt-ltb b nr small) refl
 
-inside_tests : (zero less : Bool) → not (zero || not less) ≡ true → (zero ≡ false) × (less ≡ true)
-inside_tests true less e = absurd (both_ways false refl e)
-inside_tests false true e = (refl, refl)
-inside_tests false false e = absurd (both_ways false refl e)
-
 inside_parts : (nr b : ℕ) → not (is_outside nr b) ≡ true → (1 ≤ b) × (b < nr)
 inside_parts nr b e =
-    let tests = inside_tests (nat_eq b 0) (nat_lt b nr) e in
+    let tests = less_of (nat_eq b 0) (nat_lt b nr) e in
     let some = eqb-false b 0 tests.0 in
     (omega arith, ltb-true b nr tests.1)
 

@@ -1,7 +1,7 @@
 -- The blocks that say what is dirty are those that the entries of one tree name.
 use Rattle.std.proofs.Common.{◌≡◌, ◌↔◌, ◌⊎◌, inl, inr, ℕ, zero, suc, ◌+◌, ◌*◌, ◌<◌, ◌≤◌, Bool, true, false, nat_eq, cond, List, [], ◌∷◌, map, filter, refl, sym, subst, ◌∙◌, arith, eq-eqb}
 use Rattle.std.specs.List.{AllByRecursion, flat_map, list_any, range_with_len}
-use Rattle.std.proofs.lemmas.Bool.{both_ways, cases_Bool, eqb-false, eqb-true, or_cases, or_left, or_right}
+use Rattle.std.proofs.lemmas.Bool.{both_ways, cases_Bool, eqb-false, eqb-true, or_cases, or_left, or_right, cases_eq}
 use Rattle.pd_kinds.specs.Edge.{Edge}
 use Rattle.pd_kinds.specs.Graph.{Graph, block_at, block_of, edges_of, is_inner_pair, is_reached, next, nodes, pair, role_of}
 use Rattle.pd_kinds.specs.Lawful.{IsLawful, IsWithin}
@@ -74,8 +74,21 @@ is_in test found a (suc n) p from below passes reached = elim (cases_Bool (nat_e
       ]
 ]
 
+-- what a filter keeps of a range has each number that passes
+pub kept_in : (test : ℕ → Bool) (a n d : ℕ) → a ≤ d → d < a + n → test d ≡ true → list_any (λ x. nat_eq x d) (filter test (range_with_len a n)) ≡ true
+kept_in test a zero d from below passes = absurd (omega arith)
+kept_in test a (suc n) d from below passes = elim (cases_eq a d) [
+  | inl same ↦ rw (same, passes) (or_left (nat_eq d d) _ (eq-eqb d d refl))
+  | inr apart ↦
+      let rest = kept_in test (a + 1) n d (omega arith) (omega arith) passes in
+      elim (cases_Bool (test a)) [
+        | inl kept ↦ rw kept (or_right (nat_eq a d) _ rest)
+        | inr missed ↦ rw missed rest
+      ]
+]
+
 -- an entry with a value
-any_value : (P : ℕ → Type 0) (b : ℕ) (es : List Entry) → AllByRecursion (λ (e : Entry). P e.value) es → list_any (λ (e : Entry). nat_eq e.value b) es ≡ true → P b
+pub any_value : (P : ℕ → Type 0) (b : ℕ) (es : List Entry) → AllByRecursion (λ (e : Entry). P e.value) es → list_any (λ (e : Entry). nat_eq e.value b) es ≡ true → P b
 any_value P b [] all some = absurd (both_ways false refl some)
 any_value P b (e ∷ es) all some = elim (or_cases (nat_eq e.value b) _ some) [
   | inl here ↦ rw (eqb-true e.value b here) at all.0
@@ -83,7 +96,7 @@ any_value P b (e ∷ es) all some = elim (or_cases (nat_eq e.value b) _ some) [
 ]
 
 -- the entry whose edge leads to a pair
-any_named : (target p : ℕ) → target < 16 → (es : List Entry)
+pub any_named : (target p : ℕ) → target < 16 → (es : List Entry)
     → list_any (λ t. nat_eq t p) (map (λ (edge : Edge). pair edge.block edge.role) (flat_map (λ (e : Entry). record { role = target; block = e.value } ∷ []) es)) ≡ true
     → list_any (λ (e : Entry). nat_eq e.value (block_of p)) es ≡ true
 any_named target p few [] some = absurd (both_ways false refl some)
@@ -96,7 +109,7 @@ any_named target p few (e ∷ es) some = elim (or_cases (nat_eq (pair e.value ta
 ]
 
 -- children are what an inner node leads to, and only an inner node has them
-next_of_child : (inner : Bool) (xs : List ℕ) (c : ℕ) → list_any (λ t. nat_eq t c) (cond inner xs []) ≡ true → inner ≡ true
+pub next_of_child : (inner : Bool) (xs : List ℕ) (c : ℕ) → list_any (λ t. nat_eq t c) (cond inner xs []) ≡ true → inner ≡ true
 next_of_child true xs c some = refl
 next_of_child false xs c some = absurd (both_ways false refl some)
 
@@ -120,9 +133,6 @@ module _ (image : List (List ℕ)) (tree root : ℕ) (is_one : (tree ≡ 1) ⊎ 
     pub start : role_of p ≡ 0 → p ≡ 0
     pub known : role_of p < graph.roles
     pub below : role_of p ≡ tree → (j : ℕ) × IsDown (children graph image) j (pair root tree) p
-
-  few_tree : (suc tree ≡ 2) ⊎ (suc tree ≡ 11)
-  few_tree = elim is_one [ inl one ↦ inl (omega arith) | inr ten ↦ inr (omega arith) ]
 
   -- an edge of the superblock, and one of any other block
   from_super : (q : ℕ) (e : Edge) → role_of q ≡ 0 → IsRoot (cache_fields (block_at image 0)) e → IsWithin graph e → IsFrom q (pair e.block e.role)

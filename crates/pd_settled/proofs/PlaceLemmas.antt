@@ -1,6 +1,6 @@
 -- Which block of the fast device stands for a block of the origin: by all cached blocks, and by some of them, where no two have one
 -- origin.
-use Rattle.std.proofs.Common.{◌≡◌, inl, inr, ℕ, suc, ◌+◌, ◌-◌, ◌*◌, ◌<◌, ◌≤◌, Bool, true, false, not, nat_le, nat_lt, nat_eq, max, List, [], ◌∷◌, map, filter, fold, Option, Some, None, IfSome, refl, sym, arith, eq-eqb, leb-true, ltb-true, le_trans, le_refl, ap}
+use Rattle.std.proofs.Common.{◌≡◌, inl, inr, ℕ, suc, ◌+◌, ◌-◌, ◌*◌, ◌<◌, ◌≤◌, Bool, true, false, nat_le, nat_lt, nat_eq, max, List, [], ◌∷◌, map, filter, fold, Option, Some, None, IfSome, refl, sym, arith, eq-eqb, leb-true, ltb-true, le_trans, le_refl, ap}
 use Rattle.std.specs.List.{AllByRecursion, list_any, slice_get}
 use Rattle.std.proofs.Math.Nat.{le-max_left, le-max_right, mul-le-mul_right, suc-mul}
 use Rattle.std.proofs.lemmas.Bool.{cases_Bool, cases_lt, and_from, and_parts, eqb-false, le-leb, lt-ltb, or_parts, or_right, both_ways}
@@ -47,9 +47,6 @@ module _ (k b : ℕ) (test : CacheEntry → Bool) where
   -- the place by the entries that pass, by those that don't, and by all
   abbrev by_some : List CacheEntry → Option ℕ
   by_some es = fast_place k (map cached_block (filter test es)) b
-
-  abbrev by_others : List CacheEntry → Option ℕ
-  by_others es = fast_place k (map cached_block (filter (λ e. not (test e)) es)) b
 
   abbrev by_all : List CacheEntry → Option ℕ
   by_all es = fast_place k (map cached_block es) b

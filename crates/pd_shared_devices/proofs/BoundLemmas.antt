@@ -5,12 +5,13 @@ use Rattle.std.proofs.lemmas.Bool.Decides.{nat_tests}
 use Rattle.std.proofs.lemmas.List.Sums.{sum_by-cons}
 use Rattle.pd_draft.specs.Placed.{Stand}
 use Rattle.pd_grammar.specs.Texts.{has_ended}
-use Rattle.pd_spells.specs.Need.{nodes_for, need_tree, nodes_of_tree}
+use Rattle.pd_spells.specs.Need.{nodes_for}
 use Rattle.pd_spells.specs.ThinText.{Line, pool_format}
 use Rattle.pd_shapes.specs.SharedNeed.{Told, leaf_count, leaves_of_ended, leaves_of_told, need_of_leaves, need_of_shared, shape_need_so_far, told_devices}
 use Rattle.pd_shared_devices.specs.Gathered.{HasGathered}
 use Rattle.pd_shared_devices.specs.declared.devices.SharedDevices.{SharedDevices}
 use Rattle.pd_shared_devices.proofs.RoomLemmas.{above_enough}
+use Rattle.pd_devices.proofs.TreeLemmas.{need_tree_some}
 
 nodes_most : (n : ℕ) → n ≤ 252 * nodes_for 252 n
 nodes_most n = omega arith
@@ -93,14 +94,9 @@ uses_most false (t ∷ ts) = omega (
     same_number [] = refl
     same_number (t ∷ ts) = ap suc (same_number ts)
 
--- the devices are few where the need has room
-devices_few : (n : ℕ) → n ≤ 252 * need_tree 8 n
-unfolding nodes_of_tree
-devices_few n = omega (arith, nodes_most n)
-
 pub uses_few : {room : ℕ} {before : List Line} {s : SharedDevices} {start now : Stand} (h : HasGathered room before s start now) → shape_need_so_far room before ≤ room → room ≤ 4161600
     → s.uses.total + 1 < 2 ^ 32
 unfolding shape_need_so_far need_of_shared
 uses_few {room} {before} {s} {start} {now} h need most =
     let counted = leaves_of_told (has_ended pool_format before) (told_devices before) in
-    omega (arith, need, most, h.counts.uses_total, uses_most (has_ended pool_format before) (told_devices before), devices_few (length counted))
+    omega (arith, need, most, h.counts.uses_total, uses_most (has_ended pool_format before) (told_devices before), need_tree_some (length counted))

@@ -1,14 +1,14 @@
 -- What is open, by what is held of it.
 use Rattle.std.proofs.Common.{◌≡◌, ℕ, ◌≤◌, ◌<◌, List, length, refl, sym, ◌∙◌, ap, subst, arith, unwrap_or, Option, None, Some}
 use Rattle.pd_draft.specs.Placed.{Stand}
-use Rattle.pd_spells.specs.ThinText.{Line, Run, data_blocks_of, piece_end, unmapped}
+use Rattle.pd_spells.specs.ThinText.{Line, Run, data_blocks_of, piece_end}
 use Rattle.pd_laid.specs.Shape.{ShapeDevice}
 use Rattle.pd_shapes.specs.SharedText.{mappings_of_runs}
 use Rattle.pd_shared_devices.specs.Gathered.{Gathered, HasGathered, IsDeviceOpen, IsLeafOpen}
 use Rattle.pd_shared_devices.specs.Growth.{CanEndTree}
 use Rattle.pd_shared_devices.specs.Piece.{CanBeLaid, HasHeld, held_runs}
 use Rattle.pd_shared_devices.specs.Rises.{AreHeld}
-use Rattle.pd_shared_devices.specs.Told.{Open, nothing_open, open_leaf, open_device, opened, open_runs, leaf_items, whole_leaves}
+use Rattle.pd_shared_devices.specs.Told.{Open, open_leaf, open_device, opened, open_runs, leaf_items, whole_leaves}
 use Rattle.pd_shared_devices.specs.declared.devices.SharedDevices.{SharedDevices}
 use Rattle.pd_shared_devices.specs.declared.growing.Growing.{Growing}
 use Rattle.pd_shared_devices.proofs.GatherLemmas.{is_nothing, is_leaf, is_device, which}
@@ -45,19 +45,6 @@ pub leaf_case : {room : ℕ} {before : List Line} {s : SharedDevices} {start now
 leaf_case {room} {before} {s} {start} {now} h growing some = elim (which h) [
   | is_nothing opens none same full ↦ absurd (omega (arith, some, h.held.number, ap (λ (o : Open). length (mappings_of_runs (open_runs o))) opens))
   | is_leaf runs opens none same lo ↦ record { runs = runs; opens = opens; same = same; is = lo }
-  | is_device d runs p opens is do_ ↦ absurd (none_is_some p (sym growing ∙ is))
-]
-
--- nothing is open
-pub record NothingCase (before : List Line) (from to : Stand) : Type 0 where
-  pub opens : opened before ≡ nothing_open
-  pub same : from ≡ to
-
-pub nothing_case : {room : ℕ} {before : List Line} {s : SharedDevices} {start now : Stand} (h : HasGathered room before s start now) → s.growing ≡ None → s.held.number ≡ 0 → unmapped before ≡ 0
-    → NothingCase before h.behind now
-nothing_case {room} {before} {s} {start} {now} h growing none full = elim (which h) [
-  | is_nothing opens closed same left ↦ record { opens = opens; same = same }
-  | is_leaf runs opens closed same lo ↦ absurd (omega (arith, none, full, lo.some, h.held.number, ap (λ (o : Open). length (mappings_of_runs (open_runs o))) opens))
   | is_device d runs p opens is do_ ↦ absurd (none_is_some p (sym growing ∙ is))
 ]
 

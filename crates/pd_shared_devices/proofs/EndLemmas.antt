@@ -10,10 +10,11 @@ use Rattle.pd_spells.specs.Need.{need_above}
 use Rattle.pd_laid.specs.LaidThin.{device_root, device_row, mapping_items, own_leaves, pieces_row, some_pieces}
 use Rattle.pd_laid.specs.Shape.{Piece, own, shared, ShapeDevice, uses_of_piece}
 use Rattle.pd_laid.specs.Tree.{blocks_from, heads, levels_above, root_above, spread, tree_leaves}
-use Rattle.pd_laid_shared.specs.Written.{device_tree, own_blocks_from}
-use Rattle.pd_shared_devices.specs.Growth.{Grown, IsFilled, need_left}
+use Rattle.pd_laid_shared.specs.Written.{device_tree, own_blocks_from, IsFilled}
+use Rattle.pd_laid_shared.proofs.DeviceNeed.{leaves_number}
+use Rattle.pd_shared_devices.specs.Growth.{Grown, need_left}
 use Rattle.pd_shared_devices.specs.declared.growing.Growing.{Growing}
-use Rattle.pd_shared_devices.proofs.RowLemmas.{grown_number, grown_place, leaves_number}
+use Rattle.pd_shared_devices.proofs.RowLemmas.{grown_number, grown_place}
 
 -- of what a call did, and of what it answered
 pub on_ok_then : {T E P Q : Type 0} (r : Result T E) → OnOk r P → (P → Q) → OnOk r Q

@@ -19,18 +19,18 @@ use Rattle.pd_laid.specs.Shape.{Piece, own, shared, ShapeDevice, uses_of_piece}
 use Rattle.pd_shapes.specs.SharedNeed.{Told, leaves_of_ended, leaves_of_told, leaves_of_pieces, need_of_leaves, own_number, told_devices}
 use Rattle.pd_shapes.specs.SharedText.{mappings_of_runs}
 use Rattle.pd_shapes.proofs.LeafRuns.{HaveTold, IsLeaf, number_mapped}
-use Rattle.pd_laid_shared.specs.Written.{device_roots, device_tree, leaves_and_trees, trees_need}
+use Rattle.pd_laid_shared.specs.Written.{device_roots, device_tree, leaves_and_trees, trees_need, IsFilled}
+use Rattle.pd_laid_shared.proofs.DeviceNeed.{leaves_number, own_length, tree_need}
 use Rattle.pd_shared_devices.specs.Gathered.{AreAllTold, AreTold, AreToldWith, HasCounts, HasGathered, IsDeviceOpen, IsLeafOpen, IsTold, number_of}
-use Rattle.pd_shared_devices.specs.Growth.{IsFilled, need_ended}
+use Rattle.pd_shared_devices.specs.Growth.{need_ended}
 use Rattle.pd_shared_devices.specs.Piece.{HasHeld, held_runs, items_of_runs}
 use Rattle.pd_shared_devices.specs.Rises.{AreHeld}
-use Rattle.pd_shared_devices.specs.Told.{Open, nothing_open, open_leaf, open_device, opened, open_runs, ended_leaf, ended_device, whole_leaves, whole_devices, leaves_told, leaf_items, own_piece, with_pieces}
+use Rattle.pd_shared_devices.specs.Told.{Open, open_leaf, open_device, opened, open_runs, ended_leaf, ended_device, whole_leaves, whole_devices, leaves_told, leaf_items, own_piece, with_pieces}
 use Rattle.pd_shared_devices.specs.declared.devices.SharedDevices.{SharedDevices}
 use Rattle.pd_shared_devices.specs.declared.growing.Growing.{Growing}
 use Rattle.pd_shared_devices.proofs.GatherLemmas.{root_code, root_fits}
 use Rattle.pd_shared_devices.proofs.RiseLemmas.{runs_some}
-use Rattle.pd_shared_devices.proofs.RowLemmas.{leaves_number}
-use Rattle.pd_shared_devices.proofs.TreeLemmas.{leaf_more, device_more, root_more, own_length, tree_need, trees_more}
+use Rattle.pd_shared_devices.proofs.TreeLemmas.{leaf_more, device_more, root_more, trees_more}
 
 ended_told : (told : List Told) → leaves_of_told true told ≡ map leaves_of_ended told
 ended_told [] = refl
@@ -55,46 +55,6 @@ ended_leaves_told before leaves told = subst (HaveTold (end_line ∷ before)) (s
 all_leaves_push : (P : List Run → Type 0) (xs : List (List Run)) (x : List Run) → AllByRecursion P xs → P x → AllByRecursion P (xs ++ x ∷ [])
 all_leaves_push P [] x all last = (last, tt)
 all_leaves_push P (y ∷ xs) x all last = (all.0, all_leaves_push P xs x all.1 last)
-
--- nothing was open
-pub ended_nothing : {room : ℕ} {start now : Stand} (before : List Line) (old new : SharedDevices) (h : HasGathered room before old start now) → opened before ≡ nothing_open
-    → h.behind ≡ now → new.counts ≡ old.counts → new.uses ≡ old.uses → new.leaves ≡ old.leaves → new.firsts ≡ old.firsts → new.trees ≡ old.trees → new.roots ≡ old.roots → new.details ≡ old.details
-    → new.held ≡ old.held → new.growing ≡ None → HasGathered room (end_line ∷ before) new start now
-ended_nothing {room} {start} {now} before old new h opens same counts uses leaves firsts trees roots details held growing =
-    let w = whole_leaves before in
-    let wd = whole_devices before in
-    let all : whole_leaves (end_line ∷ before) ≡ w = ap (λ (o : Open). w ++ ended_leaf o) opens ∙ append-nil w in
-    let dev : whole_devices (end_line ∷ before) ≡ wd = ap (λ (o : Open). wd ++ ended_device o) opens ∙ append-nil wd in
-    record {
-      version = h.version;
-      begin = h.begin;
-      counts = ended_counts before old new h.counts counts uses;
-      leaves = record {
-        number = rw leaves h.leaves.number;
-        told = ended_leaves_told before (w ++ ended_leaf (opened before)) h.leaves.told;
-        lawful = subst (AllByRecursion (IsLeaf (data_blocks_of before))) (sym all) h.leaves.lawful;
-        firsts = rw firsts (h.leaves.firsts ∙ ap (map least_of) (sym all));
-        alone = λ none. dev ∙ h.leaves.alone none;
-      };
-      listed = record {
-        roots = rw roots (h.listed.roots ∙ ap₂ (λ (ls : List (List Run)) (ds : List ShapeDevice). device_roots (leaf_items ls) (1 + length (leaves_told ls)) ds) (sym all) (sym dev));
-        details = rw details (h.listed.details ∙ ap details_items (sym (append-nil (wd ++ ended_device (opened before)))));
-        roots_fit = rw roots h.listed.roots_fit;
-        details_fit = rw details h.listed.details_fit;
-        trees = rw trees (h.listed.trees ∙ ap (λ (ds : List ShapeDevice). min (trees_need ds) (2 ^ 64 - 1)) (sym dev));
-        number = rw details h.listed.number;
-        told = subst (AreTold (told_devices before)) (sym dev) (subst (AreAllTold (told_devices before) wd) opens h.listed.told);
-        so_far = ended_told (told_devices before);
-      };
-      held = rw held (subst (λ (o : Open). HasHeld (open_runs o) old.held) opens h.held);
-      behind = now;
-      written = subst (λ (bs : List (List ℕ)). Wrote bs start now) (ap₂ (λ (ls : List (List Run)) (ds : List ShapeDevice). leaves_and_trees (leaves_told ls) ds) (sym all) (sym dev))
-          (subst (λ (at : Stand). Wrote (leaves_and_trees (leaves_told w) wd) start at) same h.written);
-      growing = rw growing (refl, refl);
-      place =
-          ap (λ (at : Stand). at.place) (sym same)
-          ∙ (h.place ∙ ap₂ (λ (ls : List (List Run)) (ds : List ShapeDevice). 1 + (length ls + trees_need ds)) (sym all) (sym dev));
-    }
 
 -- a leaf ended
 pub ended_with_leaf : {room : ℕ} {start mid now : Stand} (before : List Line) (old new : SharedDevices) (least : ℕ) (runs : List Run) (h : HasGathered room before old start mid)

@@ -14,7 +14,7 @@ use Rattle.pd_draft.specs.Closed.{IsClosed}
 use Rattle.pd_draft.specs.Placed.{Stand}
 use Rattle.pd_draft.proofs.PlacedLemmas.{wrote_none}
 use Rattle.pd_count.specs.Counted.{HasCounted}
-use Rattle.pd_spells.specs.ThinText.{Line, Head, LeafHead, Run, shared_first_line, pool_line, leaf_line, device_line, end_line, data_blocks_of, has_device, leaf_number, least_of, piece_end, unmapped}
+use Rattle.pd_spells.specs.ThinText.{Line, Head, LeafHead, Run, shared_first_line, pool_line, leaf_line, device_line, end_line, leaf_number, unmapped}
 use Rattle.pd_spells.specs.ThinText as text
 use Rattle.pd_laid.specs.LaidThin.{details_items}
 use Rattle.pd_laid.specs.Shape.{ShapeDevice}

@@ -1,44 +1,15 @@
 -- How many data blocks stand three times or more once a row of blocks is counted, too.
-use Rattle.std.proofs.Common.{◌≡◌, ◌≢◌, inl, inr, ℕ, zero, suc, ◌+◌, ◌<◌, ◌≤◌, Bool, true, false, cond, leb, eqb, List, ◌∷◌, ◌++◌, refl, sym, ◌∙◌, ap, arith}
+use Rattle.std.proofs.Common.{◌≡◌, ◌≢◌, inl, inr, ℕ, zero, suc, ◌+◌, ◌<◌, ◌≤◌, true, false, cond, leb, eqb, List, ◌∷◌, ◌++◌, refl, sym, ◌∙◌, ap, arith}
 use Rattle.std.specs.List.{count_by, range_with_len}
 use Rattle.std.proofs.lemmas.Bool.{cases_eq}
 use Rattle.std.proofs.lemmas.Bool.Decides.{nat_tests}
 use Rattle.std.proofs.lemmas.List.Sums.{sum_by-cons, sum_by-append}
+use Rattle.pd_devices.proofs.CountLemmas.{one_apart, passing, passing-cons}
 use Rattle.pd_spells.specs.ThinNeed.{overflows_in}
 
 -- how often a block stands in a list
 abbrev times : List ℕ → ℕ → ℕ
 times xs b = count_by (λ r. eqb r b) xs
-
--- how many numbers of a row pass a test
-abbrev passing : (ℕ → Bool) → ℕ → ℕ → ℕ
-passing p a n = count_by p (range_with_len a n)
-
-passing-cons : (p : ℕ → Bool) (a n : ℕ) → passing p a (suc n) ≡ cond (p a) 1 0 + passing p (a + 1) n
-passing-cons p a n = sum_by-cons (λ (x : ℕ). cond (p x) 1 0) a (range_with_len (a + 1) n)
-
--- tests that say the same in a row
-same_row : (p q : ℕ → Bool) (a n : ℕ) → ((d : ℕ) → a ≤ d → p d ≡ q d) → passing p a n ≡ passing q a n
-same_row p q a zero same = refl
-same_row p q a (suc n) same =
-    passing-cons p a n ∙ (ap (λ (t : Bool). cond t 1 0 + passing p (a + 1) n) (same a (omega arith))
-    ∙ (ap (λ (k : ℕ). cond (q a) 1 0 + k) (same_row p q (a + 1) n (λ d above. same d (omega arith))) ∙ sym (passing-cons q a n)))
-
--- tests that say the same but at one place of a row
-one_apart : (p q : ℕ → Bool) (b a n : ℕ) → ((d : ℕ) → d ≢ b → p d ≡ q d) → a ≤ b → b < a + n
-    → passing q a n + cond (p b) 1 0 ≡ passing p a n + cond (q b) 1 0
-one_apart p q b a zero others above below = absurd (omega arith)
-one_apart p q b a (suc n) others above below = elim (cases_eq a b) [
-  | inl here ↦
-      let rest = same_row p q (a + 1) n (λ d past. others d (λ same. omega (arith, same, here))) in
-      let ps : cond {A = ℕ} (p a) 1 0 ≡ cond (p b) 1 0 = ap {B = ℕ} (λ (d : ℕ). cond (p d) 1 0) here in
-      let qs : cond {A = ℕ} (q a) 1 0 ≡ cond (q b) 1 0 = ap {B = ℕ} (λ (d : ℕ). cond (q d) 1 0) here in
-      omega (arith, passing-cons p a n, passing-cons q a n, rest, ps, qs)
-  | inr apart ↦
-      let rest = one_apart p q b (a + 1) n others (omega arith) (omega arith) in
-      let here : cond {A = ℕ} (p a) 1 0 ≡ cond (q a) 1 0 = ap {B = ℕ} (λ (t : Bool). cond t 1 0) (others a apart) in
-      omega (arith, passing-cons p a n, passing-cons q a n, rest, here)
-]
 
 -- a list with one block more has it once more, and no other block
 here_more : (xs : List ℕ) (b : ℕ) → times (b ∷ xs) b ≡ times xs b + 1

@@ -6,9 +6,9 @@ use Rattle.pd_draft.specs.Placed.{Stand}
 use Rattle.pd_count.specs.Counted.{count_of}
 use Rattle.pd_spells.specs.Need.{need_above, nodes_for}
 use Rattle.pd_spells.specs.ThinNeed.{data_of_line, overflows_in}
-use Rattle.pd_spells.specs.ThinText.{Line, Run, map_line, data_blocks_of, leaf_number, pool_format}
+use Rattle.pd_spells.specs.ThinText.{Line, Run, map_line, data_blocks_of, leaf_number}
 use Rattle.pd_spells.specs.ThinText as text
-use Rattle.pd_shapes.specs.SharedNeed.{Told, LeafCount, leaf_count, leaves_of_ended, leaves_of_told, need_of_leaves, need_of_shared, shape_need_so_far, tell, told_devices, used_often}
+use Rattle.pd_shapes.specs.SharedNeed.{Told, leaf_count, leaves_of_ended, leaves_of_told, need_of_leaves, need_of_shared, shape_need_so_far, tell, told_devices, used_often}
 use Rattle.pd_shapes.specs.SharedNeed as by_line
 use Rattle.pd_shapes.specs.SharedText.{mappings_of_runs}
 use Rattle.pd_texts.specs.ThinNext.{IsRunLine}
@@ -17,6 +17,7 @@ use Rattle.pd_devices.proofs.CountLemmas.{overflows_listed}
 use Rattle.pd_devices.proofs.RunLemmas.{run_data}
 use Rattle.pd_laid.specs.Shape.{ShapeDevice}
 use Rattle.pd_laid_shared.specs.Written.{trees_need}
+use Rattle.pd_laid_shared.proofs.DeviceNeed.{own_length}
 use Rattle.pd_shared_devices.specs.Gathered.{AreAllTold, AreTold, HasGathered, IsDeviceOpen, IsTold, number_of}
 use Rattle.pd_shared_devices.specs.Growth.{open_need}
 use Rattle.pd_shared_devices.specs.Need.{need_of_parts}
@@ -30,7 +31,6 @@ use Rattle.pd_shared_devices.proofs.MoreLemmas.{overflows_row}
 use Rattle.pd_shared_devices.proofs.RiseLemmas.{number_behind}
 use Rattle.pd_shared_devices.proofs.RoomLemmas.{held_nodes}
 use Rattle.pd_shared_devices.proofs.RunLemmas.{none_told, told_more}
-use Rattle.pd_shared_devices.proofs.TreeLemmas.{own_length}
 
 -- what the trees need where a device is told with these runs behind its pieces that are over
 told_sum : (before : List Line) (d : ShapeDevice) (runs : List Run) (o : Growing) (n : ℕ) (newest : Told) (older : List Told) (devices : List ShapeDevice) {from to : Stand} (was : List Run)

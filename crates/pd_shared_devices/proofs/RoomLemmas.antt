@@ -12,13 +12,13 @@ use Rattle.pd_shapes.specs.SharedNeed.{Told, leaf_count, leaves_of_ended, leaves
 use Rattle.pd_shapes.specs.SharedText.{mappings_of_runs}
 use Rattle.pd_shapes.proofs.LeafRuns.{number_mapped}
 use Rattle.pd_laid_shared.specs.Written.{trees_need}
+use Rattle.pd_laid_shared.proofs.DeviceNeed.{own_length}
 use Rattle.pd_shared_devices.specs.Gathered.{AreAllTold, HasGathered, IsDeviceOpen, IsLeafOpen, number_of, leaves_so_far}
 use Rattle.pd_shared_devices.specs.Growth.{need_left}
 use Rattle.pd_shared_devices.specs.Told.{Open, open_leaf, open_device, opened, open_runs, ended_leaf, whole_leaves, whole_devices}
 use Rattle.pd_shared_devices.specs.declared.devices.SharedDevices.{SharedDevices}
 use Rattle.pd_shared_devices.specs.declared.growing.Growing.{Growing}
 use Rattle.pd_shared_devices.proofs.RowLemmas.{grown_place}
-use Rattle.pd_shared_devices.proofs.TreeLemmas.{own_length}
 
 -- the leaves, the trees, and at least one node of the mapping tree are within the need
 pub parts_within : (room : ℕ) (before : List Line)

@@ -1,5 +1,5 @@
 -- The row of a device's leaves, piece by piece.
-use Rattle.std.proofs.Common.{◌≡◌, ℕ, ◌+◌, ◌^◌, ◌<◌, ◌≤◌, List, [], ◌∷◌, ◌++◌, length, length-append, refl, sym, ◌∙◌, ap, ap₂, subst, arith, append_assoc}
+use Rattle.std.proofs.Common.{◌≡◌, ℕ, ◌+◌, ◌^◌, ◌<◌, ◌≤◌, List, [], ◌∷◌, ◌++◌, length, length-append, sym, ◌∙◌, ap, ap₂, subst, arith, append_assoc}
 use Rattle.std.specs.List.{AllByRecursion, flat_map}
 use Rattle.std.specs.Option.{unwrap_or}
 use Rattle.std.specs.Prelude.{slice_get}
@@ -16,11 +16,11 @@ use Rattle.pd_laid.specs.LaidThin.{mapping_items, own_leaves, piece_row, pieces_
 use Rattle.pd_laid.specs.Shape.{Piece, own, shared, ShapeDevice, uses_of_piece}
 use Rattle.pd_laid.specs.Tree.{blocks_from, first_key, heads, tree_leaves}
 use Rattle.pd_laid.proofs.LaidLemmas.{blocks_from-append, length-blocks_from}
-use Rattle.pd_laid.proofs.NeedLemmas.{length-heads, length-leaves}
 use Rattle.pd_shapes.specs.SharedText.{mappings_of_runs}
 use Rattle.pd_devices.proofs.RunLemmas.{length-items}
-use Rattle.pd_laid_shared.specs.Written.{own_blocks_from}
-use Rattle.pd_shared_devices.specs.Growth.{Grown, IsFilled}
+use Rattle.pd_laid_shared.specs.Written.{own_blocks_from, IsFilled}
+use Rattle.pd_laid_shared.proofs.DeviceNeed.{row_length, leaves_number}
+use Rattle.pd_shared_devices.specs.Growth.{Grown}
 use Rattle.pd_shared_devices.specs.Piece.{items_of_runs}
 use Rattle.pd_shared_devices.specs.Rises.{AreHeld, Rises, keys_in, end_after}
 use Rattle.pd_shared_devices.specs.Told.{own_piece, with_pieces}
@@ -44,22 +44,8 @@ own_blocks-append place xs ys =
     ap (blocks_from (leaf_block 8) place) (flat_map-append own_leaves xs ys) ∙ blocks_from-append (leaf_block 8) place (flat_map own_leaves xs) (flat_map own_leaves ys)
 
 -- how many leaves a row has
-pub row_number : (leaves : List (List Entry)) (place : ℕ) (pieces : List Piece)
-    → length (pieces_row leaves place pieces) ≡ length (flat_map own_leaves pieces) + length (flat_map uses_of_piece pieces)
-row_number leaves place [] = refl
-row_number leaves place (own ms ∷ pieces) =
-    let here = own_leaves (own ms) in
-    omega (
-      arith,
-      length-append (heads place here) (pieces_row leaves (place + length here) pieces),
-      length-heads place here,
-      row_number leaves (place + length here) pieces,
-      length-append here (flat_map own_leaves pieces),
-    )
-row_number leaves place (shared k ∷ pieces) = omega (arith, row_number leaves (place + 0) pieces)
-
 pub grown_number : {leaves : List (List Entry)} {d : ShapeDevice} {low : ℕ} {o : Growing} {from to : Stand} → Grown leaves d low o from to → length o.row ≡ o.own + o.uses
-grown_number {leaves} {d} {low} {o} {from} {to} g = omega (arith, ap (λ (es : List Entry). length es) g.row, row_number leaves from.place d.pieces, g.own, g.uses)
+grown_number {leaves} {d} {low} {o} {from} {to} g = omega (arith, ap (λ (es : List Entry). length es) g.row, row_length leaves from.place d.pieces, g.own, g.uses)
 
 -- where the own leaves end
 pub grown_place : {leaves : List (List Entry)} {d : ShapeDevice} {low : ℕ} {o : Growing} {from to : Stand} → Grown leaves d low o from to → to.place ≡ from.place + o.own
@@ -187,11 +173,6 @@ pub grown_without : {leaves : List (List Entry)} {d : ShapeDevice} {blocks low e
 grown_without {leaves} {d} {blocks} {low} {end} {o} {from} {to} [] none held g =
     subst (λ (e : ShapeDevice). Grown leaves e end o from to) (without_more d) (grown_higher held.ends g)
 grown_without {leaves} {d} {blocks} {low} {end} {o} {from} {to} (r ∷ runs) none held g = absurd (omega (arith, none, runs_some r runs held.have))
-
-pub leaves_number : (ms : List Mapping) → 1 ≤ length ms → length (tree_leaves 8 (mapping_items ms)) ≡ nodes_for 252 (length ms)
-leaves_number ms some =
-    let items = length-items ms in
-    length-leaves 8 (mapping_items ms) ∙ rw items (omega (arith, some))
 
 pub grown_with : {leaves : List (List Entry)} {d : ShapeDevice} {blocks low end : ℕ} {o p : Growing} {from mid to : Stand} (runs : List Run) → 1 ≤ length (mappings_of_runs runs)
     → AreHeld blocks low end runs → Grown leaves d low o from mid → p.id ≡ o.id → p.own ≡ o.own + nodes_for 252 (length (mappings_of_runs runs)) → p.uses ≡ o.uses

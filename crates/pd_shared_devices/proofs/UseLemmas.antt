@@ -8,7 +8,7 @@ use Rattle.std.proofs.lemmas.List.Sums.{sum_by-cons, sum_by-append}
 use Rattle.pd_draft.specs.Placed.{Stand}
 use Rattle.pd_count.specs.Counted.{HasCounted}
 use Rattle.pd_spells.specs.Need.{nodes_for}
-use Rattle.pd_spells.specs.ThinText.{Line, Run, use_line, data_blocks_of, end_of, has_device, leaf_number, least_of, number_in, piece_end, runs_of_leaf, unmapped}
+use Rattle.pd_spells.specs.ThinText.{Line, Run, use_line, data_blocks_of, end_of, has_device, leaf_number, least_of, number_in, runs_of_leaf, unmapped}
 use Rattle.pd_spells.specs.ThinText as text
 use Rattle.pd_spells.proofs.ThinMeaning.{run_fits}
 use Rattle.pd_laid.specs.LaidThin.{details_items}

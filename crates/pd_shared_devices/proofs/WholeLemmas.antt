@@ -52,7 +52,7 @@ shared_in_order (map_line r ∷ before) lines version = shared_in_order before (
 shared_in_order (end_line ∷ before) lines version = shared_in_order before (end_line ∷ lines) version
 
 -- lines that are put in order and pushed again are the same
-pushed_again : (before lines : List Line) → pushed [] (in_order before lines) ≡ pushed before lines
+pub pushed_again : (before lines : List Line) → pushed [] (in_order before lines) ≡ pushed before lines
 pushed_again [] lines = refl
 pushed_again (line ∷ before) lines = pushed_again before (line ∷ lines)
 

@@ -5,17 +5,12 @@ use Rattle.pd_kinds.specs.Node.{Entry}
 use Rattle.pd_draft.specs.Placed.{Stand, Wrote}
 use Rattle.pd_laid.specs.LaidThin.{own_leaves, pieces_row}
 use Rattle.pd_spells.specs.Need.{need_above, nodes_for}
-use Rattle.pd_laid.specs.Shape.{Piece, own, shared, ShapeDevice, uses_of_piece}
-use Rattle.pd_laid_shared.specs.Written.{own_blocks_from}
+use Rattle.pd_laid.specs.Shape.{own, ShapeDevice, uses_of_piece}
+use Rattle.pd_laid_shared.specs.Written.{own_blocks_from, IsFilled}
 use Rattle.pd_shared_devices.specs.Rises.{AreHeld, Rises, keys_in}
 use Rattle.pd_shared_devices.specs.Piece.{HasHeld, held_runs}
 use Rattle.pd_shared_devices.specs.declared.growing.Growing.{Growing}
 use Rattle.pd_shared_devices.specs.declared.piece.Held.{Held}
-
--- an own piece has a mapping
-abbrev pub IsFilled : Piece → Type 0
-IsFilled (own mappings) = 1 ≤ length mappings
-IsFilled (shared number) = Unit {0}
 
 -- of a device with these pieces the own leaves are written, and the row of all leaves ends below a bound
 pub record Grown (leaves : List (List Entry)) (d : ShapeDevice) (low : ℕ) (o : Growing) (from to : Stand) : Type 0 where

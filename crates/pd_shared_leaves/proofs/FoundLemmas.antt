@@ -1,12 +1,10 @@
 -- The shared leaves that the marks tell are those of the pool.
 use Rattle.std.proofs.Common.{◌≡◌, ℕ, zero, suc, ◌+◌, ◌<◌, Bool, true, false, ◌&&◌, cond, nat_eq, nat_le, nat_lt, List, [], ◌∷◌, ◌++◌, length, replicate, refl, sym, ap, ◌∙◌, arith, lt-ltb, min, subst}
 use Rattle.std.specs.List.{AllByRecursion, count_by, filter, flat_map, range_with_len}
-use Rattle.std.specs.List.Sorted.{IsStrictlyIncreasing}
 use Rattle.std.proofs.lemmas.Bool.{eqb-true}
 use Rattle.std.proofs.lemmas.List.{get_or-replicate, length-map, length-replicate}
 use Rattle.std.proofs.lemmas.List.Elements.{filter-append}
-use Rattle.std.proofs.lemmas.List.FromFn.{get_or-range_with_len, length-map-range_with_len, length-range_with_len}
-use Rattle.std.proofs.lemmas.List.Kept.{IsStrictlyIncreasing-filter}
+use Rattle.std.proofs.lemmas.List.FromFn.{length-map-range_with_len}
 use Rattle.pd_kinds.specs.declared.kind.Kind.TheVariants.{Thin}
 use Rattle.pd_kinds.specs.declared.kind.Stage.TheVariants.{Whole}
 use Rattle.pd_kinds.specs.declared.limits.TheConstants.{MAX_META_BLOCKS}
@@ -52,16 +50,6 @@ filter_more p n =
     let next : suc n ≡ n + 1 = omega arith in
     subst (λ (m : ℕ). filter p (range_with_len 0 m) ≡ filter p (range_with_len 0 n) ++ cond (p n) (n ∷ []) []) next
     (ap (λ (xs : List ℕ). filter p xs) (range_more 0 n n (omega arith)) ∙ filter-append p (range_with_len 0 n) (n ∷ []))
-
--- the marked blocks ascend
-range_increases : (n : ℕ) → IsStrictlyIncreasing (range_with_len 0 n)
-range_increases n k within =
-    let few : k + 1 < n = rw (length-range_with_len 0 n) at within in
-    rw (get_or-range_with_len 0 n k 0 (omega arith), get_or-range_with_len 0 n (k + 1) 0 few) (omega arith)
-
-pub marked_increase : (marks : List Mark) → IsStrictlyIncreasing (marked_blocks marks)
-unfolding marked_blocks
-marked_increase marks = IsStrictlyIncreasing-filter (λ b. is_shared (mark_at marks b)) (range_with_len 0 (length marks)) (range_increases (length marks))
 
 -- tests that agree below n leave the same of its numbers
 pub same_filter : (p q : ℕ → Bool) (a n : ℕ) → ((b : ℕ) → b < a + n → p b ≡ q b) → filter p (range_with_len a n) ≡ filter q (range_with_len a n)

@@ -1,44 +1,44 @@
--- Where a number is in a list that ascends.
-use Rattle.std.proofs.Common.{◌≡◌, ℕ, ◌<◌, ◌≤◌, nat_eq, get_or, List, length, Some, None, Ok, Err, refl, arith, eq-eqb, inl, inr, lt-ltb, le-ltb}
-use Rattle.std.specs.List.{position}
-use Rattle.std.specs.List.Sorted.{IsBinarySearchResult, IsStrictlyIncreasing}
-use Rattle.std.specs.Ordering.{nat_cmp}
+-- A table tells the places of a list's blocks also when a block is added.
+use Rattle.std.proofs.Common.{◌≡◌, ℕ, ◌+◌, ◌<◌, ◌≤◌, cond, eqb, nat_eq, nat_lt, not, List, [], ◌∷◌, ◌++◌, length, length-append, Some, None, refl, sym, ◌∙◌, subst, arith, add-one, eq-eqb, inl, inr, lt-ltb, le-ltb}
+use Rattle.std.specs.List.{position, position_or_len, slice_index_or, slice_set}
 use Rattle.std.proofs.lemmas.Bool.{cases_eq, cases_lt, ne_eqb}
-use Rattle.std.proofs.lemmas.List.Kept.{AllPairs-from_increasing}
-use Rattle.std.proofs.lemmas.List.Sorted.{searched}
-use Rattle.std.proofs.lemmas.List.Sums.{position_or_len_is}
+use Rattle.std.proofs.lemmas.Grind.{get_or-set_at}
+use Rattle.std.proofs.lemmas.List.{get_or-set_other}
+use Rattle.std.proofs.lemmas.List.Folds.{position_or_len_push}
+use Rattle.std.proofs.lemmas.List.Sums.{prefix_len-le-length}
+use Rattle.pd_shared_leaves.specs.Found.{AreNumbered}
 
--- the numbers rise
-pub rises : (xs : List ℕ) → IsStrictlyIncreasing xs → (i j : ℕ) → i ≤ j → j < length xs → get_or xs i 0 ≤ get_or xs j 0
-rises xs ascend i j le within = elim (cases_eq i j) [
-  | inl same ↦ rw same (omega arith)
-  | inr other ↦ let below = AllPairs-from_increasing xs ascend i j 0 (omega arith) within in omega arith
+-- one number more that isn't the one, and one that is
+other_added : (place len : ℕ) → place ≤ len → cond (nat_lt (cond (eqb place len) (len + 1) place) (len + 1)) (Some (cond (eqb place len) (len + 1) place)) None
+    ≡ cond (nat_lt place len) (Some place) None
+other_added place len le = elim (cases_lt place len) [
+  | inl before ↦ rw (ne_eqb place len (λ same. omega arith), lt-ltb place len before, lt-ltb place (len + 1) (omega arith)) refl
+  | inr end ↦ rw (eq-eqb place len (omega arith), le-ltb (len + 1) (len + 1) (omega arith), le-ltb place len end) refl
 ]
 
--- its place is the first one, since those before are below it
-pub found_at : (xs : List ℕ) (b i : ℕ) → IsStrictlyIncreasing xs → i < length xs → get_or xs i 0 ≡ b → Some i ≡ position (λ x. nat_eq x b) xs
-found_at xs b i ascend within is =
-    let place = position_or_len_is (λ x. nat_eq x b) xs i 0 (omega arith)
-    (λ k before. let below = AllPairs-from_increasing xs ascend k i 0 before within in ne_eqb (get_or xs k 0) b (λ same. omega arith))
-    (λ inside. eq-eqb (get_or xs i 0) b is) in
-    rw (place, lt-ltb i (length xs) within) refl
+one_added : (place len : ℕ) → place ≤ len → None ≡ cond (nat_lt place len) (Some place) None
+    → Some len ≡ cond (nat_lt (cond (eqb place len) (len + 0) place) (len + 1)) (Some (cond (eqb place len) (len + 0) place)) None
+one_added place len le none = elim (cases_lt place len) [
+  | inl before ↦ let there = rw (lt-ltb place len before) at none in absurd (cc)
+  | inr end ↦
+      let same : len + 0 ≡ len = omega arith in
+      rw (eq-eqb place len (omega arith), same, lt-ltb len (len + 1) (omega arith)) refl
+]
 
--- and it has none where all differ
-pub found_none : (xs : List ℕ) (b : ℕ) → ((k : ℕ) → k < length xs → get_or xs k 0 ≡ b → ⊥) → None ≡ position (λ x. nat_eq x b) xs
-found_none xs b others =
-    let place = position_or_len_is (λ x. nat_eq x b) xs (length xs) 0 (omega arith) (λ k within. ne_eqb (get_or xs k 0) b (others k within)) (λ inside. absurd (omega arith)) in
-    rw (place, le-ltb (length xs) (length xs) (omega arith)) refl
-
--- so what a search answers is its place
-pub at_search : (xs : List ℕ) (b i : ℕ) → IsStrictlyIncreasing xs → IsBinarySearchResult (λ y. nat_cmp y b) xs (Ok i) → Some i ≡ position (λ x. nat_eq x b) xs
-at_search xs b i ascend by =
-    let at = searched xs b (Ok i) by (rises xs ascend) in
-    found_at xs b i ascend at.0 at.1
-
-pub no_search : (xs : List ℕ) (b i : ℕ) → IsStrictlyIncreasing xs → IsBinarySearchResult (λ y. nat_cmp y b) xs (Err i) → None ≡ position (λ x. nat_eq x b) xs
-no_search xs b i ascend by =
-    let at = searched xs b (Err i) by (rises xs ascend) in
-    found_none xs b (λ k within same. elim (cases_lt k i) [
-      | inl before ↦ let below = at.1 k before in omega arith
-      | inr after ↦ let above = at.2 k after within in omega arith
-    ])
+-- so a block that isn't there gets the next place, and the others keep theirs
+pub numbered_more : (numbers blocks : List ℕ) (b : ℕ) → b < length numbers → slice_index_or numbers b 0 ≡ 0 → AreNumbered numbers blocks
+    → AreNumbered (slice_set numbers b (length blocks + 1)) (blocks ++ b ∷ [])
+numbered_more numbers blocks b within none numbered x =
+    let is_x = λ (leaf : ℕ). nat_eq leaf x in
+    let len : length (blocks ++ b ∷ []) ≡ length blocks + 1 = length-append blocks (b ∷ []) in
+    let le : position_or_len is_x blocks ≤ length blocks = prefix_len-le-length (λ leaf. not (is_x leaf)) blocks in
+    elim (cases_eq b x) [
+      | inl same ↦
+          let zero : slice_index_or numbers x 0 ≡ 0 = subst (λ (y : ℕ). slice_index_or numbers y 0 ≡ 0) same none in
+          let absent : None ≡ position is_x blocks = rw zero at (numbered x) in
+          rw (get_or-set_at numbers b x (length blocks + 1) 0 (sym same) within, add-one (length blocks), position_or_len_push is_x blocks b, len, eq-eqb b x same)
+          (one_added (position_or_len is_x blocks) (length blocks) le absent)
+      | inr other ↦
+          rw (get_or-set_other numbers b x (length blocks + 1) 0 (λ same. other (sym same)), position_or_len_push is_x blocks b, len, ne_eqb b x other)
+          (numbered x ∙ sym (other_added (position_or_len is_x blocks) (length blocks) le))
+    ]

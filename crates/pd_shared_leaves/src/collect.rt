@@ -1,4 +1,4 @@
-//! The marks of a pool's metadata blocks, and the shared leaves that they tell.
+//! The marks of a pool's metadata blocks.
 
 ghost use Rattle.std.specs.Prelude.{◌≡◌, ℕ, ◌+◌, ◌*◌, ◌<◌, ◌≤◌, ◌++◌, ◌∷◌, List, [], if◌then◌else◌, length, min, replicate, IfErr, IfOk, IfSome, OnOk};
 ghost use Rattle.pd_kinds.specs.declared.check_fault.CheckFault.TheVariants.{Memory};
@@ -9,7 +9,6 @@ ghost use Rattle.pd_tree.specs.Below.{items_below, nodes_below};
 ghost use Rattle.pd_tree.specs.Cursor.{cursor_items, cursor_nodes, cursor_room};
 ghost use Rattle.pd_tree.specs.Items.{root_of};
 ghost use Rattle.pd_shared_leaves.specs.declared.marks.Mark.TheVariants.{Unseen};
-ghost use Rattle.pd_shared_leaves.specs.Found.{marked_blocks};
 ghost use Rattle.pd_shared_leaves.specs.Leaves.{roots_below};
 ghost use Rattle.pd_shared_leaves.specs.Marks.{AreMarked, is_shared};
 ghost use Rattle.pd_shared_leaves.specs.Walk.{AreProper};
@@ -91,31 +90,4 @@ pub(crate) fn find_marks<D: Device>(
     let mut marks = no_marks(alloc, blocks)?;
     walk_pool(alloc, dev, s, marks.as_mut_slice())?;
     Ok(marks)
-}
-
-/// The block is one of them, if it has the mark of a shared leaf. Want of memory is the only error.
-fn add_if_shared(blocks: &mut Vec<u32>, b: u32, mark: Mark) -> Result<(), CheckFault>
-    ensures added { OnOk result (blocks.new.items ≡ blocks.old.items ++ (if is_shared mark then b ∷ [] else [])) }
-    ensures memory { IfErr result (λ fault. fault ≡ Memory) }
-{
-    if !mark.is_shared() {
-        return Ok(());
-    }
-    match blocks.push(b) {
-        Ok(()) => Ok(()),
-        Err(_) => Err(CheckFault::Memory),
-    }
-}
-
-/// The blocks that have the mark of a shared leaf, ascending. Want of memory is the only error.
-pub(crate) fn shared_blocks_of(alloc: Global, marks: &[Mark]) -> Result<Vec<u32>, CheckFault>
-    requires few { length marks.now ≤ MAX_META_BLOCKS }
-    ensures blocks { IfOk result (λ blocks. blocks.items ≡ marked_blocks marks.now) }
-    ensures memory { IfErr result (λ fault. fault ≡ Memory) }
-{
-    let mut blocks = Vec::new(alloc);
-    for b in 0..marks.len() {
-        add_if_shared(&mut blocks, b as u32, marks[b])?;
-    }
-    Ok(blocks)
 }

@@ -4,7 +4,6 @@ pub mod FreeLemmas
 pub mod MovedLemmas
 pub mod PairLemmas
 pub mod SpanLemmas
-pub mod JoiningLemmas
 pub mod PlaceLemmas
 pub mod MovingLemmas
 pub mod MovesLemmas

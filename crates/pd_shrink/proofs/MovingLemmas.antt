@@ -6,20 +6,19 @@ use Rattle.std.proofs.lemmas.List.Sums.{sum_by-append, sum_by-cons}
 use Rattle.pd_kinds.specs.Meaning.{Mapping, ThinDevice}
 use Rattle.pd_answers.specs.MovedPool.{Move, moved_device, moved_mapping, moved_to}
 use Rattle.pd_laws.proofs.AllLemmas.{all_append}
-use Rattle.pd_laid_graph.proofs.ListLemmas.{all_back, all_front}
 use Rattle.pd_spells.specs.ThinText.{Part, device_of_part, joined_runs, mappings_from, mappings_of}
 use Rattle.pd_thin_meaning.specs.declared.joined.Run.{Run}
 use Rattle.pd_thin_meaning.specs.Joined.{spelled}
 use Rattle.pd_salvage.specs.declared.saved.SavedDevice.{SavedDevice}
-use Rattle.pd_salvage.specs.Gather.{HasRuns, mappings_of_runs}
+use Rattle.pd_salvage.specs.Gather.{HasRuns, mappings_of_runs, IsJoining, Takes}
 use Rattle.pd_salvage.specs.Saved.{IsJoined, part_of, parts_of, runs_of_devices}
-use Rattle.pd_salvage.proofs.GatherLemmas.{runs_more}
+use Rattle.pd_salvage.proofs.JoiningLemmas.{longer_run, runs_more}
 use Rattle.pd_salvage.proofs.SavingLemmas.{parts_more}
-use Rattle.pd_shrink.specs.declared.joining.Joining.{Joining}
+use Rattle.pd_salvage.specs.declared.joined.Joining.{Joining}
 use Rattle.pd_shrink.specs.declared.moving.Moved.{Moved}
-use Rattle.pd_shrink.specs.Moving.{AddsMoved, AreMoved, AreMovesFrom, FitsRun, IsJoining, Takes}
-use Rattle.pd_shrink.proofs.JoiningLemmas.{longer_run}
+use Rattle.pd_shrink.specs.Moving.{AddsMoved, AreMoved, AreMovesFrom, FitsRun}
 use Rattle.pd_shrink.proofs.PlaceLemmas.{below_stays}
+use Rattle.pd_laid.proofs.GatherLemmas.{all_first, all_last}
 
 -- the first mappings of a run, where they were moved
 abbrev pub moved_first : List Move → Run → ℕ → List Mapping
@@ -140,10 +139,10 @@ module _ (n : ℕ) (runs : List Run) (all : AllByRecursion FitsRun runs) where
   both_fit = subst (AllByRecursion FitsRun) (sym (take-append-drop n runs)) all
 
   pub taken_fit : AllByRecursion FitsRun (take n runs)
-  taken_fit = all_front FitsRun (take n runs) (drop n runs) both_fit
+  taken_fit = all_first FitsRun (take n runs) (drop n runs) both_fit
 
   pub left_fit : AllByRecursion FitsRun (drop n runs)
-  left_fit = all_back FitsRun (take n runs) (drop n runs) both_fit
+  left_fit = all_last FitsRun (take n runs) (drop n runs) both_fit
 
 -- the runs behind those of the first device are those of the others
 pub others : (d : SavedDevice) (ds : List SavedDevice) (runs : List Run) → runs_of_devices (d ∷ ds) ≡ length runs → runs_of_devices ds ≡ length (drop d.runs runs)

@@ -13,6 +13,7 @@ use Rattle.pd_laws.proofs.CleanLemmas.{clean_super_where_none}
 use Rattle.pd_laws.proofs.SoundLemmas.{IsInside, IsSound, tests_after_two}
 use Rattle.pd_laws.proofs.ThinTable.{super_sound}
 use Rattle.pd_shrink.specs.Making.{FitsDevice}
+use Rattle.pd_laid.proofs.GatherLemmas.{all_last}
 
 abbrev Image : Type 0
 Image = List (List ℕ)
@@ -22,10 +23,6 @@ unfolding thin_super_bad thin_super_tests are_thin_sizes_bad
 data_few blocks block sound =
     let tests = tests_after_two _ _ _ _ (thin_super_tests blocks block) sound in
     ltb-false max_data_blocks (thin_fields block).data_map.blocks (or_parts (is_meta_size_bad blocks (thin_fields block).meta_map.blocks) _ tests.1.0).1
-
-all_last : {X : Type 0} → (P : X → Type 0) (xs ys : List X) → AllByRecursion P (xs ++ ys) → AllByRecursion P ys
-all_last P [] ys all = all
-all_last P (x ∷ xs) ys all = all_last P xs ys all.1
 
 fits_block : (blocks : ℕ) (block : List ℕ) → IsSound (thin_super_bad blocks block) → FitsDevice blocks (thin_fields block)
 fits_block blocks block sound =

@@ -6,7 +6,6 @@ mod copying;
 mod fault;
 mod free;
 mod gathering;
-mod joining;
 mod making;
 mod moves;
 mod moving;

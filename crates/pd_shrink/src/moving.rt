@@ -5,16 +5,15 @@ ghost use Rattle.std.specs.List.{AllByRecursion};
 ghost use Rattle.pd_answers.specs.MovedPool.{moved_mapping, moved_pool};
 ghost use Rattle.pd_spells.specs.ThinText.{mappings_of};
 ghost use Rattle.pd_thin_meaning.specs.Joined.{spelled};
-ghost use Rattle.pd_salvage.specs.Gather.{mappings_of_runs, HasRuns};
+ghost use Rattle.pd_salvage.specs.Gather.{mappings_of_runs, HasRuns, Takes};
 ghost use Rattle.pd_salvage.specs.Saved.{pool_of, runs_of_devices};
 ghost use Rattle.pd_shrink.specs.Moves.{moves_in};
-ghost use Rattle.pd_shrink.specs.Moving.{AddsMoved, AreMoved, AreMovesFrom, AreMovesOf, FitsRun, Takes};
+ghost use Rattle.pd_shrink.specs.Moving.{AddsMoved, AreMoved, AreMovesFrom, AreMovesOf, FitsRun};
 
-use crate::joining::Joining;
 use crate::moves::MovedBlock;
 use crate::places::place_of;
 use pd_moved::moved_pool_is_lawful;
-use pd_salvage::{Salvage, SavedDevice, SavedHead};
+use pd_salvage::{Joining, Salvage, SavedDevice, SavedHead};
 use pd_thin_meaning::Run;
 use std::alloc::{AllocError, Global};
 

@@ -21,15 +21,11 @@ use Rattle.pd_smap.proofs.OverflowLeftLemmas.{ahead_later, if_maps, if_then}
 
 -- numbers in a row, cut in two
 pub range_split : (a m n : ℕ) → range_with_len a (m + n) ≡ range_with_len a m ++ range_with_len (a + m) n
-range_split a zero n =
-    let none : zero + n ≡ n = omega arith in
-    let same : a ≡ a + 0 = omega arith in
-    ap (range_with_len a) none ∙ ap (λ k. range_with_len k n) same
+range_split a zero n = let e : a + 0 ≡ a = omega arith in let f : 0 + n ≡ n = omega arith in rw (e, f) refl
 range_split a (suc m) n =
-    let more : suc m + n ≡ suc (m + n) = omega arith in
-    let next : a + 1 + m ≡ a + suc m = omega arith in
-    ap (range_with_len a) more
-    ∙ ap (λ (xs : List ℕ). a ∷ xs) (range_split (a + 1) m n ∙ ap (λ k. range_with_len (a + 1) m ++ range_with_len k n) next)
+    let e : a + suc m ≡ (a + 1) + m = omega arith in
+    let f : suc m + n ≡ suc (m + n) = omega arith in
+    rw (e, f) (ap (λ (xs : List ℕ). a ∷ xs) (range_split (a + 1) m n))
 
 -- the faults of some blocks, and then of more
 pub faults_split : (space : Space) (refs : ℕ → ℕ) (stored : ℕ → Option ℕ) (low m n : ℕ)

@@ -13,8 +13,8 @@ use Rattle.pd_spells.specs.Need.{need_tree}
 use Rattle.pd_laid.specs.Laid.{LaidBlock, count_in, laid_tree, tree_of, written_from}
 use Rattle.pd_laid.specs.Tree.{blocks_from, tree_blocks}
 use Rattle.pd_laid.specs.Map.{index_items, laid_bitmap, laid_bitmaps, laid_index, laid_meta_map, meta_counts, meta_map_number, meta_overflow, meta_overflow_blocks, overflow_items}
-use Rattle.pd_laid.proofs.LaidLemmas.{blocks_from-append, blocks_from-map, length-blocks_from, tree_written}
-use Rattle.pd_laid.proofs.NeedLemmas.{length-bitmaps, length-tree}
+use Rattle.pd_laid.proofs.LaidLemmas.{blocks_from-append, blocks_from-map, tree_written}
+use Rattle.pd_laid.proofs.NeedLemmas.{length-bitmaps, length-tree, length-tree_blocks}
 use Rattle.pd_build.proofs.RowLemmas.{moved_by}
 use Rattle.pd_count.specs.Counted.{Counted, count_of, HasCounted}
 use Rattle.pd_smwrite.specs.Map.{bitmap_blocks, data_map_blocks, index_at, index_block, meta_map_blocks, meta_map_need, overflow_at, written_bitmap}
@@ -33,12 +33,6 @@ pub bitmaps_moved : (counts : ℕ → ℕ) (n : ℕ) {from to : Stand} → Wrote
 unfolding bitmap_blocks
 bitmaps_moved counts n {from} {to} wrote =
     moved_by (written_bitmap counts) (range_with_len 0 (bitmaps_for n)) wrote ∙ ap (λ (k : ℕ). from.place + k) (length-range_with_len 0 (bitmaps_for n))
-
-length-tree_blocks : (size place : ℕ) (items : List Entry) → length (tree_blocks size place items) ≡ need_tree size (length items)
-length-tree_blocks size place items =
-    let t = tree_of (plain_tree size) in
-    ap length (sym (tree_written 0 t place items))
-    ∙ (length-blocks_from (λ at (b : LaidBlock). b.written at) place (laid_tree 0 t place items) ∙ length-tree 0 t place items)
 
 pub index_moved : (counts : ℕ → ℕ) (n first : ℕ) {from to : Stand} → Wrote (tree_blocks 16 from.place (index_items counts n first)) from to
     → to.place ≡ from.place + need_tree 16 (bitmaps_for n)

@@ -2,18 +2,11 @@
 use Rattle.std.proofs.Common.{◌≡◌, ℕ, zero, suc, ◌+◌, ◌<◌, ◌≤◌, Bool, true, cond, List, [], ◌∷◌, ◌++◌, length, map, get_or, refl, sym, ◌∙◌, ap, ap₂, arith}
 use Rattle.std.specs.List.{count_by, range_with_len}
 use Rattle.std.proofs.lemmas.List.Sums.{sum_by-append, sum_by-cons}
-
--- two rows
-pub range_on : (a m n : ℕ) → range_with_len a m ++ range_with_len (a + m) n ≡ range_with_len a (m + n)
-range_on a zero n = let e : a + 0 ≡ a = omega arith in let f : 0 + n ≡ n = omega arith in rw (e, f) refl
-range_on a (suc m) n =
-    let e : a + suc m ≡ (a + 1) + m = omega arith in
-    let f : suc m + n ≡ suc (m + n) = omega arith in
-    rw (e, f) (ap (λ (rest : List ℕ). a ∷ rest) (range_on (a + 1) m n))
+use Rattle.pd_laid.proofs.Rows.{range_on}
 
 -- one number more
 pub range_more : (n : ℕ) → range_with_len 0 (n + 1) ≡ range_with_len 0 n ++ n ∷ []
-range_more n = let e : 0 + n ≡ n = omega arith in sym (range_on 0 n 1) ∙ ap (λ (m : ℕ). range_with_len 0 n ++ m ∷ []) e
+range_more n = let e : 0 + n ≡ n = omega arith in range_on 0 n 1 ∙ ap (λ (m : ℕ). range_with_len 0 n ++ m ∷ []) e
 
 -- functions that agree on a row
 pub map_same : {Y : Type 0} (f g : ℕ → Y) (a n : ℕ) → ((k : ℕ) → a ≤ k → k < a + n → f k ≡ g k) → map f (range_with_len a n) ≡ map g (range_with_len a n)
@@ -26,7 +19,7 @@ pub count_first : (p : ℕ → Bool) (a n : ℕ) → count_by p (range_with_len 
 count_first p a n = sum_by-cons (λ x. cond (p x) 1 0) a (range_with_len (a + 1) n)
 
 pub count_on : (p : ℕ → Bool) (a m n : ℕ) → count_by p (range_with_len a (m + n)) ≡ count_by p (range_with_len a m) + count_by p (range_with_len (a + m) n)
-count_on p a m n = ap (count_by p) (sym (range_on a m n)) ∙ sum_by-append (λ x. cond (p x) 1 0) (range_with_len a m) (range_with_len (a + m) n)
+count_on p a m n = ap (count_by p) (range_on a m n) ∙ sum_by-append (λ x. cond (p x) 1 0) (range_with_len a m) (range_with_len (a + m) n)
 
 -- what an element counts for
 abbrev pub one_if : Bool → ℕ

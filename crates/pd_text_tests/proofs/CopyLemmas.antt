@@ -1,5 +1,5 @@
 -- The copy of a text, line by line.
-use Rattle.std.proofs.Common.{◌≡◌, inl, inr, Bool, true, false, List, [], ◌∷◌, ◌++◌, ℕ, refl, if◌then◌else◌}
+use Rattle.std.proofs.Common.{◌≡◌, inl, inr, Bool, true, false, List, [], ◌∷◌, ℕ, refl, if◌then◌else◌}
 use Rattle.pd_grammar.specs.Texts.{text_of_lines}
 use Rattle.pd_spells.specs.ThinText.{Line, end_line, first_line, is_shared, pool_format, shared_first_line}
 use Rattle.pd_texts.specs.declared.fault.ReadFault.{ReadFault}

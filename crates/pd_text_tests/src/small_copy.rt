@@ -17,7 +17,7 @@ use pd_kinds::Kind;
 use pd_lines::Pieces;
 use pd_shapes::pool_text_unless_refused;
 use pd_texts::{
-    ReadFault, ThinText, bytes_of_end, bytes_of_first, bytes_of_shared_first, bytes_of_thin,
+    ReadFault, ThinText, bytes_of_end, bytes_of_first, bytes_of_shared_first,
     read_pool_lines_are_in_range, thin_lines_are_printed_in_order, whole_thin_text_spells,
 };
 use std::alloc::Global;
@@ -72,7 +72,7 @@ fn copy_first<S: Source, K: Sink>(
     thin_lines_are_printed_in_order();
     match text.next(source) {
         Ok(Some(line)) => match pieces.add(bytes_of_version(text.version()), out) {
-            Ok(()) => match pieces.add(bytes_of_thin(&line).as_bytes(), out) {
+            Ok(()) => match pieces.add_line(&line, out) {
                 Ok(()) => Ok(()),
                 Err(_) => Err(CopyFault::Sink),
             },
@@ -155,7 +155,7 @@ fn copy_line<S: Source, K: Sink>(
 {
     thin_lines_are_printed_in_order();
     match text.next(source) {
-        Ok(Some(line)) => match pieces.add(bytes_of_thin(&line).as_bytes(), out) {
+        Ok(Some(line)) => match pieces.add_line(&line, out) {
             Ok(()) => Ok(true),
             Err(_) => Err(CopyFault::Sink),
         },

@@ -12,4 +12,3 @@ pub mod GivesLemmas
 pub mod LawLemmas
 pub mod ThinLemmas
 pub mod ThinNextLemmas
-pub mod Filling

@@ -12,4 +12,3 @@ pub mod ThinLaws
 pub mod ThinState
 pub mod ThinPrinted
 pub mod ThinNext
-pub mod Made

@@ -6,7 +6,6 @@
 
 mod fault;
 mod leaves;
-mod made;
 mod print;
 mod reader;
 mod stage;
@@ -21,7 +20,6 @@ mod values;
 mod words;
 
 pub use fault::{ReadFault, TextFault};
-pub use made::{MadeLines, MadeSource};
 pub use print::{add_uuid, add_word, bytes_of_end, bytes_of_first, print_end, print_first};
 pub use reader::TextReader;
 pub use stage::Stage;
@@ -31,7 +29,7 @@ pub use thin_laws::{
     read_thin_lines_mean_a_pool, thin_lines_are_printed_in_order, whole_thin_text_spells,
 };
 pub use thin_line::{Run2, ThinLine};
-pub use thin_print::{bytes_of_shared_first, bytes_of_thin, print_shared_first, print_thin};
+pub use thin_print::{bytes_of_shared_first, print_shared_first, print_thin};
 pub use thin_state::ThinState;
 pub use thin_text::ThinText;
 pub use values::read_values;

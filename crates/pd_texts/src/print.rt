@@ -8,7 +8,7 @@ ghost use Rattle.pd_texts.specs.Printed.{first_text, end_text};
 
 use pd_image::{Failed, Sink};
 use pd_kinds::Kind;
-use pd_lines::LineBuffer;
+use pd_lines::PieceBuffer;
 use uuid::Uuid;
 
 /// Prints the first line of a text of this kind. It takes no memory.
@@ -54,8 +54,8 @@ pub fn bytes_of_end() -> &'static [u8]
 }
 
 /// Adds a space and a number.
-pub fn add_word(line: &mut LineBuffer, number: u64)
-    requires { length line.old + 21 ≤ 161 }
+pub fn add_word(line: &mut PieceBuffer, number: u64)
+    requires { length line.old + 21 ≤ 16384 }
     ensures bytes { line.new ≡ line.old ++ (32 ∷ decimal number) }
     ensures len { length line.new ≤ length line.old + 21 }
     ensures small { number < 2 ^ 32 → length line.new ≤ length line.old + 11 }
@@ -65,8 +65,8 @@ pub fn add_word(line: &mut LineBuffer, number: u64)
 }
 
 /// Adds a uuid, in its hyphenated form in lower case.
-pub fn add_uuid(line: &mut LineBuffer, uuid: [u8; 16])
-    requires { length line.old + 36 ≤ 161 }
+pub fn add_uuid(line: &mut PieceBuffer, uuid: [u8; 16])
+    requires { length line.old + 36 ≤ 16384 }
     ensures bytes { line.new ≡ line.old ++ hyphenated_text lower uuid }
     ensures len { length line.new ≡ length line.old + 36 }
 {

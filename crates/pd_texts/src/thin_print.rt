@@ -1,6 +1,6 @@
 //! The lines of a pool's text, printed.
 
-ghost use Rattle.std.specs.Prelude.{◌≡◌, ◌≤◌, [], length, OnOk};
+ghost use Rattle.std.specs.Prelude.{◌≡◌, ◌+◌, ◌≤◌, ◌++◌, length, OnOk};
 ghost use Rattle.pd_kinds.specs.Objects.{CountsFault, Appends, AppendsFront};
 ghost use Rattle.pd_image.specs.Sink.{KeepsSink};
 ghost use Rattle.pd_spells.specs.ThinText.{thin, shared_first_line, pool_line, leaf_line, device_line, use_line, map_line};
@@ -10,7 +10,7 @@ ghost use Rattle.pd_texts.specs.ThinLine.{line_of, details_of, run_of};
 use crate::print::{add_uuid, add_word};
 use crate::thin_line::{Run2, ThinLine};
 use pd_image::{Failed, Sink};
-use pd_lines::LineBuffer;
+use pd_lines::{PieceBuffer, TextLine, put_line};
 use pd_value::Details;
 
 /// Prints the first line of a text of version 2. It takes no memory.
@@ -40,58 +40,49 @@ pub fn print_thin<K: Sink>(line: &ThinLine, out: &mut K) -> Result<(), Failed>
     ensures kept { KeepsSink (K.state out.old) (K.state out.new) }
     ensures faults { CountsFault result (K.state out.old).faults (K.state out.new).faults }
 {
-    out.put(bytes_of_thin(line).as_bytes())
+    put_line(line, out)
 }
 
-/// The bytes of a line, with its line feed.
-pub fn bytes_of_thin(line: &ThinLine) -> LineBuffer
-    ensures bytes { result ≡ text_of_line thin (line_of line.now) }
-{
-    let mut text = LineBuffer::new();
-    add_thin(&mut text, line);
-    text
-}
+impl TextLine for ThinLine {
+    ghost bytes = { λ line. text_of_line thin (line_of line) };
 
-/// Adds the bytes of a line to a text without bytes.
-fn add_thin(text: &mut LineBuffer, line: &ThinLine)
-    requires { text.old ≡ [] }
-    ensures { text.new ≡ text_of_line thin (line_of line.now) }
-{
-    match line {
-        ThinLine::Pool {
-            uuid,
-            time,
-            transaction,
-            block_size,
-            blocks,
-        } => {
-            add_pool(
-                text,
-                *uuid,
-                *time as u64,
-                *transaction,
-                *block_size as u64,
-                *blocks,
-            )
+    fn add_to(&self, text: &mut PieceBuffer) {
+        match self {
+            ThinLine::Pool {
+                uuid,
+                time,
+                transaction,
+                block_size,
+                blocks,
+            } => {
+                add_pool(
+                    text,
+                    *uuid,
+                    *time as u64,
+                    *transaction,
+                    *block_size as u64,
+                    *blocks,
+                )
+            }
+            ThinLine::Leaf { number, entries } => add_leaf(text, *number, *entries),
+            ThinLine::Device { id, details } => add_device(text, *id, details),
+            ThinLine::UseLeaf { number } => add_use(text, *number),
+            ThinLine::Map(run) => add_map(text, run),
         }
-        ThinLine::Leaf { number, entries } => add_leaf(text, *number, *entries),
-        ThinLine::Device { id, details } => add_device(text, *id, details),
-        ThinLine::UseLeaf { number } => add_use(text, *number),
-        ThinLine::Map(run) => add_map(text, run),
     }
 }
 
 /// Adds the bytes of a pool line.
 fn add_pool(
-    line: &mut LineBuffer,
+    line: &mut PieceBuffer,
     uuid: [u8; 16],
     time: u64,
     transaction: u64,
     block_size: u64,
     blocks: u64,
 )
-    requires { line.old ≡ [] }
-    ensures { line.new ≡ text_of_line thin (pool_line (record { uuid = uuid; time = time; transaction = transaction; block_size = block_size; data_blocks = blocks })) }
+    requires { length line.old + 161 ≤ 16384 }
+    ensures { line.new ≡ line.old ++ text_of_line thin (pool_line (record { uuid = uuid; time = time; transaction = transaction; block_size = block_size; data_blocks = blocks })) }
 {
     line.add(b"pool ");
     add_uuid(line, uuid);
@@ -103,9 +94,9 @@ fn add_pool(
 }
 
 /// Adds the bytes of a leaf line.
-fn add_leaf(line: &mut LineBuffer, number: u64, entries: u64)
-    requires { line.old ≡ [] }
-    ensures { line.new ≡ text_of_line thin (leaf_line (record { number = number; entries = entries })) }
+fn add_leaf(line: &mut PieceBuffer, number: u64, entries: u64)
+    requires { length line.old + 161 ≤ 16384 }
+    ensures { line.new ≡ line.old ++ text_of_line thin (leaf_line (record { number = number; entries = entries })) }
 {
     line.add(b"leaf");
     add_word(line, number);
@@ -114,9 +105,9 @@ fn add_leaf(line: &mut LineBuffer, number: u64, entries: u64)
 }
 
 /// Adds the bytes of a device line.
-fn add_device(line: &mut LineBuffer, id: u64, details: &Details)
-    requires { line.old ≡ [] }
-    ensures { line.new ≡ text_of_line thin (device_line (details_of id details.now)) }
+fn add_device(line: &mut PieceBuffer, id: u64, details: &Details)
+    requires { length line.old + 161 ≤ 16384 }
+    ensures { line.new ≡ line.old ++ text_of_line thin (device_line (details_of id details.now)) }
 {
     line.add(b"device");
     add_word(line, id);
@@ -128,9 +119,9 @@ fn add_device(line: &mut LineBuffer, id: u64, details: &Details)
 }
 
 /// Adds the bytes of a use line.
-fn add_use(line: &mut LineBuffer, number: u64)
-    requires { line.old ≡ [] }
-    ensures { line.new ≡ text_of_line thin (use_line number) }
+fn add_use(line: &mut PieceBuffer, number: u64)
+    requires { length line.old + 161 ≤ 16384 }
+    ensures { line.new ≡ line.old ++ text_of_line thin (use_line number) }
 {
     line.add(b"use");
     add_word(line, number);
@@ -138,9 +129,9 @@ fn add_use(line: &mut LineBuffer, number: u64)
 }
 
 /// Adds the bytes of a map line.
-fn add_map(line: &mut LineBuffer, run: &Run2)
-    requires { line.old ≡ [] }
-    ensures { line.new ≡ text_of_line thin (map_line (run_of run.now)) }
+fn add_map(line: &mut PieceBuffer, run: &Run2)
+    requires { length line.old + 161 ≤ 16384 }
+    ensures { line.new ≡ line.old ++ text_of_line thin (map_line (run_of run.now)) }
 {
     line.add(b"map");
     add_word(line, run.virt);

@@ -19,7 +19,7 @@ use pd_count::Counts;
 use pd_image::{Device, Sink};
 use pd_kinds::ThinSuper;
 use pd_lines::{LineBuffer, Printer};
-use pd_query::{Query, QueryFault, devices_of, print_line};
+use pd_query::{Query, QueryFault, devices_of, finish, print_line};
 use pd_thin_meaning::{DeviceRow, ThinDevices, rows_are_the_devices};
 use pd_tree::Cursor;
 use pd_value::BlockTime;
@@ -69,10 +69,7 @@ fn put_devices<D: Device, K: Sink>(
 {
     let mut printer = Printer::over(out);
     add_devices(alloc, s, counts, dev, &mut printer)?;
-    match printer.finish() {
-        Ok(()) => Ok(()),
-        Err(_) => Err(QueryFault::Sink),
-    }
+    finish(printer)
 }
 
 /// Prints the lines of the devices, in the memory of three cursors over trees.

@@ -17,7 +17,7 @@ use crate::walk::super_to_ask;
 use pd_image::{Device, Sink};
 use pd_kinds::ThinSuper;
 use pd_lines::{LineBuffer, Printer};
-use pd_query::{Query, QueryFault, print_line};
+use pd_query::{Query, QueryFault, finish, print_line};
 use pd_thin_meaning::rows_are_the_devices;
 use std::alloc::Global;
 
@@ -60,10 +60,7 @@ fn put_uses<K: Sink>(uses: &[DataUse], out: &mut K) -> Result<(), QueryFault>
 {
     let mut printer = Printer::over(out);
     add_uses(uses, &mut printer)?;
-    match printer.finish() {
-        Ok(()) => Ok(()),
-        Err(_) => Err(QueryFault::Sink),
-    }
+    finish(printer)
 }
 
 /// Prints the lines of uses.

@@ -70,6 +70,7 @@ struct Place {
 pub const IMAGE: &str = "IMAGE";
 
 /// The tool of this name.
+#[tactic(auto, unfolding(pd_answers::specs::Words::tool_in))]
 pub fn tool_named(word: &str) -> Option<Tool>
     ensures { found_tool result ≡ tool_of word.now }
 {

@@ -1,8 +1,8 @@
 ghost use Rattle.std.specs.Prelude.{◌≡◌, ◌^◌, ℕ, List, Some, true, map, drop, string_bytes, length, IfSome, IfOk};
 ghost use Rattle.std.specs.Option.{option_map};
-ghost use Rattle.pd_answers.specs.Words.{asked, stage_of, last_stage, version_of, region_of, generated_number, items_of, sole, at_most_one, is_set, check_with, dump_with};
+ghost use Rattle.pd_answers.specs.Words.{asked, stage_of, last_stage, version_of, region_of, generated_number, items_of, check_with, dump_with};
 ghost use Rattle.pd_answers.specs.Words as words_spec;
-ghost use Rattle.pd_words.specs.Items.{given_as, IsGivenWithin, tool_as};
+ghost use Rattle.pd_words.specs.Items.{tool_as};
 ghost use Rattle.pd_words.specs.Numbers.{region_as};
 ghost use Rattle.pd_words.specs.Words.{read_as, answer_as, repair_as, word_of, words_of, AreNames, IsGenerated, IsName, IsNameIfAny, IsVersion};
 
@@ -62,9 +62,9 @@ fn read_check(kind: Kind, words: &[String]) -> Option<Request>
     ensures asked { IfSome (items_of (drop 1 (map string_bytes words.now))) (λ items. read_as (map string_bytes words.now) result ≡ words_spec.request_of (words_spec.check_tool kind) items) }
     ensures names { IfSome result (AreNames (length words.now)) }
 {
-    let until = last_stage(words, optional(given_for(words, 1, "--until"))?)?;
-    let clear = flag(given_for(words, 1, "--clear-needs-check-flag"))?;
-    let image = required(given_for(words, 1, IMAGE))?;
+    let until = last_stage(words, optional(words, "--until")?)?;
+    let clear = flag(words, "--clear-needs-check-flag")?;
+    let image = required(words, IMAGE)?;
     check_with(kind, until, clear, image)
 }
 
@@ -74,9 +74,9 @@ fn read_dump(kind: Kind, words: &[String]) -> Option<Request>
     ensures asked { IfSome (items_of (drop 1 (map string_bytes words.now))) (λ items. read_as (map string_bytes words.now) result ≡ words_spec.request_of (words_spec.dump_tool kind) items) }
     ensures names { IfSome result (AreNames (length words.now)) }
 {
-    let shared = flag(given_for(words, 1, "--shared"))?;
-    let out = optional(given_for(words, 1, "-o"))?;
-    let image = required(given_for(words, 1, IMAGE))?;
+    let shared = flag(words, "--shared")?;
+    let out = optional(words, "-o")?;
+    let image = required(words, IMAGE)?;
     dump_with(kind, shared, out, image)
 }
 
@@ -115,9 +115,9 @@ fn read_restore(kind: Kind, words: &[String]) -> Option<Request>
     ensures asked { IfSome (items_of (drop 1 (map string_bytes words.now))) (λ items. read_as (map string_bytes words.now) result ≡ words_spec.request_of (words_spec.restore_tool kind) items) }
     ensures names { IfSome result (AreNames (length words.now)) }
 {
-    let version = version_named(words, optional(given_for(words, 1, "--metadata-version"))?)?;
-    let text = required(given_for(words, 1, "-i"))?;
-    let image = required(given_for(words, 1, "-o"))?;
+    let version = version_named(words, optional(words, "--metadata-version")?)?;
+    let text = required(words, "-i")?;
+    let image = required(words, "-o")?;
     Some(Request::Restore {
         kind,
         text,
@@ -132,11 +132,11 @@ fn read_repair(words: &[String]) -> Option<Request>
     ensures asked { IfSome (items_of (drop 1 (map string_bytes words.now))) (λ items. read_as (map string_bytes words.now) result ≡ words_spec.request_of words_spec.repair_tool items) }
     ensures names { IfSome result (AreNames (length words.now)) }
 {
-    let input = required(given_for(words, 1, "-i"))?;
-    let output = required(given_for(words, 1, "-o"))?;
-    let transaction = optional(given_for(words, 1, "--transaction-id"))?;
-    let block_size = optional(given_for(words, 1, "--data-block-size"))?;
-    let blocks = optional(given_for(words, 1, "--nr-data-blocks"))?;
+    let input = required(words, "-i")?;
+    let output = required(words, "-o")?;
+    let transaction = optional(words, "--transaction-id")?;
+    let block_size = optional(words, "--data-block-size")?;
+    let blocks = optional(words, "--nr-data-blocks")?;
     repair_with(words, input, output, transaction, block_size, blocks)
 }
 
@@ -210,9 +210,9 @@ fn read_rmap(words: &[String]) -> Option<Request>
     ensures asked { IfSome (items_of (drop 1 (map string_bytes words.now))) (λ items. read_as (map string_bytes words.now) result ≡ words_spec.request_of words_spec.rmap_tool items) }
     ensures names { IfSome result (AreNames (length words.now)) }
 {
-    let region = region_named(words, required(given_for(words, 1, "--region"))?)?;
-    let out = optional(given_for(words, 1, "-o"))?;
-    let image = required(given_for(words, 1, IMAGE))?;
+    let region = region_named(words, required(words, "--region")?)?;
+    let out = optional(words, "-o")?;
+    let image = required(words, IMAGE)?;
     Some(Request::Rmap {
         first: region.first,
         end: region.end,
@@ -227,8 +227,8 @@ fn read_list(words: &[String]) -> Option<Request>
     ensures asked { IfSome (items_of (drop 1 (map string_bytes words.now))) (λ items. read_as (map string_bytes words.now) result ≡ words_spec.request_of words_spec.list_tool items) }
     ensures names { IfSome result (AreNames (length words.now)) }
 {
-    let out = optional(given_for(words, 1, "-o"))?;
-    let image = required(given_for(words, 1, IMAGE))?;
+    let out = optional(words, "-o")?;
+    let image = required(words, IMAGE)?;
     Some(Request::List { image, out })
 }
 
@@ -238,9 +238,9 @@ fn read_since(words: &[String]) -> Option<Request>
     ensures asked { IfSome (items_of (drop 1 (map string_bytes words.now))) (λ items. read_as (map string_bytes words.now) result ≡ words_spec.request_of words_spec.since_tool items) }
     ensures names { IfSome result (AreNames (length words.now)) }
 {
-    let era = era_named(words, required(given_for(words, 1, "--written-since"))?)?;
-    let out = optional(given_for(words, 1, "-o"))?;
-    let image = required(given_for(words, 1, IMAGE))?;
+    let era = era_named(words, required(words, "--written-since")?)?;
+    let out = optional(words, "-o")?;
+    let image = required(words, IMAGE)?;
     Some(Request::Since { era, image, out })
 }
 
@@ -269,8 +269,8 @@ fn read_generate(words: &[String]) -> Option<Request>
     ensures asked { IfSome (items_of (drop 1 (map string_bytes words.now))) (λ items. read_as (map string_bytes words.now) result ≡ words_spec.request_of words_spec.generate_tool items) }
     ensures names { IfSome result (AreNames (length words.now)) }
 {
-    let number = generated_number(words, required(given_for(words, 1, "--number"))?)?;
-    let out = optional(given_for(words, 1, "-o"))?;
+    let number = generated_number(words, required(words, "--number")?)?;
+    let out = optional(words, "-o")?;
     Some(Request::Generate { number, out })
 }
 
@@ -280,8 +280,8 @@ fn read_rehearse(words: &[String]) -> Option<Request>
     ensures asked { IfSome (items_of (drop 1 (map string_bytes words.now))) (λ items. read_as (map string_bytes words.now) result ≡ words_spec.request_of words_spec.rehearse_tool items) }
     ensures names { IfSome result (AreNames (length words.now)) }
 {
-    let number = generated_number(words, required(given_for(words, 1, "--number"))?)?;
-    let image = required(given_for(words, 1, "-o"))?;
+    let number = generated_number(words, required(words, "--number")?)?;
+    let image = required(words, "-o")?;
     Some(Request::Rehearse { number, image })
 }
 
@@ -291,9 +291,9 @@ fn read_writeback(words: &[String]) -> Option<Request>
     ensures asked { IfSome (items_of (drop 1 (map string_bytes words.now))) (λ items. read_as (map string_bytes words.now) result ≡ words_spec.request_of words_spec.writeback_tool items) }
     ensures names { IfSome result (AreNames (length words.now)) }
 {
-    let metadata = required(given_for(words, 1, "--metadata-device"))?;
-    let fast = required(given_for(words, 1, "--fast-device"))?;
-    let origin = required(given_for(words, 1, "--origin-device"))?;
+    let metadata = required(words, "--metadata-device")?;
+    let fast = required(words, "--fast-device")?;
+    let origin = required(words, "--origin-device")?;
     Some(Request::Writeback {
         metadata,
         fast,
@@ -307,10 +307,10 @@ fn read_shrink(words: &[String]) -> Option<Request>
     ensures asked { IfSome (items_of (drop 1 (map string_bytes words.now))) (λ items. read_as (map string_bytes words.now) result ≡ words_spec.request_of words_spec.shrink_tool items) }
     ensures names { IfSome result (AreNames (length words.now)) }
 {
-    let input = required(given_for(words, 1, "-i"))?;
-    let output = required(given_for(words, 1, "-o"))?;
-    let pool = required(given_for(words, 1, "--data"))?;
-    let blocks = number_named(words, required(given_for(words, 1, "--nr-blocks"))?)?;
+    let input = required(words, "-i")?;
+    let output = required(words, "-o")?;
+    let pool = required(words, "--data")?;
+    let blocks = number_named(words, required(words, "--nr-blocks")?)?;
     Some(Request::Shrink {
         input,
         output,
@@ -346,23 +346,23 @@ fn generated_number(words: &[String], name: Name) -> Option<u32>
     }
 }
 
-/// A value that is wanted.
-fn required(given: Given) -> Option<Name>
-    ensures value { (words : List (List ℕ)) → words_of words result ≡ sole (given_as words given) }
-    ensures within { (number : ℕ) → IsGivenWithin number given → IsNameIfAny number result }
+/// The value of an option that is wanted, or the operand.
+fn required(words: &[String], purpose: &str) -> Option<Name>
+    ensures value { IfSome (items_of (drop 1 (map string_bytes words.now))) (λ items. words_of (map string_bytes words.now) result ≡ words_spec.required purpose.now items) }
+    ensures within { IsNameIfAny (length words.now) result }
 {
-    match given {
+    match given_for(words, 1, purpose) {
         Given::Once(value) => Some(value),
         _ => None,
     }
 }
 
-/// A value that may be left out.
-fn optional(given: Given) -> Option<Option<Name>>
-    ensures value { (words : List (List ℕ)) → option_map (words_of words) result ≡ at_most_one (given_as words given) }
-    ensures within { (number : ℕ) → IsGivenWithin number given → IfSome result (IsNameIfAny number) }
+/// The value of an option that may be left out.
+fn optional(words: &[String], purpose: &str) -> Option<Option<Name>>
+    ensures value { IfSome (items_of (drop 1 (map string_bytes words.now))) (λ items. option_map (words_of (map string_bytes words.now)) result ≡ words_spec.optional purpose.now items) }
+    ensures within { IfSome result (IsNameIfAny (length words.now)) }
 {
-    match given {
+    match given_for(words, 1, purpose) {
         Given::Never => Some(None),
         Given::Once(value) => Some(Some(value)),
         Given::Often => None,
@@ -370,10 +370,10 @@ fn optional(given: Given) -> Option<Option<Name>>
 }
 
 /// Whether a flag is set.
-fn flag(given: Given) -> Option<bool>
-    ensures { (words : List (List ℕ)) → result ≡ is_set (given_as words given) }
+fn flag(words: &[String], purpose: &str) -> Option<bool>
+    ensures { IfSome (items_of (drop 1 (map string_bytes words.now))) (λ items. result ≡ words_spec.flag purpose.now items) }
 {
-    match given {
+    match given_for(words, 1, purpose) {
         Given::Never => Some(false),
         Given::Once(_) => Some(true),
         Given::Often => None,

@@ -1,5 +1,5 @@
 -- Blocks that are copied one after another.
-use Rattle.std.proofs.Common.{◌≡◌, ◌⊎◌, inl, inr, ⊎_elim, ℕ, ◌+◌, ◌<◌, ◌≤◌, Bool, true, false, List, [], length, set, get_or, Option, Some, None, IfSome, refl, sym, ap, ◌∙◌, arith}
+use Rattle.std.proofs.Common.{◌≡◌, ◌⊎◌, inl, inr, ⊎_elim, ℕ, ◌+◌, Bool, true, List, [], set, get_or, Option, Some, None, IfSome, refl, sym, ap, ◌∙◌, arith}
 use Rattle.std.specs.List.{slice_get}
 use Rattle.std.specs.Option.{is_some}
 use Rattle.std.proofs.lemmas.Bool.{true≢false, cases_lt}
@@ -11,7 +11,7 @@ use Rattle.pd_kinds.proofs.CrashLemmas.{left_is}
 use Rattle.pd_image.specs.Device.{MayChange, MayWrite}
 use Rattle.pd_image.proofs.CrashLemmas.{writes}
 use Rattle.pd_draft.proofs.DraftLemmas.{put_back}
-use Rattle.pd_writeback.specs.Copied.{IsAsBut, IsCopied, IsLeftAsBut}
+use Rattle.pd_writeback.specs.Copied.{IsCopied, IsLeftAsBut}
 
 abbrev Image : Type 0
 Image = List (List ℕ)

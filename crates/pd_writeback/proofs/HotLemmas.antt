@@ -1,8 +1,7 @@
 -- The hot blocks among the rows of a cache.
-use Rattle.std.proofs.Common.{◌≡◌, ℕ, Bool, true, false, cond, ◌||◌, not, List, [], ◌∷◌, ◌++◌, filter, map, Option, Some, None, IfSome, refl, sym, ap, ◌∙◌, append_assoc}
+use Rattle.std.proofs.Common.{◌≡◌, Bool, true, false, cond, ◌||◌, not, List, [], ◌∷◌, ◌++◌, filter, map, refl, sym, ap, ◌∙◌, append_assoc}
 use Rattle.std.proofs.lemmas.List.{append-nil}
 use Rattle.pd_kinds.specs.Meaning.{CacheEntry, CacheMeaning}
-use Rattle.pd_tree.specs.Next.{IsNext}
 use Rattle.pd_cache_meaning.specs.declared.side_arrays.CacheRow.{CacheRow}
 use Rattle.pd_cache_meaning.specs.Given.{entry_of}
 use Rattle.pd_answers.specs.CachedView.{CachedBlock, cached_block, hot_blocks, is_hot}

@@ -1,6 +1,6 @@
 -- What a plan is made of.
-use Rattle.std.proofs.Common.{◌≡◌, inl, inr, ⊎_elim, ℕ, zero, suc, ◌+◌, ◌*◌, ◌<◌, ◌≤◌, max, Bool, true, false, nat_eq, List, [], ◌∷◌, length, get_or, map, Option, Some, None, IfSome, refl, sym, ap, ◌∙◌, subst, arith}
-use Rattle.std.specs.List.{All, fold, list_any}
+use Rattle.std.proofs.Common.{◌≡◌, ℕ, zero, suc, ◌+◌, ◌*◌, ◌<◌, ◌≤◌, max, false, nat_eq, List, [], ◌∷◌, length, get_or, map, Option, Some, None, IfSome, refl, sym, ap, ◌∙◌, subst, arith}
+use Rattle.std.specs.List.{fold, list_any}
 use Rattle.std.specs.List.Sorted.{IsPermutation}
 use Rattle.std.proofs.lemmas.List.{get_or-map, length-map}
 use Rattle.std.proofs.lemmas.List.Sorted.{All-permutation}
@@ -15,13 +15,13 @@ use Rattle.pd_kinds.specs.Stages.{HasCleanSuper, cache_checked, faults}
 use Rattle.pd_laws.proofs.CleanLemmas.{clean_super_where_none}
 use Rattle.pd_cache_meaning.specs.Given.{GivesCache}
 use Rattle.pd_cache_meaning.specs.Rows.{RootsBelow, rows_below}
-use Rattle.pd_answers.specs.CachedView.{CachedBlock, blocks_each, dirty_places, fast_need, hot_blocks, is_block_size_bad, origin_need}
+use Rattle.pd_answers.specs.CachedView.{CachedBlock, blocks_each, dirty_places, hot_blocks, is_block_size_bad}
 use Rattle.pd_writeback.specs.declared.fault.WriteFault.{WriteFault}
 use Rattle.pd_writeback.specs.declared.fault.WriteFault.TheVariants.{Memory, Meta, Origin, Fast, BlockSize, NoRoom}
 use Rattle.pd_writeback.specs.declared.hot.HotBlock.{HotBlock}
 use Rattle.pd_writeback.specs.Hot.{cached, cached_all, hot_rows, is_clean}
 use Rattle.pd_writeback.specs.Places.{dirty_root, places_named, tree_names}
-use Rattle.pd_writeback.specs.Plan.{HasBadSize, HasNoRoom, IsFound, IsUnplanned}
+use Rattle.pd_writeback.specs.Plan.{HasBadSize, IsFound, IsUnplanned}
 use Rattle.pd_writeback.specs.Room.{AllFit, Fits, HasRoom, LacksRoom}
 use Rattle.pd_writeback.proofs.PlanLemmas.{found_of, hot_in, size_of}
 

@@ -1,11 +1,11 @@
 -- Blocks that are marked one after another.
-use Rattle.std.proofs.Common.{◌≡◌, inl, inr, ⊎_elim, ℕ, zero, suc, ◌+◌, ◌<◌, ◌≤◌, Bool, true, false, cond, nat_eq, List, [], ◌∷◌, ◌++◌, length, get_or, map, set, take, Option, Some, None, IfSome, refl, sym, ap, ◌∙◌, subst, arith, eq-eqb, get_or-set_same, get_or-set_other}
-use Rattle.std.specs.List.{list_all, list_any, range_with_len, slice_get}
-use Rattle.std.specs.Option.{is_some, unwrap_or}
-use Rattle.std.proofs.lemmas.Bool.{cases_Bool, eqb-true, eqb-false, ne_eqb, true≢false}
+use Rattle.std.proofs.Common.{◌≡◌, inl, inr, ⊎_elim, ℕ, zero, suc, ◌+◌, ◌<◌, ◌≤◌, Bool, true, false, cond, nat_eq, List, [], ◌∷◌, ◌++◌, length, get_or, map, set, take, Option, Some, None, IfSome, refl, sym, ap, ◌∙◌, arith, get_or-set_same, get_or-set_other}
+use Rattle.std.specs.List.{list_any, range_with_len, slice_get}
+use Rattle.std.specs.Option.{unwrap_or}
+use Rattle.std.proofs.lemmas.Bool.{cases_Bool, eqb-true, eqb-false, true≢false}
 use Rattle.std.proofs.lemmas.List.{ext_get_or, length-set, take_more}
 use Rattle.std.proofs.lemmas.List.FromFn.{get_or-map-range_with_len, length-map-range_with_len}
-use Rattle.std.proofs.lemmas.Option.{unwrap_or-slice_get, slice_get-get_or, get_or_from_slice_get, slice_get_within}
+use Rattle.std.proofs.lemmas.Option.{unwrap_or-slice_get}
 use Rattle.pd_kinds.specs.CacheFormat.{cache_fields}
 use Rattle.pd_kinds.specs.Field.{zeros}
 use Rattle.pd_kinds.specs.Graph.{block_at}
@@ -206,9 +206,6 @@ whole_marking image made first second =
     and_then
     (weaken first (λ left firsts outcome chance. ⊎_elim (λ old. inl old) (λ none. inr (inl none)) (outcome chance)))
     (weaken second (λ left firsts outcome chance. ⊎_elim (λ none. inr (inl none)) (λ new. inr (inr new)) (outcome chance)))
-
-pub unfinished_marking : (image made : Image) {old new : DeviceState} → LeavesOnly (IsOldOrNone image) old new → LeavesOnly (IsOldNoneOrMarked image made) old new
-unfinished_marking image made first = weaken first (λ left firsts outcome chance. ⊎_elim (λ old. inl old) (λ none. inr (inl none)) (outcome chance))
 
 pub done_marking : (version : ℕ) (places super : List ℕ) (old mid : Option Image) (new : DeviceState) → IfSome old (λ image. mid ≡ Some (set image 0 zeros))
     → IfSome mid (λ image. HoldsSynced (set (marked version image places) 0 super) new) → IfSome old (λ image. HoldsSynced (marked_image version places super image) new)

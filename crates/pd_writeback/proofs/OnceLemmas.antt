@@ -1,13 +1,13 @@
 -- In a cache without faults no origin comes twice, so at most one cached block stands for a block of the origin.
-use Rattle.std.proofs.Common.{◌≡◌, inl, inr, ⊎_elim, ℕ, zero, suc, ◌+◌, ◌*◌, ◌<◌, ◌≤◌, Bool, true, false, cond, nat_eq, ◌||◌, ◌&&◌, List, [], ◌∷◌, ◌++◌, filter, map, refl, sym, ap, ◌∙◌, subst, arith}
+use Rattle.std.proofs.Common.{◌≡◌, inl, inr, ℕ, ◌+◌, ◌*◌, ◌<◌, ◌≤◌, Bool, true, false, cond, nat_eq, ◌&&◌, List, [], ◌∷◌, filter, map, refl, sym, ap, ◌∙◌, arith}
 use Rattle.std.specs.List.{count_by, list_any}
 use Rattle.std.specs.Prelude.{nat_le, nat_lt}
 use Rattle.std.proofs.Math.Nat.{mul-le-mul_right}
-use Rattle.std.proofs.lemmas.Bool.{and_parts, cases_Bool, cases_lt, eq-eqb, leb-true, ltb-true, or_parts, true≢false}
+use Rattle.std.proofs.lemmas.Bool.{and_parts, cases_lt, eq-eqb, leb-true, ltb-true, or_parts, true≢false}
 use Rattle.std.proofs.lemmas.List.Sums.{sum_by-cons}
 use Rattle.pd_kinds.specs.Meaning.{CacheEntry, CacheMeaning}
 use Rattle.pd_kinds.specs.Whole.{has_repeat}
-use Rattle.pd_answers.specs.CachedView.{CachedBlock, cached_block, hot_blocks, is_hot, stands_for}
+use Rattle.pd_answers.specs.CachedView.{cached_block, hot_blocks, is_hot, stands_for}
 use Rattle.pd_writeback.specs.Overlaid.{IsEachOnce}
 
 -- whether a block of the origin belongs to this one

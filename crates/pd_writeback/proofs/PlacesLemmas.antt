@@ -1,7 +1,7 @@
 -- The blocks that are marked, in ascending order.
-use Rattle.std.proofs.Common.{◌≡◌, inl, inr, ⊎_elim, ℕ, zero, suc, ◌+◌, ◌<◌, ◌≤◌, Bool, true, false, cond, nat_eq, ltb, ◌||◌, ◌&&◌, not, List, [], ◌∷◌, ◌++◌, length, filter, get_or, map, replicate, set, refl, sym, ap, ◌∙◌, subst, arith, eq-eqb, get_or-set_same, get_or-set_other}
-use Rattle.std.specs.List.{list_any, range_with_len}
-use Rattle.std.proofs.lemmas.Bool.{cases_Bool, cases_lt, eqb-true, eqb-false, ne_eqb, true≢false, lt-ltb, le-ltb, ltb-true}
+use Rattle.std.proofs.Common.{◌≡◌, ℕ, zero, suc, ◌+◌, ◌<◌, ◌≤◌, Bool, true, false, cond, nat_eq, List, [], ◌∷◌, ◌++◌, length, filter, get_or, set, refl, sym, ap, ◌∙◌, arith}
+use Rattle.std.specs.List.{range_with_len}
+use Rattle.std.proofs.lemmas.Bool.{true≢false}
 use Rattle.std.proofs.lemmas.List.{length-set}
 use Rattle.std.proofs.lemmas.List.Elements.{filter-append}
 use Rattle.pd_value.specs.declared.thin.Root.{Root}
@@ -99,8 +99,3 @@ marks_next seen key root old new all before next = sym (ap (λ (items : List (�
 pub marks_last : (seen : List Bool) (old : List (ℕ × Root)) (all : List Bool) → marks seen (names old) ≡ all → old ≡ [] → seen ≡ all
 unfolding marks
 marks_last seen old all before none = sym (ap (λ (items : List (ℕ × Root)). marks seen (names items)) none) ∙ before
-
--- at the start none is marked
-pub none_seen : (n : ℕ) → get_or (replicate n false) 0 false ≡ false
-none_seen zero = refl
-none_seen (suc n) = refl

@@ -1,9 +1,9 @@
 -- What a plan's copying and marking come to.
-use Rattle.std.proofs.Common.{◌≡◌, inl, inr, ⊎_elim, ℕ, zero, suc, ◌+◌, ◌*◌, ◌<◌, ◌≤◌, Bool, true, false, cond, nat_eq, ◌||◌, List, [], ◌∷◌, length, map, take, Option, Some, None, IfSome, refl, sym, ap, ◌∙◌, subst, arith, eq-eqb}
+use Rattle.std.proofs.Common.{◌≡◌, ℕ, ◌≤◌, Bool, true, false, cond, nat_eq, ◌||◌, List, [], ◌∷◌, length, map, Option, Some, None, IfSome, refl, sym, ap, ◌∙◌, subst, arith}
 use Rattle.std.specs.List.{list_any, slice_get}
 use Rattle.std.specs.List.Sorted.{IsPermutation}
-use Rattle.std.specs.Option.{is_some, option_map_or}
-use Rattle.std.proofs.lemmas.Bool.{ne_eqb, cases_Bool, or_parts}
+use Rattle.std.specs.Option.{option_map_or}
+use Rattle.std.proofs.lemmas.Bool.{ne_eqb, or_parts}
 use Rattle.std.proofs.lemmas.List.{length-map}
 use Rattle.std.proofs.lemmas.List.Sorted.{length_permutation, list_any-IsPermutation}
 use Rattle.pd_kinds.specs.CacheFormat.{CacheFields, cache_fields}
@@ -17,7 +17,6 @@ use Rattle.pd_image.proofs.CrashLemmas.{at_some, synced_now, syncs}
 use Rattle.pd_cache_meaning.specs.Given.{GivesCache, entry_of}
 use Rattle.pd_cache_meaning.specs.Rows.{RootsBelow, rows_below}
 use Rattle.pd_answers.specs.CachedView.{CachedBlock, blocks_each, copied, fast_place, hot_blocks, overlaid, settled, stands_for}
-use Rattle.pd_answers.specs.Writebacks.{KeepsOthers}
 use Rattle.pd_writeback.specs.declared.hot.HotBlock.{HotBlock}
 use Rattle.pd_writeback.specs.Hot.{cached, cached_all, hot_rows, is_clean}
 use Rattle.pd_writeback.specs.Overlaid.{IsEachOnce, IsLeftKept}
@@ -27,7 +26,7 @@ use Rattle.pd_writeback.specs.Places.{ArePlaces}
 use Rattle.pd_writeback.specs.Plan.{IsPlanOf}
 use Rattle.pd_writeback.proofs.HotLemmas.{hot_of_meaning}
 use Rattle.pd_writeback.proofs.MarkedLemmas.{marked_is_settled}
-use Rattle.pd_writeback.proofs.OverlaidLemmas.{given_place, once_in_any_order, overlaid_in_any_order, overlaid_none}
+use Rattle.pd_writeback.proofs.OverlaidLemmas.{given_place, overlaid_in_any_order, overlaid_none}
 
 abbrev Image : Type 0
 Image = List (List ℕ)

@@ -1,11 +1,10 @@
 -- The places that are found are those that the entries of a tree name.
-use Rattle.std.proofs.Common.{◌≡◌, ◌⊎◌, ◌↔◌, inl, inr, ⊎_elim, ℕ, zero, suc, ◌+◌, ◌*◌, ◌/◌, ◌%◌, ◌<◌, ◌≤◌, min, Bool, true, false, cond, nat_eq, ◌||◌, List, [], ◌∷◌, filter, length, get_or, map, replicate, set, refl, sym, ap, ◌∙◌, subst, arith, get_or-set_same}
+use Rattle.std.proofs.Common.{◌≡◌, ◌⊎◌, ◌↔◌, inl, inr, ⊎_elim, ℕ, zero, suc, ◌+◌, ◌*◌, ◌<◌, ◌≤◌, Bool, true, false, cond, nat_eq, ◌||◌, List, [], ◌∷◌, filter, length, get_or, map, replicate, set, refl, sym, ap, ◌∙◌, subst, arith, get_or-set_same}
 use Rattle.std.specs.List.{AllByRecursion, list_any, range_with_len}
-use Rattle.std.proofs.lemmas.Bool.{cases_Bool, eq-eqb, eqb-false, eqb-true, or_cases, or_left, or_right, true≢false}
+use Rattle.std.proofs.lemmas.Bool.{eq-eqb, eqb-true, or_cases, or_left, or_right}
 use Rattle.std.proofs.lemmas.List.{length-replicate}
 use Rattle.pd_kinds.specs.declared.kind.Kind.TheVariants.{Cache}
 use Rattle.pd_kinds.specs.declared.kind.Stage.TheVariants.{Whole}
-use Rattle.pd_kinds.specs.declared.limits.TheConstants.{MAX_META_BLOCKS}
 use Rattle.pd_kinds.specs.CacheFormat.{cache_graph}
 use Rattle.pd_kinds.specs.Edge.{Edge}
 use Rattle.pd_kinds.specs.Graph.{Graph, block_at, block_of, edges_of, is_reached, next, pair, role_of}
@@ -15,7 +14,6 @@ use Rattle.pd_kinds.specs.Limits.{room_of}
 use Rattle.pd_kinds.specs.Node.{Entry}
 use Rattle.pd_kinds.specs.Paths.{IsOnPath, start, edge}
 use Rattle.pd_kinds.specs.Stages.{IsReached, faults}
-use Rattle.pd_kinds.specs.Trees.{entries_below}
 use Rattle.pd_laws.proofs.AllLemmas.{all_from}
 use Rattle.pd_laid_graph.proofs.ListLemmas.{holds_of_found}
 use Rattle.pd_value.specs.declared.thin.Root.{Root}
@@ -25,6 +23,7 @@ use Rattle.pd_tree.proofs.ReachLemmas.{IsMet, met}
 use Rattle.pd_cache_meaning.proofs.SoundCache.{within}
 use Rattle.pd_writeback.specs.Places.{mark, marks, places_named, seen_places, tree_names}
 use Rattle.pd_writeback.proofs.PlacesLemmas.{length-marks}
+use Rattle.pd_settled.proofs.DirtyPlaces.{any_value, same_truth, kept_in}
 
 -- what a write of true leaves
 set_get : (seen : List Bool) (x b : ℕ) → get_or (set seen x true) b false ≡ true → (get_or seen b false ≡ true) ⊎ ((b < length seen) × (x ≡ b))
@@ -77,12 +76,6 @@ any_marks seen (x ∷ bs) b some inside any = elim (or_cases (nat_eq x b) (list_
     by_first true is same = let none = eqb-true x 0 is in absurd (omega arith)
     by_first false is same = subst (λ (y : ℕ). get_or (set seen y true) b false ≡ true) (sym same) (get_or-set_same seen b true false inside)
 
--- two tests that follow from each other are one
-same_test : (x y : Bool) → (x ≡ true → y ≡ true) → (y ≡ true → x ≡ true) → x ≡ y
-same_test true y to from = sym (to refl)
-same_test false true to from = from refl
-same_test false false to from = refl
-
 -- a number among those of a range that pass
 any_passed : (p : ℕ → Bool) (a n b : ℕ) → list_any (λ x. nat_eq x b) (filter p (range_with_len a n)) ≡ true → (a ≤ b) × (b < a + n) × (p b ≡ true)
 any_passed p a zero b any = cc
@@ -97,29 +90,10 @@ any_passed p a (suc n) b any = by_first (p a) refl any (λ later. any_passed p (
     ]
     by_first false is any more = let rest = more any in let low = rest.0 in let high = rest.1 in (omega arith, omega arith, rest.2)
 
-passed_any : (p : ℕ → Bool) (a n b : ℕ) → a ≤ b → b < a + n → p b ≡ true → list_any (λ x. nat_eq x b) (filter p (range_with_len a n)) ≡ true
-passed_any p a zero b low high is = absurd (omega arith)
-passed_any p a (suc n) b low high is = by_first (p a) refl (λ low' high'. passed_any p (a + 1) n b low' high' is)
-  where
-    by_first : (t : Bool) → p a ≡ t → (a + 1 ≤ b → b < a + 1 + n → list_any (λ x. nat_eq x b) (filter p (range_with_len (a + 1) n)) ≡ true)
-        → list_any (λ x. nat_eq x b) (cond t (a ∷ filter p (range_with_len (a + 1) n)) (filter p (range_with_len (a + 1) n))) ≡ true
-    by_first true first more = elim (cases_Bool (nat_eq a b)) [
-      | inl here ↦ or_left (nat_eq a b) (list_any (λ x. nat_eq x b) (filter p (range_with_len (a + 1) n))) here
-      | inr apart ↦ let ne : a ≡ b → ⊥ = eqb-false a b apart in or_right (nat_eq a b) (list_any (λ x. nat_eq x b) (filter p (range_with_len (a + 1) n))) (more (omega arith) (omega arith))
-    ]
-    by_first false first more = more (let ne : a ≡ b → ⊥ = λ same. true≢false (sym (subst (λ (x : ℕ). p x ≡ true) (sym same) is) ∙ first) in omega arith) (omega arith)
-
 -- what entries name
 any_names : (b : ℕ) (entries : List Entry) → list_any (λ x. nat_eq x b) (map (λ (item : ℕ × Root). item.1.0) (map (item_of root_of) entries)) ≡ list_any (λ (e : Entry). nat_eq e.value b) entries
 any_names b [] = refl
 any_names b (e ∷ entries) = ap (λ (t : Bool). nat_eq e.value b || t) (any_names b entries)
-
-picked : (P : ℕ → Type 0) (b : ℕ) (entries : List Entry) → AllByRecursion (λ (e : Entry). P e.value) entries → list_any (λ (e : Entry). nat_eq e.value b) entries ≡ true → P b
-picked P b [] all any = absurd (cc)
-picked P b (e ∷ entries) all any = elim (or_cases (nat_eq e.value b) (list_any (λ (e : Entry). nat_eq e.value b) entries) any) [
-  | inl here ↦ subst P (eqb-true e.value b here) all.0
-  | inr later ↦ picked P b entries all.1 later
-]
 
 -- but for the superblock, what is reached lies behind block 0
 module _ (graph : Graph) (image : List (List ℕ)) (lawful : IsLawful graph) (paths : (q : ℕ) → (is_reached graph image q ≡ true) ↔ IsOnPath (16 * graph.nr) (next graph image) q) where
@@ -158,16 +132,16 @@ module _ (image : List (List ℕ)) (root n : ℕ) (entries : List Entry) (given 
   named_found : (b : ℕ) → list_any (λ (e : Entry). nat_eq e.value b) entries ≡ true → list_any (λ x. nat_eq x b) (places_named n (tree_names image root)) ≡ true
   unfolding seen_places
   named_found b any =
-      let is = picked (λ b. (1 ≤ b) × (b < n)) b entries inside any in
+      let is = any_value (λ b. (1 ≤ b) × (b < n)) b entries inside any in
       let low = is.0 in
       let high = is.1 in
       let number = length-replicate n false in
       let all = length-marks (replicate n false) (tree_names image root) ∙ number in
-      passed_any (λ b. get_or (marks (replicate n false) (tree_names image root)) b false) 0 (length (marks (replicate n false) (tree_names image root))) b (omega arith) (omega arith)
+      kept_in (λ b. get_or (marks (replicate n false) (tree_names image root)) b false) 0 (length (marks (replicate n false) (tree_names image root))) b (omega arith) (omega arith)
       (any_marks (replicate n false) (tree_names image root) b low (omega arith) (names_are b ∙ any))
 
   pub found_are_named : (b : ℕ) → list_any (λ x. nat_eq x b) (places_named n (tree_names image root)) ≡ list_any (λ (e : Entry). nat_eq e.value b) entries
-  found_are_named b = same_test _ _ (found_named b) (named_found b)
+  found_are_named b = same_truth _ _ (found_named b) (named_found b)
 
 -- what entries name in a later role than the superblock's is inside
 pub all_inside : (graph : Graph) (image : List (List ℕ)) (r n : ℕ) (entries : List Entry) → ((b : ℕ) → IsReached graph image b r → 1 ≤ b) → graph.nr ≤ n

@@ -1,5 +1,5 @@
 -- What the marking of a cache's metadata leaves.
-use Rattle.std.specs.Prelude.{◌≡◌, ◌⊎◌, ℕ, List, [], ◌∷◌, slice_set}
+use Rattle.std.specs.Prelude.{◌≡◌, ℕ, List, [], ◌∷◌, slice_set}
 use Rattle.pd_kinds.specs.Crash.{IsOldNoneOrMade}
 use Rattle.pd_kinds.specs.Field.{zeros}
 use Rattle.pd_kinds.specs.Graph.{block_at}

@@ -1,5 +1,5 @@
 -- The blocks that the entries of a tree name, in ascending order.
-use Rattle.std.specs.Prelude.{◌≡◌, ℕ, ◌<◌, ◌≤◌, Bool, true, false, ◌==◌, if◌then◌else◌, List, [], ◌∷◌, filter, length, map, replicate, slice_index, slice_index_or, slice_set}
+use Rattle.std.specs.Prelude.{ℕ, ◌<◌, ◌≤◌, Bool, true, false, ◌==◌, if◌then◌else◌, List, [], ◌∷◌, filter, length, map, replicate, slice_index, slice_index_or, slice_set}
 use Rattle.std.specs.List.{range_with_len}
 use Rattle.pd_kinds.specs.CacheFormat.{CacheFields, has_dirty_bits}
 use Rattle.pd_value.specs.declared.thin.Root.{Root}

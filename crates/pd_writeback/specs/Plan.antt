@@ -1,11 +1,11 @@
 -- What a plan is, and of what.
-use Rattle.std.specs.Prelude.{◌≡◌, ℕ, ◌≤◌, ◌<◌, true, false, ◌==◌, List, Option, Result, Ok, Err, IfSome}
+use Rattle.std.specs.Prelude.{◌≡◌, ℕ, true, false, ◌==◌, List, Option, Result, Ok, Err, IfSome}
 use Rattle.std.specs.List.{list_any}
 use Rattle.std.specs.List.Sorted.{IsPermutation}
 use Rattle.pd_kinds.specs.CacheFormat.{cache_fields}
 use Rattle.pd_kinds.specs.Graph.{block_at}
 use Rattle.pd_kinds.specs.Meaning.{cache_meaning}
-use Rattle.pd_answers.specs.CachedView.{CachedBlock, blocks_each, dirty_places, fast_need, hot_blocks, is_block_size_bad, origin_need}
+use Rattle.pd_answers.specs.CachedView.{CachedBlock, blocks_each, dirty_places, hot_blocks, is_block_size_bad}
 use Rattle.pd_writeback.specs.declared.fault.WriteFault.{WriteFault}
 use Rattle.pd_writeback.specs.declared.fault.WriteFault.TheVariants.{Memory, Meta, Origin, Fast, BlockSize, NoRoom}
 use Rattle.pd_writeback.specs.declared.plan.Plan.{Plan}

@@ -13,14 +13,14 @@ use Rattle.pd_dumps.proofs.cache_lines.add_rows.Goals as goal
 pub returns-in-Err-clause-prints : goal.returns-in-Err-clause-prints
 returns-in-Err-clause-prints g c = so_far_stops (g.D.Device.state c.args.dev.now).held Device c.loop-row.invariant.so_far
 
-pub returns-in_err-add_line-in-Some-clause-prints : goal.returns-in_err-add_line-in-Some-clause-prints
-returns-in_err-add_line-in-Some-clause-prints g c =
+pub returns-in_err-print_text_line-in-Some-clause-prints : goal.returns-in_err-print_text_line-in-Some-clause-prints
+returns-in_err-print_text_line-in-Some-clause-prints g c =
     lost_with (g.D.Device.state c.args.dev.now).held c.from_residual.result c.from_residual.ensures.0
     (so_far_lost (g.D.Device.state c.args.dev.now).held (λ image. rows_text (rows_left image c.next.new.self)) c.loop-row.invariant.so_far
     (one_told (g.D.Device.state c.args.dev.now).held (λ image next. row_first c.in-Some.row (rows_left image c.loop-row.maps) (rows_left image c.next.new.self) next)
     (subst (λ o. IfSome o (λ image. IsNext {X = CacheRow} (Some c.in-Some.row) (rows_left image c.loop-row.maps) (rows_left image c.next.new.self))) c.loop-row.invariant.kept.held
     (rw c.in-Some.is at c.in-Ok.ensures.next)))
-    (prints_known {result = Err c.in_err-add_line-in-Some.field-0.0} (g.D.Device.state c.args.dev.now).held (rw c.map_line.ensures at c.in_err-add_line-in-Some.ensures.prints)))
+    (prints_known {result = Err c.in_err-print_text_line-in-Some.field-0.0} (g.D.Device.state c.args.dev.now).held (rw c.map_line.ensures at c.in_err-print_text_line-in-Some.ensures.prints)))
 
 pub returns-in-None-clause-prints : goal.returns-in-None-clause-prints
 returns-in-None-clause-prints g c =
@@ -34,14 +34,14 @@ loop-row-preserved g c =
     let before = c.loop-row.invariant.room in
     let room = c.in-Ok.ensures.room in
     record {
-      same_reference = c.in_ok-add_line-in-Some.ensures.same_reference ∙ c.loop-row.invariant.same_reference;
+      same_reference = c.in_ok-print_text_line-in-Some.ensures.same_reference ∙ c.loop-row.invariant.same_reference;
       so_far = so_far_more (g.D.Device.state c.args.dev.now).held {E = QueryFault} c.loop-row.invariant.so_far
           (one_told (g.D.Device.state c.args.dev.now).held (λ image next. row_first c.in-Some.row (rows_left image c.loop-row.maps) (rows_left image c.next.new.self) next)
           (subst (λ o. IfSome o (λ image. IsNext {X = CacheRow} (Some c.in-Some.row) (rows_left image c.loop-row.maps) (rows_left image c.next.new.self))) c.loop-row.invariant.kept.held
           (rw c.in-Some.is at c.in-Ok.ensures.next)))
-          (prints_known (g.D.Device.state c.args.dev.now).held (rw c.map_line.ensures at c.in_ok-add_line-in-Some.ensures.prints));
+          (prints_known (g.D.Device.state c.args.dev.now).held (rw c.map_line.ensures at c.in_ok-print_text_line-in-Some.ensures.prints));
       room = omega arith;
       kept = only_reads_both c.loop-row.invariant.kept c.in-Ok.ensures.kept;
       dev_faults = c.in-Ok.ensures.faults ∙ c.loop-row.invariant.dev_faults;
-      out_faults = c.in_ok-add_line-in-Some.ensures.faults ∙ c.loop-row.invariant.out_faults;
+      out_faults = c.in_ok-print_text_line-in-Some.ensures.faults ∙ c.loop-row.invariant.out_faults;
     }

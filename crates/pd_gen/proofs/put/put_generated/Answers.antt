@@ -2,19 +2,16 @@ use Rattle.std.proofs.Common.{take, refl, ap, ◌∙◌}
 use Rattle.pd_kinds.specs.Objects.{SourceState}
 use Rattle.pd_answers.specs.Generated.{generated_text}
 use Rattle.pd_lines.proofs.Gathering.{gathers_front}
-use Rattle.pd_texts.specs.Made.{text_left}
-use Rattle.pd_gen.specs.Lines.{lines_left}
-use Rattle.pd_gen.proofs.Begins.{all_left}
+use Rattle.pd_gen.specs.GenSource.{text_left}
 use Rattle.pd_gen.proofs.Putting.{nothing_put, piece_put, piece_front}
 use Rattle.pd_gen.proofs.put.put_generated.Goals as goal
 
 pub loop-source-init : goal.loop-source-init
-loop-source-init g c =
-    let all = c.new-source.ensures ∙ all_left c.args.number (lines_left c.new.result) c.new.ensures in (
-      nothing_put (generated_text c.args.number) (text_left c.new-source.result) (g.K.Sink.state c.args.out.now).written (ap (λ (s : SourceState). s.left) all),
-      record { access = refl; path = refl },
-      refl,
-    )
+loop-source-init g c = (
+  nothing_put (generated_text c.args.number) (text_left c.new-source.result) (g.K.Sink.state c.args.out.now).written (ap (λ (s : SourceState). s.left) c.new-source.ensures),
+  record { access = refl; path = refl },
+  refl,
+)
 
 pub loop-source-preserved : goal.loop-source-preserved
 loop-source-preserved g c =

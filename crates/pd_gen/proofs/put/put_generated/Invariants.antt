@@ -2,7 +2,7 @@ use Rattle.std.proofs.Common.{◌≡◌, length}
 use Rattle.pd_image.specs.Sink.{KeepsSink}
 use Rattle.pd_lines.specs.Pieces.{Gathers}
 use Rattle.pd_answers.specs.Generated.{generated_text}
-use Rattle.pd_texts.specs.Made.{text_left}
+use Rattle.pd_gen.specs.GenSource.{text_left}
 use Rattle.pd_gen.proofs.put.put_generated.Given as goal
 
 abbrev pub invariant-loop-source : goal.invariant-loop-source

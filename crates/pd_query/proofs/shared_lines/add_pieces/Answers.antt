@@ -16,15 +16,15 @@ use Rattle.pd_query.proofs.shared_lines.add_pieces.Goals as goal
 pub returns-in-Err-clause-prints : goal.returns-in-Err-clause-prints
 returns-in-Err-clause-prints g c = so_far_stops (g.D.Device.state c.args.dev.now).held Device c.loop-piece.invariant.so_far
 
-pub returns-in_err-print_thin_line-in-Some-clause-prints : goal.returns-in_err-print_thin_line-in-Some-clause-prints
-returns-in_err-print_thin_line-in-Some-clause-prints g c =
+pub returns-in_err-print_piece-in-Some-clause-prints : goal.returns-in_err-print_piece-in-Some-clause-prints
+returns-in_err-print_piece-in-Some-clause-prints g c =
     let shared = shared_blocks c.args.shared.now in
     lost_with (g.D.Device.state c.args.dev.now).held c.from_residual.result c.from_residual.ensures.0
     (so_far_lost (g.D.Device.state c.args.dev.now).held (λ image. text_of_lines thin (map piece_line (pieces_left shared image c.next.new.self))) c.loop-piece.invariant.so_far
     (one_told (g.D.Device.state c.args.dev.now).held (λ image next. piece_first c.in-Some.piece (pieces_left shared image c.loop-piece.pieces) (pieces_left shared image c.next.new.self) next)
     (subst (λ o. IfSome o (λ image. IsNext {X = Piece} (Some c.in-Some.piece) (pieces_left shared image c.loop-piece.pieces) (pieces_left shared image c.next.new.self))) c.loop-piece.invariant.kept.held
     (rw c.in-Some.is at c.in-Ok.ensures.next)))
-    (prints_known {result = Err c.in_err-print_thin_line-in-Some.field-0.0} (g.D.Device.state c.args.dev.now).held (rw c.piece_line.ensures at c.in_err-print_thin_line-in-Some.ensures.prints)))
+    (prints_known {result = Err c.in_err-print_piece-in-Some.field-0.0} (g.D.Device.state c.args.dev.now).held c.in_err-print_piece-in-Some.ensures.prints))
 
 pub returns-in-None-clause-prints : goal.returns-in-None-clause-prints
 returns-in-None-clause-prints g c =
@@ -40,14 +40,14 @@ loop-piece-preserved g c =
     let before = c.loop-piece.invariant.room in
     let room = c.in-Ok.ensures.room in
     record {
-      same_reference = c.in_ok-print_thin_line-in-Some.ensures.same_reference ∙ c.loop-piece.invariant.same_reference;
+      same_reference = c.in_ok-print_piece-in-Some.ensures.same_reference ∙ c.loop-piece.invariant.same_reference;
       so_far = so_far_more (g.D.Device.state c.args.dev.now).held {E = QueryFault} c.loop-piece.invariant.so_far
           (one_told (g.D.Device.state c.args.dev.now).held (λ image next. piece_first c.in-Some.piece (pieces_left shared image c.loop-piece.pieces) (pieces_left shared image c.next.new.self) next)
           (subst (λ o. IfSome o (λ image. IsNext {X = Piece} (Some c.in-Some.piece) (pieces_left shared image c.loop-piece.pieces) (pieces_left shared image c.next.new.self))) c.loop-piece.invariant.kept.held
           (rw c.in-Some.is at c.in-Ok.ensures.next)))
-          (prints_known (g.D.Device.state c.args.dev.now).held (rw c.piece_line.ensures at c.in_ok-print_thin_line-in-Some.ensures.prints));
+          (prints_known (g.D.Device.state c.args.dev.now).held c.in_ok-print_piece-in-Some.ensures.prints);
       room = omega arith;
       kept = only_reads_both c.loop-piece.invariant.kept c.in-Ok.ensures.kept;
       dev_faults = c.in-Ok.ensures.faults ∙ c.loop-piece.invariant.dev_faults;
-      out_faults = c.in_ok-print_thin_line-in-Some.ensures.faults ∙ c.loop-piece.invariant.out_faults;
+      out_faults = c.in_ok-print_piece-in-Some.ensures.faults ∙ c.loop-piece.invariant.out_faults;
     }

@@ -1,5 +1,4 @@
 use Rattle.std.proofs.Common.{◌∙◌, arith}
-use Rattle.pd_draft.specs.Stand.{stand}
 use Rattle.pd_restore.proofs.ShapeParts.{roots_ascend, details_ascend, roots_room, details_room, data_room, roots_step, details_step, steps, map_room, leaves_before, behind_written, mapping_root_is, details_root_is, data_map_is, meta_map_is}
 use Rattle.pd_restore.proofs.parts.write_behind.Goals as goal
 

@@ -1,7 +1,8 @@
-use Rattle.std.proofs.Common.{refl, ◌∙◌, arith}
+use Rattle.std.proofs.Common.{◌∙◌, arith, rules}
 use Rattle.pd_texts.specs.ThinLine.{run_of}
 use Rattle.pd_restore.proofs.SharedLemmas.{as_gathered, run_exact, run_fits, run_follows}
 use Rattle.pd_restore.proofs.shared_lines.put_run.Goals as goal
+use Rattle.pd_restore.proofs.ReadingLemmas.{over_if_short}
 
 pub need_with-needed-requires : goal.need_with-needed-requires
 need_with-needed-requires c =
@@ -19,22 +20,22 @@ add_run-requires c =
         now = p.now;
         so_far = as_gathered p.can.before c.args.room f.so_far;
         follows = run_follows c.args.room p.can.before (run_of c.args.run) f;
-        fits = run_fits c.args.room p.can.before (run_of c.args.run) c.need_with-needed.result f is (omega (arith, c.if-needed-room.false));
+        fits = run_fits c.args.room p.can.before (run_of c.args.run) c.need_with-needed.result f is (omega (arith, c.in_ok-within.ensures.need));
       };
     }
 
-pub returns-then-needed-room-clause-need : goal.returns-then-needed-room-clause-need
-returns-then-needed-room-clause-need c before start now f =
+pub returns-in_err-within-clause-need : goal.returns-in_err-within-clause-need
+returns-in_err-within-clause-need c before start now f =
     let is = c.need_with-needed.ensures before start now f.so_far.gathered (run_follows c.args.room before (run_of c.args.run) f) ∙ run_exact c.args.room before (run_of c.args.run) f in
-    (is, (refl, omega (arith, is, c.if-needed-room.true)))
+    let over = over_if_short {T = Unit {0}} c.args.room _ _ c.within.result is c.within.ensures.need in search rules
 
 pub returns-in-Ok-clause-gathered : goal.returns-in-Ok-clause-gathered
 returns-in-Ok-clause-gathered c before start now f =
     let follows = run_follows c.args.room before (run_of c.args.run) f in
     let is = c.need_with-needed.ensures before start now f.so_far.gathered follows in
-    c.in-Ok.ensures.gathered c.args.room before start now f.so_far.gathered follows (run_fits c.args.room before (run_of c.args.run) c.need_with-needed.result f is (omega (arith, c.if-needed-room.false)))
+    c.in-Ok.ensures.gathered c.args.room before start now f.so_far.gathered follows (run_fits c.args.room before (run_of c.args.run) c.need_with-needed.result f is (omega (arith, c.in_ok-within.ensures.need)))
 
 pub returns-in-Ok-clause-need : goal.returns-in-Ok-clause-need
 returns-in-Ok-clause-need c before start now f =
     let is = c.need_with-needed.ensures before start now f.so_far.gathered (run_follows c.args.room before (run_of c.args.run) f) ∙ run_exact c.args.room before (run_of c.args.run) f in
-    omega (arith, is, c.if-needed-room.false)
+    omega (arith, is, c.in_ok-within.ensures.need)

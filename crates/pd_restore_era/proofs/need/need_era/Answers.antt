@@ -1,7 +1,7 @@
 use Rattle.std.proofs.Common.{ℕ, ◌+◌, ◌/◌, ap, arith}
 use Rattle.pd_spells.specs.Need.{nodes_of_tree, need_array}
 use Rattle.pd_spells.specs.EraNeed.{need_of_era}
-use Rattle.pd_restore_era.proofs.NeedLemmas.{tree_most}
+use Rattle.pd_restoring.proofs.NeedLemmas.{tree_most}
 use Rattle.pd_restore_era.proofs.need.need_era.Goals as goal
 
 pub overflow_add-result : goal.overflow_add-result

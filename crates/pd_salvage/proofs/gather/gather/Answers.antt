@@ -1,4 +1,4 @@
-use Rattle.std.proofs.Common.{◌≤◌, ℕ, None, Some, IfSome, subst, ◌∙◌, arith}
+use Rattle.std.proofs.Common.{◌≤◌, ℕ, None, Some, IfSome, subst, ◌∙◌, arith, refl}
 use Rattle.std.proofs.lemmas.Option.{IfSome_then}
 use Rattle.pd_value.specs.declared.thin.BlockTime.{BlockTime}
 use Rattle.pd_thin_meaning.specs.Items.{block_time_of}
@@ -78,5 +78,5 @@ returns-in-Ok-end-clause-gathered g c =
     (λ image next. comes_none blocks (saved_left 8 block_time_of image now) (saved_left 8 block_time_of image later) next) in
     all_gathered blocks (saved_least c.args.mappings.now) (g.D.Device.state c.args.dev.now).held
     (λ image. to_come blocks image c.args.mappings.now) (λ image. to_come blocks image now) (saved_least now)
-    c.args.runs.now.items c.loop-virt.runs.items c.end.new.runs.items c.loop-virt.gathering c.end.new.self.mapped gathers
-    (c.in-Ok-end.ensures.ends c.args.runs.now.items gathers.ms gathers.gathered) c.in-Ok-end.ensures.same ends
+    c.args.runs.now.items c.loop-virt.runs.items c.end.new.runs.items c.loop-virt.gathering c.loop-virt.gathering.mapped gathers
+    (c.in-Ok-end.ensures c.args.runs.now.items gathers.ms gathers.gathered.joining) refl ends

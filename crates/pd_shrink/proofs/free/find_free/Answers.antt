@@ -1,63 +1,31 @@
-use Rattle.std.proofs.Common.{ℕ, ◌+◌, List, ap, length, refl}
-use Rattle.pd_kinds.specs.Bitmap.{bitmaps_for}
+use Rattle.std.proofs.Common.{ℕ, List, ap, refl}
 use Rattle.pd_value.specs.declared.space_map.IndexEntry.{IndexEntry}
-use Rattle.pd_tree.specs.Cursor.{cursor_items, cursor_nodes}
+use Rattle.pd_tree.specs.Cursor.{cursor_items}
 use Rattle.pd_smap.specs.Entries.{index_from, place_in}
-use Rattle.pd_smap.specs.Steps.{bits_by}
 use Rattle.pd_smap.proofs.OverflowLeftLemmas.{if_maps}
-use Rattle.pd_shrink.specs.declared.free.FreeBlocks.{FreeBlocks}
-use Rattle.pd_shrink.specs.Gathered.{Standing, standing, with_reads}
 use Rattle.pd_shrink.proofs.SearchLemmas.{all_found, first_found}
 use Rattle.pd_shrink.proofs.free.find_free.Goals as goal
 
 pub returns-clause-number : goal.returns-clause-number
 returns-clause-number g c =
-    let place : List (List ℕ) → ℕ → ℕ = λ image. place_in (cursor_items 16 index_from image c.in-Ok.cursor) in
-    let none : FreeBlocks = record { first = c.new.result; number = 0 } in
-    let s : Standing = with_reads (λ image. length (cursor_nodes 16 image c.in-Ok.cursor) + bitmaps_for c.args.end) (standing (g.A.Device.state c.start-2.new.dev) none c.in-Ok-start.overflow) in
-    let t : Standing = standing (g.A.Device.state c.gather.new.meta) c.gather.new.free c.gather.new.overflow in
     if_maps (g.A.Device.state c.args.meta.now).held _ _ (λ image holds blocks index searchable within. (holds blocks index searchable within).number)
-    (all_found c.args.wanted place c.args.map.now c.args.end (g.A.Device.state c.args.meta.now).held s t c.in-Ok-start.ensures.kept.held
+    (all_found c.args.wanted (λ image. place_in (cursor_items 16 index_from image c.in-Ok.cursor)) c.args.map.now c.args.end (g.A.Device.state c.args.meta.now).held _ _ c.in-Ok-start.ensures.kept.held
     (λ image i. ap (λ (items : List (ℕ × IndexEntry)). place_in items i) (c.in-Ok.ensures.items image)) c.in-Ok-start.ensures.items refl c.new.ensures.items c.in_ok-gather.ensures.searched)
 
 pub returns-clause-first : goal.returns-clause-first
 returns-clause-first g c =
-    let place : List (List ℕ) → ℕ → ℕ = λ image. place_in (cursor_items 16 index_from image c.in-Ok.cursor) in
-    let none : FreeBlocks = record { first = c.new.result; number = 0 } in
-    let s : Standing = with_reads (λ image. length (cursor_nodes 16 image c.in-Ok.cursor) + bitmaps_for c.args.end) (standing (g.A.Device.state c.start-2.new.dev) none c.in-Ok-start.overflow) in
-    let t : Standing = standing (g.A.Device.state c.gather.new.meta) c.gather.new.free c.gather.new.overflow in
     if_maps (g.A.Device.state c.args.meta.now).held _ _ (λ image holds blocks index searchable within. (holds blocks index searchable within).first)
-    (all_found c.args.wanted place c.args.map.now c.args.end (g.A.Device.state c.args.meta.now).held s t c.in-Ok-start.ensures.kept.held
+    (all_found c.args.wanted (λ image. place_in (cursor_items 16 index_from image c.in-Ok.cursor)) c.args.map.now c.args.end (g.A.Device.state c.args.meta.now).held _ _ c.in-Ok-start.ensures.kept.held
     (λ image i. ap (λ (items : List (ℕ × IndexEntry)). place_in items i) (c.in-Ok.ensures.items image)) c.in-Ok-start.ensures.items refl c.new.ensures.items c.in_ok-gather.ensures.searched)
 
 pub returns-clause-below : goal.returns-clause-below
-returns-clause-below g c =
-    let place : List (List ℕ) → ℕ → ℕ = λ image. place_in (cursor_items 16 index_from image c.in-Ok.cursor) in
-    let none : FreeBlocks = record { first = c.new.result; number = 0 } in
-    let s : Standing = with_reads (λ image. length (cursor_nodes 16 image c.in-Ok.cursor) + bitmaps_for c.args.end) (standing (g.A.Device.state c.start-2.new.dev) none c.in-Ok-start.overflow) in
-    let t : Standing = standing (g.A.Device.state c.gather.new.meta) c.gather.new.free c.gather.new.overflow in
-    (first_found c.args.wanted (bits_by place) c.args.end s t refl c.new.ensures.items c.in_ok-gather.ensures.searched).below
+returns-clause-below g c = (first_found c.args.wanted _ c.args.end _ _ refl c.new.ensures.items c.in_ok-gather.ensures.searched).below
 
 pub returns-clause-ascend : goal.returns-clause-ascend
-returns-clause-ascend g c =
-    let place : List (List ℕ) → ℕ → ℕ = λ image. place_in (cursor_items 16 index_from image c.in-Ok.cursor) in
-    let none : FreeBlocks = record { first = c.new.result; number = 0 } in
-    let s : Standing = with_reads (λ image. length (cursor_nodes 16 image c.in-Ok.cursor) + bitmaps_for c.args.end) (standing (g.A.Device.state c.start-2.new.dev) none c.in-Ok-start.overflow) in
-    let t : Standing = standing (g.A.Device.state c.gather.new.meta) c.gather.new.free c.gather.new.overflow in
-    (first_found c.args.wanted (bits_by place) c.args.end s t refl c.new.ensures.items c.in_ok-gather.ensures.searched).ascend
+returns-clause-ascend g c = (first_found c.args.wanted _ c.args.end _ _ refl c.new.ensures.items c.in_ok-gather.ensures.searched).ascend
 
 pub returns-clause-few : goal.returns-clause-few
-returns-clause-few g c =
-    let place : List (List ℕ) → ℕ → ℕ = λ image. place_in (cursor_items 16 index_from image c.in-Ok.cursor) in
-    let none : FreeBlocks = record { first = c.new.result; number = 0 } in
-    let s : Standing = with_reads (λ image. length (cursor_nodes 16 image c.in-Ok.cursor) + bitmaps_for c.args.end) (standing (g.A.Device.state c.start-2.new.dev) none c.in-Ok-start.overflow) in
-    let t : Standing = standing (g.A.Device.state c.gather.new.meta) c.gather.new.free c.gather.new.overflow in
-    (first_found c.args.wanted (bits_by place) c.args.end s t refl c.new.ensures.items c.in_ok-gather.ensures.searched).few
+returns-clause-few g c = (first_found c.args.wanted _ c.args.end _ _ refl c.new.ensures.items c.in_ok-gather.ensures.searched).few
 
 pub returns-clause-most : goal.returns-clause-most
-returns-clause-most g c =
-    let place : List (List ℕ) → ℕ → ℕ = λ image. place_in (cursor_items 16 index_from image c.in-Ok.cursor) in
-    let none : FreeBlocks = record { first = c.new.result; number = 0 } in
-    let s : Standing = with_reads (λ image. length (cursor_nodes 16 image c.in-Ok.cursor) + bitmaps_for c.args.end) (standing (g.A.Device.state c.start-2.new.dev) none c.in-Ok-start.overflow) in
-    let t : Standing = standing (g.A.Device.state c.gather.new.meta) c.gather.new.free c.gather.new.overflow in
-    (first_found c.args.wanted (bits_by place) c.args.end s t refl c.new.ensures.items c.in_ok-gather.ensures.searched).most
+returns-clause-most g c = (first_found c.args.wanted _ c.args.end _ _ refl c.new.ensures.items c.in_ok-gather.ensures.searched).most

@@ -1,10 +1,10 @@
 use Rattle.std.proofs.Common.{◌≡◌, ℕ, ◌^◌, subst, arith}
 use Rattle.pd_shrink.specs.Moves.{moves_in}
-use Rattle.pd_shrink.specs.Moving.{Takes}
 use Rattle.pd_shrink.proofs.MovingLemmas.{moved_first, takes_more, takes_none, takes_staying}
 use Rattle.pd_shrink.proofs.PlaceLemmas.{from_lower}
 use Rattle.pd_shrink.proofs.moving.move_run.Goals as goal
 use Rattle.pd_shrink.proofs.moving.move_run.Goals.{then-stays-gt0+in_ok-take, else-stays-gt0}
+use Rattle.pd_salvage.specs.Gather.{Takes}
 
 pub place_of-requires-clause-ordered : goal.place_of-requires-clause-ordered
 place_of-requires-clause-ordered c = from_lower (2 ^ 40) 0 c.args.end (moves_in c.args.moves.now) (omega arith) c.requires.ordered

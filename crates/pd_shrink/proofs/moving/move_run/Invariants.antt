@@ -1,8 +1,8 @@
 use Rattle.std.proofs.Common.{◌≤◌}
 use Rattle.pd_shrink.specs.Moves.{moves_in}
-use Rattle.pd_shrink.specs.Moving.{Takes}
 use Rattle.pd_shrink.proofs.MovingLemmas.{moved_first}
 use Rattle.pd_shrink.proofs.moving.move_run.Given as goal
+use Rattle.pd_salvage.specs.Gather.{Takes}
 
 -- the mappings so far were taken
 abbrev pub invariant-loop-i : goal.invariant-loop-i

@@ -1,8 +1,7 @@
 use Rattle.std.proofs.Common.{map, take}
 use Rattle.pd_answers.specs.MovedPool.{moved_mapping}
-use Rattle.pd_salvage.specs.Gather.{mappings_of_runs}
+use Rattle.pd_salvage.specs.Gather.{mappings_of_runs, IsJoining}
 use Rattle.pd_shrink.specs.Moves.{moves_in}
-use Rattle.pd_shrink.specs.Moving.{IsJoining}
 use Rattle.pd_shrink.proofs.moving.move_runs.Given as goal
 
 -- the mappings of the runs so far were taken

@@ -1,4 +1,4 @@
-use Rattle.std.proofs.Common.{◌≡◌, List, []}
+use Rattle.std.proofs.Common.{[]}
 use Rattle.pd_spells.specs.ThinText.{pool_format}
 use Rattle.pd_texts.specs.Reader.{LeavesOf}
 use Rattle.pd_text_tests.proofs.small_copy.copy.Goals as goal

@@ -14,8 +14,8 @@ unreachable-requires g c =
     let is = c.read_pool_lines_are_in_range.ensures.end (first_of c.next.new.self.state ∷ []) ended.0 in
     absurd (omega (arith, is.later))
 
-pub returns-in-Ok-add-clause-copied : goal.returns-in-Ok-add-clause-copied
-returns-in-Ok-add-clause-copied g c = λ t start leaves gathers.
+pub returns-in-Ok-add_line-clause-copied : goal.returns-in-Ok-add_line-clause-copied
+returns-in-Ok-add_line-clause-copied g c = λ t start leaves gathers.
     let state = c.next.new.self.state in
     let line = line_of c.in-Ok-Some.line in
     let before = first_of state ∷ [] in
@@ -29,7 +29,7 @@ returns-in-Ok-add-clause-copied g c = λ t start leaves gathers.
       reads = reads;
       leaves = rw c.in-Ok-Some.field-0-is at (c.in-Ok-Some.ensures.text t [] c.requires.reads leaves);
       gathered = rw (c.thin_lines_are_printed_in_order.ensures.more before line)
-          ((rw (c.as_bytes.ensures.bytes, c.bytes_of_thin.ensures.bytes) at c.in-Ok-add.ensures.gathered) total start ((rw printed at c.in-Ok.ensures.gathered) [] start gathers));
+          (c.in-Ok-add_line.ensures.gathered total start ((rw printed at c.in-Ok.ensures.gathered) [] start gathers));
     }
 
 pub returns-in-Err-clause-copied : goal.returns-in-Err-clause-copied

@@ -17,7 +17,7 @@ returns-in-Ok-clause-copied g c = λ t start copying.
       before = before;
       reads = rw c.in-Ok-Some.field-0-is at (c.in-Ok-Some.ensures.lines before copying.reads);
       leaves = rw c.in-Ok-Some.field-0-is at (c.in-Ok-Some.ensures.text t before copying.reads copying.leaves);
-      gathered = rw (c.thin_lines_are_printed_in_order.ensures.more before line) ((rw (c.as_bytes.ensures.bytes, c.bytes_of_thin.ensures.bytes) at c.in-Ok.ensures.gathered) total start copying.gathered);
+      gathered = rw (c.thin_lines_are_printed_in_order.ensures.more before line) (c.in-Ok.ensures.gathered total start copying.gathered);
     }
 
 pub returns-in-Ok-None-clause-copied : goal.returns-in-Ok-None-clause-copied

@@ -1,22 +1,9 @@
-use Rattle.std.proofs.Common.{map, drop, length, string_bytes, refl}
-use Rattle.pd_answers.specs.Words.{items_of}
-use Rattle.pd_words.specs.Items.{given_as}
-use Rattle.pd_words.specs.Words.{words_of, word_of}
-use Rattle.pd_words.proofs.AskedLemmas.{list_given}
+use Rattle.std.proofs.Common.{map, drop, string_bytes, refl}
+use Rattle.pd_answers.specs.Words.{items_of, request_of}
+use Rattle.pd_words.proofs.AskedLemmas.{two_told}
 use Rattle.pd_words.proofs.words.read_list.Goals as goal
 
 pub returns-clause-asked : goal.returns-clause-asked
+unfolding request_of
 returns-clause-asked c =
-    let words = map string_bytes c.args.words.now in
-    list_given (items_of (drop 1 words)) (given_as words c.given_for.result) (given_as words c.given_for-2.result)
-    (words_of words c.in_ok-out.out) (word_of words c.in_ok-image.image) _
-    c.given_for.ensures.given (c.in_ok-out.ensures.value words)
-    c.given_for-2.ensures.given (c.in_ok-image.ensures.value words)
-    refl
-
-pub returns-clause-names : goal.returns-clause-names
-returns-clause-names c =
-    let number = length c.args.words.now in (
-      c.in_ok-image.ensures.within number c.given_for-2.ensures.within,
-      c.in_ok-out.ensures.within number c.given_for.ensures.within,
-    )
+    two_told (items_of (drop 1 (map string_bytes c.args.words.now))) (λ items a b. rw (← a, ← b) refl) c.in_ok-out.ensures.value c.in_ok-image.ensures.value

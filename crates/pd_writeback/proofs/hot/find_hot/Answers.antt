@@ -1,4 +1,3 @@
-use Rattle.std.proofs.Common.{arith}
 use Rattle.pd_writeback.proofs.hot.find_hot.Goals as goal
 
 pub gather-requires-clause-within : goal.gather-requires-clause-within

@@ -1,4 +1,4 @@
-use Rattle.std.proofs.Common.{◌≡◌, List, [], ◌∷◌, ◌++◌, IfSome, Some, None, ap, ◌∙◌, subst, arith}
+use Rattle.std.proofs.Common.{List, ◌++◌, IfSome, Some, None, ap, ◌∙◌, subst, arith}
 use Rattle.pd_image.proofs.ReadLemmas.{only_reads_both}
 use Rattle.pd_tree.specs.Next.{IsNext}
 use Rattle.pd_tree.proofs.NextLemmas.{if_both}

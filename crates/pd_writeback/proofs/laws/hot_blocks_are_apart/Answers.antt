@@ -1,4 +1,3 @@
-use Rattle.pd_kinds.specs.Graph.{block_at}
 use Rattle.pd_kinds.specs.Meaning.{cache_meaning}
 use Rattle.pd_writeback.proofs.OnceLemmas.{each_once}
 use Rattle.pd_writeback.proofs.laws.hot_blocks_are_apart.Goals as goal

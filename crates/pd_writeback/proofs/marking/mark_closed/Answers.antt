@@ -1,4 +1,4 @@
-use Rattle.std.proofs.Common.{rules, set, ap, subst, IfSome, Some, ◌≡◌, List, ℕ}
+use Rattle.std.proofs.Common.{rules, set, ap, subst, Some, ◌≡◌}
 use Rattle.pd_kinds.specs.Objects.{DeviceState}
 use Rattle.pd_kinds.specs.Crash.{IsNoneOrNew, LeavesOnly}
 use Rattle.pd_writeback.specs.Marked.{marked}

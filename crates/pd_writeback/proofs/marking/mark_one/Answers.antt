@@ -1,5 +1,4 @@
 use Rattle.std.proofs.Common.{◌≡◌, List, ℕ, IfSome, Some, Option, set, sym, ap, ◌∙◌, subst}
-use Rattle.std.specs.List.{slice_get}
 use Rattle.std.proofs.lemmas.Result.{on_ok_weaker}
 use Rattle.pd_answers.specs.CachedView.{settled_block}
 use Rattle.pd_tree.proofs.BelowLemmas.{block_found}

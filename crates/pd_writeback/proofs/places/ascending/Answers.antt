@@ -1,4 +1,4 @@
-use Rattle.std.proofs.Common.{◌∙◌, ap, sym, arith, ℕ, Bool, ◌++◌, List, cond, [], ◌∷◌, false, get_or, filter, ◌≡◌, length}
+use Rattle.std.proofs.Common.{◌∙◌, ap, sym, arith, ℕ, ◌++◌, List, cond, [], ◌∷◌, false, get_or, filter, ◌≡◌, length}
 use Rattle.std.specs.List.{range_with_len}
 use Rattle.pd_writeback.specs.Places.{seen_places}
 use Rattle.pd_writeback.proofs.PlacesLemmas.{filter_more}

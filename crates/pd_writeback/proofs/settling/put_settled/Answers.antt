@@ -1,4 +1,4 @@
-use Rattle.std.proofs.Common.{refl, arith, ◌∙◌, ap, take, map, List, ℕ, ◌+◌, ◌*◌}
+use Rattle.std.proofs.Common.{refl, arith, ◌∙◌, ap, map, List, ℕ, ◌+◌, ◌*◌}
 use Rattle.std.proofs.lemmas.List.{take_all}
 use Rattle.std.proofs.lemmas.List.FromFn.{length-map-range_with_len}
 use Rattle.pd_kinds.specs.Array.{word_at, word_count}

@@ -1,20 +1,20 @@
 use Rattle.pd_lines.proofs.Gathering.{gathers_more, gathers_none, gathers_front}
 use Rattle.pd_lines.proofs.pieces.Pieces.add.Goals as goal
-use Rattle.pd_lines.proofs.pieces.Pieces.add.Goals.{then-self-line+in_ok-put, else-self-line}
+use Rattle.pd_lines.proofs.pieces.Pieces.add.Goals.{then-room-line+in_ok-put, else-room-line}
 
 pub returns-clause-gathered : goal.returns-clause-gathered
 returns-clause-gathered g c = λ total start so_far.
-    rw c.gather.ensures
-    (gathers_more total c.if-self-line.self c.args.line.now start _
-    (elim c.if-self-line.branch [
-      | then-self-line+in_ok-put w ↦
+    rw (c.add.ensures.bytes, c.self-2.view_is)
+    (gathers_more total c.if-room-line.self c.args.line.now start _
+    (elim c.if-room-line.branch [
+      | then-room-line+in_ok-put w ↦
           rw (w.self-is, w.in_ok-put.ensures.empty, w.out-is) (gathers_none total start _ (w.in_ok-put.ensures.whole total start so_far))
-      | else-self-line w ↦ rw (w.self-is, w.out-is) so_far
+      | else-room-line w ↦ rw (w.self-is, w.out-is) so_far
     ]))
 
 pub returns-clause-front : goal.returns-clause-front
 returns-clause-front g c = λ total start so_far.
-    elim c.if-self-line.branch [
-      | then-self-line+in_ok-put w ↦ rw w.out-is (w.put.ensures.front total start so_far)
-      | else-self-line w ↦ rw w.out-is (gathers_front total _ start _ so_far)
+    elim c.if-room-line.branch [
+      | then-room-line+in_ok-put w ↦ rw w.out-is (w.put.ensures.front total start so_far)
+      | else-room-line w ↦ rw w.out-is (gathers_front total _ start _ so_far)
     ]

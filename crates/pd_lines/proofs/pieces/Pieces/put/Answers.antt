@@ -3,8 +3,8 @@ use Rattle.pd_lines.proofs.pieces.Pieces.put.Goals as goal
 
 pub returns-in_err-put-clause-front : goal.returns-in_err-put-clause-front
 returns-in_err-put-clause-front g c = λ total start so_far.
-    put_front total _ start _ _ (rw (← c.self.view_is) at so_far) c.put.ensures.front
+    put_front total _ start _ _ (rw (← c.self.view_is) at so_far) (rw c.as_bytes.ensures.bytes at c.put.ensures.front)
 
 pub returns-clause-front : goal.returns-clause-front
 returns-clause-front g c = λ total start so_far.
-    put_front total _ start _ _ (rw (← c.self.view_is) at so_far) c.put.ensures.front
+    put_front total _ start _ _ (rw (← c.self.view_is) at so_far) (rw c.as_bytes.ensures.bytes at c.put.ensures.front)

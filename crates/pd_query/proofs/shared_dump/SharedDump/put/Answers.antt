@@ -1,25 +1,16 @@
-use Rattle.std.proofs.Common.{Ok, Err, rules, subst}
-use Rattle.pd_query.specs.declared.fault.QueryFault.{QueryFault}
-use Rattle.pd_query.specs.declared.fault.QueryFault.TheVariants.{Sink}
+use Rattle.std.proofs.Common.{rules, subst}
 use Rattle.pd_lines.specs.Printer.{printing}
 use Rattle.pd_query.specs.Puts.{PutsText}
 use Rattle.pd_query.specs.SharedDump.{shared_text_left}
-use Rattle.pd_query.proofs.PutsLemmas.{text_lost, text_put, text_stopped}
+use Rattle.pd_query.proofs.PutsLemmas.{text_finished, text_stopped}
 use Rattle.pd_query.proofs.shared_dump.SharedDump.put.Goals as goal
 
-pub returns-in-Ok-clause-text : goal.returns-in-Ok-clause-text
-returns-in-Ok-clause-text g c =
+pub returns-clause-text : goal.returns-clause-text
+returns-clause-text g c =
     let state = g.K.Sink.state in
-    subst (λ out. PutsText {T = Unit {0}} {E = QueryFault} (g.D.Device.state c.args.dev.now).held (λ image. shared_text_left image c.args.self.now) (Ok tt) (state c.args.out.now).written (state out).written) (search rules)
-    (text_put (g.D.Device.state c.args.dev.now).held tt {first = state c.args.out.now} {sink = state c.finish.new.self.0}
-    (rw (c.over-printer.ensures.none, c.over-printer.ensures.same) at c.in_ok-add_shared_pool.ensures.prints) c.in-Ok.ensures.finishes)
-
-pub returns-in-Err-clause-text : goal.returns-in-Err-clause-text
-returns-in-Err-clause-text g c =
-    let state = g.K.Sink.state in
-    subst (λ out. PutsText {T = Unit {0}} {E = QueryFault} (g.D.Device.state c.args.dev.now).held (λ image. shared_text_left image c.args.self.now) (Err Sink) (state c.args.out.now).written (state out).written) (search rules)
-    (text_lost (g.D.Device.state c.args.dev.now).held Sink {first = state c.args.out.now} {sink = state c.finish.new.self.0}
-    (rw (c.over-printer.ensures.none, c.over-printer.ensures.same) at c.in_ok-add_shared_pool.ensures.prints) c.in-Err.ensures.finishes)
+    subst (λ out. PutsText (g.D.Device.state c.args.dev.now).held (λ image. shared_text_left image c.args.self.now) c.finish.result (state c.args.out.now).written (state out).written) (search rules)
+    (text_finished (g.D.Device.state c.args.dev.now).held c.finish.result {first = state c.args.out.now} {sink = state c.finish.new.printer.0}
+    (rw (c.over-printer.ensures.none, c.over-printer.ensures.same) at c.in_ok-add_shared_pool.ensures.prints) c.finish.ensures.finishes)
 
 pub returns-in_err-add_shared_pool-clause-text : goal.returns-in_err-add_shared_pool-clause-text
 returns-in_err-add_shared_pool-clause-text g c =

@@ -6,8 +6,8 @@ use Rattle.pd_restore.proofs.BeginLemmas.{first_version, second_version}
 use Rattle.pd_restore.proofs.PoolLemmas.{rest_writes}
 use Rattle.pd_restore.proofs.thin.PoolsRestoring.write.Goals as goal
 
-pub write_unshared-requires-clause-begun : goal.write_unshared-requires-clause-begun
-write_unshared-requires-clause-begun g c =
+pub write_text-requires-else-version-eq2-clause-begun : goal.write_text-requires-else-version-eq2-clause-begun
+write_text-requires-else-version-eq2-clause-begun g c =
     let p = c.args.begun.pool in
     let text = c.in-Text.text in
     let stands = rw c.in-Text.is at c.requires.stands in
@@ -20,8 +20,8 @@ write_unshared-requires-clause-begun g c =
       there = c.requires.there;
     }
 
-pub write_shared-requires-clause-begun : goal.write_shared-requires-clause-begun
-write_shared-requires-clause-begun g c =
+pub write_text-requires-clause-begun : goal.write_text-requires-clause-begun
+write_text-requires-clause-begun g c =
     let p = c.args.begun.pool in
     let text = c.in-Text.text in
     let stands = rw c.in-Text.is at c.requires.stands in
@@ -45,13 +45,13 @@ write_saved-requires-clause-made g c = record {
 
 pub returns-then-version-eq2-clause-writes : goal.returns-then-version-eq2-clause-writes
 returns-then-version-eq2-clause-writes g c =
-    rest_writes c.args.begun.pool c.args.begun.rest (Text c.in-Text.text) c.args.room (g.S.Source.state c.args.source.now).left (g.S.Source.state c.write_shared.new.source).left
-    (stand c.args.draft.now) (stand c.write_shared.new.draft) c.write_shared.result c.in-Text.is c.write_shared.ensures.writes
+    rest_writes c.args.begun.pool c.args.begun.rest (Text c.in-Text.text) c.args.room (g.S.Source.state c.args.source.now).left (g.S.Source.state c.write_text.new.source).left
+    (stand c.args.draft.now) (stand c.write_text.new.draft) c.write_text.result c.in-Text.is c.write_text.ensures.writes
 
 pub returns-in-Text-clause-writes : goal.returns-in-Text-clause-writes
 returns-in-Text-clause-writes g c =
-    rest_writes c.args.begun.pool c.args.begun.rest (Text c.in-Text.text) c.args.room (g.S.Source.state c.args.source.now).left (g.S.Source.state c.write_unshared.new.source).left
-    (stand c.args.draft.now) (stand c.write_unshared.new.draft) c.write_unshared.result c.in-Text.is c.write_unshared.ensures.writes
+    rest_writes c.args.begun.pool c.args.begun.rest (Text c.in-Text.text) c.args.room (g.S.Source.state c.args.source.now).left (g.S.Source.state c.write_text-else-version-eq2.new.source).left
+    (stand c.args.draft.now) (stand c.write_text-else-version-eq2.new.draft) c.write_text-else-version-eq2.result c.in-Text.is c.write_text-else-version-eq2.ensures.writes
 
 pub returns-clause-writes : goal.returns-clause-writes
 returns-clause-writes g c =

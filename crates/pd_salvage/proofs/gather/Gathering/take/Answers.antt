@@ -1,12 +1,11 @@
-use Rattle.std.proofs.Common.{sym}
-use Rattle.pd_salvage.proofs.GatherLemmas.{gathers_apart, gathers_on}
+use Rattle.std.proofs.Common.{arith}
+use Rattle.std.proofs.lemmas.Result.{on_ok_weaker}
+use Rattle.pd_thin_meaning.specs.Joined.{mapping_of}
+use Rattle.pd_salvage.proofs.GatherLemmas.{one_more}
 use Rattle.pd_salvage.proofs.gather.Gathering.take.Goals as goal
 
-pub returns-then-follows-clause-takes : goal.returns-then-follows-clause-takes
-returns-then-follows-clause-takes c = λ before ms is.
-    gathers_on before c.args.runs.now.items c.args.self.now c.args.virt c.args.mapping ms is c.in-Some.begun c.in-Some.is (sym c.if-follows.ensures)
-
-pub returns-in_ok-push-in-Some-clause-takes : goal.returns-in_ok-push-in-Some-clause-takes
-returns-in_ok-push-in-Some-clause-takes c = λ before ms is.
-    rw c.run_of.ensures
-    (gathers_apart before c.args.runs.now.items c.args.self.now c.args.virt c.args.mapping ms is c.in-Some.begun c.push.new.self.items c.in-Some.is (sym c.if-follows.ensures) c.in_ok-push-in-Some.ensures.items)
+pub returns-clause-takes : goal.returns-clause-takes
+returns-clause-takes c =
+    on_ok_weaker c.take.result
+    (λ takes before ms is. record { joining = rw c.run_of.ensures at (takes before ms is.joining); mapped = omega (arith, is.mapped, one_more ms (mapping_of (c.args.virt, c.args.mapping))) })
+    c.take.ensures

@@ -6,8 +6,9 @@ use Rattle.pd_laid.proofs.LaidLemmas.{length-blocks_from}
 use Rattle.pd_spells.specs.Need.{nodes_for}
 use Rattle.pd_shapes.specs.SharedText.{mappings_of_runs}
 use Rattle.pd_shared_devices.specs.Piece.{held_runs}
-use Rattle.pd_shared_devices.proofs.RowLemmas.{grown_without, grown_with, leaves_number}
+use Rattle.pd_shared_devices.proofs.RowLemmas.{grown_without, grown_with}
 use Rattle.pd_shared_devices.proofs.growing.Growing.end_piece.Goals as goal
+use Rattle.pd_laid_shared.proofs.DeviceNeed.{leaves_number}
 
 pub returns-then-held-eq0-clause-grown : goal.returns-then-held-eq0-clause-grown
 returns-then-held-eq0-clause-grown g c leaves d blocks low end from grown held =

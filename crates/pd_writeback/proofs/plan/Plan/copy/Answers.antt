@@ -1,10 +1,9 @@
-use Rattle.std.proofs.Common.{◌≡◌, ℕ, List, Some, IfSome, length, true, false, refl, sym, ap, ◌∙◌, subst, arith}
+use Rattle.std.proofs.Common.{ℕ, List, true, false, sym, ◌∙◌, subst, arith}
 use Rattle.std.proofs.lemmas.Bool.{eqb-true}
 use Rattle.std.proofs.lemmas.Option.{IfSome_then}
 use Rattle.pd_kinds.specs.Crash.{HoldsSynced}
 use Rattle.pd_kinds.specs.Meaning.{cache_meaning}
-use Rattle.pd_answers.specs.CachedView.{blocks_each, copied, hot_blocks}
-use Rattle.pd_writeback.specs.Hot.{cached_all}
+use Rattle.pd_answers.specs.CachedView.{blocks_each, hot_blocks}
 use Rattle.pd_writeback.specs.Overlaid.{IsEachOnce}
 use Rattle.pd_writeback.specs.Plan.{plan_hot}
 use Rattle.pd_writeback.proofs.OverlaidLemmas.{once_in_any_order}

@@ -1,4 +1,4 @@
-use Rattle.std.proofs.Common.{◌≡◌, arith}
+use Rattle.std.proofs.Common.{arith}
 use Rattle.pd_writeback.proofs.MadeLemmas.{no_blocks}
 use Rattle.pd_writeback.proofs.plan.Plan.make.Goals as goal
 

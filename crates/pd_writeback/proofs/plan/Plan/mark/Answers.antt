@@ -1,6 +1,6 @@
 use Rattle.std.proofs.Common.{◌≡◌, ◌≤◌, ℕ, List, length, sym, ap, ◌∙◌, subst, arith}
 use Rattle.std.proofs.lemmas.Bool.{eqb-true, eqb-false}
-use Rattle.pd_kinds.specs.Crash.{HoldsSynced, LeavesOnly, IsOldNoneOrMade}
+use Rattle.pd_kinds.specs.Crash.{HoldsSynced, LeavesOnly}
 use Rattle.pd_kinds.specs.Meaning.{cache_meaning}
 use Rattle.pd_image.proofs.CrashLemmas.{at_some}
 use Rattle.pd_answers.specs.CachedView.{hot_blocks, settled}

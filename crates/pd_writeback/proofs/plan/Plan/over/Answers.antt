@@ -1,13 +1,10 @@
-use Rattle.std.proofs.Common.{◌≡◌, ◌/◌, ℕ, List, Bool, true, false, IfSome, Option, refl, sym, ap, ◌∙◌, subst, arith}
+use Rattle.std.proofs.Common.{◌≡◌, ℕ, List, true, false, refl, sym, ◌∙◌, subst, arith}
 use Rattle.std.proofs.lemmas.Option.{IfSome_then}
 use Rattle.std.specs.List.Sorted.{IsPermutation}
 use Rattle.std.proofs.lemmas.List.Sorted.{IsPermutation-map}
-use Rattle.pd_kinds.specs.declared.block.Block.{Block}
 use Rattle.pd_answers.specs.CachedView.{CachedBlock, blocks_each}
-use Rattle.pd_writeback.specs.declared.hot.HotBlock.{HotBlock}
 use Rattle.pd_writeback.specs.Hot.{cached, cached_all}
 use Rattle.pd_writeback.specs.Places.{ArePlaces}
-use Rattle.pd_writeback.specs.Room.{HasRoom, LooksAtRoom}
 use Rattle.pd_writeback.proofs.MadeLemmas.{found_in, found_size, no_room, parts_in, sorted_fit}
 use Rattle.pd_writeback.proofs.PlanLemmas.{hot_in}
 use Rattle.pd_writeback.proofs.plan.Plan.over.Goals as goal

@@ -1,6 +1,0 @@
-use Rattle.pd_shrink.proofs.JoiningLemmas.{ends_with}
-use Rattle.pd_shrink.proofs.joining.Joining.end.Goals as goal
-
-pub returns-in_ok-push : goal.returns-in_ok-push
-returns-in_ok-push c = λ before ms is.
-    ends_with before c.args.runs.now.items c.args.self.now ms is c.in-Some.begun c.push.new.self.items c.in-Some.is c.in_ok-push.ensures.items
