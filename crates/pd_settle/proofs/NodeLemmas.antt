@@ -66,12 +66,12 @@ ranges_map f by_pair by_block (low ∷ []) (c ∷ cs) same = rw (same c) refl
 ranges_map f by_pair by_block (low ∷ high ∷ lows) (c ∷ cs) same = rw (same c, ranges_map f by_pair by_block (high ∷ lows) cs same) refl
 
 -- a node, its block and its role
-module _ (graph : Graph) (image : List (List ℕ)) (b role : ℕ) (block : List ℕ) (within : role < 16) (found : slice_get image b ≡ Some block) where
+module _ (graph : Graph) (image : List (List ℕ)) (b role : ℕ) (block : List ℕ) (within : role < 16) (found : block_at image b ≡ block) where
   at_pair : {X : Type 0} → (F : ℕ → ℕ → List ℕ → X) → F (pair b role % 16) (pair b role / 16) (block_at image (pair b role / 16)) ≡ F role b block
   at_pair F =
       ap (λ (s : ℕ). F s (pair b role / 16) (block_at image (pair b role / 16))) (pair_role b role within)
       ∙ (ap (λ (place : ℕ). F role place (block_at image place)) (pair_block b role within)
-      ∙ ap (λ o. F role b (unwrap_or o [])) found)
+      ∙ ap (F role b) found)
 
   pub inner_at : is_inner_pair graph image (pair b role) ≡ graph.is_inner role b block
   inner_at = at_pair graph.is_inner

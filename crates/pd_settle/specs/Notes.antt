@@ -48,16 +48,6 @@ keys_note keys height in_range = record {
   in_range = in_range;
 }
 
--- the note of a leaf by the first and the last of its keys
-abbrev pub ends_note : List ℕ → Note
-ends_note keys = record {
-  least = slice_get keys 0;
-  greatest = slice_get keys (length keys - 1);
-  below = length keys;
-  height = 1;
-  in_range = true;
-}
-
 -- a note without keys
 abbrev pub keyless_note : ℕ → ℕ → Note
 keyless_note below height = record { least = None; greatest = None; below = below; height = height; in_range = true }

@@ -12,9 +12,9 @@ pub returns-clause-settled : goal.returns-clause-settled
 returns-clause-settled g c =
     let graph = g.F.Format.graph c.args.format.now in
     let kept = c.mark_each.ensures.kept in
-    IfSome_then (g.D.Device.state c.args.dev.now).held c.in_ok-note_each.ensures.settled (λ image settled walked.
+    IfSome_then (g.D.Device.state c.args.dev.now).held c.in_ok-note_each.ensures.settled (λ image settled walked noted.
     settled_of graph image c.mark_each.new.audit (g.met.F.Format.lawful c.args.format.now) (clean_of graph image c.args.audit.now walked c.requires.sound)
-    (settled_kept graph image (is_node graph image) (note_at c.note_each.new.audit) (note_at c.mark_each.new.audit) kept.notes (settled walked))
+    (settled_kept graph image (is_node graph image) (note_at c.note_each.new.audit) (note_at c.mark_each.new.audit) kept.notes (settled walked noted))
     (λ b wanted small.
     c.mark_each.ensures.rules b wanted (let number = c.note_each.ensures.marks.number in let blocks = c.requires.number in omega arith)
     ∙ (ap (λ (x : Bool). x || breaks (noted_rule (note_at c.note_each.new.audit b)) wanted) (c.note_each.ensures.marks.rules b wanted ∙ c.requires.sound b wanted small)
