@@ -58,7 +58,7 @@ module _ (graph : Graph) (image : List (List ℕ)) (lawful : IsLawful graph) (cl
       | inl none ↦ let h = none_height (block_of p) none in absurd (omega arith)
       | inr one ↦ let h = leaf_height (block_of p) one in absurd (omega arith)
     ];
-    unfit = λ c small e. absurd (both_ways true refl e);
+    unfit = λ c small e. absurd (both_ways true e refl);
     looked = λ c low. elim (noted.only c) [
       | inl none ↦ let h = none_height c none in absurd (omega arith)
       | inr one ↦ (one.role, one.within, leaf_node c one)
