@@ -1,8 +1,10 @@
 //! The walk of a check over all blocks that the superblock leads to, and the report of what an audit has.
 
-ghost use Rattle.std.specs.Prelude.{◌≡◌, ℕ, ◌+◌, ◌≤◌, true, length, IfOk, IfSome};
+ghost use Rattle.std.specs.Prelude.{◌≡◌, ℕ, ◌+◌, ◌-◌, ◌^◌, ◌<◌, ◌≤◌, List, ◌++◌, true, length, IfOk, IfSome};
 ghost use Rattle.std.specs.List.{flat_map, range_with_len};
 ghost use Rattle.pd_kinds.specs.CheckFault.{CountsCheckFault, StopsEarly};
+ghost use Rattle.pd_kinds.specs.declared.fault.Fault.{Fault};
+ghost use Rattle.pd_kinds.specs.RuleSet.{has_rule};
 ghost use Rattle.pd_kinds.specs.Report.{report_of};
 ghost use Rattle.pd_kinds.specs.Faults.{faults_at};
 ghost use Rattle.pd_kinds.specs.Graph.{nodes};
@@ -12,7 +14,7 @@ ghost use Rattle.pd_graph.specs.Walk.{IsWalked, HasNotedLeaves};
 
 use pd_graph::{Audit, Format, walk};
 use pd_image::Device;
-use pd_kinds::{CheckFault, Report};
+use pd_kinds::{CheckFault, Report, Rules};
 use std::alloc::Global;
 
 /// Walks over all that block 0 leads to in this format.
@@ -55,7 +57,19 @@ pub fn walk_report(audit: &Audit) -> Report
 {
     let mut report = Report::new();
     for b in 0..audit.nr() {
-        report.add_rules(b, &audit.rules(b));
+        report_block(&mut report, b, &audit.rules(b));
     }
     report
+}
+
+/// Adds a fault for each rule that block b breaks. Most blocks break none.
+fn report_block(report: &mut Report, b: u64, broken: &Rules)
+    requires { report.old.total < 2 ^ 64 - 22 }
+    ensures faults { (before : List Fault) → report.old ≡ report_of before → report.new ≡ report_of (before ++ faults_at b (has_rule broken.now)) }
+    ensures total { report.new.total ≤ report.old.total + 22 }
+{
+    if broken.is_empty() {
+        return;
+    }
+    report.add_rules(b, broken);
 }

@@ -1,7 +1,7 @@
 -- What settling goes out from: the leaves are noted, so that only inner nodes are read.
 use Rattle.std.proofs.Common.{◌≡◌, ◌⊎◌, inl, inr, ℕ, ◌+◌, ◌*◌, ◌<◌, ◌≤◌, Bool, true, false, ◌&&◌, not, nat_eq, List, length, refl, sym, ◌∙◌, ap, subst, arith}
 use Rattle.std.proofs.lemmas.Bool.{cases_Bool, both_ways, and_parts, and_from, eqb-false, not-true}
-use Rattle.pd_kinds.specs.Graph.{Graph, block_at, pair, block_of, role_of, is_inner_pair, is_reached}
+use Rattle.pd_kinds.specs.Graph.{Graph, block_at, pair, block_of, role_of, is_inner_pair, is_reached, nodes}
 use Rattle.pd_kinds.specs.Lawful.{IsLawful}
 use Rattle.pd_graph.specs.declared.notes.Note.{Note}
 use Rattle.pd_graph.specs.Notes.{no_note}
@@ -106,3 +106,13 @@ module _ (graph : Graph) (image : List (List ℕ)) (lawful : IsLawful graph) (cl
       let less = wider_weight (is_settled notes) (is_known notes) (λ c. 1) graph.nr (λ c e. (and_parts _ _ e).0) in
       let more = wider_weight (is_known first) (is_settled first) (λ c. 1) graph.nr leaf_settled in
       omega arith
+
+-- those are some of all that are reached
+pub inner_few : (graph : Graph) (image : List (List ℕ)) → length (inner_nodes graph image) ≤ length (nodes graph image)
+unfolding inner_nodes nodes
+inner_few graph image =
+    let inner = λ (p : ℕ). is_reached graph image p && is_inner_pair graph image p in
+    let number = length_weighs inner (16 * graph.nr) in
+    let all = length_weighs (is_reached graph image) (16 * graph.nr) in
+    let wider = wider_weight inner (is_reached graph image) (λ p. 1) (16 * graph.nr) (λ p e. (and_parts (is_reached graph image p) (is_inner_pair graph image p) e).0) in
+    omega arith

@@ -36,6 +36,9 @@ fn tree_role<F: Format>(audit: &Audit, format: &F, b: u64) -> Option<u8>
     ensures none { IfNone result ((role : ℕ) → role < F.ROLES → has_bit (roles_at audit.now b) role ≡ true → (F.graph format.now).is_tree role ≡ false) }
 {
     let roles = audit.roles(b);
+    if roles == 0 {
+        return None;
+    }
     for role in 0..F::ROLES {
         if has_role(roles, role) && format.is_tree(role) {
             return Some(role);
