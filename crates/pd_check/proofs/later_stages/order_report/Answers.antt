@@ -1,5 +1,4 @@
-use Rattle.std.proofs.Common.{◌+◌, ◌*◌, ◌≤◌, length, IfSome, ◌∙◌, arith}
-use Rattle.pd_kinds.specs.Graph.{nodes}
+use Rattle.std.proofs.Common.{◌∙◌, arith}
 use Rattle.pd_graph.specs.Walk.{IsWalked}
 use Rattle.pd_graph.proofs.AnyLemmas.{if_both}
 use Rattle.pd_settle.specs.Settled.{IsSettled}
