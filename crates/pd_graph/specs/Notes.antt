@@ -1,4 +1,4 @@
--- The notes of settling, and how they are kept.
+-- The notes of nodes, and how they are kept.
 use Rattle.std.specs.Prelude.{ℕ, ◌-◌, true, false, Some, None, if◌then◌else◌, List, length, slice_get, slice_index_or}
 use Rattle.pd_graph.specs.declared.notes.Note.{Note}
 use Rattle.pd_graph.specs.declared.notes.KeptNote.{KeptNote}
@@ -28,7 +28,7 @@ ends_note keys = record {
   in_range = true;
 }
 
--- a note of nothing as it is kept
+-- the note of a block that nothing is known of, as it is kept
 abbrev pub no_kept_note : KeptNote
 no_kept_note = record { least = 0; greatest = 0; below = 0; height = 0; has_least = false; has_greatest = false; in_range = true }
 

@@ -30,7 +30,7 @@ pub fn walk<F: Format, D: Device>(audit: &mut Audit, format: &F, dev: &mut D) ->
     ensures number { blocks_of audit.new ≡ blocks_of audit.old }
     ensures leaves { OnOk result (IfSome (D.state dev.old).held (λ image. HasNotedLeaves (F.graph format.now) image audit.new)) }
 
-    // Only leaves are noted, also where a read failed, and whatever the device gives.
+    // Also where a read failed, and whatever the device gives.
     ensures notes { (b : ℕ) → (note_at audit.new b).height ≤ 1 }
 
     // At most one read for each reachable pair, also where one failed.
