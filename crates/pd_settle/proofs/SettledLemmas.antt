@@ -2,7 +2,7 @@
 use Rattle.std.proofs.Common.{◌≡◌, ◌⊎◌, inl, inr, ℕ, zero, suc, ◌+◌, ◌-◌, ◌*◌, ◌<◌, ◌≤◌, Bool, true, false, ◌&&◌, ◌||◌, not, cond, nat_eq, nat_lt, List, [], length, Some, None, refl, sym, ◌∙◌, ap, subst, arith, zero-add, eq-eqb}
 use Rattle.std.specs.List.{list_any, range_with_len}
 use Rattle.std.proofs.Math.Bool.{or-false}
-use Rattle.std.proofs.lemmas.Bool.{cases_Bool, cases_eq, cases_lt, ne_eqb, both_ways, and_parts, and_from, lt-ltb, le-ltb, ltb-true, eqb-false, not-true}
+use Rattle.std.proofs.lemmas.Bool.{cases_Bool, cases_eq, cases_lt, ne_eqb, both_ways, and_parts, and_from, lt-ltb, le-ltb, ltb-true}
 use Rattle.pd_kinds.specs.declared.rule.Rule.{Rule}
 use Rattle.pd_kinds.specs.declared.rule.Rule.TheVariants as r
 use Rattle.pd_kinds.specs.Rule.{same_rule}
@@ -16,15 +16,14 @@ use Rattle.pd_graph.specs.declared.notes.Note.{Note}
 use Rattle.pd_graph.specs.Roles.{has_bit}
 use Rattle.pd_graph.specs.Audit.{roles_at, has_rule_at, note_at, KeepsButNotes, KeepsButRules}
 use Rattle.pd_graph.specs.Walk.{IsWalked}
-use Rattle.pd_graph.specs.Weight.{weigh, weigh_list}
-use Rattle.pd_graph.proofs.Weights.{length_weighs, wider_weight}
+use Rattle.pd_graph.specs.Weight.{weigh_list}
 use Rattle.pd_graph.proofs.BitLemmas.{pair_block, counts_one, counts_none}
 use Rattle.pd_graph.proofs.AnyLemmas.{any_kept}
 use Rattle.pd_settle.specs.Notes.{keys_note}
 use Rattle.pd_settle.specs.Good.{is_well, is_good_node, IsGoodNote}
 use Rattle.pd_settle.proofs.ExactLemmas.{exact_at, never_deep}
 use Rattle.pd_settle.proofs.ReachLemmas.{reached_within, any_child_node}
-use Rattle.pd_settle.specs.Ordering.{is_node, IsClean, IsOrdering, IsClosed, HasRoles, Knows, is_known, is_settled, steps}
+use Rattle.pd_settle.specs.Ordering.{is_node, IsClean, IsOrdering, IsClosed, HasRoles, Knows}
 use Rattle.pd_settle.specs.Settled.{AreSettled, noted_rule, breaks, IsSettled}
 use Rattle.pd_settle.proofs.GoodLemmas.{good_is_shallow}
 use Rattle.pd_settle.proofs.ChainLemmas.{is_among, longer_chain, chain_by}

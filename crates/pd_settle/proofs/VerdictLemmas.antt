@@ -1,6 +1,6 @@
 -- What a node turns out to be is right.
-use Rattle.std.proofs.Common.{◌≡◌, inl, inr, ℕ, ◌<◌, ◌≤◌, Bool, true, false, ◌&&◌, ◌||◌, not, nat_eq, nat_lt, List, ◌∷◌, map, Some, sym, ◌∙◌, ap, subst, arith}
-use Rattle.std.specs.List.{list_all, slice_get}
+use Rattle.std.proofs.Common.{◌≡◌, inl, inr, ℕ, ◌<◌, ◌≤◌, Bool, true, false, ◌&&◌, ◌||◌, not, nat_eq, nat_lt, List, ◌∷◌, map, sym, ◌∙◌, ap, subst, arith}
+use Rattle.std.specs.List.{list_all}
 use Rattle.std.proofs.lemmas.Bool.{and_parts, eqb-false, lt-ltb, ltb-true, ltb-false, not-true, both_ways, cases_eq, cases_lt}
 use Rattle.pd_kinds.specs.Graph.{Graph, block_at, pair, block_of, own_keys, is_inner_pair}
 use Rattle.pd_kinds.specs.Lawful.{KeepsLaws}

@@ -1,6 +1,6 @@
 -- The note of a node from the notes of its children.
 use Rattle.std.specs.Prelude.{◌≡◌, ℕ, ◌+◌, ◌-◌, ◌^◌, ◌≤◌, min, max, Bool, true, false, ◌==◌, ◌&&◌, not, nat_lt, List, [], ◌∷◌, length, Option, Some, None}
-use Rattle.std.specs.List.{list_any, slice_get}
+use Rattle.std.specs.List.{list_any}
 use Rattle.std.specs.Option.{is_some}
 use Rattle.pd_graph.specs.declared.notes.Note.{Note}
 use Rattle.pd_kinds.specs.Order.{has_chain, gathered}
