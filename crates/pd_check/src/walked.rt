@@ -9,7 +9,7 @@ ghost use Rattle.pd_kinds.specs.Report.{report_of};
 ghost use Rattle.pd_kinds.specs.Faults.{faults_at};
 ghost use Rattle.pd_kinds.specs.Graph.{nodes};
 ghost use Rattle.pd_image.specs.Device.{IsAttached, OnlyReads};
-ghost use Rattle.pd_graph.specs.Audit.{blocks_of, has_walked, has_rule_at, note_at};
+ghost use Rattle.pd_graph.specs.Audit.{blocks_of, has_walked, has_rule_at};
 ghost use Rattle.pd_graph.specs.Walk.{IsWalked, HasNotedLeaves};
 
 use pd_graph::{Audit, Format, walk};
@@ -34,7 +34,6 @@ pub(crate) fn walked<F: Format, D: Device>(
     ensures number { IfOk result (λ audit. blocks_of audit ≡ (F.graph format.now).nr) }
     ensures marks { IfOk result (λ audit. IfSome (D.state dev.old).held (λ image. IsWalked (F.graph format.now) image audit)) }
     ensures leaves { IfOk result (λ audit. IfSome (D.state dev.old).held (λ image. HasNotedLeaves (F.graph format.now) image audit)) }
-    ensures notes { IfOk result (λ audit. (b : ℕ) → (note_at audit b).height ≤ 1) }
     ensures early { StopsEarly result (D.state dev.old).reads (D.state dev.new).reads }
     ensures reads { IfSome (D.state dev.old).held (λ image.
         (D.state dev.new).reads ≤ (D.state dev.old).reads + length (nodes (F.graph format.now) image)) }

@@ -22,6 +22,19 @@ use Rattle.pd_settle.proofs.SettledLemmas.{blocks_from}
 pub closed_low : (notes : ℕ → Note) → ((b : ℕ) → (notes b).height ≤ 1) → IsClosed notes
 closed_low notes low = record { none = λ b e. let h = low b in absurd (omega arith) }
 
+-- where the notes are those of a walk, what forgets all but leaves keeps them
+pub leaves_kept : (graph : Graph) (image : List (List ℕ)) (old new : ℕ → Note) → ((b : ℕ) → (old b).height ≤ 1 → new b ≡ old b)
+    → AreLeavesNoted graph image (is_reached graph image) old → AreLeavesNoted graph image (is_reached graph image) new
+leaves_kept graph image old new same noted =
+    let low : (b : ℕ) → (old b).height ≤ 1 = λ b. elim (noted.only b) [
+      | inl none ↦ let h = ap (λ (n : Note). n.height) none in omega arith
+      | inr one ↦ let h = ap (λ (n : Note). n.height) one.same in omega arith
+    ] in
+    record {
+      only = λ b. subst (λ (n : Note). (n ≡ no_note) ⊎ IsLeafNote graph image (is_reached graph image) b n) (sym (same b (low b))) (noted.only b);
+      each = λ b role small reached leaf. ap (λ (n : Note). n.height) (same b (low b)) ∙ noted.each b role small reached leaf;
+    }
+
 module _ (graph : Graph) (image : List (List ℕ)) (lawful : IsLawful graph) (clean : IsClean graph image) (first : ℕ → Note)
     (noted : AreLeavesNoted graph image (is_reached graph image) first) where
   none_height : (b : ℕ) → first b ≡ no_note → (first b).height ≡ 0

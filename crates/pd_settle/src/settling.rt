@@ -1,6 +1,6 @@
 //! The settling of a check: all nodes of trees, block after block.
 
-ghost use Rattle.std.specs.Prelude.{◌≡◌, ℕ, ◌+◌, ◌*◌, ◌<◌, ◌≤◌, ◌==◌, ◌||◌, ◌&&◌, true, false, length, is_ok, OnOk, IfSome, IfNone};
+ghost use Rattle.std.specs.Prelude.{◌≡◌, ℕ, ◌+◌, ◌*◌, ◌<◌, ◌≤◌, ◌==◌, ◌||◌, ◌&&◌, nat_lt, true, false, length, is_ok, OnOk, IfSome, IfNone, if◌then◌else◌};
 ghost use Rattle.pd_kinds.specs.declared.rule.Rule.{Rule};
 ghost use Rattle.pd_kinds.specs.Objects.{CountsFault};
 ghost use Rattle.pd_image.specs.Device.{IsAttached, OnlyReads};
@@ -26,6 +26,28 @@ pub(crate) fn clear(notes: &mut Notes)
     let unknown = keyless(0, 0);
     for b in 0..notes.nr() {
         notes.set_note(b, unknown);
+    }
+}
+
+/// Forgets the note of block b, unless it is that of a leaf.
+fn forget_inner_node(notes: &mut Notes, b: u64)
+    requires { b < size_of notes.old }
+    ensures notes { (c : ℕ) → note_in notes.new c ≡ (if (c == b) && nat_lt 1 (note_in notes.old c).height then no_note else note_in notes.old c) }
+    ensures number { size_of notes.new ≡ size_of notes.old }
+{
+    if 1 < notes.note(b).height {
+        notes.set_note(b, keyless(0, 0));
+    }
+}
+
+/// Forgets what was noted of each block but of leaves, as a walk leaves an audit's notes.
+fn forget_inner_nodes(notes: &mut Notes)
+    ensures low { (b : ℕ) → (note_in notes.new b).height ≤ 1 }
+    ensures leaves { (b : ℕ) → (note_in notes.old b).height ≤ 1 → note_in notes.new b ≡ note_in notes.old b }
+    ensures number { size_of notes.new ≡ size_of notes.old }
+{
+    for b in 0..notes.nr() {
+        forget_inner_node(notes, b);
     }
 }
 
@@ -149,7 +171,6 @@ fn settle_each<F: Format, D: Device>(
 ) -> Result<(), Failed>
     requires number { blocks_of audit.old ≡ (F.graph format.now).nr }
     requires sound { (b : ℕ) (rule : Rule) → b < (F.graph format.now).nr → has_rule_at audit.old b rule ≡ false }
-    requires notes { (b : ℕ) → (note_at audit.old b).height ≤ 1 }
     requires attached { IsAttached (D.state dev.old) }
     requires within { (F.graph format.now).nr ≤ (D.state dev.old).blocks }
     ensures settled { OnOk result (IfSome (D.state dev.old).held (λ image. IsWalked (F.graph format.now) image audit.old
@@ -161,6 +182,7 @@ fn settle_each<F: Format, D: Device>(
     ensures kept { OnlyReads (D.state dev.old) (D.state dev.new) }
     ensures faults { CountsFault result (D.state dev.old).faults (D.state dev.new).faults }
 {
+    forget_inner_nodes(&mut audit.notes);
     note_each(audit, format, dev)?;
     mark_each(audit);
     Ok(())
@@ -170,7 +192,7 @@ fn settle_each<F: Format, D: Device>(
 /// tree. The leaves were noted by the walk, and aren't read again. It takes no memory.
 ///
 /// What it says of content holds where the audit has the marks and the notes of the walk of what the device
-/// holds; over any other device it is safe. After `Failed` the audit may not be used again.
+/// holds; over any other device or audit it is safe. After `Failed` the audit may not be used again.
 pub fn settle<F: Format, D: Device>(
     audit: &mut Audit,
     format: &F,
@@ -179,7 +201,6 @@ pub fn settle<F: Format, D: Device>(
     requires walked { has_walked audit.old ≡ true }
     requires number { blocks_of audit.old ≡ (F.graph format.now).nr }
     requires sound { (b : ℕ) (rule : Rule) → b < (F.graph format.now).nr → has_rule_at audit.old b rule ≡ false }
-    requires notes { (b : ℕ) → (note_at audit.old b).height ≤ 1 }
     requires attached { IsAttached (D.state dev.old) }
     requires within { (F.graph format.now).nr ≤ (D.state dev.old).blocks }
     ensures walked { has_walked audit.new ≡ is_ok result }
