@@ -11,7 +11,7 @@ ghost use Rattle.pd_kinds.specs.Graph.{nodes};
 ghost use Rattle.pd_kinds.specs.Stages.{block_faults, order_bad};
 ghost use Rattle.pd_image.specs.Device.{IsAttached, OnlyReads};
 ghost use Rattle.pd_graph.specs.Audit.{blocks_of, has_walked, has_rule_at};
-ghost use Rattle.pd_graph.specs.Walk.{IsWalked};
+ghost use Rattle.pd_graph.specs.Walk.{IsWalked, HasNotedLeaves};
 ghost use Rattle.pd_whole.specs.Known.{IsWellSettled};
 ghost use Rattle.pd_check.specs.Check.{goes_past_walk, past_faults, reads_of, reads_to_order};
 
@@ -104,6 +104,7 @@ fn order_report<F: Format, D: Device>(
     requires walked { has_walked audit.old ≡ true }
     requires number { blocks_of audit.old ≡ (F.graph format.now).nr }
     requires sound { (b : ℕ) (rule : Rule) → b < (F.graph format.now).nr → has_rule_at audit.old b rule ≡ false }
+    requires leaves { IfSome (D.state dev.old).held (λ image. HasNotedLeaves (F.graph format.now) image audit.old) }
     requires attached { IsAttached (D.state dev.old) }
     requires within { (F.graph format.now).nr ≤ (D.state dev.old).blocks }
     ensures report { IfOk result (λ report. IfSome (D.state dev.old).held (λ image. IsWalked (F.graph format.now) image audit.old

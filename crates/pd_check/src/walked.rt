@@ -1,18 +1,20 @@
 //! The walk of a check over all blocks that the superblock leads to, and the report of what an audit has.
 
-ghost use Rattle.std.specs.Prelude.{◌≡◌, ◌+◌, ◌≤◌, true, length, IfOk, IfSome};
+ghost use Rattle.std.specs.Prelude.{◌≡◌, ℕ, ◌+◌, ◌-◌, ◌^◌, ◌<◌, ◌≤◌, List, ◌++◌, true, length, IfOk, IfSome};
 ghost use Rattle.std.specs.List.{flat_map, range_with_len};
 ghost use Rattle.pd_kinds.specs.CheckFault.{CountsCheckFault, StopsEarly};
+ghost use Rattle.pd_kinds.specs.declared.fault.Fault.{Fault};
+ghost use Rattle.pd_kinds.specs.RuleSet.{has_rule};
 ghost use Rattle.pd_kinds.specs.Report.{report_of};
 ghost use Rattle.pd_kinds.specs.Faults.{faults_at};
 ghost use Rattle.pd_kinds.specs.Graph.{nodes};
 ghost use Rattle.pd_image.specs.Device.{IsAttached, OnlyReads};
 ghost use Rattle.pd_graph.specs.Audit.{blocks_of, has_walked, has_rule_at};
-ghost use Rattle.pd_graph.specs.Walk.{IsWalked};
+ghost use Rattle.pd_graph.specs.Walk.{IsWalked, HasNotedLeaves};
 
 use pd_graph::{Audit, Format, walk};
 use pd_image::Device;
-use pd_kinds::{CheckFault, Report};
+use pd_kinds::{CheckFault, Report, Rules};
 use std::alloc::Global;
 
 /// Walks over all that block 0 leads to in this format.
@@ -31,6 +33,7 @@ pub(crate) fn walked<F: Format, D: Device>(
     ensures walked { IfOk result (λ audit. has_walked audit ≡ true) }
     ensures number { IfOk result (λ audit. blocks_of audit ≡ (F.graph format.now).nr) }
     ensures marks { IfOk result (λ audit. IfSome (D.state dev.old).held (λ image. IsWalked (F.graph format.now) image audit)) }
+    ensures leaves { IfOk result (λ audit. IfSome (D.state dev.old).held (λ image. HasNotedLeaves (F.graph format.now) image audit)) }
     ensures early { StopsEarly result (D.state dev.old).reads (D.state dev.new).reads }
     ensures reads { IfSome (D.state dev.old).held (λ image.
         (D.state dev.new).reads ≤ (D.state dev.old).reads + length (nodes (F.graph format.now) image)) }
@@ -53,7 +56,19 @@ pub fn walk_report(audit: &Audit) -> Report
 {
     let mut report = Report::new();
     for b in 0..audit.nr() {
-        report.add_rules(b, &audit.rules(b));
+        report_block(&mut report, b, &audit.rules(b));
     }
     report
+}
+
+/// Adds a fault for each rule that block b breaks. Most blocks break none.
+fn report_block(report: &mut Report, b: u64, broken: &Rules)
+    requires { report.old.total < 2 ^ 64 - 22 }
+    ensures faults { (before : List Fault) → report.old ≡ report_of before → report.new ≡ report_of (before ++ faults_at b (has_rule broken.now)) }
+    ensures total { report.new.total ≤ report.old.total + 22 }
+{
+    if broken.is_empty() {
+        return;
+    }
+    report.add_rules(b, broken);
 }

@@ -1,12 +1,14 @@
 -- Sets of roles: what one role more changes.
-use Rattle.std.proofs.Common.{◌≡◌, ◌≢◌, ℕ, zero, suc, ◌+◌, ◌*◌, ◌/◌, ◌%◌, ◌<◌, ◌≤◌, ◌^◌, Bool, true, false, ◌||◌, nat_eq, get_or, set, length, refl, sym, ◌∙◌, ap, arith, bit_or, eq-eqb, cond, nat_lt, filter, List, [], ◌∷◌, ◌++◌, add-one, length-append, inl, inr, get_or-set_same, get_or-set_other}
+use Rattle.std.proofs.Common.{◌≡◌, ◌≢◌, ℕ, zero, suc, ◌+◌, ◌*◌, ◌/◌, ◌%◌, ◌<◌, ◌≤◌, ◌^◌, Bool, true, false, ◌||◌, nat_eq, get_or, set, length, refl, sym, ◌∙◌, ap, arith, bit_or, eq-eqb, cond, nat_lt, filter, List, [], ◌∷◌, ◌++◌, inl, inr, get_or-set_same, get_or-set_other}
 use Rattle.std.proofs.Math.Bool.{or-false, or-true}
 use Rattle.std.specs.Int.{bit_at, w16}
-use Rattle.std.proofs.lemmas.Nat.Bits.{bit_at_set_same, bit_at_set_other, bit_at-zero}
+use Rattle.std.specs.Int.RustNames.{count_ones}
+use Rattle.std.proofs.Math.Nat.{pow-suc}
+use lib.Count.{ones_step}
+use Rattle.std.proofs.lemmas.Nat.Bits.{bit_at_set_same, bit_at_set_other, bit_at-zero, bit_at-suc, bit_at_lowest}
 use Rattle.std.specs.List.{range_with_len}
 use Rattle.std.proofs.lemmas.Bool.{cases_eq, cases_lt, both_ways}
 use Rattle.std.proofs.lemmas.List.{get_or_past}
-use Rattle.std.proofs.lemmas.List.Elements.{filter-append}
 use Rattle.pd_graph.specs.Roles.{has_bit, has_several, is_in, IsAllRead}
 
 -- numbers that differ fail the test
@@ -58,24 +60,39 @@ range_more a zero j e = ap (λ (x : ℕ). x ∷ []) (let same : a ≡ j = omega 
 range_more a (suc n) j e =
     ap (λ (xs : List ℕ). a ∷ xs) (range_more (a + 1) n j (omega arith))
 
-one_more : (b : Bool) (n m : ℕ) → m + length (cond b (n ∷ []) []) ≡ m + cond b 1 0
-one_more true n m = refl
-one_more false n m = refl
+-- one number more that passes
+length_first : (b : Bool) (x : ℕ) (kept : List ℕ) → length (cond b (x ∷ kept) kept) ≡ cond b 1 0 + length kept
+length_first true x kept = omega arith
+length_first false x kept = omega arith
 
--- how many bits are set below n, with one place more
-pub bits_below_more : (roles n : ℕ)
-    → length (filter (has_bit roles) (range_with_len 0 (n + 1))) ≡ length (filter (has_bit roles) (range_with_len 0 n)) + cond (has_bit roles n) 1 0
-bits_below_more roles n =
-    let more : range_with_len 0 (n + 1) ≡ range_with_len 0 n ++ (n ∷ []) = rw (add-one n) (range_more 0 n n (omega arith)) in
-    ap (λ (xs : List ℕ). length (filter (has_bit roles) xs)) more
-    ∙ (ap (length {A = ℕ}) (filter-append (has_bit roles) (range_with_len 0 n) (n ∷ []))
-    ∙ (length-append (filter (has_bit roles) (range_with_len 0 n)) (filter (has_bit roles) (n ∷ []))
-    ∙ one_more (has_bit roles n) n (length (filter (has_bit roles) (range_with_len 0 n)))))
+lowest_digit : (n : ℕ) → cond (nat_eq (n % 2) 1) 1 0 ≡ n % 2
+lowest_digit n = elim (cases_eq (n % 2) 1) [
+  | inl e ↦ ap (λ (b : Bool). cond b 1 0) (eq-eqb (n % 2) 1 e) ∙ sym e
+  | inr ne ↦ ap (λ (b : Bool). cond b 1 0) (differ (n % 2) 1 ne) ∙ (let e : 0 ≡ n % 2 = omega arith in e)
+]
 
--- the count of the bits below 16 tells whether there are several
-pub several_from_count : (roles n count : ℕ) → n ≡ 16 → count ≡ length (filter (has_bit roles) (range_with_len 0 n)) → nat_lt 1 count ≡ has_several roles
+no_ones : count_ones 0 ≡ 0
+unfolding count_ones
+no_ones = refl
+
+-- how many bits of a number are set, of those that it can have
+bits_from : (n a k : ℕ) (t : ℕ → Bool) → ((i : ℕ) → t (a + i) ≡ has_bit n i) → n < 2 ^ k → length (filter t (range_with_len a k)) ≡ count_ones n
+bits_from n a zero t same small = let e : n ≡ 0 = omega arith in rw e (sym no_ones)
+bits_from n a (suc k) t same small =
+    let double = pow-suc 2 k in
+    let rest = bits_from (n / 2) (a + 1) k t
+    (λ i. ap t (let e : a + 1 + i ≡ a + suc i = omega arith in e) ∙ (same (suc i) ∙ ap (λ (d : ℕ). nat_eq d 1) (bit_at-suc n i))) (omega arith) in
+    let here : t a ≡ nat_eq (n % 2) 1 = ap t (let e : a ≡ a + 0 = omega arith in e) ∙ (same 0 ∙ ap (λ (d : ℕ). nat_eq d 1) (bit_at_lowest n)) in
+    let digit = ap (λ (b : Bool). cond b 1 0) here ∙ lowest_digit n in
+    let first = length_first (t a) a (filter t (range_with_len (a + 1) k)) in
+    let step = ones_step n in
+    omega arith
+
+-- more than one bit is set where there are several roles
+pub several_from_ones : (roles : ℕ) → roles < 2 ^ 16 → nat_lt 1 (count_ones roles) ≡ has_several roles
 unfolding has_several
-several_from_count roles n count last e = ap (nat_lt 1) (e ∙ ap (λ (m : ℕ). length (filter (has_bit roles) (range_with_len 0 m))) last)
+several_from_ones roles small =
+    sym (ap (nat_lt 1) (bits_from roles 0 16 (has_bit roles) (λ i. ap (has_bit roles) (let e : 0 + i ≡ i = omega arith in e)) small))
 
 -- no role is not several
 pub none_several : has_several 0 ≡ false

@@ -5,3 +5,4 @@ pub mod EdgeLemmas
 pub mod AnyLemmas
 pub mod WalkLemmas
 pub mod StartLemmas
+pub mod LeafNotes

@@ -32,7 +32,7 @@ only_super old new p unmarked follows met =
     ]
 
 -- and nothing was read
-none_read : (old new : Marks) (p : ℕ) → IsUnmarked old → Follows (edge_of 0 0 ∷ []) old new → is_in (read_of new) p ≡ false
+pub none_read : (old new : Marks) (p : ℕ) → IsUnmarked old → Follows (edge_of 0 0 ∷ []) old new → is_in (read_of new) p ≡ false
 none_read old new p unmarked follows = ap (λ (table : List ℕ). is_in table p) follows.read ∙ is_in_none (read_of old) unmarked.read p
 
 pub start_number : (nr : ℕ) (old new : Marks) → IsUnmarked old → Follows (edge_of 0 0 ∷ []) old new → read_number nr new ≡ 0

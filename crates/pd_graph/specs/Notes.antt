@@ -1,5 +1,5 @@
--- The notes of settling, and how they are kept.
-use Rattle.std.specs.Prelude.{ℕ, true, false, Some, None, if◌then◌else◌, slice_index_or}
+-- The notes of nodes, and how they are kept.
+use Rattle.std.specs.Prelude.{ℕ, ◌-◌, true, false, Some, None, if◌then◌else◌, List, length, slice_get, slice_index_or}
 use Rattle.pd_graph.specs.declared.notes.Note.{Note}
 use Rattle.pd_graph.specs.declared.notes.KeptNote.{KeptNote}
 use Rattle.pd_graph.specs.declared.notes.Notes.{Notes}
@@ -18,7 +18,17 @@ note_of kept = record {
 abbrev pub no_note : Note
 no_note = record { least = None; greatest = None; below = 0; height = 0; in_range = true }
 
--- and as it is kept
+-- the note of a leaf by the first and the last of its keys
+abbrev pub ends_note : List ℕ → Note
+ends_note keys = record {
+  least = slice_get keys 0;
+  greatest = slice_get keys (length keys - 1);
+  below = length keys;
+  height = 1;
+  in_range = true;
+}
+
+-- the note of a block that nothing is known of, as it is kept
 abbrev pub no_kept_note : KeptNote
 no_kept_note = record { least = 0; greatest = 0; below = 0; height = 0; has_least = false; has_greatest = false; in_range = true }
 

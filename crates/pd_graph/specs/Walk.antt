@@ -1,5 +1,5 @@
 -- What a walk leaves: the reachable pairs, the rules that their blocks break, and the references.
-use Rattle.std.specs.Prelude.{◌≡◌, ℕ, ◌+◌, ◌*◌, ◌%◌, ◌<◌, ◌≤◌, true, ◌==◌, ◌&&◌, if◌then◌else◌, List, map, slice_index}
+use Rattle.std.specs.Prelude.{◌≡◌, ◌⊎◌, ℕ, ◌+◌, ◌*◌, ◌%◌, ◌<◌, ◌≤◌, Bool, true, false, ◌==◌, ◌&&◌, if◌then◌else◌, List, map, slice_index}
 use Rattle.std.specs.List.{list_any, count_by, range_with_len}
 use Rattle.pd_kinds.specs.declared.rule.Rule.{Rule}
 use Rattle.pd_kinds.specs.Edge.{Edge}
@@ -8,16 +8,52 @@ use Rattle.pd_kinds.specs.Stages.{walk_bad}
 use Rattle.pd_kinds.specs.Paths.{IsOnPath}
 use Rattle.pd_graph.specs.declared.audit.Audit.{Audit}
 use Rattle.pd_graph.specs.declared.marks.Marks.{Marks}
+use Rattle.pd_graph.specs.declared.notes.Note.{Note}
+use Rattle.pd_graph.specs.Format.{IsSound}
+use Rattle.pd_graph.specs.Notes.{no_note, ends_note}
 use Rattle.pd_graph.specs.Roles.{has_bit, is_in, IsAllRead}
 use Rattle.pd_graph.specs.Weight.{weigh}
 use Rattle.pd_graph.specs.Marks.{HasPlaces, has_rule_in, seen_of, read_of, counts_of, rules_of}
-use Rattle.pd_graph.specs.Audit.{roles_at, has_rule_at, count_at}
+use Rattle.pd_graph.specs.Audit.{roles_at, has_rule_at, count_at, note_at}
 
 -- the audit has the marks of the walk of this image
 pub record IsWalked (graph : Graph) (image : List (List ℕ)) (audit : Audit) : Type 0 where
   pub roles : (b role : ℕ) → b < graph.nr → role < 16 → has_bit (roles_at audit b) role ≡ is_reached graph image (pair b role)
   pub rules : (b : ℕ) (wanted : Rule) → b < graph.nr → has_rule_at audit b wanted ≡ walk_bad graph image b wanted
   pub counts : (b : ℕ) → b < graph.nr → count_at audit b ≡ meta_count graph image b
+
+-- the block is a leaf of a tree in the role, and breaks no rule there
+pub record IsLeaf (graph : Graph) (role place : ℕ) (block : List ℕ) : Type 0 where
+  pub tree : graph.is_tree role ≡ true
+  pub sound : IsSound graph role place block
+  pub leaf : graph.is_inner role place block ≡ false
+
+-- the note is that of the block as a leaf, in one of the roles that pass
+pub record IsLeafNote (graph : Graph) (image : List (List ℕ)) (pairs : ℕ → Bool) (b : ℕ) (note : Note) : Type 0 where
+  pub role : ℕ
+  pub within : role < 16
+  pub passes : pairs (pair b role) ≡ true
+  pub leaf : IsLeaf graph role b (block_at image b)
+  pub same : note ≡ ends_note (graph.keys role b (block_at image b))
+
+-- the leaves among the pairs are noted, and nothing else is
+pub record AreLeavesNoted (graph : Graph) (image : List (List ℕ)) (pairs : ℕ → Bool) (notes : ℕ → Note) : Type 0 where
+  pub only : (b : ℕ) → (notes b ≡ no_note) ⊎ IsLeafNote graph image pairs b (notes b)
+  pub each : (b role : ℕ) → role < 16 → pairs (pair b role) ≡ true → IsLeaf graph role b (block_at image b) → (notes b).height ≡ 1
+
+-- a look at a block notes it as a leaf, and no other
+pub record NotesLeaf (graph : Graph) (role b : ℕ) (block : List ℕ) (old new : ℕ → Note) : Type 0 where
+  pub leaf : IsLeaf graph role b block
+  pub notes : (c : ℕ) → new c ≡ (if c == b then ends_note (graph.keys role b block) else old c)
+
+-- or it is none, and nothing is noted
+pub record NotesNone (graph : Graph) (role b : ℕ) (block : List ℕ) (old new : ℕ → Note) : Type 0 where
+  pub none : IsLeaf graph role b block → ⊥
+  pub notes : (c : ℕ) → new c ≡ old c
+
+-- the audit has the notes of the leaves that are reached
+abbrev pub HasNotedLeaves : Graph → List (List ℕ) → Audit → Type 0
+HasNotedLeaves graph image audit = AreLeavesNoted graph image (is_reached graph image) (note_at audit)
 
 -- how many pairs were read
 unfoldable pub read_number : ℕ → Marks → ℕ

@@ -13,13 +13,14 @@ use pd_kinds::{Rule, Rules};
 use std::alloc::{AllocError, Global};
 
 /// What is known of each metadata block: the roles and the references that the walk met, the rules that
-/// it breaks, and the notes of settling. It takes about 60 bytes a block, all of them in `new`.
+/// it breaks, and the notes of the nodes of trees. It takes about 60 bytes a block, all of them in `new`.
 #[derive(Drop)]
 pub struct Audit {
     nr: u64,
     pub(crate) walked: bool,
     pub(crate) marks: Marks,
-    /// The notes of settling. Whatever is noted there, the walk's marks stay.
+    /// The notes of nodes: of the leaves by the walk, and of the others by settling. Whatever is noted there, the
+    /// walk's marks stay.
     pub notes: Notes,
     ghost places: { HasPlaces nr marks },
     ghost note_places: { size_of notes ≡ nr },
@@ -108,7 +109,7 @@ impl Audit {
         self.marks.add_rule(b, rule);
     }
 
-    /// What settling noted of block b.
+    /// What was noted of block b.
     pub fn note(&self, b: u64) -> Note
         requires { b < blocks_of self.now }
         ensures { result ≡ note_at self.now b }

@@ -154,18 +154,25 @@ impl Marks {
     }
 
     /// Looks at a block in a role: keeps the rules that it breaks, and follows its edges if it breaks none.
-    pub(crate) fn look<F: Format>(&mut self, format: &F, role: u8, b: u64, block: &Block)
+    pub(crate) fn look<F: Format>(
+        &mut self,
+        format: &F,
+        role: u8,
+        b: u64,
+        block: &Block,
+        broken: &Rules,
+    )
         requires role { role < F.ROLES }
         requires within { b < (F.graph format.now).nr }
         requires places { HasPlaces (F.graph format.now).nr self.old }
         requires room { (c : ℕ) → slice_index (counts_of self.old) c + 256 ≤ 2 ^ 64 }
+        requires judged { (rule : BrokenRule) → has_rule broken.now rule ≡ (F.graph format.now).bad role b block.now.0 rule }
         ensures { Looks ((F.graph format.now).edges role b block.now.0) b ((F.graph format.now).bad role b block.now.0) self.old self.new }
     {
-        let broken = format.rules(role, b, block);
         if broken.is_empty() {
             self.follow(format, role, b, block);
         } else {
-            self.add_rules(b as usize, &broken);
+            self.add_rules(b as usize, broken);
         }
     }
 }

@@ -4,7 +4,7 @@ ghost use Rattle.std.specs.Prelude.{◌≡◌, ℕ, ◌<◌, ◌≤◌, ◌==◌
 use crate::marks::table;
 use std::alloc::{AllocError, Global};
 
-/// What settling keeps of a node: the least and the greatest key below it, the number of entries below it,
+/// What is kept of a node: the least and the greatest key below it, the number of entries below it,
 /// its height, and whether its own children are in range.
 #[derive(Clone, Copy, Debug, PartialEq, Eq)]
 pub struct Note {

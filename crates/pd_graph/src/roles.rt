@@ -40,13 +40,7 @@ pub(crate) fn first_unread(seen: u16, read: u16) -> Option<u8>
 pub(crate) fn are_several(roles: u16) -> bool
     ensures { result ≡ has_several roles }
 {
-    let mut count = 0u32;
-    for role in 0..16 {
-        if has_role(roles, role) {
-            count += 1;
-        }
-    }
-    1 < count
+    1 < roles.count_ones()
 }
 
 /// Adds a role to the set of block b.

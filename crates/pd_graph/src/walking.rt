@@ -2,19 +2,23 @@ ghost use Rattle.std.specs.Prelude.{◌≡◌, ℕ, ◌+◌, ◌<◌, ◌≤◌,
 ghost use Rattle.pd_kinds.specs.Objects.{CountsFault};
 ghost use Rattle.pd_kinds.specs.Graph.{nodes};
 ghost use Rattle.pd_image.specs.Device.{IsAttached, OnlyReads};
-ghost use Rattle.pd_graph.specs.Marks.{HasPlaces};
-ghost use Rattle.pd_graph.specs.Notes.{no_note};
+ghost use Rattle.pd_graph.specs.Marks.{HasPlaces, read_of};
+ghost use Rattle.pd_graph.specs.Notes.{no_note, size_of, note_in};
+ghost use Rattle.pd_graph.specs.Roles.{is_in};
 ghost use Rattle.pd_graph.specs.Audit.{blocks_of, has_walked, note_at, IsNew};
-ghost use Rattle.pd_graph.specs.Walk.{IsWalked, IsSafe, IsTold, IsDone, read_number};
+ghost use Rattle.pd_graph.specs.Walk.{IsWalked, AreLeavesNoted, HasNotedLeaves, IsSafe, IsTold, IsDone, read_number};
 
 use crate::audit::Audit;
 use crate::format::Format;
 use crate::marks::Marks;
+use crate::notes::Notes;
+use crate::noting::note_leaf;
 use pd_image::{Device, Failed};
 use pd_kinds::Block;
 
 /// Reads every reachable block once in each of its roles, and marks in the audit the roles in which it
-/// was met, the rules that it breaks, and the references to it. It takes no memory.
+/// was met, the rules that it breaks, and the references to it. It notes the leaves of trees that break no
+/// rule: a block that is met in two roles has the note of one of them. It takes no memory.
 ///
 /// After `Failed` the audit may not be used again.
 pub fn walk<F: Format, D: Device>(audit: &mut Audit, format: &F, dev: &mut D) -> Result<(), Failed>
@@ -24,7 +28,10 @@ pub fn walk<F: Format, D: Device>(audit: &mut Audit, format: &F, dev: &mut D) ->
     ensures walked { has_walked audit.new ≡ is_ok result }
     ensures marks { OnOk result (IfSome (D.state dev.old).held (λ image. IsWalked (F.graph format.now) image audit.new)) }
     ensures number { blocks_of audit.new ≡ blocks_of audit.old }
-    ensures notes { (b : ℕ) → note_at audit.new b ≡ no_note }
+    ensures leaves { OnOk result (IfSome (D.state dev.old).held (λ image. HasNotedLeaves (F.graph format.now) image audit.new)) }
+
+    // Also where a read failed, and whatever the device gives.
+    ensures notes { (b : ℕ) → (note_at audit.new b).height ≤ 1 }
 
     // At most one read for each reachable pair, also where one failed.
     ensures reads { IfSome (D.state dev.old).held (λ image. (D.state dev.new).reads ≤ (D.state dev.old).reads + length (nodes (F.graph format.now) image)) }
@@ -32,20 +39,34 @@ pub fn walk<F: Format, D: Device>(audit: &mut Audit, format: &F, dev: &mut D) ->
     ensures faults { CountsFault result (D.state dev.old).faults (D.state dev.new).faults }
 {
     audit.marks.meet(0, 0);
-    read_all(&mut audit.marks, format, dev)?;
+    read_all(&mut audit.marks, &mut audit.notes, format, dev)?;
     audit.walked = true;
     Ok(())
 }
 
-/// Reads each pair that was met and not yet read, and follows its edges, until there is none.
-fn read_all<F: Format, D: Device>(marks: &mut Marks, format: &F, dev: &mut D) -> Result<(), Failed>
+/// Reads each pair that was met and not yet read, follows its edges, and notes it where it is a leaf, until
+/// there is none.
+fn read_all<F: Format, D: Device>(
+    marks: &mut Marks,
+    notes: &mut Notes,
+    format: &F,
+    dev: &mut D,
+) -> Result<(), Failed>
     requires safe { IsSafe (F.graph format.now) marks.old }
     requires told { IfSome (D.state dev.old).held (λ image. IsTold (F.graph format.now) image marks.old) }
     requires fresh { read_number (F.graph format.now).nr marks.old ≡ 0 }
+    requires leaves { IfSome (D.state dev.old).held (λ image.
+        AreLeavesNoted (F.graph format.now) image (is_in (read_of marks.old)) (note_in notes.old)) }
+    requires notes { (b : ℕ) → (note_in notes.old b).height ≤ 1 }
+    requires number { size_of notes.old ≡ (F.graph format.now).nr }
     requires attached { IsAttached (D.state dev.old) }
     requires within { (F.graph format.now).nr ≤ (D.state dev.old).blocks }
     ensures places { HasPlaces (F.graph format.now).nr marks.new }
     ensures done { OnOk result (IfSome (D.state dev.old).held (λ image. IsDone (F.graph format.now) image marks.new)) }
+    ensures leaves { OnOk result (IfSome (D.state dev.old).held (λ image.
+        AreLeavesNoted (F.graph format.now) image (is_in (read_of marks.new)) (note_in notes.new))) }
+    ensures notes { (b : ℕ) → (note_in notes.new b).height ≤ 1 }
+    ensures number { size_of notes.new ≡ size_of notes.old }
     ensures reads { IfSome (D.state dev.old).held (λ image. (D.state dev.new).reads ≤ (D.state dev.old).reads + length (nodes (F.graph format.now) image)) }
     ensures kept { OnlyReads (D.state dev.old) (D.state dev.new) }
     ensures faults { CountsFault result (D.state dev.old).faults (D.state dev.new).faults }
@@ -53,7 +74,9 @@ fn read_all<F: Format, D: Device>(marks: &mut Marks, format: &F, dev: &mut D) ->
     let mut block = Block::zeros();
     while let Some((b, role)) = marks.take() {
         dev.read(b, &mut block)?;
-        marks.look(format, role, b, &block);
+        let broken = format.rules(role, b, &block);
+        marks.look(format, role, b, &block, &broken);
+        note_leaf(notes, format, role, b, &block, &broken);
     }
     Ok(())
 }

@@ -4,7 +4,6 @@ ghost use Rattle.std.specs.Prelude.{◌≡◌, ℕ, ◌+◌, ◌-◌, ◌^◌, �
 ghost use Rattle.pd_kinds.specs.CheckFault.{CountsCheckFault};
 ghost use Rattle.pd_image.specs.Device.{IsAttached, OnlyReads};
 ghost use Rattle.pd_graph.specs.Audit.{blocks_of};
-ghost use Rattle.pd_graph.specs.Roles.{has_bit};
 ghost use Rattle.pd_graph.specs.Walk.{IsWalked};
 ghost use Rattle.pd_laws.specs.InOrder.{AreInOrder};
 ghost use Rattle.pd_count.specs.Counted.{HasCounted};
@@ -12,7 +11,7 @@ ghost use Rattle.pd_refs.specs.Refs.{number_in, refs_at, refs_before};
 
 use crate::adding::add_refs;
 use pd_count::Counts;
-use pd_graph::{Audit, Format};
+use pd_graph::{Audit, Format, has_role};
 use pd_image::Device;
 use pd_kinds::{Block, CheckFault};
 use std::alloc::Global;
@@ -47,19 +46,22 @@ pub fn count_data_refs<F: Format, D: Device>(
         Ok(counts) => counts,
         Err(_) => return Err(CheckFault::Memory),
     };
+    let mut block = Block::zeros();
     for b in 0..audit.nr() {
-        count_block(dev, format, audit, role, b, &mut counts)?;
+        count_block(dev, format, audit, role, b, &mut block, &mut counts)?;
     }
     Ok(counts)
 }
 
-/// Counts the data blocks that block b names in the role, where the audit has it there.
+/// Counts the data blocks that block b names in the role, where the audit has it there. The block is read into the one
+/// that is lent.
 fn count_block<F: Format, D: Device>(
     dev: &mut D,
     format: &F,
     audit: &Audit,
     role: u8,
     b: u64,
+    block: &mut Block,
     counts: &mut Counts,
 ) -> Result<(), CheckFault>
     requires attached { IsAttached (D.state dev.old) }
@@ -78,17 +80,8 @@ fn count_block<F: Format, D: Device>(
     if !has_role(audit.roles(b), role) {
         return Ok(());
     }
-    let mut block = Block::zeros();
-    match dev.read(b, &mut block) {
-        Ok(()) => add_refs(format, role, &block, counts),
+    match dev.read(b, block) {
+        Ok(()) => add_refs(format, role, block, counts),
         Err(_) => Err(CheckFault::Device),
     }
-}
-
-/// Whether the role is in the set.
-fn has_role(roles: u16, role: u8) -> bool
-    requires { role < 16 }
-    ensures { result ≡ has_bit roles role }
-{
-    (roles >> role) & 1 == 1
 }

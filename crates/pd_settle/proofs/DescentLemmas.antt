@@ -191,7 +191,7 @@ module _ (graph : Graph) (contents : Contents) (held : Option (List (List ℕ)))
             let sound = sound_at graph image nodes fit b role block within linked.1 settleable trail.0 is_fit content in
             let is_inner = read.is_inner role b block known sound ∙ opens.inner_node in
             let leads = ap (λ (edges : List Edge). is_among child (blocks_of_edges edges)) (read.edges role b block known sound) ∙ opens.leads in
-            let is_under = child_at graph image b role block within content laws is_inner child leads in
+            let is_under = child_at graph image b role block within (ap (λ o. unwrap_or o []) content) laws is_inner child leads in
             let is_child = settleable.closed (pair b role) (pair child role) trail.0 is_under in (
               ordering_opened graph image nodes fit strict (note_in old) (note_in new) child role (open_note (b + 1)) within changes before.0 is_child opens.within refl opens.unknown,
               (is_child, is_under, trail),
@@ -224,7 +224,7 @@ module _ (graph : Graph) (contents : Contents) (held : Option (List (List ℕ)))
             let is_fit = fit_open graph image nodes fit strict (note_in old) b before.0 linked.1 linked.2 in
             let sound = sound_at graph image nodes fit b role block within linked.1 settleable trail.0 is_fit content in
             let verdict = verdict_told graph contents role b block read known sound strict (note_in old) note settles.verdict in
-            let right = verdict_right graph image nodes fit strict b role block within content laws settleable trail.0 is_fit (note_in old) before.0 rest trail descending.are note verdict in (
+            let right = verdict_right graph image nodes fit strict b role block within (ap (λ o. unwrap_or o []) content) laws settleable trail.0 is_fit (note_in old) before.0 rest trail descending.are note verdict in (
               ordering_settled graph image nodes fit strict (note_in old) (note_in new) b role note within changes before.0 trail.0 linked.1 settleable low linked.2 right,
               trail.2,
             ))

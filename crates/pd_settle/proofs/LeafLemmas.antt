@@ -6,7 +6,8 @@ use Rattle.pd_kinds.specs.Node.{is_ascending}
 use Rattle.pd_kinds.specs.Edge.{Edge}
 use Rattle.pd_kinds.specs.Graph.{Graph}
 use Rattle.pd_kinds.specs.Lawful.{IsWithin}
-use Rattle.pd_settle.specs.Notes.{lower, higher, least_of, greatest_of, capped, keys_note, ends_note}
+use Rattle.pd_graph.specs.Notes.{ends_note}
+use Rattle.pd_settle.specs.Notes.{lower, higher, least_of, greatest_of, capped, keys_note}
 use Rattle.pd_settle.specs.Looking.{blocks_of_edges}
 use Rattle.pd_settle.proofs.KeyLemmas.{same_notes}
 

@@ -15,5 +15,6 @@ pub mod ExactLemmas
 pub mod CleanLemmas
 pub mod EntryLemmas
 pub mod SettledLemmas
+pub mod FirstLemmas
 pub mod RoleLemmas
 pub mod BestLemmas

@@ -1,7 +1,6 @@
 -- A node of a tree and its children, as its block shows them.
-use Rattle.std.proofs.Common.{◌≡◌, inl, inr, ℕ, ◌*◌, ◌/◌, ◌%◌, ◌<◌, Bool, true, false, ◌&&◌, ◌||◌, cond, nat_eq, List, [], ◌∷◌, map, Some, refl, sym, ◌∙◌, ap, arith, eq-eqb}
-use Rattle.std.specs.List.{list_any, AllByRecursion, slice_get, range_with_len}
-use Rattle.std.specs.Option.{unwrap_or}
+use Rattle.std.proofs.Common.{◌≡◌, inl, inr, ℕ, ◌*◌, ◌/◌, ◌%◌, ◌<◌, Bool, true, false, ◌&&◌, ◌||◌, cond, nat_eq, List, [], ◌∷◌, map, refl, sym, ◌∙◌, ap, arith, eq-eqb}
+use Rattle.std.specs.List.{list_any, AllByRecursion, range_with_len}
 use Rattle.std.proofs.lemmas.Bool.{or_cases, or_left, or_right, and_parts, and_from, eqb-true, both_ways}
 use Rattle.pd_kinds.specs.declared.rule.Rule.{Rule}
 use Rattle.pd_kinds.specs.declared.rule.Rule.TheVariants as r
@@ -66,12 +65,12 @@ ranges_map f by_pair by_block (low ∷ []) (c ∷ cs) same = rw (same c) refl
 ranges_map f by_pair by_block (low ∷ high ∷ lows) (c ∷ cs) same = rw (same c, ranges_map f by_pair by_block (high ∷ lows) cs same) refl
 
 -- a node, its block and its role
-module _ (graph : Graph) (image : List (List ℕ)) (b role : ℕ) (block : List ℕ) (within : role < 16) (found : slice_get image b ≡ Some block) where
+module _ (graph : Graph) (image : List (List ℕ)) (b role : ℕ) (block : List ℕ) (within : role < 16) (found : block_at image b ≡ block) where
   at_pair : {X : Type 0} → (F : ℕ → ℕ → List ℕ → X) → F (pair b role % 16) (pair b role / 16) (block_at image (pair b role / 16)) ≡ F role b block
   at_pair F =
       ap (λ (s : ℕ). F s (pair b role / 16) (block_at image (pair b role / 16))) (pair_role b role within)
       ∙ (ap (λ (place : ℕ). F role place (block_at image place)) (pair_block b role within)
-      ∙ ap (λ o. F role b (unwrap_or o [])) found)
+      ∙ ap (F role b) found)
 
   pub inner_at : is_inner_pair graph image (pair b role) ≡ graph.is_inner role b block
   inner_at = at_pair graph.is_inner

@@ -1,8 +1,8 @@
 -- In the end each node is settled, so the marks are those of the stage Order.
-use Rattle.std.proofs.Common.{◌≡◌, inl, inr, ℕ, zero, suc, ◌+◌, ◌-◌, ◌*◌, ◌<◌, ◌≤◌, Bool, true, false, ◌&&◌, ◌||◌, not, cond, nat_eq, nat_lt, List, [], length, Some, None, refl, sym, ◌∙◌, ap, subst, arith, zero-add, eq-eqb}
+use Rattle.std.proofs.Common.{◌≡◌, ◌⊎◌, inl, inr, ℕ, zero, suc, ◌+◌, ◌-◌, ◌*◌, ◌<◌, ◌≤◌, Bool, true, false, ◌&&◌, ◌||◌, not, cond, nat_eq, nat_lt, List, [], length, Some, None, refl, sym, ◌∙◌, ap, subst, arith, zero-add, eq-eqb}
 use Rattle.std.specs.List.{list_any, range_with_len}
 use Rattle.std.proofs.Math.Bool.{or-false}
-use Rattle.std.proofs.lemmas.Bool.{cases_Bool, cases_eq, cases_lt, ne_eqb, both_ways, and_parts, and_from, lt-ltb, le-ltb, ltb-true, eqb-false, not-true}
+use Rattle.std.proofs.lemmas.Bool.{cases_Bool, cases_eq, cases_lt, ne_eqb, both_ways, and_parts, and_from, lt-ltb, le-ltb, ltb-true}
 use Rattle.pd_kinds.specs.declared.rule.Rule.{Rule}
 use Rattle.pd_kinds.specs.declared.rule.Rule.TheVariants as r
 use Rattle.pd_kinds.specs.Rule.{same_rule}
@@ -16,15 +16,14 @@ use Rattle.pd_graph.specs.declared.notes.Note.{Note}
 use Rattle.pd_graph.specs.Roles.{has_bit}
 use Rattle.pd_graph.specs.Audit.{roles_at, has_rule_at, note_at, KeepsButNotes, KeepsButRules}
 use Rattle.pd_graph.specs.Walk.{IsWalked}
-use Rattle.pd_graph.specs.Weight.{weigh, weigh_list}
-use Rattle.pd_graph.proofs.Weights.{length_weighs, wider_weight}
+use Rattle.pd_graph.specs.Weight.{weigh_list}
 use Rattle.pd_graph.proofs.BitLemmas.{pair_block, counts_one, counts_none}
 use Rattle.pd_graph.proofs.AnyLemmas.{any_kept}
 use Rattle.pd_settle.specs.Notes.{keys_note}
 use Rattle.pd_settle.specs.Good.{is_well, is_good_node, IsGoodNote}
 use Rattle.pd_settle.proofs.ExactLemmas.{exact_at, never_deep}
 use Rattle.pd_settle.proofs.ReachLemmas.{reached_within, any_child_node}
-use Rattle.pd_settle.specs.Ordering.{is_node, IsClean, IsOrdering, IsClosed, HasRoles, Knows, is_known, is_settled, steps}
+use Rattle.pd_settle.specs.Ordering.{is_node, IsClean, IsOrdering, IsClosed, HasRoles, Knows}
 use Rattle.pd_settle.specs.Settled.{AreSettled, noted_rule, breaks, IsSettled}
 use Rattle.pd_settle.proofs.GoodLemmas.{good_is_shallow}
 use Rattle.pd_settle.proofs.ChainLemmas.{is_among, longer_chain, chain_by}
@@ -227,7 +226,7 @@ module _ (graph : Graph) (image : List (List ℕ)) (audit : Audit) (lawful : IsL
     exact = exact_end;
   }
 
--- each block that something was noted of is reached in a role
+-- one of a range that passes
 one_weighs : (f : ℕ → Bool) (a n x : ℕ) → a ≤ x → x < a + n → f x ≡ true → 1 ≤ weigh_list f (λ c. 1) (range_with_len a n)
 one_weighs f a zero x low high passes = absurd (omega arith)
 one_weighs f a (suc n) x low high passes = elim (cases_eq a x) [
@@ -250,38 +249,27 @@ weight_of_test : (b : Bool) → cond b 1 0 ≤ 1
 weight_of_test true = omega arith
 weight_of_test false = omega arith
 
-blocks_from : (f g : ℕ → Bool) (a n : ℕ) → ((c : ℕ) → f c ≡ true → (role : ℕ) × (role < 16) × (g (pair c role) ≡ true))
-    → weigh_list f (λ c. 1) (range_with_len a n) ≤ weigh_list g (λ c. 1) (range_with_len (16 * a) (16 * n))
-blocks_from f g a zero each = omega arith
-blocks_from f g a (suc n) each =
-    let rest = blocks_from f g (a + 1) n each in
+-- each that passes passes another test, or is the block of a pair that passes the third
+pub blocks_from : (f h g : ℕ → Bool) (a n : ℕ) → ((c : ℕ) → f c ≡ true → (h c ≡ true) ⊎ ((role : ℕ) × (role < 16) × (g (pair c role) ≡ true)))
+    → weigh_list f (λ c. 1) (range_with_len a n) ≤ weigh_list h (λ c. 1) (range_with_len a n) + weigh_list g (λ c. 1) (range_with_len (16 * a) (16 * n))
+blocks_from f h g a zero each = omega arith
+blocks_from f h g a (suc n) each =
+    let rest = blocks_from f h g (a + 1) n each in
     let split : weigh_list g (λ c. 1) (range_with_len (16 * a) (16 * suc n)) ≡ weigh_list g (λ c. 1) (range_with_len (16 * a) 16) + weigh_list g (λ c. 1) (range_with_len (16 * (a + 1)) (16 * n)) =
     ap (λ (k : ℕ). weigh_list g (λ c. 1) (range_with_len (16 * a) k)) (let e : 16 * suc n ≡ 16 + 16 * n = omega arith in e)
     ∙ (weigh_split g (16 * a) 16 (16 * n)
     ∙ ap (λ (k : ℕ). weigh_list g (λ c. 1) (range_with_len (16 * a) 16) + weigh_list g (λ c. 1) (range_with_len k (16 * n))) (let e : 16 * a + 16 ≡ 16 * (a + 1) = omega arith in e)) in
+    let most = weight_of_test (f a) in
     elim (cases_Bool (f a)) [
-      | inl e ↦
-          let one = each a e in
-          let within = one.1 in
-          let some = one_weighs g (16 * a) 16 (pair a one.0) (omega arith) (omega arith) one.2 in
-          let most = weight_of_test (f a) in
-          omega arith
+      | inl e ↦ elim (each a e) [
+        | inl same ↦ let kept = counts_one (h a) same in omega arith
+        | inr one ↦
+            let within = one.1 in
+            let some = one_weighs g (16 * a) 16 (pair a one.0) (omega arith) (omega arith) one.2 in
+            omega arith
+      ]
       | inr e ↦ let none = counts_none (f a) e in omega arith
     ]
-
--- so no more steps were made than twice the pairs that are reached
-pub steps_reached : (graph : Graph) (image : List (List ℕ)) (notes : ℕ → Note) → IsOrdering graph image (is_node graph image) (λ c. true) false notes
-    → steps graph.nr notes ≤ 2 * length (nodes graph image)
-unfolding steps nodes weigh
-steps_reached graph image notes ordering =
-    let number = length_weighs (is_reached graph image) (16 * graph.nr) in
-    let known = blocks_from (is_known notes) (is_reached graph image) 0 graph.nr
-    (λ c e.
-    let some = eqb-false (notes c).height 0 (not-true (nat_eq (notes c).height 0) e) in
-    let node = ordering.looked c (omega arith) in
-    (node.0, node.1, (and_parts _ _ node.2).0)) in
-    let less = wider_weight (is_settled notes) (is_known notes) (λ c. 1) graph.nr (λ c e. (and_parts _ _ e).0) in
-    omega arith
 
 -- each node was visited, by the roles that the audit has
 pub done_from : (graph : Graph) (image : List (List ℕ)) (first now : Audit) (roles b : ℕ) → IsLawful graph → graph.roles ≡ roles → graph.nr ≤ b → IsWalked graph image first

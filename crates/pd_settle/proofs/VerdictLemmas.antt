@@ -1,12 +1,12 @@
 -- What a node turns out to be is right.
-use Rattle.std.proofs.Common.{◌≡◌, inl, inr, ℕ, ◌<◌, ◌≤◌, Bool, true, false, ◌&&◌, ◌||◌, not, nat_eq, nat_lt, List, ◌∷◌, map, Some, sym, ◌∙◌, ap, subst, arith}
-use Rattle.std.specs.List.{list_all, slice_get}
+use Rattle.std.proofs.Common.{◌≡◌, inl, inr, ℕ, ◌<◌, ◌≤◌, Bool, true, false, ◌&&◌, ◌||◌, not, nat_eq, nat_lt, List, ◌∷◌, map, sym, ◌∙◌, ap, subst, arith}
+use Rattle.std.specs.List.{list_all}
 use Rattle.std.proofs.lemmas.Bool.{and_parts, eqb-false, lt-ltb, ltb-true, ltb-false, not-true, both_ways, cases_eq, cases_lt}
-use Rattle.pd_kinds.specs.Graph.{Graph, pair, block_of, own_keys, is_inner_pair}
+use Rattle.pd_kinds.specs.Graph.{Graph, block_at, pair, block_of, own_keys, is_inner_pair}
 use Rattle.pd_kinds.specs.Lawful.{KeepsLaws}
 use Rattle.pd_kinds.specs.Order.{children, keys_below, is_in_range}
 use Rattle.pd_graph.specs.declared.notes.Note.{Note}
-use Rattle.pd_graph.specs.Notes.{no_note}
+use Rattle.pd_graph.specs.Notes.{no_note, ends_note}
 use Rattle.pd_graph.proofs.BitLemmas.{pair_block}
 use Rattle.pd_settle.specs.Notes.{keys_note, raised, joined, are_notes_in_range, IsNoted}
 use Rattle.pd_settle.specs.Good.{is_well, is_good_node, AreSettleable, IsGoodNote}
@@ -46,7 +46,32 @@ pub record IsRight (graph : Graph) (image : List (List ℕ)) (fit : ℕ → Bool
   pub good : note.height ≤ 64 → IsGoodNote graph image fit strict p note
   pub bad : 65 ≤ note.height → is_good_node graph image fit strict p ≡ false
 
-module _ (graph : Graph) (image : List (List ℕ)) (nodes fit : ℕ → Bool) (strict : Bool) (b role : ℕ) (block : List ℕ) (within : role < 16) (found : slice_get image b ≡ Some block)
+-- a leaf's note is right
+pub leaf_right : (graph : Graph) (image : List (List ℕ)) (fit : ℕ → Bool) (strict : Bool) (b role : ℕ) (block : List ℕ) → role < 16 → block_at image b ≡ block → fit b ≡ true
+    → KeepsLaws graph role b block → graph.is_inner role b block ≡ false → (note : Note) → note ≡ ends_note (graph.keys role b block)
+    → IsGoodNote graph image fit strict (pair b role) note
+unfolding is_good_node
+leaf_right graph image fit strict b role block within found is_fit laws e note ends =
+    let same = ends ∙ ends_are_noted (graph.keys role b block) laws.ascending laws.key_number in
+    let keys_are = keys_at graph image b role block within found in
+    let none = children_none graph image b role block within found e in
+    let is_leaf = inner_at graph image b role block within found ∙ e in
+    record {
+      good =
+          good_from (is_well graph image fit strict) (children graph image) 63 (pair b role)
+          (well_leaf (fit (block_of (pair b role))) strict (is_inner_pair graph image (pair b role)) (is_in_range graph image (pair b role))
+          (ap fit (pair_block b role within) ∙ is_fit) is_leaf)
+          (λ q among. absurd (both_ways _ (ap (is_among q) none) among));
+      noted =
+          subst (λ (n : Note). IsNoted (is_inner_pair graph image) (children graph image) (own_keys graph image) (pair b role) n)
+          (ap (λ (ks : List ℕ). keys_note ks 1 true) keys_are ∙ sym same)
+          (noted_leaf (is_inner_pair graph image) (children graph image) (own_keys graph image) (pair b role) is_leaf none);
+      ranged =
+          ap (λ (n : Note). n.in_range) same
+          ∙ sym (ap (λ (x : Bool). not x || is_in_range graph image (pair b role)) is_leaf);
+    }
+
+module _ (graph : Graph) (image : List (List ℕ)) (nodes fit : ℕ → Bool) (strict : Bool) (b role : ℕ) (block : List ℕ) (within : role < 16) (found : block_at image b ≡ block)
     (laws : KeepsLaws graph role b block) (settleable : AreSettleable graph image nodes fit) (node : nodes (pair b role) ≡ true) (is_fit : fit b ≡ true)
     (notes : ℕ → Note) (ordering : IsOrdering graph image nodes fit strict notes) where
   -- a child of the node is a node
@@ -126,25 +151,6 @@ module _ (graph : Graph) (image : List (List ℕ)) (nodes fit : ℕ → Bool) (s
   inner_is : is_inner_pair graph image (pair b role) ≡ graph.is_inner role b block
   inner_is = inner_at graph image b role block within found
 
-  leaf_right : (note : Note) → graph.is_inner role b block ≡ false → note ≡ keys_note (graph.keys role b block) 1 true → IsGoodNote graph image fit strict (pair b role) note
-  unfolding is_good_node
-  leaf_right note e same =
-      let keys_are = keys_at graph image b role block within found in
-      let none = children_none graph image b role block within found e in
-      record {
-        good =
-            good_from (is_well graph image fit strict) (children graph image) 63 (pair b role)
-            (well_leaf (fit (block_of (pair b role))) strict (is_inner_pair graph image (pair b role)) (is_in_range graph image (pair b role)) fit_here (inner_is ∙ e))
-            (λ q among. absurd (both_ways _ (ap (is_among q) none) among));
-        noted =
-            subst (λ (n : Note). IsNoted (is_inner_pair graph image) (children graph image) (own_keys graph image) (pair b role) n)
-            (ap (λ (ks : List ℕ). keys_note ks 1 true) keys_are ∙ sym same)
-            (noted_leaf (is_inner_pair graph image) (children graph image) (own_keys graph image) (pair b role) (inner_is ∙ e) none);
-        ranged =
-            ap (λ (n : Note). n.in_range) same
-            ∙ sym (ap (λ (x : Bool). not x || is_in_range graph image (pair b role)) (inner_is ∙ e));
-      }
-
   shallow_right : (note : Note) → graph.is_inner role b block ≡ true → list_all (λ c. is_low (notes c)) (blocks_of_edges (graph.edges role b block)) ≡ true
       → note ≡ raised (joined notes no_note (blocks_of_edges (graph.edges role b block))) note.in_range
       → note.in_range ≡ are_notes_in_range notes (graph.keys role b block) (blocks_of_edges (graph.edges role b block))
@@ -191,7 +197,7 @@ module _ (graph : Graph) (image : List (List ℕ)) (nodes fit : ℕ → Bool) (s
   verdict_right rest trail are note (leaf e same) =
       let h = ap (λ (n : Note). n.height) same in
       record {
-        good = λ few. leaf_right note e (same ∙ ends_are_noted (graph.keys role b block) laws.ascending laws.key_number);
+        good = λ few. leaf_right graph image fit strict b role block within found is_fit laws e note same;
         bad = λ many. absurd (omega arith);
       }
   verdict_right rest trail are note (deep e over same) =

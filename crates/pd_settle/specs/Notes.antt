@@ -1,6 +1,6 @@
 -- The note of a node from the notes of its children.
 use Rattle.std.specs.Prelude.{◌≡◌, ℕ, ◌+◌, ◌-◌, ◌^◌, ◌≤◌, min, max, Bool, true, false, ◌==◌, ◌&&◌, not, nat_lt, List, [], ◌∷◌, length, Option, Some, None}
-use Rattle.std.specs.List.{list_any, slice_get}
+use Rattle.std.specs.List.{list_any}
 use Rattle.std.specs.Option.{is_some}
 use Rattle.pd_graph.specs.declared.notes.Note.{Note}
 use Rattle.pd_kinds.specs.Order.{has_chain, gathered}
@@ -46,16 +46,6 @@ keys_note keys height in_range = record {
   below = capped (length keys);
   height = height;
   in_range = in_range;
-}
-
--- the note of a leaf by the first and the last of its keys
-abbrev pub ends_note : List ℕ → Note
-ends_note keys = record {
-  least = slice_get keys 0;
-  greatest = slice_get keys (length keys - 1);
-  below = length keys;
-  height = 1;
-  in_range = true;
 }
 
 -- a note without keys

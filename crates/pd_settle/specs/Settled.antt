@@ -1,10 +1,10 @@
 -- What settling leaves.
-use Rattle.std.specs.Prelude.{◌≡◌, ℕ, ◌*◌, ◌<◌, ◌≤◌, ◌==◌, not, nat_lt, Bool, true, false, if◌then◌else◌, List, length, Option, Some, None, slice_index}
-use Rattle.std.specs.List.{list_any}
+use Rattle.std.specs.Prelude.{◌≡◌, ℕ, ◌*◌, ◌<◌, ◌≤◌, ◌==◌, not, nat_lt, Bool, true, false, if◌then◌else◌, ◌&&◌, List, length, filter, Option, Some, None, slice_index}
+use Rattle.std.specs.List.{list_any, range_with_len}
 use Rattle.pd_kinds.specs.declared.rule.Rule.{Rule}
 use Rattle.pd_kinds.specs.declared.rule.Rule.TheVariants as r
 use Rattle.pd_kinds.specs.Rule.{same_rule}
-use Rattle.pd_kinds.specs.Graph.{Graph, block_at, block_of, pair}
+use Rattle.pd_kinds.specs.Graph.{Graph, block_at, block_of, pair, is_inner_pair, is_reached}
 use Rattle.pd_kinds.specs.Order.{children, is_deep, keys_below}
 use Rattle.pd_kinds.specs.Stages.{order_bad}
 use Rattle.pd_graph.specs.declared.audit.Audit.{Audit}
@@ -17,6 +17,10 @@ use Rattle.pd_graph.specs.Audit.{blocks_of, has_walked, roles_at, count_at, has_
 use Rattle.pd_settle.specs.Notes.{least_of, greatest_of, keys_note}
 use Rattle.pd_settle.specs.Good.{is_good_node, IsGoodNote}
 use Rattle.pd_settle.specs.Ordering.{is_node}
+
+-- the reachable inner nodes, ascending
+unfoldable pub inner_nodes : Graph → List (List ℕ) → List ℕ
+inner_nodes graph image = filter (λ p. is_reached graph image p && is_inner_pair graph image p) (range_with_len 0 (16 * graph.nr))
 
 -- each node is settled: those up to a height of 64 are the good ones
 pub record AreSettled (graph : Graph) (image : List (List ℕ)) (nodes fit : ℕ → Bool) (strict : Bool) (notes : ℕ → Note) : Type 0 where

@@ -3,8 +3,8 @@ use Rattle.std.specs.Prelude.{◌≡◌, ℕ, ◌+◌, ◌<◌, ◌==◌, Bool, 
 use Rattle.std.specs.List.{list_any}
 use Rattle.pd_graph.specs.declared.notes.Note.{Note}
 use Rattle.pd_graph.specs.declared.notes.Notes.{Notes}
-use Rattle.pd_graph.specs.Notes.{size_of, note_in}
-use Rattle.pd_settle.specs.Notes.{ends_note, keyless_note}
+use Rattle.pd_graph.specs.Notes.{size_of, note_in, ends_note}
+use Rattle.pd_settle.specs.Notes.{keyless_note}
 use Rattle.pd_settle.specs.Looking.{IsOutside, IsShallow, IsOverHigh, IsStray, IsAllowed}
 
 -- the note of a block on the stack: the block below it, as its number and 1 more, or 0

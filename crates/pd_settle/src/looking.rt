@@ -4,10 +4,10 @@ ghost use Rattle.std.specs.Prelude.{◌≡◌, ◌+◌, ◌<◌, true, length, n
 ghost use Rattle.std.specs.List.{list_all};
 ghost use Rattle.pd_graph.specs.Notes.{size_of, note_in};
 ghost use Rattle.pd_settle.specs.Looking.{blocks_of_edges, is_low, IsFound, IsShallow};
-ghost use Rattle.pd_settle.specs.Notes.{ends_note, keyless_note};
+ghost use Rattle.pd_settle.specs.Notes.{keyless_note};
 
 use crate::summary::{is_in_range, join};
-use pd_graph::{Format, Note, Notes};
+use pd_graph::{Format, Note, Notes, key_at};
 use pd_kinds::Block;
 
 /// What a look at the children of an inner node finds.
@@ -56,19 +56,6 @@ fn block_at<F: Format>(notes: &Notes, format: &F, role: u8, block: &Block, i: us
     ensures within { result < size_of notes.now }
 {
     child_at(format, role, block, i)
-}
-
-/// Key i, where there is one, of so many.
-fn key_at<F: Format>(format: &F, role: u8, block: &Block, number: usize, i: usize) -> Option<u64>
-    requires role { role < F.ROLES }
-    requires number { number ≡ length ((F.contents format.now).keys role block.now.0) }
-    ensures { result ≡ slice_get ((F.contents format.now).keys role block.now.0) i }
-{
-    if i < number {
-        Some(format.key_of_any(role, block, i))
-    } else {
-        None
-    }
 }
 
 /// The notes of the children of an inner node as that of the node.
@@ -134,22 +121,4 @@ pub(crate) fn look<F: Format>(
         return Seen::Stray;
     }
     Seen::Shallow(note)
-}
-
-/// The note of a node without children: its own keys, of which a sound node has the least first and the
-/// greatest last.
-pub(crate) fn leaf_note<F: Format>(format: &F, role: u8, block: &Block) -> Note
-    requires role { role < F.ROLES }
-    ensures { result ≡ ends_note ((F.contents format.now).keys role block.now.0) }
-{
-    let number = format.keys_of_any(role, block);
-    let least = key_at(format, role, block, number, 0);
-    let greatest = key_at(format, role, block, number, number.saturating_sub(1));
-    Note {
-        least,
-        greatest,
-        below: number as u64,
-        height: 1,
-        in_range: true,
-    }
 }

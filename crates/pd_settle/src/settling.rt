@@ -1,21 +1,20 @@
 //! The settling of a check: all nodes of trees, block after block.
 
-ghost use Rattle.std.specs.Prelude.{◌≡◌, ℕ, ◌+◌, ◌*◌, ◌<◌, ◌≤◌, ◌==◌, ◌||◌, ◌&&◌, true, false, length, is_ok, OnOk, IfSome, IfNone};
+ghost use Rattle.std.specs.Prelude.{◌≡◌, ℕ, ◌+◌, ◌*◌, ◌<◌, ◌≤◌, ◌==◌, ◌||◌, ◌&&◌, nat_lt, true, false, length, is_ok, OnOk, IfSome, IfNone, if◌then◌else◌};
 ghost use Rattle.pd_kinds.specs.declared.rule.Rule.{Rule};
 ghost use Rattle.pd_kinds.specs.Objects.{CountsFault};
-ghost use Rattle.pd_kinds.specs.Graph.{nodes};
 ghost use Rattle.pd_image.specs.Device.{IsAttached, OnlyReads};
 ghost use Rattle.pd_graph.specs.Roles.{has_bit};
 ghost use Rattle.pd_graph.specs.Notes.{no_note, size_of, note_in};
-ghost use Rattle.pd_graph.specs.Walk.{IsWalked};
+ghost use Rattle.pd_graph.specs.Walk.{IsWalked, HasNotedLeaves};
 ghost use Rattle.pd_graph.specs.Audit.{blocks_of, has_walked, roles_at, has_rule_at, note_at, KeepsButNotes, KeepsButRules};
 ghost use Rattle.pd_settle.specs.Good.{AreSettleable};
 ghost use Rattle.pd_settle.specs.Ordering.{is_node, IsOrdering, IsClosed, Knows, HasRoles, steps};
-ghost use Rattle.pd_settle.specs.Settled.{noted_rule, breaks, AreSettled, IsSettled, KeepsMet, KeepsWalk};
+ghost use Rattle.pd_settle.specs.Settled.{inner_nodes, noted_rule, breaks, AreSettled, IsSettled, KeepsMet, KeepsWalk};
 
 use crate::descending::descend;
 use crate::looking::keyless;
-use pd_graph::{Audit, Format, Note, Notes};
+use pd_graph::{Audit, Format, Note, Notes, has_role};
 use pd_image::{Device, Failed};
 use pd_kinds::Rule;
 
@@ -30,12 +29,26 @@ pub(crate) fn clear(notes: &mut Notes)
     }
 }
 
-/// Whether the role is in the set.
-fn has_role(roles: u16, role: u8) -> bool
-    requires { role < 16 }
-    ensures { result ≡ has_bit roles role }
+/// Forgets the note of block b, unless it is that of a leaf.
+fn forget_inner_node(notes: &mut Notes, b: u64)
+    requires { b < size_of notes.old }
+    ensures notes { (c : ℕ) → note_in notes.new c ≡ (if (c == b) && nat_lt 1 (note_in notes.old c).height then no_note else note_in notes.old c) }
+    ensures number { size_of notes.new ≡ size_of notes.old }
 {
-    (roles >> role) & 1 == 1
+    if 1 < notes.note(b).height {
+        notes.set_note(b, keyless(0, 0));
+    }
+}
+
+/// Forgets what was noted of each block but of leaves, as a walk leaves an audit's notes.
+fn forget_inner_nodes(notes: &mut Notes)
+    ensures low { (b : ℕ) → (note_in notes.new b).height ≤ 1 }
+    ensures leaves { (b : ℕ) → (note_in notes.old b).height ≤ 1 → note_in notes.new b ≡ note_in notes.old b }
+    ensures number { size_of notes.new ≡ size_of notes.old }
+{
+    for b in 0..notes.nr() {
+        forget_inner_node(notes, b);
+    }
 }
 
 /// The role in which block b is a node of a tree.
@@ -45,6 +58,9 @@ fn tree_role<F: Format>(audit: &Audit, format: &F, b: u64) -> Option<u8>
     ensures none { IfNone result ((role : ℕ) → role < F.ROLES → has_bit (roles_at audit.now b) role ≡ true → (F.graph format.now).is_tree role ≡ false) }
 {
     let roles = audit.roles(b);
+    if roles == 0 {
+        return None;
+    }
     for role in 0..F::ROLES {
         if has_role(roles, role) && format.is_tree(role) {
             return Some(role);
@@ -88,21 +104,23 @@ fn visit<F: Format, D: Device>(
     }
 }
 
-/// Forgets all notes, and settles each node of a tree.
+/// Settles each node of a tree that nothing is known of.
 fn note_each<F: Format, D: Device>(audit: &mut Audit, format: &F, dev: &mut D) -> Result<(), Failed>
     requires number { blocks_of audit.old ≡ (F.graph format.now).nr }
     requires sound { (b : ℕ) (rule : Rule) → b < (F.graph format.now).nr → has_rule_at audit.old b rule ≡ false }
+    requires notes { (b : ℕ) → (note_at audit.old b).height ≤ 1 }
     requires attached { IsAttached (D.state dev.old) }
     requires within { (F.graph format.now).nr ≤ (D.state dev.old).blocks }
     ensures settled { OnOk result (IfSome (D.state dev.old).held (λ image. IsWalked (F.graph format.now) image audit.old
+        → HasNotedLeaves (F.graph format.now) image audit.old
         → AreSettled (F.graph format.now) image (is_node (F.graph format.now) image) (λ c. true) false (note_at audit.new))) }
     ensures marks { KeepsButNotes audit.old audit.new }
     ensures reads { IfSome (D.state dev.old).held (λ image. IsWalked (F.graph format.now) image audit.old
-        → (D.state dev.new).reads ≤ (D.state dev.old).reads + 2 * length (nodes (F.graph format.now) image)) }
+        → HasNotedLeaves (F.graph format.now) image audit.old
+        → (D.state dev.new).reads ≤ (D.state dev.old).reads + 2 * length (inner_nodes (F.graph format.now) image)) }
     ensures kept { OnlyReads (D.state dev.old) (D.state dev.new) }
     ensures faults { CountsFault result (D.state dev.old).faults (D.state dev.new).faults }
 {
-    clear(&mut audit.notes);
     for b in 0..audit.nr() {
         visit(audit, format, dev, b)?;
     }
@@ -145,7 +163,7 @@ fn mark_each(audit: &mut Audit)
     }
 }
 
-/// Settles each node of a tree anew, and gives each block the rule of its note.
+/// Settles each node of a tree, and gives each block the rule of its note.
 fn settle_each<F: Format, D: Device>(
     audit: &mut Audit,
     format: &F,
@@ -156,23 +174,25 @@ fn settle_each<F: Format, D: Device>(
     requires attached { IsAttached (D.state dev.old) }
     requires within { (F.graph format.now).nr ≤ (D.state dev.old).blocks }
     ensures settled { OnOk result (IfSome (D.state dev.old).held (λ image. IsWalked (F.graph format.now) image audit.old
-        → IsSettled (F.graph format.now) image audit.new)) }
+        → HasNotedLeaves (F.graph format.now) image audit.old → IsSettled (F.graph format.now) image audit.new)) }
     ensures walk { KeepsWalk audit.old audit.new }
     ensures reads { IfSome (D.state dev.old).held (λ image. IsWalked (F.graph format.now) image audit.old
-        → (D.state dev.new).reads ≤ (D.state dev.old).reads + 2 * length (nodes (F.graph format.now) image)) }
+        → HasNotedLeaves (F.graph format.now) image audit.old
+        → (D.state dev.new).reads ≤ (D.state dev.old).reads + 2 * length (inner_nodes (F.graph format.now) image)) }
     ensures kept { OnlyReads (D.state dev.old) (D.state dev.new) }
     ensures faults { CountsFault result (D.state dev.old).faults (D.state dev.new).faults }
 {
+    forget_inner_nodes(&mut audit.notes);
     note_each(audit, format, dev)?;
     mark_each(audit);
     Ok(())
 }
 
 /// Marks the blocks of a walked audit with Level and Range, and notes what stands below each node of a
-/// tree. It takes no memory.
+/// tree. The leaves were noted by the walk, and aren't read again. It takes no memory.
 ///
-/// What it says of content holds where the audit has the marks of the walk of what the device holds; over
-/// any other device or audit it is safe. After `Failed` the audit may not be used again.
+/// What it says of content holds where the audit has the marks and the notes of the walk of what the device
+/// holds; over any other device or audit it is safe. After `Failed` the audit may not be used again.
 pub fn settle<F: Format, D: Device>(
     audit: &mut Audit,
     format: &F,
@@ -185,12 +205,13 @@ pub fn settle<F: Format, D: Device>(
     requires within { (F.graph format.now).nr ≤ (D.state dev.old).blocks }
     ensures walked { has_walked audit.new ≡ is_ok result }
     ensures settled { OnOk result (IfSome (D.state dev.old).held (λ image. IsWalked (F.graph format.now) image audit.old
-        → IsSettled (F.graph format.now) image audit.new)) }
+        → HasNotedLeaves (F.graph format.now) image audit.old → IsSettled (F.graph format.now) image audit.new)) }
     ensures met { KeepsMet audit.old audit.new }
 
-    // At most two reads for each reachable pair, also where one failed.
+    // At most two reads for each inner node, also where one failed.
     ensures reads { IfSome (D.state dev.old).held (λ image. IsWalked (F.graph format.now) image audit.old
-        → (D.state dev.new).reads ≤ (D.state dev.old).reads + 2 * length (nodes (F.graph format.now) image)) }
+        → HasNotedLeaves (F.graph format.now) image audit.old
+        → (D.state dev.new).reads ≤ (D.state dev.old).reads + 2 * length (inner_nodes (F.graph format.now) image)) }
     ensures kept { OnlyReads (D.state dev.old) (D.state dev.new) }
     ensures faults { CountsFault result (D.state dev.old).faults (D.state dev.new).faults }
 {

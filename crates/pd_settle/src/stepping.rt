@@ -5,8 +5,8 @@ ghost use Rattle.pd_graph.specs.Notes.{size_of, note_in};
 ghost use Rattle.pd_settle.specs.Looking.{blocks_of_edges};
 ghost use Rattle.pd_settle.specs.Stepping.{open_note, Closes, Settles, Opens};
 
-use crate::looking::{Seen, keyless, leaf_note, look};
-use pd_graph::{Format, Note, Notes};
+use crate::looking::{Seen, keyless, look};
+use pd_graph::{Format, Note, Notes, leaf_note};
 use pd_kinds::Block;
 
 /// Puts block b on the stack, over the block that the link stands for.

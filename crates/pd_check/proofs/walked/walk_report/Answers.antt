@@ -10,16 +10,16 @@ use Rattle.pd_check.proofs.walked.walk_report.Goals as goal
 pub loop-b-init : goal.loop-b-init
 loop-b-init c = record { faults = c.new-report.ensures; few = rw c.new-report.ensures (omega arith) }
 
-pub add_rules-requires : goal.add_rules-requires
-add_rules-requires c = omega (arith, c.loop-b.invariant.few, c.nr-b-end.ensures.few, c.loop-b.auto.b-end)
+pub report_block-requires : goal.report_block-requires
+report_block-requires c = omega (arith, c.loop-b.invariant.few, c.nr-b-end.ensures.few, c.loop-b.auto.b-end)
 
 pub loop-b-preserved : goal.loop-b-preserved
 loop-b-preserved c = record {
   faults =
-      c.add_rules.ensures.faults _ c.loop-b.invariant.faults
+      c.report_block.ensures.faults _ c.loop-b.invariant.faults
       ∙ ap (λ (list : List Fault). report_of list)
       (rw (faults_at-same c.loop-b.b _ _ c.rules.ensures) (sym (one_block_more (λ b. faults_at b (has_rule_at c.args.audit.now b)) c.loop-b.b)));
-  few = omega (arith, c.loop-b.invariant.few, c.add_rules.ensures.total);
+  few = omega (arith, c.loop-b.invariant.few, c.report_block.ensures.total);
 }
 
 pub returns : goal.returns

@@ -1,8 +1,12 @@
-use Rattle.std.proofs.Common.{◌≡◌, Some, IfSome, subst, ◌∙◌, arith}
+use Rattle.std.proofs.Common.{◌≡◌, ℕ, List, Some, IfSome, ap, subst, ◌∙◌, arith}
 use Rattle.std.specs.List.{slice_get}
 use Rattle.std.proofs.lemmas.Option.{IfSome_then}
 use Rattle.pd_image.proofs.ReadLemmas.{only_reads_both}
 use Rattle.pd_graph.specs.Walk.{IsDone}
+use Rattle.pd_graph.specs.Roles.{is_in}
+use Rattle.pd_graph.specs.Marks.{read_of}
+use Rattle.pd_graph.specs.Notes.{note_in}
+use Rattle.pd_graph.proofs.LeafNotes.{noted_more, low_more, noted_same}
 use Rattle.pd_graph.proofs.AnyLemmas.{if_both}
 use Rattle.pd_graph.proofs.WalkLemmas.{taken_known, safe_step, told_step, one_more_read, read_kept, read_at_most, taken_reached, read_reached, room_taken, safe_kept, told_kept, all_read_kept}
 use Rattle.pd_graph.proofs.walking.read_all.Goals as goal
@@ -23,6 +27,14 @@ pub look-requires-clause-room : goal.look-requires-clause-room
 look-requires-clause-room g c =
     let graph = g.F.Format.graph c.args.format.now in
     room_taken graph c.in-Some.b c.in-Some.role c.loop-b.marks c.take.new.self (g.met.F.Format.lawful c.args.format.now).few_blocks c.loop-b.invariant.safe c.in-Some.ensures.some
+
+pub note_leaf-requires-clause-within : goal.note_leaf-requires-clause-within
+note_leaf-requires-clause-within g c =
+    let small = c.in-Some.ensures.some.found.block in
+    let same = c.loop-b.invariant.safe.places.seen in
+    let number = c.loop-b.invariant.number in
+    let blocks = c.requires.number in
+    omega arith
 
 pub loop-b-smaller : goal.loop-b-smaller
 loop-b-smaller g c =
@@ -50,6 +62,14 @@ loop-b-preserved g c =
           (λ image found told. told_step graph image c.in-Some.b c.in-Some.role block c.loop-b.marks c.take.new.self c.look.new.self safe found told takes c.look.ensures)
           (subst (λ o. IfSome o (λ image. slice_get image c.in-Some.b ≡ Some block)) c.loop-b.invariant.kept.held c.in_ok-read.ensures.content)
           c.loop-b.invariant.told;
+      leaves = if_both (g.D.Device.state c.args.dev.now).held
+          (λ image found noted. noted_more graph image c.in-Some.b c.in-Some.role block (is_in (read_of c.loop-b.marks)) (is_in (read_of c.look.new.self))
+          (note_in c.loop-b.notes) (note_in c.note_leaf.new.notes) takes.found.within found
+          (λ p. ap (λ (table : List ℕ). is_in table p) c.look.ensures.follows.read ∙ takes.read p) noted c.note_leaf.ensures.notes)
+          (subst (λ o. IfSome o (λ image. slice_get image c.in-Some.b ≡ Some block)) c.loop-b.invariant.kept.held c.in_ok-read.ensures.content)
+          c.loop-b.invariant.leaves;
+      notes = low_more graph c.in-Some.role c.in-Some.b block (note_in c.loop-b.notes) (note_in c.note_leaf.new.notes) c.loop-b.invariant.notes c.note_leaf.ensures.notes;
+      number = c.note_leaf.ensures.number ∙ c.loop-b.invariant.number;
       reads = omega arith;
       kept = only_reads_both c.loop-b.invariant.kept c.in_ok-read.ensures.kept;
       faults = c.in_ok-read.ensures.faults ∙ c.loop-b.invariant.faults;
@@ -71,3 +91,22 @@ returns-clause-reads g c =
     IfSome_then (g.D.Device.state c.args.dev.now).held c.loop-b.invariant.told (λ image told.
     let reached = read_reached graph image c.loop-b.marks c.loop-b.marks told c.loop-b.invariant.safe.met in
     omega arith)
+
+pub returns-clause-leaves : goal.returns-clause-leaves
+returns-clause-leaves g c =
+    let graph = g.F.Format.graph c.args.format.now in
+    IfSome_then (g.D.Device.state c.args.dev.now).held c.loop-b.invariant.leaves (λ image noted.
+    noted_same graph image (is_in (read_of c.loop-b.marks)) (is_in (read_of c.take.new.self)) (note_in c.loop-b.notes)
+    (λ p. ap (λ (table : List ℕ). is_in table p) c.in_default.ensures.kept.read) noted)
+
+pub returns-clause-notes : goal.returns-clause-notes
+returns-clause-notes g c = c.loop-b.invariant.notes
+
+pub returns-clause-number : goal.returns-clause-number
+returns-clause-number g c = c.loop-b.invariant.number
+
+pub returns-in_err-read-clause-notes : goal.returns-in_err-read-clause-notes
+returns-in_err-read-clause-notes g c = c.loop-b.invariant.notes
+
+pub returns-in_err-read-clause-number : goal.returns-in_err-read-clause-number
+returns-in_err-read-clause-number g c = c.loop-b.invariant.number

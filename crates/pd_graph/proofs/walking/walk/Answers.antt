@@ -1,8 +1,12 @@
-use Rattle.std.proofs.Common.{ℕ, subst}
+use Rattle.std.proofs.Common.{ℕ, sym, subst}
 use Rattle.std.proofs.lemmas.Option.{IfSome_then}
-use Rattle.pd_graph.specs.Marks.{HasPlaces}
-use Rattle.pd_graph.proofs.AnyLemmas.{if_any}
-use Rattle.pd_graph.proofs.StartLemmas.{start_number, start_safe, start_told, end_roles, end_rules, end_counts}
+use Rattle.pd_kinds.specs.Graph.{is_reached}
+use Rattle.pd_graph.specs.Roles.{is_in}
+use Rattle.pd_graph.specs.Notes.{note_in}
+use Rattle.pd_graph.specs.Marks.{HasPlaces, read_of}
+use Rattle.pd_graph.proofs.LeafNotes.{start_noted, none_low, noted_same}
+use Rattle.pd_graph.proofs.AnyLemmas.{if_any, if_both}
+use Rattle.pd_graph.proofs.StartLemmas.{none_read, read_is_reached, start_number, start_safe, start_told, end_roles, end_rules, end_counts}
 use Rattle.pd_graph.proofs.walking.walk.Goals as goal
 
 pub read_all-requires-clause-safe : goal.read_all-requires-clause-safe
@@ -19,6 +23,23 @@ read_all-requires-clause-told g c =
 pub read_all-requires-clause-fresh : goal.read_all-requires-clause-fresh
 read_all-requires-clause-fresh g c =
     start_number (g.F.Format.graph c.args.format.now).nr c.args.audit.now.marks c.meet.new.self c.requires.fresh.unmarked c.meet.ensures.follows
+
+pub read_all-requires-clause-leaves : goal.read_all-requires-clause-leaves
+read_all-requires-clause-leaves g c =
+    if_any (g.D.Device.state c.args.dev.now).held
+    (λ image. start_noted (g.F.Format.graph c.args.format.now) image (is_in (read_of c.meet.new.self)) (note_in c.args.audit.now.notes)
+    (λ p. none_read c.args.audit.now.marks c.meet.new.self p c.requires.fresh.unmarked c.meet.ensures.follows) c.requires.fresh.notes)
+
+pub read_all-requires-clause-notes : goal.read_all-requires-clause-notes
+read_all-requires-clause-notes g c = λ b. none_low (note_in c.args.audit.now.notes b) (c.requires.fresh.notes b)
+
+pub returns-clause-leaves : goal.returns-clause-leaves
+returns-clause-leaves g c =
+    let graph = g.F.Format.graph c.args.format.now in
+    if_both (g.D.Device.state c.args.dev.now).held
+    (λ image done noted. noted_same graph image (is_in (read_of c.read_all.new.marks)) (is_reached graph image) (note_in c.read_all.new.notes)
+    (λ p. sym (read_is_reached graph image c.read_all.new.marks done p)) noted)
+    c.in_ok-read_all.ensures.done c.in_ok-read_all.ensures.leaves
 
 pub returns-clause-marks : goal.returns-clause-marks
 returns-clause-marks g c =
