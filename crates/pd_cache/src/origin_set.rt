@@ -12,6 +12,9 @@ use std::alloc::{AllocError, Global};
 /// How many origins have their bits in one word.
 const WORD_BITS: u64 = 64;
 
+/// How many words of bits there are from the first block on, where there is memory for them: 64 KiB.
+const FIRST_WORDS: usize = 8192;
+
 /// Origins that were added. The low ones have a bit each; the others are kept one by one, and sorted at the end.
 #[derive(Drop)]
 pub(crate) struct OriginSet {
@@ -21,6 +24,10 @@ pub(crate) struct OriginSet {
     others: Vec<u64>,
     /// Whether an origin was added whose bit was set.
     again: bool,
+    /// How many were added, as far as it was told.
+    added: usize,
+    /// How many of those had no bit.
+    listed: usize,
 }
 
 impl OriginSet {
@@ -37,6 +44,8 @@ impl OriginSet {
             bits,
             others,
             again: false,
+            added: 0,
+            listed: 0,
         })
     }
 
@@ -55,15 +64,19 @@ impl OriginSet {
         }
     }
 
-    /// Gives so many words of bits more to the next origins, as far as there is memory for them.
-    pub(crate) fn widen(&mut self, words: usize)
+    /// Tells that so many origins were added. Where one of them had no bit, the next ones have more words of bits, as far
+    /// as there is memory for them: a word for each origin that had a bit, so that bits pay.
+    pub(crate) fn widen(&mut self, added: usize)
         ensures added { (os : List ℕ) → AreAdded os self.old → AreAdded os self.new }
         ensures few { vec_len self.new.others ≡ vec_len self.old.others }
         ensures room { vec_capacity self.new.others ≡ vec_capacity self.old.others }
     {
-        let wide = self.bits.len().saturating_add(words);
-        if wide <= self.bits.capacity() {
-            let _ = self.bits.resize(wide, 0);
+        let before = self.listed;
+        self.added = self.added.saturating_add(added);
+        self.listed = self.others.len();
+        if before < self.listed {
+            let had_bits = self.added.saturating_sub(self.listed);
+            lengthen(&mut self.bits, had_bits.saturating_add(FIRST_WORDS));
         }
     }
 
@@ -77,6 +90,16 @@ impl OriginSet {
         self.others.sort_unstable();
         let repeated = is_repeated(&self.others);
         self.again | mixed | repeated
+    }
+}
+
+/// Puts words of zeros behind the others, up to so many and as far as there is memory for them.
+fn lengthen(bits: &mut Vec<u64>, words: usize)
+    ensures { (number : ℕ) → is_set bits.new.items number ≡ is_set bits.old.items number }
+{
+    let words = words.min(bits.capacity());
+    if bits.len() < words {
+        let _ = bits.resize(words, 0);
     }
 }
 

@@ -16,8 +16,8 @@ const BIT_WORDS: usize = 128;
 
 /// The origins of the valid words of the blocks of a mapping array that were met, each distinct block once.
 ///
-/// All memory is taken at the start: for each metadata block 4072 bytes, as much as words of it can hold, of which
-/// only those of blocks that are met are touched, and two bytes.
+/// All memory is taken at the start: for each metadata block 5096 bytes, for the words that it can hold and for bits, of
+/// which eight bytes for each valid entry and 64 KiB are touched at the most, and two bytes.
 #[derive(Drop)]
 pub(crate) struct Origins {
     /// The origins of the blocks that were met.

@@ -35,32 +35,36 @@ const EIGHT_BLOCKS: &str =
 /// Lines behind those, the line that is refused, and why: the first one that could be.
 const REFUSED: &[(&str, u32, &str)] = &[
     (
-        "map 0 7 0\nmap 1 8 0\nmap 2 7 0\nmap 3 9 0\nmap 3 10 0\nend\n",
+        "map 0 7 0 0\nmap 1 8 0 0\nmap 2 7 0 0\nmap 3 9 0 0\nmap 3 10 0 0\nend\n",
         5,
         "repeated",
     ),
     (
-        "map 0 7 0\nmap 1 8 0\nmap 1 9 0\nmap 2 10 0\nmap 3 7 0\nend\n",
+        "map 0 7 0 0\nmap 1 8 0 0\nmap 1 9 0 0\nmap 2 10 0 0\nmap 3 7 0 0\nend\n",
         5,
         "order",
     ),
     (
-        "map 0 9 0\nmap 1 7 0\nmap 2 9 0\nmap 3 7 0\nend\n",
+        "map 0 9 0 0\nmap 1 7 0 0\nmap 2 9 0 0\nmap 3 7 0 0\nend\n",
         5,
         "repeated",
     ),
     (
-        "map 0 7 0\nmap 1 8 0\nmap 2 7 0\nmap 3 7 0\nend\n",
+        "map 0 7 0 0\nmap 1 8 0 0\nmap 2 7 0 0\nmap 3 7 0 0\nend\n",
         5,
         "repeated",
     ),
     (
-        "map 0 7 0\nmap 1 8 0\nmap 2 9 0\nmap 7 8 0\nend\n",
+        "map 0 7 0 0\nmap 1 8 0 0\nmap 2 9 0 0\nmap 7 8 0 0\nend\n",
         6,
         "repeated",
     ),
-    ("map 0 7 0\nmap 1 7 0\nmap 2 8 0\n", 4, "repeated"),
-    ("map 0 7 0\nmap 1 7 0\nmap 2 8 0\nend\nend\n", 4, "repeated"),
+    ("map 0 7 0 0\nmap 1 7 0 0\nmap 2 8 0 0\n", 4, "repeated"),
+    (
+        "map 0 7 0 0\nmap 1 7 0 0\nmap 2 8 0 0\nend\nend\n",
+        4,
+        "repeated",
+    ),
 ];
 
 /// Restores, with what they come to.
