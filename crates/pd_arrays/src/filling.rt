@@ -17,13 +17,14 @@ use pd_graph::{Audit, Format, has_role};
 use pd_image::{Device, Failed};
 use pd_kinds::Block;
 
-/// Marks block b, where it is a block of such an array.
+/// Marks block b, where it is a block of such an array, which is read into `block`.
 fn mark_block<D: Device>(
     marks: &mut ArrayMarks,
     audit: &Audit,
     dev: &mut D,
     roles: ArrayRoles,
     b: u64,
+    block: &mut Block,
 ) -> Result<(), Failed>
     requires attached { IsAttached (D.state dev.old) }
     requires block { b < blocks_of audit.now }
@@ -37,9 +38,8 @@ fn mark_block<D: Device>(
     ensures faults { CountsFault result (D.state dev.old).faults (D.state dev.new).faults }
 {
     if has_role(audit.roles(b), roles.blocks) {
-        let mut block = Block::zeros();
-        dev.read(b, &mut block)?;
-        marks.set(b, ArrayMark::of(&block, roles.word));
+        dev.read(b, block)?;
+        marks.set(b, ArrayMark::of(block, roles.word));
     }
     Ok(())
 }
@@ -61,8 +61,9 @@ fn mark_blocks<D: Device>(
     ensures kept { OnlyReads (D.state dev.old) (D.state dev.new) }
     ensures faults { CountsFault result (D.state dev.old).faults (D.state dev.new).faults }
 {
+    let mut block = Block::zeros();
     for b in 0..audit.nr() {
-        mark_block(marks, audit, dev, roles, b)?;
+        mark_block(marks, audit, dev, roles, b, &mut block)?;
     }
     Ok(())
 }

@@ -1,4 +1,5 @@
 pub mod RepeatLemmas
+pub mod AddedLemmas
 pub mod WordLemmas
 pub mod MeetLemmas
 pub mod WholeLemmas

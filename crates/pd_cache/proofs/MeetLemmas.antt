@@ -14,18 +14,13 @@ use Rattle.pd_graph.proofs.BitLemmas.{counts_none, counts_one}
 use Rattle.pd_refs.specs.Refs.{number_in}
 use Rattle.pd_arrays.specs.Reads.{number_where}
 use Rattle.pd_arrays.proofs.ReadLemmas.{in_role, where_fewer, where_more, where_zero}
+use Rattle.pd_cache.specs.declared.origin_set.OriginSet.{OriginSet}
 use Rattle.pd_cache.specs.declared.origins.Origins.{Origins}
-use Rattle.pd_cache.specs.Origins.{AddsBlock, is_again, met_of, places_of, seen_at}
-use Rattle.pd_cache.specs.Words.{block_origins, origins_in}
-use Rattle.pd_cache.specs.Meeting.{AreMapBlocks, AreMet, IsFresh, IsMapBlock, IsPartMet, IsSeen, count_of, seen_number}
-use Rattle.pd_cache.proofs.RepeatLemmas.{count-append, count_by_repeat, count_here, repeat_by_count}
-
--- a list that has a repeat has one with more behind it
-repeat_behind : (xs ys : List ℕ) → has_repeat xs ≡ true → has_repeat (xs ++ ys) ≡ true
-repeat_behind xs ys repeat =
-    let twice = count_by_repeat xs repeat in
-    let two = twice.1 in
-    repeat_by_count twice.0 (xs ++ ys) (omega (arith, count-append twice.0 xs ys))
+use Rattle.pd_cache.specs.OriginSet.{AreAdded}
+use Rattle.pd_cache.specs.Origins.{AddsBlock, is_again, places_of, seen_at}
+use Rattle.pd_cache.specs.Words.{block_origins, count_of, origins_in}
+use Rattle.pd_cache.specs.Meeting.{AreMapBlocks, AreMet, IsFresh, IsMapBlock, IsPartMet, IsSeen, seen_number}
+use Rattle.pd_cache.proofs.RepeatLemmas.{count-append, count_by_repeat, count_here, repeat_behind, repeat_by_count}
 
 module _ (words met : List ℕ) (again : Bool) (told : has_repeat words ≡ (again || has_repeat met))
     (kept : (x : ℕ) → 1 ≤ count_of x words → 1 ≤ count_of x met) (only : (x : ℕ) → count_of x met ≤ count_of x words) (added : List ℕ) where
@@ -134,38 +129,37 @@ module _ (image : List (List ℕ)) (blocks : List ℕ) (b : ℕ) (old new : Orig
   unfolding words here
   met_first block found adds =
       let same : block_origins block ≡ here = ap block_origins (sym found) in
-      let met : met_of new ≡ met_of old ++ here = adds.met ∙ ap (λ (os : List ℕ). met_of old ++ os) same in
+      let met = before.met in
       record {
+        met = met ++ here;
+        added = subst (λ (os : List ℕ). AreAdded (met ++ os) new.met) same (adds.met met before.added);
         repeats =
             ap has_repeat more
-            ∙ (repeats_new words (met_of old) (is_again old) before.repeats before.kept before.only here
-            ∙ sym (ap (λ (a : Bool). a || has_repeat (met_of new)) adds.again ∙ ap (λ (os : List ℕ). is_again old || has_repeat os) met));
-        kept = λ x some.
-            subst (λ (os : List ℕ). 1 ≤ count_of x os) (sym met)
-            (kept_new words (met_of old) (is_again old) before.repeats before.kept before.only here x (subst (λ (os : List ℕ). 1 ≤ count_of x os) more some));
-        only = λ x.
-            let less = only_new words (met_of old) (is_again old) before.repeats before.kept before.only here x in
-            omega (arith, ap (count_of x) met, ap (count_of x) more);
+            ∙ (repeats_new words met (is_again old) before.repeats before.kept before.only here
+            ∙ sym (ap (λ (a : Bool). a || has_repeat (met ++ here)) adds.again));
+        kept = λ x some. kept_new words met (is_again old) before.repeats before.kept before.only here x (subst (λ (os : List ℕ). 1 ≤ count_of x os) more some);
+        only = λ x. let less = only_new words met (is_again old) before.repeats before.kept before.only here x in omega (arith, ap (count_of x) more);
         seen = λ c valid is.
             now_seen c valid (adds.seen c ∙ ap (λ (os : List ℕ). cond (nat_eq c b) (Some (nat_lt 0 (length os))) (seen_at old c)) same) is;
       }
 
   -- or again
-  pub met_more : (valid : Bool) → seen_at old b ≡ Some valid → is_again new ≡ (is_again old || valid) → met_of new ≡ met_of old → ((c : ℕ) → seen_at new c ≡ seen_at old c)
+  pub met_more : (valid : Bool) → seen_at old b ≡ Some valid → is_again new ≡ (is_again old || valid) → new.met ≡ old.met → ((c : ℕ) → seen_at new c ≡ seen_at old c)
       → AreMet image (blocks ++ b ∷ []) new
   unfolding words here
-  met_more valid is again met seen =
+  met_more valid is again kept seen =
       let known = before.seen b valid is in
+      let met = before.met in
       record {
+        met = met;
+        added = subst (λ (set : OriginSet). AreAdded met set) (sym kept) before.added;
         repeats =
             ap has_repeat more
-            ∙ (again_by words (met_of old) here (is_again old) valid before.repeats known.among known.some
-            ∙ sym (ap (λ (a : Bool). a || has_repeat (met_of new)) again ∙ ap (λ (os : List ℕ). (is_again old || valid) || has_repeat os) met));
+            ∙ (again_by words met here (is_again old) valid before.repeats known.among known.some ∙ sym (ap (λ (a : Bool). a || has_repeat met) again));
         kept = λ x some.
             let less = known.among x in
-            let was = before.kept x (omega (arith, ap (count_of x) more, count-append x words here)) in
-            omega (arith, ap (count_of x) met);
-        only = λ x. omega (arith, before.only x, ap (count_of x) met, ap (count_of x) more, count-append x words here);
+            before.kept x (omega (arith, ap (count_of x) more, count-append x words here));
+        only = λ x. omega (arith, before.only x, ap (count_of x) more, count-append x words here);
         seen = λ c v has. seen_stays image blocks b c v (before.seen c v (sym (seen c) ∙ has));
       }
 
@@ -173,9 +167,11 @@ module _ (image : List (List ℕ)) (blocks : List ℕ) (b : ℕ) (old new : Orig
 pub fresh_met : (image : List (List ℕ)) (origins : Origins) → IsFresh origins → AreMet image [] origins
 unfolding origins_in has_repeat
 fresh_met image origins fresh = record {
-  repeats = sym (ap (λ (a : Bool). a || has_repeat (met_of origins)) fresh.again ∙ ap has_repeat fresh.met);
+  met = [];
+  added = fresh.added;
+  repeats = sym (ap (λ (a : Bool). a || has_repeat []) fresh.again);
   kept = λ x some. absurd (omega arith);
-  only = λ x. omega (arith, ap (count_of x) fresh.met);
+  only = λ x. omega arith;
   seen = λ b valid is. absurd (let none = fresh.seen b in cc);
 }
 
@@ -249,3 +245,8 @@ part_more image audit all left later b old new each first meets part =
       parts = parts ∙ sym (append_assoc part.blocks (b ∷ []) later);
       met = meets (middle (IsMapBlock audit) part.blocks b later (rw parts at each)) part.blocks part.met;
     }
+
+-- none is left
+pub part_end : (image : List (List ℕ)) (all left : List ℕ) (origins : Origins) → left ≡ [] → IsPartMet image all left origins → AreMet image all origins
+part_end image all left origins none part =
+    subst (λ (blocks : List ℕ). AreMet image blocks origins) (sym (part.parts ∙ (ap (λ (bs : List ℕ). part.blocks ++ bs) none ∙ append-nil part.blocks))) part.met

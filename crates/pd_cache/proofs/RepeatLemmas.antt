@@ -7,7 +7,7 @@ use Rattle.std.proofs.lemmas.List.Sorted.{sum_by-IsPermutation}
 use Rattle.std.proofs.lemmas.List.Sums.{sum_by-append, sum_by-cons}
 use Rattle.pd_kinds.specs.Whole.{has_repeat}
 use Rattle.pd_graph.proofs.AnyLemmas.{same_test}
-use Rattle.pd_cache.specs.Meeting.{count_of}
+use Rattle.pd_cache.specs.Words.{count_of}
 
 pub count-append : (x : ℕ) (xs ys : List ℕ) → count_of x (xs ++ ys) ≡ count_of x xs + count_of x ys
 count-append x xs ys = sum_by-append (λ y. cond (nat_eq y x) 1 0) xs ys
@@ -18,7 +18,7 @@ count-cons x y ys = sum_by-cons (λ z. cond (nat_eq z x) 1 0) y ys
 pub count_here : (x y : ℕ) (ys : List ℕ) → nat_eq y x ≡ true → count_of x (y ∷ ys) ≡ suc (count_of x ys)
 count_here x y ys here = count-cons x y ys ∙ (ap (λ (b : Bool). cond b 1 0 + count_of x ys) here ∙ omega arith)
 
-count_there : (x y : ℕ) (ys : List ℕ) → nat_eq y x ≡ false → count_of x (y ∷ ys) ≡ count_of x ys
+pub count_there : (x y : ℕ) (ys : List ℕ) → nat_eq y x ≡ false → count_of x (y ∷ ys) ≡ count_of x ys
 count_there x y ys there = count-cons x y ys ∙ (ap (λ (b : Bool). cond b 1 0 + count_of x ys) there ∙ omega arith)
 
 -- a number comes where it is among them
@@ -62,6 +62,13 @@ count_by_repeat (y ∷ ys) repeat = elim (or_cases (list_any (λ z. nat_eq z y) 
       let rest = count_by_repeat ys later in
       (rest.0, let two = rest.1 in let more = count-cons rest.0 y ys in omega arith)
 ]
+
+-- a list that has a repeat has one with more behind it
+pub repeat_behind : (xs ys : List ℕ) → has_repeat xs ≡ true → has_repeat (xs ++ ys) ≡ true
+repeat_behind xs ys repeat =
+    let twice = count_by_repeat xs repeat in
+    let two = twice.1 in
+    repeat_by_count twice.0 (xs ++ ys) (omega (arith, count-append twice.0 xs ys))
 
 -- in any order
 pub repeat_in_any_order : (xs ys : List ℕ) → IsPermutation xs ys → has_repeat ys ≡ has_repeat xs

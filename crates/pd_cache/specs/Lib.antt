@@ -1,5 +1,6 @@
 pub mod Copies
 pub mod Words
+pub mod OriginSet
 pub mod Origins
 pub mod Meeting
 pub mod Whole

@@ -1,6 +1,5 @@
 -- What is known of the blocks of a mapping array that were met, and what is left of them.
-use Rattle.std.specs.Prelude.{◌≡◌, ℕ, ◌<◌, ◌≤◌, ◌==◌, ◌||◌, nat_lt, Bool, true, false, List, [], ◌++◌, length, map, None, Some, is_some}
-use Rattle.std.specs.List.{count_by}
+use Rattle.std.specs.Prelude.{◌≡◌, ℕ, ◌<◌, ◌≤◌, ◌||◌, nat_lt, Bool, true, false, List, [], ◌++◌, length, map, None, Some, is_some}
 use Rattle.pd_kinds.specs.Graph.{block_at}
 use Rattle.pd_kinds.specs.Whole.{has_repeat}
 use Rattle.pd_value.specs.declared.thin.Root.{Root}
@@ -12,12 +11,9 @@ use Rattle.pd_tree.specs.Cursor.{cursor_items}
 use Rattle.pd_tree.specs.Items.{root_of}
 use Rattle.pd_arrays.specs.Reads.{number_where}
 use Rattle.pd_cache.specs.declared.origins.Origins.{Origins}
-use Rattle.pd_cache.specs.Origins.{is_again, met_of, places_of, seen_at}
-use Rattle.pd_cache.specs.Words.{block_origins, origins_in}
-
--- how often a number comes
-abbrev pub count_of : ℕ → List ℕ → ℕ
-count_of x xs = count_by (λ y. y == x) xs
+use Rattle.pd_cache.specs.OriginSet.{AreAdded}
+use Rattle.pd_cache.specs.Origins.{is_again, places_of, seen_at}
+use Rattle.pd_cache.specs.Words.{block_origins, count_of, origins_in}
 
 -- a block that was met before: its origins are among those of the blocks, and whether it has any
 pub record IsSeen (image : List (List ℕ)) (blocks : List ℕ) (b : ℕ) (valid : Bool) : Type 0 where
@@ -25,16 +21,18 @@ pub record IsSeen (image : List (List ℕ)) (blocks : List ℕ) (b : ℕ) (valid
   pub some : valid ≡ nat_lt 0 (length (block_origins (block_at image b)))
 
 -- these blocks were met, one after another: an origin came twice exactly where a block with a valid word was met again
--- or two origins that were kept are equal, and each origin was kept
+-- or two origins that were added are equal, and each origin was added
 pub record AreMet (image : List (List ℕ)) (blocks : List ℕ) (origins : Origins) : Type 0 where
-  pub repeats : has_repeat (origins_in image blocks) ≡ (is_again origins || has_repeat (met_of origins))
-  pub kept : (x : ℕ) → 1 ≤ count_of x (origins_in image blocks) → 1 ≤ count_of x (met_of origins)
-  pub only : (x : ℕ) → count_of x (met_of origins) ≤ count_of x (origins_in image blocks)
+  pub met : List ℕ
+  pub added : AreAdded met origins.met
+  pub repeats : has_repeat (origins_in image blocks) ≡ (is_again origins || has_repeat met)
+  pub kept : (x : ℕ) → 1 ≤ count_of x (origins_in image blocks) → 1 ≤ count_of x met
+  pub only : (x : ℕ) → count_of x met ≤ count_of x (origins_in image blocks)
   pub seen : (b : ℕ) (valid : Bool) → seen_at origins b ≡ Some valid → IsSeen image blocks b valid
 
 -- no block was met
 pub record IsFresh (origins : Origins) : Type 0 where
-  pub met : met_of origins ≡ []
+  pub added : AreAdded [] origins.met
   pub seen : (b : ℕ) → seen_at origins b ≡ None
   pub again : is_again origins ≡ false
 

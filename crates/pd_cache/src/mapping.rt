@@ -32,8 +32,14 @@ fn is_map_block(audit: &Audit, b: u64) -> bool
     }
 }
 
-/// Meets block b, where it is one of the mapping array: it is read when it is met for the first time.
-fn meet<D: Device>(origins: &mut Origins, audit: &Audit, dev: &mut D, b: u64) -> Result<(), Failed>
+/// Meets block b, where it is one of the mapping array: it is read into `block` when it is met for the first time.
+fn meet<D: Device>(
+    origins: &mut Origins,
+    audit: &Audit,
+    dev: &mut D,
+    b: u64,
+    block: &mut Block,
+) -> Result<(), Failed>
     requires attached { IsAttached (D.state dev.old) }
     requires places { places_of origins.old ≡ blocks_of audit.now }
     requires within { blocks_of audit.now ≤ (D.state dev.old).blocks }
@@ -56,9 +62,8 @@ fn meet<D: Device>(origins: &mut Origins, audit: &Audit, dev: &mut D, b: u64) ->
             Ok(())
         }
         None => {
-            let mut block = Block::zeros();
-            dev.read(b, &mut block)?;
-            origins.add(b, &block);
+            dev.read(b, block)?;
+            origins.add(b, block);
             Ok(())
         }
     }
@@ -83,8 +88,9 @@ fn gather<D: Device>(
     ensures kept { OnlyReads (D.state dev.old) (D.state dev.new) }
     ensures faults { CountsFault result (D.state dev.old).faults (D.state dev.new).faults }
 {
+    let mut block = Block::zeros();
     while let Some((_, named)) = entries.next(dev)? {
-        meet(origins, audit, dev, named.0)?;
+        meet(origins, audit, dev, named.0, &mut block)?;
     }
     Ok(())
 }

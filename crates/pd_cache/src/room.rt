@@ -17,7 +17,7 @@ pub struct CacheRoom {
 }
 
 impl CacheRoom {
-    /// The memory for so many metadata blocks: 265 KiB, and for each block eight bytes and address space for 4072 more,
+    /// The memory for so many metadata blocks: 329 KiB, and for each block eight bytes and address space for 5096 more,
     /// of which only what the mapping array fills is touched. Want of it is the only error.
     pub fn new(alloc: Global, nr: u64) -> Result<CacheRoom, AllocError>
         requires { nr ≤ MAX_META_BLOCKS }

@@ -4,11 +4,12 @@ use crate::cache_tests::{EMPTY, TWO_MAPPED};
 use crate::expected::End::{Done, NoRoom, Refused};
 use crate::expected::Left::{Closed, Old, Written};
 use crate::expected::{
-    FIRST, Left, ONES, Row, SECOND, expect_output_faults, expect_restored, left_by_source_fault,
-    restore,
+    FIRST, Left, ONES, Row, SECOND, expect_end, expect_left, expect_output_faults, expect_restored,
+    left_by_source_fault, restore,
 };
 use pd_samples::runs::NOTHING_FAILS;
 use std::alloc::{AllocError, Global};
+use std::process::Abort;
 use std::test::Fail;
 
 /// Two blocks of the cache with one origin.
@@ -26,6 +27,45 @@ const NO_END: &str =
 /// A second line with a wrong number.
 const NO_NUMBER: &str =
     "cache 1\ncache 00000000-0000-0000-0000-000000000000 128 x 1 00000000000000000000000000000000 0 0 0 0\n";
+
+/// The first two lines of a cache of eight blocks without hints.
+const EIGHT_BLOCKS: &str =
+    "cache 1\ncache 00000000-0000-0000-0000-000000000000 128 8 1 00000000000000000000000000000000 0 0 0 0\n";
+
+/// Lines behind those, the line that is refused, and why: the first one that could be.
+const REFUSED: &[(&str, u32, &str)] = &[
+    (
+        "map 0 7 0 0\nmap 1 8 0 0\nmap 2 7 0 0\nmap 3 9 0 0\nmap 3 10 0 0\nend\n",
+        5,
+        "repeated",
+    ),
+    (
+        "map 0 7 0 0\nmap 1 8 0 0\nmap 1 9 0 0\nmap 2 10 0 0\nmap 3 7 0 0\nend\n",
+        5,
+        "order",
+    ),
+    (
+        "map 0 9 0 0\nmap 1 7 0 0\nmap 2 9 0 0\nmap 3 7 0 0\nend\n",
+        5,
+        "repeated",
+    ),
+    (
+        "map 0 7 0 0\nmap 1 8 0 0\nmap 2 7 0 0\nmap 3 7 0 0\nend\n",
+        5,
+        "repeated",
+    ),
+    (
+        "map 0 7 0 0\nmap 1 8 0 0\nmap 2 9 0 0\nmap 7 8 0 0\nend\n",
+        6,
+        "repeated",
+    ),
+    ("map 0 7 0 0\nmap 1 7 0 0\nmap 2 8 0 0\n", 4, "repeated"),
+    (
+        "map 0 7 0 0\nmap 1 7 0 0\nmap 2 8 0 0\nend\nend\n",
+        4,
+        "repeated",
+    ),
+];
 
 /// Restores, with what they come to.
 const ROWS: &[Row] = &[
@@ -45,6 +85,28 @@ const ROWS: &[Row] = &[
 fn restores_of_caches_come_to_their_status(rt: HostRuntime) -> Result<(), Fail> {
     for row in ROWS {
         expect_restored(&rt, rt.alloc(), row)?;
+    }
+    Ok(())
+}
+
+/// Restores the cache of eight blocks with more lines, of which one is refused.
+fn expect_refused(
+    rt: &impl Abort,
+    alloc: Global,
+    row: &(&str, u32, &'static str),
+) -> Result<(), AllocError> {
+    let (lines, line, cause) = *row;
+    let text = format!(in alloc; "{EIGHT_BLOCKS}{lines}")?;
+    let base = [ONES; 16];
+    let refused = restore(alloc, FIRST, text.as_str(), &base, NOTHING_FAILS)?;
+    expect_end(rt, alloc, &refused, Refused(line, cause))?;
+    expect_left(rt, alloc, &refused, &base, Closed, lines)
+}
+
+#[test]
+fn the_first_line_that_could_be_is_refused(rt: HostRuntime) -> Result<(), Fail> {
+    for row in REFUSED {
+        expect_refused(&rt, rt.alloc(), row)?;
     }
     Ok(())
 }
@@ -90,6 +152,16 @@ fn a_version_is_1_or_2_and_1_where_none_is_given(rt: HostRuntime) -> Result<(), 
 fn a_source_of_a_cache_that_fails_is_blamed(rt: HostRuntime) -> Result<(), Fail> {
     for call in 0..20 {
         let left = left_by_source_fault(&rt, rt.alloc(), SECOND, TWO_MAPPED, call)?;
+        assert!(rt; left != Left::Written, "{call}");
+    }
+    Ok(())
+}
+
+// The calls of the source are 0 for attaching, and one for each piece of seven bytes. The last one finds the end.
+#[test]
+fn a_source_that_fails_behind_a_repeated_origin_is_blamed(rt: HostRuntime) -> Result<(), Fail> {
+    for call in 0..21 {
+        let left = left_by_source_fault(&rt, rt.alloc(), FIRST, REPEATED, call)?;
         assert!(rt; left != Left::Written, "{call}");
     }
     Ok(())

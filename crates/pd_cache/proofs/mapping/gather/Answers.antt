@@ -5,7 +5,7 @@ use Rattle.pd_tree.specs.Cursor.{cursor_items}
 use Rattle.pd_tree.specs.Items.{root_of}
 use Rattle.pd_cache.specs.Meeting.{AreMet, IsMapBlock, IsPartMet, blocks_left, blocks_named}
 use Rattle.pd_refs.proofs.RefsLemmas.{if_then}
-use Rattle.pd_cache.proofs.MeetLemmas.{part_more, seen_few}
+use Rattle.pd_cache.proofs.MeetLemmas.{part_end, part_more, seen_few}
 use Rattle.pd_cache.proofs.mapping.gather.Goals as goal
 
 pub returns-in_err-named-clause-reads : goal.returns-in_err-named-clause-reads
@@ -19,6 +19,16 @@ returns-clause-reads g c =
     let few = seen_few c.args.audit.now c.loop-named.origins (c.loop-named.invariant.places ∙ c.requires.places) c.loop-named.invariant.in_role in
     if_then (g.D.Device.state c.args.dev.now).held (g.D.Device.state c.loop-named.dev).held _ _ _ c.loop-named.invariant.kept.held
     (λ image before read. omega (arith, before, read, few)) c.loop-named.invariant.reads c.in_ok-named.ensures.reads
+
+pub returns-clause-met : goal.returns-clause-met
+returns-clause-met g c =
+    let held = (g.D.Device.state c.loop-named.dev).held in
+    let ended : IfSome held (λ image. (cursor_items 8 root_of image c.loop-named.entries ≡ []) × (cursor_items 8 root_of image c.next.new.self ≡ [])) =
+    rw c.in_default.is at c.in_ok-named.ensures.next in
+    if_then (g.D.Device.state c.args.dev.now).held held _ _ _ c.loop-named.invariant.kept.held
+    (λ image met none each fresh.
+    part_end image (blocks_left image c.args.entries.now) (blocks_left image c.loop-named.entries) c.loop-named.origins (ap blocks_named none.0) (met each fresh))
+    c.loop-named.invariant.met ended
 
 pub loop-named-preserved : goal.loop-named-preserved
 loop-named-preserved g c =

@@ -11,4 +11,4 @@ returns-clause-repeats g c =
     let same = ap blocks_named (c.restart.ensures.items image) in
     let met = gathered (subst (λ (bs : List ℕ). AllByRecursion (IsMapBlock c.args.audit.now) bs) (sym same) each) (fresh_met image c.args.origins.now c.requires.fresh) in
     let all = subst (λ (bs : List ℕ). AreMet image bs c.gather.new.origins) same met in
-    c.has_repeat.ensures ∙ sym all.repeats) c.in_ok-gather.ensures.met
+    c.has_repeat.ensures all.met all.added ∙ sym all.repeats) c.in_ok-gather.ensures.met

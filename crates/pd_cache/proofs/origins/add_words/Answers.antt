@@ -1,7 +1,8 @@
-use Rattle.std.proofs.Common.{inl, inr, ℕ, ◌≡◌, ◌-◌, ◌≤◌, ◌++◌, List, length, sym, ap, ◌∙◌, arith, append_assoc, length-append}
+use Rattle.std.proofs.Common.{inl, inr, ℕ, ◌≡◌, ◌+◌, ◌-◌, ◌≤◌, ◌++◌, List, length, sym, ap, ◌∙◌, subst, arith, append_assoc, length-append}
 use Rattle.std.proofs.lemmas.Bool.{cases_lt}
-use Rattle.pd_kinds.specs.Array.{word_at, word_count}
+use Rattle.pd_kinds.specs.Array.{word_count}
 use Rattle.pd_array.proofs.ArrayWritten.{counted_below}
+use Rattle.pd_cache.specs.OriginSet.{AreAdded}
 use Rattle.pd_cache.specs.Words.{word_origins}
 use Rattle.pd_cache.proofs.WordLemmas.{few_origins, origins_all, origins_more, origins_to}
 use Rattle.pd_cache.proofs.origins.add_words.Goals as goal
@@ -15,38 +16,31 @@ few_words block =
       | inr none ↦ omega arith
     ]
 
-pub add_word-requires : goal.add_word-requires
-add_word-requires c = omega (arith, c.loop-i.invariant.few, c.loop-i.invariant.room, c.loop-i-test.true, c.array_len-i-end.ensures, few_words c.args.block.now.0, c.requires)
+pub add_word-number-requires : goal.add_word-number-requires
+add_word-number-requires c = omega (arith, c.loop-i.invariant.few, c.loop-i.invariant.room, c.loop-i-test.true, c.array_len-i-end.ensures, few_words c.args.block.now.0, c.requires)
 
 pub loop-i-preserved : goal.loop-i-preserved
 loop-i-preserved c =
-    let met = c.args.met.now.items in
     let block = c.args.block.now.0 in
-    let word = word_at 8 block c.loop-i.i in
-    let added =
-    c.add_word.ensures.added
-    ∙ (ap (λ (w : ℕ). c.loop-i.met.items ++ word_origins w) c.array_word.ensures.value
-    ∙ (ap (λ (os : List ℕ). os ++ word_origins word) c.loop-i.invariant.added
-    ∙ (append_assoc met (origins_to block c.loop-i.i) (word_origins word) ∙ ap (λ (os : List ℕ). met ++ os) (sym (origins_more block c.loop-i.i))))) in
+    let before = origins_to block c.loop-i.i in
+    let more : origins_to block (c.loop-i.i + 1) ≡ before ++ word_origins c.array_word.result =
+    origins_more block c.loop-i.i ∙ sym (ap (λ (w : ℕ). before ++ word_origins w) c.array_word.ensures.value) in
     record {
-      added = added;
-      few =
-          omega (
-            arith,
-            c.loop-i.invariant.few,
-            c.add_word.new.met.ok.0,
-            c.loop-i.met.ok.0,
-            ap length c.add_word.ensures.added,
-            length-append c.loop-i.met.items (word_origins c.array_word.result),
-            few_origins c.array_word.result,
-          );
-      room = omega (arith, c.loop-i.invariant.room, c.add_word.ensures.room);
+      number = omega (arith, c.loop-i.invariant.number, c.add_word-number.ensures.number, ap length more, length-append before (word_origins c.array_word.result));
+      fewer = omega (arith, c.loop-i.invariant.fewer, c.add_word-number.ensures.number, few_origins c.array_word.result);
+      added = λ os met.
+          subst (λ (all : List ℕ). AreAdded all c.add_word-number.new.met)
+          (append_assoc os before (word_origins c.array_word.result) ∙ ap (λ (ws : List ℕ). os ++ ws) (sym more))
+          (c.add_word-number.ensures.added (os ++ before) (c.loop-i.invariant.added os met));
+      few = omega (arith, c.loop-i.invariant.few, c.add_word-number.ensures.few);
+      room = omega (arith, c.loop-i.invariant.room, c.add_word-number.ensures.room);
     }
 
+pub returns-clause-number : goal.returns-clause-number
+returns-clause-number c = c.loop-i.invariant.number ∙ ap length (origins_all c.args.block.now.0 c.loop-i.i (omega (arith, c.loop-i-test.false, c.loop-i.auto.i-end, c.array_len-i-end.ensures)))
+
 pub returns-clause-added : goal.returns-clause-added
-returns-clause-added c =
-    let all : c.loop-i.i ≡ word_count 8 c.args.block.now.0 = omega (arith, c.loop-i-test.false, c.loop-i.auto.i-end, c.array_len-i-end.ensures) in
-    c.loop-i.invariant.added ∙ ap (λ (os : List ℕ). c.args.met.now.items ++ os) (origins_all c.args.block.now.0 c.loop-i.i all)
+returns-clause-added c = λ os met. subst (λ (ws : List ℕ). AreAdded (os ++ ws) c.loop-i.met) (origins_all c.args.block.now.0 c.loop-i.i (omega (arith, c.loop-i-test.false, c.loop-i.auto.i-end, c.array_len-i-end.ensures))) (c.loop-i.invariant.added os met)
 
 pub returns-clause-few : goal.returns-clause-few
 returns-clause-few c = omega (arith, c.loop-i.invariant.few, c.loop-i.auto.i-end, c.array_len-i-end.ensures, few_words c.args.block.now.0)
