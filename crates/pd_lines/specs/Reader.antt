@@ -1,5 +1,5 @@
 -- What a reader of lines has and gives.
-use Rattle.std.specs.Prelude.{◌≡◌, ℕ, ◌+◌, ◌-◌, ◌^◌, ◌≤◌, min, Bool, true, false, List, [], ◌∷◌, ◌++◌, length, take, Option, Some, None, Result, Ok, Err}
+use Rattle.std.specs.Prelude.{◌≡◌, ℕ, ◌+◌, ◌-◌, ◌^◌, ◌≤◌, min, Bool, true, false, List, [], ◌∷◌, ◌++◌, length, take, drop, Option, Some, None, Result, Ok, Err}
 use Rattle.std.specs.List.{list_all}
 use Rattle.pd_grammar.specs.Words.{is_printable}
 use Rattle.pd_lines.specs.Moves.{IsUnbroken}
@@ -10,7 +10,7 @@ use Rattle.pd_lines.specs.declared.fault.LineFault.TheVariants.{Source, TooLong,
 
 -- what was taken and not yet read
 abbrev pub held_of : LineReader → List ℕ
-held_of reader = reader.buffer
+held_of reader = drop reader.used reader.buffer
 
 -- how many lines were read, up to the end of a `u64`
 abbrev pub lines_of : LineReader → ℕ
@@ -18,7 +18,7 @@ lines_of reader = reader.lines
 
 -- the bytes of the last line
 abbrev pub line_of : LineReader → List ℕ
-line_of reader = take reader.len reader.line
+line_of reader = take (reader.used - 1) reader.buffer
 
 -- the number of the next line, up to the end of a `u64`
 abbrev pub next_number : LineReader → ℕ

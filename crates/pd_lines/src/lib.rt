@@ -3,6 +3,7 @@
 
 mod buffer;
 mod fault;
+mod front;
 mod line;
 mod number;
 mod pieces;

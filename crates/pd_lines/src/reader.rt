@@ -1,16 +1,19 @@
 //! The lines of a text, from a source.
 
-ghost use Rattle.std.specs.Prelude.{◌≡◌, ◌≢◌, ℕ, ◌<◌, ◌≤◌, ◌+◌, List, [], ◌++◌, length, take, drop, Ok, Err, IfOk, IfErr, IfSome, OnOk, OnErr, true, false, Some, None};
+ghost use Rattle.std.specs.Prelude.{◌≡◌, ◌≢◌, ℕ, ◌<◌, ◌≤◌, ◌+◌, ◌-◌, List, [], ◌++◌, length, take, drop, Ok, Err, IfOk, IfErr, IfSome, OnOk, OnErr, true, false, Some, None};
 ghost use Rattle.std.specs.List.{list_all};
 ghost use Rattle.pd_kinds.specs.Objects.{CountsFault, Rose};
 ghost use Rattle.pd_grammar.specs.Words.{is_printable};
 ghost use Rattle.pd_image.specs.Source.{KeepsSource};
-ghost use Rattle.pd_lines.specs.Moves.{Moves, IsUnbroken, EndsLine};
+ghost use Rattle.pd_lines.specs.declared.front.Front.TheVariants.{Open};
+ghost use Rattle.pd_lines.specs.Front.{IsFront};
+ghost use Rattle.pd_lines.specs.Moves.{Moves, IsUnbroken};
 ghost use Rattle.pd_lines.specs.LineText.{LineText};
 ghost use Rattle.pd_lines.specs.Numbered.{IsNumbered};
 
 use crate::buffer::Buffer;
 use crate::fault::LineFault;
+use crate::front::{Front, front_of};
 use pd_image::{Failed, Source};
 use std::alloc::{AllocError, Global};
 use std::marker::Model;
@@ -70,11 +73,11 @@ pub struct LineReader {
     buffer: Buffer,
     /// How many lines were read, up to the end of its type.
     lines: u64,
-    /// The last line that was read, and how long it is.
-    line: [u8; 160],
-    len: usize,
-    ghost short: { len ≤ 160 },
-    ghost printable: { list_all is_printable (take len line) ≡ true },
+    /// How many bytes of the buffer the last line that was read still takes, with its line feed.
+    used: usize,
+    ghost within: { used ≤ length buffer },
+    ghost short: { used ≤ 161 },
+    ghost printable: { list_all is_printable (take (used - 1) buffer) ≡ true },
 }
 
 impl LineReader {
@@ -88,8 +91,7 @@ impl LineReader {
         Ok(LineReader {
             buffer: Buffer::new(alloc)?,
             lines: 0,
-            line: [0; 160],
-            len: 0,
+            used: 0,
         })
     }
 
@@ -106,7 +108,7 @@ impl LineReader {
         ensures text { list_all is_printable result.now ≡ true }
         ensures short { length result.now ≤ 160 }
     {
-        &self.line[..self.len]
+        &self.buffer.held()[..self.used.saturating_sub(1)]
     }
 
     /// Reads the next line, and answers whether there was one: none exactly where the input ends at a line's start.
@@ -124,20 +126,20 @@ impl LineReader {
         ensures kept { KeepsSource (S.state source.old) (S.state source.new) }
     {
         let number = self.lines.saturating_add(1);
-        let found = match line_end(&mut self.buffer, source) {
-            Ok(found) => found,
+        self.buffer.skip(self.used);
+        self.used = 0;
+        let front = match take_front(&mut self.buffer, source) {
+            Ok(front) => front,
             Err(_) => return Err(LineFault::Source),
         };
         self.lines = number;
-        match found {
-            Some(end) => match keep_line(&mut self.buffer, &mut self.line, number, end) {
-                Ok(()) => {
-                    self.len = end;
-                    Ok(true)
-                }
-                Err(fault) => Err(fault),
-            },
-            None => end_of(self.buffer.held(), number),
+        match front {
+            Front::Line(len) => {
+                self.used = len + 1;
+                Ok(true)
+            }
+            Front::NotText => Err(LineFault::NotText(number)),
+            Front::Open => end_of(self.buffer.held(), number),
         }
     }
 
@@ -161,73 +163,27 @@ impl LineReader {
     }
 }
 
-/// Where the first line feed is, among the first 161 bytes.
-fn find_end(bytes: &[u8]) -> Option<usize>
-    ensures found { IfSome result (λ i. EndsLine bytes.now i) }
-    ensures none { result ≡ None → IsUnbroken (take 161 bytes.now) }
-{
-    let most = bytes.len().min(161);
-    for i in 0..most {
-        if bytes[i] == b'\n' {
-            return Some(i);
-        }
-    }
-    None
-}
-
-/// Whether all bytes are those that a line may have.
-fn is_text(bytes: &[u8]) -> bool
-    ensures { result ≡ list_all is_printable bytes.now }
-{
-    bytes.iter().all(|b| 32 <= *b && *b <= 126)
-}
-
-/// Takes bytes until the first 161 of those that are held have a line feed, or are there, or no more come.
-fn line_end<S: Source>(buffer: &mut Buffer, source: &mut S) -> Result<Option<usize>, Failed>
+/// Takes bytes until those that are held begin with a line, or 161 without a line feed are held, or no more come.
+fn take_front<S: Source>(buffer: &mut Buffer, source: &mut S) -> Result<Front, Failed>
     requires { (S.state source.old).access ≡ 1 }
     ensures moved { Moves buffer.old buffer.new (S.state source.old).left (S.state source.new).left }
-    ensures found { IfOk result (λ found. IfSome found (λ i. EndsLine buffer.new i)) }
-    ensures none { IfOk result (λ found. found ≡ None → IsUnbroken (take 161 buffer.new)) }
-    ensures end { IfOk result (λ found. found ≡ None → length buffer.new ≤ 160 → (left : List ℕ) → (S.state source.old).left ≡ Some left → (S.state source.new).left ≡ Some []) }
+    ensures front { IfOk result (λ front. IsFront buffer.new front) }
+    ensures end { IfOk result (λ front. front ≡ Open → length buffer.new ≤ 160 → (left : List ℕ) → (S.state source.old).left ≡ Some left → (S.state source.new).left ≡ Some []) }
     ensures kept { KeepsSource (S.state source.old) (S.state source.new) }
     ensures faults { CountsFault result (S.state source.old).faults (S.state source.new).faults }
 {
     'filling: loop {
-        let found = find_end(buffer.held());
-        if found.is_some() {
-            return Ok(found);
+        match front_of(buffer.held()) {
+            Front::Open => {}
+            found => return Ok(found),
         }
         if buffer.held().len() > 160 {
-            return Ok(None);
+            return Ok(Front::Open);
         }
         if !buffer.fill(source)? {
-            return Ok(None);
+            return Ok(Front::Open);
         }
     }
-}
-
-/// Keeps the line that ends in this place.
-fn keep_line(
-    buffer: &mut Buffer,
-    line: &mut [u8; 160],
-    number: u64,
-    end: usize,
-) -> Result<(), LineFault>
-    requires { EndsLine buffer.old end }
-    ensures kept { OnOk result (take end line.new ≡ take end buffer.old) }
-    ensures text { OnOk result (list_all is_printable (take end line.new) ≡ true) }
-    ensures rest { OnOk result (buffer.new ≡ drop (end + 1) buffer.old) }
-    ensures fault { IfErr result (λ fault. fault ≡ LineFault.NotText number) }
-    ensures not_text { OnErr result (list_all is_printable (take end buffer.old) ≡ false) }
-    ensures unchanged { OnErr result ((buffer.new ≡ buffer.old) × (line.new ≡ line.old)) }
-{
-    let text = &buffer.held()[..end];
-    if !is_text(text) {
-        return Err(LineFault::NotText(number));
-    }
-    line[..end].copy_from_slice(text);
-    buffer.skip(end + 1);
-    Ok(())
 }
 
 /// What is left at the input's end, or too much without a line feed.

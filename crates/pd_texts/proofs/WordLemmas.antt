@@ -1,6 +1,7 @@
 -- Words of a line, as the code looks at them.
 use Rattle.std.proofs.Common.{◌≡◌, inl, inr, ℕ, ◌+◌, ◌*◌, ◌-◌, ◌^◌, ◌≤◌, ◌<◌, Bool, true, false, ◌&&◌, ltb, if◌then◌else◌, List, [], ◌∷◌, ◌++◌, length, length-drop, take, drop, get_or, refl, ap, sym, subst, ◌∙◌, arith, Option, Some, None}
-use Rattle.std.proofs.lemmas.Bool.{cases_Bool}
+use Rattle.std.proofs.lemmas.Bool.{cases_Bool, ne_eqb, true≢false}
+use Rattle.std.proofs.lemmas.Grind.{pow_more}
 use Rattle.std.proofs.lemmas.Bool.Decides.{nat_tests, Decides-ltb}
 use Rattle.std.proofs.lemmas.List.{take_all, append-nil}
 use Rattle.std.proofs.lemmas.List.Folds.{list_all_more, list_all_at}
@@ -11,10 +12,12 @@ use Rattle.std.specs.Char.{is_ascii_digit, digit_value}
 use Rattle.std.specs.List.{list_all}
 use Rattle.std.specs.Str.{all_ascii_digits}
 use Rattle.std.specs.Str.Parse.{digits_value}
-use Rattle.pd_grammar.specs.Words.{split}
+use Rattle.std.proofs.Math.Nat.{pow-le-pow_right}
+use Rattle.pd_grammar.specs.Words.{split, is_canonical, number_of}
 use Rattle.pd_grammar.proofs.SplitLemmas.{Lacks, split-cut, split-one}
 use Rattle.pd_grammar.proofs.NumberLemmas.{both}
 use Rattle.pd_lines.proofs.ReaderLemmas.{cut_at}
+use Rattle.pd_texts.specs.Words.{first_word}
 
 pub word_cut : (xs : List ℕ) (i at : ℕ) → i < length xs → get_or xs i 0 ≡ at → Lacks at (take i xs)
     → split at xs ≡ take i xs ∷ split at (take (length xs - (i + 1)) (drop (i + 1) xs))
@@ -95,3 +98,51 @@ digits_end word i value past fits all sofar =
     let number : digits_value 10 word ≡ value = ap (digits_value 10) (sym whole) ∙ sofar in
     let test : ltb value (2 ^ 64) ≡ true = (Decides-ltb value (2 ^ 64)).1 fits in
     rw (digits, number, test) refl
+
+pub digit_low : (b : ℕ) → is_ascii_digit b ≡ true → b - 48 < 10
+digit_low b digit = grind (arith, nat_tests, digit)
+
+-- a digit more
+pub digit_more : (word : List ℕ) (i value : ℕ) → i < length word → all_ascii_digits (take i word) ≡ true → digits_value 10 (take i word) ≡ value → value < 10 ^ i
+    → is_ascii_digit (get_or word i 0) ≡ true
+    → (all_ascii_digits (take (i + 1) word) ≡ true) × ((digits_value 10 (take (i + 1) word) ≡ value * 10 + (get_or word i 0 - 48)) × (value * 10 + (get_or word i 0 - 48) < 10 ^ (i + 1)))
+digit_more word i value within all sofar low digit =
+    let b = get_or word i 0 in
+    let list : list_all is_ascii_digit (take i word) ≡ true = sym (all_digits (take i word)) ∙ all in
+    let most = digit_low b digit in (
+      all_digits (take (i + 1) word) ∙ list_all_more is_ascii_digit word i 0 within ∙ rw (list, digit) refl,
+      (digits_value_more 10 word i within ∙ rw (sofar, digit_is b digit) refl, omega (arith, most, low, pow_more 10 i)),
+    )
+
+-- 18 digits and one more fit
+pub digits_fit : (value i : ℕ) → value < 10 ^ i → i < 19 → value < 10 ^ 18
+digits_fit value i low few = omega (arith, low, pow-le-pow_right {n = 10} (omega arith) {i = i} {j = 18} (omega arith))
+
+-- a byte that isn't a digit isn't among digits
+lacks_digits : (at : ℕ) → is_ascii_digit at ≡ false → (word : List ℕ) → all_ascii_digits word ≡ true → Lacks at word
+lacks_digits at other [] all = tt
+lacks_digits at other (b ∷ word) all =
+    let parts = both (is_ascii_digit b) (all_ascii_digits word) all in
+    (ne_eqb b at (λ same. true≢false (sym parts.0 ∙ ap is_ascii_digit same ∙ other)), lacks_digits at other word parts.1)
+
+-- the number of digits without a leading zero
+pub digits_are : (word : List ℕ) (value : ℕ) → is_canonical word ≡ true → digits_value 10 word ≡ value → value < 2 ^ 64 → Some value ≡ number_of word
+unfolding number_of
+digits_are word value canonical is fits =
+    let test : ltb value (2 ^ 64) ≡ true = (Decides-ltb value (2 ^ 64)).1 fits in
+    rw (canonical, is, test) refl
+
+-- a word of digits, up to a space or to the end
+pub cut_digits : (xs : List ℕ) (i : ℕ) → i < length xs → get_or xs i 0 ≡ 32 → all_ascii_digits (take i xs) ≡ true
+    → split 32 xs ≡ take i xs ∷ split 32 (take (length xs - (i + 1)) (drop (i + 1) xs))
+cut_digits xs i within space all = word_cut xs i 32 within space (lacks_digits 32 refl (take i xs) all)
+
+pub whole_digits : (xs : List ℕ) (i : ℕ) → i ≡ length xs → all_ascii_digits (take i xs) ≡ true → split 32 xs ≡ take i xs ∷ []
+whole_digits xs i end all = word_whole xs i 32 (omega arith) (lacks_digits 32 refl (take i xs) all) ∙ ap (λ (ys : List ℕ). ys ∷ []) (sym (take_all i xs (omega arith)))
+
+-- the first word, and its number
+pub first_is : (bytes word : List ℕ) (words : List (List ℕ)) → split 32 bytes ≡ word ∷ words → split 32 bytes ≡ first_word bytes ∷ words
+first_is bytes word words e = rw e refl
+
+pub first_number : (bytes word : List ℕ) (words : List (List ℕ)) (o : Option ℕ) → split 32 bytes ≡ word ∷ words → o ≡ number_of word → o ≡ number_of (first_word bytes)
+first_number bytes word words o e is = is ∙ ap number_of (sym (ap (λ (ws : List (List ℕ)). get_or ws 0 []) e))

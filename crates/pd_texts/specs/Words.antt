@@ -9,6 +9,10 @@ use Rattle.pd_grammar.specs.Words.{split}
 use Rattle.pd_grammar.specs.Tables.{LineKind}
 use Rattle.pd_grammar.proofs.TableLemmas.{values_at}
 
+-- the first of the words of some bytes
+abbrev pub first_word : List ℕ → List ℕ
+first_word bytes = get_or (split 32 bytes) 0 []
+
 -- the words of what follows a word
 abbrev pub words_in : Option (Bor (List ℕ)) → List (List ℕ)
 words_in None = []

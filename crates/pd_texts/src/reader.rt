@@ -43,6 +43,7 @@ impl<P: TextState> TextReader<P> {
     /// What the next line gives that isn't the first one; none exactly where the last line and then the end of the
     /// input were read. It takes memory, and answers the want of it, only where the state may want some. After an error
     /// or none it says nothing of what a further call gives.
+    #[inline(always)]
     pub fn next<S: Source>(&mut self, source: &mut S) -> Result<Option<P::Line>, ReadFault>
         requires { (S.state source.old).access ≡ 1 }
         ensures lines { (before : List P.Meant) → ReadsOn P.format P.Stands before self.old

@@ -102,6 +102,8 @@ impl TextState for ThinState {
         }
     }
 
+    // A call would copy the line once more.
+    #[inline(always)]
     fn read(&mut self, text: &[u8]) -> Result<Option<ThinLine>, TextCause> {
         let (word, rest) = cut_word(text);
         let kind = match ThinKind::named(word) {

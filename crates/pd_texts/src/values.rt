@@ -1,12 +1,12 @@
 //! The values of a line, by its fields.
 
-ghost use Rattle.std.specs.Prelude.{◌≡◌, ◌<◌, ◌≤◌, ℕ, List, length, take, slice_index, Option, Some, None, is_some, Ok, Err, MatchResult, true};
-ghost use Rattle.pd_grammar.specs.Words.{policy_of};
+ghost use Rattle.std.specs.Prelude.{◌≡◌, ◌<◌, ◌≤◌, ℕ, List, length, take, slice_index, ◌∷◌, Option, Some, None, is_some, Ok, Err, MatchResult, true};
+ghost use Rattle.pd_grammar.specs.Words.{policy_of, split};
 ghost use Rattle.pd_grammar.specs.Tables.{value_of, values_in};
 ghost use Rattle.pd_grammar.proofs.TableLemmas.{values_at};
-ghost use Rattle.pd_texts.specs.Words.{words_in, is_name, value_by, name_at};
+ghost use Rattle.pd_texts.specs.Words.{first_word, words_in, is_name, value_by, name_at};
 
-use crate::words::{cut_word, number_word, read_uuid};
+use crate::words::{cut_number, cut_word, read_uuid};
 use pd_grammar::{Field, TextCause};
 
 /// The policy name that a word is: 32 hexadecimal digits in lower case.
@@ -29,33 +29,54 @@ fn read_policy(word: &[u8]) -> Option<[u8; 16]>
     }
 }
 
-/// Reads a value into its place, and answers whether the word is one.
-fn put_value(
+/// Reads the value of the first word into its place, and answers whether the word is one, and what follows it.
+fn put_value<'a>(
     names: &mut [[u8; 16]],
     numbers: &mut [u64],
     i: usize,
     field: Field,
-    word: &[u8],
-) -> bool
+    text: &'a [u8],
+) -> (bool, Option<&'a [u8]>)
     requires names { i < length names.old }
     requires numbers { i < length numbers.old }
-    ensures read { result ≡ is_some (value_of field word.now) }
-    ensures put { result ≡ true → value_of field word.now ≡ Some (value_by field (name_at names.new i) (slice_index numbers.new i)) }
+    ensures cut { split 32 text.now ≡ first_word text.now ∷ words_in result.1 }
+    ensures read { result.0 ≡ is_some (value_of field (first_word text.now)) }
+    ensures put { result.0 ≡ true → value_of field (first_word text.now) ≡ Some (value_by field (name_at names.new i) (slice_index numbers.new i)) }
     ensures names_before { take i names.new ≡ take i names.old }
     ensures numbers_before { take i numbers.new ≡ take i numbers.old }
     ensures names_len { length names.new ≡ length names.old }
     ensures numbers_len { length numbers.new ≡ length numbers.old }
 {
     match field {
-        Field::Number => match number_word(word) {
-            Some(number) => {
-                numbers[i] = number;
-                true
-            }
-            None => false,
-        },
-        Field::Uuid => put_name(names, i, read_uuid(word)),
-        Field::Policy => put_name(names, i, read_policy(word)),
+        Field::Number => {
+            let (number, rest) = cut_number(text);
+            (put_number(numbers, i, number), rest)
+        }
+        Field::Uuid => {
+            let (word, rest) = cut_word(text);
+            (put_name(names, i, read_uuid(word)), rest)
+        }
+        Field::Policy => {
+            let (word, rest) = cut_word(text);
+            (put_name(names, i, read_policy(word)), rest)
+        }
+    }
+}
+
+/// Puts a number into its place, and answers whether there is one.
+fn put_number(numbers: &mut [u64], i: usize, number: Option<u64>) -> bool
+    requires { i < length numbers.old }
+    ensures read { result ≡ is_some number }
+    ensures put { result ≡ true → number ≡ Some (slice_index numbers.new i) }
+    ensures before { take i numbers.new ≡ take i numbers.old }
+    ensures len { length numbers.new ≡ length numbers.old }
+{
+    match number {
+        Some(value) => {
+            numbers[i] = value;
+            true
+        }
+        None => false,
     }
 }
 
@@ -95,9 +116,8 @@ pub fn read_values(
             Some(text) => text,
             None => return Err(TextCause::Word),
         };
-        let (word, next) = cut_word(text);
+        let (good, next) = put_value(names, numbers, i, fields[i], text);
         rest = next;
-        let good = put_value(names, numbers, i, fields[i], word);
         if !good & is_name(fields[i]) {
             return Err(TextCause::Word);
         }

@@ -4,7 +4,7 @@ use Rattle.pd_grammar.specs.Tables.{values_in}
 use Rattle.pd_grammar.proofs.NumberLemmas.{both}
 use Rattle.std.proofs.lemmas.List.{take_all}
 use Rattle.pd_grammar.proofs.TableLemmas.{values_at}
-use Rattle.pd_texts.specs.Words.{words_in, is_name, name_at}
+use Rattle.pd_texts.specs.Words.{first_word, words_in, is_name, name_at}
 use Rattle.pd_texts.proofs.ValueLemmas.{continued, is_bad, value_step, value_fails, value_lacks, values_past, values_done, values_bad}
 use Rattle.pd_texts.proofs.values.read_values.Goals as goal
 
@@ -15,18 +15,18 @@ returns-in-None c =
 pub returns-then-good-is_name : goal.returns-then-good-is_name
 returns-then-good-is_name c =
     let field = get_or c.args.fields.now c.loop-i.i f.Uuid in
-    let words : words_in c.loop-i.rest ≡ c.cut_word.result.0.now ∷ words_in c.cut_word.result.1 = ap words_in c.in-Some.is ∙ c.cut_word.ensures in
-    let tests = both (not c.put_value-good.result) c.is_name.result c.if-good-is_name.true in
+    let words : words_in c.loop-i.rest ≡ first_word c.in-Some.text.now ∷ words_in c.put_value-good.result.1 = ap words_in c.in-Some.is ∙ c.put_value-good.ensures.cut in
+    let tests = both (not c.put_value-good.result.0) c.is_name.result c.if-good-is_name.true in
     sym c.loop-i.invariant.0 ∙ rw words
-    (value_fails c.args.fields.now (values_at (take c.loop-i.i c.args.fields.now) (name_at c.loop-i.names) (slice_index c.loop-i.numbers)) c.loop-i.i c.loop-i.all c.put_value-good.result field c.cut_word.result.0.now (words_in c.cut_word.result.1) f.Uuid
-    c.loop-i-test.true refl c.put_value-good.ensures.read (is_bad c.put_value-good.result tests.0) (sym c.is_name.ensures ∙ tests.1))
+    (value_fails c.args.fields.now (values_at (take c.loop-i.i c.args.fields.now) (name_at c.loop-i.names) (slice_index c.loop-i.numbers)) c.loop-i.i c.loop-i.all c.put_value-good.result.0 field (first_word c.in-Some.text.now) (words_in c.put_value-good.result.1) f.Uuid
+    c.loop-i-test.true refl c.put_value-good.ensures.read (is_bad c.put_value-good.result.0 tests.0) (sym c.is_name.ensures ∙ tests.1))
 
 pub loop-i-preserved : goal.loop-i-preserved
 loop-i-preserved c =
     let field = get_or c.args.fields.now c.loop-i.i f.Uuid in
-    let words : words_in c.loop-i.rest ≡ c.cut_word.result.0.now ∷ words_in c.cut_word.result.1 = ap words_in c.in-Some.is ∙ c.cut_word.ensures in
-    let other : (not c.put_value-good.result && is_name field) ≡ false = rw (← c.is_name.ensures) c.if-good-is_name.false in (
-      value_step c.args.fields.now c.loop-i.names c.put_value-good.new.names c.loop-i.numbers c.put_value-good.new.numbers c.loop-i.i c.loop-i.all c.put_value-good.result field c.cut_word.result.0.now (words_in c.cut_word.result.1)
+    let words : words_in c.loop-i.rest ≡ first_word c.in-Some.text.now ∷ words_in c.put_value-good.result.1 = ap words_in c.in-Some.is ∙ c.put_value-good.ensures.cut in
+    let other : (not c.put_value-good.result.0 && is_name field) ≡ false = rw (← c.is_name.ensures) c.if-good-is_name.false in (
+      value_step c.args.fields.now c.loop-i.names c.put_value-good.new.names c.loop-i.numbers c.put_value-good.new.numbers c.loop-i.i c.loop-i.all c.put_value-good.result.0 field (first_word c.in-Some.text.now) (words_in c.put_value-good.result.1)
           f.Uuid c.loop-i-test.true refl c.put_value-good.ensures.read c.put_value-good.ensures.put c.put_value-good.ensures.names_before c.put_value-good.ensures.numbers_before other
           ∙ ap (λ (ws : List (List ℕ)). continued (values_at (take c.loop-i.i c.args.fields.now) (name_at c.loop-i.names) (slice_index c.loop-i.numbers)) c.loop-i.all (values_in (drop c.loop-i.i c.args.fields.now) ws)) (sym words) ∙ c.loop-i.invariant.0,
       (c.put_value-good.ensures.names_len ∙ c.loop-i.invariant.1.0, c.put_value-good.ensures.numbers_len ∙ c.loop-i.invariant.1.1),

@@ -1,7 +1,7 @@
 use Rattle.std.proofs.Common.{arith, ◌∙◌, ◌++◌, ◌∷◌, None}
 use Rattle.pd_grammar.proofs.NumberLemmas.{ok-err}
 use Rattle.pd_lines.specs.declared.fault.LineFault.TheVariants.{Source}
-use Rattle.pd_lines.specs.Reader.{line_of, next_number}
+use Rattle.pd_lines.specs.Reader.{held_of, line_of, next_number}
 use Rattle.pd_texts.proofs.TextLemmas.{line_after, end_after, fault_after, count_is}
 use Rattle.pd_texts.proofs.PastLemmas.{past_end}
 use Rattle.pd_texts.proofs.reader.TextReader.read_end.Goals as goal
@@ -13,21 +13,21 @@ returns-in-Ok-true-clause-text g c = λ text before read leaves.
     let reads = rw c.in-Ok-true.field-0-test at (c.in-Ok-true.ensures.reads leaves.rest leaves.left_is) in
     let counted = c.in-Ok-true.ensures.counted (ok-err c.in-Ok-true.field-0 Source) in
     rw c.text_fault.ensures
-    (line_after t.format text (old.buffer ++ leaves.rest) (line_of c.advance.new.self) (c.advance.new.self.buffer ++ reads.rest) (t.meant None ∷ before) c.lines.result leaves.is (g.met.P.TextState.ends None)
+    (line_after t.format text (held_of old ++ leaves.rest) (line_of c.advance.new.self) (held_of c.advance.new.self ++ reads.rest) (t.meant None ∷ before) c.lines.result leaves.is (g.met.P.TextState.ends None)
     (c.lines.ensures ∙ counted ∙ count_is (t.meant None ∷ before) old.lines read.count) reads.text_is)
 
 pub returns-in-Ok-false-clause-text : goal.returns-in-Ok-false-clause-text
 returns-in-Ok-false-clause-text g c = λ text before read leaves.
     let t = g.P.TextState in
     let reads = rw c.in-Ok-false.field-0-test at (c.in-Ok-false.ensures.reads leaves.rest leaves.left_is) in
-    (end_after t.format text (c.args.self.now.reader.buffer ++ leaves.rest) (t.meant None ∷ before) leaves.is (g.met.P.TextState.ends None) reads.0, reads.1.1)
+    (end_after t.format text (held_of c.args.self.now.reader ++ leaves.rest) (t.meant None ∷ before) leaves.is (g.met.P.TextState.ends None) reads.0, reads.1.1)
 
 pub returns-in-Err-clause-text : goal.returns-in-Err-clause-text
 returns-in-Err-clause-text g c = λ text before read leaves.
     let t = g.P.TextState in
     let old = c.args.self.now.reader in
     rw c.fault_after_end.ensures
-    (fault_after t.format text (old.buffer ++ leaves.rest) c.advance.new.self.buffer (g.S.Source.state c.advance.new.source).left (t.meant None ∷ before) (next_number old) c.in-Err.fault
+    (fault_after t.format text (held_of old ++ leaves.rest) (held_of c.advance.new.self) (g.S.Source.state c.advance.new.source).left (t.meant None ∷ before) (next_number old) c.in-Err.fault
     leaves.is (g.met.P.TextState.ends None) (count_is (t.meant None ∷ before) old.lines read.count) (c.in-Err.ensures.reads leaves.rest leaves.left_is))
 
 pub returns-in-Ok-true-clause-past : goal.returns-in-Ok-true-clause-past

@@ -3,7 +3,7 @@ use Rattle.pd_grammar.specs.declared.cause.TextCause.TheVariants.{Header}
 use Rattle.pd_grammar.specs.Texts.{read}
 use Rattle.pd_grammar.proofs.NumberLemmas.{ok-err}
 use Rattle.pd_lines.specs.declared.fault.LineFault.TheVariants.{Source}
-use Rattle.pd_lines.specs.Reader.{line_of, next_number}
+use Rattle.pd_lines.specs.Reader.{held_of, line_of, next_number}
 use Rattle.pd_texts.specs.declared.reader.TextReader.{TextReader}
 use Rattle.pd_texts.proofs.ReadLemmas.{first_ok, first_err}
 use Rattle.pd_texts.proofs.TextLemmas.{line_refuses, end_refuses, fault_refuses, count_is, has_read_more, leaves_more}
@@ -42,7 +42,7 @@ returns-else-read_first-clause-text g c = λ text on leaves.
     let reads = rw c.in-Ok-true.field-0-test at (c.in-Ok-true.ensures.reads leaves.rest leaves.left_is) in
     let counted = c.in-Ok-true.ensures.counted (ok-err c.in-Ok-true.field-0 Source) in
     rw c.text_fault.ensures
-    (line_refuses t.format text (old.buffer ++ leaves.rest) bytes (c.advance.new.self.buffer ++ reads.rest) [] c.lines.result Header leaves.is on.going
+    (line_refuses t.format text (held_of old ++ leaves.rest) bytes (held_of c.advance.new.self ++ reads.rest) [] c.lines.result Header leaves.is on.going
     (c.lines.ensures ∙ counted ∙ count_is {M = t.Meant} [] old.lines on.so_far.count) reads.text_is reads.printable reads.short
     (first_err t.format bytes (rw c.text.ensures.bytes at (c.read_first.ensures.other c.if-read_first.false))))
 
@@ -53,7 +53,7 @@ returns-in-Ok-false-clause-text g c = λ text on leaves.
     let reads = rw c.in-Ok-false.field-0-test at (c.in-Ok-false.ensures.reads leaves.rest leaves.left_is) in
     let counted = c.in-Ok-false.ensures.counted (ok-err c.in-Ok-false.field-0 Source) in
     rw c.text_fault-in-Ok-false.ensures
-    (end_refuses t.format text (old.buffer ++ leaves.rest) [] c.lines-in-Ok-false.result leaves.is on.going
+    (end_refuses t.format text (held_of old ++ leaves.rest) [] c.lines-in-Ok-false.result leaves.is on.going
     (c.lines-in-Ok-false.ensures ∙ counted ∙ count_is {M = t.Meant} [] old.lines on.so_far.count) reads.0)
 
 pub returns-in-Err-clause-text : goal.returns-in-Err-clause-text
@@ -61,7 +61,7 @@ returns-in-Err-clause-text g c = λ text on leaves.
     let t = g.P.TextState in
     let old = c.args.self.now.reader in
     rw c.fault_of.ensures
-    (fault_refuses t.format text (old.buffer ++ leaves.rest) c.advance.new.self.buffer (g.S.Source.state c.advance.new.source).left [] (next_number old) Header c.in-Err.fault
+    (fault_refuses t.format text (held_of old ++ leaves.rest) (held_of c.advance.new.self) (g.S.Source.state c.advance.new.source).left [] (next_number old) Header c.in-Err.fault
     leaves.is on.going (count_is {M = t.Meant} [] old.lines on.so_far.count) (λ bytes other. first_err t.format bytes (g.met.P.TextState.header bytes other))
     (c.in-Err.ensures.reads leaves.rest leaves.left_is))
 

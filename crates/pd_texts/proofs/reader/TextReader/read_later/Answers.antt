@@ -3,7 +3,7 @@ use Rattle.pd_grammar.specs.declared.cause.TextCause.TheVariants.{Word}
 use Rattle.pd_grammar.specs.Texts.{read}
 use Rattle.pd_grammar.proofs.NumberLemmas.{ok-err}
 use Rattle.pd_lines.specs.declared.fault.LineFault.TheVariants.{Source}
-use Rattle.pd_lines.specs.Reader.{line_of, next_number}
+use Rattle.pd_lines.specs.Reader.{held_of, line_of, next_number}
 use Rattle.pd_texts.specs.declared.reader.TextReader.{TextReader}
 use Rattle.pd_texts.proofs.ReadLemmas.{other_bytes}
 use Rattle.pd_texts.proofs.TextLemmas.{line_refuses, end_refuses, fault_refuses, count_is, has_read_more, leaves_more}
@@ -38,7 +38,7 @@ returns-in-Err-read-clause-text g c = λ text before some on leaves.
     let counted = c.in-Ok-true.ensures.counted (ok-err c.in-Ok-true.field-0 Source) in
     let is : read t.format before bytes ≡ Err c.in-Err-read.cause = sym (rw c.text.ensures.bytes at (c.in-Err-read.ensures.line before (c.make_room.ensures.stands before on.so_far.stands) some)) in
     rw c.text_fault.ensures
-    (line_refuses t.format text (old.buffer ++ leaves.rest) bytes (c.advance.new.self.buffer ++ reads.rest) before c.lines.result c.in-Err-read.cause leaves.is on.going
+    (line_refuses t.format text (held_of old ++ leaves.rest) bytes (held_of c.advance.new.self ++ reads.rest) before c.lines.result c.in-Err-read.cause leaves.is on.going
     (c.lines.ensures ∙ counted ∙ count_is before old.lines on.so_far.count) reads.text_is reads.printable reads.short is)
 
 pub returns-in-Ok-false-clause-text : goal.returns-in-Ok-false-clause-text
@@ -48,7 +48,7 @@ returns-in-Ok-false-clause-text g c = λ text before some on leaves.
     let reads = rw c.in-Ok-false.field-0-test at (c.in-Ok-false.ensures.reads leaves.rest leaves.left_is) in
     let counted = c.in-Ok-false.ensures.counted (ok-err c.in-Ok-false.field-0 Source) in
     rw c.text_fault-in-Ok-false.ensures
-    (end_refuses t.format text (old.buffer ++ leaves.rest) before c.lines-in-Ok-false.result leaves.is on.going
+    (end_refuses t.format text (held_of old ++ leaves.rest) before c.lines-in-Ok-false.result leaves.is on.going
     (c.lines-in-Ok-false.ensures ∙ counted ∙ count_is before old.lines on.so_far.count) reads.0)
 
 pub returns-in-Err-advance-clause-text : goal.returns-in-Err-advance-clause-text
@@ -56,7 +56,7 @@ returns-in-Err-advance-clause-text g c = λ text before some on leaves.
     let t = g.P.TextState in
     let old = c.args.self.now.reader in
     rw c.fault_of.ensures
-    (fault_refuses t.format text (old.buffer ++ leaves.rest) c.advance.new.self.buffer (g.S.Source.state c.advance.new.source).left before (next_number old) Word c.in-Err-advance.fault
+    (fault_refuses t.format text (held_of old ++ leaves.rest) (held_of c.advance.new.self) (g.S.Source.state c.advance.new.source).left before (next_number old) Word c.in-Err-advance.fault
     leaves.is on.going (count_is before old.lines on.so_far.count) (λ bytes other. other_bytes t.format before bytes some other)
     (c.in-Err-advance.ensures.reads leaves.rest leaves.left_is))
 

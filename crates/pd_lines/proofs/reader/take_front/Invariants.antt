@@ -1,7 +1,7 @@
 use Rattle.std.proofs.Common.{◌≡◌, ◌-◌, length}
 use Rattle.pd_lines.specs.Moves.{Moves}
 use Rattle.pd_image.specs.Source.{KeepsSource}
-use Rattle.pd_lines.proofs.reader.line_end.Given as goal
+use Rattle.pd_lines.proofs.reader.take_front.Given as goal
 
 abbrev pub invariant-filling : goal.invariant-filling
 invariant-filling g l =

@@ -1,7 +1,7 @@
 use Rattle.std.proofs.Common.{◌≡◌, subst, ℕ, List, min, length, arith}
 use Rattle.pd_lines.specs.Moves.{IsUnbroken}
 use Rattle.pd_lines.proofs.BufferLemmas.{take_most}
-use Rattle.pd_lines.proofs.reader.find_end.Goals as goal
+use Rattle.pd_lines.proofs.front.find_end.Goals as goal
 
 pub returns-clause-none : goal.returns-clause-none
 returns-clause-none c = λ none.
