@@ -102,7 +102,7 @@ impl LineReader {
         self.lines
     }
 
-    /// The bytes of the last line that was read, without its line feed.
+    /// The bytes of the last line that was read, without its line feed; after an error or the end none.
     pub fn text(&self) -> &[u8]
         ensures bytes { result.now ≡ line_of self.now }
         ensures text { list_all is_printable result.now ≡ true }

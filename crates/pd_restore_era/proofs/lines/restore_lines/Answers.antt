@@ -60,3 +60,9 @@ lines-init g c = record {
   source_faults = refl;
   device_faults = refl;
 }
+
+pub returns-clause-closed : goal.returns-clause-closed
+returns-clause-closed g c = closed_then c.lines.invariant.closed c.in_ok-step.ensures.closed
+
+pub returns-in_err-step-clause-closed : goal.returns-in_err-step-clause-closed
+returns-in_err-step-clause-closed g c = closed_then c.lines.invariant.closed c.in_err-step.ensures.closed
