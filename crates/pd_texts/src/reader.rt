@@ -43,6 +43,7 @@ impl<P: TextState> TextReader<P> {
     /// What the next line gives that isn't the first one; none exactly where the last line and then the end of the
     /// input were read. It takes memory, and answers the want of it, only where the state may want some. After an error
     /// or none it says nothing of what a further call gives.
+    // What is called to give a line is inlined here, since each call would copy the line once more.
     #[inline(always)]
     pub fn next<S: Source>(&mut self, source: &mut S) -> Result<Option<P::Line>, ReadFault>
         requires { (S.state source.old).access ≡ 1 }
@@ -62,6 +63,7 @@ impl<P: TextState> TextReader<P> {
     }
 
     /// Reads the first line, where none was read.
+    #[inline(always)]
     fn begin<S: Source>(&mut self, source: &mut S) -> Result<(), ReadFault>
         requires { (S.state source.old).access ≡ 1 }
         ensures lines { (before : List P.Meant) → ReadsOn P.format P.Stands before self.old → OnOk result (ReadsOn P.format P.Stands (begun (P.first_line self.new.state) before) self.new) }
@@ -106,6 +108,7 @@ impl<P: TextState> TextReader<P> {
     }
 
     /// What the next line gives after the first one, or the end.
+    #[inline(always)]
     fn next_value<S: Source>(&mut self, source: &mut S) -> Result<Option<P::Line>, ReadFault>
         requires { (S.state source.old).access ≡ 1 }
         ensures lines { (before : List P.Meant) → 1 ≤ length before → ReadsOn P.format P.Stands before self.old
@@ -127,6 +130,7 @@ impl<P: TextState> TextReader<P> {
     }
 
     /// Reads a line after the first one, once there is memory for it.
+    #[inline(always)]
     fn read_later<S: Source>(&mut self, source: &mut S) -> Result<Option<P::Line>, ReadFault>
         requires { (S.state source.old).access ≡ 1 }
         ensures lines { (before : List P.Meant) → 1 ≤ length before → ReadsOn P.format P.Stands before self.old

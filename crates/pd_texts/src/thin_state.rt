@@ -102,7 +102,7 @@ impl TextState for ThinState {
         }
     }
 
-    // A call would copy the line once more.
+    // A call would copy the line once more; so would one of `take`.
     #[inline(always)]
     fn read(&mut self, text: &[u8]) -> Result<Option<ThinLine>, TextCause> {
         let (word, rest) = cut_word(text);
@@ -162,6 +162,7 @@ impl ThinState {
     }
 
     /// Takes a line of these values, or says which test it fails.
+    #[inline(always)]
     fn take(
         &mut self,
         kind: ThinKind,

@@ -144,10 +144,7 @@ fn add_row<D: Device, K: Sink>(
     ensures kept { OnlyReads (D.state dev.old) (D.state dev.new) }
     ensures faults { QueryEnds result (D.state dev.old).faults (D.state dev.new).faults (K.state printer.old.out.now).faults (K.state printer.new.out.now).faults }
 {
-    let exclusive = match exclusive_blocks(row, counts, mappings, dev) {
-        Ok(exclusive) => exclusive,
-        Err(fault) => return Err(fault),
-    };
+    let exclusive = exclusive_blocks(row, counts, mappings, dev)?;
     add_parts(row, exclusive, printer)
 }
 

@@ -59,10 +59,7 @@ pub(crate) fn region_uses<D: Device>(
         end,
         uses: Vec::new(alloc),
     };
-    match take_pool(alloc, s, dev, &mut region) {
-        Ok(()) => {}
-        Err(fault) => return Err(fault),
-    }
+    take_pool(alloc, s, dev, &mut region)?;
     let mut uses = region.uses;
     match sort_by_block(&mut uses) {
         Ok(()) => Ok(uses),

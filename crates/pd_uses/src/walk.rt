@@ -92,10 +92,7 @@ fn take_rows<T: TakesUses, D: Device>(
             Err(_) => return Err(QueryFault::Device),
         };
         match row {
-            Some(row) => match take_row(&row, mappings, dev, taker) {
-                Ok(()) => {}
-                Err(fault) => return Err(fault),
-            },
+            Some(row) => take_row(&row, mappings, dev, taker)?,
             None => return Ok(()),
         }
     }

@@ -6,13 +6,13 @@ use Rattle.pd_uses.specs.Ordered.{is_within, ordered_uses}
 use Rattle.pd_uses.proofs.OrderLemmas.{region_sorted}
 use Rattle.pd_uses.proofs.region.region_uses.Goals as goal
 
-pub returns-in-Ok-sort_by_block-clause-uses : goal.returns-in-Ok-sort_by_block-clause-uses
-returns-in-Ok-sort_by_block-clause-uses g c =
-    let took = c.in-Ok.ensures.taken in
+pub returns-in-Ok-clause-uses : goal.returns-in-Ok-clause-uses
+returns-in-Ok-clause-uses g c =
+    let took = c.in_ok-take_pool.ensures.taken in
     let kept = took.taken (record { first = c.args.first; end = c.args.end; uses = c.new.result }) [] (refl, (refl, sym (append-nil c.new.result.items))) in
     one_told (g.D.Device.state c.args.dev.now).held
     (λ image is.
     region_sorted c.args.first c.args.end took.uses c.take_pool.new.taker.uses.items c.sort_by_block.new.uses.items
-    (kept.1.1 ∙ ap (λ (xs : List DataUse). xs ++ filter (is_within c.args.first c.args.end) took.uses) c.new.ensures.items) c.in-Ok-sort_by_block.ensures
+    (kept.1.1 ∙ ap (λ (xs : List DataUse). xs ++ filter (is_within c.args.first c.args.end) took.uses) c.new.ensures.items) c.in-Ok.ensures
     ∙ ap (ordered_uses c.args.first c.args.end) is)
     took.told

@@ -24,8 +24,8 @@ loop-row-preserved g c =
           (one_told (g.D.Device.state c.args.dev.now).held (λ image next. row_first image c.in-Some.row (rows_left image c.loop-row.devices) (rows_left image c.next.new.self) next)
           (subst (λ o. IfSome o (λ image. IsNext {X = DeviceRow} (Some c.in-Some.row) (rows_left image c.loop-row.devices) (rows_left image c.next.new.self))) c.loop-row.invariant.kept.held
           (rw c.in-Some.is at c.in-Ok.ensures.next)))
-          (rw (only_reads_both c.loop-row.invariant.kept c.in-Ok.ensures.kept).held at c.in-Ok-take_row.ensures.taken);
+          (rw (only_reads_both c.loop-row.invariant.kept c.in-Ok.ensures.kept).held at c.in_ok-take_row-in-Some.ensures.taken);
       room = omega arith;
-      kept = only_reads_both (only_reads_both c.loop-row.invariant.kept c.in-Ok.ensures.kept) c.in-Ok-take_row.ensures.kept;
-      faults = c.in-Ok-take_row.ensures.faults ∙ (c.in-Ok.ensures.faults ∙ c.loop-row.invariant.faults);
+      kept = only_reads_both (only_reads_both c.loop-row.invariant.kept c.in-Ok.ensures.kept) c.in_ok-take_row-in-Some.ensures.kept;
+      faults = c.in_ok-take_row-in-Some.ensures.faults ∙ (c.in-Ok.ensures.faults ∙ c.loop-row.invariant.faults);
     }
