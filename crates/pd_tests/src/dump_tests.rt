@@ -123,9 +123,9 @@ fn a_dump_goes_to_the_named_file(rt: HostRuntime) -> Result<(), Fail> {
 }
 
 #[test]
-fn a_dump_makes_more_than_twenty_calls(rt: HostRuntime) -> Result<(), Fail> {
+fn a_dump_whose_last_call_fails_puts_nothing(rt: HostRuntime) -> Result<(), Fail> {
     let failing = Failing {
-        input: Some(20),
+        input: Some(17),
         ..NOTHING_FAILS
     };
     let image = pool_of_one_mapping();
