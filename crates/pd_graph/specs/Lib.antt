@@ -5,3 +5,4 @@ pub mod Marks
 pub mod Audit
 pub mod Weight
 pub mod Walk
+pub mod Watch

@@ -9,10 +9,12 @@ mod noting;
 mod roles;
 mod stack;
 mod walking;
+mod watch;
 
 pub use audit::Audit;
 pub use format::Format;
 pub use notes::{Note, Notes};
 pub use noting::{key_at, leaf_note};
 pub use roles::has_role;
-pub use walking::walk;
+pub use walking::{walk, walk_watched};
+pub use watch::{NoWatch, Watch};

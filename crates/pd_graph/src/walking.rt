@@ -1,18 +1,20 @@
-ghost use Rattle.std.specs.Prelude.{◌≡◌, ℕ, ◌+◌, ◌<◌, ◌≤◌, length, is_ok, OnOk, IfSome};
+ghost use Rattle.std.specs.Prelude.{◌≡◌, ℕ, ◌+◌, ◌<◌, ◌≤◌, List, length, is_ok, OnOk, IfSome};
 ghost use Rattle.pd_kinds.specs.Objects.{CountsFault};
-ghost use Rattle.pd_kinds.specs.Graph.{nodes};
+ghost use Rattle.pd_kinds.specs.Graph.{is_reached, nodes};
 ghost use Rattle.pd_image.specs.Device.{IsAttached, OnlyReads};
 ghost use Rattle.pd_graph.specs.Marks.{HasPlaces, read_of};
 ghost use Rattle.pd_graph.specs.Notes.{no_note, size_of, note_in};
 ghost use Rattle.pd_graph.specs.Roles.{is_in};
 ghost use Rattle.pd_graph.specs.Audit.{blocks_of, has_walked, note_at, IsNew};
 ghost use Rattle.pd_graph.specs.Walk.{IsWalked, AreLeavesNoted, HasNotedLeaves, IsSafe, IsTold, IsDone, read_number};
+ghost use Rattle.pd_graph.specs.Watch.{no_pairs};
 
 use crate::audit::Audit;
 use crate::format::Format;
 use crate::marks::Marks;
 use crate::notes::Notes;
 use crate::noting::note_leaf;
+use crate::watch::{NoWatch, Watch};
 use pd_image::{Device, Failed};
 use pd_kinds::Block;
 
@@ -38,19 +40,53 @@ pub fn walk<F: Format, D: Device>(audit: &mut Audit, format: &F, dev: &mut D) ->
     ensures kept { OnlyReads (D.state dev.old) (D.state dev.new) }
     ensures faults { CountsFault result (D.state dev.old).faults (D.state dev.new).faults }
 {
+    walk_watched(audit, format, dev, &mut NoWatch)
+}
+
+/// Does what `walk` does, and shows each block to the watcher, in each role, when it is read.
+///
+/// After `Failed` the audit may not be used again.
+pub fn walk_watched<F: Format, D: Device, W: Watch>(
+    audit: &mut Audit,
+    format: &F,
+    dev: &mut D,
+    watch: &mut W,
+) -> Result<(), Failed>
+    requires fresh { IsNew (F.graph format.now).nr audit.old }
+    requires attached { IsAttached (D.state dev.old) }
+    requires within { (F.graph format.now).nr ≤ (D.state dev.old).blocks }
+    requires room { W.has_room watch.old (F.graph format.now).nr }
+    requires unseen { (image : List (List ℕ)) → W.has_seen watch.old (F.graph format.now) image no_pairs }
+    ensures walked { has_walked audit.new ≡ is_ok result }
+    ensures marks { OnOk result (IfSome (D.state dev.old).held (λ image. IsWalked (F.graph format.now) image audit.new)) }
+    ensures number { blocks_of audit.new ≡ blocks_of audit.old }
+    ensures leaves { OnOk result (IfSome (D.state dev.old).held (λ image. HasNotedLeaves (F.graph format.now) image audit.new)) }
+
+    ensures seen { OnOk result (IfSome (D.state dev.old).held (λ image. W.has_seen watch.new (F.graph format.now) image (is_reached (F.graph format.now) image))) }
+    ensures room { W.has_room watch.new (F.graph format.now).nr }
+
+    // Also where a read failed, and whatever the device gives.
+    ensures notes { (b : ℕ) → (note_at audit.new b).height ≤ 1 }
+
+    // At most one read for each reachable pair, also where one failed.
+    ensures reads { IfSome (D.state dev.old).held (λ image. (D.state dev.new).reads ≤ (D.state dev.old).reads + length (nodes (F.graph format.now) image)) }
+    ensures kept { OnlyReads (D.state dev.old) (D.state dev.new) }
+    ensures faults { CountsFault result (D.state dev.old).faults (D.state dev.new).faults }
+{
     audit.marks.meet(0, 0);
-    read_all(&mut audit.marks, &mut audit.notes, format, dev)?;
+    read_all(&mut audit.marks, &mut audit.notes, format, dev, watch)?;
     audit.walked = true;
     Ok(())
 }
 
-/// Reads each pair that was met and not yet read, follows its edges, and notes it where it is a leaf, until
-/// there is none.
-fn read_all<F: Format, D: Device>(
+/// Reads each pair that was met and not yet read, follows its edges, notes it where it is a leaf, and shows it to the
+/// watcher, until there is none.
+fn read_all<F: Format, D: Device, W: Watch>(
     marks: &mut Marks,
     notes: &mut Notes,
     format: &F,
     dev: &mut D,
+    watch: &mut W,
 ) -> Result<(), Failed>
     requires safe { IsSafe (F.graph format.now) marks.old }
     requires told { IfSome (D.state dev.old).held (λ image. IsTold (F.graph format.now) image marks.old) }
@@ -59,6 +95,8 @@ fn read_all<F: Format, D: Device>(
         AreLeavesNoted (F.graph format.now) image (is_in (read_of marks.old)) (note_in notes.old)) }
     requires notes { (b : ℕ) → (note_in notes.old b).height ≤ 1 }
     requires number { size_of notes.old ≡ (F.graph format.now).nr }
+    requires seen { IfSome (D.state dev.old).held (λ image. W.has_seen watch.old (F.graph format.now) image (is_in (read_of marks.old))) }
+    requires room { W.has_room watch.old (F.graph format.now).nr }
     requires attached { IsAttached (D.state dev.old) }
     requires within { (F.graph format.now).nr ≤ (D.state dev.old).blocks }
     ensures places { HasPlaces (F.graph format.now).nr marks.new }
@@ -67,6 +105,8 @@ fn read_all<F: Format, D: Device>(
         AreLeavesNoted (F.graph format.now) image (is_in (read_of marks.new)) (note_in notes.new))) }
     ensures notes { (b : ℕ) → (note_in notes.new b).height ≤ 1 }
     ensures number { size_of notes.new ≡ size_of notes.old }
+    ensures seen { OnOk result (IfSome (D.state dev.old).held (λ image. W.has_seen watch.new (F.graph format.now) image (is_in (read_of marks.new)))) }
+    ensures room { W.has_room watch.new (F.graph format.now).nr }
     ensures reads { IfSome (D.state dev.old).held (λ image. (D.state dev.new).reads ≤ (D.state dev.old).reads + length (nodes (F.graph format.now) image)) }
     ensures kept { OnlyReads (D.state dev.old) (D.state dev.new) }
     ensures faults { CountsFault result (D.state dev.old).faults (D.state dev.new).faults }
@@ -77,6 +117,7 @@ fn read_all<F: Format, D: Device>(
         let broken = format.rules(role, b, &block);
         marks.look(format, role, b, &block, &broken);
         note_leaf(notes, format, role, b, &block, &broken);
+        watch.see(format, role, b, &block, &broken);
     }
     Ok(())
 }

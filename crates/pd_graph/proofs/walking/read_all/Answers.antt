@@ -1,5 +1,6 @@
-use Rattle.std.proofs.Common.{◌≡◌, ℕ, List, Some, IfSome, ap, subst, ◌∙◌, arith}
+use Rattle.std.proofs.Common.{◌≡◌, ℕ, List, [], Some, IfSome, ap, subst, ◌∙◌, arith}
 use Rattle.std.specs.List.{slice_get}
+use Rattle.std.specs.Option.{unwrap_or}
 use Rattle.std.proofs.lemmas.Option.{IfSome_then}
 use Rattle.pd_image.proofs.ReadLemmas.{only_reads_both}
 use Rattle.pd_graph.specs.Walk.{IsDone}
@@ -22,6 +23,9 @@ returns-in_err-read-clause-reads g c =
     IfSome_then (g.D.Device.state c.args.dev.now).held c.loop-b.invariant.told (λ image told.
     let reached = taken_reached graph image c.in-Some.b c.in-Some.role c.loop-b.marks c.take.new.self safe told takes in
     omega arith)
+
+pub see-requires-clause-room : goal.see-requires-clause-room
+see-requires-clause-room g c = c.loop-b.invariant.room
 
 pub look-requires-clause-room : goal.look-requires-clause-room
 look-requires-clause-room g c =
@@ -69,6 +73,12 @@ loop-b-preserved g c =
           (subst (λ o. IfSome o (λ image. slice_get image c.in-Some.b ≡ Some block)) c.loop-b.invariant.kept.held c.in_ok-read.ensures.content)
           c.loop-b.invariant.leaves;
       notes = low_more graph c.in-Some.role c.in-Some.b block (note_in c.loop-b.notes) (note_in c.note_leaf.new.notes) c.loop-b.invariant.notes c.note_leaf.ensures.notes;
+      seen = if_both (g.D.Device.state c.args.dev.now).held
+          (λ image found seen. c.see.ensures.seen image (is_in (read_of c.loop-b.marks)) (is_in (read_of c.look.new.self)) (ap (λ o. unwrap_or o []) found)
+          (record { unseen = takes.found.unread; pairs = λ p. ap (λ (table : List ℕ). is_in table p) c.look.ensures.follows.read ∙ takes.read p }) seen)
+          (subst (λ o. IfSome o (λ image. slice_get image c.in-Some.b ≡ Some block)) c.loop-b.invariant.kept.held c.in_ok-read.ensures.content)
+          c.loop-b.invariant.seen;
+      room = c.see.ensures.room;
       number = c.note_leaf.ensures.number ∙ c.loop-b.invariant.number;
       reads = omega arith;
       kept = only_reads_both c.loop-b.invariant.kept c.in_ok-read.ensures.kept;
@@ -99,6 +109,13 @@ returns-clause-leaves g c =
     noted_same graph image (is_in (read_of c.loop-b.marks)) (is_in (read_of c.take.new.self)) (note_in c.loop-b.notes)
     (λ p. ap (λ (table : List ℕ). is_in table p) c.in_default.ensures.kept.read) noted)
 
+pub returns-clause-seen : goal.returns-clause-seen
+returns-clause-seen g c =
+    let graph = g.F.Format.graph c.args.format.now in
+    IfSome_then (g.D.Device.state c.args.dev.now).held c.loop-b.invariant.seen (λ image seen.
+    g.met.W.Watch.same c.loop-b.watch graph image (is_in (read_of c.loop-b.marks)) (is_in (read_of c.take.new.self))
+    (λ p. ap (λ (table : List ℕ). is_in table p) c.in_default.ensures.kept.read) seen)
+
 pub returns-clause-notes : goal.returns-clause-notes
 returns-clause-notes g c = c.loop-b.invariant.notes
 
@@ -110,3 +127,9 @@ returns-in_err-read-clause-notes g c = c.loop-b.invariant.notes
 
 pub returns-in_err-read-clause-number : goal.returns-in_err-read-clause-number
 returns-in_err-read-clause-number g c = c.loop-b.invariant.number
+
+pub returns-clause-room : goal.returns-clause-room
+returns-clause-room g c = c.loop-b.invariant.room
+
+pub returns-in_err-read-clause-room : goal.returns-in_err-read-clause-room
+returns-in_err-read-clause-room g c = c.loop-b.invariant.room

@@ -4,10 +4,11 @@ use Rattle.pd_kinds.specs.Graph.{is_reached}
 use Rattle.pd_graph.specs.Roles.{is_in}
 use Rattle.pd_graph.specs.Notes.{note_in}
 use Rattle.pd_graph.specs.Marks.{HasPlaces, read_of}
+use Rattle.pd_graph.specs.Watch.{no_pairs}
 use Rattle.pd_graph.proofs.LeafNotes.{start_noted, none_low, noted_same}
 use Rattle.pd_graph.proofs.AnyLemmas.{if_any, if_both}
 use Rattle.pd_graph.proofs.StartLemmas.{none_read, read_is_reached, start_number, start_safe, start_told, end_roles, end_rules, end_counts}
-use Rattle.pd_graph.proofs.walking.walk.Goals as goal
+use Rattle.pd_graph.proofs.walking.walk_watched.Goals as goal
 
 pub read_all-requires-clause-safe : goal.read_all-requires-clause-safe
 read_all-requires-clause-safe g c =
@@ -32,6 +33,21 @@ read_all-requires-clause-leaves g c =
 
 pub read_all-requires-clause-notes : goal.read_all-requires-clause-notes
 read_all-requires-clause-notes g c = λ b. none_low (note_in c.args.audit.now.notes b) (c.requires.fresh.notes b)
+
+pub read_all-requires-clause-seen : goal.read_all-requires-clause-seen
+read_all-requires-clause-seen g c =
+    let graph = g.F.Format.graph c.args.format.now in
+    if_any (g.D.Device.state c.args.dev.now).held
+    (λ image. g.met.W.Watch.same c.args.watch.now graph image no_pairs (is_in (read_of c.meet.new.self))
+    (λ p. none_read c.args.audit.now.marks c.meet.new.self p c.requires.fresh.unmarked c.meet.ensures.follows) (c.requires.unseen image))
+
+pub returns-clause-seen : goal.returns-clause-seen
+returns-clause-seen g c =
+    let graph = g.F.Format.graph c.args.format.now in
+    if_both (g.D.Device.state c.args.dev.now).held
+    (λ image done seen. g.met.W.Watch.same c.read_all.new.watch graph image (is_in (read_of c.read_all.new.marks)) (is_reached graph image)
+    (λ p. sym (read_is_reached graph image c.read_all.new.marks done p)) seen)
+    c.in_ok-read_all.ensures.done c.in_ok-read_all.ensures.seen
 
 pub returns-clause-leaves : goal.returns-clause-leaves
 returns-clause-leaves g c =
