@@ -1,22 +1,23 @@
 //! The stages of a check past the superblock's: the walk, and the order of the trees.
 
-ghost use Rattle.std.specs.Prelude.{◌≡◌, ℕ, ◌+◌, ◌*◌, ◌<◌, ◌≤◌, true, false, length, IfOk, IfSome};
+ghost use Rattle.std.specs.Prelude.{◌≡◌, ℕ, ◌+◌, ◌*◌, ◌<◌, ◌≤◌, List, true, false, length, IfOk, IfSome};
 ghost use Rattle.std.specs.List.{flat_map, range_with_len};
 ghost use Rattle.pd_kinds.specs.declared.rule.Rule.{Rule};
 ghost use Rattle.pd_kinds.specs.CheckFault.{CountsCheckFault, StopsEarly};
 ghost use Rattle.pd_kinds.specs.Objects.{CountsFault};
 ghost use Rattle.pd_kinds.specs.Report.{report_of};
 ghost use Rattle.pd_kinds.specs.Faults.{faults_at};
-ghost use Rattle.pd_kinds.specs.Graph.{nodes};
+ghost use Rattle.pd_kinds.specs.Graph.{is_reached, nodes};
 ghost use Rattle.pd_kinds.specs.Stages.{block_faults, order_bad};
 ghost use Rattle.pd_image.specs.Device.{IsAttached, OnlyReads};
 ghost use Rattle.pd_graph.specs.Audit.{blocks_of, has_walked, has_rule_at};
 ghost use Rattle.pd_graph.specs.Walk.{IsWalked, HasNotedLeaves};
+ghost use Rattle.pd_graph.specs.Watch.{no_pairs};
 ghost use Rattle.pd_whole.specs.Known.{IsWellSettled};
 ghost use Rattle.pd_check.specs.Check.{goes_past_walk, past_faults, reads_of, reads_to_order};
 
 use crate::walked::{walk_report, walked};
-use pd_graph::{Audit, Format};
+use pd_graph::{Audit, Format, NoWatch, Watch};
 use pd_image::{Device, Failed};
 use pd_kinds::{CheckFault, Report, Stage};
 use pd_settle::settle;
@@ -44,21 +45,25 @@ pub fn check_later_stages<F: Format, D: Device>(
     ensures kept { OnlyReads (D.state dev.old) (D.state dev.new) }
     ensures faults { CountsCheckFault result (D.state dev.old).faults (D.state dev.new).faults }
 {
-    let (_audit, report) = looked_at(alloc, dev, format, until)?;
+    let (_audit, report) = looked_at(alloc, dev, format, until, &mut NoWatch)?;
     Ok(report)
 }
 
-/// Walks, and settles the trees where `check_past` looks at their order: the audit of that, and the report.
+/// Walks, where the watcher is shown all that it reads, and settles the trees where `check_later_stages` looks at their
+/// order: the audit of that, and the report.
 ///
-/// Fails as `check_past` does.
-pub(crate) fn looked_at<F: Format, D: Device>(
+/// Fails as `check_later_stages` does.
+pub(crate) fn looked_at<F: Format, D: Device, W: Watch>(
     alloc: Global,
     dev: &mut D,
     format: &F,
     until: Stage,
+    watch: &mut W,
 ) -> Result<(Audit, Report), CheckFault>
     requires attached { IsAttached (D.state dev.old) }
     requires within { (F.graph format.now).nr ≤ (D.state dev.old).blocks }
+    requires room { W.has_room watch.old (F.graph format.now).nr }
+    requires unseen { (image : List (List ℕ)) → W.has_seen watch.old (F.graph format.now) image no_pairs }
     ensures report { IfOk result (λ found. IfSome (D.state dev.old).held (λ image. found.1 ≡ report_of (past_faults until (F.graph format.now) image))) }
     ensures number { IfOk result (λ found. blocks_of found.0 ≡ (F.graph format.now).nr) }
     ensures told { IfOk result (λ found. found.1 ≡ report_of (flat_map (λ b. faults_at b (has_rule_at found.0 b)) (range_with_len 0 (blocks_of found.0)))) }
@@ -66,13 +71,16 @@ pub(crate) fn looked_at<F: Format, D: Device>(
     // Where the trees were settled and nothing was found, the audit has the marks of both.
     ensures settled { IfOk result (λ found. IfSome (D.state dev.old).held (λ image.
         goes_past_walk until ≡ true → found.1.total ≡ 0 → IsWellSettled (F.graph format.now) image found.0)) }
+    ensures seen { IfOk result (λ found. IfSome (D.state dev.old).held (λ image.
+        W.has_seen watch.new (F.graph format.now) image (is_reached (F.graph format.now) image))) }
+    ensures room { W.has_room watch.new (F.graph format.now).nr }
     ensures early { StopsEarly result (D.state dev.old).reads (D.state dev.new).reads }
     ensures reads { IfSome (D.state dev.old).held (λ image.
         (D.state dev.new).reads ≤ (D.state dev.old).reads + reads_to_order until * length (nodes (F.graph format.now) image)) }
     ensures kept { OnlyReads (D.state dev.old) (D.state dev.new) }
     ensures faults { CountsCheckFault result (D.state dev.old).faults (D.state dev.new).faults }
 {
-    let mut audit = walked(alloc, dev, format)?;
+    let mut audit = walked(alloc, dev, format, watch)?;
     let report = walk_report(&audit);
     let goes_on = is_past_walk(until);
     if goes_on & report.is_empty() {

@@ -3,16 +3,17 @@ ghost use Rattle.pd_kinds.specs.declared.kind.Kind.{Kind};
 ghost use Rattle.pd_kinds.specs.declared.rule.Rule.{Rule as BrokenRule};
 ghost use Rattle.pd_kinds.specs.Objects.{CountsFault};
 ghost use Rattle.pd_kinds.specs.RuleSet.{has_rule};
-ghost use Rattle.pd_kinds.specs.Graph.{nodes};
+ghost use Rattle.pd_kinds.specs.Graph.{is_reached, nodes};
 ghost use Rattle.pd_kinds.specs.Stages.{checked_of};
 ghost use Rattle.pd_image.specs.Device.{IsAttached, OnlyReads};
 ghost use Rattle.pd_graph.specs.Audit.{blocks_of};
+ghost use Rattle.pd_graph.specs.Watch.{no_pairs};
 ghost use Rattle.pd_whole.specs.Charges.{Charges};
 ghost use Rattle.pd_check.specs.ByKind.{data_space_of, graph_of_super, meta_map_of, super_bad_of};
 ghost use Rattle.pd_check.specs.Whole.{IsOrdered};
 
 use crate::data_space::DataSpace;
-use pd_graph::{Audit, Format};
+use pd_graph::{Audit, Format, Watch};
 use pd_image::{Device, Failed};
 use pd_kinds::{Block, Rules, SmRoot};
 use std::alloc::{AllocError, Global};
@@ -23,14 +24,11 @@ pub trait Metadata {
     /// The format of such metadata.
     type Format: Format + Copy;
 
-    /// The memory that the rules of the whole image need.
-    type Room: Drop;
+    /// The memory that the rules of the whole image need. It watches the walk.
+    type Room: Watch + Drop;
 
     /// Which kind it is.
     ghost kind: { Kind };
-
-    /// The memory is enough for metadata with this block 0.
-    ghost is_enough: { Self.Room → List ℕ → Type 0 } = { λ _ _. Unit {0} };
 
     /// The rules that block 0 breaks, on a device of so many blocks.
     fn super_rules(b: &Block, device_blocks: u64) -> Rules
@@ -54,25 +52,27 @@ pub trait Metadata {
     /// Takes the memory that the rules of the whole image need, where this is block 0. Want of it is the only
     /// error.
     fn room(alloc: Global, b: &Block) -> Result<Self::Room, AllocError>
-        ensures { IfOk result (λ room. is_enough room b.now.0) };
+        ensures room { IfOk result (λ room. Self.Room.has_room room (graph_of_super kind b.now.0).nr) }
+        ensures unseen { IfOk result (λ room. (image : List (List ℕ)) → Self.Room.has_seen room (graph_of_super kind b.now.0) image no_pairs) };
 
     /// Gives each block the rules of the whole image that it breaks, where this is block 0 and no block has a
     /// rule up to the order of the trees. It takes no memory.
     ///
-    /// What it says of content holds where the audit knows what the device holds; over any other device or
-    /// audit it is safe.
+    /// What it says of content holds where the audit knows what the device holds, and the room was shown all that
+    /// is reached; over any other device, audit or room it is safe.
     fn mark_whole<D: Device>(
         room: Self::Room,
         b: &Block,
         audit: &mut Audit,
         dev: &mut D,
     ) -> Result<(), Failed>
-        requires enough { is_enough room b.now.0 }
+        requires room { Self.Room.has_room room (graph_of_super kind b.now.0).nr }
         requires attached { IsAttached (D.state dev.old) }
         requires number { blocks_of audit.old ≡ (graph_of_super kind b.now.0).nr }
         requires within { (graph_of_super kind b.now.0).nr ≤ (D.state dev.old).blocks }
         ensures number { blocks_of audit.new ≡ blocks_of audit.old }
         ensures charges { OnOk result (IfSome (D.state dev.old).held (λ image. IsOrdered kind b.now.0 image audit.old
+            → Self.Room.has_seen room (graph_of_super kind b.now.0) image (is_reached (graph_of_super kind b.now.0) image)
             → Charges (checked_of kind image).whole audit.old audit.new)) }
 
         // At most two reads for each reachable pair, also where one failed.

@@ -7,33 +7,40 @@ ghost use Rattle.pd_kinds.specs.declared.fault.Fault.{Fault};
 ghost use Rattle.pd_kinds.specs.RuleSet.{has_rule};
 ghost use Rattle.pd_kinds.specs.Report.{report_of};
 ghost use Rattle.pd_kinds.specs.Faults.{faults_at};
-ghost use Rattle.pd_kinds.specs.Graph.{nodes};
+ghost use Rattle.pd_kinds.specs.Graph.{is_reached, nodes};
 ghost use Rattle.pd_image.specs.Device.{IsAttached, OnlyReads};
 ghost use Rattle.pd_graph.specs.Audit.{blocks_of, has_walked, has_rule_at};
 ghost use Rattle.pd_graph.specs.Walk.{IsWalked, HasNotedLeaves};
+ghost use Rattle.pd_graph.specs.Watch.{no_pairs};
 
-use pd_graph::{Audit, Format, walk};
+use pd_graph::{Audit, Format, Watch, walk_watched};
 use pd_image::Device;
 use pd_kinds::{CheckFault, Report, Rules};
 use std::alloc::Global;
 
-/// Walks over all that block 0 leads to in this format.
+/// Walks over all that block 0 leads to in this format, and shows it to the watcher.
 ///
 /// It takes all its memory before it reads a block: about 60 bytes a metadata block.
 ///
 /// Fails with `CheckFault::Memory` where that memory wasn't found, and with `CheckFault::Device` where a
 /// read failed.
-pub(crate) fn walked<F: Format, D: Device>(
+pub(crate) fn walked<F: Format, D: Device, W: Watch>(
     alloc: Global,
     dev: &mut D,
     format: &F,
+    watch: &mut W,
 ) -> Result<Audit, CheckFault>
     requires attached { IsAttached (D.state dev.old) }
     requires within { (F.graph format.now).nr ≤ (D.state dev.old).blocks }
+    requires room { W.has_room watch.old (F.graph format.now).nr }
+    requires unseen { (image : List (List ℕ)) → W.has_seen watch.old (F.graph format.now) image no_pairs }
     ensures walked { IfOk result (λ audit. has_walked audit ≡ true) }
     ensures number { IfOk result (λ audit. blocks_of audit ≡ (F.graph format.now).nr) }
     ensures marks { IfOk result (λ audit. IfSome (D.state dev.old).held (λ image. IsWalked (F.graph format.now) image audit)) }
     ensures leaves { IfOk result (λ audit. IfSome (D.state dev.old).held (λ image. HasNotedLeaves (F.graph format.now) image audit)) }
+    ensures seen { IfOk result (λ audit. IfSome (D.state dev.old).held (λ image.
+        W.has_seen watch.new (F.graph format.now) image (is_reached (F.graph format.now) image))) }
+    ensures room { W.has_room watch.new (F.graph format.now).nr }
     ensures early { StopsEarly result (D.state dev.old).reads (D.state dev.new).reads }
     ensures reads { IfSome (D.state dev.old).held (λ image.
         (D.state dev.new).reads ≤ (D.state dev.old).reads + length (nodes (F.graph format.now) image)) }
@@ -44,7 +51,7 @@ pub(crate) fn walked<F: Format, D: Device>(
         Ok(audit) => audit,
         Err(_) => return Err(CheckFault::Memory),
     };
-    match walk(&mut audit, format, dev) {
+    match walk_watched(&mut audit, format, dev, watch) {
         Ok(()) => Ok(audit),
         Err(_) => Err(CheckFault::Device),
     }

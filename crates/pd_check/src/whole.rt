@@ -8,7 +8,7 @@ ghost use Rattle.pd_kinds.specs.declared.rule.Rule.{Rule};
 ghost use Rattle.pd_kinds.specs.CheckFault.{CountsCheckFault, StopsEarly};
 ghost use Rattle.pd_kinds.specs.Objects.{CountsFault};
 ghost use Rattle.pd_kinds.specs.Report.{report_of};
-ghost use Rattle.pd_kinds.specs.Graph.{nodes};
+ghost use Rattle.pd_kinds.specs.Graph.{is_reached, nodes};
 ghost use Rattle.pd_kinds.specs.Stages.{block_faults, checked_of, faults};
 ghost use Rattle.pd_kinds.specs.Whole.{whole_bad};
 ghost use Rattle.pd_image.specs.Device.{IsAttached, OnlyReads};
@@ -82,11 +82,11 @@ pub(crate) fn whole_looked<M: Metadata, D: Device>(
     ensures faults { CountsCheckFault result (D.state dev.old).faults (D.state dev.new).faults }
 {
     settled_audits_are_known();
-    let room = match M::room(alloc, first) {
+    let mut room = match M::room(alloc, first) {
         Ok(room) => room,
         Err(_) => return Err(CheckFault::Memory),
     };
-    let (mut audit, report) = looked_at(alloc, dev, &M::format(first, blocks), Stage::Order)?;
+    let (mut audit, report) = looked_at(alloc, dev, &M::format(first, blocks), Stage::Order, &mut room)?;
     if !report.is_empty() {
         return Ok((audit, report));
     }
@@ -131,14 +131,16 @@ fn whole_report<M: Metadata, D: Device>(
     audit: &mut Audit,
     dev: &mut D,
 ) -> Result<Report, Failed>
-    requires enough { M.is_enough room first.now.0 }
+    requires room { M.Room.has_room room (graph_of_super M.kind first.now.0).nr }
     requires attached { IsAttached (D.state dev.old) }
     requires number { blocks_of audit.old ≡ (graph_of_super M.kind first.now.0).nr }
     requires within { (graph_of_super M.kind first.now.0).nr ≤ (D.state dev.old).blocks }
     requires none { (b : ℕ) (rule : Rule) → b < (graph_of_super M.kind first.now.0).nr → has_rule_at audit.old b rule ≡ false }
     ensures report { IfOk result (λ report. IfSome (D.state dev.old).held (λ image. IsOrdered M.kind first.now.0 image audit.old
+        → M.Room.has_seen room (graph_of_super M.kind first.now.0) image (is_reached (graph_of_super M.kind first.now.0) image)
         → report ≡ report_of (block_faults (graph_of_super M.kind first.now.0).nr (whole_bad (checked_of M.kind image).whole)))) }
     ensures known { OnOk result (IfSome (D.state dev.old).held (λ image. IsOrdered M.kind first.now.0 image audit.old
+        → M.Room.has_seen room (graph_of_super M.kind first.now.0) image (is_reached (graph_of_super M.kind first.now.0) image)
         → IsKnown (graph_of_super M.kind first.now.0) image audit.new)) }
     ensures number { blocks_of audit.new ≡ blocks_of audit.old }
     ensures told { IfOk result (λ report. report ≡ report_of (flat_map (λ b. faults_at b (has_rule_at audit.new b)) (range_with_len 0 (blocks_of audit.new)))) }
