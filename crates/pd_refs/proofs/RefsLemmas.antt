@@ -1,5 +1,5 @@
 -- References that are counted one after another.
-use Rattle.std.proofs.Common.{◌≡◌, ℕ, zero, suc, ◌+◌, ◌*◌, ◌-◌, ◌^◌, ◌<◌, ◌≤◌, true, false, cond, List, [], ◌∷◌, ◌++◌, length, take, get_or, Option, Some, ap, sym, ◌∙◌, refl, subst, arith, append_assoc, append-nil, length-append, inl, inr, length-take-le, None, IfSome, Result, Ok, Err}
+use Rattle.std.proofs.Common.{◌≡◌, ℕ, zero, suc, ◌+◌, ◌*◌, ◌-◌, ◌^◌, ◌<◌, ◌≤◌, Bool, true, false, cond, List, [], ◌∷◌, ◌++◌, length, take, get_or, Option, Some, ap, sym, ◌∙◌, refl, subst, arith, append_assoc, append-nil, length-append, inl, inr, length-take-le, None, IfSome, Result, Ok, Err}
 use Rattle.std.specs.Result.{OnOk}
 use Rattle.std.specs.List.{AllByRecursion, flat_map, range_with_len, count_by, slice_get}
 use Rattle.std.specs.Option.{unwrap_or}
@@ -38,33 +38,35 @@ one_ref_more old new size i d before refs found within few counted adds =
     (adds (before ++ take i refs) counted (all_at (λ r. r < size) refs i d 0 within inside is) short)
 
 -- the references of one block more
-pub refs_more : (graph : Graph) (image : List (List ℕ)) (role b : ℕ) → refs_before graph image role (b + 1) ≡ refs_before graph image role b ++ refs_at graph image role b
+pub refs_more : (graph : Graph) (image : List (List ℕ)) (role : ℕ) (pairs : ℕ → Bool) (b : ℕ)
+    → refs_before graph image role pairs (b + 1) ≡ refs_before graph image role pairs b ++ refs_at graph image role pairs b
 unfolding refs_before
-refs_more graph image role b =
+refs_more graph image role pairs b =
     let next : b + 1 ≡ suc b = omega arith in
     let more : range_with_len 0 (b + 1) ≡ range_with_len 0 b ++ (b ∷ []) = rw next (range_more 0 b b (omega arith)) in
-    ap (flat_map (refs_at graph image role)) more ∙ flat_map-append (refs_at graph image role) (range_with_len 0 b) (b ∷ [])
-    ∙ ap (λ (xs : List ℕ). refs_before graph image role b ++ xs) (append-nil (refs_at graph image role b))
+    ap (flat_map (refs_at graph image role pairs)) more ∙ flat_map-append (refs_at graph image role pairs) (range_with_len 0 b) (b ∷ [])
+    ∙ ap (λ (xs : List ℕ). refs_before graph image role pairs b ++ xs) (append-nil (refs_at graph image role pairs b))
 
-pub no_refs : (graph : Graph) (image : List (List ℕ)) (role : ℕ) → refs_before graph image role 0 ≡ []
+pub no_refs : (graph : Graph) (image : List (List ℕ)) (role : ℕ) (pairs : ℕ → Bool) → refs_before graph image role pairs 0 ≡ []
 unfolding refs_before
-no_refs graph image role = refl
+no_refs graph image role pairs = refl
 
 -- how many there are at the most
-few_at : (graph : Graph) (image : List (List ℕ)) (role b : ℕ) → IsLawful graph → role < graph.roles → length (refs_at graph image role b) ≤ 254
-few_at graph image role b lawful known =
-    elim (cases_Bool (is_reached graph image (pair b role))) [
-      | inl reached ↦ rw reached (lawful.each role b (block_at image b) known).data_number
-      | inr not_reached ↦ rw not_reached (omega arith)
+few_at : (graph : Graph) (image : List (List ℕ)) (role : ℕ) (pairs : ℕ → Bool) (b : ℕ) → IsLawful graph → role < graph.roles → length (refs_at graph image role pairs b) ≤ 254
+few_at graph image role pairs b lawful known =
+    elim (cases_Bool (pairs (pair b role))) [
+      | inl passes ↦ rw passes (lawful.each role b (block_at image b) known).data_number
+      | inr fails ↦ rw fails (omega arith)
     ]
 
-pub few_refs : (graph : Graph) (image : List (List ℕ)) (role n : ℕ) → IsLawful graph → role < graph.roles → length (refs_before graph image role n) ≤ 254 * n
-few_refs graph image role zero lawful known = omega (arith, ap (length {A = ℕ}) (no_refs graph image role))
-few_refs graph image role (suc n) lawful known =
+pub few_refs : (graph : Graph) (image : List (List ℕ)) (role : ℕ) (pairs : ℕ → Bool) (n : ℕ) → IsLawful graph → role < graph.roles → length (refs_before graph image role pairs n) ≤ 254 * n
+few_refs graph image role pairs zero lawful known = omega (arith, ap (length {A = ℕ}) (no_refs graph image role pairs))
+few_refs graph image role pairs (suc n) lawful known =
     let next : suc n ≡ n + 1 = omega arith in
-    let more : length (refs_before graph image role (suc n)) ≡ length (refs_before graph image role n) + length (refs_at graph image role n) =
-    ap (λ k. length (refs_before graph image role k)) next ∙ ap (length {A = ℕ}) (refs_more graph image role n) ∙ length-append (refs_before graph image role n) (refs_at graph image role n) in
-    omega (arith, more, few_refs graph image role n lawful known, few_at graph image role n lawful known)
+    let more : length (refs_before graph image role pairs (suc n)) ≡ length (refs_before graph image role pairs n) + length (refs_at graph image role pairs n) =
+    ap (λ k. length (refs_before graph image role pairs k)) next ∙ ap (length {A = ℕ}) (refs_more graph image role pairs n)
+    ∙ length-append (refs_before graph image role pairs n) (refs_at graph image role pairs n) in
+    omega (arith, more, few_refs graph image role pairs n lawful known, few_at graph image role pairs n lawful known)
 
 -- how many blocks have the role, with one block more
 pub number_more : (audit : Audit) (role b : ℕ) → number_in audit role (b + 1) ≡ number_in audit role b + cond (has_bit (roles_at audit b) role) 1 0
@@ -77,27 +79,6 @@ number_more audit role b =
 pub number_none : (audit : Audit) (role : ℕ) → number_in audit role 0 ≡ 0
 unfolding number_in
 number_none audit role = refl
-
--- a block that isn't reached in the role names nothing in it
-pub refs_unreached : (graph : Graph) (image : List (List ℕ)) (role b : ℕ) (before : List ℕ) (counts : Counted) → is_reached graph image (pair b role) ≡ false
-    → HasCounted counts before → HasCounted counts (before ++ refs_at graph image role b)
-refs_unreached graph image role b before counts unreached counted = rw unreached (subst (HasCounted counts) (sym (append-nil before)) counted)
-
--- and one that is reached names what its bytes say
-pub refs_reached : (graph : Graph) (contents : Contents) (image : List (List ℕ)) (role b : ℕ) (block before : List ℕ) (counts new : Counted) → IsLawful graph → AreContents graph contents → role < graph.roles
-    → b < graph.nr → AreInOrder graph image → is_reached graph image (pair b role) ≡ true → slice_get image b ≡ Some block → counts.size ≡ graph.data_blocks
-    → HasCounted counts before → length before + 254 < 2 ^ 32 - 1
-    → ((all : List ℕ) → HasCounted counts all → AllByRecursion (λ d. d < counts.size) (contents.data_refs role block) → length all + length (contents.data_refs role block) < 2 ^ 32 - 1
-    → HasCounted new (all ++ contents.data_refs role block))
-    → HasCounted new (before ++ refs_at graph image role b)
-refs_reached graph contents image role b block before counts new lawful told known within order reached found size counted few adds =
-    let here : block_at image b ≡ block = ap (λ (o : Option (List ℕ)). unwrap_or o []) found in
-    let sound : IsSound graph role b block = subst (IsSound graph role b) here (order.well_formed b role (record { block = within; within = omega (arith, known, lawful.few_roles); found = reached })) in
-    let same : graph.data_refs role b block ≡ contents.data_refs role block = told.data_refs role b block known sound in
-    let laws = lawful.each role b block known in
-    rw (reached, here)
-    (subst (λ refs. HasCounted new (before ++ refs)) (sym same)
-    (adds before counted (rw (← same, size) laws.data_within) (rw (← same) (omega (arith, laws.data_number, few)))))
 
 -- so many blocks, and more
 pub number_grows : (audit : Audit) (role b k : ℕ) → number_in audit role b ≤ number_in audit role (b + k)

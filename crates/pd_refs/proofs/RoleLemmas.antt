@@ -5,7 +5,7 @@ use Rattle.std.proofs.lemmas.Bool.{cases_Bool}
 use Rattle.std.proofs.lemmas.Grind.{flat_map-append}
 use Rattle.pd_kinds.specs.Graph.{Graph, block_at, data_count, data_refs_of, is_reached, nodes, pair}
 use Rattle.pd_graph.proofs.BitLemmas.{pair_block, pair_role}
-use Rattle.pd_refs.specs.Refs.{refs_at, refs_before}
+use Rattle.pd_refs.specs.Refs.{refs_at, refs_before, refs_in}
 use Rattle.pd_refs.proofs.RefsLemmas.{refs_more}
 
 -- numbers in a row, cut in two
@@ -50,7 +50,7 @@ module _ {Y : Type 0} where
 abbrev named : Graph → List (List ℕ) → ℕ → List ℕ
 named graph image p = cond (is_reached graph image p) (data_refs_of graph image p) []
 
-named_is : (graph : Graph) (image : List (List ℕ)) (b role : ℕ) → role < 16 → named graph image (16 * b + role) ≡ refs_at graph image role b
+named_is : (graph : Graph) (image : List (List ℕ)) (b role : ℕ) → role < 16 → named graph image (16 * b + role) ≡ refs_at graph image role (is_reached graph image) b
 named_is graph image b role few =
     ap (λ r. cond (is_reached graph image (16 * b + role)) (graph.data_refs r ((16 * b + role) / 16) (block_at image ((16 * b + role) / 16))) []) (pair_role b role few)
     ∙ ap (λ c. cond (is_reached graph image (16 * b + role)) (graph.data_refs role c (block_at image c)) []) (pair_block b role few)
@@ -62,7 +62,7 @@ empty_either false xs none = refl
 -- the pairs of the blocks before block n
 pairs_before : (graph : Graph) (image : List (List ℕ)) (role n : ℕ) → role < 16
     → ((other place : ℕ) (block : List ℕ) → other < 16 → (other ≡ role → ⊥) → graph.data_refs other place block ≡ [])
-    → flat_map (named graph image) (range_with_len 0 (16 * n)) ≡ refs_before graph image role n
+    → flat_map (named graph image) (range_with_len 0 (16 * n)) ≡ refs_before graph image role (is_reached graph image) n
 unfolding refs_before
 pairs_before graph image role zero few others = refl
 pairs_before graph image role (suc n) few others =
@@ -73,16 +73,16 @@ pairs_before graph image role (suc n) few others =
     ∙ ap (flat_map (named graph image)) (range_split 0 (16 * n) 16)
     ∙ flat_map-append (named graph image) (range_with_len 0 (16 * n)) (range_with_len (0 + 16 * n) 16)
     ∙ ap (λ (xs : List ℕ). xs ++ flat_map (named graph image) (range_with_len (0 + 16 * n) 16)) (pairs_before graph image role n few others)
-    ∙ ap (λ (xs : List ℕ). refs_before graph image role n ++ xs)
+    ∙ ap (λ (xs : List ℕ). refs_before graph image role (is_reached graph image) n ++ xs)
     (ap (λ k. flat_map (named graph image) (range_with_len k 16)) start
     ∙ one_of (named graph image) 16 role (16 * n) few
     (λ i below other. named_is graph image n i below ∙ empty_either (is_reached graph image (pair n i)) _ (others i n (block_at image n) below other))
     ∙ named_is graph image n role few)
-    ∙ sym (refs_more graph image role n) ∙ ap (refs_before graph image role) next
+    ∙ sym (refs_more graph image role (is_reached graph image) n) ∙ ap (refs_before graph image role (is_reached graph image)) next
 
 pub counts_by_role : (graph : Graph) (image : List (List ℕ)) (role d : ℕ) → role < 16
     → ((other place : ℕ) (block : List ℕ) → other < 16 → (other ≡ role → ⊥) → graph.data_refs other place block ≡ [])
-    → data_count graph image d ≡ count_by (λ r. eqb r d) (refs_before graph image role graph.nr)
+    → data_count graph image d ≡ count_by (λ r. eqb r d) (refs_in graph image role (is_reached graph image))
 unfolding data_count nodes
 counts_by_role graph image role d few others =
     ap (count_by (λ r. eqb r d)) (passing (is_reached graph image) (data_refs_of graph image) (range_with_len 0 (16 * graph.nr)) ∙ pairs_before graph image role graph.nr few others)

@@ -1,13 +1,13 @@
 //! The data blocks that one block names.
 
-ghost use Rattle.std.specs.Prelude.{◌≡◌, ℕ, ◌+◌, ◌-◌, ◌^◌, ◌<◌, List, [], ◌∷◌, ◌++◌, length, OnOk, IfErr};
+ghost use Rattle.std.specs.Prelude.{◌≡◌, ℕ, ◌+◌, ◌-◌, ◌^◌, ◌<◌, List, [], ◌∷◌, ◌++◌, length, OnOk};
 ghost use Rattle.std.specs.List.{AllByRecursion};
-ghost use Rattle.pd_kinds.specs.declared.check_fault.CheckFault.TheVariants.{Memory};
 ghost use Rattle.pd_count.specs.Counted.{HasCounted};
 
 use pd_count::Counts;
 use pd_graph::Format;
-use pd_kinds::{Block, CheckFault};
+use pd_kinds::Block;
+use std::alloc::AllocError;
 
 /// Counts each data block that the block's bytes name in this role. A number past the counts is left out, and so is one
 /// whose count is as great as it can be. Want of memory is the only error.
@@ -16,10 +16,9 @@ pub(crate) fn add_refs<F: Format>(
     role: u8,
     block: &Block,
     counts: &mut Counts,
-) -> Result<(), CheckFault>
+) -> Result<(), AllocError>
     requires { role < F.ROLES }
     ensures size { counts.new.size ≡ counts.old.size }
-    ensures memory { IfErr result (λ fault. fault ≡ Memory) }
     ensures counted { OnOk result ((before : List ℕ) → HasCounted counts.old before
         → AllByRecursion (λ d. d < counts.old.size) ((F.contents format.now).data_refs role block.now.0)
         → length before + length ((F.contents format.now).data_refs role block.now.0) < 2 ^ 32 - 1
@@ -32,18 +31,13 @@ pub(crate) fn add_refs<F: Format>(
 }
 
 /// Counts a data block once more, where it is one of those that are counted, and its count can rise.
-fn add_ref(counts: &mut Counts, d: u64) -> Result<(), CheckFault>
+fn add_ref(counts: &mut Counts, d: u64) -> Result<(), AllocError>
     ensures size { counts.new.size ≡ counts.old.size }
-    ensures memory { IfErr result (λ fault. fault ≡ Memory) }
     ensures counted { OnOk result ((before : List ℕ) → HasCounted counts.old before → d < counts.old.size → length before < 2 ^ 32 - 1
         → HasCounted counts.new (before ++ d ∷ [])) }
 {
     if d < counts.size() && counts.get(d) < u32::MAX {
-        match counts.add(d) {
-            Ok(()) => Ok(()),
-            Err(_) => Err(CheckFault::Memory),
-        }
-    } else {
-        Ok(())
+        counts.add(d)?;
     }
+    Ok(())
 }

@@ -1,9 +1,9 @@
-//! How often data blocks are referred to, by the blocks that a walk reached.
+//! How often data blocks are referred to, by the blocks that a walk reads.
 #![tactic(auto)]
 
 mod adding;
-mod counting;
 mod laws;
+mod watching;
 
-pub use counting::count_data_refs;
 pub use laws::data_counts_are_those_of_one_role;
+pub use watching::DataRefs;
