@@ -1,5 +1,5 @@
 -- The faults that are found of stored counts are those of the definition.
-use Rattle.std.proofs.Common.{◌≡◌, ℕ, zero, suc, ◌+◌, ◌%◌, ◌^◌, ◌<◌, ◌≤◌, Bool, true, false, not, ◌&&◌, cond, nat_eq, List, [], ◌∷◌, ◌++◌, Option, Some, None, IfSome, Result, Ok, Err, OnOk, refl, ap, sym, subst, ◌∙◌, arith, eq-eqb, append-nil}
+use Rattle.std.proofs.Common.{◌≡◌, ℕ, zero, suc, ◌+◌, ◌%◌, ◌^◌, ◌<◌, ◌≤◌, Bool, true, false, not, ◌&&◌, cond, nat_eq, List, [], ◌∷◌, ◌++◌, Option, Some, None, IfSome, IfOk, Result, Ok, Err, OnOk, refl, ap, sym, subst, ◌∙◌, arith, eq-eqb, append-nil}
 use Rattle.std.specs.List.{flat_map, range_with_len, count_by, AllByRecursion}
 use Rattle.std.specs.Str.{bytes_eq}
 use Rattle.std.proofs.lemmas.Bool.{or_parts, not-false, ltb-false}
@@ -18,7 +18,7 @@ use Rattle.pd_kinds.specs.declared.fault.Space.TheVariants.{Meta, DataBlock}
 use Rattle.pd_kinds.specs.declared.map_root.SmRoot.{SmRoot}
 use Rattle.pd_kinds.specs.Node.{Entry}
 use Rattle.pd_kinds.specs.Bitmap.{bitmaps_for}
-use Rattle.pd_kinds.specs.Graph.{Graph, block_at, pair, meta_count, data_count}
+use Rattle.pd_kinds.specs.Graph.{Graph, block_at, is_reached, pair, meta_count, data_count}
 use Rattle.pd_kinds.specs.Layout.{Layout, bitmap, index, plain_tree, tree_to, layouts, layout_data, is_bad, leaf_entries, graph_of}
 use Rattle.pd_kinds.specs.Limits.{is_meta_size_bad, max_data_blocks}
 use Rattle.pd_kinds.specs.Report.{Reported, report_of}
@@ -29,7 +29,7 @@ use Rattle.pd_kinds.specs.CacheFormat.{cache_fields, cache_graph}
 use Rattle.pd_kinds.specs.EraFormat.{era_fields, era_graph}
 use Rattle.pd_kinds.specs.Trees.{entries_below, keys_of, stored_meta_in, stored_data_in}
 use Rattle.pd_kinds.specs.Whole.{whole_bad, thin_whole, data_index_entries}
-use Rattle.pd_laws.specs.InOrder.{AreInOrder, LooksAtOrder, graph_of_kind}
+use Rattle.pd_laws.specs.InOrder.{LooksAtOrder, graph_of_kind}
 use Rattle.pd_laws.proofs.CleanLemmas.{whole_where_none}
 use Rattle.pd_laws.proofs.SoundLemmas.{IsSound, tests_after_two}
 use Rattle.pd_graph.specs.declared.audit.Audit.{Audit}
@@ -39,15 +39,17 @@ use Rattle.pd_graph.proofs.AnyLemmas.{if_any, if_both}
 use Rattle.pd_tree.specs.Roots.{HasCacheRoots, HasEraRoots, HasThinRoots}
 use Rattle.pd_tree.specs.Sound.{IsSoundTree}
 use Rattle.pd_tree.specs.TreeRoles.{HasCacheTrees, HasEraTrees, HasThinTrees, IsTreeRole}
-use Rattle.pd_count.specs.Counted.{Counted, HasCounted, count_of}
-use Rattle.pd_refs.specs.Refs.{refs_before}
+use Rattle.pd_count.specs.Counted.{Counted, count_of}
+use Rattle.pd_refs.specs.declared.counter.RefCounter.{RefCounter}
+use Rattle.pd_refs.specs.Counter.{HasSeen}
+use Rattle.pd_refs.specs.Refs.{HasDataCounts, NamesDataIn}
 use Rattle.pd_smap.specs.Counted.{faults_from}
 use Rattle.pd_smap.specs.Entries.{IsIndex, IsOverflow, index_of, overflow_of}
 use Rattle.pd_smap.specs.Reports.{Adds}
 use Rattle.pd_whole.specs.Known.{IsKnown}
 use Rattle.pd_check.specs.declared.data_space.DataSpace.{DataSpace}
 use Rattle.pd_check.specs.ByKind.{data_space_of, graph_of_super, meta_map_of, super_bad_of}
-use Rattle.pd_check.specs.Counts.{count_reads, data_faults, meta_faults, meta_reads, space_reads}
+use Rattle.pd_check.specs.Counts.{HasSeenAll, count_reads, data_faults, meta_faults, meta_reads, space_reads}
 use Rattle.pd_check.specs.Whole.{IsWhole}
 use Rattle.pd_check.proofs.CheckLemmas.{same_graph}
 use Rattle.pd_check.proofs.WalkReport.{flat_map-same}
@@ -232,7 +234,7 @@ empty_either : (t : Bool) (xs : List ℕ) → xs ≡ [] → cond t [] xs ≡ []
 empty_either true xs none = refl
 empty_either false xs none = none
 
-mappings_alone : (super : List ℕ) (other place : ℕ) (block : List ℕ) → other < 16 → (other ≡ 3 → ⊥) → (thin_graph super).data_refs other place block ≡ []
+mappings_alone : (super : List ℕ) → NamesDataIn (thin_graph super) 3
 unfolding thin_graph graph_of
 mappings_alone super other place block few differ =
     empty_either (is_bad (thin_fields super).meta_map.blocks other (thin_layout (thin_fields super).meta_map.blocks (thin_fields super).data_map.blocks other) place block) _
@@ -274,56 +276,72 @@ module _ (thin_trees : (super_block : List ℕ) → HasThinTrees (thin_graph sup
             ∙ stored graph image root.bitmap_root 5 d _ trees.data_index.is_role index;
       }
 
-  module _ (ordered : (kind : Kind) (until : Stage) (image : List (List ℕ)) → LooksAtOrder until → faults kind until image ≡ [] → AreInOrder (graph_of_kind kind image) image)
-      (one_role : (graph : Graph) (image : List (List ℕ)) (role d : ℕ) → role < 16
-      → ((other place : ℕ) (block : List ℕ) → other < 16 → (other ≡ role → ⊥) → graph.data_refs other place block ≡ [])
-      → data_count graph image d ≡ count_by (λ x. nat_eq x d) (refs_before graph image role graph.nr)) where
-    data_same : (image : List (List ℕ)) (counts : Counted) → HasDataMap image
-        → HasCounted counts (refs_before (thin_graph (block_at image 0)) image 3 (thin_graph (block_at image 0)).nr)
-        → faults_from DataBlock (count_of counts)
-        (stored_data_in image (index_of image (thin_fields (block_at image 0)).data_map.bitmap_root) (overflow_of image (thin_fields (block_at image 0)).data_map.overflow_root)) 0
-        (thin_fields (block_at image 0)).data_map.blocks
-        ≡ data_faults (checked_of Thin image) image
-    unfolding data_faults
-    data_same image counts map counted =
-        let checked = checked_of Thin image in
-        let root = (thin_fields (block_at image 0)).data_map in
-        let graph = thin_graph (block_at image 0) in
-        let stored_by = stored_data_in image (index_of image root.bitmap_root) (overflow_of image root.overflow_root) in
-        let same : checked.graph ≡ graph = same_graph Thin image in
-        let refs : (d : ℕ) → d < checked.graph.data_blocks → count_of counts d ≡ data_count checked.graph image d =
-        λ d within. counted d ∙ (sym (one_role graph image 3 d (omega arith) (mappings_alone (block_at image 0))) ∙ ap (λ (g : Graph). data_count g image d) (sym same)) in
-        ap (λ (n : ℕ). faults_from DataBlock (count_of counts) stored_by 0 n)
-        (data_number Thin (block_at image 0) (record { root = root; role = 3 }) refl ∙ ap (λ (g : Graph). g.data_blocks) (sym same))
-        ∙ faults_same DataBlock (count_of counts) (data_count checked.graph image) stored_by checked.stored_data checked.graph.data_blocks refs map.stored
+  data_same : (image : List (List ℕ)) (counts : Counted) → HasDataMap image → HasDataCounts counts (thin_graph (block_at image 0)) image
+      → faults_from DataBlock (count_of counts)
+      (stored_data_in image (index_of image (thin_fields (block_at image 0)).data_map.bitmap_root) (overflow_of image (thin_fields (block_at image 0)).data_map.overflow_root)) 0
+      (thin_fields (block_at image 0)).data_map.blocks
+      ≡ data_faults (checked_of Thin image) image
+  unfolding data_faults
+  data_same image counts map are =
+      let checked = checked_of Thin image in
+      let root = (thin_fields (block_at image 0)).data_map in
+      let graph = thin_graph (block_at image 0) in
+      let stored_by = stored_data_in image (index_of image root.bitmap_root) (overflow_of image root.overflow_root) in
+      let same : checked.graph ≡ graph = same_graph Thin image in
+      let refs : (d : ℕ) → d < checked.graph.data_blocks → count_of counts d ≡ data_count checked.graph image d =
+      λ d within. are.counted d (subst (λ (g : Graph). d < g.data_blocks) same within) ∙ ap (λ (g : Graph). data_count g image d) (sym same) in
+      ap (λ (n : ℕ). faults_from DataBlock (count_of counts) stored_by 0 n)
+      (data_number Thin (block_at image 0) (record { root = root; role = 3 }) refl ∙ ap (λ (g : Graph). g.data_blocks) (sym same))
+      ∙ faults_same DataBlock (count_of counts) (data_count checked.graph image) stored_by checked.stored_data checked.graph.data_blocks refs map.stored
 
-    -- the faults that were added are those of data blocks
-    pub data_told : (held later : Option (List (List ℕ))) (kind : Kind) (first : List ℕ) (graph : Graph) (audit : Audit) (space : DataSpace) (counts : Counted) (old new : Reported)
-        → later ≡ held → graph ≡ graph_of_super kind first → data_space_of kind first ≡ Some space
-        → IfSome held (λ image. IsWalked graph image audit → AreInOrder graph image → HasCounted counts (refs_before graph image space.role graph.nr))
-        → IfSome later (λ image. IsOverflow image space.root.overflow_root → IsIndex image space.root.bitmap_root space.root.blocks
-        → Adds (faults_from DataBlock (count_of counts) (stored_data_in image (index_of image space.root.bitmap_root) (overflow_of image space.root.overflow_root)) 0 space.root.blocks) old new)
-        → IfSome held (λ image. IsWhole kind first image audit → Adds (data_faults (checked_of kind image) image) old new)
-    data_told held later Thin first graph audit space counts old new stays is here counted adds =
-        let now = subst (λ (o : Option (List (List ℕ))). IfSome o (λ image. IsOverflow image space.root.overflow_root → IsIndex image space.root.bitmap_root space.root.blocks
-        → Adds (faults_from DataBlock (count_of counts) (stored_data_in image (index_of image space.root.bitmap_root) (overflow_of image space.root.overflow_root)) 0 space.root.blocks) old new)) stays adds in
-        if_both held (λ image count leads whole.
-        let map = has_data_map image whole.none in
-        let same_first = sym whole.first_block in
-        let same : space ≡ record { root = (thin_fields (block_at image 0)).data_map; role = 3 } =
-        let mine : record { root = (thin_fields first).data_map; role = 3 } ≡ space = cc in
-        sym mine ∙ ap (λ (m : List ℕ). let s : DataSpace = record { root = (thin_fields m).data_map; role = 3 } in s) same_first in
-        let same_format : graph ≡ thin_graph (block_at image 0) = is ∙ ap thin_graph same_first in
-        let walked = subst (λ (m : List ℕ). IsWalked (thin_graph m) image audit) same_first whole.walked in
-        let in_order = ordered Thin stages.Whole image tt whole.none in
-        let counts_of = subst (λ (g : Graph). IsWalked g image audit → AreInOrder g image → HasCounted counts (refs_before g image space.role g.nr)) same_format count walked in_order in
-        let counts_in = subst (λ (s : DataSpace). HasCounted counts (refs_before (thin_graph (block_at image 0)) image s.role (thin_graph (block_at image 0)).nr)) same counts_of in
-        let added = subst (λ (s : DataSpace). IsOverflow image s.root.overflow_root → IsIndex image s.root.bitmap_root s.root.blocks
-        → Adds (faults_from DataBlock (count_of counts) (stored_data_in image (index_of image s.root.bitmap_root) (overflow_of image s.root.overflow_root)) 0 s.root.blocks) old new) same leads in
-        subst (λ (list : List Fault). Adds list old new) (data_same image counts map counts_in) (added map.searchable map.counting))
-        counted now
-    data_told held later Cache first graph audit space counts old new stays is here counted adds = absurd (cc)
-    data_told held later Era first graph audit space counts old new stays is here counted adds = absurd (cc)
+  -- the faults that were added are those of data blocks
+  pub data_told : (held : Option (List (List ℕ))) (kind : Kind) (first : List ℕ) (space : DataSpace) (counter : RefCounter) (counts : Counted) (old new : Reported)
+      → data_space_of kind first ≡ Some space
+      → ((graph : Graph) (image : List (List ℕ)) → HasSeen counter graph image (is_reached graph image) → HasDataCounts counts graph image)
+      → IfSome held (λ image. IsOverflow image space.root.overflow_root → IsIndex image space.root.bitmap_root space.root.blocks
+      → Adds (faults_from DataBlock (count_of counts) (stored_data_in image (index_of image space.root.bitmap_root) (overflow_of image space.root.overflow_root)) 0 space.root.blocks) old new)
+      → IfSome held (λ image. block_at image 0 ≡ first → faults kind stages.Whole image ≡ [] → HasSeenAll counter (graph_of_super kind first) image
+      → Adds (data_faults (checked_of kind image) image) old new)
+  data_told held Thin first space counter counts old new here counted adds =
+      IfSome_then held adds (λ image leads same_first none seen.
+      let map = has_data_map image none in
+      let same : space ≡ record { root = (thin_fields (block_at image 0)).data_map; role = 3 } =
+      let mine : record { root = (thin_fields first).data_map; role = 3 } ≡ space = cc in
+      sym mine ∙ ap (λ (m : List ℕ). let s : DataSpace = record { root = (thin_fields m).data_map; role = 3 } in s) (sym same_first) in
+      let counts_in = subst (λ (m : List ℕ). HasDataCounts counts (thin_graph m) image) (sym same_first) (counted (thin_graph first) image seen) in
+      let added = subst (λ (s : DataSpace). IsOverflow image s.root.overflow_root → IsIndex image s.root.bitmap_root s.root.blocks
+      → Adds (faults_from DataBlock (count_of counts) (stored_data_in image (index_of image s.root.bitmap_root) (overflow_of image s.root.overflow_root)) 0 s.root.blocks) old new) same leads in
+      subst (λ (list : List Fault). Adds list old new) (data_same image counts map counts_in) (added map.searchable map.counting))
+  data_told held Cache first space counter counts old new here counted adds = absurd (cc)
+  data_told held Era first space counter counts old new here counted adds = absurd (cc)
+
+-- counts of another number of blocks aren't those of what the walk reached
+pub other_number : (P : List (List ℕ) → Type 0) (held : Option (List (List ℕ))) (kind : Kind) (first : List ℕ) (space : DataSpace) (counter : RefCounter) (counts : Counted)
+    → data_space_of kind first ≡ Some space → (counts.size ≡ space.root.blocks → ⊥)
+    → ((graph : Graph) (image : List (List ℕ)) → HasSeen counter graph image (is_reached graph image) → HasDataCounts counts graph image)
+    → IfSome held (λ image. block_at image 0 ≡ first → faults kind stages.Whole image ≡ [] → HasSeenAll counter (graph_of_super kind first) image → P image)
+other_number P held kind first space counter counts here other counted =
+    if_any held (λ image same none seen. absurd (other ((counted (graph_of_super kind first) image seen).size ∙ sym (data_number kind first space here))))
+
+-- under a result
+pub ok_if : {T E : Type 0} → (result : Result T E) (P Q : T → Type 0) → ((x : T) → P x → Q x) → IfOk result P → IfOk result Q
+ok_if (Ok x) P Q leads p = leads x p
+ok_if (Err e) P Q leads p = tt
+
+-- blocks of one role alone name the data blocks of a kind that has any
+pub counts_space : (kind : Kind) (first : List ℕ) (space : DataSpace) → data_space_of kind first ≡ Some space → NamesDataIn (graph_of_super kind first) space.role
+counts_space Thin first space is =
+    let same : record { root = (thin_fields first).data_map; role = 3 } ≡ space = cc in
+    subst (λ (s : DataSpace). NamesDataIn (thin_graph first) s.role) same (mappings_alone first)
+counts_space Cache first space is = absurd (cc)
+counts_space Era first space is = absurd (cc)
+
+-- and where there are none
+pub no_space : (kind : Kind) (first : List ℕ) → data_space_of kind first ≡ None → (graph_of_super kind first).data_blocks ≡ 0
+unfolding cache_graph era_graph graph_of
+no_space Thin first none = absurd (cc)
+no_space Cache first none = refl
+no_space Era first none = refl
 
 -- a kind without data blocks has no faults of theirs
 no_data : (kind : Kind) (image : List (List ℕ)) (first : List ℕ) → data_space_of kind first ≡ None → data_faults (checked_of kind image) image ≡ []
@@ -337,34 +355,36 @@ unfolding count_faults meta_faults data_faults
 both_faults kind image = refl
 
 -- nothing is added where there are none
-pub none_added : (held : Option (List (List ℕ))) (kind : Kind) (first : List ℕ) (audit : Audit) (report : Reported) → data_space_of kind first ≡ None
-    → IfSome held (λ image. IsWhole kind first image audit → Adds (data_faults (checked_of kind image) image) report report)
-none_added held kind first audit report nothing =
-    if_any held (λ image whole before is.
+pub none_added : (Seen : List (List ℕ) → Type 0) (held : Option (List (List ℕ))) (kind : Kind) (first : List ℕ) (report : Reported) → data_space_of kind first ≡ None
+    → IfSome held (λ image. block_at image 0 ≡ first → faults kind stages.Whole image ≡ [] → Seen image → Adds (data_faults (checked_of kind image) image) report report)
+none_added Seen held kind first report nothing =
+    if_any held (λ image same none seen before is.
     is ∙ ap (λ (list : List Fault). report_of list) (sym (ap (λ (list : List Fault). before ++ list) (no_data kind image first nothing) ∙ append-nil before)))
 
 -- the report of both
-pub both_told : (held later : Option (List (List ℕ))) (kind : Kind) (first : List ℕ) (audit : Audit) (start mid last : Reported) → later ≡ held → start ≡ report_of []
+pub both_told : (Seen : List (List ℕ) → Type 0) (held later : Option (List (List ℕ))) (kind : Kind) (first : List ℕ) (audit : Audit) (start mid last : Reported) → later ≡ held → start ≡ report_of []
     → IfSome held (λ image. IsWhole kind first image audit → Adds (meta_faults (checked_of kind image) image) start mid)
-    → IfSome later (λ image. IsWhole kind first image audit → Adds (data_faults (checked_of kind image) image) mid last)
-    → IfSome held (λ image. IsWhole kind first image audit → last ≡ report_of (count_faults (checked_of kind image) image))
-both_told held later kind first audit start mid last stays none meta data_added =
-    if_both held (λ image leads next whole.
+    → IfSome later (λ image. block_at image 0 ≡ first → faults kind stages.Whole image ≡ [] → Seen image → Adds (data_faults (checked_of kind image) image) mid last)
+    → IfSome held (λ image. IsWhole kind first image audit → Seen image → last ≡ report_of (count_faults (checked_of kind image) image))
+both_told Seen held later kind first audit start mid last stays none meta data_added =
+    if_both held (λ image leads next whole seen.
     let one : mid ≡ report_of (meta_faults (checked_of kind image) image) = leads whole [] none in
-    next whole (meta_faults (checked_of kind image) image) one ∙ ap (λ (list : List Fault). report_of list) (sym (both_faults kind image)))
-    meta (subst (λ (o : Option (List (List ℕ))). IfSome o (λ image. IsWhole kind first image audit → Adds (data_faults (checked_of kind image) image) mid last)) stays data_added)
+    next whole.first_block whole.none seen (meta_faults (checked_of kind image) image) one ∙ ap (λ (list : List Fault). report_of list) (sym (both_faults kind image)))
+    meta
+    (subst (λ (o : Option (List (List ℕ))). IfSome o (λ image. block_at image 0 ≡ first → faults kind stages.Whole image ≡ [] → Seen image
+    → Adds (data_faults (checked_of kind image) image) mid last)) stays data_added)
 
 -- and what was read for both
-pub meta_few : (held : Option (List (List ℕ))) (kind : Kind) (first : List ℕ) (audit : Audit) (old mid : ℕ)
-    → IfSome held (λ image. mid ≤ old + meta_reads (meta_map_of kind first) image) → IfSome held (λ image. mid ≤ old + count_reads kind first audit image)
+pub meta_few : (held : Option (List (List ℕ))) (kind : Kind) (first : List ℕ) (old mid : ℕ)
+    → IfSome held (λ image. mid ≤ old + meta_reads (meta_map_of kind first) image) → IfSome held (λ image. mid ≤ old + count_reads kind first image)
 unfolding count_reads
-meta_few held kind first audit old mid most = IfSome_then held most (λ image few. omega (arith, few))
+meta_few held kind first old mid most = IfSome_then held most (λ image few. omega (arith, few))
 
-pub both_few : (held later : Option (List (List ℕ))) (kind : Kind) (first : List ℕ) (audit : Audit) (old mid new : ℕ) → later ≡ held
+pub both_few : (held later : Option (List (List ℕ))) (kind : Kind) (first : List ℕ) (old mid new : ℕ) → later ≡ held
     → IfSome held (λ image. mid ≤ old + meta_reads (meta_map_of kind first) image)
-    → IfSome later (λ image. new ≤ mid + space_reads (data_space_of kind first) audit (graph_of_super kind first).nr image)
-    → IfSome held (λ image. new ≤ old + count_reads kind first audit image)
+    → IfSome later (λ image. new ≤ mid + space_reads (data_space_of kind first) image)
+    → IfSome held (λ image. new ≤ old + count_reads kind first image)
 unfolding count_reads
-both_few held later kind first audit old mid new stays one two =
+both_few held later kind first old mid new stays one two =
     if_both held (λ image few more. omega (arith, few, more)) one
-    (subst (λ (o : Option (List (List ℕ))). IfSome o (λ image. new ≤ mid + space_reads (data_space_of kind first) audit (graph_of_super kind first).nr image)) stays two)
+    (subst (λ (o : Option (List (List ℕ))). IfSome o (λ image. new ≤ mid + space_reads (data_space_of kind first) image)) stays two)

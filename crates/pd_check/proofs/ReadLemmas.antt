@@ -5,7 +5,7 @@ use Rattle.std.specs.Cmp.{nat_eq_equiv}
 use Rattle.std.proofs.lemmas.Bool.{or_parts}
 use Rattle.std.proofs.lemmas.List.{length-map}
 use Rattle.std.proofs.lemmas.List.FromFn.{length-range_with_len}
-use Rattle.std.proofs.lemmas.List.Sums.{length-filter, sum_by-append}
+use Rattle.std.proofs.lemmas.List.Sums.{sum_by-append}
 use Rattle.std.proofs.lemmas.Map.Made.{IsDistinct-from_count}
 use Rattle.pd_kinds.specs.declared.kind.Kind.{Kind}
 use Rattle.pd_kinds.specs.declared.kind.Kind.TheVariants.{Thin, Cache, Era}
@@ -28,14 +28,11 @@ use Rattle.pd_laws.specs.InOrder.{AreInOrder, LooksAtOrder, graph_of_kind}
 use Rattle.pd_laws.proofs.AllLemmas.{all_append}
 use Rattle.pd_laws.proofs.CleanLemmas.{whole_where_none}
 use Rattle.pd_graph.specs.declared.audit.Audit.{Audit}
-use Rattle.pd_graph.specs.Audit.{roles_at}
-use Rattle.pd_graph.specs.Roles.{has_bit}
 use Rattle.pd_tree.specs.Below.{nodes_below}
 use Rattle.pd_tree.specs.Roots.{HasCacheRoots, HasEraRoots, HasThinRoots}
 use Rattle.pd_tree.specs.TreeRoles.{HasCacheTrees, HasEraTrees, HasThinTrees, IsTreeRole, IsTreeTo}
-use Rattle.pd_refs.specs.Refs.{number_in}
 use Rattle.pd_whole.specs.Known.{IsKnown}
-use Rattle.pd_whole.specs.Reached.{AreReachedOnce, InRole, IsIndexRole, blocks_in, known_in, named_in}
+use Rattle.pd_whole.specs.Reached.{AreReachedOnce, InRole, IsIndexRole, blocks_in, named_in}
 use Rattle.pd_whole.proofs.ChargeLemmas.{whole_bad-append, whole_bad-cons}
 use Rattle.pd_check.specs.ByKind.{graph_of_super}
 use Rattle.pd_check.specs.Counts.{count_reads, data_reads, meta_reads}
@@ -115,11 +112,6 @@ bitmap_number : (nr : ℕ) (block : List ℕ) → length (index_blocks nr block)
 unfolding index_blocks
 bitmap_number nr block = length-map {A = ℕ} {B = ℕ} (range_with_len 0 (bitmaps_for nr)) (index_block_at block) ∙ length-range_with_len 0 (bitmaps_for nr)
 
--- the blocks that an audit has in a role are those that are counted
-known_number : (audit : Audit) (role n : ℕ) → length (known_in audit role n) ≡ number_in audit role n
-unfolding known_in number_in
-known_number audit role n = length-filter (λ b. has_bit (roles_at audit b) role) (range_with_len 0 n)
-
 -- the parts of a map of metadata blocks: the index block, the bitmaps that it names, and the nodes of the overflow tree
 map_parts : Graph → List (List ℕ) → SmRoot → ℕ → ℕ → ℕ → List InRole
 map_parts graph image root index bitmaps overflow =
@@ -128,20 +120,16 @@ map_parts graph image root index bitmaps overflow =
     ∷ record { role = overflow; blocks = nodes_below 4 image 63 root.overflow_root }
     ∷ []
 
--- those of a pool's data blocks: the blocks that refer to them, the nodes of the index tree, the bitmaps that it names,
--- and the nodes of the overflow tree
-data_parts : Graph → List (List ℕ) → SmRoot → Audit → List InRole
-data_parts graph image root audit =
-    record { role = 3; blocks = known_in audit 3 graph.nr }
-    ∷ record { role = 5; blocks = nodes_below 16 image 63 root.bitmap_root }
+-- those of a pool's data blocks: the nodes of the index tree, the bitmaps that it names, and the nodes of the overflow tree
+data_parts : Graph → List (List ℕ) → SmRoot → List InRole
+data_parts graph image root =
+    record { role = 5; blocks = nodes_below 16 image 63 root.bitmap_root }
     ∷ record { role = 6; blocks = named_in graph image (record { role = 5; blocks = nodes_below 16 image 63 root.bitmap_root }) 6 }
     ∷ record { role = 7; blocks = nodes_below 4 image 63 root.overflow_root }
     ∷ []
 
 -- the laws on what is reached
-module _ (known_once : (graph : Graph) (image : List (List ℕ)) (audit : Audit) (role : ℕ) → IsKnown graph image audit → role < 16
-    → AreReachedOnce graph image (record { role = role; blocks = known_in audit role graph.nr }))
-    (tree_once : (graph : Graph) (image : List (List ℕ)) (b role size : ℕ) → IsLawful graph → AreInOrder graph image → IsTreeRole graph role size → IsReached graph image b role
+module _ (tree_once : (graph : Graph) (image : List (List ℕ)) (b role size : ℕ) → IsLawful graph → AreInOrder graph image → IsTreeRole graph role size → IsReached graph image b role
     → AreReachedOnce graph image (record { role = role; blocks = nodes_below size image 63 b }))
     (tree_names : (graph : Graph) (image : List (List ℕ)) (b role size next : ℕ) (named : ℕ → ℕ) → IsTreeTo graph role size next named → IsLawful graph → AreInOrder graph image
     → IsReached graph image b role → (role ≡ next → ⊥)
@@ -186,7 +174,7 @@ module _ (known_once : (graph : Graph) (image : List (List ℕ)) (audit : Audit)
       (era_roots : (until : Stage) (image : List (List ℕ)) → LooksAtOrder until → faults Era until image ≡ [] → HasEraRoots (era_graph (block_at image 0)) image (era_fields (block_at image 0))) where
     -- a pool
     module _ (image : List (List ℕ)) (audit : Audit) (none : faults Thin stages.Whole image ≡ []) (known : IsKnown (thin_graph (block_at image 0)) image audit) where
-      data_once : AllByRecursion (AreReachedOnce (thin_graph (block_at image 0)) image) (data_parts (thin_graph (block_at image 0)) image (thin_fields (block_at image 0)).data_map audit)
+      data_once : AllByRecursion (AreReachedOnce (thin_graph (block_at image 0)) image) (data_parts (thin_graph (block_at image 0)) image (thin_fields (block_at image 0)).data_map)
       unfolding data_parts
       data_once =
           let graph = thin_graph (block_at image 0) in
@@ -195,18 +183,15 @@ module _ (known_once : (graph : Graph) (image : List (List ℕ)) (audit : Audit)
           let trees = thin_trees (block_at image 0) in
           let in_order = ordered Thin stages.Whole image tt none in
           let index = tree_once graph image root.bitmap_root 5 16 known.lawful in_order trees.data_index.is_role roots.data_index in (
-            known_once graph image audit 3 known (omega arith),
+            index,
             (
-              index,
-              (
-                named_once graph image is_thin_bitmap (record { role = 5; blocks = nodes_below 16 image 63 root.bitmap_root }) 6 known.lawful (thin_bitmaps image none) (omega arith) refl index,
-                (tree_once graph image root.overflow_root 7 4 known.lawful in_order trees.data_overflow roots.data_overflow, tt),
-              ),
+              named_once graph image is_thin_bitmap (record { role = 5; blocks = nodes_below 16 image 63 root.bitmap_root }) 6 known.lawful (thin_bitmaps image none) (omega arith) refl index,
+              (tree_once graph image root.overflow_root 7 4 known.lawful in_order trees.data_overflow roots.data_overflow, tt),
             ),
           )
 
-      data_number : blocks_in (data_parts (thin_graph (block_at image 0)) image (thin_fields (block_at image 0)).data_map audit)
-          ≡ data_reads (record { root = (thin_fields (block_at image 0)).data_map; role = 3 }) audit (thin_graph (block_at image 0)).nr image
+      data_number : blocks_in (data_parts (thin_graph (block_at image 0)) image (thin_fields (block_at image 0)).data_map)
+          ≡ data_reads (record { root = (thin_fields (block_at image 0)).data_map; role = 3 }) image
       unfolding data_parts
       data_number =
           let graph = thin_graph (block_at image 0) in
@@ -214,7 +199,6 @@ module _ (known_once : (graph : Graph) (image : List (List ℕ)) (audit : Audit)
           let roots = thin_roots stages.Whole image tt none in
           let trees = thin_trees (block_at image 0) in
           let entries = entries_below graph image 16 5 root.bitmap_root in
-          let met = known_number audit 3 graph.nr in
           let named : length (named_in graph image (record { role = 5; blocks = nodes_below 16 image 63 root.bitmap_root }) 6) ≡ bitmaps_for root.blocks =
           ap (length {A = ℕ}) (tree_names graph image root.bitmap_root 5 16 6 (λ v. v % 2 ^ 64) trees.data_index known.lawful (ordered Thin stages.Whole image tt none) roots.data_index (λ same. omega arith))
           ∙ (length-map {A = Entry} {B = ℕ} entries (λ (e : Entry). e.value % 2 ^ 64)
@@ -224,7 +208,7 @@ module _ (known_once : (graph : Graph) (image : List (List ℕ)) (audit : Audit)
           ∙ ap (λ (n : ℕ). bitmaps_for n) (sym (counted_data Thin (block_at image 0) (record { root = root; role = 3 }) refl)))))) in
           omega arith
 
-      few_thin : count_reads Thin (block_at image 0) audit image ≤ length (nodes (thin_graph (block_at image 0)) image)
+      few_thin : count_reads Thin (block_at image 0) image ≤ length (nodes (thin_graph (block_at image 0)) image)
       unfolding count_reads data_parts map_parts
       few_thin =
           let graph = thin_graph (block_at image 0) in
@@ -234,10 +218,10 @@ module _ (known_once : (graph : Graph) (image : List (List ℕ)) (audit : Audit)
           let in_order = ordered Thin stages.Whole image tt none in
           let bitmaps = thin_bitmaps image none in
           let map = map_once graph image is_thin_bitmap fields.meta_map 8 9 10 known.lawful in_order bitmaps refl (thin_index (block_at image 0)) tree roots.meta_index roots.meta_overflow in
-          let most = no_more graph image (data_parts graph image fields.data_map audit ++ map_parts graph image fields.meta_map 8 9 10)
-          (all_append (AreReachedOnce graph image) (data_parts graph image fields.data_map audit) (map_parts graph image fields.meta_map 8 9 10) data_once map)
-          (IsDistinct-from_count nat_eq_equiv (3 ∷ 5 ∷ 6 ∷ 7 ∷ 8 ∷ 9 ∷ 10 ∷ []) refl) in
-          let both = sum_by-append (λ (part : InRole). length part.blocks) (data_parts graph image fields.data_map audit) (map_parts graph image fields.meta_map 8 9 10) in
+          let most = no_more graph image (data_parts graph image fields.data_map ++ map_parts graph image fields.meta_map 8 9 10)
+          (all_append (AreReachedOnce graph image) (data_parts graph image fields.data_map) (map_parts graph image fields.meta_map 8 9 10) data_once map)
+          (IsDistinct-from_count nat_eq_equiv (5 ∷ 6 ∷ 7 ∷ 8 ∷ 9 ∷ 10 ∷ []) refl) in
+          let both = sum_by-append (λ (part : InRole). length part.blocks) (data_parts graph image fields.data_map) (map_parts graph image fields.meta_map 8 9 10) in
           let first = data_number in
           let second = map_number graph image is_thin_bitmap fields.meta_map 8 9 10 known.lawful in_order bitmaps refl (thin_index (block_at image 0)) tree roots.meta_index roots.meta_overflow
           (counted_meta Thin (block_at image 0)) in
@@ -245,7 +229,7 @@ module _ (known_once : (graph : Graph) (image : List (List ℕ)) (audit : Audit)
 
     -- a cache
     few_cache : (image : List (List ℕ)) (audit : Audit) → faults Cache stages.Whole image ≡ [] → IsKnown (cache_graph (block_at image 0)) image audit
-        → count_reads Cache (block_at image 0) audit image ≤ length (nodes (cache_graph (block_at image 0)) image)
+        → count_reads Cache (block_at image 0) image ≤ length (nodes (cache_graph (block_at image 0)) image)
     unfolding count_reads map_parts
     few_cache image audit none known =
         let graph = cache_graph (block_at image 0) in
@@ -263,7 +247,7 @@ module _ (known_once : (graph : Graph) (image : List (List ℕ)) (audit : Audit)
 
     -- an era target
     few_era : (image : List (List ℕ)) (audit : Audit) → faults Era stages.Whole image ≡ [] → IsKnown (era_graph (block_at image 0)) image audit
-        → count_reads Era (block_at image 0) audit image ≤ length (nodes (era_graph (block_at image 0)) image)
+        → count_reads Era (block_at image 0) image ≤ length (nodes (era_graph (block_at image 0)) image)
     unfolding count_reads map_parts
     few_era image audit none known =
         let graph = era_graph (block_at image 0) in
@@ -281,13 +265,13 @@ module _ (known_once : (graph : Graph) (image : List (List ℕ)) (audit : Audit)
 
     -- so it is no more than the reachable pairs
     few_of : (kind : Kind) (image : List (List ℕ)) (audit : Audit) → faults kind stages.Whole image ≡ [] → IsKnown (graph_of_super kind (block_at image 0)) image audit
-        → count_reads kind (block_at image 0) audit image ≤ length (nodes (graph_of_super kind (block_at image 0)) image)
+        → count_reads kind (block_at image 0) image ≤ length (nodes (graph_of_super kind (block_at image 0)) image)
     few_of Thin image audit none known = few_thin image audit none known
     few_of Cache image audit none known = few_cache image audit none known
     few_of Era image audit none known = few_era image audit none known
 
     pub few : (kind : Kind) (first : List ℕ) (image : List (List ℕ)) (audit : Audit) → IsWhole kind first image audit
-        → count_reads kind first audit image ≤ length (nodes (graph_of_super kind first) image)
+        → count_reads kind first image ≤ length (nodes (graph_of_super kind first) image)
     few kind first image audit whole =
-        subst (λ (m : List ℕ). count_reads kind m audit image ≤ length (nodes (graph_of_super kind m) image)) whole.first_block
+        subst (λ (m : List ℕ). count_reads kind m image ≤ length (nodes (graph_of_super kind m) image)) whole.first_block
         (few_of kind image audit whole.none (subst (λ (m : List ℕ). IsKnown (graph_of_super kind m) image audit) (sym whole.first_block) whole.known))

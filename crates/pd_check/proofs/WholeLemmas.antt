@@ -12,7 +12,7 @@ use Rattle.pd_kinds.specs.Faults.{faults_at}
 use Rattle.pd_kinds.specs.declared.check_fault.CheckFault.{CheckFault}
 use Rattle.pd_kinds.specs.declared.report.Report.{Report}
 use Rattle.pd_kinds.specs.Report.{Reported, report_of}
-use Rattle.pd_kinds.specs.Graph.{Graph, nodes}
+use Rattle.pd_kinds.specs.Graph.{Graph, is_reached, nodes}
 use Rattle.pd_kinds.specs.Lawful.{IsLawful}
 use Rattle.pd_kinds.specs.Stages.{checked_of, faults, block_faults, count_faults}
 use Rattle.pd_kinds.specs.Whole.{WholeTest, whole_bad}
@@ -59,20 +59,30 @@ charged : (nr : ℕ) (tests : List WholeTest) (old new : Audit) (b : ℕ) (wante
     → has_rule_at new b wanted ≡ whole_bad tests b wanted
 charged nr tests old new b wanted charges within none = charges.rules b wanted within ∙ ap (λ (x : Bool). x || whole_bad tests b wanted) none
 
-pub charged_report : (held : Option (List (List ℕ))) (kind : Kind) (first : List ℕ) (old new : Audit) (count : ℕ) (report : Reported)
+pub charged_report : (Seen : List (List ℕ) → Type 0) (held : Option (List (List ℕ))) (kind : Kind) (first : List ℕ) (old new : Audit) (count : ℕ) (report : Reported)
     → count ≡ (graph_of_super kind first).nr → blocks_of old ≡ (graph_of_super kind first).nr
     → ((b : ℕ) (rule : Rule) → b < (graph_of_super kind first).nr → has_rule_at old b rule ≡ false)
-    → IfSome held (λ image. IsOrdered kind first image old → Charges (checked_of kind image).whole old new)
+    → IfSome held (λ image. IsOrdered kind first image old → Seen image → Charges (checked_of kind image).whole old new)
     → report ≡ report_of (flat_map (λ b. faults_at b (has_rule_at new b)) (range_with_len 0 count))
-    → IfSome held (λ image. IsOrdered kind first image old
+    → IfSome held (λ image. IsOrdered kind first image old → Seen image
     → report ≡ report_of (block_faults (graph_of_super kind first).nr (whole_bad (checked_of kind image).whole)))
-charged_report held kind first old new count report number blocks none charges told =
-    IfSome_then held charges (λ image leads ordered.
+charged_report Seen held kind first old new count report number blocks none charges told =
+    IfSome_then held charges (λ image leads ordered seen.
     let graph = graph_of_super kind first in
     (rw number at told)
     ∙ ap (λ (list : List Fault). report_of list)
     (walked_blocks graph.nr (has_rule_at new) (whole_bad (checked_of kind image).whole)
-    (λ b wanted within. charged graph.nr (checked_of kind image).whole old new b wanted (leads ordered) (omega arith) (none b wanted within))))
+    (λ b wanted within. charged graph.nr (checked_of kind image).whole old new b wanted (leads ordered seen) (omega arith) (none b wanted within))))
+
+-- what follows from what a watcher saw, where it saw it
+pub shown : (Seen Known P : List (List ℕ) → Type 0) (held later : Option (List (List ℕ))) → later ≡ held → IfSome held Seen
+    → IfSome later (λ image. Known image → Seen image → P image) → IfSome later (λ image. Known image → P image)
+shown Seen Known P held later stays seen leads = if_both later (λ image is then known. then known is) (subst (λ (o : Option (List (List ℕ))). IfSome o Seen) (sym stays) seen) leads
+
+-- what the first of two watchers saw of a walk in a format
+pub first_seen : (A B : Graph → List (List ℕ) → (ℕ → Bool) → Type 0) (held : Option (List (List ℕ))) (graph super : Graph) → graph ≡ super
+    → IfSome held (λ image. A graph image (is_reached graph image) × B graph image (is_reached graph image)) → IfSome held (λ image. A super image (is_reached super image))
+first_seen A B held graph super same seen = subst (λ (g : Graph). IfSome held (λ image. A g image (is_reached g image))) same (IfSome_then held seen (λ image both. both.0))
 
 -- a fault up to the order of the trees is all that is reported
 chosen_where : (some : Bool) (first second : List Fault) → some ≡ nat_lt 0 (length first) → (length first ≡ 0 → ⊥) → cond some first second ≡ first
@@ -158,16 +168,19 @@ counts_first held kind report some told =
     (sym (up_to_counts kind image ∙ chosen_where (nat_lt 0 (length (faults kind Whole image))) (faults kind Whole image) _ refl (λ none. some (total ∙ none)))))
 
 -- and where there are none, it is that of the counts
-pub counts_second : (held later : Option (List (List ℕ))) (kind : Kind) (first : List ℕ) (audit : Audit) (report : Reported) (result : Result Report CheckFault) → later ≡ held → report.total ≡ 0
+pub counts_second : (Seen : List (List ℕ) → Type 0) (held later : Option (List (List ℕ))) (kind : Kind) (first : List ℕ) (audit : Audit) (report : Reported) (result : Result Report CheckFault) → later ≡ held → report.total ≡ 0
+    → IfSome held Seen
     → IfSome held (λ image. report.total ≡ 0 → IsWhole kind first image audit)
-    → IfOk result (λ found. IfSome later (λ image. IsWhole kind first image audit → found ≡ report_of (count_faults (checked_of kind image) image)))
+    → IfOk result (λ found. IfSome later (λ image. IsWhole kind first image audit → Seen image → found ≡ report_of (count_faults (checked_of kind image) image)))
     → IfOk result (λ found. IfSome held (λ image. found ≡ report_of (faults kind Counts image)))
-counts_second held later kind first audit report (Err fault) stays none known told = tt
-counts_second held later kind first audit report (Ok found) stays none known told =
+counts_second Seen held later kind first audit report (Err fault) stays none seen known told = tt
+counts_second Seen held later kind first audit report (Ok found) stays none seen known told =
     if_both held (λ image knows leads.
     let whole = knows none in
     leads whole ∙ ap (λ (list : List Fault). report_of list) (sym (up_to_counts kind image ∙ rw whole.none refl)))
-    known (subst (λ (o : Option (List (List ℕ))). IfSome o (λ image. IsWhole kind first image audit → found ≡ report_of (count_faults (checked_of kind image) image))) stays told)
+    known
+    (subst (λ (o : Option (List (List ℕ))). IfSome o (λ image. IsWhole kind first image audit → found ≡ report_of (count_faults (checked_of kind image) image))) stays
+    (shown Seen (λ image. IsWhole kind first image audit) (λ image. found ≡ report_of (count_faults (checked_of kind image) image)) held later stays seen told))
 
 -- an audit that knew the image before the marks of the whole image knows it after them
 pub whole_known : (held later : Option (List (List ℕ))) (kind : Kind) (first : List ℕ) (before audit : Audit) (found : Reported) → later ≡ held
@@ -197,12 +210,12 @@ whole_known held later kind first before audit found stays ordered number settle
 
 -- and the reads of the stages before and of the counts add up
 pub counts_reads : (held later : Option (List (List ℕ))) (kind : Kind) (first : List ℕ) (audit : Audit) (report : Reported) (a b c : ℕ) → later ≡ held → report.total ≡ 0
-    → ((kind : Kind) (first : List ℕ) (image : List (List ℕ)) (audit : Audit) → IsWhole kind first image audit → count_reads kind first audit image ≤ length (nodes (graph_of_super kind first) image))
+    → ((kind : Kind) (first : List ℕ) (image : List (List ℕ)) (audit : Audit) → IsWhole kind first image audit → count_reads kind first image ≤ length (nodes (graph_of_super kind first) image))
     → IfSome held (λ image. report.total ≡ 0 → IsWhole kind first image audit)
-    → IfSome held (λ image. b ≤ a + 5 * length (nodes (graph_of_super kind first) image)) → IfSome later (λ image. c ≤ b + count_reads kind first audit image)
+    → IfSome held (λ image. b ≤ a + 5 * length (nodes (graph_of_super kind first) image)) → IfSome later (λ image. c ≤ b + count_reads kind first image)
     → IfSome held (λ image. c ≤ a + 6 * length (nodes (graph_of_super kind first) image))
 counts_reads held later kind first audit report a b c stays none few known before after =
     let least = IfSome_then held known (λ image knows. few kind first image audit (knows none)) in
-    let more = subst (λ (o : Option (List (List ℕ))). IfSome o (λ image. c ≤ b + count_reads kind first audit image)) stays after in
+    let more = subst (λ (o : Option (List (List ℕ))). IfSome o (λ image. c ≤ b + count_reads kind first image)) stays after in
     let last : IfSome held (λ image. c ≤ b + length (nodes (graph_of_super kind first) image)) = if_both held (λ image fewer some. omega (arith, fewer, some)) least more in
     if_both held (λ image most rest. omega (arith, most, rest)) before last

@@ -6,13 +6,13 @@ use Rattle.pd_kinds.specs.declared.fault.Fault.{Fault}
 use Rattle.pd_kinds.specs.declared.fault.Space.TheVariants.{Meta, DataBlock}
 use Rattle.pd_kinds.specs.declared.map_root.SmRoot.{SmRoot}
 use Rattle.pd_kinds.specs.Bitmap.{bitmaps_for}
-use Rattle.pd_kinds.specs.Graph.{meta_count, data_count}
+use Rattle.pd_kinds.specs.Graph.{Graph, is_reached, meta_count, data_count}
 use Rattle.pd_kinds.specs.Stages.{Checked, count_fault}
-use Rattle.pd_graph.specs.declared.audit.Audit.{Audit}
 use Rattle.pd_tree.specs.Below.{nodes_below}
-use Rattle.pd_refs.specs.Refs.{number_in}
+use Rattle.pd_refs.specs.declared.counter.RefCounter.{RefCounter}
+use Rattle.pd_refs.specs.Counter.{HasSeen}
 use Rattle.pd_check.specs.declared.data_space.DataSpace.{DataSpace}
-use Rattle.pd_check.specs.ByKind.{graph_of_super, meta_map_of, data_space_of}
+use Rattle.pd_check.specs.ByKind.{meta_map_of, data_space_of}
 
 -- the faults of the counts of metadata blocks, and of those of data blocks
 unfoldable pub meta_faults : Checked → List (List ℕ) → List Fault
@@ -28,19 +28,20 @@ data_faults checked image =
 abbrev pub meta_reads : SmRoot → List (List ℕ) → ℕ
 meta_reads root image = 1 + bitmaps_for root.blocks + length (nodes_below 4 image 63 root.overflow_root)
 
--- and for those of data blocks: the blocks that refer to them, the nodes of the index tree, the bitmaps, and the nodes
--- of the overflow tree
-abbrev pub data_reads : DataSpace → Audit → ℕ → List (List ℕ) → ℕ
-data_reads space audit nr image =
-    number_in audit space.role nr
-    + (length (nodes_below 16 image 63 space.root.bitmap_root) + bitmaps_for space.root.blocks + length (nodes_below 4 image 63 space.root.overflow_root))
+-- and for those of data blocks: the nodes of the index tree, the bitmaps, and the nodes of the overflow tree
+abbrev pub data_reads : DataSpace → List (List ℕ) → ℕ
+data_reads space image =
+    length (nodes_below 16 image 63 space.root.bitmap_root) + bitmaps_for space.root.blocks + length (nodes_below 4 image 63 space.root.overflow_root)
 
 -- where there are data blocks
-abbrev pub space_reads : Option DataSpace → Audit → ℕ → List (List ℕ) → ℕ
-space_reads None audit nr image = 0
-space_reads (Some space) audit nr image = data_reads space audit nr image
+abbrev pub space_reads : Option DataSpace → List (List ℕ) → ℕ
+space_reads None image = 0
+space_reads (Some space) image = data_reads space image
 
 -- and for both
-unfoldable pub count_reads : Kind → List ℕ → Audit → List (List ℕ) → ℕ
-count_reads kind first audit image =
-    meta_reads (meta_map_of kind first) image + space_reads (data_space_of kind first) audit (graph_of_super kind first).nr image
+unfoldable pub count_reads : Kind → List ℕ → List (List ℕ) → ℕ
+count_reads kind first image = meta_reads (meta_map_of kind first) image + space_reads (data_space_of kind first) image
+
+-- a counter of references was shown all that is reached
+abbrev pub HasSeenAll : RefCounter → Graph → List (List ℕ) → Type 0
+HasSeenAll counter graph image = HasSeen counter graph image (is_reached graph image)

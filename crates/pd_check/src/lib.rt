@@ -2,6 +2,7 @@
 //! the trees, the rules of the whole image, and the stored counts.
 #![tactic(auto)]
 
+mod both;
 mod checking;
 mod counts;
 mod data_space;

@@ -1,6 +1,6 @@
 //! The stages of the whole image and of the counts, after the order of the trees.
 
-ghost use Rattle.std.specs.Prelude.{◌≡◌, ℕ, ◌+◌, ◌*◌, ◌<◌, ◌≤◌, false, length, IfOk, IfSome, OnOk};
+ghost use Rattle.std.specs.Prelude.{◌≡◌, ℕ, ◌+◌, ◌*◌, ◌<◌, ◌≤◌, List, false, length, IfOk, IfSome, OnOk};
 ghost use Rattle.std.specs.List.{flat_map, range_with_len};
 ghost use Rattle.pd_kinds.specs.Faults.{faults_at};
 ghost use Rattle.pd_kinds.specs.declared.kind.Stage.TheVariants.{Counts, Whole};
@@ -13,19 +13,23 @@ ghost use Rattle.pd_kinds.specs.Stages.{block_faults, checked_of, faults};
 ghost use Rattle.pd_kinds.specs.Whole.{whole_bad};
 ghost use Rattle.pd_image.specs.Device.{IsAttached, OnlyReads};
 ghost use Rattle.pd_graph.specs.Audit.{blocks_of, has_rule_at};
+ghost use Rattle.pd_graph.specs.Watch.{no_pairs};
 ghost use Rattle.pd_whole.specs.Known.{IsKnown};
 ghost use Rattle.pd_check.specs.ByKind.{graph_of_super, super_bad_of};
 ghost use Rattle.pd_check.specs.Check.{IsFirstBlock, reads_of};
+ghost use Rattle.pd_check.specs.Counts.{HasSeenAll};
 ghost use Rattle.pd_check.specs.Whole.{IsOrdered, IsWhole};
 
-use crate::counts::count_report;
+use crate::both::Both;
+use crate::counts::{count_report, ref_counter};
 use crate::later_stages::looked_at;
 use crate::metadata::Metadata;
 use crate::read_bounds::counts_read_no_more_than_nodes;
 use crate::walked::walk_report;
-use pd_graph::Audit;
+use pd_graph::{Audit, NoWatch, Watch};
 use pd_image::{Device, Failed};
 use pd_kinds::{Block, CheckFault, Report, Stage};
+use pd_refs::RefCounter;
 use pd_whole::settled_audits_are_known;
 use std::alloc::Global;
 
@@ -53,28 +57,36 @@ pub(crate) fn check_whole<M: Metadata, D: Device>(
     ensures kept { OnlyReads (D.state dev.old) (D.state dev.new) }
     ensures faults { CountsCheckFault result (D.state dev.old).faults (D.state dev.new).faults }
 {
-    let (_audit, report) = whole_looked::<M, D>(alloc, dev, first, blocks)?;
+    let (_audit, report, _watch) = whole_looked::<M, D, NoWatch>(alloc, dev, first, blocks, NoWatch)?;
     Ok(report)
 }
 
-/// Does what `check_whole` does: the audit of that, and the report.
+/// Does what `check_whole` does, and shows the walk to one more that watches: the audit of that, the report, and what
+/// watched.
 ///
 /// Fails as `check_whole` does.
-pub(crate) fn whole_looked<M: Metadata, D: Device>(
+pub(crate) fn whole_looked<M: Metadata, D: Device, W: Watch + Drop>(
     alloc: Global,
     dev: &mut D,
     first: &Block,
     blocks: u64,
-) -> Result<(Audit, Report), CheckFault>
+    watch: W,
+) -> Result<(Audit, Report, W), CheckFault>
     requires attached { IsAttached (D.state dev.old) }
     requires number { blocks ≡ (D.state dev.old).blocks }
     requires first { IfSome (D.state dev.old).held (IsFirstBlock blocks first.now.0) }
     requires sound { (rule : Rule) → super_bad_of M.kind blocks first.now.0 rule ≡ false }
+    requires room { W.has_room watch (graph_of_super M.kind first.now.0).nr }
+    requires unseen { (image : List (List ℕ)) → W.has_seen watch (graph_of_super M.kind first.now.0) image no_pairs }
     ensures report { IfOk result (λ found. IfSome (D.state dev.old).held (λ image. found.1 ≡ report_of (faults M.kind Whole image))) }
     ensures number { IfOk result (λ found. blocks_of found.0 ≡ (graph_of_super M.kind first.now.0).nr) }
 
+    ensures within { OnOk result ((graph_of_super M.kind first.now.0).nr ≤ (D.state dev.old).blocks) }
+
     // Where nothing was found, the audit knows the image.
     ensures whole { IfOk result (λ found. IfSome (D.state dev.old).held (λ image. found.1.total ≡ 0 → IsWhole M.kind first.now.0 image found.0)) }
+    ensures seen { IfOk result (λ found. IfSome (D.state dev.old).held (λ image.
+        W.has_seen found.2 (graph_of_super M.kind first.now.0) image (is_reached (graph_of_super M.kind first.now.0) image))) }
     ensures early { StopsEarly result (D.state dev.old).reads (D.state dev.new).reads }
     ensures reads { IfSome (D.state dev.old).held (λ image.
         (D.state dev.new).reads ≤ (D.state dev.old).reads + reads_of Whole * length (nodes (graph_of_super M.kind first.now.0) image)) }
@@ -82,16 +94,24 @@ pub(crate) fn whole_looked<M: Metadata, D: Device>(
     ensures faults { CountsCheckFault result (D.state dev.old).faults (D.state dev.new).faults }
 {
     settled_audits_are_known();
-    let mut room = match M::room(alloc, first) {
+    let room = match M::room(alloc, first) {
         Ok(room) => room,
         Err(_) => return Err(CheckFault::Memory),
     };
-    let (mut audit, report) = looked_at(alloc, dev, &M::format(first, blocks), Stage::Order, &mut room)?;
+    let mut both = Both {
+        first: room,
+        second: watch,
+    };
+    let (mut audit, report) = looked_at(alloc, dev, &M::format(first, blocks), Stage::Order, &mut both)?;
+    let Both {
+        first: room,
+        second: watch,
+    } = both;
     if !report.is_empty() {
-        return Ok((audit, report));
+        return Ok((audit, report, watch));
     }
     match whole_report::<M, D>(room, first, &mut audit, dev) {
-        Ok(found) => Ok((audit, found)),
+        Ok(found) => Ok((audit, found, watch)),
         Err(_) => Err(CheckFault::Device),
     }
 }
@@ -117,11 +137,15 @@ pub(crate) fn check_counts<M: Metadata, D: Device>(
     ensures faults { CountsCheckFault result (D.state dev.old).faults (D.state dev.new).faults }
 {
     counts_read_no_more_than_nodes();
-    let (audit, report) = whole_looked::<M, D>(alloc, dev, first, blocks)?;
+    let counter = match ref_counter::<M>(alloc, first) {
+        Ok(counter) => counter,
+        Err(_) => return Err(CheckFault::Memory),
+    };
+    let (audit, report, counter) = whole_looked::<M, D, RefCounter>(alloc, dev, first, blocks, counter)?;
     if !report.is_empty() {
         return Ok(report);
     }
-    count_report::<M, D>(alloc, dev, &M::format(first, blocks), first, &audit)
+    count_report::<M, D>(alloc, dev, first, &audit, counter)
 }
 
 /// Marks the rules of the whole image, where no block has a rule yet, and reports them.

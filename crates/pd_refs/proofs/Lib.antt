@@ -1,3 +1,3 @@
 pub mod RefsLemmas
 pub mod RoleLemmas
-pub mod WatchLemmas
+pub mod CounterLemmas

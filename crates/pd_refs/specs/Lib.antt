@@ -1,2 +1,2 @@
 pub mod Refs
-pub mod Watched
+pub mod Counter

@@ -2,8 +2,6 @@
 #![tactic(auto)]
 
 mod adding;
-mod laws;
-mod watching;
+mod counter;
 
-pub use laws::data_counts_are_those_of_one_role;
-pub use watching::DataRefs;
+pub use counter::RefCounter;

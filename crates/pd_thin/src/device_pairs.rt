@@ -12,9 +12,9 @@ ghost use Rattle.pd_thin.specs.DeviceCursors.{HaveNoEntry, cursors_number, curso
 ghost use Rattle.pd_thin.specs.DevicePairs.{details_of, firsts, found_same, mapped_of, mapped_test, turn_of, IsLeft, IsOnWay};
 
 use crate::peeked::Peeked;
-use pd_graph::Audit;
+use pd_graph::{Audit, Format, Watch};
 use pd_image::{Device, Failed};
-use pd_kinds::Rule;
+use pd_kinds::{Block, Rule, Rules};
 use pd_settle::below;
 use pd_value::{Details, Root};
 use pd_whole::charge;
@@ -71,6 +71,22 @@ impl DeviceCursors {
             details: Peeked::new(alloc)?,
         })
     }
+}
+
+/// Of a pool, all that the rules of the whole image need stands in the audit.
+impl Watch for DeviceCursors {
+    ghost has_seen = { λ _ _ _ _. Unit {0} };
+
+    ghost same = { λ _ _ _ _ _ _ seen. seen };
+
+    fn see<F: Format>(
+        &mut self,
+        _format: &F,
+        _role: u8,
+        _b: u64,
+        _block: &Block,
+        _broken: &Rules,
+    ) {}
 }
 
 /// Whether the number of mapped blocks isn't that of the entries below the root.

@@ -1,19 +1,16 @@
-use Rattle.std.proofs.Common.{ap, ◌∙◌, sym}
-use Rattle.pd_kinds.specs.Graph.{Graph}
-use Rattle.pd_check.proofs.CountLemmas.{data_number, data_told, on_ok}
+use Rattle.std.proofs.Common.{arith}
+use Rattle.pd_check.proofs.CountLemmas.{data_told, on_ok, other_number}
 use Rattle.pd_check.proofs.counts.add_data_faults.Goals as goal
 
-pub compare_data-requires-clause-number : goal.compare_data-requires-clause-number
-compare_data-requires-clause-number g c =
-    data_number g.M.Metadata.kind c.args.first.now.0 c.args.space.now c.requires.space
-    ∙ sym (c.in_ok-counts.ensures.size ∙ ap (λ (graph : Graph). graph.data_blocks) c.requires.graph)
+pub returns-then-size-root-clause-added : goal.returns-then-size-root-clause-added
+returns-then-size-root-clause-added g c =
+    other_number _ _ g.M.Metadata.kind c.args.first.now.0 c.args.space.now c.args.counter c.in-Ok.counts c.requires.space
+    (λ same. omega (arith, same, c.size.ensures.size, c.if-size-root.true)) c.in-Ok.ensures.counted
 
 pub returns-then-inside-clause-added : goal.returns-then-inside-clause-added
 returns-then-inside-clause-added g c = on_ok c.compare_data.result
     (λ adds.
     data_told c.formats_have_trees.ensures.thin c.reached_trees_are_sound.ensures.without_faults c.superblocks_lead_to_reached_roots.ensures.thin
     c.overflow_trees_hold_counts.ensures.searchable c.overflow_trees_hold_counts.ensures.entries c.index_trees_name_bitmaps.ensures.keys c.index_trees_name_bitmaps.ensures.stored
-    c.trees_are_in_order.ensures.in_order c.data_counts_are_those_of_one_role.ensures
-    _ _ g.M.Metadata.kind c.args.first.now.0 (g.M.Format.Format.graph c.args.format.now) c.args.audit.now c.args.space.now c.in_ok-counts.counts c.args.report.now c.compare_data.new.report
-    c.in_ok-counts.ensures.kept.held c.requires.graph c.requires.space c.in_ok-counts.ensures.counted adds)
+    _ g.M.Metadata.kind c.args.first.now.0 c.args.space.now c.args.counter c.in-Ok.counts c.args.report.now c.compare_data.new.report c.requires.space c.in-Ok.ensures.counted adds)
     c.compare_data.ensures.added

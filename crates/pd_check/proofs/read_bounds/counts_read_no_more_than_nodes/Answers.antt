@@ -3,7 +3,7 @@ use Rattle.pd_check.proofs.read_bounds.counts_read_no_more_than_nodes.Goals as g
 
 pub returns : goal.returns
 returns c =
-    few c.known_blocks_are_reached_once.ensures c.nodes_of_reached_trees_are_reached_once.ensures
+    few c.nodes_of_reached_trees_are_reached_once.ensures
     c.trees_and_indices_name_blocks.ensures.entries c.trees_and_indices_name_blocks.ensures.bitmaps
     c.bitmaps_are_named_once.ensures c.reached_blocks_are_no_more_than_nodes.ensures
     c.trees_are_in_order.ensures.in_order

@@ -14,8 +14,8 @@ count_report-requires-clause-data g c = few_counted g.M.Metadata.kind c.args.blo
 
 pub returns-clause-report : goal.returns-clause-report
 returns-clause-report g c =
-    counts_second _ _ g.M.Metadata.kind c.args.first.now.0 c.in_ok-audit.audit c.in_ok-audit.report c.count_report.result c.in_ok-audit.ensures.kept.held
-    (eqb-true c.in_ok-audit.report.total 0 (sym c.if-not-is_empty.ensures)) c.in_ok-audit.ensures.whole c.count_report.ensures.report
+    counts_second _ _ _ g.M.Metadata.kind c.args.first.now.0 c.in_ok-audit.audit c.in_ok-audit.report c.count_report.result c.in_ok-audit.ensures.kept.held
+    (eqb-true c.in_ok-audit.report.total 0 (sym c.if-not-is_empty.ensures)) c.in_ok-audit.ensures.seen c.in_ok-audit.ensures.whole c.count_report.ensures.report
 
 pub returns-clause-reads : goal.returns-clause-reads
 returns-clause-reads g c =

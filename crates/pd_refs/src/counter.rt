@@ -1,8 +1,9 @@
 //! The references to data blocks, counted while a walk has the blocks at hand that make them.
 
-ghost use Rattle.std.specs.Prelude.{◌≡◌, ℕ, ◌<◌, List, Bool, true, false, IfOk, OnErr};
-ghost use Rattle.pd_kinds.specs.Graph.{Graph};
+ghost use Rattle.std.specs.Prelude.{◌≡◌, ℕ, ◌<◌, List, true, false, IfOk, OnErr};
+ghost use Rattle.pd_kinds.specs.Graph.{Graph, is_reached};
 ghost use Rattle.pd_graph.specs.Watch.{no_pairs};
+ghost use Rattle.pd_refs.specs.Refs.{HasDataCounts, NamesDataIn};
 
 use crate::adding::add_refs;
 use pd_count::Counts;
@@ -10,45 +11,45 @@ use pd_graph::{Format, Watch};
 use pd_kinds::{Block, Rules};
 use std::alloc::{AllocError, Global};
 
-/// Counts the data blocks that the blocks name which a walk shows it in one role: each block once, however many nodes
-/// lead to it, and none with a broken rule.
+/// Counts the data blocks that blocks name in one role, as a walk shows it each of them: each block once, however many
+/// nodes lead to it, and none that breaks a rule.
 ///
 /// It takes the memory of the counts as they come. Where that isn't found it counts no further, and remembers it.
 #[derive(Drop)]
-pub struct DataRefs {
+pub struct RefCounter {
     role: u8,
     counts: Counts,
     lacks_memory: bool,
     ghost few: { role < 16 },
 }
 
-impl DataRefs {
-    ghost use Rattle.pd_refs.specs.Watched.{AreCounted, HasSeen, lacks_memory_in, role_of};
+impl RefCounter {
+    ghost use Rattle.pd_refs.specs.Counter.{HasSeen, is_lacking};
 
-    /// A counter of so many data blocks, for the blocks in a role below 16. It takes the memory of the list of counts.
+    /// A counter for a format of so many data blocks, which blocks name in this role alone. It takes the memory of the
+    /// list of counts.
     ///
     /// Fails with `AllocError` where that memory wasn't found.
-    pub fn new(alloc: Global, role: u8, data_blocks: u64) -> Result<DataRefs, AllocError>
+    pub fn new(alloc: Global, role: u8, data_blocks: u64) -> Result<RefCounter, AllocError>
         requires { role < 16 }
-        ensures role { IfOk result (λ refs. role_of refs ≡ role) }
-        ensures memory { IfOk result (λ refs. lacks_memory_in refs ≡ false) }
-        ensures unseen { IfOk result (λ refs. (graph : Graph) (image : List (List ℕ)) → graph.data_blocks ≡ data_blocks
-            → HasSeen refs graph image no_pairs) }
+        ensures memory { IfOk result (λ counter. is_lacking counter ≡ false) }
+        ensures unseen { IfOk result (λ counter. (graph : Graph) (image : List (List ℕ)) → graph.data_blocks ≡ data_blocks
+            → (0 < data_blocks → NamesDataIn graph role) → HasSeen counter graph image no_pairs) }
     {
-        Ok(DataRefs {
+        Ok(RefCounter {
             role,
             counts: Counts::new(alloc, data_blocks)?,
             lacks_memory: false,
         })
     }
 
-    /// The counts of all that it was shown.
+    /// The counts, after a walk that showed it each reached block.
     ///
     /// Fails with `AllocError` where memory wasn't found on the way.
     pub fn counts(self) -> Result<Counts, AllocError>
-        ensures counted { IfOk result (λ counts. (graph : Graph) (image : List (List ℕ)) (pairs : ℕ → Bool)
-            → HasSeen self graph image pairs → AreCounted counts graph image (role_of self) pairs) }
-        ensures memory { OnErr result (lacks_memory_in self ≡ true) }
+        ensures counted { IfOk result (λ counts. (graph : Graph) (image : List (List ℕ)) → HasSeen self graph image (is_reached graph image)
+            → HasDataCounts counts graph image) }
+        ensures memory { OnErr result (is_lacking self ≡ true) }
     {
         if self.lacks_memory {
             return Err(AllocError);
@@ -57,8 +58,8 @@ impl DataRefs {
     }
 }
 
-impl Watch for DataRefs {
-    ghost use Rattle.pd_refs.specs.Watched.{HasSeen, same_seen};
+impl Watch for RefCounter {
+    ghost use Rattle.pd_refs.specs.Counter.{HasSeen, same_seen};
 
     ghost has_seen = { HasSeen };
 

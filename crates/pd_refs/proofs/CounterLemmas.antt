@@ -14,9 +14,7 @@ use Rattle.pd_graph.specs.Weight.{weigh}
 use Rattle.pd_graph.proofs.BitLemmas.{differ, pair_role}
 use Rattle.pd_graph.proofs.Weights.{count_weighs, more_weight, none_weigh, same_weight}
 use Rattle.pd_count.specs.Counted.{Counted, HasCounted}
-use Rattle.pd_refs.specs.Refs.{refs_at, refs_before, refs_in}
-use Rattle.pd_refs.specs.declared.watching.DataRefs.{DataRefs}
-use Rattle.pd_refs.specs.Watched.{AreCounted, HasSeen, role_of}
+use Rattle.pd_refs.specs.Refs.{AreCounted, refs_before, refs_in}
 use Rattle.pd_refs.proofs.RefsLemmas.{few_refs}
 use Rattle.pd_refs.proofs.RoleLemmas.{passing}
 

@@ -1,7 +1,0 @@
-use Rattle.std.proofs.Common.{sym, ◌∙◌}
-use Rattle.pd_refs.proofs.WatchLemmas.{no_pairs_counted}
-use Rattle.pd_refs.proofs.watching.DataRefs.new.Goals as goal
-
-pub returns-clause-unseen : goal.returns-clause-unseen
-returns-clause-unseen c =
-    λ graph image same enough. no_pairs_counted graph image c.args.role c.in_ok-new.field-0 (c.in_ok-new.ensures.size ∙ sym same) c.in_ok-new.ensures.none
