@@ -28,7 +28,10 @@ use std::alloc::{AllocError, Global};
 
 /// A counter of the references to data blocks, where this is block 0; it counts none where this kind has none. Want of
 /// memory is the only error.
-pub(crate) fn ref_counter<M: Metadata>(alloc: Global, first: &Block) -> Result<RefCounter, AllocError>
+pub(crate) fn ref_counter<M: Metadata>(
+    alloc: Global,
+    first: &Block,
+) -> Result<RefCounter, AllocError>
     ensures { IfOk result (λ counter. (image : List (List ℕ)) → HasSeen counter (graph_of_super M.kind first.now.0) image no_pairs) }
 {
     match M::data_space(first) {

@@ -11,7 +11,8 @@ ghost use Rattle.pd_check.specs.Whole.{IsWhole};
 use pd_laws::trees_are_in_order;
 use pd_tree::{formats_have_trees, superblocks_lead_to_reached_roots};
 use pd_whole::{
-    bitmaps_are_named_once, nodes_of_reached_trees_are_reached_once, reached_blocks_are_no_more_than_nodes, trees_and_indices_name_blocks,
+    bitmaps_are_named_once, nodes_of_reached_trees_are_reached_once,
+    reached_blocks_are_no_more_than_nodes, trees_and_indices_name_blocks,
 };
 
 /// Where no block breaks a rule up to those of the whole image, the blocks that are read to compare counts with references

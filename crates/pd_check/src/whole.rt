@@ -57,7 +57,9 @@ pub(crate) fn check_whole<M: Metadata, D: Device>(
     ensures kept { OnlyReads (D.state dev.old) (D.state dev.new) }
     ensures faults { CountsCheckFault result (D.state dev.old).faults (D.state dev.new).faults }
 {
-    let (_audit, report, _watch) = whole_looked::<M, D, NoWatch>(alloc, dev, first, blocks, NoWatch)?;
+    let (_audit, report, _watch) = whole_looked::<M, D, NoWatch>(
+        alloc, dev, first, blocks, NoWatch,
+    )?;
     Ok(report)
 }
 
@@ -102,7 +104,13 @@ pub(crate) fn whole_looked<M: Metadata, D: Device, W: Watch + Drop>(
         first: room,
         second: watch,
     };
-    let (mut audit, report) = looked_at(alloc, dev, &M::format(first, blocks), Stage::Order, &mut both)?;
+    let (mut audit, report) = looked_at(
+        alloc,
+        dev,
+        &M::format(first, blocks),
+        Stage::Order,
+        &mut both,
+    )?;
     let Both {
         first: room,
         second: watch,
@@ -141,7 +149,9 @@ pub(crate) fn check_counts<M: Metadata, D: Device>(
         Ok(counter) => counter,
         Err(_) => return Err(CheckFault::Memory),
     };
-    let (audit, report, counter) = whole_looked::<M, D, RefCounter>(alloc, dev, first, blocks, counter)?;
+    let (audit, report, counter) = whole_looked::<M, D, RefCounter>(
+        alloc, dev, first, blocks, counter,
+    )?;
     if !report.is_empty() {
         return Ok(report);
     }
