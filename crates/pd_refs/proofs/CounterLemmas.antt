@@ -1,15 +1,14 @@
 -- What a counter knows of the references, as a walk shows it one block more.
 use Rattle.pd_kinds.specs.declared.limits.TheConstants.{MAX_META_BLOCKS}
-use Rattle.std.proofs.Common.{◌≡◌, ℕ, ◌+◌, ◌*◌, ◌-◌, ◌%◌, ◌^◌, ◌<◌, ◌≤◌, Bool, true, false, ◌||◌, nat_eq, List, [], ◌∷◌, ◌++◌, length, ap, sym, ◌∙◌, refl, subst, arith, inl, inr, append-nil, cond, eq-eqb}
+use Rattle.std.proofs.Common.{◌≡◌, ℕ, ◌+◌, ◌*◌, ◌-◌, ◌%◌, ◌^◌, ◌<◌, ◌≤◌, Bool, false, ◌||◌, nat_eq, List, [], ◌∷◌, ◌++◌, length, ap, sym, ◌∙◌, refl, subst, arith, inl, inr, append-nil, cond, eq-eqb}
 use Rattle.std.proofs.Math.Bool.{or-false}
 use Rattle.std.specs.List.{AllByRecursion, count_by, range_with_len}
 use Rattle.std.proofs.lemmas.Bool.{cases_Bool, cases_eq}
 use Rattle.std.proofs.lemmas.List.Sums.{sum_by-append}
 use Rattle.pd_kinds.specs.Graph.{Graph, block_at, pair}
-use Rattle.pd_kinds.specs.declared.rule.Rule.{Rule}
 use Rattle.pd_kinds.specs.Lawful.{IsLawful, KeepsLaws}
 use Rattle.pd_graph.specs.Format.{AreContents, Contents, IsSound}
-use Rattle.pd_graph.specs.Watch.{AreSame, IsOneMore, no_pairs}
+use Rattle.pd_graph.specs.Watch.{IsOneMore, no_pairs}
 use Rattle.pd_graph.specs.Weight.{weigh}
 use Rattle.pd_graph.proofs.BitLemmas.{differ, pair_role}
 use Rattle.pd_graph.proofs.Weights.{count_weighs, more_weight, none_weigh, same_weight}

@@ -1,22 +1,19 @@
 -- References that are counted one after another.
-use Rattle.std.proofs.Common.{◌≡◌, ℕ, zero, suc, ◌+◌, ◌*◌, ◌-◌, ◌^◌, ◌<◌, ◌≤◌, Bool, true, false, cond, List, [], ◌∷◌, ◌++◌, length, take, get_or, Option, Some, ap, sym, ◌∙◌, refl, subst, arith, append_assoc, append-nil, length-append, inl, inr, length-take-le, None, IfSome, Result, Ok, Err}
+use Rattle.std.proofs.Common.{◌≡◌, ℕ, zero, suc, ◌+◌, ◌*◌, ◌-◌, ◌^◌, ◌<◌, ◌≤◌, Bool, cond, List, [], ◌∷◌, ◌++◌, length, take, get_or, Option, Some, ap, sym, ◌∙◌, refl, subst, arith, append_assoc, append-nil, length-append, inl, inr, length-take-le, None, IfSome, Result, Ok, Err}
 use Rattle.std.specs.Result.{OnOk}
 use Rattle.std.specs.List.{AllByRecursion, flat_map, range_with_len, count_by, slice_get}
-use Rattle.std.specs.Option.{unwrap_or}
 use Rattle.std.proofs.lemmas.Bool.{cases_Bool}
 use Rattle.std.proofs.lemmas.Grind.{flat_map-append}
 use Rattle.std.proofs.lemmas.List.{take_more}
 use Rattle.std.proofs.lemmas.List.Sums.{sum_by-append}
 use Rattle.std.proofs.lemmas.Option.{get_or_from_slice_get, slice_get_within}
-use Rattle.pd_kinds.specs.Graph.{Graph, block_at, pair, is_reached}
+use Rattle.pd_kinds.specs.Graph.{Graph, block_at, pair}
 use Rattle.pd_kinds.specs.Lawful.{IsLawful}
 use Rattle.pd_graph.specs.declared.audit.Audit.{Audit}
 use Rattle.pd_graph.specs.Audit.{roles_at}
-use Rattle.pd_graph.specs.Format.{AreContents, Contents, IsSound}
 use Rattle.pd_graph.specs.Roles.{has_bit}
 use Rattle.pd_graph.proofs.BitLemmas.{range_more}
 use Rattle.pd_count.specs.Counted.{Counted, HasCounted}
-use Rattle.pd_laws.specs.InOrder.{AreInOrder}
 use Rattle.pd_refs.specs.Refs.{number_in, refs_at, refs_before}
 
 -- an element of a list of which all have a property
