@@ -11,7 +11,7 @@ use Rattle.pd_kinds.specs.Stages.{IsReached}
 use Rattle.pd_laws.specs.InOrder.{AreInOrder}
 use Rattle.pd_laws.proofs.AllLemmas.{all_from, all_from_two}
 use Rattle.pd_graph.specs.declared.audit.Audit.{Audit}
-use Rattle.pd_graph.specs.Audit.{note_at, roles_at}
+use Rattle.pd_graph.specs.Audit.{blocks_of, note_at, roles_at}
 use Rattle.pd_graph.specs.Roles.{has_bit}
 use Rattle.pd_graph.specs.Format.{AreContents, Contents, IsSound}
 use Rattle.pd_settle.specs.Looking.{blocks_of_edges}
@@ -21,7 +21,7 @@ use Rattle.pd_arrays.specs.declared.roles.ArrayRoles.{ArrayRoles}
 use Rattle.pd_arrays.specs.declared.marks.ArrayMarks.{ArrayMarks}
 use Rattle.pd_arrays.specs.ArrayMark.{joined, mark_of, no_mark}
 use Rattle.pd_arrays.specs.ArrayMarks.{mark_at}
-use Rattle.pd_arrays.specs.Arrays.{AreMarked, AreMarkedTo, HasArrays, counts_below, most_of}
+use Rattle.pd_arrays.specs.Arrays.{AreCounted, AreMarked, AreMarkedTo, HasArrays, KeepsBlocks, counts_below, most_of}
 use Rattle.pd_arrays.proofs.MarkLemmas.{joined_marks}
 use Rattle.pd_arrays.proofs.NodeLemmas.{Names, leaf_names, inner_names, lower_kids}
 
@@ -32,6 +32,28 @@ by_names : (graph : Graph) (image : List (List ℕ)) (roles : ArrayRoles) (b rol
 by_names graph image roles b role counts cs marks names each =
     ap (joined (most_of roles) marks no_mark) names.edges
     ∙ (joined_marks (most_of roles) marks counts cs [] each ∙ ap (mark_of (most_of roles)) (sym names.below))
+
+-- another mark changes nothing elsewhere
+pub other_mark : (c b : ℕ) (mark old new : ArrayMark) → new ≡ cond (nat_eq c b) mark old → (c ≡ b → ⊥) → new ≡ old
+other_mark c b mark old new is ne = is ∙ ap (λ (t : Bool). cond t mark old) (ne_eqb c b ne)
+
+pub this_mark : (b : ℕ) (mark old new : ArrayMark) → new ≡ cond (nat_eq b b) mark old → new ≡ mark
+this_mark b mark old new is = is ∙ ap (λ (t : Bool). cond t mark old) (eq-eqb b b refl)
+
+-- another mark of a node is none of a block of arrays with nodes in another role
+pub blocks_kept : (audit : Audit) (roles : ArrayRoles) (b : ℕ) (mark : ArrayMark) (old new : ArrayMarks) → roles.nodes < 16 → b < blocks_of audit
+    → has_bit (roles_at audit b) roles.nodes ≡ true → ((c : ℕ) → mark_at new c ≡ cond (nat_eq c b) mark (mark_at old c)) → KeepsBlocks audit roles old new
+blocks_kept audit roles b mark old new few within met sets = λ graph image others known apart counted. record {
+  blocks = λ c there. elim (cases_eq c b) [
+    | inl same ↦
+        let number = known.number in
+        let block : c < graph.nr = omega arith in
+        let here : has_bit (roles_at audit c) roles.nodes ≡ true = subst (λ (d : ℕ). has_bit (roles_at audit d) roles.nodes ≡ true) (sym same) met in
+        let node : IsReached graph image c roles.nodes = record { block = block; within = few; found = sym (known.roles c roles.nodes block few) ∙ here } in
+        absurd (apart (known.alone c roles.nodes others.blocks node there))
+    | inr ne ↦ other_mark c b mark (mark_at old c) (mark_at new c) (sets c) ne ∙ counted.blocks c there
+  ];
+}
 
 module _ (graph : Graph) (image : List (List ℕ)) (audit : Audit) (roles : ArrayRoles) (has : HasArrays graph image audit roles) where
   -- a block that was met in a role is reached in it
@@ -80,25 +102,15 @@ module _ (graph : Graph) (image : List (List ℕ)) (audit : Audit) (roles : Arra
       ∙ (ap (λ (edges : List Edge). joined (most_of roles) (mark_at marks) no_mark (blocks_of_edges edges)) same
       ∙ node_mark b height b marks reached at_height (sounds graph image b roles.nodes has.known.lawful has.ordered reached) (leads graph image b roles.nodes has.known.lawful reached) before))
 
-  -- another mark changes nothing elsewhere
-  other_mark : (c b : ℕ) (mark old new : ArrayMark) → new ≡ cond (nat_eq c b) mark old → (c ≡ b → ⊥) → new ≡ old
-  other_mark c b mark old new is ne = is ∙ ap (λ (t : Bool). cond t mark old) (ne_eqb c b ne)
-
-  this_mark : (b : ℕ) (mark old new : ArrayMark) → new ≡ cond (nat_eq b b) mark old → new ≡ mark
-  this_mark b mark old new is = is ∙ ap (λ (t : Bool). cond t mark old) (eq-eqb b b refl)
-
   -- one node more
   pub marked_more : (b height : ℕ) (mark : ArrayMark) (old new : ArrayMarks) → IsReached graph image b roles.nodes → (note_at audit b).height ≡ height
       → mark ≡ mark_of (most_of roles) (counts_below graph image roles b)
       → ((c : ℕ) → mark_at new c ≡ cond (nat_eq c b) mark (mark_at old c))
       → AreMarkedTo graph image audit roles height b old → AreMarkedTo graph image audit roles height (b + 1) new
   marked_more b height mark old new reached at_height right sets before = record {
-    counted = record {
-      blocks = λ c there.
-          other_mark c b mark (mark_at old c) (mark_at new c) (sets c)
-          (λ same. has.apart (has.known.alone c roles.nodes roles.blocks (subst (λ (d : ℕ). IsReached graph image d roles.nodes) (sym same) reached) there))
-          ∙ before.counted.blocks c there;
-    };
+    counted =
+        blocks_kept audit roles b mark old new reached.within (let number = has.known.number in let block = reached.block in omega arith)
+        (met_if_reached b roles.nodes reached) sets graph image roles has.known has.apart before.counted;
     nodes = λ c there at. elim (cases_eq c b) [
       | inl same ↦
           subst (λ (d : ℕ). mark_at new d ≡ mark_of (most_of roles) (counts_below graph image roles d)) (sym same)
@@ -155,3 +167,11 @@ module _ (graph : Graph) (image : List (List ℕ)) (audit : Audit) (roles : Arra
     nodes = λ c there.
         done.nodes c there (inl (above c there.block (met_if_reached c roles.nodes there) (has.known.low c roles.nodes 8 has.tree.is_role there)));
   }
+
+  -- before the lowest height
+  pub none_marked : (marks : ArrayMarks) → AreCounted graph image roles marks → AreMarkedTo graph image audit roles 0 0 marks
+  none_marked marks counted = record { counted = counted; nodes = λ c there at. absurd (none c at) }
+    where
+      none : (c : ℕ) → ((note_at audit c).height < 0) ⊎ (((note_at audit c).height ≡ 0) × (c < 0)) → ⊥
+      none c (inl lower) = omega arith
+      none c (inr at) = let low = at.1 in omega arith

@@ -3,3 +3,4 @@ pub mod ReadLemmas
 pub mod NodeLemmas
 pub mod LevelLemmas
 pub mod JudgeLemmas
+pub mod SeenLemmas

@@ -107,6 +107,4 @@ number_stays old new role (suc n) kept =
 
 pub kind_stays : (old new : Audit) (roles : ArrayRoles) → KeepsButRules old new → kind_reads new roles ≡ kind_reads old roles
 kind_stays old new roles kept =
-    ap (λ (n : ℕ). number_in new roles.blocks n + number_in new roles.nodes n) kept.number
-    ∙ (ap (λ (m : ℕ). m + number_in new roles.nodes (blocks_of old)) (number_stays old new roles.blocks (blocks_of old) kept)
-    ∙ ap (λ (m : ℕ). number_in old roles.blocks (blocks_of old) + m) (number_stays old new roles.nodes (blocks_of old) kept))
+    ap (number_in new roles.nodes) kept.number ∙ number_stays old new roles.nodes (blocks_of old) kept

@@ -1,7 +1,8 @@
 -- The arrays of one kind in an image, and the marks of the nodes of their trees.
-use Rattle.std.specs.Prelude.{◌≡◌, ◌⊎◌, ℕ, ◌<◌, true, List, [], ◌∷◌, map, Option, Some, None}
+use Rattle.std.specs.Prelude.{◌≡◌, ◌⊎◌, ℕ, ◌<◌, Bool, true, List, [], ◌∷◌, map, Option, Some, None}
+use Rattle.std.specs.List.{AllByRecursion}
 use Rattle.pd_kinds.specs.Array.{max_words, word_count}
-use Rattle.pd_kinds.specs.Graph.{Graph, block_at}
+use Rattle.pd_kinds.specs.Graph.{Graph, block_at, pair}
 use Rattle.pd_kinds.specs.Node.{Entry}
 use Rattle.pd_kinds.specs.Stages.{IsReached}
 use Rattle.pd_kinds.specs.Trees.{entries_below}
@@ -9,8 +10,7 @@ use Rattle.pd_kinds.specs.Whole.{Array}
 use Rattle.pd_array.specs.Word.{size_of}
 use Rattle.pd_laws.specs.InOrder.{AreInOrder}
 use Rattle.pd_graph.specs.declared.audit.Audit.{Audit}
-use Rattle.pd_graph.specs.Roles.{has_bit}
-use Rattle.pd_graph.specs.Audit.{note_at, roles_at}
+use Rattle.pd_graph.specs.Audit.{note_at}
 use Rattle.pd_tree.specs.TreeRoles.{IsTreeTo}
 use Rattle.pd_whole.specs.Known.{IsKnown}
 use Rattle.pd_arrays.specs.declared.roles.ArrayRoles.{ArrayRoles}
@@ -46,15 +46,28 @@ pub record HasArrays (graph : Graph) (image : List (List ℕ)) (audit : Audit) (
   pub tree : IsTreeTo graph roles.nodes 8 roles.blocks (λ v. v)
   pub apart : roles.nodes ≡ roles.blocks → ⊥
 
--- the mark of each block before this one that was met as a block of the arrays is that of its words
-pub record AreCountedTo (image : List (List ℕ)) (audit : Audit) (roles : ArrayRoles) (before : ℕ) (marks : ArrayMarks) : Type 0 where
-  pub blocks : (b : ℕ) → b < before → has_bit (roles_at audit b) roles.blocks ≡ true
+-- where these pairs were shown, the mark of each block that is among them as a block of the arrays alone is that of its words
+pub record AreShown (roles : ArrayRoles) (image : List (List ℕ)) (pairs : ℕ → Bool) (marks : ArrayMarks) : Type 0 where
+  pub blocks : (b : ℕ) → pairs (pair b roles.blocks) ≡ true → ((other : ℕ) → other < 16 → pairs (pair b other) ≡ true → other ≡ roles.blocks)
       → mark_at marks b ≡ mark_of (most_of roles) (word_count (size_of roles.word) (block_at image b) ∷ [])
 
--- the mark of each block of the arrays is
+-- the mark of each block of the arrays is that of its words
 pub record AreCounted (graph : Graph) (image : List (List ℕ)) (roles : ArrayRoles) (marks : ArrayMarks) : Type 0 where
   pub blocks : (b : ℕ) → IsReached graph image b roles.blocks
       → mark_at marks b ≡ mark_of (most_of roles) (word_count (size_of roles.word) (block_at image b) ∷ [])
+
+-- so of each of these kinds
+abbrev pub AreAllShown : List ArrayRoles → List (List ℕ) → (ℕ → Bool) → ArrayMarks → Type 0
+AreAllShown kinds image pairs marks = AllByRecursion (λ (kind : ArrayRoles). AreShown kind image pairs marks) kinds
+
+abbrev pub AreAllCounted : List ArrayRoles → Graph → List (List ℕ) → ArrayMarks → Type 0
+AreAllCounted kinds graph image marks = AllByRecursion (λ (kind : ArrayRoles). AreCounted graph image kind marks) kinds
+
+-- what is known so of the blocks of other arrays stays while nodes of these are marked
+abbrev pub KeepsBlocks : Audit → ArrayRoles → ArrayMarks → ArrayMarks → Type 0
+KeepsBlocks audit roles old new =
+    (graph : Graph) (image : List (List ℕ)) (others : ArrayRoles) → IsKnown graph image audit → (roles.nodes ≡ others.blocks → ⊥)
+    → AreCounted graph image others old → AreCounted graph image others new
 
 -- the mark of each node of their trees is that of the blocks that stand below it
 pub record AreMarked (graph : Graph) (image : List (List ℕ)) (roles : ArrayRoles) (marks : ArrayMarks) : Type 0 where

@@ -1,10 +1,10 @@
 -- How many blocks are read at the most to mark the arrays of one kind.
-use Rattle.std.specs.Prelude.{ℕ, ◌+◌}
+use Rattle.std.specs.Prelude.{ℕ}
 use Rattle.pd_graph.specs.declared.audit.Audit.{Audit}
 use Rattle.pd_graph.specs.Audit.{blocks_of}
 use Rattle.pd_refs.specs.Refs.{number_in}
 use Rattle.pd_arrays.specs.declared.roles.ArrayRoles.{ArrayRoles}
 
--- the blocks of the arrays, and the nodes of their trees
+-- the nodes of their trees
 abbrev pub kind_reads : Audit → ArrayRoles → ℕ
-kind_reads audit roles = number_in audit roles.blocks (blocks_of audit) + number_in audit roles.nodes (blocks_of audit)
+kind_reads audit roles = number_in audit roles.nodes (blocks_of audit)

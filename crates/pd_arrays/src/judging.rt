@@ -11,7 +11,7 @@ ghost use Rattle.pd_whole.specs.Charges.{Charges};
 ghost use Rattle.pd_arrays.specs.declared.roles.ArrayRoles.{ArrayRoles as Kind};
 ghost use Rattle.pd_arrays.specs.ArrayMarks.{places_of};
 ghost use Rattle.pd_arrays.specs.KindReads.{kind_reads};
-ghost use Rattle.pd_arrays.specs.Arrays.{AreMarked, HasArrays, array_of, lengths_of};
+ghost use Rattle.pd_arrays.specs.Arrays.{AreCounted, AreMarked, HasArrays, KeepsBlocks, array_of, lengths_of};
 
 use crate::filling::fill_marks;
 use crate::marks::ArrayMarks;
@@ -82,8 +82,8 @@ pub fn check_array(
     }
 }
 
-/// Marks the arrays of one kind, and gives the root of one of them the rules Index and Length, where it breaks them: it
-/// must have so many words, where a number is given. It takes no memory.
+/// Marks the nodes of the trees of one kind of arrays, and gives the root of one of them the rules Index and Length, where
+/// it breaks them: it must have so many words, where a number is given. It takes no memory.
 ///
 /// What it says of content holds where the audit knows what the device holds, and nothing there is out of order; over
 /// any other device or audit it is safe.
@@ -101,13 +101,13 @@ pub fn mark_array<F: Format, D: Device>(
     requires places { places_of marks.old ≡ blocks_of audit.old }
     requires within { blocks_of audit.old ≤ (D.state dev.old).blocks }
     requires nodes { roles.nodes < F.ROLES }
-    requires blocks { roles.blocks < F.ROLES }
     ensures charges { OnOk result (IfSome (D.state dev.old).held (λ image. HasArrays (F.graph format.now) image audit.old roles
-        → IsReached (F.graph format.now) image root roles.nodes
+        → AreCounted (F.graph format.now) image roles marks.old → IsReached (F.graph format.now) image root roles.nodes
         → Charges (array_whole (F.graph format.now) image (array_of roles root (lengths_of words))) audit.old audit.new)) }
+    ensures blocks { KeepsBlocks audit.old roles marks.old marks.new }
     ensures places { places_of marks.new ≡ places_of marks.old }
 
-    // Each block of an array and each node is read once at most, also where a read failed.
+    // Each node is read once at most, also where a read failed.
     ensures reads { (D.state dev.new).reads ≤ (D.state dev.old).reads + kind_reads audit.old roles }
     ensures rules { KeepsButRules audit.old audit.new }
     ensures kept { OnlyReads (D.state dev.old) (D.state dev.new) }

@@ -1,5 +1,5 @@
-//! The rules of arrays in any format: how full the blocks of an array are is marked for each node of its tree once,
-//! however many arrays share the node.
+//! The rules of arrays in any format: how many words a block of an array has is marked when a walk shows the block, and
+//! how full the blocks of an array are for each node of its tree once, however many arrays share the node.
 #![tactic(auto)]
 
 mod filling;
@@ -9,7 +9,7 @@ mod marks;
 mod nodes;
 mod roles;
 
-pub use filling::fill_marks;
+pub use filling::{fill_marks, shown_blocks_are_counted};
 pub use judging::{check_array, has_words, is_index_bad, mark_array};
 pub use mark::ArrayMark;
 pub use marks::ArrayMarks;

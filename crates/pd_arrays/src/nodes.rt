@@ -8,7 +8,7 @@ ghost use Rattle.pd_graph.specs.Audit.{blocks_of, note_at, roles_at};
 ghost use Rattle.pd_settle.specs.Looking.{blocks_of_edges};
 ghost use Rattle.pd_arrays.specs.ArrayMark.{joined, no_mark};
 ghost use Rattle.pd_arrays.specs.ArrayMarks.{mark_at, places_of};
-ghost use Rattle.pd_arrays.specs.Arrays.{AreMarkedTo, HasArrays};
+ghost use Rattle.pd_arrays.specs.Arrays.{AreMarkedTo, HasArrays, KeepsBlocks};
 ghost use Rattle.pd_arrays.specs.Reads.{is_at, is_under, number_where};
 
 use crate::mark::ArrayMark;
@@ -111,6 +111,7 @@ fn mark_node<F: Format, D: Device>(
     ensures marked { OnOk result (IfSome (D.state dev.old).held (λ image. HasArrays (F.graph format.now) image audit.now roles
         → AreMarkedTo (F.graph format.now) image audit.now roles height b marks.old
         → AreMarkedTo (F.graph format.now) image audit.now roles height (b + 1) marks.new)) }
+    ensures blocks { KeepsBlocks audit.now roles marks.old marks.new }
     ensures places { places_of marks.new ≡ places_of marks.old }
     ensures reads { (D.state dev.new).reads + number_where (is_at audit.now roles.nodes height) b
         ≤ (D.state dev.old).reads + number_where (is_at audit.now roles.nodes height) (b + 1) }
@@ -146,6 +147,7 @@ pub(crate) fn mark_level<F: Format, D: Device>(
     ensures marked { OnOk result (IfSome (D.state dev.old).held (λ image. HasArrays (F.graph format.now) image audit.now roles
         → AreMarkedTo (F.graph format.now) image audit.now roles height 0 marks.old
         → AreMarkedTo (F.graph format.now) image audit.now roles (height + 1) 0 marks.new)) }
+    ensures blocks { KeepsBlocks audit.now roles marks.old marks.new }
     ensures places { places_of marks.new ≡ places_of marks.old }
     ensures reads { (D.state dev.new).reads + number_where (is_under audit.now roles.nodes height) (blocks_of audit.now)
         ≤ (D.state dev.old).reads + number_where (is_under audit.now roles.nodes (height + 1)) (blocks_of audit.now) }

@@ -55,35 +55,22 @@ module _ (graph : Graph) (image : List (List ℕ)) (audit : Audit) (fields : Cac
       ((refl, tt), (tt, tt)) in
       omega arith
 
-  -- and those of all arrays
-  all_parts : length (part 1).blocks + (length (part 2).blocks + (length (part 3).blocks + (length (part 4).blocks
-      + (length (part 5).blocks + (length (part 6).blocks + (length (part 10).blocks + length (part 11).blocks)))))) ≤ length (nodes graph image)
+  -- and the nodes of all arrays
+  all_parts : length (part 1).blocks + (length (part 3).blocks + (length (part 5).blocks + length (part 10).blocks)) ≤ length (nodes graph image)
   unfolding part IsDistinct
   all_parts =
-      let all = no_more graph image (part 1 ∷ part 2 ∷ part 3 ∷ part 4 ∷ part 5 ∷ part 6 ∷ part 10 ∷ part 11 ∷ [])
-      (once 1 (omega arith), (once 2 (omega arith), (once 3 (omega arith), (once 4 (omega arith), (once 5 (omega arith), (once 6 (omega arith), (once 10 (omega arith), (once 11 (omega arith), tt)))))))) (
-        (refl, (refl, (refl, (refl, (refl, (refl, (refl, tt))))))),
+      let all = no_more graph image (part 1 ∷ part 3 ∷ part 5 ∷ part 10 ∷ [])
+      (once 1 (omega arith), (once 3 (omega arith), (once 5 (omega arith), (once 10 (omega arith), tt)))) (
+        (refl, (refl, (refl, tt))),
         (
-          (refl, (refl, (refl, (refl, (refl, (refl, tt)))))),
-          (
-            (refl, (refl, (refl, (refl, (refl, tt))))),
-            (
-              (refl, (refl, (refl, (refl, tt)))),
-              (
-                (refl, (refl, (refl, tt))),
-                (
-                  (refl, (refl, tt)),
-                  ((refl, tt), (tt, tt)),
-                ),
-              ),
-            ),
-          ),
+          (refl, (refl, tt)),
+          ((refl, tt), (tt, tt)),
         ),
       ) in
       omega arith
 
   pub read_twice : origin_reads audit image fields.mapping_root + arrays_reads audit ≤ 2 * length (nodes graph image)
-  read_twice = omega (arith, first_parts, all_parts, number 1, number 2, number 3, number 4, number 5, number 6, number 10, number 11)
+  read_twice = omega (arith, first_parts, all_parts, number 1, number 2, number 3, number 5, number 10)
 
 -- the number of metadata blocks
 pub blocks_are : (first : List ℕ) → (cache_graph first).nr ≡ (cache_fields first).meta_map.blocks

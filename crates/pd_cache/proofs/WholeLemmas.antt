@@ -22,11 +22,13 @@ use Rattle.pd_whole.specs.Charges.{Charges}
 use Rattle.pd_whole.proofs.ChargeLemmas.{charges_then}
 use Rattle.pd_whole.proofs.KnownLemmas.{known_stays}
 use Rattle.pd_arrays.specs.declared.roles.ArrayRoles.{ArrayRoles}
-use Rattle.pd_arrays.specs.Arrays.{HasArrays, array_of}
+use Rattle.pd_arrays.specs.declared.marks.ArrayMarks.{ArrayMarks}
+use Rattle.pd_arrays.specs.Arrays.{AreAllCounted, AreCounted, HasArrays, KeepsBlocks, array_of}
 use Rattle.pd_arrays.proofs.ReadLemmas.{kind_stays}
+use Rattle.pd_arrays.proofs.SeenLemmas.{counted_kept}
 use Rattle.pd_cache.specs.Words.{block_origins, origins_in}
 use Rattle.pd_cache.specs.Meeting.{IsMapBlock, blocks_named}
-use Rattle.pd_cache.specs.Whole.{IsKnownCache, IsReady, arrays_reads, discards, dirty_bits, hints, mappings, origin_test}
+use Rattle.pd_cache.specs.Whole.{IsKnownCache, IsReady, arrays, arrays_reads, discards, dirty_bits, hints, mappings, origin_test}
 
 -- what is known of a cache stays while rules are added
 pub ready_stays : (graph : Graph) (image : List (List ℕ)) (fields : CacheFields) (old new : Audit) → IsReady graph image old fields → KeepsButRules old new → IsReady graph image new fields
@@ -68,12 +70,16 @@ arrays_tests f m h d y =
     (sym (flat_map-append f h (d ++ y) ∙ ap (λ (ts : List WholeTest). flat_map f h ++ ts) (flat_map-append f d y))))
 
 -- what a call charged for roles and a number that it was given
-pub kind_charged : (held : Option (List (List ℕ))) (graph : Graph) (a b : Audit) (given roles : ArrayRoles) (root words n : ℕ) → given ≡ roles → words ≡ n
-    → IfSome held (λ image. HasArrays graph image a given → IsReached graph image root given.nodes → Charges (array_whole graph image (array_of given root (words ∷ []))) a b)
-    → IfSome held (λ image. HasArrays graph image a roles → IsReached graph image root roles.nodes → Charges (array_whole graph image (array_of roles root (n ∷ []))) a b)
-kind_charged held graph a b given roles root words n same is charged =
-    subst (λ (k : ArrayRoles). IfSome held (λ image. HasArrays graph image a k → IsReached graph image root k.nodes → Charges (array_whole graph image (array_of k root (n ∷ []))) a b)) same
-    (subst (λ (m : ℕ). IfSome held (λ image. HasArrays graph image a given → IsReached graph image root given.nodes → Charges (array_whole graph image (array_of given root (m ∷ []))) a b)) is charged)
+pub kind_charged : (held : Option (List (List ℕ))) (graph : Graph) (a b : Audit) (marks : ArrayMarks) (given roles : ArrayRoles) (root words n : ℕ) → given ≡ roles → words ≡ n
+    → IfSome held (λ image. HasArrays graph image a given → AreCounted graph image given marks → IsReached graph image root given.nodes
+    → Charges (array_whole graph image (array_of given root (words ∷ []))) a b)
+    → IfSome held (λ image. HasArrays graph image a roles → AreCounted graph image roles marks → IsReached graph image root roles.nodes
+    → Charges (array_whole graph image (array_of roles root (n ∷ []))) a b)
+kind_charged held graph a b marks given roles root words n same is charged =
+    subst (λ (k : ArrayRoles). IfSome held (λ image. HasArrays graph image a k → AreCounted graph image k marks → IsReached graph image root k.nodes
+    → Charges (array_whole graph image (array_of k root (n ∷ []))) a b)) same
+    (subst (λ (m : ℕ). IfSome held (λ image. HasArrays graph image a given → AreCounted graph image given marks → IsReached graph image root given.nodes
+    → Charges (array_whole graph image (array_of given root (m ∷ []))) a b)) is charged)
 
 -- one array is a list of arrays
 pub one_array : (f : Array → List WholeTest) (a : Array) (old new : Audit) → Charges (f a) old new → Charges (flat_map f (a ∷ [])) old new
@@ -118,11 +124,25 @@ origin_charged graph image old new root repeated items has are reached says =
     subst (λ (fails : Bool). Charges (record { block = root; rule = r.Origin; fails = fails } ∷ []) old new)
     (found ∙ ap has_repeat (ap (origins_in image) blocks ∙ origins_of image entries))
 
-pub optional_charged : (held : Option (List (List ℕ))) (graph : Graph) (a b : Audit) (given roles : ArrayRoles) (root : ℕ) → given ≡ roles
-    → IfSome held (λ image. HasArrays graph image a given → ((root ≡ 0 → ⊥) → IsReached graph image root given.nodes)
+pub optional_charged : (held : Option (List (List ℕ))) (graph : Graph) (a b : Audit) (marks : ArrayMarks) (given roles : ArrayRoles) (root : ℕ) → given ≡ roles
+    → IfSome held (λ image. HasArrays graph image a given → AreCounted graph image given marks → ((root ≡ 0 → ⊥) → IsReached graph image root given.nodes)
     → Charges (flat_map (array_whole graph image) (optional_array given.nodes root (size_of given.word) [])) a b)
-    → IfSome held (λ image. HasArrays graph image a roles → ((root ≡ 0 → ⊥) → IsReached graph image root roles.nodes)
+    → IfSome held (λ image. HasArrays graph image a roles → AreCounted graph image roles marks → ((root ≡ 0 → ⊥) → IsReached graph image root roles.nodes)
     → Charges (flat_map (array_whole graph image) (optional_array roles.nodes root (size_of roles.word) [])) a b)
-optional_charged held graph a b given roles root same =
-    subst (λ (k : ArrayRoles). IfSome held (λ image. HasArrays graph image a k → ((root ≡ 0 → ⊥) → IsReached graph image root k.nodes)
+optional_charged held graph a b marks given roles root same =
+    subst (λ (k : ArrayRoles). IfSome held (λ image. HasArrays graph image a k → AreCounted graph image k marks → ((root ≡ 0 → ⊥) → IsReached graph image root k.nodes)
     → Charges (flat_map (array_whole graph image) (optional_array k.nodes root (size_of k.word) [])) a b)) same
+
+-- what is known of a cache and of the marks of its arrays' blocks
+abbrev pub IsCounted : Graph → List (List ℕ) → CacheFields → Audit → ArrayMarks → Type 0
+IsCounted graph image fields audit marks = IsReady graph image audit fields × AreAllCounted arrays graph image marks
+
+-- stays while nodes of one kind are marked and rules are added
+pub counted_stays : (graph : Graph) (image : List (List ℕ)) (fields : CacheFields) (old new : Audit) (before after : ArrayMarks) (given roles : ArrayRoles) → given ≡ roles
+    → AllByRecursion (λ (kind : ArrayRoles). roles.nodes ≡ kind.blocks → ⊥) arrays → KeepsBlocks old given before after → KeepsButRules old new
+    → IsCounted graph image fields old before → IsCounted graph image fields new after
+counted_stays graph image fields old new before after given roles same apart keeps kept counted = (
+  ready_stays graph image fields old new counted.0 kept,
+  counted_kept graph image old roles arrays before after counted.0.cache.known
+      (subst (λ (k : ArrayRoles). KeepsBlocks old k before after) same keeps) apart counted.1,
+)

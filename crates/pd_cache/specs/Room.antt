@@ -1,7 +1,6 @@
 -- The memory in which the rules of a whole cache are looked at.
-use Rattle.std.specs.Prelude.{◌≡◌, ℕ, ◌≤◌, List}
+use Rattle.std.specs.Prelude.{◌≡◌, ℕ, ◌≤◌}
 use Rattle.pd_kinds.specs.declared.limits.TheConstants.{MAX_META_BLOCKS}
-use Rattle.pd_kinds.specs.CacheFormat.{cache_fields}
 use Rattle.pd_arrays.specs.ArrayMarks.{places_of as marks_of}
 use Rattle.pd_cache.specs.declared.room.CacheRoom.{CacheRoom}
 use Rattle.pd_cache.specs.Origins.{places_of}
@@ -13,6 +12,6 @@ pub record IsRoomFor (nr : ℕ) (room : CacheRoom) : Type 0 where
   pub origins : places_of room.origins ≡ nr
   pub fresh : IsFresh room.origins
 
--- of as many as the superblock says, where there may be so many
-abbrev pub IsEnough : CacheRoom → List ℕ → Type 0
-IsEnough room first = (cache_fields first).meta_map.blocks ≤ MAX_META_BLOCKS → IsRoomFor (cache_fields first).meta_map.blocks room
+-- of so many, where there may be so many
+abbrev pub HasRoom : CacheRoom → ℕ → Type 0
+HasRoom room nr = nr ≤ MAX_META_BLOCKS → IsRoomFor nr room

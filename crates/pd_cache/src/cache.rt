@@ -3,20 +3,22 @@
 ghost use Rattle.std.specs.Prelude.{◌≡◌, ℕ, ◌+◌, ◌*◌, ◌≤◌, List, length, IfSome, OnOk};
 ghost use Rattle.pd_kinds.specs.declared.kind.Kind.TheVariants.{Cache};
 ghost use Rattle.pd_kinds.specs.CacheFormat.{CacheFields, cache_fields, cache_graph};
-ghost use Rattle.pd_kinds.specs.Graph.{Graph, nodes};
+ghost use Rattle.pd_kinds.specs.Graph.{Graph, is_reached, nodes};
 ghost use Rattle.pd_kinds.specs.Objects.{CountsFault};
 ghost use Rattle.pd_kinds.specs.Stages.{checked_of};
 ghost use Rattle.pd_image.specs.Device.{IsAttached, OnlyReads};
 ghost use Rattle.pd_graph.specs.declared.audit.Audit.{Audit as TheAudit};
 ghost use Rattle.pd_graph.specs.Audit.{blocks_of, KeepsButRules};
 ghost use Rattle.pd_whole.specs.Charges.{Charges};
+ghost use Rattle.pd_arrays.specs.Arrays.{AreAllShown};
 ghost use Rattle.pd_check.specs.Whole.{IsOrdered};
-ghost use Rattle.pd_cache.specs.Room.{IsEnough};
-ghost use Rattle.pd_cache.specs.Whole.{IsReady, arrays_reads, origin_reads};
+ghost use Rattle.pd_cache.specs.Room.{HasRoom};
+ghost use Rattle.pd_cache.specs.Whole.{IsReady, arrays, arrays_reads, origin_reads};
 
 use crate::format::CacheFormat;
 use crate::room::CacheRoom;
 use crate::whole::mark_cache;
+use pd_arrays::shown_blocks_are_counted;
 use pd_graph::Audit;
 use pd_image::{Device, Failed};
 use pd_kinds::Block;
@@ -56,11 +58,12 @@ pub(crate) fn mark_by_super<D: Device>(
     audit: &mut Audit,
     dev: &mut D,
 ) -> Result<(), Failed>
-    requires enough { IsEnough room.old b.now.0 }
+    requires room { HasRoom room.old (cache_graph b.now.0).nr }
     requires attached { IsAttached (D.state dev.old) }
     requires number { blocks_of audit.old ≡ (cache_graph b.now.0).nr }
     requires within { (cache_graph b.now.0).nr ≤ (D.state dev.old).blocks }
     ensures charges { OnOk result (IfSome (D.state dev.old).held (λ image. IsOrdered Cache b.now.0 image audit.old
+        → AreAllShown arrays image (is_reached (cache_graph b.now.0) image) room.old.marks
         → Charges (checked_of Cache image).whole audit.old audit.new)) }
     ensures reads { IfSome (D.state dev.old).held (λ image. IsOrdered Cache b.now.0 image audit.old
         → (D.state dev.new).reads ≤ (D.state dev.old).reads + 2 * length (nodes (cache_graph b.now.0) image)) }
@@ -70,6 +73,7 @@ pub(crate) fn mark_by_super<D: Device>(
 {
     ordered_caches_are_ready();
     rules_read_each_pair_twice();
+    shown_blocks_are_counted();
     let fields = read_cache_super(b);
     let _nr = audit.nr();
     let format = CacheFormat::of(&fields);

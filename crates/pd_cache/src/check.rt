@@ -21,15 +21,12 @@ use std::alloc::{AllocError, Global};
 
 impl Metadata for CacheTable {
     ghost use Rattle.pd_kinds.specs.declared.kind.Kind.TheVariants.{Cache};
-    ghost use Rattle.pd_cache.specs.Room.{IsEnough};
 
     type Format = CacheFormat;
 
     type Room = CacheRoom;
 
     ghost kind = { Cache };
-
-    ghost is_enough = { IsEnough };
 
     fn super_rules(b: &Block, device_blocks: u64) -> Rules {
         cache_super_rules(b, device_blocks)

@@ -11,11 +11,11 @@ ghost use Rattle.pd_array.specs.Word.{size_of};
 ghost use Rattle.pd_graph.specs.Audit.{blocks_of, KeepsButRules};
 ghost use Rattle.pd_whole.specs.Charges.{Charges};
 ghost use Rattle.pd_arrays.specs.ArrayMarks.{places_of as marks_of};
-ghost use Rattle.pd_arrays.specs.Arrays.{HasArrays};
+ghost use Rattle.pd_arrays.specs.Arrays.{AreAllCounted, AreCounted, HasArrays, KeepsBlocks};
 ghost use Rattle.pd_arrays.specs.KindReads.{kind_reads};
 ghost use Rattle.pd_cache.specs.Origins.{places_of};
 ghost use Rattle.pd_cache.specs.Meeting.{IsFresh};
-ghost use Rattle.pd_cache.specs.Whole.{IsReady, arrays_named, arrays_reads, dirty_arrays, dirty_bits as dirty_bits_of, discards as discards_of, hints as hints_of, mappings as mappings_of, origin_reads, origin_test, tests_named};
+ghost use Rattle.pd_cache.specs.Whole.{IsReady, arrays, arrays_named, arrays_reads, dirty_arrays, dirty_bits as dirty_bits_of, discards as discards_of, hints as hints_of, mappings as mappings_of, origin_reads, origin_test, tests_named};
 ghost use Rattle.pd_cache.specs.Room.{IsRoomFor};
 
 use crate::mapping::is_origin_repeated;
@@ -100,10 +100,10 @@ fn mark_optional<F: Format, D: Device>(
     requires places { marks_of marks.old ≡ blocks_of audit.old }
     requires within { blocks_of audit.old ≤ (D.state dev.old).blocks }
     requires nodes { roles.nodes < F.ROLES }
-    requires blocks { roles.blocks < F.ROLES }
     ensures charges { OnOk result (IfSome (D.state dev.old).held (λ image. HasArrays (F.graph format.now) image audit.old roles
-        → ((root ≡ 0 → ⊥) → IsReached (F.graph format.now) image root roles.nodes)
+        → AreCounted (F.graph format.now) image roles marks.old → ((root ≡ 0 → ⊥) → IsReached (F.graph format.now) image root roles.nodes)
         → Charges (flat_map (array_whole (F.graph format.now) image) (optional_array roles.nodes root (size_of roles.word) [])) audit.old audit.new)) }
+    ensures blocks { KeepsBlocks audit.old roles marks.old marks.new }
     ensures places { marks_of marks.new ≡ marks_of marks.old }
     ensures reads { (D.state dev.new).reads ≤ (D.state dev.old).reads + kind_reads audit.old roles }
     ensures rules { KeepsButRules audit.old audit.new }
@@ -130,7 +130,7 @@ fn mark_dirty_bits<F: Format, D: Device>(
     requires within { blocks_of audit.old ≤ (D.state dev.old).blocks }
     requires roles { F.ROLES ≡ 12 }
     ensures charges { OnOk result (IfSome (D.state dev.old).held (λ image. HasArrays (F.graph format.now) image audit.old dirty_bits_of
-        → (fields.now.version ≡ 2 → IsReached (F.graph format.now) image fields.now.dirty_root 10)
+        → AreCounted (F.graph format.now) image dirty_bits_of marks.old → (fields.now.version ≡ 2 → IsReached (F.graph format.now) image fields.now.dirty_root 10)
         → Charges (flat_map (array_whole (F.graph format.now) image) (dirty_arrays fields.now)) audit.old audit.new)) }
     ensures reads { (D.state dev.new).reads ≤ (D.state dev.old).reads + kind_reads audit.old dirty_bits_of }
     ensures rules { KeepsButRules audit.old audit.new }
@@ -167,7 +167,7 @@ fn mark_arrays<F: Format, D: Device>(
     requires within { blocks_of audit.old ≤ (D.state dev.old).blocks }
     requires roles { F.ROLES ≡ 12 }
     ensures charges { OnOk result (IfSome (D.state dev.old).held (λ image. IsReady (F.graph format.now) image audit.old fields.now
-        → Charges (flat_map (array_whole (F.graph format.now) image) (arrays_named fields.now)) audit.old audit.new)) }
+        → AreAllCounted arrays (F.graph format.now) image marks.old → Charges (flat_map (array_whole (F.graph format.now) image) (arrays_named fields.now)) audit.old audit.new)) }
     ensures reads { (D.state dev.new).reads ≤ (D.state dev.old).reads + arrays_reads audit.old }
     ensures rules { KeepsButRules audit.old audit.new }
     ensures kept { OnlyReads (D.state dev.old) (D.state dev.new) }
@@ -233,7 +233,7 @@ pub(crate) fn mark_cache<F: Format, D: Device>(
     requires within { blocks_of audit.old ≤ (D.state dev.old).blocks }
     requires roles { F.ROLES ≡ 12 }
     ensures charges { OnOk result (IfSome (D.state dev.old).held (λ image. IsReady (F.graph format.now) image audit.old fields.now
-        → Charges (tests_named (F.graph format.now) image fields.now) audit.old audit.new)) }
+        → AreAllCounted arrays (F.graph format.now) image room.old.marks → Charges (tests_named (F.graph format.now) image fields.now) audit.old audit.new)) }
     ensures reads { IfSome (D.state dev.old).held (λ image. (D.state dev.new).reads
         ≤ (D.state dev.old).reads + (origin_reads audit.old image fields.now.mapping_root + arrays_reads audit.old)) }
     ensures rules { KeepsButRules audit.old audit.new }

@@ -50,43 +50,36 @@ module _ (graph : Graph) (image : List (List ℕ)) (audit : Audit) (fields : Era
   snap : List ℕ → InRole
   snap blocks = record { role = 1; blocks = blocks }
 
-  -- it, the nodes of all trees, and the blocks of all arrays
+  -- it, and the nodes of all trees
   all_parts : (blocks : List ℕ) → AreReachedOnce graph image (snap blocks)
-      → length blocks + (length (part 2).blocks + (length (part 3).blocks + (length (part 4).blocks + (length (part 5).blocks + length (part 6).blocks)))) ≤ length (nodes graph image)
+      → length blocks + (length (part 2).blocks + (length (part 3).blocks + length (part 5).blocks)) ≤ length (nodes graph image)
   unfolding part snap IsDistinct
   all_parts blocks here =
-      let all = no_more graph image (snap blocks ∷ part 2 ∷ part 3 ∷ part 4 ∷ part 5 ∷ part 6 ∷ [])
-      (here, (once 2 (omega arith), (once 3 (omega arith), (once 4 (omega arith), (once 5 (omega arith), (once 6 (omega arith), tt)))))) (
-        (refl, (refl, (refl, (refl, (refl, tt))))),
+      let all = no_more graph image (snap blocks ∷ part 2 ∷ part 3 ∷ part 5 ∷ [])
+      (here, (once 2 (omega arith), (once 3 (omega arith), (once 5 (omega arith), tt)))) (
+        (refl, (refl, (refl, tt))),
         (
-          (refl, (refl, (refl, (refl, tt)))),
-          (
-            (refl, (refl, (refl, tt))),
-            (
-              (refl, (refl, tt)),
-              ((refl, tt), (tt, tt)),
-            ),
-          ),
+          (refl, (refl, tt)),
+          ((refl, tt), (tt, tt)),
         ),
       ) in
       omega arith
 
   abbrev others : ℕ
-  others = number_in audit 2 (blocks_of audit) + (number_in audit 3 (blocks_of audit) + (number_in audit 4 (blocks_of audit)
-      + (number_in audit 5 (blocks_of audit) + number_in audit 6 (blocks_of audit))))
+  others = number_in audit 2 (blocks_of audit) + (number_in audit 3 (blocks_of audit) + number_in audit 5 (blocks_of audit))
 
   -- where there is a snapshot, and where there is none
   with_snap : (fields.snap_root ≡ 0 → ⊥) → snap_reads fields.snap_root + others ≤ length (nodes graph image)
   unfolding snap IsDistinct
   with_snap some =
       let all = all_parts (fields.snap_root ∷ []) (record { reached = ((ready.snap some).reached, tt); once = (tt, tt) }) in
-      rw (ne_eqb fields.snap_root 0 some) (omega (arith, all, number 2, number 3, number 4, number 5, number 6))
+      rw (ne_eqb fields.snap_root 0 some) (omega (arith, all, number 2, number 3, number 5))
 
   without_snap : fields.snap_root ≡ 0 → snap_reads fields.snap_root + others ≤ length (nodes graph image)
   unfolding snap IsDistinct
   without_snap none =
       let all = all_parts [] (record { reached = tt; once = tt }) in
-      rw none (omega (arith, all, number 2, number 3, number 4, number 5, number 6))
+      rw none (omega (arith, all, number 2, number 3, number 5))
 
   pub read_once : whole_reads audit fields ≤ length (nodes graph image)
   read_once = elim (cases_eq fields.snap_root 0) [

@@ -11,7 +11,7 @@ ghost use Rattle.pd_check.specs.Check.{MayWantMemory, ReadsFew};
 
 use crate::era::mark_by_super;
 use crate::format::{EraFormat, EraTable};
-use pd_arrays::ArrayMarks;
+use crate::room::EraRoom;
 use pd_check::{DataSpace, Metadata, check};
 use pd_graph::Audit;
 use pd_image::{Device, Failed};
@@ -21,15 +21,12 @@ use std::alloc::{AllocError, Global};
 
 impl Metadata for EraTable {
     ghost use Rattle.pd_kinds.specs.declared.kind.Kind.TheVariants.{Era};
-    ghost use Rattle.pd_era.specs.Room.{IsEnough};
 
     type Format = EraFormat;
 
-    type Room = ArrayMarks;
+    type Room = EraRoom;
 
     ghost kind = { Era };
-
-    ghost is_enough = { IsEnough };
 
     fn super_rules(b: &Block, device_blocks: u64) -> Rules {
         era_super_rules(b, device_blocks)
@@ -47,19 +44,19 @@ impl Metadata for EraTable {
         None
     }
 
-    fn room(alloc: Global, b: &Block) -> Result<ArrayMarks, AllocError> {
+    fn room(alloc: Global, b: &Block) -> Result<EraRoom, AllocError> {
         let blocks = read_era_super(b).meta_map.blocks;
-        ArrayMarks::new(alloc, blocks.min(MAX_META_BLOCKS))
+        EraRoom::new(alloc, blocks.min(MAX_META_BLOCKS))
     }
 
     fn mark_whole<D: Device>(
-        room: ArrayMarks,
+        room: EraRoom,
         b: &Block,
         audit: &mut Audit,
         dev: &mut D,
     ) -> Result<(), Failed> {
-        let mut marks = room;
-        mark_by_super(&mut marks, b, audit, dev)
+        let mut room = room;
+        mark_by_super(&mut room.marks, b, audit, dev)
     }
 }
 

@@ -3,20 +3,21 @@
 ghost use Rattle.std.specs.Prelude.{◌≡◌, ℕ, ◌+◌, ◌≤◌, List, length, IfSome, OnOk};
 ghost use Rattle.pd_kinds.specs.declared.kind.Kind.TheVariants.{Era};
 ghost use Rattle.pd_kinds.specs.EraFormat.{EraFields, era_fields, era_graph};
-ghost use Rattle.pd_kinds.specs.Graph.{Graph, nodes};
+ghost use Rattle.pd_kinds.specs.Graph.{Graph, is_reached, nodes};
 ghost use Rattle.pd_kinds.specs.Objects.{CountsFault};
 ghost use Rattle.pd_kinds.specs.Stages.{checked_of};
 ghost use Rattle.pd_image.specs.Device.{IsAttached, OnlyReads};
 ghost use Rattle.pd_graph.specs.declared.audit.Audit.{Audit as TheAudit};
 ghost use Rattle.pd_graph.specs.Audit.{blocks_of, KeepsButRules};
 ghost use Rattle.pd_whole.specs.Charges.{Charges};
+ghost use Rattle.pd_arrays.specs.Arrays.{AreAllShown};
 ghost use Rattle.pd_check.specs.Whole.{IsOrdered};
-ghost use Rattle.pd_era.specs.Room.{IsEnough};
-ghost use Rattle.pd_era.specs.Whole.{IsReady, whole_reads};
+ghost use Rattle.pd_era.specs.Room.{HasMarks};
+ghost use Rattle.pd_era.specs.Whole.{IsReady, arrays, whole_reads};
 
 use crate::format::EraFormat;
 use crate::whole::mark_era;
-use pd_arrays::ArrayMarks;
+use pd_arrays::{ArrayMarks, shown_blocks_are_counted};
 use pd_graph::Audit;
 use pd_image::{Device, Failed};
 use pd_kinds::Block;
@@ -53,11 +54,12 @@ pub(crate) fn mark_by_super<D: Device>(
     audit: &mut Audit,
     dev: &mut D,
 ) -> Result<(), Failed>
-    requires enough { IsEnough marks.old b.now.0 }
+    requires room { HasMarks marks.old (era_graph b.now.0).nr }
     requires attached { IsAttached (D.state dev.old) }
     requires number { blocks_of audit.old ≡ (era_graph b.now.0).nr }
     requires within { (era_graph b.now.0).nr ≤ (D.state dev.old).blocks }
     ensures charges { OnOk result (IfSome (D.state dev.old).held (λ image. IsOrdered Era b.now.0 image audit.old
+        → AreAllShown arrays image (is_reached (era_graph b.now.0) image) marks.old
         → Charges (checked_of Era image).whole audit.old audit.new)) }
     ensures reads { IfSome (D.state dev.old).held (λ image. IsOrdered Era b.now.0 image audit.old
         → (D.state dev.new).reads ≤ (D.state dev.old).reads + length (nodes (era_graph b.now.0) image)) }
@@ -67,6 +69,7 @@ pub(crate) fn mark_by_super<D: Device>(
 {
     ordered_eras_are_ready();
     rules_read_each_pair_once();
+    shown_blocks_are_counted();
     let fields = read_era_super(b);
     let _nr = audit.nr();
     let format = EraFormat::of(&fields);

@@ -4,6 +4,7 @@
 mod check;
 mod era;
 mod format;
+mod room;
 mod snap;
 mod whole;
 mod writesets;
@@ -11,3 +12,4 @@ mod writesets;
 pub use check::check_era;
 pub use format::{EraFormat, EraTable};
 pub use pd_kinds::CheckFault;
+pub use room::EraRoom;

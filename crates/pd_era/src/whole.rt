@@ -11,9 +11,9 @@ ghost use Rattle.pd_graph.specs.Audit.{blocks_of, KeepsButRules};
 ghost use Rattle.pd_refs.specs.Refs.{number_in};
 ghost use Rattle.pd_whole.specs.Charges.{Charges};
 ghost use Rattle.pd_arrays.specs.ArrayMarks.{places_of};
-ghost use Rattle.pd_arrays.specs.Arrays.{AreMarked, HasArrays, array_of};
+ghost use Rattle.pd_arrays.specs.Arrays.{AreAllCounted, AreCounted, AreMarked, HasArrays, KeepsBlocks, array_of};
 ghost use Rattle.pd_arrays.specs.KindReads.{kind_reads};
-ghost use Rattle.pd_era.specs.Whole.{IsReady, bits as bits_of, current_bits, eras as eras_of, set_tests, snap_eras, snap_reads, tests_named, whole_reads};
+ghost use Rattle.pd_era.specs.Whole.{IsReady, arrays, bits as bits_of, current_bits, eras as eras_of, set_tests, snap_eras, snap_reads, tests_named, whole_reads};
 
 use crate::snap::mark_snap;
 use crate::writesets::{check_writeset, mark_writesets};
@@ -60,7 +60,9 @@ fn mark_eras<F: Format, D: Device>(
     requires within { blocks_of audit.old ≤ (D.state dev.old).blocks }
     requires roles { F.ROLES ≡ 10 }
     ensures charges { OnOk result (IfSome (D.state dev.old).held (λ image. IsReady (F.graph format.now) image audit.old fields.now
+        → AreCounted (F.graph format.now) image eras_of marks.old
         → Charges (flat_map (array_whole (F.graph format.now) image) (array_of eras_of fields.now.array_root (fields.now.blocks ∷ []) ∷ snap_eras image fields.now.snap_root)) audit.old audit.new)) }
+    ensures blocks { KeepsBlocks audit.old eras_of marks.old marks.new }
     ensures places { places_of marks.new ≡ places_of marks.old }
     ensures reads { (D.state dev.new).reads ≤ (D.state dev.old).reads + (kind_reads audit.old eras_of + snap_reads fields.now.snap_root) }
     ensures rules { KeepsButRules audit.old audit.new }
@@ -100,6 +102,7 @@ fn mark_bits<F: Format, D: Device>(
     requires within { blocks_of audit.old ≤ (D.state dev.old).blocks }
     requires roles { F.ROLES ≡ 10 }
     ensures charges { OnOk result (IfSome (D.state dev.old).held (λ image. IsReady (F.graph format.now) image audit.old fields.now
+        → AreCounted (F.graph format.now) image bits_of marks.old
         → Charges (flat_map (array_whole (F.graph format.now) image) (current_bits fields.now.current_bits fields.now.current_root)
         ++ set_tests (F.graph format.now) image (reached_writesets (F.graph format.now) image)) audit.old audit.new)) }
     ensures reads { (D.state dev.new).reads ≤ (D.state dev.old).reads + (kind_reads audit.old bits_of + number_in audit.old 2 (blocks_of audit.old)) }
@@ -127,7 +130,7 @@ pub(crate) fn mark_era<F: Format, D: Device>(
     requires within { blocks_of audit.old ≤ (D.state dev.old).blocks }
     requires roles { F.ROLES ≡ 10 }
     ensures charges { OnOk result (IfSome (D.state dev.old).held (λ image. IsReady (F.graph format.now) image audit.old fields.now
-        → Charges (tests_named (F.graph format.now) image fields.now) audit.old audit.new)) }
+        → AreAllCounted arrays (F.graph format.now) image marks.old → Charges (tests_named (F.graph format.now) image fields.now) audit.old audit.new)) }
     ensures reads { (D.state dev.new).reads ≤ (D.state dev.old).reads + whole_reads audit.old fields.now }
     ensures rules { KeepsButRules audit.old audit.new }
     ensures kept { OnlyReads (D.state dev.old) (D.state dev.new) }

@@ -20,10 +20,10 @@ pub returns-clause-marked : goal.returns-clause-marked
 returns-clause-marked g c =
     let graph = g.F.Format.graph c.args.format.now in
     let last : c.loop-height.height ≡ c.levels-height-end.result = omega (arith, c.loop-height-test.false, c.loop-height.auto.height-end) in
-    if_maps (g.D.Device.state c.args.dev.now).held _ _ (λ image marked has.
+    if_maps (g.D.Device.state c.args.dev.now).held _ _ (λ image marked has counted.
     all_marked graph image c.args.audit.now c.args.roles has c.levels-height-end.result c.loop-height.marks
     (λ b within. c.levels-height-end.ensures.above b (omega (arith, within, c.requires.number)))
-    (subst (λ h. AreMarkedTo graph image c.args.audit.now c.args.roles h 0 c.loop-height.marks) last (marked has)))
+    (subst (λ h. AreMarkedTo graph image c.args.audit.now c.args.roles h 0 c.loop-height.marks) last (marked has counted)))
     c.loop-height.invariant.marked
 
 pub returns-clause-reads : goal.returns-clause-reads

@@ -4,7 +4,7 @@ use Rattle.pd_graph.specs.Audit.{note_at, roles_at}
 use Rattle.pd_graph.specs.Roles.{has_bit}
 use Rattle.pd_refs.proofs.RefsLemmas.{if_all, if_maps}
 use Rattle.pd_arrays.specs.Reads.{is_at}
-use Rattle.pd_arrays.proofs.LevelLemmas.{marked_more, marked_still, node_right, reached_if_met}
+use Rattle.pd_arrays.proofs.LevelLemmas.{blocks_kept, marked_more, marked_still, node_right, reached_if_met}
 use Rattle.pd_arrays.proofs.ReadLemmas.{read_none, read_one}
 use Rattle.pd_arrays.proofs.nodes.mark_node.Goals as goal
 
@@ -40,3 +40,10 @@ returns-else-is_node_at-clause-marked g c =
     let graph = g.F.Format.graph c.args.format.now in
     if_all (g.D.Device.state c.args.dev.now).held _ (λ image has before.
     marked_still graph image c.args.audit.now c.args.roles has c.args.b c.args.height c.args.marks.now (sym c.is_node_at.ensures ∙ c.if-is_node_at.false) before)
+
+pub returns-in_ok-read-clause-blocks : goal.returns-in_ok-read-clause-blocks
+returns-in_ok-read-clause-blocks g c =
+    let audit = c.args.audit.now in
+    let parts =
+    and_parts (has_bit (roles_at audit c.args.b) c.args.roles.nodes) (nat_eq (note_at audit c.args.b).height c.args.height) (sym c.is_node_at.ensures ∙ c.if-is_node_at.true) in
+    blocks_kept audit c.args.roles c.args.b c.mark_below-mark.result c.args.marks.now c.set.new.self c.requires.few c.requires.block parts.0 c.set.ensures.marks

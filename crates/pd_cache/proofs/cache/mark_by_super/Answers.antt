@@ -1,10 +1,10 @@
-use Rattle.std.proofs.Common.{◌≡◌, ℕ, sym, ap, ◌∙◌, subst, arith}
+use Rattle.std.proofs.Common.{ℕ, sym, ap, ◌∙◌, subst, arith}
 use Rattle.pd_kinds.specs.CacheFormat.{CacheFields, cache_fields, cache_graph}
-use Rattle.pd_kinds.specs.Graph.{Graph}
+use Rattle.pd_kinds.specs.Graph.{Graph, is_reached}
 use Rattle.pd_refs.proofs.RefsLemmas.{if_maps, ok_maps}
-use Rattle.pd_graph.specs.Audit.{blocks_of}
+use Rattle.pd_arrays.specs.Arrays.{AreAllShown}
 use Rattle.pd_cache.specs.Room.{IsRoomFor}
-use Rattle.pd_cache.specs.Whole.{origin_reads}
+use Rattle.pd_cache.specs.Whole.{arrays, origin_reads}
 use Rattle.pd_cache.proofs.ReadyLemmas.{blocks_are, graph_is, super_charged}
 use Rattle.pd_cache.proofs.cache.mark_by_super.Goals as goal
 
@@ -23,17 +23,20 @@ mark_cache-requires-clause-number g c =
 
 pub mark_cache-requires-clause-room : goal.mark_cache-requires-clause-room
 mark_cache-requires-clause-room g c =
-    let same : blocks_of c.args.audit.now ≡ (cache_fields c.args.b.now.0).meta_map.blocks = c.requires.number ∙ blocks_are c.args.b.now.0 in
-    subst (λ (n : ℕ). IsRoomFor n c.args.room.now) (sym same) (c.requires.enough (omega (arith, same, c.nr-nr.ensures.number, c.nr-nr.ensures.few)))
+    subst (λ (n : ℕ). IsRoomFor n c.args.room.now) (sym c.requires.number) (c.requires.room (omega (arith, c.requires.number, c.nr-nr.ensures.number, c.nr-nr.ensures.few)))
 
 pub returns-clause-charges : goal.returns-clause-charges
 returns-clause-charges g c =
     let first = c.args.b.now.0 in
+    let marks = c.args.room.now.marks in
+    let graph = c.of-format.ensures ∙ graph_is first c.read_cache_super-fields.result c.read_cache_super-fields.ensures in
     ok_maps c.mark_cache.result _ _ (λ charges.
-    if_maps (g.D.Device.state c.args.dev.now).held _ _ (λ image charged ordered.
-    super_charged image first c.read_cache_super-fields.result _ c.args.audit.now c.mark_cache.new.audit c.read_cache_super-fields.ensures
-    (c.of-format.ensures ∙ graph_is first c.read_cache_super-fields.result c.read_cache_super-fields.ensures) c.ordered_caches_are_ready.ensures charged ordered)
-    charges) c.mark_cache.ensures.charges
+    if_maps (g.D.Device.state c.args.dev.now).held _ _ (λ image charged ordered shown.
+    super_charged image first c.read_cache_super-fields.result _ c.args.audit.now c.mark_cache.new.audit c.read_cache_super-fields.ensures graph c.ordered_caches_are_ready.ensures
+    (λ ready. charged ready
+    (c.shown_blocks_are_counted.ensures _ image c.args.audit.now arrays marks ready.cache.known
+    (subst (λ (g : Graph). AreAllShown arrays image (is_reached g image) marks) (sym graph) shown)))
+    ordered) charges) c.mark_cache.ensures.charges
 
 pub returns-clause-reads : goal.returns-clause-reads
 returns-clause-reads g c =

@@ -5,7 +5,7 @@ use Rattle.pd_refs.proofs.RefsLemmas.{if_all, if_maps, ok_maps}
 use Rattle.pd_whole.specs.Charges.{Charges}
 use Rattle.pd_whole.proofs.ChargeLemmas.{keeps_both}
 use Rattle.pd_cache.specs.Whole.{IsReady, arrays_named, origin_test, tests_named}
-use Rattle.pd_cache.proofs.WholeLemmas.{arrays_stay, charged_then, has_mappings, ready_stays}
+use Rattle.pd_cache.proofs.WholeLemmas.{IsCounted, arrays_stay, charged_then, has_mappings, ready_stays}
 use Rattle.pd_cache.proofs.whole.mark_cache.Goals as goal
 
 pub returns-clause-reads : goal.returns-clause-reads
@@ -33,11 +33,15 @@ returns-clause-charges g c =
     let two =
     charged_then held later (λ image. IsReady graph image a fields) (λ image. IsReady graph image b fields)
     (λ image. origin_test graph image fields.mapping_root ∷ []) bitmaps a b d c.mark_origin.ensures.kept.held (λ image. ready_stays graph image fields a b) first second in
+    let marks = c.args.room.now.marks in
     ok_maps c.mark_arrays.result _ _ (λ charges.
     if_maps held _ _
-    (λ image charged ready.
+    (λ image charged ready counted.
     subst (λ (ts : List WholeTest). Charges ts a e)
-    (append_assoc (origin_test graph image fields.mapping_root ∷ []) (bitmaps image) (flat_map (array_whole graph image) (arrays_named fields))) (charged ready))
-    (charged_then held later (λ image. IsReady graph image a fields) (λ image. IsReady graph image d fields)
+    (append_assoc (origin_test graph image fields.mapping_root ∷ []) (bitmaps image) (flat_map (array_whole graph image) (arrays_named fields))) (charged (ready, counted)))
+    (charged_then held later (λ image. IsCounted graph image fields a marks) (λ image. IsCounted graph image fields d marks)
     (λ image. (origin_test graph image fields.mapping_root ∷ []) ++ bitmaps image) (λ image. flat_map (array_whole graph image) (arrays_named fields))
-    a d e c.mark_origin.ensures.kept.held (λ image. ready_stays graph image fields a d) two charges)) c.mark_arrays.ensures.charges
+    a d e c.mark_origin.ensures.kept.held (λ image known kept. (ready_stays graph image fields a d known.0 kept, known.1))
+    (if_maps held _ (λ image. IsCounted graph image fields a marks → Charges ((origin_test graph image fields.mapping_root ∷ []) ++ bitmaps image) a d) (λ image charged known. charged known.0) two)
+    (if_maps later _ (λ image. IsCounted graph image fields d marks → Charges (flat_map (array_whole graph image) (arrays_named fields)) d e) (λ image charged known. charged known.0 known.1) charges)))
+    c.mark_arrays.ensures.charges

@@ -1,9 +1,9 @@
-use Rattle.std.proofs.Common.{◌≡◌, sym, ap, ◌∙◌, arith}
+use Rattle.std.proofs.Common.{sym, ap, subst, ◌∙◌, arith}
 use Rattle.pd_kinds.specs.EraFormat.{EraFields, era_fields, era_graph}
-use Rattle.pd_kinds.specs.Graph.{Graph}
+use Rattle.pd_kinds.specs.Graph.{Graph, is_reached}
 use Rattle.pd_refs.proofs.RefsLemmas.{if_all, ok_maps, if_maps}
-use Rattle.pd_graph.specs.Audit.{blocks_of}
-use Rattle.pd_era.specs.Whole.{whole_reads}
+use Rattle.pd_arrays.specs.Arrays.{AreAllShown}
+use Rattle.pd_era.specs.Whole.{arrays, whole_reads}
 use Rattle.pd_era.proofs.ReadyLemmas.{blocks_are, graph_is, super_charged}
 use Rattle.pd_era.proofs.era.mark_by_super.Goals as goal
 
@@ -22,17 +22,20 @@ mark_era-requires-clause-number g c =
 
 pub mark_era-requires-clause-places : goal.mark_era-requires-clause-places
 mark_era-requires-clause-places g c =
-    let same : blocks_of c.args.audit.now ≡ (era_fields c.args.b.now.0).meta_map.blocks = c.requires.number ∙ blocks_are c.args.b.now.0 in
-    c.requires.enough (omega (arith, same, c.nr-nr.ensures.number, c.nr-nr.ensures.few)) ∙ sym same
+    c.requires.room (omega (arith, c.requires.number, c.nr-nr.ensures.number, c.nr-nr.ensures.few)) ∙ sym c.requires.number
 
 pub returns-clause-charges : goal.returns-clause-charges
 returns-clause-charges g c =
     let first = c.args.b.now.0 in
+    let marks = c.args.marks.now in
+    let graph = c.of-format.ensures ∙ graph_is first c.read_era_super-fields.result c.read_era_super-fields.ensures in
     ok_maps c.mark_era.result _ _ (λ charges.
-    if_maps (g.D.Device.state c.args.dev.now).held _ _ (λ image charged ordered.
-    super_charged image first c.read_era_super-fields.result _ c.args.audit.now c.mark_era.new.audit c.read_era_super-fields.ensures
-    (c.of-format.ensures ∙ graph_is first c.read_era_super-fields.result c.read_era_super-fields.ensures) c.ordered_eras_are_ready.ensures charged ordered)
-    charges) c.mark_era.ensures.charges
+    if_maps (g.D.Device.state c.args.dev.now).held _ _ (λ image charged ordered shown.
+    super_charged image first c.read_era_super-fields.result _ c.args.audit.now c.mark_era.new.audit c.read_era_super-fields.ensures graph c.ordered_eras_are_ready.ensures
+    (λ ready. charged ready
+    (c.shown_blocks_are_counted.ensures _ image c.args.audit.now arrays marks ready.era.known
+    (subst (λ (g : Graph). AreAllShown arrays image (is_reached g image) marks) (sym graph) shown)))
+    ordered) charges) c.mark_era.ensures.charges
 
 pub returns-clause-reads : goal.returns-clause-reads
 returns-clause-reads g c =

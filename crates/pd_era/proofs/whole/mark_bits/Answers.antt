@@ -23,9 +23,9 @@ returns-clause-charges g c =
     let filled = rw c.bits.ensures at c.in_ok-fill_marks.ensures.marked in
     ok_maps c.mark_writesets.result _ _ (λ charges.
     if_then held (g.D.Device.state c.fill_marks.new.dev).held _ _ _ c.fill_marks.ensures.kept.held
-    (λ image marks_told sets_charged ready.
+    (λ image marks_told sets_charged ready counted.
     let has = has_bits graph image a ready.era in
-    let marked = marks_told has in
+    let marked = marks_told has counted in
     charges_then (flat_map (array_whole graph image) (current_bits fields.current_bits fields.current_root)) (set_tests graph image (reached_writesets graph image)) a b d
     (c.check_current.ensures.charges graph image has marked ready.roots.current)
     (sets_charged graph (arrays_stay graph image a b bits c.check_current.ensures.rules has) ready.era.trees marked))

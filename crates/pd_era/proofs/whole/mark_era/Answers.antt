@@ -24,7 +24,7 @@ returns-clause-charges g c =
     let held = (g.D.Device.state c.args.dev.now).held in
     ok_maps c.mark_bits.result _ _ (λ charges.
     if_then held (g.D.Device.state c.mark_eras.new.dev).held _ _ _ c.mark_eras.ensures.kept.held
-    (λ image eras_charged bits_charged ready.
+    (λ image eras_charged bits_charged ready counted.
     let ready_b = ready_stays graph image fields a b ready c.mark_shared.ensures.charges.kept in
     let ready_d = ready_stays graph image fields b d ready_b c.mark_eras.ensures.rules in
     charges_then (bitmap_tests graph image (λ role. role == 8)) (flat_map (array_whole graph image) (arrays_named graph image fields)) a b e
@@ -32,7 +32,8 @@ returns-clause-charges g c =
     (subst (λ (ts : List WholeTest). Charges ts b e) (arrays_tests graph image fields)
     (charges_then (flat_map (array_whole graph image) (array_of eras fields.array_root (fields.blocks ∷ []) ∷ snap_eras image fields.snap_root))
     (flat_map (array_whole graph image) (current_bits fields.current_bits fields.current_root) ++ set_tests graph image (reached_writesets graph image)) b d e
-    (eras_charged ready_b) (bits_charged ready_d))))
+    (eras_charged ready_b counted.0)
+    (bits_charged ready_d (c.mark_eras.ensures.blocks graph image bits ready_b.era.known (λ same. omega arith) counted.1.0)))))
     c.in_ok-mark_eras.ensures.charges charges) c.mark_bits.ensures.charges
 
 pub returns-clause-reads : goal.returns-clause-reads

@@ -21,9 +21,9 @@ returns-clause-charges g c =
     let filled = rw c.eras.ensures at c.in_ok-fill_marks.ensures.marked in
     ok_maps c.mark_snap.result _ _ (λ charges.
     if_then held (g.D.Device.state c.fill_marks.new.dev).held _ _ _ c.fill_marks.ensures.kept.held
-    (λ image marks_told snap_charged ready.
+    (λ image marks_told snap_charged ready counted.
     let has = has_eras graph image a ready.era in
-    let marked = marks_told has in
+    let marked = marks_told has counted in
     charges_then (array_whole graph image (array_of eras fields.array_root (fields.blocks ∷ []))) (flat_map (array_whole graph image) (snap_eras image fields.snap_root)) a b d
     (words_charged graph image a b c.fill_marks.new.marks c.eras-2.result fields.array_root c.from-words.result fields.blocks c.eras-2.ensures c.from-words.ensures
     (c.check_array.ensures.charges graph image) has marked ready.roots.eras)
@@ -36,3 +36,9 @@ returns-in_err-fill_marks-clause-reads g c = omega (arith, c.in_err-fill_marks.e
 pub returns-clause-reads : goal.returns-clause-reads
 returns-clause-reads g c =
     omega (arith, c.in_ok-fill_marks.ensures.reads, c.mark_snap.ensures.reads, ap (kind_reads c.args.audit.now) c.eras.ensures)
+
+pub returns-clause-blocks : goal.returns-clause-blocks
+returns-clause-blocks g c = rw c.eras.ensures at c.fill_marks.ensures.blocks
+
+pub returns-in_err-fill_marks-clause-blocks : goal.returns-in_err-fill_marks-clause-blocks
+returns-in_err-fill_marks-clause-blocks g c = rw c.eras.ensures at c.fill_marks.ensures.blocks
