@@ -78,8 +78,6 @@ impl TextState for CacheState {
         Ok(())
     }
 
-    // A call would copy the line once more; so would one of `take`.
-    #[inline(always)]
     fn read(&mut self, text: &[u8]) -> Result<Option<CacheLine>, TextCause> {
         let (word, rest) = cut_word(text);
         let kind = match CacheKind::named(word) {
@@ -119,7 +117,6 @@ impl CacheState {
     }
 
     /// Takes a line of these values, or says which test it fails.
-    #[inline(always)]
     fn take(
         &mut self,
         kind: CacheKind,
