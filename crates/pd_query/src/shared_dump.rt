@@ -34,8 +34,8 @@ impl SharedDump {
     ghost use Rattle.pd_query.specs.Failing.{Fails, StartFails};
     ghost use Rattle.pd_query.specs.SharedDump.{shared_room, shared_text_left};
 
-    /// Reads the superblock of a pool, finds the leaves that its devices share, and takes the memory for its dump: a
-    /// table of them, and four cursors over trees.
+    /// Reads the superblock of a pool, finds the leaves that its devices share, and takes the memory for its dump: that
+    /// of these leaves, and four cursors over trees.
     ///
     /// Fails with `Device` where a read failed, and with `Memory` where that memory wasn't found.
     pub fn start<D: Device>(alloc: Global, dev: &mut D) -> Result<SharedDump, QueryFault>

@@ -1,6 +1,6 @@
 -- The walk over the trees of devices, one after another.
-use Rattle.std.proofs.Common.{◌≡◌, ℕ, List, [], ◌∷◌, ◌++◌, length, refl, sym, ◌∙◌}
-use Rattle.std.proofs.lemmas.List.{append-nil, append_assoc}
+use Rattle.std.proofs.Common.{◌≡◌, ℕ, List, [], ◌∷◌, ◌++◌, length, sym, ◌∙◌}
+use Rattle.std.proofs.lemmas.List.{append_assoc}
 use Rattle.pd_laws.proofs.AllLemmas.{all_append}
 use Rattle.pd_shared_leaves.specs.declared.marks.Mark.{Mark}
 use Rattle.pd_value.specs.declared.thin.Root.{Root}
@@ -13,14 +13,6 @@ pub record AreWalkedTo (image : List (List ℕ)) (all left : List ℕ) (old new 
   pub front : List ℕ
   pub split : front ++ left ≡ all
   pub walked : AreWalked image front old new
-
--- none at first
-pub none_walked : (image : List (List ℕ)) (all : List ℕ) (marks : List Mark) → AreWalkedTo image all all marks marks
-none_walked image all marks = record {
-  front = [];
-  split = refl;
-  walked = λ before proper none marked. rw (append-nil before) marked;
-}
 
 -- one more
 pub one_walked : (image : List (List ℕ)) (all left : List ℕ) (root : ℕ) (old marks new : List Mark) → length marks ≡ length old
@@ -40,7 +32,3 @@ one_walked image all left root old marks new same to more = record {
 pub next_walked : (image : List (List ℕ)) (all : List ℕ) (items rest : List (ℕ × Root)) (key : ℕ) (root : Root) (old marks new : List Mark) → length marks ≡ length old
     → items ≡ (key, root) ∷ rest → AreWalkedTo image all (roots_of items) old marks → AreWalked image (root.0 ∷ []) marks new → AreWalkedTo image all (roots_of rest) old new
 next_walked image all items rest key root old marks new same next to more = one_walked image all (roots_of rest) root.0 old marks new same (rw next at to) more
-
--- all, where none is left
-pub all_walked : (image : List (List ℕ)) (all : List ℕ) (old new : List Mark) → AreWalkedTo image all [] old new → AreWalked image all old new
-all_walked image all old new to = rw (sym (append-nil to.front) ∙ to.split) at to.walked

@@ -1,9 +1,8 @@
 -- The shared leaves that the marks tell are those of the pool.
-use Rattle.std.proofs.Common.{◌≡◌, ℕ, zero, suc, ◌+◌, ◌<◌, Bool, true, false, ◌&&◌, cond, nat_eq, nat_le, nat_lt, List, [], ◌∷◌, ◌++◌, length, replicate, refl, sym, ap, ◌∙◌, arith, lt-ltb, min, subst}
+use Rattle.std.proofs.Common.{◌≡◌, ℕ, zero, suc, ◌+◌, ◌<◌, Bool, true, false, ◌&&◌, cond, nat_eq, nat_le, nat_lt, List, [], ◌∷◌, length, replicate, refl, sym, ap, ◌∙◌, arith, lt-ltb, min, subst}
 use Rattle.std.specs.List.{AllByRecursion, count_by, filter, flat_map, range_with_len}
 use Rattle.std.proofs.lemmas.Bool.{eqb-true}
 use Rattle.std.proofs.lemmas.List.{get_or-replicate, length-map, length-replicate}
-use Rattle.std.proofs.lemmas.List.Elements.{filter-append}
 use Rattle.std.proofs.lemmas.List.FromFn.{length-map-range_with_len}
 use Rattle.pd_kinds.specs.declared.kind.Kind.TheVariants.{Thin}
 use Rattle.pd_kinds.specs.declared.kind.Stage.TheVariants.{Whole}
@@ -38,21 +37,8 @@ pub first_walk : (image : List (List ℕ)) (roots left : List ℕ) (blocks : ℕ
 first_walk image roots left blocks old new unseen same is walked proper =
     rw is at (walked [] tt (rw (is, sym same) proper) (rw unseen (unseen_marked image blocks)))
 
--- one number more in a row
-range_more : (a n j : ℕ) → a + n ≡ j → range_with_len a (suc n) ≡ range_with_len a n ++ j ∷ []
-range_more a zero j is =
-    let same : a ≡ j = omega arith in
-    rw same refl
-range_more a (suc n) j is = ap (λ (xs : List ℕ). a ∷ xs) (range_more (a + 1) n j (omega arith))
-
-pub filter_more : (p : ℕ → Bool) (n : ℕ) → filter p (range_with_len 0 (n + 1)) ≡ filter p (range_with_len 0 n) ++ cond (p n) (n ∷ []) []
-filter_more p n =
-    let next : suc n ≡ n + 1 = omega arith in
-    subst (λ (m : ℕ). filter p (range_with_len 0 m) ≡ filter p (range_with_len 0 n) ++ cond (p n) (n ∷ []) []) next
-    (ap (λ (xs : List ℕ). filter p xs) (range_more 0 n n (omega arith)) ∙ filter-append p (range_with_len 0 n) (n ∷ []))
-
 -- tests that agree below n leave the same of its numbers
-pub same_filter : (p q : ℕ → Bool) (a n : ℕ) → ((b : ℕ) → b < a + n → p b ≡ q b) → filter p (range_with_len a n) ≡ filter q (range_with_len a n)
+same_filter : (p q : ℕ → Bool) (a n : ℕ) → ((b : ℕ) → b < a + n → p b ≡ q b) → filter p (range_with_len a n) ≡ filter q (range_with_len a n)
 same_filter p q a zero same = refl
 same_filter p q a (suc n) same = rw (same a (omega arith), same_filter p q (a + 1) n (λ b within. same b (omega arith))) refl
 
@@ -170,7 +156,7 @@ mark_tells graph image marks b leaves marked within =
     (shared_by (is_inner_node (block_at image b)) (block_at image b) (occurs b (nodes_of image (device_roots graph image))) refl)
 
 -- so the marked blocks are the shared leaves
-pub found_leaves : (graph : Graph) (image : List (List ℕ)) (marks : List Mark) → AllByRecursion (λ root. leaf_blocks graph image root ≡ leaves_below image 63 root) (device_roots graph image)
+found_leaves : (graph : Graph) (image : List (List ℕ)) (marks : List Mark) → AllByRecursion (λ root. leaf_blocks graph image root ≡ leaves_below image 63 root) (device_roots graph image)
     → AreMarked image (device_roots graph image) marks → length marks ≡ graph.nr → marked_blocks marks ≡ shared_leaves graph image
 unfolding marked_blocks shared_leaves
 found_leaves graph image marks leaves marked number =

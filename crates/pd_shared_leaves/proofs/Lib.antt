@@ -6,10 +6,10 @@ pub mod LeafLemmas
 pub mod MarkLemmas
 pub mod MemberLemmas
 pub mod NumberLemmas
-pub mod NumberedLemmas
 pub mod OccursLemmas
 pub mod PartLemmas
 pub mod PieceLemmas
+pub mod RankLemmas
 pub mod RootLemmas
 pub mod ShapeLemmas
 pub mod WalkLemmas

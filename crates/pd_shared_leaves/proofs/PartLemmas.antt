@@ -44,9 +44,6 @@ module _ (shared : List ℕ) (image : List (List ℕ)) where
   pub parts_leaf : (j b number : ℕ) → number_of shared b ≡ Some number → parts_below shared image j b ≡ leaf number ∷ []
   parts_leaf j b number is = rw (parts_below_is j b, is, each_none (parts_below shared image) j) refl
 
-  pub read_leaf : (j b number : ℕ) → number_of shared b ≡ Some number → read_below shared image j b ≡ []
-  read_leaf j b number is = rw (read_below_is j b, is, each_none (read_below shared image) j) refl
-
   -- a block that isn't one
   item_parts : (items : List (ℕ × BlockTime)) → flat_map (parts_of_left shared image) (map left_of_item items) ≡ map (λ item. mapped (mapping_of item)) items
   item_parts [] = refl

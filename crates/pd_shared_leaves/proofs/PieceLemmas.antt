@@ -9,7 +9,7 @@ use Rattle.pd_thin_meaning.specs.Joined.{begun_mappings, begun_number, given_run
 use Rattle.pd_shared_leaves.specs.declared.pieces.Piece.{Piece}
 use Rattle.pd_shared_leaves.specs.declared.pieces.Piece.TheVariants.{Run, SharedLeaf}
 use Rattle.pd_shared_leaves.specs.declared.pieces.PieceRuns.{PieceRuns}
-use Rattle.pd_shared_leaves.specs.Parts.{Part, mapped, leaf, met_leaf, parts_left}
+use Rattle.pd_shared_leaves.specs.Parts.{Part, mapped, leaf, parts_left}
 use Rattle.pd_shared_leaves.specs.Pieces.{joined_pieces, pieces_left, pieces_reads}
 
 -- the mappings up to the first shared leaf, and the pieces from it on
@@ -59,21 +59,6 @@ mapping_taken run shared image old new item before after next takes =
 pub no_leaf : (waiting : Option ℕ) → is_some waiting ≡ false → waiting ≡ None
 no_leaf None none = refl
 no_leaf (Some number) none = cc
-
--- the begun run is given before a leaf, or at the end
-pub run_given : (run : given.Run) (old : List Mapping) (waiting : Option ℕ) (parts : List Part) → given_runs old ≡ run ∷ [] → (waiting ≡ None → parts ≡ [])
-    → joined_pieces old (met_leaf waiting ++ parts) ≡ Run run ∷ joined_pieces [] (met_leaf waiting ++ parts)
-run_given run old None parts is last = rw (last refl, is) refl
-run_given run old (Some number) parts is last = rw is refl
-
--- a leaf is given where no run is begun
-pub leaf_given : (old : List Mapping) (number : ℕ) (parts : List Part) → given_runs old ≡ []
-    → joined_pieces old (leaf number ∷ parts) ≡ SharedLeaf number ∷ joined_pieces [] parts
-leaf_given old number parts none = rw none refl
-
--- nothing is left at the end
-pub nothing_given : (old : List Mapping) (parts : List Part) → given_runs old ≡ [] → parts ≡ [] → (joined_pieces old parts ≡ []) × (joined_pieces [] parts ≡ [])
-nothing_given old parts none last = rw (last, none) (refl, refl)
 
 -- at most one run is begun
 pub few_begun : (begun : Option Begun) → begun_number begun ≤ 1

@@ -8,6 +8,7 @@ use Rattle.pd_tree.specs.Below.{gather, items_below, kids_from, nodes_below}
 use Rattle.pd_tree.specs.Items.{root_of}
 use Rattle.pd_tree.specs.Levels.{HasAtMostLevels}
 use Rattle.pd_shared_leaves.specs.declared.find.SharedLeaves.{SharedLeaves}
+use Rattle.pd_shared_leaves.specs.Found.{marked_blocks}
 
 -- the leaves that at most j inner edges lead to from a block, from left to right
 unfoldable pub leaves_below : List (List ℕ) → ℕ → ℕ → List ℕ
@@ -30,4 +31,4 @@ pub record IsProperTree (image : List (List ℕ)) (blocks root : ℕ) : Type 0 w
 
 -- the blocks of the shared leaves, ascending
 abbrev pub shared_blocks : SharedLeaves → List ℕ
-shared_blocks shared = shared.blocks.items
+shared_blocks shared = marked_blocks shared.marks.items

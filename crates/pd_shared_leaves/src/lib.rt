@@ -9,6 +9,7 @@ mod part_search;
 mod parts;
 mod piece_laws;
 mod pieces;
+mod ranks;
 mod walk;
 
 pub use find::SharedLeaves;
