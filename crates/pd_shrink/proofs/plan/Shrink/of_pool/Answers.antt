@@ -48,4 +48,7 @@ returns-in_err-moves-clause-plans g c =
     let size = pool_size c.args.saved.now head c.head-head.ensures.head in
     let number = pool_number c.args.saved.now head c.head-head.ensures.head in
     let p = err_from_is_err_and c.from_residual.result c.from_residual.ensures.1 in
-    rw (p.1, p.2) (missed_plans (g.A.Device.state c.args.meta.now).held c.args.map.now m c.min-end.result (blocks_each head.block_size) c.args.output_blocks c.args.pool_blocks c.args.blocks c.requires.sound (omega (arith, number, c.min-end.ensures)) (ap is_block_size_bad size ∙ (sym c.is_block_size_bad.ensures ∙ c.if-is_block_size_bad.false)) (ap blocks_each (sym size)) c.in_err-moves.field-0.0 c.in_err-moves.ensures.found)
+    rw (p.1, p.2)
+    (missed_plans (g.A.Device.state c.args.meta.now).held c.args.map.now m c.min-end.result (blocks_each head.block_size) c.args.output_blocks c.args.pool_blocks c.args.blocks
+    c.requires.sound (omega (arith, number, c.min-end.ensures)) (ap is_block_size_bad size ∙ (sym c.is_block_size_bad.ensures ∙ c.if-is_block_size_bad.false))
+    (ap blocks_each (sym size)) c.in_err-moves.field-0.0 c.in_err-moves.ensures.found)
