@@ -137,8 +137,6 @@ fn write_node<D: Device>(
 {
     let place = draft.next();
     let block = write_inner(place, children);
-    match put_block(draft, &block) {
-        Ok(()) => Ok(place),
-        Err(fault) => Err(fault),
-    }
+    put_block(draft, &block)?;
+    Ok(place)
 }

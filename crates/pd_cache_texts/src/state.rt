@@ -89,10 +89,8 @@ impl TextState for CacheState {
         }
         let mut names = [[0; 16]; 9];
         let mut numbers = [0; 9];
-        match read_values(kind.fields(), rest, &mut names, &mut numbers) {
-            Ok(()) => self.take(kind, &names, &numbers),
-            Err(cause) => Err(cause),
-        }
+        read_values(kind.fields(), rest, &mut names, &mut numbers)?;
+        self.take(kind, &names, &numbers)
     }
 
     ghost header = { cache_header };
@@ -128,10 +126,7 @@ impl CacheState {
         ensures after { (before : List Line) → CacheStands self.old before → 1 ≤ length before
             → IfOk result (λ taken. CacheStands self.new (cache_meant taken ∷ before)) }
     {
-        let line = match self.line(kind, names, numbers) {
-            Ok(line) => line,
-            Err(cause) => return Err(cause),
-        };
+        let line = self.line(kind, names, numbers)?;
         if self.is_out_of_order(&line) {
             return Err(TextCause::Order);
         }

@@ -53,10 +53,8 @@ impl EraDump {
             Ok(s) => s,
             Err(_) => return Err(QueryFault::Device),
         };
-        match eras_of(alloc, dev, &s) {
-            Ok(eras) => Ok(EraDump { s, eras }),
-            Err(fault) => Err(fault),
-        }
+        let eras = eras_of(alloc, dev, &s)?;
+        Ok(EraDump { s, eras })
     }
 
     /// Puts the target's text. It takes no memory.

@@ -39,10 +39,7 @@ pub fn written_since<D: Device, K: Sink>(
     ensures faults { QueryEnds result (D.state dev.old).faults (D.state dev.new).faults (K.state out.old).faults (K.state out.new).faults }
 {
     given_eras_are_the_eras();
-    let eras = match eras_of(alloc, dev, s) {
-        Ok(eras) => eras,
-        Err(fault) => return Err(fault),
-    };
+    let eras = eras_of(alloc, dev, s)?;
     put_since(era, eras.as_slice(), out)
 }
 

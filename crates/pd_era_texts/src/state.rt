@@ -86,10 +86,8 @@ impl TextState for EraState {
         }
         let mut names = [[0; 16]; 4];
         let mut numbers = [0; 4];
-        match read_values(kind.fields(), rest, &mut names, &mut numbers) {
-            Ok(()) => self.take(kind, &names, &numbers),
-            Err(cause) => Err(cause),
-        }
+        read_values(kind.fields(), rest, &mut names, &mut numbers)?;
+        self.take(kind, &names, &numbers)
     }
 
     ghost header = { era_header };
@@ -125,17 +123,10 @@ impl EraState {
         ensures after { (before : List Line) → EraStands self.old before → 1 ≤ length before
             → IfOk result (λ taken. EraStands self.new (era_meant taken ∷ before)) }
     {
-        let line = match self.line(kind, names, numbers) {
-            Ok(line) => line,
-            Err(cause) => return Err(cause),
-        };
-        match self.check(&line) {
-            Ok(()) => {
-                self.pass(&line);
-                Ok(line)
-            }
-            Err(cause) => Err(cause),
-        }
+        let line = self.line(kind, names, numbers)?;
+        self.check(&line)?;
+        self.pass(&line);
+        Ok(line)
     }
 
     /// The line of these values, none where it is the last one, or `OutOfRange`.

@@ -155,10 +155,10 @@ impl LineReader {
         ensures quiet { (result ≢ Err LineFault.Source) → (S.state source.new).faults ≡ (S.state source.old).faults }
         ensures kept { KeepsSource (S.state source.old) (S.state source.new) }
     {
-        match self.advance(source) {
-            Ok(true) => Ok(Some(Line::new(self.lines, self.text()))),
-            Ok(false) => Ok(None),
-            Err(fault) => Err(fault),
+        if self.advance(source)? {
+            Ok(Some(Line::new(self.lines, self.text())))
+        } else {
+            Ok(None)
         }
     }
 }

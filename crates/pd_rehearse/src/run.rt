@@ -43,10 +43,8 @@ pub fn rehearse<D: Device>(
     ensures place { KeepsPlace (D.state dev.old) (D.state dev.new) }
     ensures causes { CountsRehearsal result (D.state dev.old).faults (D.state dev.new).faults }
 {
-    match restore_text(alloc, number, dev) {
-        Ok(()) => check_and_count(alloc, dev),
-        Err(fault) => Err(fault),
-    }
+    restore_text(alloc, number, dev)?;
+    check_and_count(alloc, dev)
 }
 
 /// Checks the pool on the device up to its counts, and dumps it where it has no faults.

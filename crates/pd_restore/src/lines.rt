@@ -101,10 +101,8 @@ fn take<D: Device, G: Gathering>(
     ensures closed { StaysClosed (stand draft.old).device (stand draft.new).device }
     ensures faults { CountsTake result (stand draft.old).device.faults (stand draft.new).device.faults }
 {
-    match gathered.take_line(draft, line, room) {
-        Ok(()) => Ok(true),
-        Err(fault) => Err(fault),
-    }
+    gathered.take_line(draft, line, room)?;
+    Ok(true)
 }
 
 /// Restores what is left at the end, where there is room for it.
@@ -125,10 +123,8 @@ fn end<D: Device, G: Gathering>(
     ensures closed { StaysClosed (stand draft.old).device (stand draft.new).device }
     ensures faults { CountsTake result (stand draft.old).device.faults (stand draft.new).device.faults }
 {
-    match gathered.take_end(draft, room) {
-        Ok(()) => Ok(false),
-        Err(fault) => Err(fault),
-    }
+    gathered.take_end(draft, room)?;
+    Ok(false)
 }
 
 /// What is answered where the next line isn't given.

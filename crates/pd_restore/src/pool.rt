@@ -53,11 +53,11 @@ pub(crate) fn write_pool<S: Source, D: Device, G: Gathering>(
     ensures faults { CountsRestore result (S.state source.old).faults (S.state source.new).faults (stand draft.old).device.faults (stand draft.new).device.faults }
 {
     restore_lines(text, source, draft, gathered, room)?;
-    write_behind(alloc, draft, gathered, pool, room)
+    write_rest(alloc, draft, gathered, pool, room)
 }
 
 /// Writes all that is left of a pool whose lines were gathered but its superblock, which it answers.
-pub(crate) fn write_behind<D: Device, G: Gathering>(
+pub(crate) fn write_rest<D: Device, G: Gathering>(
     alloc: Global,
     draft: &mut Draft<'_, D>,
     gathered: &G,

@@ -15,7 +15,7 @@ ghost use Rattle.pd_restore.specs.Reading.{EndsAll};
 ghost use Rattle.pd_restore.specs.Unshared.{HasUnshared};
 
 use crate::gathering::Gathering;
-use crate::pool::write_behind;
+use crate::pool::write_rest;
 use crate::saved_lines::SavedLines;
 use pd_devices::Devices;
 use pd_draft::Draft;
@@ -47,7 +47,7 @@ pub(crate) fn write_saved<D: Device>(
         Err(_) => return Err(RestoreFault::Memory),
     };
     take_all(lines, draft, &mut devices, room)?;
-    write_behind(alloc, draft, &devices, pool, room)
+    write_rest(alloc, draft, &devices, pool, room)
 }
 
 /// Restores the lines that come, and the last one.

@@ -68,14 +68,10 @@ impl Gathering for SharedLines {
         room: u64,
     ) -> Result<(), RestoreFault> {
         let lacks_pieces = lacks_after(&line, self.lacks_pieces);
-        match put_shared(draft, &mut self.devices, line, room) {
-            Ok(()) => {
-                self.lines = self.lines.saturating_add(1);
-                self.lacks_pieces = lacks_pieces;
-                Ok(())
-            }
-            Err(fault) => Err(fault),
-        }
+        put_shared(draft, &mut self.devices, line, room)?;
+        self.lines = self.lines.saturating_add(1);
+        self.lacks_pieces = lacks_pieces;
+        Ok(())
     }
 
     fn take_end<D: Device>(

@@ -81,13 +81,11 @@ impl Restoring for Pools {
             Ok(text) => text,
             Err(_) => return Err(RestoreFault::Memory),
         };
-        match read_pool(&mut text, source) {
-            Ok(pool) => Ok(Begun {
-                pool,
-                rest: Rest::Text(text),
-            }),
-            Err(fault) => Err(fault),
-        }
+        let pool = read_pool(&mut text, source)?;
+        Ok(Begun {
+            pool,
+            rest: Rest::Text(text),
+        })
     }
 
     fn need(&self, begun: &Begun, room: u64) -> u64 {

@@ -37,10 +37,8 @@ pub(crate) fn begin<S: Source>(alloc: Global, source: &mut S) -> Result<Begun, R
         Ok(text) => text,
         Err(_) => return Err(RestoreFault::Memory),
     };
-    match read_cache(&mut text, source) {
-        Ok(cache) => Ok(Begun { text, cache }),
-        Err(fault) => Err(fault),
-    }
+    let cache = read_cache(&mut text, source)?;
+    Ok(Begun { text, cache })
 }
 
 /// Reads the first two lines.

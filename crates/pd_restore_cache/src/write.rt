@@ -58,10 +58,8 @@ pub(crate) fn write_cache<S: Source, D: Device>(
 {
     let Begun { mut text, cache } = begun;
     let mut gathered = Gathered::new(alloc, cache);
-    match gather_lines(alloc, &mut text, source, &mut gathered) {
-        Ok(()) => write_gathered(alloc, draft, &gathered, version, room),
-        Err(fault) => Err(fault),
-    }
+    gather_lines(alloc, &mut text, source, &mut gathered)?;
+    write_gathered(alloc, draft, &gathered, version, room)
 }
 
 /// Writes a cache that was gathered, but for its superblock, which it answers.

@@ -57,10 +57,8 @@ impl Restoring for EraTarget {
             Ok(text) => text,
             Err(_) => return Err(RestoreFault::Memory),
         };
-        match read_target(&mut text, source) {
-            Ok(target) => Ok(EraBegun { text, target }),
-            Err(fault) => Err(fault),
-        }
+        let target = read_target(&mut text, source)?;
+        Ok(EraBegun { text, target })
     }
 
     fn need(&self, begun: &EraBegun, room: u64) -> u64 {

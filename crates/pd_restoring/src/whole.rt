@@ -36,10 +36,8 @@ pub fn restore<K: Restoring, S: Source, D: Device>(
     ensures causes { CountsRestore result (S.state source.old).faults (S.state source.new).faults (D.state dev.old).faults (D.state dev.new).faults }
 {
     let room = dev.blocks().min(MAX_META_BLOCKS);
-    match kind.begin(alloc, source) {
-        Ok(begun) => restore_begun(kind, alloc, begun, source, dev, room),
-        Err(fault) => Err(fault),
-    }
+    let begun = kind.begin(alloc, source)?;
+    restore_begun(kind, alloc, begun, source, dev, room)
 }
 
 /// Restores what a text spells whose first two lines were read, from whatever source.

@@ -108,15 +108,9 @@ pub(crate) fn find_moves<A: Device>(
         Ok(sources) => sources,
         Err(_) => return Err(ShrinkFault::Memory),
     };
-    let free = match find_free(alloc, meta, map, end, sources.len()) {
-        Ok(free) => free,
-        Err(fault) => return Err(fault),
-    };
+    let free = find_free(alloc, meta, map, end, sources.len())?;
     let from = sources.as_slice();
-    match look_at_room(from, free.number, end, each, pool_blocks) {
-        Ok(()) => {}
-        Err(fault) => return Err(fault),
-    }
+    look_at_room(from, free.number, end, each, pool_blocks)?;
     let to = free.first.as_slice();
     match pair_up(alloc, from, to) {
         Ok(moves) => Ok(moves),

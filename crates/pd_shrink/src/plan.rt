@@ -84,10 +84,7 @@ impl Shrink {
         if meta_blocks == 0 {
             return Err(ShrinkFault::BlockSize);
         }
-        let first = match read_first(alloc, meta) {
-            Ok(first) => first,
-            Err(fault) => return Err(fault),
-        };
+        let first = read_first(alloc, meta)?;
         let s = match sound_super(&first, meta_blocks) {
             Some(s) => s,
             None => return Err(ShrinkFault::BlockSize),
@@ -116,13 +113,9 @@ impl Shrink {
         if is_block_size_bad(s.block_size) {
             return Err(ShrinkFault::BlockSize);
         }
-        match read_pool(alloc, meta, s) {
-            Ok(saved) => {
-                let map = &s.data_map;
-                Shrink::of_pool(alloc, meta, map, &saved, output_blocks, pool_blocks, blocks)
-            }
-            Err(fault) => Err(fault),
-        }
+        let saved = read_pool(alloc, meta, s)?;
+        let map = &s.data_map;
+        Shrink::of_pool(alloc, meta, map, &saved, output_blocks, pool_blocks, blocks)
     }
 
     /// Makes the plan of this pool, whose data blocks have this space map.
@@ -150,10 +143,8 @@ impl Shrink {
         }
         let each = (head.block_size / 8) as u64;
         let end = blocks.min(head.blocks);
-        match find_moves(alloc, meta, map, saved, end, each, pool_blocks) {
-            Ok(moves) => Shrink::finish(alloc, saved, moves, end, each, output_blocks, pool_blocks),
-            Err(fault) => Err(fault),
-        }
+        let moves = find_moves(alloc, meta, map, saved, end, each, pool_blocks)?;
+        Shrink::finish(alloc, saved, moves, end, each, output_blocks, pool_blocks)
     }
 
     /// Makes the plan of these moves.
@@ -215,10 +206,8 @@ impl Shrink {
             return Ok(0);
         }
         copy_moved(self.moves.as_slice(), self.each, pool)?;
-        match pool.sync() {
-            Ok(()) => Ok(self.moves.len() as u64),
-            Err(failed) => Err(failed),
-        }
+        pool.sync()?;
+        Ok(self.moves.len() as u64)
     }
 
     /// Writes the metadata of the pool afterwards to the output, as a restore of its text does.

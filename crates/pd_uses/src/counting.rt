@@ -50,10 +50,8 @@ pub(crate) fn count_uses<D: Device>(
         Ok(counts) => counts,
         Err(_) => return Err(QueryFault::Memory),
     };
-    match take_pool(alloc, s, dev, &mut counts) {
-        Ok(()) => Ok(counts),
-        Err(fault) => Err(fault),
-    }
+    take_pool(alloc, s, dev, &mut counts)?;
+    Ok(counts)
 }
 
 /// How many of some uses are of data blocks that were counted once.
@@ -93,8 +91,6 @@ pub(crate) fn exclusive_blocks<D: Device>(
     ensures faults { StartFails result (D.state dev.old).faults (D.state dev.new).faults }
 {
     let mut exclusive = Exclusive { counts, number: 0 };
-    match take_row(row, mappings, dev, &mut exclusive) {
-        Ok(()) => Ok(exclusive.number),
-        Err(fault) => Err(fault),
-    }
+    take_row(row, mappings, dev, &mut exclusive)?;
+    Ok(exclusive.number)
 }

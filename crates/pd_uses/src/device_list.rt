@@ -45,10 +45,7 @@ pub fn list_devices<D: Device, K: Sink>(
     ensures faults { QueryEnds result (D.state dev.old).faults (D.state dev.new).faults (K.state out.old).faults (K.state out.new).faults }
 {
     rows_are_the_devices();
-    let counts = match count_uses(alloc, dev, s) {
-        Ok(counts) => counts,
-        Err(fault) => return Err(fault),
-    };
+    let counts = count_uses(alloc, dev, s)?;
     put_devices(alloc, s, &counts, dev, out)
 }
 

@@ -43,10 +43,7 @@ pub fn rmap<D: Device, K: Sink>(
     ensures faults { QueryEnds result (D.state dev.old).faults (D.state dev.new).faults (K.state out.old).faults (K.state out.new).faults }
 {
     rows_are_the_devices();
-    let uses = match region_uses(alloc, dev, s, first, end) {
-        Ok(uses) => uses,
-        Err(fault) => return Err(fault),
-    };
+    let uses = region_uses(alloc, dev, s, first, end)?;
     put_uses(uses.as_slice(), out)
 }
 

@@ -105,10 +105,7 @@ impl Plan {
         }
         let each = (s.block_size / 8) as u64;
         let (mut hot, places) = find_dirty(alloc, &s, meta)?;
-        match look_at_room(hot.as_slice(), each, fast_blocks, origin_blocks) {
-            Ok(()) => {}
-            Err(fault) => return Err(fault),
-        }
+        look_at_room(hot.as_slice(), each, fast_blocks, origin_blocks)?;
         sort_by_origin(&mut hot);
         Ok(Plan {
             super_block,

@@ -1,4 +1,5 @@
 use Rattle.std.proofs.Common.{refl, ◌∙◌, ap}
+use Rattle.std.proofs.lemmas.Result.{err_from_is_err_and}
 use Rattle.pd_kinds.specs.Meaning.{era_meaning}
 use Rattle.pd_answers.specs.QueryLines.{since_lines}
 use Rattle.pd_query.proofs.PutsLemmas.{one_told}
@@ -8,27 +9,30 @@ use Rattle.pd_dumps.specs.SinceLines.{since_text}
 use Rattle.pd_dumps.proofs.SinceLemmas.{lines_are}
 use Rattle.pd_dumps.proofs.since.written_since.Goals as goal
 
-pub returns-in-Err-clause-text : goal.returns-in-Err-clause-text
-returns-in-Err-clause-text g c = puts_none (g.D.Device.state c.args.dev.now).held (λ image. since_text c.args.era (given_eras image c.args.s.now)) c.in-Err.fault refl (λ image. refl)
+pub returns-in_err-eras-clause-text : goal.returns-in_err-eras-clause-text
+returns-in_err-eras-clause-text g c =
+    let p = err_from_is_err_and c.from_residual.result c.from_residual.ensures.1 in
+    rw (p.1, p.2) (puts_none (g.D.Device.state c.args.dev.now).held (λ image. since_text c.args.era (given_eras image c.args.s.now)) c.in_err-eras.field-0.0 refl (λ image. refl))
 
-pub returns-in-Err-clause-lines : goal.returns-in-Err-clause-lines
-returns-in-Err-clause-lines g c =
-    puts_none (g.D.Device.state c.args.dev.now).held (λ image. since_lines c.args.era (era_meaning image)) c.in-Err.fault refl (λ image own none. refl)
+pub returns-in_err-eras-clause-lines : goal.returns-in_err-eras-clause-lines
+returns-in_err-eras-clause-lines g c =
+    let p = err_from_is_err_and c.from_residual.result c.from_residual.ensures.1 in
+    rw (p.1, p.2) (puts_none (g.D.Device.state c.args.dev.now).held (λ image. since_lines c.args.era (era_meaning image)) c.in_err-eras.field-0.0 refl (λ image own none. refl))
 
 pub returns-clause-text : goal.returns-clause-text
 returns-clause-text g c = record {
-  text = since_text c.args.era c.in-Ok.eras.items;
-  told = one_told (g.D.Device.state c.args.dev.now).held (λ image is. ap (since_text c.args.era) is) c.in-Ok.ensures.eras;
+  text = since_text c.args.era c.in_ok-eras.eras.items;
+  told = one_told (g.D.Device.state c.args.dev.now).held (λ image is. ap (since_text c.args.era) is) c.in_ok-eras.ensures.eras;
   whole = rw c.as_slice.ensures.value at c.put_since.ensures.whole;
   front = rw c.as_slice.ensures.value at c.put_since.ensures.front;
 }
 
 pub returns-clause-lines : goal.returns-clause-lines
 returns-clause-lines g c = record {
-  text = since_text c.args.era c.in-Ok.eras.items;
+  text = since_text c.args.era c.in_ok-eras.eras.items;
   told =
       one_told (g.D.Device.state c.args.dev.now).held
-      (λ image is own none. ap (since_text c.args.era) is ∙ lines_are c.args.era c.args.s.now image own (c.given_eras_are_the_eras.ensures image none)) c.in-Ok.ensures.eras;
+      (λ image is own none. ap (since_text c.args.era) is ∙ lines_are c.args.era c.args.s.now image own (c.given_eras_are_the_eras.ensures image none)) c.in_ok-eras.ensures.eras;
   whole = rw c.as_slice.ensures.value at c.put_since.ensures.whole;
   front = rw c.as_slice.ensures.value at c.put_since.ensures.front;
 }

@@ -14,8 +14,8 @@ returns-in_err-restore_lines-clause-says g c start h t leaves =
     let says = c.in_err-restore_lines.ensures.room (begun_lines c.args.text.now c.args.pool.now) start h t leaves in
     search rules
 
-pub write_behind-requires-clause-whole : goal.write_behind-requires-clause-whole
-write_behind-requires-clause-whole g c =
+pub write_rest-requires-clause-whole : goal.write_rest-requires-clause-whole
+write_rest-requires-clause-whole g c =
     let r = c.requires.reading in
     let e = c.in_ok-restore_lines.ensures.all (begun_lines c.args.text.now c.args.pool.now) r.start r.reads in
     record { lines = e.lines; start = r.start; all = e.all }
@@ -25,11 +25,11 @@ returns-clause-writes g c start h =
     let lines = begun_lines c.args.text.now c.args.pool.now in
     let left = (g.S.Source.state c.restore_lines.new.source).left in
     let e = c.in_ok-restore_lines.ensures.all lines start h in
-    writes_of e.lines c.args.room left start (stand c.write_behind.new.draft) (λ t. LeavesOf pool_format t lines c.args.text.now (g.S.Source.state c.args.source.now).left) e.told c.write_behind.result
-    (c.write_behind.ensures.writes (first_of c.args.text.now.state) e.lines e.later left start e.front e.all)
+    writes_of e.lines c.args.room left start (stand c.write_rest.new.draft) (λ t. LeavesOf pool_format t lines c.args.text.now (g.S.Source.state c.args.source.now).left) e.told c.write_rest.result
+    (c.write_rest.ensures.writes (first_of c.args.text.now.state) e.lines e.later left start e.front e.all)
 
 pub returns-clause-says : goal.returns-clause-says
-returns-clause-says g c start h t leaves = end_says pool_format pool_need_so_far c.write_behind.result c.args.room t c.write_behind.ensures.build
+returns-clause-says g c start h t leaves = end_says pool_format pool_need_so_far c.write_rest.result c.args.room t c.write_rest.ensures.build
 
 pub returns-clause-later : goal.returns-clause-later
-returns-clause-later g c = later_take c.write_behind.result _ _ c.write_behind.ensures.faults
+returns-clause-later g c = later_take c.write_rest.result _ _ c.write_rest.ensures.faults

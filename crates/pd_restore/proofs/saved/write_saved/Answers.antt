@@ -31,8 +31,8 @@ returns-in_err-take_all-clause-says g c left t is =
     let says = c.in_err-take_all.ensures.says (made_begun p) a coming left t is in
     search rules
 
-pub write_behind-requires-clause-whole : goal.write_behind-requires-clause-whole
-write_behind-requires-clause-whole g c =
+pub write_rest-requires-clause-whole : goal.write_rest-requires-clause-whole
+write_rest-requires-clause-whole g c =
     let a = stand c.args.draft.now in
     let p = c.args.pool.now in
     let coming = made_coming p c.args.room c.args.lines.now c.in-Ok.devices a c.requires.made (c.in-Ok.ensures (head_of_pool p) a refl c.requires.made.place c.requires.closed) in
@@ -45,8 +45,8 @@ returns-clause-writes g c left =
     let p = c.args.pool.now in
     let coming = made_coming p c.args.room c.args.lines.now c.in-Ok.devices a c.requires.made (c.in-Ok.ensures (head_of_pool p) a refl c.requires.made.place c.requires.closed) in
     let e = c.in_ok-take_all.ensures.all (made_begun p) a coming left in
-    writes_of e.lines c.args.room left a (stand c.write_behind.new.draft) (IsTextOf (made_begun p) c.args.lines.now left) e.told c.write_behind.result
-    (c.write_behind.ensures.writes first_line e.lines e.later left a e.front e.all)
+    writes_of e.lines c.args.room left a (stand c.write_rest.new.draft) (IsTextOf (made_begun p) c.args.lines.now left) e.told c.write_rest.result
+    (c.write_rest.ensures.writes first_line e.lines e.later left a e.front e.all)
 
 pub returns-clause-says : goal.returns-clause-says
-returns-clause-says g c left t is = end_says pool_format pool_need_so_far c.write_behind.result c.args.room t c.write_behind.ensures.build
+returns-clause-says g c left t is = end_says pool_format pool_need_so_far c.write_rest.result c.args.room t c.write_rest.ensures.build

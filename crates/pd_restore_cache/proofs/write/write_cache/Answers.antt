@@ -1,4 +1,5 @@
 use Rattle.std.proofs.Common.{◌≡◌, List, length, sym, ◌∙◌, subst}
+use Rattle.std.proofs.lemmas.Result.{err_from_is_err_and}
 use Rattle.pd_draft.specs.Stand.{stand}
 use Rattle.pd_spells.specs.CacheText.{Line, cache_single}
 use Rattle.pd_texts.specs.Reader.{LeavesOf}
@@ -11,13 +12,13 @@ use Rattle.pd_restore_cache.proofs.write.write_cache.Goals as goal
 
 pub write_gathered-requires-clause-lawful : goal.write_gathered-requires-clause-lawful
 write_gathered-requires-clause-lawful g c =
-    let e = c.in-Ok.ensures.ends in
+    let e = c.in_ok-gather_lines.ensures.ends in
     gathered_lawful c.gather_lines.new.gathered
     (subst (λ (cache : Cache). length cache.versions ≡ 3) (sym (e.cache_is ∙ c.new-gathered.ensures.cache)) c.requires.stands.small.versions) e.all
 
-pub returns-in-Ok-clause-writes : goal.returns-in-Ok-clause-writes
-returns-in-Ok-clause-writes g c =
-    let e = c.in-Ok.ensures.ends in
+pub returns-clause-writes : goal.returns-clause-writes
+returns-clause-writes g c =
+    let e = c.in_ok-gather_lines.ensures.ends in
     let was = (g.S.Source.state c.args.source.now).left in
     let left = (g.S.Source.state c.gather_lines.new.source).left in
     let same = e.cache_is ∙ c.new-gathered.ensures.cache in
@@ -27,13 +28,14 @@ returns-in-Ok-clause-writes g c =
     (λ t leaves. e.told t (subst (λ (ls : List Line). LeavesOf cache_single t ls c.args.begun.text was) (sym lines) leaves))
     c.write_gathered.ensures.super_is c.write_gathered.ensures.wrote
 
-pub returns-clause-says : goal.returns-clause-says
-returns-clause-says g c t leaves =
+pub returns-in_err-gather_lines-clause-says : goal.returns-in_err-gather_lines-clause-says
+returns-in_err-gather_lines-clause-says g c t leaves =
     let was = (g.S.Source.state c.args.source.now).left in
     let lines = none_gathered c.new-gathered.result c.args.begun c.new-gathered.ensures.cache c.new-gathered.ensures.none in
-    says_of c.args.begun.cache c.args.version c.args.room t c.in-Err.fault c.requires.need
-    (subst (λ (cache : Cache). SaysAfter cache t c.in-Err.fault) c.new-gathered.ensures.cache
-    (c.in-Err.ensures.says t (subst (λ (ls : List Line). LeavesOf cache_single t ls c.args.begun.text was) (sym lines) leaves)))
+    let p = err_from_is_err_and c.from_residual.result c.from_residual.ensures.1 in
+    rw (p.1, p.2)
+    (says_of c.args.begun.cache c.args.version c.args.room t c.in_err-gather_lines.field-0.0 c.requires.need
+    (subst (λ (cache : Cache). SaysAfter cache t c.in_err-gather_lines.field-0.0) c.new-gathered.ensures.cache (c.in_err-gather_lines.ensures.says t (subst (λ (ls : List Line). LeavesOf cache_single t ls c.args.begun.text was) (sym lines) leaves))))
 
-pub returns-in-Ok-clause-later : goal.returns-in-Ok-clause-later
-returns-in-Ok-clause-later g c = later_take c.write_gathered.result _ _ c.write_gathered.ensures.faults
+pub returns-clause-later : goal.returns-clause-later
+returns-clause-later g c = later_take c.write_gathered.result _ _ c.write_gathered.ensures.faults

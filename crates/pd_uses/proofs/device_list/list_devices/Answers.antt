@@ -1,4 +1,5 @@
 use Rattle.std.proofs.Common.{refl, ◌∙◌}
+use Rattle.std.proofs.lemmas.Result.{err_from_is_err_and}
 use Rattle.pd_kinds.specs.Meaning.{thin_meaning}
 use Rattle.pd_answers.specs.QueryLines.{list_lines}
 use Rattle.pd_query.proofs.PutsLemmas.{one_told}
@@ -6,13 +7,14 @@ use Rattle.pd_query.proofs.QueryLemmas.{puts_as, puts_none}
 use Rattle.pd_uses.proofs.SoundLemmas.{list_is}
 use Rattle.pd_uses.proofs.device_list.list_devices.Goals as goal
 
-pub returns-in-Err-clause-lines : goal.returns-in-Err-clause-lines
-returns-in-Err-clause-lines g c =
-    puts_none (g.D.Device.state c.args.dev.now).held (λ image. list_lines (thin_meaning image)) c.in-Err.fault refl (λ image own none. refl)
+pub returns-in_err-counts-clause-lines : goal.returns-in_err-counts-clause-lines
+returns-in_err-counts-clause-lines g c =
+    let p = err_from_is_err_and c.from_residual.result c.from_residual.ensures.1 in
+    rw (p.1, p.2) (puts_none (g.D.Device.state c.args.dev.now).held (λ image. list_lines (thin_meaning image)) c.in_err-counts.field-0.0 refl (λ image own none. refl))
 
 pub returns-clause-lines : goal.returns-clause-lines
 returns-clause-lines g c =
     puts_as
     (one_told (g.D.Device.state c.args.dev.now).held
-    (λ image right text is own none. is ∙ list_is image c.args.s.now c.in-Ok.counts own c.in-Ok.ensures.size c.in-Ok.ensures.few right (c.rows_are_the_devices.ensures image none)) c.in-Ok.ensures.counts)
-    (rw c.in-Ok.ensures.kept.held at c.put_devices.ensures.text)
+    (λ image right text is own none. is ∙ list_is image c.args.s.now c.in_ok-counts.counts own c.in_ok-counts.ensures.size c.in_ok-counts.ensures.few right (c.rows_are_the_devices.ensures image none)) c.in_ok-counts.ensures.counts)
+    (rw c.in_ok-counts.ensures.kept.held at c.put_devices.ensures.text)

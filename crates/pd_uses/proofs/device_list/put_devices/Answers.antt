@@ -1,7 +1,5 @@
-use Rattle.std.proofs.Common.{Ok, Err, rules, subst}
+use Rattle.std.proofs.Common.{rules, subst}
 use Rattle.pd_lines.specs.Printer.{printing}
-use Rattle.pd_query.specs.declared.fault.QueryFault.{QueryFault}
-use Rattle.pd_query.specs.declared.fault.QueryFault.TheVariants.{Sink}
 use Rattle.pd_query.specs.Puts.{PutsText}
 use Rattle.pd_query.proofs.PutsLemmas.{text_finished, text_stopped}
 use Rattle.pd_thin_meaning.specs.Given.{super_rows}

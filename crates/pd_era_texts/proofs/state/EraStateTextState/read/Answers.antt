@@ -1,4 +1,5 @@
 use Rattle.std.proofs.Common.{slice_index}
+use Rattle.std.proofs.lemmas.Result.{err_from_is_err_and}
 use Rattle.pd_grammar.proofs.TableLemmas.{values_at}
 use Rattle.pd_spells.specs.EraText.{era_table}
 use Rattle.pd_texts.specs.Seen.{seen_by}
@@ -17,13 +18,15 @@ returns-then-not-may_stand-clause-line c = λ before stands some.
     read_elsewhere era_table before c.args.text.now c.cut_word.result.0.now (words_in c.cut_word.result.1) some c.requires.text c.cut_word.ensures (kind_meant c.in-Some.kind) c.in-Some.ensures
     (c.if-not-may_stand.ensures before stands)
 
-pub returns-in-Ok-clause-line : goal.returns-in-Ok-clause-line
-returns-in-Ok-clause-line c = λ before stands some.
+pub returns-clause-line : goal.returns-clause-line
+returns-clause-line c = λ before stands some.
     read_words era_table before c.args.text.now c.cut_word.result.0.now (words_in c.cut_word.result.1) some c.requires.text c.cut_word.ensures (kind_meant c.in-Some.kind)
     (values_at (kind_meant c.in-Some.kind).fields (name_at c.read_values.new.names) (slice_index c.read_values.new.numbers)) (seen_by era_meant c.take.result) c.in-Some.ensures
-    (c.if-not-may_stand.ensures before stands) (rw (← c.fields.ensures.fields) c.in-Ok.ensures) (c.take.ensures.line before stands some)
+    (c.if-not-may_stand.ensures before stands) (rw (← c.fields.ensures.fields) c.in_ok-read_values.ensures) (c.take.ensures.line before stands some)
 
-pub returns-in-Err-clause-line : goal.returns-in-Err-clause-line
-returns-in-Err-clause-line c = λ before stands some.
-    read_err era_table before c.args.text.now c.cut_word.result.0.now (words_in c.cut_word.result.1) some c.requires.text c.cut_word.ensures (kind_meant c.in-Some.kind) c.in-Err.cause c.in-Some.ensures
-    (c.if-not-may_stand.ensures before stands) (rw (← c.fields.ensures.fields) c.in-Err.ensures)
+pub returns-in_err-read_values-clause-line : goal.returns-in_err-read_values-clause-line
+returns-in_err-read_values-clause-line c before stands some =
+    let p = err_from_is_err_and c.from_residual.result c.from_residual.ensures.1 in
+    rw (p.1, p.2)
+    (read_err era_table before c.args.text.now c.cut_word.result.0.now (words_in c.cut_word.result.1) some c.requires.text c.cut_word.ensures (kind_meant c.in-Some.kind)
+    c.in_err-read_values.field-0.0 c.in-Some.ensures (c.if-not-may_stand.ensures before stands) (rw (← c.fields.ensures.fields) c.in_err-read_values.ensures))

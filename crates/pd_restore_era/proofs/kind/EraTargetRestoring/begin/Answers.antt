@@ -1,4 +1,7 @@
+use Rattle.std.proofs.lemmas.Result.{err_from_is_err_and}
 use Rattle.pd_restore_era.proofs.kind.EraTargetRestoring.begin.Goals as goal
 
-pub returns-in-Err-read_target-clause-told : goal.returns-in-Err-read_target-clause-told
-returns-in-Err-read_target-clause-told g c t left room = c.in-Err-read_target.ensures.told t (rw left (c.in-Ok.ensures.text t)) room
+pub returns-in_err-target-clause-told : goal.returns-in_err-target-clause-told
+returns-in_err-target-clause-told g c t left =
+    let p = err_from_is_err_and c.from_residual.result c.from_residual.ensures.1 in
+    rw (p.1, p.2) (c.in_err-target.ensures.told t (rw left (c.in-Ok.ensures.text t)))

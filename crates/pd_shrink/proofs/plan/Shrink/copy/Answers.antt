@@ -30,28 +30,28 @@ returns-in_err-copy_moved-clause-crash g c basis held of synced =
     left_of_ground basis plan of held
     ((rw c.as_slice.ensures.value at (c.copy_moved.ensures.crash held)) (kept_here plan.each (map copy_of_move (moves_in plan.moves.items)) held (g.C.Device.state c.args.pool.now) synced))
 
-pub returns-in-Ok-clause-count : goal.returns-in-Ok-clause-count
-returns-in-Ok-clause-count g c basis of none =
+pub returns-clause-count : goal.returns-clause-count
+returns-clause-count g c basis of none =
     let number = number_moved basis c.args.self.now of none in
     omega (arith, number, c.len.ensures, c.args.self.now.moves.ok.0)
 
-pub returns-in-Ok-clause-copied : goal.returns-in-Ok-clause-copied
-returns-in-Ok-clause-copied g c basis held of synced =
+pub returns-clause-copied : goal.returns-clause-copied
+returns-clause-copied g c basis held of synced =
     copied_synced basis c.args.self.now of held (g.C.Device.state c.args.pool.now) (g.C.Device.state c.copy_moved.new.pool) (g.C.Device.state c.sync.new.self)
-    (rw c.as_slice.ensures.value at c.in_ok-copy_moved.ensures.copied) c.in-Ok.ensures.synced.crash c.sync.ensures.synced.held synced
+    (rw c.as_slice.ensures.value at c.in_ok-copy_moved.ensures.copied) c.in_ok-sync.ensures.synced.crash c.sync.ensures.synced.held synced
 
-pub returns-in-Ok-clause-crash : goal.returns-in-Ok-clause-crash
-returns-in-Ok-clause-crash g c basis held of synced =
+pub returns-clause-crash : goal.returns-clause-crash
+returns-clause-crash g c basis held of synced =
     let plan = c.args.self.now in
     let copies = map copy_of_move (moves_in plan.moves.items) in
     left_of_ground basis plan of held
     (kept_synced plan.each copies held true ((rw c.as_slice.ensures.value at (c.copy_moved.ensures.crash held)) (kept_here plan.each copies held (g.C.Device.state c.args.pool.now) synced))
-    c.in-Ok.ensures.synced.crash c.sync.ensures.synced.held)
+    c.in_ok-sync.ensures.synced.crash c.sync.ensures.synced.held)
 
-pub returns-in-Err-clause-crash : goal.returns-in-Err-clause-crash
-returns-in-Err-clause-crash g c basis held of synced =
+pub returns-in_err-sync-clause-crash : goal.returns-in_err-sync-clause-crash
+returns-in_err-sync-clause-crash g c basis held of synced =
     let plan = c.args.self.now in
     let copies = map copy_of_move (moves_in plan.moves.items) in
     left_of_ground basis plan of held
     (kept_synced plan.each copies held false ((rw c.as_slice.ensures.value at (c.copy_moved.ensures.crash held)) (kept_here plan.each copies held (g.C.Device.state c.args.pool.now) synced))
-    c.in-Err.ensures.synced.crash c.sync.ensures.synced.held)
+    c.in_err-sync.ensures.synced.crash c.sync.ensures.synced.held)

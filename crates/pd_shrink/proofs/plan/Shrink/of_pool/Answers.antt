@@ -1,4 +1,5 @@
 use Rattle.std.proofs.Common.{ap, sym, ◌∙◌, arith}
+use Rattle.std.proofs.lemmas.Result.{err_from_is_err_and}
 use Rattle.pd_answers.specs.CachedView.{blocks_each, is_block_size_bad}
 use Rattle.pd_answers.specs.MovedPool.{moved_pool}
 use Rattle.pd_salvage.specs.Saved.{pool_of}
@@ -17,35 +18,37 @@ find_moves-requires-clause-end g c =
     omega (arith, number, c.min-end.ensures)
 
 pub finish-requires-clause-moves : goal.finish-requires-clause-moves
-finish-requires-clause-moves g c = c.in-Ok.ensures.found.1.moving
+finish-requires-clause-moves g c = c.in_ok-moves.ensures.found.1.moving
 
 pub finish-requires-clause-across : goal.finish-requires-clause-across
-finish-requires-clause-across g c = c.in-Ok.ensures.found.1.across
+finish-requires-clause-across g c = c.in_ok-moves.ensures.found.1.across
 
 pub finish-requires-clause-once : goal.finish-requires-clause-once
-finish-requires-clause-once g c = c.in-Ok.ensures.found.1.once
+finish-requires-clause-once g c = c.in_ok-moves.ensures.found.1.once
 
-pub returns-in-Ok-clause-plans : goal.returns-in-Ok-clause-plans
-returns-in-Ok-clause-plans g c =
+pub returns-clause-plans : goal.returns-clause-plans
+returns-clause-plans g c =
     let m = pool_of c.args.saved.now in
     let head = c.head-head.result.now in
     let size = pool_size c.args.saved.now head c.head-head.ensures.head in
     let number = pool_number c.args.saved.now head c.head-head.ensures.head in
     finished_plans (g.A.Device.state c.args.meta.now).held c.args.map.now m c.min-end.result (blocks_each head.block_size) c.args.output_blocks c.args.pool_blocks c.args.blocks c.requires.sound
     (omega (arith, number, c.min-end.ensures)) (ap is_block_size_bad size ∙ (sym c.is_block_size_bad.ensures ∙ c.if-is_block_size_bad.false)) (ap blocks_each (sym size))
-    c.in-Ok.ensures.found.0 c.in-Ok.moves.items c.in-Ok.ensures.found.1 c.finish.result c.finish.ensures
+    c.in_ok-moves.ensures.found.0 c.in_ok-moves.moves.items c.in_ok-moves.ensures.found.1 c.finish.result c.finish.ensures
 
-pub returns-in-Ok-clause-faults : goal.returns-in-Ok-clause-faults
-returns-in-Ok-clause-faults g c =
-    finished_counts (moved_pool (pool_of c.args.saved.now) c.min-end.result (moves_in c.in-Ok.moves.items)) c.in-Ok.moves.items (blocks_each c.head-head.result.now.block_size) c.args.output_blocks
-    c.args.pool_blocks c.finish.result c.finish.ensures c.in-Ok.ensures.faults
+pub returns-clause-faults : goal.returns-clause-faults
+returns-clause-faults g c =
+    finished_counts (moved_pool (pool_of c.args.saved.now) c.min-end.result (moves_in c.in_ok-moves.moves.items)) c.in_ok-moves.moves.items (blocks_each c.head-head.result.now.block_size) c.args.output_blocks
+    c.args.pool_blocks c.finish.result c.finish.ensures c.in_ok-moves.ensures.faults
 
-pub returns-in-Err-clause-plans : goal.returns-in-Err-clause-plans
-returns-in-Err-clause-plans g c =
+pub returns-in_err-moves-clause-plans : goal.returns-in_err-moves-clause-plans
+returns-in_err-moves-clause-plans g c =
     let m = pool_of c.args.saved.now in
     let head = c.head-head.result.now in
     let size = pool_size c.args.saved.now head c.head-head.ensures.head in
     let number = pool_number c.args.saved.now head c.head-head.ensures.head in
-    missed_plans (g.A.Device.state c.args.meta.now).held c.args.map.now m c.min-end.result (blocks_each head.block_size) c.args.output_blocks c.args.pool_blocks c.args.blocks c.requires.sound
-    (omega (arith, number, c.min-end.ensures)) (ap is_block_size_bad size ∙ (sym c.is_block_size_bad.ensures ∙ c.if-is_block_size_bad.false)) (ap blocks_each (sym size))
-    c.in-Err.fault c.in-Err.ensures.found
+    let p = err_from_is_err_and c.from_residual.result c.from_residual.ensures.1 in
+    rw (p.1, p.2)
+    (missed_plans (g.A.Device.state c.args.meta.now).held c.args.map.now m c.min-end.result (blocks_each head.block_size) c.args.output_blocks c.args.pool_blocks c.args.blocks
+    c.requires.sound (omega (arith, number, c.min-end.ensures)) (ap is_block_size_bad size ∙ (sym c.is_block_size_bad.ensures ∙ c.if-is_block_size_bad.false))
+    (ap blocks_each (sym size)) c.in_err-moves.field-0.0 c.in_err-moves.ensures.found)

@@ -10,8 +10,8 @@ returns-then-is_block_size_bad-clause-plans g c =
 
 pub of_pool-requires-clause-sound : goal.of_pool-requires-clause-sound
 of_pool-requires-clause-sound g c =
-    subst (λ (o : Option (List (List ℕ))). IfSome o (IsSoundPool c.args.s.now.data_map (pool_of c.in-Ok.saved))) (sym c.read_pool.ensures.kept.held)
-    (sound_pool (g.A.Device.state c.args.meta.now).held c.args.s.now (pool_of c.in-Ok.saved) c.requires.sound c.in-Ok.ensures.means)
+    subst (λ (o : Option (List (List ℕ))). IfSome o (IsSoundPool c.args.s.now.data_map (pool_of c.in_ok-saved.saved))) (sym c.read_pool.ensures.kept.held)
+    (sound_pool (g.A.Device.state c.args.meta.now).held c.args.s.now (pool_of c.in_ok-saved.saved) c.requires.sound c.in_ok-saved.ensures.means)
 
-pub returns-in-Ok-clause-plans : goal.returns-in-Ok-clause-plans
-returns-in-Ok-clause-plans g c = rw c.read_pool.ensures.kept.held at c.of_pool.ensures.plans
+pub returns-clause-plans : goal.returns-clause-plans
+returns-clause-plans g c = rw c.read_pool.ensures.kept.held at c.of_pool.ensures.plans

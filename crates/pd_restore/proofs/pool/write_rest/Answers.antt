@@ -6,7 +6,7 @@ use Rattle.pd_restoring.proofs.ReadingLemmas.{accepted_whole}
 use Rattle.pd_restore.specs.Whole.{head_of_pool}
 use Rattle.pd_restore.proofs.PoolLemmas.{fields_are, head_is, super_is, behind_is, whole_bytes}
 use Rattle.pd_restore.proofs.ReadingLemmas.{build_is}
-use Rattle.pd_restore.proofs.pool.write_behind.Goals as goal
+use Rattle.pd_restore.proofs.pool.write_rest.Goals as goal
 
 pub returns-in-Ok-clause-writes : goal.returns-in-Ok-clause-writes
 returns-in-Ok-clause-writes g c first lines later left start front all =
