@@ -232,9 +232,6 @@ result_map-ok : {X Y : Type 0} → (g : X → Y) (r : Result X TextCause) (y : Y
 result_map-ok g (Ok x) y e = (x, refl, same_Ok {E = TextCause} (g x) y e)
 result_map-ok g (Err cause) y e = absurd (ok-err y cause (sym e))
 
-same_word : (keyword word : List ℕ) → bytes_eq keyword word ≡ true → keyword ≡ word
-same_word keyword word e = (bytes_eq-Decides keyword word).0 e
-
 module _ {L : Type 0} (table : Table L) (lawful : IsLawful table) where
   line_words : (before : List L) (kind : LineKind L) (words : List (List ℕ)) (line : L) → Makes table kind → may_stand kind.place before ≡ true
       → result_map kind.make (values_in kind.fields words) ≡ Ok line

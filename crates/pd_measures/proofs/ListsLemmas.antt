@@ -1,5 +1,5 @@
 -- Lists of devices, compared entry by entry.
-use Rattle.std.proofs.Common.{◌≡◌, ℕ, Bool, true, false, ◌&&◌, cond, nat_eq, List, [], ◌∷◌, map, Some, None, refl, sym, ◌∙◌, ap, subst, eq-eqb}
+use Rattle.std.proofs.Common.{◌≡◌, ℕ, true, false, nat_eq, List, [], ◌∷◌, map, refl, sym, ◌∙◌, ap, eq-eqb}
 use Rattle.std.specs.List.{AllByRecursion}
 use Rattle.std.proofs.lemmas.Bool.{and_parts, and_from, both_ways, eqb-true}
 use Rattle.pd_kinds.specs.Node.{Entry}
@@ -7,23 +7,10 @@ use Rattle.pd_value.specs.declared.thin.Root.{Root}
 use Rattle.pd_value.specs.declared.thin.Details.{Details}
 use Rattle.pd_tree.specs.Items.{item_of, root_of}
 use Rattle.pd_measures.specs.Counts.{DeviceCount, counts_by_details, counts_by_roots}
-use Rattle.pd_measures.specs.Lists.{are_one, details_of, is_one, IsDecided}
+use Rattle.pd_measures.specs.Lists.{are_one, details_of, is_one}
 
 abbrev the_count : ℕ → ℕ → DeviceCount
 the_count id mapped = record { id = id; mapped = mapped }
-
-module _ (below : ℕ → ℕ) where
-  both_by : (test : Bool) (top : ℕ × Root) (detail : ℕ × Details) (tops' : List (ℕ × Root)) (details' : List (ℕ × Details)) → is_one below top detail ≡ test
-      → IsDecided below (top ∷ tops') (detail ∷ details') tops' details' (cond test None (Some false))
-  both_by true top detail tops' details' e = ap (λ (x : Bool). x && are_one below tops' details') e
-  both_by false top detail tops' details' e = ap (λ (x : Bool). x && are_one below tops' details') e
-
-  by_test : (test : Bool) (top : ℕ × Root) (detail : ℕ × Details) (tops tops' : List (ℕ × Root)) (details details' : List (ℕ × Details))
-      → tops ≡ top ∷ tops' → details ≡ detail ∷ details' → is_one below top detail ≡ test → IsDecided below tops details tops' details' (cond test None (Some false))
-  by_test test top detail tops tops' details details' first second e =
-      subst (λ (ts : List (ℕ × Root)). IsDecided below ts details tops' details' (cond test None (Some false))) (sym first)
-      (subst (λ (ds : List (ℕ × Details)). IsDecided below (top ∷ tops') ds tops' details' (cond test None (Some false))) (sym second)
-      (both_by test top detail tops' details' e))
 
 -- entries as cursors give them
 module _ (below number : ℕ → ℕ) where

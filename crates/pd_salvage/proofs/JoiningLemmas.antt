@@ -7,7 +7,7 @@ use Rattle.pd_spells.specs.ThinText as text
 use Rattle.pd_spells.specs.ThinText.{mappings_from, mappings_of, joined_runs, with_mapping, follows}
 use Rattle.pd_thin_meaning.specs.declared.joined.Run.{Run}
 use Rattle.pd_thin_meaning.specs.Joined.{spelled}
-use Rattle.pd_thin_meaning.proofs.JoinedLemmas.{IsApart, run_before}
+use Rattle.pd_thin_meaning.proofs.JoinedLemmas.{IsApart, apart_first, run_before}
 use Rattle.pd_salvage.specs.Gather.{HasRuns, IsJoining, begun_mappings, mappings_of_runs}
 use Rattle.pd_salvage.specs.declared.joined.Joining.{Joining}
 
@@ -42,17 +42,6 @@ taken_on begun next is =
     let time : next.time ≡ begun.time = sym (eqb-true begun.time next.time others.1) in
     let length_is : begun.target + begun.length - begun.target + next.length ≡ begun.length + next.length = omega arith in
     rw (virtual, target, time, length_is) (longer_run begun.virt begun.target begun.time begun.length next.length)
-
--- the first run begins with the first mapping
-apart_if : (r : text.Run) (m : Mapping) (s : text.Run) (joined : Bool) (rs : List text.Run)
-    → ((n : ℕ) → text.joins r (run m.virtual_block m.data_block n m.time) ≡ false)
-    → IsApart r (cond joined (run m.virtual_block m.data_block (suc s.length) m.time ∷ rs) (run m.virtual_block m.data_block 1 m.time ∷ s ∷ rs))
-apart_if r m s true rs apart = apart (suc s.length)
-apart_if r m s false rs apart = apart 1
-
-apart_first : (r : text.Run) (m : Mapping) (rs : List text.Run) → ((n : ℕ) → text.joins r (run m.virtual_block m.data_block n m.time) ≡ false) → IsApart r (with_mapping m rs)
-apart_first r m [] apart = apart 1
-apart_first r m (s ∷ rs) apart = apart_if r m s (follows m s) rs apart
 
 -- the mappings of a run, before mappings whose first run doesn't join it
 run_before_at : (v d t n : ℕ) (rest : List Mapping) → 1 ≤ n → IsApart (run v d n t) (joined_runs rest)

@@ -2,10 +2,8 @@
 -- than there are.
 use Rattle.std.specs.Prelude.{ℕ, nat_lt, Bool, true, List, [], ◌∷◌}
 use Rattle.pd_grammar.specs.Texts.{reading}
-use Rattle.pd_spells.specs.ThinText.{thin}
 use Rattle.pd_spells.specs.CacheText.{cache}
 use Rattle.pd_spells.specs.EraText.{era}
-use Rattle.pd_spells.specs.ThinNeed.{thin_need_so_far}
 use Rattle.pd_spells.specs.CacheNeed.{cache_need_so_far}
 use Rattle.pd_spells.specs.EraNeed.{era_need_so_far}
 
@@ -14,10 +12,6 @@ abbrev pub is_decided_early : {L : Type 0} → (List L → ℕ) → ℕ → List
 is_decided_early need room (first ∷ second ∷ lines) = nat_lt room (need (second ∷ first ∷ []))
 is_decided_early need room (first ∷ []) = true
 is_decided_early need room [] = true
-
--- for each kind
-abbrev pub is_pool_early : List ℕ → ℕ → Bool
-is_pool_early text room = is_decided_early (thin_need_so_far room) room (reading thin text).lines
 
 abbrev pub is_cache_early : ℕ → List ℕ → ℕ → Bool
 is_cache_early version text room = is_decided_early (cache_need_so_far version room) room (reading cache text).lines

@@ -62,7 +62,7 @@ apart_if : (r : Run) (m : Mapping) (s : Run) (joined : Bool) (rs : List Run)
 apart_if r m s true rs apart = apart (suc s.length)
 apart_if r m s false rs apart = apart 1
 
-apart_first : (r : Run) (m : Mapping) (rs : List Run) → ((n : ℕ) → joins r (run m.virtual_block m.data_block n m.time) ≡ false) → IsApart r (with_mapping m rs)
+pub apart_first : (r : Run) (m : Mapping) (rs : List Run) → ((n : ℕ) → joins r (run m.virtual_block m.data_block n m.time) ≡ false) → IsApart r (with_mapping m rs)
 apart_first r m [] apart = apart 1
 apart_first r m (s ∷ rs) apart = apart_if r m s (follows m s) rs apart
 

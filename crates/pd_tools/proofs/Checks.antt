@@ -9,13 +9,12 @@ use Rattle.pd_kinds.specs.Report.{report_of}
 use Rattle.pd_kinds.specs.Stages.{faults}
 use Rattle.pd_kinds.specs.Crash.{IsUntouched}
 use Rattle.pd_answers.specs.Answer.{Objects, IsUsed, reading}
-use Rattle.pd_kinds.proofs.AppendLemmas.{front_none}
 use Rattle.pd_answers.specs.Terms.{is_possible}
 use Rattle.pd_answers.specs.Promises.{check}
 use Rattle.pd_check.specs.Check as check_reads
 use Rattle.pd_tools.proofs.FewReads.{few}
+use Rattle.pd_tools.proofs.Works.{Stands, stopped_unread}
 use Rattle.pd_tools.specs.declared.stop.Stop.{Stop}
-use Rattle.pd_tools.specs.declared.stop.Stop.TheVariants.{Device, Stream, Memory}
 use Rattle.pd_tools.specs.Read.{IsUnread}
 use Rattle.pd_tools.specs.Work.{IsStopped}
 
@@ -41,38 +40,23 @@ pub check_unread : (kind : Kind) (until : Stage) (path : List ℕ) (others : Obj
     → out.access ≡ 0 → IsUsed (reading path) input'.access input'.path → IsUntouched input input'
     → IfSome input.held (λ image. check_reads.ReadsFew kind until image (input.reads + 1) input'.reads) → IsUnread kind until input input' stop
     → IsStopped (check kind until path) (record others { out = out; input = input }) (record others { out = out; notes = notes; input = input' }) stop
-check_unread kind until path others notes out input input' Stream none used untouched reads unread = absurd unread
-check_unread kind until path others notes out input input' Device none used untouched reads unread = record {
-  finding = option_map_or (λ image. report_of (faults kind until image)) input.held (report_of []);
-  work = record {
-    found = told input.held (λ image. report_of (faults kind until image)) (report_of []);
-    possible = refl;
-    followed = record { source = tt; out = not_yet [] out.access out.path none; input = used; output = tt; third = tt };
-    kept = record { source = refl; out = tt; input = untouched; output = refl; third = refl };
-    order = record { input = λ _. tt; output = tt; third = tt; out = λ ne. absurd (ne none) };
-    silent = λ _. refl;
-    spared = λ no. absurd no;
-    reads = few kind until input.held input.reads input'.reads reads;
-    leaves = tt;
-  };
-  cause = inl unread;
-  front = front_none _ out.written;
-  lost = tt;
-}
-check_unread kind until path others notes out input input' Memory none used untouched reads unread = record {
-  finding = option_map_or (λ image. report_of (faults kind until image)) input.held (report_of []);
-  work = record {
-    found = told input.held (λ image. report_of (faults kind until image)) (report_of []);
-    possible = wanting_possible kind until path unread.past_super;
-    followed = record { source = tt; out = not_yet [] out.access out.path none; input = used; output = tt; third = tt };
-    kept = record { source = refl; out = tt; input = untouched; output = refl; third = refl };
-    order = record { input = λ _. tt; output = tt; third = tt; out = λ ne. absurd (ne none) };
-    silent = λ _. refl;
-    spared = λ no. absurd no;
-    reads = few kind until input.held input.reads input'.reads reads;
-    leaves = tt;
-  };
-  cause = unread;
-  front = front_none _ out.written;
-  lost = tt;
+check_unread kind until path others notes out input input' stop none used untouched reads unread =
+    stopped_unread (check kind until path) (record others { out = out; input = input }) (record others { out = out; notes = notes; input = input' }) (record {
+      followed = record { source = tt; out = not_yet [] out.access out.path none; input = used; output = tt; third = tt };
+      order = record { input = λ _. tt; output = tt; third = tt; out = λ ne. absurd (ne none) };
+      kept = record { source = refl; out = tt; input = untouched; output = refl; third = refl };
+      reads = few kind until input.held input.reads input'.reads reads;
+    }) (option_map_or (λ image. report_of (faults kind until image)) input.held (report_of [])) (told input.held (λ image. report_of (faults kind until image)) (report_of []))
+    refl kind until stop unread refl (λ wants. (wanting_possible kind until path wants.past_super, wants)) (λ _ _. tt)
+
+-- once the image was read, and `out` was attached for its report
+pub check_stands : (kind : Kind) (until : Stage) (path : List ℕ) (others : Objects) (notes out out' : SinkState) (input input' : DeviceState)
+    → IsUsed (reading []) out'.access out'.path → IsUsed (reading path) input'.access input'.path → input'.access ≡ 1 → IsUntouched input input'
+    → IfSome input.held (λ image. check_reads.ReadsFew kind until image (input.reads + 1) input'.reads)
+    → Stands (check kind until path) (record others { out = out; input = input }) (record others { out = out'; notes = notes; input = input' })
+check_stands kind until path others notes out out' input input' out_used used opened untouched reads = record {
+  followed = record { source = tt; out = out_used; input = used; output = tt; third = tt };
+  order = record { input = λ _. tt; output = tt; third = tt; out = λ _. record { source = tt; input = opened; output = tt; third = tt } };
+  kept = record { source = refl; out = tt; input = untouched; output = refl; third = refl };
+  reads = few kind until input.held input.reads input'.reads reads;
 }

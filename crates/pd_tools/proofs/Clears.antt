@@ -1,5 +1,5 @@
 -- What the work of a check that clears the flag comes to, over plain variables.
-use Rattle.std.proofs.Common.{◌+◌, ◌≡◌, ◌≢◌, ◌⊎◌, inl, inr, ⊎_elim, ℕ, suc, ◌<◌, ◌≤◌, ◌==◌, Bool, true, false, IsTrue, if◌then◌else◌, List, [], ◌∷◌, drop, length, get_or, Option, IfSome, refl, sym, ap, subst, ◌∙◌, arith, lit≤}
+use Rattle.std.proofs.Common.{◌+◌, ◌≡◌, ◌≢◌, ◌⊎◌, inl, inr, ⊎_elim, ℕ, suc, ◌<◌, ◌≤◌, ◌==◌, Bool, false, IsTrue, if◌then◌else◌, List, [], ◌∷◌, drop, length, get_or, Option, IfSome, refl, sym, ap, subst, ◌∙◌, arith, lit≤}
 use Rattle.std.specs.Option.{option_map_or}
 use Rattle.std.proofs.lemmas.List.{ext_get_or}
 use Rattle.std.proofs.lemmas.Option.{IfSome_then, get_or_from_slice_get, slice_get-get_or}
@@ -10,7 +10,7 @@ use Rattle.pd_kinds.specs.Objects.{DeviceState, SinkState, Appends, AppendsFront
 use Rattle.pd_kinds.specs.Report.{Reported, report_of}
 use Rattle.pd_kinds.specs.Stages.{faults}
 use Rattle.pd_kinds.specs.Crash.{LeavesOnly, HoldsSynced, IsSynced, IsUntouched}
-use Rattle.pd_kinds.proofs.AppendLemmas.{front_none, front_from_whole}
+use Rattle.pd_kinds.proofs.AppendLemmas.{front_from_whole}
 use Rattle.pd_kinds.proofs.CrashLemmas.{and_then, stays, weaken}
 use Rattle.pd_image.specs.Device.{IsWritable, MayChange}
 use Rattle.pd_image.proofs.CrashLemmas.{at_some}
@@ -22,13 +22,14 @@ use Rattle.pd_answers.specs.Terms.{is_one_of, is_possible}
 use Rattle.pd_answers.specs.Flag.{IsOldOrCleared, LeavesCleared, cleared, needs_check}
 use Rattle.pd_answers.specs.Promises.{check_and_clear}
 use Rattle.pd_tools.specs.declared.stop.Stop.{Stop}
-use Rattle.pd_tools.specs.declared.stop.Stop.TheVariants.{Device, Stream, Memory}
+use Rattle.pd_tools.specs.declared.stop.Stop.TheVariants.{Device, Stream}
 use Rattle.pd_tools.specs.Read.{IsUnread}
 use Rattle.pd_check.specs.Check as check_reads
 use Rattle.pd_answers.specs.Reads.{ReadsFew}
 use Rattle.pd_tools.proofs.FewReads.{few}
-use Rattle.pd_tools.specs.Work.{IsWork, IsFinished, IsStopped}
+use Rattle.pd_tools.specs.Work.{IsFinished, IsStopped}
 use Rattle.pd_tools.proofs.Checks.{not_yet, told}
+use Rattle.pd_tools.proofs.Works.{Stands, by_clean, finished_by, stopped_by, stopped_unread}
 
 abbrev Image : Type 0
 Image = List (List ℕ)
@@ -131,41 +132,14 @@ pub clearing_unread : (path : List ℕ) (others : Objects) (notes out : SinkStat
     → IfSome input.held (λ image. check_reads.ReadsFew Thin Counts image (input.reads + 1) input'.reads) → IsUnread Thin Counts input input' stop
     → IsStopped (check_and_clear path) (record others { out = out; input = input }) (record others { out = out; notes = notes; input = input' }) stop
 unfolding report_in
-clearing_unread path others notes out input input' Stream none synced used untouched reads unread = absurd unread
-clearing_unread path others notes out input input' Device none synced used untouched reads unread = record {
-  finding = report_in input.held;
-  work = record {
-    found = told input.held (λ image. report_of (faults Thin Counts image)) (report_of []);
-    possible = refl;
-    followed = record { source = tt; out = not_yet [] out.access out.path none; input = used; output = tt; third = tt };
-    kept = record { source = refl; out = tt; input = tt; output = refl; third = refl };
-    order = record { input = λ _. tt; output = tt; third = tt; out = λ ne. absurd (ne none) };
-    silent = λ _. refl;
-    spared = λ no. absurd no;
-    reads = few Thin Counts input.held input.reads input'.reads reads;
-    leaves = untouched_left (report_in input.held) input input' synced 5 (λ e. omega arith) untouched;
-  };
-  cause = inl unread;
-  front = front_none _ out.written;
-  lost = untouched_left (report_in input.held) input input' synced 6 (λ e. omega arith) untouched;
-}
-clearing_unread path others notes out input input' Memory none synced used untouched reads unread = record {
-  finding = report_in input.held;
-  work = record {
-    found = told input.held (λ image. report_of (faults Thin Counts image)) (report_of []);
-    possible = refl;
-    followed = record { source = tt; out = not_yet [] out.access out.path none; input = used; output = tt; third = tt };
-    kept = record { source = refl; out = tt; input = tt; output = refl; third = refl };
-    order = record { input = λ _. tt; output = tt; third = tt; out = λ ne. absurd (ne none) };
-    silent = λ _. refl;
-    spared = λ no. absurd no;
-    reads = few Thin Counts input.held input.reads input'.reads reads;
-    leaves = untouched_left (report_in input.held) input input' synced 7 (λ e. omega arith) untouched;
-  };
-  cause = unread;
-  front = front_none _ out.written;
-  lost = untouched_left (report_in input.held) input input' synced 6 (λ e. omega arith) untouched;
-}
+clearing_unread path others notes out input input' stop none synced used untouched reads unread =
+    stopped_unread (check_and_clear path) (record others { out = out; input = input }) (record others { out = out; notes = notes; input = input' }) (record {
+      followed = record { source = tt; out = not_yet [] out.access out.path none; input = used; output = tt; third = tt };
+      order = record { input = λ _. tt; output = tt; third = tt; out = λ ne. absurd (ne none) };
+      kept = record { source = refl; out = tt; input = tt; output = refl; third = refl };
+      reads = few Thin Counts input.held input.reads input'.reads reads;
+    }) (report_in input.held) (told input.held (λ image. report_of (faults Thin Counts image)) (report_of [])) refl Thin Counts stop unread refl (λ wants. (refl, wants))
+    (λ status high. untouched_left (report_in input.held) input input' synced status (λ e. omega arith) untouched)
 
 -- the image was read to this report, and `out` was attached for it
 module _ (path : List ℕ) (others : Objects) (notes out out' : SinkState) (input input' : DeviceState) (report : Reported)
@@ -178,69 +152,35 @@ module _ (path : List ℕ) (others : Objects) (notes out out' : SinkState) (inpu
   abbrev after : Objects
   after = record others { out = out'; notes = notes; input = input' }
 
-  -- what is done by then, with any status under which `out` isn't left alone
-  reported_work : (status : ℕ) → IsTrue (is_possible (check_and_clear path) status) → (IsTrue (is_one_of (7 ∷ []) status) → after.out ≡ before.out)
-      → LeavesCleared report status input input' → IsWork (check_and_clear path) report before after status
-  reported_work status possible silent leaves = record {
-    found = found;
-    possible = possible;
+  stands : Stands (check_and_clear path) before after
+  stands = record {
     followed = record { source = tt; out = out_used; input = record { allowed = inr (inl writable); named = λ _. named }; output = tt; third = tt };
-    kept = record { source = refl; out = tt; input = tt; output = refl; third = refl };
     order = record { input = λ _. tt; output = tt; third = tt; out = λ _. record { source = tt; input = writable; output = tt; third = tt } };
-    silent = silent;
-    spared = λ no. absurd no;
+    kept = record { source = refl; out = tt; input = tt; output = refl; third = refl };
     reads = reads;
-    leaves = leaves;
   }
 
   -- the report was put, and the flag cleared where nothing was reported
   pub clearing_done : (clean : Bool) → clean ≡ (report.total == 0) → Appends (reported_lines report) out.written out'.written → out'.access ≡ 1
       → LeavesCleared report (if clean then 0 else 1) input input'
       → IsFinished (check_and_clear path) before after (if clean then 0 else 1) []
-  clearing_done clean is whole attached leaves = record {
-    finding = report;
-    work = reported_work (if clean then 0 else 1) (possible clean) (loud clean) leaves;
-    low = low clean;
-    same_status = rw is refl;
-    same_line = refl;
-    out = whole;
-    open_devices = record { source = tt; input = writable; output = tt; third = tt };
-    open_out = λ _. attached;
-    read = λ _. tt;
-  }
-    where
-      possible : (clean : Bool) → IsTrue (is_possible (check_and_clear path) (if clean then 0 else 1))
-      possible true = refl
-      possible false = refl
-
-      loud : {P : Type 0} (clean : Bool) → IsTrue (is_one_of (7 ∷ []) (if clean then 0 else 1)) → P
-      loud true e = absurd cc
-      loud false e = absurd cc
-
-      low : (clean : Bool) → (if clean then 0 else 1) ≤ 4
-      low true = lit≤ tt
-      low false = lit≤ tt
+  clearing_done clean is whole attached leaves =
+      finished_by (check_and_clear path) before after stands report found (if clean then 0 else 1) (reported_lines report) []
+      (by_clean (λ s. s ≤ 4) clean (lit≤ tt) (lit≤ tt)) (by_clean (λ s. IsTrue (is_possible (check_and_clear path) s)) clean refl refl)
+      (λ quiet. absurd (by_clean (λ s. IsTrue (is_one_of (7 ∷ []) s) → ⊥) clean (λ e. cc) (λ e. cc) quiet)) (λ no. absurd no)
+      (rw is refl) whole (record { source = tt; input = writable; output = tt; third = tt }) (λ _. attached) (λ _. tt) leaves
 
   -- the report wasn't put
   pub clearing_unput : AppendsFront (reported_lines report) out.written out'.written → Rose out.faults out'.faults
       → LeavesCleared report 6 input input'
       → IsStopped (check_and_clear path) before after Stream
-  clearing_unput front rose left = record {
-    finding = report;
-    work = reported_work 6 refl (λ e. absurd cc) left;
-    cause = inr rose;
-    front = front;
-    lost = left;
-  }
+  clearing_unput front rose left =
+      stopped_by (check_and_clear path) before after stands report found Stream refl (λ e. absurd cc) (λ no. absurd no) (inr rose) front left left
 
   -- the report was put, and the device failed then
   pub clearing_failed : Appends (reported_lines report) out.written out'.written → Rose input.faults input'.faults
       → ((status : ℕ) → status ≢ 0 → LeavesCleared report status input input')
       → IsStopped (check_and_clear path) before after Device
-  clearing_failed whole rose left = record {
-    finding = report;
-    work = reported_work 5 refl (λ e. absurd cc) (left 5 (λ e. omega arith));
-    cause = inl rose;
-    front = front_from_whole _ _ _ whole;
-    lost = left 6 (λ e. omega arith);
-  }
+  clearing_failed whole rose left =
+      stopped_by (check_and_clear path) before after stands report found Device refl (λ e. absurd cc) (λ no. absurd no) (inl rose)
+      (front_from_whole _ _ _ whole) (left 5 (λ e. omega arith)) (left 6 (λ e. omega arith))

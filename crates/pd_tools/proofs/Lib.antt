@@ -1,4 +1,5 @@
 pub mod Answered
+pub mod Works
 pub mod FewReads
 pub mod Checks
 pub mod Clears

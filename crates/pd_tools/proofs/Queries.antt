@@ -5,10 +5,10 @@ use Rattle.pd_kinds.specs.declared.kind.Kind.{Kind}
 use Rattle.pd_kinds.specs.declared.kind.Stage.{Stage}
 use Rattle.pd_kinds.specs.declared.kind.Stage.TheVariants as stages
 use Rattle.pd_kinds.specs.Objects.{DeviceState, SinkState, Appends, AppendsFront}
+use Rattle.pd_spells.specs.Lines.{reported_lines}
 use Rattle.pd_kinds.specs.Report.{Reported, report_of}
 use Rattle.pd_kinds.specs.Stages.{Checked, checked_of, faults, first_failing, stage_faults}
 use Rattle.pd_kinds.specs.Crash.{IsUntouched}
-use Rattle.pd_kinds.proofs.AppendLemmas.{appends_none, front_none}
 use Rattle.pd_image.specs.Device.{OnlyReads}
 use Rattle.pd_answers.specs.Answer.{Objects, IsUsed, reading}
 use Rattle.pd_answers.specs.Promises.{Queried}
@@ -18,8 +18,10 @@ use Rattle.pd_tools.specs.declared.stop.Stop.{Stop}
 use Rattle.pd_tools.specs.declared.stop.Stop.TheVariants.{Device, Stream, Memory}
 use Rattle.pd_tools.specs.Query.{IsUnput, kind_of, query_line, query_status, terms_of_query, text_of}
 use Rattle.pd_tools.specs.Read.{IsUnread}
-use Rattle.pd_tools.specs.Work.{IsFinished, IsStopped, IsWork}
+use Rattle.pd_tools.specs.Stop.{stop_status}
+use Rattle.pd_tools.specs.Work.{HasCause, IsFinished, IsStopped}
 use Rattle.pd_tools.proofs.Checks.{not_yet}
+use Rattle.pd_tools.proofs.Works.{Stands, finished_by, finished_early, stopped_by, stopped_unread}
 
 -- a value that is told, if one is
 abbrev pub told_or : {X Y : Type 0} → (X → Y) → Y → Option X → Y
@@ -78,145 +80,76 @@ query_at_rest kind f held = (
 )
 
 module _ (q : Asked) (file : Option (List ℕ)) (path : List ℕ) (others : Objects) (notes out : SinkState) (input : DeviceState) (fresh : out.access ≡ 0) where
+  abbrev before : Objects
+  before = record others { out = out; input = input }
+
+  abbrev after : SinkState → DeviceState → Objects
+  after out' input' = record others { out = out'; notes = notes; input = input' }
+
+  abbrev finding : Reported → List ℕ → Queried
+  finding report text = record { report = report; text = text }
+
+  unput : (input' : DeviceState) → IsUsed (reading path) input'.access input'.path → IsUntouched input input' → Stands (terms_of_query q file path) before (after out input')
+  unput input' used untouched = record {
+    followed = record { source = tt; out = not_yet (unwrap_or file []) out.access out.path fresh; input = used; output = tt; third = tt };
+    order = record { input = λ _. tt; output = tt; third = tt; out = λ ne. absurd (ne fresh) };
+    kept = record { source = refl; out = tt; input = untouched; output = refl; third = refl };
+    reads = tt;
+  }
+
   -- the image was not read
   pub query_unread : (input' : DeviceState) (stop : Stop) → IsUsed (reading path) input'.access input'.path → IsUntouched input input' → IsUnread (kind_of q) stages.Whole input input' stop
-      → IsStopped (terms_of_query q file path) (record others { out = out; input = input }) (record others { out = out; notes = notes; input = input' }) stop
-  query_unread input' Stream used untouched unread = absurd unread
-  query_unread input' Device used untouched unread = record {
-    finding = record { report = told_or (λ image. report_of (faults (kind_of q) stages.Whole image)) (report_of []) input.held; text = told_or (text_of q) [] input.held };
-    work = record {
-      found = both_told input.held (kind_of q) (text_of q);
-      possible = refl;
-      followed = record { source = tt; out = not_yet (unwrap_or file []) out.access out.path fresh; input = used; output = tt; third = tt };
-      kept = record { source = refl; out = tt; input = untouched; output = refl; third = refl };
-      order = record { input = λ _. tt; output = tt; third = tt; out = λ ne. absurd (ne fresh) };
-      silent = λ _. refl;
-      spared = λ _. refl;
-      reads = tt;
-      leaves = tt;
-    };
-    cause = inl unread;
-    front = front_none _ out.written;
-    lost = tt;
-  }
-  query_unread input' Memory used untouched unread = record {
-    finding = record { report = told_or (λ image. report_of (faults (kind_of q) stages.Whole image)) (report_of []) input.held; text = told_or (text_of q) [] input.held };
-    work = record {
-      found = both_told input.held (kind_of q) (text_of q);
-      possible = refl;
-      followed = record { source = tt; out = not_yet (unwrap_or file []) out.access out.path fresh; input = used; output = tt; third = tt };
-      kept = record { source = refl; out = tt; input = untouched; output = refl; third = refl };
-      order = record { input = λ _. tt; output = tt; third = tt; out = λ ne. absurd (ne fresh) };
-      silent = λ _. refl;
-      spared = λ _. refl;
-      reads = tt;
-      leaves = tt;
-    };
-    cause = unread;
-    front = front_none _ out.written;
-    lost = tt;
-  }
+      → IsStopped (terms_of_query q file path) before (after out input') stop
+  query_unread input' stop used untouched unread =
+      stopped_unread (terms_of_query q file path) before (after out input') (unput input' used untouched)
+      (finding (told_or (λ image. report_of (faults (kind_of q) stages.Whole image)) (report_of []) input.held) (told_or (text_of q) [] input.held))
+      (both_told input.held (kind_of q) (text_of q)) refl (kind_of q) stages.Whole stop unread refl (λ wants. (refl, wants)) (λ _ _. tt)
 
   module _ (input' : DeviceState) (report : Reported) (right : IfSome input.held (λ image. report ≡ report_of (faults (kind_of q) stages.Whole image)))
       (used : IsUsed (reading path) input'.access input'.path) (untouched : IsUntouched input input') (opened : input'.access ≡ 1) where
     -- the image has faults
-    pub query_faulty : (nat_eq report.total 0) ≡ false
-        → IsFinished (terms_of_query q file path) (record others { out = out; input = input }) (record others { out = out; notes = notes; input = input' }) (query_status report) (query_line report)
+    pub query_faulty : (nat_eq report.total 0) ≡ false → IsFinished (terms_of_query q file path) before (after out input') (query_status report) (query_line report)
     query_faulty faulty =
-        rw faulty (record {
-          finding = record { report = report; text = told_or (text_of q) [] input.held };
-          work = record {
-            found = two_told input.held (λ image is text. (is, text)) right (text_told input.held (text_of q));
-            possible = refl;
-            followed = record { source = tt; out = not_yet (unwrap_or file []) out.access out.path fresh; input = used; output = tt; third = tt };
-            kept = record { source = refl; out = tt; input = untouched; output = refl; third = refl };
-            order = record { input = λ _. tt; output = tt; third = tt; out = λ ne. absurd (ne fresh) };
-            silent = λ _. refl;
-            spared = λ _. refl;
-            reads = tt;
-            leaves = tt;
-          };
-          low = lit≤ tt;
-          same_status = rw faulty refl;
-          same_line = rw faulty refl;
-          out = rw faulty (appends_none out.written);
-          open_devices = record { source = tt; input = opened; output = tt; third = tt };
-          open_out = λ e. absurd (omega arith);
-          read = λ _. tt;
-        })
+        rw faulty (finished_early (terms_of_query q file path) before (after out input') (unput input' used untouched) (finding report (told_or (text_of q) [] input.held))
+        (two_told input.held (λ image is text. (is, text)) right (text_told input.held (text_of q))) refl 1 (reported_lines report) (lit≤ tt) refl (rw faulty refl)
+        (record { source = tt; input = opened; output = tt; third = tt }) (λ e. absurd (omega arith)) (λ _. tt) tt)
 
     -- it has none, and the text was put
     module _ (clean : (nat_eq report.total 0) ≡ true) (out' : SinkState) (out_used : IsUsed (reading (unwrap_or file [])) out'.access out'.path)
         (text : List ℕ) (told : IfSome input.held (λ image. faults (kind_of q) stages.Whole image ≡ [] → text ≡ text_of q image)) where
+      stands : Stands (terms_of_query q file path) before (after out' input')
+      stands = record {
+        followed = record { source = tt; out = out_used; input = used; output = tt; third = tt };
+        order = record { input = λ _. tt; output = tt; third = tt; out = λ _. record { source = tt; input = opened; output = tt; third = tt } };
+        kept = record { source = refl; out = tt; input = untouched; output = refl; third = refl };
+        reads = tt;
+      }
+
       found_text : IfSome input.held (λ image. (report ≡ report_of (faults (kind_of q) stages.Whole image)) × (text ≡ text_of q image))
       found_text = two_told input.held (λ image is answers. (is, answers (none_reported (kind_of q) stages.Whole image report is clean))) right told
 
       pub query_done : out'.access ≡ 1 → Appends text out.written out'.written
-          → IsFinished (terms_of_query q file path) (record others { out = out; input = input }) (record others { out = out'; notes = notes; input = input' }) (query_status report) (query_line report)
+          → IsFinished (terms_of_query q file path) before (after out' input') (query_status report) (query_line report)
       query_done access whole =
-          rw clean (record {
-            finding = record { report = report; text = text };
-            work = record {
-              found = found_text;
-              possible = refl;
-              followed = record { source = tt; out = out_used; input = used; output = tt; third = tt };
-              kept = record { source = refl; out = tt; input = untouched; output = refl; third = refl };
-              order = record { input = λ _. tt; output = tt; third = tt; out = λ _. record { source = tt; input = opened; output = tt; third = tt } };
-              silent = λ e. absurd cc;
-              spared = λ some. absurd (some (eqb-true report.total 0 clean));
-              reads = tt;
-              leaves = tt;
-            };
-            low = lit≤ tt;
-            same_status = rw clean refl;
-            same_line = rw clean refl;
-            out = rw clean whole;
-            open_devices = record { source = tt; input = opened; output = tt; third = tt };
-            open_out = λ _. access;
-            read = λ _. tt;
-          })
+          rw clean (finished_by (terms_of_query q file path) before (after out' input') stands (finding report text) found_text 0 text [] (lit≤ tt) refl (λ e. absurd cc)
+          (λ some. absurd (some (eqb-true report.total 0 clean))) (rw clean refl) whole (record { source = tt; input = opened; output = tt; third = tt }) (λ _. access) (λ _. tt) tt)
 
       -- or a front of it
-      stopped_work : (stop : Stop) (status : ℕ) → IsTrue (is_possible (terms_of_query q file path) status) → (IsTrue (is_one_of (1 ∷ []) status) → ⊥)
-          → IsWork (terms_of_query q file path) (record { report = report; text = text }) (record others { out = out; input = input }) (record others { out = out'; notes = notes; input = input' }) status
-      stopped_work stop status possible loud = record {
-        found = found_text;
-        possible = possible;
-        followed = record { source = tt; out = out_used; input = used; output = tt; third = tt };
-        kept = record { source = refl; out = tt; input = untouched; output = refl; third = refl };
-        order = record { input = λ _. tt; output = tt; third = tt; out = λ _. record { source = tt; input = opened; output = tt; third = tt } };
-        silent = λ e. absurd (loud e);
-        spared = λ some. absurd (some (eqb-true report.total 0 clean));
-        reads = tt;
-        leaves = tt;
-      }
+      stopped : (stop : Stop) → IsTrue (is_possible (terms_of_query q file path) (stop_status stop)) → (IsTrue (is_one_of (1 ∷ []) (stop_status stop)) → ⊥)
+          → HasCause (terms_of_query q file path) before (after out' input') stop → AppendsFront text out.written out'.written
+          → IsStopped (terms_of_query q file path) before (after out' input') stop
+      stopped stop possible loud cause front =
+          stopped_by (terms_of_query q file path) before (after out' input') stands (finding report text) found_text stop possible (λ e. absurd (loud e))
+          (λ some. absurd (some (eqb-true report.total 0 clean))) cause (rw clean front) tt tt
 
       pub query_unput : (stop : Stop) → AppendsFront text out.written out'.written → IsUnput input.faults input'.faults out.faults out'.faults stop
-          → IsStopped (terms_of_query q file path) (record others { out = out; input = input }) (record others { out = out'; notes = notes; input = input' }) stop
-      query_unput Device front unput = record {
-        finding = record { report = report; text = text };
-        work = stopped_work Device 5 refl (λ e. cc);
-        cause = inl unput;
-        front = rw clean front;
-        lost = tt;
-      }
-      query_unput Stream front unput = record {
-        finding = record { report = report; text = text };
-        work = stopped_work Stream 6 refl (λ e. cc);
-        cause = inr unput;
-        front = rw clean front;
-        lost = tt;
-      }
-      query_unput Memory front unput = record {
-        finding = record { report = report; text = text };
-        work = stopped_work Memory 7 refl (λ e. cc);
-        cause = record {
-          past_super = λ e. absurd cc;
-          sound = one_told input.held (λ image is. none_at_super (kind_of q) stages.Whole image (none_reported (kind_of q) stages.Whole image report is clean)) right;
-        };
-        front = rw clean front;
-        lost = tt;
-      }
+          → IsStopped (terms_of_query q file path) before (after out' input') stop
+      query_unput Device front unput = stopped Device refl (λ e. cc) (inl unput) front
+      query_unput Stream front unput = stopped Stream refl (λ e. cc) (inr unput) front
+      query_unput Memory front unput = stopped Memory refl (λ e. cc) (record {
+        past_super = λ e. absurd cc;
+        sound = one_told input.held (λ image is. none_at_super (kind_of q) stages.Whole image (none_reported (kind_of q) stages.Whole image report is clean)) right;
+      }) front
 
 -- what is only read after it was opened
 pub reads_used : (path : List ℕ) (input input' : DeviceState) → OnlyReads input input' → IsUsed (reading path) input.access input.path → IsUsed (reading path) input'.access input'.path

@@ -8,7 +8,6 @@ use Rattle.pd_kinds.specs.Crash.{IsSynced, HoldsSynced, HasNoSuper, IsUntouched}
 use Rattle.pd_kinds.specs.Limits.{room_of}
 use Rattle.pd_kinds.specs.Meaning.{ThinDevice}
 use Rattle.pd_kinds.specs.Report.{Reported, report_of}
-use Rattle.pd_kinds.proofs.AppendLemmas.{appends_none, front_none}
 use Rattle.pd_kinds.proofs.CrashLemmas.{and_then, stays}
 use Rattle.pd_grammar.specs.Spelling.{Verdict, accepted, refused, no_room}
 use Rattle.pd_spells.specs.Lines.{no_room_line, reported_lines}
@@ -24,18 +23,22 @@ use Rattle.pd_answers.specs.Generated.{generated_text}
 use Rattle.pd_answers.specs.Outputs.{LeavesMade}
 use Rattle.pd_answers.specs.Rehearsals.{AreNumbers, Rehearsed, rehearse}
 use Rattle.pd_answers.specs.Restores.{restore_answer}
-use Rattle.pd_answers.specs.Terms.{is_one_of, is_possible}
+use Rattle.pd_answers.specs.Terms.{AreOpen, is_possible}
 use Rattle.pd_rehearse.specs.declared.fault.RehearseFault.{RehearseFault}
 use Rattle.pd_rehearse.specs.declared.fault.RehearseFault.TheVariants as f
 use Rattle.pd_rehearse.specs.declared.run.Rehearsal.{Rehearsal}
 use Rattle.pd_rehearse.specs.Failing.{CountsRehearsal, IsReported, IsTurnedDown}
 use Rattle.pd_rehearse.specs.Rehearsed.{Rehearses, found_of}
+use Rattle.pd_tools.specs.declared.stop.Stop.{Stop}
 use Rattle.pd_tools.specs.declared.stop.Stop.TheVariants.{Device, Stream, Memory}
 use Rattle.pd_tools.specs.Ending.{ending_line, ending_status, rehearsal_ended}
 use Rattle.pd_tools.specs.Rehearse.{line_of}
 use Rattle.pd_tools.specs.Restore.{HaveVerdicts}
-use Rattle.pd_tools.specs.Work.{IsFinished, IsStopped, IsWork}
+use Rattle.pd_tools.specs.Stop.{stop_status}
+use Rattle.pd_tools.specs.Work.{HasCause, IsFinished, IsStopped}
+use Rattle.pd_tools.proofs.Answered.{stop_status-low}
 use Rattle.pd_tools.proofs.Checks.{not_yet}
+use Rattle.pd_tools.proofs.Works.{Stands, finished_by, finished_early, stopped_by, stopped_early}
 use Rattle.pd_tools.proofs.Restores.{Image, answer_accepted, answer_no_room, here, room-held, room-told, room_in, still_synced, untouched_output}
 
 -- the numbers of a verdict
@@ -115,26 +118,14 @@ module _ (number : ℕ) (path : List ℕ) (others : Objects) (notes out : SinkSt
       let v = verdicts (generated_text number) room in
       let same : IsUntouched output last = record { held = attached.held; history = attached.history } in
       let leaves = λ (status : ℕ) (some : status ≢ 0). untouched_output (Makes laid_shape room v.0) (is_pool_text_early (generated_text number) room) status output last synced same some in
-      record {
-        finding = meant room v.0;
-        work = record {
-          found = (
-            record { told = room-told output.held; attached = λ e. absurd (omega (arith, attached.access, e)) },
-            (v.1, all_told output.held _ (refl, meant_numbers room v.0)),
-          );
-          possible = refl;
-          followed = record { source = tt; out = not_yet [] out.access out.path fresh; input = tt; output = record { allowed = inr (inr attached.access); named = λ _. attached.path }; third = tt };
-          kept = record { source = refl; out = tt; input = refl; output = tt; third = refl };
-          order = record { input = tt; output = λ _. (tt, tt); third = tt; out = λ ne. absurd (ne fresh) };
-          silent = λ _. refl;
-          spared = λ _. refl;
-          reads = tt;
-          leaves = leaves 5 (λ e. omega arith);
-        };
-        cause = inr (inl rose);
-        front = front_none _ out.written;
-        lost = leaves 6 (λ e. omega arith);
-      }
+      stopped_early (rehearse number path) (record others { out = out; output = output }) (record others { out = out; notes = notes; output = last }) (record {
+        followed = record { source = tt; out = not_yet [] out.access out.path fresh; input = tt; output = record { allowed = inr (inr attached.access); named = λ _. attached.path }; third = tt };
+        order = record { input = tt; output = λ _. (tt, tt); third = tt; out = λ ne. absurd (ne fresh) };
+        kept = record { source = refl; out = tt; input = refl; output = tt; third = refl };
+        reads = tt;
+      }) (meant room v.0)
+      (record { told = room-told output.held; attached = λ e. absurd (omega (arith, attached.access, e)) }, (v.1, all_told output.held _ (refl, meant_numbers room v.0)))
+      refl Device refl (inr (inl rose)) (leaves 5 (λ e. omega arith)) (leaves 6 (λ e. omega arith))
 
   module _ (opened last : DeviceState) (attached : AttachesDevice path true true output opened) (unfailed : opened.faults ≡ output.faults)
       (measured : IfSome opened.held (λ image. length image ≡ opened.blocks)) (place : KeepsPlace opened last)
@@ -185,88 +176,60 @@ module _ (number : ℕ) (path : List ℕ) (others : Objects) (notes out : SinkSt
     no_status : (status : ℕ) → status ≢ 0 → status ≢ 3 → status ≢ 4 → LeavesMade (Makes laid_shape room verdict) (is_pool_text_early (generated_text number) room) status output last
     no_status status zero three four = leaves status (λ e. absurd (zero e)) (λ either. absurd (elim either [ inl e ↦ three e | inr e ↦ four e ]))
 
-    -- the work without its line
-    quiet : (report : Reported) (used mappings lines : ℕ) → IsRight report used mappings lines → (status : ℕ) → IsTrue (is_possible (rehearse number path) status)
-        → LeavesMade (Makes laid_shape room verdict) (is_pool_text_early (generated_text number) room) status output last
-        → IsWork (rehearse number path) (finding_of report used mappings lines) (record others { out = out; output = output }) (record others { out = out; notes = notes; output = last }) status
-    quiet report used mappings lines right status possible left = record {
-      found = found report used mappings lines right out;
-      possible = possible;
-      followed = record { source = tt; out = not_yet [] out.access out.path fresh; input = tt; output = output_used; third = tt };
+    abbrev before : Objects
+    before = record others { out = out; output = output }
+
+    abbrev after : SinkState → Objects
+    after out' = record others { out = out'; notes = notes; output = last }
+
+    opened_here : AreOpen (rehearse number path).uses (after out)
+    opened_here = record { source = tt; input = tt; output = place.access ∙ attached.access; third = tt }
+
+    stands : (out' : SinkState) → IsUsed (reading []) out'.access out'.path → Stands (rehearse number path) before (after out')
+    stands out' used = record {
+      followed = record { source = tt; out = used; input = tt; output = output_used; third = tt };
+      order = record { input = tt; output = λ _. (tt, tt); third = tt; out = λ _. record { source = tt; input = tt; output = place.access ∙ attached.access; third = tt } };
       kept = record { source = refl; out = tt; input = refl; output = tt; third = refl };
-      order = record { input = tt; output = λ _. (tt, tt); third = tt; out = λ ne. absurd (ne fresh) };
-      silent = λ _. refl;
-      spared = λ _. refl;
       reads = tt;
-      leaves = left;
     }
+
+    unput : Stands (rehearse number path) before (after out)
+    unput = stands out (not_yet [] out.access out.path fresh)
+
+    meant_right : (rehearse number path).finds before (after out) (meant room verdict)
+    meant_right = found (report_of []) (used_in verdict room) (mappings_in verdict) (lines_in verdict) (λ image s. (refl, meant_numbers room verdict)) out
 
     -- memory was wanting, or the device failed
-    rehearse_memory : IsStopped (rehearse number path) (record others { out = out; output = output }) (record others { out = out; notes = notes; output = last }) Memory
-    rehearse_memory = record {
-      finding = meant room verdict;
-      work = quiet (report_of []) (used_in verdict room) (mappings_in verdict) (lines_in verdict) (λ image s. (refl, meant_numbers room verdict)) 7 refl
-          (no_status 7 (λ e. omega arith) (λ e. omega arith) (λ e. omega arith));
-      cause = tt;
-      front = front_none _ out.written;
-      lost = no_status 6 (λ e. omega arith) (λ e. omega arith) (λ e. omega arith);
-    }
-
-    rehearse_device : Rose opened.faults last.faults → IsStopped (rehearse number path) (record others { out = out; output = output }) (record others { out = out; notes = notes; output = last }) Device
-    rehearse_device rose = record {
-      finding = meant room verdict;
-      work = quiet (report_of []) (used_in verdict room) (mappings_in verdict) (lines_in verdict) (λ image s. (refl, meant_numbers room verdict)) 5 refl
-          (no_status 5 (λ e. omega arith) (λ e. omega arith) (λ e. omega arith));
-      cause = inr (inl (rw unfailed at rose));
-      front = front_none _ out.written;
-      lost = no_status 6 (λ e. omega arith) (λ e. omega arith) (λ e. omega arith);
-    }
+    unended : (stop : Stop) → IsTrue (is_possible (rehearse number path) (stop_status stop)) → HasCause (rehearse number path) before (after out) stop
+        → IsStopped (rehearse number path) before (after out) stop
+    unended stop possible cause =
+        let high = stop_status-low stop in
+        stopped_early (rehearse number path) before (after out) unput (meant room verdict) meant_right refl stop possible cause
+        (no_status (stop_status stop) (λ e. omega arith) (λ e. omega arith) (λ e. omega arith)) (no_status 6 (λ e. omega arith) (λ e. omega arith) (λ e. omega arith))
 
     -- there was no room
-    rehearse_no_room : (need blocks : ℕ) → result ≡ Err (f.NoRoom need blocks)
-        → IsFinished (rehearse number path) (record others { out = out; output = output }) (record others { out = out; notes = notes; output = last }) 4 (no_room_line need blocks)
+    rehearse_no_room : (need blocks : ℕ) → result ≡ Err (f.NoRoom need blocks) → IsFinished (rehearse number path) before (after out) 4 (no_room_line need blocks)
     rehearse_no_room need blocks is =
         let answer = answer_no_room need blocks verdict (match_err _ _ result (f.NoRoom need blocks) is done.restores.answer) in
         let down : IsDown result = rw is tt in
-        record {
-          finding = meant room verdict;
-          work = quiet (report_of []) (used_in verdict room) (mappings_in verdict) (lines_in verdict) (λ image s. (refl, meant_numbers room verdict)) 4 refl
-              (leaves 4 (λ e. absurd (omega arith)) (λ _. down));
-          low = lit≤ tt;
-          same_status = rw answer refl;
-          same_line = rw answer refl;
-          out = rw answer (appends_none out.written);
-          open_devices = record { source = tt; input = tt; output = place.access ∙ attached.access; third = tt };
-          open_out = λ e. absurd (omega arith);
-          read = λ _. tt;
-        }
+        finished_early (rehearse number path) before (after out) unput (meant room verdict) meant_right refl 4 (no_room_line need blocks) (lit≤ tt) refl (rw answer refl)
+        opened_here (λ e. absurd (omega arith)) (λ _. tt) (leaves 4 (λ e. absurd (omega arith)) (λ _. down))
 
     -- the check found faults
-    rehearse_faulty : (report : Reported) → result ≡ Err (f.Faulty report) → report.total ≢ 0
-        → IsFinished (rehearse number path) (record others { out = out; output = output }) (record others { out = out; notes = notes; output = last }) 1 (reported_lines report)
+    rehearse_faulty : (report : Reported) → result ≡ Err (f.Faulty report) → report.total ≢ 0 → IsFinished (rehearse number path) before (after out) 1 (reported_lines report)
     rehearse_faulty report is some =
         let answer = answer_accepted IsLawfulShape verdict (match_err _ _ result (f.Faulty report) is done.restores.answer) in
         let never = match_err _ _ result (f.Faulty report) is done.numbers in
         let faulty : nat_eq report.total 0 ≡ false = ne_eqb report.total 0 some in
-        record {
-          finding = finding_of report 0 0 0;
-          work = quiet report 0 0 0 (λ image s. absurd (never image s tt)) 1 refl (no_status 1 (λ e. omega arith) (λ e. omega arith) (λ e. omega arith));
-          low = lit≤ tt;
-          same_status = rw (answer, faulty) refl;
-          same_line = rw (answer, faulty) refl;
-          out = rw (answer, faulty) (appends_none out.written);
-          open_devices = record { source = tt; input = tt; output = place.access ∙ attached.access; third = tt };
-          open_out = λ e. absurd (omega arith);
-          read = λ _. tt;
-        }
+        finished_early (rehearse number path) before (after out) unput (finding_of report 0 0 0) (found report 0 0 0 (λ image s. absurd (never image s tt)) out) refl
+        1 (reported_lines report) (lit≤ tt) refl (rw (answer, faulty) refl) opened_here (λ e. absurd (omega arith)) (λ _. tt) (no_status 1 (λ e. omega arith) (λ e. omega arith) (λ e. omega arith))
 
     -- whatever the fault
     pub rehearse_ends : (fault : RehearseFault) → result ≡ Err fault → IsReported fault → CountsRehearsal {T = Rehearsal} (Err fault) opened.faults last.faults
-        → MatchResult (rehearsal_ended fault)
-        (λ ending. IsFinished (rehearse number path) (record others { out = out; output = output }) (record others { out = out; notes = notes; output = last }) (ending_status ending) (ending_line ending))
-        (IsStopped (rehearse number path) (record others { out = out; output = output }) (record others { out = out; notes = notes; output = last }))
-    rehearse_ends f.Memory is reported counts = rehearse_memory
-    rehearse_ends f.Device is reported counts = rehearse_device counts.0
+        → MatchResult (rehearsal_ended fault) (λ ending. IsFinished (rehearse number path) before (after out) (ending_status ending) (ending_line ending))
+        (IsStopped (rehearse number path) before (after out))
+    rehearse_ends f.Memory is reported counts = unended Memory refl tt
+    rehearse_ends f.Device is reported counts = unended Device refl (inr (inl (rw unfailed at counts.0)))
     rehearse_ends (f.NoRoom need blocks) is reported counts = rehearse_no_room need blocks is
     rehearse_ends (f.Faulty report) is reported counts = rehearse_faulty report is reported
 
@@ -277,45 +240,20 @@ module _ (number : ℕ) (path : List ℕ) (others : Objects) (notes out : SinkSt
       answer : restore_answer verdict ≡ record { status = 0; out = []; notes = [] }
       answer = answer_accepted IsLawfulShape verdict (match_ok _ _ result r is done.restores.answer)
 
-      loud : (status : ℕ) → IsTrue (is_possible (rehearse number path) status) → (IsTrue (is_one_of (rehearse number path).silent status) → ⊥)
-          → LeavesMade (Makes laid_shape room verdict) (is_pool_text_early (generated_text number) room) status output last
-          → IsWork (rehearse number path) (found_of room verdict r) (record others { out = out; output = output }) (record others { out = out'; notes = notes; output = last }) status
-      loud status possible heard left = record {
-        found = found (report_of []) r.used r.counts.mappings r.counts.lines right out';
-        possible = possible;
-        followed = record { source = tt; out = used; input = tt; output = output_used; third = tt };
-        kept = record { source = refl; out = tt; input = refl; output = tt; third = refl };
-        order = record { input = tt; output = λ _. (tt, tt); third = tt; out = λ _. record { source = tt; input = tt; output = place.access ∙ attached.access; third = tt } };
-        silent = λ quiet. absurd (heard quiet);
-        spared = λ some. absurd (some (rw answer refl));
-        reads = tt;
-        leaves = left;
-      }
+      right_here : (rehearse number path).finds before (after out') (found_of room verdict r)
+      right_here = found (report_of []) r.used r.counts.mappings r.counts.lines right out'
 
       -- the line was put
-      pub rehearse_done : out'.access ≡ 1 → Appends (line_of number r) out.written out'.written
-          → IsFinished (rehearse number path) (record others { out = out; output = output }) (record others { out = out'; notes = notes; output = last }) 0 []
+      pub rehearse_done : out'.access ≡ 1 → Appends (line_of number r) out.written out'.written → IsFinished (rehearse number path) before (after out') 0 []
       rehearse_done access whole =
           let ended : IsDone result = rw is tt in
-          record {
-            finding = found_of room verdict r;
-            work = loud 0 refl (λ e. cc) (leaves 0 (λ _. ended) (λ either. absurd (elim either [ inl e ↦ omega arith | inr e ↦ omega arith ])));
-            low = lit≤ tt;
-            same_status = rw answer refl;
-            same_line = rw answer refl;
-            out = rw answer whole;
-            open_devices = record { source = tt; input = tt; output = place.access ∙ attached.access; third = tt };
-            open_out = λ _. access;
-            read = λ _. tt;
-          }
+          finished_by (rehearse number path) before (after out') (stands out' used) (found_of room verdict r) right_here 0 (line_of number r) [] (lit≤ tt) refl (λ e. absurd cc)
+          (λ some. absurd (some (rw answer refl))) (rw answer refl) whole (record { source = tt; input = tt; output = place.access ∙ attached.access; third = tt }) (λ _. access) (λ _. tt)
+          (leaves 0 (λ _. ended) (λ either. absurd (elim either [ inl e ↦ omega arith | inr e ↦ omega arith ])))
 
       -- or a front of it, since `out` failed
-      pub rehearse_unput : AppendsFront (line_of number r) out.written out'.written → Rose out.faults out'.faults
-          → IsStopped (rehearse number path) (record others { out = out; output = output }) (record others { out = out'; notes = notes; output = last }) Stream
-      rehearse_unput front rose = record {
-        finding = found_of room verdict r;
-        work = loud 6 refl (λ e. cc) (no_status 6 (λ e. omega arith) (λ e. omega arith) (λ e. omega arith));
-        cause = inr rose;
-        front = rw answer front;
-        lost = no_status 6 (λ e. omega arith) (λ e. omega arith) (λ e. omega arith);
-      }
+      pub rehearse_unput : AppendsFront (line_of number r) out.written out'.written → Rose out.faults out'.faults → IsStopped (rehearse number path) before (after out') Stream
+      rehearse_unput front rose =
+          let left = no_status 6 (λ e. omega arith) (λ e. omega arith) (λ e. omega arith) in
+          stopped_by (rehearse number path) before (after out') (stands out' used) (found_of room verdict r) right_here Stream refl (λ e. absurd cc)
+          (λ some. absurd (some (rw answer refl))) (inr rose) (rw answer front) left left

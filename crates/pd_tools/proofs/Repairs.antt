@@ -18,7 +18,6 @@ use Rattle.pd_kinds.specs.Meaning.{ThinPool}
 use Rattle.pd_kinds.specs.Report.{Reported, report_of}
 use Rattle.pd_kinds.specs.RuleSet.{has_rule}
 use Rattle.pd_kinds.specs.Stages.{faults}
-use Rattle.pd_kinds.proofs.AppendLemmas.{appends_none, front_none}
 use Rattle.pd_laws.proofs.CleanLemmas.{no_rule_broken}
 use Rattle.pd_spells.specs.Lines.{no_room_line, reported_lines}
 use Rattle.pd_spells.specs.ThinNeed.{thin_need}
@@ -37,10 +36,11 @@ use Rattle.pd_tools.specs.declared.stop.Stop.TheVariants.{Device, Memory}
 use Rattle.pd_tools.specs.Ending.{ending_line, ending_status, repair_ended}
 use Rattle.pd_tools.specs.Repair.{AreOpened, AreUnopened}
 use Rattle.pd_tools.specs.Stop.{stop_status}
-use Rattle.pd_tools.specs.Work.{HasCause, IsFinished, IsStopped, IsWork}
+use Rattle.pd_tools.specs.Work.{HasCause, IsFinished, IsStopped}
 use Rattle.pd_tools.proofs.Answered.{not_risen}
 use Rattle.pd_tools.proofs.Laying.{any_leaves, laid_kept, laid_leaves}
 use Rattle.pd_tools.proofs.Queries.{two_told}
+use Rattle.pd_tools.proofs.Works.{Stands, finished_early, stopped_early}
 use Rattle.pd_tools.proofs.Restores.{Image, last_lost, room-held, room-told, room_in, untouched_last}
 
 -- what is found in what the input tells
@@ -118,26 +118,15 @@ repair_unopened from to others notes input last_input output last synced un =
     let room = room_in output.held in
     let finding = found_of (report_in input.held) (pool_in input.held) room in
     let leaves = λ (status : ℕ) (some : status ≢ 0). left_alone finding status output last synced un.output_untouched some in
-    record {
-      finding = finding;
-      work = record {
-        found = (
-          record { told = room-told output.held; attached = λ e. absurd (un.closed e) },
-          two_told input.held (λ image report pool. (report, pool)) (report-told input.held) (pool-told input.held),
-        );
-        possible = refl;
-        followed = record { source = tt; out = tt; input = un.input_used; output = un.output_used; third = tt };
-        kept = record { source = refl; out = refl; input = un.input_untouched; output = tt; third = refl };
-        order = record { input = λ _. tt; output = λ ne. (tt, un.order ne); third = tt; out = tt };
-        silent = λ _. refl;
-        spared = λ no. absurd no;
-        reads = tt;
-        leaves = leaves 5 (λ e. omega arith);
-      };
-      cause = elim un.cause [ inl rose ↦ inl rose | inr rose ↦ inr (inl rose) ];
-      front = front_none _ others.out.written;
-      lost = leaves 6 (λ e. omega arith);
-    }
+    stopped_early (repair from to) (record others { input = input; output = output }) (record others { notes = notes; input = last_input; output = last }) (record {
+      followed = record { source = tt; out = tt; input = un.input_used; output = un.output_used; third = tt };
+      order = record { input = λ _. tt; output = λ ne. (tt, un.order ne); third = tt; out = tt };
+      kept = record { source = refl; out = refl; input = un.input_untouched; output = tt; third = refl };
+      reads = tt;
+    }) finding (
+      record { told = room-told output.held; attached = λ e. absurd (un.closed e) },
+      two_told input.held (λ image report pool. (report, pool)) (report-told input.held) (pool-told input.held),
+    ) refl Device refl (elim un.cause [ inl rose ↦ inl rose | inr rose ↦ inr (inl rose) ]) (leaves 5 (λ e. omega arith)) (leaves 6 (λ e. omega arith))
 
 -- what holds of the ending of a result that is known
 pub of_ending : (P : Ending → Type 0) (result known : Result (Unit {0}) RepairFault) → result ≡ known → P (output_ending result) → P (output_ending known)
@@ -175,16 +164,16 @@ module _ (from to : List ℕ) (others : Objects) (notes : SinkState) (input open
   found : (report : Reported) → IsRight report → (repair from to).finds before after (finding report)
   found report right = (
     record {
-      told = room-held output.held writable.held writable.blocks both.output_untouched.held measured;
+      told = room-held output.held writable.held writable.blocks both.output.untouched.held measured;
       attached = λ _. ap room_of (sym place.blocks);
     },
     two_told input.held (λ image is saved. (is, saved)) right
-        (subst (λ (h : Option Image). IfSome h (λ image. pool ≡ salvage image)) both.input_untouched.held done.right),
+        (subst (λ (h : Option Image). IfSome h (λ image. pool ≡ salvage image)) both.input.untouched.held done.right),
   )
 
   -- what the faults of the superblock are answered by
   of_super : (P : List Fault → Type 0) → IfSome opened.held (λ image. P (faults Thin Super image)) → IfSome input.held (λ image. P (faults Thin Super image))
-  of_super P told = subst (λ (h : Option Image). IfSome h (λ image. P (faults Thin Super image))) both.input_untouched.held told
+  of_super P told = subst (λ (h : Option Image). IfSome h (λ image. P (faults Thin Super image))) both.input.untouched.held told
 
   -- there are none
   none_right : IfSome opened.held (λ image. faults Thin Super image ≡ []) → IsRight (report_of [])
@@ -193,43 +182,36 @@ module _ (from to : List ℕ) (others : Objects) (notes : SinkState) (input open
   fault_answer : (f : RepairFault) → result ≡ Err f → IfSome opened.held (λ image. AnswersSuper (Err f) (faults Thin Super image))
   fault_answer f is = subst (λ (r : Result (Unit {0}) RepairFault). IfSome opened.held (λ image. AnswersSuper r (faults Thin Super image))) is done.rules
 
-  -- the work, up to what it leaves
-  work : (report : Reported) → IsRight report → (status : ℕ) → IsTrue (is_possible (repair from to) status) → Leaves report status
-      → IsWork (repair from to) (finding report) before after status
-  work report right status possible left = record {
-    found = found report right;
-    possible = possible;
+  stands : Stands (repair from to) before after
+  stands = record {
     followed = record {
       source = tt;
       out = tt;
-      input = record { allowed = inr (inl (reads.access ∙ both.input_access)); named = λ _. rw reads.path both.input_path };
-      output = record { allowed = inr (inl (place.access ∙ both.output_access)); named = λ _. rw place.path both.output_path };
+      input = record { allowed = inr (inl (reads.access ∙ both.input.attached)); named = λ _. rw reads.path both.input.named };
+      output = record { allowed = inr (inl (place.access ∙ both.output.attached)); named = λ _. rw place.path both.output.named };
       third = tt;
     };
+    order = record { input = λ _. tt; output = λ _. (tt, reads.access ∙ both.input.attached); third = tt; out = tt };
     kept = record {
       source = refl;
       out = refl;
-      input = record { held = reads.held ∙ both.input_untouched.held; history = reads.history ∙ both.input_untouched.history };
+      input = record { held = reads.held ∙ both.input.untouched.held; history = reads.history ∙ both.input.untouched.history };
       output = tt;
       third = refl;
     };
-    order = record { input = λ _. tt; output = λ _. (tt, reads.access ∙ both.input_access); third = tt; out = tt };
-    silent = λ _. refl;
-    spared = λ no. absurd no;
     reads = tt;
-    leaves = left;
   }
 
   -- an output that the repair left alone
   alone : IsUntouched writable last → (report : Reported) (status : ℕ) → status ≢ 0 → Leaves report status
   alone same report status some =
       left_alone (finding report) status output last synced
-      (record { held = same.held ∙ both.output_untouched.held; history = same.history ∙ both.output_untouched.history }) some
+      (record { held = same.held ∙ both.output.untouched.held; history = same.history ∙ both.output.untouched.history }) some
 
   -- after a fault that isn't the output's
   spared : (f : RepairFault) → result ≡ Err f → IsOfOthers (output_ending (Err f)) → HoldsOldOrNone output last
   spared f is others =
-      laid_kept output writable last synced both.output_untouched pool (output_ending result) done.output (repair_answer (finding (report_of [])))
+      laid_kept output writable last synced both.output.untouched pool (output_ending result) done.output (repair_answer (finding (report_of [])))
       (of_ending (λ ending. IsOfOthers ending) (Err f) result (sym is) others)
 
   -- whatever there is room for, where no faults are reported
@@ -237,7 +219,7 @@ module _ (from to : List ℕ) (others : Objects) (notes : SinkState) (input open
       → status ≢ 0 → status ≢ 3 → status ≢ 4 → Leaves (report_of []) status
   either_way kept status input_failed some three four = record {
     output = record {
-      made = any_leaves output writable last synced both.output_untouched pool (output_ending result) done.output (repair_answer (finding (report_of [])))
+      made = any_leaves output writable last synced both.output.untouched pool (output_ending result) done.output (repair_answer (finding (report_of [])))
           (λ fits. ap (λ (a : Answer). a.status) (answer_made pool room fits)) status some three four;
       kept = λ _. kept;
     };
@@ -248,17 +230,9 @@ module _ (from to : List ℕ) (others : Objects) (notes : SinkState) (input open
   finished : (report : Reported) → IsRight report → (status : ℕ) (line : List ℕ) → status ≤ 4 → IsTrue (is_possible (repair from to) status)
       → repair_answer (finding report) ≡ record { status = status; out = []; notes = line } → Leaves report status
       → IsFinished (repair from to) before after status line
-  finished report right status line low possible answer left = record {
-    finding = finding report;
-    work = work report right status possible left;
-    low = low;
-    same_status = sym (ap (λ (a : Answer). a.status) answer);
-    same_line = sym (ap (λ (a : Answer). a.notes) answer);
-    out = rw answer (appends_none others.out.written);
-    open_devices = record { source = tt; input = reads.access ∙ both.input_access; output = place.access ∙ both.output_access; third = tt };
-    open_out = λ _. tt;
-    read = λ _. tt;
-  }
+  finished report right status line low possible answer left =
+      finished_early (repair from to) before after stands (finding report) (found report right) refl status line low possible answer
+      (record { source = tt; input = reads.access ∙ both.input.attached; output = place.access ∙ both.output.attached; third = tt }) (λ _. tt) (λ _. tt) left
 
   repair_made : result ≡ Ok tt → IsFinished (repair from to) before after 0 []
   repair_made is =
@@ -268,7 +242,7 @@ module _ (from to : List ℕ) (others : Objects) (notes : SinkState) (input open
       finished (report_of []) (none_right none) 0 [] (lit≤ tt) refl (answer_made pool room fits)
       (record {
         output = record {
-          made = laid_leaves output writable last synced both.output_untouched pool (output_ending result) done.output (repair_answer (finding (report_of [])))
+          made = laid_leaves output writable last synced both.output.untouched pool (output_ending result) done.output (repair_answer (finding (report_of [])))
               (ap (λ (a : Answer). a.status) (answer_made pool room fits)) 0 (λ _. rw is tt) (λ either. elim either [ inl e ↦ omega arith | inr e ↦ omega arith ]);
           kept = λ some. absurd (some refl);
         };
@@ -294,13 +268,8 @@ module _ (from to : List ℕ) (others : Objects) (notes : SinkState) (input open
 
   stopped : (report : Reported) → IsRight report → (stop : Stop) → IsTrue (is_possible (repair from to) (stop_status stop)) → HasCause (repair from to) before after stop
       → Leaves report (stop_status stop) → Leaves report 6 → IsStopped (repair from to) before after stop
-  stopped report right stop possible cause leaves lost = record {
-    finding = finding report;
-    work = work report right (stop_status stop) possible leaves;
-    cause = cause;
-    front = front_none _ others.out.written;
-    lost = lost;
-  }
+  stopped report right stop possible cause leaves lost =
+      stopped_early (repair from to) before after stands (finding report) (found report right) refl stop possible cause leaves lost
 
   repair_memory : result ≡ Err fault.Memory → IsStopped (repair from to) before after Memory
   repair_memory is =
@@ -313,7 +282,7 @@ module _ (from to : List ℕ) (others : Objects) (notes : SinkState) (input open
 
   repair_output : result ≡ Err fault.Output → output.faults ≡ 0 → Rose writable.faults last.faults → IsStopped (repair from to) before after Device
   repair_output is fresh rose =
-      let risen : Rose output.faults last.faults = rw both.output_faults at rose in
+      let risen : Rose output.faults last.faults = rw both.output.faults at rose in
       let never : last.faults ≡ output.faults → ⊥ = λ same. not_risen output.faults last.faults fresh same risen in
       let left : (status : ℕ) → status ≢ 0 → status ≢ 3 → status ≢ 4 → Leaves (report_of []) status =
       λ status. either_way (λ same. absurd (never same)) status (λ _ same. absurd (never same)) in
@@ -323,7 +292,7 @@ module _ (from to : List ℕ) (others : Objects) (notes : SinkState) (input open
   repair_input : result ≡ Err fault.Input → Rose opened.faults last_input.faults → IsStopped (repair from to) before after Device
   repair_input is rose =
       let same = of_ending (λ ending. IsEarly ending → IsUntouched writable last) result (Err fault.Input) is done.output.early tt in
-      stopped (report_in input.held) (report-told input.held) Device refl (inl (rw both.input_faults at rose))
+      stopped (report_in input.held) (report-told input.held) Device refl (inl (rw both.input.faults at rose))
       (alone same (report_in input.held) 5 (λ e. omega arith)) (alone same (report_in input.held) 6 (λ e. omega arith))
 
   -- whatever its result

@@ -8,7 +8,6 @@ use Rattle.pd_kinds.specs.declared.kind.Kind.TheVariants.{Thin, Cache, Era}
 use Rattle.pd_kinds.specs.Objects.{DeviceState, SourceState, SinkState, Rose}
 use Rattle.pd_kinds.specs.Moments.{History, now}
 use Rattle.pd_kinds.specs.Crash.{IsSynced, LeavesNow, HoldsOldOrNone, HoldsSynced, HasNoSuper, IsOldNoneOrMade, IsUntouched}
-use Rattle.pd_kinds.proofs.AppendLemmas.{appends_none, front_none}
 use Rattle.pd_kinds.proofs.CrashLemmas.{and_then, stays, still_tells, left_now, left_synced}
 use Rattle.pd_grammar.specs.Spelling.{Verdict, accepted, refused, no_room}
 use Rattle.pd_spells.specs.CacheNeed.{IsCacheVerdict}
@@ -20,7 +19,7 @@ use Rattle.pd_laid.specs.LaidCache.{laid_cache}
 use Rattle.pd_laid.specs.LaidEra.{laid_era}
 use Rattle.pd_image.specs.Device.{KeepsPlace}
 use Rattle.pd_image.specs.Source.{KeepsSource}
-use Rattle.pd_answers.specs.Answer.{Answer, Objects, IsUsed, reading, writing}
+use Rattle.pd_answers.specs.Answer.{Objects, IsUsed, reading, writing}
 use Rattle.pd_answers.specs.Terms.{is_possible}
 use Rattle.pd_kinds.specs.Limits.{room_of}
 use Rattle.pd_answers.specs.Outputs.{LeavesMade, LeavesMadeLast}
@@ -40,6 +39,7 @@ use Rattle.pd_tools.specs.Stop.{stop_status}
 use Rattle.pd_tools.specs.Ending.{ending_line, ending_status, restore_ended}
 use Rattle.pd_tools.specs.Restore.{HaveVerdicts, TextsHaveVerdicts, IsRestoredAs, AreAttached, AreUnattached, FailedToAttach}
 use Rattle.pd_tools.specs.Work.{IsStopped, IsFinished, HasCause}
+use Rattle.pd_tools.proofs.Works.{Stands, by_stop, finished_early, stopped_early}
 
 abbrev pub Image : Type 0
 Image = List (List ℕ)
@@ -160,34 +160,14 @@ module _ {M : Type 0} (Lawful : M → Type 0) (IsVerdictOn : List ℕ → ℕ �
       let early = is_early (text_in source.left) room in
       let judged : Judged M = record { room = room; verdict = found.0; is_early = early } in
       let leaves = λ (status : ℕ) (some : status ≢ 0). untouched_restored laid judged status output last_output synced un.untouched some in
-      record {
-        finding = judged;
-        work = record {
-          found = (record { told = room-told output.held; attached = λ e. absurd (un.closed e) }, verdict-told IsVerdictOn is_early source.left room found.0 found.1);
-          possible = possible_stop stop;
-          followed = record { source = un.source_used; out = tt; input = tt; output = un.output_used; third = tt };
-          kept = record { source = tt; out = refl; input = refl; output = tt; third = refl };
-          order = record { input = tt; output = λ ne. (un.order ne, tt); third = tt; out = tt };
-          silent = λ _. refl;
-          spared = λ no. absurd no;
-          reads = tt;
-          leaves = leaves (stop_status stop) (some_stop stop);
-        };
-        cause = failed stop un.cause;
-        front = front_none _ others.out.written;
-        lost = leaves 6 (λ e. omega arith);
-      }
+      stopped_early (restore_by IsVerdictOn is_early laid file path) before after (record {
+        followed = record { source = un.source_used; out = tt; input = tt; output = un.output_used; third = tt };
+        order = record { input = tt; output = λ ne. (un.order ne, tt); third = tt; out = tt };
+        kept = record { source = tt; out = refl; input = refl; output = tt; third = refl };
+        reads = tt;
+      }) judged (record { told = room-told output.held; attached = λ e. absurd (un.closed e) }, verdict-told IsVerdictOn is_early source.left room found.0 found.1)
+      refl stop (by_stop (λ s. IsTrue (is_possible (restore_by IsVerdictOn is_early laid file path) s)) stop refl refl refl) (failed stop un.cause) (leaves (stop_status stop) (λ e. let high = stop_status-low stop in omega arith)) (leaves 6 (λ e. omega arith))
     where
-      possible_stop : (stop : Stop) → IsTrue (is_possible (restore_by IsVerdictOn is_early laid file path) (stop_status stop))
-      possible_stop Device = refl
-      possible_stop Stream = refl
-      possible_stop Memory = refl
-
-      some_stop : (stop : Stop) → stop_status stop ≢ 0
-      some_stop Device e = absurd (omega arith)
-      some_stop Stream e = absurd (omega arith)
-      some_stop Memory e = absurd (omega arith)
-
       failed : (stop : Stop) → FailedToAttach source last_source output last_output stop → HasCause (restore_by IsVerdictOn is_early laid file path) before after stop
       failed Device rose = inr (inl rose)
       failed Stream rose = inl rose
@@ -280,45 +260,39 @@ module _ {M : Type 0} (Lawful : M → Type 0) (IsVerdictOn : List ℕ → ℕ �
     first_lines = first_lines;
   }
 
+  abbrev first : Objects
+  first = record others { source = source; output = output }
+
+  abbrev last : Objects
+  last = record others { source = last_source; notes = notes; output = last_output }
+
+  stands : Stands (restore_by IsVerdictOn is_early laid file path) first last
+  stands = record {
+    followed = record { source = source_used; out = tt; input = tt; output = output_used; third = tt };
+    order = record { input = tt; output = λ _. (keeps.access ∙ both.source_access, tt); third = tt; out = tt };
+    kept = record { source = tt; out = refl; input = refl; output = tt; third = refl };
+    reads = tt;
+  }
+
   -- it came to an answer
   finished : (status : ℕ) (line : List ℕ) → status ≤ 4 → IsTrue (is_possible (restore_by IsVerdictOn is_early laid file path) status)
       → restore_answer done.verdict ≡ record { status = status; out = []; notes = line }
       → (status ≡ 0 → IsDone result) → LeavesRestored laid finding status output last_output
-      → IsFinished (restore_by IsVerdictOn is_early laid file path) (record others { source = source; output = output })
-      (record others { source = last_source; notes = notes; output = last_output }) status line
-  finished status line low possible answer is_done left = record {
-    finding = finding;
-    work = record {
-      found = found;
-      possible = possible;
-      followed = record { source = source_used; out = tt; input = tt; output = output_used; third = tt };
-      kept = record { source = tt; out = refl; input = refl; output = tt; third = refl };
-      order = record { input = tt; output = λ _. (keeps.access ∙ both.source_access, tt); third = tt; out = tt };
-      silent = λ _. refl;
-      spared = λ no. absurd no;
-      reads = tt;
-      leaves = left;
-    };
-    low = low;
-    same_status = sym (ap (λ (a : Answer). a.status) answer);
-    same_line = sym (ap (λ (a : Answer). a.notes) answer);
-    out = rw answer (appends_none others.out.written);
-    open_devices = record { source = keeps.access ∙ both.source_access; input = tt; output = place.access ∙ both.output_access; third = tt };
-    open_out = λ _. tt;
-    read = λ zero. subst (λ (l : Option (List ℕ)). IfSome l (λ text. last_source.left ≡ Some [])) both.left (where_done result done.ended (is_done zero));
-  }
+      → IsFinished (restore_by IsVerdictOn is_early laid file path) first last status line
+  finished status line low possible answer is_done left =
+      finished_early (restore_by IsVerdictOn is_early laid file path) first last stands finding found refl status line low possible answer
+      (record { source = keeps.access ∙ both.source_access; input = tt; output = place.access ∙ both.output_access; third = tt }) (λ _. tt)
+      (λ zero. subst (λ (l : Option (List ℕ)). IfSome l (λ text. last_source.left ≡ Some [])) both.left (where_done result done.ended (is_done zero))) left
 
   -- it came to an outcome, or was stopped
-  made : result ≡ Ok tt → IsFinished (restore_by IsVerdictOn is_early laid file path) (record others { source = source; output = output })
-      (record others { source = last_source; notes = notes; output = last_output }) 0 []
+  made : result ≡ Ok tt → IsFinished (restore_by IsVerdictOn is_early laid file path) first last 0 []
   made is =
       finished 0 [] (lit≤ tt) refl (answer_accepted Lawful done.verdict (subst (λ (r : Result (Unit {0}) RestoreFault). AnswersVerdict Lawful r done.verdict) is done.answer))
       (λ _. rw is tt) (leaves 0 (λ _. rw is tt) (λ either. absurd (elim either [ inl e ↦ omega arith | inr e ↦ omega arith ]))
       (λ some. absurd (some refl)) (λ e. absurd (omega arith)))
 
   refuses : (why : TextFault) → result ≡ Err (fault.Text why)
-      → IsFinished (restore_by IsVerdictOn is_early laid file path) (record others { source = source; output = output })
-      (record others { source = last_source; notes = notes; output = last_output }) (ending_status (Refused why)) (ending_line (Refused why))
+      → IsFinished (restore_by IsVerdictOn is_early laid file path) first last (ending_status (Refused why)) (ending_line (Refused why))
   refuses why is =
       let answer : IsRefused why done.verdict = subst (λ (r : Result (Unit {0}) RestoreFault). AnswersVerdict Lawful r done.verdict) is done.answer in
       let held = spared (fault.Text why) is tt in
@@ -327,48 +301,24 @@ module _ {M : Type 0} (Lawful : M → Type 0) (IsVerdictOn : List ℕ → ℕ �
       (λ _ early. untouched (at_fault (λ fault. IsOfFirstLines fault → IsUntouched opened last_output) result (fault.Text why) is done.first_lines (early_line why done.verdict answer early))))
 
   lacks_room : (need blocks : ℕ) → result ≡ Err (fault.NoRoom need blocks)
-      → IsFinished (restore_by IsVerdictOn is_early laid file path) (record others { source = source; output = output })
-      (record others { source = last_source; notes = notes; output = last_output }) (ending_status (NoRoom need blocks)) (ending_line (NoRoom need blocks))
+      → IsFinished (restore_by IsVerdictOn is_early laid file path) first last (ending_status (NoRoom need blocks)) (ending_line (NoRoom need blocks))
   lacks_room need blocks is =
       let held = spared (fault.NoRoom need blocks) is tt in
       finished 4 _ (lit≤ tt) refl (answer_no_room need blocks done.verdict (subst (λ (r : Result (Unit {0}) RestoreFault). AnswersVerdict Lawful r done.verdict) is done.answer))
       (λ zero. absurd (omega arith)) (leaves 4 (λ zero. absurd (omega arith)) (λ _. held) (λ _ _. held) (λ e. absurd (omega arith)))
 
-  stopped : (stop : Stop) → HasCause (restore_by IsVerdictOn is_early laid file path) (record others { source = source; output = output })
-      (record others { source = last_source; notes = notes; output = last_output }) stop
-      → (last_output.faults ≡ output.faults → HoldsOldOrNone output last_output)
-      → IsStopped (restore_by IsVerdictOn is_early laid file path) (record others { source = source; output = output })
-      (record others { source = last_source; notes = notes; output = last_output }) stop
-  stopped stop cause kept = record {
-    finding = finding;
-    work = record {
-      found = found;
-      possible = possible_stop stop;
-      followed = record { source = source_used; out = tt; input = tt; output = output_used; third = tt };
-      kept = record { source = tt; out = refl; input = refl; output = tt; third = refl };
-      order = record { input = tt; output = λ _. (keeps.access ∙ both.source_access, tt); third = tt; out = tt };
-      silent = λ _. refl;
-      spared = λ no. absurd no;
-      reads = tt;
-      leaves = high (stop_status stop) (stop_status-low stop);
-    };
-    cause = cause;
-    front = front_none _ others.out.written;
-    lost = high 6 (lit≤ tt);
-  }
+  stopped : (stop : Stop) → HasCause (restore_by IsVerdictOn is_early laid file path) first last stop → (last_output.faults ≡ output.faults → HoldsOldOrNone output last_output)
+      → IsStopped (restore_by IsVerdictOn is_early laid file path) first last stop
+  stopped stop cause kept =
+      stopped_early (restore_by IsVerdictOn is_early laid file path) first last stands finding found refl stop (by_stop (λ s. IsTrue (is_possible (restore_by IsVerdictOn is_early laid file path) s)) stop refl refl refl) cause
+      (high (stop_status stop) (stop_status-low stop)) (high 6 (lit≤ tt))
     where
-      possible_stop : (stop : Stop) → IsTrue (is_possible (restore_by IsVerdictOn is_early laid file path) (stop_status stop))
-      possible_stop Device = refl
-      possible_stop Stream = refl
-      possible_stop Memory = refl
-
       high : (status : ℕ) → 5 ≤ status → LeavesRestored laid finding status output last_output
       high status five = leaves status (λ zero. absurd (omega arith)) (λ either. absurd (elim either [ inl e ↦ omega arith | inr e ↦ omega arith ])) (λ _. kept) (λ e. absurd (omega arith))
 
   -- by the fault
   abbrev Stops : Stop → Type 0
-  Stops stop = IsStopped (restore_by IsVerdictOn is_early laid file path) (record others { source = source; output = output })
-      (record others { source = last_source; notes = notes; output = last_output }) stop
+  Stops stop = IsStopped (restore_by IsVerdictOn is_early laid file path) first last stop
 
   of_memory : result ≡ Err fault.Memory → Stops Memory
   of_memory is = stopped Memory tt (λ _. spared fault.Memory is tt)
@@ -383,8 +333,7 @@ module _ {M : Type 0} (Lawful : M → Type 0) (IsVerdictOn : List ℕ → ℕ �
 
   -- whatever its result
   abbrev RestoreEnds : Result (Unit {0}) RestoreFault → Type 0
-  RestoreEnds r = MatchResult (restore_ended r) (λ ending. IsFinished (restore_by IsVerdictOn is_early laid file path) (record others { source = source; output = output })
-      (record others { source = last_source; notes = notes; output = last_output }) (ending_status ending) (ending_line ending)) Stops
+  RestoreEnds r = MatchResult (restore_ended r) (λ ending. IsFinished (restore_by IsVerdictOn is_early laid file path) first last (ending_status ending) (ending_line ending)) Stops
 
   ends_by : (r : Result (Unit {0}) RestoreFault) → result ≡ r → output.faults ≡ 0
       → CountsRestore r attached.faults last_source.faults opened.faults last_output.faults → RestoreEnds r

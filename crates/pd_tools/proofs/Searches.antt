@@ -33,7 +33,7 @@ use Rattle.pd_tools.specs.Ending.{ending_line, ending_status, repair_ended}
 use Rattle.pd_tools.specs.Repair.{AreOpened, AreUnopened}
 use Rattle.pd_tools.specs.Search.{terms_of_search}
 use Rattle.pd_tools.specs.Stop.{stop_status}
-use Rattle.pd_tools.specs.Work.{HasCause, IsFinished, IsStopped, IsWork}
+use Rattle.pd_tools.specs.Work.{HasCause, IsFinished, IsStopped}
 use Rattle.pd_tools.proofs.Answered.{not_risen}
 use Rattle.pd_tools.proofs.BestRoots.{best_roots}
 use Rattle.pd_tools.proofs.Checks.{not_yet}
@@ -41,6 +41,7 @@ use Rattle.pd_tools.proofs.Laying.{any_leaves, laid_kept, laid_leaves}
 use Rattle.pd_tools.proofs.Queries.{one_told, two_told}
 use Rattle.pd_tools.proofs.Repairs.{of_ending}
 use Rattle.pd_tools.proofs.Restores.{Image, left_lost, room-held, room-told, room_in, same_held, untouched_output}
+use Rattle.pd_tools.proofs.Works.{Stands, finished_by, stopped_by, stopped_early}
 
 -- what is right to find in what is told
 abbrev pub IsRight : Given → Option Image → Option FoundRoots → ThinPool → Type 0
@@ -119,23 +120,13 @@ search_unopened given from to others notes out input last_input output last fres
     let m = meant given input.held in
     let finding = found_of m.roots m.pool (room_in output.held) in
     let leaves = λ (status : ℕ) (some : status ≢ 0). left_alone finding status output last synced un.output_untouched some in
-    record {
-      finding = finding;
-      work = record {
-        found = (record { told = room-told output.held; attached = λ e. absurd (un.closed e) }, m.right);
-        possible = refl;
-        followed = record { source = tt; out = not_yet [] out.access out.path fresh; input = un.input_used; output = un.output_used; third = tt };
-        kept = record { source = refl; out = tt; input = un.input_untouched; output = tt; third = refl };
-        order = record { input = λ _. tt; output = λ ne. (tt, un.order ne); third = tt; out = λ ne. absurd (ne fresh) };
-        silent = λ _. refl;
-        spared = λ _. refl;
-        reads = tt;
-        leaves = leaves 5 (λ e. omega arith);
-      };
-      cause = elim un.cause [ inl rose ↦ inl rose | inr rose ↦ inr (inl rose) ];
-      front = front_none _ out.written;
-      lost = leaves 6 (λ e. omega arith);
-    }
+    stopped_early (terms_of_search given from to) (record others { out = out; input = input; output = output }) (record others { out = out; notes = notes; input = last_input; output = last }) (record {
+      followed = record { source = tt; out = not_yet [] out.access out.path fresh; input = un.input_used; output = un.output_used; third = tt };
+      order = record { input = λ _. tt; output = λ ne. (tt, un.order ne); third = tt; out = λ ne. absurd (ne fresh) };
+      kept = record { source = refl; out = tt; input = un.input_untouched; output = tt; third = refl };
+      reads = tt;
+    }) finding (record { told = room-told output.held; attached = λ e. absurd (un.closed e) }, m.right) refl Device refl
+    (elim un.cause [ inl rose ↦ inl rose | inr rose ↦ inr (inl rose) ]) (leaves 5 (λ e. omega arith)) (leaves 6 (λ e. omega arith))
 
 -- devices that were attached
 module _ (given : Given) (from to : List ℕ) (others : Objects) (notes out out' : SinkState) (input opened last_input output writable last : DeviceState)
@@ -150,43 +141,39 @@ module _ (given : Given) (from to : List ℕ) (others : Objects) (notes out out'
   abbrev finding : Option FoundRoots → ThinPool → Searched
   finding roots pool = found_of roots pool (room_of writable.blocks)
 
-  work : (roots : Option FoundRoots) (pool : ThinPool) → IsRight given input.held roots pool → (status : ℕ) → IsTrue (is_possible (terms_of_search given from to) status)
-      → (IsTrue (is_one_of (terms_of_search given from to).silent status) → out' ≡ out) → ((searched_answer (finding roots pool)).status ≢ 0 → out' ≡ out)
-      → LeavesFound (finding roots pool) status output last → IsWork (terms_of_search given from to) (finding roots pool) before after status
-  work roots pool right status possible silent spared left = record {
-    found = (
-      record {
-        told = room-held output.held writable.held writable.blocks both.output_untouched.held measured;
-        attached = λ _. ap room_of (sym place.blocks);
-      },
-      right,
-    );
-    possible = possible;
+  stands : Stands (terms_of_search given from to) before after
+  stands = record {
     followed = record {
       source = tt;
       out = out_used;
-      input = record { allowed = inr (inl (reads.access ∙ both.input_access)); named = λ _. rw reads.path both.input_path };
-      output = record { allowed = inr (inl (place.access ∙ both.output_access)); named = λ _. rw place.path both.output_path };
+      input = record { allowed = inr (inl (reads.access ∙ both.input.attached)); named = λ _. rw reads.path both.input.named };
+      output = record { allowed = inr (inl (place.access ∙ both.output.attached)); named = λ _. rw place.path both.output.named };
       third = tt;
+    };
+    order = record {
+      input = λ _. tt;
+      output = λ _. (tt, reads.access ∙ both.input.attached);
+      third = tt;
+      out = λ _. record { source = tt; input = reads.access ∙ both.input.attached; output = place.access ∙ both.output.attached; third = tt };
     };
     kept = record {
       source = refl;
       out = tt;
-      input = record { held = reads.held ∙ both.input_untouched.held; history = reads.history ∙ both.input_untouched.history };
+      input = record { held = reads.held ∙ both.input.untouched.held; history = reads.history ∙ both.input.untouched.history };
       output = tt;
       third = refl;
     };
-    order = record {
-      input = λ _. tt;
-      output = λ _. (tt, reads.access ∙ both.input_access);
-      third = tt;
-      out = λ _. record { source = tt; input = reads.access ∙ both.input_access; output = place.access ∙ both.output_access; third = tt };
-    };
-    silent = silent;
-    spared = spared;
     reads = tt;
-    leaves = left;
   }
+
+  is_found : (roots : Option FoundRoots) (pool : ThinPool) → IsRight given input.held roots pool → (terms_of_search given from to).finds before after (finding roots pool)
+  is_found roots pool right = (
+    record {
+      told = room-held output.held writable.held writable.blocks both.output.untouched.held measured;
+      attached = λ _. ap room_of (sym place.blocks);
+    },
+    right,
+  )
 
   finished : (roots : Option FoundRoots) (pool : ThinPool) → IsRight given input.held roots pool → (status : ℕ) (bytes line : List ℕ) → status ≤ 4
       → IsTrue (is_possible (terms_of_search given from to) status)
@@ -194,29 +181,18 @@ module _ (given : Given) (from to : List ℕ) (others : Objects) (notes out out'
       → searched_answer (finding roots pool) ≡ record { status = status; out = bytes; notes = line }
       → Appends bytes out.written out'.written → (status ≡ 0 → out'.access ≡ 1) → LeavesFound (finding roots pool) status output last
       → IsFinished (terms_of_search given from to) before after status line
-  finished roots pool right status bytes line low possible silent spared answer whole attached left = record {
-    finding = finding roots pool;
-    work = work roots pool right status possible silent (λ some. spared (λ zero. some (ap (λ (a : Answer). a.status) answer ∙ zero))) left;
-    low = low;
-    same_status = sym (ap (λ (a : Answer). a.status) answer);
-    same_line = sym (ap (λ (a : Answer). a.notes) answer);
-    out = subst (λ (a : Answer). Appends a.out out.written out'.written) (sym answer) whole;
-    open_devices = record { source = tt; input = reads.access ∙ both.input_access; output = place.access ∙ both.output_access; third = tt };
-    open_out = attached;
-    read = λ _. tt;
-  }
+  finished roots pool right status bytes line low possible silent spared answer whole attached left =
+      finished_by (terms_of_search given from to) before after stands (finding roots pool) (is_found roots pool right) status bytes line low possible silent
+      (λ some. spared (λ zero. some (ap (λ (a : Answer). a.status) answer ∙ zero))) answer whole
+      (record { source = tt; input = reads.access ∙ both.input.attached; output = place.access ∙ both.output.attached; third = tt }) attached (λ _. tt) left
 
   stopped : (roots : Option FoundRoots) (pool : ThinPool) → IsRight given input.held roots pool → (stop : Stop) → IsTrue (is_possible (terms_of_search given from to) (stop_status stop))
       → (IsTrue (is_one_of (terms_of_search given from to).silent (stop_status stop)) → out' ≡ out) → ((searched_answer (finding roots pool)).status ≢ 0 → out' ≡ out)
       → HasCause (terms_of_search given from to) before after stop → AppendsFront (searched_answer (finding roots pool)).out out.written out'.written
       → LeavesFound (finding roots pool) (stop_status stop) output last → IsStopped (terms_of_search given from to) before after stop
-  stopped roots pool right stop possible silent spared cause front left = record {
-    finding = finding roots pool;
-    work = work roots pool right (stop_status stop) possible silent spared left;
-    cause = cause;
-    front = front;
-    lost = found_lost (finding roots pool) (stop_status stop) output last left;
-  }
+  stopped roots pool right stop possible silent spared cause front left =
+      stopped_by (terms_of_search given from to) before after stands (finding roots pool) (is_found roots pool right) stop possible silent spared cause front left
+      (found_lost (finding roots pool) (stop_status stop) output last left)
 
 -- devices that were attached, and of which the output was left alone
 module _ (given : Given) (from to : List ℕ) (others : Objects) (notes out : SinkState) (input opened last_input output writable : DeviceState)
@@ -226,7 +202,7 @@ module _ (given : Given) (from to : List ℕ) (others : Objects) (notes out : Si
   unwritten = record { access = refl; path = refl; blocks = refl }
 
   left_as_opened : (found : Searched) (status : ℕ) → status ≢ 0 → LeavesFound found status output writable
-  left_as_opened found status some = left_alone found status output writable synced both.output_untouched some
+  left_as_opened found status some = left_alone found status output writable synced both.output.untouched some
 
   -- there are no roots
   pub search_none : IfSome opened.held (λ image. IsFound (lost_graph image given.blocks) image None)
@@ -234,7 +210,7 @@ module _ (given : Given) (from to : List ℕ) (others : Objects) (notes out : Si
       (record others { out = out; notes = notes; input = last_input; output = writable }) 1 no_roots_line
   search_none none =
       finished given from to others notes out out input opened last_input output writable writable both measured reads unwritten (not_yet [] out.access out.path fresh)
-      None (salvage []) (one_told input.held (λ image is. (is, tt)) (rw both.input_untouched.held at none)) 1 [] no_roots_line (lit≤ tt) refl (λ _. refl) (λ _. refl) refl
+      None (salvage []) (one_told input.held (λ image is. (is, tt)) (rw both.input.untouched.held at none)) 1 [] no_roots_line (lit≤ tt) refl (λ _. refl) (λ _. refl) refl
       (appends_none out.written) (λ e. absurd (omega arith)) (left_as_opened _ 1 (λ e. omega arith))
 
   -- the search failed
@@ -254,7 +230,7 @@ module _ (given : Given) (from to : List ℕ) (others : Objects) (notes out : Si
   pub search_unread : Rose opened.faults last_input.faults
       → IsStopped (terms_of_search given from to) (record others { out = out; input = input; output = output })
       (record others { out = out; notes = notes; input = last_input; output = writable }) Device
-  search_unread rose = failed Device refl (λ e. omega arith) (inl (rw both.input_faults at rose))
+  search_unread rose = failed Device refl (λ e. omega arith) (inl (rw both.input.faults at rose))
 
 -- of a pool whose trees fit each other all is saved
 abbrev pub AreSavedWhole : Type 0
@@ -303,12 +279,12 @@ module _ (given : Given) (from to : List ℕ) (others : Objects) (notes out : Si
       two_told opened.held (λ image a b. (a, b)) best image_is in
       let right_here : IsRight given opened.held (Some roots) pool =
       two_told opened.held (λ image is saved. (is.0, saved_found whole given roots opened.blocks pool image is.1.0 is.1.1 is.0 saved)) best_is done.right in
-      subst (λ (h : Option Image). IsRight given h (Some roots) pool) both.input_untouched.held right_here
+      subst (λ (h : Option Image). IsRight given h (Some roots) pool) both.input.untouched.held right_here
 
   -- the output was left alone
   alone : IsUntouched writable last → (status : ℕ) → status ≢ 0 → Leaves status
   alone same status some = left_alone found status output last synced
-      (record { held = same.held ∙ both.output_untouched.held; history = same.history ∙ both.output_untouched.history }) some
+      (record { held = same.held ∙ both.output.untouched.held; history = same.history ∙ both.output.untouched.history }) some
 
   -- there is room
   zero_if : thin_need pool room ≤ room → (searched_answer found).status ≡ 0
@@ -318,7 +294,7 @@ module _ (given : Given) (from to : List ℕ) (others : Objects) (notes out : Si
   either_way : (status : ℕ) → (last.faults ≡ output.faults → HoldsOldOrNone output last) → (status ≡ 5 → last.faults ≡ output.faults → IsUntouched output last)
       → status ≢ 0 → status ≢ 3 → status ≢ 4 → Leaves status
   either_way status kept input_failed some three four = record {
-    output = any_leaves output writable last synced both.output_untouched pool (output_ending result) done.output (searched_answer found) zero_if status some three four;
+    output = any_leaves output writable last synced both.output.untouched pool (output_ending result) done.output (searched_answer found) zero_if status some three four;
     kept = λ _ _. kept;
     input_failed = input_failed;
   }
@@ -339,12 +315,12 @@ module _ (given : Given) (from to : List ℕ) (others : Objects) (notes out : Si
 
     memory : result ≡ Err fault.Memory → IsStopped (terms_of_search given from to) before_writing after_writing Memory
     memory is =
-        let held = laid_kept output writable last synced both.output_untouched pool (output_ending result) done.output (searched_answer found) (rw is tt) in
+        let held = laid_kept output writable last synced both.output.untouched pool (output_ending result) done.output (searched_answer found) (rw is tt) in
         ended Memory refl tt (either_way 7 (λ _. held) (λ e. absurd (omega arith)) (λ e. omega arith) (λ e. omega arith) (λ e. omega arith))
 
     output_failed : output.faults ≡ 0 → Rose writable.faults last.faults → IsStopped (terms_of_search given from to) before_writing after_writing Device
     output_failed none rose =
-        let risen : Rose output.faults last.faults = rw both.output_faults at rose in
+        let risen : Rose output.faults last.faults = rw both.output.faults at rose in
         let never : last.faults ≡ output.faults → ⊥ = λ same. not_risen output.faults last.faults none same risen in
         ended Device refl (inr (inl risen))
         (either_way 5 (λ same. absurd (never same)) (λ _ same. absurd (never same)) (λ e. omega arith) (λ e. omega arith) (λ e. omega arith))
@@ -352,7 +328,7 @@ module _ (given : Given) (from to : List ℕ) (others : Objects) (notes out : Si
     input_failed : result ≡ Err fault.Input → Rose opened.faults last_input.faults → IsStopped (terms_of_search given from to) before_writing after_writing Device
     input_failed is rose =
         let same = of_ending (λ ending. IsEarly ending → IsUntouched writable last) result (Err fault.Input) is done.output.early tt in
-        ended Device refl (inl (rw both.input_faults at rose)) (alone same 5 (λ e. omega arith))
+        ended Device refl (inl (rw both.input.faults at rose)) (alone same 5 (λ e. omega arith))
 
     no_room : (need blocks : ℕ) → result ≡ Err (fault.NoRoom need blocks) → IsFinished (terms_of_search given from to) before_writing after_writing 4 (no_room_line need blocks)
     no_room need blocks is =
@@ -383,7 +359,7 @@ module _ (given : Given) (from to : List ℕ) (others : Objects) (notes out : Si
 
     written : (status : ℕ) → (status ≡ 0) ⊎ (status ≡ 6) → Leaves status
     written status which = record {
-      output = laid_leaves output writable last synced both.output_untouched pool (output_ending result) done.output (searched_answer found)
+      output = laid_leaves output writable last synced both.output.untouched pool (output_ending result) done.output (searched_answer found)
           (ap (λ (a : Answer). a.status) answer) status (λ _. rw is tt)
           (λ either. elim which [ inl e ↦ elim either [ inl t ↦ omega arith | inr t ↦ omega arith ] | inr e ↦ elim either [ inl t ↦ omega arith | inr t ↦ omega arith ] ]);
       kept = λ zero six. absurd (elim which [ inl e ↦ zero e | inr e ↦ six e ]);

@@ -1,5 +1,5 @@
 -- What the work of a shrink comes to, over plain variables.
-use Rattle.std.proofs.Common.{◌≡◌, ◌≢◌, ◌⊎◌, inl, inr, ℕ, ◌≤◌, not, nat_eq, false, IsTrue, List, [], ◌∷◌, length, map, Option, Some, None, IfSome, Result, Err, refl, sym, ap, ◌∙◌, subst, arith, lit≤}
+use Rattle.std.proofs.Common.{◌≡◌, ◌≢◌, ◌⊎◌, inl, inr, ℕ, ◌≤◌, not, nat_eq, false, IsTrue, List, [], length, map, Option, Some, None, IfSome, Result, Err, refl, sym, ap, ◌∙◌, subst, arith, lit≤}
 use Rattle.std.specs.Prelude.{MatchResult}
 use Rattle.std.proofs.lemmas.Option.{IfSome_then}
 use Rattle.pd_kinds.specs.declared.kind.Kind.TheVariants.{Thin}
@@ -10,7 +10,6 @@ use Rattle.pd_kinds.specs.Meaning.{thin_meaning}
 use Rattle.pd_kinds.specs.Objects.{DeviceState, SinkState, Appends, AppendsFront, Rose}
 use Rattle.pd_kinds.specs.Report.{Reported, report_of}
 use Rattle.pd_kinds.specs.Stages.{faults}
-use Rattle.pd_kinds.proofs.AppendLemmas.{appends_none, front_none}
 use Rattle.pd_kinds.proofs.CrashLemmas.{and_then, stays}
 use Rattle.pd_spells.specs.Lines.{no_room_line, reported_lines}
 use Rattle.pd_answers.specs.Answer.{Answer, Objects, AreFresh, IsUsed, reading, writing}
@@ -19,7 +18,7 @@ use Rattle.pd_answers.specs.MovedPool.{copy_of_move, data_after, end_of_pool, fr
 use Rattle.pd_answers.specs.Outputs.{IsRoom, LeavesMade}
 use Rattle.pd_answers.specs.Repairs.{LaysPool}
 use Rattle.pd_answers.specs.Shrinks.{IsGroundOf, Lack, LeavesShrunk, ShrinkFound, ShrinkGround, answer_to, bad_block_size, lack_of, moved_line, moves_of, no_room, pool_after, shrink, shrink_answer}
-use Rattle.pd_answers.specs.Terms.{is_one_of, is_possible}
+use Rattle.pd_answers.specs.Terms.{is_possible}
 use Rattle.pd_answers.specs.Writebacks.{HasBlocks, block_size_line}
 use Rattle.pd_restore.specs.Made.{Ending, IsDone, IsMadeOf, done, lacking}
 use Rattle.pd_shrink.specs.declared.fault.ShrinkFault.{ShrinkFault}
@@ -31,15 +30,17 @@ use Rattle.pd_tools.specs.declared.stop.Stop.{Stop}
 use Rattle.pd_tools.specs.declared.stop.Stop.TheVariants.{Device, Stream, Memory}
 use Rattle.pd_tools.specs.Ending.{ending_line, ending_status, shrink_ended}
 use Rattle.pd_tools.specs.Read.{IsUnread}
-use Rattle.pd_tools.specs.Shrink.{AreOpened, AreUnopened, FailsToMove, GoesAsFar, HasMoved, IsWritten, devices}
+use Rattle.pd_tools.specs.Opened.{AreOpened, AreUnopened, devices}
+use Rattle.pd_tools.specs.Shrink.{FailsToMove, GoesAsFar, HasMoved, IsWritten}
 use Rattle.pd_tools.specs.Stop.{stop_status}
-use Rattle.pd_tools.specs.Work.{HasCause, IsFinished, IsStopped, IsWork}
-use Rattle.pd_tools.proofs.Answered.{not_risen}
+use Rattle.pd_tools.specs.Work.{HasCause, IsFinished, IsStopped}
+use Rattle.pd_tools.proofs.Answered.{not_risen, stop_status-low}
 use Rattle.pd_tools.proofs.Checks.{not_yet}
 use Rattle.pd_tools.proofs.Laying.{laid_kept, laid_leaves}
 use Rattle.pd_tools.proofs.Queries.{none_at_super, one_told, two_told}
 use Rattle.pd_tools.proofs.Restores.{Image, left_lost, room-held, room-told, room_in, same_held, still_synced, untouched_output}
-use Rattle.pd_tools.proofs.Writebacks.{and_same, blocks_in, blocks_told, has_blocks, here_kept, if_any, never_open, still_opened}
+use Rattle.pd_tools.proofs.Writebacks.{and_same, blocks_in, blocks_told, has_blocks, here_kept, if_any, never_open}
+use Rattle.pd_tools.proofs.Works.{Stands, finished_by, finished_early, stopped_by, stopped_early}
 
 -- what is right to find of the metadata
 abbrev IsRight : ℕ → Option Image → Reported → ShrinkGround → Type 0
@@ -133,7 +134,7 @@ writes_alone path access name used closed (inl one) = elim used.allowed [
 module _ (from to pool : List ℕ) (blocks : ℕ) (others : Objects) (notes out : SinkState) (m m' o o' t t' : DeviceState) (fresh : out.access ≡ 0)
     (output_synced : IsSynced o) (pool_synced : IsSynced t) where
   -- a device couldn't be attached
-  pub shrink_unopened : IfSome o'.held (λ image. length image ≡ o'.blocks) → AreUnopened from to pool (devices m o t) (devices m' o' t')
+  pub shrink_unopened : IfSome o'.held (λ image. length image ≡ o'.blocks) → AreUnopened (reading from) (writing to) (writing pool) (devices m o t) (devices m' o' t')
       → IsStopped (shrink from to pool blocks) (record others { out = out; input = m; output = o; third = t })
       (record others { out = out; notes = notes; input = m'; output = o'; third = t' }) Device
   shrink_unopened measured un =
@@ -142,33 +143,17 @@ module _ (from to pool : List ℕ) (blocks : ℕ) (others : Objects) (notes out 
       let before : Objects = record others { out = out; input = m; output = o; third = t } in
       let after : Objects = record others { out = out; notes = notes; input = m'; output = o'; third = t' } in
       let leaves : (status : ℕ) → status ≢ 0 → LeavesShrunk finding before after status =
-      λ status some. left_alone finding before after status output_synced pool_synced some un.output_untouched un.pool_untouched in
-      record {
-        finding = finding;
-        work = record {
-          found = record {
-            pool_device = record { told = blocks_told t.held; attached = writes_alone pool t'.access t'.path un.pool_used un.closed };
-            output = record { told = room-held o.held o'.held o'.blocks un.output_untouched.held measured; attached = λ _. refl };
-            told = right_by blocks m.held (report_in m.held) ground (report_told m.held) (ground_told m.held blocks _ _);
-          };
-          possible = refl;
-          followed = record { source = tt; out = not_yet [] out.access out.path fresh; input = un.meta_used; output = un.output_used; third = un.pool_used };
-          kept = record { source = refl; out = tt; input = un.meta_untouched; output = tt; third = tt };
-          order = record {
-            input = λ _. tt;
-            output = λ ne. (tt, un.output_order ne);
-            third = λ ne. (tt, un.pool_order ne);
-            out = λ ne. absurd (ne fresh);
-          };
-          silent = λ _. refl;
-          spared = λ _. refl;
-          reads = tt;
-          leaves = leaves 5 (λ e. omega arith);
-        };
-        cause = un.cause;
-        front = front_none _ out.written;
-        lost = leaves 6 (λ e. omega arith);
-      }
+      λ status some. left_alone finding before after status output_synced pool_synced some un.output_untouched un.third_untouched in
+      stopped_early (shrink from to pool blocks) before after (record {
+        followed = record { source = tt; out = not_yet [] out.access out.path fresh; input = un.input_used; output = un.output_used; third = un.third_used };
+        order = record { input = λ _. tt; output = λ ne. (tt, un.output_order ne); third = λ ne. (tt, un.third_order ne); out = λ ne. absurd (ne fresh) };
+        kept = record { source = refl; out = tt; input = un.input_untouched; output = tt; third = tt };
+        reads = tt;
+      }) finding (record {
+        pool_device = record { told = blocks_told t.held; attached = writes_alone pool t'.access t'.path un.third_used un.closed };
+        output = record { told = room-held o.held o'.held o'.blocks un.output_untouched.held measured; attached = λ _. refl };
+        told = right_by blocks m.held (report_in m.held) ground (report_told m.held) (ground_told m.held blocks _ _);
+      }) refl Device refl un.cause (leaves 5 (λ e. omega arith)) (leaves 6 (λ e. omega arith))
 
 -- how the devices stand once they were attached, at the end of a call that goes by this
 record AreEnded (from to pool : List ℕ) (m m' o o' t t' : DeviceState) (ground : ShrinkGround) : Type 0 where
@@ -193,73 +178,26 @@ has_room old opened new room same held measured number = record {
   attached = λ _. same ∙ ap room_of (sym number);
 }
 
-module _ (from to pool : List ℕ) (blocks : ℕ) (others : Objects) (notes out out' : SinkState) (m m' o o' t t' : DeviceState) (ground : ShrinkGround)
-    (ended : AreEnded from to pool m m' o o' t t' ground) (out_used : IsUsed (reading []) out'.access out'.path) where
-  abbrev before : Objects
-  before = record others { out = out; input = m; output = o; third = t }
-
-  abbrev after : Objects
-  after = record others { out = out'; notes = notes; input = m'; output = o'; third = t' }
-
-  abbrev finding : Reported → ShrinkFound
-  finding report = record { report = report; ground = ground }
-
-  work : (report : Reported) → IsRight blocks m.held report ground → (status : ℕ)
-      → IsTrue (is_possible (shrink from to pool blocks) status) → (IsTrue (is_one_of (1 ∷ 4 ∷ 5 ∷ 7 ∷ []) status) → out' ≡ out)
-      → ((shrink_answer (finding report)).status ≢ 0 → out' ≡ out)
-      → LeavesShrunk (finding report) before after status → IsWork (shrink from to pool blocks) (finding report) before after status
-  work report right status possible silent spared leaves = record {
-    found = record { pool_device = ended.pool_has; output = ended.output_has; told = right };
-    possible = possible;
-    followed = record {
-      source = tt;
-      out = out_used;
-      input = record { allowed = inr (inl ended.meta_open); named = λ _. ended.meta_named };
-      output = record { allowed = inr (inl ended.output_open); named = λ _. ended.output_named };
-      third = record { allowed = inr (inl ended.pool_open); named = λ _. ended.pool_named };
-    };
-    kept = record { source = refl; out = tt; input = ended.meta_untouched; output = tt; third = tt };
-    order = record {
-      input = λ _. tt;
-      output = λ _. (tt, ended.meta_open);
-      third = λ _. (tt, (ended.meta_open, ended.output_open));
-      out = λ _. record { source = tt; input = ended.meta_open; output = ended.output_open; third = ended.pool_open };
-    };
-    silent = silent;
-    spared = spared;
-    reads = tt;
-    leaves = leaves;
-  }
-
-  finished : (report : Reported) → IsRight blocks m.held report ground → (status : ℕ) (bytes line : List ℕ) → status ≤ 4
-      → IsTrue (is_possible (shrink from to pool blocks) status) → (IsTrue (is_one_of (1 ∷ 4 ∷ 5 ∷ 7 ∷ []) status) → out' ≡ out)
-      → (status ≢ 0 → out' ≡ out) → shrink_answer (finding report) ≡ record { status = status; out = bytes; notes = line }
-      → Appends bytes out.written out'.written → (status ≡ 0 → out'.access ≡ 1)
-      → LeavesShrunk (finding report) before after status → IsFinished (shrink from to pool blocks) before after status line
-  finished report right status bytes line low possible silent spared answer whole attached leaves = record {
-    finding = finding report;
-    work = work report right status possible silent (λ some. spared (λ zero. some (ap (λ (a : Answer). a.status) answer ∙ zero))) leaves;
-    low = low;
-    same_status = sym (ap (λ (a : Answer). a.status) answer);
-    same_line = sym (ap (λ (a : Answer). a.notes) answer);
-    out = subst (λ (a : Answer). Appends a.out out.written out'.written) (sym answer) whole;
-    open_devices = record { source = tt; input = ended.meta_open; output = ended.output_open; third = ended.pool_open };
-    open_out = attached;
-    read = λ _. tt;
-  }
-
-  stopped : (report : Reported) → IsRight blocks m.held report ground → (stop : Stop)
-      → IsTrue (is_possible (shrink from to pool blocks) (stop_status stop)) → (IsTrue (is_one_of (1 ∷ 4 ∷ 5 ∷ 7 ∷ []) (stop_status stop)) → out' ≡ out)
-      → ((shrink_answer (finding report)).status ≢ 0 → out' ≡ out) → HasCause (shrink from to pool blocks) before after stop
-      → AppendsFront (shrink_answer (finding report)).out out.written out'.written
-      → LeavesShrunk (finding report) before after (stop_status stop) → IsStopped (shrink from to pool blocks) before after stop
-  stopped report right stop possible silent spared cause front leaves = record {
-    finding = finding report;
-    work = work report right (stop_status stop) possible silent spared leaves;
-    cause = cause;
-    front = front;
-    lost = shrink_lost before after (finding report) (stop_status stop) leaves;
-  }
+stands : {from to pool : List ℕ} {m m' o o' t t' : DeviceState} {ground : ShrinkGround} (blocks : ℕ) (others : Objects) (notes out out' : SinkState)
+    → AreEnded from to pool m m' o o' t t' ground → IsUsed (reading []) out'.access out'.path
+    → Stands (shrink from to pool blocks) (record others { out = out; input = m; output = o; third = t }) (record others { out = out'; notes = notes; input = m'; output = o'; third = t' })
+stands blocks others notes out out' ended out_used = record {
+  followed = record {
+    source = tt;
+    out = out_used;
+    input = record { allowed = inr (inl ended.meta_open); named = λ _. ended.meta_named };
+    output = record { allowed = inr (inl ended.output_open); named = λ _. ended.output_named };
+    third = record { allowed = inr (inl ended.pool_open); named = λ _. ended.pool_named };
+  };
+  order = record {
+    input = λ _. tt;
+    output = λ _. (tt, ended.meta_open);
+    third = λ _. (tt, (ended.meta_open, ended.output_open));
+    out = λ _. record { source = tt; input = ended.meta_open; output = ended.output_open; third = ended.pool_open };
+  };
+  kept = record { source = refl; out = tt; input = ended.meta_untouched; output = tt; third = tt };
+  reads = tt;
+}
 
 -- what the answer to a report without faults comes to
 abbrev sound_finding : ShrinkGround → ShrinkFound
@@ -274,7 +212,7 @@ none_right held none = one_told held (λ image is. sym (ap report_of is)) none
 
 -- devices that were attached, and then only read
 module _ (from to pool : List ℕ) (blocks : ℕ) (others : Objects) (notes out : SinkState) (m m1 m' o o1 t t1 : DeviceState) (fresh : out.access ≡ 0)
-    (output_synced : IsSynced o) (pool_synced : IsSynced t) (opened : AreOpened from to pool (devices m o t) (devices m1 o1 t1))
+    (output_synced : IsSynced o) (pool_synced : IsSynced t) (opened : AreOpened (reading from) (writing to) (writing pool) (devices m o t) (devices m1 o1 t1))
     (access : m'.access ≡ m1.access) (path : m'.path ≡ m1.path) (same : IsUntouched m1 m')
     (output_measured : IfSome o1.held (λ image. length image ≡ o1.blocks)) (pool_measured : IfSome t1.held (λ image. length image ≡ t1.blocks)) where
   abbrev before_read : Objects
@@ -285,25 +223,25 @@ module _ (from to pool : List ℕ) (blocks : ℕ) (others : Objects) (notes out 
 
   read_left : (found : ShrinkFound) (status : ℕ) → status ≢ 0 → LeavesShrunk found before_read after_read status
   read_left found status some =
-      left_alone found before_read after_read status output_synced pool_synced some opened.output.untouched opened.pool.untouched
-
-  out_unused : IsUsed (reading []) out.access out.path
-  out_unused = not_yet [] out.access out.path fresh
+      left_alone found before_read after_read status output_synced pool_synced some opened.output.untouched opened.third.untouched
 
   -- what it goes by
   module _ (ground : ShrinkGround) (number : ground.data_blocks ≡ t1.blocks) (room : ground.room ≡ room_of o1.blocks) where
     read_only : AreEnded from to pool m m' o o1 t t1 ground
     read_only = record {
-      meta_open = access ∙ opened.meta.attached;
-      meta_named = rw path opened.meta.named;
-      meta_untouched = and_same opened.meta.untouched same;
+      meta_open = access ∙ opened.input.attached;
+      meta_named = rw path opened.input.named;
+      meta_untouched = and_same opened.input.untouched same;
       output_open = opened.output.attached;
       output_named = opened.output.named;
       output_has = has_room o o1 o1 ground.room room opened.output.untouched.held output_measured refl;
-      pool_open = opened.pool.attached;
-      pool_named = opened.pool.named;
-      pool_has = has_data_blocks t t1 t1.blocks ground.data_blocks number (has_blocks t t1 t1 opened.pool.untouched.held pool_measured refl);
+      pool_open = opened.third.attached;
+      pool_named = opened.third.named;
+      pool_has = has_data_blocks t t1 t1.blocks ground.data_blocks number (has_blocks t t1 t1 opened.third.untouched.held pool_measured refl);
     }
+
+    read_stands : Stands (shrink from to pool blocks) before_read after_read
+    read_stands = stands blocks others notes out out read_only (not_yet [] out.access out.path fresh)
 
     -- nothing was written, and it came to an answer
     read_finished : (report : Reported) → IsRight blocks m.held report ground → (status : ℕ) (line : List ℕ) → status ≤ 4 → status ≢ 0
@@ -311,16 +249,19 @@ module _ (from to pool : List ℕ) (blocks : ℕ) (others : Objects) (notes out 
         → shrink_answer (record { report = report; ground = ground }) ≡ record { status = status; out = []; notes = line }
         → IsFinished (shrink from to pool blocks) before_read after_read status line
     read_finished report right status line low some possible answer =
-        finished from to pool blocks others notes out out m m' o o1 t t1 ground read_only out_unused report right status [] line low possible
-        (λ _. refl) (λ _. refl) answer (appends_none out.written) (λ zero. absurd (some zero)) (read_left _ status some)
+        finished_early (shrink from to pool blocks) before_read after_read read_stands (record { report = report; ground = ground })
+        (record { pool_device = read_only.pool_has; output = read_only.output_has; told = right }) refl status line low possible answer
+        (record { source = tt; input = read_only.meta_open; output = read_only.output_open; third = read_only.pool_open }) (λ zero. absurd (some zero)) (λ _. tt) (read_left _ status some)
 
     -- it was stopped
-    read_stopped : (report : Reported) → IsRight blocks m.held report ground → (stop : Stop) → stop_status stop ≢ 0
+    read_stopped : (report : Reported) → IsRight blocks m.held report ground → (stop : Stop)
         → IsTrue (is_possible (shrink from to pool blocks) (stop_status stop)) → HasCause (shrink from to pool blocks) before_read after_read stop
         → IsStopped (shrink from to pool blocks) before_read after_read stop
-    read_stopped report right stop some possible cause =
-        stopped from to pool blocks others notes out out m m' o o1 t t1 ground read_only out_unused report right stop possible
-        (λ _. refl) (λ _. refl) cause (front_none _ out.written) (read_left _ (stop_status stop) some)
+    read_stopped report right stop possible cause =
+        let high = stop_status-low stop in
+        stopped_early (shrink from to pool blocks) before_read after_read read_stands (record { report = report; ground = ground })
+        (record { pool_device = read_only.pool_has; output = read_only.output_has; told = right }) refl stop possible cause
+        (read_left _ (stop_status stop) (λ e. omega arith)) (read_left _ 6 (λ e. omega arith))
 
   -- what is told
   abbrev ground_here : ShrinkGround
@@ -333,24 +274,24 @@ module _ (from to pool : List ℕ) (blocks : ℕ) (others : Objects) (notes out 
   pub shrink_unread : (stop : Stop) → IsUnread Thin Counts m1 m' stop → IsStopped (shrink from to pool blocks) before_read after_read stop
   shrink_unread Stream unread = absurd unread
   shrink_unread Device unread =
-      read_stopped ground_here refl refl (report_in m.held) (right_here (report_in m.held) (report_told m.held)) Device (λ e. omega arith) refl (inl (rw opened.meta.faults at unread))
+      read_stopped ground_here refl refl (report_in m.held) (right_here (report_in m.held) (report_told m.held)) Device refl (inl (rw opened.input.faults at unread))
   shrink_unread Memory unread =
-      read_stopped ground_here refl refl (report_in m.held) (right_here (report_in m.held) (report_told m.held)) Memory (λ e. omega arith) refl (rw opened.meta.untouched.held at unread)
+      read_stopped ground_here refl refl (report_in m.held) (right_here (report_in m.held) (report_told m.held)) Memory refl (rw opened.input.untouched.held at unread)
 
   -- it has faults
   pub shrink_faulty : (report : Reported) → IfSome m1.held (λ image. report ≡ report_of (faults Thin Counts image)) → nat_eq report.total 0 ≡ false
       → IsFinished (shrink from to pool blocks) before_read after_read 1 (reported_lines report)
   shrink_faulty report right faulty =
-      let first_right : IfSome m.held (λ image. report ≡ report_of (faults Thin Counts image)) = rw opened.meta.untouched.held at right in
+      let first_right : IfSome m.held (λ image. report ≡ report_of (faults Thin Counts image)) = rw opened.input.untouched.held at right in
       read_finished ground_here refl refl report (right_here report first_right) 1 (reported_lines report) (lit≤ tt) (λ e. omega arith) refl (rw faulty refl)
 
   -- it has none, and there is no plan
   module _ (sound : IfSome m1.held (λ image. faults Thin Counts image ≡ [])) where
     sound_here : IfSome m.held (λ image. faults Thin Counts image ≡ [])
-    sound_here = rw opened.meta.untouched.held at sound
+    sound_here = rw opened.input.untouched.held at sound
 
     found_right : (ground : ShrinkGround) → GoesBy m1.held o1.blocks t1.blocks blocks ground → IsRight blocks m.held (report_of []) ground
-    found_right ground by = right_by blocks m.held (report_of []) ground (none_right m.held sound_here) (rw opened.meta.untouched.held at by.told)
+    found_right ground by = right_by blocks m.held (report_of []) ground (none_right m.held sound_here) (rw opened.input.untouched.held at by.told)
 
     lacking_ground : (lack : Lack) (un : HasLack m1.held o1.blocks t1.blocks blocks lack) (status : ℕ) (line : List ℕ) → status ≤ 4 → status ≢ 0
         → IsTrue (is_possible (shrink from to pool blocks) status) → answer_to (Some lack) un.basis ≡ record { status = status; out = []; notes = line }
@@ -363,12 +304,12 @@ module _ (from to pool : List ℕ) (blocks : ℕ) (others : Objects) (notes out 
         → MatchResult (shrink_ended fault) (λ ending. IsFinished (shrink from to pool blocks) before_read after_read (ending_status ending) (ending_line ending))
         (IsStopped (shrink from to pool blocks) before_read after_read)
     shrink_unplanned s.Memory un counts =
-        read_stopped ground_here refl refl (report_of []) (right_here (report_of []) (none_right m.held sound_here)) Memory (λ e. omega arith) refl (record {
+        read_stopped ground_here refl refl (report_of []) (right_here (report_of []) (none_right m.held sound_here)) Memory refl (record {
           past_super = λ e. absurd cc;
           sound = one_told m.held (λ image is. none_at_super Thin Counts image is) sound_here;
         })
     shrink_unplanned s.Meta un counts =
-        read_stopped ground_here refl refl (report_of []) (right_here (report_of []) (none_right m.held sound_here)) Device (λ e. omega arith) refl (inl (rw opened.meta.faults at counts.0))
+        read_stopped ground_here refl refl (report_of []) (right_here (report_of []) (none_right m.held sound_here)) Device refl (inl (rw opened.input.faults at counts.0))
     shrink_unplanned s.Output un counts = absurd un
     shrink_unplanned s.BlockSize un counts = lacking_ground bad_block_size un 1 block_size_line (lit≤ tt) (λ e. omega arith) refl refl
     shrink_unplanned (s.NoRoom need there) un counts = lacking_ground (no_room need there) un 4 (no_room_line need there) (lit≤ tt) (λ e. omega arith) refl refl
@@ -376,7 +317,7 @@ module _ (from to pool : List ℕ) (blocks : ℕ) (others : Objects) (notes out 
 -- devices that a plan was made for, and that were written by it
 module _ (from to pool : List ℕ) (blocks : ℕ) (others : Objects) (notes out : SinkState) (m m1 m2 o o1 o' t t1 t' : DeviceState) (fresh : out.access ≡ 0)
     (output_synced : IsSynced o) (output_unfailed : o.faults ≡ 0) (pool_synced : IsSynced t) (pool_unfailed : t.faults ≡ 0)
-    (opened : AreOpened from to pool (devices m o t) (devices m1 o1 t1))
+    (opened : AreOpened (reading from) (writing to) (writing pool) (devices m o t) (devices m1 o1 t1))
     (access : m2.access ≡ m1.access) (path : m2.path ≡ m1.path) (same : IsUntouched m1 m2)
     (sound : IfSome m1.held (λ image. faults Thin Counts image ≡ []))
     (output_measured : IfSome o1.held (λ image. length image ≡ o1.blocks)) (pool_measured : IfSome t1.held (λ image. length image ≡ t1.blocks))
@@ -384,16 +325,16 @@ module _ (from to pool : List ℕ) (blocks : ℕ) (others : Objects) (notes out 
     (result : Result ℕ Stop) (written : IsWritten plan result (devices m2 o1 t1) (devices m2 o' t')) where
   all_ended : AreEnded from to pool m m2 o o' t t' ground
   all_ended = record {
-    meta_open = access ∙ opened.meta.attached;
-    meta_named = rw path opened.meta.named;
-    meta_untouched = and_same opened.meta.untouched same;
+    meta_open = access ∙ opened.input.attached;
+    meta_named = rw path opened.input.named;
+    meta_untouched = and_same opened.input.untouched same;
     output_open = written.output_place.access ∙ opened.output.attached;
     output_named = rw written.output_place.path opened.output.named;
     output_has = has_room o o1 o' ground.room planned.goes_by.room opened.output.untouched.held output_measured written.output_place.blocks;
-    pool_open = written.pool_place.access ∙ opened.pool.attached;
-    pool_named = rw written.pool_place.path opened.pool.named;
+    pool_open = written.pool_place.access ∙ opened.third.attached;
+    pool_named = rw written.pool_place.path opened.third.named;
     pool_has = has_data_blocks t t' t1.blocks ground.data_blocks planned.goes_by.data_blocks
-        (has_blocks t t1 t' opened.pool.untouched.held pool_measured written.pool_place.blocks);
+        (has_blocks t t1 t' opened.third.untouched.held pool_measured written.pool_place.blocks);
   }
 
   abbrev before_writing : Objects
@@ -406,10 +347,13 @@ module _ (from to pool : List ℕ) (blocks : ℕ) (others : Objects) (notes out 
   found_here = sound_finding ground
 
   sound_first : IfSome m.held (λ image. faults Thin Counts image ≡ [])
-  sound_first = rw opened.meta.untouched.held at sound
+  sound_first = rw opened.input.untouched.held at sound
 
   right_first : IsRight blocks m.held (report_of []) ground
-  right_first = right_by blocks m.held (report_of []) ground (none_right m.held sound_first) (rw opened.meta.untouched.held at planned.goes_by.told)
+  right_first = right_by blocks m.held (report_of []) ground (none_right m.held sound_first) (rw opened.input.untouched.held at planned.goes_by.told)
+
+  found_written : (last : SinkState) → (shrink from to pool blocks).finds before_writing (after_writing last) found_here
+  found_written last = record { pool_device = all_ended.pool_has; output = all_ended.output_has; told = right_first }
 
   answered : shrink_answer found_here ≡ record { status = 0; out = moved_line (length (sources ground.pool ground.end)); notes = [] }
   answered = answer_sound ground None planned.fits
@@ -428,13 +372,13 @@ module _ (from to pool : List ℕ) (blocks : ℕ) (others : Objects) (notes out 
       → LeavesShrunk found_here before_writing (after_writing last) status
   leaves last status output order moved kept output_spared data_spared = record {
     copies = IfSome_then t.held pool_synced (λ image s.
-        and_then (stays opened.pool.untouched.held opened.pool.untouched.history (here_kept (blocks_each ground.pool.block_size) (map copy_of_move (moves_of ground)) image t s))
-        (written.crash ground image planned.plan (still_synced image t t1 opened.pool.untouched s)));
+        and_then (stays opened.third.untouched.held opened.third.untouched.history (here_kept (blocks_each ground.pool.block_size) (map copy_of_move (moves_of ground)) image t s))
+        (written.crash ground image planned.plan (still_synced image t t1 opened.third.untouched s)));
     output = output;
     order = order;
     moved = moved;
     refused = λ some. absurd (some zero);
-    nothing_moved = λ none. and_same opened.pool.untouched (written.cold (planned.plan.moves ∙ ap (λ (ds : List ℕ). moves_to ds ground.free) none));
+    nothing_moved = λ none. and_same opened.third.untouched (written.cold (planned.plan.moves ∙ ap (λ (ds : List ℕ). moves_to ds ground.free) none));
     kept = kept;
     output_spared = output_spared;
     data_spared = data_spared;
@@ -443,7 +387,7 @@ module _ (from to pool : List ℕ) (blocks : ℕ) (others : Objects) (notes out 
   -- all was moved
   module _ (ending : Ending) (has : HasMoved plan ending (devices m2 o1 t1) (devices m2 o' t')) where
     all_moved : IfSome t.held (λ image. HoldsSynced (data_after (blocks_each ground.pool.block_size) (moves_of ground) image) t')
-    all_moved = IfSome_then t.held pool_synced (λ image s. has.moved ground image planned.plan (still_synced image t t1 opened.pool.untouched s))
+    all_moved = IfSome_then t.held pool_synced (λ image s. has.moved ground image planned.plan (still_synced image t t1 opened.third.untouched s))
 
     made_here : IsMadeOf (pool_after ground) ending o1 o'
     made_here = has.made ground planned.plan
@@ -468,14 +412,14 @@ module _ (from to pool : List ℕ) (blocks : ℕ) (others : Objects) (notes out 
       leaves last status
       (untouched_output (LaysPool (shrink_answer found_here) (pool_after ground) ground.room) (not (nat_eq (shrink_answer found_here).status 0)) status o o' output_synced alone some)
       (if_any t.held (λ image. inl alone)) (λ e. absurd (some e)) (λ _ _ _. same_held o o' alone.held) (λ _ _. alone)
-      (λ _ _ unfailed. absurd (not_risen t.faults t'.faults pool_unfailed unfailed (rw opened.pool.faults at fails.rose)))
+      (λ _ _ unfailed. absurd (not_risen t.faults t'.faults pool_unfailed unfailed (rw opened.third.faults at fails.rose)))
 
   -- where it was stopped before its line
   unput : (stop : Stop) → IsTrue (is_possible (shrink from to pool blocks) (stop_status stop)) → HasCause (shrink from to pool blocks) before_writing (after_writing out) stop
       → LeavesShrunk found_here before_writing (after_writing out) (stop_status stop) → IsStopped (shrink from to pool blocks) before_writing (after_writing out) stop
   unput stop possible cause left =
-      stopped from to pool blocks others notes out out m m2 o o' t t' ground all_ended (not_yet [] out.access out.path fresh) (report_of []) right_first stop possible
-      (λ _. refl) (λ _. refl) cause (front_none _ out.written) left
+      stopped_early (shrink from to pool blocks) before_writing (after_writing out) (stands blocks others notes out out all_ended (not_yet [] out.access out.path fresh))
+      found_here (found_written out) refl stop possible cause left (shrink_lost before_writing (after_writing out) found_here (stop_status stop) left)
 
   pub shrink_unwritten : (stop : Stop) → GoesAsFar plan (Err stop) (devices m2 o1 t1) (devices m2 o' t') → IsStopped (shrink from to pool blocks) before_writing (after_writing out) stop
   shrink_unwritten Stream far = absurd far
@@ -488,7 +432,7 @@ module _ (from to pool : List ℕ) (blocks : ℕ) (others : Objects) (notes out 
       (λ _ _ _. laid_kept o o1 o' output_synced opened.output.untouched (pool_after ground) lacking (made_here lacking has) (shrink_answer found_here) tt)
       (λ e. absurd (omega arith)))
   shrink_unwritten Device (inl fails) =
-      unput Device refl (inr (inr (rw opened.pool.faults at fails.rose))) (unmoved_leaves fails out 5 (λ e. omega arith))
+      unput Device refl (inr (inr (rw opened.third.faults at fails.rose))) (unmoved_leaves fails out 5 (λ e. omega arith))
   shrink_unwritten Device (inr fails) =
       let risen : Rose o.faults o'.faults = rw opened.output.faults at fails.rose in
       let never : o'.faults ≡ o.faults → ⊥ = λ unfailed. not_risen o.faults o'.faults output_unfailed unfailed risen in
@@ -505,24 +449,16 @@ module _ (from to pool : List ℕ) (blocks : ℕ) (others : Objects) (notes out 
     pub shrink_done : Appends (moved_line (length (sources ground.pool ground.end))) out.written out'.written → out'.access ≡ 1
         → IsFinished (shrink from to pool blocks) before_writing (after_writing out') 0 []
     shrink_done whole attached =
-        finished from to pool blocks others notes out out' m m2 o o' t t' ground all_ended used (report_of []) right_first 0
-        (moved_line (length (sources ground.pool ground.end))) [] (lit≤ tt) refl (λ e. absurd cc) (λ some. absurd (some refl)) answered whole (λ _. attached)
+        finished_by (shrink from to pool blocks) before_writing (after_writing out') (stands blocks others notes out out' all_ended used) found_here (found_written out')
+        0 (moved_line (length (sources ground.pool ground.end))) [] (lit≤ tt) refl (λ e. absurd cc) (λ some. absurd (some zero)) answered whole
+        (record { source = tt; input = all_ended.meta_open; output = all_ended.output_open; third = all_ended.pool_open }) (λ _. attached) (λ _. tt)
         (written_leaves 0 (λ e. omega arith) (λ e. omega arith) (λ e. omega arith) (λ some. absurd (some refl)))
 
     -- or a front of it, since `out` failed
     pub shrink_unput : AppendsFront (moved_line (length (sources ground.pool ground.end))) out.written out'.written → Rose out.faults out'.faults
         → IsStopped (shrink from to pool blocks) before_writing (after_writing out') Stream
     shrink_unput front rose =
-        stopped from to pool blocks others notes out out' m m2 o o' t t' ground all_ended used (report_of []) right_first Stream refl
-        (λ e. absurd cc) (λ some. absurd (some zero)) (inr rose)
-        (subst (λ (a : Answer). AppendsFront a.out out.written out'.written) (sym answered) front)
-        (written_leaves 6 (λ e. omega arith) (λ e. omega arith) (λ e. omega arith) (λ _ other. other refl))
-
--- devices that were attached, and of which the metadata was read without a fault
-pub shrink_read : (from to pool : List ℕ) (m m1 m2 o o1 t t1 : DeviceState) → AreOpened from to pool (devices m o t) (devices m1 o1 t1)
-    → m2.access ≡ m1.access → m2.path ≡ m1.path → IsUntouched m1 m2 → m2.faults ≡ m1.faults → AreOpened from to pool (devices m o t) (devices m2 o1 t1)
-shrink_read from to pool m m1 m2 o o1 t t1 opened access path same unfailed = record {
-  meta = still_opened opened.meta access path same unfailed;
-  output = opened.output;
-  pool = opened.pool;
-}
+        let left = written_leaves 6 (λ e. omega arith) (λ e. omega arith) (λ e. omega arith) (λ _ other. other refl) in
+        stopped_by (shrink from to pool blocks) before_writing (after_writing out') (stands blocks others notes out out' all_ended used) found_here (found_written out')
+        Stream refl (λ e. absurd cc) (λ some. absurd (some zero)) (inr rose)
+        (subst (λ (a : Answer). AppendsFront a.out out.written out'.written) (sym answered) front) left left

@@ -14,12 +14,11 @@ use Rattle.pd_kinds.specs.Moments.{now}
 use Rattle.pd_kinds.specs.Objects.{DeviceState, SinkState, Appends, AppendsFront, Rose}
 use Rattle.pd_kinds.specs.Report.{Reported, report_of}
 use Rattle.pd_kinds.specs.Stages.{faults}
-use Rattle.pd_kinds.proofs.AppendLemmas.{appends_none, front_none}
 use Rattle.pd_kinds.proofs.CrashLemmas.{and_then, stays, left_now, left_synced}
 use Rattle.pd_spells.specs.Lines.{no_room_line, reported_lines}
-use Rattle.pd_answers.specs.Answer.{Answer, Objects, AreFresh, IsUsed, reading}
+use Rattle.pd_answers.specs.Answer.{Answer, Objects, AreFresh, IsNamed, IsOpen, IsUsed, Use, reading, writing}
 use Rattle.pd_answers.specs.CachedView.{CachedBlock, blocks_each, copied, fast_need, hot_blocks, is_block_size_bad, origin_need, settled}
-use Rattle.pd_answers.specs.Terms.{is_one_of, is_possible}
+use Rattle.pd_answers.specs.Terms.{is_possible}
 use Rattle.pd_answers.specs.Writebacks.{AllTold, HasBlocks, KeepsOthers, LeavesWrittenBack, WritebackFound, block_size_line, copied_line, writeback, writeback_answer}
 use Rattle.pd_writeback.specs.declared.fault.WriteFault.{WriteFault}
 use Rattle.pd_writeback.specs.declared.fault.WriteFault.TheVariants as w
@@ -31,11 +30,14 @@ use Rattle.pd_tools.specs.declared.stop.Stop.TheVariants.{Device, Stream, Memory
 use Rattle.pd_tools.specs.Ending.{ending_line, ending_status, plan_ended}
 use Rattle.pd_tools.specs.Read.{IsUnread}
 use Rattle.pd_tools.specs.Stop.{stop_status}
-use Rattle.pd_tools.specs.Work.{HasCause, IsFinished, IsStopped, IsWork}
-use Rattle.pd_tools.specs.Writeback.{AreOpened, AreUnopened, HasCopied, IsOpened, IsWritten, devices}
+use Rattle.pd_tools.specs.Opened.{AreOpened, AreUnopened, devices}
+use Rattle.pd_tools.specs.Work.{HasCause, IsFinished, IsStopped}
+use Rattle.pd_tools.specs.Writeback.{HasCopied, IsWritten}
+use Rattle.pd_tools.proofs.Answered.{stop_status-low}
 use Rattle.pd_tools.proofs.Checks.{not_yet, told}
 use Rattle.pd_tools.proofs.Queries.{none_at_super, one_told, two_told}
 use Rattle.pd_tools.proofs.Restores.{Image, here, still_synced}
+use Rattle.pd_tools.proofs.Works.{Stands, finished_by, finished_early, stopped_by, stopped_early}
 
 -- what is right to find of the metadata
 abbrev IsRight : Option Image → Reported → ℕ → List CachedBlock → Type 0
@@ -158,7 +160,7 @@ has_blocks old new last same measured blocks = record {
 module _ (metadata fast origin : List ℕ) (others : Objects) (notes out : SinkState) (m m' o o' t t' : DeviceState) (fresh : out.access ≡ 0)
     (meta_synced : IsSynced m) (origin_synced : IsSynced o) where
   -- a device couldn't be attached
-  pub writeback_unopened : IfSome o'.held (λ image. length image ≡ o'.blocks) → AreUnopened metadata fast origin (devices m o t) (devices m' o' t')
+  pub writeback_unopened : IfSome o'.held (λ image. length image ≡ o'.blocks) → AreUnopened (writing metadata) (writing origin) (reading fast) (devices m o t) (devices m' o' t')
       → IsStopped (writeback metadata fast origin) (record others { out = out; input = m; output = o; third = t })
       (record others { out = out; notes = notes; input = m'; output = o'; third = t' }) Device
   writeback_unopened measured un =
@@ -172,33 +174,17 @@ module _ (metadata fast origin : List ℕ) (others : Objects) (notes out : SinkS
       let before : Objects = record others { out = out; input = m; output = o; third = t } in
       let after : Objects = record others { out = out; notes = notes; input = m'; output = o'; third = t' } in
       let leaves : (status : ℕ) → status ≢ 0 → LeavesWrittenBack finding before after status =
-      λ status some. left_alone finding before after status meta_synced origin_synced some un.meta_untouched un.origin_untouched in
-      record {
-        finding = finding;
-        work = record {
-          found = record {
-            fast = record { told = blocks_told t.held; attached = reads_alone fast t'.access t'.path un.fast_used un.closed };
-            origin = has_blocks o o' o' un.origin_untouched.held measured refl;
-            told = right_by m.held (report_in m.held) (report_told m.held);
-          };
-          possible = refl;
-          followed = record { source = tt; out = not_yet [] out.access out.path fresh; input = un.meta_used; output = un.origin_used; third = un.fast_used };
-          kept = record { source = refl; out = tt; input = tt; output = tt; third = un.fast_untouched };
-          order = record {
-            input = λ _. tt;
-            output = λ ne. (tt, un.origin_order ne);
-            third = λ ne. (tt, un.fast_order ne);
-            out = λ ne. absurd (ne fresh);
-          };
-          silent = λ _. refl;
-          spared = λ _. refl;
-          reads = tt;
-          leaves = leaves 5 (λ e. omega arith);
-        };
-        cause = un.cause;
-        front = front_none _ out.written;
-        lost = leaves 6 (λ e. omega arith);
-      }
+      λ status some. left_alone finding before after status meta_synced origin_synced some un.input_untouched un.output_untouched in
+      stopped_early (writeback metadata fast origin) before after (record {
+        followed = record { source = tt; out = not_yet [] out.access out.path fresh; input = un.input_used; output = un.output_used; third = un.third_used };
+        order = record { input = λ _. tt; output = λ ne. (tt, un.output_order ne); third = λ ne. (tt, un.third_order ne); out = λ ne. absurd (ne fresh) };
+        kept = record { source = refl; out = tt; input = tt; output = tt; third = un.third_untouched };
+        reads = tt;
+      }) finding (record {
+        fast = record { told = blocks_told t.held; attached = reads_alone fast t'.access t'.path un.third_used un.closed };
+        origin = has_blocks o o' o' un.output_untouched.held measured refl;
+        told = right_by m.held (report_in m.held) (report_told m.held);
+      }) refl Device refl un.cause (leaves 5 (λ e. omega arith)) (leaves 6 (λ e. omega arith))
 
 -- how the devices stand once they were attached, at the end of a call
 record AreEnded (metadata fast origin : List ℕ) (m m' o o' t t' : DeviceState) (fast_blocks origin_blocks : ℕ) : Type 0 where
@@ -212,65 +198,35 @@ record AreEnded (metadata fast origin : List ℕ) (m m' o o' t t' : DeviceState)
   fast_has : HasBlocks t t' fast_blocks
   origin_has : HasBlocks o o' origin_blocks
 
-module _ (metadata fast origin : List ℕ) (others : Objects) (notes out out' : SinkState) (m m' o o' t t' : DeviceState) (fast_blocks origin_blocks : ℕ)
-    (ended : AreEnded metadata fast origin m m' o o' t t' fast_blocks origin_blocks) (out_used : IsUsed (reading []) out'.access out'.path) where
-  abbrev before : Objects
-  before = record others { out = out; input = m; output = o; third = t }
+stands : {metadata fast origin : List ℕ} {m m' o o' t t' : DeviceState} {fast_blocks origin_blocks : ℕ} (others : Objects) (notes out out' : SinkState)
+    → AreEnded metadata fast origin m m' o o' t t' fast_blocks origin_blocks → IsUsed (reading []) out'.access out'.path
+    → Stands (writeback metadata fast origin) (record others { out = out; input = m; output = o; third = t }) (record others { out = out'; notes = notes; input = m'; output = o'; third = t' })
+stands others notes out out' ended out_used = record {
+  followed = record {
+    source = tt;
+    out = out_used;
+    input = record { allowed = inr (inl ended.meta_open); named = λ _. ended.meta_named };
+    output = record { allowed = inr (inl ended.origin_open); named = λ _. ended.origin_named };
+    third = record { allowed = inr (inl ended.fast_open); named = λ _. ended.fast_named };
+  };
+  order = record {
+    input = λ _. tt;
+    output = λ _. (tt, ended.meta_open);
+    third = λ _. (tt, (ended.meta_open, ended.origin_open));
+    out = λ _. record { source = tt; input = ended.meta_open; output = ended.origin_open; third = ended.fast_open };
+  };
+  kept = record { source = refl; out = tt; input = tt; output = tt; third = ended.fast_untouched };
+  reads = tt;
+}
 
-  abbrev after : Objects
-  after = record others { out = out'; notes = notes; input = m'; output = o'; third = t' }
-
-  abbrev finding : Reported → ℕ → List CachedBlock → WritebackFound
-  finding report size hot = record { report = report; block_size = size; hot = hot; fast_blocks = fast_blocks; origin_blocks = origin_blocks }
-
-  work : (report : Reported) (size : ℕ) (hot : List CachedBlock) → IsRight m.held report size hot → (status : ℕ)
-      → IsTrue (is_possible (writeback metadata fast origin) status) → (IsTrue (is_one_of (1 ∷ 4 ∷ 5 ∷ 7 ∷ []) status) → out' ≡ out)
-      → ((writeback_answer (finding report size hot)).status ≢ 0 → out' ≡ out)
-      → LeavesWrittenBack (finding report size hot) before after status → IsWork (writeback metadata fast origin) (finding report size hot) before after status
-  work report size hot right status possible silent spared leaves = record {
-    found = record { fast = ended.fast_has; origin = ended.origin_has; told = right };
-    possible = possible;
-    followed = record {
-      source = tt;
-      out = out_used;
-      input = record { allowed = inr (inl ended.meta_open); named = λ _. ended.meta_named };
-      output = record { allowed = inr (inl ended.origin_open); named = λ _. ended.origin_named };
-      third = record { allowed = inr (inl ended.fast_open); named = λ _. ended.fast_named };
-    };
-    kept = record { source = refl; out = tt; input = tt; output = tt; third = ended.fast_untouched };
-    order = record {
-      input = λ _. tt;
-      output = λ _. (tt, ended.meta_open);
-      third = λ _. (tt, (ended.meta_open, ended.origin_open));
-      out = λ _. record { source = tt; input = ended.meta_open; output = ended.origin_open; third = ended.fast_open };
-    };
-    silent = silent;
-    spared = spared;
-    reads = tt;
-    leaves = leaves;
-  }
-
-  finished : (report : Reported) (size : ℕ) (hot : List CachedBlock) → IsRight m.held report size hot → (status : ℕ) (bytes line : List ℕ) → status ≤ 4
-      → IsTrue (is_possible (writeback metadata fast origin) status) → (IsTrue (is_one_of (1 ∷ 4 ∷ 5 ∷ 7 ∷ []) status) → out' ≡ out)
-      → (status ≢ 0 → out' ≡ out) → writeback_answer (finding report size hot) ≡ record { status = status; out = bytes; notes = line }
-      → Appends bytes out.written out'.written → (status ≡ 0 → out'.access ≡ 1)
-      → LeavesWrittenBack (finding report size hot) before after status → IsFinished (writeback metadata fast origin) before after status line
-  finished report size hot right status bytes line low possible silent spared answer whole attached leaves = record {
-    finding = finding report size hot;
-    work = work report size hot right status possible silent (λ some. spared (λ zero. some (ap (λ (a : Answer). a.status) answer ∙ zero))) leaves;
-    low = low;
-    same_status = sym (ap (λ (a : Answer). a.status) answer);
-    same_line = sym (ap (λ (a : Answer). a.notes) answer);
-    out = subst (λ (a : Answer). Appends a.out out.written out'.written) (sym answer) whole;
-    open_devices = record { source = tt; input = ended.meta_open; output = ended.origin_open; third = ended.fast_open };
-    open_out = attached;
-    read = λ _. tt;
-  }
+-- what is found then
+abbrev finding : ℕ → ℕ → Reported → ℕ → List CachedBlock → WritebackFound
+finding fast_blocks origin_blocks report size hot = record { report = report; block_size = size; hot = hot; fast_blocks = fast_blocks; origin_blocks = origin_blocks }
 
 -- what the answer to a report without faults comes to
 module _ (fast_blocks origin_blocks size : ℕ) (hot : List CachedBlock) where
   abbrev sound_finding : WritebackFound
-  sound_finding = record { report = report_of []; block_size = size; hot = hot; fast_blocks = fast_blocks; origin_blocks = origin_blocks }
+  sound_finding = finding fast_blocks origin_blocks (report_of []) size hot
 
   answer_size : is_block_size_bad size ≡ true → writeback_answer sound_finding ≡ record { status = 1; out = []; notes = block_size_line }
   answer_size bad = rw bad refl
@@ -295,20 +251,20 @@ none_right held none = one_told held (λ image is. sym (ap report_of is)) none
 
 -- devices that were attached, and then only read
 module _ (metadata fast origin : List ℕ) (others : Objects) (notes out : SinkState) (m m1 m' o o1 t t1 : DeviceState) (fresh : out.access ≡ 0)
-    (meta_synced : IsSynced m) (origin_synced : IsSynced o) (opened : AreOpened metadata fast origin (devices m o t) (devices m1 o1 t1))
+    (meta_synced : IsSynced m) (origin_synced : IsSynced o) (opened : AreOpened (writing metadata) (writing origin) (reading fast) (devices m o t) (devices m1 o1 t1))
     (access : m'.access ≡ m1.access) (path : m'.path ≡ m1.path) (same : IsUntouched m1 m')
     (origin_measured : IfSome o1.held (λ image. length image ≡ o1.blocks)) (fast_measured : IfSome t1.held (λ image. length image ≡ t1.blocks)) where
   abbrev read_only : AreEnded metadata fast origin m m' o o1 t t1 t1.blocks o1.blocks
   read_only = record {
-    meta_open = access ∙ opened.meta.attached;
-    meta_named = rw path opened.meta.named;
-    origin_open = opened.origin.attached;
-    origin_named = opened.origin.named;
-    fast_open = opened.fast.attached;
-    fast_named = opened.fast.named;
-    fast_untouched = opened.fast.untouched;
-    fast_has = has_blocks t t1 t1 opened.fast.untouched.held fast_measured refl;
-    origin_has = has_blocks o o1 o1 opened.origin.untouched.held origin_measured refl;
+    meta_open = access ∙ opened.input.attached;
+    meta_named = rw path opened.input.named;
+    origin_open = opened.output.attached;
+    origin_named = opened.output.named;
+    fast_open = opened.third.attached;
+    fast_named = opened.third.named;
+    fast_untouched = opened.third.untouched;
+    fast_has = has_blocks t t1 t1 opened.third.untouched.held fast_measured refl;
+    origin_has = has_blocks o o1 o1 opened.output.untouched.held origin_measured refl;
   }
 
   abbrev before_read : Objects
@@ -319,66 +275,63 @@ module _ (metadata fast origin : List ℕ) (others : Objects) (notes out : SinkS
 
   read_left : (found : WritebackFound) (status : ℕ) → status ≢ 0 → LeavesWrittenBack found before_read after_read status
   read_left found status some =
-      left_alone found before_read after_read status meta_synced origin_synced some (and_same opened.meta.untouched same) opened.origin.untouched
+      left_alone found before_read after_read status meta_synced origin_synced some (and_same opened.input.untouched same) opened.output.untouched
 
-  out_unused : IsUsed (reading []) out.access out.path
-  out_unused = not_yet [] out.access out.path fresh
+  read_stands : Stands (writeback metadata fast origin) before_read after_read
+  read_stands = stands others notes out out read_only (not_yet [] out.access out.path fresh)
 
   -- nothing was written, and it came to an answer
   read_finished : (report : Reported) (size : ℕ) (hot : List CachedBlock) → IsRight m.held report size hot → (status : ℕ) (line : List ℕ) → status ≤ 4 → status ≢ 0
-      → IsTrue (is_possible (writeback metadata fast origin) status)
-      → writeback_answer (finding metadata fast origin others notes out out m m' o o1 t t1 t1.blocks o1.blocks read_only out_unused report size hot) ≡ record { status = status; out = []; notes = line }
+      → IsTrue (is_possible (writeback metadata fast origin) status) → writeback_answer (finding t1.blocks o1.blocks report size hot) ≡ record { status = status; out = []; notes = line }
       → IsFinished (writeback metadata fast origin) before_read after_read status line
   read_finished report size hot right status line low some possible answer =
-      finished metadata fast origin others notes out out m m' o o1 t t1 t1.blocks o1.blocks read_only out_unused report size hot right status [] line low possible
-      (λ _. refl) (λ _. refl) answer (appends_none out.written) (λ zero. absurd (some zero)) (read_left _ status some)
+      finished_early (writeback metadata fast origin) before_read after_read read_stands (finding t1.blocks o1.blocks report size hot)
+      (record { fast = read_only.fast_has; origin = read_only.origin_has; told = right }) refl status line low possible answer
+      (record { source = tt; input = read_only.meta_open; output = read_only.origin_open; third = read_only.fast_open }) (λ zero. absurd (some zero)) (λ _. tt) (read_left _ status some)
 
   -- it was stopped
-  read_stopped : (report : Reported) → IfSome m.held (λ image. report ≡ report_of (faults Cache Whole image)) → (stop : Stop) → stop_status stop ≢ 0
+  read_stopped : (report : Reported) → IfSome m.held (λ image. report ≡ report_of (faults Cache Whole image)) → (stop : Stop)
       → IsTrue (is_possible (writeback metadata fast origin) (stop_status stop)) → HasCause (writeback metadata fast origin) before_read after_read stop
       → IsStopped (writeback metadata fast origin) before_read after_read stop
-  read_stopped report right stop some possible cause = record {
-    finding = finding metadata fast origin others notes out out m m' o o1 t t1 t1.blocks o1.blocks read_only out_unused report (size_in m.held) (hot_in m.held);
-    work = work metadata fast origin others notes out out m m' o o1 t t1 t1.blocks o1.blocks read_only out_unused report (size_in m.held) (hot_in m.held)
-        (right_by m.held report right) (stop_status stop) possible (λ _. refl) (λ _. refl) (read_left _ (stop_status stop) some);
-    cause = cause;
-    front = front_none _ out.written;
-    lost = read_left _ 6 (λ e. omega arith);
-  }
+  read_stopped report right stop possible cause =
+      let high = stop_status-low stop in
+      stopped_early (writeback metadata fast origin) before_read after_read read_stands (finding t1.blocks o1.blocks report (size_in m.held) (hot_in m.held))
+      (record { fast = read_only.fast_has; origin = read_only.origin_has; told = right_by m.held report right }) refl stop possible cause
+      (read_left _ (stop_status stop) (λ e. omega arith)) (read_left _ 6 (λ e. omega arith))
 
   -- the metadata wasn't read to a report
   pub writeback_unread : (stop : Stop) → IsUnread Cache Whole m1 m' stop → IsStopped (writeback metadata fast origin) before_read after_read stop
   writeback_unread Stream unread = absurd unread
   writeback_unread Device unread =
-      read_stopped (report_in m.held) (report_told m.held) Device (λ e. omega arith) refl (inl (rw opened.meta.faults at unread))
+      read_stopped (report_in m.held) (report_told m.held) Device refl (inl (rw opened.input.faults at unread))
   writeback_unread Memory unread =
-      read_stopped (report_in m.held) (report_told m.held) Memory (λ e. omega arith) refl (rw opened.meta.untouched.held at unread)
+      read_stopped (report_in m.held) (report_told m.held) Memory refl (rw opened.input.untouched.held at unread)
 
   -- it has faults
   pub writeback_faulty : (report : Reported) → IfSome m1.held (λ image. report ≡ report_of (faults Cache Whole image)) → nat_eq report.total 0 ≡ false
       → IsFinished (writeback metadata fast origin) before_read after_read 1 (reported_lines report)
   writeback_faulty report right faulty =
-      let here_right : IfSome m.held (λ image. report ≡ report_of (faults Cache Whole image)) = rw opened.meta.untouched.held at right in
+      let here_right : IfSome m.held (λ image. report ≡ report_of (faults Cache Whole image)) = rw opened.input.untouched.held at right in
       read_finished report (size_in m.held) (hot_in m.held) (right_by m.held report here_right) 1 (reported_lines report) (lit≤ tt) (λ e. omega arith) refl (rw faulty refl)
 
   -- it has none, and there is no plan
   module _ (sound : IfSome m1.held (λ image. faults Cache Whole image ≡ [])) where
     sound_here : IfSome m.held (λ image. faults Cache Whole image ≡ [])
-    sound_here = rw opened.meta.untouched.held at sound
+    sound_here = rw opened.input.untouched.held at sound
 
     found_right : (size : ℕ) (hot : List CachedBlock) → IsFound m1.held size hot → IsRight m.held (report_of []) size hot
     found_right size hot found =
-        two_told m.held (λ image is sizes. (is, sizes.0, sizes.1)) (none_right m.held sound_here) (rw opened.meta.untouched.held at found.told)
+        two_told m.held (λ image is sizes. (is, sizes.0, sizes.1)) (none_right m.held sound_here) (rw opened.input.untouched.held at found.told)
 
     unplanned : (fault : WriteFault) → IsUnplanned m1.held o1.blocks t1.blocks fault → IsOfPlanning fault m1.faults m'.faults
         → MatchResult (plan_ended fault) (λ ending. IsFinished (writeback metadata fast origin) before_read after_read (ending_status ending) (ending_line ending))
         (IsStopped (writeback metadata fast origin) before_read after_read)
     unplanned w.Memory un counts =
-        read_stopped (report_of []) (none_right m.held sound_here) Memory (λ e. omega arith) refl (record {
+        read_stopped (report_of []) (none_right m.held sound_here) Memory refl (record {
           past_super = λ e. absurd cc;
           sound = one_told m.held (λ image is. none_at_super Cache Whole image is) sound_here;
         })
-    unplanned w.Meta un counts = read_stopped (report_of []) (none_right m.held sound_here) Device (λ e. omega arith) refl (inl (rw opened.meta.faults at counts.0))
+    unplanned w.Meta un counts = read_stopped (report_of []) (none_right m.held sound_here) Device refl (inl (rw opened.input.faults at counts.0))
     unplanned w.Origin un counts = absurd un
     unplanned w.Fast un counts = absurd un
     unplanned w.BlockSize (size, hot, un) counts =
@@ -406,7 +359,7 @@ no_blocks xs (y ∷ ys) same none =
 
 -- devices that a plan was made for, and that were written by it
 module _ {T E : Type 0} (metadata fast origin : List ℕ) (others : Objects) (notes out out' : SinkState) (m m1 m2 m' o o1 o' t t1 t' : DeviceState) (fresh : out.access ≡ 0)
-    (meta_synced : IsSynced m) (origin_synced : IsSynced o) (opened : AreOpened metadata fast origin (devices m o t) (devices m1 o1 t1))
+    (meta_synced : IsSynced m) (origin_synced : IsSynced o) (opened : AreOpened (writing metadata) (writing origin) (reading fast) (devices m o t) (devices m1 o1 t1))
     (access : m2.access ≡ m1.access) (path : m2.path ≡ m1.path) (same : IsUntouched m1 m2) (unfailed : m2.faults ≡ m1.faults)
     (sound : IfSome m1.held (λ image. faults Cache Whole image ≡ []))
     (origin_measured : IfSome o1.held (λ image. length image ≡ o1.blocks)) (fast_measured : IfSome t1.held (λ image. length image ≡ t1.blocks))
@@ -414,15 +367,15 @@ module _ {T E : Type 0} (metadata fast origin : List ℕ) (others : Objects) (no
     (result : Result T E) (written : IsWritten plan result (devices m2 o1 t1) (devices m' o' t')) where
   abbrev planned : AreEnded metadata fast origin m m' o o' t t' t1.blocks o1.blocks
   planned = record {
-    meta_open = written.meta_place.access ∙ (access ∙ opened.meta.attached);
-    meta_named = rw (written.meta_place.path ∙ path) opened.meta.named;
-    origin_open = written.origin_place.access ∙ opened.origin.attached;
-    origin_named = rw written.origin_place.path opened.origin.named;
-    fast_open = written.fast_kept.access ∙ opened.fast.attached;
-    fast_named = rw written.fast_kept.path opened.fast.named;
-    fast_untouched = and_same opened.fast.untouched (record { held = written.fast_kept.held; history = written.fast_kept.history });
-    fast_has = has_blocks t t1 t' opened.fast.untouched.held fast_measured written.fast_kept.blocks;
-    origin_has = has_blocks o o1 o' opened.origin.untouched.held origin_measured written.origin_place.blocks;
+    meta_open = written.meta_place.access ∙ (access ∙ opened.input.attached);
+    meta_named = rw (written.meta_place.path ∙ path) opened.input.named;
+    origin_open = written.origin_place.access ∙ opened.output.attached;
+    origin_named = rw written.origin_place.path opened.output.named;
+    fast_open = written.fast_kept.access ∙ opened.third.attached;
+    fast_named = rw written.fast_kept.path opened.third.named;
+    fast_untouched = and_same opened.third.untouched (record { held = written.fast_kept.held; history = written.fast_kept.history });
+    fast_has = has_blocks t t1 t' opened.third.untouched.held fast_measured written.fast_kept.blocks;
+    origin_has = has_blocks o o1 o' opened.output.untouched.held origin_measured written.origin_place.blocks;
   }
 
   abbrev before_writing : Objects
@@ -435,16 +388,19 @@ module _ {T E : Type 0} (metadata fast origin : List ℕ) (others : Objects) (no
   found_here = sound_finding t1.blocks o1.blocks size hot
 
   meta_same : IsUntouched m m2
-  meta_same = and_same opened.meta.untouched same
+  meta_same = and_same opened.input.untouched same
 
   sound_first : IfSome m.held (λ image. faults Cache Whole image ≡ [])
-  sound_first = rw opened.meta.untouched.held at sound
+  sound_first = rw opened.input.untouched.held at sound
 
   of_first : IfSome m.held (λ image. IsPlanOf image plan)
-  of_first = rw opened.meta.untouched.held at made.of
+  of_first = rw opened.input.untouched.held at made.of
 
   right_first : IsRight m.held (report_of []) size hot
-  right_first = two_told m.held (λ image is sizes. (is, sizes.0, sizes.1)) (none_right m.held sound_first) (rw opened.meta.untouched.held at made.found.told)
+  right_first = two_told m.held (λ image is sizes. (is, sizes.0, sizes.1)) (none_right m.held sound_first) (rw opened.input.untouched.held at made.found.told)
+
+  found_right_here : (writeback metadata fast origin).finds before_writing after_writing found_here
+  found_right_here = record { fast = planned.fast_has; origin = planned.origin_has; told = right_first }
 
   answered : writeback_answer found_here ≡ record { status = 0; out = copied_line (length hot); notes = [] }
   answered = answer_copied t1.blocks o1.blocks size hot made.whole made.room.on_fast made.room.on_origin
@@ -453,8 +409,8 @@ module _ {T E : Type 0} (metadata fast origin : List ℕ) (others : Objects) (no
   all_copied : HasCopied plan (devices m2 o1 t1) (devices m' o' t') → AllTold before_writing (λ image base held. HoldsSynced (copied image base held) o')
   all_copied has = two_told m.held (λ image of is.
       IfSome_then o.held origin_synced (λ base s.
-      one_told t.held (λ held all. all base (still_synced base o o1 opened.origin.untouched s))
-      (subst (λ (h : Option Image). IfSome h (λ held. (b : Image) → HoldsSynced b o1 → HoldsSynced (copied image b held) o')) opened.fast.untouched.held (has image is of))))
+      one_told t.held (λ held all. all base (still_synced base o o1 opened.output.untouched s))
+      (subst (λ (h : Option Image). IfSome h (λ held. (b : Image) → HoldsSynced b o1 → HoldsSynced (copied image b held) o')) opened.third.untouched.held (has image is of))))
       of_first sound_first
 
   -- what is left under a status that isn't want of memory
@@ -462,9 +418,9 @@ module _ {T E : Type 0} (metadata fast origin : List ℕ) (others : Objects) (no
       → (status ≡ 0 → (image : Image) → IsPlanOf image plan → HoldsSynced image m2 → HoldsSynced (settled image) m') → LeavesWrittenBack found_here before_writing after_writing status
   leaves status other has marked = record {
     origin = IfSome_then o.held origin_synced (λ base s.
-        and_then (stays opened.origin.untouched.held opened.origin.untouched.history (here_kept (blocks_each size) hot base o s))
+        and_then (stays opened.output.untouched.held opened.output.untouched.history (here_kept (blocks_each size) hot base o s))
         (subst (λ (k : ℕ). LeavesOnly (λ image firsts. KeepsOthers k hot base image) o1 o') made.each
-        (written.origin_crash hot base made.same (still_synced base o o1 opened.origin.untouched s))));
+        (written.origin_crash hot base made.same (still_synced base o o1 opened.output.untouched s))));
     metadata = two_told m.held (λ image of s.
         and_then (stays meta_same.held meta_same.history (here image (λ made. made ≡ settled image) m s))
         (written.meta_crash image of (still_synced image m m2 meta_same s)))
@@ -479,25 +435,21 @@ module _ {T E : Type 0} (metadata fast origin : List ℕ) (others : Objects) (no
     wanting = λ seven. absurd (other seven);
     cold = λ none.
         let both = written.cold (no_blocks hot (plan_hot plan) made.same none) in
-        (and_same meta_same both.0, and_same opened.origin.untouched both.1);
+        (and_same meta_same both.0, and_same opened.output.untouched both.1);
   }
 
   rose_first : Rose m2.faults m'.faults ⊎ (Rose o1.faults o'.faults ⊎ Rose t1.faults t'.faults) → Rose m.faults m'.faults ⊎ (Rose o.faults o'.faults ⊎ Rose t.faults t'.faults)
-  rose_first (inl rose) = inl (rw (unfailed ∙ opened.meta.faults) at rose)
-  rose_first (inr (inl rose)) = inr (inl (rw opened.origin.faults at rose))
-  rose_first (inr (inr rose)) = inr (inr (rw opened.fast.faults at rose))
+  rose_first (inl rose) = inl (rw (unfailed ∙ opened.input.faults) at rose)
+  rose_first (inr (inl rose)) = inr (inl (rw opened.output.faults at rose))
+  rose_first (inr (inr rose)) = inr (inr (rw opened.third.faults at rose))
 
   -- a device failed
   pub writeback_failed : Rose m2.faults m'.faults ⊎ (Rose o1.faults o'.faults ⊎ Rose t1.faults t'.faults) → out' ≡ out
       → IsStopped (writeback metadata fast origin) before_writing after_writing Device
-  writeback_failed rose unput = record {
-    finding = found_here;
-    work = work metadata fast origin others notes out out' m m' o o' t t' t1.blocks o1.blocks planned (rw unput (not_yet [] out.access out.path fresh))
-        (report_of []) size hot right_first 5 refl (λ _. unput) (λ _. unput) (leaves 5 (λ e. omega arith) (λ e. absurd (omega arith)) (λ e. absurd (omega arith)));
-    cause = rose_first rose;
-    front = rw unput (front_none _ out.written);
-    lost = leaves 6 (λ e. omega arith) (λ e. absurd (omega arith)) (λ e. absurd (omega arith));
-  }
+  writeback_failed rose unput =
+      stopped_early (writeback metadata fast origin) before_writing after_writing
+      (stands others notes out out' planned (rw unput (not_yet [] out.access out.path fresh))) found_here found_right_here unput Device refl (rose_first rose)
+      (leaves 5 (λ e. omega arith) (λ e. absurd (omega arith)) (λ e. absurd (omega arith))) (leaves 6 (λ e. omega arith) (λ e. absurd (omega arith)) (λ e. absurd (omega arith)))
 
   module _ (used : IsUsed (reading []) out'.access out'.path) where
     -- the line wasn't put
@@ -505,41 +457,32 @@ module _ {T E : Type 0} (metadata fast origin : List ℕ) (others : Objects) (no
         → IsStopped (writeback metadata fast origin) before_writing after_writing Stream
     writeback_unput front rose =
         let left = leaves 6 (λ e. omega arith) (λ e. absurd (omega arith)) (λ e. absurd (omega arith)) in
-        record {
-          finding = found_here;
-          work = work metadata fast origin others notes out out' m m' o o' t t' t1.blocks o1.blocks planned used
-              (report_of []) size hot right_first 6 refl (λ e. absurd cc) (λ some. absurd (some (ap (λ (a : Answer). a.status) answered))) left;
-          cause = inr rose;
-          front = subst (λ (a : Answer). AppendsFront a.out out.written out'.written) (sym answered) front;
-          lost = left;
-        }
+        stopped_by (writeback metadata fast origin) before_writing after_writing (stands others notes out out' planned used) found_here found_right_here
+        Stream refl (λ e. absurd cc) (λ some. absurd (some (ap (λ (a : Answer). a.status) answered))) (inr rose)
+        (subst (λ (a : Answer). AppendsFront a.out out.written out'.written) (sym answered) front) left left
 
     -- all was done
     pub writeback_done : HasCopied plan (devices m2 o1 t1) (devices m' o' t') → ((image : Image) → IsPlanOf image plan → HoldsSynced image m2 → HoldsSynced (settled image) m')
         → Appends (copied_line (length hot)) out.written out'.written → out'.access ≡ 1
         → IsFinished (writeback metadata fast origin) before_writing after_writing 0 []
     writeback_done has marked whole attached =
-        finished metadata fast origin others notes out out' m m' o o' t t' t1.blocks o1.blocks planned used (report_of []) size hot right_first 0
-        (copied_line (length hot)) [] (lit≤ tt) refl (λ e. absurd cc) (λ some. absurd (some refl)) answered whole (λ _. attached)
+        finished_by (writeback metadata fast origin) before_writing after_writing (stands others notes out out' planned used) found_here found_right_here
+        0 (copied_line (length hot)) [] (lit≤ tt) refl (λ e. absurd cc) (λ some. absurd (some (ap (λ (a : Answer). a.status) answered))) answered whole
+        (record { source = tt; input = planned.meta_open; output = planned.origin_open; third = planned.fast_open }) (λ _. attached) (λ _. tt)
         (leaves 0 (λ e. omega arith) (λ _. has) (λ _. marked))
 
--- a device that was attached, and was read without a fault
-pub still_opened : {path : List ℕ} {access : ℕ} {m m1 m2 : DeviceState} → IsOpened path access m m1
-    → m2.access ≡ m1.access → m2.path ≡ m1.path → IsUntouched m1 m2 → m2.faults ≡ m1.faults → IsOpened path access m m2
-still_opened opened same_access same_path same unfailed = record {
-  attached = same_access ∙ opened.attached;
-  named = rw same_path opened.named;
-  untouched = and_same opened.untouched same;
-  faults = unfailed ∙ opened.faults;
-}
-
--- devices that were attached, and of which the metadata was read without a fault
-pub opened_read : (metadata fast origin : List ℕ) (m m1 m2 o o1 t t1 : DeviceState) → AreOpened metadata fast origin (devices m o t) (devices m1 o1 t1)
-    → m2.access ≡ m1.access → m2.path ≡ m1.path → IsUntouched m1 m2 → m2.faults ≡ m1.faults → AreOpened metadata fast origin (devices m o t) (devices m2 o1 t1)
-opened_read metadata fast origin m m1 m2 o o1 t t1 opened access path same unfailed = record {
-  meta = still_opened opened.meta access path same unfailed;
-  origin = opened.origin;
-  fast = opened.fast;
+-- devices that were attached, and of which the first was read without a fault
+pub opened_read : (first second third : Use) (m m1 m2 o o1 t t1 : DeviceState) → AreOpened first second third (devices m o t) (devices m1 o1 t1)
+    → m2.access ≡ m1.access → m2.path ≡ m1.path → IsUntouched m1 m2 → m2.faults ≡ m1.faults → AreOpened first second third (devices m o t) (devices m2 o1 t1)
+opened_read first second third m m1 m2 o o1 t t1 opened access path same unfailed = record {
+  input = record {
+    attached = subst (λ (a : ℕ). IsOpen first a) (sym access) opened.input.attached;
+    named = subst (λ (told : Option (List ℕ)). IsNamed first told) (sym path) opened.input.named;
+    untouched = and_same opened.input.untouched same;
+    faults = unfailed ∙ opened.input.faults;
+  };
+  output = opened.output;
+  third = opened.third;
 }
 
 -- which device failed

@@ -3,6 +3,7 @@ pub mod Stop
 pub mod Read
 pub mod Restore
 pub mod Work
+pub mod Opened
 pub mod Writeback
 pub mod Query
 pub mod Rehearse

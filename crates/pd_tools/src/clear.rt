@@ -1,18 +1,15 @@
 //! The whole check of a pool, by which "needs check" is cleared where nothing was found.
 
-ghost use Rattle.std.specs.Prelude.{◌≡◌, ◌≢◌, ◌==◌, ◌+◌, ◌≤◌, ℕ, [], OnOk, IfOk, IfErr, IfSome, MatchResult, if◌then◌else◌};
+ghost use Rattle.std.specs.Prelude.{◌≡◌, ◌≢◌, ◌==◌, ◌+◌, ◌≤◌, ℕ, [], IfOk, MatchResult, if◌then◌else◌};
 ghost use Rattle.pd_kinds.specs.declared.kind.Kind.TheVariants.{Thin};
 ghost use Rattle.pd_kinds.specs.declared.kind.Stage.TheVariants.{Counts};
 ghost use Rattle.pd_kinds.specs.Objects.{CountsFault, SinkState};
-ghost use Rattle.pd_kinds.specs.Report.{report_of};
 ghost use Rattle.pd_kinds.specs.Stages.{faults};
-ghost use Rattle.pd_kinds.specs.Crash.{IsSynced, IsUntouched};
+ghost use Rattle.pd_kinds.specs.Crash.{IsSynced};
 ghost use Rattle.pd_image.specs.Device.{IsWritable, KeepsPlace};
-ghost use Rattle.pd_answers.specs.Answer.{Objects, IsUsed, writing};
+ghost use Rattle.pd_answers.specs.Answer.{Objects};
 ghost use Rattle.pd_answers.specs.Flag.{LeavesCleared};
 ghost use Rattle.pd_answers.specs.Promises.{check_and_clear};
-ghost use Rattle.pd_check.specs.Check.{ReadsFew};
-ghost use Rattle.pd_tools.specs.Read.{IsUnread};
 ghost use Rattle.pd_tools.specs.Work.{IsFinished, IsStopped, AnswersTerms};
 
 use crate::check::{put_report, read_report};

@@ -6,6 +6,7 @@ mod clear;
 mod ending;
 mod generate;
 mod notes;
+mod opening;
 mod query;
 mod refusals;
 mod rehearse;

@@ -6,7 +6,7 @@ ghost use Rattle.pd_kinds.specs.Objects.{DeviceState, SinkState};
 ghost use Rattle.pd_kinds.specs.Crash.{IsSynced};
 ghost use Rattle.pd_image.specs.Device.{IsAttached, IsWritable};
 ghost use Rattle.pd_laid.specs.FoundRoots.{AreBest, lost_graph};
-ghost use Rattle.pd_scan.specs.Roots.{AreInside, lost_fields, roots_of};
+ghost use Rattle.pd_scan.specs.Roots.{AreInside, roots_of};
 ghost use Rattle.pd_words.specs.Words.{IsPoolSize};
 ghost use Rattle.pd_answers.specs.Answer.{Objects};
 ghost use Rattle.pd_answers.specs.Repairs.{search};
@@ -21,7 +21,7 @@ use crate::notes::put_last_line;
 use crate::repair::{ended_of, open_both};
 use crate::stop::Stop;
 use pd_image::{Device, Sink};
-use pd_kinds::{CheckFault, MAX_META_BLOCKS, ThinSuper};
+use pd_kinds::{CheckFault, MAX_META_BLOCKS};
 use pd_lines::LineBuffer;
 use pd_repair::repair_from;
 use pd_scan::{Roots, find_roots, found_pools_are_saved_whole, lost_super};
@@ -150,7 +150,14 @@ fn write_found<K: Sink, A: Device, B: Device>(
         MatchResult result (λ ending. IsFinished terms before after (ending_status ending) (ending_line ending)) (IsStopped terms before after) }
 {
     found_pools_are_saved_whole();
-    let lost = found_super(roots, given, input);
+    let meta_blocks = usable_blocks(input);
+    let lost = lost_super(
+        roots,
+        given.transaction,
+        given.block_size,
+        meta_blocks,
+        given.blocks,
+    );
     match repair_from(alloc, input, output, &lost) {
         Ok(()) => {}
         Err(fault) => return ended_of(Err(fault)),
@@ -161,19 +168,12 @@ fn write_found<K: Sink, A: Device, B: Device>(
     }
 }
 
-/// The superblock of roots that were found on a device, of which no more than `MAX_META_BLOCKS` blocks are used.
-fn found_super<A: Device>(roots: &Roots, given: &Given, input: &A) -> ThinSuper
+/// How many blocks of a device can be metadata: all, but no more than `MAX_META_BLOCKS`.
+fn usable_blocks<A: Device>(input: &A) -> u64
     requires { IsAttached (A.state input.now) }
-    ensures { result ≡ lost_fields (roots_of roots.now) given.now.transaction given.now.block_size (min (A.state input.now).blocks MAX_META_BLOCKS) given.now.blocks }
+    ensures { result ≡ min (A.state input.now).blocks MAX_META_BLOCKS }
 {
-    let meta_blocks = input.blocks().min(MAX_META_BLOCKS);
-    lost_super(
-        roots,
-        given.transaction,
-        given.block_size,
-        meta_blocks,
-        given.blocks,
-    )
+    input.blocks().min(MAX_META_BLOCKS)
 }
 
 /// The line of roots.

@@ -1,25 +1,27 @@
 //! A shrink, from the paths of its three devices to the line that says how many data blocks were moved.
 
-ghost use Rattle.std.specs.Prelude.{◌≡◌, [], None, List, ℕ, OnOk, IfOk, IfErr, IfSome, MatchResult, length};
+ghost use Rattle.std.specs.Prelude.{◌≡◌, [], None, List, ℕ, IfOk, IfSome, MatchResult, length};
 ghost use Rattle.pd_kinds.specs.declared.kind.Kind.TheVariants.{Thin};
 ghost use Rattle.pd_kinds.specs.declared.kind.Stage.TheVariants.{Counts};
 ghost use Rattle.pd_kinds.specs.Objects.{DeviceState, SinkState};
 ghost use Rattle.pd_kinds.specs.Crash.{IsSynced};
 ghost use Rattle.pd_kinds.specs.Stages.{faults};
 ghost use Rattle.pd_image.specs.Device.{IsWritable};
-ghost use Rattle.pd_answers.specs.Answer.{Objects};
+ghost use Rattle.pd_answers.specs.Answer.{Objects, reading, writing};
 ghost use Rattle.pd_answers.specs.MovedPool.{sources};
 ghost use Rattle.pd_answers.specs.Shrinks.{ShrinkGround, lack_of, moved_line, shrink};
 ghost use Rattle.pd_shrink.specs.Planned.{IsPlanOf};
 ghost use Rattle.pd_tools.specs.Ending.{ending_line, ending_status, shrink_ended};
 ghost use Rattle.pd_tools.specs.Work.{IsFinished, IsStopped, AnswersTerms};
-ghost use Rattle.pd_tools.specs.Shrink.{AreOpened, AreUnopened, IsWritten, devices};
+ghost use Rattle.pd_tools.specs.Opened.{AreOpened, devices};
+ghost use Rattle.pd_tools.specs.Shrink.{IsWritten};
 
 use crate::check::check_attached;
 use crate::ending::{Ending, put_ending};
 use crate::notes::put_last_line;
+use crate::opening::open_all;
 use crate::stop::Stop;
-use pd_image::{Device, Failed, Sink};
+use pd_image::{Device, Sink};
 use pd_kinds::{Kind, Stage};
 use pd_lines::LineBuffer;
 use pd_shrink::{Shrink, ShrinkFault};
@@ -74,32 +76,10 @@ fn make_smaller<K: Sink, A: Device, B: Device, C: Device>(
         let terms = shrink from.now to.now pool.now blocks in
         MatchResult result (λ ending. IsFinished terms before after (ending_status ending) (ending_line ending)) (IsStopped terms before after) }
 {
-    match open_all(from, to, pool, input, output, third) {
+    match open_all(from, false, to, true, pool, true, input, output, third) {
         Ok(()) => shrink_opened(alloc, blocks, out, input, output, third),
         Err(_) => Err(Stop::Device),
     }
-}
-
-/// Attaches the metadata for reading, and then the output and the data device for writing.
-fn open_all<A: Device, B: Device, C: Device>(
-    from: &str,
-    to: &str,
-    pool: &str,
-    input: &mut A,
-    output: &mut B,
-    third: &mut C,
-) -> Result<(), Failed>
-    requires input { (A.state input.old).access ≡ 0 }
-    requires output { (B.state output.old).access ≡ 0 }
-    requires third { (C.state third.old).access ≡ 0 }
-    ensures opened { OnOk result (AreOpened from.now to.now pool.now
-        (devices (A.state input.old) (B.state output.old) (C.state third.old)) (devices (A.state input.new) (B.state output.new) (C.state third.new))) }
-    ensures unopened { IfErr result (λ failed. AreUnopened from.now to.now pool.now
-        (devices (A.state input.old) (B.state output.old) (C.state third.old)) (devices (A.state input.new) (B.state output.new) (C.state third.new))) }
-{
-    input.attach(from, false)?;
-    output.attach(to, true)?;
-    third.attach(pool, true)
 }
 
 /// Checks the metadata of devices that are attached, and makes the pool smaller where that is sound.
@@ -117,7 +97,7 @@ fn shrink_opened<K: Sink, A: Device, B: Device, C: Device>(
     requires third { IsWritable (C.state third.old) }
     ensures { (from to pool : List ℕ) (meta_before output_before pool_before : DeviceState) (others : Objects) (notes : SinkState) →
         IsSynced output_before → output_before.faults ≡ 0 → IsSynced pool_before → pool_before.faults ≡ 0 →
-        AreOpened from to pool (devices meta_before output_before pool_before) (devices (A.state input.old) (B.state output.old) (C.state third.old)) →
+        AreOpened (reading from) (writing to) (writing pool) (devices meta_before output_before pool_before) (devices (A.state input.old) (B.state output.old) (C.state third.old)) →
         let before = record others { out = K.state out.old; input = meta_before; output = output_before; third = pool_before } in
         let after = record others { out = K.state out.new; notes = notes; input = A.state input.new; output = B.state output.new; third = C.state third.new } in
         let terms = shrink from to pool blocks in
@@ -146,7 +126,7 @@ fn shrink_sound<K: Sink, A: Device, B: Device, C: Device>(
     requires sound { IfSome (A.state input.old).held (λ image. faults Thin Counts image ≡ []) }
     ensures { (from to pool : List ℕ) (meta_before output_before pool_before : DeviceState) (others : Objects) (notes : SinkState) →
         IsSynced output_before → output_before.faults ≡ 0 → IsSynced pool_before → pool_before.faults ≡ 0 →
-        AreOpened from to pool (devices meta_before output_before pool_before) (devices (A.state input.old) (B.state output.old) (C.state third.old)) →
+        AreOpened (reading from) (writing to) (writing pool) (devices meta_before output_before pool_before) (devices (A.state input.old) (B.state output.old) (C.state third.old)) →
         let before = record others { out = K.state out.old; input = meta_before; output = output_before; third = pool_before } in
         let after = record others { out = K.state out.new; notes = notes; input = A.state input.new; output = B.state output.new; third = C.state third.new } in
         let terms = shrink from to pool blocks in

@@ -1,22 +1,24 @@
 //! A writeback, from the paths of its three devices to the line that says how many blocks were copied.
 
-ghost use Rattle.std.specs.Prelude.{◌≡◌, [], List, ℕ, OnOk, IfOk, IfErr, IfSome, MatchResult, length};
+ghost use Rattle.std.specs.Prelude.{◌≡◌, [], List, ℕ, IfOk, IfSome, MatchResult, length};
 ghost use Rattle.pd_kinds.specs.declared.kind.Kind.TheVariants.{Cache};
 ghost use Rattle.pd_kinds.specs.declared.kind.Stage.TheVariants.{Whole};
 ghost use Rattle.pd_kinds.specs.Objects.{DeviceState, SinkState};
 ghost use Rattle.pd_kinds.specs.Crash.{IsSynced};
 ghost use Rattle.pd_kinds.specs.Stages.{faults};
 ghost use Rattle.pd_image.specs.Device.{IsWritable};
-ghost use Rattle.pd_answers.specs.Answer.{Objects};
+ghost use Rattle.pd_answers.specs.Answer.{Objects, reading, writing};
 ghost use Rattle.pd_answers.specs.Writebacks.{copied_line, writeback};
 ghost use Rattle.pd_writeback.specs.Plan.{plan_hot};
 ghost use Rattle.pd_tools.specs.Ending.{ending_line, ending_status, plan_ended};
 ghost use Rattle.pd_tools.specs.Work.{IsFinished, IsStopped, AnswersTerms};
-ghost use Rattle.pd_tools.specs.Writeback.{AreOpened, AreUnopened, IsWritten, devices};
+ghost use Rattle.pd_tools.specs.Opened.{AreOpened, devices};
+ghost use Rattle.pd_tools.specs.Writeback.{IsWritten};
 
 use crate::check::check_attached;
 use crate::ending::{Ending, put_ending};
 use crate::notes::put_last_line;
+use crate::opening::open_all;
 use crate::stop::Stop;
 use pd_image::{Device, Failed, Sink};
 use pd_kinds::{Kind, Stage};
@@ -71,32 +73,12 @@ fn write_back<K: Sink, A: Device, B: Device, C: Device>(
         let terms = writeback metadata.now fast.now origin.now in
         MatchResult result (λ ending. IsFinished terms before after (ending_status ending) (ending_line ending)) (IsStopped terms before after) }
 {
-    match open_all(metadata, fast, origin, input, output, third) {
+    match open_all(
+        metadata, true, origin, true, fast, false, input, output, third,
+    ) {
         Ok(()) => write_opened(alloc, out, input, output, third),
         Err(_) => Err(Stop::Device),
     }
-}
-
-/// Attaches the metadata and then the origin for writing, and the fast device for reading.
-fn open_all<A: Device, B: Device, C: Device>(
-    metadata: &str,
-    fast: &str,
-    origin: &str,
-    input: &mut A,
-    output: &mut B,
-    third: &mut C,
-) -> Result<(), Failed>
-    requires input { (A.state input.old).access ≡ 0 }
-    requires output { (B.state output.old).access ≡ 0 }
-    requires third { (C.state third.old).access ≡ 0 }
-    ensures opened { OnOk result (AreOpened metadata.now fast.now origin.now
-        (devices (A.state input.old) (B.state output.old) (C.state third.old)) (devices (A.state input.new) (B.state output.new) (C.state third.new))) }
-    ensures unopened { IfErr result (λ failed. AreUnopened metadata.now fast.now origin.now
-        (devices (A.state input.old) (B.state output.old) (C.state third.old)) (devices (A.state input.new) (B.state output.new) (C.state third.new))) }
-{
-    input.attach(metadata, true)?;
-    output.attach(origin, true)?;
-    third.attach(fast, false)
 }
 
 /// Checks the metadata of devices that are attached, and writes the cache back where that is sound.
@@ -113,7 +95,7 @@ fn write_opened<K: Sink, A: Device, B: Device, C: Device>(
     requires third { (C.state third.old).access ≡ 1 }
     ensures { (metadata fast origin : List ℕ) (meta_before origin_before fast_before : DeviceState) (others : Objects) (notes : SinkState) →
         IsSynced meta_before → IsSynced origin_before →
-        AreOpened metadata fast origin (devices meta_before origin_before fast_before) (devices (A.state input.old) (B.state output.old) (C.state third.old)) →
+        AreOpened (writing metadata) (writing origin) (reading fast) (devices meta_before origin_before fast_before) (devices (A.state input.old) (B.state output.old) (C.state third.old)) →
         let before = record others { out = K.state out.old; input = meta_before; output = origin_before; third = fast_before } in
         let after = record others { out = K.state out.new; notes = notes; input = A.state input.new; output = B.state output.new; third = C.state third.new } in
         let terms = writeback metadata fast origin in
@@ -141,7 +123,7 @@ fn write_sound<K: Sink, A: Device, B: Device, C: Device>(
     requires sound { IfSome (A.state input.old).held (λ image. faults Cache Whole image ≡ []) }
     ensures { (metadata fast origin : List ℕ) (meta_before origin_before fast_before : DeviceState) (others : Objects) (notes : SinkState) →
         IsSynced meta_before → IsSynced origin_before →
-        AreOpened metadata fast origin (devices meta_before origin_before fast_before) (devices (A.state input.old) (B.state output.old) (C.state third.old)) →
+        AreOpened (writing metadata) (writing origin) (reading fast) (devices meta_before origin_before fast_before) (devices (A.state input.old) (B.state output.old) (C.state third.old)) →
         let before = record others { out = K.state out.old; input = meta_before; output = origin_before; third = fast_before } in
         let after = record others { out = K.state out.new; notes = notes; input = A.state input.new; output = B.state output.new; third = C.state third.new } in
         let terms = writeback metadata fast origin in

@@ -2,8 +2,10 @@ use Rattle.std.proofs.Common.{◌≡◌, true, false, sym, ◌∙◌, arith, rul
 use Rattle.std.proofs.lemmas.Bool.Decides.{nat_tests}
 use Rattle.pd_kinds.specs.declared.kind.Kind.TheVariants.{Thin}
 use Rattle.pd_kinds.specs.declared.kind.Stage.TheVariants.{Counts}
+use Rattle.pd_answers.specs.Answer.{reading, writing}
 use Rattle.pd_tools.proofs.Queries.{none_reported, one_told}
-use Rattle.pd_tools.proofs.Shrinks.{shrink_faulty, shrink_read, shrink_unread}
+use Rattle.pd_tools.proofs.Shrinks.{shrink_faulty, shrink_unread}
+use Rattle.pd_tools.proofs.Writebacks.{opened_read}
 use Rattle.pd_tools.proofs.shrink.shrink_opened.Goals as goal
 
 pub returns-in_err-report : goal.returns-in_err-report
@@ -32,6 +34,6 @@ shrink_sound-requires-clause-sound g c =
 pub returns : goal.returns
 returns g c from to pool meta_before output_before pool_before others notes output_synced output_unfailed pool_synced pool_unfailed opened =
     c.shrink_sound.ensures from to pool meta_before output_before pool_before others notes output_synced output_unfailed pool_synced pool_unfailed
-    (shrink_read from to pool meta_before (g.A.Device.state c.args.input.now) (g.A.Device.state c.check_attached.new.input)
+    (opened_read (reading from) (writing to) (writing pool) meta_before (g.A.Device.state c.args.input.now) (g.A.Device.state c.check_attached.new.input)
     output_before (g.B.Device.state c.args.output.now) pool_before (g.C.Device.state c.args.third.now) opened
     c.in_ok-report.ensures.access c.in_ok-report.ensures.path c.in_ok-report.ensures.untouched c.in_ok-report.ensures.kept)

@@ -2,6 +2,7 @@ use Rattle.std.proofs.Common.{◌≡◌, true, false, sym, ◌∙◌, arith, rul
 use Rattle.std.proofs.lemmas.Bool.Decides.{nat_tests}
 use Rattle.pd_kinds.specs.declared.kind.Kind.TheVariants.{Cache}
 use Rattle.pd_kinds.specs.declared.kind.Stage.TheVariants.{Whole}
+use Rattle.pd_answers.specs.Answer.{reading, writing}
 use Rattle.pd_tools.proofs.Queries.{none_reported, one_told}
 use Rattle.pd_tools.proofs.Writebacks.{opened_read, writeback_faulty, writeback_unread}
 use Rattle.pd_tools.proofs.writeback.write_opened.Goals as goal
@@ -32,6 +33,6 @@ write_sound-requires-clause-sound g c =
 pub returns : goal.returns
 returns g c metadata fast origin meta_before origin_before fast_before others notes meta_synced origin_synced opened =
     c.write_sound.ensures metadata fast origin meta_before origin_before fast_before others notes meta_synced origin_synced
-    (opened_read metadata fast origin meta_before (g.A.Device.state c.args.input.now) (g.A.Device.state c.check_attached.new.input)
+    (opened_read (writing metadata) (writing origin) (reading fast) meta_before (g.A.Device.state c.args.input.now) (g.A.Device.state c.check_attached.new.input)
     origin_before (g.B.Device.state c.args.output.now) fast_before (g.C.Device.state c.args.third.now) opened
     c.in_ok-report.ensures.access c.in_ok-report.ensures.path c.in_ok-report.ensures.untouched c.in_ok-report.ensures.kept)
