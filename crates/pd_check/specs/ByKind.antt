@@ -29,11 +29,6 @@ meta_map_of Thin first = (thin_fields first).meta_map
 meta_map_of Cache first = (cache_fields first).meta_map
 meta_map_of Era first = (era_fields first).meta_map
 
-abbrev pub overflow_role_of : Kind → ℕ
-overflow_role_of Thin = 10
-overflow_role_of Cache = 9
-overflow_role_of Era = 9
-
 -- the data blocks that it counts, where it does: a pool's mappings, in role 3, refer to them
 abbrev pub data_space_of : Kind → List ℕ → Option DataSpace
 data_space_of Thin first = Some (record { root = (thin_fields first).data_map; role = 3 })

@@ -1,15 +1,12 @@
 -- Where block 0 of a sound pool is lost, its trees are still sound, and hold what they held.
-use Rattle.std.proofs.Common.{◌≡◌, inl, inr, ℕ, zero, suc, ◌+◌, ◌*◌, ◌<◌, ◌≤◌, min, Bool, true, false, not, ◌&&◌, ◌||◌, nat_eq, nat_lt, List, [], ◌∷◌, ◌++◌, drop, length, map, Option, Some, None, refl, sym, ap, eq-eqb, ◌∙◌, arith}
+use Rattle.std.proofs.Common.{◌≡◌, inl, inr, ℕ, zero, suc, ◌+◌, ◌*◌, ◌<◌, ◌≤◌, min, true, false, not, nat_eq, nat_lt, List, [], ◌∷◌, drop, length, map, Option, Some, None, refl, sym, ap, eq-eqb, ◌∙◌, arith}
 use Rattle.std.specs.List.{AllByRecursion, list_any, list_all}
 use Rattle.std.specs.Str.{bytes_eq}
 use Rattle.std.proofs.lemmas.Slice.Eq.{bytes_eq-Decides}
-use Rattle.std.proofs.lemmas.List.Folds.{list_any-append}
-use Rattle.std.proofs.lemmas.Bool.{and_cases, and_from, both_ways, eqb-true, lt-ltb, ltb-false, ne_eqb, not-false, or_cases, or_from, or_parts}
+use Rattle.std.proofs.lemmas.Bool.{and_from, both_ways, eqb-true, lt-ltb, ltb-false, ne_eqb, or_cases, or_from, or_parts}
 use Rattle.pd_kinds.specs.declared.kind.Kind.TheVariants.{Thin}
 use Rattle.pd_kinds.specs.declared.kind.Stage.TheVariants.{Whole}
 use Rattle.pd_kinds.specs.declared.limits.TheConstants.{MAX_META_BLOCKS}
-use Rattle.pd_kinds.specs.declared.rule.Rule.{Rule}
-use Rattle.pd_kinds.specs.declared.rule.Rule.TheVariants as r
 use Rattle.pd_kinds.specs.Edge.{Edge, is_outside}
 use Rattle.pd_kinds.specs.Graph.{Graph, block_at, pair, block_of, role_of, edges_of, is_inner_pair, is_reached, next, own_keys}
 use Rattle.pd_kinds.specs.Lawful.{IsLawful, IsWithin}
@@ -18,20 +15,20 @@ use Rattle.pd_kinds.specs.Meaning.{ThinDevice, thin_device, thin_meaning}
 use Rattle.pd_kinds.specs.Node.{Entry}
 use Rattle.pd_kinds.specs.Order.{is_deep, is_in_range}
 use Rattle.pd_kinds.specs.Paths.{IsOnPathFrom, start, edge}
-use Rattle.pd_kinds.specs.Rule.{all_rules, number_of, same_rule}
-use Rattle.pd_kinds.specs.Stages.{IsReached, faults, thin_checked}
+use Rattle.pd_kinds.specs.Rule.{all_rules}
+use Rattle.pd_kinds.specs.Stages.{IsReached, faults}
 use Rattle.pd_kinds.specs.ThinFormat.{thin_graph, thin_layout}
 use Rattle.pd_kinds.specs.ThinSuper.{ThinFields, thin_fields}
 use Rattle.pd_kinds.specs.Trees.{entries_below, keys_of}
-use Rattle.pd_kinds.specs.Whole.{WholeTest, bitmap_tests, details_entries, device_test, mapping_entries, thin_roots, thin_whole, top_entries, whole_bad}
+use Rattle.pd_kinds.specs.Whole.{details_entries, mapping_entries, top_entries}
 use Rattle.pd_laws.specs.InOrder.{AreInOrder}
 use Rattle.pd_laws.proofs.AllLemmas.{all_from, all_from_two, all_mapped}
-use Rattle.pd_laws.proofs.CleanLemmas.{whole_where_none}
 use Rattle.pd_laws.proofs.PathLemmas.{path_from_reached}
 use Rattle.pd_laid.specs.FoundRoots.{FoundRoots, IsFound, are_fitting, devices_below, found_pool, is_better, is_sound_tree, lost_graph, roots_at}
 use Rattle.pd_laid.proofs.NodeFacts.{block_pair, none_pass, role_pair}
 use Rattle.pd_alike.specs.Known.{IsKnown}
 use Rattle.pd_scan.proofs.SameBelow.{entries_same, map_same, tree_sound}
+use Rattle.pd_thin_meaning.proofs.SuperLemmas.{same_keys as same_keys_in}
 use Rattle.pd_spells.specs.Lawful.{AreDevices, IsLawfulPool}
 use Rattle.pd_exact.specs.Search.{FindsAsMany, IsLostOf, KeepsRoots, mappings_of}
 use Rattle.pd_exact.proofs.MoreBlocks.{IsDeviceRole, edges_in_trees, edges_more, inner_more, keys_more, unbroken_more}
@@ -153,19 +150,6 @@ module _ (image lost : List (List ℕ)) (n m data_blocks : ℕ) (more : n ≤ m)
   pub entries_there : (size role b : ℕ) → IsDeviceRole role → IsReached here image b role → entries_below there lost size role b ≡ entries_below here image size role b
   entries_there size role b is found = entries_same here there image lost IsKept block_same inner_same next_same keys_same each size role b (kept_is b role is found)
 
--- the rule Device at the superblock's details root
-same_self : (broken : Rule) → same_rule broken broken ≡ true
-same_self broken = eq-eqb (number_of broken) (number_of broken) refl
-
-holds_here : (t : WholeTest) (others : Bool) → ((t.fails && (nat_eq t.block t.block && same_rule t.rule t.rule)) || others) ≡ false → t.fails ≡ false
-holds_here t others none = elim (and_cases t.fails (nat_eq t.block t.block && same_rule t.rule t.rule) (or_parts _ _ none).0) [
-  | inl holds ↦ holds
-  | inr other ↦ absurd (both_ways _ other (rw (eq-eqb t.block t.block refl, same_self t.rule) refl))
-]
-
-last_part : (p : WholeTest → Bool) (xs ys : List WholeTest) → list_any p (xs ++ ys) ≡ false → list_any p ys ≡ false
-last_part p xs ys none = (or_parts _ _ (rw (list_any-append p xs ys) at none)).1
-
 -- devices of a lawful pool have as many mappings as their details say
 all_counted : (blocks least : ℕ) (ds : List ThinDevice) → AreDevices blocks least ds → list_all (λ (d : ThinDevice). nat_eq d.mapped (length d.mappings)) ds ≡ true
 all_counted blocks least [] are = refl
@@ -237,12 +221,7 @@ module _ (image lost : List (List ℕ)) (known : IsKnown image) (pool : IsLawful
 
   -- the two trees have the same keys
   same_keys : keys_of (details_entries old image fields.details_root) ≡ keys_of (top_entries old image fields.mapping_root)
-  unfolding faults thin_checked thin_whole whole_bad thin_roots device_test
-  same_keys =
-      let all = whole_where_none (thin_checked image) image [] none fields.details_root r.Device known.roots.details.block in
-      let later = last_part _ (bitmap_tests old image (λ role. nat_eq role 6 || nat_eq role 9)) _ (or_parts _ _ all).1 in
-      (bytes_eq-Decides (keys_of (details_entries old image fields.details_root)) (keys_of (top_entries old image fields.mapping_root))).0
-      (not-false _ (holds_here (device_test old image (record { mapping = fields.mapping_root; details = fields.details_root })) _ later))
+  same_keys = same_keys_in image none known.roots.details.block
 
   fitting : are_fitting new lost fields.mapping_root fields.details_root ≡ true
   unfolding are_fitting

@@ -107,14 +107,6 @@ pub record HasSoundSizes (image : List (List ℕ)) : Type 0 where
   pub few : (thin_fields (block_at image 0)).meta_map.blocks ≤ MAX_META_BLOCKS
   pub few_data : (thin_fields (block_at image 0)).data_map.blocks ≤ 2 ^ 40
 
-no_more_in : (blocks : ℕ) (block : List ℕ) → IsSound (thin_super_bad blocks block) → (thin_fields block).meta_map.blocks ≤ blocks
-unfolding thin_super_bad thin_super_tests are_thin_sizes_bad
-no_more_in blocks block sound =
-    let nr = (thin_fields block).meta_map.blocks in
-    let tests = tests_after_two _ _ _ _ (thin_super_tests blocks block) sound in
-    let sizes = or_parts (is_meta_size_bad blocks nr) _ tests.1.0 in
-    ltb-false blocks nr (or_parts (nat_lt blocks nr) _ (or_parts (nat_eq nr 0) _ sizes.0).1).0
-
 few_data_in : (blocks : ℕ) (block : List ℕ) → IsSound (thin_super_bad blocks block) → (thin_fields block).data_map.blocks ≤ 2 ^ 40
 unfolding thin_super_bad thin_super_tests are_thin_sizes_bad
 few_data_in blocks block sound =
@@ -124,12 +116,9 @@ few_data_in blocks block sound =
 sizes_if_clean : (image : List (List ℕ)) → HasCleanSuper (thin_checked image) image → HasSoundSizes image
 unfolding thin_checked
 sizes_if_clean [] clean = absurd clean
-sizes_if_clean (block ∷ blocks) clean = record {
-  some = omega arith;
-  within = no_more_in (length (block ∷ blocks)) block clean;
-  few = (super_sound (length (block ∷ blocks)) block clean).few_blocks;
-  few_data = few_data_in (length (block ∷ blocks)) block clean;
-}
+sizes_if_clean (block ∷ blocks) clean =
+    let sound = super_sound (length (block ∷ blocks)) block clean in
+    record { some = omega arith; within = sound.within; few = sound.few_blocks; few_data = few_data_in (length (block ∷ blocks)) block clean }
 
 pub sizes_are : (image : List (List ℕ)) → faults Thin stages.Super image ≡ [] → HasSoundSizes image
 unfolding faults

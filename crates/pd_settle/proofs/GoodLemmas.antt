@@ -99,10 +99,6 @@ stray_bad false strict inner ranged e f g = refl
 pub unfit_bad : (fit rest : Bool) → fit ≡ false → (fit && rest) ≡ false
 unfit_bad fit rest e = rw e refl
 
--- and what a well node is
-pub well_fit : (fit rest : Bool) → (fit && rest) ≡ true → fit ≡ true
-well_fit fit rest e = (and_parts fit rest e).0
-
 pub well_ranged : (fit inner ranged : Bool) → (fit && (not true || (not inner || ranged))) ≡ true → inner ≡ true → ranged ≡ true
 well_ranged fit true ranged e f = (and_parts fit ranged e).1
 well_ranged fit false ranged e f = absurd (both_ways false refl f)

@@ -72,9 +72,6 @@ module _ (counts : Counted) (uses : ℕ → ℕ) (leaves end place room : ℕ) (
   counted_at : (b : ℕ) → count_of counts b ≡ named_times uses leaves place b
   counted_at b = counted b ∙ ap (λ (e : ℕ). named_times uses leaves e b) at
 
-  pub need_is : meta_map_need (count_of counts) counts.size ≡ meta_map_need (named_times uses leaves place) room
-  need_is = ap (meta_map_need (count_of counts)) size ∙ ap (λ (f : ℕ → ℕ). meta_map_need f room) (fun_ext counted_at)
-
   pub none_own : leaves < place → (number : ℕ) → HasNone counts place number
   none_own few number b from below = counted_at b ∙ named_past uses leaves place b few from
 

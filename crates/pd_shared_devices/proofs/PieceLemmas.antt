@@ -1,5 +1,5 @@
 -- Leaves that take their items run by run.
-use Rattle.std.proofs.Common.{◌≡◌, ℕ, ◌+◌, ◌^◌, ◌≤◌, List, [], ◌∷◌, ◌++◌, length, length-append, refl, sym, ◌∙◌, ap, subst, append_assoc, arith, Option, get_or, take, drop, ◌<◌}
+use Rattle.std.proofs.Common.{◌≡◌, ℕ, ◌+◌, ◌^◌, ◌≤◌, List, [], ◌∷◌, ◌++◌, length, length-append, refl, sym, ◌∙◌, ap, subst, append_assoc, arith, get_or, take, drop, ◌<◌}
 use Rattle.std.proofs.lemmas.List.{append-nil, map-append, take_more, drop_more}
 use Rattle.std.proofs.lemmas.List.Concat.{flat_map-append}
 use Rattle.pd_kinds.specs.Meaning.{Mapping}
@@ -14,7 +14,7 @@ use Rattle.pd_laid.specs.LaidThin.{mapping_items}
 use Rattle.pd_laid.specs.Tree.{blocks_from, heads}
 use Rattle.pd_laid.proofs.LaidLemmas.{blocks_from-append, length-blocks_from}
 use Rattle.pd_shapes.specs.SharedText.{mappings_of_runs}
-use Rattle.pd_build.specs.Leaves.{LeavesLeft, leaves_to_come, TakesItem, ended, answered}
+use Rattle.pd_build.specs.Leaves.{LeavesLeft, leaves_to_come, ended}
 use Rattle.pd_build.specs.Parts.{cut}
 use Rattle.pd_build.proofs.UpperLemmas.{heads-append}
 use Rattle.pd_devices.proofs.RunLemmas.{items-append}
@@ -62,18 +62,6 @@ takes_then {size} {xs} {ys} {a} {b} {c} {row} {mid} {last} {from} {on} {to} firs
       leaves = omega (arith, first.leaves, second.leaves, length-append front back);
     }
 
--- one item
-pub takes_one : {size : ℕ} {e : Entry} {head : Option (ℕ × ℕ)} {a b : LeavesLeft} {row longer : List Entry} {from to : Stand}
-    → TakesItem size e head a b from to → longer ≡ row ++ answered head → TakesAll size (e ∷ []) a b row longer from to
-takes_one {size} {e} {head} {a} {b} {row} {longer} {from} {to} takes is = record {
-  ended = ended a e head;
-  wrote = takes.wrote;
-  to_come = takes.to_come;
-  row_is = is ∙ ap (λ (es : List Entry). row ++ es) (sym takes.heads_are);
-  items = omega (arith, takes.number);
-  leaves = takes.leaves;
-}
-
 -- no leaf is to come where no size is
 pub none_to_come : (t : LeavesLeft) (items : List Entry) → t.sizes ≡ [] → leaves_to_come t items ≡ []
 unfolding cut
@@ -104,10 +92,6 @@ laid_then r runs least low can below =
     from_lower blocks least low [] below are = tt
     from_lower blocks least low (m ∷ ms) below are =
         (record { above = omega (arith, are.0.above); virtual_fits = are.0.virtual_fits; within = are.0.within; time_fits = are.0.time_fits }, are.1)
-
--- the mappings of runs, the first of them apart
-pub first_run : (r : Run) (runs : List Run) → items_of_runs (r ∷ runs) ≡ mapping_items (mappings_of r) ++ items_of_runs runs
-first_run r runs = items-append (mappings_of r) (mappings_of_runs runs)
 
 pub first_number : (r : Run) (runs : List Run) → length (mappings_of_runs (r ∷ runs)) ≡ r.length + length (mappings_of_runs runs)
 first_number r runs = omega (arith, length-append (mappings_of r) (mappings_of_runs runs), mappings_length r.virtual_block r.data_block r.time r.length)

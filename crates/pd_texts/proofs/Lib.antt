@@ -3,7 +3,6 @@ pub mod NumberWords
 pub mod ValueLemmas
 pub mod LeafLemmas
 pub mod StateLemmas
-pub mod FirstLemmas
 pub mod StageLemmas
 pub mod ReadLemmas
 pub mod TextLemmas

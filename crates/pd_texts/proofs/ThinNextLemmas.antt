@@ -138,10 +138,6 @@ pub leaf_not_read : (before : List Line) (l : LeafHead) → IsUnshared before �
 leaf_not_read before l first one =
     true≢false (sym (is_read thin FitsLine Placed thin_grammar before one.bytes (leaf_line l) one.is).placed.1 ∙ ap (λ (x : Bool). x && not (has_device before)) first.version)
 
-pub use_not_read : (before : List Line) (n : ℕ) → IsUnshared before → IsReadAfter thin before (use_line n) → ⊥
-use_not_read before n first one =
-    true≢false (sym (is_read thin FitsLine Placed thin_grammar before one.bytes (use_line n) one.is).placed.1 ∙ ap (λ (x : Bool). x && has_device before) first.version)
-
 unshared : (before : List Line) → AreReadSoFar thin before → IsUnshared before
 unshared [] so_far = record { version = refl; none = refl }
 unshared (first_line ∷ before) so_far = let rest = unshared before so_far.1 in record { version = rest.version; none = rest.none }
