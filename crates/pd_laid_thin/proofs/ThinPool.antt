@@ -92,10 +92,6 @@ pub pool_in_place : (w : ThinShape) (n : ℕ) (base image : List (List ℕ)) →
 unfolding laid_shape pool_blocks
 pool_in_place w n base image is = laid_in_place (laid_shape w n) (super_edges w n) base image is
 
-pub blocks_number : (w : ThinShape) (n : ℕ) → length (pool_blocks w n) ≡ meta_map_at w + length (meta_map_blocks w n)
-unfolding pool_blocks
-blocks_number w n = omega (arith, parts_number w, length-append (pool_parts w) (meta_map_blocks w n))
-
 -- what holds of each block of each part, in its place
 pub record PartsHold (P : ℕ → LaidBlock → Type 0) (w : ThinShape) : Type 0 where
   pub devices : AllFrom P 1 (device_blocks w)
