@@ -91,7 +91,8 @@ fn is_node_at(audit: &Audit, role: u8, height: u64, b: u64) -> bool
     }
 }
 
-/// Marks block b, where it is a node of an array's tree of this height: all blocks that it names were marked before.
+/// Marks block b, where it is a node of an array's tree of this height: all blocks that it names were marked before. The
+/// node is read into the block that is lent.
 fn mark_node<F: Format, D: Device>(
     marks: &mut ArrayMarks,
     audit: &Audit,
@@ -100,6 +101,7 @@ fn mark_node<F: Format, D: Device>(
     roles: ArrayRoles,
     height: u64,
     b: u64,
+    block: &mut Block,
 ) -> Result<(), Failed>
     requires attached { IsAttached (D.state dev.old) }
     requires number { blocks_of audit.now ≡ (F.graph format.now).nr }
@@ -121,9 +123,8 @@ fn mark_node<F: Format, D: Device>(
     edges_lead_to_reached_pairs();
     reached_trees_are_sound();
     if is_node_at(audit, roles.nodes, height, b) {
-        let mut block = Block::zeros();
-        dev.read(b, &mut block)?;
-        let mark = mark_below(marks, format, roles.nodes, &block, roles.word.max_words());
+        dev.read(b, block)?;
+        let mark = mark_below(marks, format, roles.nodes, block, roles.word.max_words());
         marks.set(b, mark);
     }
     Ok(())
@@ -154,8 +155,9 @@ pub(crate) fn mark_level<F: Format, D: Device>(
     ensures kept { OnlyReads (D.state dev.old) (D.state dev.new) }
     ensures faults { CountsFault result (D.state dev.old).faults (D.state dev.new).faults }
 {
+    let mut block = Block::zeros();
     for b in 0..audit.nr() {
-        mark_node(marks, audit, format, dev, roles, height, b)?;
+        mark_node(marks, audit, format, dev, roles, height, b, &mut block)?;
     }
     Ok(())
 }
