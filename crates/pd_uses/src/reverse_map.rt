@@ -16,8 +16,8 @@ use crate::region::region_uses;
 use crate::walk::super_to_ask;
 use pd_image::{Device, Sink};
 use pd_kinds::ThinSuper;
-use pd_lines::{LineBuffer, Printer};
-use pd_query::{Query, QueryFault, finish, print_line};
+use pd_lines::{PieceBuffer, Printer, TextLine};
+use pd_query::{Query, QueryFault, finish, print_text_line};
 use pd_thin_meaning::rows_are_the_devices;
 use std::alloc::Global;
 
@@ -68,21 +68,20 @@ fn add_uses<K: Sink>(uses: &[DataUse], printer: &mut Printer<'_, K>) -> Result<(
     ensures faults { SinkFails result (K.state printer.old.out.now).faults (K.state printer.new.out.now).faults }
 {
     for one in uses {
-        print_line(use_text(one).as_bytes(), printer)?;
+        print_text_line(one, printer)?;
     }
     Ok(())
 }
 
-/// The line of a use.
-fn use_text(one: &DataUse) -> LineBuffer
-    ensures { result ≡ use_line one.now }
-{
-    let mut line = LineBuffer::new();
-    add_labeled(&mut line, b"block ", one.block);
-    add_labeled(&mut line, b" device ", one.id);
-    add_labeled(&mut line, b" virtual ", one.virt);
-    line.add(b"\n");
-    line
+impl TextLine for DataUse {
+    ghost bytes = { use_line };
+
+    fn add_to(&self, text: &mut PieceBuffer) {
+        add_labeled(text, b"block ", self.block);
+        add_labeled(text, b" device ", self.id);
+        add_labeled(text, b" virtual ", self.virt);
+        text.add(b"\n");
+    }
 }
 
 /// The mappings of a pool to the data blocks from the first on and below the end, as they are asked for.

@@ -7,15 +7,15 @@ use Rattle.pd_uses.proofs.reverse_map.add_uses.Goals as goal
 abbrev none : DataUse
 none = record { block = 0; id = 0; virt = 0 }
 
-pub returns-in_err-print_line-clause-prints : goal.returns-in_err-print_line-clause-prints
-returns-in_err-print_line-clause-prints g c =
+pub returns-in_err-print_text_line-clause-prints : goal.returns-in_err-print_text_line-clause-prints
+returns-in_err-print_text_line-clause-prints g c =
     begun_with c.from_residual.result c.from_residual.ensures.0
-    (uses_lost c.args.uses.now c.loop-one.one-index none c.loop-one-test.true c.loop-one.invariant.printed (rw (c.as_bytes.ensures.bytes, c.use_text.ensures) at c.in_err-print_line.ensures.prints))
+    (uses_lost c.args.uses.now c.loop-one.one-index none c.loop-one-test.true c.loop-one.invariant.printed c.in_err-print_text_line.ensures.prints)
 
 pub loop-one-preserved : goal.loop-one-preserved
 loop-one-preserved g c = record {
-  same_reference = c.in_ok-print_line.ensures.same_reference ∙ c.loop-one.invariant.same_reference;
+  same_reference = c.in_ok-print_text_line.ensures.same_reference ∙ c.loop-one.invariant.same_reference;
   printed = rw (text_so_far c.args.uses.now c.loop-one.one-index none c.loop-one-test.true)
-      (printed_both c.loop-one.invariant.printed (rw (c.as_bytes.ensures.bytes, c.use_text.ensures) at c.in_ok-print_line.ensures.prints));
-  faults = c.in_ok-print_line.ensures.faults ∙ c.loop-one.invariant.faults;
+      (printed_both c.loop-one.invariant.printed c.in_ok-print_text_line.ensures.prints);
+  faults = c.in_ok-print_text_line.ensures.faults ∙ c.loop-one.invariant.faults;
 }
