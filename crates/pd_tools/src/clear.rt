@@ -80,8 +80,6 @@ fn clear_if_clean<A: Device>(report: &Report, input: &mut A) -> Result<bool, Fai
     if !report.is_empty() {
         return Ok(false);
     }
-    match clear_needs_check(input) {
-        Ok(()) => Ok(true),
-        Err(fault) => Err(fault),
-    }
+    clear_needs_check(input)?;
+    Ok(true)
 }

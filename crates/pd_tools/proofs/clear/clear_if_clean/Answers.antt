@@ -1,5 +1,6 @@
 use Rattle.std.proofs.Common.{arith, refl, ◌∙◌, sym}
 use Rattle.std.proofs.lemmas.Bool.{eqb-true}
+use Rattle.std.proofs.lemmas.Result.{err_from_is_err_and}
 use Rattle.pd_tools.proofs.Clears.{untouched_left, cleared_left}
 use Rattle.pd_tools.proofs.clear.clear_if_clean.Goals as goal
 
@@ -7,14 +8,16 @@ pub returns-then-not-is_empty-clause-left : goal.returns-then-not-is_empty-claus
 returns-then-not-is_empty-clause-left g c synced =
     untouched_left c.args.report.now (g.A.Device.state c.args.input.now) (g.A.Device.state c.args.input.now) synced 1 (λ e. omega arith) (record { held = refl; history = refl })
 
-pub returns-in-Ok-clause-left : goal.returns-in-Ok-clause-left
-returns-in-Ok-clause-left g c synced =
+pub returns-clause-left : goal.returns-clause-left
+returns-clause-left g c synced =
     let none = eqb-true c.args.report.now.total 0 (sym c.is_empty.ensures ∙ c.if-not-is_empty.false) in
     cleared_left c.args.report.now (g.A.Device.state c.args.input.now) (g.A.Device.state c.clear_needs_check.new.dev) synced none
-    c.clear_needs_check.ensures.crash c.clear_needs_check.ensures.unset 0 (λ zero. c.in-Ok.ensures.done) (λ some. absurd (some refl))
+    c.clear_needs_check.ensures.crash c.clear_needs_check.ensures.unset 0 (λ zero. c.in_ok-clear_needs_check.ensures.done) (λ some. absurd (some refl))
 
-pub returns-in-Err-clause-left : goal.returns-in-Err-clause-left
-returns-in-Err-clause-left g c synced fresh status some =
+pub returns-in_err-clear_needs_check-clause-left : goal.returns-in_err-clear_needs_check-clause-left
+returns-in_err-clear_needs_check-clause-left g c =
+    let p = err_from_is_err_and c.from_residual.result c.from_residual.ensures.1 in
     let none = eqb-true c.args.report.now.total 0 (sym c.is_empty.ensures ∙ c.if-not-is_empty.false) in
+    rw p.1 (λ synced fresh status some.
     cleared_left c.args.report.now (g.A.Device.state c.args.input.now) (g.A.Device.state c.clear_needs_check.new.dev) synced none
-    c.clear_needs_check.ensures.crash c.clear_needs_check.ensures.unset status (λ zero. absurd (some zero)) (λ _ same. absurd (omega (arith, c.in-Err.ensures.faults.0)))
+    c.clear_needs_check.ensures.crash c.clear_needs_check.ensures.unset status (λ zero. absurd (some zero)) (λ _ same. absurd (omega (arith, c.in_err-clear_needs_check.ensures.faults.0))))
