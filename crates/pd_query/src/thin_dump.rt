@@ -93,10 +93,8 @@ impl ThinDump {
         ensures sink { KeepsSink (K.state out.old) (K.state out.new) }
         ensures faults { Fails result (D.state dev.old).faults (D.state dev.new).faults (K.state out.old).faults (K.state out.new).faults }
     {
-        match self.put_counted(dev, out) {
-            Ok(_) => Ok(()),
-            Err(fault) => Err(fault),
-        }
+        self.put_counted(dev, out)?;
+        Ok(())
     }
 
     /// Puts the pool's text in the same way, and answers what it counted of the lines that it put.
