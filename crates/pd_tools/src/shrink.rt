@@ -19,7 +19,7 @@ ghost use Rattle.pd_tools.specs.Shrink.{IsWritten};
 use crate::check::check_attached;
 use crate::ending::{Ending, put_ending};
 use crate::notes::put_last_line;
-use crate::opening::open_all;
+use crate::opening::{Place, open_all};
 use crate::stop::Stop;
 use pd_image::{Device, Sink};
 use pd_kinds::{Kind, Stage};
@@ -76,7 +76,19 @@ fn make_smaller<K: Sink, A: Device, B: Device, C: Device>(
         let terms = shrink from.now to.now pool.now blocks in
         MatchResult result (λ ending. IsFinished terms before after (ending_status ending) (ending_line ending)) (IsStopped terms before after) }
 {
-    match open_all(from, false, to, true, pool, true, input, output, third) {
+    let metadata = Place {
+        path: from,
+        write: false,
+    };
+    let made = Place {
+        path: to,
+        write: true,
+    };
+    let data = Place {
+        path: pool,
+        write: true,
+    };
+    match open_all(metadata, made, data, input, output, third) {
         Ok(()) => shrink_opened(alloc, blocks, out, input, output, third),
         Err(_) => Err(Stop::Device),
     }

@@ -18,7 +18,7 @@ ghost use Rattle.pd_tools.specs.Writeback.{IsWritten};
 use crate::check::check_attached;
 use crate::ending::{Ending, put_ending};
 use crate::notes::put_last_line;
-use crate::opening::open_all;
+use crate::opening::{Place, open_all};
 use crate::stop::Stop;
 use pd_image::{Device, Failed, Sink};
 use pd_kinds::{Kind, Stage};
@@ -73,9 +73,19 @@ fn write_back<K: Sink, A: Device, B: Device, C: Device>(
         let terms = writeback metadata.now fast.now origin.now in
         MatchResult result (λ ending. IsFinished terms before after (ending_status ending) (ending_line ending)) (IsStopped terms before after) }
 {
-    match open_all(
-        metadata, true, origin, true, fast, false, input, output, third,
-    ) {
+    let cached = Place {
+        path: metadata,
+        write: true,
+    };
+    let slow = Place {
+        path: origin,
+        write: true,
+    };
+    let quick = Place {
+        path: fast,
+        write: false,
+    };
+    match open_all(cached, slow, quick, input, output, third) {
         Ok(()) => write_opened(alloc, out, input, output, third),
         Err(_) => Err(Stop::Device),
     }
