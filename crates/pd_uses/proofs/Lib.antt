@@ -1,5 +1,8 @@
 pub mod TakenLemmas
 pub mod OrderLemmas
 pub mod CountLemmas
+pub mod UserLemmas
+pub mod TallyLemmas
+pub mod TallyingLemmas
 pub mod LineLemmas
 pub mod SoundLemmas

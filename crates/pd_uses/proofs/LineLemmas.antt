@@ -2,13 +2,12 @@
 use Rattle.std.proofs.Common.{◌≡◌, ℕ, ◌+◌, ◌<◌, List, [], ◌∷◌, ◌++◌, length, get_or, take, drop, Option, IfSome, Result, refl, sym, ap, ◌∙◌, append_assoc}
 use Rattle.std.proofs.lemmas.List.{append-nil, take-append-drop, take_more}
 use Rattle.std.proofs.lemmas.List.Concat.{flat_map-append}
-use Rattle.pd_count.specs.Counted.{Counted}
 use Rattle.pd_thin_meaning.specs.declared.devices.DeviceRow.{DeviceRow}
 use Rattle.pd_lines.specs.Printing.{Begun, Printed, Printing, Prints}
 use Rattle.pd_lines.proofs.Printing.{begun_after, begun_first}
 use Rattle.pd_query.specs.Puts.{PrintsSome}
 use Rattle.pd_uses.specs.declared.data_use.DataUse.{DataUse}
-use Rattle.pd_uses.specs.UseLines.{listed_row, listed_rows, use_line, uses_text}
+use Rattle.pd_uses.specs.UseLines.{device_line, tallied_rows, use_line, uses_text}
 
 -- the lines of uses up to a place, and of one more
 pub text_so_far : (uses : List DataUse) (i : ℕ) (d : DataUse) → i < length uses → uses_text (take (i + 1) uses) ≡ uses_text (take i uses) ++ use_line (get_or uses i d)
@@ -29,9 +28,9 @@ pub line_told : {E : Type 0} (held : Option (List (List ℕ))) (text_of : List (
 line_told held text_of text told prints = record { text = text; told = told; prints = prints }
 
 -- the line of a row before those of others
-pub listed_first : (image : List (List ℕ)) (counts : Counted) (row : DeviceRow) (left later : List DeviceRow) → left ≡ row ∷ later
-    → listed_rows image counts left ≡ listed_row image counts row ++ listed_rows image counts later
-listed_first image counts row left later is = rw is refl
+pub tallied_first_line : (tallies others : List ℕ) (number : ℕ) (row : DeviceRow) (left later : List DeviceRow) → number ≡ get_or tallies 0 0 → others ≡ drop 1 tallies → left ≡ row ∷ later
+    → tallied_rows tallies left ≡ device_line row number ++ tallied_rows others later
+tallied_first_line tallies others number row left later first rest is = rw (first, rest, is) refl
 
 -- four labels, each with a number
 pub four_parts : (a b c d e f g h : List ℕ) {none one two three four : List ℕ} → none ≡ [] → one ≡ none ++ (a ++ b) → two ≡ one ++ (c ++ d) → three ≡ two ++ (e ++ f) → four ≡ three ++ (g ++ h)

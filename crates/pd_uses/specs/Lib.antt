@@ -2,4 +2,6 @@ pub mod Uses
 pub mod Taken
 pub mod Ordered
 pub mod UseCounts
+pub mod Tallied
+pub mod Tallying
 pub mod UseLines

@@ -1,5 +1,5 @@
 -- The bytes of the lines of uses, and of the list of devices.
-use Rattle.std.specs.Prelude.{◌≡◌, ℕ, ◌-◌, List, [], ◌∷◌, ◌++◌, Option, Result, codes, decimal}
+use Rattle.std.specs.Prelude.{◌≡◌, ℕ, ◌-◌, List, [], ◌∷◌, ◌++◌, drop, slice_index, Option, Result, codes, decimal}
 use Rattle.std.specs.List.{flat_map}
 use Rattle.pd_kinds.specs.declared.kind.Kind.TheVariants.{Thin}
 use Rattle.pd_kinds.specs.declared.kind.Stage.TheVariants.{Whole}
@@ -8,12 +8,10 @@ use Rattle.pd_kinds.specs.Graph.{block_at}
 use Rattle.pd_kinds.specs.Meaning.{ThinPool, thin_meaning}
 use Rattle.pd_kinds.specs.Stages.{faults}
 use Rattle.pd_kinds.specs.ThinSuper.{thin_fields}
-use Rattle.pd_count.specs.Counted.{Counted}
 use Rattle.pd_thin_meaning.specs.declared.devices.DeviceRow.{DeviceRow}
 use Rattle.pd_query.specs.declared.fault.QueryFault.{QueryFault}
 use Rattle.pd_query.specs.Puts.{Puts}
 use Rattle.pd_uses.specs.declared.data_use.DataUse.{DataUse}
-use Rattle.pd_uses.specs.UseCounts.{exclusive_in}
 
 -- the line of a use, and those of uses
 abbrev pub use_line : DataUse → List ℕ
@@ -41,12 +39,10 @@ details_part row =
 abbrev pub device_line : DeviceRow → ℕ → List ℕ
 device_line row exclusive = blocks_part row exclusive ++ details_part row
 
--- the line of a row over these counts, and those of rows
-abbrev pub listed_row : List (List ℕ) → Counted → DeviceRow → List ℕ
-listed_row image counts row = device_line row (exclusive_in image counts row)
-
-abbrev pub listed_rows : List (List ℕ) → Counted → List DeviceRow → List ℕ
-listed_rows image counts rows = flat_map (listed_row image counts) rows
+-- the lines of rows with these tallies, one after another
+abbrev pub tallied_rows : List ℕ → List DeviceRow → List ℕ
+tallied_rows tallies [] = []
+tallied_rows tallies (row ∷ rows) = device_line row (slice_index tallies 0) ++ tallied_rows (drop 1 tallies) rows
 
 -- Lines were put, or a front of them where the work failed. Where the device tells an image without faults up to the
 -- stage Whole, and this is its superblock, they are those of the pool that the image means

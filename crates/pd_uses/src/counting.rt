@@ -1,96 +1,110 @@
-//! How often the data blocks of a pool are used, and how many blocks of a device are used by nothing else.
+//! How many data blocks each device of a pool alone uses.
 
-ghost use Rattle.std.specs.Prelude.{◌≡◌, ◌<◌, ◌^◌, IfOk, IfSome};
+ghost use Rattle.std.specs.Prelude.{◌≡◌, ◌≤◌, suc, length, IfOk, IfSome, OnOk};
 ghost use Rattle.pd_image.specs.Device.{IsAttached, OnlyReads};
 ghost use Rattle.pd_query.specs.Failing.{StartFails};
-ghost use Rattle.pd_uses.specs.UseCounts.{CountsUses, exclusive_in};
-ghost use Rattle.pd_uses.specs.Uses.{super_uses};
+ghost use Rattle.pd_thin_meaning.specs.Devices.{rows_left, rows_room};
+ghost use Rattle.pd_thin_meaning.specs.Given.{super_rows};
+ghost use Rattle.pd_uses.specs.Tallied.{placed, rows_placed};
+ghost use Rattle.pd_uses.specs.Tallying.{AreExclusive, TalliesMore};
+ghost use Rattle.pd_uses.specs.Uses.{row_uses};
 
-use crate::data_use::{DataUse, TakesUses};
-use crate::walk::{take_pool, take_row};
-use pd_count::Counts;
+use crate::tallies::Tallies;
+use crate::walk::take_row;
 use pd_image::Device;
 use pd_kinds::ThinSuper;
-use pd_query::QueryFault;
-use pd_thin_meaning::DeviceRow;
+use pd_query::{QueryFault, devices_of};
+use pd_thin_meaning::{DeviceRow, ThinDevices};
 use pd_tree::Cursor;
 use pd_value::BlockTime;
-use std::alloc::{AllocError, Global};
+use std::alloc::Global;
 
-impl TakesUses for Counts {
-    ghost use Rattle.pd_uses.specs.UseCounts.{HasCountedUses};
-
-    ghost has_taken = { λ start uses now. HasCountedUses start uses now };
-
-    /// Counts the data block, if the pool has it. A second use is counted, and no more.
-    fn take(&mut self, one: DataUse) -> Result<(), AllocError> {
-        if one.block < self.size() {
-            if self.get(one.block) < 2 {
-                self.add(one.block)?;
-            }
-        }
-        Ok(())
-    }
-}
-
-/// How often each data block of the pool with this superblock is used, up to twice.
-pub(crate) fn count_uses<D: Device>(
+/// How many blocks each device of the pool with this superblock alone uses, by the order of the devices. It goes once
+/// over all mappings.
+pub(crate) fn exclusive_blocks<D: Device>(
     alloc: Global,
     dev: &mut D,
     s: &ThinSuper,
-) -> Result<Counts, QueryFault>
+) -> Result<Vec<u64>, QueryFault>
     requires { IsAttached (D.state dev.old) }
-    ensures size { IfOk result (λ counts. counts.size ≡ s.now.data_map.blocks) }
-    ensures few { IfOk result (λ counts. counts.size < 2 ^ 64) }
-    ensures counts { IfOk result (λ counts. IfSome (D.state dev.old).held (λ image. CountsUses counts (super_uses image s.now))) }
+    ensures exclusive { IfOk result (λ tallies. IfSome (D.state dev.old).held (λ image. AreExclusive image s.now tallies.items)) }
     ensures kept { OnlyReads (D.state dev.old) (D.state dev.new) }
     ensures faults { StartFails result (D.state dev.old).faults (D.state dev.new).faults }
 {
-    let mut counts = match Counts::new(alloc, s.data_map.blocks) {
-        Ok(counts) => counts,
+    let mut tallies = match Tallies::new(alloc, s.data_map.blocks) {
+        Ok(tallies) => tallies,
         Err(_) => return Err(QueryFault::Memory),
     };
-    take_pool(alloc, s, dev, &mut counts)?;
-    Ok(counts)
+    tally_pool(alloc, s, dev, &mut tallies)?;
+    Ok(tallies.into_exclusive())
 }
 
-/// How many of some uses are of data blocks that were counted once.
-#[derive(Drop)]
-struct Exclusive<'a> {
-    counts: &'a Counts,
-    number: u64,
-}
-
-impl TakesUses for Exclusive<'_> {
-    ghost use Rattle.std.specs.Prelude.{◌≡◌, length, filter};
-    ghost use Rattle.pd_uses.specs.UseCounts.{is_single, raised};
-
-    ghost has_taken = { λ start uses now. (now.counts.now ≡ start.counts.now)
-        × (now.number ≡ raised start.number (length (filter (is_single start.counts.now) uses))) };
-
-    fn take(&mut self, one: DataUse) -> Result<(), AllocError> {
-        if one.block < self.counts.size() {
-            if self.counts.get(one.block) == 1 {
-                self.number = self.number.saturating_add(1);
-            }
-        }
-        Ok(())
+/// Tallies the uses by all devices of the pool with this superblock, in the memory of three cursors over trees.
+fn tally_pool<D: Device>(
+    alloc: Global,
+    s: &ThinSuper,
+    dev: &mut D,
+    tallies: &mut Tallies,
+) -> Result<(), QueryFault>
+    requires { IsAttached (D.state dev.old) }
+    ensures tallied { OnOk result (TalliesMore (D.state dev.old).held (λ image place. rows_placed image place (super_rows image s.now)) tallies.old tallies.new) }
+    ensures kept { OnlyReads (D.state dev.old) (D.state dev.new) }
+    ensures faults { StartFails result (D.state dev.old).faults (D.state dev.new).faults }
+{
+    let mut mappings = match Cursor::start(alloc, s.mapping_root) {
+        Ok(mappings) => mappings,
+        Err(_) => return Err(QueryFault::Memory),
+    };
+    let devices = match devices_of(alloc, s, dev.blocks()) {
+        Ok(devices) => devices,
+        Err(_) => return Err(QueryFault::Memory),
+    };
+    match devices {
+        Some(mut devices) => tally_rows(&mut devices, &mut mappings, dev, tallies),
+        None => Ok(()),
     }
 }
 
-/// How many blocks of a device are used by nothing else. The number stays at 2^64 - 1 where it would pass it.
-pub(crate) fn exclusive_blocks<D: Device>(
-    row: &DeviceRow,
-    counts: &Counts,
+/// Tallies the uses by the devices that are left.
+fn tally_rows<D: Device>(
+    devices: &mut ThinDevices,
     mappings: &mut Cursor<BlockTime>,
     dev: &mut D,
-) -> Result<u64, QueryFault>
-    requires { IsAttached (D.state dev.old) }
-    ensures number { IfOk result (λ number. IfSome (D.state dev.old).held (λ image. number ≡ exclusive_in image counts.now row.now)) }
+    tallies: &mut Tallies,
+) -> Result<(), QueryFault>
+    requires dev { IsAttached (D.state dev.old) }
+    requires within { rows_room devices.old ≤ (D.state dev.old).blocks }
+    ensures tallied { OnOk result (TalliesMore (D.state dev.old).held (λ image place. rows_placed image place (rows_left image devices.old)) tallies.old tallies.new) }
     ensures kept { OnlyReads (D.state dev.old) (D.state dev.new) }
     ensures faults { StartFails result (D.state dev.old).faults (D.state dev.new).faults }
 {
-    let mut exclusive = Exclusive { counts, number: 0 };
-    take_row(row, mappings, dev, &mut exclusive)?;
-    Ok(exclusive.number)
+    loop {
+        let row = match devices.next(dev) {
+            Ok(row) => row,
+            Err(_) => return Err(QueryFault::Device),
+        };
+        match row {
+            Some(row) => tally_row(&row, mappings, dev, tallies)?,
+            None => return Ok(()),
+        }
+    }
+}
+
+/// Tallies the uses by one device more.
+fn tally_row<D: Device>(
+    row: &DeviceRow,
+    mappings: &mut Cursor<BlockTime>,
+    dev: &mut D,
+    tallies: &mut Tallies,
+) -> Result<(), QueryFault>
+    requires dev { IsAttached (D.state dev.old) }
+    ensures tallied { OnOk result (TalliesMore (D.state dev.old).held (λ image place. placed place (row_uses image row.now)) tallies.old tallies.new) }
+    ensures one { OnOk result (length tallies.new.exclusive.items ≡ suc (length tallies.old.exclusive.items)) }
+    ensures kept { OnlyReads (D.state dev.old) (D.state dev.new) }
+    ensures faults { StartFails result (D.state dev.old).faults (D.state dev.new).faults }
+{
+    match tallies.begin() {
+        Ok(()) => take_row(row, mappings, dev, tallies),
+        Err(_) => Err(QueryFault::Memory),
+    }
 }

@@ -1,6 +1,6 @@
 //! The list of a pool's devices.
 
-ghost use Rattle.std.specs.Prelude.{◌≡◌, ◌≤◌};
+ghost use Rattle.std.specs.Prelude.{◌≡◌, ◌≤◌, drop, slice_index};
 ghost use Rattle.pd_image.specs.Device.{IsAttached, OnlyReads};
 ghost use Rattle.pd_image.specs.Sink.{KeepsSink};
 ghost use Rattle.pd_lines.specs.Printer.{printing};
@@ -10,24 +10,22 @@ ghost use Rattle.pd_thin_meaning.specs.Devices.{rows_left, rows_room};
 ghost use Rattle.pd_thin_meaning.specs.Given.{super_rows};
 ghost use Rattle.pd_query.specs.Puts.{PrintsSome, PutsText};
 ghost use Rattle.pd_query.specs.Failing.{QueryEnds, SinkFails};
-ghost use Rattle.pd_uses.specs.UseLines.{PutsLines, blocks_part, details_part, device_line, listed_row, listed_rows};
+ghost use Rattle.pd_uses.specs.UseLines.{PutsLines, blocks_part, details_part, device_line, tallied_rows};
 
-use crate::counting::{count_uses, exclusive_blocks};
+use crate::counting::exclusive_blocks;
 use crate::lines::add_labeled;
 use crate::walk::super_to_ask;
-use pd_count::Counts;
 use pd_image::{Device, Sink};
 use pd_kinds::ThinSuper;
 use pd_lines::{LineBuffer, Printer};
 use pd_query::{Query, QueryFault, devices_of, finish, print_line};
 use pd_thin_meaning::{DeviceRow, ThinDevices, rows_are_the_devices};
-use pd_tree::Cursor;
-use pd_value::BlockTime;
 use std::alloc::Global;
 
 /// Puts a line for each thin device of the pool with this superblock, by ascending number: how many blocks it maps, how
 /// many of them are exclusive, since no other mapping of any device has their data block, and how many are shared.
-/// It goes twice over all mappings, and holds a count for each data block in chunks, and no mappings.
+/// It goes once over all mappings, and holds no mappings: who uses each data block stands in 4 bytes, in chunks of 16320
+/// blocks that are made where one of them is used, and of each device 8 bytes, or up to 16 as their list grows.
 ///
 /// Fails with `Device` where a read failed, with `Memory` where memory wasn't found, and with `Sink` where `out` failed;
 /// then a front of the lines was put.
@@ -45,55 +43,51 @@ pub fn list_devices<D: Device, K: Sink>(
     ensures faults { QueryEnds result (D.state dev.old).faults (D.state dev.new).faults (K.state out.old).faults (K.state out.new).faults }
 {
     rows_are_the_devices();
-    let counts = count_uses(alloc, dev, s)?;
-    put_devices(alloc, s, &counts, dev, out)
+    let exclusive = exclusive_blocks(alloc, dev, s)?;
+    put_devices(alloc, s, &exclusive, dev, out)
 }
 
-/// Puts the lines of the devices, over the counts of their data blocks.
+/// Puts the lines of the devices, with how many blocks each of them alone uses.
 fn put_devices<D: Device, K: Sink>(
     alloc: Global,
     s: &ThinSuper,
-    counts: &Counts,
+    exclusive: &[u64],
     dev: &mut D,
     out: &mut K,
 ) -> Result<(), QueryFault>
     requires dev { IsAttached (D.state dev.old) }
     requires out { (K.state out.old).access ≡ 1 }
-    ensures text { PutsText (D.state dev.old).held (λ image. listed_rows image counts.now (super_rows image s.now)) result (K.state out.old).written (K.state out.new).written }
+    ensures text { PutsText (D.state dev.old).held (λ image. tallied_rows exclusive.now (super_rows image s.now)) result (K.state out.old).written (K.state out.new).written }
     ensures kept { OnlyReads (D.state dev.old) (D.state dev.new) }
     ensures sink { KeepsSink (K.state out.old) (K.state out.new) }
     ensures faults { QueryEnds result (D.state dev.old).faults (D.state dev.new).faults (K.state out.old).faults (K.state out.new).faults }
 {
     let mut printer = Printer::over(out);
-    add_devices(alloc, s, counts, dev, &mut printer)?;
+    add_devices(alloc, s, exclusive, dev, &mut printer)?;
     finish(printer)
 }
 
-/// Prints the lines of the devices, in the memory of three cursors over trees.
+/// Prints the lines of the devices, in the memory of two cursors over trees.
 fn add_devices<D: Device, K: Sink>(
     alloc: Global,
     s: &ThinSuper,
-    counts: &Counts,
+    exclusive: &[u64],
     dev: &mut D,
     printer: &mut Printer<'_, K>,
 ) -> Result<(), QueryFault>
     requires dev { IsAttached (D.state dev.old) }
     requires open { (K.state printer.old.out.now).access ≡ 1 }
     ensures same_reference { printer.new.out.ghost_name ≡ printer.old.out.ghost_name }
-    ensures prints { PrintsSome (D.state dev.old).held (λ image. listed_rows image counts.now (super_rows image s.now)) result (printing K.state printer.old) (printing K.state printer.new) }
+    ensures prints { PrintsSome (D.state dev.old).held (λ image. tallied_rows exclusive.now (super_rows image s.now)) result (printing K.state printer.old) (printing K.state printer.new) }
     ensures kept { OnlyReads (D.state dev.old) (D.state dev.new) }
     ensures faults { QueryEnds result (D.state dev.old).faults (D.state dev.new).faults (K.state printer.old.out.now).faults (K.state printer.new.out.now).faults }
 {
-    let mut mappings = match Cursor::start(alloc, s.mapping_root) {
-        Ok(mappings) => mappings,
-        Err(_) => return Err(QueryFault::Memory),
-    };
     let devices = match devices_of(alloc, s, dev.blocks()) {
         Ok(devices) => devices,
         Err(_) => return Err(QueryFault::Memory),
     };
     match devices {
-        Some(mut devices) => add_rows(&mut devices, counts, &mut mappings, dev, printer),
+        Some(mut devices) => add_rows(&mut devices, exclusive, dev, printer),
         None => Ok(()),
     }
 }
@@ -101,8 +95,7 @@ fn add_devices<D: Device, K: Sink>(
 /// Prints the lines of the devices that are left.
 fn add_rows<D: Device, K: Sink>(
     devices: &mut ThinDevices,
-    counts: &Counts,
-    mappings: &mut Cursor<BlockTime>,
+    exclusive: &[u64],
     dev: &mut D,
     printer: &mut Printer<'_, K>,
 ) -> Result<(), QueryFault>
@@ -110,39 +103,36 @@ fn add_rows<D: Device, K: Sink>(
     requires open { (K.state printer.old.out.now).access ≡ 1 }
     requires within { rows_room devices.old ≤ (D.state dev.old).blocks }
     ensures same_reference { printer.new.out.ghost_name ≡ printer.old.out.ghost_name }
-    ensures prints { PrintsSome (D.state dev.old).held (λ image. listed_rows image counts.now (rows_left image devices.old)) result (printing K.state printer.old) (printing K.state printer.new) }
+    ensures prints { PrintsSome (D.state dev.old).held (λ image. tallied_rows exclusive.now (rows_left image devices.old)) result (printing K.state printer.old) (printing K.state printer.new) }
     ensures kept { OnlyReads (D.state dev.old) (D.state dev.new) }
     ensures faults { QueryEnds result (D.state dev.old).faults (D.state dev.new).faults (K.state printer.old.out.now).faults (K.state printer.new.out.now).faults }
 {
+    let mut left = exclusive;
     loop {
         let row = match devices.next(dev) {
             Ok(row) => row,
             Err(_) => return Err(QueryFault::Device),
         };
         match row {
-            Some(row) => add_row(&row, counts, mappings, dev, printer)?,
+            Some(row) => {
+                let (number, others) = first_tally(left);
+                add_parts(&row, number, printer)?;
+                left = others;
+            }
             None => return Ok(()),
         }
     }
 }
 
-/// Prints the line of a device.
-fn add_row<D: Device, K: Sink>(
-    row: &DeviceRow,
-    counts: &Counts,
-    mappings: &mut Cursor<BlockTime>,
-    dev: &mut D,
-    printer: &mut Printer<'_, K>,
-) -> Result<(), QueryFault>
-    requires dev { IsAttached (D.state dev.old) }
-    requires open { (K.state printer.old.out.now).access ≡ 1 }
-    ensures same_reference { printer.new.out.ghost_name ≡ printer.old.out.ghost_name }
-    ensures prints { PrintsSome (D.state dev.old).held (λ image. listed_row image counts.now row.now) result (printing K.state printer.old) (printing K.state printer.new) }
-    ensures kept { OnlyReads (D.state dev.old) (D.state dev.new) }
-    ensures faults { QueryEnds result (D.state dev.old).faults (D.state dev.new).faults (K.state printer.old.out.now).faults (K.state printer.new.out.now).faults }
+/// The first tally, and the others. Where there is none it is 0.
+fn first_tally(tallies: &[u64]) -> (u64, &[u64])
+    ensures first { result.0 ≡ slice_index tallies.now 0 }
+    ensures others { result.1.now ≡ drop 1 tallies.now }
 {
-    let exclusive = exclusive_blocks(row, counts, mappings, dev)?;
-    add_parts(row, exclusive, printer)
+    match tallies.split_first() {
+        Some((first, others)) => (*first, others),
+        None => (0, tallies),
+    }
 }
 
 /// Prints the line of a device in two parts, since it can be longer than a line of a text.

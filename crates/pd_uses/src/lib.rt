@@ -11,6 +11,8 @@ mod device_list;
 mod lines;
 mod region;
 mod reverse_map;
+mod tallies;
+mod users;
 mod walk;
 
 pub use data_use::DataUse;

@@ -1,12 +1,7 @@
-use Rattle.std.proofs.Common.{List, [], length, filter, refl, ap, ◌∙◌}
-use Rattle.pd_query.proofs.PutsLemmas.{one_told}
-use Rattle.pd_uses.specs.declared.data_use.DataUse.{DataUse}
-use Rattle.pd_uses.specs.UseCounts.{is_single, raised}
+use Rattle.pd_uses.proofs.TallyingLemmas.{are_exclusive}
 use Rattle.pd_uses.proofs.counting.exclusive_blocks.Goals as goal
 
-pub returns-clause-number : goal.returns-clause-number
-returns-clause-number g c =
-    let took = c.in_ok-take_row.ensures.taken in
-    one_told (g.D.Device.state c.args.dev.now).held
-    (λ image is. (took.taken (record { counts = c.args.counts; number = 0 }) [] (refl, refl)).1 ∙ ap (λ (uses : List DataUse). raised 0 (length (filter (is_single c.args.counts.now) uses))) is)
-    took.told
+pub returns-clause-exclusive : goal.returns-clause-exclusive
+returns-clause-exclusive g c =
+    rw c.into_exclusive.ensures
+    (are_exclusive (g.D.Device.state c.args.dev.now).held c.args.s.now c.in-Ok.tallies c.tally_pool.new.tallies c.in-Ok.ensures.size c.in-Ok.ensures.devices c.in-Ok.ensures.tallied c.in_ok-tally_pool.ensures.tallied)

@@ -1,0 +1,16 @@
+use Rattle.std.proofs.Common.{◌≡◌, ◌≤◌}
+use Rattle.pd_image.specs.Device.{OnlyReads}
+use Rattle.pd_thin_meaning.specs.Devices.{rows_left, rows_number, rows_room}
+use Rattle.pd_uses.proofs.TallyingLemmas.{TalliesSoFar}
+use Rattle.pd_uses.proofs.counting.tally_rows.Given as goal
+
+abbrev pub invariant-loop-row : goal.invariant-loop-row
+invariant-loop-row g l = record {
+  tallies : TalliesSoFar (g.D.Device.state l.initial.dev).held (λ image. rows_left image l.initial.devices) (λ image. rows_left image l.devices) l.initial.tallies l.tallies;
+  room : rows_room l.devices ≤ rows_room l.initial.devices;
+  kept : OnlyReads (g.D.Device.state l.initial.dev) (g.D.Device.state l.dev);
+  faults : (g.D.Device.state l.dev).faults ≡ (g.D.Device.state l.initial.dev).faults;
+}
+
+abbrev pub decreases-loop-row : goal.decreases-loop-row
+decreases-loop-row g l = rows_number l.devices
