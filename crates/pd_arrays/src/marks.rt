@@ -1,5 +1,6 @@
 use crate::mark::ArrayMark;
 use pd_array::Word;
+use pd_graph::Table;
 use pd_kinds::Block;
 use std::alloc::{AllocError, Global};
 
@@ -7,7 +8,7 @@ use std::alloc::{AllocError, Global};
 /// are that stand below it, and of a block of an array, how many words it has.
 #[derive(Drop)]
 pub struct ArrayMarks {
-    marks: Vec<ArrayMark>,
+    marks: Table<ArrayMark>,
 }
 
 impl ArrayMarks {
@@ -18,13 +19,12 @@ impl ArrayMarks {
     ghost use Rattle.pd_arrays.specs.ArrayMarks.{mark_at, places_of};
     ghost use Rattle.pd_arrays.specs.Arrays.{AreShown};
 
-    /// Marks for so many blocks, each that of no blocks below. It takes all the memory of the marks; want of it is
+    /// Marks for so many blocks, each that of no blocks below. It reserves all the memory of the marks; want of it is
     /// the only error.
     pub fn new(alloc: Global, nr: u64) -> Result<ArrayMarks, AllocError>
         ensures { IfOk result (λ marks. places_of marks ≡ nr) }
     {
-        let mut marks = Vec::new(alloc);
-        marks.resize(nr as usize, ArrayMark::none())?;
+        let marks = Table::new(alloc, nr as usize, ArrayMark::none())?;
         Ok(ArrayMarks { marks })
     }
 
@@ -47,10 +47,12 @@ impl ArrayMarks {
     pub(crate) fn get(&self, b: u64) -> ArrayMark
         ensures { result ≡ mark_at self.now b }
     {
-        self.marks
-            .get(b as usize)
-            .copied()
-            .unwrap_or(ArrayMark::none())
+        let b = b as usize;
+        if b < self.marks.places() {
+            self.marks.get(b)
+        } else {
+            ArrayMark::none()
+        }
     }
 
     /// Replaces the mark of block b.
@@ -59,6 +61,6 @@ impl ArrayMarks {
         ensures places { places_of self.new ≡ places_of self.old }
         ensures marks { (c : ℕ) → mark_at self.new c ≡ (if c == b then mark else mark_at self.old c) }
     {
-        self.marks[b as usize] = mark;
+        self.marks.set(b as usize, mark);
     }
 }

@@ -20,10 +20,10 @@ use pd_kinds::Block;
 use pd_tree::{edges_lead_to_reached_pairs, reached_trees_are_sound};
 
 /// The greatest height of a node that isn't deep.
-const MAX_HEIGHT: u64 = 64;
+const MAX_HEIGHT: u8 = 64;
 
 /// One more than the height of block b, where it was met in the role and isn't deep; else 0.
-fn levels_at(audit: &Audit, role: u8, b: u64) -> u64
+fn levels_at(audit: &Audit, role: u8, b: u64) -> u8
     requires role { role < 16 }
     requires block { b < blocks_of audit.now }
     ensures few { result ≤ 65 }
@@ -37,7 +37,7 @@ fn levels_at(audit: &Audit, role: u8, b: u64) -> u64
 }
 
 /// One more than the greatest height of the blocks that were met in the role and aren't deep.
-pub(crate) fn levels(audit: &Audit, role: u8) -> u64
+pub(crate) fn levels(audit: &Audit, role: u8) -> u8
     requires { role < 16 }
     ensures few { result ≤ 65 }
     ensures above { (b : ℕ) → b < blocks_of audit.now → has_bit (roles_at audit.now b) role ≡ true
@@ -79,7 +79,7 @@ fn mark_below<F: Format>(
 }
 
 /// Whether block b was met in the role, with a note of this height.
-fn is_node_at(audit: &Audit, role: u8, height: u64, b: u64) -> bool
+fn is_node_at(audit: &Audit, role: u8, height: u8, b: u64) -> bool
     requires role { role < 16 }
     requires block { b < blocks_of audit.now }
     ensures { result ≡ is_at audit.now role height b }
@@ -99,7 +99,7 @@ fn mark_node<F: Format, D: Device>(
     format: &F,
     dev: &mut D,
     roles: ArrayRoles,
-    height: u64,
+    height: u8,
     b: u64,
     block: &mut Block,
 ) -> Result<(), Failed>
@@ -137,7 +137,7 @@ pub(crate) fn mark_level<F: Format, D: Device>(
     format: &F,
     dev: &mut D,
     roles: ArrayRoles,
-    height: u64,
+    height: u8,
 ) -> Result<(), Failed>
     requires attached { IsAttached (D.state dev.old) }
     requires number { blocks_of audit.now ≡ (F.graph format.now).nr }

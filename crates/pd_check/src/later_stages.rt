@@ -26,7 +26,7 @@ use std::alloc::Global;
 /// Walks over all that block 0 leads to in this format, and where no block breaks a rule and the stage is
 /// past the walk, looks at the order of the trees. The report is that of the first stage that finds a fault.
 ///
-/// It takes all its memory before it reads a block: about 60 bytes a metadata block.
+/// It takes all its memory before it reads a block: about 50 bytes a metadata block.
 ///
 /// Fails with `CheckFault::Memory` where that memory wasn't found, and with `CheckFault::Device` where a
 /// read failed.

@@ -20,7 +20,7 @@ use std::alloc::Global;
 
 /// Walks over all that block 0 leads to in this format, and shows it to the watcher.
 ///
-/// It takes all its memory before it reads a block: about 60 bytes a metadata block.
+/// It takes all its memory before it reads a block: about 50 bytes a metadata block.
 ///
 /// Fails with `CheckFault::Memory` where that memory wasn't found, and with `CheckFault::Device` where a
 /// read failed.

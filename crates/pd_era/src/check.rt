@@ -64,7 +64,7 @@ impl Metadata for EraTable {
 /// none exactly where the image is clean.
 ///
 /// A check up to `Super` takes no memory, and one past it takes none before block 0 was found sound, and all of it before
-/// it reads another block: about 60 bytes a metadata block, and up to `Whole` six bytes a metadata block besides. Up to
+/// it reads another block: about 50 bytes a metadata block, and up to `Whole` six bytes a metadata block besides. Up to
 /// `Counts` it takes memory for cursors later too. It reads block 0, and then each block at most once for each role in
 /// which it is reached, up to `Order` at most three times, up to `Whole` at most five times, and up to `Counts` at most
 /// six times.

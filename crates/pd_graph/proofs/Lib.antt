@@ -1,4 +1,5 @@
 pub mod BitLemmas
+pub mod TableValues
 pub mod TableLemmas
 pub mod Weights
 pub mod EdgeLemmas

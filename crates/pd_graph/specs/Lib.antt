@@ -1,6 +1,7 @@
 pub mod Format
 pub mod Roles
 pub mod Notes
+pub mod Table
 pub mod Marks
 pub mod Audit
 pub mod Weight

@@ -8,6 +8,7 @@ use Rattle.pd_kinds.specs.Edge.{Edge}
 use Rattle.pd_kinds.specs.Graph.{pair}
 use Rattle.pd_graph.specs.declared.marks.Marks.{Marks}
 use Rattle.pd_graph.specs.Roles.{is_in, IsUnreadAt}
+use Rattle.pd_graph.specs.Table.{values_of}
 
 -- whether a table of sets of rules has the rule at this place
 unfoldable pub has_rule_in : List Rules → ℕ → Rule → Bool
@@ -17,16 +18,16 @@ has_rule_in (rules ∷ rest) (suc b) wanted = has_rule_in rest b wanted
 
 -- the tables
 abbrev pub seen_of : Marks → List ℕ
-seen_of marks = marks.seen.items
+seen_of marks = values_of marks.seen
 
 abbrev pub read_of : Marks → List ℕ
-read_of marks = marks.read.items
+read_of marks = values_of marks.read
 
 abbrev pub counts_of : Marks → List ℕ
-counts_of marks = marks.counts.items
+counts_of marks = values_of marks.counts
 
 abbrev pub rules_of : Marks → List Rules
-rules_of marks = marks.rules.items
+rules_of marks = values_of marks.rules
 
 -- each table has a place for each of so many blocks
 pub record HasPlaces (nr : ℕ) (marks : Marks) : Type 0 where

@@ -3,6 +3,7 @@ use Rattle.std.specs.Prelude.{ℕ, ◌-◌, true, false, Some, None, if◌then�
 use Rattle.pd_graph.specs.declared.notes.Note.{Note}
 use Rattle.pd_graph.specs.declared.notes.KeptNote.{KeptNote}
 use Rattle.pd_graph.specs.declared.notes.Notes.{Notes}
+use Rattle.pd_graph.specs.Table.{values_of}
 
 -- the note that is kept
 abbrev pub note_of : KeptNote → Note
@@ -38,4 +39,4 @@ size_of notes = notes.nr
 
 -- the note of a block
 abbrev pub note_in : Notes → ℕ → Note
-note_in notes b = note_of (slice_index_or notes.kept.items b no_kept_note)
+note_in notes b = note_of (slice_index_or (values_of notes.kept) b no_kept_note)

@@ -13,7 +13,8 @@ use pd_kinds::{Rule, Rules};
 use std::alloc::{AllocError, Global};
 
 /// What is known of each metadata block: the roles and the references that the walk met, the rules that
-/// it breaks, and the notes of the nodes of trees. It takes about 60 bytes a block, all of them in `new`.
+/// it breaks, and the notes of the nodes of trees. It takes about 50 bytes a block: `new` reserves
+/// them, and they are used as far as the last block that was met.
 #[derive(Drop)]
 pub struct Audit {
     nr: u64,
@@ -31,7 +32,7 @@ pub struct Audit {
 impl Audit {
     ghost use Rattle.pd_graph.specs.Audit.{blocks_of, has_walked, roles_at, has_rule_at, count_at, note_at, IsNew, KeepsButRules, KeepsButNotes, KeepsMarks};
 
-    /// An audit of so many blocks, from 1 to `MAX_META_BLOCKS`, that knows nothing of them. It takes all the memory
+    /// An audit of so many blocks, from 1 to `MAX_META_BLOCKS`, that knows nothing of them. It reserves all the memory
     /// of the walk and of settling; want of it is the only error.
     pub fn new(alloc: Global, nr: u64) -> Result<Audit, AllocError>
         requires some { 1 ≤ nr }
@@ -79,7 +80,10 @@ impl Audit {
         ensures { (rule : Rule) → has_rule result rule ≡ has_rule_at self.now b rule }
     {
         let b = b as usize;
-        self.marks.rules[b].with_if(Rule::Role, are_several(self.marks.seen[b]))
+        self.marks
+            .rules
+            .get(b)
+            .with_if(Rule::Role, are_several(self.marks.seen.get(b)))
     }
 
     /// The roles in which block b was met: bit r for role r.
@@ -87,7 +91,7 @@ impl Audit {
         requires { b < blocks_of self.now }
         ensures { result ≡ roles_at self.now b }
     {
-        self.marks.seen[b as usize]
+        self.marks.seen.get(b as usize)
     }
 
     /// How many references to metadata block b were met.
@@ -95,7 +99,7 @@ impl Audit {
         requires { b < blocks_of self.now }
         ensures { result ≡ count_at self.now b }
     {
-        self.marks.counts[b as usize]
+        self.marks.counts.get(b as usize)
     }
 
     /// Adds a rule to those of block b.

@@ -8,6 +8,7 @@ mod notes;
 mod noting;
 mod roles;
 mod stack;
+mod table;
 mod walking;
 mod watch;
 
@@ -16,5 +17,6 @@ pub use format::Format;
 pub use notes::{Note, Notes};
 pub use noting::{key_at, leaf_note};
 pub use roles::has_role;
+pub use table::Table;
 pub use walking::{walk, walk_watched};
 pub use watch::{NoWatch, Watch};

@@ -1,5 +1,5 @@
 ghost use Rattle.pd_kinds.specs.declared.limits.TheConstants.{MAX_META_BLOCKS};
-ghost use Rattle.std.specs.Prelude.{◌≡◌, ℕ, ◌<◌, ◌==◌, ◌||◌, ◌&&◌, ◌+◌, ◌^◌, ◌≤◌, [], ◌∷◌, length, replicate, slice_index, IfOk, IfSome, IfNone};
+ghost use Rattle.std.specs.Prelude.{◌≡◌, ℕ, ◌<◌, ◌==◌, ◌||◌, ◌&&◌, ◌+◌, ◌^◌, ◌≤◌, [], ◌∷◌, length, slice_index, IfOk, IfSome, IfNone};
 ghost use Rattle.pd_kinds.specs.declared.rule.Rule.{Rule as BrokenRule};
 ghost use Rattle.pd_kinds.specs.Rule.{same_rule};
 ghost use Rattle.pd_kinds.specs.RuleSet.{has_rule};
@@ -10,6 +10,7 @@ ghost use Rattle.pd_graph.specs.Format.{IsSound};
 use crate::format::Format;
 use crate::roles::{add_role, any_unread, unread_at};
 use crate::stack::Stack;
+use crate::table::Table;
 use pd_kinds::{Block, Rule, Rules};
 use std::alloc::{AllocError, Global};
 
@@ -17,24 +18,15 @@ use std::alloc::{AllocError, Global};
 #[derive(Drop)]
 pub(crate) struct Marks {
     /// The roles in which the block was met.
-    pub(crate) seen: Vec<u16>,
+    pub(crate) seen: Table<u16>,
     /// The roles in which it was read.
-    pub(crate) read: Vec<u16>,
+    pub(crate) read: Table<u16>,
     /// How many references to it were met.
-    pub(crate) counts: Vec<u64>,
+    pub(crate) counts: Table<u64>,
     /// The rules that it breaks in the roles in which it was read.
-    pub(crate) rules: Vec<Rules>,
+    pub(crate) rules: Table<Rules>,
     /// Blocks that have an unread role.
     pub(crate) unread: Stack,
-}
-
-/// A table with this value at each place.
-pub(crate) fn table<T: Copy>(alloc: Global, places: usize, value: T) -> Result<Vec<T>, AllocError>
-    ensures { IfOk result (λ table. table.items ≡ replicate places value) }
-{
-    let mut table = Vec::new(alloc);
-    table.resize(places, value)?;
-    Ok(table)
 }
 
 impl Marks {
@@ -45,10 +37,10 @@ impl Marks {
         ensures places { IfOk result (HasPlaces nr) }
         ensures unmarked { IfOk result IsUnmarked }
     {
-        let seen = table(alloc, nr, 0)?;
-        let read = table(alloc, nr, 0)?;
-        let counts = table(alloc, nr, 0)?;
-        let rules = table(alloc, nr, Rules::none())?;
+        let seen = Table::new(alloc, nr, 0)?;
+        let read = Table::new(alloc, nr, 0)?;
+        let counts = Table::new(alloc, nr, 0)?;
+        let rules = Table::new(alloc, nr, Rules::none())?;
         let unread = Stack::new(alloc, nr)?;
         Ok(Marks {
             seen,
@@ -69,7 +61,8 @@ impl Marks {
         ensures read { read_of self.new ≡ read_of self.old }
         ensures counts { counts_of self.new ≡ counts_of self.old }
     {
-        self.rules[b] = self.rules[b].with(rule);
+        let rules = self.rules.get(b).with(rule);
+        self.rules.set(b, rules);
     }
 
     /// Takes a role in which a block was met and not yet read; from now on it counts as read. There is
@@ -83,7 +76,7 @@ impl Marks {
     {
         let (b, role) = self.next_unread()?;
         add_role(&mut self.read, b, role);
-        if self.seen[b] != self.read[b] {
+        if self.seen.get(b) != self.read.get(b) {
             self.unread.push(b as u32);
         }
         Some((b as u64, role))
@@ -116,10 +109,11 @@ impl Marks {
         ensures follows { Follows (edge_of role b ∷ []) self.old self.new }
         ensures rules { rules_of self.new ≡ rules_of self.old }
     {
-        self.counts[b] += 1;
-        let had_unread = self.seen[b] != self.read[b];
+        let count = self.counts.get(b) + 1;
+        self.counts.set(b, count);
+        let had_unread = self.seen.get(b) != self.read.get(b);
         add_role(&mut self.seen, b, role);
-        if self.seen[b] != self.read[b] && !had_unread {
+        if self.seen.get(b) != self.read.get(b) && !had_unread {
             self.unread.push(b as u32);
         }
     }
@@ -150,7 +144,8 @@ impl Marks {
         ensures counts { counts_of self.new ≡ counts_of self.old }
         ensures places { length (rules_of self.new) ≡ length (rules_of self.old) }
     {
-        self.rules[b] = self.rules[b].union(broken);
+        let rules = self.rules.get(b).union(broken);
+        self.rules.set(b, rules);
     }
 
     /// Looks at a block in a role: keeps the rules that it breaks, and follows its edges if it breaks none.

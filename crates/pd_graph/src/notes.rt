@@ -1,7 +1,8 @@
 ghost use Rattle.pd_kinds.specs.declared.limits.TheConstants.{MAX_META_BLOCKS};
 ghost use Rattle.std.specs.Prelude.{◌≡◌, ℕ, ◌<◌, ◌≤◌, ◌==◌, length, IfOk, if◌then◌else◌};
+ghost use Rattle.pd_graph.specs.Table.{values_of};
 
-use crate::marks::table;
+use crate::table::Table;
 use std::alloc::{AllocError, Global};
 
 /// What is kept of a node: the least and the greatest key below it, the number of entries below it,
@@ -16,19 +17,19 @@ pub struct Note {
     pub below: u64,
     /// How many nodes the longest way down to a leaf has: from 1, for a leaf itself, to 64 for a settled node.
     /// It is 0 where nothing is known of the node, and greater where it is too deep.
-    pub height: u64,
+    pub height: u8,
     /// Whether the keys below each child are in the range that the node's own keys give it. Only of a settled
     /// inner node it may be false.
     pub in_range: bool,
 }
 
-/// A note as it is kept, in 40 bytes: a key that there isn't is 0.
+/// A note as it is kept, in 32 bytes: a key that there isn't is 0.
 #[derive(Clone, Copy)]
 pub(crate) struct KeptNote {
     least: u64,
     greatest: u64,
     below: u64,
-    height: u64,
+    height: u8,
     has_least: bool,
     has_greatest: bool,
     in_range: bool,
@@ -70,8 +71,8 @@ impl KeptNote {
 #[derive(Drop)]
 pub struct Notes {
     nr: u64,
-    kept: Vec<KeptNote>,
-    ghost places: { length kept.items ≡ nr },
+    kept: Table<KeptNote>,
+    ghost places: { length (values_of kept) ≡ nr },
     ghost some: { 1 ≤ nr },
     ghost few: { nr ≤ MAX_META_BLOCKS },
 }
@@ -79,8 +80,8 @@ pub struct Notes {
 impl Notes {
     ghost use Rattle.pd_graph.specs.Notes.{size_of, note_in, no_note};
 
-    /// Notes of so many blocks, from 1 to `MAX_META_BLOCKS`, of which nothing is known. It takes 40 bytes a block;
-    /// want of memory is the only error.
+    /// Notes of so many blocks, from 1 to `MAX_META_BLOCKS`, of which nothing is known. It reserves 32 bytes a
+    /// block; want of that memory is the only error.
     pub fn new(alloc: Global, nr: u64) -> Result<Notes, AllocError>
         requires some { 1 ≤ nr }
         requires few { nr ≤ MAX_META_BLOCKS }
@@ -94,7 +95,7 @@ impl Notes {
             height: 0,
             in_range: true,
         });
-        let kept = table(alloc, nr as usize, unknown)?;
+        let kept = Table::new(alloc, nr as usize, unknown)?;
         Ok(Notes { nr, kept })
     }
 
@@ -112,7 +113,7 @@ impl Notes {
         requires { b < size_of self.now }
         ensures { result ≡ note_in self.now b }
     {
-        self.kept[b as usize].note()
+        self.kept.get(b as usize).note()
     }
 
     /// Replaces the note of block b.
@@ -121,6 +122,6 @@ impl Notes {
         ensures notes { (c : ℕ) → note_in self.new c ≡ (if c == b then note else note_in self.old c) }
         ensures number { size_of self.new ≡ size_of self.old }
     {
-        self.kept[b as usize] = KeptNote::of(note);
+        self.kept.set(b as usize, KeptNote::of(note));
     }
 }

@@ -3,6 +3,9 @@
 ghost use Rattle.std.specs.Prelude.{◌≡◌, ℕ, ◌<◌, ◌==◌, ◌||◌, true, length, slice_index, IfSome, IfNone};
 ghost use Rattle.pd_kinds.specs.Graph.{pair};
 ghost use Rattle.pd_graph.specs.Roles.{has_bit, has_several, is_in, IsUnread, IsUnreadAt, IsAllRead};
+ghost use Rattle.pd_graph.specs.Table.{values_of};
+
+use crate::table::Table;
 
 /// Whether the role, below 16, is in the set of an audit's `roles`: bit r stands for role r.
 pub fn has_role(roles: u16, role: u8) -> bool
@@ -44,34 +47,36 @@ pub(crate) fn are_several(roles: u16) -> bool
 }
 
 /// Adds a role to the set of block b.
-pub(crate) fn add_role(table: &mut [u16], b: usize, role: u8)
-    requires within { b < length table.old }
+pub(crate) fn add_role(table: &mut Table<u16>, b: usize, role: u8)
+    requires within { b < length (values_of table.old) }
     requires role { role < 16 }
-    ensures { (p : ℕ) → is_in table.new p ≡ (is_in table.old p || (p == pair b role)) }
+    ensures places { length (values_of table.new) ≡ length (values_of table.old) }
+    ensures roles { (p : ℕ) → is_in (values_of table.new) p ≡ (is_in (values_of table.old) p || (p == pair b role)) }
 {
-    table[b] = with_role(table[b], role);
+    let roles = with_role(table.get(b), role);
+    table.set(b, roles);
 }
 
 /// Block b with the lowest role in which it was met and not yet read.
-pub(crate) fn unread_at(seen: &[u16], read: &[u16], b: usize) -> Option<(usize, u8)>
-    requires { length read.now ≡ length seen.now }
-    ensures some { IfSome result (λ found. IsUnreadAt seen.now read.now found.0 found.1) }
-    ensures none { IfNone result ((role : ℕ) → role < 16 → has_bit (slice_index seen.now b) role ≡ true → has_bit (slice_index read.now b) role ≡ true) }
+pub(crate) fn unread_at(seen: &Table<u16>, read: &Table<u16>, b: usize) -> Option<(usize, u8)>
+    requires { length (values_of read.now) ≡ length (values_of seen.now) }
+    ensures some { IfSome result (λ found. IsUnreadAt (values_of seen.now) (values_of read.now) found.0 found.1) }
+    ensures none { IfNone result ((role : ℕ) → role < 16 → has_bit (slice_index (values_of seen.now) b) role ≡ true → has_bit (slice_index (values_of read.now) b) role ≡ true) }
 {
-    if seen.len() <= b {
+    if seen.places() <= b {
         return None;
     }
-    let role = first_unread(seen[b], read[b])?;
+    let role = first_unread(seen.get(b), read.get(b))?;
     Some((b, role))
 }
 
 /// The first block that was met in a role and not yet read in it.
-pub(crate) fn any_unread(seen: &[u16], read: &[u16]) -> Option<(usize, u8)>
-    requires { length read.now ≡ length seen.now }
-    ensures some { IfSome result (λ found. IsUnreadAt seen.now read.now found.0 found.1) }
-    ensures none { IfNone result (IsAllRead seen.now read.now) }
+pub(crate) fn any_unread(seen: &Table<u16>, read: &Table<u16>) -> Option<(usize, u8)>
+    requires { length (values_of read.now) ≡ length (values_of seen.now) }
+    ensures some { IfSome result (λ found. IsUnreadAt (values_of seen.now) (values_of read.now) found.0 found.1) }
+    ensures none { IfNone result (IsAllRead (values_of seen.now) (values_of read.now)) }
 {
-    for b in 0..seen.len() {
+    for b in 0..seen.places() {
         if let Some(found) = unread_at(seen, read, b) {
             return Some(found);
         }

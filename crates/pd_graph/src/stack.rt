@@ -4,33 +4,25 @@ use std::alloc::{AllocError, Global};
 /// unread, and no more: what is unread stands in the tables, and a number without a place is left out.
 #[derive(Drop)]
 pub(crate) struct Stack {
-    places: Vec<u32>,
-    top: usize,
+    numbers: Vec<u32>,
 }
 
 impl Stack {
-    /// An empty stack with so many places.
+    /// An empty stack with so many places, whose memory is reserved.
     pub(crate) fn new(alloc: Global, places: usize) -> Result<Stack, AllocError> {
-        Ok(Stack {
-            places: vec![in alloc; 0; places]?,
-            top: 0,
-        })
+        let numbers = Vec::with_capacity(alloc, places)?;
+        Ok(Stack { numbers })
     }
 
     /// Puts a number on top, where there is a place.
     pub(crate) fn push(&mut self, block: u32) {
-        if self.top < self.places.len() {
-            self.places[self.top] = block;
-            self.top += 1;
+        if self.numbers.len() < self.numbers.capacity() {
+            let _ = self.numbers.push(block);
         }
     }
 
     /// Takes the number on top.
     pub(crate) fn pop(&mut self) -> Option<u32> {
-        if self.top == 0 {
-            return None;
-        }
-        self.top -= 1;
-        self.places.get(self.top).copied()
+        self.numbers.pop()
     }
 }

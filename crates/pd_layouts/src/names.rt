@@ -16,7 +16,7 @@ pub enum Names {
 }
 
 impl Names {
-    ghost use Rattle.pd_layouts.specs.Names.{if_data, if_metadata, is_named_beyond, role_named};
+    ghost use Rattle.pd_layouts.specs.Names.{if_data, if_metadata, role_named};
 
     /// How many metadata blocks so many entries name.
     pub(crate) fn metadata_of(self, count: usize) -> usize
@@ -45,17 +45,6 @@ impl Names {
         match self {
             Names::Metadata(role) | Names::MetadataByEra(role) => role,
             Names::Nothing | Names::Data(_) => 0,
-        }
-    }
-
-    /// Whether an entry with this key, that names this block, lies outside its range.
-    pub(crate) fn is_beyond(self, key: u64, block: u64) -> bool
-        ensures { result ≡ is_named_beyond self key block }
-    {
-        match self {
-            Names::MetadataByEra(_) => key >= 1 << 32,
-            Names::Data(limit) => block >= limit,
-            Names::Nothing | Names::Metadata(_) => false,
         }
     }
 }

@@ -1,12 +1,13 @@
 //! The rules that a block breaks as a node of a tree.
 
-ghost use Rattle.std.specs.Prelude.{◌≡◌};
+ghost use Rattle.std.specs.Prelude.{◌≡◌, ◌^◌, false, nat_lt, not};
 ghost use Rattle.std.specs.List.{list_any};
 ghost use Rattle.pd_kinds.specs.declared.rule.Rule.{Rule as BrokenRule};
-ghost use Rattle.pd_kinds.specs.Layout.{leaf_entries, tree_bad, tree_edges};
+ghost use Rattle.pd_kinds.specs.Layout.{leaf_entries, node_entries_of, tree_bad, tree_edges};
+ghost use Rattle.pd_kinds.specs.Node.{is_inner_node};
 ghost use Rattle.pd_kinds.specs.RuleSet.{has_rule};
 ghost use Rattle.pd_kinds.specs.Edge.{has_edge_outside};
-ghost use Rattle.pd_layouts.specs.LeafValue.{value_size, tree_of};
+ghost use Rattle.pd_layouts.specs.LeafValue.{value_size, value_target, tree_of};
 
 use crate::leaf_value::LeafValue;
 use crate::names::Names;
@@ -59,10 +60,32 @@ fn is_entry_beyond(b: &Block, value: LeafValue, names: Names) -> bool
     if is_inner(b) {
         return false;
     }
+    match names {
+        Names::Nothing | Names::Metadata(_) => false,
+        Names::MetadataByEra(_) => is_key_beyond(b, value),
+        Names::Data(limit) => is_named_beyond(b, value, limit),
+    }
+}
+
+/// Whether a key of the leaf is no era.
+fn is_key_beyond(b: &Block, value: LeafValue) -> bool
+    ensures { result ≡ list_any (λ e. not (nat_lt e.key (2 ^ 32))) (node_entries_of (value_size value) b.now.0) }
+{
     let mut beyond = false;
-    let count = value.entries(b);
-    for i in 0..count {
-        beyond |= names.is_beyond(value.key(b, i), value.named(b, i));
+    for i in 0..value.entries(b) {
+        beyond |= value.key(b, i) >= 1 << 32;
+    }
+    beyond
+}
+
+/// Whether a value of the leaf names a block past this limit.
+fn is_named_beyond(b: &Block, value: LeafValue, limit: u64) -> bool
+    requires { is_inner_node b.now.0 ≡ false }
+    ensures { result ≡ list_any (λ e. not (nat_lt (value_target value e.value) limit)) (node_entries_of (value_size value) b.now.0) }
+{
+    let mut beyond = false;
+    for i in 0..value.entries(b) {
+        beyond |= value.named(b, i) >= limit;
     }
     beyond
 }

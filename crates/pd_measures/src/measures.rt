@@ -1,23 +1,23 @@
 use crate::measured::Measured;
+use pd_graph::Table;
 use std::alloc::{AllocError, Global};
 
 /// A measure for each of so many blocks, in 24 bytes.
 #[derive(Drop)]
 pub struct Measures {
-    kept: Vec<Measured>,
+    kept: Table<Measured>,
 }
 
 impl Measures {
     ghost use Rattle.std.specs.Prelude.{◌≡◌, ℕ, ◌<◌, ◌==◌, if◌then◌else◌, IfOk};
     ghost use Rattle.pd_measures.specs.Measures.{measure_at, places_of};
 
-    /// Measures for so many blocks, each that of no entries. It takes all the memory of the measures; want of it is the
-    /// only error.
+    /// Measures for so many blocks, each that of no entries. It reserves all the memory of the measures; want of it is
+    /// the only error.
     pub fn new(alloc: Global, nr: u64) -> Result<Measures, AllocError>
         ensures { IfOk result (λ measures. places_of measures ≡ nr) }
     {
-        let mut kept = Vec::new(alloc);
-        kept.resize(nr as usize, Measured::none())?;
+        let kept = Table::new(alloc, nr as usize, Measured::none())?;
         Ok(Measures { kept })
     }
 
@@ -25,10 +25,12 @@ impl Measures {
     pub fn get(&self, b: u64) -> Measured
         ensures { result ≡ measure_at self.now b }
     {
-        self.kept
-            .get(b as usize)
-            .copied()
-            .unwrap_or(Measured::none())
+        let b = b as usize;
+        if b < self.kept.places() {
+            self.kept.get(b)
+        } else {
+            Measured::none()
+        }
     }
 
     /// Replaces the measure of block b.
@@ -37,6 +39,6 @@ impl Measures {
         ensures places { places_of self.new ≡ places_of self.old }
         ensures measures { (c : ℕ) → measure_at self.new c ≡ (if c == b then measure else measure_at self.old c) }
     {
-        self.kept[b as usize] = measure;
+        self.kept.set(b as usize, measure);
     }
 }

@@ -22,7 +22,7 @@ use pd_kinds::Block;
 use pd_node::is_inner;
 
 /// The greatest height of a good node.
-const MAX_HEIGHT: u64 = 64;
+const MAX_HEIGHT: u8 = 64;
 
 /// The measure of a leaf: of its entries.
 fn measure_leaf<G: Gauge>(gauge: &G, block: &Block) -> Measured
@@ -67,7 +67,7 @@ fn measure_node<G: Gauge, D: Device>(
     notes: &Notes,
     gauge: &G,
     dev: &mut D,
-    height: u64,
+    height: u8,
     b: u64,
 ) -> Result<(), Failed>
     requires attached { IsAttached (D.state dev.old) }
@@ -99,7 +99,7 @@ fn measure_level<G: Gauge, D: Device>(
     notes: &Notes,
     gauge: &G,
     dev: &mut D,
-    height: u64,
+    height: u8,
 ) -> Result<(), Failed>
     requires attached { IsAttached (D.state dev.old) }
     requires places { places_of measures.old ≡ size_of notes.now }
@@ -121,7 +121,7 @@ fn measure_level<G: Gauge, D: Device>(
 }
 
 /// One more than the height of block b, where it is good; else 1.
-fn levels_at(notes: &Notes, b: u64) -> u64
+fn levels_at(notes: &Notes, b: u64) -> u8
     requires { b < size_of notes.now }
     ensures some { 1 ≤ result }
     ensures few { result ≤ 65 }
@@ -132,7 +132,7 @@ fn levels_at(notes: &Notes, b: u64) -> u64
 }
 
 /// One more than the greatest height of the good blocks, and 1 where there is none.
-fn levels(notes: &Notes) -> u64
+fn levels(notes: &Notes) -> u8
     ensures some { 1 ≤ result }
     ensures few { result ≤ 65 }
     ensures above { (b : ℕ) → b < size_of notes.now → (note_in notes.now b).height ≤ 64 → (note_in notes.now b).height < result }

@@ -139,7 +139,7 @@ fn find_roots_in<F: Format, D: Device>(
 /// time; of the same time, those whose mapping tree, and then whose details tree, has the lowest block. `None` says that no
 /// two trees fit.
 ///
-/// The device is only read. It takes 192 bytes and a set of roles for each of its blocks, of which it looks at no more than
+/// The device is only read. It takes 168 bytes and a set of roles for each of its blocks, of which it looks at no more than
 /// `MAX_META_BLOCKS`, and then memory for each different list of devices that a details tree has.
 ///
 /// Fails with `CheckFault::Memory` where memory wasn't found, and with `CheckFault::Device` where a read failed.

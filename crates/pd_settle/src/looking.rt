@@ -26,7 +26,7 @@ pub(crate) enum Seen {
 }
 
 /// A note without keys.
-pub(crate) fn keyless(below: u64, height: u64) -> Note
+pub(crate) fn keyless(below: u64, height: u8) -> Note
     ensures { result ≡ keyless_note below height }
 {
     Note {

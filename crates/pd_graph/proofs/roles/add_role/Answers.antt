@@ -1,5 +1,16 @@
+use Rattle.std.proofs.Common.{ℕ, List, length, ◌||◌, nat_eq, ap, sym, ◌∙◌}
+use Rattle.std.proofs.lemmas.List.{length-set}
+use Rattle.pd_graph.specs.Roles.{has_bit, is_in}
+use Rattle.pd_graph.specs.Table.{values_of}
 use Rattle.pd_graph.proofs.BitLemmas.{is_in_more}
 use Rattle.pd_graph.proofs.roles.add_role.Goals as goal
 
-pub returns : goal.returns
-returns c = is_in_more c.args.table.now c.args.b c.args.role c.with_role.result c.requires.within c.requires.role c.with_role.ensures
+pub returns-clause-roles : goal.returns-clause-roles
+returns-clause-roles c = λ p.
+    ap (λ (sets : List ℕ). is_in sets p) c.set.ensures
+    ∙ is_in_more (values_of c.args.table.now) c.args.b c.args.role c.with_role-roles.result c.requires.within c.requires.role
+    (λ other small. c.with_role-roles.ensures other small ∙ ap (λ (roles : ℕ). has_bit roles other || nat_eq other c.args.role) (sym (c.get.ensures 0))) p
+
+pub returns-clause-places : goal.returns-clause-places
+returns-clause-places c =
+    ap (λ (sets : List ℕ). length sets) c.set.ensures ∙ length-set (values_of c.args.table.now) c.args.b c.with_role-roles.result

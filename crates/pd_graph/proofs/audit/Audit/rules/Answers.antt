@@ -1,10 +1,10 @@
 use Rattle.std.proofs.Common.{◌≡◌, Bool, true, false, ◌||◌, ◌&&◌, refl, sym, ◌∙◌, ap, arith, ◌<◌, length}
-use Rattle.std.proofs.lemmas.List.{get_or_default}
 use Rattle.pd_kinds.specs.declared.rules.Rules.{Rules}
 use Rattle.pd_kinds.specs.RuleSet.{has_rule}
 use Rattle.pd_kinds.specs.Rule.{same_rule}
 use Rattle.pd_kinds.specs.declared.rule.Rule.TheVariants.{Role}
 use Rattle.pd_graph.specs.Roles.{has_several}
+use Rattle.pd_graph.specs.Marks.{rules_of}
 use Rattle.pd_graph.proofs.TableLemmas.{has_rule_in-get_or}
 use Rattle.pd_graph.proofs.audit.Audit.rules.Goals as goal
 
@@ -21,10 +21,8 @@ in_order given kept read role several several' e same seen = e ∙ rw (same, see
 
 pub returns : goal.returns
 returns c = λ rule.
-    let small : c.args.b < length c.args.self.now.marks.rules.items = let h = c.args.self.now.places.rules in let k = c.requires in omega arith in
-    let seen : c.args.b < length c.args.self.now.marks.seen.items = let h = c.args.self.now.places.seen in let k = c.requires in omega arith in
-    let kept = has_rule_in-get_or c.args.self.now.marks.rules.items c.args.b c.index.result.now rule small in
-    let same = ap (λ (set : Rules). has_rule set rule) c.index.ensures in
-    let value = c.with_if.ensures rule in
-    in_order (has_rule c.with_if.result rule) (has_rule c.index.result.now rule) _ (same_rule Role rule) c.are_several.result _
-    value (same ∙ sym kept) (c.are_several.ensures ∙ ap has_several (c.index-2.ensures ∙ get_or_default c.args.self.now.marks.seen.items c.args.b c.index-2.result.now 0 seen))
+    let small : c.args.b < length (rules_of c.args.self.now.marks) = let h = c.args.self.now.places.rules in let k = c.requires in omega arith in
+    let kept = has_rule_in-get_or (rules_of c.args.self.now.marks) c.args.b c.get.result rule small in
+    let same = ap (λ (set : Rules). has_rule set rule) (sym (c.get.ensures c.get.result)) in
+    in_order (has_rule c.with_if.result rule) (has_rule c.get.result rule) _ (same_rule Role rule) c.are_several.result _
+    (c.with_if.ensures rule) (same ∙ sym kept) (c.are_several.ensures ∙ ap has_several (sym (c.get-2.ensures 0)))

@@ -1,0 +1,7 @@
+-- The values of a table.
+use Rattle.std.specs.Prelude.{ℕ, ◌-◌, List, ◌++◌, length, replicate}
+use Rattle.pd_graph.specs.declared.table.Table.{Table}
+
+-- what was set, and behind it the same value at each place
+unfoldable pub values_of : {X : Type 0} → Table X → List X
+values_of table = table.kept.items ++ replicate (table.places - length table.kept.items) table.unset
