@@ -1,7 +1,7 @@
 -- What is left on the way, before and after it grows by a node, and before and after a step.
-use Rattle.std.proofs.Common.{◌≡◌, ◌≢◌, ◌↔◌, inl, inr, IsTrue, not, nat_eq, sym, ◌∙◌, ℕ, zero, suc, ◌+◌, ◌-◌, ◌<◌, ◌≤◌, true, false, Bool, nat_lt, List, [], ◌∷◌, ◌++◌, length, set, refl, arith, add-one}
+use Rattle.std.proofs.Common.{◌≡◌, ◌≢◌, ◌↔◌, inl, inr, IsTrue, not, nat_eq, sym, ◌∙◌, ℕ, zero, suc, ◌+◌, ◌-◌, ◌<◌, ◌≤◌, true, false, Bool, nat_lt, List, [], ◌∷◌, ◌++◌, length, set, refl, arith}
 use Rattle.std.proofs.lemmas.List.{get_or-set_same, get_or-set_other}
-use Rattle.std.specs.List.{list_any}
+use Rattle.std.specs.List.{list_any, SameBelow}
 use Rattle.std.proofs.lemmas.Bool.{false≢true, cases_Bool, cases_lt, both_ways, and_parts, or_parts, not-true, not-false, lt-ltb, ltb-true}
 use Rattle.pd_kinds.specs.Edge.{is_outside}
 use Rattle.pd_kinds.specs.Graph.{block_at}
@@ -13,9 +13,9 @@ use Rattle.pd_laid.proofs.NodeFacts.{none_pass}
 use Rattle.pd_laid.specs.Salvage.{is_damaged}
 use Rattle.pd_tree.specs.declared.place.Place.{Place}
 use Rattle.pd_tree.specs.declared.stack.Stack.{Stack}
-use Rattle.pd_tree.specs.Stack.{last_place, stacked}
+use Rattle.pd_tree.specs.Stack.{last_place, place_at, stacked}
 use Rattle.pd_tree.specs.Steps.{TakesLast, IsPassed, ended, deep}
-use Rattle.pd_tree.proofs.StackLemmas.{stacked_before, stacked_set}
+use Rattle.pd_tree.proofs.StackLemmas.{stacked_is, stacked_same}
 use Rattle.pd_tree.proofs.StepLemmas.{left_out, took}
 use Rattle.pd_salvage.specs.declared.range.Range.{Range}
 use Rattle.pd_salvage.specs.Range.{child_range, is_in_range, is_wanted, saved_below}
@@ -32,33 +32,33 @@ module _ {X : Type 0} (size : ℕ) (decoded : ℕ → X) (nr : ℕ) (image : Lis
       let other : n ≢ d = omega arith in
       rw (get_or-set_other ranges d n range no_range other, ranges_before places d n range (omega arith)) refl
 
-  module _ (places now : List Place) (d beside b : ℕ) (range : Range) (place : Place) (at : beside ≡ d) (same : now ≡ set places d place) (is : block_at image b ≡ place.block.0) where
+  module _ (places now : List Place) (d beside b : ℕ) (range : Range) (at : beside ≡ d) (same : SameBelow places now d) where
     -- a node that was entered
-    pub entered_left : (n : ℕ) → n ≡ d + 1 → d < length places → d < length ranges → d < 64 → is_outside nr b ≡ false → is_damaged size b place.block.0 ≡ false → place.next ≡ 0
+    pub entered_left : (n : ℕ) (place : Place) → n ≡ d + 1 → place_at now (n - 1) ≡ place → block_at image b ≡ place.block.0 → d < length ranges → d < 64 → is_outside nr b ≡ false
+        → is_damaged size b place.block.0 ≡ false → place.next ≡ 0
         → stacked (left_below size decoded nr image (set ranges beside range)) now n ≡ saved_below size decoded nr image (64 - d) range b ++ stacked (left_below size decoded nr image ranges) places d
-    entered_left n depth within room most inside sound first =
+    entered_left n place depth last is room most inside sound first =
+        let before : n - 1 ≡ d = omega arith in
         rw (
           at,
-          depth,
-          same,
-          stacked_set (left_below size decoded nr image (set ranges d range)) places d (d + 1) place within (add-one d),
+          stacked_is (left_below size decoded nr image (set ranges d range)) now d n (omega arith),
+          rw before at last,
+          stacked_same (left_below size decoded nr image (set ranges d range)) places now d same,
           get_or-set_same ranges d range no_range room,
           ranges_before places d d range (omega arith),
           entered size decoded nr image (64 - d) (63 - d) b range place (omega arith) inside sound is first,
         ) refl
 
     -- a damaged node that was read leaves all as it was
-    pub damaged_left : (n j : ℕ) → n ≡ d → is_damaged size b place.block.0 ≡ true
+    pub damaged_left : (n j : ℕ) → n ≡ d → is_damaged size b (block_at image b) ≡ true
         → stacked (left_below size decoded nr image (set ranges beside range)) now n ≡ saved_below size decoded nr image j range b ++ stacked (left_below size decoded nr image ranges) places d
     damaged_left n j depth damaged =
-        let broken : is_damaged size b (block_at image b) ≡ true = rw is damaged in
         rw (
           at,
           depth,
-          same,
-          stacked_before (left_below size decoded nr image (set ranges d range)) places d d place (omega arith),
+          stacked_same (left_below size decoded nr image (set ranges d range)) places now d same,
           ranges_before places d d range (omega arith),
-          none_damaged size decoded nr image j b range broken,
+          none_damaged size decoded nr image j b range damaged,
         ) refl
 
   -- a step at the last place

@@ -17,8 +17,9 @@ const KEYS_END: u128 = 18446744073709551616;
 /// The entries of a tree, whose leaves hold values of one type, that a path of at most 64 undamaged nodes leads to
 /// from its root, where they lie in each range of keys on that path, by ascending key.
 ///
-/// It holds the nodes on the way to the next entry, in 64 places with room for a block each. The entry that a call
-/// gives, and then what is left after it, are what was left before it. Over any device the keys ascend.
+/// It holds the nodes on the way to the next entry, in places with room for a block each: the memory of 64 is reserved,
+/// and used as far as the tree is deep. The entry that a call gives, and then what is left after it, are what was left
+/// before it. Over any device the keys ascend.
 #[derive(Drop)]
 pub struct SavedCursor<V> {
     trail: Trail,
@@ -42,8 +43,8 @@ impl<V: Value> SavedCursor<V> {
     ghost use Rattle.pd_salvage.specs.Range.{all_keys, saved_below};
     ghost use Rattle.pd_salvage.specs.Trail.{trail_left, trail_number};
 
-    /// A cursor before the first entry of the tree with this root, of a pool with so many metadata blocks. It takes
-    /// all memory that the cursor needs: 64 places of about 4136 bytes.
+    /// A cursor before the first entry of the tree with this root, of a pool with so many metadata blocks. It
+    /// reserves all memory that the cursor needs: 64 places of about 4136 bytes.
     ///
     /// Fails with `AllocError` where that memory wasn't found.
     pub fn start(alloc: Global, nr: u64, root: u64) -> Result<SavedCursor<V>, AllocError>

@@ -43,7 +43,7 @@ impl Trail {
     ghost use Rattle.pd_salvage.specs.Trail.{range_at, trail_left, trail_number};
     ghost use Rattle.pd_salvage.specs.Steps.{StepsOnTrail};
 
-    /// No node, and room for `LEVELS` of them.
+    /// No node, and memory reserved for `LEVELS` of them.
     pub(crate) fn new(alloc: Global, nr: u64) -> Result<Trail, AllocError>
         ensures { IfOk result (λ trail. (trail.stack.depth ≡ 0) × (trail.nr ≡ nr)) }
     {

@@ -56,7 +56,7 @@ fn best_of_fitting<D: Device>(
 ///
 /// Trees meet by what is measured of them and not pair by pair: the best roots of all that may fit are found in one pass
 /// over the details trees and one over the mapping trees. Then their lists are read to see whether they do. It takes
-/// memory for each sum that a details tree has, and about 530 KiB.
+/// memory for each sum that a details tree has, and reserves about 530 KiB, which is used as far as trees are deep.
 ///
 /// Fails with `CheckFault::Memory` where memory wasn't found, and with `CheckFault::Device` where a read failed.
 pub(crate) fn choose<D: Device>(

@@ -35,8 +35,8 @@ pub struct PieceRuns {
 }
 
 impl PieceRuns {
-    /// A cursor before the first piece of the device whose mappings have this root. It takes all memory that the cursor
-    /// needs: 64 places of 4104 bytes.
+    /// A cursor before the first piece of the device whose mappings have this root. It reserves all memory that the
+    /// cursor needs: 64 places of 4104 bytes, which are used as far as the tree is deep.
     ///
     /// Fails with `AllocError` where that memory wasn't found.
     pub fn start(alloc: Global, root: u64) -> Result<PieceRuns, AllocError>

@@ -67,7 +67,8 @@ impl Metadata for ThinTable {
 ///
 /// A check up to `Super` takes no memory, and one past it takes none before block 0 was found sound, and
 /// all of it before it reads another block: about 50 bytes a metadata block, and up to `Whole` 530 KiB
-/// besides. Up to `Counts` it takes memory for cursors and for the counts of data blocks later too.
+/// besides, which are reserved and used as far as the trees are deep. Up to `Counts` it takes memory for cursors and for
+/// the counts of data blocks later too.
 ///
 /// It reads block 0, and where that breaks no rule at most once for each role in which a block is reached, whatever is
 /// shared; up to `Order` at most three times, up to `Whole` five times, and up to `Counts` six times.

@@ -61,8 +61,8 @@ pub struct DeviceCursors {
 }
 
 impl DeviceCursors {
-    /// Both cursors, with no tree yet: they take all memory that they need, about 530 KiB. Want of it is the only
-    /// error.
+    /// Both cursors, with no tree yet: they reserve all memory that they need, about 530 KiB, and use it as far as their
+    /// trees are deep. Want of it is the only error.
     pub fn new(alloc: Global) -> Result<DeviceCursors, AllocError>
         ensures { IfOk result HaveNoEntry }
     {

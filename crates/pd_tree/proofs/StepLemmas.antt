@@ -32,7 +32,7 @@ module _ (size : ℕ) (old new : Stack) (some : 0 < old.depth) (room : old.depth
         takes.depth,
         takes.places,
         stacked_is left old.places.items (old.depth - 1) old.depth last,
-        stacked_set left old.places.items (old.depth - 1) old.depth (after place) (omega arith) last,
+        stacked_set left old.places.items old.places.items (old.depth - 1) old.depth (after place) (omega arith) (λ k other before. refl) last,
         is,
       )
       (append_assoc more (left (old.depth - 1) (after place)) (stacked left old.places.items (old.depth - 1)))
@@ -86,7 +86,7 @@ module _ (size : ℕ) (old new : Stack) (some : 0 < old.depth) (room : old.depth
         takes.depth,
         takes.places,
         weigh_is size old.places.items (old.depth - 1) old.depth last,
-        weigh_set size old.places.items (old.depth - 1) old.depth (after place) (omega arith) last,
+        weigh_set size old.places.items old.places.items (old.depth - 1) old.depth (after place) (omega arith) (λ k other before. refl) last,
         one_less size place takes.within,
         same,
       )

@@ -3,7 +3,7 @@ use Rattle.std.proofs.lemmas.Bool.{not-false, not-true}
 use Rattle.std.proofs.lemmas.Option.{IfSome_then}
 use Rattle.pd_laid.specs.Salvage.{is_damaged}
 use Rattle.pd_tree.proofs.NextLemmas.{if_any}
-use Rattle.pd_tree.proofs.StackLemmas.{unit_some, weigh_before}
+use Rattle.pd_tree.proofs.StackLemmas.{unit_some, weigh_same}
 use Rattle.pd_tree.specs.Stack.{last_place, weigh}
 use Rattle.pd_salvage.specs.Range.{is_wanted}
 use Rattle.pd_salvage.proofs.TrailLemmas.{damaged_left, entered_left, unwanted, wanted}
@@ -25,15 +25,15 @@ returns-then-not-is_sound-clause-left g c =
     let depth : c.pop.new.self.depth ≡ old.stack.depth = omega (arith, c.in_ok-push.ensures.depth) in
     let damaged = not-false (is_damaged g.V.Value.SIZE c.args.b c.top.result.now.0) (sym c.if-not-is_sound.ensures) in
     IfSome_then (g.D.Device.state c.args.dev.now).held pushes.read (λ image read.
-    damaged_left g.V.Value.SIZE g.V.Value.decoded old.nr image old.ranges.items old.stack.places.items c.pop.new.self.places.items old.stack.depth c.depth.result c.args.b c.args.range (last_place c.push.new.self)
-    c.depth.ensures (rw c.pop.ensures.places pushes.places) read c.pop.new.self.depth (64 - old.stack.depth) depth (rw c.top.ensures at damaged))
+    damaged_left g.V.Value.SIZE g.V.Value.decoded old.nr image old.ranges.items old.stack.places.items c.pop.new.self.places.items old.stack.depth c.depth.result c.args.b c.args.range
+    c.depth.ensures (rw c.pop.ensures.places pushes.places) c.pop.new.self.depth (64 - old.stack.depth) depth (rw (read, ← c.top.ensures) damaged))
 
 pub returns-then-not-is_sound-clause-number : goal.returns-then-not-is_sound-clause-number
 returns-then-not-is_sound-clause-number g c =
     let old = c.args.self.now.stack in
     let depth : c.pop.new.self.depth ≡ old.depth = omega (arith, c.in_ok-push.ensures.depth) in
     let same : weigh g.V.Value.SIZE c.pop.new.self.places.items c.pop.new.self.depth ≡ weigh g.V.Value.SIZE old.places.items old.depth =
-    rw (c.pop.ensures.places, c.in_ok-push.ensures.pushes.places, depth) (weigh_before g.V.Value.SIZE old.places.items old.depth old.depth (last_place c.push.new.self) (omega arith)) in
+    rw (c.pop.ensures.places, depth) (weigh_same g.V.Value.SIZE old.places.items c.push.new.self.places.items old.depth c.in_ok-push.ensures.pushes.places) in
     omega (arith, unit_some (64 - old.depth))
 
 pub returns-else-not-is_sound-clause-left : goal.returns-else-not-is_sound-clause-left
@@ -42,5 +42,5 @@ returns-else-not-is_sound-clause-left g c =
     let pushes = c.in_ok-push.ensures.pushes in
     let sound = not-true (is_damaged g.V.Value.SIZE c.args.b c.top.result.now.0) (sym c.if-not-is_sound.ensures) in
     IfSome_then (g.D.Device.state c.args.dev.now).held pushes.read (λ image read.
-    entered_left g.V.Value.SIZE g.V.Value.decoded old.nr image old.ranges.items old.stack.places.items c.push.new.self.places.items old.stack.depth c.depth.result c.args.b c.args.range (last_place c.push.new.self)
-    c.depth.ensures pushes.places read c.push.new.self.depth c.in_ok-push.ensures.depth (omega arith) (omega arith) c.requires.room (wanted old.nr c.args.b c.args.range (cc)).0 (rw c.top.ensures at sound) pushes.whole)
+    entered_left g.V.Value.SIZE g.V.Value.decoded old.nr image old.ranges.items old.stack.places.items c.push.new.self.places.items old.stack.depth c.depth.result c.args.b c.args.range
+    c.depth.ensures pushes.places c.push.new.self.depth (last_place c.push.new.self) c.in_ok-push.ensures.depth refl read (omega arith) c.requires.room (wanted old.nr c.args.b c.args.range (cc)).0 (rw c.top.ensures at sound) pushes.whole)
