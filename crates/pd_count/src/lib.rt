@@ -4,6 +4,7 @@
 mod chunk;
 mod counts;
 
+pub use chunk::{Chunk, absent_chunks};
 pub use counts::Counts;
 
 /// How many counts a chunk has: as many as a bitmap of a space map, so that chunk `i` holds the counts of the

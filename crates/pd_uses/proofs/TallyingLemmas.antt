@@ -1,7 +1,7 @@
 -- What a use more does to tallies, and what devices more do.
 use Rattle.std.proofs.Common.{◌≡◌, ℕ, suc, ◌-◌, ◌^◌, ◌<◌, ◌≤◌, List, [], ◌∷◌, ◌++◌, length, Option, IfSome, Result, OnOk, Ok, Err, refl, sym, ap, ◌∙◌, subst, arith, append_assoc, ap₂, length-append, length-set}
 use Rattle.std.proofs.lemmas.List.{append-nil, map-append}
-use Rattle.pd_count.specs.Counted.{Counted, count_of}
+use Rattle.pd_count.specs.Counted.{Counted, count_of, PutsNumber}
 use Rattle.pd_kinds.specs.declared.thin_super.ThinSuper.{ThinSuper}
 use Rattle.pd_thin_meaning.specs.declared.devices.DeviceRow.{DeviceRow}
 use Rattle.pd_thin_meaning.specs.Given.{super_rows}
@@ -9,7 +9,7 @@ use Rattle.pd_query.proofs.PutsLemmas.{each_told, one_told, two_told}
 use Rattle.pd_uses.specs.declared.data_use.DataUse.{DataUse}
 use Rattle.pd_uses.specs.declared.tallies.Tallies.{Tallies}
 use Rattle.pd_uses.specs.Taken.{TakesUses}
-use Rattle.pd_uses.specs.Tallied.{IsTallied, PutsUser, is_alone, lowered_at, number_at, placed, raised_at, rows_placed}
+use Rattle.pd_uses.specs.Tallied.{IsTallied, is_alone, lowered_at, number_at, placed, raised_at, rows_placed}
 use Rattle.pd_uses.specs.Tallying.{AreExclusive, HasTallied, TalliesMore}
 use Rattle.pd_uses.specs.Uses.{row_uses}
 use Rattle.pd_uses.proofs.TallyLemmas.{tallied_begun, tallied_first, tallied_past, tallied_second, tallied_several}
@@ -46,7 +46,7 @@ pub takes_several : (one : DataUse) (old : Tallies) → one.block < old.users.si
 takes_several one old inside many = one_more one old old refl refl (λ uses. tallied_several uses old.users old.exclusive.items (last old) one.block inside many)
 
 pub takes_first : {T E : Type 0} → (one : DataUse) (old new : Tallies) (result : Result T E) → one.block < old.users.size → old.users.size < 2 ^ 64 → count_of old.users one.block ≡ 0
-    → OnOk result (length old.exclusive.items < 2 ^ 32 - 1) → OnOk result (0 < length old.exclusive.items) → OnOk result (PutsUser one.block (length old.exclusive.items) old.users new.users)
+    → OnOk result (length old.exclusive.items < 2 ^ 32 - 1) → OnOk result (0 < length old.exclusive.items) → OnOk result (PutsNumber one.block (length old.exclusive.items) old.users new.users)
     → OnOk result (new.exclusive.items ≡ raised_at (length old.exclusive.items - 1) old.exclusive.items)
     → OnOk result ((start : Tallies) (before : List DataUse) → HasTallied start before old → HasTallied start (before ++ (one ∷ [])) new)
 takes_first one old new (Err e) inside size none few some user tally = tt
@@ -54,10 +54,10 @@ takes_first one old new (Ok t) inside size none few some user tally =
     let suc_last : length old.exclusive.items ≡ suc (last old) = omega (arith, some) in
     one_more one old new user.size (ap length tally ∙ length-set old.exclusive.items (last old) _)
     (λ uses was. rw tally (tallied_first uses old.users new.users old.exclusive.items (last old) one.block inside size none (omega (arith, few, some)) (omega (arith, some))
-    (subst (λ (n : ℕ). PutsUser one.block n old.users new.users) suc_last user) was))
+    (subst (λ (n : ℕ). PutsNumber one.block n old.users new.users) suc_last user) was))
 
 pub takes_second : {T E : Type 0} → (one : DataUse) (old new : Tallies) (result : Result T E) → one.block < old.users.size → (n : ℕ) → count_of old.users one.block ≡ n → 0 < n → n < 2 ^ 32 - 1
-    → OnOk result (PutsUser one.block (2 ^ 32 - 1) old.users new.users) → OnOk result (new.exclusive.items ≡ lowered_at (n - 1) old.exclusive.items)
+    → OnOk result (PutsNumber one.block (2 ^ 32 - 1) old.users new.users) → OnOk result (new.exclusive.items ≡ lowered_at (n - 1) old.exclusive.items)
     → OnOk result ((start : Tallies) (before : List DataUse) → HasTallied start before old → HasTallied start (before ++ (one ∷ [])) new)
 takes_second one old new (Err e) inside n is some less user tally = tt
 takes_second one old new (Ok t) inside n is some less user tally =

@@ -1,7 +1,8 @@
 //! How many data blocks each device of a pool alone uses, tallied as the uses are gone through.
 
 ghost use Rattle.std.specs.Prelude.{◌≡◌, ◌+◌, ◌-◌, ◌^◌, ◌<◌, ◌∷◌, [], ◌++◌, min, length, slice_index, slice_set, IfOk, OnOk};
-ghost use Rattle.pd_uses.specs.Tallied.{IsTallied, PutsUser, lowered_at, raised_at};
+ghost use Rattle.pd_count.specs.Counted.{PutsNumber};
+ghost use Rattle.pd_uses.specs.Tallied.{IsTallied, lowered_at, raised_at};
 
 use crate::data_use::{DataUse, TakesUses};
 use crate::users::Users;
@@ -56,7 +57,7 @@ impl Tallies {
         requires { block < self.old.users.size }
         ensures few { OnOk result (length self.old.exclusive.items < 2 ^ 32 - 1) }
         ensures some { OnOk result (0 < length self.old.exclusive.items) }
-        ensures user { OnOk result (PutsUser block (length self.old.exclusive.items) self.old.users self.new.users) }
+        ensures user { OnOk result (PutsNumber block (length self.old.exclusive.items) self.old.users self.new.users) }
         ensures tally { OnOk result (self.new.exclusive.items ≡ raised_at (length self.old.exclusive.items - 1) self.old.exclusive.items) }
     {
         let devices = self.exclusive.len();
@@ -73,7 +74,7 @@ impl Tallies {
     fn second_use(&mut self, block: u64, user: u32) -> Result<(), AllocError>
         requires block { block < self.old.users.size }
         requires user { 0 < user }
-        ensures user { OnOk result (PutsUser block (2 ^ 32 - 1) self.old.users self.new.users) }
+        ensures user { OnOk result (PutsNumber block (2 ^ 32 - 1) self.old.users self.new.users) }
         ensures tally { OnOk result (self.new.exclusive.items ≡ lowered_at (user - 1) self.old.exclusive.items) }
     {
         self.users.set(block, SEVERAL)?;
