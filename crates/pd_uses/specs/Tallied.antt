@@ -1,5 +1,5 @@
 -- Which device uses a data block, and how many data blocks a device alone uses.
-use Rattle.std.specs.Prelude.{◌≡◌, ℕ, suc, ◌+◌, ◌-◌, ◌^◌, ◌<◌, ◌≤◌, min, cond, Bool, ◌==◌, ◌&&◌, nat_lt, List, [], ◌∷◌, ◌++◌, map, length, filter, slice_index, slice_set}
+use Rattle.std.specs.Prelude.{◌≡◌, ℕ, suc, ◌+◌, ◌-◌, ◌^◌, ◌<◌, ◌≤◌, min, cond, Bool, ◌==◌, ◌&&◌, nat_lt, List, [], ◌∷◌, ◌++◌, map, length, filter, slice_index, slice_set, Option, None, Some}
 use Rattle.pd_count.specs.Counted.{Counted, count_of}
 use Rattle.pd_thin_meaning.specs.declared.devices.DeviceRow.{DeviceRow}
 use Rattle.pd_uses.specs.declared.data_use.DataUse.{DataUse}
@@ -13,6 +13,18 @@ placed place uses = map (λ (one : DataUse). (place, one.block)) uses
 abbrev pub rows_placed : List (List ℕ) → ℕ → List DeviceRow → List (ℕ × ℕ)
 rows_placed image place [] = []
 rows_placed image place (row ∷ rows) = placed place (row_uses image row) ++ rows_placed image (suc place) rows
+
+-- the uses among what is told where so many devices began before
+abbrev pub placed_told : ℕ → List (Option DataUse) → List (ℕ × ℕ)
+placed_told n [] = []
+placed_told n (None ∷ told) = placed_told (suc n) told
+placed_told n (Some one ∷ told) = (n - 1, one.block) ∷ placed_told n told
+
+-- how many devices have begun then
+abbrev pub begun : ℕ → List (Option DataUse) → ℕ
+begun n [] = n
+begun n (None ∷ told) = begun (suc n) told
+begun n (Some one ∷ told) = begun n told
 
 -- how often a block is used, and how often by the device at a place
 abbrev pub times : List (ℕ × ℕ) → ℕ → ℕ

@@ -1,6 +1,6 @@
 //! How many data blocks each device of a pool alone uses, tallied as the uses are gone through.
 
-ghost use Rattle.std.specs.Prelude.{◌≡◌, ◌+◌, ◌-◌, ◌^◌, ◌<◌, ◌∷◌, [], ◌++◌, min, length, slice_index, slice_set, IfOk, OnOk};
+ghost use Rattle.std.specs.Prelude.{◌≡◌, ◌+◌, ◌-◌, ◌^◌, ◌<◌, [], min, length, slice_index, slice_set, IfOk, OnOk};
 ghost use Rattle.pd_count.specs.Counted.{PutsNumber};
 ghost use Rattle.pd_uses.specs.Tallied.{IsTallied, lowered_at, raised_at};
 
@@ -34,15 +34,6 @@ impl Tallies {
             users: Users::new(alloc, blocks)?,
             exclusive: Vec::new(alloc),
         })
-    }
-
-    /// Begins a device behind the others.
-    pub(crate) fn begin(&mut self) -> Result<(), AllocError>
-        ensures users { OnOk result (self.new.users ≡ self.old.users) }
-        ensures begun { OnOk result (self.new.exclusive.items ≡ self.old.exclusive.items ++ (0 ∷ [])) }
-    {
-        self.exclusive.push(0)?;
-        Ok(())
     }
 
     /// The tallies of the devices, in their order.
@@ -89,7 +80,13 @@ impl Tallies {
 impl TakesUses for Tallies {
     ghost use Rattle.pd_uses.specs.Tallying.{HasTallied};
 
-    ghost has_taken = { λ start uses now. HasTallied start uses now };
+    ghost has_taken = { λ start told now. HasTallied start told now };
+
+    /// Begins a device behind the others.
+    fn begin(&mut self) -> Result<(), AllocError> {
+        self.exclusive.push(0)?;
+        Ok(())
+    }
 
     /// Tallies the use, by the last device, if the pool has the block.
     fn take(&mut self, one: DataUse) -> Result<(), AllocError> {
