@@ -1,4 +1,5 @@
-//! How often blocks are referred to: a table of counts that is made piece by piece, as blocks are counted.
+//! How often blocks are referred to: a table of counts that is made piece by piece, as blocks are counted, and
+//! its chunks, which serve other numbers of blocks too.
 #![tactic(auto)]
 
 mod chunk;
