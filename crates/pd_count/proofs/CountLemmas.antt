@@ -1,12 +1,12 @@
--- What one more count in one chunk comes to for all blocks.
-use Rattle.std.proofs.Common.{◌≡◌, ◌≢◌, ℕ, ◌+◌, ◌*◌, ◌/◌, ◌%◌, ◌<◌, ◌≤◌, List, [], ◌∷◌, ◌++◌, length, get_or, set, sym, ◌∙◌, ap, refl, arith, inl, inr, eqb, cond, get_or-set_same, get_or-set_other}
+-- What one number that is put in one chunk comes to for all blocks, and one count more.
+use Rattle.std.proofs.Common.{◌≡◌, ℕ, ◌+◌, ◌*◌, ◌/◌, ◌%◌, ◌<◌, ◌≤◌, List, [], ◌∷◌, ◌++◌, length, get_or, set, sym, ◌∙◌, ap, refl, arith, inl, inr, eqb, cond, get_or-set_same, get_or-set_other}
 use Rattle.std.specs.Prelude.{count_by, Option, None, Some, MatchOption}
 use Rattle.std.proofs.Common.{Bor}
 use Rattle.std.proofs.lemmas.List.{get_or_default}
 use Rattle.std.proofs.lemmas.List.Sums.{sum_by_push}
 use Rattle.std.proofs.lemmas.Bool.{cases_eq, eq-eqb, ne_eqb}
 use Rattle.std.proofs.Math.Nat.{div-add-mod}
-use Rattle.pd_count.specs.Counted.{Counted, count_of, HasCounted, CountsOneMore, AddsOne, IsChunk, IsUncounted}
+use Rattle.pd_count.specs.Counted.{Counted, count_of, HasCounted, CountsOneMore, PutsNumber, PutsAt, IsChunk, IsUncounted}
 
 -- the table of these chunks
 abbrev table : ℕ → List (List ℕ) → Counted
@@ -23,33 +23,32 @@ count_in_chunk size chunks b numbers within read =
 same_block : (b c : ℕ) → c / 16320 ≡ b / 16320 → c % 16320 ≡ b % 16320 → c ≡ b
 same_block b c chunk at = omega (arith, div-add-mod b 16320, div-add-mod c 16320)
 
--- the other counts stay
-others_stay : (size : ℕ) (chunks : List (List ℕ)) (b : ℕ) (old new : List ℕ) → b / 16320 < length chunks
-    → old ≡ get_or chunks (b / 16320) old → AddsOne (b % 16320) old new
-    → (c : ℕ) → c ≢ b → count_of (table size (set chunks (b / 16320) new)) c ≡ count_of (table size chunks) c
+-- a number was put at a block
+pub puts_number : (size : ℕ) (chunks : List (List ℕ)) (b number : ℕ) (old new : List ℕ) → b / 16320 < length chunks
+    → old ≡ get_or chunks (b / 16320) old → PutsAt (b % 16320) number old new
+    → PutsNumber b number (table size chunks) (table size (set chunks (b / 16320) new))
 unfolding count_of
-others_stay size chunks b old new within read adds c other =
-    elim (cases_eq (c / 16320) (b / 16320)) [
-      | inl same ↦
-          let put : get_or (set chunks (b / 16320) new) (c / 16320) [] ≡ new = rw same (get_or-set_same chunks (b / 16320) new [] within) in
-          let had : old ≡ get_or chunks (c / 16320) [] = rw same (read ∙ get_or_default chunks (b / 16320) old [] within) in
-          ap (λ (numbers : List ℕ). get_or numbers (c % 16320) 0) put
-          ∙ adds.others (c % 16320) (λ at. other (same_block b c same at))
-          ∙ ap (λ (numbers : List ℕ). get_or numbers (c % 16320) 0) had
-      | inr apart ↦ ap (λ (numbers : List ℕ). get_or numbers (c % 16320) 0) (get_or-set_other chunks (b / 16320) (c / 16320) new [] apart)
-    ]
+puts_number size chunks b number old new within read puts = record {
+  size = refl;
+  put = ap (λ (c : List ℕ). get_or c (b % 16320) 0) (get_or-set_same chunks (b / 16320) new [] within) ∙ puts.put;
+  others = λ c other. elim (cases_eq (c / 16320) (b / 16320)) [
+    | inl same ↦
+        let put : get_or (set chunks (b / 16320) new) (c / 16320) [] ≡ new = rw same (get_or-set_same chunks (b / 16320) new [] within) in
+        let had : old ≡ get_or chunks (c / 16320) [] = rw same (read ∙ get_or_default chunks (b / 16320) old [] within) in
+        ap (λ (numbers : List ℕ). get_or numbers (c % 16320) 0) put
+        ∙ (puts.others (c % 16320) (λ at. other (same_block b c same at))
+        ∙ ap (λ (numbers : List ℕ). get_or numbers (c % 16320) 0) had)
+    | inr apart ↦ ap (λ (numbers : List ℕ). get_or numbers (c % 16320) 0) (get_or-set_other chunks (b / 16320) (c / 16320) new [] apart)
+  ];
+}
 
 -- one more at a block
 pub counts_one_more : (size : ℕ) (chunks : List (List ℕ)) (b : ℕ) (old new : List ℕ) → b / 16320 < length chunks
-    → old ≡ get_or chunks (b / 16320) old → AddsOne (b % 16320) old new
+    → old ≡ get_or chunks (b / 16320) old → PutsAt (b % 16320) (get_or old (b % 16320) 0 + 1) old new
     → CountsOneMore b (table size chunks) (table size (set chunks (b / 16320) new))
-unfolding count_of
-counts_one_more size chunks b old new within read adds = record {
-  size = refl;
-  counted = ap (λ (c : List ℕ). get_or c (b % 16320) 0) (get_or-set_same chunks (b / 16320) new [] within)
-      ∙ adds.counted ∙ ap (λ n. n + 1) (sym (count_in_chunk size chunks b old within read));
-  others = others_stay size chunks b old new within read adds;
-}
+counts_one_more size chunks b old new within read puts =
+    let all = puts_number size chunks b (get_or old (b % 16320) 0 + 1) old new within read puts in
+    record { size = refl; counted = all.put ∙ ap (λ n. n + 1) (sym (count_in_chunk size chunks b old within read)); others = all.others }
 
 -- and the counts are those of a list with one more block
 pub counts_listed : (b : ℕ) (old new : Counted) → CountsOneMore b old new → (before : List ℕ) → HasCounted old before

@@ -20,9 +20,15 @@ pub record CountsOneMore (b : ℕ) (old new : Counted) : Type 0 where
   pub counted : count_of new b ≡ count_of old b + 1
   pub others : (c : ℕ) → c ≢ b → count_of new c ≡ count_of old c
 
--- a number of a chunk is one more, and no other one
-pub record AddsOne (at : ℕ) (old new : List ℕ) : Type 0 where
-  pub counted : slice_index new at ≡ slice_index old at + 1
+-- a number was put at a block, and every other one is as it was
+pub record PutsNumber (b number : ℕ) (old new : Counted) : Type 0 where
+  pub size : new.size ≡ old.size
+  pub put : count_of new b ≡ number
+  pub others : (c : ℕ) → c ≢ b → count_of new c ≡ count_of old c
+
+-- a number was put at a place of a chunk, and every other one is as it was
+pub record PutsAt (at number : ℕ) (old new : List ℕ) : Type 0 where
+  pub put : slice_index new at ≡ number
   pub others : (k : ℕ) → k ≢ at → slice_index new k ≡ slice_index old k
 
 -- these are the counts of chunk i

@@ -1,14 +1,14 @@
-//! The counts of the blocks that one bitmap covers.
+//! The numbers of the blocks that one bitmap covers.
 
-ghost use Rattle.std.specs.Prelude.{◌≡◌, ℕ, ◌-◌, ◌^◌, ◌<◌, [], length, slice_index, OnOk, OnErr, MatchOption};
+ghost use Rattle.std.specs.Prelude.{◌≡◌, ℕ, ◌+◌, ◌-◌, ◌^◌, ◌<◌, [], length, slice_index, slice_index_or, IfOk, OnOk, OnErr, MatchOption};
 
 use crate::CHUNK_COUNTS;
 use std::alloc::{AllocError, Global};
 use std::marker::Model;
 
-/// 16320 counts, or nothing where none of these blocks was counted yet.
+/// 16320 numbers, or nothing where each of them is 0.
 #[derive(Drop)]
-pub(crate) struct Chunk {
+pub struct Chunk {
     numbers: Vec<u32>,
 }
 
@@ -23,10 +23,10 @@ impl Model for Chunk {
 }
 
 impl Chunk {
-    ghost use Rattle.pd_count.specs.Counted.{AddsOne};
+    ghost use Rattle.pd_count.specs.Counted.{PutsAt};
 
     /// A chunk that isn't made. It takes no memory.
-    pub(crate) fn absent(alloc: Global) -> Chunk
+    pub fn absent(alloc: Global) -> Chunk
         ensures { result ≡ [] }
     {
         Chunk {
@@ -34,14 +34,14 @@ impl Chunk {
         }
     }
 
-    /// The count at a place, which is 0 where the chunk isn't made.
-    pub(crate) fn get(&self, at: usize) -> u32
+    /// The number at a place, which is 0 where the chunk isn't made. It takes no memory.
+    pub fn get(&self, at: usize) -> u32
         ensures { result ≡ slice_index self.now at }
     {
         self.numbers.get(at).copied().unwrap_or(0)
     }
 
-    /// The counts, or `None` where the chunk isn't made.
+    /// The numbers, or `None` where the chunk isn't made.
     pub(crate) fn numbers(&self) -> Option<&[u32]>
         ensures { MatchOption result (self.now ≡ []) (λ numbers. (numbers.now ≡ self.now) × (length self.now ≡ 16320)) }
     {
@@ -53,18 +53,45 @@ impl Chunk {
         }
     }
 
-    /// Raises the count at a place by one, and makes the chunk where it isn't there. Want of memory leaves all as
+    /// Puts a number at a place, and makes the chunk where it isn't there.
+    ///
+    /// Fails with `AllocError` where memory for that wasn't found; then all is as before.
+    pub fn set(&mut self, at: usize, number: u32) -> Result<(), AllocError>
+        requires { at < 16320 }
+        ensures put { OnOk result (PutsAt at number self.old self.new) }
+        ensures err { OnErr result (self.new ≡ self.old) }
+    {
+        make(&mut self.numbers)?;
+        self.numbers[at] = number;
+        Ok(())
+    }
+
+    /// Raises the number at a place by one, and makes the chunk where it isn't there. Want of memory leaves all as
     /// before.
     pub(crate) fn add(&mut self, at: usize) -> Result<(), AllocError>
         requires place { at < 16320 }
         requires few { slice_index self.old at < 2 ^ 32 - 1 }
-        ensures added { OnOk result (AddsOne at self.old self.new) }
+        ensures added { OnOk result (PutsAt at (slice_index self.old at + 1) self.old self.new) }
         ensures err { OnErr result (self.new ≡ self.old) }
     {
         make(&mut self.numbers)?;
         self.numbers[at] += 1;
         Ok(())
     }
+}
+
+/// So many chunks that aren't made. It takes the memory of their list.
+///
+/// Fails with `AllocError` where that memory wasn't found.
+pub fn absent_chunks(alloc: Global, places: usize) -> Result<Vec<Chunk>, AllocError>
+    ensures len { IfOk result (λ chunks. length chunks.items ≡ places) }
+    ensures absent { IfOk result (λ chunks. (i : ℕ) → slice_index_or chunks.items i [] ≡ []) }
+{
+    let mut chunks = Vec::with_capacity(alloc, places)?;
+    for _ in 0..places {
+        chunks.push(Chunk::absent(alloc))?;
+    }
+    Ok(chunks)
 }
 
 /// Makes the numbers of a chunk, as zeros, where it has none. Want of memory leaves all as before.

@@ -1,9 +1,9 @@
 //! A table of counts.
 
-ghost use Rattle.std.specs.Prelude.{◌≡◌, ℕ, ◌+◌, ◌-◌, ◌^◌, ◌<◌, ◌≤◌, List, [], ◌∷◌, ◌++◌, length, slice_index_or, IfOk, OnOk, OnErr, MatchOption};
+ghost use Rattle.std.specs.Prelude.{◌≡◌, ℕ, ◌+◌, ◌-◌, ◌^◌, ◌<◌, ◌≤◌, List, [], ◌∷◌, ◌++◌, IfOk, OnOk, OnErr, MatchOption};
 
 use crate::CHUNK_COUNTS;
-use crate::chunk::Chunk;
+use crate::chunk::{Chunk, absent_chunks};
 use std::alloc::{AllocError, Global};
 use std::marker::Model;
 
@@ -91,16 +91,4 @@ impl Counts {
         let chunk = self.chunks.get(i as usize)?;
         chunk.numbers()
     }
-}
-
-/// So many chunks that aren't made.
-fn absent_chunks(alloc: Global, places: usize) -> Result<Vec<Chunk>, AllocError>
-    ensures len { IfOk result (λ chunks. length chunks.items ≡ places) }
-    ensures absent { IfOk result (λ chunks. (i : ℕ) → slice_index_or chunks.items i [] ≡ []) }
-{
-    let mut chunks = Vec::with_capacity(alloc, places)?;
-    for _ in 0..places {
-        chunks.push(Chunk::absent(alloc))?;
-    }
-    Ok(chunks)
 }

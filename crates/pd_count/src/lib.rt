@@ -1,9 +1,11 @@
-//! How often blocks are referred to: a table of counts that is made piece by piece, as blocks are counted.
+//! How often blocks are referred to: a table of counts that is made piece by piece, as blocks are counted, and
+//! its chunks, which serve other numbers of blocks too.
 #![tactic(auto)]
 
 mod chunk;
 mod counts;
 
+pub use chunk::{Chunk, absent_chunks};
 pub use counts::Counts;
 
 /// How many counts a chunk has: as many as a bitmap of a space map, so that chunk `i` holds the counts of the

@@ -1,7 +1,6 @@
 pub mod TakenLemmas
 pub mod OrderLemmas
 pub mod CountLemmas
-pub mod UserLemmas
 pub mod TallyLemmas
 pub mod TallyingLemmas
 pub mod LineLemmas

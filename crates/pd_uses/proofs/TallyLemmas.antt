@@ -4,8 +4,8 @@ use Rattle.std.specs.List.{AllByRecursion}
 use Rattle.std.proofs.lemmas.Bool.{cases_Bool, cases_eq, cases_lt, eqb-true, lt-ltb, le-ltb, ne_eqb, true≢false}
 use Rattle.std.proofs.lemmas.List.{get_or_at, get_or_past, get_or_append_left}
 use Rattle.std.proofs.lemmas.Map.Steps.{length-le_from_distinct_below}
-use Rattle.pd_count.specs.Counted.{Counted, count_of}
-use Rattle.pd_uses.specs.Tallied.{IsTallied, IsUser, PutsUser, is_alone, lowered_at, number_at, raised_at, times, times_at}
+use Rattle.pd_count.specs.Counted.{Counted, count_of, PutsNumber}
+use Rattle.pd_uses.specs.Tallied.{IsTallied, IsUser, is_alone, lowered_at, number_at, raised_at, times, times_at}
 use Rattle.pd_uses.proofs.CountLemmas.{below_if_there, distinct_if_once, filter_mapped, number_more}
 
 -- what is tallied where a kind of blocks is another at one block
@@ -158,7 +158,7 @@ module _ (size : ℕ) (uses : List (ℕ × ℕ)) (place b : ℕ) where
 
 -- the first use of a block, by the device at a place
 pub tallied_first : (uses : List (ℕ × ℕ)) (users users' : Counted) (tallies : List ℕ) (place b : ℕ) → b < users.size → users.size < 2 ^ 64 → count_of users b ≡ 0 → suc place < 2 ^ 32 - 1 → place < length tallies
-    → PutsUser b (suc place) users users' → IsTallied uses users tallies → IsTallied (uses ++ ((place, b) ∷ [])) users' (raised_at place tallies)
+    → PutsNumber b (suc place) users users' → IsTallied uses users tallies → IsTallied (uses ++ ((place, b) ∷ [])) users' (raised_at place tallies)
 tallied_first uses users users' tallies place b inside few none small there puts was = record {
   user = λ c within. elim (cases_eq c b) [
     | inl same ↦ subst (λ (d : ℕ). IsUser (uses ++ ((place, b) ∷ [])) d (count_of users' d)) (sym same) user_here
@@ -216,7 +216,7 @@ tallied_first uses users users' tallies place b inside few none small there puts
 
 -- the second use of a block, by whichever device, where one device used it before
 pub tallied_second : (uses : List (ℕ × ℕ)) (users users' : Counted) (tallies : List ℕ) (place b user : ℕ) → b < users.size → count_of users b ≡ user → 0 < user → user < 2 ^ 32 - 1
-    → PutsUser b (2 ^ 32 - 1) users users' → IsTallied uses users tallies → IsTallied (uses ++ ((place, b) ∷ [])) users' (lowered_at (user - 1) tallies)
+    → PutsNumber b (2 ^ 32 - 1) users users' → IsTallied uses users tallies → IsTallied (uses ++ ((place, b) ∷ [])) users' (lowered_at (user - 1) tallies)
 tallied_second uses users users' tallies place b user inside is some less puts was = record {
   user = λ c within. elim (cases_eq c b) [
     | inl same ↦ subst (λ (d : ℕ). IsUser (uses ++ ((place, b) ∷ [])) d (count_of users' d)) (sym same) user_here

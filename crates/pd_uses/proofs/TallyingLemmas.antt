@@ -1,137 +1,97 @@
--- What a use more does to tallies, and what devices more do.
-use Rattle.std.proofs.Common.{◌≡◌, ℕ, suc, ◌-◌, ◌^◌, ◌<◌, ◌≤◌, List, [], ◌∷◌, ◌++◌, length, Option, IfSome, Result, OnOk, Ok, Err, refl, sym, ap, ◌∙◌, subst, arith, append_assoc, ap₂, length-append, length-set}
-use Rattle.std.proofs.lemmas.List.{append-nil, map-append}
-use Rattle.pd_count.specs.Counted.{Counted, count_of}
+-- What a use more does to tallies, and what a device more does.
+use Rattle.std.proofs.Common.{◌≡◌, ℕ, suc, ◌-◌, ◌^◌, ◌<◌, ◌≤◌, List, [], ◌∷◌, ◌++◌, length, map, Option, None, Some, IfSome, Result, OnOk, Ok, Err, refl, sym, ap, ◌∙◌, subst, arith, ap₂, length-append, length-set}
+use Rattle.std.proofs.lemmas.List.{append-nil}
+use Rattle.pd_count.specs.Counted.{Counted, count_of, PutsNumber}
 use Rattle.pd_kinds.specs.declared.thin_super.ThinSuper.{ThinSuper}
 use Rattle.pd_thin_meaning.specs.declared.devices.DeviceRow.{DeviceRow}
 use Rattle.pd_thin_meaning.specs.Given.{super_rows}
-use Rattle.pd_query.proofs.PutsLemmas.{each_told, one_told, two_told}
+use Rattle.pd_query.proofs.PutsLemmas.{one_told}
 use Rattle.pd_uses.specs.declared.data_use.DataUse.{DataUse}
 use Rattle.pd_uses.specs.declared.tallies.Tallies.{Tallies}
 use Rattle.pd_uses.specs.Taken.{TakesUses}
-use Rattle.pd_uses.specs.Tallied.{IsTallied, PutsUser, is_alone, lowered_at, number_at, placed, raised_at, rows_placed}
-use Rattle.pd_uses.specs.Tallying.{AreExclusive, HasTallied, TalliesMore}
-use Rattle.pd_uses.specs.Uses.{row_uses}
+use Rattle.pd_uses.specs.Tallied.{IsTallied, begun, is_alone, lowered_at, number_at, placed, placed_told, raised_at, rows_placed}
+use Rattle.pd_uses.specs.Tallying.{AreExclusive, HasTallied}
+use Rattle.pd_uses.specs.Uses.{row_uses, rows_told, super_told}
 use Rattle.pd_uses.proofs.TallyLemmas.{tallied_begun, tallied_first, tallied_past, tallied_second, tallied_several}
-
--- what follows of what holds where a call succeeds
-pub on_ok : {T E P Q : Type 0} → (result : Result T E) → (P → Q) → OnOk result P → OnOk result Q
-on_ok (Ok t) follows holds = follows holds
-on_ok (Err e) follows holds = tt
 
 -- the place of the last device
 abbrev last : Tallies → ℕ
 last t = length t.exclusive.items - 1
 
+-- how many devices have begun after more was told, and the uses then
+begun_append : (n : ℕ) (told more : List (Option DataUse)) → begun n (told ++ more) ≡ begun (begun n told) more
+begun_append n [] more = refl
+begun_append n (None ∷ told) more = begun_append (suc n) told more
+begun_append n (Some one ∷ told) more = begun_append n told more
+
+placed_append : (n : ℕ) (told more : List (Option DataUse)) → placed_told n (told ++ more) ≡ placed_told n told ++ placed_told (begun n told) more
+placed_append n [] more = refl
+placed_append n (None ∷ told) more = placed_append (suc n) told more
+placed_append n (Some one ∷ told) more = ap (λ (xs : List (ℕ × ℕ)). (n - 1, one.block) ∷ xs) (placed_append n told more)
+
+-- the uses by rows are those among what a walk over them tells
+some_placed : (place : ℕ) (uses : List DataUse) (more : List (Option DataUse)) → placed_told (suc place) (map Some uses ++ more) ≡ placed place uses ++ placed_told (suc place) more
+some_placed place [] more = refl
+some_placed place (one ∷ uses) more =
+    let at : suc place - 1 ≡ place = omega arith in
+    ap₂ (λ (p : ℕ) (xs : List (ℕ × ℕ)). (p, one.block) ∷ xs) at (some_placed place uses more)
+
+placed_rows : (image : List (List ℕ)) (place : ℕ) (rows : List DeviceRow) → placed_told place (rows_told image rows) ≡ rows_placed image place rows
+placed_rows image place [] = refl
+placed_rows image place (row ∷ rows) =
+    some_placed place (row_uses image row) (rows_told image rows) ∙ ap (λ (xs : List (ℕ × ℕ)). placed place (row_uses image row) ++ xs) (placed_rows image (suc place) rows)
+
+-- a device more
+pub takes_device : (old new : Tallies) → new.users ≡ old.users → new.exclusive.items ≡ old.exclusive.items ++ (0 ∷ [])
+    → (start : Tallies) (before : List (Option DataUse)) → HasTallied start before old → HasTallied start (before ++ (None ∷ [])) new
+takes_device old new same more start before had = record {
+  size = ap (λ (t : Counted). t.size) same ∙ had.size;
+  devices = rw (begun_append 0 before (None ∷ [])) (omega (arith, had.devices, ap length more, length-append old.exclusive.items (0 ∷ [])));
+  tallied = rw (placed_append 0 before (None ∷ []), append-nil (placed_told 0 before), same, more) (tallied_begun (placed_told 0 before) old.users old.exclusive.items had.tallied);
+}
+
 -- where one use more is tallied, so are all
 one_more : (one : DataUse) (old new : Tallies) → new.users.size ≡ old.users.size → length new.exclusive.items ≡ length old.exclusive.items
     → ((uses : List (ℕ × ℕ)) → IsTallied uses old.users old.exclusive.items → IsTallied (uses ++ ((last old, one.block) ∷ [])) new.users new.exclusive.items)
-    → (start : Tallies) (before : List DataUse) → HasTallied start before old → HasTallied start (before ++ (one ∷ [])) new
+    → (start : Tallies) (before : List (Option DataUse)) → HasTallied start before old → HasTallied start (before ++ (Some one ∷ [])) new
 one_more one old new size devices more start before had = record {
   size = size ∙ had.size;
-  devices = devices ∙ had.devices;
-  tallied = λ uses was.
-      let now = more (uses ++ placed (last start) before) (had.tallied uses was) in
-      let place : last old ≡ last start = ap (λ n. n - 1) had.devices in
-      let cut : uses ++ placed (last start) (before ++ (one ∷ [])) ≡ (uses ++ placed (last start) before) ++ ((last start, one.block) ∷ []) =
-      ap (λ (xs : List (ℕ × ℕ)). uses ++ xs) (map-append (λ (other : DataUse). (last start, other.block)) before (one ∷ [])) ∙ sym (append_assoc uses (placed (last start) before) ((last start, one.block) ∷ [])) in
-      rw cut (subst (λ (p : ℕ). IsTallied ((uses ++ placed (last start) before) ++ ((p, one.block) ∷ [])) new.users new.exclusive.items) place now);
+  devices = (devices ∙ had.devices) ∙ sym (begun_append 0 before (Some one ∷ []));
+  tallied = rw (placed_append 0 before (Some one ∷ []), ← had.devices) (more (placed_told 0 before) had.tallied);
 }
 
-pub takes_past : (one : DataUse) (old : Tallies) → old.users.size ≤ one.block → (start : Tallies) (before : List DataUse) → HasTallied start before old → HasTallied start (before ++ (one ∷ [])) old
+pub takes_past : (one : DataUse) (old : Tallies) → old.users.size ≤ one.block → (start : Tallies) (before : List (Option DataUse)) → HasTallied start before old → HasTallied start (before ++ (Some one ∷ [])) old
 takes_past one old past = one_more one old old refl refl (λ uses. tallied_past uses old.users old.exclusive.items (last old) one.block past)
 
 pub takes_several : (one : DataUse) (old : Tallies) → one.block < old.users.size → count_of old.users one.block ≡ 2 ^ 32 - 1
-    → (start : Tallies) (before : List DataUse) → HasTallied start before old → HasTallied start (before ++ (one ∷ [])) old
+    → (start : Tallies) (before : List (Option DataUse)) → HasTallied start before old → HasTallied start (before ++ (Some one ∷ [])) old
 takes_several one old inside many = one_more one old old refl refl (λ uses. tallied_several uses old.users old.exclusive.items (last old) one.block inside many)
 
 pub takes_first : {T E : Type 0} → (one : DataUse) (old new : Tallies) (result : Result T E) → one.block < old.users.size → old.users.size < 2 ^ 64 → count_of old.users one.block ≡ 0
-    → OnOk result (length old.exclusive.items < 2 ^ 32 - 1) → OnOk result (0 < length old.exclusive.items) → OnOk result (PutsUser one.block (length old.exclusive.items) old.users new.users)
+    → OnOk result (length old.exclusive.items < 2 ^ 32 - 1) → OnOk result (0 < length old.exclusive.items) → OnOk result (PutsNumber one.block (length old.exclusive.items) old.users new.users)
     → OnOk result (new.exclusive.items ≡ raised_at (length old.exclusive.items - 1) old.exclusive.items)
-    → OnOk result ((start : Tallies) (before : List DataUse) → HasTallied start before old → HasTallied start (before ++ (one ∷ [])) new)
+    → OnOk result ((start : Tallies) (before : List (Option DataUse)) → HasTallied start before old → HasTallied start (before ++ (Some one ∷ [])) new)
 takes_first one old new (Err e) inside size none few some user tally = tt
 takes_first one old new (Ok t) inside size none few some user tally =
     let suc_last : length old.exclusive.items ≡ suc (last old) = omega (arith, some) in
     one_more one old new user.size (ap length tally ∙ length-set old.exclusive.items (last old) _)
     (λ uses was. rw tally (tallied_first uses old.users new.users old.exclusive.items (last old) one.block inside size none (omega (arith, few, some)) (omega (arith, some))
-    (subst (λ (n : ℕ). PutsUser one.block n old.users new.users) suc_last user) was))
+    (subst (λ (n : ℕ). PutsNumber one.block n old.users new.users) suc_last user) was))
 
 pub takes_second : {T E : Type 0} → (one : DataUse) (old new : Tallies) (result : Result T E) → one.block < old.users.size → (n : ℕ) → count_of old.users one.block ≡ n → 0 < n → n < 2 ^ 32 - 1
-    → OnOk result (PutsUser one.block (2 ^ 32 - 1) old.users new.users) → OnOk result (new.exclusive.items ≡ lowered_at (n - 1) old.exclusive.items)
-    → OnOk result ((start : Tallies) (before : List DataUse) → HasTallied start before old → HasTallied start (before ++ (one ∷ [])) new)
+    → OnOk result (PutsNumber one.block (2 ^ 32 - 1) old.users new.users) → OnOk result (new.exclusive.items ≡ lowered_at (n - 1) old.exclusive.items)
+    → OnOk result ((start : Tallies) (before : List (Option DataUse)) → HasTallied start before old → HasTallied start (before ++ (Some one ∷ [])) new)
 takes_second one old new (Err e) inside n is some less user tally = tt
 takes_second one old new (Ok t) inside n is some less user tally =
     one_more one old new user.size (ap length tally ∙ length-set old.exclusive.items (n - 1) _)
     (λ uses was. rw tally (tallied_second uses old.users new.users old.exclusive.items (last old) one.block n inside is some less user was))
 
--- so far some uses were tallied, which with those by the rest of the rows are those by all where the device tells what it holds
-pub record TalliesSoFar (held : Option (List (List ℕ))) (rows rest : List (List ℕ) → List DeviceRow) (old new : Tallies) : Type 0 where
-  pub uses : List (ℕ × ℕ)
-  pub told : IfSome held (λ image. rows_placed image (length old.exclusive.items) (rows image) ≡ uses ++ rows_placed image (length new.exclusive.items) (rest image))
-  pub size : new.users.size ≡ old.users.size
-  pub tallied : (before : List (ℕ × ℕ)) → IsTallied before old.users old.exclusive.items → IsTallied (before ++ uses) new.users new.exclusive.items
-
-module _ (held : Option (List (List ℕ))) where
-  -- nothing was tallied yet
-  pub tallies_none : (rows : List (List ℕ) → List DeviceRow) (old : Tallies) → TalliesSoFar held rows rows old old
-  tallies_none rows old = record {
-    uses = [];
-    told = each_told held (λ image. refl);
-    size = refl;
-    tallied = λ before was. rw (append-nil before) was;
-  }
-
-  -- a row more
-  pub tallies_more : (row : DeviceRow) {rows rest later : List (List ℕ) → List DeviceRow} {old mid new : Tallies} → TalliesSoFar held rows rest old mid
-      → IfSome held (λ image. rest image ≡ row ∷ later image) → TalliesMore held (λ image place. placed place (row_uses image row)) mid new
-      → length new.exclusive.items ≡ suc (length mid.exclusive.items) → TalliesSoFar held rows later old new
-  tallies_more row {rows} {rest} {later} {old} {mid} {new} so_far next some one = record {
-    uses = so_far.uses ++ some.uses;
-    told = two_told held (λ image is cut. is ∙ cut) so_far.told
-        (two_told held (λ image is taken.
-        ap (λ (xs : List DeviceRow). so_far.uses ++ rows_placed image (length mid.exclusive.items) xs) is
-        ∙ (sym (append_assoc so_far.uses (placed (length mid.exclusive.items) (row_uses image row)) (rows_placed image (suc (length mid.exclusive.items)) (later image)))
-        ∙ ap₂ (λ (xs : List (ℕ × ℕ)) (n : ℕ). (so_far.uses ++ xs) ++ rows_placed image n (later image)) (sym taken) (sym one))) next some.told);
-    size = some.size ∙ so_far.size;
-    tallied = λ before was. rw (← append_assoc before so_far.uses some.uses) (some.tallied (before ++ so_far.uses) (so_far.tallied before was));
-  }
-
-  -- no row is left
-  pub tallies_all : {rows rest : List (List ℕ) → List DeviceRow} {old new : Tallies} → TalliesSoFar held rows rest old new → IfSome held (λ image. rest image ≡ [])
-      → TalliesMore held (λ image place. rows_placed image place (rows image)) old new
-  tallies_all so_far none = record {
-    uses = so_far.uses;
-    told = two_told held (λ image is nothing. sym (is ∙ rw nothing (append-nil so_far.uses))) so_far.told none;
-    size = so_far.size;
-    tallied = so_far.tallied;
-  }
-
-  -- the uses by a row that was begun
-  pub row_tallied : (row : DeviceRow) {old mid new : Tallies} → mid.users ≡ old.users → mid.exclusive.items ≡ old.exclusive.items ++ (0 ∷ [])
-      → TakesUses HasTallied held (λ image. row_uses image row) mid new → TalliesMore held (λ image place. placed place (row_uses image row)) old new
-  row_tallied row {old} {mid} {new} same begun took =
-      let done = took.taken mid [] (record { size = refl; devices = refl; tallied = λ before was. rw (append-nil before) was }) in
-      record {
-        uses = placed (length old.exclusive.items) took.uses;
-        told = one_told held (λ image is. ap (placed (length old.exclusive.items)) is) took.told;
-        size = done.size ∙ ap (λ (t : Counted). t.size) same;
-        tallied = λ before was.
-            subst (λ (n : ℕ). IsTallied (before ++ placed n took.uses) new.users new.exclusive.items) (omega (arith, ap length begun, length-append old.exclusive.items (0 ∷ [])))
-            (done.tallied before (rw (same, begun) (tallied_begun before old.users old.exclusive.items was)));
-      }
-
-  pub row_one : (row : DeviceRow) (old : Tallies) {mid new : Tallies} → mid.exclusive.items ≡ old.exclusive.items ++ (0 ∷ []) → TakesUses HasTallied held (λ image. row_uses image row) mid new
-      → length new.exclusive.items ≡ suc (length old.exclusive.items)
-  row_one row old {mid} {new} begun took =
-      let done = took.taken mid [] (record { size = refl; devices = refl; tallied = λ before was. rw (append-nil before) was }) in
-      omega (arith, done.devices, ap length begun, length-append old.exclusive.items (0 ∷ []))
-
-  -- the tallies of the devices of a pool, from no uses on
-  pub are_exclusive : (s : ThinSuper) (old new : Tallies) → old.users.size ≡ s.data_map.blocks → old.exclusive.items ≡ [] → IsTallied [] old.users old.exclusive.items
-      → TalliesMore held (λ image place. rows_placed image place (super_rows image s)) old new → IfSome held (λ image. AreExclusive image s new.exclusive.items)
-  are_exclusive s old new size none begin more =
-      let done = more.tallied [] begin in
-      one_told held (λ image is place.
-      let uses : more.uses ≡ rows_placed image 0 (super_rows image s) = is ∙ ap (λ (xs : List ℕ). rows_placed image (length xs) (super_rows image s)) none in
-      done.tally place ∙ ap₂ (λ (n : ℕ) (xs : List (ℕ × ℕ)). number_at place (is_alone n xs) xs) (more.size ∙ size) uses)
-      more.told
+-- the tallies of the devices of a pool, from no uses on
+pub are_exclusive : (held : Option (List (List ℕ))) (s : ThinSuper) (old new : Tallies) → old.users.size ≡ s.data_map.blocks → old.exclusive.items ≡ [] → IsTallied [] old.users old.exclusive.items
+    → TakesUses HasTallied held (λ image. super_told image s) old new → IfSome held (λ image. AreExclusive image s new.exclusive.items)
+are_exclusive held s old new size none begin took =
+    let done = took.taken old [] (record { size = refl; devices = ap length none; tallied = begin }) in
+    one_told held (λ image is place.
+    let uses : placed_told 0 took.uses ≡ rows_placed image 0 (super_rows image s) = ap (placed_told 0) is ∙ placed_rows image 0 (super_rows image s) in
+    done.tallied.tally place ∙ ap₂ (λ (n : ℕ) (xs : List (ℕ × ℕ)). number_at place (is_alone n xs) xs) (done.size ∙ size) uses)
+    took.told

@@ -1,5 +1,5 @@
 -- Which device uses a data block, and how many data blocks a device alone uses.
-use Rattle.std.specs.Prelude.{◌≡◌, ◌≢◌, ℕ, suc, ◌+◌, ◌-◌, ◌^◌, ◌<◌, ◌≤◌, min, cond, Bool, ◌==◌, ◌&&◌, nat_lt, List, [], ◌∷◌, ◌++◌, map, length, filter, slice_index, slice_set}
+use Rattle.std.specs.Prelude.{◌≡◌, ℕ, suc, ◌+◌, ◌-◌, ◌^◌, ◌<◌, ◌≤◌, min, cond, Bool, ◌==◌, ◌&&◌, nat_lt, List, [], ◌∷◌, ◌++◌, map, length, filter, slice_index, slice_set, Option, None, Some}
 use Rattle.pd_count.specs.Counted.{Counted, count_of}
 use Rattle.pd_thin_meaning.specs.declared.devices.DeviceRow.{DeviceRow}
 use Rattle.pd_uses.specs.declared.data_use.DataUse.{DataUse}
@@ -13,6 +13,18 @@ placed place uses = map (λ (one : DataUse). (place, one.block)) uses
 abbrev pub rows_placed : List (List ℕ) → ℕ → List DeviceRow → List (ℕ × ℕ)
 rows_placed image place [] = []
 rows_placed image place (row ∷ rows) = placed place (row_uses image row) ++ rows_placed image (suc place) rows
+
+-- the uses among what is told where so many devices began before
+abbrev pub placed_told : ℕ → List (Option DataUse) → List (ℕ × ℕ)
+placed_told n [] = []
+placed_told n (None ∷ told) = placed_told (suc n) told
+placed_told n (Some one ∷ told) = (n - 1, one.block) ∷ placed_told n told
+
+-- how many devices have begun then
+abbrev pub begun : ℕ → List (Option DataUse) → ℕ
+begun n [] = n
+begun n (None ∷ told) = begun (suc n) told
+begun n (Some one ∷ told) = begun n told
 
 -- how often a block is used, and how often by the device at a place
 abbrev pub times : List (ℕ × ℕ) → ℕ → ℕ
@@ -39,17 +51,6 @@ pub record IsUser (uses : List (ℕ × ℕ)) (b user : ℕ) : Type 0 where
 pub record IsTallied (uses : List (ℕ × ℕ)) (users : Counted) (tallies : List ℕ) : Type 0 where
   pub user : (b : ℕ) → b < users.size → IsUser uses b (count_of users b)
   pub tally : (place : ℕ) → slice_index tallies place ≡ number_at place (is_alone users.size uses) uses
-
--- a number is noted of a block, and nothing else of any other
-pub record PutsUser (b user : ℕ) (old new : Counted) : Type 0 where
-  pub size : new.size ≡ old.size
-  pub put : count_of new b ≡ user
-  pub others : (c : ℕ) → c ≢ b → count_of new c ≡ count_of old c
-
--- a number stands at a place, and all others are as they were
-pub record PutsAt (at number : ℕ) (old new : List ℕ) : Type 0 where
-  pub put : slice_index new at ≡ number
-  pub others : (k : ℕ) → k ≢ at → slice_index new k ≡ slice_index old k
 
 -- a tally is one more, which stays at the end of its type, or one less
 abbrev pub raised_at : ℕ → List ℕ → List ℕ

@@ -1,5 +1,5 @@
 -- The uses of a pool's data blocks, as its trees have them.
-use Rattle.std.specs.Prelude.{ℕ, List, map}
+use Rattle.std.specs.Prelude.{ℕ, List, ◌∷◌, map, filter_map, Option, None, Some}
 use Rattle.std.specs.List.{flat_map}
 use Rattle.pd_kinds.specs.declared.thin_super.ThinSuper.{ThinSuper}
 use Rattle.pd_kinds.specs.Meaning.{Mapping}
@@ -28,6 +28,17 @@ rows_uses image rows = flat_map (row_uses image) rows
 -- those by the devices of the pool with this superblock
 abbrev pub super_uses : List (List ℕ) → ThinSuper → List DataUse
 super_uses image s = rows_uses image (super_rows image s)
+
+-- what a walk over some devices tells: None where a device begins, and then its uses
+abbrev pub rows_told : List (List ℕ) → List DeviceRow → List (Option DataUse)
+rows_told image rows = flat_map (λ row. None ∷ map Some (row_uses image row)) rows
+
+abbrev pub super_told : List (List ℕ) → ThinSuper → List (Option DataUse)
+super_told image s = rows_told image (super_rows image s)
+
+-- the uses among what is told
+unfoldable pub uses_told : List (Option DataUse) → List DataUse
+uses_told told = filter_map (λ one. one) told
 
 -- the uses by the mappings that are left of a device
 abbrev pub uses_left : List (List ℕ) → ℕ → Cursor BlockTime → List DataUse

@@ -13,15 +13,19 @@ pub struct DataUse {
     pub virt: u64,
 }
 
-/// What takes the uses of data blocks, one after another.
+/// What takes the uses of data blocks, device after device.
 pub(crate) trait TakesUses {
-    ghost use Rattle.std.specs.Prelude.{[], ◌∷◌, ◌++◌, List, OnOk};
+    ghost use Rattle.std.specs.Prelude.{[], ◌∷◌, ◌++◌, List, Option, None, Some, OnOk};
     ghost use Rattle.pd_uses.specs.declared.data_use.DataUse.{DataUse};
 
-    /// Since it was as it was at first, these uses were taken.
-    ghost has_taken: { Self → List DataUse → Self → Type 0 };
+    /// Since it was as it was at first, this was taken: uses, and None where a device begins.
+    ghost has_taken: { Self → List (Option DataUse) → Self → Type 0 };
 
-    /// Takes one use more. Want of memory is the only error.
+    /// Begins a device. Want of memory is the only error.
+    fn begin(&mut self) -> Result<(), AllocError>
+        ensures { OnOk result ((start : Self) (before : List (Option DataUse)) → has_taken start before self.old → has_taken start (before ++ (None ∷ [])) self.new) };
+
+    /// Takes one use more, by the device that began last. Want of memory is the only error.
     fn take(&mut self, one: DataUse) -> Result<(), AllocError>
-        ensures { OnOk result ((start : Self) (before : List DataUse) → has_taken start before self.old → has_taken start (before ++ (one ∷ [])) self.new) };
+        ensures { OnOk result ((start : Self) (before : List (Option DataUse)) → has_taken start before self.old → has_taken start (before ++ (Some one ∷ [])) self.new) };
 }

@@ -27,10 +27,18 @@ struct Region {
 impl TakesUses for Region {
     ghost use Rattle.std.specs.Prelude.{◌≡◌, ◌++◌, filter};
     ghost use Rattle.pd_uses.specs.Ordered.{is_within};
+    ghost use Rattle.pd_uses.specs.Uses.{uses_told};
 
-    ghost has_taken = { λ start uses now. (now.first ≡ start.first) × ((now.end ≡ start.end)
-        × (now.uses.items ≡ start.uses.items ++ filter (is_within start.first start.end) uses)) };
+    ghost has_taken = { λ start told now. (now.first ≡ start.first) × ((now.end ≡ start.end)
+        × (now.uses.items ≡ start.uses.items ++ filter (is_within start.first start.end) (uses_told told))) };
 
+    /// Notes nothing.
+    #[tactic(auto, using(crate::proofs::TakenLemmas::told_device))]
+    fn begin(&mut self) -> Result<(), AllocError> {
+        Ok(())
+    }
+
+    /// Keeps the use, if its block is in the region.
     fn take(&mut self, one: DataUse) -> Result<(), AllocError> {
         let within = one.block >= self.first && one.block < self.end;
         if within {

@@ -1,7 +1,8 @@
 //! How many data blocks each device of a pool alone uses, tallied as the uses are gone through.
 
-ghost use Rattle.std.specs.Prelude.{◌≡◌, ◌+◌, ◌-◌, ◌^◌, ◌<◌, ◌∷◌, [], ◌++◌, min, length, slice_index, slice_set, IfOk, OnOk};
-ghost use Rattle.pd_uses.specs.Tallied.{IsTallied, PutsUser, lowered_at, raised_at};
+ghost use Rattle.std.specs.Prelude.{◌≡◌, ◌+◌, ◌-◌, ◌^◌, ◌<◌, [], min, length, slice_index, slice_set, IfOk, OnOk};
+ghost use Rattle.pd_count.specs.Counted.{PutsNumber};
+ghost use Rattle.pd_uses.specs.Tallied.{IsTallied, lowered_at, raised_at};
 
 use crate::data_use::{DataUse, TakesUses};
 use crate::users::Users;
@@ -35,15 +36,6 @@ impl Tallies {
         })
     }
 
-    /// Begins a device behind the others.
-    pub(crate) fn begin(&mut self) -> Result<(), AllocError>
-        ensures users { OnOk result (self.new.users ≡ self.old.users) }
-        ensures begun { OnOk result (self.new.exclusive.items ≡ self.old.exclusive.items ++ (0 ∷ [])) }
-    {
-        self.exclusive.push(0)?;
-        Ok(())
-    }
-
     /// The tallies of the devices, in their order.
     pub(crate) fn into_exclusive(self) -> Vec<u64>
         ensures { result.items ≡ self.exclusive.items }
@@ -56,7 +48,7 @@ impl Tallies {
         requires { block < self.old.users.size }
         ensures few { OnOk result (length self.old.exclusive.items < 2 ^ 32 - 1) }
         ensures some { OnOk result (0 < length self.old.exclusive.items) }
-        ensures user { OnOk result (PutsUser block (length self.old.exclusive.items) self.old.users self.new.users) }
+        ensures user { OnOk result (PutsNumber block (length self.old.exclusive.items) self.old.users self.new.users) }
         ensures tally { OnOk result (self.new.exclusive.items ≡ raised_at (length self.old.exclusive.items - 1) self.old.exclusive.items) }
     {
         let devices = self.exclusive.len();
@@ -73,7 +65,7 @@ impl Tallies {
     fn second_use(&mut self, block: u64, user: u32) -> Result<(), AllocError>
         requires block { block < self.old.users.size }
         requires user { 0 < user }
-        ensures user { OnOk result (PutsUser block (2 ^ 32 - 1) self.old.users self.new.users) }
+        ensures user { OnOk result (PutsNumber block (2 ^ 32 - 1) self.old.users self.new.users) }
         ensures tally { OnOk result (self.new.exclusive.items ≡ lowered_at (user - 1) self.old.exclusive.items) }
     {
         self.users.set(block, SEVERAL)?;
@@ -88,7 +80,13 @@ impl Tallies {
 impl TakesUses for Tallies {
     ghost use Rattle.pd_uses.specs.Tallying.{HasTallied};
 
-    ghost has_taken = { λ start uses now. HasTallied start uses now };
+    ghost has_taken = { λ start told now. HasTallied start told now };
+
+    /// Begins a device behind the others.
+    fn begin(&mut self) -> Result<(), AllocError> {
+        self.exclusive.push(0)?;
+        Ok(())
+    }
 
     /// Tallies the use, by the last device, if the pool has the block.
     fn take(&mut self, one: DataUse) -> Result<(), AllocError> {

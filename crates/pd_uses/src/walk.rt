@@ -1,6 +1,6 @@
 //! All mappings of a pool, as uses of its data blocks, given to what takes them.
 
-ghost use Rattle.std.specs.Prelude.{◌≡◌, ◌≤◌, IfOk, OnOk};
+ghost use Rattle.std.specs.Prelude.{◌≡◌, ◌≤◌, Some, map, IfOk, OnOk};
 ghost use Rattle.pd_kinds.specs.declared.kind.Kind.TheVariants.{Thin};
 ghost use Rattle.pd_kinds.specs.Graph.{block_at};
 ghost use Rattle.pd_kinds.specs.ThinSuper.{thin_fields};
@@ -10,7 +10,7 @@ ghost use Rattle.pd_thin_meaning.specs.Devices.{rows_left, rows_room};
 ghost use Rattle.pd_query.specs.Failing.{StartFails};
 ghost use Rattle.pd_query.specs.Sound.{IfSound};
 ghost use Rattle.pd_uses.specs.Taken.{TakesUses};
-ghost use Rattle.pd_uses.specs.Uses.{row_uses, rows_uses, super_uses, uses_left};
+ghost use Rattle.pd_uses.specs.Uses.{row_uses, rows_told, super_told, uses_left};
 
 use crate::data_use::{DataUse, TakesUses};
 use pd_image::Device;
@@ -30,7 +30,7 @@ fn take_left<T: TakesUses, D: Device>(
 ) -> Result<(), QueryFault>
     requires dev { IsAttached (D.state dev.old) }
     requires within { cursor_room mappings.old ≤ (D.state dev.old).blocks }
-    ensures taken { OnOk result (TakesUses T.has_taken (D.state dev.old).held (λ image. uses_left image id mappings.old) taker.old taker.new) }
+    ensures taken { OnOk result (TakesUses T.has_taken (D.state dev.old).held (λ image. map Some (uses_left image id mappings.old)) taker.old taker.new) }
     ensures kept { OnlyReads (D.state dev.old) (D.state dev.new) }
     ensures faults { StartFails result (D.state dev.old).faults (D.state dev.new).faults }
 {
@@ -54,14 +54,14 @@ fn take_left<T: TakesUses, D: Device>(
 }
 
 /// Gives the uses by a device. There are none below a root outside of the device of blocks.
-pub(crate) fn take_row<T: TakesUses, D: Device>(
+fn take_row<T: TakesUses, D: Device>(
     row: &DeviceRow,
     mappings: &mut Cursor<BlockTime>,
     dev: &mut D,
     taker: &mut T,
 ) -> Result<(), QueryFault>
     requires dev { IsAttached (D.state dev.old) }
-    ensures taken { OnOk result (TakesUses T.has_taken (D.state dev.old).held (λ image. row_uses image row.now) taker.old taker.new) }
+    ensures taken { OnOk result (TakesUses T.has_taken (D.state dev.old).held (λ image. map Some (row_uses image row.now)) taker.old taker.new) }
     ensures kept { OnlyReads (D.state dev.old) (D.state dev.new) }
     ensures faults { StartFails result (D.state dev.old).faults (D.state dev.new).faults }
 {
@@ -73,7 +73,7 @@ pub(crate) fn take_row<T: TakesUses, D: Device>(
     take_left(row.id, mappings, dev, taker)
 }
 
-/// Gives the uses by the devices that are left.
+/// Begins the devices that are left, and gives the uses by each of them.
 fn take_rows<T: TakesUses, D: Device>(
     devices: &mut ThinDevices,
     mappings: &mut Cursor<BlockTime>,
@@ -82,7 +82,7 @@ fn take_rows<T: TakesUses, D: Device>(
 ) -> Result<(), QueryFault>
     requires dev { IsAttached (D.state dev.old) }
     requires within { rows_room devices.old ≤ (D.state dev.old).blocks }
-    ensures taken { OnOk result (TakesUses T.has_taken (D.state dev.old).held (λ image. rows_uses image (rows_left image devices.old)) taker.old taker.new) }
+    ensures taken { OnOk result (TakesUses T.has_taken (D.state dev.old).held (λ image. rows_told image (rows_left image devices.old)) taker.old taker.new) }
     ensures kept { OnlyReads (D.state dev.old) (D.state dev.new) }
     ensures faults { StartFails result (D.state dev.old).faults (D.state dev.new).faults }
 {
@@ -92,13 +92,17 @@ fn take_rows<T: TakesUses, D: Device>(
             Err(_) => return Err(QueryFault::Device),
         };
         match row {
-            Some(row) => take_row(&row, mappings, dev, taker)?,
+            Some(row) => match taker.begin() {
+                Ok(()) => take_row(&row, mappings, dev, taker)?,
+                Err(_) => return Err(QueryFault::Memory),
+            },
             None => return Ok(()),
         }
     }
 }
 
-/// Gives the uses by all devices of the pool with this superblock, in the memory of three cursors over trees.
+/// Begins all devices of the pool with this superblock, and gives the uses by each of them, in the memory of three
+/// cursors over trees.
 pub(crate) fn take_pool<T: TakesUses, D: Device>(
     alloc: Global,
     s: &ThinSuper,
@@ -106,7 +110,7 @@ pub(crate) fn take_pool<T: TakesUses, D: Device>(
     taker: &mut T,
 ) -> Result<(), QueryFault>
     requires { IsAttached (D.state dev.old) }
-    ensures taken { OnOk result (TakesUses T.has_taken (D.state dev.old).held (λ image. super_uses image s.now) taker.old taker.new) }
+    ensures taken { OnOk result (TakesUses T.has_taken (D.state dev.old).held (λ image. super_told image s.now) taker.old taker.new) }
     ensures kept { OnlyReads (D.state dev.old) (D.state dev.new) }
     ensures faults { StartFails result (D.state dev.old).faults (D.state dev.new).faults }
 {

@@ -13,7 +13,7 @@ use Rattle.pd_uses.proofs.walk.take_left.Goals as goal
 pub returns-in-None-clause-taken : goal.returns-in-None-clause-taken
 returns-in-None-clause-taken g c =
     takes_all g.T.TakesUses.has_taken (g.D.Device.state c.args.dev.now).held c.loop-entry.invariant.takes
-    (one_told (g.D.Device.state c.args.dev.now).held (λ image none. ap (λ (items : List (ℕ × BlockTime)). map (use_by c.args.id) (map mapping_of items)) none.0)
+    (one_told (g.D.Device.state c.args.dev.now).held (λ image none. ap (λ (items : List (ℕ × BlockTime)). map Some (map (use_by c.args.id) (map mapping_of items))) none.0)
     (subst (λ o. IfSome o (λ image. IsNext {X = ℕ × BlockTime} None (cursor_items 8 block_time_of image c.loop-entry.mappings) (cursor_items 8 block_time_of image c.next.new.self))) c.loop-entry.invariant.kept.held
     (rw c.in-None.is at c.in-Ok.ensures.next)))
 
@@ -25,7 +25,7 @@ loop-entry-preserved g c =
           (one_told (g.D.Device.state c.args.dev.now).held (λ image next. entry_first c.args.id (c.in-Some.virt, c.in-Some.mapping) (cursor_items 8 block_time_of image c.loop-entry.mappings) (cursor_items 8 block_time_of image c.next.new.self) next)
           (subst (λ o. IfSome o (λ image. IsNext {X = ℕ × BlockTime} (Some (c.in-Some.virt, c.in-Some.mapping)) (cursor_items 8 block_time_of image c.loop-entry.mappings) (cursor_items 8 block_time_of image c.next.new.self))) c.loop-entry.invariant.kept.held
           (rw c.in-Some.is at c.in-Ok.ensures.next)))
-          (takes_one g.T.TakesUses.has_taken (g.D.Device.state c.args.dev.now).held (use_by c.args.id (mapping_of (c.in-Some.virt, c.in-Some.mapping))) c.in-Ok-take.ensures);
+          (takes_one g.T.TakesUses.has_taken (g.D.Device.state c.args.dev.now).held (Some (use_by c.args.id (mapping_of (c.in-Some.virt, c.in-Some.mapping)))) c.in-Ok-take.ensures);
       room = omega arith;
       kept = only_reads_both c.loop-entry.invariant.kept c.in-Ok.ensures.kept;
       faults = c.in-Ok.ensures.faults ∙ c.loop-entry.invariant.faults;
