@@ -45,7 +45,7 @@ impl Watch for CacheRoom {
     ghost use Rattle.pd_cache.specs.Room.{HasRoom};
     ghost use Rattle.pd_cache.specs.Whole.{arrays};
 
-    ghost has_room = { HasRoom };
+    ghost has_room = { λ room graph. HasRoom room graph.nr };
 
     ghost has_seen = { λ room graph image pairs. AreAllShown arrays image pairs room.marks };
 

@@ -31,7 +31,7 @@ impl Watch for EraRoom {
     ghost use Rattle.pd_era.specs.Room.{HasMarks};
     ghost use Rattle.pd_era.specs.Whole.{arrays};
 
-    ghost has_room = { λ room nr. HasMarks room.marks nr };
+    ghost has_room = { λ room graph. HasMarks room.marks graph.nr };
 
     ghost has_seen = { λ room graph image pairs. AreAllShown arrays image pairs room.marks };
 
