@@ -30,7 +30,7 @@ impl ArrayMarks {
 
     /// Takes notice of block b, which was read in the role: where the role is that of blocks of arrays, whose words have
     /// this size, its mark is that of its words.
-    pub fn see(&mut self, role: u8, b: u64, block: &Block, word: Option<Word>)
+    pub(crate) fn see(&mut self, role: u8, b: u64, block: &Block, word: Option<Word>)
         requires role { role < 16 }
         requires block { b < places_of self.old }
         ensures places { places_of self.new ≡ places_of self.old }
