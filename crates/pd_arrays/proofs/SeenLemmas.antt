@@ -1,11 +1,8 @@
 -- The marks of blocks that a walk shows.
-use Rattle.std.proofs.Common.{◌≡◌, ℕ, List, refl, sym}
+use Rattle.std.proofs.Common.{◌≡◌, ℕ, List, sym}
 use Rattle.std.specs.List.{AllByRecursion}
 use Rattle.pd_kinds.specs.Graph.{Graph, is_reached}
-use Rattle.pd_kinds.specs.Layout.{Layout, array}
-use Rattle.pd_array.specs.declared.word.Word.{Word}
-use Rattle.pd_array.specs.declared.word.Word.TheVariants.{Four, Eight}
-use Rattle.pd_array.specs.Word.{size_of}
+use Rattle.pd_kinds.specs.Layout.{Layout}
 use Rattle.pd_laws.proofs.AllLemmas.{all_from, all_from_two}
 use Rattle.pd_graph.specs.declared.audit.Audit.{Audit}
 use Rattle.pd_graph.specs.Watch.{no_pairs}
@@ -27,13 +24,6 @@ shown_counted graph image audit layout kinds marks known have shown =
       blocks = λ b there.
           (shown kind has).blocks b there.found (λ other low found. sym (known.alone b kind.blocks other there (record { block = there.block; within = low; found = found })));
     }) kinds have
-
--- words of one size
-pub same_word : (word other : Word) → array (size_of word) ≡ array (size_of other) → word ≡ other
-same_word Four Four same = refl
-same_word Four Eight same = absurd (cc)
-same_word Eight Four same = absurd (cc)
-same_word Eight Eight same = refl
 
 -- while nodes in a role are marked that is none of their blocks'
 pub counted_kept : (graph : Graph) (image : List (List ℕ)) (audit : Audit) (roles : ArrayRoles) (kinds : List ArrayRoles) (old new : ArrayMarks)

@@ -1,13 +1,10 @@
 //! What learns of a walk how many words each block of arrays has.
 
-ghost use Rattle.std.specs.Prelude.{◌≡◌, ℕ, ◌<◌, IfOk, Some};
-ghost use Rattle.pd_array.specs.declared.word.Word.{Word as TheWord};
-ghost use Rattle.pd_array.specs.Word.{size_of};
-ghost use Rattle.pd_kinds.specs.Layout.{array};
+ghost use Rattle.std.specs.Prelude.{◌≡◌, IfOk};
 ghost use Rattle.pd_arrays.specs.ArrayMarks.{places_of};
 
+use crate::mark::ArrayMark;
 use crate::marks::ArrayMarks;
-use pd_array::Word;
 use pd_graph::{Format, Watch};
 use pd_kinds::{Block, Rules};
 use pd_layouts::{Layout, Table};
@@ -46,17 +43,8 @@ impl<T: Table> Watch for ArrayRoom<T> {
     ghost same = { λ room graph image pairs others same. shown_same (T.layout 0 0) image pairs others room.marks same };
 
     fn see<F: Format>(&mut self, _format: &F, role: u8, b: u64, block: &Block, _broken: &Rules) {
-        self.marks.see(role, b, block, word_of::<T>(role));
-    }
-}
-
-/// The size of the words in the blocks that are read in this role, where these are blocks of arrays.
-fn word_of<T: Table>(role: u8) -> Option<Word>
-    requires { role < T.ROLES }
-    ensures { (word : TheWord) → T.layout 0 0 role ≡ array (size_of word) → result ≡ Some word }
-{
-    match T::layout(role, 0) {
-        Layout::Array(word) => Some(word),
-        _ => None,
+        if let Layout::Array(word) = T::layout(role, 0) {
+            self.marks.set(b, ArrayMark::of(block, word));
+        }
     }
 }
