@@ -3,6 +3,7 @@ use Rattle.std.specs.Prelude.{◌≡◌, ◌⊎◌, ℕ, ◌<◌, Bool, true, Li
 use Rattle.std.specs.List.{AllByRecursion}
 use Rattle.pd_kinds.specs.Array.{max_words, word_count}
 use Rattle.pd_kinds.specs.Graph.{Graph, block_at, pair}
+use Rattle.pd_kinds.specs.Layout.{Layout, array}
 use Rattle.pd_kinds.specs.Node.{Entry}
 use Rattle.pd_kinds.specs.Stages.{IsReached}
 use Rattle.pd_kinds.specs.Trees.{entries_below}
@@ -56,9 +57,14 @@ pub record AreCounted (graph : Graph) (image : List (List ℕ)) (roles : ArrayRo
   pub blocks : (b : ℕ) → IsReached graph image b roles.blocks
       → mark_at marks b ≡ mark_of (most_of roles) (word_count (size_of roles.word) (block_at image b) ∷ [])
 
--- so of each of these kinds
-abbrev pub AreAllShown : List ArrayRoles → List (List ℕ) → (ℕ → Bool) → ArrayMarks → Type 0
-AreAllShown kinds image pairs marks = AllByRecursion (λ (kind : ArrayRoles). AreShown kind image pairs marks) kinds
+-- by this layout of the roles, arrays of this kind have blocks with such words
+pub record HasWords (layout : ℕ → Layout) (kind : ArrayRoles) : Type 0 where
+  pub few : kind.blocks < 16
+  pub words : layout kind.blocks ≡ array (size_of kind.word)
+
+-- so of each kind that a layout has, and of each of these kinds
+abbrev pub AreAllShown : (ℕ → Layout) → List (List ℕ) → (ℕ → Bool) → ArrayMarks → Type 0
+AreAllShown layout image pairs marks = (kind : ArrayRoles) → HasWords layout kind → AreShown kind image pairs marks
 
 abbrev pub AreAllCounted : List ArrayRoles → Graph → List (List ℕ) → ArrayMarks → Type 0
 AreAllCounted kinds graph image marks = AllByRecursion (λ (kind : ArrayRoles). AreCounted graph image kind marks) kinds

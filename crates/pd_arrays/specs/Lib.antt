@@ -3,3 +3,4 @@ pub mod ArrayMarks
 pub mod Arrays
 pub mod Reads
 pub mod KindReads
+pub mod Room

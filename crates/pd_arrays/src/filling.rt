@@ -1,7 +1,9 @@
 //! The marks of all nodes of the trees of one kind of arrays.
 
 ghost use Rattle.std.specs.Prelude.{◌≡◌, ℕ, ◌+◌, ◌<◌, ◌≤◌, List, OnOk, IfSome};
+ghost use Rattle.std.specs.List.{AllByRecursion};
 ghost use Rattle.pd_kinds.specs.Graph.{Graph, is_reached};
+ghost use Rattle.pd_kinds.specs.Layout.{Layout};
 ghost use Rattle.pd_kinds.specs.Objects.{CountsFault};
 ghost use Rattle.pd_image.specs.Device.{IsAttached, OnlyReads};
 ghost use Rattle.pd_graph.specs.declared.audit.Audit.{Audit as TheAudit};
@@ -11,7 +13,7 @@ ghost use Rattle.pd_arrays.specs.declared.roles.ArrayRoles.{ArrayRoles as Kind};
 ghost use Rattle.pd_arrays.specs.declared.marks.ArrayMarks.{ArrayMarks as Marks};
 ghost use Rattle.pd_arrays.specs.ArrayMarks.{places_of};
 ghost use Rattle.pd_arrays.specs.KindReads.{kind_reads};
-ghost use Rattle.pd_arrays.specs.Arrays.{AreAllCounted, AreAllShown, AreCounted, AreMarked, HasArrays, KeepsBlocks};
+ghost use Rattle.pd_arrays.specs.Arrays.{AreAllCounted, AreAllShown, AreCounted, AreMarked, HasArrays, HasWords, KeepsBlocks};
 
 use crate::marks::ArrayMarks;
 use crate::nodes::{levels, mark_level};
@@ -22,8 +24,8 @@ use pd_image::{Device, Failed};
 /// Where an audit knows each reached block in one role, and the marks were shown all that is reached, the mark of each
 /// block of arrays is that of its words.
 pub fn shown_blocks_are_counted()
-    ensures { (graph : Graph) (image : List (List ℕ)) (audit : TheAudit) (kinds : List Kind) (marks : Marks) → IsKnown graph image audit
-        → AreAllShown kinds image (is_reached graph image) marks → AreAllCounted kinds graph image marks }
+    ensures { (graph : Graph) (image : List (List ℕ)) (audit : TheAudit) (layout : ℕ → Layout) (kinds : List Kind) (marks : Marks) → IsKnown graph image audit
+        → AllByRecursion (HasWords layout) kinds → AreAllShown layout image (is_reached graph image) marks → AreAllCounted kinds graph image marks }
 {}
 
 /// Marks each node of the trees of one kind of arrays, where the blocks of the arrays were marked: the marks of other

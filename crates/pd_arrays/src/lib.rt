@@ -8,9 +8,11 @@ mod mark;
 mod marks;
 mod nodes;
 mod roles;
+mod room;
 
 pub use filling::{fill_marks, shown_blocks_are_counted};
 pub use judging::{check_array, has_words, is_index_bad, mark_array};
 pub use mark::ArrayMark;
 pub use marks::ArrayMarks;
 pub use roles::ArrayRoles;
+pub use room::ArrayRoom;

@@ -19,8 +19,9 @@ use Rattle.pd_tree.specs.TreeRoles.{IsTreeRole}
 use Rattle.pd_whole.specs.Charges.{Charges}
 use Rattle.pd_whole.specs.Known.{IsKnown}
 use Rattle.pd_whole.specs.Reached.{AreReachedOnce, InRole, blocks_in, known_in}
+use Rattle.pd_arrays.specs.Arrays.{HasWords}
 use Rattle.pd_check.specs.Whole.{IsOrdered}
-use Rattle.pd_cache.specs.Whole.{IsReady, arrays_reads, origin_reads, tests_named}
+use Rattle.pd_cache.specs.Whole.{IsReady, arrays, arrays_reads, origin_reads, tests_named}
 
 -- the number of blocks in a role
 known_number : (audit : Audit) (role n : ℕ) → length (known_in audit role n) ≡ number_in audit role n
@@ -71,6 +72,11 @@ module _ (graph : Graph) (image : List (List ℕ)) (audit : Audit) (fields : Cac
 
   pub read_twice : origin_reads audit image fields.mapping_root + arrays_reads audit ≤ 2 * length (nodes graph image)
   read_twice = omega (arith, first_parts, all_parts, number 1, number 2, number 3, number 5, number 10)
+
+-- the words of its arrays
+pub have_words : AllByRecursion (HasWords (cache_layout 0)) arrays
+unfolding cache_layout
+have_words = (record { few = omega arith; words = refl }, (record { few = omega arith; words = refl }, (record { few = omega arith; words = refl }, (record { few = omega arith; words = refl }, tt))))
 
 -- the number of metadata blocks
 pub blocks_are : (first : List ℕ) → (cache_graph first).nr ≡ (cache_fields first).meta_map.blocks

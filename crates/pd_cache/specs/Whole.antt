@@ -1,12 +1,11 @@
 -- What the rules of a whole cache are looked at over.
-use Rattle.std.specs.Prelude.{ℕ, ◌+◌, ◌==◌, ◌/◌, if◌then◌else◌, List, [], ◌∷◌, ◌++◌, map, filter, length, Option, Some, None}
+use Rattle.std.specs.Prelude.{ℕ, ◌+◌, ◌==◌, ◌/◌, if◌then◌else◌, List, [], ◌∷◌, ◌++◌, map, filter, length}
 use Rattle.std.specs.List.{flat_map}
 use Rattle.pd_kinds.specs.declared.rule.Rule.TheVariants as r
 use Rattle.pd_kinds.specs.CacheFormat.{CacheFields, has_dirty_bits}
 use Rattle.pd_kinds.specs.Graph.{Graph}
 use Rattle.pd_kinds.specs.Trees.{entries_below, words_of}
 use Rattle.pd_kinds.specs.Whole.{Array, WholeTest, array_whole, bitmap_tests, has_repeat, is_valid_word, optional_array, origin_of_word}
-use Rattle.pd_array.specs.declared.word.Word.{Word}
 use Rattle.pd_array.specs.declared.word.Word.TheVariants.{Four, Eight}
 use Rattle.pd_laws.specs.InOrder.{AreInOrder}
 use Rattle.pd_graph.specs.declared.audit.Audit.{Audit}
@@ -33,13 +32,9 @@ discards = record { nodes = 5; blocks = 6; word = Eight }
 abbrev pub dirty_bits : ArrayRoles
 dirty_bits = record { nodes = 10; blocks = 11; word = Eight }
 
--- the arrays that there are, and the size of the words in the blocks that are read in a role, where it is one of their blocks'
+-- the arrays that there are
 abbrev pub arrays : List ArrayRoles
 arrays = mappings ∷ hints ∷ discards ∷ dirty_bits ∷ []
-
-abbrev pub word_of : ℕ → Option Word
-word_of role =
-    if role == 2 then Some Eight else if role == 4 then Some Four else if role == 6 then Some Eight else if role == 11 then Some Eight else None
 
 -- the dirty bits that version 2 has, 64 in a word
 abbrev pub dirty_arrays : CacheFields → List Array

@@ -2,7 +2,7 @@
 
 ghost use Rattle.std.specs.Prelude.{◌≡◌, ℕ, ◌+◌, ◌*◌, ◌≤◌, List, length, IfSome, OnOk};
 ghost use Rattle.pd_kinds.specs.declared.kind.Kind.TheVariants.{Cache};
-ghost use Rattle.pd_kinds.specs.CacheFormat.{CacheFields, cache_fields, cache_graph};
+ghost use Rattle.pd_kinds.specs.CacheFormat.{CacheFields, cache_fields, cache_graph, cache_layout};
 ghost use Rattle.pd_kinds.specs.Graph.{Graph, is_reached, nodes};
 ghost use Rattle.pd_kinds.specs.Objects.{CountsFault};
 ghost use Rattle.pd_kinds.specs.Stages.{checked_of};
@@ -13,7 +13,7 @@ ghost use Rattle.pd_whole.specs.Charges.{Charges};
 ghost use Rattle.pd_arrays.specs.Arrays.{AreAllShown};
 ghost use Rattle.pd_check.specs.Whole.{IsOrdered};
 ghost use Rattle.pd_cache.specs.Room.{HasRoom};
-ghost use Rattle.pd_cache.specs.Whole.{IsReady, arrays, arrays_reads, origin_reads};
+ghost use Rattle.pd_cache.specs.Whole.{IsReady, arrays_reads, origin_reads};
 
 use crate::format::CacheFormat;
 use crate::room::CacheRoom;
@@ -58,12 +58,12 @@ pub(crate) fn mark_by_super<D: Device>(
     audit: &mut Audit,
     dev: &mut D,
 ) -> Result<(), Failed>
-    requires room { HasRoom room.old (cache_graph b.now.0).nr }
+    requires room { HasRoom room.old (cache_graph b.now.0) }
     requires attached { IsAttached (D.state dev.old) }
     requires number { blocks_of audit.old ≡ (cache_graph b.now.0).nr }
     requires within { (cache_graph b.now.0).nr ≤ (D.state dev.old).blocks }
     ensures charges { OnOk result (IfSome (D.state dev.old).held (λ image. IsOrdered Cache b.now.0 image audit.old
-        → AreAllShown arrays image (is_reached (cache_graph b.now.0) image) room.old.marks
+        → AreAllShown (cache_layout 0) image (is_reached (cache_graph b.now.0) image) room.old.arrays.marks
         → Charges (checked_of Cache image).whole audit.old audit.new)) }
     ensures reads { IfSome (D.state dev.old).held (λ image. IsOrdered Cache b.now.0 image audit.old
         → (D.state dev.new).reads ≤ (D.state dev.old).reads + 2 * length (nodes (cache_graph b.now.0) image)) }

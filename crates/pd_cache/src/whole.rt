@@ -233,7 +233,7 @@ pub(crate) fn mark_cache<F: Format, D: Device>(
     requires within { blocks_of audit.old ≤ (D.state dev.old).blocks }
     requires roles { F.ROLES ≡ 12 }
     ensures charges { OnOk result (IfSome (D.state dev.old).held (λ image. IsReady (F.graph format.now) image audit.old fields.now
-        → AreAllCounted arrays (F.graph format.now) image room.old.marks → Charges (tests_named (F.graph format.now) image fields.now) audit.old audit.new)) }
+        → AreAllCounted arrays (F.graph format.now) image room.old.arrays.marks → Charges (tests_named (F.graph format.now) image fields.now) audit.old audit.new)) }
     ensures reads { IfSome (D.state dev.old).held (λ image. (D.state dev.new).reads
         ≤ (D.state dev.old).reads + (origin_reads audit.old image fields.now.mapping_root + arrays_reads audit.old)) }
     ensures rules { KeepsButRules audit.old audit.new }
@@ -248,5 +248,5 @@ pub(crate) fn mark_cache<F: Format, D: Device>(
         fields.mapping_root,
     )?;
     mark_shared(audit, cache_role::META_BITMAP);
-    mark_arrays(&mut room.marks, audit, format, dev, fields)
+    mark_arrays(&mut room.arrays.marks, audit, format, dev, fields)
 }

@@ -1,6 +1,6 @@
 -- The faults that are found of stored counts are those of the definition.
 use Rattle.std.proofs.Common.{◌≡◌, ℕ, zero, suc, ◌+◌, ◌%◌, ◌^◌, ◌<◌, ◌≤◌, Bool, true, false, not, ◌&&◌, cond, nat_eq, List, [], ◌∷◌, ◌++◌, Option, Some, None, IfSome, IfOk, Result, Ok, Err, OnOk, refl, ap, sym, subst, ◌∙◌, arith, eq-eqb, append-nil}
-use Rattle.std.specs.List.{flat_map, range_with_len, count_by, AllByRecursion}
+use Rattle.std.specs.List.{flat_map, range_with_len, AllByRecursion}
 use Rattle.std.specs.Str.{bytes_eq}
 use Rattle.std.proofs.lemmas.Bool.{or_parts, not-false, ltb-false}
 use Rattle.std.proofs.lemmas.Option.{IfSome_then}
@@ -34,7 +34,6 @@ use Rattle.pd_laws.proofs.CleanLemmas.{whole_where_none}
 use Rattle.pd_laws.proofs.SoundLemmas.{IsSound, tests_after_two}
 use Rattle.pd_graph.specs.declared.audit.Audit.{Audit}
 use Rattle.pd_graph.specs.Audit.{count_at}
-use Rattle.pd_graph.specs.Walk.{IsWalked}
 use Rattle.pd_graph.proofs.AnyLemmas.{if_any, if_both}
 use Rattle.pd_tree.specs.Roots.{HasCacheRoots, HasEraRoots, HasThinRoots}
 use Rattle.pd_tree.specs.Sound.{IsSoundTree}
@@ -49,7 +48,7 @@ use Rattle.pd_smap.specs.Reports.{Adds}
 use Rattle.pd_whole.specs.Known.{IsKnown}
 use Rattle.pd_check.specs.declared.data_space.DataSpace.{DataSpace}
 use Rattle.pd_check.specs.ByKind.{data_space_of, graph_of_super, meta_map_of, super_bad_of}
-use Rattle.pd_check.specs.Counts.{HasSeenAll, count_reads, data_faults, meta_faults, meta_reads, space_reads}
+use Rattle.pd_check.specs.Counts.{count_reads, data_faults, meta_faults, meta_reads, space_reads}
 use Rattle.pd_check.specs.Whole.{IsWhole}
 use Rattle.pd_check.proofs.CheckLemmas.{same_graph}
 use Rattle.pd_check.proofs.WalkReport.{flat_map-same}
@@ -289,7 +288,7 @@ module _ (thin_trees : (super_block : List ℕ) → HasThinTrees (thin_graph sup
       let stored_by = stored_data_in image (index_of image root.bitmap_root) (overflow_of image root.overflow_root) in
       let same : checked.graph ≡ graph = same_graph Thin image in
       let refs : (d : ℕ) → d < checked.graph.data_blocks → count_of counts d ≡ data_count checked.graph image d =
-      λ d within. are.counted d (subst (λ (g : Graph). d < g.data_blocks) same within) ∙ ap (λ (g : Graph). data_count g image d) (sym same) in
+      λ d within. are d (subst (λ (g : Graph). d < g.data_blocks) same within) ∙ ap (λ (g : Graph). data_count g image d) (sym same) in
       ap (λ (n : ℕ). faults_from DataBlock (count_of counts) stored_by 0 n)
       (data_number Thin (block_at image 0) (record { root = root; role = 3 }) refl ∙ ap (λ (g : Graph). g.data_blocks) (sym same))
       ∙ faults_same DataBlock (count_of counts) (data_count checked.graph image) stored_by checked.stored_data checked.graph.data_blocks refs map.stored
@@ -300,7 +299,7 @@ module _ (thin_trees : (super_block : List ℕ) → HasThinTrees (thin_graph sup
       → ((graph : Graph) (image : List (List ℕ)) → HasSeen counter graph image (is_reached graph image) → HasDataCounts counts graph image)
       → IfSome held (λ image. IsOverflow image space.root.overflow_root → IsIndex image space.root.bitmap_root space.root.blocks
       → Adds (faults_from DataBlock (count_of counts) (stored_data_in image (index_of image space.root.bitmap_root) (overflow_of image space.root.overflow_root)) 0 space.root.blocks) old new)
-      → IfSome held (λ image. block_at image 0 ≡ first → faults kind stages.Whole image ≡ [] → HasSeenAll counter (graph_of_super kind first) image
+      → IfSome held (λ image. block_at image 0 ≡ first → faults kind stages.Whole image ≡ [] → HasSeen counter (graph_of_super kind first) image (is_reached (graph_of_super kind first) image)
       → Adds (data_faults (checked_of kind image) image) old new)
   data_told held Thin first space counter counts old new here counted adds =
       IfSome_then held adds (λ image leads same_first none seen.
@@ -314,14 +313,6 @@ module _ (thin_trees : (super_block : List ℕ) → HasThinTrees (thin_graph sup
       subst (λ (list : List Fault). Adds list old new) (data_same image counts map counts_in) (added map.searchable map.counting))
   data_told held Cache first space counter counts old new here counted adds = absurd (cc)
   data_told held Era first space counter counts old new here counted adds = absurd (cc)
-
--- counts of another number of blocks aren't those of what the walk reached
-pub other_number : (P : List (List ℕ) → Type 0) (held : Option (List (List ℕ))) (kind : Kind) (first : List ℕ) (space : DataSpace) (counter : RefCounter) (counts : Counted)
-    → data_space_of kind first ≡ Some space → (counts.size ≡ space.root.blocks → ⊥)
-    → ((graph : Graph) (image : List (List ℕ)) → HasSeen counter graph image (is_reached graph image) → HasDataCounts counts graph image)
-    → IfSome held (λ image. block_at image 0 ≡ first → faults kind stages.Whole image ≡ [] → HasSeenAll counter (graph_of_super kind first) image → P image)
-other_number P held kind first space counter counts here other counted =
-    if_any held (λ image same none seen. absurd (other ((counted (graph_of_super kind first) image seen).size ∙ sym (data_number kind first space here))))
 
 -- under a result
 pub ok_if : {T E : Type 0} → (result : Result T E) (P Q : T → Type 0) → ((x : T) → P x → Q x) → IfOk result P → IfOk result Q

@@ -6,11 +6,9 @@ use Rattle.pd_kinds.specs.declared.fault.Fault.{Fault}
 use Rattle.pd_kinds.specs.declared.fault.Space.TheVariants.{Meta, DataBlock}
 use Rattle.pd_kinds.specs.declared.map_root.SmRoot.{SmRoot}
 use Rattle.pd_kinds.specs.Bitmap.{bitmaps_for}
-use Rattle.pd_kinds.specs.Graph.{Graph, is_reached, meta_count, data_count}
+use Rattle.pd_kinds.specs.Graph.{meta_count, data_count}
 use Rattle.pd_kinds.specs.Stages.{Checked, count_fault}
 use Rattle.pd_tree.specs.Below.{nodes_below}
-use Rattle.pd_refs.specs.declared.counter.RefCounter.{RefCounter}
-use Rattle.pd_refs.specs.Counter.{HasSeen}
 use Rattle.pd_check.specs.declared.data_space.DataSpace.{DataSpace}
 use Rattle.pd_check.specs.ByKind.{meta_map_of, data_space_of}
 
@@ -41,7 +39,3 @@ space_reads (Some space) image = data_reads space image
 -- and for both
 unfoldable pub count_reads : Kind → List ℕ → List (List ℕ) → ℕ
 count_reads kind first image = meta_reads (meta_map_of kind first) image + space_reads (data_space_of kind first) image
-
--- a counter of references was shown all that is reached
-abbrev pub HasSeenAll : RefCounter → Graph → List (List ℕ) → Type 0
-HasSeenAll counter graph image = HasSeen counter graph image (is_reached graph image)

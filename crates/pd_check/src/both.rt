@@ -9,7 +9,7 @@ pub(crate) struct Both<A, B> {
 }
 
 impl<A: Watch, B: Watch> Watch for Both<A, B> {
-    ghost has_room = { λ both nr. A.has_room both.first nr × B.has_room both.second nr };
+    ghost has_room = { λ both graph. A.has_room both.first graph × B.has_room both.second graph };
 
     ghost has_seen = { λ both graph image pairs. A.has_seen both.first graph image pairs × B.has_seen both.second graph image pairs };
 

@@ -4,16 +4,16 @@ ghost use Rattle.std.specs.Prelude.{◌≡◌, ◌+◌, ◌^◌, ◌<◌, ◌≤
 ghost use Rattle.pd_kinds.specs.declared.limits.TheConstants.{MAX_META_BLOCKS};
 ghost use Rattle.pd_kinds.specs.declared.kind.Stage.TheVariants.{Whole};
 ghost use Rattle.pd_kinds.specs.CheckFault.{CountsCheckFault};
-ghost use Rattle.pd_kinds.specs.Graph.{block_at};
+ghost use Rattle.pd_kinds.specs.Graph.{block_at, is_reached};
 ghost use Rattle.pd_kinds.specs.Report.{report_of};
 ghost use Rattle.pd_kinds.specs.Stages.{checked_of, count_faults, faults};
 ghost use Rattle.pd_image.specs.Device.{IsAttached, OnlyReads};
 ghost use Rattle.pd_graph.specs.Audit.{blocks_of};
 ghost use Rattle.pd_graph.specs.Watch.{no_pairs};
-ghost use Rattle.pd_refs.specs.Counter.{HasSeen};
+ghost use Rattle.pd_refs.specs.Counter.{HasSeen, data_blocks_of};
 ghost use Rattle.pd_smap.specs.Reports.{Adds};
 ghost use Rattle.pd_check.specs.ByKind.{data_space_of, graph_of_super, meta_map_of};
-ghost use Rattle.pd_check.specs.Counts.{HasSeenAll, count_reads, data_faults, data_reads, meta_faults, meta_reads, space_reads};
+ghost use Rattle.pd_check.specs.Counts.{count_reads, data_faults, data_reads, meta_faults, meta_reads, space_reads};
 ghost use Rattle.pd_check.specs.Whole.{IsWhole};
 
 use crate::data_space::DataSpace;
@@ -32,7 +32,8 @@ pub(crate) fn ref_counter<M: Metadata>(
     alloc: Global,
     first: &Block,
 ) -> Result<RefCounter, AllocError>
-    ensures { IfOk result (λ counter. (image : List (List ℕ)) → HasSeen counter (graph_of_super M.kind first.now.0) image no_pairs) }
+    ensures size { IfOk result (λ counter. data_blocks_of counter ≡ (graph_of_super M.kind first.now.0).data_blocks) }
+    ensures unseen { IfOk result (λ counter. (image : List (List ℕ)) → HasSeen counter (graph_of_super M.kind first.now.0) image no_pairs) }
 {
     match M::data_space(first) {
         Some(space) => RefCounter::new(alloc, space.role, space.root.blocks),
@@ -55,9 +56,10 @@ pub(crate) fn count_report<M: Metadata, D: Device>(
     requires few { (graph_of_super M.kind first.now.0).nr ≤ MAX_META_BLOCKS }
     requires number { blocks_of audit.now ≡ (graph_of_super M.kind first.now.0).nr }
     requires within { (graph_of_super M.kind first.now.0).nr ≤ (D.state dev.old).blocks }
+    requires size { data_blocks_of counter ≡ (graph_of_super M.kind first.now.0).data_blocks }
     requires data { IfSome (data_space_of M.kind first.now.0) (λ space. space.root.blocks ≤ 2 ^ 40) }
     ensures report { IfOk result (λ report. IfSome (D.state dev.old).held (λ image. IsWhole M.kind first.now.0 image audit.now
-        → HasSeenAll counter (graph_of_super M.kind first.now.0) image → report ≡ report_of (count_faults (checked_of M.kind image) image))) }
+        → HasSeen counter (graph_of_super M.kind first.now.0) image (is_reached (graph_of_super M.kind first.now.0) image) → report ≡ report_of (count_faults (checked_of M.kind image) image))) }
     ensures reads { IfSome (D.state dev.old).held (λ image. (D.state dev.new).reads ≤ (D.state dev.old).reads + count_reads M.kind first.now.0 image) }
     ensures kept { OnlyReads (D.state dev.old) (D.state dev.new) }
     ensures faults { CountsCheckFault result (D.state dev.old).faults (D.state dev.new).faults }
@@ -110,9 +112,10 @@ fn add_space_faults<M: Metadata, D: Device>(
 ) -> Result<(), CheckFault>
     requires attached { IsAttached (D.state dev.old) }
     requires within { (graph_of_super M.kind first.now.0).nr ≤ (D.state dev.old).blocks }
+    requires size { data_blocks_of counter ≡ (graph_of_super M.kind first.now.0).data_blocks }
     requires room { IfSome (data_space_of M.kind first.now.0) (λ space. report.old.total + space.root.blocks < 2 ^ 64) }
     ensures added { OnOk result (IfSome (D.state dev.old).held (λ image. block_at image 0 ≡ first.now.0 → faults M.kind Whole image ≡ []
-        → HasSeenAll counter (graph_of_super M.kind first.now.0) image → Adds (data_faults (checked_of M.kind image) image) report.old report.new)) }
+        → HasSeen counter (graph_of_super M.kind first.now.0) image (is_reached (graph_of_super M.kind first.now.0) image) → Adds (data_faults (checked_of M.kind image) image) report.old report.new)) }
     ensures reads { IfSome (D.state dev.old).held (λ image. (D.state dev.new).reads ≤ (D.state dev.old).reads
         + space_reads (data_space_of M.kind first.now.0) image) }
     ensures kept { OnlyReads (D.state dev.old) (D.state dev.new) }
@@ -135,10 +138,11 @@ fn add_data_faults<M: Metadata, D: Device>(
 ) -> Result<(), CheckFault>
     requires attached { IsAttached (D.state dev.old) }
     requires within { (graph_of_super M.kind first.now.0).nr ≤ (D.state dev.old).blocks }
+    requires size { data_blocks_of counter ≡ (graph_of_super M.kind first.now.0).data_blocks }
     requires space { data_space_of M.kind first.now.0 ≡ Some space.now }
     requires room { report.old.total + space.now.root.blocks < 2 ^ 64 }
     ensures added { OnOk result (IfSome (D.state dev.old).held (λ image. block_at image 0 ≡ first.now.0 → faults M.kind Whole image ≡ []
-        → HasSeenAll counter (graph_of_super M.kind first.now.0) image → Adds (data_faults (checked_of M.kind image) image) report.old report.new)) }
+        → HasSeen counter (graph_of_super M.kind first.now.0) image (is_reached (graph_of_super M.kind first.now.0) image) → Adds (data_faults (checked_of M.kind image) image) report.old report.new)) }
     ensures reads { IfSome (D.state dev.old).held (λ image. (D.state dev.new).reads ≤ (D.state dev.old).reads + data_reads space.now image) }
     ensures kept { OnlyReads (D.state dev.old) (D.state dev.new) }
     ensures faults { CountsCheckFault result (D.state dev.old).faults (D.state dev.new).faults }
@@ -153,9 +157,6 @@ fn add_data_faults<M: Metadata, D: Device>(
         Err(_) => return Err(CheckFault::Memory),
     };
     let root = space.root;
-    if counts.size() != root.blocks {
-        return Ok(());
-    }
     let inside = (root.bitmap_root < dev.blocks()) & (root.overflow_root < dev.blocks());
     if inside {
         return compare_data(alloc, dev, &root, &counts, report);

@@ -62,7 +62,7 @@ pub(crate) fn looked_at<F: Format, D: Device, W: Watch>(
 ) -> Result<(Audit, Report), CheckFault>
     requires attached { IsAttached (D.state dev.old) }
     requires within { (F.graph format.now).nr ≤ (D.state dev.old).blocks }
-    requires room { W.has_room watch.old (F.graph format.now).nr }
+    requires room { W.has_room watch.old (F.graph format.now) }
     requires unseen { (image : List (List ℕ)) → W.has_seen watch.old (F.graph format.now) image no_pairs }
     ensures report { IfOk result (λ found. IfSome (D.state dev.old).held (λ image. found.1 ≡ report_of (past_faults until (F.graph format.now) image))) }
     ensures number { IfOk result (λ found. blocks_of found.0 ≡ (F.graph format.now).nr) }
@@ -73,7 +73,7 @@ pub(crate) fn looked_at<F: Format, D: Device, W: Watch>(
         goes_past_walk until ≡ true → found.1.total ≡ 0 → IsWellSettled (F.graph format.now) image found.0)) }
     ensures seen { IfOk result (λ found. IfSome (D.state dev.old).held (λ image.
         W.has_seen watch.new (F.graph format.now) image (is_reached (F.graph format.now) image))) }
-    ensures room { W.has_room watch.new (F.graph format.now).nr }
+    ensures room { W.has_room watch.new (F.graph format.now) }
     ensures early { StopsEarly result (D.state dev.old).reads (D.state dev.new).reads }
     ensures reads { IfSome (D.state dev.old).held (λ image.
         (D.state dev.new).reads ≤ (D.state dev.old).reads + reads_to_order until * length (nodes (F.graph format.now) image)) }

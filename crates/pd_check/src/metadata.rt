@@ -52,7 +52,7 @@ pub trait Metadata {
     /// Takes the memory that the rules of the whole image need, where this is block 0. Want of it is the only
     /// error.
     fn room(alloc: Global, b: &Block) -> Result<Self::Room, AllocError>
-        ensures room { IfOk result (λ room. Self.Room.has_room room (graph_of_super kind b.now.0).nr) }
+        ensures room { IfOk result (λ room. Self.Room.has_room room (graph_of_super kind b.now.0)) }
         ensures unseen { IfOk result (λ room. (image : List (List ℕ)) → Self.Room.has_seen room (graph_of_super kind b.now.0) image no_pairs) };
 
     /// Gives each block the rules of the whole image that it breaks, where this is block 0 and no block has a
@@ -66,7 +66,7 @@ pub trait Metadata {
         audit: &mut Audit,
         dev: &mut D,
     ) -> Result<(), Failed>
-        requires room { Self.Room.has_room room (graph_of_super kind b.now.0).nr }
+        requires room { Self.Room.has_room room (graph_of_super kind b.now.0) }
         requires attached { IsAttached (D.state dev.old) }
         requires number { blocks_of audit.old ≡ (graph_of_super kind b.now.0).nr }
         requires within { (graph_of_super kind b.now.0).nr ≤ (D.state dev.old).blocks }

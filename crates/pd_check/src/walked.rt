@@ -32,7 +32,7 @@ pub(crate) fn walked<F: Format, D: Device, W: Watch>(
 ) -> Result<Audit, CheckFault>
     requires attached { IsAttached (D.state dev.old) }
     requires within { (F.graph format.now).nr ≤ (D.state dev.old).blocks }
-    requires room { W.has_room watch.old (F.graph format.now).nr }
+    requires room { W.has_room watch.old (F.graph format.now) }
     requires unseen { (image : List (List ℕ)) → W.has_seen watch.old (F.graph format.now) image no_pairs }
     ensures walked { IfOk result (λ audit. has_walked audit ≡ true) }
     ensures number { IfOk result (λ audit. blocks_of audit ≡ (F.graph format.now).nr) }
@@ -40,7 +40,7 @@ pub(crate) fn walked<F: Format, D: Device, W: Watch>(
     ensures leaves { IfOk result (λ audit. IfSome (D.state dev.old).held (λ image. HasNotedLeaves (F.graph format.now) image audit)) }
     ensures seen { IfOk result (λ audit. IfSome (D.state dev.old).held (λ image.
         W.has_seen watch.new (F.graph format.now) image (is_reached (F.graph format.now) image))) }
-    ensures room { W.has_room watch.new (F.graph format.now).nr }
+    ensures room { W.has_room watch.new (F.graph format.now) }
     ensures early { StopsEarly result (D.state dev.old).reads (D.state dev.new).reads }
     ensures reads { IfSome (D.state dev.old).held (λ image.
         (D.state dev.new).reads ≤ (D.state dev.old).reads + length (nodes (F.graph format.now) image)) }

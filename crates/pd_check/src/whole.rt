@@ -17,7 +17,6 @@ ghost use Rattle.pd_graph.specs.Watch.{no_pairs};
 ghost use Rattle.pd_whole.specs.Known.{IsKnown};
 ghost use Rattle.pd_check.specs.ByKind.{graph_of_super, super_bad_of};
 ghost use Rattle.pd_check.specs.Check.{IsFirstBlock, reads_of};
-ghost use Rattle.pd_check.specs.Counts.{HasSeenAll};
 ghost use Rattle.pd_check.specs.Whole.{IsOrdered, IsWhole};
 
 use crate::both::Both;
@@ -78,7 +77,7 @@ pub(crate) fn whole_looked<M: Metadata, D: Device, W: Watch + Drop>(
     requires number { blocks ≡ (D.state dev.old).blocks }
     requires first { IfSome (D.state dev.old).held (IsFirstBlock blocks first.now.0) }
     requires sound { (rule : Rule) → super_bad_of M.kind blocks first.now.0 rule ≡ false }
-    requires room { W.has_room watch (graph_of_super M.kind first.now.0).nr }
+    requires room { W.has_room watch (graph_of_super M.kind first.now.0) }
     requires unseen { (image : List (List ℕ)) → W.has_seen watch (graph_of_super M.kind first.now.0) image no_pairs }
     ensures report { IfOk result (λ found. IfSome (D.state dev.old).held (λ image. found.1 ≡ report_of (faults M.kind Whole image))) }
     ensures number { IfOk result (λ found. blocks_of found.0 ≡ (graph_of_super M.kind first.now.0).nr) }
@@ -89,6 +88,7 @@ pub(crate) fn whole_looked<M: Metadata, D: Device, W: Watch + Drop>(
     ensures whole { IfOk result (λ found. IfSome (D.state dev.old).held (λ image. found.1.total ≡ 0 → IsWhole M.kind first.now.0 image found.0)) }
     ensures seen { IfOk result (λ found. IfSome (D.state dev.old).held (λ image.
         W.has_seen found.2 (graph_of_super M.kind first.now.0) image (is_reached (graph_of_super M.kind first.now.0) image))) }
+    ensures room { IfOk result (λ found. W.has_room found.2 (graph_of_super M.kind first.now.0)) }
     ensures early { StopsEarly result (D.state dev.old).reads (D.state dev.new).reads }
     ensures reads { IfSome (D.state dev.old).held (λ image.
         (D.state dev.new).reads ≤ (D.state dev.old).reads + reads_of Whole * length (nodes (graph_of_super M.kind first.now.0) image)) }
@@ -165,7 +165,7 @@ fn whole_report<M: Metadata, D: Device>(
     audit: &mut Audit,
     dev: &mut D,
 ) -> Result<Report, Failed>
-    requires room { M.Room.has_room room (graph_of_super M.kind first.now.0).nr }
+    requires room { M.Room.has_room room (graph_of_super M.kind first.now.0) }
     requires attached { IsAttached (D.state dev.old) }
     requires number { blocks_of audit.old ≡ (graph_of_super M.kind first.now.0).nr }
     requires within { (graph_of_super M.kind first.now.0).nr ≤ (D.state dev.old).blocks }

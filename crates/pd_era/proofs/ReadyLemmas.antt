@@ -22,8 +22,9 @@ use Rattle.pd_tree.proofs.TableLemmas.{none_passes}
 use Rattle.pd_whole.specs.Charges.{Charges}
 use Rattle.pd_whole.specs.Known.{IsKnown}
 use Rattle.pd_whole.specs.Reached.{AreReachedOnce, InRole, blocks_in, known_in}
+use Rattle.pd_arrays.specs.Arrays.{HasWords}
 use Rattle.pd_check.specs.Whole.{IsOrdered}
-use Rattle.pd_era.specs.Whole.{IsReady, IsSnap, arrays_named, snap_reads, tests_named, whole_reads}
+use Rattle.pd_era.specs.Whole.{IsReady, IsSnap, arrays, arrays_named, snap_reads, tests_named, whole_reads}
 
 -- the number of blocks in a role
 known_number : (audit : Audit) (role n : ℕ) → length (known_in audit role n) ≡ number_in audit role n
@@ -124,6 +125,11 @@ snap_reached first image ordered start leads some =
     let reached = at_optional (λ (e : Edge). IsReached graph image e.block e.role) 1 fields.snap_root behind all some in
     let roots = rw (edges_of_snap first (block_at image fields.snap_root) fields.snap_root (ordered.well_formed fields.snap_root 1 reached)) at (leads fields.snap_root 1 reached) in
     record { reached = reached; eras = roots.1.0 }
+
+-- the words of its arrays
+pub have_words : AllByRecursion (HasWords (era_layout 0)) arrays
+unfolding era_layout
+have_words = (record { few = omega arith; words = refl }, (record { few = omega arith; words = refl }, tt))
 
 -- the number of metadata blocks
 pub blocks_are : (first : List ℕ) → (era_graph first).nr ≡ (era_fields first).meta_map.blocks

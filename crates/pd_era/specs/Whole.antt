@@ -1,5 +1,5 @@
 -- What the rules of a whole era target are looked at over.
-use Rattle.std.specs.Prelude.{◌≡◌, ℕ, ◌+◌, ◌==◌, if◌then◌else◌, List, [], ◌∷◌, ◌++◌, map, Option, Some, None}
+use Rattle.std.specs.Prelude.{◌≡◌, ℕ, ◌+◌, ◌==◌, if◌then◌else◌, List, [], ◌∷◌, ◌++◌, map}
 use Rattle.std.specs.List.{flat_map, range_with_len}
 use Rattle.pd_kinds.specs.EraFormat.{EraFields, era_fields, writeset_bits, writeset_root}
 use Rattle.pd_kinds.specs.Graph.{Graph, block_at, is_reached, pair}
@@ -7,7 +7,6 @@ use Rattle.pd_kinds.specs.Layout.{leaf_entries}
 use Rattle.pd_kinds.specs.Node.{Entry, key_at, value_at}
 use Rattle.pd_kinds.specs.Stages.{IsReached}
 use Rattle.pd_kinds.specs.Whole.{Array, WholeTest, array_whole, bitmap_tests, reached_writesets, writeset_array}
-use Rattle.pd_array.specs.declared.word.Word.{Word}
 use Rattle.pd_array.specs.declared.word.Word.TheVariants.{Four, Eight}
 use Rattle.pd_laws.specs.InOrder.{AreInOrder}
 use Rattle.pd_graph.specs.declared.audit.Audit.{Audit}
@@ -27,12 +26,9 @@ eras = record { nodes = 5; blocks = 6; word = Four }
 abbrev pub bits : ArrayRoles
 bits = record { nodes = 3; blocks = 4; word = Eight }
 
--- the arrays that there are, and the size of the words in the blocks that are read in a role, where it is one of their blocks'
+-- the arrays that there are
 abbrev pub arrays : List ArrayRoles
 arrays = eras ∷ bits ∷ []
-
-abbrev pub word_of : ℕ → Option Word
-word_of role = if role == 4 then Some Eight else if role == 6 then Some Four else None
 
 -- the eras that a metadata snapshot names, in this block or in none; they may have any length
 abbrev pub snap_eras : List (List ℕ) → ℕ → List Array

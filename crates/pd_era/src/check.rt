@@ -11,7 +11,7 @@ ghost use Rattle.pd_check.specs.Check.{MayWantMemory, ReadsFew};
 
 use crate::era::mark_by_super;
 use crate::format::{EraFormat, EraTable};
-use crate::room::EraRoom;
+use pd_arrays::ArrayRoom;
 use pd_check::{DataSpace, Metadata, check};
 use pd_graph::Audit;
 use pd_image::{Device, Failed};
@@ -24,7 +24,7 @@ impl Metadata for EraTable {
 
     type Format = EraFormat;
 
-    type Room = EraRoom;
+    type Room = ArrayRoom<EraTable>;
 
     ghost kind = { Era };
 
@@ -44,13 +44,13 @@ impl Metadata for EraTable {
         None
     }
 
-    fn room(alloc: Global, b: &Block) -> Result<EraRoom, AllocError> {
+    fn room(alloc: Global, b: &Block) -> Result<ArrayRoom<EraTable>, AllocError> {
         let blocks = read_era_super(b).meta_map.blocks;
-        EraRoom::new(alloc, blocks.min(MAX_META_BLOCKS))
+        ArrayRoom::new(alloc, blocks.min(MAX_META_BLOCKS))
     }
 
     fn mark_whole<D: Device>(
-        room: EraRoom,
+        room: ArrayRoom<EraTable>,
         b: &Block,
         audit: &mut Audit,
         dev: &mut D,

@@ -2,7 +2,7 @@
 
 ghost use Rattle.std.specs.Prelude.{◌≡◌, ℕ, ◌+◌, ◌≤◌, List, length, IfSome, OnOk};
 ghost use Rattle.pd_kinds.specs.declared.kind.Kind.TheVariants.{Era};
-ghost use Rattle.pd_kinds.specs.EraFormat.{EraFields, era_fields, era_graph};
+ghost use Rattle.pd_kinds.specs.EraFormat.{EraFields, era_fields, era_graph, era_layout};
 ghost use Rattle.pd_kinds.specs.Graph.{Graph, is_reached, nodes};
 ghost use Rattle.pd_kinds.specs.Objects.{CountsFault};
 ghost use Rattle.pd_kinds.specs.Stages.{checked_of};
@@ -11,9 +11,9 @@ ghost use Rattle.pd_graph.specs.declared.audit.Audit.{Audit as TheAudit};
 ghost use Rattle.pd_graph.specs.Audit.{blocks_of, KeepsButRules};
 ghost use Rattle.pd_whole.specs.Charges.{Charges};
 ghost use Rattle.pd_arrays.specs.Arrays.{AreAllShown};
+ghost use Rattle.pd_arrays.specs.Room.{HasMarks};
 ghost use Rattle.pd_check.specs.Whole.{IsOrdered};
-ghost use Rattle.pd_era.specs.Room.{HasMarks};
-ghost use Rattle.pd_era.specs.Whole.{IsReady, arrays, whole_reads};
+ghost use Rattle.pd_era.specs.Whole.{IsReady, whole_reads};
 
 use crate::format::EraFormat;
 use crate::whole::mark_era;
@@ -54,12 +54,12 @@ pub(crate) fn mark_by_super<D: Device>(
     audit: &mut Audit,
     dev: &mut D,
 ) -> Result<(), Failed>
-    requires room { HasMarks marks.old (era_graph b.now.0).nr }
+    requires room { HasMarks 10 (era_graph b.now.0) marks.old }
     requires attached { IsAttached (D.state dev.old) }
     requires number { blocks_of audit.old ≡ (era_graph b.now.0).nr }
     requires within { (era_graph b.now.0).nr ≤ (D.state dev.old).blocks }
     ensures charges { OnOk result (IfSome (D.state dev.old).held (λ image. IsOrdered Era b.now.0 image audit.old
-        → AreAllShown arrays image (is_reached (era_graph b.now.0) image) marks.old
+        → AreAllShown (era_layout 0) image (is_reached (era_graph b.now.0) image) marks.old
         → Charges (checked_of Era image).whole audit.old audit.new)) }
     ensures reads { IfSome (D.state dev.old).held (λ image. IsOrdered Era b.now.0 image audit.old
         → (D.state dev.new).reads ≤ (D.state dev.old).reads + length (nodes (era_graph b.now.0) image)) }

@@ -4,7 +4,6 @@
 mod check;
 mod era;
 mod format;
-mod room;
 mod snap;
 mod whole;
 mod writesets;
@@ -12,4 +11,3 @@ mod writesets;
 pub use check::check_era;
 pub use format::{EraFormat, EraTable};
 pub use pd_kinds::CheckFault;
-pub use room::EraRoom;

@@ -55,7 +55,7 @@ pub fn walk_watched<F: Format, D: Device, W: Watch>(
     requires fresh { IsNew (F.graph format.now).nr audit.old }
     requires attached { IsAttached (D.state dev.old) }
     requires within { (F.graph format.now).nr ≤ (D.state dev.old).blocks }
-    requires room { W.has_room watch.old (F.graph format.now).nr }
+    requires room { W.has_room watch.old (F.graph format.now) }
     requires unseen { (image : List (List ℕ)) → W.has_seen watch.old (F.graph format.now) image no_pairs }
     ensures walked { has_walked audit.new ≡ is_ok result }
     ensures marks { OnOk result (IfSome (D.state dev.old).held (λ image. IsWalked (F.graph format.now) image audit.new)) }
@@ -63,7 +63,7 @@ pub fn walk_watched<F: Format, D: Device, W: Watch>(
     ensures leaves { OnOk result (IfSome (D.state dev.old).held (λ image. HasNotedLeaves (F.graph format.now) image audit.new)) }
 
     ensures seen { OnOk result (IfSome (D.state dev.old).held (λ image. W.has_seen watch.new (F.graph format.now) image (is_reached (F.graph format.now) image))) }
-    ensures room { W.has_room watch.new (F.graph format.now).nr }
+    ensures room { W.has_room watch.new (F.graph format.now) }
 
     // Also where a read failed, and whatever the device gives.
     ensures notes { (b : ℕ) → (note_at audit.new b).height ≤ 1 }
@@ -96,7 +96,7 @@ fn read_all<F: Format, D: Device, W: Watch>(
     requires notes { (b : ℕ) → (note_in notes.old b).height ≤ 1 }
     requires number { size_of notes.old ≡ (F.graph format.now).nr }
     requires seen { IfSome (D.state dev.old).held (λ image. W.has_seen watch.old (F.graph format.now) image (is_in (read_of marks.old))) }
-    requires room { W.has_room watch.old (F.graph format.now).nr }
+    requires room { W.has_room watch.old (F.graph format.now) }
     requires attached { IsAttached (D.state dev.old) }
     requires within { (F.graph format.now).nr ≤ (D.state dev.old).blocks }
     ensures places { HasPlaces (F.graph format.now).nr marks.new }
@@ -106,7 +106,7 @@ fn read_all<F: Format, D: Device, W: Watch>(
     ensures notes { (b : ℕ) → (note_in notes.new b).height ≤ 1 }
     ensures number { size_of notes.new ≡ size_of notes.old }
     ensures seen { OnOk result (IfSome (D.state dev.old).held (λ image. W.has_seen watch.new (F.graph format.now) image (is_in (read_of marks.new)))) }
-    ensures room { W.has_room watch.new (F.graph format.now).nr }
+    ensures room { W.has_room watch.new (F.graph format.now) }
     ensures reads { IfSome (D.state dev.old).held (λ image. (D.state dev.new).reads ≤ (D.state dev.old).reads + length (nodes (F.graph format.now) image)) }
     ensures kept { OnlyReads (D.state dev.old) (D.state dev.new) }
     ensures faults { CountsFault result (D.state dev.old).faults (D.state dev.new).faults }

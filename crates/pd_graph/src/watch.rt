@@ -9,8 +9,8 @@ use pd_kinds::{Block, Rules};
 
 /// What watches a walk: it is shown each block in each role in which the walk reads it, while the block is at hand.
 pub trait Watch {
-    /// It has room for metadata of so many blocks.
-    ghost has_room: { Self → ℕ → Type 0 } = { λ _ _. Unit {0} };
+    /// It has room for metadata of this format.
+    ghost has_room: { Self → Graph → Type 0 } = { λ _ _. Unit {0} };
 
     /// What it knows where it was shown these pairs of a block and a role, and no others: each once, with what the
     /// image holds there.
@@ -22,11 +22,11 @@ pub trait Watch {
         requires role { role < F.ROLES }
         requires within { b < (F.graph format.now).nr }
         requires judged { (rule : Rule) → has_rule broken.now rule ≡ (F.graph format.now).bad role b block.now.0 rule }
-        requires room { has_room self.old (F.graph format.now).nr }
+        requires room { has_room self.old (F.graph format.now) }
         ensures seen { (image : List (List ℕ)) (before after : ℕ → Bool) → block_at image b ≡ block.now.0
             → IsOneMore (pair b role) before after → has_seen self.old (F.graph format.now) image before
             → has_seen self.new (F.graph format.now) image after }
-        ensures room { has_room self.new (F.graph format.now).nr };
+        ensures room { has_room self.new (F.graph format.now) };
 
     /// It knows the same of the same pairs.
     ghost same: { (watch : Self) (graph : Graph) (image : List (List ℕ)) (pairs others : ℕ → Bool) → AreSame pairs others

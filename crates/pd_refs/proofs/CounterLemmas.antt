@@ -13,7 +13,7 @@ use Rattle.pd_graph.specs.Weight.{weigh}
 use Rattle.pd_graph.proofs.BitLemmas.{differ, pair_role}
 use Rattle.pd_graph.proofs.Weights.{count_weighs, more_weight, none_weigh, same_weight}
 use Rattle.pd_count.specs.Counted.{Counted, HasCounted}
-use Rattle.pd_refs.specs.Refs.{AreCounted, refs_before, refs_in}
+use Rattle.pd_refs.specs.Refs.{refs_before, refs_in}
 use Rattle.pd_refs.proofs.RefsLemmas.{few_refs}
 use Rattle.pd_refs.proofs.RoleLemmas.{passing}
 
@@ -34,22 +34,18 @@ module _ (graph : Graph) (image : List (List ℕ)) (role : ℕ) where
       ∙ same_weight (λ b. pairs (pair b role)) (λ b. others (pair b role)) (λ b. count_by t (named b)) graph.nr (λ b within. same b)
       ∙ sym (counted_weighs t pairs graph.nr)
 
-  pub same_refs : (counts : Counted) (pairs others : ℕ → Bool) → ((b : ℕ) → others (pair b role) ≡ pairs (pair b role)) → AreCounted counts graph image role pairs → AreCounted counts graph image role others
-  same_refs counts pairs others same are = record {
-    size = are.size;
-    counted = λ d. are.counted d ∙ sym (same_counted (λ r. nat_eq r d) pairs others same);
-  }
+  same_refs : (counts : Counted) (pairs others : ℕ → Bool) → ((b : ℕ) → others (pair b role) ≡ pairs (pair b role)) → HasCounted counts (refs_in graph image role pairs)
+      → HasCounted counts (refs_in graph image role others)
+  same_refs counts pairs others same are = λ d. are d ∙ sym (same_counted (λ r. nat_eq r d) pairs others same)
 
   -- none has no references
-  pub no_pairs_counted : (counts : Counted) → counts.size ≡ graph.data_blocks → HasCounted counts [] → AreCounted counts graph image role no_pairs
-  no_pairs_counted counts size none = record {
-    size = size;
-    counted = λ d. none d ∙ sym (counted_weighs (λ r. nat_eq r d) no_pairs graph.nr ∙ none_weigh (λ b. false) (λ b. count_by (λ r. nat_eq r d) (named b)) graph.nr (λ b. refl));
-  }
+  pub no_pairs_counted : (counts : Counted) → HasCounted counts [] → HasCounted counts (refs_in graph image role no_pairs)
+  no_pairs_counted counts none = λ d.
+      none d ∙ sym (counted_weighs (λ r. nat_eq r d) no_pairs graph.nr ∙ none_weigh (λ b. false) (λ b. count_by (λ r. nat_eq r d) (named b)) graph.nr (λ b. refl))
 
   -- a pair of another role leaves them
   pub other_role : (counts : Counted) (before after : ℕ → Bool) (b other : ℕ) → role < 16 → other < 16 → (role ≡ other → ⊥) → IsOneMore (pair b other) before after
-      → AreCounted counts graph image role before → AreCounted counts graph image role after
+      → HasCounted counts (refs_in graph image role before) → HasCounted counts (refs_in graph image role after)
   other_role counts before after b other few few_other differs more =
       same_refs counts before after (λ c.
       more.pairs (pair c role)
@@ -74,14 +70,11 @@ module _ (graph : Graph) (image : List (List ℕ)) (role : ℕ) where
       ∙ ap (λ (k : ℕ). k + count_by t (named b)) (sym (counted_weighs t before graph.nr))
       ∙ sym (sum_by-append (λ (r : ℕ). cond (t r) 1 0) (refs_in graph image role before) (named b))
 
-  pub one_more : (counts new : Counted) (before after : ℕ → Bool) (b : ℕ) (refs : List ℕ) → b < graph.nr → IsOneMore (pair b role) before after → named b ≡ refs
-      → new.size ≡ counts.size → HasCounted new (refs_in graph image role before ++ refs) → AreCounted counts graph image role before → AreCounted new graph image role after
-  one_more counts new before after b refs within more same size counted are = record {
-    size = size ∙ are.size;
-    counted = λ d.
-        counted d ∙ ap (λ (xs : List ℕ). count_by (λ r. nat_eq r d) (refs_in graph image role before ++ xs)) (sym same)
-        ∙ sym (more_counted (λ r. nat_eq r d) before after b within more);
-  }
+  one_more : (new : Counted) (before after : ℕ → Bool) (b : ℕ) (refs : List ℕ) → b < graph.nr → IsOneMore (pair b role) before after → named b ≡ refs
+      → HasCounted new (refs_in graph image role before ++ refs) → HasCounted new (refs_in graph image role after)
+  one_more new before after b refs within more same counted = λ d.
+      counted d ∙ ap (λ (xs : List ℕ). count_by (λ r. nat_eq r d) (refs_in graph image role before ++ xs)) (sym same)
+      ∙ sym (more_counted (λ r. nat_eq r d) before after b within more)
 
 -- a block with a broken rule names nothing
 names_nothing : (graph : Graph) (role b : ℕ) (block : List ℕ) → KeepsLaws graph role b block → (IsSound graph role b block → ⊥) → (refs : List ℕ) → graph.data_refs role b block ≡ refs → refs ≡ []
@@ -95,20 +88,20 @@ names_nothing graph role b block laws unsound (x ∷ xs) same =
 module _ (graph : Graph) (contents : Contents) (image : List (List ℕ)) (role b : ℕ) (block : List ℕ) (counts new : Counted) (before after : ℕ → Bool)
     (lawful : IsLawful graph) (known : role < graph.roles) (within : b < graph.nr) (here : block_at image b ≡ block) (more : IsOneMore (pair b role) before after) where
   -- and one without names what its bytes say
-  pub sound_block : AreContents graph contents → IsSound graph role b block → new.size ≡ counts.size
+  pub sound_block : AreContents graph contents → IsSound graph role b block → counts.size ≡ graph.data_blocks
       → ((all : List ℕ) → HasCounted counts all → AllByRecursion (λ d. d < counts.size) (contents.data_refs role block)
       → length all + length (contents.data_refs role block) < 2 ^ 32 - 1 → HasCounted new (all ++ contents.data_refs role block))
-      → AreCounted counts graph image role before → AreCounted new graph image role after
+      → HasCounted counts (refs_in graph image role before) → HasCounted new (refs_in graph image role after)
   sound_block told sound size adds are =
       let same : graph.data_refs role b block ≡ contents.data_refs role block = told.data_refs role b block known sound in
       let laws = lawful.each role b block known in
       let few : length (refs_in graph image role before) ≤ 254 * graph.nr = few_refs graph image role before graph.nr lawful known in
       let blocks : graph.nr ≤ MAX_META_BLOCKS = lawful.few_blocks in
-      one_more graph image role counts new before after b (contents.data_refs role block) within more (ap (graph.data_refs role b) here ∙ same) size
-      (adds (refs_in graph image role before) are.counted (rw (← same, are.size) laws.data_within) (rw (← same) (omega (arith, laws.data_number, few, blocks)))) are
+      one_more graph image role new before after b (contents.data_refs role block) within more (ap (graph.data_refs role b) here ∙ same)
+      (adds (refs_in graph image role before) are (rw (← same, size) laws.data_within) (rw (← same) (omega (arith, laws.data_number, few, blocks))))
 
-  pub unsound_block : (IsSound graph role b block → ⊥) → AreCounted counts graph image role before → AreCounted counts graph image role after
+  pub unsound_block : (IsSound graph role b block → ⊥) → HasCounted counts (refs_in graph image role before) → HasCounted counts (refs_in graph image role after)
   unsound_block unsound are =
-      one_more graph image role counts counts before after b [] within more
-      (ap (graph.data_refs role b) here ∙ names_nothing graph role b block (lawful.each role b block known) unsound _ refl) refl
-      (subst (HasCounted counts) (sym (append-nil (refs_in graph image role before))) are.counted) are
+      one_more graph image role counts before after b [] within more
+      (ap (graph.data_refs role b) here ∙ names_nothing graph role b block (lawful.each role b block known) unsound _ refl)
+      (subst (HasCounted counts) (sym (append-nil (refs_in graph image role before))) are)

@@ -5,7 +5,7 @@ use Rattle.pd_kinds.specs.Graph.{Graph, block_at, data_count, pair}
 use Rattle.pd_graph.specs.declared.audit.Audit.{Audit}
 use Rattle.pd_graph.specs.Roles.{has_bit}
 use Rattle.pd_graph.specs.Audit.{roles_at}
-use Rattle.pd_count.specs.Counted.{Counted, HasCounted, count_of}
+use Rattle.pd_count.specs.Counted.{Counted, count_of}
 
 -- in no other role does a block name data blocks
 abbrev pub NamesDataIn : Graph → ℕ → Type 0
@@ -23,15 +23,9 @@ refs_before graph image role pairs n = flat_map (refs_at graph image role pairs)
 abbrev pub refs_in : Graph → List (List ℕ) → ℕ → (ℕ → Bool) → List ℕ
 refs_in graph image role pairs = refs_before graph image role pairs graph.nr
 
--- the counts of the data blocks that these pairs name in the role
-pub record AreCounted (counts : Counted) (graph : Graph) (image : List (List ℕ)) (role : ℕ) (pairs : ℕ → Bool) : Type 0 where
-  pub size : counts.size ≡ graph.data_blocks
-  pub counted : HasCounted counts (refs_in graph image role pairs)
-
 -- the counts of all references to data blocks
-pub record HasDataCounts (counts : Counted) (graph : Graph) (image : List (List ℕ)) : Type 0 where
-  pub size : counts.size ≡ graph.data_blocks
-  pub counted : (d : ℕ) → d < graph.data_blocks → count_of counts d ≡ data_count graph image d
+abbrev pub HasDataCounts : Counted → Graph → List (List ℕ) → Type 0
+HasDataCounts counts graph image = (d : ℕ) → d < graph.data_blocks → count_of counts d ≡ data_count graph image d
 
 -- how many blocks before block n an audit has in the role
 unfoldable pub number_in : Audit → ℕ → ℕ → ℕ

@@ -24,7 +24,7 @@ pub struct RefCounter {
 }
 
 impl RefCounter {
-    ghost use Rattle.pd_refs.specs.Counter.{HasSeen, is_lacking};
+    ghost use Rattle.pd_refs.specs.Counter.{HasSeen, data_blocks_of, is_lacking};
 
     /// A counter for a format of so many data blocks, which blocks name in this role alone. It takes the memory of the
     /// list of counts.
@@ -33,6 +33,7 @@ impl RefCounter {
     pub fn new(alloc: Global, role: u8, data_blocks: u64) -> Result<RefCounter, AllocError>
         requires { role < 16 }
         ensures memory { IfOk result (λ counter. is_lacking counter ≡ false) }
+        ensures size { IfOk result (λ counter. data_blocks_of counter ≡ data_blocks) }
         ensures unseen { IfOk result (λ counter. (graph : Graph) (image : List (List ℕ)) → graph.data_blocks ≡ data_blocks
             → (0 < data_blocks → NamesDataIn graph role) → HasSeen counter graph image no_pairs) }
     {
@@ -43,12 +44,13 @@ impl RefCounter {
         })
     }
 
-    /// The counts, after a walk that showed it each reached block.
+    /// The counts, after a walk that showed it each reached block. They are as many as it was made for, whatever it was shown.
     ///
     /// Fails with `AllocError` where memory wasn't found on the way.
     pub fn counts(self) -> Result<Counts, AllocError>
         ensures counted { IfOk result (λ counts. (graph : Graph) (image : List (List ℕ)) → HasSeen self graph image (is_reached graph image)
             → HasDataCounts counts graph image) }
+        ensures size { IfOk result (λ counts. counts.size ≡ data_blocks_of self) }
         ensures memory { OnErr result (is_lacking self ≡ true) }
     {
         if self.lacks_memory {
@@ -59,7 +61,9 @@ impl RefCounter {
 }
 
 impl Watch for RefCounter {
-    ghost use Rattle.pd_refs.specs.Counter.{HasSeen, same_seen};
+    ghost use Rattle.pd_refs.specs.Counter.{HasSeen, data_blocks_of, same_seen};
+
+    ghost has_room = { λ counter graph. data_blocks_of counter ≡ graph.data_blocks };
 
     ghost has_seen = { HasSeen };
 

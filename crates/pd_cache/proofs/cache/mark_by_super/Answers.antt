@@ -1,11 +1,11 @@
 use Rattle.std.proofs.Common.{ℕ, sym, ap, ◌∙◌, subst, arith}
-use Rattle.pd_kinds.specs.CacheFormat.{CacheFields, cache_fields, cache_graph}
+use Rattle.pd_kinds.specs.CacheFormat.{CacheFields, cache_fields, cache_graph, cache_layout}
 use Rattle.pd_kinds.specs.Graph.{Graph, is_reached}
 use Rattle.pd_refs.proofs.RefsLemmas.{if_maps, ok_maps}
 use Rattle.pd_arrays.specs.Arrays.{AreAllShown}
 use Rattle.pd_cache.specs.Room.{IsRoomFor}
 use Rattle.pd_cache.specs.Whole.{arrays, origin_reads}
-use Rattle.pd_cache.proofs.ReadyLemmas.{blocks_are, graph_is, super_charged}
+use Rattle.pd_cache.proofs.ReadyLemmas.{blocks_are, graph_is, have_words, super_charged}
 use Rattle.pd_cache.proofs.cache.mark_by_super.Goals as goal
 
 pub of-format-requires-clause-some : goal.of-format-requires-clause-some
@@ -23,19 +23,19 @@ mark_cache-requires-clause-number g c =
 
 pub mark_cache-requires-clause-room : goal.mark_cache-requires-clause-room
 mark_cache-requires-clause-room g c =
-    subst (λ (n : ℕ). IsRoomFor n c.args.room.now) (sym c.requires.number) (c.requires.room (omega (arith, c.requires.number, c.nr-nr.ensures.number, c.nr-nr.ensures.few)))
+    subst (λ (n : ℕ). IsRoomFor n c.args.room.now) (sym c.requires.number) (c.requires.room.is (omega (arith, c.requires.number, c.nr-nr.ensures.number, c.nr-nr.ensures.few)))
 
 pub returns-clause-charges : goal.returns-clause-charges
 returns-clause-charges g c =
     let first = c.args.b.now.0 in
-    let marks = c.args.room.now.marks in
+    let marks = c.args.room.now.arrays.marks in
     let graph = c.of-format.ensures ∙ graph_is first c.read_cache_super-fields.result c.read_cache_super-fields.ensures in
     ok_maps c.mark_cache.result _ _ (λ charges.
     if_maps (g.D.Device.state c.args.dev.now).held _ _ (λ image charged ordered shown.
     super_charged image first c.read_cache_super-fields.result _ c.args.audit.now c.mark_cache.new.audit c.read_cache_super-fields.ensures graph c.ordered_caches_are_ready.ensures
     (λ ready. charged ready
-    (c.shown_blocks_are_counted.ensures _ image c.args.audit.now arrays marks ready.cache.known
-    (subst (λ (g : Graph). AreAllShown arrays image (is_reached g image) marks) (sym graph) shown)))
+    (c.shown_blocks_are_counted.ensures _ image c.args.audit.now (cache_layout 0) arrays marks ready.cache.known have_words
+    (subst (λ (g : Graph). AreAllShown (cache_layout 0) image (is_reached g image) marks) (sym graph) shown)))
     ordered) charges) c.mark_cache.ensures.charges
 
 pub returns-clause-reads : goal.returns-clause-reads

@@ -33,7 +33,7 @@ returns-clause-charges g c =
     let two =
     charged_then held later (λ image. IsReady graph image a fields) (λ image. IsReady graph image b fields)
     (λ image. origin_test graph image fields.mapping_root ∷ []) bitmaps a b d c.mark_origin.ensures.kept.held (λ image. ready_stays graph image fields a b) first second in
-    let marks = c.args.room.now.marks in
+    let marks = c.args.room.now.arrays.marks in
     ok_maps c.mark_arrays.result _ _ (λ charges.
     if_maps held _ _
     (λ image charged ready counted.

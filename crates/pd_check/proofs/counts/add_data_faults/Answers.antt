@@ -1,11 +1,10 @@
-use Rattle.std.proofs.Common.{arith}
-use Rattle.pd_check.proofs.CountLemmas.{data_told, on_ok, other_number}
+use Rattle.std.proofs.Common.{◌∙◌, sym}
+use Rattle.pd_check.proofs.CountLemmas.{data_number, data_told, on_ok}
 use Rattle.pd_check.proofs.counts.add_data_faults.Goals as goal
 
-pub returns-then-size-root-clause-added : goal.returns-then-size-root-clause-added
-returns-then-size-root-clause-added g c =
-    other_number _ _ g.M.Metadata.kind c.args.first.now.0 c.args.space.now c.args.counter c.in-Ok.counts c.requires.space
-    (λ same. omega (arith, same, c.size.ensures.size, c.if-size-root.true)) c.in-Ok.ensures.counted
+pub compare_data-requires-clause-number : goal.compare_data-requires-clause-number
+compare_data-requires-clause-number g c =
+    data_number g.M.Metadata.kind c.args.first.now.0 c.args.space.now c.requires.space ∙ sym (c.in-Ok.ensures.size ∙ c.requires.size)
 
 pub returns-then-inside-clause-added : goal.returns-then-inside-clause-added
 returns-then-inside-clause-added g c = on_ok c.compare_data.result

@@ -1,10 +1,10 @@
 use Rattle.std.proofs.Common.{sym, ap, subst, ◌∙◌, arith}
-use Rattle.pd_kinds.specs.EraFormat.{EraFields, era_fields, era_graph}
+use Rattle.pd_kinds.specs.EraFormat.{EraFields, era_fields, era_graph, era_layout}
 use Rattle.pd_kinds.specs.Graph.{Graph, is_reached}
 use Rattle.pd_refs.proofs.RefsLemmas.{if_all, ok_maps, if_maps}
 use Rattle.pd_arrays.specs.Arrays.{AreAllShown}
 use Rattle.pd_era.specs.Whole.{arrays, whole_reads}
-use Rattle.pd_era.proofs.ReadyLemmas.{blocks_are, graph_is, super_charged}
+use Rattle.pd_era.proofs.ReadyLemmas.{blocks_are, graph_is, have_words, super_charged}
 use Rattle.pd_era.proofs.era.mark_by_super.Goals as goal
 
 pub of-format-requires-clause-some : goal.of-format-requires-clause-some
@@ -22,7 +22,7 @@ mark_era-requires-clause-number g c =
 
 pub mark_era-requires-clause-places : goal.mark_era-requires-clause-places
 mark_era-requires-clause-places g c =
-    c.requires.room (omega (arith, c.requires.number, c.nr-nr.ensures.number, c.nr-nr.ensures.few)) ∙ sym c.requires.number
+    c.requires.room.places (omega (arith, c.requires.number, c.nr-nr.ensures.number, c.nr-nr.ensures.few)) ∙ sym c.requires.number
 
 pub returns-clause-charges : goal.returns-clause-charges
 returns-clause-charges g c =
@@ -33,8 +33,8 @@ returns-clause-charges g c =
     if_maps (g.D.Device.state c.args.dev.now).held _ _ (λ image charged ordered shown.
     super_charged image first c.read_era_super-fields.result _ c.args.audit.now c.mark_era.new.audit c.read_era_super-fields.ensures graph c.ordered_eras_are_ready.ensures
     (λ ready. charged ready
-    (c.shown_blocks_are_counted.ensures _ image c.args.audit.now arrays marks ready.era.known
-    (subst (λ (g : Graph). AreAllShown arrays image (is_reached g image) marks) (sym graph) shown)))
+    (c.shown_blocks_are_counted.ensures _ image c.args.audit.now (era_layout 0) arrays marks ready.era.known have_words
+    (subst (λ (g : Graph). AreAllShown (era_layout 0) image (is_reached g image) marks) (sym graph) shown)))
     ordered) charges) c.mark_era.ensures.charges
 
 pub returns-clause-reads : goal.returns-clause-reads

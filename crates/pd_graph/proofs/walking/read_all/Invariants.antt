@@ -14,7 +14,7 @@ invariant-loop-b g l = record {
       (λ image. AreLeavesNoted (g.F.Format.graph l.format) image (is_in (read_of l.marks)) (note_in l.notes));
   notes : (b : ℕ) → (note_in l.notes b).height ≤ 1;
   seen : IfSome (g.D.Device.state l.initial.dev).held (λ image. g.W.Watch.has_seen l.watch (g.F.Format.graph l.format) image (is_in (read_of l.marks)));
-  room : g.W.Watch.has_room l.watch (g.F.Format.graph l.format).nr;
+  room : g.W.Watch.has_room l.watch (g.F.Format.graph l.format);
   number : size_of l.notes ≡ size_of l.initial.notes;
   reads : (g.D.Device.state l.dev).reads ≤ (g.D.Device.state l.initial.dev).reads + read_number (g.F.Format.graph l.format).nr l.marks;
   kept : OnlyReads (g.D.Device.state l.initial.dev) (g.D.Device.state l.dev);

@@ -4,9 +4,5 @@ use Rattle.pd_refs.proofs.counter.RefCounter.counts.Goals as goal
 
 -- where it has counted all that is reached, these are the counts
 pub returns-clause-counted : goal.returns-clause-counted
-returns-clause-counted c = λ graph image seen.
-    let are = seen.counted c.if-self.false in
-    record {
-      size = are.size;
-      counted = λ d within. are.counted d ∙ sym (counts_by_role graph image c.args.self.role d c.args.self.few (seen.one_role (omega (arith, within))));
-    }
+returns-clause-counted c = λ graph image seen d within.
+    seen.counted c.if-self.false d ∙ sym (counts_by_role graph image c.args.self.role d c.args.self.few (seen.one_role (omega (arith, within))))
