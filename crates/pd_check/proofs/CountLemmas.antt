@@ -2,7 +2,7 @@
 use Rattle.std.proofs.Common.{◌≡◌, ℕ, zero, suc, ◌+◌, ◌%◌, ◌^◌, ◌<◌, ◌≤◌, Bool, true, false, not, ◌&&◌, cond, nat_eq, List, [], ◌∷◌, ◌++◌, Option, Some, None, IfSome, IfOk, Result, Ok, Err, OnOk, refl, ap, sym, subst, ◌∙◌, arith, eq-eqb, append-nil}
 use Rattle.std.specs.List.{flat_map, range_with_len, AllByRecursion}
 use Rattle.std.specs.Str.{bytes_eq}
-use Rattle.std.proofs.lemmas.Bool.{or_parts, not-false, ltb-false}
+use Rattle.std.proofs.lemmas.Bool.{or_parts, not-false}
 use Rattle.std.proofs.lemmas.Option.{IfSome_then}
 use Rattle.std.proofs.lemmas.Slice.Eq.{bytes_eq-Decides}
 use Rattle.pd_kinds.specs.declared.kind.Kind.{Kind}
@@ -20,10 +20,9 @@ use Rattle.pd_kinds.specs.Node.{Entry}
 use Rattle.pd_kinds.specs.Bitmap.{bitmaps_for}
 use Rattle.pd_kinds.specs.Graph.{Graph, block_at, is_reached, pair, meta_count, data_count}
 use Rattle.pd_kinds.specs.Layout.{Layout, bitmap, index, plain_tree, tree_to, layouts, layout_data, is_bad, leaf_entries, graph_of}
-use Rattle.pd_kinds.specs.Limits.{is_meta_size_bad, max_data_blocks}
 use Rattle.pd_kinds.specs.Report.{Reported, report_of}
 use Rattle.pd_kinds.specs.Stages.{checked_of, thin_checked, cache_checked, era_checked, count_fault, count_faults, faults, IsReached}
-use Rattle.pd_kinds.specs.ThinSuper.{thin_fields, thin_super_bad, thin_super_tests, are_thin_sizes_bad}
+use Rattle.pd_kinds.specs.ThinSuper.{thin_fields}
 use Rattle.pd_kinds.specs.ThinFormat.{thin_graph, thin_layout}
 use Rattle.pd_kinds.specs.CacheFormat.{cache_fields, cache_graph}
 use Rattle.pd_kinds.specs.EraFormat.{era_fields, era_graph}
@@ -31,7 +30,7 @@ use Rattle.pd_kinds.specs.Trees.{entries_below, keys_of, stored_meta_in, stored_
 use Rattle.pd_kinds.specs.Whole.{whole_bad, thin_whole, data_index_entries}
 use Rattle.pd_laws.specs.InOrder.{LooksAtOrder, graph_of_kind}
 use Rattle.pd_laws.proofs.CleanLemmas.{whole_where_none}
-use Rattle.pd_laws.proofs.SoundLemmas.{IsSound, tests_after_two}
+use Rattle.pd_laws.proofs.ThinTable.{few_data_blocks}
 use Rattle.pd_graph.specs.declared.audit.Audit.{Audit}
 use Rattle.pd_graph.specs.Audit.{count_at}
 use Rattle.pd_graph.proofs.AnyLemmas.{if_any, if_both}
@@ -75,16 +74,9 @@ data_number Thin first space is = let same : record { root = (thin_fields first)
 data_number Cache first space is = absurd (cc)
 data_number Era first space is = absurd (cc)
 
--- the data blocks of a sound superblock are few
-few_data : (blocks : ℕ) (block : List ℕ) → IsSound (thin_super_bad blocks block) → (thin_fields block).data_map.blocks ≤ 2 ^ 40
-unfolding thin_super_bad thin_super_tests are_thin_sizes_bad
-few_data blocks block sound =
-    let tests = tests_after_two _ _ _ _ (thin_super_tests blocks block) sound in
-    ltb-false max_data_blocks (thin_fields block).data_map.blocks (or_parts (is_meta_size_bad blocks (thin_fields block).meta_map.blocks) _ tests.1.0).1
-
 pub few_counted : (kind : Kind) (blocks : ℕ) (first : List ℕ) → ((rule : Rule) → super_bad_of kind blocks first rule ≡ false)
     → IfSome (data_space_of kind first) (λ space. space.root.blocks ≤ 2 ^ 40)
-few_counted Thin blocks first sound = few_data blocks first sound
+few_counted Thin blocks first sound = few_data_blocks blocks first sound
 few_counted Cache blocks first sound = tt
 few_counted Era blocks first sound = tt
 

@@ -2,25 +2,23 @@
 use Rattle.std.proofs.Common.{◌≡◌, inl, inr, ℕ, ◌+◌, ◌^◌, ◌<◌, ◌≤◌, not, nat_eq, nat_lt, List, [], ◌∷◌, length, map, filter, refl, arith}
 use Rattle.std.specs.List.{All, AllByRecursion}
 use Rattle.std.specs.Option.{unwrap_or}
-use Rattle.std.proofs.lemmas.Bool.{cases_Bool, cases_lt, lt-ltb, le-ltb, or_parts, ltb-false}
+use Rattle.std.proofs.lemmas.Bool.{cases_Bool, cases_lt, lt-ltb, le-ltb}
 use Rattle.std.proofs.lemmas.List.{length-map}
 use Rattle.pd_kinds.specs.declared.kind.Kind.TheVariants.{Thin}
 use Rattle.pd_kinds.specs.declared.kind.Stage.TheVariants as stages
 use Rattle.pd_kinds.specs.declared.limits.TheConstants.{MAX_META_BLOCKS}
 use Rattle.pd_kinds.specs.Edge.{is_outside}
 use Rattle.pd_kinds.specs.Graph.{block_at}
-use Rattle.pd_kinds.specs.Limits.{is_meta_size_bad, max_data_blocks}
 use Rattle.pd_kinds.specs.Meaning.{Mapping}
 use Rattle.pd_kinds.specs.Node.{Entry}
 use Rattle.pd_kinds.specs.Stages.{HasCleanSuper, faults, thin_checked}
 use Rattle.pd_kinds.specs.ThinFormat.{mapped_block, mapped_time}
-use Rattle.pd_kinds.specs.ThinSuper.{ThinFields, thin_fields, thin_super_bad, thin_super_tests, are_thin_sizes_bad}
+use Rattle.pd_kinds.specs.ThinSuper.{ThinFields, thin_fields}
 use Rattle.pd_kinds.specs.Trees.{value_of_key}
 use Rattle.pd_kinds.specs.Value.{details_code}
 use Rattle.pd_kinds.proofs.FieldLemmas.{le-lt}
 use Rattle.pd_laws.proofs.CleanLemmas.{clean_super_where_none}
-use Rattle.pd_laws.proofs.SoundLemmas.{IsSound, tests_after_two}
-use Rattle.pd_laws.proofs.ThinTable.{super_sound}
+use Rattle.pd_laws.proofs.ThinTable.{few_data_blocks, super_sound}
 use Rattle.pd_kinds.specs.Image.{HasBytes}
 use Rattle.pd_laid.specs.Salvage.{give, given, given_details, given_device, given_mappings, salvage, salvage_from}
 use Rattle.pd_spells.specs.Lawful.{AreDevices, AreMappings, IsDevice, IsLawfulPool}
@@ -107,18 +105,12 @@ pub record HasSoundSizes (image : List (List ℕ)) : Type 0 where
   pub few : (thin_fields (block_at image 0)).meta_map.blocks ≤ MAX_META_BLOCKS
   pub few_data : (thin_fields (block_at image 0)).data_map.blocks ≤ 2 ^ 40
 
-few_data_in : (blocks : ℕ) (block : List ℕ) → IsSound (thin_super_bad blocks block) → (thin_fields block).data_map.blocks ≤ 2 ^ 40
-unfolding thin_super_bad thin_super_tests are_thin_sizes_bad
-few_data_in blocks block sound =
-    let tests = tests_after_two _ _ _ _ (thin_super_tests blocks block) sound in
-    ltb-false max_data_blocks (thin_fields block).data_map.blocks (or_parts (is_meta_size_bad blocks (thin_fields block).meta_map.blocks) _ tests.1.0).1
-
 sizes_if_clean : (image : List (List ℕ)) → HasCleanSuper (thin_checked image) image → HasSoundSizes image
 unfolding thin_checked
 sizes_if_clean [] clean = absurd clean
 sizes_if_clean (block ∷ blocks) clean =
     let sound = super_sound (length (block ∷ blocks)) block clean in
-    record { some = omega arith; within = sound.within; few = sound.few_blocks; few_data = few_data_in (length (block ∷ blocks)) block clean }
+    record { some = omega arith; within = sound.within; few = sound.few_blocks; few_data = few_data_blocks (length (block ∷ blocks)) block clean }
 
 pub sizes_are : (image : List (List ℕ)) → faults Thin stages.Super image ≡ [] → HasSoundSizes image
 unfolding faults

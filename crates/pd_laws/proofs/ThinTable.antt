@@ -1,16 +1,23 @@
 -- The table of a thin pool's roles keeps the laws.
 use Rattle.pd_kinds.specs.declared.limits.TheConstants.{MAX_META_BLOCKS}
 use Rattle.std.proofs.Common.{inl, inr, ℕ, ◌%◌, ◌^◌, ◌<◌, ◌≤◌, false, List, refl, arith}
-use Rattle.std.proofs.lemmas.Bool.{or_parts, not-false, ltb-true}
+use Rattle.std.proofs.lemmas.Bool.{or_parts, not-false, ltb-false, ltb-true}
 use Rattle.pd_kinds.specs.Edge.{Edge}
 use Rattle.pd_kinds.specs.ThinSuper.{thin_fields, thin_super_edges, thin_super_tests, thin_super_bad, are_thin_sizes_bad}
 use Rattle.pd_kinds.specs.ThinFormat.{held_edges, thin_held_bad, mapped_block, mappings_tree, thin_layout}
-use Rattle.pd_kinds.specs.Limits.{is_meta_size_bad}
+use Rattle.pd_kinds.specs.Limits.{is_meta_size_bad, max_data_blocks}
 use Rattle.pd_kinds.specs.Lawful.{IsLawful}
 use Rattle.pd_kinds.specs.Layout.{copy, graph_of}
 use Rattle.pd_laws.proofs.SoundLemmas.{IsSound, IsSoundSuper, tests_after_two, edges_inside, super_holds}
 use Rattle.pd_laws.proofs.LayoutLemmas.{IsLater, IsKeptBy, table_lawful, at_each, bitmap_kept, index_kept, copy_kept, all_optional, length-optional}
 use Rattle.pd_laws.proofs.TreeLemmas.{tree_kept, plain_kept, naming_kept}
+
+-- the data blocks of a sound superblock are few
+pub few_data_blocks : (blocks : ℕ) (block : List ℕ) → IsSound (thin_super_bad blocks block) → (thin_fields block).data_map.blocks ≤ 2 ^ 40
+unfolding thin_super_bad thin_super_tests are_thin_sizes_bad
+few_data_blocks blocks block sound =
+    let tests = tests_after_two _ _ _ _ (thin_super_tests blocks block) sound in
+    ltb-false max_data_blocks (thin_fields block).data_map.blocks (or_parts (is_meta_size_bad blocks (thin_fields block).meta_map.blocks) _ tests.1.0).1
 
 -- what is known of a sound superblock
 pub super_sound : (blocks : ℕ) (block : List ℕ) → IsSound (thin_super_bad blocks block)

@@ -1,27 +1,19 @@
 -- The superblock of a pool without faults, and of one that breaks no rule.
 use Rattle.std.proofs.Common.{◌≡◌, ℕ, ◌^◌, ◌≤◌, List, [], ◌∷◌, length, subst, sym, arith}
-use Rattle.std.proofs.lemmas.Bool.{ltb-false, or_parts}
 use Rattle.pd_kinds.specs.declared.kind.Kind.TheVariants.{Thin}
 use Rattle.pd_kinds.specs.declared.kind.Stage.TheVariants.{Walk, Order, Whole, Counts}
 use Rattle.pd_kinds.specs.Edge.{Edge, optional_edge}
 use Rattle.pd_kinds.specs.Graph.{block_at}
-use Rattle.pd_kinds.specs.Limits.{is_meta_size_bad, max_data_blocks}
 use Rattle.pd_kinds.specs.Stages.{HasCleanSuper, faults, thin_checked}
-use Rattle.pd_kinds.specs.ThinSuper.{ThinFields, are_thin_sizes_bad, thin_fields, thin_super_bad, thin_super_tests}
+use Rattle.pd_kinds.specs.ThinSuper.{ThinFields, thin_fields, thin_super_bad}
 use Rattle.pd_laws.proofs.CleanLemmas.{clean_super_where_none}
-use Rattle.pd_laws.proofs.SoundLemmas.{IsInside, IsSound, tests_after_two}
-use Rattle.pd_laws.proofs.ThinTable.{super_sound}
+use Rattle.pd_laws.proofs.SoundLemmas.{IsInside, IsSound}
+use Rattle.pd_laws.proofs.ThinTable.{few_data_blocks, super_sound}
 use Rattle.pd_shrink.specs.Making.{FitsDevice}
 use Rattle.pd_laid.proofs.GatherLemmas.{all_last}
 
 abbrev Image : Type 0
 Image = List (List ℕ)
-
-data_few : (blocks : ℕ) (block : List ℕ) → IsSound (thin_super_bad blocks block) → (thin_fields block).data_map.blocks ≤ 2 ^ 40
-unfolding thin_super_bad thin_super_tests are_thin_sizes_bad
-data_few blocks block sound =
-    let tests = tests_after_two _ _ _ _ (thin_super_tests blocks block) sound in
-    ltb-false max_data_blocks (thin_fields block).data_map.blocks (or_parts (is_meta_size_bad blocks (thin_fields block).meta_map.blocks) _ tests.1.0).1
 
 fits_block : (blocks : ℕ) (block : List ℕ) → IsSound (thin_super_bad blocks block) → FitsDevice blocks (thin_fields block)
 fits_block blocks block sound =
@@ -32,7 +24,7 @@ fits_block blocks block sound =
       some = super.some_block;
       within = super.within;
       few = super.few_blocks;
-      few_data = data_few blocks block sound;
+      few_data = few_data_blocks blocks block sound;
       index = edges.1.1.0.1;
       overflow = edges.1.1.1.0.1;
     }

@@ -2,7 +2,7 @@
 use Rattle.std.proofs.Common.{◌≡◌, ℕ, ◌^◌, ◌<◌, ◌≤◌, Bool, true, false, not, ◌&&◌, ◌||◌, nat_eq, List, [], ◌∷◌, ◌++◌, length, refl, eq-eqb}
 use Rattle.std.specs.List.{list_any}
 use Rattle.std.specs.Str.{bytes_eq}
-use Rattle.std.proofs.lemmas.Bool.{or_parts, not-false, ltb-false}
+use Rattle.std.proofs.lemmas.Bool.{or_parts, not-false}
 use Rattle.std.proofs.lemmas.Slice.Eq.{bytes_eq-Decides}
 use Rattle.pd_kinds.specs.declared.kind.Kind.TheVariants.{Thin}
 use Rattle.pd_kinds.specs.declared.kind.Stage.TheVariants as stages
@@ -10,22 +10,13 @@ use Rattle.pd_kinds.specs.declared.rule.Rule.{Rule}
 use Rattle.pd_kinds.specs.declared.rule.Rule.TheVariants as r
 use Rattle.pd_kinds.specs.Rule.{same_rule}
 use Rattle.pd_kinds.specs.Graph.{Graph, block_at}
-use Rattle.pd_kinds.specs.Limits.{is_meta_size_bad, max_data_blocks}
 use Rattle.pd_kinds.specs.Stages.{HasCleanSuper, faults, thin_checked}
 use Rattle.pd_kinds.specs.ThinFormat.{thin_graph}
-use Rattle.pd_kinds.specs.ThinSuper.{thin_fields, thin_super_bad, thin_super_tests, are_thin_sizes_bad}
+use Rattle.pd_kinds.specs.ThinSuper.{thin_fields}
 use Rattle.pd_kinds.specs.Trees.{keys_of}
 use Rattle.pd_kinds.specs.Whole.{WholeTest, bitmap_tests, details_entries, device_test, thin_roots, thin_whole, top_entries, whole_bad}
 use Rattle.pd_laws.proofs.CleanLemmas.{clean_super_where_none, whole_where_none}
-use Rattle.pd_laws.proofs.SoundLemmas.{IsSound, tests_after_two}
-use Rattle.pd_laws.proofs.ThinTable.{super_sound}
-
--- the data blocks of a sound superblock are few
-few_data : (blocks : ℕ) (block : List ℕ) → IsSound (thin_super_bad blocks block) → (thin_fields block).data_map.blocks ≤ 2 ^ 40
-unfolding thin_super_bad thin_super_tests are_thin_sizes_bad
-few_data blocks block sound =
-    let tests = tests_after_two _ _ _ _ (thin_super_tests blocks block) sound in
-    ltb-false max_data_blocks (thin_fields block).data_map.blocks (or_parts (is_meta_size_bad blocks (thin_fields block).meta_map.blocks) _ tests.1.0).1
+use Rattle.pd_laws.proofs.ThinTable.{few_data_blocks, super_sound}
 
 -- what is known of the sizes
 pub record HasSizes (image : List (List ℕ)) : Type 0 where
@@ -37,7 +28,7 @@ unfolding thin_checked
 sizes_if_clean [] clean = absurd clean
 sizes_if_clean (block ∷ blocks) clean = record {
   within = (super_sound (length (block ∷ blocks)) block clean).within;
-  few = few_data (length (block ∷ blocks)) block clean;
+  few = few_data_blocks (length (block ∷ blocks)) block clean;
 }
 
 pub sizes : (image : List (List ℕ)) → faults Thin stages.Whole image ≡ [] → HasSizes image
