@@ -44,7 +44,8 @@ impl RefCounter {
         })
     }
 
-    /// The counts, after a walk that showed it each reached block. They are as many as it was made for, whatever it was shown.
+    /// The counts, after a walk that showed it each reached block. There are as many as it was made for, whatever it was
+    /// shown.
     ///
     /// Fails with `AllocError` where memory wasn't found on the way.
     pub fn counts(self) -> Result<Counts, AllocError>
