@@ -72,6 +72,7 @@ impl Metadata for CacheTable {
 ///
 /// Fails with `CheckFault::Memory` where that memory wasn't found, and with `CheckFault::Device` where a
 /// read failed.
+#[inline(never)]
 pub fn check_cache<D: Device>(
     alloc: Global,
     dev: &mut D,

@@ -85,6 +85,7 @@ fn check_from<M: Metadata, D: Device>(
 }
 
 /// The report of the rules that block 0 breaks.
+#[inline(never)]
 fn super_report(rules: &Rules) -> Report
     ensures { result ≡ report_of (faults_at 0 (has_rule rules.now)) }
 {

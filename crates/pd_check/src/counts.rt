@@ -45,6 +45,7 @@ pub(crate) fn ref_counter<M: Metadata>(
 /// rule up to those of the whole image, and reports each that differs. The walk showed the counter what it read.
 ///
 /// Fails with `CheckFault::Memory` where memory wasn't found, and with `CheckFault::Device` where a read failed.
+#[inline(never)]
 pub(crate) fn count_report<M: Metadata, D: Device>(
     alloc: Global,
     dev: &mut D,

@@ -30,6 +30,7 @@ use std::alloc::Global;
 ///
 /// Fails with `CheckFault::Memory` where that memory wasn't found, and with `CheckFault::Device` where a
 /// read failed.
+#[inline(never)]
 pub fn check_later_stages<F: Format, D: Device>(
     alloc: Global,
     dev: &mut D,
@@ -53,6 +54,7 @@ pub fn check_later_stages<F: Format, D: Device>(
 /// order: the audit of that, and the report.
 ///
 /// Fails as `check_later_stages` does.
+#[inline(never)]
 pub(crate) fn looked_at<F: Format, D: Device, W: Watch>(
     alloc: Global,
     dev: &mut D,

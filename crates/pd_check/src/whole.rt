@@ -39,6 +39,7 @@ use std::alloc::Global;
 ///
 /// Fails with `CheckFault::Memory` where that memory wasn't found, and with `CheckFault::Device` where a
 /// read failed.
+#[inline(never)]
 pub(crate) fn check_whole<M: Metadata, D: Device>(
     alloc: Global,
     dev: &mut D,
@@ -66,6 +67,7 @@ pub(crate) fn check_whole<M: Metadata, D: Device>(
 /// watched.
 ///
 /// Fails as `check_whole` does.
+#[inline(never)]
 pub(crate) fn whole_looked<M: Metadata, D: Device, W: Watch + Drop>(
     alloc: Global,
     dev: &mut D,
@@ -128,6 +130,7 @@ pub(crate) fn whole_looked<M: Metadata, D: Device, W: Watch + Drop>(
 /// whole image, compares the stored counts with the references.
 ///
 /// Fails with `CheckFault::Memory` where memory wasn't found, and with `CheckFault::Device` where a read failed.
+#[inline(never)]
 pub(crate) fn check_counts<M: Metadata, D: Device>(
     alloc: Global,
     dev: &mut D,

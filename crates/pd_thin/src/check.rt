@@ -75,6 +75,7 @@ impl Metadata for ThinTable {
 ///
 /// Fails with `CheckFault::Memory` where that memory wasn't found, and with `CheckFault::Device` where a
 /// read failed.
+#[inline(never)]
 pub fn check_thin<D: Device>(alloc: Global, dev: &mut D, until: Stage) -> Result<Report, CheckFault>
     requires attached { IsAttached (D.state dev.old) }
     ensures report { IfOk result (λ report. IfSome (D.state dev.old).held (λ image. report ≡ report_of (faults Thin until image))) }

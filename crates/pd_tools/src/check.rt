@@ -23,6 +23,7 @@ use pd_thin::check_thin;
 use std::alloc::Global;
 
 /// Checks the metadata of this kind in the image at the path up to a stage, and puts the report.
+#[inline(never)]
 pub fn run_check<K: Sink, E: Sink, A: Device>(
     alloc: Global,
     kind: Kind,

@@ -21,6 +21,7 @@ use std::alloc::Global;
 
 /// Checks the pool in the image at the path to the end, puts the report, and then clears the flag where it is set and
 /// nothing was reported.
+#[inline(never)]
 pub fn run_clearing_check<K: Sink, E: Sink, A: Device>(
     alloc: Global,
     image: &str,

@@ -13,6 +13,7 @@ use pd_gen::put_generated;
 use pd_image::{Failed, Sink};
 
 /// Puts the generator's text of a number to the file, or to the standard output.
+#[inline(never)]
 pub fn run_generate<K: Sink, E: Sink>(
     number: u32,
     file: Option<&str>,

@@ -18,6 +18,7 @@ use pd_shapes::pool_text_has_one_verdict;
 use std::alloc::Global;
 
 /// Rehearses with the generator's text of the number, over the image at the path.
+#[inline(never)]
 pub fn run_rehearse<K: Sink, E: Sink, B: Device>(
     alloc: Global,
     number: u32,

@@ -22,6 +22,7 @@ use std::alloc::Global;
 
 /// Writes what can be saved of the pool in the image at one path to the image at another. Where the superblock has
 /// faults, their report goes to `notes`.
+#[inline(never)]
 pub fn run_repair<E: Sink, A: Device, B: Device>(
     alloc: Global,
     from: &str,

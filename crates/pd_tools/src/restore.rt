@@ -27,6 +27,7 @@ use pd_spells::{cache_text_has_one_verdict, era_text_has_one_verdict};
 use std::alloc::Global;
 
 /// Restores an image of this kind, and of a cache's version, from the text at a path.
+#[inline(never)]
 pub fn run_restore<S: Source, E: Sink, B: Device>(
     alloc: Global,
     kind: Kind,

@@ -40,6 +40,7 @@ pub struct Given {
 
 /// Writes the pool of the best roots that are found in the image at one path to the image at another, with the numbers
 /// that are given, and puts the line of these roots.
+#[inline(never)]
 pub fn run_search<K: Sink, E: Sink, A: Device, B: Device>(
     alloc: Global,
     from: &str,

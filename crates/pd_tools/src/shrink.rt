@@ -29,6 +29,7 @@ use std::alloc::Global;
 
 /// Makes the pool of the metadata at the path `from` smaller, to so many data blocks or fewer: moves what lies past them on the
 /// data device at the path `pool`, and writes the new metadata at the path `to`.
+#[inline(never)]
 pub fn run_shrink<K: Sink, E: Sink, A: Device, B: Device, C: Device>(
     alloc: Global,
     from: &str,

@@ -28,6 +28,7 @@ use std::alloc::Global;
 
 /// Copies what is dirty in the cache of the metadata at one path, from the fast device to the origin, and marks the
 /// cache clean.
+#[inline(never)]
 pub fn run_writeback<K: Sink, E: Sink, A: Device, B: Device, C: Device>(
     alloc: Global,
     metadata: &str,
