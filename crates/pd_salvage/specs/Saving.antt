@@ -12,12 +12,12 @@ use Rattle.pd_thin_meaning.specs.declared.joined.Run.{Run}
 use Rattle.pd_thin_meaning.specs.Items.{details_of}
 use Rattle.pd_spells.specs.Lawful.{AreDevices}
 use Rattle.pd_spells.specs.ThinText.{device_of_part}
-use Rattle.pd_tree.specs.Items.{item_of}
+use Rattle.pd_tree.specs.Items.{item_of, root_of}
 use Rattle.pd_tree.specs.Search.{lookup}
 use Rattle.pd_salvage.specs.declared.saved.SavedDevice.{SavedDevice}
 use Rattle.pd_salvage.specs.declared.saved.SavedHead.{SavedHead}
 use Rattle.pd_salvage.specs.declared.saving.Saving.{Saving}
-use Rattle.pd_salvage.specs.Cursor.{saved_least, saved_room}
+use Rattle.pd_salvage.specs.Cursor.{saved_left, saved_least, saved_room}
 use Rattle.pd_salvage.specs.Details.{details_left, details_room}
 use Rattle.pd_salvage.specs.Saved.{IsJoined, SavedPool, parts_of, runs_of_devices}
 
@@ -48,6 +48,7 @@ pub record IsStarted (s : ThinSuper) (saving : Saving) : Type 0 where
   pub ready : HasReadyCursors saving
   pub devices : saving.devices.items ≡ []
   pub runs : saving.runs.items ≡ []
+  pub tops_left : (image : List (List ℕ)) → saved_left 8 root_of image saving.tops ≡ map (item_of root_of) (given 8 s.meta_map.blocks image s.mapping_root)
   pub least : saved_least saving.tops ≡ 0
   pub details : (image : List (List ℕ)) → details_left image saving.details ≡ map (item_of details_of) (all_details s image)
 
