@@ -1,6 +1,6 @@
 -- A table of marks.
 use Rattle.std.specs.Prelude.{ℕ, length, slice_index_or}
-use Rattle.pd_graph.specs.Table.{values_of}
+use Rattle.pd_graph.specs.BlockTable.{values_of}
 use Rattle.pd_arrays.specs.declared.mark.ArrayMark.{ArrayMark}
 use Rattle.pd_arrays.specs.declared.marks.ArrayMarks.{ArrayMarks}
 use Rattle.pd_arrays.specs.ArrayMark.{no_mark}

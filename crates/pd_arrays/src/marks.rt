@@ -1,12 +1,12 @@
 use crate::mark::ArrayMark;
-use pd_graph::Table;
+use pd_graph::BlockTable;
 use std::alloc::{AllocError, Global};
 
 /// A mark for each of so many blocks, in six bytes: of a node of an array's tree, how full the blocks of the array
 /// are that stand below it, and of a block of an array, how many words it has.
 #[derive(Drop)]
 pub struct ArrayMarks {
-    marks: Table<ArrayMark>,
+    marks: BlockTable<ArrayMark>,
 }
 
 impl ArrayMarks {
@@ -18,7 +18,7 @@ impl ArrayMarks {
     pub fn new(alloc: Global, nr: u64) -> Result<ArrayMarks, AllocError>
         ensures { IfOk result (λ marks. places_of marks ≡ nr) }
     {
-        let marks = Table::new(alloc, nr as usize, ArrayMark::none())?;
+        let marks = BlockTable::new(alloc, nr as usize, ArrayMark::none())?;
         Ok(ArrayMarks { marks })
     }
 

@@ -1,5 +1,5 @@
 pub mod BitLemmas
-pub mod TableValues
+pub mod BlockTableLemmas
 pub mod TableLemmas
 pub mod Weights
 pub mod EdgeLemmas

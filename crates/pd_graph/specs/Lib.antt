@@ -1,7 +1,7 @@
 pub mod Format
 pub mod Roles
 pub mod Notes
-pub mod Table
+pub mod BlockTable
 pub mod Marks
 pub mod Audit
 pub mod Weight

@@ -8,7 +8,7 @@ use Rattle.pd_kinds.specs.Edge.{Edge}
 use Rattle.pd_kinds.specs.Graph.{pair}
 use Rattle.pd_graph.specs.declared.marks.Marks.{Marks}
 use Rattle.pd_graph.specs.Roles.{is_in, IsUnreadAt}
-use Rattle.pd_graph.specs.Table.{values_of}
+use Rattle.pd_graph.specs.BlockTable.{values_of}
 
 -- whether a table of sets of rules has the rule at this place
 unfoldable pub has_rule_in : List Rules → ℕ → Rule → Bool

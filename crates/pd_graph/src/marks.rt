@@ -7,10 +7,10 @@ ghost use Rattle.pd_graph.specs.Roles.{IsUnreadAt, IsAllRead};
 ghost use Rattle.pd_kinds.specs.Edge.{edge_of};
 ghost use Rattle.pd_graph.specs.Format.{IsSound};
 
+use crate::block_table::BlockTable;
 use crate::format::Format;
 use crate::roles::{add_role, any_unread, unread_at};
 use crate::stack::Stack;
-use crate::table::Table;
 use pd_kinds::{Block, Rule, Rules};
 use std::alloc::{AllocError, Global};
 
@@ -18,13 +18,13 @@ use std::alloc::{AllocError, Global};
 #[derive(Drop)]
 pub(crate) struct Marks {
     /// The roles in which the block was met.
-    pub(crate) seen: Table<u16>,
+    pub(crate) seen: BlockTable<u16>,
     /// The roles in which it was read.
-    pub(crate) read: Table<u16>,
+    pub(crate) read: BlockTable<u16>,
     /// How many references to it were met.
-    pub(crate) counts: Table<u64>,
+    pub(crate) counts: BlockTable<u64>,
     /// The rules that it breaks in the roles in which it was read.
-    pub(crate) rules: Table<Rules>,
+    pub(crate) rules: BlockTable<Rules>,
     /// Blocks that have an unread role.
     pub(crate) unread: Stack,
 }
@@ -37,10 +37,10 @@ impl Marks {
         ensures places { IfOk result (HasPlaces nr) }
         ensures unmarked { IfOk result IsUnmarked }
     {
-        let seen = Table::new(alloc, nr, 0)?;
-        let read = Table::new(alloc, nr, 0)?;
-        let counts = Table::new(alloc, nr, 0)?;
-        let rules = Table::new(alloc, nr, Rules::none())?;
+        let seen = BlockTable::new(alloc, nr, 0)?;
+        let read = BlockTable::new(alloc, nr, 0)?;
+        let counts = BlockTable::new(alloc, nr, 0)?;
+        let rules = BlockTable::new(alloc, nr, Rules::none())?;
         let unread = Stack::new(alloc, nr)?;
         Ok(Marks {
             seen,

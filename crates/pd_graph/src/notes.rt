@@ -1,8 +1,8 @@
 ghost use Rattle.pd_kinds.specs.declared.limits.TheConstants.{MAX_META_BLOCKS};
 ghost use Rattle.std.specs.Prelude.{◌≡◌, ℕ, ◌<◌, ◌≤◌, ◌==◌, length, IfOk, if◌then◌else◌};
-ghost use Rattle.pd_graph.specs.Table.{values_of};
+ghost use Rattle.pd_graph.specs.BlockTable.{values_of};
 
-use crate::table::Table;
+use crate::block_table::BlockTable;
 use std::alloc::{AllocError, Global};
 
 /// What is kept of a node: the least and the greatest key below it, the number of entries below it,
@@ -71,7 +71,7 @@ impl KeptNote {
 #[derive(Drop)]
 pub struct Notes {
     nr: u64,
-    kept: Table<KeptNote>,
+    kept: BlockTable<KeptNote>,
     ghost places: { length (values_of kept) ≡ nr },
     ghost some: { 1 ≤ nr },
     ghost few: { nr ≤ MAX_META_BLOCKS },
@@ -95,7 +95,7 @@ impl Notes {
             height: 0,
             in_range: true,
         });
-        let kept = Table::new(alloc, nr as usize, unknown)?;
+        let kept = BlockTable::new(alloc, nr as usize, unknown)?;
         Ok(Notes { nr, kept })
     }
 

@@ -3,9 +3,9 @@
 ghost use Rattle.std.specs.Prelude.{◌≡◌, ℕ, ◌<◌, ◌==◌, ◌||◌, true, length, slice_index, IfSome, IfNone};
 ghost use Rattle.pd_kinds.specs.Graph.{pair};
 ghost use Rattle.pd_graph.specs.Roles.{has_bit, has_several, is_in, IsUnread, IsUnreadAt, IsAllRead};
-ghost use Rattle.pd_graph.specs.Table.{values_of};
+ghost use Rattle.pd_graph.specs.BlockTable.{values_of};
 
-use crate::table::Table;
+use crate::block_table::BlockTable;
 
 /// Whether the role, below 16, is in the set of an audit's `roles`: bit r stands for role r.
 pub fn has_role(roles: u16, role: u8) -> bool
@@ -47,7 +47,7 @@ pub(crate) fn are_several(roles: u16) -> bool
 }
 
 /// Adds a role to the set of block b.
-pub(crate) fn add_role(table: &mut Table<u16>, b: usize, role: u8)
+pub(crate) fn add_role(table: &mut BlockTable<u16>, b: usize, role: u8)
     requires within { b < length (values_of table.old) }
     requires role { role < 16 }
     ensures places { length (values_of table.new) ≡ length (values_of table.old) }
@@ -58,7 +58,11 @@ pub(crate) fn add_role(table: &mut Table<u16>, b: usize, role: u8)
 }
 
 /// Block b with the lowest role in which it was met and not yet read.
-pub(crate) fn unread_at(seen: &Table<u16>, read: &Table<u16>, b: usize) -> Option<(usize, u8)>
+pub(crate) fn unread_at(
+    seen: &BlockTable<u16>,
+    read: &BlockTable<u16>,
+    b: usize,
+) -> Option<(usize, u8)>
     requires { length (values_of read.now) ≡ length (values_of seen.now) }
     ensures some { IfSome result (λ found. IsUnreadAt (values_of seen.now) (values_of read.now) found.0 found.1) }
     ensures none { IfNone result ((role : ℕ) → role < 16 → has_bit (slice_index (values_of seen.now) b) role ≡ true → has_bit (slice_index (values_of read.now) b) role ≡ true) }
@@ -71,7 +75,7 @@ pub(crate) fn unread_at(seen: &Table<u16>, read: &Table<u16>, b: usize) -> Optio
 }
 
 /// The first block that was met in a role and not yet read in it.
-pub(crate) fn any_unread(seen: &Table<u16>, read: &Table<u16>) -> Option<(usize, u8)>
+pub(crate) fn any_unread(seen: &BlockTable<u16>, read: &BlockTable<u16>) -> Option<(usize, u8)>
     requires { length (values_of read.now) ≡ length (values_of seen.now) }
     ensures some { IfSome result (λ found. IsUnreadAt (values_of seen.now) (values_of read.now) found.0 found.1) }
     ensures none { IfNone result (IsAllRead (values_of seen.now) (values_of read.now)) }

@@ -1,6 +1,6 @@
 -- A table of measures.
 use Rattle.std.specs.Prelude.{ℕ, length, slice_index_or}
-use Rattle.pd_graph.specs.Table.{values_of}
+use Rattle.pd_graph.specs.BlockTable.{values_of}
 use Rattle.pd_measures.specs.declared.measured.Measured.{Measured}
 use Rattle.pd_measures.specs.declared.measures.Measures.{Measures}
 use Rattle.pd_measures.specs.Measured.{no_measure}

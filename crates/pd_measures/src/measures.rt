@@ -1,11 +1,11 @@
 use crate::measured::Measured;
-use pd_graph::Table;
+use pd_graph::BlockTable;
 use std::alloc::{AllocError, Global};
 
 /// A measure for each of so many blocks, in 24 bytes.
 #[derive(Drop)]
 pub struct Measures {
-    kept: Table<Measured>,
+    kept: BlockTable<Measured>,
 }
 
 impl Measures {
@@ -17,7 +17,7 @@ impl Measures {
     pub fn new(alloc: Global, nr: u64) -> Result<Measures, AllocError>
         ensures { IfOk result (λ measures. places_of measures ≡ nr) }
     {
-        let kept = Table::new(alloc, nr as usize, Measured::none())?;
+        let kept = BlockTable::new(alloc, nr as usize, Measured::none())?;
         Ok(Measures { kept })
     }
 

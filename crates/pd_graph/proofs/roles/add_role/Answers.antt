@@ -1,7 +1,7 @@
 use Rattle.std.proofs.Common.{ℕ, List, length, ◌||◌, nat_eq, ap, sym, ◌∙◌}
 use Rattle.std.proofs.lemmas.List.{length-set}
 use Rattle.pd_graph.specs.Roles.{has_bit, is_in}
-use Rattle.pd_graph.specs.Table.{values_of}
+use Rattle.pd_graph.specs.BlockTable.{values_of}
 use Rattle.pd_graph.proofs.BitLemmas.{is_in_more}
 use Rattle.pd_graph.proofs.roles.add_role.Goals as goal
 

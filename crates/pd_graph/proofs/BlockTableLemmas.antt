@@ -1,11 +1,11 @@
 -- The values of a table: what it kept, and the value of the places behind.
 use Rattle.std.proofs.Common.{◌≡◌, ℕ, ◌+◌, ◌-◌, ◌<◌, ◌≤◌, List, ◌++◌, length, take, replicate, get_or, set, ap, sym, ◌∙◌, arith, refl, Bool, true, false, cond}
 use Rattle.std.proofs.lemmas.List.{append_assoc, length-append, length-replicate, length-set, take_all, set-append_left, replicate-append-replicate, get_or_append_left, get_or-append_right, get_or-replicate}
-use Rattle.pd_graph.specs.declared.table.Table.{Table}
-use Rattle.pd_graph.specs.Table.{values_of}
+use Rattle.pd_graph.specs.declared.block_table.BlockTable.{BlockTable}
+use Rattle.pd_graph.specs.BlockTable.{values_of}
 
 -- there is one for each place
-pub length-values : {X : Type 0} → (table : Table X) → length (values_of table) ≡ table.places
+pub length-values : {X : Type 0} → (table : BlockTable X) → length (values_of table) ≡ table.places
 unfolding values_of
 length-values table =
     let few = table.few in
@@ -14,14 +14,14 @@ length-values table =
     length-append table.kept.items (replicate (table.places - length table.kept.items) table.unset) ∙ omega (arith, few, number, behind)
 
 -- one that is kept
-pub kept_value : {X : Type 0} → (table : Table X) (place : ℕ) (other : X) → place < length table.kept.items
+pub kept_value : {X : Type 0} → (table : BlockTable X) (place : ℕ) (other : X) → place < length table.kept.items
     → get_or (values_of table) place other ≡ get_or table.kept.items place other
 unfolding values_of
 kept_value table place other small =
     get_or_append_left table.kept.items (replicate (table.places - length table.kept.items) table.unset) other place small
 
 -- one behind what is kept
-pub unset_value : {X : Type 0} → (table : Table X) (place : ℕ) (other : X) → length table.kept.items ≤ place → place < table.places
+pub unset_value : {X : Type 0} → (table : BlockTable X) (place : ℕ) (other : X) → length table.kept.items ≤ place → place < table.places
     → get_or (values_of table) place other ≡ table.unset
 unfolding values_of
 unset_value table place other past small =

@@ -1,8 +1,8 @@
 use Rattle.std.proofs.Common.{◌≡◌, ℕ, ◌+◌, ◌-◌, ◌≤◌, List, ◌++◌, length, replicate, take, cond, is_ok, ap, ◌∙◌, arith}
 use Rattle.std.proofs.lemmas.List.{take_all}
-use Rattle.pd_graph.specs.Table.{values_of}
-use Rattle.pd_graph.proofs.TableValues.{length-values, same_values, most_of}
-use Rattle.pd_graph.proofs.table.Table.reach.Goals as goal
+use Rattle.pd_graph.specs.BlockTable.{values_of}
+use Rattle.pd_graph.proofs.BlockTableLemmas.{length-values, same_values, most_of}
+use Rattle.pd_graph.proofs.block_table.BlockTable.reach.Goals as goal
 
 pub overflow_add-place : goal.overflow_add-place
 overflow_add-place g c = omega (arith, length-values c.args.self.now, c.requires, c.ranges.place.fits, c.args.self.now.room, c.args.self.now.kept.small)

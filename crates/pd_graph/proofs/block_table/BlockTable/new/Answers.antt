@@ -1,6 +1,6 @@
 use Rattle.std.proofs.Common.{◌≡◌, ℕ, arith, ◌∙◌, ◌-◌, ◌++◌, length, replicate, ap, List}
-use Rattle.pd_graph.specs.Table.{values_of}
-use Rattle.pd_graph.proofs.table.Table.new.Goals as goal
+use Rattle.pd_graph.specs.BlockTable.{values_of}
+use Rattle.pd_graph.proofs.block_table.BlockTable.new.Goals as goal
 
 pub returns : goal.returns
 unfolding values_of

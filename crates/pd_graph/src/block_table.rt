@@ -8,7 +8,7 @@ use std::alloc::{AllocError, Global};
 /// The memory of all places is reserved in `new`, and used as far as the last place that was set: a table by block of a
 /// large device that holds little takes little.
 #[derive(Drop)]
-pub struct Table<T> {
+pub struct BlockTable<T> {
     places: usize,
     /// The value of the places that `kept` doesn't reach.
     unset: T,
@@ -17,18 +17,18 @@ pub struct Table<T> {
     ghost room: { places ≤ vec_capacity kept },
 }
 
-impl<T: Copy> Table<T> {
+impl<T: Copy> BlockTable<T> {
     ghost use Rattle.std.specs.Prelude.{◌≡◌, ◌<◌, length, replicate, slice_index_or, slice_set, IfOk};
-    ghost use Rattle.pd_graph.specs.Table.{values_of};
+    ghost use Rattle.pd_graph.specs.BlockTable.{values_of};
 
     /// A table of so many places with this value.
     ///
     /// Fails with `AllocError` where the memory of all places wasn't found.
-    pub fn new(alloc: Global, places: usize, unset: T) -> Result<Table<T>, AllocError>
+    pub fn new(alloc: Global, places: usize, unset: T) -> Result<BlockTable<T>, AllocError>
         ensures { IfOk result (λ table. values_of table ≡ replicate places unset) }
     {
         let kept = Vec::with_capacity(alloc, places)?;
-        Ok(Table {
+        Ok(BlockTable {
             places,
             unset,
             kept,

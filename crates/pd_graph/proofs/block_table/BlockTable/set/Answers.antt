@@ -1,7 +1,7 @@
 use Rattle.std.proofs.Common.{List, set, ap, ◌∙◌, arith}
-use Rattle.pd_graph.specs.Table.{values_of}
-use Rattle.pd_graph.proofs.TableValues.{set_value}
-use Rattle.pd_graph.proofs.table.Table.set.Goals as goal
+use Rattle.pd_graph.specs.BlockTable.{values_of}
+use Rattle.pd_graph.proofs.BlockTableLemmas.{set_value}
+use Rattle.pd_graph.proofs.block_table.BlockTable.set.Goals as goal
 
 pub returns : goal.returns
 unfolding values_of
