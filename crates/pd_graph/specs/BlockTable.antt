@@ -1,5 +1,5 @@
 -- The values of a table.
-use Rattle.std.specs.Prelude.{ℕ, ◌-◌, List, ◌++◌, length, replicate}
+use Rattle.std.specs.Prelude.{◌-◌, List, ◌++◌, length, replicate}
 use Rattle.pd_graph.specs.declared.block_table.BlockTable.{BlockTable}
 
 -- what was set, and behind it the same value at each place

@@ -1,5 +1,4 @@
-use Rattle.std.proofs.Common.{◌≡◌, ℕ, ◌+◌, ◌-◌, ◌≤◌, List, ◌++◌, length, replicate, take, cond, is_ok, ap, ◌∙◌, arith}
-use Rattle.std.proofs.lemmas.List.{take_all}
+use Rattle.std.proofs.Common.{◌+◌, is_ok, ap, arith}
 use Rattle.pd_graph.specs.BlockTable.{values_of}
 use Rattle.pd_graph.proofs.BlockTableLemmas.{length-values, same_values, most_of}
 use Rattle.pd_graph.proofs.block_table.BlockTable.reach.Goals as goal
