@@ -1,8 +1,10 @@
 -- What stands below a node: to a depth that no chain reaches, and in the range of each child.
-use Rattle.std.proofs.Common.{◌≡◌, inl, inr, ℕ, zero, suc, ◌+◌, ◌<◌, ◌≤◌, Bool, true, false, not, ◌&&◌, nat_eq, nat_lt, List, [], ◌∷◌, ◌++◌, length, map, filter, refl, arith}
+use Rattle.std.proofs.Common.{◌≡◌, inl, inr, ℕ, zero, suc, ◌+◌, ◌<◌, ◌≤◌, Bool, true, false, not, ◌&&◌, nat_eq, nat_lt, List, [], ◌∷◌, ◌++◌, length, map, filter, refl, sym, ◌∙◌, ap, ap₂, cond, arith}
 use Rattle.std.specs.List.{AllByRecursion, list_any, list_all, flat_map, range_with_len}
 use Rattle.std.proofs.lemmas.Bool.{cases_Bool, cases_lt, both_ways, and_parts, or_parts, le-ltb, lt-ltb}
 use Rattle.std.proofs.lemmas.Bool.Decides.{nat_tests}
+use Rattle.std.proofs.lemmas.Grind.{flat_map-append}
+use Rattle.std.proofs.lemmas.List.{map-append}
 use Rattle.pd_kinds.specs.Node.{Entry}
 use Rattle.pd_kinds.specs.Order.{has_chain, gathered, are_children_in_range}
 
@@ -105,6 +107,42 @@ module _ {X : Type 0} (inner : ℕ → Bool) (down : ℕ → List ℕ) (own : �
         (λ q ends. stable i m q (omega arith) ends))
     | inr leaf ↦ rw leaf refl
   ]
+
+-- what is joined of joined lists is joined of each
+pub joined_twice : {X Y : Type 0} → (f : X → List Y) (g : ℕ → List X) (ns : List ℕ) → flat_map f (flat_map g ns) ≡ flat_map (λ n. flat_map f (g n)) ns
+joined_twice f g [] = refl
+joined_twice {X} {Y} f g (n ∷ ns) =
+    flat_map-append f (g n) (flat_map g ns) ∙ ap (λ (rest : List Y). flat_map f (g n) ++ rest) (joined_twice f g ns)
+
+pub map_joined : {X Y : Type 0} → (f : X → Y) (g : ℕ → List X) (ns : List ℕ) → map f (flat_map g ns) ≡ flat_map (λ n. map f (g n)) ns
+map_joined f g [] = refl
+map_joined {X} {Y} f g (n ∷ ns) = map-append f (g n) (flat_map g ns) ∙ ap (λ (rest : List Y). map f (g n) ++ rest) (map_joined f g ns)
+
+pub same_each : {X Y : Type 0} → (f g : X → List Y) (xs : List X) → AllByRecursion (λ x. f x ≡ g x) xs → flat_map f xs ≡ flat_map g xs
+same_each f g [] same = refl
+same_each {X} {Y} f g (x ∷ xs) same = ap₂ (λ (front back : List Y). front ++ back) same.0 (same_each f g xs same.1)
+
+-- what stands in leaves is what stands in each of them
+module _ {X Y : Type 0} (f : X → List Y) (inner : ℕ → Bool) (down : ℕ → List ℕ) (own : ℕ → List X) where
+  here_flat : (b : Bool) (p : ℕ) → cond b [] (flat_map f (own p)) ≡ flat_map f (cond b [] (own p))
+  here_flat true p = refl
+  here_flat false p = refl
+
+  both_flat : (b : Bool) (xs : List Y) (ys : List X) (p : ℕ) → xs ≡ flat_map f ys → cond b xs (flat_map f (own p)) ≡ flat_map f (cond b ys (own p))
+  both_flat true xs ys p same = same
+  both_flat false xs ys p same = refl
+
+  each_flat : (g : ℕ → List Y) (h : ℕ → List X) → ((q : ℕ) → g q ≡ flat_map f (h q)) → (qs : List ℕ) → flat_map g qs ≡ flat_map f (flat_map h qs)
+  each_flat g h same [] = refl
+  each_flat g h same (q ∷ qs) =
+      ap₂ (λ (front back : List Y). front ++ back) (same q) (each_flat g h same qs) ∙ sym (flat_map-append f (h q) (flat_map h qs))
+
+  pub gathered_flat : (j p : ℕ) → gathered inner down (λ q. flat_map f (own q)) j p ≡ flat_map f (gathered inner down own j p)
+  unfolding gathered
+  gathered_flat zero p = here_flat (inner p) p
+  gathered_flat (suc j) p =
+      both_flat (inner p) (flat_map (gathered inner down (λ q. flat_map f (own q)) j) (down p)) (flat_map (gathered inner down own j) (down p)) p
+      (each_flat (gathered inner down (λ q. flat_map f (own q)) j) (gathered inner down own j) (gathered_flat j) (down p))
 
 -- the range of child i of a node
 pub child_range : (low : ℕ → ℕ) (keys : ℕ → List ℕ) (d n a : ℕ) → d < n → are_children_in_range (map low (range_with_len a n)) (map keys (range_with_len a n)) ≡ true

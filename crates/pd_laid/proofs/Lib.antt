@@ -7,6 +7,7 @@ pub mod Rows
 pub mod ItemLemmas
 pub mod PartSizes
 pub mod ShapeLemmas
+pub mod VisitLemmas
 pub mod NodeFacts
 pub mod GatherLemmas
 pub mod SalvageLemmas

@@ -1,8 +1,10 @@
 -- What is known of a reached node of a tree where no reached pair breaks a rule: it isn't damaged, and its children
 -- are reached nodes of the tree.
-use Rattle.std.proofs.Common.{◌≡◌, inl, inr, ℕ, zero, suc, ◌+◌, ◌*◌, ◌<◌, ◌≤◌, Bool, true, false, not, ◌&&◌, ◌||◌, nat_eq, List, [], ◌∷◌, map, refl, sym, ◌∙◌, ap, eq-eqb, zero-add, zero-le, max, min, ◌^◌, arith}
+use Rattle.std.proofs.Common.{◌≡◌, inl, inr, ℕ, zero, suc, ◌+◌, ◌*◌, ◌<◌, ◌≤◌, Bool, true, false, not, ◌&&◌, ◌||◌, nat_eq, List, [], ◌∷◌, map, refl, sym, ◌∙◌, ap, subst, eq-eqb, zero-add, zero-le, max, min, ◌^◌, arith}
 use Rattle.std.specs.List.{AllByRecursion, list_any, flat_map, range_with_len}
+use Rattle.std.proofs.lemmas.List.{append-nil}
 use Rattle.std.proofs.lemmas.List.Folds.{flat_map-map}
+use Rattle.std.proofs.Math.Path.{fun_ext}
 use Rattle.std.proofs.lemmas.Bool.{cases_Bool, cases_lt, eqb-false, or_parts, or_left, or_right}
 use Rattle.pd_kinds.specs.declared.rule.Rule.{Rule}
 use Rattle.pd_kinds.specs.declared.rule.Rule.TheVariants as r
@@ -24,8 +26,10 @@ use Rattle.pd_laws.proofs.PathLemmas.{path_from_reached, reached_from_path, pass
 use Rattle.pd_kinds.specs.Trees.{entries_below}
 use Rattle.pd_kinds.proofs.FieldLemmas.{le-lt}
 use Rattle.pd_kinds.specs.Image.{HasBytes}
-use Rattle.pd_laid.specs.Salvage.{is_damaged, child_low, child_high, give, given}
-use Rattle.pd_laid.proofs.GatherLemmas.{AreFrom, AreBelow, from_test, below_test, kept_in_range, all_first, all_last, all_at, all_joined, same_joined, gathered_leaf, gathered_inner, stable, child_range}
+use Rattle.pd_laid.specs.Salvage.{is_damaged, child_low, child_high, given}
+use Rattle.pd_laid.specs.Visits.{Visit, entries_of_visit, visited, visits}
+use Rattle.pd_laid.proofs.GatherLemmas.{AreFrom, AreBelow, from_test, below_test, kept_in_range, all_first, all_last, all_at, all_joined, same_joined, same_each, map_joined, gathered_flat, gathered_leaf, gathered_inner, stable, child_range}
+use Rattle.pd_laid.proofs.VisitLemmas.{visits_give}
 
 -- no element passes
 pub none_pass : {X : Type 0} → (p : X → Bool) (xs : List X) → ((x : X) → p x ≡ false) → list_any p xs ≡ false
@@ -99,6 +103,16 @@ block_pair b role few = omega arith
 
 both_hold : (is_tree bad inner : Bool) → is_tree ≡ true → bad ≡ false → (is_tree && (not bad && inner)) ≡ inner
 both_hold is_tree bad inner is clean = rw (is, clean) refl
+
+-- the entries below a node are those of its leaves
+pub leaves_entries : (size : ℕ) (graph : Graph) (image : List (List ℕ)) (role b : ℕ)
+    → entries_below graph image size role b
+    ≡ flat_map (λ c. leaf_entries size (block_at image c)) (gathered (is_inner_pair graph image) (children graph image) (λ p. block_of p ∷ []) 63 (pair b role))
+unfolding entries_below
+leaves_entries size graph image role b =
+    ap (λ (own : ℕ → List Entry). gathered (is_inner_pair graph image) (children graph image) own 63 (pair b role))
+    (fun_ext (λ p. sym (append-nil (leaf_entries size (block_at image (block_of p))))))
+    ∙ gathered_flat (λ c. leaf_entries size (block_at image c)) (is_inner_pair graph image) (children graph image) (λ p. block_of p ∷ []) 63 (pair b role)
 
 module _ (roles nr data_blocks : ℕ) (layout : ℕ → Layout) (image : List (List ℕ)) (ordered : AreInOrder (graph_of roles nr data_blocks layout) image) where
   abbrev graph : Graph
@@ -256,25 +270,38 @@ module _ (roles nr data_blocks : ℕ) (layout : ℕ → Layout) (image : List (L
           below = λ more. rw ends at (below_test (key_at block (i + 1)) (all i) (rw (zero-add i) at (found.1 more)));
         }
 
-    -- what is given below a node
+    -- the leaves below a node, from first to last
+    abbrev pub leaves_under : ℕ → ℕ → List ℕ
+    leaves_under j b = gathered (is_inner_pair graph image) (children graph image) (λ p. block_of p ∷ []) j (pair b role)
+
+    -- a visit that has all entries of its leaf
+    abbrev pub HasAll : Visit → Type 0
+    HasAll v = entries_of_visit t.size image v ≡ leaf_entries t.size (block_at image v.leaf)
+
+    -- visits of these leaves, each with all entries
+    pub record AreVisits (vs : List Visit) (bs : List ℕ) : Type 0 where
+      pub leaves : map (λ (v : Visit). v.leaf) vs ≡ bs
+      pub whole : AllByRecursion HasAll vs
+
+    -- what is visited below a node
     module _ (b low high : ℕ) (reached : Reached b) (inside : is_outside nr b ≡ false) where
-      given_leaf : (j : ℕ) → is_inner_node (block_at image b) ≡ false → AreFrom low (keys_under j b) → AreBelow high (keys_under j b)
-          → give t.size nr image (suc j) b low high ≡ entries_under j b
-      unfolding give
-      given_leaf j leaf from below =
+      visits_leaf : (j : ℕ) → is_inner_node (block_at image b) ≡ false → AreFrom low (keys_under j b) → AreBelow high (keys_under j b)
+          → AreVisits (visits t.size nr image (suc j) b low high) (leaves_under j b)
+      unfolding visits
+      visits_leaf j leaf from below =
           let sound = undamaged nr role t b (block_at image b) (sound_at b reached) in
           let ends : is_inner_pair graph image (pair b role) ≡ false = inner_is b reached ∙ leaf in
           let keys = gathered_leaf (is_inner_pair graph image) (children graph image) (own_keys graph image) j (pair b role) ends ∙ leaf_keys b reached leaf in
-          let own = gathered_leaf (is_inner_pair graph image) (children graph image) (λ p. leaf_entries t.size (block_at image (block_of p))) j (pair b role) ends in
+          let own = gathered_leaf (is_inner_pair graph image) (children graph image) (λ p. block_of p ∷ []) j (pair b role) ends in
           let kept = kept_in_range low high (leaf_entries t.size (block_at image b)) (rw keys at from) (rw keys at below) in
-          rw (inside, sound, leaf) (kept ∙ sym (rw (block_pair b role few) at own))
+          rw (inside, sound, leaf) (record { leaves = sym (rw (block_pair b role few) at own); whole = (kept, tt) })
 
-      given_inner : (j : ℕ) → is_inner_node (block_at image b) ≡ true
-          → give t.size nr image (suc j) b low high
-          ≡ flat_map (λ i. give t.size nr image j (child_at (block_at image b) i) (child_low (block_at image b) low i) (child_high t.size (block_at image b) high i))
+      visits_inner : (j : ℕ) → is_inner_node (block_at image b) ≡ true
+          → visits t.size nr image (suc j) b low high
+          ≡ flat_map (λ i. visits t.size nr image j (child_at (block_at image b) i) (child_low (block_at image b) low i) (child_high t.size (block_at image b) high i))
           (range_with_len 0 (entry_count t.size (block_at image b)))
-      unfolding give
-      given_inner j inner =
+      unfolding visits
+      visits_inner j inner =
           let sound = undamaged nr role t b (block_at image b) (sound_at b reached) in
           rw (inside, sound, inner) refl
 
@@ -298,34 +325,57 @@ module _ (roles nr data_blocks : ℕ) (layout : ℕ → Layout) (image : List (L
             | inr above ↦ absurd (differs (omega arith))
           ]
 
-    -- all entries below a node are given, where no chain is too long and the range holds all keys
-    pub given_under : (j b low high : ℕ) → j ≤ 63 → Reached b → is_outside nr b ≡ false → HasNoChain (suc j) b
-        → AreFrom low (keys_under j b) → AreBelow high (keys_under j b) → give t.size nr image (suc j) b low high ≡ entries_under j b
-    unfolding give gathered
-    given_under zero b low high within reached inside none from below = elim (cases_Bool (is_inner_node (block_at image b))) [
+    -- visits that are joined along a range
+    visits_joined : (f : ℕ → List Visit) (g : ℕ → List ℕ) (n : ℕ) → ((i : ℕ) → i < n → AreVisits (f i) (g i))
+        → AreVisits (flat_map f (range_with_len 0 n)) (flat_map g (range_with_len 0 n))
+    visits_joined f g n each = record {
+      leaves =
+          map_joined (λ (v : Visit). v.leaf) f (range_with_len 0 n)
+          ∙ same_joined (λ i. map (λ (v : Visit). v.leaf) (f i)) g 0 n (λ i start small. (each i (omega arith)).leaves);
+      whole = all_joined HasAll f 0 n (λ i start small. (each i (omega arith)).whole);
+    }
+
+    -- each leaf below a node is visited with all entries, where no chain is too long and the range holds all keys
+    pub visits_under : (j b low high : ℕ) → j ≤ 63 → Reached b → is_outside nr b ≡ false → HasNoChain (suc j) b
+        → AreFrom low (keys_under j b) → AreBelow high (keys_under j b) → AreVisits (visits t.size nr image (suc j) b low high) (leaves_under j b)
+    unfolding visits gathered
+    visits_under zero b low high within reached inside none from below = elim (cases_Bool (is_inner_node (block_at image b))) [
       | inl inner ↦
-          given_inner b low high reached inside 0 inner
-          ∙ (joined_none (λ i. give t.size nr image 0 (child_at (block_at image b) i) (child_low (block_at image b) low i) (child_high t.size (block_at image b) high i)) 0 (entry_count t.size (block_at image b)) (λ k. refl)
-          ∙ rw (inner_is b reached ∙ inner) refl)
-      | inr leaf ↦ given_leaf b low high reached inside 0 leaf from below
+          let nothing = visits_inner b low high reached inside 0 inner
+          ∙ joined_none (λ i. visits t.size nr image 0 (child_at (block_at image b) i) (child_low (block_at image b) low i) (child_high t.size (block_at image b) high i)) 0 (entry_count t.size (block_at image b)) (λ k. refl) in
+          let ends = inner_is b reached ∙ inner in
+          subst (λ (vs : List Visit). AreVisits vs (leaves_under 0 b)) (sym nothing) (rw ends (record { leaves = refl; whole = tt }))
+      | inr leaf ↦ visits_leaf b low high reached inside 0 leaf from below
     ]
-    given_under (suc j) b low high within reached inside none from below = elim (cases_Bool (is_inner_node (block_at image b))) [
+    visits_under (suc j) b low high within reached inside none from below = elim (cases_Bool (is_inner_node (block_at image b))) [
       | inl inner ↦
           let n = entry_count t.size (block_at image b) in
           let keys = under_inner (own_keys graph image) j b reached inner in
           let child = λ (i : ℕ). child_at (block_at image b) i in
-          given_inner b low high reached inside (suc j) inner
-          ∙ (same_joined (λ i. give t.size nr image (suc j) (child i) (child_low (block_at image b) low i) (child_high t.size (block_at image b) high i)) (λ i. entries_under j (child i)) 0 n
-          (λ i start small_i.
-          let small : i < n = omega arith in
+          let below_child = λ (i : ℕ). visits t.size nr image (suc j) (child i) (child_low (block_at image b) low i) (child_high t.size (block_at image b) high i) in
+          let all = visits_joined below_child (λ i. leaves_under j (child i)) n
+          (λ i small.
           let fits = child_keys j b (omega arith) reached inner none i small in
-          given_under j (child i) (child_low (block_at image b) low i) (child_high t.size (block_at image b) high i) (omega arith)
+          visits_under j (child i) (child_low (block_at image b) low i) (child_high t.size (block_at image b) high i) (omega arith)
           (child_reached b reached inner i small) (child_inside b reached inner i small) (child_chain (suc j) b reached inner none i small)
           (child_from b low high reached inside j i fits (all_at (λ k. low ≤ k) (λ i. keys_under j (child i)) 0 n i (rw keys at from) (omega arith) (omega arith)))
-          (child_below b low high reached inside j i small fits (all_at (λ k. k < high) (λ i. keys_under j (child i)) 0 n i (rw keys at below) (omega arith) (omega arith))))
-          ∙ sym (under_inner (λ p. leaf_entries t.size (block_at image (block_of p))) j b reached inner))
-      | inr leaf ↦ given_leaf b low high reached inside (suc j) leaf from below
+          (child_below b low high reached inside j i small fits (all_at (λ k. k < high) (λ i. keys_under j (child i)) 0 n i (rw keys at below) (omega arith) (omega arith)))) in
+          record {
+            leaves =
+                ap (map (λ (v : Visit). v.leaf)) (visits_inner b low high reached inside (suc j) inner)
+                ∙ (all.leaves ∙ sym (under_inner (λ p. block_of p ∷ []) j b reached inner));
+            whole = subst (AllByRecursion HasAll) (sym (visits_inner b low high reached inside (suc j) inner)) all.whole;
+          }
+      | inr leaf ↦ visits_leaf b low high reached inside (suc j) leaf from below
     ]
+
+    -- the entries of such visits are those of the leaves
+    visits_entries : (vs : List Visit) (bs : List ℕ) → AreVisits vs bs
+        → flat_map (entries_of_visit t.size image) vs ≡ flat_map (λ c. leaf_entries t.size (block_at image c)) bs
+    visits_entries vs bs are =
+        same_each (entries_of_visit t.size image) (λ (v : Visit). leaf_entries t.size (block_at image v.leaf)) vs are.whole
+        ∙ (sym (flat_map-map (λ c. leaf_entries t.size (block_at image c)) (λ (v : Visit). v.leaf) vs)
+        ∙ ap (flat_map (λ c. leaf_entries t.size (block_at image c))) are.leaves)
 
     -- what each leaf has holds of all that stands below a node
     pub under_all : {X : Type 0} (P : X → Type 0) (own : ℕ → List X)
@@ -344,15 +394,23 @@ module _ (roles nr data_blocks : ℕ) (layout : ℕ → Layout) (image : List (L
       | inr leaf ↦ rw (inner_is b reached ∙ leaf) (leaves b reached leaf)
     ]
 
-    -- all entries below a reached root are given
-    pub given_root : HasBytes image → (b : ℕ) → Reached b → is_outside nr b ≡ false → given t.size nr image b ≡ entries_below graph image t.size role b
-    unfolding is_deep given entries_below node_keys
-    given_root bytes b reached inside =
-        given_under 63 b 0 (2 ^ 64) (omega arith) reached inside (ordered.not_deep b role reached)
+    -- each leaf below a reached root is visited with all entries
+    pub visited_root : HasBytes image → (b : ℕ) → Reached b → is_outside nr b ≡ false → AreVisits (visited t.size nr image b) (leaves_under 63 b)
+    unfolding is_deep visited node_keys
+    visited_root bytes b reached inside =
+        visits_under 63 b 0 (2 ^ 64) (omega arith) reached inside (ordered.not_deep b role reached)
         (all_of (λ k. 0 ≤ k) (λ k. zero-le) (keys_under 63 b))
         (under_all (λ k. k < 2 ^ 64) (own_keys graph image) (λ c found leaf.
         rw (keys_are c found) (all_map (key_at (block_at image c)) (λ k. k < 2 ^ 64) (λ i. le-lt (block_at image c) (32 + 8 * i) 8 (bytes c)) (range_with_len 0 (entry_count t.size (block_at image c)))))
         63 b reached)
+
+    -- so all entries below it are given
+    pub given_root : HasBytes image → (b : ℕ) → Reached b → is_outside nr b ≡ false → given t.size nr image b ≡ entries_below graph image t.size role b
+    unfolding given visited entries_below
+    given_root bytes b reached inside =
+        sym (visits_give t.size nr image 64 b 0 (2 ^ 64))
+        ∙ (visits_entries (visited t.size nr image b) (leaves_under 63 b) (visited_root bytes b reached inside)
+        ∙ sym (leaves_entries t.size graph image role b))
 
     -- a block that a node names is inside, and is reached in its role
     abbrev pub IsNamed : Edge → Type 0

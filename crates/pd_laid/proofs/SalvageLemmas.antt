@@ -33,7 +33,7 @@ use Rattle.pd_laid.proofs.GatherLemmas.{all_first, all_last}
 use Rattle.pd_laid.proofs.NodeFacts.{all_parts, among_mapped, none_pass, reached_next, given_root, under_all, leaf_named, within_at, block_pair}
 
 -- a filter that all pass keeps all
-filter_all : {X : Type 0} → (p : X → Bool) (xs : List X) → AllByRecursion (λ x. p x ≡ true) xs → filter p xs ≡ xs
+pub filter_all : {X : Type 0} → (p : X → Bool) (xs : List X) → AllByRecursion (λ x. p x ≡ true) xs → filter p xs ≡ xs
 filter_all p [] all = refl
 filter_all p (x ∷ xs) all = rw (all.0, filter_all p xs all.1) refl
 
@@ -88,7 +88,7 @@ top_is : (nr data_blocks : ℕ) → thin_layout nr data_blocks 2 ≡ tree top_tr
 unfolding thin_layout
 top_is nr data_blocks = refl
 
-bottom_is : (nr data_blocks : ℕ) → thin_layout nr data_blocks 3 ≡ tree (bottom_tree data_blocks)
+pub bottom_is : (nr data_blocks : ℕ) → thin_layout nr data_blocks 3 ≡ tree (bottom_tree data_blocks)
 unfolding thin_layout
 bottom_is nr data_blocks = refl
 
@@ -113,7 +113,7 @@ module _ (fields : ThinFields) (image : List (List ℕ))
   IsRoot role b = (is_outside nr b ≡ false) × IsReached graph image b role
 
   -- what is given below the roots of the three trees
-  given_tops : (b : ℕ) → IsRoot 2 b → given 8 nr image b ≡ top_entries graph image b
+  pub given_tops : (b : ℕ) → IsRoot 2 b → given 8 nr image b ≡ top_entries graph image b
   given_tops b root = given_root 11 nr data_blocks (thin_layout nr data_blocks) image ordered top_tree 2 (omega arith) (top_is nr data_blocks) bytes b root.1 root.0
 
   given_bottom : (b : ℕ) → IsRoot 3 b → given 8 nr image b ≡ mapping_entries graph image b
@@ -125,7 +125,7 @@ module _ (fields : ThinFields) (image : List (List ℕ))
       given_root 11 nr data_blocks (thin_layout nr data_blocks) image ordered details_tree 4 (omega arith) (details_is nr data_blocks) bytes b root.1 root.0
 
   -- each device's root is a root, and each mapping's data block is in the pool
-  tops_are_roots : (b : ℕ) → IsRoot 2 b → AllByRecursion (λ (top : Entry). IsRoot 3 top.value) (top_entries graph image b)
+  pub tops_are_roots : (b : ℕ) → IsRoot 2 b → AllByRecursion (λ (top : Entry). IsRoot 3 top.value) (top_entries graph image b)
   unfolding entries_below
   tops_are_roots b root =
       under_all 11 nr data_blocks (thin_layout nr data_blocks) image ordered top_tree 2 (omega arith) (top_is nr data_blocks) (λ (top : Entry). IsRoot 3 top.value) _
@@ -225,7 +225,7 @@ module _ (image : List (List ℕ))
       (thin_super_edges own) (rw super_edges at within) (among_mapped (λ (e : Edge). pair e.block e.role) (thin_super_edges own))
 
   -- the roots of the mapping tree and of the details tree
-  mapping_is_root : IsRoot own image ordered bytes 2 own.mapping_root
+  pub mapping_is_root : IsRoot own image ordered bytes 2 own.mapping_root
   mapping_is_root = (all_last _ (optional_edge 1 own.held_root) _ super_roots).0 (omega arith)
 
   details_is_root : IsRoot own image ordered bytes 4 own.details_root

@@ -1,3 +1,4 @@
+-- Trusted base.
 -- An array as it is laid from a place on: its blocks, each full but the last, then the tree that names them.
 use Rattle.std.specs.Prelude.{ℕ, zero, suc, ◌+◌, List, [], ◌∷◌, ◌++◌, length, map, take, drop}
 use Rattle.std.specs.List.{range_with_len}

@@ -1,6 +1,7 @@
+-- Trusted base.
 -- The roots of a thin pool whose superblock is lost: of all pairs of blocks the best mapping tree and details
 -- tree that fit each other. In a pool's format these have the roles 2 and 4.
-use Rattle.std.specs.Prelude.{◌≡◌, ℕ, min, max, ◌==◌, ◌&&◌, ◌||◌, Bool, true, false, not, nat_lt, List, ◌∷◌, length, map, fold, replicate, sum_by, Option, Some, None}
+use Rattle.std.specs.Prelude.{◌≡◌, ℕ, min, max, ◌==◌, ◌&&◌, ◌||◌, Bool, true, false, not, nat_lt, List, [], ◌∷◌, length, map, fold, replicate, sum_by, Option, Some, None}
 use Rattle.std.specs.List.{list_any, list_all, flat_map}
 use Rattle.std.specs.Str.{bytes_eq}
 use Rattle.pd_kinds.specs.declared.limits.TheConstants.{MAX_META_BLOCKS}
@@ -48,28 +49,46 @@ are_fitting graph image top details =
 abbrev pub times_of : ThinDevice → List ℕ
 times_of d = d.created ∷ d.snapped ∷ map (λ (m : Mapping). m.time) d.mappings
 
--- two roots, how many mappings stand below them, and the latest time there
+-- two roots, and what stands below them
 pub record FoundRoots : Type 0 where
   pub top : ℕ
   pub details : ℕ
+  -- how many mappings there are
   pub mappings : ℕ
+  -- the latest time: of a mapping, and at which a device was made or last shared
   pub time : ℕ
+  -- the latest transaction of a device
+  pub transaction : ℕ
+  -- the sum of the times of the mappings
+  pub times : ℕ
 
 unfoldable pub roots_at : Graph → List (List ℕ) → ℕ → ℕ → FoundRoots
-roots_at graph image top details = record {
-  top = top;
-  details = details;
-  mappings = sum_by (λ (d : ThinDevice). d.mapped) (devices_below graph image top details);
-  time = fold max 0 (flat_map times_of (devices_below graph image top details));
-}
+roots_at graph image top details =
+    let devices = devices_below graph image top details in
+    record {
+      top = top;
+      details = details;
+      mappings = sum_by (λ (d : ThinDevice). d.mapped) devices;
+      time = fold max 0 (flat_map times_of devices);
+      transaction = fold max 0 (map (λ (d : ThinDevice). d.transaction) devices);
+      times = sum_by (λ (d : ThinDevice). sum_by (λ (m : Mapping). m.time) d.mappings) devices;
+    }
 
--- some roots are better than others: there are more mappings; of as many the latest time is later; of the same time the
--- first root is lower, or it is the same and the second one is lower
+-- What roots are compared by, the first number first: the latest time, the latest transaction, the sum of the mappings'
+-- times, the number of mappings. Where these are equal the places decide: a kernel hands out metadata blocks ascending, so
+-- the higher place is the later one
+abbrev pub score_of : FoundRoots → List ℕ
+score_of roots = roots.time ∷ roots.transaction ∷ roots.times ∷ roots.mappings ∷ roots.top ∷ roots.details ∷ []
+
+-- of two lists of one length, the first number in which they differ is greater in the first list
+abbrev pub is_greater : List ℕ → List ℕ → Bool
+is_greater [] others = false
+is_greater (a ∷ rest) [] = true
+is_greater (a ∷ rest) (b ∷ others) = nat_lt b a || ((a == b) && is_greater rest others)
+
+-- some roots are better than others: their score is greater. Times and transactions never fall while a pool lives
 unfoldable pub is_better : FoundRoots → FoundRoots → Bool
-is_better a b =
-    nat_lt b.mappings a.mappings || ((a.mappings == b.mappings)
-    && (nat_lt b.time a.time || ((a.time == b.time)
-    && (nat_lt a.top b.top || ((a.top == b.top) && nat_lt a.details b.details)))))
+is_better a b = is_greater (score_of a) (score_of b)
 
 -- the best roots: they fit each other, and none that do are better
 pub record AreBest (graph : Graph) (image : List (List ℕ)) (roots : FoundRoots) : Type 0 where

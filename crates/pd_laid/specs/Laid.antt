@@ -1,3 +1,4 @@
+-- Trusted base.
 -- A laid image: the superblock, then block after block what the parts of a format put there, each with the
 -- role that it has and the blocks that it names. Trees are parts; arrays and space maps are made of them.
 use Rattle.std.specs.Prelude.{◌≡◌, ℕ, ◌+◌, ◌==◌, false, List, [], ◌∷◌, ◌++◌, length, map, take, drop}

@@ -1,3 +1,4 @@
+-- Trusted base.
 -- How a cache is laid in version 1 or 2: the mapping array, the hint array where there are hints, the array of
 -- dirty bits in version 2, an empty discard tree, the metadata map. Roles are those of a cache's format.
 use Rattle.std.specs.Prelude.{ℕ, ◌+◌, ◌*◌, ◌/◌, ◌^◌, Bool, false, ◌==◌, ◌&&◌, if◌then◌else◌, List, [], ◌∷◌, ◌++◌, length, map, sum, Option, Some, None}

@@ -1,3 +1,4 @@
+-- Trusted base.
 -- How an era target is laid: the era array, an empty tree of writesets, the metadata map. Roles are those of an
 -- era target's format.
 use Rattle.std.specs.Prelude.{ℕ, ◌+◌, List, [], ◌∷◌, ◌++◌, length}

@@ -1,3 +1,4 @@
+-- Trusted base.
 -- How a thin pool is laid: the shared leaves, the trees of its devices, the mapping tree, the details tree, the
 -- data map, the metadata map. Roles are those of a thin pool's format.
 use Rattle.std.specs.Prelude.{ℕ, ◌+◌, ◌%◌, ◌^◌, ◌==◌, not, List, [], ◌∷◌, ◌++◌, length, map}

@@ -1,4 +1,5 @@
 pub mod Tree
+pub mod Visits
 pub mod Laid
 pub mod Made
 pub mod Array

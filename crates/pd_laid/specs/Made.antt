@@ -1,3 +1,4 @@
+-- Trusted base.
 -- What a restore makes of a device.
 use Rattle.std.specs.Prelude.{ℕ, List}
 use Rattle.pd_grammar.specs.Spelling.{Verdict, accepted, refused, no_room}

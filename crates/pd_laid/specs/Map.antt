@@ -1,3 +1,4 @@
+-- Trusted base.
 -- A space map as it is laid: bitmaps with the counts of blocks, an index of the bitmaps, and a tree of the
 -- counts that two bits don't hold.
 use Rattle.std.specs.Prelude.{ℕ, ◌+◌, ◌*◌, ◌/◌, ◌%◌, min, not, nat_lt, ◌&&◌, ◌==◌, List, [], ◌∷◌, ◌++◌, length, map, filter, replicate}

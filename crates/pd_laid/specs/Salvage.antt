@@ -1,3 +1,4 @@
+-- Trusted base.
 -- What can be saved of a damaged thin pool: the entries that a path of sound nodes leads to from the roots of a
 -- superblock, where they lie in every range on that path.
 use Rattle.std.specs.Prelude.{ℕ, zero, suc, ◌+◌, ◌/◌, ◌%◌, ◌^◌, max, min, ◌&&◌, ◌||◌, ◌==◌, Bool, not, nat_lt, if◌then◌else◌, List, [], length, map, filter}
@@ -49,10 +50,12 @@ given_mappings fields image root =
     map (λ (e : Entry). record { virtual_block = e.key; data_block = mapped_block e.value; time = mapped_time e.value })
     (filter (λ (e : Entry). nat_lt (mapped_block e.value) fields.data_map.blocks) (given 8 fields.meta_map.blocks image root))
 
--- the details of a device; without any they are the pool's transaction and zeros
+-- The details of a device. Without any they are the pool's transaction, and the pool's time as created and as snapped: a
+-- kernel takes a data block for shared where the device's snapped time is above the mapping's, and a mapping that a
+-- snapshot shares has a time below the pool's
 abbrev pub given_details : ThinFields → List (List ℕ) → ℕ → ℕ
 given_details fields image id =
-    unwrap_or (value_of_key (given 24 fields.meta_map.blocks image fields.details_root) id) (details_code 0 fields.transaction 0 0)
+    unwrap_or (value_of_key (given 24 fields.meta_map.blocks image fields.details_root) id) (details_code 0 fields.transaction fields.time fields.time)
 
 -- a device, by its entry of the mapping tree: its mapped number is counted again
 unfoldable pub given_device : ThinFields → List (List ℕ) → Entry → ThinDevice

@@ -1,3 +1,4 @@
+-- Trusted base.
 -- The shape of a thin pool: its meaning, told with the leaves that its devices share.
 use Rattle.std.specs.Prelude.{◌≡◌, ℕ, ◌^◌, ◌<◌, ◌≤◌, ◌==◌, true, List, [], ◌∷◌, length, map}
 use Rattle.std.specs.List.{AllByRecursion, list_any, flat_map, slice_get}

@@ -1,3 +1,4 @@
+-- Trusted base.
 -- A tree as it is laid from a place on: its leaves, then each level above, every level spread evenly.
 use Rattle.std.specs.Prelude.{ℕ, zero, suc, ◌+◌, ◌-◌, ◌/◌, max, nat_lt, if◌then◌else◌, List, [], ◌∷◌, ◌++◌, length, take, drop}
 use Rattle.pd_kinds.specs.Node.{Entry, max_entries, leaf_block, inner_block}

@@ -1,3 +1,5 @@
+//! There is one laid image over a base.
+
 ghost use Rattle.std.specs.Prelude.{◌≡◌, ◌↔◌, ◌≤◌, ◌++◌, List, ℕ, drop, length};
 ghost use Rattle.pd_laid.specs.Laid.{IsLaid, Laid, laid_blocks, laid_number};
 

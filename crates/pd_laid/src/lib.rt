@@ -13,7 +13,7 @@ mod trees;
 
 pub use images::one_image_is_laid;
 pub use needs::{images_take_their_need, parts_take_their_need};
-pub use salvages::{given_are_saved, sound_pool_is_saved};
+pub use salvages::{given_are_saved, given_are_visited, sound_pool_is_saved};
 pub use shapes::shape_of_keeps_meaning;
 pub use trees::{
     laid_array_is_written, laid_device_is_written, laid_tree_is_written, spread_is_even,

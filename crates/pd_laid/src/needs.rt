@@ -1,3 +1,5 @@
+//! What is laid has as many blocks as it needs.
+
 ghost use Rattle.std.specs.Prelude.{◌≡◌, List, [], length, ℕ};
 ghost use Rattle.pd_kinds.specs.Layout.{Tree};
 ghost use Rattle.pd_kinds.specs.Meaning.{CacheMeaning, EraMeaning};

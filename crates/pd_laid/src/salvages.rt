@@ -1,4 +1,7 @@
+//! What is saved of a pool.
+
 ghost use Rattle.std.specs.Prelude.{◌≡◌, ◌↔◌, ◌<◌, ◌≤◌, List, [], ℕ};
+ghost use Rattle.std.specs.List.{flat_map};
 ghost use Rattle.pd_kinds.specs.declared.kind.Kind.TheVariants.{Thin};
 ghost use Rattle.pd_kinds.specs.declared.kind.Stage.TheVariants.{Whole};
 ghost use Rattle.pd_kinds.specs.Meaning.{thin_meaning};
@@ -7,6 +10,7 @@ ghost use Rattle.pd_kinds.specs.Stages.{faults};
 ghost use Rattle.pd_kinds.specs.Image.{HasBytes};
 ghost use Rattle.pd_laid.specs.Salvage.{give, salvage};
 ghost use Rattle.pd_laid.specs.Saved.{Has, IsSaved};
+ghost use Rattle.pd_laid.specs.Visits.{entries_of_visit, visits};
 
 use pd_laws::trees_are_in_order;
 
@@ -16,6 +20,12 @@ pub fn sound_pool_is_saved()
 {
     trees_are_in_order();
 }
+
+/// The entries that are given below a node, in a range of keys, are those of the visits there, one visit after another.
+pub fn given_are_visited()
+    ensures { (size nr : ℕ) (image : List (List ℕ)) (nodes place low high : ℕ)
+        → flat_map (entries_of_visit size image) (visits size nr image nodes place low high) ≡ give size nr image nodes place low high }
+{}
 
 /// The entries that are given below a node, in a range of keys, are those of the range that a path of at most
 /// so many undamaged nodes ends at, and that lie in the range of each child on that path.

@@ -1,3 +1,5 @@
+//! A meaning, and its shape without shared leaves.
+
 ghost use Rattle.std.specs.Prelude.{◌≡◌};
 ghost use Rattle.pd_kinds.specs.Meaning.{ThinPool};
 ghost use Rattle.pd_laid.specs.Shape.{IsShape, pool_of, shape_of};

@@ -1,3 +1,5 @@
+//! How laid trees, arrays and devices are written.
+
 ghost use Rattle.std.specs.Prelude.{◌≡◌, ◌+◌, ◌/◌, ◌%◌, ◌<◌, ◌++◌, if◌then◌else◌, List, [], length, nat_lt, suc, ℕ};
 ghost use Rattle.std.specs.List.{flat_map};
 ghost use Rattle.std.proofs.Common.{get_or};

@@ -6,3 +6,4 @@ pub mod NodeLemmas
 pub mod CountLemmas
 pub mod GaugeLemmas
 pub mod ListsLemmas
+pub mod PairLemmas

@@ -15,7 +15,7 @@ use Rattle.pd_kinds.specs.Trees.{keys_of, value_of_key}
 use Rattle.pd_kinds.specs.Whole.{mapping_entries, mapped_number}
 use Rattle.pd_laid.specs.FoundRoots.{times_of}
 use Rattle.pd_whole.specs.Ascending.{IsUp}
-use Rattle.pd_measures.specs.Counts.{DeviceCount, counts_by_details, counts_by_roots, details_times, latest, mapping_times, mappings_below, total_of}
+use Rattle.pd_measures.specs.Counts.{DeviceCount, counts_by_details, counts_by_roots, details_times, details_transaction_of, latest, mapping_times, mappings_below, times_below, total_of}
 use Rattle.pd_measures.proofs.TimeLemmas.{latest-append, latest-cons}
 
 -- the value at the first key, and at a later one
@@ -29,6 +29,10 @@ value_later key d ds less = rw (ne_eqb d.key key (λ same. omega arith)) refl
 
 two : (a b c d : ℕ) → a ≡ b → c ≡ d → a + c ≡ b + d
 two a b c d e f = omega arith
+
+-- a mapping by its entry
+abbrev the_mapping : Entry → Mapping
+the_mapping e = record { virtual_block = e.key; data_block = mapped_block e.value; time = mapped_time e.value }
 
 -- a device with a number of mappings
 abbrev the_count : ℕ → ℕ → DeviceCount
@@ -188,6 +192,38 @@ module _ (graph : Graph) (image : List (List ℕ)) where
       ∙ ap (λ (n : ℕ). max (latest (here ++ tops)) n)
       (sym (latest-cons made (shared ∷ later) ∙ ap (λ (n : ℕ). max made n) (latest-cons shared later))))))
 
+  -- the transactions are those of the details
+  transactions_are : (ts ds : List Entry) → keys_of ts ≡ keys_of ds
+      → map (λ (d : ThinDevice). d.transaction) (zipped ts ds) ≡ map (λ (e : Entry). details_transaction_of e.value) ds
+  unfolding zipped device
+  transactions_are [] [] same = refl
+  transactions_are [] (d ∷ ds) same = absurd (cc)
+  transactions_are (t ∷ ts) [] same = absurd (cc)
+  transactions_are (t ∷ ts) (d ∷ ds) same =
+      let rest : keys_of ts ≡ keys_of ds = cc in
+      ap (λ (ns : List ℕ). details_transaction_of d.value ∷ ns) (transactions_are ts ds rest)
+
+  -- and the times those of the mappings
+  entries_sum : (es : List Entry)
+      → sum_by (λ (m : Mapping). m.time) (map (λ (e : Entry). record { virtual_block = e.key; data_block = mapped_block e.value; time = mapped_time e.value }) es)
+      ≡ sum_by (λ (e : Entry). mapped_time e.value) es
+  entries_sum [] = refl
+  entries_sum (e ∷ es) =
+      sum_by-cons (λ (m : Mapping). m.time) (the_mapping e) (map the_mapping es)
+      ∙ (two (mapped_time e.value) (mapped_time e.value) _ _ refl (entries_sum es) ∙ sym (sum_by-cons (λ (e : Entry). mapped_time e.value) e es))
+
+  times_sum : (ts ds : List Entry) → keys_of ts ≡ keys_of ds
+      → sum_by (λ (d : ThinDevice). sum_by (λ (m : Mapping). m.time) d.mappings) (zipped ts ds) ≡ sum_by (λ (e : Entry). times_below graph image e.value) ts
+  unfolding zipped device times_below
+  times_sum [] [] same = refl
+  times_sum [] (d ∷ ds) same = absurd (cc)
+  times_sum (t ∷ ts) [] same = absurd (cc)
+  times_sum (t ∷ ts) (d ∷ ds) same =
+      let rest : keys_of ts ≡ keys_of ds = cc in
+      sum_by-cons (λ (d : ThinDevice). sum_by (λ (m : Mapping). m.time) d.mappings) (device t d.value) (zipped ts ds)
+      ∙ (two _ _ _ _ (entries_sum (mapping_entries graph image t.value)) (times_sum ts ds rest)
+      ∙ sym (sum_by-cons (λ (e : Entry). times_below graph image e.value) t ts))
+
 latest_is : (times : List ℕ) → fold max 0 times ≡ latest times
 unfolding latest
 latest_is times = refl
@@ -224,3 +260,16 @@ module _ (graph : Graph) (image : List (List ℕ)) (ts ds : List Entry) (up : Is
   fits_time e =
       latest_is (flat_map times_of (map (thin_device graph image ds) ts))
       ∙ (ap (λ (xs : List ThinDevice). latest (flat_map times_of xs)) (devices_are graph image ts ds 0 (fits_keys e) up) ∙ time_is graph image ts ds (fits_keys e))
+
+  pub fits_transaction : fits ≡ true → fold max 0 (map (λ (d : ThinDevice). d.transaction) (map (thin_device graph image ds) ts))
+      ≡ latest (map (λ (e : Entry). details_transaction_of e.value) ds)
+  fits_transaction e =
+      latest_is _
+      ∙ ap latest
+      (ap (map (λ (d : ThinDevice). d.transaction)) (devices_are graph image ts ds 0 (fits_keys e) up) ∙ transactions_are graph image ts ds (fits_keys e))
+
+  pub fits_times : fits ≡ true → sum_by (λ (d : ThinDevice). sum_by (λ (m : Mapping). m.time) d.mappings) (map (thin_device graph image ds) ts)
+      ≡ sum_by (λ (e : Entry). times_below graph image e.value) ts
+  fits_times e =
+      ap (sum_by (λ (d : ThinDevice). sum_by (λ (m : Mapping). m.time) d.mappings)) (devices_are graph image ts ds 0 (fits_keys e) up)
+      ∙ times_sum graph image ts ds (fits_keys e)

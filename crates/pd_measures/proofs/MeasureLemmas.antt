@@ -1,26 +1,33 @@
 -- Measures of lists in a row.
-use Rattle.std.proofs.Common.{◌≡◌, ℕ, ◌+◌, ◌%◌, ◌^◌, max, sum_by, List, [], ◌∷◌, ◌++◌, map, refl, sym, ◌∙◌, ap, arith, append_assoc}
+use Rattle.std.proofs.Common.{◌≡◌, ℕ, ◌+◌, ◌%◌, ◌^◌, max, sum_by, List, [], ◌∷◌, ◌++◌, map, refl, sym, ◌∙◌, ap, ap₂, arith, append_assoc}
 use Rattle.std.specs.List.{flat_map, AllByRecursion}
 use Rattle.std.proofs.lemmas.List.{append-nil, map-append}
 use Rattle.std.proofs.lemmas.List.Sums.{sum_by-append, sum_by-cons}
 use Rattle.pd_kinds.specs.Node.{Entry}
 use Rattle.pd_measures.specs.declared.measured.Measured.{Measured}
 use Rattle.pd_measures.specs.Counts.{latest}
-use Rattle.pd_measures.specs.Measured.{capped, join, joined, measured, no_measure}
+use Rattle.pd_measures.specs.Measured.{capped, capped_sum, join, joined, measured, no_measure}
 use Rattle.pd_measures.proofs.TimeLemmas.{latest-append, latest-nil, latest-cons}
 
-unfoldable pub the_measure : ℕ → ℕ → ℕ → Measured
-the_measure total time print = record { total = total; time = time; print = print }
+unfoldable pub the_measure : ℕ → ℕ → ℕ → ℕ → ℕ → Measured
+the_measure total time transaction times print = record { total = total; time = time; transaction = transaction; times = times; print = print }
 
-pub same_measure : (a b c d e f : ℕ) → a ≡ d → b ≡ e → c ≡ f → the_measure a b c ≡ the_measure d e f
-same_measure a b c d e f x y z =
-    ap (λ (n : ℕ). the_measure n b c) x ∙ (ap (λ (n : ℕ). the_measure d n c) y ∙ ap (λ (n : ℕ). the_measure d e n) z)
+pub same_measure : (a b c d e f g h i j : ℕ) → a ≡ f → b ≡ g → c ≡ h → d ≡ i → e ≡ j → the_measure a b c d e ≡ the_measure f g h i j
+same_measure a b c d e f g h i j total time transaction times print =
+    ap₂ (λ (x y : ℕ). the_measure x y c d e) total time
+    ∙ (ap₂ (λ (x y : ℕ). the_measure f g x y e) transaction times ∙ ap (λ (x : ℕ). the_measure f g h i x) print)
 
 capped_both : (a b : ℕ) → capped (a + b) ≡ capped (capped a + capped b)
 capped_both a b = omega arith
 
 capped_one : (a b : ℕ) → capped (a + b) ≡ capped (capped a + b)
 capped_one a b = omega arith
+
+summed_both : (a b : ℕ) → capped_sum (a + b) ≡ capped_sum (capped_sum a + capped_sum b)
+summed_both a b = omega arith
+
+summed_one : (a b : ℕ) → capped_sum (a + b) ≡ capped_sum (capped_sum a + b)
+summed_one a b = omega arith
 
 wrapped_both : (a b : ℕ) → (a + b) % 2 ^ 64 ≡ (a % 2 ^ 64 + b % 2 ^ 64) % 2 ^ 64
 wrapped_both a b = omega arith
@@ -33,12 +40,17 @@ module _ (gauge : Entry → Measured) where
   unfolding measured latest
   measured-nil = refl
 
+  latest_both : (f : Entry → ℕ) (xs ys : List Entry) → latest (map f (xs ++ ys)) ≡ max (latest (map f xs)) (latest (map f ys))
+  latest_both f xs ys = ap latest (map-append f xs ys) ∙ latest-append (map f xs) (map f ys)
+
   pub measured-append : (xs ys : List Entry) → measured gauge (xs ++ ys) ≡ join (measured gauge xs) (measured gauge ys)
   unfolding measured the_measure
   measured-append xs ys =
-      same_measure _ _ _ _ _ _
+      same_measure _ _ _ _ _ _ _ _ _ _
       (ap capped (sum_by-append (λ (e : Entry). (gauge e).total) xs ys) ∙ capped_both _ _)
-      (ap latest (map-append (λ (e : Entry). (gauge e).time) xs ys) ∙ latest-append (map (λ (e : Entry). (gauge e).time) xs) (map (λ (e : Entry). (gauge e).time) ys))
+      (latest_both (λ (e : Entry). (gauge e).time) xs ys)
+      (latest_both (λ (e : Entry). (gauge e).transaction) xs ys)
+      (ap capped_sum (sum_by-append (λ (e : Entry). (gauge e).times) xs ys) ∙ summed_both _ _)
       (ap (λ (n : ℕ). n % 2 ^ 64) (sum_by-append (λ (e : Entry). (gauge e).print) xs ys) ∙ wrapped_both _ _)
 
   one_sum : (f : Entry → ℕ) (xs : List Entry) (x : Entry) → sum_by f (xs ++ (x ∷ [])) ≡ sum_by f xs + f x
@@ -47,19 +59,21 @@ module _ (gauge : Entry → Measured) where
       none : (a b : ℕ) → a + (b + 0) ≡ a + b
       none a b = omega arith
 
-  one_time : (times : List ℕ) (time : ℕ) → latest (times ++ (time ∷ [])) ≡ max (latest times) time
-  one_time times time =
-      let both = latest-append times (time ∷ []) in
-      let one = latest-cons time [] in
+  one_latest : (f : Entry → ℕ) (xs : List Entry) (x : Entry) → latest (map f (xs ++ (x ∷ []))) ≡ max (latest (map f xs)) (f x)
+  one_latest f xs x =
+      let both = latest_both f xs (x ∷ []) in
+      let one = latest-cons (f x) [] in
       let none = latest-nil in
       omega arith
 
   pub measured-push : (xs : List Entry) (x : Entry) → measured gauge (xs ++ (x ∷ [])) ≡ join (measured gauge xs) (gauge x)
   unfolding measured the_measure
   measured-push xs x =
-      same_measure _ _ _ _ _ _
+      same_measure _ _ _ _ _ _ _ _ _ _
       (ap capped (one_sum (λ (e : Entry). (gauge e).total) xs x) ∙ capped_one _ _)
-      (ap latest (map-append (λ (e : Entry). (gauge e).time) xs (x ∷ [])) ∙ one_time (map (λ (e : Entry). (gauge e).time) xs) (gauge x).time)
+      (one_latest (λ (e : Entry). (gauge e).time) xs x)
+      (one_latest (λ (e : Entry). (gauge e).transaction) xs x)
+      (ap capped_sum (one_sum (λ (e : Entry). (gauge e).times) xs x) ∙ summed_one _ _)
       (ap (λ (n : ℕ). n % 2 ^ 64) (one_sum (λ (e : Entry). (gauge e).print) xs x) ∙ wrapped_one _ _)
 
   -- the measures of children whose entries stand one after another

@@ -30,6 +30,10 @@ counts_of_top graph image top = counts_by_roots (mappings_below graph image) (to
 unfoldable pub counts_of_details : Graph → List (List ℕ) → ℕ → List DeviceCount
 counts_of_details graph image details = counts_by_details (details_entries graph image details)
 
+-- a list of devices as pairs of their ids and numbers
+abbrev pub pairs_of : List DeviceCount → List (ℕ × ℕ)
+pairs_of counts = map (λ (c : DeviceCount). (c.id, c.mapped)) counts
+
 -- how many mappings the devices have
 abbrev pub total_of : List DeviceCount → ℕ
 total_of counts = sum_by (λ (c : DeviceCount). c.mapped) counts
@@ -52,3 +56,19 @@ top_time graph image top = latest (flat_map (λ (e : Entry). mapping_times graph
 
 unfoldable pub details_time : Graph → List (List ℕ) → ℕ → ℕ
 details_time graph image details = latest (flat_map (λ (e : Entry). details_times e.value) (details_entries graph image details))
+
+-- the sum of the times of the mappings below the root of a device's mappings
+unfoldable pub times_below : Graph → List (List ℕ) → ℕ → ℕ
+times_below graph image root = sum_by (λ (e : Entry). mapped_time e.value) (mapping_entries graph image root)
+
+-- and of all mappings below a mapping tree
+unfoldable pub times_of_top : Graph → List (List ℕ) → ℕ → ℕ
+times_of_top graph image top = sum_by (λ (e : Entry). times_below graph image e.value) (top_entries graph image top)
+
+-- the transaction in which the device of a details entry was made
+abbrev pub details_transaction_of : ℕ → ℕ
+details_transaction_of value = value / 2 ^ 64 % 2 ^ 64
+
+-- the latest transaction of a details tree
+unfoldable pub details_transaction : Graph → List (List ℕ) → ℕ → ℕ
+details_transaction graph image details = latest (map (λ (e : Entry). details_transaction_of e.value) (details_entries graph image details))

@@ -7,8 +7,8 @@ use Rattle.pd_graph.specs.declared.notes.Notes.{Notes}
 use Rattle.pd_graph.specs.Notes.{note_in, size_of}
 use Rattle.pd_measures.specs.declared.measured.Measured.{Measured}
 use Rattle.pd_measures.specs.declared.measures.Measures.{Measures}
-use Rattle.pd_measures.specs.Counts.{DeviceCount, total_of}
-use Rattle.pd_measures.specs.Measured.{capped}
+use Rattle.pd_measures.specs.Counts.{DeviceCount, details_transaction_of, total_of}
+use Rattle.pd_measures.specs.Measured.{capped, capped_sum}
 use Rattle.pd_measures.specs.Measures.{measure_at}
 
 -- the entry at a place of a leaf with values of this size
@@ -24,13 +24,15 @@ print_of id mapped = spread id mapped * spread id mapped % 2 ^ 64 * spread id ma
 
 -- a mapping, by its time
 abbrev pub mappings_gauge : Entry → Measured
-mappings_gauge entry = record { total = 0; time = mapped_time entry.value; print = 0 }
+mappings_gauge entry = record { total = 0; time = mapped_time entry.value; transaction = 0; times = mapped_time entry.value; print = 0 }
 
--- the details of a device, by its mapped number and by when it was made and last shared
+-- the details of a device, by its mapped number, by when it was made and last shared, and by its transaction
 abbrev pub details_gauge : Entry → Measured
 details_gauge entry = record {
   total = mapped_number entry.value;
   time = max (entry.value / 2 ^ 128 % 2 ^ 32) (entry.value / 2 ^ 160);
+  transaction = details_transaction_of entry.value;
+  times = 0;
   print = print_of entry.key (mapped_number entry.value);
 }
 
@@ -40,16 +42,20 @@ below_root notes root = if nat_lt root (size_of notes) then (note_in notes root)
 
 -- the root of a device's mappings, by its note and its measure
 abbrev pub top_gauge : Notes → Measures → Entry → Measured
-top_gauge notes times entry = record {
+top_gauge notes measures entry = record {
   total = below_root notes entry.value;
-  time = (measure_at times entry.value).time;
+  time = (measure_at measures entry.value).time;
+  transaction = 0;
+  times = (measure_at measures entry.value).times;
   print = print_of entry.key (below_root notes entry.value);
 }
 
--- the measure of a list of devices with a latest time
-unfoldable pub list_measure : List DeviceCount → ℕ → Measured
-list_measure counts time = record {
+-- the measure of a list of devices with a latest time, a latest transaction, and a sum of times
+unfoldable pub list_measure : List DeviceCount → ℕ → ℕ → ℕ → Measured
+list_measure counts time transaction sum = record {
   total = capped (total_of counts);
   time = time;
+  transaction = transaction;
+  times = capped_sum sum;
   print = sum_by (λ (c : DeviceCount). print_of c.id c.mapped) counts % 2 ^ 64;
 }

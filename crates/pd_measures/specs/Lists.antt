@@ -14,6 +14,10 @@ details_of number = record {
   snapped = number / 2 ^ 160;
 }
 
+-- an entry as a pair of the device's id and its number of mappings, as its value tells it
+abbrev pub pair_of : {V : Type 0} → (V → ℕ) → ℕ × V → ℕ × ℕ
+pair_of told item = (item.0, told item.1)
+
 -- whether two devices are one
 abbrev pub is_one : (ℕ → ℕ) → ℕ × Root → ℕ × Details → Bool
 is_one below top detail = (top.0 == detail.0) && (below top.1.0 == detail.1.mapped)

@@ -11,7 +11,7 @@ use Rattle.pd_settle.specs.Settled.{AreFit, AreSettledIn}
 use Rattle.pd_tree.specs.TreeRoles.{IsTreeRole}
 use Rattle.pd_measures.specs.declared.measured.Measured.{Measured}
 use Rattle.pd_measures.specs.declared.measures.Measures.{Measures}
-use Rattle.pd_measures.specs.Counts.{latest, mapping_times, mappings_below}
+use Rattle.pd_measures.specs.Counts.{latest, mapping_times, mappings_below, times_below}
 use Rattle.pd_measures.specs.Gauge.{below_root}
 use Rattle.pd_measures.specs.Measured.{measured}
 use Rattle.pd_measures.specs.Measures.{measure_at}
@@ -41,7 +41,9 @@ pub record AreMeasuredTo (graph : Graph) (image : List (List ℕ)) (role size : 
 abbrev pub was_read : Notes → ℕ → ℕ → ℕ → Bool
 was_read notes height before b = nat_lt (note_in notes b).height height || (((note_in notes b).height == height) && nat_lt b before)
 
--- the notes and the measures tell of the root of a device's mappings how many there are, and their latest time
+-- the notes and the measures tell of the root of a device's mappings how many there are, their latest time, and the sum of
+-- their times
 pub record AreToldOf (graph : Graph) (image : List (List ℕ)) (notes : Notes) (times : Measures) (root : ℕ) : Type 0 where
   pub number : below_root notes root ≡ mappings_below graph image root
   pub time : (measure_at times root).time ≡ latest (mapping_times graph image root)
+  pub sum : (measure_at times root).times ≡ times_below graph image root

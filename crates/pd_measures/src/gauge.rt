@@ -1,3 +1,5 @@
+//! What an entry of a tree counts for.
+
 ghost use Rattle.std.specs.Prelude.{◌≡◌, ℕ, ◌<◌, false, true};
 ghost use Rattle.pd_kinds.specs.Node.{Entry, child_at, entry_count, is_inner_node, key_at, value_at};
 ghost use Rattle.pd_measures.specs.declared.measured.Measured.{Measured as Measure};

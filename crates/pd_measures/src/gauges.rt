@@ -49,12 +49,14 @@ impl Gauge for MappingsGauge {
         Measured {
             total: 0,
             time: u64::from(mapping.time),
+            transaction: 0,
+            times: u128::from(mapping.time),
             print: 0,
         }
     }
 }
 
-/// Of a details tree each device counts for its mapped number, and for the later one of its times.
+/// Of a details tree each device counts for its mapped number, for the later one of its times, and for its transaction.
 #[derive(Drop)]
 pub struct DetailsGauge;
 
@@ -76,13 +78,15 @@ impl Gauge for DetailsGauge {
         Measured {
             total: details.mapped,
             time: u64::from(details.created.max(details.snapped)),
+            transaction: details.transaction,
+            times: 0,
             print: print_of(key::<Details>(block, i), details.mapped),
         }
     }
 }
 
-/// Of a mapping tree each device counts for the number of entries below its root, and for the latest time there: by the
-/// notes of the settled devices' trees, and by their measures.
+/// Of a mapping tree each device counts for the number of entries below its root, and for the latest time and the sum of the
+/// times there: by the notes of the settled devices' trees, and by their measures.
 #[derive(Drop)]
 pub struct TopGauge {
     pub notes: Notes,
@@ -116,9 +120,12 @@ impl Gauge for TopGauge {
     fn entry(&self, block: &Block, i: usize) -> Measured {
         let root = value::<Root>(block, i).0;
         let below = below_root(&self.notes, root);
+        let measure = self.times.get(root);
         Measured {
             total: below,
-            time: self.times.get(root).time,
+            time: measure.time,
+            transaction: 0,
+            times: measure.times,
             print: print_of(key::<Root>(block, i), below),
         }
     }

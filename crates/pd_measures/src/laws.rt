@@ -13,7 +13,7 @@ ghost use Rattle.pd_measures.specs.declared.measures.Measures.{Measures as TheMe
 ghost use Rattle.pd_measures.specs.Gauge.{details_gauge, list_measure, top_gauge};
 ghost use Rattle.pd_measures.specs.Measured.{measured};
 ghost use Rattle.pd_measures.specs.Trees.{AreToldOf};
-ghost use Rattle.pd_measures.specs.Counts.{counts_of_top, counts_of_details, details_time, top_time, total_of};
+ghost use Rattle.pd_measures.specs.Counts.{counts_of_top, counts_of_details, details_time, details_transaction, times_of_top, top_time, total_of};
 
 use pd_laws::{reached_by_paths, thin_format_is_lawful};
 use pd_whole::keys_of_sound_trees_ascend;
@@ -28,7 +28,8 @@ pub fn found_trees_are_sound()
 
 /// A sound mapping tree and a sound details tree fit each other exactly where their lists of devices are one: the same
 /// devices, each with as many mappings below its root as its details say. Then the number of mappings of both is the
-/// total of that list, and their latest time the later one of the two trees' times.
+/// total of that list, their latest time the later one of the two trees' times, their latest transaction that of the details
+/// tree, and the sum of their times that of the mapping tree.
 pub fn fitting_trees_have_one_list()
     ensures fitting { (image : List (List ℕ)) (data_blocks top details : ℕ) → let graph = lost_graph image data_blocks in
         is_sound_tree graph image 2 top ≡ true → is_sound_tree graph image 4 details ≡ true
@@ -40,6 +41,8 @@ pub fn fitting_trees_have_one_list()
           details = details;
           mappings = total_of (counts_of_top graph image top);
           time = max (top_time graph image top) (details_time graph image details);
+          transaction = details_transaction graph image details;
+          times = times_of_top graph image top;
         } }
 {
     thin_format_is_lawful();
@@ -48,12 +51,13 @@ pub fn fitting_trees_have_one_list()
 }
 
 /// What is measured of a details tree and of a mapping tree is the measure of their lists of devices, with the latest time
-/// of each tree: so trees whose lists are one have the same total and the same fingerprint. Of a mapping tree it is so where
-/// each root of a device is told of rightly.
+/// of each tree, the latest transaction of the one, and the sum of the times of the other: so trees whose lists are one have
+/// the same total and the same fingerprint. Of a mapping tree it is so where each root of a device is told of rightly.
 pub fn measures_are_those_of_lists()
     ensures details { (graph : Graph) (image : List (List ℕ)) (details : ℕ) → measured details_gauge (details_entries graph image details)
-        ≡ list_measure (counts_of_details graph image details) (details_time graph image details) }
+        ≡ list_measure (counts_of_details graph image details) (details_time graph image details) (details_transaction graph image details) 0 }
     ensures tops { (graph : Graph) (image : List (List ℕ)) (top : ℕ) (notes : TheNotes) (times : TheMeasures)
         → AllByRecursion (λ (e : Entry). AreToldOf graph image notes times e.value) (top_entries graph image top)
-        → measured (top_gauge notes times) (top_entries graph image top) ≡ list_measure (counts_of_top graph image top) (top_time graph image top) }
+        → measured (top_gauge notes times) (top_entries graph image top)
+        ≡ list_measure (counts_of_top graph image top) (top_time graph image top) 0 (times_of_top graph image top) }
 {}

@@ -1,8 +1,10 @@
+//! The table of measures, by block number.
+
 use crate::measured::Measured;
 use pd_graph::BlockTable;
 use std::alloc::{AllocError, Global};
 
-/// A measure for each of so many blocks, in 24 bytes.
+/// A measure for each of so many blocks, in 48 bytes.
 #[derive(Drop)]
 pub struct Measures {
     kept: BlockTable<Measured>,
@@ -34,7 +36,7 @@ impl Measures {
     }
 
     /// Replaces the measure of block b.
-    pub(crate) fn set(&mut self, b: u64, measure: Measured)
+    pub fn set(&mut self, b: u64, measure: Measured)
         requires { b < places_of self.old }
         ensures places { places_of self.new ≡ places_of self.old }
         ensures measures { (c : ℕ) → measure_at self.new c ≡ (if c == b then measure else measure_at self.old c) }

@@ -1,5 +1,5 @@
 -- What stands below the roots of settled trees: how many entries, how many mappings, and the latest times.
-use Rattle.std.proofs.Common.{◌≡◌, ℕ, ◌*◌, ◌^◌, ◌<◌, ◌≤◌, Bool, true, cond, List, [], ◌∷◌, length, refl, ◌∙◌, ap, arith}
+use Rattle.std.proofs.Common.{◌≡◌, ℕ, ◌*◌, ◌^◌, ◌<◌, ◌≤◌, Bool, true, cond, sum_by, List, [], ◌∷◌, length, refl, ◌∙◌, ap, arith}
 use Rattle.std.specs.List.{AllByRecursion}
 use Rattle.std.proofs.Math.Nat.{suc-mul}
 use Rattle.std.proofs.lemmas.Bool.{lt-ltb}
@@ -15,7 +15,7 @@ use Rattle.pd_laid.specs.FoundRoots.{is_sound_tree}
 use Rattle.pd_graph.specs.declared.notes.Notes.{Notes}
 use Rattle.pd_graph.specs.Notes.{note_in}
 use Rattle.pd_settle.specs.Good.{is_good_node}
-use Rattle.pd_measures.specs.Counts.{DeviceCount, counts_by_roots, counts_of_top, details_time, details_times, latest, mapping_times, mappings_below, top_time, total_of}
+use Rattle.pd_measures.specs.Counts.{DeviceCount, counts_by_roots, counts_of_top, details_time, details_times, latest, mapping_times, mappings_below, times_below, times_of_top, top_time, total_of}
 use Rattle.pd_measures.specs.Gauge.{below_root}
 use Rattle.pd_measures.proofs.SoundLemmas.{root_inside}
 use Rattle.pd_measures.proofs.TimeLemmas.{latest-cons, latest-nil}
@@ -75,6 +75,35 @@ few_mappings graph image tops devices are_tops are b sound named =
     let each = all_from (λ (e : Entry). is_sound_tree graph image 3 e.value ≡ true) (λ (e : Entry). mappings_below graph image e.value ≤ 2 ^ 31)
     (λ e is. few_below graph image devices are e.value is) entries named in
     let sum = sum_most (mappings_below graph image) (2 ^ 31) entries each in
+    let number = few_entries graph image 2 8 tops are_tops b sound in
+    omega arith
+
+-- the sum of their times
+sum_under : (f : Entry → ℕ) (most : ℕ) (es : List Entry) → AllByRecursion (λ (e : Entry). f e ≤ most) es → sum_by f es ≤ length es * most
+sum_under f most [] all = omega arith
+sum_under f most (e ∷ es) all =
+    let rest = sum_under f most es all.1 in
+    let first = all.0 in
+    omega (arith, suc-mul (length es) most, sum_by-cons f e es)
+
+pub few_times_below : (graph : Graph) (image : List (List ℕ)) (notes : Notes) → AreSettledTrees graph image 3 8 notes
+    → (root : ℕ) → is_sound_tree graph image 3 root ≡ true → times_below graph image root ≤ 2 ^ 55
+unfolding times_below
+few_times_below graph image notes are root sound =
+    let entries = mapping_entries graph image root in
+    let sum = sum_under (λ (e : Entry). mapped_time e.value) (2 ^ 24) entries (all_of (λ (e : Entry). mapped_time e.value ≤ 2 ^ 24) (λ e. omega arith) entries) in
+    let few = few_entries graph image 3 8 notes are root sound in
+    omega arith
+
+pub few_times : (graph : Graph) (image : List (List ℕ)) (tops devices : Notes) → AreSettledTrees graph image 2 8 tops → AreSettledTrees graph image 3 8 devices
+    → (b : ℕ) → is_sound_tree graph image 2 b ≡ true → AllByRecursion (λ (e : Entry). is_sound_tree graph image 3 e.value ≡ true) (top_entries graph image b)
+    → times_of_top graph image b < 2 ^ 128
+unfolding times_of_top
+few_times graph image tops devices are_tops are b sound named =
+    let entries = top_entries graph image b in
+    let each = all_from (λ (e : Entry). is_sound_tree graph image 3 e.value ≡ true) (λ (e : Entry). times_below graph image e.value ≤ 2 ^ 55)
+    (λ e is. few_times_below graph image devices are e.value is) entries named in
+    let sum = sum_under (λ (e : Entry). times_below graph image e.value) (2 ^ 55) entries each in
     let number = few_entries graph image 2 8 tops are_tops b sound in
     omega arith
 

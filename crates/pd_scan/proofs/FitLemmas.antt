@@ -6,15 +6,15 @@ use Rattle.pd_graph.specs.declared.notes.Notes.{Notes}
 use Rattle.pd_graph.specs.Notes.{note_in, size_of}
 use Rattle.pd_laid.specs.FoundRoots.{FoundRoots, IsFound, are_fitting, is_better, is_sound_tree, lost_graph, roots_at}
 use Rattle.pd_measures.specs.declared.measured.Measured.{Measured}
-use Rattle.pd_measures.specs.Counts.{DeviceCount, counts_of_details, counts_of_top, details_time, top_time, total_of}
+use Rattle.pd_measures.specs.Counts.{DeviceCount, counts_of_details, counts_of_top, details_time, details_transaction, times_of_top, top_time, total_of}
 use Rattle.pd_measures.specs.Gauge.{list_measure}
-use Rattle.pd_measures.specs.Measured.{capped}
+use Rattle.pd_measures.specs.Measured.{capped, capped_sum}
 use Rattle.pd_measures.specs.Measures.{measure_at}
 use Rattle.pd_measures.proofs.SoundLemmas.{root_inside}
 use Rattle.pd_scan.specs.declared.trees.LostTrees.{LostTrees}
 use Rattle.pd_scan.specs.Lost.{AreRoots}
 use Rattle.pd_scan.specs.Pairs.{AreTreesOf, IsBestOf, may_fit, pair_of}
-use Rattle.pd_scan.specs.Partners.{has_sum, is_partner, sum_of}
+use Rattle.pd_scan.specs.Partners.{has_sum, is_partner, sum_of, time_at}
 use Rattle.pd_scan.specs.Tops.{is_noted_good}
 
 pub fitting_parts : (graph : Graph) (image : List (List ℕ)) (top details : ℕ) → are_fitting graph image top details ≡ true
@@ -25,35 +25,44 @@ fitting_parts graph image top details e =
     (parts.0, (and_parts (is_sound_tree graph image 4 details) _ parts.1).0)
 
 -- the root of a sound tree was noted as good, and what was noted as good is the root of a sound tree
-good_root : (graph : Graph) (image : List (List ℕ)) (role : ℕ) (notes : Notes) → AreRoots graph image role notes → graph.nr ≡ size_of notes
+pub good_root : (graph : Graph) (image : List (List ℕ)) (role : ℕ) (notes : Notes) → AreRoots graph image role notes → graph.nr ≡ size_of notes
     → (b : ℕ) → is_sound_tree graph image role b ≡ true → is_noted_good notes b ≡ true
 good_root graph image role notes roots number b sound =
     let small = root_inside graph image role b sound in
     and_from (nat_lt b (size_of notes)) (nat_lt (note_in notes b).height 65) (lt-ltb b (size_of notes) (omega arith)) (roots.sound b small ∙ sound)
 
-root_good : (graph : Graph) (image : List (List ℕ)) (role : ℕ) (notes : Notes) → AreRoots graph image role notes → graph.nr ≡ size_of notes
+pub root_good : (graph : Graph) (image : List (List ℕ)) (role : ℕ) (notes : Notes) → AreRoots graph image role notes → graph.nr ≡ size_of notes
     → (b : ℕ) → is_noted_good notes b ≡ true → is_sound_tree graph image role b ≡ true
 root_good graph image role notes roots number b good =
     let parts = and_parts (nat_lt b (size_of notes)) (nat_lt (note_in notes b).height 65) good in
     let small = ltb-true b (size_of notes) parts.0 in
     sym (roots.sound b (omega arith)) ∙ parts.1
 
--- the sum is that of the list, whatever the time
+-- the sum is that of the list, whatever the times and the transaction
 sum_of_list : List DeviceCount → ℕ × ℕ
 unfolding list_measure
-sum_of_list counts = sum_of (list_measure counts 0)
+sum_of_list counts = sum_of (list_measure counts 0 0 0)
 
-sum_is : (counts : List DeviceCount) (time : ℕ) (measure : Measured) → measure ≡ list_measure counts time → sum_of measure ≡ sum_of_list counts
-unfolding sum_of_list list_measure
-sum_is counts time measure e = ap sum_of e
+module _ (counts : List DeviceCount) (time transaction sum : ℕ) (measure : Measured) (e : measure ≡ list_measure counts time transaction sum) where
+  sum_is : sum_of measure ≡ sum_of_list counts
+  unfolding sum_of_list list_measure
+  sum_is = ap sum_of e
 
-total_is : (counts : List DeviceCount) (time : ℕ) (measure : Measured) → measure ≡ list_measure counts time → measure.total ≡ capped (total_of counts)
-unfolding list_measure
-total_is counts time measure e = ap (λ (m : Measured). m.total) e
+  total_is : measure.total ≡ capped (total_of counts)
+  unfolding list_measure
+  total_is = ap (λ (m : Measured). m.total) e
 
-time_is : (counts : List DeviceCount) (time : ℕ) (measure : Measured) → measure ≡ list_measure counts time → measure.time ≡ time
-unfolding list_measure
-time_is counts time measure e = ap (λ (m : Measured). m.time) e
+  time_is : measure.time ≡ time
+  unfolding list_measure
+  time_is = ap (λ (m : Measured). m.time) e
+
+  transaction_is : measure.transaction ≡ transaction
+  unfolding list_measure
+  transaction_is = ap (λ (m : Measured). m.transaction) e
+
+  times_are : measure.times ≡ capped_sum sum
+  unfolding list_measure
+  times_are = ap (λ (m : Measured). m.times) e
 
 has_its_sum : (sum : ℕ × ℕ) (measure : Measured) → sum_of measure ≡ sum → has_sum sum measure ≡ true
 has_its_sum sum measure e =
@@ -61,8 +70,9 @@ has_its_sum sum measure e =
     (eq-eqb measure.print sum.1 (ap (λ (s : ℕ × ℕ). s.1) e))
 
 -- two roots by their numbers
-abbrev pub roots_by : ℕ → ℕ → ℕ → ℕ → FoundRoots
-roots_by top details mappings time = record { top = top; details = details; mappings = mappings; time = time }
+abbrev pub roots_by : ℕ → ℕ → ℕ → ℕ → ℕ → ℕ → FoundRoots
+roots_by top details mappings time transaction times =
+    record { top = top; details = details; mappings = mappings; time = time; transaction = transaction; times = times }
 
 module _ (image : List (List ℕ)) (data_blocks : ℕ) (trees : LostTrees) (are : AreTreesOf image data_blocks trees) where
   -- trees that may fit are sound
@@ -90,15 +100,16 @@ module _ (image : List (List ℕ)) (data_blocks : ℕ) (trees : LostTrees) (are 
         let first = told.top_measures top (root_inside graph image 2 top sound) sound in
         let second = told.details_measures details (root_inside graph image 4 details other) other in
         let same : sum_of (measure_at trees.details_measures details) ≡ sum_of (measure_at trees.top_measures top) =
-        sum_is (counts_of_details graph image details) (details_time graph image details) (measure_at trees.details_measures details) second
-        ∙ (ap sum_of_list (sym one) ∙ sym (sum_is (counts_of_top graph image top) (top_time graph image top) (measure_at trees.top_measures top) first)) in
+        sum_is (counts_of_details graph image details) _ _ _ (measure_at trees.details_measures details) second
+        ∙ (ap sum_of_list (sym one) ∙ sym (sum_is (counts_of_top graph image top) _ _ _ (measure_at trees.top_measures top) first)) in
         and_from (is_noted_good trees.tops top) _ (good_root graph image 2 trees.tops told.tops are.number top sound)
         (and_from (is_noted_good trees.details details) _ (good_root graph image 4 trees.details told.details (are.number ∙ sym are.places) details other)
         (has_its_sum (sum_of (measure_at trees.top_measures top)) (measure_at trees.details_measures details) same))
 
     -- and their roots are told by what is measured of them
     pub pair_by : roots_by top details (total_of (counts_of_top (lost_graph image data_blocks) image top))
-        (max (top_time (lost_graph image data_blocks) image top) (details_time (lost_graph image data_blocks) image details)) ≡ pair_of trees top details
+        (max (top_time (lost_graph image data_blocks) image top) (details_time (lost_graph image data_blocks) image details))
+        (details_transaction (lost_graph image data_blocks) image details) (times_of_top (lost_graph image data_blocks) image top) ≡ pair_of trees top details
     unfolding pair_of
     pair_by =
         let graph = lost_graph image data_blocks in
@@ -110,10 +121,15 @@ module _ (image : List (List ℕ)) (data_blocks : ℕ) (trees : LostTrees) (are 
         let few = told.few top small sound in
         let top_few = told.top_times top small sound in
         let details_few = told.details_times details less other in
-        let total = total_is (counts_of_top graph image top) (top_time graph image top) (measure_at trees.top_measures top) first in
-        let time = time_is (counts_of_top graph image top) (top_time graph image top) (measure_at trees.top_measures top) first in
-        let last = time_is (counts_of_details graph image details) (details_time graph image details) (measure_at trees.details_measures details) second in
-        ap₂ (roots_by top details) (omega arith) (omega arith)
+        let few_times = told.few_times top small sound in
+        let total = total_is (counts_of_top graph image top) _ _ _ (measure_at trees.top_measures top) first in
+        let time = time_is (counts_of_top graph image top) _ _ _ (measure_at trees.top_measures top) first in
+        let sum = times_are (counts_of_top graph image top) _ _ _ (measure_at trees.top_measures top) first in
+        let last = time_is (counts_of_details graph image details) _ _ _ (measure_at trees.details_measures details) second in
+        let newest = transaction_is (counts_of_details graph image details) _ _ _ (measure_at trees.details_measures details) second in
+        ap₂ (λ (x y : ℕ). roots_by top details x y (details_transaction graph image details) (times_of_top graph image top)) (omega arith) (omega arith)
+        ∙ ap₂ (roots_by top details (measure_at trees.top_measures top).total (max (time_at trees.top_measures top) (time_at trees.details_measures details)))
+        (sym newest) (omega arith)
 
   -- the best of all pairs by what is measured of them is what is to be found
   module _ (roots : (top details : ℕ) → are_fitting (lost_graph image data_blocks) image top details ≡ true

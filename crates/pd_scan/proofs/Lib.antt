@@ -15,3 +15,4 @@ pub mod OrderLemmas
 pub mod PairLemmas
 pub mod FitLemmas
 pub mod RootLemmas
+pub mod NumberLemmas

@@ -1,15 +1,11 @@
--- The order of roots: which of some are better, where others are between.
-use Rattle.std.proofs.Common.{◌≡◌, inl, inr, ℕ, ◌≤◌, Bool, true, false, ◌&&◌, ◌||◌, nat_eq, nat_lt, refl, arith}
+-- The order of lists of numbers by the first in which they differ, and of roots by their scores.
+use Rattle.std.proofs.Common.{◌≡◌, inl, inr, ℕ, ◌≤◌, Bool, true, false, ◌&&◌, ◌||◌, nat_eq, nat_lt, List, [], ◌∷◌, ◌++◌, length, refl, arith}
 use Rattle.std.proofs.lemmas.Bool.{and_from, and_parts, both_ways, cases_eq, eqb-true, eq-eqb, le-ltb, ltb-false, ltb-true, ne_eqb, or_cases, or_from, or_parts}
-use Rattle.pd_laid.specs.FoundRoots.{FoundRoots, is_better}
+use Rattle.pd_laid.specs.FoundRoots.{FoundRoots, is_better, is_greater, score_of}
 
--- of two numbers the lesser one decides, and where they are equal what comes after
-abbrev comes_first : ℕ → ℕ → Bool → Bool
-comes_first x y later = nat_lt x y || (nat_eq x y && later)
-
--- the same, with the second number first in the equation
-abbrev comes_last : ℕ → ℕ → Bool → Bool
-comes_last x y later = nat_lt y x || (nat_eq x y && later)
+-- of two numbers the greater one decides, and where they are equal what comes after
+abbrev decides : ℕ → ℕ → Bool → Bool
+decides x y later = nat_lt y x || (nat_eq x y && later)
 
 equal_passes : (x y : ℕ) (later : Bool) → (nat_eq x y && later) ≡ false → x ≡ y → later ≡ false
 equal_passes x y true e same = absurd (both_ways (nat_eq x y && true) e (and_from (nat_eq x y) true (eq-eqb x y same) refl))
@@ -21,78 +17,78 @@ passes_equal x y later e = elim (cases_eq x y) [
   | inr ne ↦ rw (ne_eqb x y ne) refl
 ]
 
-first_parts : (x y : ℕ) (later : Bool) → comes_first x y later ≡ false → (y ≤ x) × (x ≡ y → later ≡ false)
-first_parts x y later e =
-    let parts = or_parts (nat_lt x y) (nat_eq x y && later) e in
-    (ltb-false x y parts.0, equal_passes x y later parts.1)
-
-first_from : (x y : ℕ) (later : Bool) → y ≤ x → (x ≡ y → later ≡ false) → comes_first x y later ≡ false
-first_from x y later order e = or_from (nat_lt x y) (nat_eq x y && later) (le-ltb x y order) (passes_equal x y later e)
-
-last_parts : (x y : ℕ) (later : Bool) → comes_last x y later ≡ false → (x ≤ y) × (x ≡ y → later ≡ false)
-last_parts x y later e =
+parts_of : (x y : ℕ) (later : Bool) → decides x y later ≡ false → (x ≤ y) × (x ≡ y → later ≡ false)
+parts_of x y later e =
     let parts = or_parts (nat_lt y x) (nat_eq x y && later) e in
     (ltb-false y x parts.0, equal_passes x y later parts.1)
 
-last_from : (x y : ℕ) (later : Bool) → x ≤ y → (x ≡ y → later ≡ false) → comes_last x y later ≡ false
-last_from x y later order e = or_from (nat_lt y x) (nat_eq x y && later) (le-ltb y x order) (passes_equal x y later e)
+from_parts : (x y : ℕ) (later : Bool) → x ≤ y → (x ≡ y → later ≡ false) → decides x y later ≡ false
+from_parts x y later order e = or_from (nat_lt y x) (nat_eq x y && later) (le-ltb y x order) (passes_equal x y later e)
 
--- what isn't better than what isn't better
-first_over : (x y z : ℕ) (p q r : Bool) → (p ≡ false → q ≡ false → r ≡ false) → comes_first x y p ≡ false → comes_first y z q ≡ false → comes_first x z r ≡ false
-first_over x y z p q r over first second =
-    let a = first_parts x y p first in
-    let b = first_parts y z q second in
-    first_from x z r (omega arith) (λ e. over (a.1 (omega arith)) (b.1 (omega arith)))
+-- a list isn't greater where its first number is no greater, and at the same one the rest isn't
+pub first_parts : (x y : ℕ) (xs ys : List ℕ) → is_greater (x ∷ xs) (y ∷ ys) ≡ false → (x ≤ y) × (x ≡ y → is_greater xs ys ≡ false)
+first_parts x y xs ys e = parts_of x y (is_greater xs ys) e
 
-last_over : (x y z : ℕ) (p q r : Bool) → (p ≡ false → q ≡ false → r ≡ false) → comes_last x y p ≡ false → comes_last y z q ≡ false → comes_last x z r ≡ false
-last_over x y z p q r over first second =
-    let a = last_parts x y p first in
-    let b = last_parts y z q second in
-    last_from x z r (omega arith) (λ e. over (a.1 (omega arith)) (b.1 (omega arith)))
+pub first_from : (x y : ℕ) (xs ys : List ℕ) → x ≤ y → (x ≡ y → is_greater xs ys ≡ false) → is_greater (x ∷ xs) (y ∷ ys) ≡ false
+first_from x y xs ys order e = from_parts x y (is_greater xs ys) order e
 
-lower_over : (x y z : ℕ) → nat_lt x y ≡ false → nat_lt y z ≡ false → nat_lt x z ≡ false
-lower_over x y z first second =
-    let a = ltb-false x y first in
-    let b = ltb-false y z second in
-    le-ltb x z (omega arith)
+-- what isn't greater than what isn't greater
+pub not_greater_over : (xs ys zs : List ℕ) → is_greater xs ys ≡ false → is_greater ys zs ≡ false → is_greater xs zs ≡ false
+not_greater_over [] ys zs first second = refl
+not_greater_over (x ∷ xs) [] zs first second = absurd (both_ways true first refl)
+not_greater_over (x ∷ xs) (y ∷ ys) [] first second = absurd (both_ways true second refl)
+not_greater_over (x ∷ xs) (y ∷ ys) (z ∷ zs) first second =
+    let a = first_parts x y xs ys first in
+    let b = first_parts y z ys zs second in
+    first_from x z xs zs (omega arith) (λ e. not_greater_over xs ys zs (a.1 (omega arith)) (b.1 (omega arith)))
+
+-- what is greater isn't so the other way round
+pub not_greater_back : (xs ys : List ℕ) → is_greater xs ys ≡ true → is_greater ys xs ≡ false
+not_greater_back [] ys e = absurd (both_ways false refl e)
+not_greater_back (x ∷ xs) [] e = refl
+not_greater_back (x ∷ xs) (y ∷ ys) e = elim (or_cases (nat_lt y x) (nat_eq x y && is_greater xs ys) e) [
+  | inl less ↦ let order = ltb-true y x less in first_from y x ys xs (omega arith) (λ same. absurd (omega arith))
+  | inr later ↦
+      let parts = and_parts (nat_eq x y) (is_greater xs ys) later in
+      let same = eqb-true x y parts.0 in
+      first_from y x ys xs (omega arith) (λ e. not_greater_back xs ys parts.1)
+]
+
+-- nothing is greater than itself
+pub not_greater_self : (xs : List ℕ) → is_greater xs xs ≡ false
+not_greater_self [] = refl
+not_greater_self (x ∷ xs) = first_from x x xs xs (omega arith) (λ e. not_greater_self xs)
+
+-- lists that aren't greater, up to places of one number
+pub not_greater_start : (xs ys ps qs : List ℕ) → length xs ≡ length ys → is_greater (xs ++ ps) (ys ++ qs) ≡ false → is_greater xs ys ≡ false
+not_greater_start [] ys ps qs same e = refl
+not_greater_start (x ∷ xs) [] ps qs same e = absurd (omega (arith, same))
+not_greater_start (x ∷ xs) (y ∷ ys) ps qs same e =
+    let parts = first_parts x y (xs ++ ps) (ys ++ qs) e in
+    let rest : length xs ≡ length ys = omega (arith, same) in
+    first_from x y xs ys parts.0 (λ equal. not_greater_start xs ys ps qs rest (parts.1 equal))
 
 pub not_better_over : (a b c : FoundRoots) → is_better a b ≡ false → is_better b c ≡ false → is_better a c ≡ false
 unfolding is_better
-not_better_over a b c =
-    last_over a.mappings b.mappings c.mappings _ _ _
-    (last_over a.time b.time c.time _ _ _ (first_over a.top b.top c.top _ _ _ (lower_over a.details b.details c.details)))
-
--- what is better isn't better the other way round
-first_back : (x y : ℕ) (p q : Bool) → (p ≡ true → q ≡ false) → comes_first x y p ≡ true → comes_first y x q ≡ false
-first_back x y p q back e = elim (or_cases (nat_lt x y) (nat_eq x y && p) e) [
-  | inl less ↦ let order = ltb-true x y less in first_from y x q (omega arith) (λ e. absurd (omega arith))
-  | inr later ↦
-      let parts = and_parts (nat_eq x y) p later in
-      let same = eqb-true x y parts.0 in
-      first_from y x q (omega arith) (λ e. back parts.1)
-]
-
-last_back : (x y : ℕ) (p q : Bool) → (p ≡ true → q ≡ false) → comes_last x y p ≡ true → comes_last y x q ≡ false
-last_back x y p q back e = elim (or_cases (nat_lt y x) (nat_eq x y && p) e) [
-  | inl less ↦ let order = ltb-true y x less in last_from y x q (omega arith) (λ e. absurd (omega arith))
-  | inr later ↦
-      let parts = and_parts (nat_eq x y) p later in
-      let same = eqb-true x y parts.0 in
-      last_from y x q (omega arith) (λ e. back parts.1)
-]
-
-lower_back : (x y : ℕ) → nat_lt x y ≡ true → nat_lt y x ≡ false
-lower_back x y e = let less = ltb-true x y e in le-ltb y x (omega arith)
+not_better_over a b c first second = not_greater_over (score_of a) (score_of b) (score_of c) first second
 
 pub not_better_back : (a b : FoundRoots) → is_better a b ≡ true → is_better b a ≡ false
 unfolding is_better
-not_better_back a b =
-    last_back a.mappings b.mappings _ _ (last_back a.time b.time _ _ (first_back a.top b.top _ _ (lower_back a.details b.details)))
+not_better_back a b e = not_greater_back (score_of a) (score_of b) e
 
--- with the same mappings and the same top, an earlier time isn't better, and at the same time a higher block isn't
-pub not_better_from : (a b : FoundRoots) → a.mappings ≡ b.mappings → a.top ≡ b.top → a.time ≤ b.time → (a.time ≡ b.time → b.details ≤ a.details) → is_better a b ≡ false
+pub not_better_self : (a : FoundRoots) → is_better a a ≡ false
 unfolding is_better
-not_better_from a b mappings top time details =
-    last_from a.mappings b.mappings _ (omega arith)
-    (λ e. last_from a.time b.time _ time
-    (λ same. first_from a.top b.top _ (omega arith) (λ one. le-ltb a.details b.details (details same))))
+not_better_self a = not_greater_self (score_of a)
+
+-- with the same mappings and the same top, an earlier time isn't better; at the same time an earlier transaction isn't, and
+-- in the same one a lower block
+pub not_better_from : (a b : FoundRoots) → a.mappings ≡ b.mappings → a.times ≡ b.times → a.top ≡ b.top → a.time ≤ b.time
+    → (a.time ≡ b.time → is_greater (a.transaction ∷ a.details ∷ []) (b.transaction ∷ b.details ∷ []) ≡ false) → is_better a b ≡ false
+unfolding is_better
+not_better_from a b mappings times top time later =
+    from_parts a.time b.time _ time (λ same.
+    let parts = first_parts a.transaction b.transaction (a.details ∷ []) (b.details ∷ []) (later same) in
+    from_parts a.transaction b.transaction _ parts.0 (λ e.
+    from_parts a.times b.times _ (omega arith) (λ one.
+    from_parts a.mappings b.mappings _ (omega arith) (λ two.
+    from_parts a.top b.top _ (omega arith) (λ three. parts.1 e)))))

@@ -1,5 +1,5 @@
 -- What the filled tables tell of all trees of a pool.
-use Rattle.std.proofs.Common.{◌≡◌, ℕ, true, List, ◌∙◌, ap}
+use Rattle.std.proofs.Common.{◌≡◌, ℕ, true, List, ◌∙◌, ap, arith}
 use Rattle.std.specs.List.{AllByRecursion}
 use Rattle.pd_kinds.specs.Image.{HasBytes}
 use Rattle.pd_kinds.specs.Node.{Entry}
@@ -11,9 +11,10 @@ use Rattle.pd_graph.specs.declared.notes.Notes.{Notes}
 use Rattle.pd_tree.specs.TreeRoles.{IsTreeTo}
 use Rattle.pd_measures.specs.declared.measured.Measured.{Measured}
 use Rattle.pd_measures.specs.declared.measures.Measures.{Measures}
-use Rattle.pd_measures.specs.Counts.{counts_of_details, counts_of_top, details_time, mappings_below, top_time}
+use Rattle.pd_measures.specs.Counts.{counts_of_details, counts_of_top, details_time, details_transaction, mappings_below, times_below, times_of_top, top_time}
 use Rattle.pd_measures.specs.Gauge.{below_root, details_gauge, list_measure, mappings_gauge, top_gauge}
-use Rattle.pd_measures.specs.Measured.{measured}
+use Rattle.pd_measures.specs.Measured.{capped_sum, measured}
+use Rattle.pd_measures.specs.Measures.{measure_at}
 use Rattle.pd_measures.specs.Trees.{AreMeasured, AreToldOf}
 use Rattle.pd_measures.proofs.SoundLemmas.{root_inside}
 use Rattle.pd_scan.specs.declared.tables.Tables.{Tables}
@@ -21,23 +22,30 @@ use Rattle.pd_scan.specs.Fit.{is_fit_root}
 use Rattle.pd_scan.specs.Lost.{AreSettledTrees}
 use Rattle.pd_scan.specs.Tables.{AreAllMeasured, trees_of}
 use Rattle.pd_scan.specs.Trees.{AreLostTrees}
-use Rattle.pd_scan.proofs.BelowLemmas.{details_time_fits, few_mappings, mappings_noted, root_good, top_time_fits}
+use Rattle.pd_scan.proofs.BelowLemmas.{details_time_fits, few_mappings, few_times, few_times_below, mappings_noted, root_good, top_time_fits}
 use Rattle.pd_scan.proofs.EntryLemmas.{entries_name_roots}
 
 -- the notes and the measures tell of the root of a sound device's tree
 told_of : (graph : Graph) (image : List (List ℕ)) (notes : Notes) (times : Measures) → AreSettledTrees graph image 3 8 notes
     → AreMeasured graph image 3 8 (is_fit_root graph image 3) mappings_gauge times → (root : ℕ) → is_sound_tree graph image 3 root ≡ true
     → AreToldOf graph image notes times root
-unfolding measured
+unfolding measured times_below
 told_of graph image notes times are measures root sound = record {
   number = mappings_noted graph image notes are root sound;
   time = ap (λ (m : Measured). m.time) (measures.nodes root (root_inside graph image 3 root sound) (root_good graph image 3 8 notes are root sound));
+  sum =
+      let few = few_times_below graph image notes are root sound in
+      let capped : (measure_at times root).times ≡ capped_sum (times_below graph image root) =
+      ap (λ (m : Measured). m.times) (measures.nodes root (root_inside graph image 3 root sound) (root_good graph image 3 8 notes are root sound)) in
+      omega arith;
 }
 
 module _ (graph : Graph) (image : List (List ℕ)) (tables : Tables) (are : AreAllMeasured graph image tables) (to : IsTreeTo graph 2 8 3 (λ v. v))
-    (of_details : (b : ℕ) → measured details_gauge (details_entries graph image b) ≡ list_measure (counts_of_details graph image b) (details_time graph image b))
+    (of_details : (b : ℕ) → measured details_gauge (details_entries graph image b) ≡ list_measure (counts_of_details graph image b) (details_time graph image b)
+    (details_transaction graph image b) 0)
     (of_tops : (b : ℕ) (notes : Notes) (times : Measures) → AllByRecursion (λ (e : Entry). AreToldOf graph image notes times e.value) (top_entries graph image b)
-    → measured (top_gauge notes times) (top_entries graph image b) ≡ list_measure (counts_of_top graph image b) (top_time graph image b)) where
+    → measured (top_gauge notes times) (top_entries graph image b) ≡ list_measure (counts_of_top graph image b) (top_time graph image b) 0
+    (times_of_top graph image b)) where
   named : (b : ℕ) → is_sound_tree graph image 2 b ≡ true → AllByRecursion (λ (e : Entry). is_sound_tree graph image 3 e.value ≡ true) (top_entries graph image b)
   named b sound =
       entries_name_roots graph image 2 8 3 (λ v. v) to are.settled.tops.trees.lawful are.settled.tops.trees.known b sound
@@ -63,4 +71,5 @@ module _ (graph : Graph) (image : List (List ℕ)) (tables : Tables) (are : AreA
     few = λ b small sound. few_mappings graph image tables.tops tables.devices.notes are.settled.tops are.settled.devices b sound (named b sound);
     top_times = λ b small sound. top_time_fits graph image b;
     details_times = λ b small sound. details_time_fits graph image b bytes;
+    few_times = λ b small sound. few_times graph image tables.tops tables.devices.notes are.settled.tops are.settled.devices b sound (named b sound);
   }

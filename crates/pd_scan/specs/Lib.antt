@@ -6,3 +6,4 @@ pub mod Trees
 pub mod Roots
 pub mod Partners
 pub mod Pairs
+pub mod Numbers

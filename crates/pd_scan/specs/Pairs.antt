@@ -23,6 +23,8 @@ pair_of trees top details = record {
   details = details;
   mappings = (measure_at trees.top_measures top).total;
   time = max (time_at trees.top_measures top) (time_at trees.details_measures details);
+  transaction = (measure_at trees.details_measures details).transaction;
+  times = (measure_at trees.top_measures top).times;
 }
 
 -- some roots are better than the best ones so far, if there are any

@@ -1,12 +1,14 @@
 -- Details trees by what is measured of them, and which of those with one sum are the best for a mapping tree.
-use Rattle.std.specs.Prelude.{◌≡◌, ◌⊎◌, ℕ, ◌-◌, ◌^◌, ◌<◌, ◌≤◌, min, Bool, true, false, ◌==◌, ◌&&◌, nat_lt, if◌then◌else◌, Option, Some, None}
+use Rattle.std.specs.Prelude.{◌≡◌, ℕ, ◌-◌, ◌^◌, ◌<◌, min, Bool, true, false, ◌==◌, ◌&&◌, nat_lt, if◌then◌else◌, List, [], ◌∷◌, Option, Some, None}
 use Rattle.std.specs.declared.cmp.Ordering.{Ordering}
 use Rattle.std.specs.Ordering.{nat_cmp, ordering_then}
 use Rattle.std.specs.BTreeMap.{BTreeMap, get}
 use Rattle.pd_graph.specs.declared.notes.Notes.{Notes}
+use Rattle.pd_laid.specs.FoundRoots.{is_greater}
 use Rattle.pd_measures.specs.declared.measured.Measured.{Measured}
 use Rattle.pd_measures.specs.declared.measures.Measures.{Measures}
 use Rattle.pd_measures.specs.Measures.{measure_at}
+use Rattle.pd_scan.specs.declared.partners.Partner.{Partner}
 use Rattle.pd_scan.specs.declared.partners.Partners.{Partners}
 use Rattle.pd_scan.specs.Tops.{is_noted_good}
 
@@ -34,31 +36,54 @@ time_at measures b = time_of (measure_at measures b)
 unfoldable pub is_partner : Notes → Measures → ℕ × ℕ → ℕ → Bool
 is_partner details measures sum b = is_noted_good details b && has_sum sum (measure_at measures b)
 
--- of the trees that pass, with roots before a block: the lowest root, and of those with the latest time the lowest one
-pub record ArePartners (passes : ℕ → Bool) (time : ℕ → ℕ) (before : ℕ) (partners : Partners) : Type 0 where
-  pub lowest : passes partners.lowest ≡ true
-  pub low : partners.lowest < before
-  pub none_lower : (b : ℕ) → b < before → passes b ≡ true → partners.lowest ≤ b
-  pub latest : passes partners.latest ≡ true
-  pub late : partners.latest < before
-  pub is_time : partners.time ≡ time partners.latest
-  pub none_later : (b : ℕ) → b < before → passes b ≡ true → (time b < partners.time) ⊎ ((time b ≡ partners.time) × (partners.latest ≤ b))
+-- a details tree by what it is compared by
+abbrev pub partner_of : ℕ → Measured → Partner
+partner_of b measure = record { root = b; time = time_of measure; transaction = measure.transaction }
+
+abbrev pub partner_at : Measures → ℕ → Partner
+partner_at measures b = partner_of b (measure_at measures b)
+
+-- what it is compared by with others, the first number first: where their times count, and where the mapping tree's is
+-- as late as each of them
+abbrev pub by_time : Partner → List ℕ
+by_time partner = partner.time ∷ partner.transaction ∷ partner.root ∷ []
+
+abbrev pub by_transaction : Partner → List ℕ
+by_transaction partner = partner.transaction ∷ partner.root ∷ []
+
+-- of the trees that pass, with roots before a block, the greatest one
+pub record IsGreatest (passes : ℕ → Bool) (partner : ℕ → Partner) (by : Partner → List ℕ) (before : ℕ) (greatest : Partner) : Type 0 where
+  pub fit : passes greatest.root ≡ true
+  pub small : greatest.root < before
+  pub told : greatest ≡ partner greatest.root
+  pub none_greater : (b : ℕ) → b < before → passes b ≡ true → is_greater (by (partner b)) (by greatest) ≡ false
+
+-- the greatest one by each order
+pub record ArePartners (passes : ℕ → Bool) (partner : ℕ → Partner) (before : ℕ) (partners : Partners) : Type 0 where
+  pub latest : IsGreatest passes partner by_time before partners.latest
+  pub newest : IsGreatest passes partner by_transaction before partners.newest
 
 -- the same, where some pass, and else there are none
-abbrev pub ArePartnersBefore : (ℕ → Bool) → (ℕ → ℕ) → ℕ → Option Partners → Type 0
-ArePartnersBefore passes time before None = (b : ℕ) → b < before → passes b ≡ false
-ArePartnersBefore passes time before (Some partners) = ArePartners passes time before partners
+abbrev pub ArePartnersBefore : (ℕ → Bool) → (ℕ → Partner) → ℕ → Option Partners → Type 0
+ArePartnersBefore passes partner before None = (b : ℕ) → b < before → passes b ≡ false
+ArePartnersBefore passes partner before (Some partners) = ArePartners passes partner before partners
 
--- partners and one more tree behind them
-abbrev pub with_one : Option Partners → ℕ → ℕ → Partners
-with_one None b time = record { lowest = b; latest = b; time = time }
-with_one (Some partners) b time =
-    if nat_lt partners.time time then record { lowest = partners.lowest; latest = b; time = time } else partners
+-- the greater one of two trees
+abbrev pub greater_of : (Partner → List ℕ) → Partner → Partner → Partner
+greater_of by old new = if is_greater (by new) (by old) then new else old
 
--- the best partner of a mapping tree with this time: one with the latest time, if that is later, and else the lowest one
+-- partners and one more tree
+abbrev pub with_one : Option Partners → Partner → Partners
+with_one None one = record { latest = one; newest = one }
+with_one (Some partners) one = record {
+  latest = greater_of by_time partners.latest one;
+  newest = greater_of by_transaction partners.newest one;
+}
+
+-- the best partner of a mapping tree with this time: the one with the latest time, if that is later, and else the newest
 abbrev pub best_partner : Partners → ℕ → ℕ
-best_partner partners time = if nat_lt time partners.time then partners.latest else partners.lowest
+best_partner partners time = if nat_lt time partners.latest.time then partners.latest.root else partners.newest.root
 
 -- the table has of each sum the partners among the trees with roots before a block
 pub record AreBySum (details : Notes) (measures : Measures) (before : ℕ) (table : BTreeMap (ℕ × ℕ) Partners) : Type 0 where
-  pub partners : (sum : ℕ × ℕ) → ArePartnersBefore (is_partner details measures sum) (time_at measures) before (get sum_cmp table sum)
+  pub partners : (sum : ℕ × ℕ) → ArePartnersBefore (is_partner details measures sum) (partner_at measures) before (get sum_cmp table sum)

@@ -7,7 +7,14 @@ use Rattle.pd_scan.specs.declared.roots.Roots.{Roots}
 
 -- the roots, in the terms of what is best
 abbrev pub roots_of : Roots → FoundRoots
-roots_of roots = record { top = roots.top; details = roots.details; mappings = roots.mappings; time = roots.time }
+roots_of roots = record {
+  top = roots.top;
+  details = roots.details;
+  mappings = roots.mappings;
+  time = roots.time;
+  transaction = roots.transaction;
+  times = roots.times;
+}
 
 abbrev pub found_of : Option Roots → Option FoundRoots
 found_of found = option_map roots_of found

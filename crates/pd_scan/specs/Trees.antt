@@ -6,7 +6,7 @@ use Rattle.pd_kinds.specs.Node.{Entry}
 use Rattle.pd_kinds.specs.Whole.{top_entries}
 use Rattle.pd_laid.specs.FoundRoots.{is_sound_tree}
 use Rattle.pd_graph.specs.Notes.{size_of}
-use Rattle.pd_measures.specs.Counts.{counts_of_details, counts_of_top, details_time, mappings_below, top_time, total_of}
+use Rattle.pd_measures.specs.Counts.{counts_of_details, counts_of_top, details_time, details_transaction, mappings_below, times_of_top, top_time, total_of}
 use Rattle.pd_measures.specs.Gauge.{below_root, list_measure}
 use Rattle.pd_measures.specs.Measures.{measure_at, places_of}
 use Rattle.pd_scan.specs.Lost.{AreRoots}
@@ -28,10 +28,11 @@ pub record AreLostTrees (graph : Graph) (image : List (List ℕ)) (trees : LostT
   pub told : (b : ℕ) → b < graph.nr → is_sound_tree graph image 2 b ≡ true
       → AllByRecursion (λ (e : Entry). below_root trees.devices e.value ≡ mappings_below graph image e.value) (top_entries graph image b)
   pub top_measures : (b : ℕ) → b < graph.nr → is_sound_tree graph image 2 b ≡ true
-      → measure_at trees.top_measures b ≡ list_measure (counts_of_top graph image b) (top_time graph image b)
+      → measure_at trees.top_measures b ≡ list_measure (counts_of_top graph image b) (top_time graph image b) 0 (times_of_top graph image b)
   pub details_measures : (b : ℕ) → b < graph.nr → is_sound_tree graph image 4 b ≡ true
-      → measure_at trees.details_measures b ≡ list_measure (counts_of_details graph image b) (details_time graph image b)
-  -- there are fewer mappings than the number of a measure holds, and times have 32 bits
+      → measure_at trees.details_measures b ≡ list_measure (counts_of_details graph image b) (details_time graph image b) (details_transaction graph image b) 0
+  -- there are fewer mappings than the number of a measure holds, times have 32 bits, and their sum 128
   pub few : (b : ℕ) → b < graph.nr → is_sound_tree graph image 2 b ≡ true → total_of (counts_of_top graph image b) < 2 ^ 64
   pub top_times : (b : ℕ) → b < graph.nr → is_sound_tree graph image 2 b ≡ true → top_time graph image b < 2 ^ 32
   pub details_times : (b : ℕ) → b < graph.nr → is_sound_tree graph image 4 b ≡ true → details_time graph image b < 2 ^ 32
+  pub few_times : (b : ℕ) → b < graph.nr → is_sound_tree graph image 2 b ≡ true → times_of_top graph image b < 2 ^ 128

@@ -7,6 +7,7 @@ mod fitting;
 mod judging;
 mod laws;
 mod lost;
+mod numbering;
 mod pairs;
 mod partners;
 mod roots;

@@ -1,7 +1,6 @@
 //! Pairs of a mapping tree and a details tree, by what is measured of them, and the best of those that may fit each other.
 
 ghost use Rattle.std.specs.Prelude.{◌≡◌, ℕ, ◌<◌, true, false};
-ghost use Rattle.std.specs.Bool.{OnFalse};
 ghost use Rattle.pd_graph.specs.Notes.{size_of};
 ghost use Rattle.pd_scan.specs.Pairs.{IsBestOf, better_of, improves as does_improve, may_fit as may_match, pair_of};
 ghost use Rattle.pd_scan.specs.Partners.{AreBySum};
@@ -12,33 +11,25 @@ use crate::roots::Roots;
 use crate::tops::is_good;
 use crate::trees::LostTrees;
 
-/// Whether two trees may fit each other: both are sound, and what is measured of them has one sum.
-#[tactic(auto, unfolding(crate::specs::Pairs::may_fit, crate::specs::Partners::is_partner))]
-pub(crate) fn may_fit(trees: &LostTrees, top: u64, details: u64) -> bool
-    ensures { result ≡ may_match trees.now top details }
-{
-    let asked = sum(trees.top_measures.get(top));
-    let same = sum(trees.details_measures.get(details)) == asked;
-    is_good(&trees.tops, top) & (is_good(&trees.details, details) & same)
-}
-
 /// The roots of two trees that fit each other, by what is measured of them.
 #[tactic(auto, unfolding(crate::specs::Pairs::pair_of))]
-pub(crate) fn pair(trees: &LostTrees, top: u64, details: u64) -> Roots
+fn pair(trees: &LostTrees, top: u64, details: u64) -> Roots
     ensures { roots_of result ≡ pair_of trees.now top details }
 {
-    let devices = trees.top_measures.get(top);
-    let last = time(trees.details_measures.get(details));
+    let mappings = trees.top_measures.get(top);
+    let devices = trees.details_measures.get(details);
     Roots {
         top,
         details,
-        mappings: devices.total,
-        time: time(devices).max(last),
+        mappings: mappings.total,
+        time: time(mappings).max(time(devices)),
+        transaction: devices.transaction,
+        times: mappings.times,
     }
 }
 
 /// Whether roots are better than the best ones so far, if there are any.
-pub(crate) fn improves(roots: &Roots, best: Option<Roots>) -> bool
+fn improves(roots: &Roots, best: Option<Roots>) -> bool
     ensures { result ≡ does_improve (roots_of roots.now) (found_of best) }
 {
     match best {
@@ -69,17 +60,6 @@ fn best_of_top(trees: &LostTrees, by_sum: &BySum, top: u64) -> Option<Roots>
     match by_sum.get(&sum(measure)) {
         Some(partners) => Some(pair(trees, top, partners.best(time(measure)))),
         None => None,
-    }
-}
-
-/// Whether there may be roots with this mapping tree that are better than the best ones so far, if there are any.
-pub(crate) fn may_improve(trees: &LostTrees, by_sum: &BySum, top: u64, best: Option<Roots>) -> bool
-    requires { AreBySum trees.now.details trees.now.details_measures (size_of trees.now.details) by_sum.now }
-    ensures { OnFalse result ((d : ℕ) → may_match trees.now top d ≡ true → does_improve (pair_of trees.now top d) (found_of best) ≡ false) }
-{
-    match best_of_top(trees, by_sum, top) {
-        Some(roots) => improves(&roots, best),
-        None => false,
     }
 }
 

@@ -3,7 +3,7 @@
 ghost use Rattle.std.specs.Prelude.{◌≡◌, ℕ, ◌+◌, IfOk, OnOk, Some, if◌then◌else◌};
 ghost use Rattle.std.specs.BTreeMap.{get};
 ghost use Rattle.pd_graph.specs.Notes.{size_of};
-ghost use Rattle.pd_scan.specs.Partners.{AreBySum, has_sum, sum_cmp, sum_of, time_of, with_one};
+ghost use Rattle.pd_scan.specs.Partners.{AreBySum, has_sum, partner_of, sum_cmp, sum_of, time_of, with_one};
 
 use crate::tops::is_good;
 use pd_graph::Notes;
@@ -11,49 +11,108 @@ use pd_measures::{Measured, Measures};
 use std::alloc::{AllocError, Global};
 use std::collections::BTreeMap;
 
+/// A sound details tree, by what it is compared by with others of its sum.
+#[derive(Clone, Copy)]
+pub(crate) struct Partner {
+    /// The block of its root.
+    root: u64,
+    /// The latest time at which a device was made or last shared.
+    time: u32,
+    /// The latest transaction of a device.
+    transaction: u64,
+}
+
+impl Partner {
+    ghost use Rattle.std.specs.Prelude.{◌≡◌};
+    ghost use Rattle.pd_laid.specs.FoundRoots.{is_greater};
+    ghost use Rattle.pd_scan.specs.Partners.{by_time, by_transaction, greater_of, partner_of};
+
+    /// The tree with this root, by what is measured of it.
+    fn of(root: u64, measure: Measured) -> Partner
+        ensures { result ≡ partner_of root measure }
+    {
+        Partner {
+            root,
+            time: time(measure),
+            transaction: measure.transaction,
+        }
+    }
+
+    /// Whether its transaction is later than that of another tree. Of the same transaction the higher root is.
+    #[tactic(auto, using(std::proofs::lemmas::Bool::Decides::nat_tests))]
+    fn is_newer(self, other: Partner) -> bool
+        ensures { result ≡ is_greater (by_transaction self) (by_transaction other) }
+    {
+        if self.transaction != other.transaction {
+            return self.transaction > other.transaction;
+        }
+        self.root > other.root
+    }
+
+    /// Whether its time is later than that of another tree. Of the same time the newer one is.
+    #[tactic(auto, using(std::proofs::lemmas::Bool::Decides::nat_tests))]
+    fn is_later(self, other: Partner) -> bool
+        ensures { result ≡ is_greater (by_time self) (by_time other) }
+    {
+        if self.time != other.time {
+            return self.time > other.time;
+        }
+        self.is_newer(other)
+    }
+
+    /// The newer one of two trees.
+    fn newer(self, other: Partner) -> Partner
+        ensures { result ≡ greater_of by_transaction self other }
+    {
+        if other.is_newer(self) { other } else { self }
+    }
+
+    /// The later one of two trees.
+    fn later(self, other: Partner) -> Partner
+        ensures { result ≡ greater_of by_time self other }
+    {
+        if other.is_later(self) { other } else { self }
+    }
+}
+
 /// The sound details trees that have one sum, as far as it matters which of them a mapping tree is paired with.
 #[derive(Clone, Copy)]
 pub(crate) struct Partners {
-    /// The lowest block of a root.
-    lowest: u64,
-    /// Of the roots of the trees with the latest time the lowest block.
-    latest: u64,
-    /// That time.
-    time: u32,
+    /// The one with the latest time, of these with the latest transaction, and of these with the highest root.
+    latest: Partner,
+    /// The one with the latest transaction, and of these with the highest root.
+    newest: Partner,
 }
 
 impl Partners {
     ghost use Rattle.std.specs.Prelude.{◌≡◌};
     ghost use Rattle.pd_scan.specs.Partners.{best_partner, with_one};
 
-    /// Those found so far, and one more tree with this time, whose root is behind theirs.
-    fn with(found: Option<Partners>, root: u64, time: u32) -> Partners
-        ensures { result ≡ with_one found root time }
+    /// Those found so far, and one more tree.
+    fn with(found: Option<Partners>, one: Partner) -> Partners
+        ensures { result ≡ with_one found one }
     {
         match found {
             None => Partners {
-                lowest: root,
-                latest: root,
-                time,
+                latest: one,
+                newest: one,
             },
-            Some(partners) if partners.time < time => Partners {
-                lowest: partners.lowest,
-                latest: root,
-                time,
+            Some(partners) => Partners {
+                latest: partners.latest.later(one),
+                newest: partners.newest.newer(one),
             },
-            Some(partners) => partners,
         }
     }
 
-    /// The root of the best partner of a mapping tree with this time. The later time of both counts, and then the lower
-    /// root: so it is the latest one where it is later than the mapping tree, and else the lowest.
+    /// The root of the best partner of a mapping tree with this time. The later time of both counts, then the transaction,
+    /// and then the root: so it is the latest one where it is later than the mapping tree, and else the newest.
     pub(crate) fn best(self, time: u32) -> u64
         ensures { result ≡ best_partner self time }
     {
-        if time < self.time {
-            self.latest
+        if time < self.latest.time {
+            self.latest.root
         } else {
-            self.lowest
+            self.newest.root
         }
     }
 }
@@ -75,14 +134,14 @@ pub(crate) fn time(measure: Measured) -> u32
     u32::try_from(measure.time).unwrap_or(u32::MAX)
 }
 
-/// Puts one more tree, whose root is behind all others, with those of its sum. Want of memory is the only error.
+/// Puts one more tree with those of its sum. Want of memory is the only error.
 fn put(table: &mut BySum, root: u64, measure: Measured) -> Result<(), AllocError>
     ensures { OnOk result ((asked : ℕ × ℕ) → get sum_cmp table.new asked ≡ (if has_sum asked measure
-        then Some (with_one (get sum_cmp table.old asked) root (time_of measure)) else get sum_cmp table.old asked)) }
+        then Some (with_one (get sum_cmp table.old asked) (partner_of root measure)) else get sum_cmp table.old asked)) }
 {
     let sum = sum(measure);
     let found = table.get(&sum).copied();
-    table.insert(sum, Partners::with(found, root, time(measure)))?;
+    table.insert(sum, Partners::with(found, Partner::of(root, measure)))?;
     Ok(())
 }
 

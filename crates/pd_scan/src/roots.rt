@@ -27,8 +27,12 @@ pub struct Roots {
     pub details: u64,
     /// How many mappings the devices have.
     pub mappings: u64,
-    /// The latest time of a mapping, and at which a device was made or last shared.
+    /// The latest time: of a mapping, and at which a device was made or last shared.
     pub time: u32,
+    /// The latest transaction of a device.
+    pub transaction: u64,
+    /// The sum of the times of the mappings.
+    pub times: u128,
 }
 
 impl Roots {
@@ -36,22 +40,29 @@ impl Roots {
     ghost use Rattle.pd_laid.specs.FoundRoots.{is_better};
     ghost use Rattle.pd_scan.specs.Roots.{roots_of};
 
-    /// Whether these roots are better than others: there are more mappings, or as many and the latest time is later. Of
-    /// the same time the lower first root is better, and then the lower second one.
+    /// Whether these roots are better than others: the latest time is later. Of the same time it is the later transaction,
+    /// then the greater sum of the mappings' times, then the greater number of mappings, the higher first root, and the
+    /// higher second one.
     #[tactic(auto, unfolding(pd_laid::specs::FoundRoots::is_better), using(std::proofs::lemmas::Bool::Decides::nat_tests))]
     pub(crate) fn is_better(&self, other: &Roots) -> bool
         ensures { result ≡ is_better (roots_of self.now) (roots_of other.now) }
     {
-        if self.mappings != other.mappings {
-            return self.mappings > other.mappings;
-        }
         if self.time != other.time {
             return self.time > other.time;
         }
-        if self.top != other.top {
-            return self.top < other.top;
+        if self.transaction != other.transaction {
+            return self.transaction > other.transaction;
         }
-        self.details < other.details
+        if self.times != other.times {
+            return self.times > other.times;
+        }
+        if self.mappings != other.mappings {
+            return self.mappings > other.mappings;
+        }
+        if self.top != other.top {
+            return self.top > other.top;
+        }
+        self.details > other.details
     }
 }
 
@@ -109,6 +120,8 @@ fn lost_format(nr: u64, data_blocks: u64) -> ThinFormat
         details: 0,
         mappings: 0,
         time: 0,
+        transaction: 0,
+        times: 0,
     };
     ThinFormat::of(&lost_super(&none, 0, 0, nr, data_blocks))
 }
@@ -131,16 +144,18 @@ fn find_roots_in<F: Format, D: Device>(
     ensures faults { CountsCheckFault result (D.state dev.old).faults (D.state dev.new).faults }
 {
     let trees = measure_lost(alloc, format, dev)?;
-    choose(alloc, &trees, dev)
+    choose(alloc, trees, dev)
 }
 
 /// Finds the best roots of a pool with so many data blocks, whatever its block 0 holds: of all mapping trees and details
-/// trees on the device that are sound and fit each other, those with the most mappings; of as many, those with the latest
-/// time; of the same time, those whose mapping tree, and then whose details tree, has the lowest block. `None` says that no
-/// two trees fit.
+/// trees on the device that are sound and fit each other, those with the latest time; of the same time, those with the
+/// latest transaction of a device; of the same, those with the greatest sum of the mappings' times, and then with the most
+/// mappings; and where all these are equal, those whose mapping tree, and then whose details tree, has the highest block.
+/// `None` says that no two trees fit.
 ///
-/// The device is only read. It takes 168 bytes and a set of roles for each of its blocks, of which it looks at no more than
-/// `MAX_META_BLOCKS`, and then memory for each different list of devices that a details tree has.
+/// The device is only read. It takes 240 bytes and a set of roles for each of its blocks, of which it looks at no more than
+/// `MAX_META_BLOCKS`, and then memory for each different list of devices that a details tree has: 16 bytes a device too, where
+/// the lists of two trees differ that have one number of mappings and one fingerprint.
 ///
 /// Fails with `CheckFault::Memory` where memory wasn't found, and with `CheckFault::Device` where a read failed.
 pub fn find_roots<D: Device>(

@@ -23,7 +23,7 @@ pub(crate) struct Tables {
     pub(crate) fit: Vec<u16>,
     /// The notes of mapping trees.
     pub(crate) tops: Notes,
-    /// The notes of devices' trees, and the latest times of their mappings.
+    /// The notes of devices' trees, and the measures of their mappings' times.
     pub(crate) devices: TopGauge,
     /// The notes of details trees.
     pub(crate) details: Notes,
@@ -33,7 +33,7 @@ pub(crate) struct Tables {
     pub(crate) details_measures: Measures,
 }
 
-/// The tables of so many blocks, from 1 to `MAX_META_BLOCKS`, with all the memory that they need: 168 bytes and a set of
+/// The tables of so many blocks, from 1 to `MAX_META_BLOCKS`, with all the memory that they need: 240 bytes and a set of
 /// roles for each block. Want of it is the only error.
 pub(crate) fn empty_tables(alloc: Global, nr: u64) -> Result<Tables, AllocError>
     requires some { 1 ≤ nr }

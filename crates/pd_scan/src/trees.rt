@@ -52,7 +52,7 @@ fn trees_of(tables: Tables) -> LostTrees
 
 /// Settles and measures all trees of a pool of this format, whatever its superblock holds.
 ///
-/// It takes all memory that it needs before its first read: 168 bytes and a set of roles for each block.
+/// It takes all memory that it needs before its first read: 240 bytes and a set of roles for each block.
 ///
 /// Fails with `CheckFault::Memory` where memory wasn't found, and with `CheckFault::Device` where a read failed.
 pub(crate) fn measure_lost<F: Format, D: Device>(

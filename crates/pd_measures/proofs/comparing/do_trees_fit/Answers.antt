@@ -1,4 +1,4 @@
-use Rattle.std.proofs.Common.{◌≡◌, ℕ, List, map, Option, Some, None, Result, Ok, Err, IfOk, IfSome, ◌∙◌, ap, arith}
+use Rattle.std.proofs.Common.{◌≡◌, ℕ, List, map, ◌∙◌, ap, arith}
 use Rattle.pd_kinds.specs.Whole.{top_entries, details_entries}
 use Rattle.pd_laid.specs.FoundRoots.{are_fitting, lost_graph}
 use Rattle.pd_value.specs.declared.thin.Root.{Root}
@@ -9,14 +9,9 @@ use Rattle.pd_measures.specs.Counts.{counts_of_details, counts_of_top, mappings_
 use Rattle.pd_measures.specs.Gauge.{below_root}
 use Rattle.pd_measures.specs.Lists.{are_one, details_of}
 use Rattle.pd_measures.proofs.ListsLemmas.{items_by_one, one_by_items}
+use Rattle.pd_measures.proofs.PairLemmas.{ok_some}
 use Rattle.pd_measures.proofs.SoundLemmas.{lost_details, lost_lawful, lost_roles, lost_tops, root_inside}
 use Rattle.pd_measures.proofs.comparing.do_trees_fit.Goals as goal
-
-ok_some : {T E X : Type 0} → (r : Result T E) (o : Option X) (P Q : T → X → Type 0) → ((t : T) (x : X) → P t x → Q t x)
-    → IfOk r (λ t. IfSome o (P t)) → IfOk r (λ t. IfSome o (Q t))
-ok_some (Ok t) (Some x) P Q f p = f t x p
-ok_some (Ok t) None P Q f p = tt
-ok_some (Err e) o P Q f p = tt
 
 pub returns-clause-fits : goal.returns-clause-fits
 unfolding counts_of_top counts_of_details

@@ -1,14 +1,14 @@
-use Rattle.std.proofs.Common.{◌≡◌, ℕ, Bool, true, ◌&&◌, max, fold, sum_by, List, ◌∙◌, ap, arith}
+use Rattle.std.proofs.Common.{◌≡◌, ℕ, Bool, true, ◌&&◌, max, fold, sum_by, List, map, ◌∙◌, ap, ap₂, arith}
 use Rattle.std.specs.List.{flat_map}
 use Rattle.std.proofs.lemmas.Bool.{and_parts, and_from}
 use Rattle.pd_kinds.specs.Graph.{Graph}
-use Rattle.pd_kinds.specs.Meaning.{ThinDevice}
+use Rattle.pd_kinds.specs.Meaning.{Mapping, ThinDevice}
 use Rattle.pd_kinds.specs.Trees.{keys_of}
 use Rattle.pd_kinds.specs.Whole.{top_entries, details_entries}
 use Rattle.pd_laid.specs.FoundRoots.{FoundRoots, are_fitting, devices_below, is_sound_tree, lost_graph, roots_at, times_of}
 use Rattle.pd_whole.specs.Ascending.{IsUp}
-use Rattle.pd_measures.specs.Counts.{counts_of_top, counts_of_details, details_time, top_time}
-use Rattle.pd_measures.proofs.ListLemmas.{fits, fits_list, list_fits, fits_total, fits_time}
+use Rattle.pd_measures.specs.Counts.{counts_of_top, counts_of_details, details_time, details_transaction, times_of_top, top_time}
+use Rattle.pd_measures.proofs.ListLemmas.{fits, fits_list, list_fits, fits_total, fits_time, fits_times, fits_transaction}
 use Rattle.pd_measures.proofs.SoundLemmas.{lost_details, lost_lawful, lost_roles, root_inside}
 use Rattle.pd_measures.proofs.laws.fitting_trees_have_one_list.Goals as goal
 
@@ -46,20 +46,24 @@ returns-clause-fitting c image data_blocks top details first second =
       λ e. fitting_from graph image top details first second up (list_fits graph image (top_entries graph image top) (details_entries graph image details) up e),
     )
 
-the_roots : ℕ → ℕ → ℕ → ℕ → FoundRoots
-the_roots top details mappings time = record { top = top; details = details; mappings = mappings; time = time }
+the_roots : ℕ → ℕ → ℕ → ℕ → ℕ → ℕ → FoundRoots
+the_roots top details mappings time transaction times =
+    record { top = top; details = details; mappings = mappings; time = time; transaction = transaction; times = times }
 
-roots_are : (graph : Graph) (image : List (List ℕ)) (top details mappings time : ℕ)
+roots_are : (graph : Graph) (image : List (List ℕ)) (top details mappings time transaction times : ℕ)
     → sum_by (λ (d : ThinDevice). d.mapped) (devices_below graph image top details) ≡ mappings
     → fold max 0 (flat_map times_of (devices_below graph image top details)) ≡ time
-    → roots_at graph image top details ≡ the_roots top details mappings time
+    → fold max 0 (map (λ (d : ThinDevice). d.transaction) (devices_below graph image top details)) ≡ transaction
+    → sum_by (λ (d : ThinDevice). sum_by (λ (m : Mapping). m.time) d.mappings) (devices_below graph image top details) ≡ times
+    → roots_at graph image top details ≡ the_roots top details mappings time transaction times
 unfolding roots_at the_roots
-roots_are graph image top details mappings time first second =
-    ap (λ (n : ℕ). the_roots top details n (fold max 0 (flat_map times_of (devices_below graph image top details)))) first
-    ∙ ap (λ (n : ℕ). the_roots top details mappings n) second
+roots_are graph image top details mappings time transaction times first second third fourth =
+    ap₂ (λ (x y : ℕ). the_roots top details x y (fold max 0 (map (λ (d : ThinDevice). d.transaction) (devices_below graph image top details)))
+    (sum_by (λ (d : ThinDevice). sum_by (λ (m : Mapping). m.time) d.mappings) (devices_below graph image top details))) first second
+    ∙ ap₂ (λ (x y : ℕ). the_roots top details mappings time x y) third fourth
 
 pub returns-clause-roots : goal.returns-clause-roots
-unfolding counts_of_top top_time details_time devices_below the_roots
+unfolding counts_of_top top_time details_time details_transaction times_of_top devices_below the_roots
 returns-clause-roots c image data_blocks top details e =
     let graph = lost_graph image data_blocks in
     let parts = fitting_parts graph image top details e in
@@ -69,6 +73,8 @@ returns-clause-roots c image data_blocks top details e =
     c.keys_of_sound_trees_ascend.ensures graph image details 4 24 (lost_details image data_blocks)
     (c.found_trees_are_sound.ensures graph image 4 details lawful (omega arith) parts.1) in
     let fit = parts.2 up in
-    roots_are graph image top details _ _
+    roots_are graph image top details _ _ _ _
     (fits_total graph image (top_entries graph image top) (details_entries graph image details) up fit)
     (fits_time graph image (top_entries graph image top) (details_entries graph image details) up fit)
+    (fits_transaction graph image (top_entries graph image top) (details_entries graph image details) up fit)
+    (fits_times graph image (top_entries graph image top) (details_entries graph image details) up fit)

@@ -3,7 +3,7 @@ use Rattle.std.specs.BTreeMap.{get}
 use Rattle.pd_graph.specs.Notes.{size_of}
 use Rattle.pd_measures.specs.Measures.{measure_at}
 use Rattle.pd_scan.specs.Pairs.{IsBest, may_fit, pair_of}
-use Rattle.pd_scan.specs.Partners.{ArePartnersBefore, best_partner, is_partner, sum_cmp, sum_of, time_at, time_of}
+use Rattle.pd_scan.specs.Partners.{ArePartnersBefore, best_partner, is_partner, partner_at, sum_cmp, sum_of, time_at, time_of}
 use Rattle.pd_scan.proofs.PairLemmas.{best_of_top, none_of_top}
 use Rattle.pd_scan.proofs.pairs.best_of_top.Goals as goal
 
@@ -17,7 +17,7 @@ returns-in-None c =
     let asked = sum_of (measure_at trees.top_measures c.args.top) in
     let key : c.sum.result ≡ asked = c.sum.ensures ∙ ap sum_of c.get-measure.ensures in
     best_of_top trees c.args.top (sym c.is_good.ensures ∙ c.if-not-is_good.false) None
-    (subst (ArePartnersBefore (is_partner trees.details trees.details_measures asked) (time_at trees.details_measures) (size_of trees.details))
+    (subst (ArePartnersBefore (is_partner trees.details trees.details_measures asked) (partner_at trees.details_measures) (size_of trees.details))
     (sym (c.in-None.ensures.value ∙ ap (get sum_cmp table) key)) (c.requires.partners asked))
 
 pub returns-in-Some : goal.returns-in-Some
@@ -31,5 +31,5 @@ returns-in-Some c =
     let root : c.best.result ≡ best_partner partners (time_at trees.top_measures c.args.top) = c.best.ensures ∙ ap (best_partner partners) time in
     subst (IsBest (may_fit trees) (pair_of trees) (λ t d. t ≡ c.args.top)) (sym (c.pair.ensures ∙ ap (pair_of trees c.args.top) root))
     (best_of_top trees c.args.top (sym c.is_good.ensures ∙ c.if-not-is_good.false) (Some partners)
-    (subst (ArePartnersBefore (is_partner trees.details trees.details_measures asked) (time_at trees.details_measures) (size_of trees.details))
+    (subst (ArePartnersBefore (is_partner trees.details trees.details_measures asked) (partner_at trees.details_measures) (size_of trees.details))
     (sym (c.in-Some.ensures.value ∙ ap (get sum_cmp table) key)) (c.requires.partners asked)))

@@ -1,7 +1,7 @@
 use Rattle.std.proofs.Common.{cond, Some, sym, ◌∙◌, ap}
 use Rattle.std.specs.BTreeMap.{get}
 use Rattle.pd_measures.specs.declared.measured.Measured.{Measured}
-use Rattle.pd_scan.specs.Partners.{has_sum, sum_cmp, time_of, with_one}
+use Rattle.pd_scan.specs.Partners.{has_sum, partner_of, sum_cmp, with_one}
 use Rattle.pd_scan.proofs.PartnerLemmas.{put_none, put_one}
 use Rattle.pd_scan.proofs.partners.put_sound.Goals as goal
 
@@ -10,7 +10,7 @@ returns-in_ok-put c =
     let table = c.args.table.now in
     put_one c.args.details.now c.args.measures.now c.args.b (sym c.is_good.ensures ∙ c.if-is_good.true) table c.put.new.table
     (λ sum. c.in_ok-put.ensures sum
-    ∙ ap (λ (m : Measured). cond (has_sum sum m) (Some (with_one (get sum_cmp table sum) c.args.b (time_of m))) (get sum_cmp table sum)) c.get.ensures)
+    ∙ ap (λ (m : Measured). cond (has_sum sum m) (Some (with_one (get sum_cmp table sum) (partner_of c.args.b m))) (get sum_cmp table sum)) c.get.ensures)
 
 pub returns-else-is_good : goal.returns-else-is_good
 returns-else-is_good c = put_none c.args.details.now c.args.measures.now c.args.b (sym c.is_good.ensures ∙ c.if-is_good.false) c.args.table.now
