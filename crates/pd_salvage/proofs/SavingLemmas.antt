@@ -28,10 +28,10 @@ use Rattle.pd_salvage.specs.declared.cursor.SavedCursor.{SavedCursor}
 use Rattle.pd_salvage.specs.declared.saved.SavedDevice.{SavedDevice}
 use Rattle.pd_salvage.specs.declared.saving.Saving.{Saving}
 use Rattle.pd_salvage.specs.Cursor.{saved_left, saved_least}
-use Rattle.pd_salvage.specs.Details.{IsFoundOr, details_left, no_details}
+use Rattle.pd_salvage.specs.Details.{IsFoundOr, details_left}
 use Rattle.pd_salvage.specs.Gather.{IsGathered, mappings_of_runs, to_come}
 use Rattle.pd_salvage.specs.Saved.{IsJoined, IsSavedPool, part_of, parts_of, pool_of, runs_of_devices}
-use Rattle.pd_salvage.specs.Saving.{FitsDevice, FitsHead, IsSaved, IsSaving, KnowsFrom, SavesDevice, devices_of, entry_of, head_of, saved_device, saved_devices, saved_pool}
+use Rattle.pd_salvage.specs.Saving.{FitLost, FitsDevice, FitsHead, IsSaved, IsSaving, KnowsFrom, SavesDevice, devices_of, entry_of, head_of, lost_details, saved_device, saved_devices, saved_pool}
 
 take_all : {X : Type 0} (xs : List X) → take (length xs) xs ≡ xs
 take_all [] = refl
@@ -82,16 +82,18 @@ record AreDetails (details : Details) (number : ℕ) : Type 0 where
   pub created : details.created ≡ number / 2 ^ 128 % 2 ^ 32
   pub snapped : details.snapped ≡ number / 2 ^ 160
 
-details_are : (transaction : ℕ) (details : Details) (number : Option ℕ) → transaction < 2 ^ 64 → details ≡ unwrap_or (option_map details_of number) (no_details transaction)
-    → AreDetails details (unwrap_or number (details_code 0 transaction 0 0))
-details_are transaction details None fits is =
+details_are : (transaction time : ℕ) (details : Details) (number : Option ℕ) → FitLost transaction time
+    → details ≡ unwrap_or (option_map details_of number) (lost_details transaction time) → AreDetails details (unwrap_or number (details_code 0 transaction time time))
+details_are transaction time details None fits is =
+    let transaction_fits = fits.transaction_fits in
+    let time_fits = fits.time_fits in
     rw is (record { transaction = omega arith; created = omega arith; snapped = omega arith })
-details_are transaction details (Some number) fits is = rw is (record { transaction = refl; created = refl; snapped = refl })
+details_are transaction time details (Some number) fits is = rw is (record { transaction = refl; created = refl; snapped = refl })
 
 -- a device that was saved is the one that is given
 module _ (s : ThinSuper) (image : List (List ℕ)) (id root mapped : ℕ) (details : Details) (given_runs : List Run) where
-  pub device_is : s.transaction < 2 ^ 64
-      → details ≡ unwrap_or (lookup id (map (item_of details_of) (given 24 s.meta_map.blocks image s.details_root))) (no_details s.transaction)
+  pub device_is : FitLost s.transaction s.time
+      → details ≡ unwrap_or (lookup id (map (item_of details_of) (given 24 s.meta_map.blocks image s.details_root))) (lost_details s.transaction s.time)
       → mapped ≡ length (mappings_of_runs given_runs)
       → mappings_of_runs given_runs ≡ map mapping_of (filter (λ (item : ℕ × BlockTime). nat_lt item.1.block s.data_map.blocks) (map (item_of block_time_of) (given 8 s.meta_map.blocks image root)))
       → device_of_part (part_of (saved_device id details mapped (length given_runs)) given_runs) ≡ given_device s image (record { key = id; value = root })
@@ -99,7 +101,7 @@ module _ (s : ThinSuper) (image : List (List ℕ)) (id root mapped : ℕ) (detai
   device_is fits chosen counted written =
       let entries = given 24 s.meta_map.blocks image s.details_root in
       let number = value_of_key entries id in
-      let are = details_are s.transaction details number fits (chosen ∙ ap (λ (o : Option Details). unwrap_or o (no_details s.transaction)) (lookup_entries details_of id entries)) in
+      let are = details_are s.transaction s.time details number fits (chosen ∙ ap (λ (o : Option Details). unwrap_or o (lost_details s.transaction s.time)) (lookup_entries details_of id entries)) in
       let mappings = written ∙ mappings_same s.data_map.blocks (given 8 s.meta_map.blocks image root) in
       rw (counted, mappings, are.transaction, are.created, are.snapped) refl
 
@@ -150,8 +152,8 @@ pub record Saves (s : ThinSuper) (image : List (List ℕ)) (saving : Saving) : T
 
 -- one device more was saved
 module _ (held : Option (List (List ℕ))) (id root mapped runs : ℕ) (details : Details) (old new : Saving) (cursor : SavedCursor BlockTime)
-    (small : old.s.transaction < 2 ^ 64) (same : new.s ≡ old.s)
-    (found : IfSome held (λ image. IsFoundOr old.s.transaction id details (details_left image old.details) (details_left image new.details)))
+    (small : FitLost old.s.transaction old.s.time) (same : new.s ≡ old.s)
+    (found : IfSome held (λ image. IsFoundOr (lost_details old.s.transaction old.s.time) id details (details_left image old.details) (details_left image new.details)))
     (left : (image : List (List ℕ)) → saved_left 8 block_time_of image cursor ≡ map (item_of block_time_of) (given 8 old.s.meta_map.blocks image root))
     (low : ℕ) (zero : low ≡ 0)
     (gathered : IsGathered old.s.data_map.blocks low mapped held (λ image. to_come old.s.data_map.blocks image cursor) old.runs.items new.runs.items)
@@ -166,13 +168,13 @@ module _ (held : Option (List (List ℕ))) (id root mapped runs : ℕ) (details 
         saving fits from gathered.number gathered.joined (rw zero at gathered.lawful));
     told =
         if_both held
-        (λ image held_is (is_found : IsFoundOr old.s.transaction id details (details_left image old.details) (details_left image new.details)) (all : mappings_of_runs gathered.given ≡ to_come old.s.data_map.blocks image cursor). λ least from knows count. (
+        (λ image held_is (is_found : IsFoundOr (lost_details old.s.transaction old.s.time) id details (details_left image old.details) (details_left image new.details)) (all : mappings_of_runs gathered.given ≡ to_come old.s.data_map.blocks image cursor). λ least from knows count. (
           λ key after. is_found.later key (omega arith) ∙ (rw same (knows key (omega arith))),
           rw added
               (devices_more old.s.data_map.blocks least old.devices.items old.runs.items new.runs.items gathered.given (saved_device id details mapped runs) count number gathered.runs_are
               ∙ ap (λ (d : ThinDevice). saved_devices old.devices.items old.runs.items ++ d ∷ [])
               (device_is old.s image id root mapped details gathered.given small
-              (is_found.here ∙ ap (λ (o : Option Details). unwrap_or o (no_details old.s.transaction)) (knows id from))
+              (is_found.here ∙ ap (λ (o : Option Details). unwrap_or o (lost_details old.s.transaction old.s.time)) (knows id from))
               gathered.number
               (all ∙ ap (λ (items : List (ℕ × BlockTime)). map mapping_of (filter (λ (item : ℕ × BlockTime). nat_lt item.1.block old.s.data_map.blocks) items)) (left image)))),
         ))

@@ -46,11 +46,7 @@ IsKnown id (k.Here details) old new = KnowsHere id (Some details) old new
 IsKnown id k.Past old new = KnowsHere id None old new
 IsKnown id k.Unread old new = KnowsNothing id old new
 
--- the details of a device that has none, in a pool with this transaction id
-abbrev pub no_details : ℕ → Details
-no_details transaction = record { mapped = 0; transaction = transaction; created = 0; snapped = 0 }
-
--- an answer is what the key has, or no details, and greater keys have what they had
-pub record IsFoundOr (transaction id : ℕ) (details : Details) (old new : List (ℕ × Details)) : Type 0 where
-  pub here : details ≡ unwrap_or (lookup id old) (no_details transaction)
+-- an answer is what the key has, or what stands for lost details, and greater keys have what they had
+pub record IsFoundOr (lost : Details) (id : ℕ) (details : Details) (old new : List (ℕ × Details)) : Type 0 where
+  pub here : details ≡ unwrap_or (lookup id old) lost
   pub later : (key : ℕ) → id < key → lookup key new ≡ lookup key old

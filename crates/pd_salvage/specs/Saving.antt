@@ -42,6 +42,15 @@ pub record HasReadyCursors (saving : Saving) : Type 0 where
 abbrev pub all_details : ThinSuper → List (List ℕ) → List Entry
 all_details s image = given 24 s.meta_map.blocks image s.details_root
 
+-- the details of a device whose own are lost: the pool's transaction, and its time as created and as snapped
+abbrev pub lost_details : ℕ → ℕ → Details
+lost_details transaction time = record { mapped = 0; transaction = transaction; created = time; snapped = time }
+
+-- these numbers fit their places
+pub record FitLost (transaction time : ℕ) : Type 0 where
+  pub transaction_fits : transaction < 2 ^ 64
+  pub time_fits : time < 2 ^ 32
+
 -- nothing was saved, and all is left
 pub record IsStarted (s : ThinSuper) (saving : Saving) : Type 0 where
   pub fields : saving.s ≡ s

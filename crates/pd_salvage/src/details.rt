@@ -76,29 +76,23 @@ impl SavedDetails {
         }
     }
 
-    /// Those of this device, or those of a device without any, in a pool with this transaction id.
+    /// Those of this device, or `lost` where it has none.
     pub(crate) fn find_or<D: Device>(
         &mut self,
         dev: &mut D,
         id: u64,
-        transaction: u64,
+        lost: Details,
     ) -> Result<Details, Failed>
         requires attached { IsAttached (D.state dev.old) }
         requires within { details_room self.old ≤ (D.state dev.old).blocks }
-        ensures found { IfOk result (λ details. IfSome (D.state dev.old).held (λ image. IsFoundOr transaction id details (details_left image self.old) (details_left image self.new))) }
-        ensures fits { transaction < 2 ^ 64 }
+        ensures found { IfOk result (λ details. IfSome (D.state dev.old).held (λ image. IsFoundOr lost id details (details_left image self.old) (details_left image self.new))) }
         ensures room { details_room self.new ≡ details_room self.old }
         ensures kept { OnlyReads (D.state dev.old) (D.state dev.new) }
         ensures faults { CountsFault result (D.state dev.old).faults (D.state dev.new).faults }
     {
         match self.find(dev, id)? {
             Some(details) => Ok(details),
-            None => Ok(Details {
-                mapped: 0,
-                transaction,
-                created: 0,
-                snapped: 0,
-            }),
+            None => Ok(lost),
         }
     }
 

@@ -3,7 +3,7 @@
 ghost use Rattle.std.specs.Prelude.{◌≡◌, ◌<◌, ◌++◌, ◌∷◌, [], not, OnOk};
 ghost use Rattle.std.specs.List.{All};
 ghost use Rattle.pd_kinds.specs.Edge.{is_outside};
-ghost use Rattle.pd_salvage.specs.Saving.{FitsDevice, FitsHead, head_of, saved_device};
+ghost use Rattle.pd_salvage.specs.Saving.{FitLost, FitsDevice, FitsHead, head_of, lost_details, saved_device};
 
 use crate::cursor::SavedCursor;
 use crate::details::SavedDetails;
@@ -94,7 +94,8 @@ impl Saving {
         ensures kept { OnlyReads (D.state dev.old) (D.state dev.new) }
         ensures faults { CountsSalvage result (D.state dev.old).faults (D.state dev.new).faults }
     {
-        let details = match self.details.find_or(dev, id, self.s.transaction) {
+        let lost = lost_details(self.s.transaction, self.s.time);
+        let details = match self.details.find_or(dev, id, lost) {
             Ok(details) => details,
             Err(_) => return Err(SalvageFault::Device),
         };
@@ -148,6 +149,21 @@ fn head_of(s: &ThinSuper) -> SavedHead
         s.block_size,
         s.data_map.blocks,
     )
+}
+
+/// The details of a device whose own are lost, in a pool with this transaction id and time.
+///
+/// With the pool's time as snapped a kernel copies each block that a snapshot may share before it writes to it.
+fn lost_details(transaction: u64, time: u32) -> Details
+    ensures lost { result ≡ lost_details transaction time }
+    ensures fits { FitLost transaction time }
+{
+    Details {
+        mapped: 0,
+        transaction,
+        created: time,
+        snapped: time,
+    }
 }
 
 /// The head with these fields.

@@ -13,4 +13,4 @@ returns-in-Ok-add_device-clause-saves g c =
     saves_device (g.D.Device.state c.args.dev.now).held c.args.id c.args.root c.in_ok-mapped.mapped (c.len.result - c.len-first.result) c.in-Ok.details c.args.self.now
     (record { s = c.args.self.now.s; tops = c.args.self.now.tops; details = c.find_or.new.self; mappings = c.gather.new.mappings; devices = c.add_device.new.devices; runs = c.gather.new.runs })
     c.restart.new.self
-    c.in-Ok.ensures.fits refl c.in-Ok.ensures.found c.restart.ensures.left (saved_least c.restart.new.self) c.restart.ensures.least gathered number c.in-Ok-add_device.ensures.added c.in-Ok-add_device.ensures.fits
+    c.lost_details-lost.ensures.fits refl (rw c.lost_details-lost.ensures.lost at c.in-Ok.ensures.found) c.restart.ensures.left (saved_least c.restart.new.self) c.restart.ensures.least gathered number c.in-Ok-add_device.ensures.added c.in-Ok-add_device.ensures.fits
