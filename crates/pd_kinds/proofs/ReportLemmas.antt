@@ -1,7 +1,9 @@
 -- Lists of which a report keeps the front.
-use Rattle.std.proofs.Common.{◌≡◌, ℕ, zero, suc, ◌+◌, ◌<◌, ◌≤◌, List, [], ◌∷◌, ◌++◌, length, take, set, refl, ap, sym, ◌∙◌, arith, add-one}
+use Rattle.std.proofs.Common.{◌≡◌, ℕ, zero, suc, ◌+◌, ◌<◌, ◌≤◌, Bool, true, false, cond, List, [], ◌∷◌, ◌++◌, length, take, set, refl, ap, sym, ◌∙◌, arith, add-one}
+use Rattle.std.specs.List.{count_by}
 use Rattle.std.proofs.Math.Seq.{take-suc-set}
 use Rattle.std.proofs.lemmas.List.{take-append-le, take_all, length-take-le, length-append}
+use Rattle.std.proofs.lemmas.List.Sums.{sum_by_push}
 
 -- a write at the end of the kept part, short of the limit
 pub kept_below : {X : Type 0} → (limit k : ℕ) (xs : List X) (x : X) → length xs ≡ limit → k < limit
@@ -23,3 +25,11 @@ pub front_of_front : {X : Type 0} → (limit : ℕ) (xs ys : List X) → take li
 front_of_front {X} zero xs ys = refl
 front_of_front {X} (suc n) [] ys = refl
 front_of_front {X} (suc n) (x ∷ xs) ys = ap (λ (rest : List X). x ∷ rest) (front_of_front n xs ys)
+
+-- one more at the end of what is counted
+pub count_more : {X : Type 0} → (p : X → Bool) (xs : List X) (x : X) → count_by p (xs ++ x ∷ []) ≡ cond (p x) (count_by p xs + 1) (count_by p xs)
+count_more {X} p xs x = sum_by_push (λ y. cond (p y) 1 0) xs x ∙ one_if (p x)
+  where
+    one_if : (here : Bool) → count_by p xs + cond here 1 0 ≡ cond here (count_by p xs + 1) (count_by p xs)
+    one_if true = refl
+    one_if false = omega arith

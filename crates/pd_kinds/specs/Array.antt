@@ -1,3 +1,4 @@
+-- Trusted base.
 -- A block of an array, as struct array_block of "drivers/md/persistent-data/dm-array.c": a header of
 -- 24 bytes, then words of one size.
 use Rattle.std.specs.Prelude.{ℕ, ◌+◌, ◌*◌, ◌/◌, Bool, ◌==◌, ◌||◌, not, nat_lt, if◌then◌else◌, List, [], ◌∷◌, length}

@@ -1,3 +1,4 @@
+-- Trusted base.
 -- A bitmap of a space map, and the index block of the metadata's space map, as struct
 -- disk_bitmap_header and struct disk_metadata_index of
 -- "drivers/md/persistent-data/dm-space-map-common.h".

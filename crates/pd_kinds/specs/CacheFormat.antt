@@ -1,3 +1,4 @@
+-- Trusted base.
 -- A cache's metadata, versions 1 and 2 (struct cache_disk_superblock of "drivers/md/dm-cache-metadata.c"):
 -- the superblock's fields and rules, and the roles. These are 0 superblock, 1 tree of the mapping array,
 -- 2 its blocks, 3 tree of the hint array, 4 its blocks, 5 tree of the discard bitset, 6 its blocks,

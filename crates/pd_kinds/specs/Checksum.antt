@@ -1,3 +1,4 @@
+-- Trusted base.
 -- The checksum of a block: CRC-32C without its final inversion, bit by bit.
 use Rattle.std.specs.Prelude.{ℕ, ◌-◌, ◌/◌, ◌%◌, ◌^◌, Bool, ◌==◌, if◌then◌else◌, List, drop, fold, bit_xor}
 use Rattle.pd_kinds.specs.Field.{le, put}

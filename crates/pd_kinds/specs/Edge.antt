@@ -1,3 +1,4 @@
+-- Trusted base.
 -- What a block names: other blocks, each in a role.
 use Rattle.std.specs.Prelude.{ℕ, Bool, ◌==◌, ◌||◌, not, nat_lt, if◌then◌else◌, List, [], ◌∷◌}
 use Rattle.std.specs.List.{list_any}

@@ -1,3 +1,4 @@
+-- Trusted base.
 -- An era target's metadata, version 1 (struct superblock_disk of "drivers/md/dm-era-target.c"): the
 -- superblock's fields and rules, and the roles. These are 0 superblock, 1 metadata snapshot, 2 tree of
 -- the archived writesets, by era, 3 tree of a writeset's bits, 4 its blocks, 5 tree of the era array,

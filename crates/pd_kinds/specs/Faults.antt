@@ -1,3 +1,4 @@
+-- Trusted base.
 -- The faults of a metadata block.
 use Rattle.std.specs.Prelude.{ℕ, Bool, List, map, filter}
 use Rattle.pd_kinds.specs.declared.rule.Rule.{Rule}

@@ -1,3 +1,4 @@
+-- Trusted base.
 -- Images, blocks and little-endian fields. A block is a list of 4096 bytes, an image a list of blocks.
 use Rattle.std.specs.Prelude.{ℕ, zero, suc, ◌+◌, ◌*◌, ◌/◌, ◌%◌, ◌^◌, ◌<◌, List, [], ◌∷◌, ◌++◌, length, take, drop, slice_index, slice_set, replicate}
 

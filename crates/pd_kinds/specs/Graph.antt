@@ -1,3 +1,4 @@
+-- Trusted base.
 -- What a walk sees of a format: a block is looked at in a role, and names other blocks, each with a
 -- role. All that is said of walks, of order and of references is said over any such record.
 use Rattle.std.specs.Prelude.{ℕ, zero, suc, ◌+◌, ◌*◌, ◌/◌, ◌%◌, Bool, ◌==◌, ◌&&◌, ◌||◌, List, [], ◌∷◌, map, filter, count_by}

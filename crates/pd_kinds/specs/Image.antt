@@ -1,3 +1,4 @@
+-- Trusted base.
 -- What an image is: blocks of 4096 bytes.
 use Rattle.std.specs.Prelude.{◌≡◌, ℕ, ◌<◌, List, length, slice_index}
 use Rattle.std.specs.List.{All}

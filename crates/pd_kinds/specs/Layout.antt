@@ -1,3 +1,4 @@
+-- Trusted base.
 -- What a block is in a role: the local rules that it is looked at by, and the blocks that it names.
 use Rattle.std.specs.Prelude.{ℕ, zero, suc, Bool, true, false, ◌&&◌, not, if◌then◌else◌, List, [], ◌∷◌, map}
 use Rattle.std.specs.List.{list_any, flat_map, range_with_len}

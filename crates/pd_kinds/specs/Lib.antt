@@ -3,6 +3,7 @@ pub mod Checksum
 pub mod Super
 pub mod Rule
 pub mod RuleSet
+pub mod Flagged
 pub mod Report
 pub mod Moments
 pub mod Objects
@@ -28,6 +29,7 @@ pub mod EraFormat
 pub mod Trees
 pub mod Whole
 pub mod Stages
+pub mod Leaks
 pub mod Meaning
 pub mod Lawful
 pub mod Paths

@@ -1,3 +1,4 @@
+-- Trusted base.
 -- How many blocks the tools take.
 use Rattle.std.specs.Prelude.{ℕ, min, ◌^◌, Bool, ◌==◌, ◌||◌, nat_lt}
 use Rattle.pd_kinds.specs.declared.limits.TheConstants.{MAX_META_BLOCKS}

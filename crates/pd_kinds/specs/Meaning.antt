@@ -1,3 +1,4 @@
+-- Trusted base.
 -- What an image says, where it has no fault up to the stage Whole.
 use Rattle.std.specs.Prelude.{ℕ, ◌/◌, ◌%◌, ◌^◌, max, Bool, ◌==◌, ◌&&◌, not, nat_lt, if◌then◌else◌, List, [], map, filter, fold, length, slice_index}
 use Rattle.std.specs.List.{range_with_len}

@@ -1,3 +1,4 @@
+-- Trusted base.
 -- A node of a B-tree, as struct btree_node of "drivers/md/persistent-data/dm-btree-internal.h": a
 -- header of 32 bytes, then room for the greatest number of keys, then the values.
 use Rattle.std.specs.Prelude.{ℕ, ◌+◌, ◌*◌, ◌/◌, Bool, true, ◌==◌, ◌&&◌, ◌||◌, not, nat_lt, if◌then◌else◌, List, [], ◌∷◌, length, map}

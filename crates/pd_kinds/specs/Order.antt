@@ -1,3 +1,4 @@
+-- Trusted base.
 -- Trees over a graph: how deep they are, and which keys stand below a node.
 use Rattle.std.specs.Prelude.{ℕ, zero, suc, Bool, true, ◌==◌, ◌&&◌, not, nat_lt, if◌then◌else◌, List, [], ◌∷◌, length, map, Option, Some, None}
 use Rattle.std.specs.List.{list_any, list_all, flat_map}

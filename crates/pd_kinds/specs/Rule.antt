@@ -1,3 +1,4 @@
+-- Trusted base.
 -- The rules in their order, and their printed names.
 use Rattle.std.specs.Prelude.{ℕ, Bool, ◌==◌, List, [], ◌∷◌, codes}
 use Rattle.pd_kinds.specs.declared.rule.Rule.{Rule}

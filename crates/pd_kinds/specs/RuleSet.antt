@@ -1,3 +1,4 @@
+-- Trusted base.
 -- What a set of rules holds, and the tests that make one.
 use Rattle.std.specs.Prelude.{Bool, false, ◌||◌, ◌==◌, ◌&&◌, if◌then◌else◌, List, [], ◌∷◌}
 use Rattle.std.specs.Int.{bit_at}

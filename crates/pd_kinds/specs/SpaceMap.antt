@@ -1,3 +1,4 @@
+-- Trusted base.
 -- The root of a space map, as it stands in a superblock (struct disk_sm_root of
 -- "drivers/md/persistent-data/dm-space-map-common.h").
 use Rattle.std.specs.Prelude.{ℕ, ◌+◌, List, [], ◌∷◌}

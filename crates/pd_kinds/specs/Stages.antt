@@ -1,3 +1,4 @@
+-- Trusted base.
 -- The faults of each stage, the first failing stage, and what a clean image is.
 use Rattle.std.specs.Prelude.{◌≡◌, ◌≢◌, ℕ, ◌<◌, Bool, true, false, ◌&&◌, ◌||◌, not, nat_lt, if◌then◌else◌, List, [], ◌∷◌, ◌++◌, filter, length, Option, Some, None, IfSome}
 use Rattle.std.specs.List.{list_any, flat_map, range_with_len}

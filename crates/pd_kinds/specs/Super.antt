@@ -1,3 +1,4 @@
+-- Trusted base.
 -- What makes a block the superblock of one of the three kinds.
 use Rattle.std.specs.Prelude.{ℕ, Bool, ◌==◌, ◌&&◌, ◌||◌, not, List, [], ◌∷◌}
 use Rattle.pd_kinds.specs.declared.kind.Kind.{Kind}

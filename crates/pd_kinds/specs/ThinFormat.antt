@@ -1,3 +1,4 @@
+-- Trusted base.
 -- The roles of a thin pool's metadata ("drivers/md/dm-thin-metadata.c"): 0 superblock, 1 held superblock
 -- copy, 2 mapping tree, by device, 3 a device's mappings, by virtual block, 4 details, by device,
 -- 5 index of the data bitmaps, 6 data bitmap, 7 data overflow tree, 8 index block of the metadata

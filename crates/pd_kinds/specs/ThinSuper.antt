@@ -1,3 +1,4 @@
+-- Trusted base.
 -- The thin superblock: its fields, its local rules, and the block that is written for given fields.
 -- Offsets and sizes are those of struct thin_disk_superblock of "drivers/md/dm-thin-metadata.c" and of
 -- struct disk_sm_root of "drivers/md/persistent-data/dm-space-map-common.h".

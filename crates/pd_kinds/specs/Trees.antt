@@ -1,3 +1,4 @@
+-- Trusted base.
 -- The entries of a tree, the words of an array, and the counts that a space map stores.
 use Rattle.std.specs.Prelude.{ℕ, ◌/◌, ◌%◌, ◌^◌, ◌==◌, nat_lt, if◌then◌else◌, List, map, Option, Some}
 use Rattle.std.specs.List.{flat_map, find, range_with_len}

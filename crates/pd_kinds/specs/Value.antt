@@ -1,3 +1,4 @@
+-- Trusted base.
 -- Leaf values. A value of k bytes is a number below 256 ^ k, put together from its fields, the lowest
 -- first, as all numbers in blocks are little-endian.
 use Rattle.std.specs.Prelude.{ℕ, ◌+◌, ◌*◌, ◌^◌}

@@ -1,3 +1,5 @@
+//! A block of 4096 bytes, and the numbers in it.
+
 ghost use Rattle.std.specs.Prelude.{◌≡◌};
 ghost use Rattle.pd_kinds.specs.Field.{zeros};
 ghost use Rattle.pd_kinds.specs.Edge.{is_outside};

@@ -1,3 +1,5 @@
+//! The fields of a cache's superblock.
+
 use crate::map_root::SmRoot;
 
 /// The superblock of a cache's metadata, version 1 or 2, as struct cache_disk_superblock of

@@ -1,3 +1,5 @@
+//! Why a check has no report.
+
 /// Why a check has no report.
 #[derive(Clone, Copy, Debug, PartialEq, Eq)]
 pub enum CheckFault {

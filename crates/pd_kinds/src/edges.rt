@@ -1,3 +1,5 @@
+//! The blocks that a superblock names.
+
 ghost use Rattle.std.specs.Prelude.{◌≡◌, ◌+◌, ◌<◌, ◌≤◌, ◌++◌, ◌∷◌, [], List, Some, length, slice_get};
 ghost use Rattle.pd_kinds.specs.Edge.{Edge, edge_of, has_edge_outside, optional_edge};
 

@@ -1,3 +1,5 @@
+//! The fields of an era target's superblock.
+
 use crate::map_root::SmRoot;
 
 /// The superblock of an era target's metadata, as struct superblock_disk of "drivers/md/dm-era-target.c",

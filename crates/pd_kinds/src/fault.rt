@@ -1,3 +1,8 @@
+//! A fault: a block, and the rule that it breaks.
+
+ghost use Rattle.std.specs.Prelude.{◌≡◌};
+ghost use Rattle.pd_kinds.specs.Report.{is_leak};
+
 use crate::rule::Rule;
 
 /// Whose block a fault names: the metadata device's, or the data device's.
@@ -22,4 +27,13 @@ pub struct Fault {
     pub stored: u64,
     /// The number of references, for `Leak` and `Short`; else 0.
     pub refs: u64,
+}
+
+impl Fault {
+    /// Whether it is a leak: a stored count above the references.
+    pub fn is_leak(&self) -> bool
+        ensures { result ≡ is_leak self.now }
+    {
+        matches!(self.rule, Rule::Leak)
+    }
 }

@@ -1,4 +1,7 @@
+//! The kinds of metadata, and the stages of a check.
+
 ghost use Rattle.std.specs.Prelude.{◌≡◌};
+ghost use Rattle.pd_kinds.specs.Flagged.{kind_of};
 ghost use Rattle.pd_kinds.specs.Super.{magic_of, salt_of};
 
 /// The three targets of device-mapper whose metadata the tools know.
@@ -35,6 +38,36 @@ impl Kind {
             Kind::Era => 146538381,
         }
     }
+}
+
+/// The kinds whose superblock has the flag "needs check".
+#[derive(Clone, Copy, Debug, PartialEq, Eq)]
+pub enum Flagged {
+    /// A pool of thin volumes.
+    Pool,
+    /// A cache.
+    Cache,
+}
+
+impl Flagged {
+    /// The kind of the metadata.
+    pub fn kind(self) -> Kind
+        ensures { result ≡ kind_of self }
+    {
+        match self {
+            Flagged::Pool => Kind::Thin,
+            Flagged::Cache => Kind::Cache,
+        }
+    }
+}
+
+/// Which faults pass in a check: where it found no others, its status is 0.
+#[derive(Clone, Copy, Debug, PartialEq, Eq)]
+pub enum Passing {
+    /// None passes.
+    Nothing,
+    /// Leaks pass: stored counts above the references.
+    Leaks,
 }
 
 /// The stages of a check, in the order in which they are looked at.

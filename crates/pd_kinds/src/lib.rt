@@ -30,7 +30,7 @@ pub use edges::Edges;
 pub use era_super::EraSuper;
 pub use fault::{Fault, Space};
 pub use fields::{put_u32, put_u64, u32_at, u64_at};
-pub use kind::{Kind, Stage};
+pub use kind::{Flagged, Kind, Passing, Stage};
 pub use limits::{BITMAP_COUNTS, MAX_META_BLOCKS, bitmaps_for, is_meta_size_bad};
 pub use map_root::SmRoot;
 pub use report::{KEPT_FAULTS, Report};

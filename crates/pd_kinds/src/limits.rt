@@ -1,3 +1,5 @@
+//! How many blocks metadata has at the most.
+
 ghost use Rattle.std.specs.Prelude.{◌≡◌};
 ghost use Rattle.pd_kinds.specs.Bitmap.{bitmaps_for};
 ghost use Rattle.pd_kinds.specs.Limits.{is_meta_size_bad};

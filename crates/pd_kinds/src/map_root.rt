@@ -1,3 +1,5 @@
+//! The root of a space map, as a superblock holds it.
+
 /// The root of a space map, as struct disk_sm_root of
 /// "drivers/md/persistent-data/dm-space-map-common.h".
 #[derive(Clone, Copy, Debug, PartialEq, Eq)]

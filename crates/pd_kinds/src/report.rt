@@ -1,6 +1,10 @@
+//! A report: the first thousand faults, and how many there are.
+
 ghost use Rattle.std.specs.Prelude.{◌≡◌, ◌==◌, ◌-◌, ◌^◌, ◌<◌, ◌≤◌, ◌+◌, ◌++◌, ◌∷◌, [], List, length, take, map, filter, slice_get, if◌then◌else◌};
+ghost use Rattle.pd_kinds.specs.Report.{is_leak};
 
 use crate::fault::{Fault, Space};
+use crate::kind::Passing;
 use crate::rule::Rule;
 use crate::rules::Rules;
 use std::marker::Model;
@@ -8,7 +12,7 @@ use std::marker::Model;
 /// How many faults a report keeps.
 pub const KEPT_FAULTS: usize = 1000;
 
-/// The first thousand of the faults that were added, and the number of all.
+/// The first thousand of the faults that were added, the number of all, and how many of all are leaks.
 ///
 /// The places for them are in the report itself, so that it takes no memory.
 #[derive(Drop)]
@@ -16,21 +20,22 @@ pub struct Report {
     faults: [Fault; 1000],
     kept: usize,
     total: u64,
+    leaks: u64,
 }
 
 impl Model for Report {
-    ghost use Rattle.std.specs.Prelude.{◌≡◌, length, take, min};
+    ghost use Rattle.std.specs.Prelude.{◌≡◌, ◌≤◌, length, take, min};
     ghost use Rattle.pd_kinds.specs.Report.{Reported};
 
     ghost Value = { Reported };
 
-    ghost view = { λ r. record { faults = take r.kept r.faults; total = r.total } };
+    ghost view = { λ r. record { faults = take r.kept r.faults; total = r.total; leaks = r.leaks } };
 
-    ghost invariant = { λ r. (r.kept ≡ min 1000 r.total) × (length r.faults ≡ 1000) };
+    ghost invariant = { λ r. (r.kept ≡ min 1000 r.total) × (length r.faults ≡ 1000) × (r.leaks ≤ r.total) };
 }
 
 impl Report {
-    ghost use Rattle.pd_kinds.specs.Report.{Reported, report_of, with_fault};
+    ghost use Rattle.pd_kinds.specs.Report.{Reported, passes, report_of, with_fault};
     ghost use Rattle.pd_kinds.specs.RuleSet.{has_rule};
     ghost use Rattle.pd_kinds.specs.Faults.{meta_fault, faults_at};
     ghost use Rattle.pd_kinds.specs.declared.fault.Fault.{Fault};
@@ -50,14 +55,15 @@ impl Report {
             faults: [unused; 1000],
             kept: 0,
             total: 0,
+            leaks: 0,
         }
     }
 
-    /// Counts the fault, and keeps it if fewer than a thousand are kept.
+    /// Counts the fault, as a leak too where it is one, and keeps it if fewer than a thousand are kept.
     pub fn add(&mut self, fault: Fault)
         requires { self.old.total < 2 ^ 64 - 1 }
         ensures kept { self.new ≡ with_fault self.old fault }
-        // So a report has the first thousand of the faults that were added, and their number.
+        // So a report has the first thousand of the faults that were added, their number, and that of the leaks.
         ensures first { (before : List Fault) → self.old ≡ report_of before → self.new ≡ report_of (before ++ (fault ∷ [])) }
     {
         if self.kept < KEPT_FAULTS {
@@ -65,6 +71,7 @@ impl Report {
             self.kept += 1;
         }
         self.total += 1;
+        self.leaks = leaks_with(self.leaks, &fault);
     }
 
     #[tactic(auto, unfolding(crate::specs::Faults::faults_at, crate::specs::Rule::all_rules))]
@@ -114,6 +121,24 @@ impl Report {
         self.total
     }
 
+    /// How many of the added faults have the rule Leak, kept or not.
+    pub fn leaks(&self) -> u64
+        ensures leaks { result ≡ self.now.leaks }
+        ensures within { result ≤ self.now.total }
+    {
+        self.leaks
+    }
+
+    /// Whether all faults that were added pass.
+    pub fn passes(&self, passing: Passing) -> bool
+        ensures { result ≡ passes passing self.now }
+    {
+        match passing {
+            Passing::Nothing => self.total == 0,
+            Passing::Leaks => self.leaks == self.total,
+        }
+    }
+
     /// How many faults are kept: at most a thousand.
     pub fn len(&self) -> usize
         ensures { result ≡ length self.now.faults }
@@ -136,4 +161,13 @@ impl Report {
         let faults = &self.faults;
         faults[i]
     }
+}
+
+/// So many leaks, and one more where the fault is one.
+fn leaks_with(leaks: u64, fault: &Fault) -> u64
+    requires { leaks < 2 ^ 64 - 1 }
+    ensures leaks { result ≡ (if is_leak fault.now then leaks + 1 else leaks) }
+    ensures few { result ≤ leaks + 1 }
+{
+    if fault.is_leak() { leaks + 1 } else { leaks }
 }

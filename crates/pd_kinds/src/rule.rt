@@ -1,3 +1,5 @@
+//! The rules, in the order in which they are printed.
+
 ghost use Rattle.std.specs.Prelude.{◌≡◌, ◌≤◌, length};
 ghost use Rattle.pd_kinds.specs.Rule.{rule_name};
 

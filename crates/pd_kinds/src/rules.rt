@@ -1,3 +1,5 @@
+//! A set of rules.
+
 ghost use Rattle.std.specs.Prelude.{◌≡◌, ◌^◌, ◌<◌, ◌||◌, ◌&&◌, ◌↔◌, false, IsTrue};
 
 use crate::rule::Rule;

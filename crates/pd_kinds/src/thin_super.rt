@@ -1,3 +1,5 @@
+//! The fields of a thin pool's superblock.
+
 use crate::map_root::SmRoot;
 
 /// The superblock of a thin pool, as struct thin_disk_superblock of "drivers/md/dm-thin-metadata.c",

@@ -24,7 +24,7 @@ use Rattle.pd_kinds.proofs.RuleBits.{number_below}
 use Rattle.pd_laws.specs.InOrder.{AreInOrder}
 
 module _ {X : Type 0} where
-  cons_isnt_nil : {x : X} {xs : List X} → x ∷ xs ≡ [] → ⊥
+  pub cons_isnt_nil : {x : X} {xs : List X} → x ∷ xs ≡ [] → ⊥
   cons_isnt_nil e = cc
 
   nil_from_append : (xs ys : List X) → xs ++ ys ≡ [] → (xs ≡ []) × (ys ≡ [])
@@ -96,7 +96,7 @@ all_of_range P a zero holds = tt
 all_of_range P a (suc n) holds =
     (holds a (omega arith) (omega arith), all_of_range P (a + 1) n (λ k from below. holds k (omega arith) (omega arith)))
 
-at_of_range : (P : ℕ → Type 0) (a n k : ℕ) → a ≤ k → k < a + n → AllByRecursion P (range_with_len a n) → P k
+pub at_of_range : (P : ℕ → Type 0) (a n k : ℕ) → a ≤ k → k < a + n → AllByRecursion P (range_with_len a n) → P k
 at_of_range P a zero k from below all = absurd (omega arith)
 at_of_range P a (suc n) k from below all = elim (cases_lt a k) [
   | inl later ↦ at_of_range P (a + 1) n k (omega arith) (omega arith) all.1

@@ -1,3 +1,4 @@
+-- Trusted base.
 -- Images without a fault up to the stage Order.
 use Rattle.std.specs.Prelude.{◌≡◌, ℕ, true, false, List}
 use Rattle.pd_kinds.specs.declared.kind.Kind.{Kind}

@@ -1,3 +1,5 @@
+//! No faults, and a clean image.
+
 ghost use Rattle.std.specs.Prelude.{◌≡◌, ◌↔◌, ℕ, List, []};
 ghost use Rattle.pd_kinds.specs.declared.kind.Kind.{Kind};
 ghost use Rattle.pd_kinds.specs.declared.kind.Stage.TheVariants.{Counts};

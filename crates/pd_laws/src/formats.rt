@@ -1,3 +1,5 @@
+//! The three formats keep the laws that a walk needs.
+
 ghost use Rattle.pd_kinds.specs.declared.limits.TheConstants.{MAX_META_BLOCKS};
 ghost use Rattle.std.specs.Prelude.{◌≡◌, ◌≤◌, ℕ, false, List};
 ghost use Rattle.pd_kinds.specs.declared.rule.Rule.{Rule};

@@ -1,3 +1,5 @@
+//! The order of faults.
+
 ghost use Rattle.std.specs.Prelude.{ℕ, List};
 ghost use Rattle.pd_kinds.specs.declared.kind.Kind.{Kind};
 ghost use Rattle.pd_kinds.specs.declared.kind.Stage.{Stage};

@@ -1,3 +1,5 @@
+//! What is reached, as the ends of paths.
+
 ghost use Rattle.std.specs.Prelude.{◌≡◌, ◌↔◌, ◌*◌, ℕ, true, List};
 ghost use Rattle.pd_kinds.specs.Graph.{Graph, is_reached, is_reached_from, next, nodes, nodes_from};
 ghost use Rattle.pd_kinds.specs.Paths.{IsOnPath, IsOnPathFrom};

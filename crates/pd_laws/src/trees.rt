@@ -1,3 +1,5 @@
+//! What holds of trees in an image without faults up to the stage Order.
+
 ghost use Rattle.std.specs.Prelude.{◌≡◌, ℕ, List, []};
 ghost use Rattle.pd_kinds.specs.declared.kind.Kind.{Kind};
 ghost use Rattle.pd_kinds.specs.declared.kind.Stage.{Stage};
