@@ -3,7 +3,7 @@ use Rattle.std.specs.Prelude.{◌≡◌, ◌⊎◌, ℕ, ◌^◌, ◌<◌, ◌�
 use Rattle.std.specs.Option.{option_map}
 use Rattle.pd_words.specs.declared.request.Name.{Name}
 use Rattle.pd_words.specs.declared.request.Request.{Request}
-use Rattle.pd_words.specs.declared.request.Request.TheVariants.{Check, CheckAndClear, Dump, DumpShared, Restore, Repair, Search, Rmap, List as ListDevices, Since, Generate, Rehearse, Writeback, Shrink}
+use Rattle.pd_words.specs.declared.request.Request.TheVariants.{Check, PassingCheck, CheckAndClear, Dump, DumpShared, Restore, Repair, Search, Rmap, List as ListDevices, Since, Generate, Rehearse, Writeback, Shrink}
 use Rattle.pd_words.specs.declared.request.WordFault.{WordFault}
 use Rattle.pd_words.specs.Items.{word_at}
 use Rattle.pd_answers.specs.Requests as requests
@@ -19,7 +19,8 @@ words_of words name = option_map (word_of words) name
 -- the request as the definitions speak of it, with the words that its names stand for
 abbrev pub request_as : List (List ℕ) → Request → requests.Request
 request_as words (Check kind until image) = requests.check kind until (word_of words image)
-request_as words (CheckAndClear image) = requests.check_and_clear (word_of words image)
+request_as words (PassingCheck kind image) = requests.passing_check kind (word_of words image)
+request_as words (CheckAndClear flagged passing image) = requests.check_and_clear flagged passing (word_of words image)
 request_as words (Dump kind image out) = requests.dump kind (words_of words out) (word_of words image)
 request_as words (DumpShared image out) = requests.dump_shared (words_of words out) (word_of words image)
 request_as words (Restore kind text image version) = requests.restore kind version (word_of words text) (word_of words image)
@@ -31,7 +32,7 @@ request_as words (ListDevices image out) = requests.list_devices (words_of words
 request_as words (Since era image out) = requests.since era (words_of words out) (word_of words image)
 request_as words (Generate number out) = requests.generate number (words_of words out)
 request_as words (Rehearse number image) = requests.rehearse number (word_of words image)
-request_as words (Writeback metadata fast origin) = requests.writeback (word_of words metadata) (word_of words fast) (word_of words origin)
+request_as words (Writeback meta fast origin) = requests.writeback (word_of words meta) (word_of words fast) (word_of words origin)
 request_as words (Shrink input output pool blocks) =
     requests.shrink (word_of words input) (word_of words output) (word_of words pool) blocks
 
@@ -71,7 +72,8 @@ IsPoolSize blocks = blocks ≤ 2 ^ 40
 -- each name of a request is, its version is one, and so are the generator's number and that of a pool's data blocks
 abbrev pub AreNames : ℕ → Request → Type 0
 AreNames number (Check kind until image) = IsName number image
-AreNames number (CheckAndClear image) = IsName number image
+AreNames number (PassingCheck kind image) = IsName number image
+AreNames number (CheckAndClear flagged passing image) = IsName number image
 AreNames number (Dump kind image out) = IsName number image × IsNameIfAny number out
 AreNames number (DumpShared image out) = IsName number image × IsNameIfAny number out
 AreNames number (Restore kind text image version) = IsName number text × IsName number image × IsVersion version
@@ -82,5 +84,5 @@ AreNames number (ListDevices image out) = IsName number image × IsNameIfAny num
 AreNames number (Since era image out) = IsName number image × IsNameIfAny number out
 AreNames number (Generate generated out) = IsNameIfAny number out × IsGenerated generated
 AreNames number (Rehearse generated image) = IsName number image × IsGenerated generated
-AreNames number (Writeback metadata fast origin) = IsName number metadata × IsName number fast × IsName number origin
+AreNames number (Writeback meta fast origin) = IsName number meta × IsName number fast × IsName number origin
 AreNames number (Shrink input output pool blocks) = IsName number input × IsName number output × IsName number pool

@@ -3,6 +3,7 @@
 ghost use Rattle.std.specs.Prelude.{◌≡◌, ◌<◌, ◌||◌, codes, length, map, drop, string_bytes, IfSome, is_some};
 ghost use Rattle.std.specs.List.{list_any};
 ghost use Rattle.std.specs.Str.{bytes_eq};
+ghost use Rattle.pd_kinds.specs.declared.kind.Kind.TheVariants.{Thin, Cache};
 ghost use Rattle.pd_answers.specs.Words.{check_tool, dump_tool, is_value, is_flag, items_of, given, known, purposes_of, repair_tool, restore_tool, shrink_tool, tool_of, writeback_tool};
 ghost use Rattle.pd_words.specs.Items.{with_item, IsItemWithin, values_from, with_found, given_as, IsGivenWithin, tool_as, found_tool};
 
@@ -120,12 +121,23 @@ fn is_check_purpose(kind: Kind, word: &str) -> bool
     ensures { result ≡ list_any (bytes_eq word.now) (purposes_of (check_tool kind)) }
 {
     match kind {
-        Kind::Thin => {
-            (word == "--until") | (word == "--clear-needs-check-flag") | (word == "IMAGE")
+        Kind::Thin => is_clearing_purpose(word),
+        Kind::Cache => is_clearing_purpose(word),
+        Kind::Era => {
+            (word == "--until") | (word == "--ignore-non-fatal-errors") | (word == "IMAGE")
         }
-        Kind::Cache => (word == "--until") | (word == "IMAGE"),
-        Kind::Era => (word == "--until") | (word == "IMAGE"),
     }
+}
+
+/// The same of a check that can clear the flag "needs check".
+fn is_clearing_purpose(word: &str) -> bool
+    ensures pool { result ≡ list_any (bytes_eq word.now) (purposes_of (check_tool Thin)) }
+    ensures cache { result ≡ list_any (bytes_eq word.now) (purposes_of (check_tool Cache)) }
+{
+    (word == "--until")
+        | (word == "--ignore-non-fatal-errors")
+        | (word == "--clear-needs-check-flag")
+        | (word == "IMAGE")
 }
 
 /// The same of a dump.
@@ -200,7 +212,9 @@ fn is_number_purpose(word: &str) -> bool
 fn is_flag(word: &str) -> bool
     ensures { result ≡ is_flag word.now }
 {
-    word == "--clear-needs-check-flag" || word == "--shared"
+    (word == "--clear-needs-check-flag")
+        | (word == "--ignore-non-fatal-errors")
+        | (word == "--shared")
 }
 
 /// Whether a word can be a value or an operand.

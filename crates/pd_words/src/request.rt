@@ -1,6 +1,8 @@
+//! What words can ask for, and why they ask for nothing.
+
 ghost use Rattle.std.specs.Prelude.{◌≡◌, ◌<◌, length, map, string_bytes};
 
-use pd_kinds::{Kind, Stage};
+use pd_kinds::{Flagged, Kind, Passing, Stage};
 
 /// The index of a word among the words of a command line; it stands for that word.
 #[derive(Clone, Copy, Debug, PartialEq, Eq)]
@@ -28,8 +30,16 @@ pub enum Request {
         until: Stage,
         image: Name,
     },
-    /// The whole check of a thin pool; where it found nothing, the flag "needs check" of the superblock is cleared.
+    /// The whole check of an image, in which leaks pass.
+    PassingCheck {
+        kind: Kind,
+        image: Name,
+    },
+    /// The whole check of a pool or a cache; where all that it found passes, the flag "needs check" of the superblock is
+    /// cleared.
     CheckAndClear {
+        flagged: Flagged,
+        passing: Passing,
         image: Name,
     },
     /// The text of an image.
@@ -93,7 +103,7 @@ pub enum Request {
     },
     /// What is dirty in a cache, from its fast device to its origin, by its metadata, which is marked clean.
     Writeback {
-        metadata: Name,
+        meta: Name,
         fast: Name,
         origin: Name,
     },

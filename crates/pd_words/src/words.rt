@@ -1,6 +1,9 @@
+//! The request that words spell.
+
 ghost use Rattle.std.specs.Prelude.{◌≡◌, ◌^◌, ℕ, List, Some, true, map, drop, string_bytes, length, IfSome, IfOk};
 ghost use Rattle.std.specs.Option.{option_map};
 ghost use Rattle.pd_answers.specs.Words.{asked, stage_of, last_stage, version_of, region_of, generated_number, items_of, check_with, dump_with};
+ghost use Rattle.pd_kinds.specs.declared.kind.Stage.TheVariants.{Counts};
 ghost use Rattle.pd_answers.specs.Words as words_spec;
 ghost use Rattle.pd_words.specs.Items.{tool_as};
 ghost use Rattle.pd_words.specs.Numbers.{region_as};
@@ -9,7 +12,7 @@ ghost use Rattle.pd_words.specs.Words.{read_as, answer_as, repair_as, word_of, w
 use crate::items::{Given, IMAGE, Tool, are_items, given_for, tool_named};
 use crate::numbers::{Region, number, number_below, read_region};
 use crate::request::{Name, Request, WordFault};
-use pd_kinds::{Kind, Stage};
+use pd_kinds::{Flagged, Kind, Passing, Stage};
 
 /// The request that the words spell, without the program's own name.
 ///
@@ -63,9 +66,10 @@ fn read_check(kind: Kind, words: &[String]) -> Option<Request>
     ensures names { IfSome result (AreNames (length words.now)) }
 {
     let until = last_stage(words, optional(words, "--until")?)?;
+    let leaks = flag(words, "--ignore-non-fatal-errors")?;
     let clear = flag(words, "--clear-needs-check-flag")?;
     let image = required(words, IMAGE)?;
-    check_with(kind, until, clear, image)
+    check_with(kind, until, leaks, clear, image)
 }
 
 /// What the words ask of a dump.
@@ -95,18 +99,46 @@ fn dump_with(kind: Kind, shared: bool, out: Option<Name>, image: Name) -> Option
     }
 }
 
-/// A check; the flag stands only where the whole of a pool is checked.
-fn check_with(kind: Kind, until: Stage, clear: bool, image: Name) -> Option<Request>
-    ensures asked { (words : List (List ℕ)) → read_as words result ≡ check_with kind until clear (word_of words image) }
+/// A check; the flags stand only where it goes to its end.
+fn check_with(kind: Kind, until: Stage, leaks: bool, clear: bool, image: Name) -> Option<Request>
+    ensures asked { (words : List (List ℕ)) → read_as words result ≡ check_with kind until leaks clear (word_of words image) }
     ensures names { (number : ℕ) → IsName number image → IfSome result (AreNames number) }
 {
-    if !clear {
+    if !leaks && !clear {
         return Some(Request::Check { kind, until, image });
     }
-    match (kind, until) {
-        (Kind::Thin, Stage::Counts) => Some(Request::CheckAndClear { image }),
+    match until {
+        Stage::Counts => {
+            if clear {
+                clearing_check(kind, leaks, image)
+            } else {
+                Some(Request::PassingCheck { kind, image })
+            }
+        }
         _ => None,
     }
+}
+
+/// A check that clears the flag "needs check"; only a pool and a cache have one.
+fn clearing_check(kind: Kind, leaks: bool, image: Name) -> Option<Request>
+    ensures asked { (words : List (List ℕ)) → read_as words result ≡ check_with kind Counts leaks true (word_of words image) }
+    ensures names { (number : ℕ) → IsName number image → IfSome result (AreNames number) }
+{
+    let passing = if leaks {
+        Passing::Leaks
+    } else {
+        Passing::Nothing
+    };
+    let flagged = match kind {
+        Kind::Thin => Flagged::Pool,
+        Kind::Cache => Flagged::Cache,
+        Kind::Era => return None,
+    };
+    Some(Request::CheckAndClear {
+        flagged,
+        passing,
+        image,
+    })
 }
 
 /// What the words ask of a restore.
@@ -291,14 +323,10 @@ fn read_writeback(words: &[String]) -> Option<Request>
     ensures asked { IfSome (items_of (drop 1 (map string_bytes words.now))) (λ items. read_as (map string_bytes words.now) result ≡ words_spec.request_of words_spec.writeback_tool items) }
     ensures names { IfSome result (AreNames (length words.now)) }
 {
-    let metadata = required(words, "--metadata-device")?;
+    let meta = required(words, "--metadata-device")?;
     let fast = required(words, "--fast-device")?;
     let origin = required(words, "--origin-device")?;
-    Some(Request::Writeback {
-        metadata,
-        fast,
-        origin,
-    })
+    Some(Request::Writeback { meta, fast, origin })
 }
 
 /// What the words ask of a shrink.
