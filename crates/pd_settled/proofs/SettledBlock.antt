@@ -56,7 +56,7 @@ pub record IsSettledBlock (version : ℕ) (block other : List ℕ) : Type 0 wher
   pub resealed : IsResealed block other
   pub words : (i : ℕ) → i < word_count 8 block → word_at 8 other i ≡ settled_word version (word_at 8 block i)
 
-module _ (version : ℕ) (block : List ℕ) (size : length block ≡ 4096) (bytes : AreBytes block) (has : has_checksum block array_salt ≡ true) where
+module _ (version : ℕ) (block : List ℕ) (size : length block ≡ 4096) (bytes : AreBytes block) where
   -- the words fit
   few : word_count 8 block ≤ 509
   unfolding word_count is_array_shape_bad
@@ -93,28 +93,35 @@ module _ (version : ℕ) (block : List ℕ) (size : length block ≡ 4096) (byte
       le-sealed_other written array_salt (24 + 8 * i) 8 (omega arith)
       ∙ (le-puts block 24 8 new_words i (omega arith) (omega arith) (rw there fits) ∙ there)
 
-  changed : IsSettledBlock version block (sealed written array_salt)
-  changed = record {
-    resealed = record {
+  word_kept : list_all (λ word. nat_eq (settled_word version word) word) (long_words block) ≡ true → (i : ℕ) → i < word_count 8 block
+      → word_at 8 block i ≡ settled_word version (word_at 8 block i)
+  word_kept all i within = sym (eqb-true (settled_word version (word_at 8 block i)) (word_at 8 block i)
+      (all_words (λ word. nat_eq (settled_word version word) word) (word_at 8 block) 0 (word_count 8 block) i all (omega arith) (omega arith)))
+
+  pub settled_words : (i : ℕ) → i < word_count 8 block → word_at 8 (settled_block version block) i ≡ settled_word version (word_at 8 block i)
+  unfolding settled_block
+  settled_words i within =
+      cond_both (list_all (λ word. nat_eq (settled_word version word) word) (long_words block)) block (sealed written array_salt)
+      (λ other. word_at 8 other i ≡ settled_word version (word_at 8 block i))
+      (λ all. word_kept all i within) (λ _. word_read i within)
+
+  -- and it has a checksum that holds
+  module _ (has : has_checksum block array_salt ≡ true) where
+    changed : IsResealed block (sealed written array_salt)
+    changed = record {
       had = has;
       has = valid_sealed written array_salt (rw (length-puts block 24 8 new_words, size) (omega arith)) (omega arith) (bytes_puts block 24 8 new_words bytes);
       header = λ p n behind before. le-sealed_other written array_salt p n behind ∙ le-puts_other block 24 8 new_words p n (inl before);
-    };
-    words = word_read;
-  }
+    }
 
-  same : list_all (λ word. nat_eq (settled_word version word) word) (long_words block) ≡ true → IsSettledBlock version block block
-  same all = record {
-    resealed = record { had = has; has = has; header = λ p n behind before. refl };
-    words = λ i within. sym (eqb-true (settled_word version (word_at 8 block i)) (word_at 8 block i)
-        (all_words (λ word. nat_eq (settled_word version word) word) (word_at 8 block) 0 (word_count 8 block) i all (omega arith) (omega arith)));
-  }
+    settled_resealed : IsResealed block (settled_block version block)
+    unfolding settled_block
+    settled_resealed =
+        cond_both (list_all (λ word. nat_eq (settled_word version word) word) (long_words block)) block (sealed written array_salt) (IsResealed block)
+        (λ _. record { had = has; has = has; header = λ p n behind before. refl }) (λ _. changed)
 
-  pub settled_is : IsSettledBlock version block (settled_block version block)
-  unfolding settled_block
-  settled_is =
-      cond_both (list_all (λ word. nat_eq (settled_word version word) word) (long_words block)) block (sealed written array_salt) (IsSettledBlock version block)
-      same (λ _. changed)
+    pub settled_is : IsSettledBlock version block (settled_block version block)
+    settled_is = record { resealed = settled_resealed; words = settled_words }
 
 -- it has the size of a block, and bytes
 pub settled_size : (version : ℕ) (block : List ℕ) → length (settled_block version block) ≡ length block

@@ -1,3 +1,4 @@
+-- Trusted base.
 -- What the laws of a writeback take for granted, and what they speak of: the tree that names the blocks which say what is dirty, a
 -- fast device with room, and devices that agree where nothing is copied.
 use Rattle.std.specs.Prelude.{◌≡◌, ℕ, ◌+◌, ◌*◌, ◌<◌, ◌≤◌, false, if◌then◌else◌, List, length, map, IfSome}

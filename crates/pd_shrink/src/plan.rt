@@ -42,7 +42,7 @@ impl Shrink {
     ghost use Rattle.std.specs.List.{AllByRecursion};
     ghost use Rattle.pd_kinds.specs.declared.kind.Kind.TheVariants.{Thin};
     ghost use Rattle.pd_kinds.specs.declared.kind.Stage.TheVariants.{Counts};
-    ghost use Rattle.pd_kinds.specs.Crash.{HoldsSynced, IsUntouched, LeavesOnly};
+    ghost use Rattle.pd_kinds.specs.Crash.{HoldsSynced, IsUntouched, LeavesOnly, StillTells};
     ghost use Rattle.pd_kinds.specs.Objects.{CountsFault};
     ghost use Rattle.pd_kinds.specs.Stages.{faults};
     ghost use Rattle.pd_image.specs.Device.{IsAttached, IsWritable, KeepsPlace, OnlyReads};
@@ -198,6 +198,7 @@ impl Shrink {
         // Where nothing was unsynced, a crash at any moment leaves the data device as it was but for the targets.
         ensures crash { (basis : ShrinkGround) (held : List (List ℕ)) → IsPlanOf basis self.now → HoldsSynced held (C.state pool.old)
             → LeavesOnly (IsLeftKept (blocks_each basis.pool.block_size) (map copy_of_move (moves_of basis)) held) (C.state pool.old) (C.state pool.new) }
+        ensures told { StillTells (C.state pool.old) (C.state pool.new) }
         ensures cold { moves_in self.now.moves.items ≡ [] → IsUntouched (C.state pool.old) (C.state pool.new) }
         ensures place { KeepsPlace (C.state pool.old) (C.state pool.new) }
         ensures faults { CountsFault result (C.state pool.old).faults (C.state pool.new).faults }

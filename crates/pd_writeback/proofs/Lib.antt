@@ -4,6 +4,7 @@ pub mod MarkedLemmas
 pub mod PlacesLemmas
 pub mod HotLemmas
 pub mod SettleLemmas
+pub mod UnchangedLemmas
 pub mod PlanLemmas
 pub mod MadeLemmas
 pub mod OnceLemmas

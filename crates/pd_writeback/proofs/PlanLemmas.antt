@@ -8,6 +8,7 @@ use Rattle.std.proofs.lemmas.List.{length-map}
 use Rattle.std.proofs.lemmas.List.Sorted.{length_permutation, list_any-IsPermutation}
 use Rattle.pd_kinds.specs.CacheFormat.{CacheFields, cache_fields}
 use Rattle.pd_kinds.specs.Graph.{block_at}
+use Rattle.pd_kinds.specs.Image.{HasBytes, HasWholeBlocks}
 use Rattle.pd_kinds.specs.Meaning.{cache_meaning}
 use Rattle.pd_kinds.specs.Moments.{after_sync, now}
 use Rattle.pd_kinds.specs.Crash.{HoldsSynced, LeavesNow, LeavesOnly}
@@ -21,12 +22,13 @@ use Rattle.pd_writeback.specs.declared.hot.HotBlock.{HotBlock}
 use Rattle.pd_writeback.specs.Hot.{cached, cached_all, hot_rows, is_clean}
 use Rattle.pd_writeback.specs.Overlaid.{IsEachOnce, IsLeftKept}
 use Rattle.pd_writeback.specs.declared.plan.Plan.{Plan}
-use Rattle.pd_writeback.specs.Marked.{marked_image}
+use Rattle.pd_writeback.specs.Marked.{are_settled, marked_image}
 use Rattle.pd_writeback.specs.Places.{ArePlaces}
 use Rattle.pd_writeback.specs.Plan.{IsPlanOf}
 use Rattle.pd_writeback.proofs.HotLemmas.{hot_of_meaning}
 use Rattle.pd_writeback.proofs.MarkedLemmas.{marked_is_settled}
 use Rattle.pd_writeback.proofs.OverlaidLemmas.{given_place, overlaid_in_any_order, overlaid_none}
+use Rattle.pd_writeback.proofs.UnchangedLemmas.{same_if_settled, settled_if_same}
 
 abbrev Image : Type 0
 Image = List (List ℕ)
@@ -41,6 +43,9 @@ cold_blocks cs hot same none =
     let number = length_permutation cs (cached_all hot) same in
     let count = length-map hot cached in
     no_hot cs (omega arith)
+
+pub no_cached : (hot : List HotBlock) {n : ℕ} → n ≡ length hot → cached_all hot ≡ [] → n ≡ 0
+no_cached hot number none = let count = length-map hot cached in omega (arith, number, count, ap length none)
 
 pub cold_settled : (image : Image) → hot_blocks (cache_meaning image) ≡ [] → settled image ≡ image
 unfolding settled
@@ -141,3 +146,15 @@ plan_settles image plan places super of same of_super some hot =
     marked_is_settled image places plan.version super plan.meta_blocks (subst (λ (ps : List ℕ). ArePlaces plan.meta_blocks ps) (sym same) plan.are_places) some of.version (of_super ∙ of.super_block)
     (λ b. ap (λ (ps : List ℕ). list_any (λ place. nat_eq place b) ps) same ∙ of.places b)
     (warm (hot_blocks (cache_meaning image)) plan.hot.items of.hot hot)
+
+-- where the plan's places all say already that nothing is dirty, nothing is to change, and there alone
+pub marked_plan : (image : Image) (plan : Plan) (places : List ℕ) → IsPlanOf image plan → places ≡ plan.places.items → are_settled plan.version image places ≡ true → settled image ≡ image
+marked_plan image plan places of same all =
+    same_if_settled image places plan.version of.version (λ b. ap (λ (ps : List ℕ). list_any (λ place. nat_eq place b) ps) same ∙ of.places b) all
+
+pub unmarked_plan : (image : Image) (plan : Plan) (places : List ℕ) → IsPlanOf image plan → places ≡ plan.places.items → length image ≡ plan.meta_blocks → HasBytes image → HasWholeBlocks image
+    → (length plan.hot.items ≡ 0 → ⊥) → settled image ≡ image → are_settled plan.version image places ≡ true
+unmarked_plan image plan places of same number bytes whole hot unchanged =
+    settled_if_same image places plan.version of.version (λ b. ap (λ (ps : List ℕ). list_any (λ place. nat_eq place b) ps) same ∙ of.places b)
+    plan.meta_blocks (subst (λ (ps : List ℕ). ArePlaces plan.meta_blocks ps) (sym same) plan.are_places) number bytes whole
+    (warm (hot_blocks (cache_meaning image)) plan.hot.items of.hot hot) unchanged

@@ -1,9 +1,18 @@
--- What the marking of a cache's metadata leaves.
-use Rattle.std.specs.Prelude.{◌≡◌, ℕ, List, [], ◌∷◌, slice_set}
+-- What the marking of a cache's metadata leaves, and when there is nothing to mark.
+use Rattle.std.specs.Prelude.{◌≡◌, ◌==◌, ℕ, Bool, List, [], ◌∷◌, slice_set}
+use Rattle.std.specs.List.{list_all}
 use Rattle.pd_kinds.specs.Crash.{IsOldNoneOrMade}
 use Rattle.pd_kinds.specs.Field.{zeros}
 use Rattle.pd_kinds.specs.Graph.{block_at}
-use Rattle.pd_answers.specs.CachedView.{settled_block}
+use Rattle.pd_answers.specs.CachedView.{long_words, settled_block, settled_word}
+
+-- the words of a block say already that nothing is dirty
+abbrev pub is_block_settled : ℕ → List ℕ → Bool
+is_block_settled version block = list_all (λ word. settled_word version word == word) (long_words block)
+
+-- those of each block at these places do
+abbrev pub are_settled : ℕ → List (List ℕ) → List ℕ → Bool
+are_settled version image places = list_all (λ place. is_block_settled version (block_at image place)) places
 
 -- the image with the blocks at these places marked, one after another
 unfoldable pub marked : ℕ → List (List ℕ) → List ℕ → List (List ℕ)

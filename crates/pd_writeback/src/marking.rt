@@ -1,19 +1,41 @@
 //! The marking of a cache's metadata as clean.
 
-ghost use Rattle.std.specs.Prelude.{◌≡◌, ◌≤◌, ◌<◌, ℕ, List, Some, IfSome, OnOk, is_some, slice_set};
+ghost use Rattle.std.specs.Prelude.{◌≡◌, ◌≤◌, ◌<◌, ℕ, List, Some, IfOk, IfSome, OnOk, is_some, slice_set};
 ghost use Rattle.pd_kinds.specs.Crash.{HoldsSynced, IsNoneOrNew, LeavesOnly};
 ghost use Rattle.pd_kinds.specs.Graph.{block_at};
 ghost use Rattle.pd_kinds.specs.Objects.{CountsFault};
-ghost use Rattle.pd_image.specs.Device.{IsWritable, KeepsPlace};
+ghost use Rattle.pd_image.specs.Device.{IsAttached, IsWritable, KeepsPlace, OnlyReads};
 ghost use Rattle.pd_draft.specs.Closed.{IsClosed, StaysClosed};
 ghost use Rattle.pd_answers.specs.CachedView.{settled_block};
-ghost use Rattle.pd_writeback.specs.Marked.{IsOldNoneOrMarked, marked, marked_image};
+ghost use Rattle.pd_writeback.specs.Marked.{IsOldNoneOrMarked, are_settled, marked, marked_image};
 ghost use Rattle.pd_writeback.specs.Places.{ArePlaces};
 
 use crate::settling::{is_settled, settle};
 use pd_draft::{Rewrite, clear};
 use pd_image::{Device, Failed};
 use pd_kinds::Block;
+
+/// Whether the blocks at these places say already that nothing is dirty. They are read up to the first that doesn't.
+pub(crate) fn are_settled<A: Device>(
+    version: u32,
+    places: &[u64],
+    meta: &mut A,
+) -> Result<bool, Failed>
+    requires attached { IsAttached (A.state meta.old) }
+    requires places { ArePlaces (A.state meta.old).blocks places.now }
+    ensures settled { IfOk result (λ all. IfSome (A.state meta.old).held (λ image. all ≡ are_settled version image places.now)) }
+    ensures kept { OnlyReads (A.state meta.old) (A.state meta.new) }
+    ensures faults { CountsFault result (A.state meta.old).faults (A.state meta.new).faults }
+{
+    let mut block = Block::zeros();
+    for place in places {
+        meta.read(*place, &mut block)?;
+        if !is_settled(version, &block) {
+            return Ok(false);
+        }
+    }
+    Ok(true)
+}
 
 /// Marks the blocks at these places, and writes this superblock again. Block 0 is closed first, and written last.
 pub(crate) fn mark_places<A: Device>(

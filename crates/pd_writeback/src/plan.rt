@@ -8,7 +8,7 @@ use crate::fault::WriteFault;
 use crate::hot::{HotBlock, sort_by_origin};
 use crate::laws::{hot_blocks_are_apart, places_are_those_of_one_tree};
 use crate::making::{find_dirty, is_block_size_bad, read_super};
-use crate::marking::mark_places;
+use crate::marking::{are_settled, mark_places};
 use crate::pairs::copy_hot;
 use crate::room::look_at_room;
 use pd_cache_meaning::rows_are_the_entries;
@@ -41,11 +41,11 @@ pub struct Plan {
 }
 
 impl Plan {
-    ghost use Rattle.std.specs.Prelude.{◌≡◌, ◌+◌, ◌<◌, ◌≤◌, ℕ, List, [], IfOk, IfErr, IfSome, OnOk, MatchResult, length, is_some};
+    ghost use Rattle.std.specs.Prelude.{◌≡◌, ◌≢◌, ◌+◌, ◌<◌, ◌≤◌, ℕ, List, [], Some, IfOk, IfErr, IfSome, OnOk, MatchResult, length, is_some};
     ghost use Rattle.std.specs.List.Sorted.{IsPermutation};
     ghost use Rattle.pd_kinds.specs.declared.kind.Kind.TheVariants.{Cache};
     ghost use Rattle.pd_kinds.specs.declared.kind.Stage.TheVariants.{Whole};
-    ghost use Rattle.pd_kinds.specs.Crash.{HoldsSynced, IsOldNoneOrMade, IsUntouched, LeavesOnly};
+    ghost use Rattle.pd_kinds.specs.Crash.{HoldsSynced, IsOldNoneOrMade, IsUntouched, LeavesOnly, StillTells};
     ghost use Rattle.pd_kinds.specs.Graph.{block_at};
     ghost use Rattle.pd_kinds.specs.Stages.{faults};
     ghost use Rattle.pd_image.specs.Device.{IsAttached, IsWritable, KeepsPlace, OnlyReads};
@@ -141,6 +141,7 @@ impl Plan {
         // Where nothing was unsynced, a crash at any moment leaves every block that no hot one stands for as it was.
         ensures crash { (hot : List CachedBlock) (old : List (List ℕ)) → IsPermutation hot (plan_hot self.now) → HoldsSynced old (B.state origin.old)
             → LeavesOnly (IsLeftKept (plan_each self.now) hot old) (B.state origin.old) (B.state origin.new) }
+        ensures told { StillTells (B.state origin.old) (B.state origin.new) }
         ensures cold { plan_hot self.now ≡ [] → IsUntouched (B.state origin.old) (B.state origin.new) }
         ensures kept { OnlyReads (C.state fast.old) (C.state fast.new) }
         ensures place { KeepsPlace (B.state origin.old) (B.state origin.new) }
@@ -157,8 +158,8 @@ impl Plan {
         }
     }
 
-    /// Marks the metadata as that of a cache in which nothing is dirty. Where nothing is hot, nothing is written. It takes
-    /// no memory.
+    /// Marks the metadata as that of a cache in which nothing is dirty. Where nothing is hot, or where nothing is to
+    /// change, nothing is written. It takes no memory.
     ///
     /// Fails with `Meta` where the device failed.
     pub fn mark<A: Device>(&self, meta: &mut A) -> Result<(), WriteFault>
@@ -169,13 +170,38 @@ impl Plan {
         // Where nothing was unsynced, a crash leaves the old image, no valid superblock, or nothing that is dirty.
         ensures crash { (image : List (List ℕ)) → IsPlanOf image self.now → HoldsSynced image (A.state meta.old)
             → LeavesOnly (IsOldNoneOrMade image (λ made. made ≡ settled image)) (A.state meta.old) (A.state meta.new) }
+        ensures told { StillTells (A.state meta.old) (A.state meta.new) }
         ensures cold { plan_hot self.now ≡ [] → IsUntouched (A.state meta.old) (A.state meta.new) }
+        ensures unchanged { (image : List (List ℕ)) → IsPlanOf image self.now → (A.state meta.old).held ≡ Some image → settled image ≡ image → IsUntouched (A.state meta.old) (A.state meta.new) }
         ensures kept { KeepsPlace (A.state meta.old) (A.state meta.new) }
         ensures faults { CountsMarking result (A.state meta.old).faults (A.state meta.new).faults }
     {
         if self.hot.is_empty() {
             return Ok(());
         }
+        let is_marked = match are_settled(self.version, self.places.as_slice(), meta) {
+            Ok(is_marked) => is_marked,
+            Err(_) => return Err(WriteFault::Meta),
+        };
+        if is_marked {
+            Ok(())
+        } else {
+            self.mark_dirty(meta)
+        }
+    }
+
+    /// The same, where something is hot, and whether or not anything is to change.
+    fn mark_dirty<A: Device>(&self, meta: &mut A) -> Result<(), WriteFault>
+        requires writable { IsWritable (A.state meta.old) }
+        requires blocks { (A.state meta.old).blocks ≡ self.now.meta_blocks }
+        requires hot { length self.now.hot.items ≢ 0 }
+        ensures done { OnOk result ((image : List (List ℕ)) → IsPlanOf image self.now → HoldsSynced image (A.state meta.old) → HoldsSynced (settled image) (A.state meta.new)) }
+        ensures crash { (image : List (List ℕ)) → IsPlanOf image self.now → HoldsSynced image (A.state meta.old)
+            → LeavesOnly (IsOldNoneOrMade image (λ made. made ≡ settled image)) (A.state meta.old) (A.state meta.new) }
+        ensures told { is_some (A.state meta.new).held ≡ is_some (A.state meta.old).held }
+        ensures kept { KeepsPlace (A.state meta.old) (A.state meta.new) }
+        ensures faults { CountsMarking result (A.state meta.old).faults (A.state meta.new).faults }
+    {
         match mark_places(
             &self.super_block,
             self.version,

@@ -1,5 +1,7 @@
-use Rattle.std.proofs.Common.{true, false, map, sym, ◌∙◌, arith}
+use Rattle.std.proofs.Common.{true, false, map, sym, ap, ◌∙◌, arith}
+use Rattle.std.specs.Option.{is_some}
 use Rattle.std.proofs.lemmas.Bool.{eqb-true}
+use Rattle.pd_kinds.proofs.CrashLemmas.{still_tells}
 use Rattle.pd_answers.specs.MovedPool.{copy_of_move}
 use Rattle.pd_salvage.specs.Saved.{pool_of}
 use Rattle.pd_writeback.proofs.PlanLemmas.{kept_here, kept_synced}
@@ -55,3 +57,14 @@ returns-in_err-sync-clause-crash g c basis held of synced =
     left_of_ground basis plan of held
     (kept_synced plan.each copies held false ((rw c.as_slice.ensures.value at (c.copy_moved.ensures.crash held)) (kept_here plan.each copies held (g.C.Device.state c.args.pool.now) synced))
     c.in_err-sync.ensures.synced.crash c.sync.ensures.synced.held)
+
+pub returns-in_err-copy_moved-clause-told : goal.returns-in_err-copy_moved-clause-told
+returns-in_err-copy_moved-clause-told g c = still_tells (g.C.Device.state c.args.pool.now) (g.C.Device.state c.copy_moved.new.pool) c.copy_moved.ensures.told
+
+pub returns-clause-told : goal.returns-clause-told
+returns-clause-told g c =
+    still_tells (g.C.Device.state c.args.pool.now) (g.C.Device.state c.sync.new.self) (ap is_some c.sync.ensures.synced.held ∙ c.copy_moved.ensures.told)
+
+pub returns-in_err-sync-clause-told : goal.returns-in_err-sync-clause-told
+returns-in_err-sync-clause-told g c =
+    still_tells (g.C.Device.state c.args.pool.now) (g.C.Device.state c.sync.new.self) (ap is_some c.sync.ensures.synced.held ∙ c.copy_moved.ensures.told)

@@ -1,8 +1,10 @@
-use Rattle.std.proofs.Common.{ℕ, List, true, false, sym, ◌∙◌, subst, arith}
+use Rattle.std.proofs.Common.{ℕ, List, true, false, sym, ap, ◌∙◌, subst, arith}
+use Rattle.std.specs.Option.{is_some}
 use Rattle.std.proofs.lemmas.Bool.{eqb-true}
 use Rattle.std.proofs.lemmas.Option.{IfSome_then}
 use Rattle.pd_kinds.specs.Crash.{HoldsSynced}
 use Rattle.pd_kinds.specs.Meaning.{cache_meaning}
+use Rattle.pd_kinds.proofs.CrashLemmas.{still_tells}
 use Rattle.pd_answers.specs.CachedView.{blocks_each, hot_blocks}
 use Rattle.pd_writeback.specs.Overlaid.{IsEachOnce}
 use Rattle.pd_writeback.specs.Plan.{plan_hot}
@@ -50,3 +52,14 @@ returns-in-Err-clause-crash g c hot old moved synced =
     (kept_synced c.args.self.now.each cs old false
     ((rw c.as_slice.ensures.value at (c.copy_hot.ensures.crash old)) (kept_here c.args.self.now.each cs old (g.B.Device.state c.args.origin.now) synced))
     c.in-Err.ensures.synced.crash c.sync.ensures.synced.held)
+
+pub returns-in_err-copy_hot-clause-told : goal.returns-in_err-copy_hot-clause-told
+returns-in_err-copy_hot-clause-told g c = still_tells (g.B.Device.state c.args.origin.now) (g.B.Device.state c.copy_hot.new.origin) c.copy_hot.ensures.told
+
+pub returns-in-Ok-clause-told : goal.returns-in-Ok-clause-told
+returns-in-Ok-clause-told g c =
+    still_tells (g.B.Device.state c.args.origin.now) (g.B.Device.state c.sync.new.self) (ap is_some c.sync.ensures.synced.held ∙ c.copy_hot.ensures.told)
+
+pub returns-in-Err-clause-told : goal.returns-in-Err-clause-told
+returns-in-Err-clause-told g c =
+    still_tells (g.B.Device.state c.args.origin.now) (g.B.Device.state c.sync.new.self) (ap is_some c.sync.ensures.synced.held ∙ c.copy_hot.ensures.told)
