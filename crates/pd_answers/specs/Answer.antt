@@ -1,3 +1,4 @@
+-- Trusted base.
 -- The six objects of a call, the answer to a request, and how a request names an object.
 use Rattle.std.specs.Prelude.{◌≡◌, ◌≢◌, ◌⊎◌, ℕ, ◌==◌, if◌then◌else◌, List, [], ◌∷◌, Option, IfSome}
 use Rattle.pd_kinds.specs.Objects.{DeviceState, SourceState, SinkState, Appends, AppendsFront, Rose}

@@ -1,3 +1,4 @@
+-- Trusted base.
 -- What a cached device reads, what a writeback copies to its origin, and what then marks the cache clean
 -- (`process_bio` and `load_mapping` of "drivers/md/dm-cache-target.c").
 use Rattle.std.specs.Prelude.{ℕ, ◌+◌, ◌-◌, ◌*◌, ◌/◌, ◌%◌, max, Bool, ◌==◌, ◌&&◌, ◌||◌, not, nat_le, nat_lt, if◌then◌else◌, List, [], ◌∷◌, length, map, filter, fold, Option, Some, None}

@@ -1,3 +1,4 @@
+-- Trusted base.
 -- The text that the generator makes of a number, and the line of the rehearsal over it.
 use Rattle.std.specs.Prelude.{ℕ, ◌+◌, ◌*◌, ◌%◌, ◌==◌, if◌then◌else◌, List, [], ◌∷◌, ◌++◌, codes, decimal}
 use Rattle.std.specs.List.{flat_map, range_with_len}

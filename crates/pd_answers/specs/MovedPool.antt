@@ -1,3 +1,4 @@
+-- Trusted base.
 -- A pool that is made smaller: which data blocks move where, and what its devices read on the data device.
 use Rattle.std.specs.Prelude.{◌≡◌, ℕ, ◌+◌, ◌-◌, ◌*◌, min, max, ◌==◌, ◌&&◌, nat_le, if◌then◌else◌, List, [], ◌∷◌, length, map, filter, fold, Option, Some, None}
 use Rattle.std.specs.List.{list_any, find, range_with_len}

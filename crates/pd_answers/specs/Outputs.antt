@@ -1,13 +1,24 @@
--- What is left of the output of a request that makes an image of it.
-use Rattle.std.specs.Prelude.{◌≡◌, ◌≢◌, ℕ, Bool, true, List, length, IfSome}
+-- Trusted base.
+-- What is left of the output of a request that makes an image of it, and when the work of a request is done.
+use Rattle.std.specs.Prelude.{◌≡◌, ◌≢◌, ◌⊎◌, ℕ, Bool, true, List, length, IfSome}
 use Rattle.pd_kinds.specs.Limits.{room_of}
 use Rattle.pd_kinds.specs.Objects.{DeviceState}
-use Rattle.pd_kinds.specs.Crash.{HoldsOldOrNone, IsOutput, IsUntouched}
+use Rattle.pd_kinds.specs.Crash.{HoldsOldOrNone, HoldsSynced, IsOutput, IsUntouched}
+use Rattle.pd_answers.specs.Answer.{Objects}
 
 -- the room of an output: that of the image that it tells, and that of its blocks where it was attached
 pub record IsRoom (before after : DeviceState) (room : ℕ) : Type 0 where
   pub told : IfSome before.held (λ image. room ≡ room_of (length image))
   pub attached : after.access ≡ 2 → room ≡ room_of after.blocks
+
+-- The work of a request that puts a line to `out` after it is done: at status 0, and wherever `out` was touched. At status 6
+-- that is where the line alone couldn't be put
+abbrev pub IsWorkDone : Objects → Objects → ℕ → Type 0
+IsWorkDone before after status = (status ≡ 0) ⊎ (after.out ≢ before.out)
+
+-- an output that told what it held, and tells what it holds, holds what was made of that, with nothing unsynced
+abbrev pub HoldsMade : (List (List ℕ) → List (List ℕ) → Type 0) → DeviceState → DeviceState → Type 0
+HoldsMade Made old new = IfSome old.held (λ image. IfSome new.held (λ now. Made image now × HoldsSynced now new))
 
 -- what is left of the output of a request that makes an image of it
 pub record LeavesMade (Made : List (List ℕ) → List (List ℕ) → Type 0) (unwritten : Bool) (status : ℕ) (old new : DeviceState) : Type 0 where

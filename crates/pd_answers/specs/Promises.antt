@@ -1,10 +1,15 @@
+-- Trusted base.
 -- The terms of each request: what the tools promise.
 use Rattle.std.specs.Prelude.{◌≡◌, ◌≢◌, ℕ, true, false, ◌==◌, if◌then◌else◌, List, [], ◌∷◌, Option, Some, None, IfSome, unwrap_or}
+use Rattle.pd_kinds.specs.declared.kind.Flagged.{Flagged}
 use Rattle.pd_kinds.specs.declared.kind.Kind.{Kind}
 use Rattle.pd_kinds.specs.declared.kind.Kind.TheVariants.{Thin, Cache, Era}
+use Rattle.pd_kinds.specs.declared.kind.Passing.{Passing}
+use Rattle.pd_kinds.specs.declared.kind.Passing.TheVariants.{Nothing, Leaks}
 use Rattle.pd_kinds.specs.declared.kind.Stage.{Stage}
 use Rattle.pd_kinds.specs.declared.kind.Stage.TheVariants.{Super, Walk, Order, Whole, Counts}
-use Rattle.pd_kinds.specs.Report.{Reported, report_of}
+use Rattle.pd_kinds.specs.Flagged.{kind_of}
+use Rattle.pd_kinds.specs.Report.{Reported, passes, report_of}
 use Rattle.pd_kinds.specs.Stages.{faults, CanWantMemory}
 use Rattle.pd_kinds.specs.Meaning.{thin_meaning, cache_meaning, era_meaning}
 use Rattle.pd_spells.specs.ThinText.{text_of_pool}
@@ -49,17 +54,17 @@ wanting_of Order = 7 ∷ []
 wanting_of Whole = 7 ∷ []
 wanting_of Counts = 7 ∷ []
 
--- a check puts its report: `clean`, or the lines of the faults
-abbrev pub check_answer : Reported → Answer
-check_answer report = record { status = if report.total == 0 then 0 else 1; out = reported_lines report; notes = [] }
+-- a check puts its report: `clean`, or the lines of the faults. Its status says whether all faults pass
+abbrev pub check_answer : Passing → Reported → Answer
+check_answer passing report = record { status = if passes passing report then 0 else 1; out = reported_lines report; notes = [] }
 
 -- a check has its whole report before it puts any of it
-abbrev pub check : Kind → Stage → List ℕ → Terms
-check kind until path = record {
+abbrev pub check : Kind → Stage → Passing → List ℕ → Terms
+check kind until passing path = record {
   uses = record unnamed { out = reading []; input = reading path };
   Finding = Reported;
   finds = λ before after report. IfSome before.input.held (λ image. report ≡ report_of (faults kind until image));
-  answer = check_answer;
+  answer = check_answer passing;
   statuses = 0 ∷ 1 ∷ 5 ∷ wanting_of until;
   memory = λ before. CanWantMemory kind until before.input.held;
   silent = 5 ∷ 7 ∷ [];
@@ -68,19 +73,19 @@ check kind until path = record {
   leaves = nothing;
 }
 
--- the same check of a thin pool to its end, whose image is written where nothing was reported and the flag is set
-abbrev pub check_and_clear : List ℕ → Terms
-check_and_clear path = record {
+-- the same check of a pool or a cache to its end, whose image is written where all faults pass and the flag is set
+abbrev pub check_and_clear : Flagged → Passing → List ℕ → Terms
+check_and_clear flagged passing path = record {
   uses = record unnamed { out = reading []; input = writing path };
   Finding = Reported;
-  finds = λ before after report. IfSome before.input.held (λ image. report ≡ report_of (faults Thin Counts image));
-  answer = check_answer;
+  finds = λ before after report. IfSome before.input.held (λ image. report ≡ report_of (faults (kind_of flagged) Counts image));
+  answer = check_answer passing;
   statuses = 0 ∷ 1 ∷ 5 ∷ 7 ∷ [];
-  memory = λ before. CanWantMemory Thin Counts before.input.held;
+  memory = λ before. CanWantMemory (kind_of flagged) Counts before.input.held;
   silent = 7 ∷ [];
   spared = λ _. ⊥;
-  reads = few_reads Thin;
-  leaves = λ report before after status. LeavesCleared report status before.input after.input;
+  reads = few_reads (kind_of flagged);
+  leaves = λ report before after status. LeavesCleared flagged passing report status before.input after.input;
 }
 
 -- what a query finds: the report of the check before it, and the text that it puts where that is clean
@@ -153,8 +158,9 @@ dump_shared file path = query Thin (λ image. text_of_shape (image_shape image))
 -- the terms of a request
 abbrev pub terms_of : Option request.Request → Terms
 terms_of None = refused
-terms_of (Some (request.check kind until path)) = check kind until path
-terms_of (Some (request.check_and_clear path)) = check_and_clear path
+terms_of (Some (request.check kind until path)) = check kind until Nothing path
+terms_of (Some (request.passing_check kind path)) = check kind Counts Leaks path
+terms_of (Some (request.check_and_clear flagged passing path)) = check_and_clear flagged passing path
 terms_of (Some (request.dump kind file path)) = dump kind file path
 terms_of (Some (request.dump_shared file path)) = dump_shared file path
 terms_of (Some (request.restore kind version file path)) = restore kind version file path

@@ -1,3 +1,4 @@
+-- Trusted base.
 -- The bytes of the lines that the queries print, over the meaning of an image.
 use Rattle.std.specs.Prelude.{ℕ, ◌-◌, Bool, ◌==◌, ◌&&◌, ◌||◌, not, nat_lt, List, [], ◌∷◌, ◌++◌, map, filter, length, drop, slice_index, count_by, codes, decimal}
 use Rattle.std.specs.List.{flat_map, range_with_len, take_while}

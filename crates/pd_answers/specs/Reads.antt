@@ -1,3 +1,4 @@
+-- Trusted base.
 -- How often a check reads its image, by the count that the device keeps.
 use Rattle.std.specs.Prelude.{◌≢◌, ℕ, ◌+◌, ◌*◌, ◌≤◌, List, [], length, IfSome}
 use Rattle.pd_kinds.specs.declared.kind.Kind.{Kind}

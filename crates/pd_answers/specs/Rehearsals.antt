@@ -1,3 +1,4 @@
+-- Trusted base.
 -- The terms of a rehearsal: the restore, check and dump of the generator's text.
 use Rattle.std.specs.Prelude.{◌≡◌, ◌≢◌, ℕ, not, ◌==◌, if◌then◌else◌, List, [], ◌∷◌, length, sum_by, count_by, IfSome}
 use Rattle.pd_kinds.specs.Report.{Reported, report_of}
@@ -11,10 +12,10 @@ use Rattle.pd_shapes.specs.PoolText.{IsPoolTextVerdict, is_pool_text_early}
 use Rattle.pd_shapes.specs.SharedNeed.{shape_need}
 use Rattle.pd_laid.specs.Made.{Makes}
 use Rattle.pd_answers.specs.Generated.{generated_text, rehearsal_line}
-use Rattle.pd_answers.specs.Answer.{Answer, reading, writing}
+use Rattle.pd_answers.specs.Answer.{Answer, Objects, reading, writing}
 use Rattle.pd_answers.specs.Reads.{any_reads}
 use Rattle.pd_answers.specs.Terms.{Terms, unnamed}
-use Rattle.pd_answers.specs.Outputs.{IsRoom, LeavesMade}
+use Rattle.pd_answers.specs.Outputs.{HoldsMade, IsRoom, IsWorkDone, LeavesMade}
 use Rattle.pd_answers.specs.Restores.{restore_answer}
 
 -- what a rehearsal finds: how many blocks there are, the verdict on the generator's text, the report of the check of
@@ -48,6 +49,12 @@ rehearsal_answer number rehearsed =
     then record { status = 0; out = rehearsal_line number rehearsed.used rehearsed.mappings rehearsed.lines; notes = [] }
     else record { status = 1; out = []; notes = reported_lines rehearsed.report }
 
+-- what a rehearsal leaves of its output
+pub record LeavesRehearsed (number : ℕ) (rehearsed : Rehearsed) (before after : Objects) (status : ℕ) : Type 0 where
+  pub output : LeavesMade (Makes laid_shape rehearsed.room rehearsed.verdict) (is_pool_text_early (generated_text number) rehearsed.room) status before.output after.output
+  -- once the work is done it holds what was restored, also where the line couldn't be put after that
+  pub made : IsWorkDone before after status → HoldsMade (Makes laid_shape rehearsed.room rehearsed.verdict) before.output after.output
+
 -- A rehearsal restores the generator's text, which is never refused for what it says. Over an output that tells what it
 -- holds, the check then finds nothing. Its line is the last that it does
 abbrev pub rehearse : ℕ → List ℕ → Terms
@@ -63,6 +70,5 @@ rehearse number path = record {
   silent = 1 ∷ 4 ∷ 5 ∷ 7 ∷ [];
   spared = λ rehearsed. (rehearsal_answer number rehearsed).status ≢ 0;
   reads = any_reads;
-  leaves = λ rehearsed before after status. LeavesMade (Makes laid_shape rehearsed.room rehearsed.verdict)
-      (is_pool_text_early (generated_text number) rehearsed.room) status before.output after.output;
+  leaves = LeavesRehearsed number;
 }

@@ -1,3 +1,4 @@
+-- Trusted base.
 -- The terms of a repair, and of a search: a repair without a superblock.
 use Rattle.std.specs.Prelude.{◌≡◌, ◌≢◌, ℕ, nat_lt, Bool, not, ◌==◌, if◌then◌else◌, List, [], ◌∷◌, Option, Some, None, IfSome}
 use Rattle.pd_kinds.specs.declared.kind.Kind.TheVariants.{Thin}
@@ -14,10 +15,10 @@ use Rattle.pd_laid.specs.LaidThin.{laid_pool}
 use Rattle.pd_laid.specs.Salvage.{salvage}
 use Rattle.pd_laid.specs.FoundRoots.{FoundRoots, lost_graph, IsFound, found_pool}
 use Rattle.pd_answers.specs.SearchLines.{roots_line, no_roots_line}
-use Rattle.pd_answers.specs.Answer.{Answer, reading, writing}
+use Rattle.pd_answers.specs.Answer.{Answer, Objects, reading, writing}
 use Rattle.pd_answers.specs.Reads.{any_reads}
 use Rattle.pd_answers.specs.Terms.{Terms, unnamed}
-use Rattle.pd_answers.specs.Outputs.{IsRoom, LeavesMade, LeavesMadeLast}
+use Rattle.pd_answers.specs.Outputs.{HoldsMade, IsRoom, IsWorkDone, LeavesMade, LeavesMadeLast}
 
 -- what a repair finds: the report of the input's superblock, what can be saved, and how many blocks there are for it
 pub record Salvaged : Type 0 where
@@ -80,12 +81,14 @@ abbrev pub searched_answer : Searched → Answer
 searched_answer searched = search_answer searched.roots searched.pool searched.room
 
 -- what a search leaves of its output
-pub record LeavesFound (searched : Searched) (status : ℕ) (old new : DeviceState) : Type 0 where
-  pub output : LeavesMade (LaysPool (searched_answer searched) searched.pool searched.room) (not ((searched_answer searched).status == 0)) status old new
-  -- its line comes after the work: at any status but 0 and 6 it is as it was, or has no valid superblock, unless it failed itself
-  pub kept : status ≢ 0 → status ≢ 6 → new.faults ≡ old.faults → HoldsOldOrNone old new
+pub record LeavesFound (searched : Searched) (before after : Objects) (status : ℕ) : Type 0 where
+  pub output : LeavesMade (LaysPool (searched_answer searched) searched.pool searched.room) (not ((searched_answer searched).status == 0)) status before.output after.output
+  -- once the work is done it holds what was made, also where the line couldn't be put after that
+  pub made : IsWorkDone before after status → HoldsMade (LaysPool (searched_answer searched) searched.pool searched.room) before.output after.output
+  -- and while `out` isn't touched, at any status but 0 it is as it was, or has no valid superblock, unless it failed itself
+  pub kept : status ≢ 0 → after.out ≡ before.out → after.output.faults ≡ before.output.faults → HoldsOldOrNone before.output after.output
   -- the input is read before the output is written: its fault leaves the output alone
-  pub input_failed : status ≡ 5 → new.faults ≡ old.faults → IsUntouched old new
+  pub input_failed : status ≡ 5 → after.output.faults ≡ before.output.faults → IsUntouched before.output after.output
 
 -- a search is a repair in which block 0 isn't looked at: its roots are found, and its numbers are given
 abbrev pub search : List ℕ → List ℕ → ℕ → ℕ → ℕ → Terms
@@ -101,5 +104,5 @@ search from to transaction block_size blocks = record {
   silent = 1 ∷ 4 ∷ 5 ∷ 7 ∷ [];
   spared = λ searched. (searched_answer searched).status ≢ 0;
   reads = any_reads;
-  leaves = λ searched before after status. LeavesFound searched status before.output after.output;
+  leaves = LeavesFound;
 }

@@ -1,14 +1,19 @@
+-- Trusted base.
 -- What can be asked of the tools.
 use Rattle.std.specs.Prelude.{ℕ, List, Option}
+use Rattle.pd_kinds.specs.declared.kind.Flagged.{Flagged}
 use Rattle.pd_kinds.specs.declared.kind.Kind.{Kind}
+use Rattle.pd_kinds.specs.declared.kind.Passing.{Passing}
 use Rattle.pd_kinds.specs.declared.kind.Stage.{Stage}
 
 -- a request, with the words that name its objects: images, texts, and the file of `out` where one is named
 pub data Request : Type 0 where
   -- the check of an image up to a stage
   check : Kind → Stage → List ℕ → Request
-  -- the whole check of a thin pool, by which "needs check" is cleared where nothing was found
-  check_and_clear : List ℕ → Request
+  -- the whole check of an image, in which leaks pass
+  passing_check : Kind → List ℕ → Request
+  -- the whole check of a pool or a cache, by which "needs check" is cleared where all that was found passes
+  check_and_clear : Flagged → Passing → List ℕ → Request
   -- the text of an image, to a file
   dump : Kind → Option (List ℕ) → List ℕ → Request
   -- that of a thin pool, in which the leaves that its devices share are told once

@@ -1,3 +1,4 @@
+-- Trusted base.
 -- The terms of a restore, for each kind.
 use Rattle.std.specs.Prelude.{◌≡◌, ℕ, ◌≤◌, Bool, true, false, List, [], ◌∷◌, IfSome}
 use Rattle.pd_kinds.specs.declared.kind.Kind.{Kind}

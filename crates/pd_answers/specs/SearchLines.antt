@@ -1,3 +1,4 @@
+-- Trusted base.
 -- The lines of a search for the roots of a pool.
 use Rattle.std.specs.Prelude.{ℕ, List, [], ◌∷◌, ◌++◌, codes, decimal}
 use Rattle.pd_laid.specs.FoundRoots.{FoundRoots}

@@ -1,8 +1,9 @@
+-- Trusted base.
 -- The terms of a shrink: the data blocks past a pool's new end are moved below it, and new metadata is written.
 use Rattle.std.specs.Prelude.{◌≡◌, ◌≢◌, ◌⊎◌, ℕ, nat_lt, not, ◌==◌, if◌then◌else◌, List, [], ◌∷◌, ◌++◌, length, map, Option, Some, None, IfSome, codes, decimal}
 use Rattle.pd_kinds.specs.declared.kind.Kind.TheVariants.{Thin}
 use Rattle.pd_kinds.specs.declared.kind.Stage.TheVariants.{Counts}
-use Rattle.pd_kinds.specs.Crash.{HoldsOldOrNone, HoldsSynced, IsUntouched, LeavesOnly}
+use Rattle.pd_kinds.specs.Crash.{HoldsOldOrNone, HoldsSynced, IsUntouched, LeavesOnly, StillTells}
 use Rattle.pd_kinds.specs.Meaning.{ThinPool, thin_meaning}
 use Rattle.pd_kinds.specs.Report.{Reported, report_of}
 use Rattle.pd_kinds.specs.Stages.{faults, CanWantMemory}
@@ -11,7 +12,7 @@ use Rattle.pd_spells.specs.ThinNeed.{thin_need}
 use Rattle.pd_answers.specs.Answer.{Answer, Objects, reading, writing}
 use Rattle.pd_answers.specs.CachedView.{blocks_each, is_block_size_bad}
 use Rattle.pd_answers.specs.MovedPool.{Move, end_of_pool, sources, free_blocks, moves_to, moved_pool, copy_of_move, data_after, moved_need, data_need}
-use Rattle.pd_answers.specs.Outputs.{IsRoom, LeavesMade}
+use Rattle.pd_answers.specs.Outputs.{HoldsMade, IsRoom, IsWorkDone, LeavesMade}
 use Rattle.pd_answers.specs.Reads.{any_reads}
 use Rattle.pd_answers.specs.Repairs.{LaysPool}
 use Rattle.pd_answers.specs.Terms.{Terms, unnamed}
@@ -84,7 +85,9 @@ shrink_answer found =
 
 -- what a shrink leaves of the output and of the data device; the input isn't written
 pub record LeavesShrunk (found : ShrinkFound) (before after : Objects) (status : ℕ) : Type 0 where
-  -- under every status, a crash at any moment of the call leaves the data device as it was but for the targets
+  -- under every status, the data device tells what it holds, where it told that before, and a crash at any moment of the call
+  -- leaves it as it was but for the targets
+  pub copies_told : StillTells before.third after.third
   pub copies : IfSome before.third.held (λ held. LeavesOnly
       (λ image firsts. KeepsOthers (blocks_each found.ground.pool.block_size) (map copy_of_move (moves_of found.ground)) held image) before.third after.third)
   -- and it leaves the output as it was, with the smaller pool, or without a valid superblock
@@ -92,14 +95,15 @@ pub record LeavesShrunk (found : ShrinkFound) (before after : Objects) (status :
   -- the output isn't written before a crash leaves all of the moved blocks in their places
   pub order : IfSome before.third.held (λ held. IsUntouched before.output after.output
       ⊎ HoldsSynced (data_after (blocks_each found.ground.pool.block_size) (moves_of found.ground) held) after.third)
-  -- at status 0 a crash from then on leaves them so
-  pub moved : status ≡ 0 → IfSome before.third.held (λ held. HoldsSynced (data_after (blocks_each found.ground.pool.block_size) (moves_of found.ground) held) after.third)
+  -- once the work is done a crash from then on leaves them so, and the output holds the smaller pool, also where the line
+  -- couldn't be put after that
+  pub moved : IsWorkDone before after status → IfSome before.third.held (λ held. HoldsSynced (data_after (blocks_each found.ground.pool.block_size) (moves_of found.ground) held) after.third)
+  pub made : IsWorkDone before after status → HoldsMade (LaysPool (shrink_answer found) (pool_after found.ground) found.ground.room) before.output after.output
   -- what is refused leaves both alone, and where nothing is moved the data device is left alone
   pub refused : (shrink_answer found).status ≢ 0 → IsUntouched before.output after.output × IsUntouched before.third after.third
   pub nothing_moved : sources found.ground.pool found.ground.end ≡ [] → IsUntouched before.third after.third
-  -- the line comes after the work: at any status but 0 and 6 the output is as it was, or has no valid superblock, unless it
-  -- failed itself
-  pub kept : status ≢ 0 → status ≢ 6 → after.output.faults ≡ before.output.faults → HoldsOldOrNone before.output after.output
+  -- while `out` isn't touched, at any status but 0 the output is as it was, or has no valid superblock, unless it failed itself
+  pub kept : status ≢ 0 → after.out ≡ before.out → after.output.faults ≡ before.output.faults → HoldsOldOrNone before.output after.output
   -- the data device is written before the output, and the input is read before either: a fault of one leaves the later ones alone
   pub output_spared : status ≡ 5 → after.output.faults ≡ before.output.faults → IsUntouched before.output after.output
   pub data_spared : status ≡ 5 → after.output.faults ≡ before.output.faults → after.third.faults ≡ before.third.faults → IsUntouched before.third after.third

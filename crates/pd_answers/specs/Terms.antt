@@ -1,3 +1,4 @@
+-- Trusted base.
 -- The terms of a request, and what it is that a call answered them: the status, the bytes of `out` and `notes`, what
 -- the devices hold, what is attached, and what stands after a fault of an object.
 use Rattle.std.specs.Prelude.{◌≡◌, ◌≢◌, ◌⊎◌, ℕ, ◌≤◌, ◌==◌, ◌||◌, Bool, IsTrue, List, [], ◌∷◌, Option, Some, IfSome}
@@ -84,13 +85,15 @@ ComesAfter unused access Earlier = Unit {0}
 ComesAfter (reading path) access Earlier = access ≢ 0 → Earlier
 ComesAfter (writing path) access Earlier = access ≢ 0 → Earlier
 
--- the objects are attached one after another: the source, `input`, `output`, `third`, and `out` last
+-- the objects are attached one after another: `notes` first, then the source, `input`, `output`, `third`, and `out` last
 pub record AreInOrder (uses : Uses) (after : Objects) : Type 0 where
-  pub input : ComesAfter uses.input after.input.access (IsOpen uses.source after.source.access)
-  pub output : ComesAfter uses.output after.output.access (IsOpen uses.source after.source.access × IsOpen uses.input after.input.access)
+  pub source : ComesAfter uses.source after.source.access (after.notes.access ≡ 1)
+  pub input : ComesAfter uses.input after.input.access ((after.notes.access ≡ 1) × IsOpen uses.source after.source.access)
+  pub output : ComesAfter uses.output after.output.access
+      ((after.notes.access ≡ 1) × (IsOpen uses.source after.source.access × IsOpen uses.input after.input.access))
   pub third : ComesAfter uses.third after.third.access
-      (IsOpen uses.source after.source.access × (IsOpen uses.input after.input.access × IsOpen uses.output after.output.access))
-  pub out : ComesAfter uses.out after.out.access (AreOpen uses after)
+      ((after.notes.access ≡ 1) × (IsOpen uses.source after.source.access × (IsOpen uses.input after.input.access × IsOpen uses.output after.output.access)))
+  pub out : ComesAfter uses.out after.out.access ((after.notes.access ≡ 1) × AreOpen uses after)
 
 -- a source that is named was read to its end, where it tells what is left
 abbrev pub IsReadWhole : Use → Option (List ℕ) → Option (List ℕ) → Type 0

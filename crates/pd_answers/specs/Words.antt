@@ -1,14 +1,19 @@
+-- Trusted base.
 -- What the words of a command line ask for.
 use Rattle.std.specs.Prelude.{ℕ, Bool, true, false, ◌==◌, ◌^◌, ◌+◌, nat_lt, not, ◌&&◌, if◌then◌else◌, List, [], ◌∷◌, length, drop, Option, Some, None, codes, decimal}
 use Rattle.std.specs.List.{list_any, list_all, filter_map, take_while}
 use Rattle.std.specs.Option.{option_and_then}
 use Rattle.std.specs.Str.{bytes_eq}
 use Rattle.std.specs.Str.Parse.{digits_value}
+use Rattle.pd_kinds.specs.declared.kind.Flagged.{Flagged}
+use Rattle.pd_kinds.specs.declared.kind.Flagged.TheVariants as flagged
 use Rattle.pd_kinds.specs.declared.kind.Kind.{Kind}
 use Rattle.pd_kinds.specs.declared.kind.Kind.TheVariants.{Thin, Cache, Era}
+use Rattle.pd_kinds.specs.declared.kind.Passing.{Passing}
+use Rattle.pd_kinds.specs.declared.kind.Passing.TheVariants.{Nothing, Leaks}
 use Rattle.pd_kinds.specs.declared.kind.Stage.{Stage}
 use Rattle.pd_kinds.specs.declared.kind.Stage.TheVariants.{Super, Walk, Order, Whole, Counts}
-use Rattle.pd_answers.specs.Requests.{Request, check, check_and_clear, dump, dump_shared, restore, repair, search, rmap, list_devices, since, generate, rehearse, writeback, shrink}
+use Rattle.pd_answers.specs.Requests.{Request, check, passing_check, check_and_clear, dump, dump_shared, restore, repair, search, rmap, list_devices, since, generate, rehearse, writeback, shrink}
 
 -- the next step needs the value of this one
 infixl 10 ◌>>=◌
@@ -28,11 +33,14 @@ until_word = codes "--until"
 abbrev pub clear_word : List ℕ
 clear_word = codes "--clear-needs-check-flag"
 
+abbrev pub passing_word : List ℕ
+passing_word = codes "--ignore-non-fatal-errors"
+
 abbrev pub shared_word : List ℕ
 shared_word = codes "--shared"
 
 unfoldable pub is_flag : List ℕ → Bool
-is_flag word = list_any (bytes_eq word) (clear_word ∷ shared_word ∷ [])
+is_flag word = list_any (bytes_eq word) (clear_word ∷ passing_word ∷ shared_word ∷ [])
 
 -- what an operand is given for, which is no option's word
 abbrev pub image_word : List ℕ
@@ -210,9 +218,9 @@ tool_of word = tool_in tools word
 
 -- what can be given to each tool
 abbrev pub purposes_of : Tool → List (List ℕ)
-purposes_of (check_tool Thin) = until_word ∷ clear_word ∷ image_word ∷ []
-purposes_of (check_tool Cache) = until_word ∷ image_word ∷ []
-purposes_of (check_tool Era) = until_word ∷ image_word ∷ []
+purposes_of (check_tool Thin) = until_word ∷ passing_word ∷ clear_word ∷ image_word ∷ []
+purposes_of (check_tool Cache) = until_word ∷ passing_word ∷ clear_word ∷ image_word ∷ []
+purposes_of (check_tool Era) = until_word ∷ passing_word ∷ image_word ∷ []
 purposes_of (dump_tool Thin) = shared_word ∷ codes "-o" ∷ image_word ∷ []
 purposes_of (dump_tool Cache) = codes "-o" ∷ image_word ∷ []
 purposes_of (dump_tool Era) = codes "-o" ∷ image_word ∷ []
@@ -229,11 +237,25 @@ purposes_of rehearse_tool = codes "--number" ∷ codes "-o" ∷ []
 purposes_of writeback_tool = codes "--metadata-device" ∷ codes "--fast-device" ∷ codes "--origin-device" ∷ []
 purposes_of shrink_tool = codes "-i" ∷ codes "-o" ∷ codes "--data" ∷ codes "--nr-blocks" ∷ []
 
--- the flag stands only where the whole of a pool is checked
-abbrev pub check_with : Kind → Stage → Bool → List ℕ → Option Request
-check_with kind until false image = Some (check kind until image)
-check_with Thin Counts true image = Some (check_and_clear image)
-check_with kind until true image = None
+-- the kinds that have the flag "needs check"
+abbrev pub flagged_of : Kind → Option Flagged
+flagged_of Thin = Some flagged.Pool
+flagged_of Cache = Some flagged.Cache
+flagged_of Era = None
+
+-- whether leaks pass
+abbrev pub passing_of : Bool → Passing
+passing_of false = Nothing
+passing_of true = Leaks
+
+-- the flags stand only where the check goes to its end
+abbrev pub check_with : Kind → Stage → Bool → Bool → List ℕ → Option Request
+check_with kind until false false image = Some (check kind until image)
+check_with kind Counts true false image = Some (passing_check kind image)
+check_with kind Counts leaks true image = do
+  which ← flagged_of kind
+  Some (check_and_clear which (passing_of leaks) image)
+check_with kind until leaks clear image = None
 
 -- only of a pool the leaves that are shared are told once
 abbrev pub dump_with : Kind → Bool → Option (List ℕ) → List ℕ → Option Request
@@ -257,9 +279,10 @@ unfoldable pub request_of : Tool → List Item → Option Request
 request_of (check_tool kind) items = do
   word ← optional until_word items
   until ← last_stage word
+  leaks ← flag passing_word items
   clear ← flag clear_word items
   image ← required image_word items
-  check_with kind until clear image
+  check_with kind until leaks clear image
 request_of (dump_tool kind) items = do
   shared ← flag shared_word items
   file ← optional (codes "-o") items

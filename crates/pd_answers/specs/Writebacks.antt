@@ -1,9 +1,10 @@
+-- Trusted base.
 -- The terms of a writeback: what is dirty in a cache is copied to its origin, and the cache is marked clean.
 use Rattle.std.specs.Prelude.{◌≡◌, ◌≢◌, ◌⊎◌, ℕ, nat_lt, not, ◌==◌, if◌then◌else◌, List, [], ◌∷◌, ◌++◌, length, None, IfSome, codes, decimal}
 use Rattle.std.specs.List.{slice_get}
 use Rattle.pd_kinds.specs.declared.kind.Kind.TheVariants.{Cache}
 use Rattle.pd_kinds.specs.declared.kind.Stage.TheVariants.{Whole}
-use Rattle.pd_kinds.specs.Crash.{IsUntouched, LeavesOnly, HoldsSynced, IsOldNoneOrMade}
+use Rattle.pd_kinds.specs.Crash.{IsUntouched, LeavesOnly, HoldsSynced, IsOldNoneOrMade, StillTells}
 use Rattle.pd_kinds.specs.Meaning.{cache_meaning}
 use Rattle.pd_kinds.specs.Objects.{DeviceState}
 use Rattle.pd_kinds.specs.Report.{Reported, report_of}
@@ -11,6 +12,7 @@ use Rattle.pd_kinds.specs.Stages.{faults, CanWantMemory}
 use Rattle.pd_spells.specs.Lines.{reported_lines, no_room_line}
 use Rattle.pd_answers.specs.Answer.{Answer, Objects, reading, writing}
 use Rattle.pd_answers.specs.CachedView.{CachedBlock, hot_blocks, blocks_each, is_block_size_bad, fast_place, fast_need, origin_need, copied, settled}
+use Rattle.pd_answers.specs.Outputs.{IsWorkDone}
 use Rattle.pd_answers.specs.Reads.{any_reads}
 use Rattle.pd_answers.specs.Terms.{Terms, unnamed}
 
@@ -73,16 +75,28 @@ AllTold before P = IfSome before.input.held (λ image. IfSome before.output.held
 
 -- what a writeback leaves of the metadata and of the origin; the fast device isn't written
 pub record LeavesWrittenBack (found : WritebackFound) (before after : Objects) (status : ℕ) : Type 0 where
-  -- under every status, a crash at any moment of the call leaves the origin as it was but for what hot blocks stand for
+  -- under every status, each device tells what it holds, where it told that before
+  pub metadata_told : StillTells before.input after.input
+  pub origin_told : StillTells before.output after.output
+  -- a crash at any moment of the call leaves the origin as it was but for what hot blocks stand for
   pub origin : IfSome before.output.held (λ origin. LeavesOnly
       (λ image firsts. KeepsOthers (blocks_each found.block_size) found.hot origin image) before.output after.output)
   -- and it leaves the metadata as it was, with nothing dirty, or without a valid superblock
   pub metadata : IfSome before.input.held (λ image. LeavesOnly (IsOldNoneOrMade image (λ made. made ≡ settled image)) before.input after.input)
   -- the metadata isn't written before a crash leaves all of the hot blocks on the origin
   pub order : AllTold before (λ image origin fast. IsUntouched before.input after.input ⊎ HoldsSynced (copied image origin fast) after.output)
-  -- at status 0 a crash from then on leaves the origin with the hot blocks, and the metadata with nothing dirty
-  pub copied_all : status ≡ 0 → AllTold before (λ image origin fast. HoldsSynced (copied image origin fast) after.output)
-  pub marked : status ≡ 0 → IfSome before.input.held (λ image. HoldsSynced (settled image) after.input)
+  -- once the work is done a crash from then on leaves the origin with the hot blocks, and the metadata with nothing dirty, also
+  -- where the line couldn't be put after that
+  pub copied_all : IsWorkDone before after status → AllTold before (λ image origin fast. HoldsSynced (copied image origin fast) after.output)
+  pub marked : IsWorkDone before after status → IfSome before.input.held (λ image. HoldsSynced (settled image) after.input)
+  -- whatever else failed, an origin that didn't fail, nor the fast device, is left alone, or has all of the hot blocks
+  pub origin_kept : after.output.faults ≡ before.output.faults → after.third.faults ≡ before.third.faults
+      → AllTold before (λ image origin fast. IsUntouched before.output after.output ⊎ HoldsSynced (copied image origin fast) after.output)
+  -- and metadata that didn't fail is left alone, or has nothing dirty
+  pub metadata_kept : after.input.faults ≡ before.input.faults
+      → IfSome before.input.held (λ image. IsUntouched before.input after.input ⊎ HoldsSynced (settled image) after.input)
+  -- where nothing is to change in the metadata, it is left alone
+  pub unchanged : IfSome before.input.held (λ image. settled image ≡ image → IsUntouched before.input after.input)
   -- what is refused, and want of memory, leave both alone; so does a cache in which nothing is hot
   pub refused : (writeback_answer found).status ≢ 0 → IsUntouched before.input after.input × IsUntouched before.output after.output
   pub wanting : status ≡ 7 → IsUntouched before.input after.input × IsUntouched before.output after.output

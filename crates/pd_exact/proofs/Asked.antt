@@ -23,6 +23,7 @@ use Rattle.pd_laid.specs.Shape.{ThinShape, shape_of}
 use Rattle.pd_shapes.specs.PoolText.{IsPoolTextVerdict, SpellsPoolShape, is_pool_text_early}
 use Rattle.pd_shapes.specs.SharedNeed.{shape_need}
 use Rattle.pd_answers.specs.Generated.{generated_text}
+use Rattle.pd_answers.specs.Outputs.{IsWorkDone}
 use Rattle.pd_answers.specs.Rehearsals.{rehearse}
 use Rattle.pd_exact.proofs.Restored.{AreLaws, both_told, made_of_text}
 use Rattle.pd_exact.proofs.TellLemmas.{none_counted}
@@ -70,13 +71,13 @@ module _ {M : Type 0} (kind : Kind) (Spells : List ℕ → M → Type 0) (meanin
 pub holds_generated : AreLaws IsPoolTextVerdict laid_shape SpellsPoolShape shape_need IsCleanShape
     → ((text : List ℕ) (w x : ThinShape) → SpellsPoolShape text w → SpellsPoolShape text x → w ≡ x)
     → (number : ℕ) (m : ThinPool) → SpellsPool (generated_text number) m → SpellsPoolShape (generated_text number) (shape_of m)
-    → (path : List ℕ) (before after : Objects) → IsAnswered (rehearse number path) before after 0 → HoldsGenerated number before after
-holds_generated laws one number m pool shape path before after answered =
+    → (path : List ℕ) (before after : Objects) (status : ℕ) → IsAnswered (rehearse number path) before after status → IsWorkDone before after status → HoldsGenerated number before after
+holds_generated laws one number m pool shape path before after status answered done =
     let found = answered.finding in
     let text = generated_text number in
     IfSome_then before.output.held (both_told before.output.held (λ (base : Image). found.room ≡ room_of (length base))
     (λ (base : Image). IfSome after.output.held (λ (image : Image). Makes laid_shape found.room found.verdict base image × HoldsSynced image after.output))
-    answered.found.0.told (answered.leaves.output.made refl)) (λ base told.
+    answered.found.0.told (answered.leaves.made done)) (λ base told.
     IfSome_then after.output.held told.1 (λ image held.
     let made = made_of_text IsPoolTextVerdict is_pool_text_early laid_shape SpellsPoolShape shape_need IsCleanShape laws text base image found.room found.verdict answered.found.1.0 told.0 held.0 in
     (unshared_of_text one text m image pool shape made, held.1)))

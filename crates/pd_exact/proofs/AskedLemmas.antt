@@ -5,12 +5,17 @@ use Rattle.std.specs.Str.Parse.{digits_value}
 use Rattle.std.specs.Str.{bytes_eq}
 use Rattle.std.proofs.lemmas.Bool.{and_parts, cases_Bool, ltb-true}
 use Rattle.std.proofs.lemmas.Option.{same_Some}
+use Rattle.pd_kinds.specs.declared.kind.Flagged.{Flagged}
+use Rattle.pd_kinds.specs.declared.kind.Flagged.TheVariants as flagged
+use Rattle.pd_kinds.specs.declared.kind.Kind.{Kind}
+use Rattle.pd_kinds.specs.declared.kind.Passing.TheVariants.{Nothing, Leaks}
+use Rattle.pd_kinds.specs.Flagged.{kind_of}
 use Rattle.pd_kinds.specs.declared.kind.Kind.TheVariants.{Thin, Cache, Era}
 use Rattle.pd_kinds.specs.declared.kind.Stage.TheVariants.{Counts}
-use Rattle.pd_answers.specs.Requests.{check, check_and_clear, dump, dump_shared, restore, repair, search, rmap, list_devices, since, generate, rehearse, writeback, shrink}
+use Rattle.pd_answers.specs.Requests.{check, check_and_clear, passing_check, dump, dump_shared, restore, repair, search, rmap, list_devices, since, generate, rehearse, writeback, shrink}
 use Rattle.pd_answers.specs.Words.{Region, is_flag, items_of, given, version_of, generated_number, number_below, region_of, tool_in, request_of, asked}
 use Rattle.pd_exact.specs.Search.{DoNumbersFit, NumberWords, SayNumbers, with_numbers}
-use Rattle.pd_exact.specs.Words.{IsName, to_file, in_version}
+use Rattle.pd_exact.specs.Words.{IsName, check_name, to_file, in_version}
 
 pub thin_check_asked : (image : List ℕ) → IsName image → asked (codes "thin_check" ∷ image ∷ []) ≡ Some (check Thin Counts image)
 unfolding is_flag items_of given version_of tool_in request_of asked
@@ -24,7 +29,23 @@ pub era_check_asked : (image : List ℕ) → IsName image → asked (codes "era_
 unfolding is_flag items_of given version_of tool_in request_of asked
 era_check_asked image is_image = rw is_image refl
 
-pub thin_clearing_asked : (image : List ℕ) → IsName image → asked (codes "thin_check" ∷ codes "--clear-needs-check-flag" ∷ image ∷ []) ≡ Some (check_and_clear image)
+pub passing_asked : (kind : Kind) (image : List ℕ) → IsName image → asked (check_name kind ∷ codes "--ignore-non-fatal-errors" ∷ image ∷ []) ≡ Some (passing_check kind image)
+unfolding is_flag items_of given version_of tool_in request_of asked
+passing_asked Thin image is_image = rw is_image refl
+passing_asked Cache image is_image = rw is_image refl
+passing_asked Era image is_image = rw is_image refl
+
+pub passing_clearing_asked : (flagged : Flagged) (image : List ℕ) → IsName image
+    → asked (check_name (kind_of flagged) ∷ codes "--ignore-non-fatal-errors" ∷ codes "--clear-needs-check-flag" ∷ image ∷ []) ≡ Some (check_and_clear flagged Leaks image)
+unfolding is_flag items_of given version_of tool_in request_of asked
+passing_clearing_asked flagged.Pool image is_image = rw is_image refl
+passing_clearing_asked flagged.Cache image is_image = rw is_image refl
+
+pub cache_clearing_asked : (image : List ℕ) → IsName image → asked (codes "cache_check" ∷ codes "--clear-needs-check-flag" ∷ image ∷ []) ≡ Some (check_and_clear flagged.Cache Nothing image)
+unfolding is_flag items_of given version_of tool_in request_of asked
+cache_clearing_asked image is_image = rw is_image refl
+
+pub thin_clearing_asked : (image : List ℕ) → IsName image → asked (codes "thin_check" ∷ codes "--clear-needs-check-flag" ∷ image ∷ []) ≡ Some (check_and_clear flagged.Pool Nothing image)
 unfolding is_flag items_of given version_of tool_in request_of asked
 thin_clearing_asked image is_image = rw is_image refl
 

@@ -50,10 +50,13 @@ module _ (saved : SavesFound) (image : List (List ℕ)) (transaction block_size 
   unfolding lost_graph graph_of
   few_blocks = omega arith
 
+  -- no details are lost, so the devices are the same whatever the pool's time is
   found_devices : AreDevices blocks 0 (found_pool (lost_graph image blocks) image transaction block_size roots).devices
+  unfolding found_pool
   found_devices =
-      subst (λ (m : ThinPool). AreDevices blocks 0 m.devices) (saved image blocks transaction block_size roots bytes best.fitting)
-      (devices_lawful (lost_fields roots transaction block_size (lost_graph image blocks).nr blocks) image bytes few_blocks fit.transaction_fits)
+      let untimed = record roots { time = 0 } in
+      subst (λ (m : ThinPool). AreDevices blocks 0 m.devices) (saved image blocks transaction block_size untimed bytes best.fitting)
+      (devices_lawful (lost_fields untimed transaction block_size (lost_graph image blocks).nr blocks) image bytes few_blocks fit.transaction_fits (omega arith))
 
   time_fits : roots.time < 2 ^ 32
   unfolding roots_at found_pool

@@ -3,7 +3,7 @@ use Rattle.std.proofs.Common.{◌≡◌, inl, inr, ℕ, zero, suc, ◌+◌, ◌*
 use Rattle.std.specs.List.{AllByRecursion, list_any, list_all}
 use Rattle.std.specs.Str.{bytes_eq}
 use Rattle.std.proofs.lemmas.Slice.Eq.{bytes_eq-Decides}
-use Rattle.std.proofs.lemmas.Bool.{and_from, both_ways, eqb-true, lt-ltb, ltb-false, ne_eqb, or_cases, or_from, or_parts}
+use Rattle.std.proofs.lemmas.Bool.{and_from, both_ways, eqb-true, lt-ltb, ne_eqb, or_cases, or_from}
 use Rattle.pd_kinds.specs.declared.kind.Kind.TheVariants.{Thin}
 use Rattle.pd_kinds.specs.declared.kind.Stage.TheVariants.{Whole}
 use Rattle.pd_kinds.specs.declared.limits.TheConstants.{MAX_META_BLOCKS}
@@ -27,10 +27,11 @@ use Rattle.pd_laws.proofs.PathLemmas.{path_from_reached}
 use Rattle.pd_laid.specs.FoundRoots.{FoundRoots, IsFound, are_fitting, devices_below, found_pool, is_better, is_sound_tree, lost_graph, roots_at}
 use Rattle.pd_laid.proofs.NodeFacts.{block_pair, none_pass, role_pair}
 use Rattle.pd_alike.specs.Known.{IsKnown}
+use Rattle.pd_scan.proofs.OrderLemmas.{not_greater_start}
 use Rattle.pd_scan.proofs.SameBelow.{entries_same, map_same, tree_sound}
 use Rattle.pd_thin_meaning.proofs.SuperLemmas.{same_keys as same_keys_in}
 use Rattle.pd_spells.specs.Lawful.{AreDevices, IsLawfulPool}
-use Rattle.pd_exact.specs.Search.{FindsAsMany, IsLostOf, KeepsRoots, mappings_of}
+use Rattle.pd_exact.specs.Search.{FindsNoEarlier, IsLostOf, KeepsRoots, state_of, state_of_roots}
 use Rattle.pd_exact.proofs.MoreBlocks.{IsDeviceRole, edges_in_trees, edges_more, inner_more, keys_more, unbroken_more}
 use Rattle.pd_exact.proofs.SalvageLawful.{HasSoundSizes}
 
@@ -241,14 +242,16 @@ module _ (image lost : List (List ℕ)) (known : IsKnown image) (pool : IsLawful
   unfolding found_pool
   pool_there transaction block_size roots top details = rw (top, details) devices_same
 
-  as_many : (found : Option FoundRoots) → IsFound new lost found → FindsAsMany (mappings_of (thin_meaning image)) found
+  no_earlier : (found : Option FoundRoots) → IsFound new lost found → FindsNoEarlier (state_of (thin_meaning image)) found
   unfolding is_better roots_at
-  as_many None nothing = absurd (both_ways _ (nothing fields.mapping_root fields.details_root) fitting)
-  as_many (Some roots) best = record {
+  no_earlier None nothing = absurd (both_ways _ (nothing fields.mapping_root fields.details_root) fitting)
+  no_earlier (Some roots) best = record {
     roots = roots;
     some = refl;
-    no_fewer = rw devices_same at (ltb-false roots.mappings _ (or_parts _ _ (best.best fields.mapping_root fields.details_root fitting)).0);
+    no_earlier =
+        not_greater_start (state_of (thin_meaning image)) (state_of_roots roots) (fields.mapping_root ∷ fields.details_root ∷ []) (roots.top ∷ roots.details ∷ []) refl
+        (rw devices_same at (best.best fields.mapping_root fields.details_root fitting));
   }
 
   pub keeps_roots : KeepsRoots image lost fields
-  keeps_roots = record { fitting = fitting; devices = pool_there; found = as_many }
+  keeps_roots = record { fitting = fitting; devices = pool_there; found = no_earlier }

@@ -39,6 +39,11 @@ not_refused saved given = elim (cases_Bool (nat_eq saved.report.total 0)) [
   ]
 ]
 
+-- so the superblock has no fault
+none_at_zero : (image : Image) (saved : Salvaged) → saved.report ≡ report_of (faults Thin stages.Super image) → (repair_answer saved).status ≡ 0 → faults Thin stages.Super image ≡ []
+none_at_zero image saved right zero =
+    none_counted (faults Thin stages.Super image) (sym (ap (λ (r : Reported). r.total) right) ∙ (not_refused saved zero).none)
+
 module _ (lawful : (image : Image) → IsImage image → faults Thin stages.Super image ≡ [] → IsLawfulPool (salvage image))
     (clean : (m : ThinPool) (base image : Image) → IsLawfulPool m → thin_need m (room_of (length base)) ≤ room_of (length base)
     → IsLaid (laid_pool m (room_of (length base))) base image → IsCleanPool image m) where
@@ -48,21 +53,26 @@ module _ (lawful : (image : Image) → IsImage image → faults Thin stages.Supe
       → LaysPool (repair_answer saved) saved.pool saved.room base made → IsCleanPool made (salvage image)
   made_of_salvage image base made saved is right room laid =
       let given = not_refused saved laid.0 in
-      let counted : length (faults Thin stages.Super image) ≡ 0 = sym (ap (λ (r : Reported). r.total) right.0) ∙ given.none in
-      let none = none_counted (faults Thin stages.Super image) counted in
+      let none = none_at_zero image saved right.0 laid.0 in
       clean (salvage image) base made (lawful image is none) (rw (right.1, room) at given.room) (rw (right.1, room) at laid.1)
 
   module _ (from to : List ℕ) (before after : Objects) where
-    -- what the output holds at status 0
-    pub holds_salvage : IsRepairAnswered from to before after 0 → HoldsSalvage before after
-    holds_salvage answered =
+    -- what the output holds at status 0, and that what is saved is lawful then
+    pub holds_at_zero : (Q : Image → Image → Type 0)
+        → ((image made : Image) → IsLawfulPool (salvage image) → IsCleanPool made (salvage image) × HoldsSynced made after.output → Q image made)
+        → IsRepairAnswered from to before after 0
+        → IfSome before.input.held (λ (image : Image). IsImage image → IfSome before.output.held (λ (base : Image). IfSome after.output.held (Q image)))
+    holds_at_zero Q so answered =
         let saved = answered.finding in
         IfSome_then before.input.held answered.found.1 (λ image right is.
         IfSome_then before.output.held (both_told before.output.held (λ (base : Image). saved.room ≡ room_of (length base))
         (λ (base : Image). IfSome after.output.held (λ (made : Image). LaysPool (repair_answer saved) saved.pool saved.room base made × HoldsSynced made after.output))
         answered.found.0.told (answered.leaves.output.made.output.made refl)) (λ base told.
         IfSome_then after.output.held told.1 (λ made held.
-        (made_of_salvage image base made saved is right told.0 held.0, held.1))))
+        so image made (lawful image is (none_at_zero image saved right.0 held.0.0)) (made_of_salvage image base made saved is right told.0 held.0, held.1))))
+
+    pub holds_salvage : IsRepairAnswered from to before after 0 → HoldsSalvage before after
+    holds_salvage = holds_at_zero (λ image made. IsCleanPool made (salvage image) × HoldsSynced made after.output) (λ image made lawful_too held. held)
 
     -- what a crash leaves
     pub leaves_salvage : (status : ℕ) → IsRepairAnswered from to before after status → LeavesSalvage before after

@@ -27,7 +27,7 @@ use Rattle.pd_exact.proofs.GivenLemmas.{few_given, give_all, no_more_kept, value
 use Rattle.pd_exact.proofs.WordLemmas.{field_fits, first_whole}
 
 -- mappings at keys that ascend, which are in the pool
-abbrev mapping_at : Entry → Mapping
+abbrev pub mapping_at : Entry → Mapping
 mapping_at e = record { virtual_block = e.key; data_block = mapped_block e.value; time = mapped_time e.value }
 
 mappings_are : (blocks least low : ℕ) (es : List Entry) → least ≤ low → AreAscending low (2 ^ 64) es
@@ -50,7 +50,8 @@ value_fits limit id other (e ∷ es) fits all = elim (cases_Bool (nat_eq e.key i
   | inr apart ↦ rw apart (value_fits limit id other es fits all.1)
 ]
 
-module _ (fields : ThinFields) (image : List (List ℕ)) (bytes : HasBytes image) (few : fields.meta_map.blocks ≤ MAX_META_BLOCKS) (small : fields.transaction < 2 ^ 64) where
+module _ (fields : ThinFields) (image : List (List ℕ)) (bytes : HasBytes image) (few : fields.meta_map.blocks ≤ MAX_META_BLOCKS) (small : fields.transaction < 2 ^ 64)
+    (timely : fields.time < 2 ^ 32) where
   mappings_lawful : (root : ℕ) → AreMappings fields.data_map.blocks 0 (given_mappings fields image root)
   unfolding given_mappings given
   mappings_lawful root = mappings_are fields.data_map.blocks 0 0 _ (omega arith) (give_ascends 8 fields.meta_map.blocks image 64 root 0 (2 ^ 64))
@@ -65,7 +66,7 @@ module _ (fields : ThinFields) (image : List (List ℕ)) (bytes : HasBytes image
   details_fit : (id : ℕ) → given_details fields image id < 256 ^ 24
   unfolding given
   details_fit id =
-      value_fits (256 ^ 24) id (details_code 0 fields.transaction 0 0) (give 24 fields.meta_map.blocks image 64 fields.details_root 0 (2 ^ 64)) (omega arith)
+      value_fits (256 ^ 24) id (details_code 0 fields.transaction fields.time fields.time) (give 24 fields.meta_map.blocks image 64 fields.details_root 0 (2 ^ 64)) (omega arith)
       (give_all (λ (e : Entry). e.value < 256 ^ 24) 24 fields.meta_map.blocks image (λ place within. values_fit 24 (block_at image place) (bytes place)) 64 fields.details_root 0 (2 ^ 64))
 
   device_is : (least : ℕ) (top : Entry) → least ≤ top.key → top.key < 2 ^ 64 → IsDevice fields.data_map.blocks least (given_device fields image top)
@@ -132,5 +133,5 @@ salvage_lawful image bytes whole none =
       transaction_fits = le-lt block 48 8 (bytes 0);
       block_size_fits = le-lt block 336 4 (bytes 0);
       data_blocks_fit = sizes.few_data;
-      devices = devices_lawful fields image bytes sizes.few (le-lt block 48 8 (bytes 0));
+      devices = devices_lawful fields image bytes sizes.few (le-lt block 48 8 (bytes 0)) (le-lt block 44 4 (bytes 0));
     }

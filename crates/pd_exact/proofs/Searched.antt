@@ -15,10 +15,12 @@ use Rattle.pd_laid_thin.specs.CleanPool.{IsCleanPool}
 use Rattle.pd_spells.specs.Lawful.{IsLawfulPool}
 use Rattle.pd_spells.specs.ThinNeed.{thin_need}
 use Rattle.pd_answers.specs.Answer.{Objects}
+use Rattle.pd_answers.specs.Outputs.{IsWorkDone}
 use Rattle.pd_answers.specs.Repairs.{LaysPool, Searched, is_too_small, search_answer, searched_answer}
 use Rattle.pd_answers.specs.SearchLines.{roots_line}
-use Rattle.pd_exact.specs.Search.{HasNoRoots, HoldsFoundPool, IsOfBestRoots, IsSearchAnswered, LeavesFoundPool}
+use Rattle.pd_exact.specs.Search.{HasNoRoots, HoldsBestPool, HoldsFoundPool, IsOfBestRoots, IsSearchAnswered, LeavesFoundPool}
 use Rattle.pd_exact.proofs.Restored.{Image, both_told}
+use Rattle.pd_exact.proofs.TellLemmas.{given_once_done}
 
 -- at the answer's status 0 there are roots, whose line it has, and there is room
 record AreAnswered (found : Option FoundRoots) (pool : ThinPool) (room : ℕ) : Type 0 where
@@ -74,7 +76,20 @@ module _ (transaction block_size blocks : ℕ)
       }
 
   module _ (from to : List ℕ) (before after : Objects) where
-    -- what the output holds at status 0
+    -- what the output holds once the work is done
+    pub holds_best : (status : ℕ) → IsSearchAnswered from to transaction block_size blocks before after status → IsWorkDone before after status
+        → HoldsBestPool transaction block_size blocks before after
+    holds_best status answered done =
+        let searched = answered.finding in
+        let given = given_once_done (searched_answer searched).status status before after (λ low. (answered.sound low).status) answered.spared done in
+        let are = answered_at_zero searched.roots searched.pool searched.room given in
+        IfSome_then before.input.held answered.found.1 (λ image right is.
+        IfSome_then before.output.held (both_told before.output.held (λ (base : Image). searched.room ≡ room_of (length base))
+        (λ (base : Image). IfSome after.output.held (λ (made : Image). LaysPool (searched_answer searched) searched.pool searched.room base made × HoldsSynced made after.output))
+        answered.found.0.told (answered.leaves.made done)) (λ base told.
+        IfSome_then after.output.held told.1 (λ made held. (of_roots image base made searched are is right told.0 held.0, held.1))))
+
+    -- and at status 0
     pub holds_found : IsSearchAnswered from to transaction block_size blocks before after 0 → HoldsFoundPool transaction block_size blocks before after
     unfolding of_roots
     holds_found answered =

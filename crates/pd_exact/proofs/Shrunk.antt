@@ -4,7 +4,7 @@ use Rattle.std.proofs.lemmas.Bool.{cases_Bool, eqb-true, ltb-false}
 use Rattle.std.proofs.lemmas.Option.{IfSome_then}
 use Rattle.pd_kinds.specs.declared.kind.Kind.TheVariants.{Thin}
 use Rattle.pd_kinds.specs.declared.kind.Stage.TheVariants.{Counts}
-use Rattle.pd_kinds.specs.Crash.{HoldsSynced, IsOldNoneOrMade, IsSynced, IsUntouched, LeavesOnly}
+use Rattle.pd_kinds.specs.Crash.{HoldsSynced, IsOldNoneOrMade, IsSynced, IsUntouched, LeavesOnly, may_leave, moment}
 use Rattle.pd_kinds.specs.Image.{IsImage}
 use Rattle.pd_kinds.specs.Limits.{room_of}
 use Rattle.pd_kinds.specs.Meaning.{ThinPool, thin_meaning}
@@ -19,6 +19,7 @@ use Rattle.pd_spells.specs.ThinNeed.{thin_need}
 use Rattle.pd_answers.specs.Answer.{Objects}
 use Rattle.pd_answers.specs.CachedView.{blocks_each, is_block_size_bad}
 use Rattle.pd_answers.specs.MovedPool.{ReadTheSame, copy_of_move, data_after, data_need, end_of_pool, free_blocks, moved_need, moved_pool, moves_to, read_at, sources}
+use Rattle.pd_answers.specs.Outputs.{IsWorkDone}
 use Rattle.pd_answers.specs.Repairs.{LaysPool}
 use Rattle.pd_answers.specs.Shrinks.{IsGroundOf, ShrinkFound, ShrinkGround, lack_of, moves_of, pool_after, shrink_answer}
 use Rattle.pd_answers.specs.Writebacks.{KeepsOthers}
@@ -26,7 +27,7 @@ use Rattle.pd_moved.specs.Moving.{AreFree, AreUnnamed, IsMoving}
 use Rattle.pd_exact.specs.Shrink.{AreMoved, HoldsShrunk, IsShrinkAnswered, IsShrunk, KeepsReads, LeavesReads, front_of_data, without_places}
 use Rattle.pd_exact.proofs.CutLemmas.{cut_reads, size_after, stays_the_same}
 use Rattle.pd_exact.proofs.Restored.{Image, at_told, both_told}
-use Rattle.pd_exact.proofs.TellLemmas.{four_zero, left_as_was, none_counted, one_zero, two, zero_or_not}
+use Rattle.pd_exact.proofs.TellLemmas.{four_zero, given_once_done, if_told, left_as_was, left_of_synced, left_untouched, none_counted, one_zero, two, zero_or_not}
 
 -- at the answer's status 0 nothing was refused: the report is empty, and there is room for the moved blocks, on the data device for
 -- those that are read, and for the metadata
@@ -164,8 +165,20 @@ module _ (laws : AreShrinkLaws) (metadata output_path data_path : List ℕ) (blo
           weaken told.1 (λ left firsts outcome chance.
           ⊎_elim (λ old. inl old) (λ other. inr (⊎_elim (λ none. inl none) (λ made. inr (shrunk is base left told.0 made)) other)) (outcome chance)))
 
+      -- and of both devices at the call's end
+      both_read : IsImage image → IsSynced before.output → (smaller firsts left others : Image) → may_leave after.output (moment after.output) smaller firsts
+          → may_leave after.third (moment after.third) left others
+          → IfSome before.output.held (λ base. IsOldNoneOrMade base (λ made. IsShrunk blocks image held made left) smaller firsts)
+      both_read is output_synced smaller firsts left others leaves leaves_data = ⊎_elim
+          (λ untouched. if_told before.output.held (λ base told chance. inl (left_untouched before.output after.output base told output_synced untouched smaller firsts leaves)))
+          (λ synced. IfSome_then before.output.held (leaves_smaller is) (λ base only.
+          subst (λ (x : Image). IsOldNoneOrMade base (λ made. IsShrunk blocks image held made x) smaller firsts)
+          (sym (left_of_synced after.third (moved_data held) left others synced leaves_data)) (only.now smaller firsts leaves)))
+          (at_told before.third.held held (λ (i : Image). IsUntouched before.output after.output ⊎ HoldsSynced (moved_data i) after.third) held_told answered.leaves.order)
+
       pub keeps_at_work : IsImage image → KeepsReads blocks image held before after
       keeps_at_work is = record {
+        together = both_read is;
         metadata = answered.kept.input;
         data_left = reads_meanwhile;
         order = ⊎_elim (λ untouched. inl untouched)
@@ -183,6 +196,8 @@ module _ (laws : AreShrinkLaws) (metadata output_path data_path : List ℕ) (blo
           data_left = stays both.1.held both.1.history
               (λ left firsts leaves id virtual_block. ap (λ i. read_at (thin_meaning image) i id virtual_block) (left_as_was before.third held left firsts held_told synced leaves));
           order = inl both.0;
+          together = λ output_synced smaller firsts left others leaves leaves_data.
+              if_told before.output.held (λ base told chance. inl (left_untouched before.output after.output base told output_synced both.0 smaller firsts leaves));
         }
 
   -- what a crash leaves
@@ -194,9 +209,9 @@ module _ (laws : AreShrinkLaws) (metadata output_path data_path : List ℕ) (blo
       (keeps_refused image held image_told held_told synced)
       (zero_or_not (shrink_answer found).status))
 
--- what the devices hold at status 0
-module _ (laws : AreShrinkLaws) (metadata output_path data_path : List ℕ) (blocks : ℕ) (before after : Objects)
-    (answered : IsShrinkAnswered metadata output_path data_path blocks before after 0) where
+-- what the devices hold once the work is done
+module _ (laws : AreShrinkLaws) (metadata output_path data_path : List ℕ) (blocks : ℕ) (before after : Objects) (status : ℕ)
+    (answered : IsShrinkAnswered metadata output_path data_path blocks before after status) (done : IsWorkDone before after status) where
   abbrev ground_at_end : ShrinkGround
   ground_at_end = answered.finding.ground
 
@@ -206,19 +221,19 @@ module _ (laws : AreShrinkLaws) (metadata output_path data_path : List ℕ) (blo
   holds_made : (image held : Image) → before.input.held ≡ Some image → before.third.held ≡ Some held → IsImage image → IfSome before.output.held (λ base.
       IfSome after.output.held (λ smaller. IsShrunk blocks image held smaller (left_at_end held) × HoldsSynced smaller after.output))
   holds_made image held image_told held_told is =
-      let given : (shrink_answer answered.finding).status ≡ 0 = sym (answered.sound (omega arith)).status in
+      let given = given_once_done (shrink_answer answered.finding).status status before after (λ low. (answered.sound low).status) answered.spared done in
       IfSome_then before.output.held (both_told before.output.held (λ (base : Image). ground_at_end.room ≡ room_of (length base))
       (λ (base : Image). IfSome after.output.held (λ (made : Image). LaysPool (shrink_answer answered.finding) (pool_after ground_at_end) ground_at_end.room base made × HoldsSynced made after.output))
-      answered.found.output.told (answered.leaves.output.output.made refl)) (λ base told.
+      answered.found.output.told (answered.leaves.made done)) (λ base told.
       IfSome_then after.output.held told.1 (λ made lays.
-      (shrunk laws metadata output_path data_path blocks before after 0 answered image held image_told held_told given is base made told.0 lays.0, lays.1)))
+      (shrunk laws metadata output_path data_path blocks before after status answered image held image_told held_told given is base made told.0 lays.0, lays.1)))
 
   pub holds_shrunk : HoldsShrunk blocks before after
   holds_shrunk =
       two before.input.held before.third.held (λ image held. IsImage image → IfSome before.output.held (λ base.
       IfSome after.output.held (λ smaller. IfSome after.third.held (λ left. IsShrunk blocks image held smaller left × HoldsSynced smaller after.output × HoldsSynced left after.third))))
       (λ image held image_told held_told is.
-      let all = at_told before.third.held held (λ (i : Image). HoldsSynced (left_at_end i) after.third) held_told (answered.leaves.moved refl) in
+      let all = at_told before.third.held held (λ (i : Image). HoldsSynced (left_at_end i) after.third) held_told (answered.leaves.moved done) in
       IfSome_then before.output.held (holds_made image held image_told held_told is) (λ base holds.
       IfSome_then after.output.held holds (λ smaller made.
       subst (λ (o : Option Image). IfSome o (λ left. IsShrunk blocks image held smaller left × HoldsSynced smaller after.output × HoldsSynced left after.third)) (sym all.held)

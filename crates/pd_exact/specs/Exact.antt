@@ -1,13 +1,19 @@
+-- Trusted base.
 -- What restores leave and what checks tell, where the objects tell what they hold.
 use Rattle.std.specs.Prelude.{◌≡◌, ◌⊎◌, ℕ, ◌≤◌, false, List, [], Some, IfSome, length}
 use Rattle.pd_kinds.specs.declared.kind.Kind.{Kind}
 use Rattle.pd_kinds.specs.declared.kind.Kind.TheVariants.{Thin, Cache, Era}
+use Rattle.pd_kinds.specs.declared.kind.Flagged.{Flagged}
+use Rattle.pd_kinds.specs.declared.kind.Flagged.TheVariants.{Pool}
+use Rattle.pd_kinds.specs.declared.kind.Passing.{Passing}
+use Rattle.pd_kinds.specs.declared.kind.Passing.TheVariants.{Nothing, Leaks}
 use Rattle.pd_kinds.specs.declared.kind.Stage.TheVariants.{Counts, Whole}
 use Rattle.pd_kinds.specs.CacheFormat.{cache_fields}
 use Rattle.pd_kinds.specs.Crash.{HoldsSynced, IsOldNoneOrMade, LeavesOnly}
 use Rattle.pd_kinds.specs.Graph.{block_at, data_count}
 use Rattle.pd_kinds.specs.Meaning.{CacheMeaning, thin_meaning, cache_meaning, era_meaning}
-use Rattle.pd_kinds.specs.Stages.{IsClean, faults}
+use Rattle.pd_kinds.specs.Leaks.{AreCountsEnough, OnlyLeaks}
+use Rattle.pd_kinds.specs.Stages.{IsClean, checked_of, faults}
 use Rattle.pd_kinds.specs.ThinFormat.{thin_graph}
 use Rattle.pd_spells.specs.ThinNeed.{thin_need}
 use Rattle.pd_spells.specs.CacheNeed.{cache_need}
@@ -30,7 +36,7 @@ use Rattle.pd_laid_era.specs.CleanEra.{IsCleanEra}
 use Rattle.pd_answers.specs.Answer.{NoFaults, Objects}
 use Rattle.pd_answers.specs.Flag.{needs_check}
 use Rattle.pd_answers.specs.Promises.{image_text, terms_of}
-use Rattle.pd_answers.specs.Requests.{check, check_and_clear, repair, restore}
+use Rattle.pd_answers.specs.Requests.{check, check_and_clear, passing_check, repair, restore}
 use Rattle.pd_answers.specs.Terms.{IsAnswered}
 
 -- a restore of this kind, in this version of its metadata, was asked, and was answered with this status
@@ -117,28 +123,46 @@ pub record IsSharedDumpOf (image base : List (List ℕ)) (before : Objects) : Ty
 abbrev pub IsCheckAnswered : Kind → List ℕ → Objects → Objects → ℕ → Type 0
 IsCheckAnswered kind path = IsAnswered (terms_of (Some (check kind Counts path)))
 
--- the same check of a thin pool was asked, which clears the flag where nothing was reported
-abbrev pub IsClearingAnswered : List ℕ → Objects → Objects → ℕ → Type 0
-IsClearingAnswered path = IsAnswered (terms_of (Some (check_and_clear path)))
+-- the same check was asked, in which leaks pass
+abbrev pub IsPassingAnswered : Kind → List ℕ → Objects → Objects → ℕ → Type 0
+IsPassingAnswered kind path = IsAnswered (terms_of (Some (passing_check kind path)))
 
--- status 0 says that the image that was read is clean, status 1 that it isn't, and where it is clean and nothing fails
--- the status is 0, or memory was wanting
-pub record TellsClean (kind : Kind) (before after : Objects) (status : ℕ) (image : List (List ℕ)) : Type 0 where
-  pub clean : status ≡ 0 → IsClean kind image
-  pub unclean : status ≡ 1 → IsClean kind image → ⊥
-  pub found : IsClean kind image → NoFaults before after → (status ≡ 0) ⊎ (status ≡ 7)
+-- the check of a pool or a cache was asked, which clears the flag where all that was reported passes
+abbrev pub IsClearingAnswered : Flagged → Passing → List ℕ → Objects → Objects → ℕ → Type 0
+IsClearingAnswered flagged passing path = IsAnswered (terms_of (Some (check_and_clear flagged passing path)))
 
--- the image is clean, means what the old one did, and its flag "needs check" isn't set
-pub record IsClearedPool (old image : List (List ℕ)) : Type 0 where
-  pub clean : IsClean Thin image
+-- an image passes: it is clean, or, where leaks pass, each of its faults is a leak
+abbrev pub IsPassed : Passing → Kind → List (List ℕ) → Type 0
+IsPassed Nothing kind image = IsClean kind image
+IsPassed Leaks kind image = OnlyLeaks kind image
+
+-- status 0 says that the image that was read passes, status 1 that it doesn't, and where it passes and nothing fails the
+-- status is 0, or memory was wanting
+pub record TellsPassed (passing : Passing) (kind : Kind) (before after : Objects) (status : ℕ) (image : List (List ℕ)) : Type 0 where
+  pub passed : status ≡ 0 → IsPassed passing kind image
+  pub failed : status ≡ 1 → IsPassed passing kind image → ⊥
+  pub found : IsPassed passing kind image → NoFaults before after → (status ≡ 0) ⊎ (status ≡ 7)
+
+-- so it says whether the image is clean, where nothing passes
+abbrev pub TellsClean : Kind → Objects → Objects → ℕ → List (List ℕ) → Type 0
+TellsClean kind = TellsPassed Nothing kind
+
+-- the image is sound up to the stage Whole, and no stored count is below its references
+pub record LosesNothing (kind : Kind) (image : List (List ℕ)) : Type 0 where
+  pub sound : faults kind Whole image ≡ []
+  pub counts : AreCountsEnough (checked_of kind image) image
+
+-- the image passes, means what the old one did, and its flag "needs check" isn't set
+pub record IsClearedPool (passing : Passing) (old image : List (List ℕ)) : Type 0 where
+  pub passed : IsPassed passing Thin image
   pub same : thin_meaning image ≡ thin_meaning old
-  pub unset : needs_check image ≡ false
+  pub unset : needs_check Pool image ≡ false
 
 -- the device that was checked holds such an image of what it held, and nothing of it is unsynced
-abbrev pub HoldsCleared : Objects → Objects → Type 0
-HoldsCleared before after =
+abbrev pub HoldsCleared : Passing → Objects → Objects → Type 0
+HoldsCleared passing before after =
     IfSome before.input.held (λ image. IsImage image →
-    IfSome after.input.held (λ left. IsClearedPool image left × HoldsSynced left after.input))
+    IfSome after.input.held (λ left. IsClearedPool passing image left × HoldsSynced left after.input))
 
 -- a repair of one image onto another was asked, and was answered with this status
 abbrev pub IsRepairAnswered : List ℕ → List ℕ → Objects → Objects → ℕ → Type 0

@@ -2,4 +2,5 @@ pub mod Exact
 pub mod Words
 pub mod Writeback
 pub mod Search
+pub mod Sharing
 pub mod Shrink

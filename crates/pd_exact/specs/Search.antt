@@ -1,14 +1,16 @@
+-- Trusted base.
 -- What a search for the roots of a pool leaves, where the objects tell what they hold.
-use Rattle.std.specs.Prelude.{◌≡◌, ℕ, ◌+◌, ◌<◌, ◌≤◌, ◌^◌, true, false, List, [], ◌∷◌, length, drop, sum_by, Option, Some, IfSome, codes}
+use Rattle.std.specs.Prelude.{◌≡◌, ℕ, ◌+◌, ◌<◌, ◌≤◌, ◌^◌, max, true, false, List, [], ◌∷◌, length, drop, map, fold, sum_by, Option, Some, IfSome, codes}
+use Rattle.std.specs.List.{flat_map}
 use Rattle.pd_kinds.specs.declared.kind.Kind.TheVariants.{Thin}
 use Rattle.pd_kinds.specs.declared.kind.Stage.TheVariants.{Whole}
 use Rattle.pd_kinds.specs.Crash.{HoldsSynced, IsOldNoneOrMade, IsUntouched, LeavesOnly}
 use Rattle.pd_kinds.specs.Image.{IsImage}
-use Rattle.pd_kinds.specs.Meaning.{ThinDevice, ThinPool, thin_meaning}
+use Rattle.pd_kinds.specs.Meaning.{Mapping, ThinDevice, ThinPool, thin_meaning}
 use Rattle.pd_kinds.specs.Objects.{Appends}
 use Rattle.pd_kinds.specs.Stages.{faults}
 use Rattle.pd_kinds.specs.ThinSuper.{ThinFields}
-use Rattle.pd_laid.specs.FoundRoots.{FoundRoots, AreBest, IsFound, are_fitting, found_pool, lost_graph}
+use Rattle.pd_laid.specs.FoundRoots.{FoundRoots, AreBest, IsFound, are_fitting, found_pool, is_greater, lost_graph, times_of}
 use Rattle.pd_laid_thin.specs.CleanPool.{IsCleanPool}
 use Rattle.pd_answers.specs.Answer.{Objects}
 use Rattle.pd_answers.specs.Promises.{terms_of}
@@ -45,6 +47,12 @@ HoldsFoundPool transaction block_size blocks before after =
     IfSome before.input.held (λ image. IsImage image → IfSome before.output.held (λ base.
     IfSome after.output.held (λ made. HoldsOfRoots transaction block_size blocks image made before after)))
 
+-- the output holds such an image, with nothing unsynced, whatever was put
+abbrev pub HoldsBestPool : ℕ → ℕ → ℕ → Objects → Objects → Type 0
+HoldsBestPool transaction block_size blocks before after =
+    IfSome before.input.held (λ image. IsImage image → IfSome before.output.held (λ base.
+    IfSome after.output.held (λ made. IsOfBestRoots transaction block_size blocks image made × HoldsSynced made after.output)))
+
 -- a crash at any moment leaves, by no chance, the old image, no valid superblock, or such an image
 abbrev pub LeavesFoundPool : ℕ → ℕ → ℕ → Objects → Objects → Type 0
 LeavesFoundPool transaction block_size blocks before after =
@@ -79,15 +87,24 @@ pub record IsLostOf (image lost : List (List ℕ)) : Type 0 where
   pub size : length lost ≡ length image
   pub rest : drop 1 lost ≡ drop 1 image
 
--- how many mappings the details of a pool's devices say
-abbrev pub mappings_of : ThinPool → ℕ
-mappings_of pool = sum_by (λ (d : ThinDevice). d.mapped) pool.devices
+-- how late the state of a pool is, as roots are compared but for their places: the latest time of its devices and mappings,
+-- the latest transaction of a device, the sum of the mappings' times, and the number of mappings that the details say
+abbrev pub state_of : ThinPool → List ℕ
+state_of pool =
+    fold max 0 (flat_map times_of pool.devices)
+    ∷ fold max 0 (map (λ (d : ThinDevice). d.transaction) pool.devices)
+    ∷ sum_by (λ (d : ThinDevice). sum_by (λ (m : Mapping). m.time) d.mappings) pool.devices
+    ∷ sum_by (λ (d : ThinDevice). d.mapped) pool.devices
+    ∷ []
 
--- a search finds roots, with so many mappings or more
-pub record FindsAsMany (mappings : ℕ) (found : Option FoundRoots) : Type 0 where
+abbrev pub state_of_roots : FoundRoots → List ℕ
+state_of_roots roots = roots.time ∷ roots.transaction ∷ roots.times ∷ roots.mappings ∷ []
+
+-- a search finds roots, and no state is later than theirs
+pub record FindsNoEarlier (state : List ℕ) (found : Option FoundRoots) : Type 0 where
   pub roots : FoundRoots
   pub some : found ≡ Some roots
-  pub no_fewer : mappings ≤ roots.mappings
+  pub no_earlier : is_greater state (state_of_roots roots) ≡ false
 
 -- the roots that block 0 of an image named fit each other where it is lost, and a pool that is found by them has the devices
 -- that it had, with their details and mappings; so a search finds these roots, or better ones
@@ -95,7 +112,7 @@ pub record KeepsRoots (image lost : List (List ℕ)) (fields : ThinFields) : Typ
   pub fitting : are_fitting (lost_graph lost fields.data_map.blocks) lost fields.mapping_root fields.details_root ≡ true
   pub devices : (transaction block_size : ℕ) (roots : FoundRoots) → roots.top ≡ fields.mapping_root → roots.details ≡ fields.details_root
       → (found_pool (lost_graph lost fields.data_map.blocks) lost transaction block_size roots).devices ≡ (thin_meaning image).devices
-  pub found : (found : Option FoundRoots) → IsFound (lost_graph lost fields.data_map.blocks) lost found → FindsAsMany (mappings_of (thin_meaning image)) found
+  pub found : (found : Option FoundRoots) → IsFound (lost_graph lost fields.data_map.blocks) lost found → FindsNoEarlier (state_of (thin_meaning image)) found
 
 -- a search is to read an image whose block 0 was lost, and that had no faults up to the stage Whole before
 pub record IsLostPool (image lost : List (List ℕ)) (before : Objects) : Type 0 where
@@ -105,7 +122,7 @@ pub record IsLostPool (image lost : List (List ℕ)) (before : Objects) : Type 0
   pub lost_is : IsImage lost
   pub read : before.input.held ≡ Some lost
 
--- what is made means a pool with no fewer mappings than the image
-abbrev pub HoldsNoFewer : List (List ℕ) → Objects → Objects → Type 0
-HoldsNoFewer image before after = IfSome before.output.held (λ base.
-    IfSome after.output.held (λ made. mappings_of (thin_meaning image) ≤ mappings_of (thin_meaning made)))
+-- what is made means a pool whose state is no earlier than the image's
+abbrev pub HoldsNoEarlier : List (List ℕ) → Objects → Objects → Type 0
+HoldsNoEarlier image before after = IfSome before.output.held (λ base.
+    IfSome after.output.held (λ made. is_greater (state_of (thin_meaning image)) (state_of (thin_meaning made)) ≡ false))

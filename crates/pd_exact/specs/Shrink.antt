@@ -1,7 +1,8 @@
+-- Trusted base.
 -- What a shrink leaves, where the devices tell what they hold.
 use Rattle.std.specs.Prelude.{◌≡◌, ◌⊎◌, ℕ, ◌*◌, min, List, map, take, Some, IfSome}
 use Rattle.pd_kinds.specs.declared.kind.Kind.TheVariants.{Thin}
-use Rattle.pd_kinds.specs.Crash.{HoldsSynced, IsOldNoneOrMade, IsUntouched, LeavesOnly}
+use Rattle.pd_kinds.specs.Crash.{HoldsSynced, IsOldNoneOrMade, IsSynced, IsUntouched, LeavesOnly, may_leave, moment}
 use Rattle.pd_kinds.specs.Image.{IsImage}
 use Rattle.pd_kinds.specs.Meaning.{Mapping, ThinDevice, ThinPool, thin_meaning}
 use Rattle.pd_kinds.specs.Stages.{IsClean}
@@ -67,6 +68,11 @@ pub record KeepsReads (blocks : ℕ) (image held : List (List ℕ)) (before afte
   -- the output isn't written before the moved blocks are in their places
   pub order : IsUntouched before.output after.output
       ⊎ IfSome after.third.held (λ left. AreMoved blocks image held left before after)
+  -- a crash of both at the call's end leaves of an output of which nothing was unsynced, by no chance, what it was, no valid
+  -- superblock, or a smaller pool that reads the same on what is left of the data device
+  pub together : IsSynced before.output → (smaller firsts left others : List (List ℕ)) → may_leave after.output (moment after.output) smaller firsts
+      → may_leave after.third (moment after.third) left others
+      → IfSome before.output.held (λ base. IsOldNoneOrMade base (λ made. IsShrunk blocks image held made left) smaller firsts)
 
 abbrev pub LeavesReads : ℕ → Objects → Objects → Type 0
 LeavesReads blocks before after = BothTold before (λ image held. IsImage image → KeepsReads blocks image held before after)

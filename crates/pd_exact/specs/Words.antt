@@ -1,8 +1,10 @@
+-- Trusted base.
 -- What status 0 says to whoever gave the words of a command line: of what was read, of what was put to `out`, and of what
 -- the output holds.
 use Rattle.std.specs.Prelude.{◌≡◌, ℕ, true, List, [], ◌∷◌, Option, Some, None, IfSome, codes}
 use Rattle.pd_kinds.specs.declared.kind.Kind.{Kind}
-use Rattle.pd_kinds.specs.declared.kind.Kind.TheVariants.{Thin}
+use Rattle.pd_kinds.specs.declared.kind.Kind.TheVariants.{Thin, Cache, Era}
+use Rattle.pd_kinds.specs.declared.kind.Passing.{Passing}
 use Rattle.pd_kinds.specs.declared.kind.Stage.TheVariants.{Whole}
 use Rattle.pd_kinds.specs.Crash.{HoldsSynced}
 use Rattle.pd_kinds.specs.Image.{IsImage}
@@ -18,7 +20,7 @@ use Rattle.pd_answers.specs.Generated.{generated_text}
 use Rattle.pd_answers.specs.Promises.{image_text, terms_of}
 use Rattle.pd_answers.specs.Terms.{IsAnswered}
 use Rattle.pd_answers.specs.Words.{asked, is_value}
-use Rattle.pd_exact.specs.Exact.{IsOfText, TellsClean}
+use Rattle.pd_exact.specs.Exact.{IsOfText, LosesNothing, TellsClean, TellsPassed}
 
 -- a call that was given the words, without the program's own name, ended with this status
 abbrev pub CallEnds : List (List ℕ) → ℕ → Objects → Objects → Type 0
@@ -41,6 +43,20 @@ in_version (Some word) = codes "--metadata-version" ∷ word ∷ []
 -- the status of a check tells whether the image is clean
 abbrev pub TellsWhetherClean : Kind → Objects → Objects → ℕ → Type 0
 TellsWhetherClean kind before after status = IfSome before.input.held (TellsClean kind before after status)
+
+-- or whether it passes
+abbrev pub TellsWhetherPassed : Passing → Kind → Objects → Objects → ℕ → Type 0
+TellsWhetherPassed passing kind before after status = IfSome before.input.held (TellsPassed passing kind before after status)
+
+-- the image that was read loses nothing
+abbrev pub InputLosesNothing : Kind → Objects → Type 0
+InputLosesNothing kind before = IfSome before.input.held (LosesNothing kind)
+
+-- the name of the check of a kind
+abbrev pub check_name : Kind → List ℕ
+check_name Thin = codes "thin_check"
+check_name Cache = codes "cache_check"
+check_name Era = codes "era_check"
 
 -- the image has no faults up to the stage Whole, and these bytes were put to `out`
 pub record PutsOfSound (kind : Kind) (bytes : List ℕ) (image : List (List ℕ)) (before after : Objects) : Type 0 where

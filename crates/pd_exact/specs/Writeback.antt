@@ -1,8 +1,9 @@
+-- Trusted base.
 -- What a writeback leaves, where all three devices tell what they hold.
 use Rattle.std.specs.Prelude.{◌≡◌, ◌⊎◌, ℕ, List, [], Some, IfSome}
 use Rattle.pd_kinds.specs.declared.kind.Kind.TheVariants.{Cache}
 use Rattle.pd_kinds.specs.declared.kind.Stage.TheVariants.{Whole}
-use Rattle.pd_kinds.specs.Crash.{Chance, HasNoSuper, HoldsSynced, IsUntouched, LeavesOnly}
+use Rattle.pd_kinds.specs.Crash.{Chance, HasNoSuper, HoldsSynced, IsUntouched, LeavesOnly, may_leave, moment}
 use Rattle.pd_kinds.specs.Image.{IsImage}
 use Rattle.pd_kinds.specs.Meaning.{cache_meaning}
 use Rattle.pd_kinds.specs.Stages.{IsClean, faults}
@@ -48,6 +49,18 @@ pub record KeepsTheView (image origin fast : List (List ℕ)) (before after : Ob
   -- unless the metadata wasn't touched, the origin reads alone what the cached device read, with nothing unsynced
   pub order : IsUntouched before.input after.input
       ⊎ IfSome after.output.held (λ left. ReadsAlone image origin fast left × HoldsSynced left after.output)
+  -- a crash of both at the call's end leaves, by no chance, a cached device that reads the same, or no valid superblock, and then an
+  -- origin that reads so alone
+  pub together : (metadata firsts left others : List (List ℕ)) → may_leave after.input (moment after.input) metadata firsts → Chance metadata firsts
+      → may_leave after.output (moment after.output) left others
+      → (view metadata left fast ≡ view image origin fast) ⊎ (HasNoSuper metadata × ReadsAlone image origin fast left)
+  -- it reads so alone where neither it nor the fast device failed, or it was left alone
+  pub origin_kept : after.output.faults ≡ before.output.faults → after.third.faults ≡ before.third.faults
+      → IsUntouched before.output after.output ⊎ IfSome after.output.held (λ left. ReadsAlone image origin fast left × HoldsSynced left after.output)
+  -- metadata that didn't fail was left alone, or reads the same over any origin and fast device, with nothing unsynced
+  pub metadata_kept : after.input.faults ≡ before.input.faults
+      → IsUntouched before.input after.input
+      ⊎ IfSome after.input.held (λ left. ((other : List (List ℕ)) → view left other fast ≡ view image other fast) × HoldsSynced left after.input)
 
 abbrev pub LeavesTheView : Objects → Objects → Type 0
 LeavesTheView before after = AllTold before (λ image origin fast. IsImage image → KeepsTheView image origin fast before after)

@@ -1,18 +1,25 @@
+//! What checks tell, and what restored, dumped and cleared pools are.
+
 ghost use Rattle.std.specs.Prelude.{◌≡◌, ◌⊎◌, ℕ, false, List, [], IfSome};
 ghost use Rattle.pd_kinds.specs.declared.kind.Kind.{Kind};
+ghost use Rattle.pd_kinds.specs.declared.kind.Flagged.{Flagged};
+ghost use Rattle.pd_kinds.specs.declared.kind.Flagged.TheVariants.{Pool};
 ghost use Rattle.pd_kinds.specs.declared.kind.Kind.TheVariants.{Thin};
+ghost use Rattle.pd_kinds.specs.declared.kind.Passing.{Passing};
+ghost use Rattle.pd_kinds.specs.declared.kind.Passing.TheVariants.{Leaks};
 ghost use Rattle.pd_kinds.specs.declared.kind.Stage.{Stage};
+ghost use Rattle.pd_kinds.specs.Flagged.{kind_of};
 ghost use Rattle.pd_kinds.specs.Image.{IsImage};
 ghost use Rattle.pd_kinds.specs.Meaning.{thin_meaning};
 ghost use Rattle.pd_kinds.specs.Stages.{faults};
 ghost use Rattle.pd_laws.specs.InOrder.{LooksAtOrder};
 ghost use Rattle.pd_answers.specs.Answer.{NoFaults, Objects};
 ghost use Rattle.pd_answers.specs.Flag.{cleared, needs_check};
-ghost use Rattle.pd_exact.specs.Exact.{HoldsCleared, HoldsPoolOfText, IsCheckAnswered, IsClearingAnswered, IsDumpOf, IsRestoreAnswered, LeavesPoolOfText, TellsClean};
+ghost use Rattle.pd_exact.specs.Exact.{HoldsCleared, HoldsPoolOfText, IsCheckAnswered, IsClearingAnswered, IsDumpOf, IsPassingAnswered, IsRestoreAnswered, LeavesPoolOfText, LosesNothing, TellsClean, TellsPassed};
 
 use crate::shared::laid_shapes_are_clean;
 use pd_alike::{alike_pools_have_the_same_faults, alike_pools_mean_the_same};
-use pd_laws::faults_are_none_where_clean;
+use pd_laws::{faults_are_none_where_clean, leaks_alone_lose_nothing, reports_tell_leaks};
 use pd_shape_verdicts::pool_text_is_accepted_where_there_is_room;
 use pd_shapes::{
     either_version_spells_a_shape, pool_text_has_one_shape, pool_text_has_one_verdict,
@@ -68,32 +75,49 @@ pub fn checks_tell_clean_images()
     faults_are_none_where_clean();
 }
 
-/// So does a check of a pool that clears the flag "needs check": its status says whether the image was clean that it read.
-pub fn clearing_checks_tell_clean_pools()
-    ensures { (path : List ℕ) (before after : Objects) (status : ℕ) → IsClearingAnswered path before after status
-        → IfSome before.input.held (TellsClean Thin before after status) }
+/// A check in which leaks pass tells by its status whether each fault of the image is a leak, also those past the first thousand:
+/// 0 says that it is so, 1 that it isn't. At status 0 the image has no fault up to the stage Whole, and no stored count is below its
+/// references.
+pub fn passing_checks_tell_leaks()
+    ensures tells { (kind : Kind) (path : List ℕ) (before after : Objects) (status : ℕ) → IsPassingAnswered kind path before after status
+        → IfSome before.input.held (TellsPassed Leaks kind before after status) }
+    ensures nothing_lost { (kind : Kind) (path : List ℕ) (before after : Objects) → IsPassingAnswered kind path before after 0
+        → IfSome before.input.held (LosesNothing kind) }
 {
-    faults_are_none_where_clean();
+    leaks_alone_lose_nothing();
+    reports_tell_leaks();
 }
 
-/// A pool without faults up to a stage has none up to it once its flag "needs check" is cleared; where that is the stage Order
-/// or a later one, it means what it meant. The flag then isn't set.
+/// So does a check of a pool or a cache that clears the flag "needs check": its status says whether the image passed that it read.
+pub fn clearing_checks_tell_what_passes()
+    ensures { (flagged : Flagged) (passing : Passing) (path : List ℕ) (before after : Objects) (status : ℕ) → IsClearingAnswered flagged passing path before after status
+        → IfSome before.input.held (TellsPassed passing (kind_of flagged) before after status) }
+{
+    faults_are_none_where_clean();
+    reports_tell_leaks();
+}
+
+/// A pool without faults up to some stage, so without any in its superblock, has the faults up to each stage that it had once its flag
+/// "needs check" is cleared: where it has none up to a stage, it has none. Where that is the stage Order or a later one, it means what it
+/// meant. The flag then isn't set.
 pub fn cleared_pools_stay_clean()
-    ensures clean { (until : Stage) (image : List (List ℕ)) → IsImage image → faults Thin until image ≡ [] → faults Thin until (cleared image) ≡ [] }
+    ensures same { (some until : Stage) (image : List (List ℕ)) → IsImage image → faults Thin some image ≡ [] → faults Thin until (cleared Pool image) ≡ faults Thin until image }
+    ensures clean { (until : Stage) (image : List (List ℕ)) → IsImage image → faults Thin until image ≡ [] → faults Thin until (cleared Pool image) ≡ [] }
     ensures meaning { (until : Stage) (image : List (List ℕ)) → IsImage image → LooksAtOrder until → faults Thin until image ≡ []
-        → thin_meaning (cleared image) ≡ thin_meaning image }
-    ensures unset { (image : List (List ℕ)) → IsImage image → needs_check (cleared image) ≡ false }
+        → thin_meaning (cleared Pool image) ≡ thin_meaning image }
+    ensures unset { (image : List (List ℕ)) → IsImage image → needs_check Pool (cleared Pool image) ≡ false }
 {
     alike_pools_have_the_same_faults();
     alike_pools_mean_the_same();
 }
 
-/// At status 0 of a check that clears the flag, the device holds, with nothing unsynced, an image that is clean, means what
-/// it meant before, and whose flag isn't set.
+/// At status 0 of a check of a pool that clears the flag, the device holds, with nothing unsynced, an image that is clean, or, where
+/// leaks pass, has leaks alone, means what it meant before, and whose flag isn't set.
 pub fn cleared_pool_is_clean()
-    ensures { (path : List ℕ) (before after : Objects) → IsClearingAnswered path before after 0 → HoldsCleared before after }
+    ensures { (passing : Passing) (path : List ℕ) (before after : Objects) → IsClearingAnswered Pool passing path before after 0 → HoldsCleared passing before after }
 {
-    clearing_checks_tell_clean_pools();
+    clearing_checks_tell_what_passes();
     cleared_pools_stay_clean();
     faults_are_none_where_clean();
+    leaks_alone_lose_nothing();
 }

@@ -20,11 +20,11 @@ pub use caches::{
 };
 pub use laws::{
     checks_tell_clean_images, cleared_pool_is_clean, cleared_pools_stay_clean,
-    clearing_checks_tell_clean_pools, crashed_restore_leaves_no_other_pool,
-    restored_dump_means_the_same, restored_pool_is_clean,
+    clearing_checks_tell_what_passes, crashed_restore_leaves_no_other_pool,
+    passing_checks_tell_leaks, restored_dump_means_the_same, restored_pool_is_clean,
 };
 pub use repairs::{
-    crashed_repair_leaves_no_other_pool, repaired_pool_is_clean,
+    crashed_repair_leaves_no_other_pool, repaired_pool_is_clean, repaired_pool_sees_sharing,
     repaired_sound_pool_means_the_same, saved_pools_are_lawful,
 };
 pub use searches::{
@@ -38,13 +38,14 @@ pub use targets::{
     restored_target_is_clean, sound_targets_are_lawful,
 };
 pub use words::{
-    cache_check_tells_clean, cache_dump_puts_the_text, cache_restore_makes_the_cache,
-    cache_writeback_leaves_nothing_dirty, era_check_tells_clean, era_dump_puts_the_text,
-    era_invalidate_puts_the_written_blocks, era_restore_makes_the_target, thin_check_tells_clean,
+    cache_check_tells_clean, cache_check_tells_what_passes, cache_dump_puts_the_text,
+    cache_restore_makes_the_cache, cache_writeback_leaves_nothing_dirty, checks_let_leaks_pass,
+    era_check_tells_clean, era_dump_puts_the_text, era_invalidate_puts_the_written_blocks,
+    era_restore_makes_the_target, thin_check_lets_leaks_pass_and_clears, thin_check_tells_clean,
     thin_check_tells_clean_and_clears, thin_dump_puts_the_text, thin_generate_puts_its_text,
     thin_ls_puts_the_devices, thin_rehearse_makes_its_pool, thin_repair_finds_the_roots,
-    thin_repair_makes_what_is_saved, thin_restore_is_asked, thin_restore_makes_the_pool,
-    thin_rmap_puts_the_mappings, thin_shared_dump_puts_the_shape,
+    thin_repair_makes_what_is_saved, thin_repair_sees_sharing, thin_restore_is_asked,
+    thin_restore_makes_the_pool, thin_rmap_puts_the_mappings, thin_shared_dump_puts_the_shape,
     thin_shrink_makes_the_pool_smaller,
 };
 pub use writebacks::{stopped_writeback_keeps_the_view, written_back_cache_is_clean};

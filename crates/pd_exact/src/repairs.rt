@@ -1,3 +1,5 @@
+//! What a repaired pool is.
+
 ghost use Rattle.std.specs.Prelude.{◌≡◌, ◌⊎◌, ◌≤◌, ℕ, List, [], IfSome, length};
 ghost use Rattle.pd_kinds.specs.declared.kind.Kind.TheVariants.{Thin};
 ghost use Rattle.pd_kinds.specs.declared.kind.Stage.TheVariants.{Super};
@@ -10,6 +12,7 @@ ghost use Rattle.pd_spells.specs.Lawful.{IsLawfulPool};
 ghost use Rattle.pd_spells.specs.ThinNeed.{thin_need};
 ghost use Rattle.pd_answers.specs.Answer.{NoFaults, Objects};
 ghost use Rattle.pd_exact.specs.Exact.{HoldsSalvage, IsRepairAnswered, IsSoundRepair, LeavesSalvage};
+ghost use Rattle.pd_exact.specs.Sharing.{HasTimesOfSharing, IsDamagedPool, IsKeptPool, SeesSharingWhere};
 
 use pd_laid::sound_pool_is_saved;
 use pd_laid_thin::laid_pool_is_clean;
@@ -35,6 +38,19 @@ pub fn crashed_repair_leaves_no_other_pool()
 {
     saved_pools_are_lawful();
     laid_pool_is_clean();
+}
+
+/// At status 0 sharing is seen in the pool that the output holds: a kernel copies each data block that another place leads to
+/// before it writes to it. So it is where what is saved has the times that kernels keep, and so where the input was a pool that
+/// kernels kept, and blocks behind its superblock were damaged, whichever details are lost by that.
+pub fn repaired_pool_sees_sharing()
+    ensures saved { (from to : List ℕ) (before after : Objects) → IsRepairAnswered from to before after 0 → SeesSharingWhere HasTimesOfSharing before after }
+    ensures damaged { (whole : List (List ℕ)) (from to : List ℕ) (before after : Objects) → IsKeptPool whole
+        → IsRepairAnswered from to before after 0 → SeesSharingWhere (IsDamagedPool whole) before after }
+{
+    saved_pools_are_lawful();
+    laid_pool_is_clean();
+    sound_pool_is_saved();
 }
 
 /// A pool without faults up to the stage Whole is repaired, where there is room for it, nothing fails and memory isn't

@@ -1,27 +1,31 @@
 //! What status 0 says of each tool, over the words that were given and what the objects hold before and after the call.
 
 ghost use Rattle.std.specs.Prelude.{◌≡◌, ◌^◌, ◌∷◌, ◌++◌, [], List, ℕ, IfSome, Option, Some, codes, true};
+ghost use Rattle.pd_kinds.specs.declared.kind.Kind.{Kind};
 ghost use Rattle.pd_kinds.specs.declared.kind.Kind.TheVariants.{Cache, Era, Thin};
+ghost use Rattle.pd_kinds.specs.declared.kind.Passing.TheVariants.{Nothing, Leaks};
 ghost use Rattle.pd_kinds.specs.Meaning.{cache_meaning, era_meaning, thin_meaning};
 ghost use Rattle.pd_spells.specs.CacheText.{SpellsCache};
 ghost use Rattle.pd_spells.specs.EraText.{SpellsEra};
 ghost use Rattle.pd_spells.specs.ThinText.{SpellsPool};
 ghost use Rattle.pd_answers.specs.Answer.{Objects};
+ghost use Rattle.pd_answers.specs.Outputs.{IsWorkDone};
 ghost use Rattle.pd_answers.specs.QueryLines.{list_lines, rmap_lines, since_lines};
 ghost use Rattle.pd_answers.specs.Requests.{restore};
 ghost use Rattle.pd_answers.specs.Words.{Region, asked, generated_number, is_value, number_below, region_of, version_of};
 ghost use Rattle.pd_exact.specs.Exact.{HoldsCacheOfText, HoldsCleared, HoldsPoolOfText, HoldsSalvage, HoldsTargetOfText};
-ghost use Rattle.pd_exact.specs.Search.{HasNoRoots, HoldsFoundPool, NumberWords, SayNumbers, with_numbers};
+ghost use Rattle.pd_exact.specs.Sharing.{HasTimesOfSharing, IsDamagedPool, IsKeptPool, SeesSharingWhere};
+ghost use Rattle.pd_exact.specs.Search.{HasNoRoots, HoldsBestPool, HoldsFoundPool, NumberWords, SayNumbers, with_numbers};
 ghost use Rattle.pd_exact.specs.Shrink.{HoldsShrunk};
-ghost use Rattle.pd_exact.specs.Words.{CallEnds, HoldsGenerated, IsName, PutsGenerated, PutsOfInput, PutsShapeOfInput, PutsTextOfInput, TellsWhetherClean, in_version, to_file};
+ghost use Rattle.pd_exact.specs.Words.{CallEnds, HoldsGenerated, InputLosesNothing, IsName, PutsGenerated, PutsOfInput, PutsShapeOfInput, PutsTextOfInput, TellsWhetherClean, TellsWhetherPassed, check_name, in_version, to_file};
 ghost use Rattle.pd_exact.specs.Writeback.{HoldsWrittenBack};
 
 use crate::caches::{restored_cache_is_clean, sound_caches_are_lawful};
 use crate::laws::{
-    checks_tell_clean_images, cleared_pool_is_clean, clearing_checks_tell_clean_pools,
-    restored_pool_is_clean,
+    checks_tell_clean_images, cleared_pool_is_clean, clearing_checks_tell_what_passes,
+    passing_checks_tell_leaks, restored_pool_is_clean,
 };
-use crate::repairs::repaired_pool_is_clean;
+use crate::repairs::{repaired_pool_is_clean, repaired_pool_sees_sharing};
 use crate::searches::searched_pool_is_clean;
 use crate::shared::laid_shapes_are_clean;
 use crate::shrinks::shrunk_pool_is_clean_and_reads_the_same;
@@ -61,10 +65,40 @@ pub fn era_check_tells_clean()
 /// it is still clean, means what it meant, and its flag "needs check" isn't set, with nothing unsynced.
 pub fn thin_check_tells_clean_and_clears()
     ensures tells { (image : List ℕ) (before after : Objects) (status : ℕ) → IsName image → CallEnds (codes "thin_check" ∷ codes "--clear-needs-check-flag" ∷ image ∷ []) status before after → TellsWhetherClean Thin before after status }
-    ensures clears { (image : List ℕ) (before after : Objects) → IsName image → CallEnds (codes "thin_check" ∷ codes "--clear-needs-check-flag" ∷ image ∷ []) 0 before after → HoldsCleared before after }
+    ensures clears { (image : List ℕ) (before after : Objects) → IsName image → CallEnds (codes "thin_check" ∷ codes "--clear-needs-check-flag" ∷ image ∷ []) 0 before after → HoldsCleared Nothing before after }
 {
-    clearing_checks_tell_clean_pools();
+    clearing_checks_tell_what_passes();
     cleared_pool_is_clean();
+}
+
+/// `thin_check --ignore-non-fatal-errors IMAGE`, and `cache_check` and `era_check` so: status 0 says that each fault of the image is a
+/// leak, if it has any, and 1 that another one is none. At status 0 nothing is lost: the image has no fault up to the stage Whole, and no
+/// block that is used has a stored count below its references.
+pub fn checks_let_leaks_pass()
+    ensures tells { (kind : Kind) (image : List ℕ) (before after : Objects) (status : ℕ) → IsName image → CallEnds (check_name kind ∷ codes "--ignore-non-fatal-errors" ∷ image ∷ []) status before after → TellsWhetherPassed Leaks kind before after status }
+    ensures nothing_lost { (kind : Kind) (image : List ℕ) (before after : Objects) → IsName image → CallEnds (check_name kind ∷ codes "--ignore-non-fatal-errors" ∷ image ∷ []) 0 before after → InputLosesNothing kind before }
+{
+    passing_checks_tell_leaks();
+}
+
+/// `thin_check --ignore-non-fatal-errors --clear-needs-check-flag IMAGE`: status 0 says that each fault of the pool's image was a leak, if
+/// it had any, and 1 that another one was none. At status 0 it still has leaks alone, means what it meant, and its flag "needs check"
+/// isn't set, with nothing unsynced.
+pub fn thin_check_lets_leaks_pass_and_clears()
+    ensures tells { (image : List ℕ) (before after : Objects) (status : ℕ) → IsName image → CallEnds (codes "thin_check" ∷ codes "--ignore-non-fatal-errors" ∷ codes "--clear-needs-check-flag" ∷ image ∷ []) status before after → TellsWhetherPassed Leaks Thin before after status }
+    ensures clears { (image : List ℕ) (before after : Objects) → IsName image → CallEnds (codes "thin_check" ∷ codes "--ignore-non-fatal-errors" ∷ codes "--clear-needs-check-flag" ∷ image ∷ []) 0 before after → HoldsCleared Leaks before after }
+{
+    clearing_checks_tell_what_passes();
+    cleared_pool_is_clean();
+}
+
+/// `cache_check --clear-needs-check-flag IMAGE`, with `--ignore-non-fatal-errors` before it or not: status 0 says that the cache's image
+/// was clean, or had leaks alone, and 1 that it wasn't so.
+pub fn cache_check_tells_what_passes()
+    ensures clean { (image : List ℕ) (before after : Objects) (status : ℕ) → IsName image → CallEnds (codes "cache_check" ∷ codes "--clear-needs-check-flag" ∷ image ∷ []) status before after → TellsWhetherClean Cache before after status }
+    ensures leaks { (image : List ℕ) (before after : Objects) (status : ℕ) → IsName image → CallEnds (codes "cache_check" ∷ codes "--ignore-non-fatal-errors" ∷ codes "--clear-needs-check-flag" ∷ image ∷ []) status before after → TellsWhetherPassed Leaks Cache before after status }
+{
+    clearing_checks_tell_what_passes();
 }
 
 /// `thin_dump IMAGE`, to a file or not: status 0 says that the image has no faults up to the stage Whole, and that a text of the
@@ -136,11 +170,22 @@ pub fn thin_repair_makes_what_is_saved()
     repaired_pool_is_clean();
 }
 
+/// `thin_repair -i IMAGE -o IMAGE`: status 0 says that sharing is seen in the pool that the output holds, where what is saved has the
+/// times that kernels keep, and so where the input was a pool that kernels kept, with blocks behind its superblock damaged.
+pub fn thin_repair_sees_sharing()
+    ensures saved { (from to : List ℕ) (before after : Objects) → IsName from → IsName to → CallEnds (codes "thin_repair" ∷ codes "-i" ∷ from ∷ codes "-o" ∷ to ∷ []) 0 before after → SeesSharingWhere HasTimesOfSharing before after }
+    ensures damaged { (whole : List (List ℕ)) (from to : List ℕ) (before after : Objects) → IsKeptPool whole → IsName from → IsName to → CallEnds (codes "thin_repair" ∷ codes "-i" ∷ from ∷ codes "-o" ∷ to ∷ []) 0 before after → SeesSharingWhere (IsDamagedPool whole) before after }
+{
+    repaired_pool_sees_sharing();
+}
+
 /// `thin_repair -i IMAGE -o IMAGE --transaction-id TRANSACTION --data-block-size SIZE --nr-data-blocks BLOCKS`: status 0 says that
 /// the output is clean and means the pool of the input's best roots, whatever its block 0 holds, with nothing unsynced, and that
-/// these roots were put; status 1 says that no two trees of the input fit each other.
+/// these roots were put; status 1 says that no two trees of the input fit each other. The output is so under any status once `out` was
+/// touched, whether or not the line of the roots was put whole.
 pub fn thin_repair_finds_the_roots()
     ensures found { (from to : List ℕ) (words : NumberWords) (transaction block_size blocks : ℕ) (before after : Objects) → IsName from → IsName to → SayNumbers words transaction block_size blocks → CallEnds (codes "thin_repair" ∷ codes "-i" ∷ from ∷ codes "-o" ∷ to ∷ with_numbers words) 0 before after → HoldsFoundPool transaction block_size blocks before after }
+    ensures made { (from to : List ℕ) (words : NumberWords) (transaction block_size blocks : ℕ) (before after : Objects) (status : ℕ) → IsName from → IsName to → SayNumbers words transaction block_size blocks → CallEnds (codes "thin_repair" ∷ codes "-i" ∷ from ∷ codes "-o" ∷ to ∷ with_numbers words) status before after → IsWorkDone before after status → HoldsBestPool transaction block_size blocks before after }
     ensures none { (from to : List ℕ) (words : NumberWords) (transaction block_size blocks : ℕ) (before after : Objects) → IsName from → IsName to → SayNumbers words transaction block_size blocks → CallEnds (codes "thin_repair" ∷ codes "-i" ∷ from ∷ codes "-o" ∷ to ∷ with_numbers words) 1 before after → HasNoRoots blocks before after }
 {
     searched_pool_is_clean();
@@ -170,9 +215,9 @@ pub fn thin_generate_puts_its_text()
 {}
 
 /// `thin_rehearse --number NUMBER -o IMAGE`: status 0 says that the image is clean and means the pool of the generator's
-/// text of the number, with nothing unsynced.
+/// text of the number, with nothing unsynced. So it does under any status once `out` was touched: its line comes last.
 pub fn thin_rehearse_makes_its_pool()
-    ensures { (word : List ℕ) (number : ℕ) (path : List ℕ) (before after : Objects) → IsName word → generated_number word ≡ Some number → IsName path → CallEnds (codes "thin_rehearse" ∷ codes "--number" ∷ word ∷ codes "-o" ∷ path ∷ []) 0 before after → HoldsGenerated number before after }
+    ensures { (word : List ℕ) (number : ℕ) (path : List ℕ) (before after : Objects) (status : ℕ) → IsName word → generated_number word ≡ Some number → IsName path → CallEnds (codes "thin_rehearse" ∷ codes "--number" ∷ word ∷ codes "-o" ∷ path ∷ []) status before after → IsWorkDone before after status → HoldsGenerated number before after }
 {
     laid_shapes_are_clean();
     generated_text_spells_a_pool();
@@ -184,18 +229,18 @@ pub fn thin_rehearse_makes_its_pool()
 
 /// `cache_writeback --metadata-device IMAGE --fast-device IMAGE --origin-device IMAGE`: status 0 says that nothing in the cache is dirty,
 /// that it is as sound as it was, and that the origin reads alone what the cached device read, where the blocks that weren't copied are the
-/// same on both devices, with nothing unsynced.
+/// same on both devices, with nothing unsynced. So it is under any status once `out` was touched.
 pub fn cache_writeback_leaves_nothing_dirty()
-    ensures { (metadata fast origin : List ℕ) (before after : Objects) → IsName metadata → IsName fast → IsName origin → CallEnds (codes "cache_writeback" ∷ codes "--metadata-device" ∷ metadata ∷ codes "--fast-device" ∷ fast ∷ codes "--origin-device" ∷ origin ∷ []) 0 before after → HoldsWrittenBack before after }
+    ensures { (metadata fast origin : List ℕ) (before after : Objects) (status : ℕ) → IsName metadata → IsName fast → IsName origin → CallEnds (codes "cache_writeback" ∷ codes "--metadata-device" ∷ metadata ∷ codes "--fast-device" ∷ fast ∷ codes "--origin-device" ∷ origin ∷ []) status before after → IsWorkDone before after status → HoldsWrittenBack before after }
 {
     written_back_cache_is_clean();
 }
 
 /// `thin_shrink -i IMAGE -o IMAGE --data IMAGE --nr-blocks NUMBER`: status 0 says that the output is a clean pool with at most so many data
 /// blocks, the same devices and the same virtual blocks, and that each device reads by it, on the data device as it is then or cut to
-/// the pool's data blocks, what it read before by the input, with nothing unsynced.
+/// the pool's data blocks, what it read before by the input, with nothing unsynced. So it is under any status once `out` was touched.
 pub fn thin_shrink_makes_the_pool_smaller()
-    ensures { (from to pool word : List ℕ) (blocks : ℕ) (before after : Objects) → IsName from → IsName to → IsName pool → IsName word → number_below (2 ^ 64) word ≡ Some blocks → CallEnds (codes "thin_shrink" ∷ codes "-i" ∷ from ∷ codes "-o" ∷ to ∷ codes "--data" ∷ pool ∷ codes "--nr-blocks" ∷ word ∷ []) 0 before after → HoldsShrunk blocks before after }
+    ensures { (from to pool word : List ℕ) (blocks : ℕ) (before after : Objects) (status : ℕ) → IsName from → IsName to → IsName pool → IsName word → number_below (2 ^ 64) word ≡ Some blocks → CallEnds (codes "thin_shrink" ∷ codes "-i" ∷ from ∷ codes "-o" ∷ to ∷ codes "--data" ∷ pool ∷ codes "--nr-blocks" ∷ word ∷ []) status before after → IsWorkDone before after status → HoldsShrunk blocks before after }
 {
     shrunk_pool_is_clean_and_reads_the_same();
 }

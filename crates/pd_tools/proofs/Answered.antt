@@ -6,14 +6,14 @@ use Rattle.pd_kinds.specs.Crash.{IsUntouched}
 use Rattle.pd_spells.specs.Lines.{device_line, sink_line, memory_line}
 use Rattle.pd_answers.specs.Answer.{Objects, AreFresh, NoFaults, DeviceRose, StreamRose, failure_line, Use, unused, reading, writing, IsUsed, AppendsFrontOfOne}
 use Rattle.pd_kinds.proofs.AppendLemmas.{appends_none, front_none, front_from_whole}
-use Rattle.pd_answers.specs.Terms.{Terms, Uses, AreKept, AreUsed, ComesAfter, IsKept, Changes, IsAnswered}
+use Rattle.pd_answers.specs.Terms.{Terms, Uses, AreInOrder, AreKept, AreUsed, ComesAfter, IsKept, Changes, IsAnswered}
 use Rattle.pd_tools.specs.declared.ending.Ending.{Ending}
 use Rattle.pd_tools.specs.declared.ending.Ending.TheVariants.{Done, Faulty, Refused, NoRoom, BlockSize, NoRoots}
 use Rattle.pd_tools.specs.declared.stop.Stop.{Stop}
 use Rattle.pd_tools.specs.declared.stop.Stop.TheVariants.{Device, Stream, Memory}
 use Rattle.pd_tools.specs.Ending.{TellsEnd, ending_line, ending_status}
 use Rattle.pd_tools.specs.Stop.{stop_line, stop_status}
-use Rattle.pd_tools.specs.Work.{IsWork, IsFinished, IsStopped, IsFollowed, AreFollowed, HasCause}
+use Rattle.pd_tools.specs.Work.{AreInTurn, IsWork, IsFinished, IsStopped, IsFollowed, AreFollowed, HasCause}
 use Rattle.pd_tools.specs.Notes.{PutsLine, IsAttachedNotes}
 
 -- a count that was 0 and didn't change hasn't risen
@@ -93,16 +93,38 @@ cause_7 terms before after Device cause e = absurd (omega arith)
 cause_7 terms before after Stream cause e = absurd (omega arith)
 cause_7 terms before after Memory cause e = cause
 
+-- what comes after others comes after `notes` too
+after_notes : (given : Use) (access : ℕ) (Earlier Notes : Type 0) → Notes → ComesAfter given access Earlier → ComesAfter given access (Notes × Earlier)
+after_notes unused access Earlier Notes attached turn = tt
+after_notes (reading path) access Earlier Notes attached turn = λ some. (attached, turn some)
+after_notes (writing path) access Earlier Notes attached turn = λ some. (attached, turn some)
+
+after_notes_alone : (given : Use) (access : ℕ) (Notes : Type 0) → Notes → ComesAfter given access Notes
+after_notes_alone unused access Notes attached = tt
+after_notes_alone (reading path) access Notes attached = λ _. attached
+after_notes_alone (writing path) access Notes attached = λ _. attached
+
+-- the objects of work that was done once `notes` was attached
+in_order : (uses : Uses) (after : Objects) → after.notes.access ≡ 1 → AreInTurn uses after → AreInOrder uses after
+in_order uses after attached turn = record {
+  source = after_notes_alone uses.source after.source.access _ attached;
+  input = after_notes uses.input after.input.access _ _ attached turn.input;
+  output = after_notes uses.output after.output.access _ _ attached turn.output;
+  third = after_notes uses.third after.third.access _ _ attached turn.third;
+  out = after_notes uses.out after.out.access _ _ attached turn.out;
+}
+
 module _ (terms : Terms) (before after : Objects) (fresh : AreFresh before) where
   -- `notes` failed
   answered_lost : (finding : terms.Finding) (wanted : ℕ) → IsWork terms finding before after wanted
+      → AreInOrder terms.uses after
       → terms.leaves finding before after 6
       → AppendsFront (terms.answer finding).out before.out.written after.out.written
       → AppendsFrontOfOne ((terms.answer finding).notes ∷ device_line ∷ sink_line ∷ memory_line ∷ []) before.notes.written after.notes.written
       → Rose before.notes.faults after.notes.faults
       → IsUsed (reading []) after.notes.access after.notes.path
       → IsAnswered terms before after 6
-  answered_lost finding wanted work lost front notes_front rose notes = record {
+  answered_lost finding wanted work order lost front notes_front rose notes = record {
     finding = finding;
     found = work.found;
     sound = λ h. absurd (omega arith);
@@ -118,7 +140,7 @@ module _ (terms : Terms) (before after : Objects) (fresh : AreFresh before) wher
     notes_failed = λ _. refl;
     memory_wanting = λ e. absurd (omega arith);
     used = all_used terms.uses before after fresh work.kept work.followed notes;
-    order = work.order;
+    order = order;
     kept = work.kept;
     open_devices = λ h. absurd (omega arith);
     open_notes = λ ne. absurd (ne refl);
@@ -179,6 +201,12 @@ answered_unattached terms before notes' finding fresh found reads leaves access 
       spared = λ _. refl;
       reads = reads;
       leaves = leaves;
+    }) (record {
+      source = no_turn terms.uses.source before.source.access _ fresh.source.0;
+      input = no_turn terms.uses.input before.input.access _ fresh.input.0;
+      output = no_turn terms.uses.output before.output.access _ fresh.output.0;
+      third = no_turn terms.uses.third before.third.access _ fresh.third.0;
+      out = no_turn terms.uses.out before.out.access _ fresh.out.0;
     }) leaves (front_none _ before.out.written) (inl (rw written (front_none _ before.notes.written))) rose
     (record { allowed = inr (inr access); named = λ _. path })
 
@@ -206,7 +234,7 @@ module _ (terms : Terms) (before after : Objects) (attached : SinkState) (fresh 
         notes_failed = λ rose. absurd (not_risen before.notes.faults after.notes.faults fresh.notes.1 same rose);
         memory_wanting = λ e. absurd (omega arith);
         used = all_used terms.uses before after fresh done.work.kept done.work.followed notes;
-        order = done.work.order;
+        order = in_order terms.uses after access done.work.order;
         kept = done.work.kept;
         open_devices = λ _. done.open_devices;
         open_notes = λ _. access;
@@ -230,7 +258,7 @@ module _ (terms : Terms) (before after : Objects) (attached : SinkState) (fresh 
       let notes = notes_used before.notes attached after.notes was puts.access puts.path in
       elim puts.outcome [
         | inl put ↦ rw put.status (answered_given wanted line done (rw was.written at put.whole) (put.faults ∙ was.faults) (puts.access ∙ was.access) notes)
-        | inr lost ↦ rw lost.status (answered_lost terms before after fresh done.finding wanted done.work six (front_from_whole _ _ _ done.out)
+        | inr lost ↦ rw lost.status (answered_lost terms before after fresh done.finding wanted done.work (in_order terms.uses after (puts.access ∙ was.access) done.work.order) six (front_from_whole _ _ _ done.out)
             (inl (rw (was.written, done.same_line) at puts.front)) (rw was.faults at lost.faults) notes)
       ]
 
@@ -261,7 +289,7 @@ module _ (terms : Terms) (before after : Objects) (attached : SinkState) (fresh 
               notes_failed = λ rose. absurd (not_risen before.notes.faults after.notes.faults fresh.notes.1 same rose);
               memory_wanting = cause_7 terms before after stop stopped.cause;
               used = all_used terms.uses before after fresh stopped.work.kept stopped.work.followed notes;
-              order = stopped.work.order;
+              order = in_order terms.uses after (puts.access ∙ was.access) stopped.work.order;
               kept = stopped.work.kept;
               open_devices = λ h. absurd (omega arith);
               open_notes = λ _. puts.access ∙ was.access;
@@ -270,7 +298,7 @@ module _ (terms : Terms) (before after : Objects) (attached : SinkState) (fresh 
               reads = stopped.work.reads;
               leaves = stopped.work.leaves;
             })
-        | inr lost ↦ rw lost.status (answered_lost terms before after fresh stopped.finding (stop_status stop) stopped.work stopped.lost stopped.front notes_front (rw was.faults at lost.faults) notes)
+        | inr lost ↦ rw lost.status (answered_lost terms before after fresh stopped.finding (stop_status stop) stopped.work (in_order terms.uses after (puts.access ∙ was.access) stopped.work.order) stopped.lost stopped.front notes_front (rw was.faults at lost.faults) notes)
       ]
 
   -- the work ended, and its line was put, or it was stopped

@@ -3,12 +3,14 @@ use Rattle.std.proofs.Common.{[], ℕ, Option, Some, None}
 use Rattle.std.specs.Option.{option_map_or}
 use Rattle.pd_kinds.specs.declared.kind.Kind.{Kind}
 use Rattle.pd_kinds.specs.declared.kind.Kind.TheVariants.{Thin, Cache, Era}
+use Rattle.pd_kinds.specs.declared.kind.Stage.TheVariants.{Counts}
+use Rattle.pd_kinds.specs.Flagged.{kind_of}
 use Rattle.pd_kinds.specs.Objects.{SinkState}
 use Rattle.pd_kinds.specs.Meaning.{thin_meaning, era_meaning}
 use Rattle.pd_kinds.specs.Report.{report_of}
 use Rattle.pd_kinds.specs.Stages.{faults}
 use Rattle.pd_answers.specs.Answer.{Objects, AreFresh}
-use Rattle.pd_answers.specs.Requests.{Request, check, check_and_clear, dump, dump_shared, restore, repair, search, rmap, list_devices, since, generate, rehearse, writeback, shrink}
+use Rattle.pd_answers.specs.Requests.{Request, check, passing_check, check_and_clear, dump, dump_shared, restore, repair, search, rmap, list_devices, since, generate, rehearse, writeback, shrink}
 use Rattle.pd_answers.specs.QueryLines.{list_lines, rmap_lines, since_lines}
 use Rattle.pd_answers.specs.Promises.{image_text, terms_of}
 use Rattle.pd_shapes.specs.ImageShape.{image_shape}
@@ -42,7 +44,12 @@ at_rest (Some (check kind until path)) before notes fresh verdicts = (
   told before.input.held (λ image. report_of (faults kind until image)) (report_of []),
   tt,
 )
-at_rest (Some (check_and_clear path)) before notes fresh verdicts = clearing_at_rest path before notes fresh.input.2
+at_rest (Some (passing_check kind path)) before notes fresh verdicts = (
+  option_map_or (λ image. report_of (faults kind Counts image)) before.input.held (report_of []),
+  told before.input.held (λ image. report_of (faults kind Counts image)) (report_of []),
+  tt,
+)
+at_rest (Some (check_and_clear flagged passing path)) before notes fresh verdicts = clearing_at_rest flagged passing path before notes fresh.input.2
 at_rest (Some (restore Thin version file path)) before notes fresh verdicts =
     restore_at_rest IsPoolTextVerdict is_pool_text_early laid_shape file path before (record before { notes = notes }) before.source before.output fresh.output.2 (verdicts Thin version) fresh.output.0
 at_rest (Some (restore Cache version file path)) before notes fresh verdicts =
@@ -57,7 +64,7 @@ at_rest (Some (rmap first end file path)) before notes fresh verdicts = query_at
 at_rest (Some (list_devices file path)) before notes fresh verdicts = query_at_rest Thin (λ image. list_lines (thin_meaning image)) before.input.held
 at_rest (Some (since era file path)) before notes fresh verdicts = query_at_rest Era (λ image. since_lines era (era_meaning image)) before.input.held
 at_rest (Some (generate number file)) before notes fresh verdicts = (tt, tt, tt)
-at_rest (Some (rehearse number path)) before notes fresh verdicts = rehearse_at_rest number path before (record before { notes = notes }) before.output fresh.output.2 (verdicts Thin 1) fresh.output.0
+at_rest (Some (rehearse number path)) before notes fresh verdicts = rehearse_at_rest number path before notes fresh.output.2 (verdicts Thin 1) fresh.output.0
 at_rest (Some (writeback metadata fast origin)) before notes fresh verdicts = writeback_at_rest metadata fast origin before notes fresh
 at_rest (Some (shrink input output pool blocks)) before notes fresh verdicts = shrink_at_rest input output pool blocks before notes fresh
 at_rest (Some (search from to transaction block_size blocks)) before notes fresh verdicts =
@@ -68,7 +75,8 @@ pub reads_at_rest : (request : Option Request) (before : Objects) (notes : SinkS
     → (terms_of request).reads before (record before { notes = notes })
 reads_at_rest None before notes = tt
 reads_at_rest (Some (check kind until path)) before notes = unread kind before.input.held before.input.reads
-reads_at_rest (Some (check_and_clear path)) before notes = unread Thin before.input.held before.input.reads
+reads_at_rest (Some (passing_check kind path)) before notes = unread kind before.input.held before.input.reads
+reads_at_rest (Some (check_and_clear flagged passing path)) before notes = unread (kind_of flagged) before.input.held before.input.reads
 reads_at_rest (Some (restore Thin version file path)) before notes = tt
 reads_at_rest (Some (restore Cache version file path)) before notes = tt
 reads_at_rest (Some (restore Era version file path)) before notes = tt

@@ -6,21 +6,7 @@ use Rattle.std.proofs.lemmas.Bool.Decides.{nat_tests}
 use Rattle.pd_kinds.specs.Graph.{Graph}
 use Rattle.pd_kinds.specs.Edge.{is_outside}
 use Rattle.pd_laid.specs.FoundRoots.{FoundRoots, IsFound, are_fitting, is_better, is_sound_tree, lost_graph, roots_at}
-
--- no roots are better than themselves
-none_better : (a : FoundRoots) → is_better a a ≡ false
-unfolding is_better
-none_better a = grind (arith, nat_tests)
-
--- of three, each no better than the next, the first is no better than the last
-nor_better : (a b c : FoundRoots) → is_better a b ≡ false → is_better b c ≡ false → is_better a c ≡ false
-unfolding is_better
-nor_better a b c first next = grind (arith, nat_tests)
-
--- of two one is no better
-one_better : (a b : FoundRoots) → is_better a b ≡ true → is_better b a ≡ false
-unfolding is_better
-one_better a b better = grind (arith, nat_tests)
+use Rattle.pd_scan.proofs.OrderLemmas.{not_better_back, not_better_over, not_better_self}
 
 -- candidates, one for each number, where there is one; and what is best of those below n
 abbrev Candidates : Type 0
@@ -52,7 +38,7 @@ next_chosen candidates n None none (Some other) is = (
     place = n;
     below = omega arith;
     candidate = is;
-    others = one_more n (λ k small. rw (none k small) tt) (rw is (none_better other));
+    others = one_more n (λ k small. rw (none k small) tt) (rw is (not_better_self other));
   },
 )
 next_chosen candidates n (Some best) is_best None is = (
@@ -66,7 +52,7 @@ next_chosen candidates n (Some best) is_best (Some other) is = elim (cases_Bool 
       place = n;
       below = omega arith;
       candidate = is;
-      others = one_more n (λ k small. IfSome_then (candidates k) (is_best.others k small) (λ x worse. nor_better x best other worse (one_better other best better))) (rw is (none_better other));
+      others = one_more n (λ k small. IfSome_then (candidates k) (is_best.others k small) (λ x worse. not_better_over x best other worse (not_better_back other best better))) (rw is (not_better_self other));
     },
   )
   | inr worse ↦ (
@@ -136,7 +122,7 @@ module _ (graph : Graph) (image : List (List ℕ)) where
   worse_than best top details fits small None none worse =
       absurd (not_both (roots_at graph image top details) (candidate top details) (none details small) (candidate_is top details fits))
   worse_than best top details fits small (Some other) chosen worse =
-      nor_better (roots_at graph image top details) other best (rw (candidate_is top details fits) at (chosen.others details small)) worse
+      not_better_over (roots_at graph image top details) other best (rw (candidate_is top details fits) at (chosen.others details small)) worse
 
   -- what is chosen of the number of a top is that of its pair
   fits_best : (best : FoundRoots) (top details : ℕ) → are_fitting graph image top details ≡ true → best ≡ roots_at graph image top details

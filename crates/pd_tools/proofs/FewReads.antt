@@ -1,16 +1,17 @@
 -- How often a check reads its image, from what the check of its kind says.
-use Rattle.std.proofs.Common.{◌≡◌, ◌≢◌, ℕ, suc, ◌+◌, ◌*◌, ◌≤◌, cond, nat_lt, List, [], ◌∷◌, length, Option, Some, None, IfSome, refl, ap, sym, ◌∙◌, arith}
+use Rattle.std.proofs.Common.{◌≡◌, ◌≢◌, ℕ, ◌+◌, ◌*◌, ◌≤◌, false, List, [], length, Option, Some, None, IfSome, arith}
 use Rattle.std.proofs.lemmas.Option.{IfSome_then}
-use Rattle.std.proofs.lemmas.Bool.{lt-ltb}
-use Rattle.pd_kinds.specs.declared.kind.Kind.TheVariants.{Thin}
-use Rattle.pd_kinds.specs.declared.fault.Fault.{Fault}
+use Rattle.std.proofs.lemmas.Bool.{false_from_ne_true}
+use Rattle.pd_kinds.specs.declared.kind.Flagged.{Flagged}
+use Rattle.pd_kinds.specs.declared.kind.Passing.{Passing}
 use Rattle.pd_kinds.specs.declared.kind.Kind.{Kind}
 use Rattle.pd_kinds.specs.declared.kind.Stage.{Stage}
 use Rattle.pd_kinds.specs.declared.kind.Stage.TheVariants.{Super, Walk, Order, Whole, Counts}
 use Rattle.pd_kinds.specs.Graph.{block_at, nodes}
-use Rattle.pd_kinds.specs.Stages.{checked_of, faults, first_failing, super_faults}
-use Rattle.pd_kinds.specs.Report.{Reported, report_of}
-use Rattle.pd_laws.proofs.SuperStage.{first_stage}
+use Rattle.pd_kinds.specs.Stages.{faults}
+use Rattle.pd_kinds.specs.Flagged.{kind_of}
+use Rattle.pd_kinds.specs.Report.{Reported, passes, report_of}
+use Rattle.pd_laws.proofs.LeakLemmas.{passing_super}
 use Rattle.pd_check.specs.ByKind.{graph_of_super}
 use Rattle.pd_check.specs.Check as check
 use Rattle.pd_check.specs.Check.{reads_of}
@@ -50,21 +51,11 @@ pub unread : (kind : Kind) (held : Option (List (List ℕ))) (old : ℕ) → IfS
 unread kind None old = tt
 unread kind (Some image) old = record { pairs = omega arith; faulty = λ some. omega arith }
 
--- faults of the first stage are faults up to each
-chosen_some : (list rest : List Fault) → (list ≢ []) → length (cond (nat_lt 0 (length list)) list rest) ≢ 0
-chosen_some [] rest some = absurd (some refl)
-chosen_some (fault ∷ faults) rest some = rw (lt-ltb 0 (suc (length faults)) (omega arith)) (λ e. omega (arith, e))
-
-broken_some : (image : List (List ℕ)) → (faults Thin Super image ≢ []) → length (faults Thin Counts image) ≢ 0
-unfolding faults first_failing
-broken_some image some =
-    chosen_some (super_faults (checked_of Thin image) image) _ (λ none. some (first_stage Thin image ∙ none))
-
--- a check that clears the flag reads block 0 once more, where it reported nothing
-pub few_clearing : (report : Reported) (held : Option (List (List ℕ))) (old read new : ℕ)
-    → IfSome held (λ image. report ≡ report_of (faults Thin Counts image))
-    → IfSome held (λ image. check.ReadsFew Thin Counts image (old + 1) read) → new ≤ read + 1 → (report.total ≢ 0 → new ≡ read)
-    → IfSome held (λ image. ReadsFew Thin image old new)
-few_clearing report held old read new right few one same =
-    few_then Thin Counts held old read new few one (IfSome_then held right (λ image is some.
-    let again = same (λ none. broken_some image some (sym (ap (λ (r : Reported). r.total) is) ∙ none)) in omega arith))
+-- a check that clears the flag reads block 0 once more, where its report passes
+pub few_clearing : (flagged : Flagged) (passing : Passing) (report : Reported) (held : Option (List (List ℕ))) (old read new : ℕ)
+    → IfSome held (λ image. report ≡ report_of (faults (kind_of flagged) Counts image))
+    → IfSome held (λ image. check.ReadsFew (kind_of flagged) Counts image (old + 1) read) → new ≤ read + 1 → (passes passing report ≡ false → new ≡ read)
+    → IfSome held (λ image. ReadsFew (kind_of flagged) image old new)
+few_clearing flagged passing report held old read new right few one same =
+    few_then (kind_of flagged) Counts held old read new few one (IfSome_then held right (λ image is some.
+    let again = same (false_from_ne_true (passes passing report) (λ passed. some (passing_super (kind_of flagged) passing image (rw is at passed)))) in omega arith))

@@ -20,8 +20,8 @@ use Rattle.pd_shapes.specs.SharedNeed.{shape_need}
 use Rattle.pd_image.specs.Device.{AttachesDevice, KeepsPlace}
 use Rattle.pd_answers.specs.Answer.{Objects, IsUsed, reading, writing}
 use Rattle.pd_answers.specs.Generated.{generated_text}
-use Rattle.pd_answers.specs.Outputs.{LeavesMade}
-use Rattle.pd_answers.specs.Rehearsals.{AreNumbers, Rehearsed, rehearse}
+use Rattle.pd_answers.specs.Outputs.{HoldsMade, LeavesMade}
+use Rattle.pd_answers.specs.Rehearsals.{AreNumbers, LeavesRehearsed, Rehearsed, rehearse}
 use Rattle.pd_answers.specs.Restores.{restore_answer}
 use Rattle.pd_answers.specs.Terms.{AreOpen, is_possible}
 use Rattle.pd_rehearse.specs.declared.fault.RehearseFault.{RehearseFault}
@@ -38,8 +38,8 @@ use Rattle.pd_tools.specs.Stop.{stop_status}
 use Rattle.pd_tools.specs.Work.{HasCause, IsFinished, IsStopped}
 use Rattle.pd_tools.proofs.Answered.{stop_status-low}
 use Rattle.pd_tools.proofs.Checks.{not_yet}
-use Rattle.pd_tools.proofs.Works.{Stands, finished_by, finished_early, stopped_by, stopped_early}
-use Rattle.pd_tools.proofs.Restores.{Image, answer_accepted, answer_no_room, here, room-held, room-told, room_in, still_synced, untouched_output}
+use Rattle.pd_tools.proofs.Works.{Stands, finished_by, finished_early, not_done, still_done, stopped_by, stopped_early}
+use Rattle.pd_tools.proofs.Restores.{Image, answer_accepted, answer_no_room, here, left_lost, room-held, room-told, room_in, still_synced, untouched_output}
 
 -- the numbers of a verdict
 abbrev used_in : Verdict ThinShape → ℕ → ℕ
@@ -94,11 +94,28 @@ where_down : (result : Result Rehearsal RehearseFault) {P : Type 0} → MatchRes
 where_down (Ok r) kept is = absurd is
 where_down (Err fault) kept is = kept is
 
+-- an output that was left alone, under each status but 0
+left_alone : (number : ℕ) (rehearsed : Rehearsed) (before after : Objects) (status : ℕ) → IsSynced before.output → after.out ≡ before.out → IsUntouched before.output after.output → status ≢ 0
+    → LeavesRehearsed number rehearsed before after status
+left_alone number rehearsed before after status synced unput same some = record {
+  output = untouched_output (Makes laid_shape rehearsed.room rehearsed.verdict) (is_pool_text_early (generated_text number) rehearsed.room) status before.output after.output synced same some;
+  made = λ done. absurd (not_done before after status some unput done);
+}
+
+-- what is left where a line is lost
+pub rehearsed_lost : (number : ℕ) (rehearsed : Rehearsed) (before after : Objects) (status : ℕ) → LeavesRehearsed number rehearsed before after status
+    → LeavesRehearsed number rehearsed before after 6
+rehearsed_lost number rehearsed before after status left = record {
+  output = left_lost _ _ status before.output after.output left.output;
+  made = λ done. left.made (still_done before after status done);
+}
+
 -- before anything was done
-pub rehearse_at_rest : (number : ℕ) (path : List ℕ) (before after : Objects) (output : DeviceState) → IsSynced output → HaveVerdicts IsPoolTextVerdict → output.access ≡ 0
-    → (finding : Rehearsed) × ((rehearse number path).finds (record before { output = output }) (record after { output = output }) finding)
-    × ((rehearse number path).leaves finding (record before { output = output }) (record after { output = output }) 6)
-rehearse_at_rest number path before after output synced verdicts closed =
+pub rehearse_at_rest : (number : ℕ) (path : List ℕ) (before : Objects) (notes : SinkState) → IsSynced before.output → HaveVerdicts IsPoolTextVerdict → before.output.access ≡ 0
+    → (finding : Rehearsed) × ((rehearse number path).finds before (record before { notes = notes }) finding)
+    × ((rehearse number path).leaves finding before (record before { notes = notes }) 6)
+rehearse_at_rest number path before notes synced verdicts closed =
+    let output = before.output in
     let room = room_in output.held in
     let v = verdicts (generated_text number) room in (
       meant room v.0,
@@ -106,7 +123,7 @@ rehearse_at_rest number path before after output synced verdicts closed =
         record { told = room-told output.held; attached = λ e. absurd (omega arith) },
         (v.1, all_told output.held _ (refl, meant_numbers room v.0)),
       ),
-      untouched_output (Makes laid_shape room v.0) (is_pool_text_early (generated_text number) room) 6 output output synced (record { held = refl; history = refl }) (λ e. omega arith),
+      left_alone number (meant room v.0) before (record before { notes = notes }) 6 synced refl (record { held = refl; history = refl }) (λ e. omega arith),
     )
 
 module _ (number : ℕ) (path : List ℕ) (others : Objects) (notes out : SinkState) (output : DeviceState) (synced : IsSynced output) (fresh : out.access ≡ 0) where
@@ -117,8 +134,10 @@ module _ (number : ℕ) (path : List ℕ) (others : Objects) (notes out : SinkSt
       let room = room_in output.held in
       let v = verdicts (generated_text number) room in
       let same : IsUntouched output last = record { held = attached.held; history = attached.history } in
-      let leaves = λ (status : ℕ) (some : status ≢ 0). untouched_output (Makes laid_shape room v.0) (is_pool_text_early (generated_text number) room) status output last synced same some in
-      stopped_early (rehearse number path) (record others { out = out; output = output }) (record others { out = out; notes = notes; output = last }) (record {
+      let before : Objects = record others { out = out; output = output } in
+      let after : Objects = record others { out = out; notes = notes; output = last } in
+      let leaves = λ (status : ℕ) (some : status ≢ 0). left_alone number (meant room v.0) before after status synced refl same some in
+      stopped_early (rehearse number path) before after (record {
         followed = record { source = tt; out = not_yet [] out.access out.path fresh; input = tt; output = record { allowed = inr (inr attached.access); named = λ _. attached.path }; third = tt };
         order = record { input = tt; output = λ _. (tt, tt); third = tt; out = λ ne. absurd (ne fresh) };
         kept = record { source = refl; out = tt; input = refl; output = tt; third = refl };
@@ -176,6 +195,10 @@ module _ (number : ℕ) (path : List ℕ) (others : Objects) (notes out : SinkSt
     no_status : (status : ℕ) → status ≢ 0 → status ≢ 3 → status ≢ 4 → LeavesMade (Makes laid_shape room verdict) (is_pool_text_early (generated_text number) room) status output last
     no_status status zero three four = leaves status (λ e. absurd (zero e)) (λ either. absurd (elim either [ inl e ↦ three e | inr e ↦ four e ]))
 
+    -- what it holds once all was restored
+    holds_made : IsDone result → HoldsMade (Makes laid_shape room verdict) output last
+    holds_made ended = (leaves 0 (λ _. ended) (λ either. absurd (elim either [ inl e ↦ omega arith | inr e ↦ omega arith ]))).output.made refl
+
     abbrev before : Objects
     before = record others { out = out; output = output }
 
@@ -199,13 +222,25 @@ module _ (number : ℕ) (path : List ℕ) (others : Objects) (notes out : SinkSt
     meant_right : (rehearse number path).finds before (after out) (meant room verdict)
     meant_right = found (report_of []) (used_in verdict room) (mappings_in verdict) (lines_in verdict) (λ image s. (refl, meant_numbers room verdict)) out
 
+    -- what is left where `out` was left alone
+    unput_leaves : (rehearsed : Rehearsed) (status : ℕ) → status ≢ 0
+        → LeavesMade (Makes laid_shape rehearsed.room rehearsed.verdict) (is_pool_text_early (generated_text number) rehearsed.room) status output last
+        → LeavesRehearsed number rehearsed before (after out) status
+    unput_leaves rehearsed status some left = record { output = left; made = λ done. absurd (not_done before (after out) status some refl done) }
+
+    no_status_leaves : (rehearsed : Rehearsed) → rehearsed.room ≡ room → rehearsed.verdict ≡ verdict → (status : ℕ) → status ≢ 0 → status ≢ 3 → status ≢ 4
+        → LeavesRehearsed number rehearsed before (after out) status
+    no_status_leaves rehearsed same_room same_verdict status zero three four =
+        unput_leaves rehearsed status zero (rw (same_room, same_verdict) (no_status status zero three four))
+
     -- memory was wanting, or the device failed
     unended : (stop : Stop) → IsTrue (is_possible (rehearse number path) (stop_status stop)) → HasCause (rehearse number path) before (after out) stop
         → IsStopped (rehearse number path) before (after out) stop
     unended stop possible cause =
         let high = stop_status-low stop in
         stopped_early (rehearse number path) before (after out) unput (meant room verdict) meant_right refl stop possible cause
-        (no_status (stop_status stop) (λ e. omega arith) (λ e. omega arith) (λ e. omega arith)) (no_status 6 (λ e. omega arith) (λ e. omega arith) (λ e. omega arith))
+        (no_status_leaves (meant room verdict) refl refl (stop_status stop) (λ e. omega arith) (λ e. omega arith) (λ e. omega arith))
+        (no_status_leaves (meant room verdict) refl refl 6 (λ e. omega arith) (λ e. omega arith) (λ e. omega arith))
 
     -- there was no room
     rehearse_no_room : (need blocks : ℕ) → result ≡ Err (f.NoRoom need blocks) → IsFinished (rehearse number path) before (after out) 4 (no_room_line need blocks)
@@ -213,7 +248,7 @@ module _ (number : ℕ) (path : List ℕ) (others : Objects) (notes out : SinkSt
         let answer = answer_no_room need blocks verdict (match_err _ _ result (f.NoRoom need blocks) is done.restores.answer) in
         let down : IsDown result = rw is tt in
         finished_early (rehearse number path) before (after out) unput (meant room verdict) meant_right refl 4 (no_room_line need blocks) (lit≤ tt) refl (rw answer refl)
-        opened_here (λ e. absurd (omega arith)) (λ _. tt) (leaves 4 (λ e. absurd (omega arith)) (λ _. down))
+        opened_here (λ e. absurd (omega arith)) (λ _. tt) (unput_leaves (meant room verdict) 4 (λ e. omega arith) (leaves 4 (λ e. absurd (omega arith)) (λ _. down)))
 
     -- the check found faults
     rehearse_faulty : (report : Reported) → result ≡ Err (f.Faulty report) → report.total ≢ 0 → IsFinished (rehearse number path) before (after out) 1 (reported_lines report)
@@ -222,7 +257,8 @@ module _ (number : ℕ) (path : List ℕ) (others : Objects) (notes out : SinkSt
         let never = match_err _ _ result (f.Faulty report) is done.numbers in
         let faulty : nat_eq report.total 0 ≡ false = ne_eqb report.total 0 some in
         finished_early (rehearse number path) before (after out) unput (finding_of report 0 0 0) (found report 0 0 0 (λ image s. absurd (never image s tt)) out) refl
-        1 (reported_lines report) (lit≤ tt) refl (rw (answer, faulty) refl) opened_here (λ e. absurd (omega arith)) (λ _. tt) (no_status 1 (λ e. omega arith) (λ e. omega arith) (λ e. omega arith))
+        1 (reported_lines report) (lit≤ tt) refl (rw (answer, faulty) refl) opened_here (λ e. absurd (omega arith)) (λ _. tt)
+        (no_status_leaves (finding_of report 0 0 0) refl refl 1 (λ e. omega arith) (λ e. omega arith) (λ e. omega arith))
 
     -- whatever the fault
     pub rehearse_ends : (fault : RehearseFault) → result ≡ Err fault → IsReported fault → CountsRehearsal {T = Rehearsal} (Err fault) opened.faults last.faults
@@ -249,11 +285,13 @@ module _ (number : ℕ) (path : List ℕ) (others : Objects) (notes out : SinkSt
           let ended : IsDone result = rw is tt in
           finished_by (rehearse number path) before (after out') (stands out' used) (found_of room verdict r) right_here 0 (line_of number r) [] (lit≤ tt) refl (λ e. absurd cc)
           (λ some. absurd (some (rw answer refl))) (rw answer refl) whole (record { source = tt; input = tt; output = place.access ∙ attached.access; third = tt }) (λ _. access) (λ _. tt)
-          (leaves 0 (λ _. ended) (λ either. absurd (elim either [ inl e ↦ omega arith | inr e ↦ omega arith ])))
+          (record { output = leaves 0 (λ _. ended) (λ either. absurd (elim either [ inl e ↦ omega arith | inr e ↦ omega arith ])); made = λ _. holds_made ended })
 
       -- or a front of it, since `out` failed
       pub rehearse_unput : AppendsFront (line_of number r) out.written out'.written → Rose out.faults out'.faults → IsStopped (rehearse number path) before (after out') Stream
       rehearse_unput front rose =
-          let left = no_status 6 (λ e. omega arith) (λ e. omega arith) (λ e. omega arith) in
+          let ended : IsDone result = rw is tt in
+          let left : LeavesRehearsed number (found_of room verdict r) before (after out') 6 =
+          record { output = no_status 6 (λ e. omega arith) (λ e. omega arith) (λ e. omega arith); made = λ _. holds_made ended } in
           stopped_by (rehearse number path) before (after out') (stands out' used) (found_of room verdict r) right_here Stream refl (λ e. absurd cc)
           (λ some. absurd (some (rw answer refl))) (inr rose) (rw answer front) left left

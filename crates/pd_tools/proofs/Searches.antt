@@ -17,6 +17,7 @@ use Rattle.pd_laid.specs.FoundRoots.{AreBest, FoundRoots, IsFound, are_fitting, 
 use Rattle.pd_laid.specs.Salvage.{salvage, salvage_from}
 use Rattle.pd_image.specs.Device.{KeepsPlace, OnlyReads}
 use Rattle.pd_answers.specs.Answer.{Answer, AreFresh, IsUsed, Objects, reading}
+use Rattle.pd_answers.specs.Outputs.{LeavesMade}
 use Rattle.pd_answers.specs.Repairs.{LaysPool, LeavesFound, Searched, searched_answer}
 use Rattle.pd_answers.specs.SearchLines.{no_roots_line, roots_line}
 use Rattle.pd_answers.specs.Terms.{is_one_of, is_possible}
@@ -34,14 +35,14 @@ use Rattle.pd_tools.specs.Repair.{AreOpened, AreUnopened}
 use Rattle.pd_tools.specs.Search.{terms_of_search}
 use Rattle.pd_tools.specs.Stop.{stop_status}
 use Rattle.pd_tools.specs.Work.{HasCause, IsFinished, IsStopped}
-use Rattle.pd_tools.proofs.Answered.{not_risen}
+use Rattle.pd_tools.proofs.Answered.{not_risen, stop_status-low}
 use Rattle.pd_tools.proofs.BestRoots.{best_roots}
 use Rattle.pd_tools.proofs.Checks.{not_yet}
 use Rattle.pd_tools.proofs.Laying.{any_leaves, laid_kept, laid_leaves}
 use Rattle.pd_tools.proofs.Queries.{one_told, two_told}
 use Rattle.pd_tools.proofs.Repairs.{of_ending}
 use Rattle.pd_tools.proofs.Restores.{Image, left_lost, room-held, room-told, room_in, same_held, untouched_output}
-use Rattle.pd_tools.proofs.Works.{Stands, finished_by, stopped_by, stopped_early}
+use Rattle.pd_tools.proofs.Works.{Stands, finished_by, is_touched, not_done, still_done, stopped_by, stopped_early}
 
 -- what is right to find in what is told
 abbrev pub IsRight : Given → Option Image → Option FoundRoots → ThinPool → Type 0
@@ -84,18 +85,21 @@ answer_small : (roots : FoundRoots) (pool : ThinPool) (room : ℕ) → room < th
 answer_small roots pool room small = rw (lt-ltb room (thin_need pool room) small) refl
 
 -- an output that was left alone, under each status but 0
-left_alone : (found : Searched) (status : ℕ) (output last : DeviceState) → IsSynced output → IsUntouched output last → status ≢ 0 → LeavesFound found status output last
-left_alone found status output last synced same some = record {
-  output = untouched_output (LaysPool (searched_answer found) found.pool found.room) (not (nat_eq (searched_answer found).status 0)) status output last synced same some;
-  kept = λ _ _ _. same_held output last same.held;
+left_alone : (found : Searched) (before after : Objects) (status : ℕ) → IsSynced before.output → after.out ≡ before.out → IsUntouched before.output after.output → status ≢ 0
+    → LeavesFound found before after status
+left_alone found before after status synced unput same some = record {
+  output = untouched_output (LaysPool (searched_answer found) found.pool found.room) (not (nat_eq (searched_answer found).status 0)) status before.output after.output synced same some;
+  made = λ done. absurd (not_done before after status some unput done);
+  kept = λ _ _ _. same_held before.output after.output same.held;
   input_failed = λ _ _. same;
 }
 
 -- what is left where a line is lost
-pub found_lost : (found : Searched) (status : ℕ) (output last : DeviceState) → LeavesFound found status output last → LeavesFound found 6 output last
-found_lost found status output last left = record {
-  output = left_lost _ _ status output last left.output;
-  kept = λ _ other. absurd (other refl);
+pub found_lost : (found : Searched) (before after : Objects) (status : ℕ) → status ≢ 0 → LeavesFound found before after status → LeavesFound found before after 6
+found_lost found before after status some left = record {
+  output = left_lost _ _ status before.output after.output left.output;
+  made = λ done. left.made (still_done before after status done);
+  kept = λ _. left.kept some;
   input_failed = λ e. absurd (omega arith);
 }
 
@@ -108,7 +112,7 @@ search_at_rest given from to before notes fresh =
     let finding = found_of m.roots m.pool (room_in before.output.held) in (
       finding,
       (record { told = room-told before.output.held; attached = λ e. absurd (let closed = fresh.output.0 in omega arith) }, m.right),
-      left_alone finding 6 before.output before.output fresh.output.2 (record { held = refl; history = refl }) (λ e. omega arith),
+      left_alone finding before (record before { notes = notes }) 6 fresh.output.2 refl (record { held = refl; history = refl }) (λ e. omega arith),
     )
 
 -- a device couldn't be attached
@@ -119,8 +123,10 @@ pub search_unopened : (given : Given) (from to : List ℕ) (others : Objects) (n
 search_unopened given from to others notes out input last_input output last fresh synced un =
     let m = meant given input.held in
     let finding = found_of m.roots m.pool (room_in output.held) in
-    let leaves = λ (status : ℕ) (some : status ≢ 0). left_alone finding status output last synced un.output_untouched some in
-    stopped_early (terms_of_search given from to) (record others { out = out; input = input; output = output }) (record others { out = out; notes = notes; input = last_input; output = last }) (record {
+    let before : Objects = record others { out = out; input = input; output = output } in
+    let after : Objects = record others { out = out; notes = notes; input = last_input; output = last } in
+    let leaves = λ (status : ℕ) (some : status ≢ 0). left_alone finding before after status synced refl un.output_untouched some in
+    stopped_early (terms_of_search given from to) before after (record {
       followed = record { source = tt; out = not_yet [] out.access out.path fresh; input = un.input_used; output = un.output_used; third = tt };
       order = record { input = λ _. tt; output = λ ne. (tt, un.order ne); third = tt; out = λ ne. absurd (ne fresh) };
       kept = record { source = refl; out = tt; input = un.input_untouched; output = tt; third = refl };
@@ -179,7 +185,7 @@ module _ (given : Given) (from to : List ℕ) (others : Objects) (notes out out'
       → IsTrue (is_possible (terms_of_search given from to) status)
       → (IsTrue (is_one_of (terms_of_search given from to).silent status) → out' ≡ out) → (status ≢ 0 → out' ≡ out)
       → searched_answer (finding roots pool) ≡ record { status = status; out = bytes; notes = line }
-      → Appends bytes out.written out'.written → (status ≡ 0 → out'.access ≡ 1) → LeavesFound (finding roots pool) status output last
+      → Appends bytes out.written out'.written → (status ≡ 0 → out'.access ≡ 1) → LeavesFound (finding roots pool) before after status
       → IsFinished (terms_of_search given from to) before after status line
   finished roots pool right status bytes line low possible silent spared answer whole attached left =
       finished_by (terms_of_search given from to) before after stands (finding roots pool) (is_found roots pool right) status bytes line low possible silent
@@ -189,10 +195,11 @@ module _ (given : Given) (from to : List ℕ) (others : Objects) (notes out out'
   stopped : (roots : Option FoundRoots) (pool : ThinPool) → IsRight given input.held roots pool → (stop : Stop) → IsTrue (is_possible (terms_of_search given from to) (stop_status stop))
       → (IsTrue (is_one_of (terms_of_search given from to).silent (stop_status stop)) → out' ≡ out) → ((searched_answer (finding roots pool)).status ≢ 0 → out' ≡ out)
       → HasCause (terms_of_search given from to) before after stop → AppendsFront (searched_answer (finding roots pool)).out out.written out'.written
-      → LeavesFound (finding roots pool) (stop_status stop) output last → IsStopped (terms_of_search given from to) before after stop
+      → LeavesFound (finding roots pool) before after (stop_status stop) → IsStopped (terms_of_search given from to) before after stop
   stopped roots pool right stop possible silent spared cause front left =
+      let high = stop_status-low stop in
       stopped_by (terms_of_search given from to) before after stands (finding roots pool) (is_found roots pool right) stop possible silent spared cause front left
-      (found_lost (finding roots pool) (stop_status stop) output last left)
+      (found_lost (finding roots pool) before after (stop_status stop) (λ e. omega arith) left)
 
 -- devices that were attached, and of which the output was left alone
 module _ (given : Given) (from to : List ℕ) (others : Objects) (notes out : SinkState) (input opened last_input output writable : DeviceState)
@@ -201,8 +208,11 @@ module _ (given : Given) (from to : List ℕ) (others : Objects) (notes out : Si
   abbrev unwritten : KeepsPlace writable writable
   unwritten = record { access = refl; path = refl; blocks = refl }
 
-  left_as_opened : (found : Searched) (status : ℕ) → status ≢ 0 → LeavesFound found status output writable
-  left_as_opened found status some = left_alone found status output writable synced both.output.untouched some
+  left_as_opened : (found : Searched) (status : ℕ) → status ≢ 0
+      → LeavesFound found (record others { out = out; input = input; output = output }) (record others { out = out; notes = notes; input = last_input; output = writable }) status
+  left_as_opened found status some =
+      left_alone found (record others { out = out; input = input; output = output }) (record others { out = out; notes = notes; input = last_input; output = writable }) status
+      synced refl both.output.untouched some
 
   -- there are no roots
   pub search_none : IfSome opened.held (λ image. IsFound (lost_graph image given.blocks) image None)
@@ -269,8 +279,14 @@ module _ (given : Given) (from to : List ℕ) (others : Objects) (notes out : Si
   abbrev found : Searched
   found = found_of (Some roots) pool room
 
-  abbrev Leaves : ℕ → Type 0
-  Leaves status = LeavesFound found status output last
+  abbrev before_writing : Objects
+  before_writing = record others { out = out; input = input; output = output }
+
+  abbrev after_writing : SinkState → Objects
+  after_writing last_out = record others { out = last_out; notes = notes; input = last_input; output = last }
+
+  abbrev Leaves : SinkState → ℕ → Type 0
+  Leaves last_out status = LeavesFound found before_writing (after_writing last_out) status
 
   right : IsRight given input.held (Some roots) pool
   right =
@@ -282,8 +298,8 @@ module _ (given : Given) (from to : List ℕ) (others : Objects) (notes out : Si
       subst (λ (h : Option Image). IsRight given h (Some roots) pool) both.input.untouched.held right_here
 
   -- the output was left alone
-  alone : IsUntouched writable last → (status : ℕ) → status ≢ 0 → Leaves status
-  alone same status some = left_alone found status output last synced
+  alone : IsUntouched writable last → (status : ℕ) → status ≢ 0 → Leaves out status
+  alone same status some = left_alone found before_writing (after_writing out) status synced refl
       (record { held = same.held ∙ both.output.untouched.held; history = same.history ∙ both.output.untouched.history }) some
 
   -- there is room
@@ -292,8 +308,9 @@ module _ (given : Given) (from to : List ℕ) (others : Objects) (notes out : Si
 
   -- after a fault of memory, or of the output
   either_way : (status : ℕ) → (last.faults ≡ output.faults → HoldsOldOrNone output last) → (status ≡ 5 → last.faults ≡ output.faults → IsUntouched output last)
-      → status ≢ 0 → status ≢ 3 → status ≢ 4 → Leaves status
+      → status ≢ 0 → status ≢ 3 → status ≢ 4 → Leaves out status
   either_way status kept input_failed some three four = record {
+    made = λ done. absurd (not_done before_writing (after_writing out) status some refl done);
     output = any_leaves output writable last synced both.output.untouched pool (output_ending result) done.output (searched_answer found) zero_if status some three four;
     kept = λ _ _. kept;
     input_failed = input_failed;
@@ -301,36 +318,30 @@ module _ (given : Given) (from to : List ℕ) (others : Objects) (notes out : Si
 
   -- what it comes to where nothing was put
   module _ (unput : IsUsed (reading []) out.access out.path) where
-    abbrev before_writing : Objects
-    before_writing = record others { out = out; input = input; output = output }
-
-    abbrev after_writing : Objects
-    after_writing = record others { out = out; notes = notes; input = last_input; output = last }
-
-    ended : (stop : Stop) → IsTrue (is_possible (terms_of_search given from to) (stop_status stop)) → HasCause (terms_of_search given from to) before_writing after_writing stop
-        → Leaves (stop_status stop) → IsStopped (terms_of_search given from to) before_writing after_writing stop
+    ended : (stop : Stop) → IsTrue (is_possible (terms_of_search given from to) (stop_status stop)) → HasCause (terms_of_search given from to) before_writing (after_writing out) stop
+        → Leaves out (stop_status stop) → IsStopped (terms_of_search given from to) before_writing (after_writing out) stop
     ended stop possible cause left =
         stopped given from to others notes out out input opened last_input output writable last both measured reads place unput
         (Some roots) pool right stop possible (λ _. refl) (λ _. refl) cause (front_none _ out.written) left
 
-    memory : result ≡ Err fault.Memory → IsStopped (terms_of_search given from to) before_writing after_writing Memory
+    memory : result ≡ Err fault.Memory → IsStopped (terms_of_search given from to) before_writing (after_writing out) Memory
     memory is =
         let held = laid_kept output writable last synced both.output.untouched pool (output_ending result) done.output (searched_answer found) (rw is tt) in
         ended Memory refl tt (either_way 7 (λ _. held) (λ e. absurd (omega arith)) (λ e. omega arith) (λ e. omega arith) (λ e. omega arith))
 
-    output_failed : output.faults ≡ 0 → Rose writable.faults last.faults → IsStopped (terms_of_search given from to) before_writing after_writing Device
+    output_failed : output.faults ≡ 0 → Rose writable.faults last.faults → IsStopped (terms_of_search given from to) before_writing (after_writing out) Device
     output_failed none rose =
         let risen : Rose output.faults last.faults = rw both.output.faults at rose in
         let never : last.faults ≡ output.faults → ⊥ = λ same. not_risen output.faults last.faults none same risen in
         ended Device refl (inr (inl risen))
         (either_way 5 (λ same. absurd (never same)) (λ _ same. absurd (never same)) (λ e. omega arith) (λ e. omega arith) (λ e. omega arith))
 
-    input_failed : result ≡ Err fault.Input → Rose opened.faults last_input.faults → IsStopped (terms_of_search given from to) before_writing after_writing Device
+    input_failed : result ≡ Err fault.Input → Rose opened.faults last_input.faults → IsStopped (terms_of_search given from to) before_writing (after_writing out) Device
     input_failed is rose =
         let same = of_ending (λ ending. IsEarly ending → IsUntouched writable last) result (Err fault.Input) is done.output.early tt in
         ended Device refl (inl (rw both.input.faults at rose)) (alone same 5 (λ e. omega arith))
 
-    no_room : (need blocks : ℕ) → result ≡ Err (fault.NoRoom need blocks) → IsFinished (terms_of_search given from to) before_writing after_writing 4 (no_room_line need blocks)
+    no_room : (need blocks : ℕ) → result ≡ Err (fault.NoRoom need blocks) → IsFinished (terms_of_search given from to) before_writing (after_writing out) 4 (no_room_line need blocks)
     no_room need blocks is =
         let answer = of_ending (λ ending. AnswersMade ending pool room) result (Err (fault.NoRoom need blocks)) is done.output.answer in
         let small : room < thin_need pool room = subst (λ (n : ℕ). room < n) answer.0 answer.1.1 in
@@ -353,16 +364,21 @@ module _ (given : Given) (from to : List ℕ) (others : Objects) (notes out : Si
   search_unmade (fault.NoRoom need blocks) is other none counts = no_room (not_yet [] out.access out.path fresh) need blocks is
 
   -- the pool was written
-  module _ (is : result ≡ Ok tt) (out' : SinkState) (used : IsUsed (reading []) out'.access out'.path) where
+  module _ (is : result ≡ Ok tt) (out' : SinkState) (used : IsUsed (reading []) out'.access out'.path) (touched : out'.access ≢ 0) where
     answer : searched_answer found ≡ record { status = 0; out = roots_line roots; notes = [] }
     answer = answer_made roots pool room (of_ending (λ ending. AnswersMade ending pool room) result (Ok tt) is done.output.answer).1
 
-    written : (status : ℕ) → (status ≡ 0) ⊎ (status ≡ 6) → Leaves status
+    laid : (status : ℕ) → (status ≡ 0) ⊎ (status ≡ 6) → LeavesMade (LaysPool (searched_answer found) pool room) (not (nat_eq (searched_answer found).status 0)) status output last
+    laid status which =
+        laid_leaves output writable last synced both.output.untouched pool (output_ending result) done.output (searched_answer found)
+        (ap (λ (a : Answer). a.status) answer) status (λ _. rw is tt)
+        (λ either. elim which [ inl e ↦ elim either [ inl t ↦ omega arith | inr t ↦ omega arith ] | inr e ↦ elim either [ inl t ↦ omega arith | inr t ↦ omega arith ] ])
+
+    written : (status : ℕ) → (status ≡ 0) ⊎ (status ≡ 6) → Leaves out' status
     written status which = record {
-      output = laid_leaves output writable last synced both.output.untouched pool (output_ending result) done.output (searched_answer found)
-          (ap (λ (a : Answer). a.status) answer) status (λ _. rw is tt)
-          (λ either. elim which [ inl e ↦ elim either [ inl t ↦ omega arith | inr t ↦ omega arith ] | inr e ↦ elim either [ inl t ↦ omega arith | inr t ↦ omega arith ] ]);
-      kept = λ zero six. absurd (elim which [ inl e ↦ zero e | inr e ↦ six e ]);
+      output = laid status which;
+      made = λ _. (laid 0 (inl refl)).output.made refl;
+      kept = λ _ unput. absurd (is_touched out out' fresh touched unput);
       input_failed = λ five. absurd (elim which [ inl e ↦ omega arith | inr e ↦ omega arith ]);
     }
 

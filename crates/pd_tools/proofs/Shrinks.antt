@@ -1,6 +1,7 @@
 -- What the work of a shrink comes to, over plain variables.
 use Rattle.std.proofs.Common.{◌≡◌, ◌≢◌, ◌⊎◌, inl, inr, ℕ, ◌≤◌, not, nat_eq, false, IsTrue, List, [], length, map, Option, Some, None, IfSome, Result, Err, refl, sym, ap, ◌∙◌, subst, arith, lit≤}
-use Rattle.std.specs.Prelude.{MatchResult}
+use Rattle.std.specs.Prelude.{MatchResult, IsSome}
+use Rattle.std.specs.Option.{is_some}
 use Rattle.std.proofs.lemmas.Option.{IfSome_then}
 use Rattle.pd_kinds.specs.declared.kind.Kind.TheVariants.{Thin}
 use Rattle.pd_kinds.specs.declared.kind.Stage.TheVariants.{Counts}
@@ -10,12 +11,12 @@ use Rattle.pd_kinds.specs.Meaning.{thin_meaning}
 use Rattle.pd_kinds.specs.Objects.{DeviceState, SinkState, Appends, AppendsFront, Rose}
 use Rattle.pd_kinds.specs.Report.{Reported, report_of}
 use Rattle.pd_kinds.specs.Stages.{faults}
-use Rattle.pd_kinds.proofs.CrashLemmas.{and_then, stays}
+use Rattle.pd_kinds.proofs.CrashLemmas.{and_then, stays, still_tells}
 use Rattle.pd_spells.specs.Lines.{no_room_line, reported_lines}
 use Rattle.pd_answers.specs.Answer.{Answer, Objects, AreFresh, IsUsed, reading, writing}
 use Rattle.pd_answers.specs.CachedView.{blocks_each}
 use Rattle.pd_answers.specs.MovedPool.{copy_of_move, data_after, end_of_pool, free_blocks, moves_to, sources}
-use Rattle.pd_answers.specs.Outputs.{IsRoom, LeavesMade}
+use Rattle.pd_answers.specs.Outputs.{HoldsMade, IsRoom, IsWorkDone, LeavesMade}
 use Rattle.pd_answers.specs.Repairs.{LaysPool}
 use Rattle.pd_answers.specs.Shrinks.{IsGroundOf, Lack, LeavesShrunk, ShrinkFound, ShrinkGround, answer_to, bad_block_size, lack_of, moved_line, moves_of, no_room, pool_after, shrink, shrink_answer}
 use Rattle.pd_answers.specs.Terms.{is_possible}
@@ -40,7 +41,7 @@ use Rattle.pd_tools.proofs.Laying.{laid_kept, laid_leaves}
 use Rattle.pd_tools.proofs.Queries.{none_at_super, one_told, two_told}
 use Rattle.pd_tools.proofs.Restores.{Image, left_lost, room-held, room-told, room_in, same_held, still_synced, untouched_output}
 use Rattle.pd_tools.proofs.Writebacks.{and_same, blocks_in, blocks_told, has_blocks, here_kept, if_any, never_open}
-use Rattle.pd_tools.proofs.Works.{Stands, finished_by, finished_early, stopped_by, stopped_early}
+use Rattle.pd_tools.proofs.Works.{Stands, finished_by, finished_early, is_touched, not_done, still_done, stopped_by, stopped_early}
 
 -- what is right to find of the metadata
 abbrev IsRight : ℕ → Option Image → Reported → ShrinkGround → Type 0
@@ -75,15 +76,17 @@ right_by : (blocks : ℕ) (held : Option Image) (report : Reported) (ground : Sh
 right_by blocks held report ground = two_told held (λ image same is. (same, is))
 
 -- an output and a data device that were left alone, under each status but 0
-left_alone : (found : ShrinkFound) (before after : Objects) (status : ℕ) → IsSynced before.output → IsSynced before.third → status ≢ 0
+left_alone : (found : ShrinkFound) (before after : Objects) (status : ℕ) → IsSynced before.output → IsSynced before.third → status ≢ 0 → after.out ≡ before.out
     → IsUntouched before.output after.output → IsUntouched before.third after.third → LeavesShrunk found before after status
-left_alone found before after status output_synced pool_synced some output pool = record {
+left_alone found before after status output_synced pool_synced some unput output pool = record {
+  copies_told = still_tells before.third after.third (ap is_some pool.held);
   copies = IfSome_then before.third.held pool_synced (λ image s.
       stays pool.held pool.history (here_kept (blocks_each found.ground.pool.block_size) (map copy_of_move (moves_of found.ground)) image before.third s));
   output = untouched_output (LaysPool (shrink_answer found) (pool_after found.ground) found.ground.room) (not (nat_eq (shrink_answer found).status 0)) status
       before.output after.output output_synced output some;
   order = if_any before.third.held (λ image. inl output);
-  moved = λ zero. absurd (some zero);
+  moved = λ worked. absurd (not_done before after status some unput worked);
+  made = λ worked. absurd (not_done before after status some unput worked);
   refused = λ _. (output, pool);
   nothing_moved = λ _. pool;
   kept = λ _ _ _. same_held before.output after.output output.held;
@@ -92,15 +95,17 @@ left_alone found before after status output_synced pool_synced some output pool 
 }
 
 -- what is left where a line is lost
-pub shrink_lost : (before after : Objects) (found : ShrinkFound) (status : ℕ) → LeavesShrunk found before after status → LeavesShrunk found before after 6
-shrink_lost before after found status left = record {
+pub shrink_lost : (before after : Objects) (found : ShrinkFound) (status : ℕ) → status ≢ 0 → LeavesShrunk found before after status → LeavesShrunk found before after 6
+shrink_lost before after found status some left = record {
+  copies_told = left.copies_told;
   copies = left.copies;
   output = left_lost _ _ status before.output after.output left.output;
   order = left.order;
-  moved = λ e. absurd (omega arith);
+  moved = λ worked. left.moved (still_done before after status worked);
+  made = λ worked. left.made (still_done before after status worked);
   refused = left.refused;
   nothing_moved = left.nothing_moved;
-  kept = λ _ other. absurd (other refl);
+  kept = λ _. left.kept some;
   output_spared = λ e. absurd (omega arith);
   data_spared = λ e. absurd (omega arith);
 }
@@ -119,7 +124,7 @@ shrink_at_rest from to pool blocks before notes fresh =
         output = record { told = room-told before.output.held; attached = λ e. absurd (let closed = fresh.output.0 in omega arith) };
         told = right_by blocks held (report_in held) ground (report_told held) (ground_told held blocks _ _);
       },
-      left_alone finding before (record before { notes = notes }) 6 fresh.output.2 fresh.third.2 (λ e. omega arith)
+      left_alone finding before (record before { notes = notes }) 6 fresh.output.2 fresh.third.2 (λ e. omega arith) refl
           (record { held = refl; history = refl }) (record { held = refl; history = refl }),
     )
 
@@ -143,7 +148,7 @@ module _ (from to pool : List ℕ) (blocks : ℕ) (others : Objects) (notes out 
       let before : Objects = record others { out = out; input = m; output = o; third = t } in
       let after : Objects = record others { out = out; notes = notes; input = m'; output = o'; third = t' } in
       let leaves : (status : ℕ) → status ≢ 0 → LeavesShrunk finding before after status =
-      λ status some. left_alone finding before after status output_synced pool_synced some un.output_untouched un.third_untouched in
+      λ status some. left_alone finding before after status output_synced pool_synced some refl un.output_untouched un.third_untouched in
       stopped_early (shrink from to pool blocks) before after (record {
         followed = record { source = tt; out = not_yet [] out.access out.path fresh; input = un.input_used; output = un.output_used; third = un.third_used };
         order = record { input = λ _. tt; output = λ ne. (tt, un.output_order ne); third = λ ne. (tt, un.third_order ne); out = λ ne. absurd (ne fresh) };
@@ -223,7 +228,7 @@ module _ (from to pool : List ℕ) (blocks : ℕ) (others : Objects) (notes out 
 
   read_left : (found : ShrinkFound) (status : ℕ) → status ≢ 0 → LeavesShrunk found before_read after_read status
   read_left found status some =
-      left_alone found before_read after_read status output_synced pool_synced some opened.output.untouched opened.third.untouched
+      left_alone found before_read after_read status output_synced pool_synced some refl opened.output.untouched opened.third.untouched
 
   -- what it goes by
   module _ (ground : ShrinkGround) (number : ground.data_blocks ≡ t1.blocks) (room : ground.room ≡ room_of o1.blocks) where
@@ -365,18 +370,21 @@ module _ (from to pool : List ℕ) (blocks : ℕ) (others : Objects) (notes out 
   leaves : (last : SinkState) (status : ℕ)
       → LeavesMade (LaysPool (shrink_answer found_here) (pool_after ground) ground.room) (not (nat_eq (shrink_answer found_here).status 0)) status o o'
       → IfSome t.held (λ image. IsUntouched o o' ⊎ HoldsSynced (data_after (blocks_each ground.pool.block_size) (moves_of ground) image) t')
-      → (status ≡ 0 → IfSome t.held (λ image. HoldsSynced (data_after (blocks_each ground.pool.block_size) (moves_of ground) image) t'))
-      → (status ≢ 0 → status ≢ 6 → o'.faults ≡ o.faults → HoldsOldOrNone o o')
+      → (IsWorkDone before_writing (after_writing last) status → IfSome t.held (λ image. HoldsSynced (data_after (blocks_each ground.pool.block_size) (moves_of ground) image) t'))
+      → (IsWorkDone before_writing (after_writing last) status → HoldsMade (LaysPool (shrink_answer found_here) (pool_after ground) ground.room) o o')
+      → (status ≢ 0 → last ≡ out → o'.faults ≡ o.faults → HoldsOldOrNone o o')
       → (status ≡ 5 → o'.faults ≡ o.faults → IsUntouched o o')
       → (status ≡ 5 → o'.faults ≡ o.faults → t'.faults ≡ t.faults → IsUntouched t t')
       → LeavesShrunk found_here before_writing (after_writing last) status
-  leaves last status output order moved kept output_spared data_spared = record {
+  leaves last status output order moved made kept output_spared data_spared = record {
+    copies_told = subst (λ (h : Option Image). IfSome h (λ image. IsSome t'.held)) opened.third.untouched.held written.told;
     copies = IfSome_then t.held pool_synced (λ image s.
         and_then (stays opened.third.untouched.held opened.third.untouched.history (here_kept (blocks_each ground.pool.block_size) (map copy_of_move (moves_of ground)) image t s))
         (written.crash ground image planned.plan (still_synced image t t1 opened.third.untouched s)));
     output = output;
     order = order;
     moved = moved;
+    made = made;
     refused = λ some. absurd (some zero);
     nothing_moved = λ none. and_same opened.third.untouched (written.cold (planned.plan.moves ∙ ap (λ (ds : List ℕ). moves_to ds ground.free) none));
     kept = kept;
@@ -392,34 +400,41 @@ module _ (from to pool : List ℕ) (blocks : ℕ) (others : Objects) (notes out 
     made_here : IsMadeOf (pool_after ground) ending o1 o'
     made_here = has.made ground planned.plan
 
-    moved_leaves : (last : SinkState) (status : ℕ) → (status ≡ 0 → IsDone ending) → status ≢ 3 → status ≢ 4
-        → (status ≢ 0 → status ≢ 6 → o'.faults ≡ o.faults → HoldsOldOrNone o o') → (status ≡ 5 → o'.faults ≡ o.faults → ⊥)
-        → LeavesShrunk found_here before_writing (after_writing last) status
-    moved_leaves last status is_done three four kept never =
-        leaves last status
-        (subst (λ (room : ℕ). LeavesMade (LaysPool (shrink_answer found_here) (pool_after ground) room) (not (nat_eq (shrink_answer found_here).status 0)) status o o')
+    laid : (status : ℕ) → (status ≡ 0 → IsDone ending) → status ≢ 3 → status ≢ 4
+        → LeavesMade (LaysPool (shrink_answer found_here) (pool_after ground) ground.room) (not (nat_eq (shrink_answer found_here).status 0)) status o o'
+    laid status is_done three four =
+        subst (λ (room : ℕ). LeavesMade (LaysPool (shrink_answer found_here) (pool_after ground) room) (not (nat_eq (shrink_answer found_here).status 0)) status o o')
         (sym planned.goes_by.room)
         (laid_leaves o o1 o' output_synced opened.output.untouched (pool_after ground) ending made_here (shrink_answer found_here) zero status is_done
-        (λ either. elim either [ inl e ↦ three e | inr e ↦ four e ])))
-        (one_told t.held (λ image is. inr is) all_moved) (λ _. all_moved) kept
+        (λ either. elim either [ inl e ↦ three e | inr e ↦ four e ]))
+
+    moved_leaves : (last : SinkState) (status : ℕ) → (IsWorkDone before_writing (after_writing last) status → IsDone ending) → status ≢ 3 → status ≢ 4
+        → (status ≢ 0 → last ≡ out → o'.faults ≡ o.faults → HoldsOldOrNone o o') → (status ≡ 5 → o'.faults ≡ o.faults → ⊥)
+        → LeavesShrunk found_here before_writing (after_writing last) status
+    moved_leaves last status is_done three four kept never =
+        leaves last status (laid status (λ e. is_done (inl e)) three four)
+        (one_told t.held (λ image is. inr is) all_moved) (λ _. all_moved)
+        (λ worked. let ended : IsDone ending = is_done worked in (laid 0 (λ _. ended) (λ e. omega arith) (λ e. omega arith)).output.made refl) kept
         (λ five unfailed. absurd (never five unfailed)) (λ five unfailed. absurd (never five unfailed))
 
   -- the data device failed
-  unmoved_leaves : FailsToMove (devices m2 o1 t1) (devices m2 o' t') → (last : SinkState) (status : ℕ) → status ≢ 0
-      → LeavesShrunk found_here before_writing (after_writing last) status
-  unmoved_leaves fails last status some =
+  unmoved_leaves : FailsToMove (devices m2 o1 t1) (devices m2 o' t') → (status : ℕ) → status ≢ 0
+      → LeavesShrunk found_here before_writing (after_writing out) status
+  unmoved_leaves fails status some =
       let alone : IsUntouched o o' = and_same opened.output.untouched fails.alone in
-      leaves last status
+      let never = not_done before_writing (after_writing out) status some refl in
+      leaves out status
       (untouched_output (LaysPool (shrink_answer found_here) (pool_after ground) ground.room) (not (nat_eq (shrink_answer found_here).status 0)) status o o' output_synced alone some)
-      (if_any t.held (λ image. inl alone)) (λ e. absurd (some e)) (λ _ _ _. same_held o o' alone.held) (λ _ _. alone)
+      (if_any t.held (λ image. inl alone)) (λ worked. absurd (never worked)) (λ worked. absurd (never worked)) (λ _ _ _. same_held o o' alone.held) (λ _ _. alone)
       (λ _ _ unfailed. absurd (not_risen t.faults t'.faults pool_unfailed unfailed (rw opened.third.faults at fails.rose)))
 
   -- where it was stopped before its line
   unput : (stop : Stop) → IsTrue (is_possible (shrink from to pool blocks) (stop_status stop)) → HasCause (shrink from to pool blocks) before_writing (after_writing out) stop
       → LeavesShrunk found_here before_writing (after_writing out) (stop_status stop) → IsStopped (shrink from to pool blocks) before_writing (after_writing out) stop
   unput stop possible cause left =
+      let high = stop_status-low stop in
       stopped_early (shrink from to pool blocks) before_writing (after_writing out) (stands blocks others notes out out all_ended (not_yet [] out.access out.path fresh))
-      found_here (found_written out) refl stop possible cause left (shrink_lost before_writing (after_writing out) found_here (stop_status stop) left)
+      found_here (found_written out) refl stop possible cause left (shrink_lost before_writing (after_writing out) found_here (stop_status stop) (λ e. omega arith) left)
 
   pub shrink_unwritten : (stop : Stop) → GoesAsFar plan (Err stop) (devices m2 o1 t1) (devices m2 o' t') → IsStopped (shrink from to pool blocks) before_writing (after_writing out) stop
   shrink_unwritten Stream far = absurd far
@@ -428,22 +443,22 @@ module _ (from to pool : List ℕ) (blocks : ℕ) (others : Objects) (notes out 
         past_super = λ e. absurd cc;
         sound = one_told m.held (λ image is. none_at_super Thin Counts image is) sound_first;
       })
-      (moved_leaves lacking has out 7 (λ e. absurd (omega arith)) (λ e. omega arith) (λ e. omega arith)
+      (moved_leaves lacking has out 7 (λ worked. absurd (not_done before_writing (after_writing out) 7 (λ e. omega arith) refl worked)) (λ e. omega arith) (λ e. omega arith)
       (λ _ _ _. laid_kept o o1 o' output_synced opened.output.untouched (pool_after ground) lacking (made_here lacking has) (shrink_answer found_here) tt)
       (λ e. absurd (omega arith)))
   shrink_unwritten Device (inl fails) =
-      unput Device refl (inr (inr (rw opened.third.faults at fails.rose))) (unmoved_leaves fails out 5 (λ e. omega arith))
+      unput Device refl (inr (inr (rw opened.third.faults at fails.rose))) (unmoved_leaves fails 5 (λ e. omega arith))
   shrink_unwritten Device (inr fails) =
       let risen : Rose o.faults o'.faults = rw opened.output.faults at fails.rose in
       let never : o'.faults ≡ o.faults → ⊥ = λ unfailed. not_risen o.faults o'.faults output_unfailed unfailed risen in
       unput Device refl (inr (inl risen))
-      (moved_leaves _ fails.has_moved out 5 (λ e. absurd (omega arith)) (λ e. omega arith) (λ e. omega arith) (λ _ _ unfailed. absurd (never unfailed)) (λ _ unfailed. never unfailed))
+      (moved_leaves _ fails.has_moved out 5 (λ worked. absurd (not_done before_writing (after_writing out) 5 (λ e. omega arith) refl worked)) (λ e. omega arith) (λ e. omega arith) (λ _ _ unfailed. absurd (never unfailed)) (λ _ unfailed. never unfailed))
 
   -- all was written
-  module _ (has : HasMoved plan done (devices m2 o1 t1) (devices m2 o' t')) (out' : SinkState) (used : IsUsed (reading []) out'.access out'.path) where
-    written_leaves : (status : ℕ) → status ≢ 3 → status ≢ 4 → status ≢ 5 → (status ≢ 0 → status ≢ 6 → ⊥) → LeavesShrunk found_here before_writing (after_writing out') status
-    written_leaves status three four five either =
-        moved_leaves done has out' status (λ _. tt) three four (λ some other. absurd (either some other)) (λ e. absurd (five e))
+  module _ (has : HasMoved plan done (devices m2 o1 t1) (devices m2 o' t')) (out' : SinkState) (used : IsUsed (reading []) out'.access out'.path) (touched : out'.access ≢ 0) where
+    written_leaves : (status : ℕ) → status ≢ 3 → status ≢ 4 → status ≢ 5 → LeavesShrunk found_here before_writing (after_writing out') status
+    written_leaves status three four five =
+        moved_leaves done has out' status (λ _. tt) three four (λ _ unput. absurd (is_touched out out' fresh touched unput)) (λ e. absurd (five e))
 
     -- and the line was put
     pub shrink_done : Appends (moved_line (length (sources ground.pool ground.end))) out.written out'.written → out'.access ≡ 1
@@ -452,13 +467,13 @@ module _ (from to pool : List ℕ) (blocks : ℕ) (others : Objects) (notes out 
         finished_by (shrink from to pool blocks) before_writing (after_writing out') (stands blocks others notes out out' all_ended used) found_here (found_written out')
         0 (moved_line (length (sources ground.pool ground.end))) [] (lit≤ tt) refl (λ e. absurd cc) (λ some. absurd (some zero)) answered whole
         (record { source = tt; input = all_ended.meta_open; output = all_ended.output_open; third = all_ended.pool_open }) (λ _. attached) (λ _. tt)
-        (written_leaves 0 (λ e. omega arith) (λ e. omega arith) (λ e. omega arith) (λ some. absurd (some refl)))
+        (written_leaves 0 (λ e. omega arith) (λ e. omega arith) (λ e. omega arith))
 
     -- or a front of it, since `out` failed
     pub shrink_unput : AppendsFront (moved_line (length (sources ground.pool ground.end))) out.written out'.written → Rose out.faults out'.faults
         → IsStopped (shrink from to pool blocks) before_writing (after_writing out') Stream
     shrink_unput front rose =
-        let left = written_leaves 6 (λ e. omega arith) (λ e. omega arith) (λ e. omega arith) (λ _ other. other refl) in
+        let left = written_leaves 6 (λ e. omega arith) (λ e. omega arith) (λ e. omega arith) in
         stopped_by (shrink from to pool blocks) before_writing (after_writing out') (stands blocks others notes out out' all_ended used) found_here (found_written out')
         Stream refl (λ e. absurd cc) (λ some. absurd (some zero)) (inr rose)
         (subst (λ (a : Answer). AppendsFront a.out out.written out'.written) (sym answered) front) left left

@@ -1,17 +1,18 @@
 -- What the work of any request comes to, by how its objects stand at the end and by what was found.
-use Rattle.std.proofs.Common.{◌≡◌, inl, ℕ, ◌≤◌, Bool, true, false, IsTrue, if◌then◌else◌, List, [], sym, ap, subst, lit≤}
+use Rattle.std.proofs.Common.{◌≡◌, ◌≢◌, inl, inr, ℕ, ◌≤◌, Bool, true, false, IsTrue, if◌then◌else◌, List, [], sym, ap, ◌∙◌, subst, arith, lit≤}
 use Rattle.pd_kinds.specs.declared.kind.Kind.{Kind}
 use Rattle.pd_kinds.specs.declared.kind.Stage.{Stage}
-use Rattle.pd_kinds.specs.Objects.{Appends, AppendsFront}
+use Rattle.pd_kinds.specs.Objects.{SinkState, Appends, AppendsFront}
 use Rattle.pd_kinds.specs.Stages.{CanWantMemory}
 use Rattle.pd_kinds.proofs.AppendLemmas.{appends_none, front_none}
 use Rattle.pd_answers.specs.Answer.{Answer, Objects, IsOpen}
-use Rattle.pd_answers.specs.Terms.{Terms, AreInOrder, AreKept, AreOpen, IsReadWhole, is_one_of, is_possible}
+use Rattle.pd_answers.specs.Outputs.{IsWorkDone}
+use Rattle.pd_answers.specs.Terms.{Terms, AreKept, AreOpen, IsReadWhole, is_one_of, is_possible}
 use Rattle.pd_tools.specs.declared.stop.Stop.{Stop}
 use Rattle.pd_tools.specs.declared.stop.Stop.TheVariants.{Device, Stream, Memory}
 use Rattle.pd_tools.specs.Read.{IsUnread}
 use Rattle.pd_tools.specs.Stop.{stop_status}
-use Rattle.pd_tools.specs.Work.{AreFollowed, HasCause, IsFinished, IsStopped, IsWork}
+use Rattle.pd_tools.specs.Work.{AreFollowed, AreInTurn, HasCause, IsFinished, IsStopped, IsWork}
 
 -- one of two statuses
 pub by_clean : (P : ℕ → Type 0) (clean : Bool) → P 0 → P 1 → P (if clean then 0 else 1)
@@ -24,10 +25,24 @@ by_stop P Device device stream memory = device
 by_stop P Stream device stream memory = stream
 by_stop P Memory device stream memory = memory
 
+-- while `out` is left alone, work isn't done but at status 0
+pub not_done : (before after : Objects) (status : ℕ) → status ≢ 0 → after.out ≡ before.out → IsWorkDone before after status → ⊥
+not_done before after status some unput (inl zero) = some zero
+not_done before after status some unput (inr put) = put unput
+
+-- work whose line is lost was done as before
+pub still_done : (before after : Objects) (status : ℕ) → IsWorkDone before after 6 → IsWorkDone before after status
+still_done before after status (inl zero) = absurd (omega arith)
+still_done before after status (inr put) = inr put
+
+-- a sink that was attached, or couldn't be, was touched
+pub is_touched : (old new : SinkState) → old.access ≡ 0 → new.access ≢ 0 → new ≢ old
+is_touched old new fresh some same = some (ap (λ (s : SinkState). s.access) same ∙ fresh)
+
 -- how the objects stand, whatever was found
 pub record Stands (terms : Terms) (before after : Objects) : Type 0 where
   pub followed : AreFollowed terms.uses after
-  pub order : AreInOrder terms.uses after
+  pub order : AreInTurn terms.uses after
   pub kept : AreKept terms.uses before after
   pub reads : terms.reads before after
 

@@ -1,7 +1,7 @@
 -- What the work of a writeback comes to, over plain variables.
 use Rattle.std.proofs.Common.{◌≡◌, ◌≢◌, ◌⊎◌, inl, inr, ℕ, ◌≤◌, ◌<◌, true, false, nat_eq, IsTrue, List, [], ◌∷◌, length, Option, Some, None, IfSome, Result, refl, sym, ap, ◌∙◌, subst, arith, lit≤}
-use Rattle.std.specs.Prelude.{MatchResult, slice_get}
-use Rattle.std.specs.Option.{option_map_or}
+use Rattle.std.specs.Prelude.{MatchResult, IsSome, slice_get}
+use Rattle.std.specs.Option.{is_some, option_map_or}
 use Rattle.std.specs.List.Sorted.{IsPermutation}
 use Rattle.std.proofs.lemmas.List.Sorted.{length_permutation}
 use Rattle.std.proofs.lemmas.Bool.{lt-ltb, le-ltb}
@@ -14,10 +14,11 @@ use Rattle.pd_kinds.specs.Moments.{now}
 use Rattle.pd_kinds.specs.Objects.{DeviceState, SinkState, Appends, AppendsFront, Rose}
 use Rattle.pd_kinds.specs.Report.{Reported, report_of}
 use Rattle.pd_kinds.specs.Stages.{faults}
-use Rattle.pd_kinds.proofs.CrashLemmas.{and_then, stays, left_now, left_synced}
+use Rattle.pd_kinds.proofs.CrashLemmas.{and_then, stays, still_tells, left_now, left_synced}
 use Rattle.pd_spells.specs.Lines.{no_room_line, reported_lines}
 use Rattle.pd_answers.specs.Answer.{Answer, Objects, AreFresh, IsNamed, IsOpen, IsUsed, Use, reading, writing}
 use Rattle.pd_answers.specs.CachedView.{CachedBlock, blocks_each, copied, fast_need, hot_blocks, is_block_size_bad, origin_need, settled}
+use Rattle.pd_answers.specs.Outputs.{IsWorkDone}
 use Rattle.pd_answers.specs.Terms.{is_possible}
 use Rattle.pd_answers.specs.Writebacks.{AllTold, HasBlocks, KeepsOthers, LeavesWrittenBack, WritebackFound, block_size_line, copied_line, writeback, writeback_answer}
 use Rattle.pd_writeback.specs.declared.fault.WriteFault.{WriteFault}
@@ -32,12 +33,12 @@ use Rattle.pd_tools.specs.Read.{IsUnread}
 use Rattle.pd_tools.specs.Stop.{stop_status}
 use Rattle.pd_tools.specs.Opened.{AreOpened, AreUnopened, devices}
 use Rattle.pd_tools.specs.Work.{HasCause, IsFinished, IsStopped}
-use Rattle.pd_tools.specs.Writeback.{HasCopied, IsWritten}
-use Rattle.pd_tools.proofs.Answered.{stop_status-low}
+use Rattle.pd_tools.specs.Writeback.{HasCopied, HasMarked, IsWritten}
+use Rattle.pd_tools.proofs.Answered.{not_risen, stop_status-low}
 use Rattle.pd_tools.proofs.Checks.{not_yet, told}
 use Rattle.pd_tools.proofs.Queries.{none_at_super, one_told, two_told}
 use Rattle.pd_tools.proofs.Restores.{Image, here, still_synced}
-use Rattle.pd_tools.proofs.Works.{Stands, finished_by, finished_early, stopped_by, stopped_early}
+use Rattle.pd_tools.proofs.Works.{Stands, finished_by, finished_early, not_done, still_done, stopped_by, stopped_early}
 
 -- what is right to find of the metadata
 abbrev IsRight : Option Image → Reported → ℕ → List CachedBlock → Type 0
@@ -89,15 +90,20 @@ pub and_same : {a b c : DeviceState} → IsUntouched a b → IsUntouched b c →
 and_same {a} {b} {c} first next = record { held = next.held ∙ first.held; history = next.history ∙ first.history }
 
 -- metadata and an origin that were left alone, under each status but 0
-left_alone : (found : WritebackFound) (before after : Objects) (status : ℕ) → IsSynced before.input → IsSynced before.output → status ≢ 0
+left_alone : (found : WritebackFound) (before after : Objects) (status : ℕ) → IsSynced before.input → IsSynced before.output → status ≢ 0 → after.out ≡ before.out
     → IsUntouched before.input after.input → IsUntouched before.output after.output → LeavesWrittenBack found before after status
-left_alone found before after status meta_synced origin_synced some meta origin = record {
+left_alone found before after status meta_synced origin_synced some unput meta origin = record {
+  metadata_told = still_tells before.input after.input (ap is_some meta.held);
+  origin_told = still_tells before.output after.output (ap is_some origin.held);
   origin = IfSome_then before.output.held origin_synced (λ image s.
       stays origin.held origin.history (here_kept (blocks_each found.block_size) found.hot image before.output s));
   metadata = IfSome_then before.input.held meta_synced (λ image s. stays meta.held meta.history (here image (λ made. made ≡ settled image) before.input s));
   order = if_any before.input.held (λ i. if_any before.output.held (λ o. if_any before.third.held (λ f. inl meta)));
-  copied_all = λ zero. absurd (some zero);
-  marked = λ zero. absurd (some zero);
+  copied_all = λ done. absurd (not_done before after status some unput done);
+  marked = λ done. absurd (not_done before after status some unput done);
+  origin_kept = λ _ _. if_any before.input.held (λ i. if_any before.output.held (λ o. if_any before.third.held (λ f. inl origin)));
+  metadata_kept = λ _. if_any before.input.held (λ i. inl meta);
+  unchanged = if_any before.input.held (λ i _. meta);
   refused = λ _. (meta, origin);
   wanting = λ _. (meta, origin);
   cold = λ _. (meta, origin);
@@ -106,11 +112,16 @@ left_alone found before after status meta_synced origin_synced some meta origin 
 -- what is left where a line is lost
 pub writeback_lost : (before after : Objects) (found : WritebackFound) (status : ℕ) → status ≢ 0 → LeavesWrittenBack found before after status → LeavesWrittenBack found before after 6
 writeback_lost before after found status some left = record {
+  metadata_told = left.metadata_told;
+  origin_told = left.origin_told;
   origin = left.origin;
   metadata = left.metadata;
   order = left.order;
-  copied_all = λ e. absurd (omega arith);
-  marked = λ e. absurd (omega arith);
+  copied_all = λ done. left.copied_all (still_done before after status done);
+  marked = λ done. left.marked (still_done before after status done);
+  origin_kept = left.origin_kept;
+  metadata_kept = left.metadata_kept;
+  unchanged = left.unchanged;
   refused = left.refused;
   wanting = λ e. absurd (omega arith);
   cold = left.cold;
@@ -138,7 +149,7 @@ writeback_at_rest metadata fast origin before notes fresh =
         origin = record { told = blocks_told before.output.held; attached = never_open before.output.access fresh.output.0 };
         told = right_by held (report_in held) (report_told held);
       },
-      left_alone finding before (record before { notes = notes }) 6 fresh.input.2 fresh.output.2 (λ e. omega arith)
+      left_alone finding before (record before { notes = notes }) 6 fresh.input.2 fresh.output.2 (λ e. omega arith) refl
           (record { held = refl; history = refl }) (record { held = refl; history = refl }),
     )
 
@@ -174,7 +185,7 @@ module _ (metadata fast origin : List ℕ) (others : Objects) (notes out : SinkS
       let before : Objects = record others { out = out; input = m; output = o; third = t } in
       let after : Objects = record others { out = out; notes = notes; input = m'; output = o'; third = t' } in
       let leaves : (status : ℕ) → status ≢ 0 → LeavesWrittenBack finding before after status =
-      λ status some. left_alone finding before after status meta_synced origin_synced some un.input_untouched un.output_untouched in
+      λ status some. left_alone finding before after status meta_synced origin_synced some refl un.input_untouched un.output_untouched in
       stopped_early (writeback metadata fast origin) before after (record {
         followed = record { source = tt; out = not_yet [] out.access out.path fresh; input = un.input_used; output = un.output_used; third = un.third_used };
         order = record { input = λ _. tt; output = λ ne. (tt, un.output_order ne); third = λ ne. (tt, un.third_order ne); out = λ ne. absurd (ne fresh) };
@@ -275,7 +286,7 @@ module _ (metadata fast origin : List ℕ) (others : Objects) (notes out : SinkS
 
   read_left : (found : WritebackFound) (status : ℕ) → status ≢ 0 → LeavesWrittenBack found before_read after_read status
   read_left found status some =
-      left_alone found before_read after_read status meta_synced origin_synced some (and_same opened.input.untouched same) opened.output.untouched
+      left_alone found before_read after_read status meta_synced origin_synced some refl (and_same opened.input.untouched same) opened.output.untouched
 
   read_stands : Stands (writeback metadata fast origin) before_read after_read
   read_stands = stands others notes out out read_only (not_yet [] out.access out.path fresh)
@@ -359,7 +370,8 @@ no_blocks xs (y ∷ ys) same none =
 
 -- devices that a plan was made for, and that were written by it
 module _ {T E : Type 0} (metadata fast origin : List ℕ) (others : Objects) (notes out out' : SinkState) (m m1 m2 m' o o1 o' t t1 t' : DeviceState) (fresh : out.access ≡ 0)
-    (meta_synced : IsSynced m) (origin_synced : IsSynced o) (opened : AreOpened (writing metadata) (writing origin) (reading fast) (devices m o t) (devices m1 o1 t1))
+    (meta_synced : IsSynced m) (origin_synced : IsSynced o) (meta_unfailed : m.faults ≡ 0) (origin_unfailed : o.faults ≡ 0) (fast_unfailed : t.faults ≡ 0)
+    (opened : AreOpened (writing metadata) (writing origin) (reading fast) (devices m o t) (devices m1 o1 t1))
     (access : m2.access ≡ m1.access) (path : m2.path ≡ m1.path) (same : IsUntouched m1 m2) (unfailed : m2.faults ≡ m1.faults)
     (sound : IfSome m1.held (λ image. faults Cache Whole image ≡ []))
     (origin_measured : IfSome o1.held (λ image. length image ≡ o1.blocks)) (fast_measured : IfSome t1.held (λ image. length image ≡ t1.blocks))
@@ -413,10 +425,38 @@ module _ {T E : Type 0} (metadata fast origin : List ℕ) (others : Objects) (no
       (subst (λ (h : Option Image). IfSome h (λ held. (b : Image) → HoldsSynced b o1 → HoldsSynced (copied image b held) o')) opened.third.untouched.held (has image is of))))
       of_first sound_first
 
+  or_copied : (Other : Type 0) → HasCopied plan (devices m2 o1 t1) (devices m' o' t') → AllTold before_writing (λ image base held. Other ⊎ HoldsSynced (copied image base held) o')
+  or_copied Other has = one_told m.held (λ i rest. one_told o.held (λ b rest'. one_told t.held (λ f is. inr is) rest') rest) (all_copied has)
+
+  -- an origin that didn't fail, nor the fast device, has all that was to be copied
+  kept_origin : o'.faults ≡ o.faults → t'.faults ≡ t.faults → AllTold before_writing (λ image base held. IsUntouched o o' ⊎ HoldsSynced (copied image base held) o')
+  kept_origin same_origin same_fast = elim written.copies [
+    | inl done ↦ or_copied _ done
+    | inr rose ↦ absurd (elim rose [
+      | inl risen ↦ not_risen o.faults o'.faults origin_unfailed same_origin (rw opened.output.faults at risen)
+      | inr risen ↦ not_risen t.faults t'.faults fast_unfailed same_fast (rw opened.third.faults at risen)
+    ])
+  ]
+
+  all_marked : HasMarked plan (devices m2 o1 t1) (devices m' o' t') → IfSome m.held (λ image. HoldsSynced (settled image) m')
+  all_marked has = two_told m.held (λ image of s. has image of (still_synced image m m2 meta_same s)) of_first meta_synced
+
+  -- and metadata that didn't fail was left alone, or has nothing dirty
+  kept_meta : m'.faults ≡ m.faults → IfSome m.held (λ image. IsUntouched m m' ⊎ HoldsSynced (settled image) m')
+  kept_meta same_meta = elim written.marks [
+    | inl alone ↦ if_any m.held (λ i. inl (and_same meta_same alone))
+    | inr rest ↦ elim rest [
+      | inl marked ↦ one_told m.held (λ i is. inr is) (all_marked marked)
+      | inr risen ↦ absurd (not_risen m.faults m'.faults meta_unfailed same_meta (rw (unfailed ∙ opened.input.faults) at risen))
+    ]
+  ]
+
   -- what is left under a status that isn't want of memory
-  leaves : (status : ℕ) → status ≢ 7 → (status ≡ 0 → HasCopied plan (devices m2 o1 t1) (devices m' o' t'))
-      → (status ≡ 0 → (image : Image) → IsPlanOf image plan → HoldsSynced image m2 → HoldsSynced (settled image) m') → LeavesWrittenBack found_here before_writing after_writing status
+  leaves : (status : ℕ) → status ≢ 7 → (IsWorkDone before_writing after_writing status → HasCopied plan (devices m2 o1 t1) (devices m' o' t'))
+      → (IsWorkDone before_writing after_writing status → HasMarked plan (devices m2 o1 t1) (devices m' o' t')) → LeavesWrittenBack found_here before_writing after_writing status
   leaves status other has marked = record {
+    metadata_told = subst (λ (h : Option Image). IfSome h (λ image. IsSome m'.held)) meta_same.held written.meta_told;
+    origin_told = subst (λ (h : Option Image). IfSome h (λ image. IsSome o'.held)) opened.output.untouched.held written.origin_told;
     origin = IfSome_then o.held origin_synced (λ base s.
         and_then (stays opened.output.untouched.held opened.output.untouched.history (here_kept (blocks_each size) hot base o s))
         (subst (λ (k : ℕ). LeavesOnly (λ image firsts. KeepsOthers k hot base image) o1 o') made.each
@@ -427,10 +467,13 @@ module _ {T E : Type 0} (metadata fast origin : List ℕ) (others : Objects) (no
         of_first meta_synced;
     order = elim written.order [
       | inl alone ↦ if_any m.held (λ i. if_any o.held (λ b. if_any t.held (λ f. inl (and_same meta_same alone))))
-      | inr done ↦ one_told m.held (λ i rest. one_told o.held (λ b rest'. one_told t.held (λ f is. inr is) rest') rest) (all_copied done)
+      | inr done ↦ or_copied _ done
     ];
-    copied_all = λ zero. all_copied (has zero);
-    marked = λ zero. two_told m.held (λ image of s. marked zero image of (still_synced image m m2 meta_same s)) of_first meta_synced;
+    copied_all = λ done. all_copied (has done);
+    marked = λ done. all_marked (marked done);
+    origin_kept = kept_origin;
+    metadata_kept = kept_meta;
+    unchanged = two_told m.held (λ image of s unchanged. and_same meta_same (written.unchanged image of (meta_same.held ∙ s.held) unchanged)) of_first meta_synced;
     refused = λ some. absurd (some (ap (λ (a : Answer). a.status) answered));
     wanting = λ seven. absurd (other seven);
     cold = λ none.
@@ -449,23 +492,27 @@ module _ {T E : Type 0} (metadata fast origin : List ℕ) (others : Objects) (no
   writeback_failed rose unput =
       stopped_early (writeback metadata fast origin) before_writing after_writing
       (stands others notes out out' planned (rw unput (not_yet [] out.access out.path fresh))) found_here found_right_here unput Device refl (rose_first rose)
-      (leaves 5 (λ e. omega arith) (λ e. absurd (omega arith)) (λ e. absurd (omega arith))) (leaves 6 (λ e. omega arith) (λ e. absurd (omega arith)) (λ e. absurd (omega arith)))
+      (leaves 5 (λ e. omega arith) (λ done. absurd (undone 5 (λ e. omega arith) done)) (λ done. absurd (undone 5 (λ e. omega arith) done)))
+      (leaves 6 (λ e. omega arith) (λ done. absurd (undone 6 (λ e. omega arith) done)) (λ done. absurd (undone 6 (λ e. omega arith) done)))
+    where
+      undone : (status : ℕ) → status ≢ 0 → IsWorkDone before_writing after_writing status → ⊥
+      undone status some = not_done before_writing after_writing status some unput
 
-  module _ (used : IsUsed (reading []) out'.access out'.path) where
+  -- all was written
+  module _ (used : IsUsed (reading []) out'.access out'.path) (has : HasCopied plan (devices m2 o1 t1) (devices m' o' t')) (marked : HasMarked plan (devices m2 o1 t1) (devices m' o' t')) where
     -- the line wasn't put
     pub writeback_unput : AppendsFront (copied_line (length hot)) out.written out'.written → Rose out.faults out'.faults
         → IsStopped (writeback metadata fast origin) before_writing after_writing Stream
     writeback_unput front rose =
-        let left = leaves 6 (λ e. omega arith) (λ e. absurd (omega arith)) (λ e. absurd (omega arith)) in
+        let left = leaves 6 (λ e. omega arith) (λ _. has) (λ _. marked) in
         stopped_by (writeback metadata fast origin) before_writing after_writing (stands others notes out out' planned used) found_here found_right_here
         Stream refl (λ e. absurd cc) (λ some. absurd (some (ap (λ (a : Answer). a.status) answered))) (inr rose)
         (subst (λ (a : Answer). AppendsFront a.out out.written out'.written) (sym answered) front) left left
 
-    -- all was done
-    pub writeback_done : HasCopied plan (devices m2 o1 t1) (devices m' o' t') → ((image : Image) → IsPlanOf image plan → HoldsSynced image m2 → HoldsSynced (settled image) m')
-        → Appends (copied_line (length hot)) out.written out'.written → out'.access ≡ 1
+    -- and it was
+    pub writeback_done : Appends (copied_line (length hot)) out.written out'.written → out'.access ≡ 1
         → IsFinished (writeback metadata fast origin) before_writing after_writing 0 []
-    writeback_done has marked whole attached =
+    writeback_done whole attached =
         finished_by (writeback metadata fast origin) before_writing after_writing (stands others notes out out' planned used) found_here found_right_here
         0 (copied_line (length hot)) [] (lit≤ tt) refl (λ e. absurd cc) (λ some. absurd (some (ap (λ (a : Answer). a.status) answered))) answered whole
         (record { source = tt; input = planned.meta_open; output = planned.origin_open; third = planned.fast_open }) (λ _. attached) (λ _. tt)

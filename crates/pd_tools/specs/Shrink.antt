@@ -1,7 +1,7 @@
 -- What the moving and the writing of a shrink do to its three devices: the metadata, the output and the data device.
 use Rattle.std.specs.Prelude.{◌≡◌, ◌⊎◌, ℕ, List, [], map, Result, Ok, Err}
 use Rattle.pd_kinds.specs.Objects.{Rose}
-use Rattle.pd_kinds.specs.Crash.{HoldsSynced, IsUntouched, LeavesOnly}
+use Rattle.pd_kinds.specs.Crash.{HoldsSynced, IsUntouched, LeavesOnly, StillTells}
 use Rattle.pd_image.specs.Device.{KeepsPlace}
 use Rattle.pd_answers.specs.CachedView.{blocks_each}
 use Rattle.pd_answers.specs.MovedPool.{copy_of_move, data_after}
@@ -43,6 +43,7 @@ GoesAsFar shrink (Err Stream) old new = ⊥
 pub record IsWritten (shrink : Shrink) (result : Result ℕ Stop) (old new : Devices) : Type 0 where
   pub crash : (basis : ShrinkGround) (held : List (List ℕ)) → IsPlanOf basis shrink → HoldsSynced held old.third
       → LeavesOnly (λ image firsts. KeepsOthers (blocks_each basis.pool.block_size) (map copy_of_move (moves_of basis)) held image) old.third new.third
+  pub told : StillTells old.third new.third
   pub cold : moves_in shrink.moves.items ≡ [] → IsUntouched old.third new.third
   pub goes_as_far : GoesAsFar shrink result old new
   pub output_place : KeepsPlace old.output new.output

@@ -2,7 +2,7 @@
 use Rattle.std.specs.Prelude.{◌≡◌, ℕ, ◌≤◌, IsTrue, List}
 use Rattle.pd_kinds.specs.Objects.{SinkState, Appends, AppendsFront}
 use Rattle.pd_answers.specs.Answer.{Objects, Use, unused, reading, writing, IsUsed, IsOpen, AreFresh, DeviceRose, StreamRose}
-use Rattle.pd_answers.specs.Terms.{Terms, Uses, AreInOrder, AreKept, AreOpen, IsReadWhole, is_one_of, is_possible, IsAnswered}
+use Rattle.pd_answers.specs.Terms.{Terms, Uses, ComesAfter, AreKept, AreOpen, IsReadWhole, is_one_of, is_possible, IsAnswered}
 use Rattle.pd_tools.specs.declared.stop.Stop.{Stop}
 use Rattle.pd_tools.specs.declared.stop.Stop.TheVariants.{Device, Stream, Memory}
 use Rattle.pd_tools.specs.Stop.{stop_status}
@@ -21,12 +21,20 @@ pub record AreFollowed (uses : Uses) (after : Objects) : Type 0 where
   pub output : IsFollowed uses.output (λ given. IsUsed given after.output.access after.output.path)
   pub third : IsFollowed uses.third (λ given. IsUsed given after.third.access after.third.path)
 
+-- the objects but `notes` are attached one after another; `notes` comes before them all
+pub record AreInTurn (uses : Uses) (after : Objects) : Type 0 where
+  pub input : ComesAfter uses.input after.input.access (IsOpen uses.source after.source.access)
+  pub output : ComesAfter uses.output after.output.access (IsOpen uses.source after.source.access × IsOpen uses.input after.input.access)
+  pub third : ComesAfter uses.third after.third.access
+      (IsOpen uses.source after.source.access × (IsOpen uses.input after.input.access × IsOpen uses.output after.output.access))
+  pub out : ComesAfter uses.out after.out.access (AreOpen uses after)
+
 -- what holds of the work however it ends, with the status that it is to have
 pub record IsWork (terms : Terms) (finding : terms.Finding) (before after : Objects) (wanted : ℕ) : Type 0 where
   pub found : terms.finds before after finding
   pub possible : IsTrue (is_possible terms wanted)
   pub followed : AreFollowed terms.uses after
-  pub order : AreInOrder terms.uses after
+  pub order : AreInTurn terms.uses after
   pub kept : AreKept terms.uses before after
   pub silent : IsTrue (is_one_of terms.silent wanted) → after.out ≡ before.out
   pub spared : terms.spared finding → after.out ≡ before.out

@@ -17,17 +17,19 @@ use crate::stop::Stop;
 use pd_cache::check_cache;
 use pd_era::check_era;
 use pd_image::{Device, Failed, Sink};
-use pd_kinds::{CheckFault, Kind, Report, Stage};
+use pd_kinds::{CheckFault, Kind, Passing, Report, Stage};
 use pd_lines::print_report;
 use pd_thin::check_thin;
 use std::alloc::Global;
 
-/// Checks the metadata of this kind in the image at the path up to a stage, and puts the report.
+/// Checks the metadata of this kind in the image at the path up to a stage, and puts the report. The status says whether it
+/// passes.
 #[inline(never)]
 pub fn run_check<K: Sink, E: Sink, A: Device>(
     alloc: Global,
     kind: Kind,
     until: Stage,
+    passing: Passing,
     image: &str,
     out: &mut K,
     notes: &mut E,
@@ -36,21 +38,22 @@ pub fn run_check<K: Sink, E: Sink, A: Device>(
     requires out { (K.state out.old).access ≡ 0 }
     requires notes { (E.state notes.old).access ≡ 1 }
     requires input { (A.state input.old).access ≡ 0 }
-    ensures { (others : Objects) → AnswersTerms (check kind until image.now) (E.state notes.old)
+    ensures { (others : Objects) → AnswersTerms (check kind until passing image.now) (E.state notes.old)
         (record others { out = K.state out.old; input = A.state input.old })
         (record others { out = K.state out.new; notes = E.state notes.new; input = A.state input.new }) result }
 {
-    match check_image(alloc, kind, until, image, out, input) {
-        Ok(clean) => { if clean { 0 } else { 1 } }
+    match check_image(alloc, kind, until, passing, image, out, input) {
+        Ok(passed) => { if passed { 0 } else { 1 } }
         Err(stop) => stop.put(notes),
     }
 }
 
-/// Checks the image, and puts the report: whether it is clean.
+/// Checks the image, and puts the report: whether it passes.
 fn check_image<K: Sink, A: Device>(
     alloc: Global,
     kind: Kind,
     until: Stage,
+    passing: Passing,
     image: &str,
     out: &mut K,
     input: &mut A,
@@ -60,12 +63,12 @@ fn check_image<K: Sink, A: Device>(
     ensures { (others : Objects) (notes : SinkState) →
         let before = record others { out = K.state out.old; input = A.state input.old } in
         let after = record others { out = K.state out.new; notes = notes; input = A.state input.new } in
-        MatchResult result (λ clean. IsFinished (check kind until image.now) before after (if clean then 0 else 1) [])
-        (IsStopped (check kind until image.now) before after) }
+        MatchResult result (λ passed. IsFinished (check kind until passing image.now) before after (if passed then 0 else 1) [])
+        (IsStopped (check kind until passing image.now) before after) }
 {
     let report = read_report(alloc, kind, until, image, false, input)?;
     match put_report(&report, out) {
-        Ok(()) => Ok(report.is_empty()),
+        Ok(()) => Ok(report.passes(passing)),
         Err(_) => Err(Stop::Stream),
     }
 }

@@ -21,6 +21,7 @@ use crate::search::run_search;
 use crate::shrink::run_shrink;
 use crate::writeback::run_writeback;
 use pd_image::{Device, Sink, Source};
+use pd_kinds::{Passing, Stage};
 use pd_words::{Name, Request, read_words};
 use std::alloc::Global;
 
@@ -31,7 +32,7 @@ use std::alloc::Global;
 ///
 /// | Status | Meaning |
 /// |---|---|
-/// | 0 | done; after a check, the image is clean |
+/// | 0 | done; after a check, the image is clean, or, where leaks pass, has no faults but leaks |
 /// | 1 | the image has faults; the report is on `out`, or, where a dump was asked, on `notes`. Or the block size of a cache, or of a pool that is to be smaller, is no whole number of blocks, or no roots were found |
 /// | 2 | the words spell no request |
 /// | 3 | a line of the text is refused |
@@ -95,14 +96,35 @@ fn run_request<S: Source, K: Sink, E: Sink, A: Device, B: Device, C: Device>(
             alloc,
             kind,
             until,
+            Passing::Nothing,
             image.word_in(words),
             out,
             notes,
             input,
         ),
-        Request::CheckAndClear { image } => {
-            run_clearing_check(alloc, image.word_in(words), out, notes, input)
-        }
+        Request::PassingCheck { kind, image } => run_check(
+            alloc,
+            kind,
+            Stage::Counts,
+            Passing::Leaks,
+            image.word_in(words),
+            out,
+            notes,
+            input,
+        ),
+        Request::CheckAndClear {
+            flagged,
+            passing,
+            image,
+        } => run_clearing_check(
+            alloc,
+            flagged,
+            passing,
+            image.word_in(words),
+            out,
+            notes,
+            input,
+        ),
         Request::Dump {
             kind,
             image,
@@ -208,13 +230,9 @@ fn run_request<S: Source, K: Sink, E: Sink, A: Device, B: Device, C: Device>(
         Request::Generate { number, out: file } => {
             run_generate(number, file_in(words, file), out, notes)
         }
-        Request::Writeback {
-            metadata,
-            fast,
-            origin,
-        } => run_writeback(
+        Request::Writeback { meta, fast, origin } => run_writeback(
             alloc,
-            metadata.word_in(words),
+            meta.word_in(words),
             fast.word_in(words),
             origin.word_in(words),
             out,

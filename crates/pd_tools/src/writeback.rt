@@ -68,7 +68,7 @@ fn write_back<K: Sink, A: Device, B: Device, C: Device>(
     requires input { (A.state input.old).access ≡ 0 }
     requires output { (B.state output.old).access ≡ 0 }
     requires third { (C.state third.old).access ≡ 0 }
-    ensures { (others : Objects) (notes : SinkState) →
+    ensures { (others : Objects) (notes : SinkState) → (A.state input.old).faults ≡ 0 → (B.state output.old).faults ≡ 0 → (C.state third.old).faults ≡ 0 →
         let before = record others { out = K.state out.old; input = A.state input.old; output = B.state output.old; third = C.state third.old } in
         let after = record others { out = K.state out.new; notes = notes; input = A.state input.new; output = B.state output.new; third = C.state third.new } in
         let terms = writeback metadata.now fast.now origin.now in
@@ -105,7 +105,7 @@ fn write_opened<K: Sink, A: Device, B: Device, C: Device>(
     requires output { IsWritable (B.state output.old) }
     requires third { (C.state third.old).access ≡ 1 }
     ensures { (metadata fast origin : List ℕ) (meta_before origin_before fast_before : DeviceState) (others : Objects) (notes : SinkState) →
-        IsSynced meta_before → IsSynced origin_before →
+        IsSynced meta_before → meta_before.faults ≡ 0 → IsSynced origin_before → origin_before.faults ≡ 0 → fast_before.faults ≡ 0 →
         AreOpened (writing metadata) (writing origin) (reading fast) (devices meta_before origin_before fast_before) (devices (A.state input.old) (B.state output.old) (C.state third.old)) →
         let before = record others { out = K.state out.old; input = meta_before; output = origin_before; third = fast_before } in
         let after = record others { out = K.state out.new; notes = notes; input = A.state input.new; output = B.state output.new; third = C.state third.new } in
@@ -133,7 +133,7 @@ fn write_sound<K: Sink, A: Device, B: Device, C: Device>(
     requires third { (C.state third.old).access ≡ 1 }
     requires sound { IfSome (A.state input.old).held (λ image. faults Cache Whole image ≡ []) }
     ensures { (metadata fast origin : List ℕ) (meta_before origin_before fast_before : DeviceState) (others : Objects) (notes : SinkState) →
-        IsSynced meta_before → IsSynced origin_before →
+        IsSynced meta_before → meta_before.faults ≡ 0 → IsSynced origin_before → origin_before.faults ≡ 0 → fast_before.faults ≡ 0 →
         AreOpened (writing metadata) (writing origin) (reading fast) (devices meta_before origin_before fast_before) (devices (A.state input.old) (B.state output.old) (C.state third.old)) →
         let before = record others { out = K.state out.old; input = meta_before; output = origin_before; third = fast_before } in
         let after = record others { out = K.state out.new; notes = notes; input = A.state input.new; output = B.state output.new; third = C.state third.new } in

@@ -4,7 +4,7 @@ use Rattle.pd_exact.proofs.StageLemmas.{none_up_to_whole}
 use Rattle.pd_exact.proofs.shrinks.shrunk_pool_is_clean_and_reads_the_same.Goals as goal
 
 pub returns : goal.returns
-returns c = λ metadata output pool blocks before after answered.
+returns c = λ metadata output pool blocks before after status answered.
     holds_shrunk
     (record {
       free = λ image end none. c.free_blocks_are_read_by_none.ensures Counts image end tt none;
@@ -14,4 +14,4 @@ returns c = λ metadata output pool blocks before after answered.
       moved_lawful = c.moved_pool_is_lawful.ensures;
       laid = c.laid_pool_is_clean.ensures.clean;
     })
-    metadata output pool blocks before after answered
+    metadata output pool blocks before after status answered

@@ -6,10 +6,10 @@ use Rattle.pd_exact.proofs.KindLaws.{pool_laws}
 use Rattle.pd_exact.proofs.words.thin_rehearse_makes_its_pool.Goals as goal
 
 pub returns : goal.returns
-returns c = λ word number path before after is_word is is_path ends.
+returns c = λ word number path before after status is_word is is_path ends.
     let text = generated_text number in
     let m = generated_pool number in
     let pool = c.generated_text_spells_a_pool.ensures number (generated_few word number is) in
     holds_generated (pool_laws c.pool_text_has_one_verdict.ensures.one c.pool_text_is_accepted_where_there_is_room.ensures.no_room c.laid_shapes_are_clean.ensures)
     c.pool_text_has_one_shape.ensures number m pool (c.either_version_spells_a_shape.ensures.first text m pool)
-    path before after (answered_for _ _ 0 before after (thin_rehearse_asked word number path is_word is is_path) ends)
+    path before after status (answered_for _ _ status before after (thin_rehearse_asked word number path is_word is is_path) ends)

@@ -3,6 +3,6 @@ use Rattle.pd_exact.proofs.AskedLemmas.{thin_shrink_asked}
 use Rattle.pd_exact.proofs.words.thin_shrink_makes_the_pool_smaller.Goals as goal
 
 pub returns : goal.returns
-returns c = λ from to pool word blocks before after is_from is_to is_pool is_word is ends.
-    c.shrunk_pool_is_clean_and_reads_the_same.ensures from to pool blocks before after
-    (answered_for _ _ 0 before after (thin_shrink_asked from to pool word blocks is_from is_to is_pool is_word is) ends)
+returns c = λ from to pool word blocks before after status is_from is_to is_pool is_word is ends.
+    c.shrunk_pool_is_clean_and_reads_the_same.ensures from to pool blocks before after status
+    (answered_for _ _ status before after (thin_shrink_asked from to pool word blocks is_from is_to is_pool is_word is) ends)

@@ -6,7 +6,7 @@ use Rattle.pd_exact.proofs.WrittenBack.{holds_written_back}
 use Rattle.pd_exact.proofs.writebacks.written_back_cache_is_clean.Goals as goal
 
 pub returns : goal.returns
-returns c = λ metadata fast origin before after answered.
+returns c = λ metadata fast origin before after status answered.
     let same = c.settled_caches_have_the_same_faults.ensures in
     let clean = c.faults_are_none_where_clean.ensures in
     holds_written_back
@@ -21,4 +21,4 @@ returns c = λ metadata fast origin before after answered.
       c.settled_caches_mean_the_same.ensures.meaning image is none,
     ))
     c.copying_keeps_the_view.ensures.copied
-    metadata fast origin before after answered
+    metadata fast origin before after status answered

@@ -1,5 +1,7 @@
 use Rattle.std.proofs.Common.{◌≡◌, ℕ, List, Option, map, string_bytes}
 use Rattle.pd_kinds.specs.declared.kind.Kind.{Kind}
+use Rattle.pd_kinds.specs.declared.kind.Passing.TheVariants.{Nothing, Leaks}
+use Rattle.pd_kinds.specs.declared.kind.Stage.TheVariants.{Counts}
 use Rattle.pd_kinds.specs.Objects.{SinkState}
 use Rattle.pd_answers.specs.Answer.{Objects}
 use Rattle.pd_answers.specs.Promises.{check, check_and_clear, generate}
@@ -26,14 +28,21 @@ pub returns-in-Check : goal.returns-in-Check
 returns-in-Check g c others =
     let words = map string_bytes c.args.words.now in
     let w = c.in-Check in
-    rw w.is (as_asked (check w.kind w.until) (word_of words w.image) c.word_in.result.now _ _ _ _ c.word_in.ensures
+    rw w.is (as_asked (check w.kind w.until Nothing) (word_of words w.image) c.word_in.result.now _ _ _ _ c.word_in.ensures
     (c.run_check.ensures (record others { source = g.S.Source.state c.args.source.now; output = g.B.Device.state c.args.output.now; third = g.C.Device.state c.args.third.now })))
+
+pub returns-in-PassingCheck : goal.returns-in-PassingCheck
+returns-in-PassingCheck g c others =
+    let words = map string_bytes c.args.words.now in
+    let w = c.in-PassingCheck in
+    rw w.is (as_asked (check w.kind Counts Leaks) (word_of words w.image) c.word_in-in-PassingCheck.result.now _ _ _ _ c.word_in-in-PassingCheck.ensures
+    (c.run_check-in-PassingCheck.ensures (record others { source = g.S.Source.state c.args.source.now; output = g.B.Device.state c.args.output.now; third = g.C.Device.state c.args.third.now })))
 
 pub returns-in-CheckAndClear : goal.returns-in-CheckAndClear
 returns-in-CheckAndClear g c others =
     let words = map string_bytes c.args.words.now in
     let w = c.in-CheckAndClear in
-    rw w.is (as_asked check_and_clear (word_of words w.image) c.word_in-in-CheckAndClear.result.now _ _ _ _ c.word_in-in-CheckAndClear.ensures
+    rw w.is (as_asked (check_and_clear w.flagged w.passing) (word_of words w.image) c.word_in-in-CheckAndClear.result.now _ _ _ _ c.word_in-in-CheckAndClear.ensures
     (c.run_clearing_check.ensures (record others { source = g.S.Source.state c.args.source.now; output = g.B.Device.state c.args.output.now; third = g.C.Device.state c.args.third.now })))
 
 -- so with a query
@@ -151,7 +160,7 @@ pub returns-in-Writeback : goal.returns-in-Writeback
 returns-in-Writeback g c others =
     let words = map string_bytes c.args.words.now in
     let w = c.in-Writeback in
-    rw w.is (written_back_as_asked (word_of words w.metadata) (word_of words w.fast) (word_of words w.origin)
+    rw w.is (written_back_as_asked (word_of words w.meta) (word_of words w.fast) (word_of words w.origin)
     c.word_in-in-Writeback.result.now c.word_in-in-Writeback-2.result.now c.word_in-in-Writeback-3.result.now _ _ _ _
     c.word_in-in-Writeback.ensures c.word_in-in-Writeback-2.ensures c.word_in-in-Writeback-3.ensures
     (c.run_writeback.ensures (record others { source = g.S.Source.state c.args.source.now })))

@@ -19,7 +19,7 @@ returns-in-Ok-put_last_line g c from to input output others notes synced fresh b
     search_done c.args.given.now from to others notes (g.K.Sink.state c.args.out.now) input (g.A.Device.state c.args.input.now) (g.A.Device.state c.repair_from.new.input)
     output (g.B.Device.state c.args.output.now) (g.B.Device.state c.repair_from.new.output) c.requires.out synced both (g.met.B.Device.measured c.args.output.now)
     c.repair_from.ensures.input c.repair_from.ensures.place c.found_pools_are_saved_whole.ensures (g.met.A.Device.bytes c.args.input.now) (g.met.A.Device.measured c.args.input.now)
-    (roots_of c.args.roots.now) c.requires.best c.repair_from.result (rw (c.lost_super-lost.ensures, c.usable_blocks-meta_blocks.ensures) at c.repair_from.ensures.repaired) c.in-Ok.is (g.K.Sink.state c.put_last_line.new.out) put.used (rw line at put.whole) put.access
+    (roots_of c.args.roots.now) c.requires.best c.repair_from.result (rw (c.lost_super-lost.ensures, c.usable_blocks-meta_blocks.ensures) at c.repair_from.ensures.repaired) c.in-Ok.is (g.K.Sink.state c.put_last_line.new.out) put.used put.touched (rw line at put.whole) put.access
 
 pub returns-in-Err-put_last_line : goal.returns-in-Err-put_last_line
 returns-in-Err-put_last_line g c from to input output others notes synced fresh both =
@@ -28,4 +28,4 @@ returns-in-Err-put_last_line g c from to input output others notes synced fresh 
     search_unput c.args.given.now from to others notes (g.K.Sink.state c.args.out.now) input (g.A.Device.state c.args.input.now) (g.A.Device.state c.repair_from.new.input)
     output (g.B.Device.state c.args.output.now) (g.B.Device.state c.repair_from.new.output) c.requires.out synced both (g.met.B.Device.measured c.args.output.now)
     c.repair_from.ensures.input c.repair_from.ensures.place c.found_pools_are_saved_whole.ensures (g.met.A.Device.bytes c.args.input.now) (g.met.A.Device.measured c.args.input.now)
-    (roots_of c.args.roots.now) c.requires.best c.repair_from.result (rw (c.lost_super-lost.ensures, c.usable_blocks-meta_blocks.ensures) at c.repair_from.ensures.repaired) c.in-Ok.is (g.K.Sink.state c.put_last_line.new.out) put.used (rw line at put.front) put.faults.0
+    (roots_of c.args.roots.now) c.requires.best c.repair_from.result (rw (c.lost_super-lost.ensures, c.usable_blocks-meta_blocks.ensures) at c.repair_from.ensures.repaired) c.in-Ok.is (g.K.Sink.state c.put_last_line.new.out) put.used put.touched (rw line at put.front) put.faults.0

@@ -38,7 +38,7 @@ returns-in-Ok-put_last_line g c from to pool meta_before output_before pool_befo
     output_before (g.B.Device.state c.args.output.now) (g.B.Device.state c.move_and_write.new.output) pool_before (g.C.Device.state c.args.third.now) (g.C.Device.state c.move_and_write.new.third)
     c.requires.out output_synced output_unfailed pool_synced pool_unfailed opened kept.access kept.path (record { held = kept.held; history = kept.history }) c.requires.sound
     (g.met.B.Device.measured c.args.output.now) (g.met.C.Device.measured c.args.third.now) c.in-Ok.plan ground planned _ written written.goes_as_far
-    (g.K.Sink.state c.put_last_line.new.out) put.used (rw line at put.whole) put.access
+    (g.K.Sink.state c.put_last_line.new.out) put.used put.touched (rw line at put.whole) put.access
 
 pub returns-in-Err-put_last_line : goal.returns-in-Err-put_last_line
 returns-in-Err-put_last_line g c from to pool meta_before output_before pool_before others notes output_synced output_unfailed pool_synced pool_unfailed opened =
@@ -53,4 +53,4 @@ returns-in-Err-put_last_line g c from to pool meta_before output_before pool_bef
     output_before (g.B.Device.state c.args.output.now) (g.B.Device.state c.move_and_write.new.output) pool_before (g.C.Device.state c.args.third.now) (g.C.Device.state c.move_and_write.new.third)
     c.requires.out output_synced output_unfailed pool_synced pool_unfailed opened kept.access kept.path (record { held = kept.held; history = kept.history }) c.requires.sound
     (g.met.B.Device.measured c.args.output.now) (g.met.C.Device.measured c.args.third.now) c.in-Ok.plan ground planned _ written written.goes_as_far
-    (g.K.Sink.state c.put_last_line.new.out) put.used (rw line at put.front) put.faults.0
+    (g.K.Sink.state c.put_last_line.new.out) put.used put.touched (rw line at put.front) put.faults.0

@@ -8,7 +8,7 @@ use Rattle.pd_tools.proofs.Writebacks.{opened_read, writeback_faulty, writeback_
 use Rattle.pd_tools.proofs.writeback.write_opened.Goals as goal
 
 pub returns-in_err-report : goal.returns-in_err-report
-returns-in_err-report g c metadata fast origin meta_before origin_before fast_before others notes meta_synced origin_synced opened =
+returns-in_err-report g c metadata fast origin meta_before origin_before fast_before others notes meta_synced meta_unfailed origin_synced origin_unfailed fast_unfailed opened =
     let stopped =
     writeback_unread metadata fast origin others notes (g.K.Sink.state c.args.out.now) meta_before (g.A.Device.state c.args.input.now) (g.A.Device.state c.check_attached.new.input)
     origin_before (g.B.Device.state c.args.output.now) fast_before (g.C.Device.state c.args.third.now) c.requires.out meta_synced origin_synced opened
@@ -17,7 +17,7 @@ returns-in_err-report g c metadata fast origin meta_before origin_before fast_be
     search rules
 
 pub returns-then-not-is_empty : goal.returns-then-not-is_empty
-returns-then-not-is_empty g c metadata fast origin meta_before origin_before fast_before others notes meta_synced origin_synced opened =
+returns-then-not-is_empty g c metadata fast origin meta_before origin_before fast_before others notes meta_synced meta_unfailed origin_synced origin_unfailed fast_unfailed opened =
     let faulty : c.is_empty.result ≡ false = first_of (search rules, grind (arith, nat_tests)) in
     writeback_faulty metadata fast origin others notes (g.K.Sink.state c.args.out.now) meta_before (g.A.Device.state c.args.input.now) (g.A.Device.state c.check_attached.new.input)
     origin_before (g.B.Device.state c.args.output.now) fast_before (g.C.Device.state c.args.third.now) c.requires.out meta_synced origin_synced opened
@@ -31,8 +31,8 @@ write_sound-requires-clause-sound g c =
     (one_told (g.A.Device.state c.args.input.now).held (λ image is. none_reported Cache Whole image c.in_ok-report.report is (sym c.is_empty.ensures ∙ clean)) c.in_ok-report.ensures.report)
 
 pub returns : goal.returns
-returns g c metadata fast origin meta_before origin_before fast_before others notes meta_synced origin_synced opened =
-    c.write_sound.ensures metadata fast origin meta_before origin_before fast_before others notes meta_synced origin_synced
+returns g c metadata fast origin meta_before origin_before fast_before others notes meta_synced meta_unfailed origin_synced origin_unfailed fast_unfailed opened =
+    c.write_sound.ensures metadata fast origin meta_before origin_before fast_before others notes meta_synced meta_unfailed origin_synced origin_unfailed fast_unfailed
     (opened_read (writing metadata) (writing origin) (reading fast) meta_before (g.A.Device.state c.args.input.now) (g.A.Device.state c.check_attached.new.input)
     origin_before (g.B.Device.state c.args.output.now) fast_before (g.C.Device.state c.args.third.now) opened
     c.in_ok-report.ensures.access c.in_ok-report.ensures.path c.in_ok-report.ensures.untouched c.in_ok-report.ensures.kept)
