@@ -1,3 +1,4 @@
+-- Trusted base.
 -- The shape of a pool's image, where it has no fault up to the stage Whole: which leaves its devices share.
 use Rattle.std.specs.Prelude.{ℕ, ◌==◌, ◌&&◌, Bool, nat_lt, nat_le, List, [], ◌∷◌, ◌++◌, length, map, filter, count_by, Option, Some, None}
 use Rattle.std.specs.List.{flat_map, range_with_len, position}

@@ -1,3 +1,4 @@
+-- Trusted base.
 -- A pool's text of either version, as a restore reads it: its first line says which.
 use Rattle.std.specs.Prelude.{◌≡◌, ℕ, Bool, true, false, if◌then◌else◌, List}
 use Rattle.pd_kinds.specs.Meaning.{ThinPool}

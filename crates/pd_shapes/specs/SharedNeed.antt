@@ -1,3 +1,4 @@
+-- Trusted base.
 -- How many blocks a pool with shared leaves needs, by its shape and by the lines of its text.
 use Rattle.std.specs.Prelude.{ℕ, ◌+◌, ◌==◌, Bool, true, false, if◌then◌else◌, List, [], ◌∷◌, ◌++◌, length, map, sum_by}
 use Rattle.std.specs.List.{flat_map}

@@ -1,3 +1,4 @@
+-- Trusted base.
 -- The second version of a pool's text, and the shape that it spells.
 use Rattle.std.specs.Prelude.{◌≡◌, ℕ, ◌+◌, ◌≤◌, List, [], ◌∷◌, ◌++◌, length, map}
 use Rattle.std.specs.List.{flat_map, AllByRecursion}

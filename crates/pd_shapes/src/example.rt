@@ -1,3 +1,5 @@
+//! A small pool with a shared leaf, computed by the checker.
+
 ghost use Rattle.std.specs.Prelude.{◌≡◌, None, Some};
 ghost use Rattle.pd_grammar.specs.declared.cause.TextCause.TheVariants.{OutOfRange, Unused};
 ghost use Rattle.pd_grammar.specs.Texts.{refusal};

@@ -1,0 +1,2 @@
+pub mod VisitPieces
+pub mod SoundVisits
