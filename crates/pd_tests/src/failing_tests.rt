@@ -1,7 +1,7 @@
 //! Each call of each object of each request, failing in turn.
 
 use crate::asked::{DEVICE, SINK};
-use crate::requests::{Asked, READINGS, WRITINGS, blocks};
+use crate::requests::{Asked, AskedOfThree, OF_THREE, READINGS, WRITINGS, blocks};
 use pd_crc::any_valid;
 use pd_image::{MemDevice, Pick};
 use pd_kinds::Block;
@@ -20,8 +20,10 @@ enum Trouble {
     Notes,
     Input,
     Output,
+    Third,
     InputStops,
     OutputStops,
+    ThirdStops,
 }
 
 impl Trouble {
@@ -34,8 +36,10 @@ impl Trouble {
             Trouble::Notes => failing.notes = Some(call),
             Trouble::Input => failing.input = Some(call),
             Trouble::Output => failing.output = Some(call),
+            Trouble::Third => failing.third = Some(call),
             Trouble::InputStops => failing.input_stops_after = call,
             Trouble::OutputStops => failing.output_stops_after = call,
+            Trouble::ThirdStops => failing.third_stops_after = call,
         }
         failing
     }
@@ -44,7 +48,7 @@ impl Trouble {
     fn status(self) -> u8 {
         match self {
             Trouble::Source | Trouble::Out | Trouble::Notes => 6,
-            Trouble::Input | Trouble::Output | Trouble::InputStops | Trouble::OutputStops => 5,
+            _ => 5,
         }
     }
 }
@@ -58,6 +62,9 @@ const TROUBLES: &[Trouble] = &[
     Trouble::InputStops,
     Trouble::OutputStops,
 ];
+
+/// Those of the third device.
+const TROUBLES_OF_THIRD: &[Trouble] = &[Trouble::Third, Trouble::ThirdStops];
 
 /// More calls than an object of a request gets.
 const MANY: u64 = 150;
@@ -113,7 +120,8 @@ fn is_alike(alloc: Global, ran: &Ran, whole: &Ran) -> Result<bool, AllocError> {
     Ok(
         is_said
             && hold_alike(alloc, &ran.input, &whole.input)?
-            && hold_alike(alloc, &ran.output, &whole.output)?,
+            && hold_alike(alloc, &ran.output, &whole.output)?
+            && hold_alike(alloc, &ran.third, &whole.third)?,
     )
 }
 
@@ -213,6 +221,28 @@ impl Tried<'_> {
     }
 }
 
+/// Makes a request without trouble, which has this status, and then with each of these troubles at each call.
+fn expect_troubles(
+    rt: &impl Abort,
+    alloc: Global,
+    words: &'static str,
+    held: Held<'_>,
+    status: u8,
+    troubles: &[Trouble],
+) -> Result<(), AllocError> {
+    let whole = run_words(alloc, words, held, NOTHING_FAILS)?;
+    assert!(rt; whole.status == status, "{words}");
+    let tried = Tried {
+        words,
+        held,
+        whole: &whole,
+    };
+    for trouble in troubles {
+        tried.expect_each(rt, alloc, *trouble)?;
+    }
+    Ok(())
+}
+
 /// Makes a request without trouble, and then with each trouble at each call.
 fn expect_all(rt: &impl Abort, alloc: Global, asked: &Asked) -> Result<(), AllocError> {
     let (words, text, input, output, status) = *asked;
@@ -223,17 +253,26 @@ fn expect_all(rt: &impl Abort, alloc: Global, asked: &Asked) -> Result<(), Alloc
         output: output.as_slice(),
         third: &[],
     };
-    let whole = run_words(alloc, words, held, NOTHING_FAILS)?;
-    assert!(rt; whole.status == status, "{words}");
-    let tried = Tried {
-        words,
-        held,
-        whole: &whole,
+    expect_troubles(rt, alloc, words, held, status, TROUBLES)
+}
+
+/// The same of a request over three devices.
+fn expect_all_of_three(
+    rt: &impl Abort,
+    alloc: Global,
+    asked: &AskedOfThree,
+) -> Result<(), AllocError> {
+    let (words, input, output, third, status) = *asked;
+    let (input, output) = (blocks(rt, alloc, input)?, blocks(rt, alloc, output)?);
+    let third = blocks(rt, alloc, third)?;
+    let held = Held {
+        text: b"",
+        input: input.as_slice(),
+        output: output.as_slice(),
+        third: third.as_slice(),
     };
-    for trouble in TROUBLES {
-        tried.expect_each(rt, alloc, *trouble)?;
-    }
-    Ok(())
+    expect_troubles(rt, alloc, words, held, status, TROUBLES)?;
+    expect_troubles(rt, alloc, words, held, status, TROUBLES_OF_THIRD)
 }
 
 #[test]
@@ -250,6 +289,14 @@ fn a_request_that_writes_leaves_no_other_image_where_a_call_fails(
 ) -> Result<(), Fail> {
     for asked in WRITINGS {
         expect_all(&rt, rt.alloc(), asked)?;
+    }
+    Ok(())
+}
+
+#[test]
+fn a_request_over_three_devices_tells_each_call_that_fails(rt: HostRuntime) -> Result<(), Fail> {
+    for asked in OF_THREE {
+        expect_all_of_three(&rt, rt.alloc(), asked)?;
     }
     Ok(())
 }

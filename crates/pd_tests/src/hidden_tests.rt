@@ -2,8 +2,11 @@
 
 use crate::asked::{ONE, SHARED};
 use crate::hidden::{Hidden, Shown};
-use crate::requests::{CACHE_TEXT, SHARED_LEAF, TARGET_TEXT};
-use pd_image::{MemDevice, MemSink, MemSource};
+use crate::requests::Image::{FlaggedPool, Pool};
+use crate::requests::{
+    APART, CACHE_TEXT, CLEAN, DIRTY, SHARED_LEAF, TARGET_TEXT, TOGETHER, blocks, filled,
+};
+use pd_image::{MemSink, MemSource};
 use pd_kinds::Block;
 use pd_samples::runs::{Held, NOTHING_FAILS, blocks_of, run, run_over, texts_of};
 use pd_tools::run_tool;
@@ -17,35 +20,39 @@ struct Call {
     status: u8,
     out: MemSink,
     notes: MemSink,
+    input: Hidden,
     output: Hidden,
+    third: Hidden,
 }
 
-/// The text that a call reads, the blocks of its input and of its output, and what the output shows from a call on.
+/// The text that a call reads, the blocks of its three devices, and what the output shows from a call on.
 #[derive(Drop)]
 struct Untold<'a> {
     text: &'a str,
     input: Vec<Block>,
     output: Vec<Block>,
+    third: Vec<Block>,
     shows_from: u64,
     shown: Shown,
 }
 
-/// Runs a tool over an input and an output that tell nothing.
+/// Runs a tool over devices that tell nothing.
 fn run_untold(alloc: Global, words: &[&str], untold: Untold<'_>) -> Result<Box<Call>, AllocError> {
     let Untold {
         text,
         input,
         output,
+        third,
         shows_from,
         shown,
     } = untold;
     let texts = texts_of(alloc, words)?;
-    let mut third = MemDevice::of(alloc, &[])?;
     let mut source = MemSource::of(alloc, text.as_bytes(), 7)?;
     let mut out = MemSink::new(alloc);
     let mut notes = MemSink::new(alloc);
     let mut input = Hidden::new(input, u64::MAX, Shown::Damaged);
     let mut output = Hidden::new(output, shows_from, shown);
+    let mut third = Hidden::new(third, u64::MAX, Shown::Damaged);
     let status = run_tool(
         alloc,
         texts.as_slice(),
@@ -60,7 +67,9 @@ fn run_untold(alloc: Global, words: &[&str], untold: Untold<'_>) -> Result<Box<C
         status,
         out,
         notes,
+        input,
         output,
+        third,
     };
     Ok(Box::new(alloc, call)?)
 }
@@ -77,6 +86,7 @@ fn shown<'a>(
         text,
         input,
         output,
+        third: Vec::new(alloc),
         shows_from: u64::MAX,
         shown: Shown::Damaged,
     })
@@ -103,6 +113,12 @@ const READING: &[Row] = &[
     (CACHE, CACHE_TEXT, &["cache_check", "x"], "clean\n"),
     (ERA, TARGET_TEXT, &["era_check", "x"], "clean\n"),
     (THIN, ONE, &["thin_dump", "x"], ONE),
+    (
+        THIN,
+        SHARED_LEAF,
+        &["thin_dump", "--shared", "x"],
+        SHARED_LEAF,
+    ),
     (CACHE, CACHE_TEXT, &["cache_dump", "x"], CACHE_TEXT),
     (ERA, TARGET_TEXT, &["era_dump", "x"], TARGET_TEXT),
     (
@@ -132,7 +148,48 @@ const WRITING: &[Row] = &[
     (CACHE, CACHE_TEXT, CACHE, ""),
     (ERA, TARGET_TEXT, ERA, ""),
     (THIN, ONE, &["thin_repair", "-i", "a", "-o", "x"], ""),
+    (THIN, ONE, SEARCH, "roots 2 3 mappings 1 time 0\n"),
 ];
+
+/// The words of a search for the roots of the pool of one mapping.
+const SEARCH: &[&str] = &[
+    "thin_repair",
+    "-i",
+    "a",
+    "-o",
+    "x",
+    "--transaction-id",
+    "0",
+    "--data-block-size",
+    "128",
+    "--nr-data-blocks",
+    "1",
+];
+
+/// The words of a writeback, of a shrink to two data blocks, and of a check that clears the flag.
+const WRITEBACK: &[&str] = &[
+    "cache_writeback",
+    "--metadata-device",
+    "a",
+    "--fast-device",
+    "f",
+    "--origin-device",
+    "x",
+];
+
+const SHRINK: &[&str] = &[
+    "thin_shrink",
+    "-i",
+    "a",
+    "-o",
+    "x",
+    "--data",
+    "d",
+    "--nr-blocks",
+    "2",
+];
+
+const CLEAR: &[&str] = &["thin_check", "--clear-needs-check-flag", "a"];
 
 /// How many blocks a device of a row has.
 const BLOCKS: usize = 16;
@@ -155,9 +212,7 @@ fn expect_row(rt: &impl Abort, alloc: Global, row: Row) -> Result<Box<Call>, All
     let (restore, text, words, out) = row;
     let made = made_of(alloc, restore, text)?;
     let call = run_untold(alloc, words, shown(alloc, text, made, BLOCKS)?)?;
-    assert!(rt; call.status == 0, "{out}");
-    assert!(rt; call.notes.bytes().is_empty(), "{out}");
-    assert!(rt; call.out.bytes() == out.as_bytes(), "{out}");
+    expect_done(rt, &*call, out);
     Ok(call)
 }
 
@@ -182,6 +237,53 @@ fn devices_that_tell_nothing_are_written(rt: HostRuntime) -> Result<(), Fail> {
     for row in WRITING {
         expect_written(&rt, rt.alloc(), *row)?;
     }
+    Ok(())
+}
+
+/// A call has status 0 and has put this.
+fn expect_done(rt: &impl Abort, call: &Call, out: &str) {
+    assert!(rt; call.status == 0, "{out}");
+    assert!(rt; call.notes.bytes().is_empty(), "{out}");
+    assert!(rt; call.out.bytes() == out.as_bytes(), "{out}");
+}
+
+#[test]
+fn the_flag_is_cleared_on_a_device_that_tells_nothing(rt: HostRuntime) -> Result<(), Fail> {
+    let alloc = rt.alloc();
+    let flagged = blocks(&rt, alloc, FlaggedPool)?;
+    let call = run_untold(alloc, CLEAR, shown(alloc, "", flagged, 0)?)?;
+    expect_done(&rt, &*call, "clean\n");
+    let cleared = blocks(&rt, alloc, Pool)?;
+    assert!(rt; call.input.held() == cleared.as_slice());
+    Ok(())
+}
+
+#[test]
+fn a_cache_is_written_back_over_devices_that_tell_nothing(rt: HostRuntime) -> Result<(), Fail> {
+    let alloc = rt.alloc();
+    let mut untold = shown(alloc, "", made_of(alloc, CACHE, DIRTY)?, 0)?;
+    untold.output = filled(alloc, &[0xBB, 0, 0, 0])?;
+    untold.third = filled(alloc, &[0xAA, 0xBB])?;
+    let call = run_untold(alloc, WRITEBACK, untold)?;
+    expect_done(&rt, &*call, "copied 1\n");
+    let settled = made_of(alloc, CACHE, CLEAN)?;
+    assert!(rt; call.input.held() == settled.as_slice());
+    let copied = filled(alloc, &[0xBB, 0, 0, 0xAA])?;
+    assert!(rt; call.output.held() == copied.as_slice());
+    Ok(())
+}
+
+#[test]
+fn a_pool_is_made_smaller_over_devices_that_tell_nothing(rt: HostRuntime) -> Result<(), Fail> {
+    let alloc = rt.alloc();
+    let mut untold = shown(alloc, "", made_of(alloc, THIN, APART)?, BLOCKS)?;
+    untold.third = filled(alloc, &[0xA0, 0xA1, 0xA2, 0xA3])?;
+    let call = run_untold(alloc, SHRINK, untold)?;
+    expect_done(&rt, &*call, "moved 1\n");
+    let smaller = made_of(alloc, THIN, TOGETHER)?;
+    assert!(rt; call.output.held() == smaller.as_slice());
+    let moved = filled(alloc, &[0xA0, 0xA3, 0xA2, 0xA3])?;
+    assert!(rt; call.third.held() == moved.as_slice());
     Ok(())
 }
 
@@ -210,6 +312,7 @@ fn rehearse(alloc: Global, after: Shown) -> Result<Box<Call>, AllocError> {
         text: "",
         input: Vec::new(alloc),
         output: vec![in alloc; Block::zeros(); REHEARSED]?,
+        third: Vec::new(alloc),
         shows_from: AFTER_RESTORE,
         shown: after,
     };

@@ -21,6 +21,8 @@ mod hidden_tests;
 #[cfg(test)]
 mod order_tests;
 #[cfg(test)]
+mod passing_tests;
+#[cfg(test)]
 mod rehearse_tests;
 #[cfg(test)]
 mod reports;

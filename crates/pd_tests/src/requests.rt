@@ -1,7 +1,10 @@
 //! Requests of all tools but the rehearsal, and the images that they are made over.
 
 use crate::asked::{ONE, TWICE};
-use Image::{Cache, DamagedPool, FlaggedPool, NoPool, Nothing, Ones, Pool, Target, Twice};
+use Image::{
+    Apart, Cache, DamagedPool, Data, DirtyCache, FlaggedPool, NoPool, Nothing, Ones, Pool, Target,
+    Twice,
+};
 use pd_kinds::Block;
 use pd_samples::pool::{damaged, pool_of_one_mapping};
 use pd_samples::runs::{Held, NOTHING_FAILS, blocks_of, run_over};
@@ -30,6 +33,12 @@ pub(crate) enum Image {
     Cache,
     /// An era target of a hundred blocks.
     Target,
+    /// The pool of the text of that name.
+    Apart,
+    /// The cache of the text `DIRTY`.
+    DirtyCache,
+    /// Four blocks of data.
+    Data,
 }
 
 /// The words of a request, the text that its source has, what its input and its output hold, and its status.
@@ -42,6 +51,20 @@ pub(crate) const CACHE_TEXT: &str =
 /// The text of the era target.
 pub(crate) const TARGET_TEXT: &str =
     "era 1\nera 00000000-0000-0000-0000-000000000000 128 100 9\nrun 0 3 0\nrun 3 1 5\nrun 4 60 0\nrun 64 1 9\nrun 65 35 0\nend\n";
+
+/// A pool of four data blocks of 4096 bytes, of which the first and the last are mapped, and the same of two data blocks.
+pub(crate) const APART: &str =
+    "thin 1\npool 00000000-0000-0000-0000-000000000000 0 0 8 4\ndevice 1 2 0 0 0\nmap 0 0 1 0\nmap 1 3 1 0\nend\n";
+
+pub(crate) const TOGETHER: &str =
+    "thin 1\npool 00000000-0000-0000-0000-000000000000 0 0 8 2\ndevice 1 2 0 0 0\nmap 0 0 2 0\nend\n";
+
+/// A cache of two blocks of 4096 bytes, of which the first one is dirty, and the same with nothing dirty.
+pub(crate) const DIRTY: &str =
+    "cache 1\ncache 00000000-0000-0000-0000-000000000000 8 2 1 736d7100000000000000000000000000 2 0 0 4\nmap 0 3 1 0\nmap 1 0 0 0\nend\n";
+
+pub(crate) const CLEAN: &str =
+    "cache 1\ncache 00000000-0000-0000-0000-000000000000 8 2 1 736d7100000000000000000000000000 2 0 0 4\nmap 0 3 0 0\nmap 1 0 0 0\nend\n";
 
 /// A text of version 2: a leaf that two devices use, a run that one of them has besides, and a device without mappings.
 pub(crate) const SHARED_LEAF: &str =
@@ -58,8 +81,16 @@ const REFUSED: &str =
 /// A text that needs more blocks than sixteen, from its second line on.
 const LARGE: &str = "era 1\nera 00000000-0000-0000-0000-000000000000 128 100000 9\nend\n";
 
-/// A check that clears the flag.
+/// A check in which leaks pass.
+const PASSING: &str = "thin_check --ignore-non-fatal-errors x";
+
+/// A check that clears the flag, and one in which leaks pass besides.
 const CLEAR: &str = "thin_check --clear-needs-check-flag x";
+
+const CLEAR_PASSING: &str = "thin_check --clear-needs-check-flag --ignore-non-fatal-errors x";
+
+/// The check of a cache that clears the flag.
+const CLEAR_CACHE: &str = "cache_check --clear-needs-check-flag x";
 
 /// A search for the roots of a pool, which doesn't look at its block 0.
 const SEARCH: &str =
@@ -82,6 +113,8 @@ pub(crate) const READINGS: &[Asked] = &[
     ("thin_check x", "", DamagedPool, Nothing, 1),
     ("thin_check x", "", NoPool, Nothing, 1),
     ("thin_check x", "", Nothing, Nothing, 1),
+    (PASSING, "", Pool, Nothing, 0),
+    (PASSING, "", DamagedPool, Nothing, 1),
     ("cache_check x", "", Cache, Nothing, 0),
     ("cache_check x", "", Pool, Nothing, 1),
     ("era_check x", "", Target, Nothing, 0),
@@ -108,6 +141,8 @@ pub(crate) const READINGS: &[Asked] = &[
 pub(crate) const WRITINGS: &[Asked] = &[
     (CLEAR, "", FlaggedPool, Nothing, 0),
     (CLEAR, "", DamagedPool, Nothing, 1),
+    (CLEAR_PASSING, "", FlaggedPool, Nothing, 0),
+    (CLEAR_CACHE, "", Cache, Nothing, 0),
     ("thin_restore -i t -o x", ONE, Nothing, Ones, 0),
     ("thin_restore -i t -o x", SHARED_LEAF, Nothing, Pool, 0),
     ("thin_restore -i t -o x", REFUSED, Nothing, Pool, 3),
@@ -123,6 +158,27 @@ pub(crate) const WRITINGS: &[Asked] = &[
     (SEARCH, "", NoPool, Target, 0),
     (SEARCH_NONE, "", Pool, Target, 1),
     (SEARCH, "", Pool, Nothing, 4),
+];
+
+/// A writeback.
+const WRITEBACK: &str = "cache_writeback --metadata-device x --fast-device f --origin-device y";
+
+/// A shrink to two data blocks, and one to a single block.
+const SHRINK: &str = "thin_shrink -i x -o y --data d --nr-blocks 2";
+
+const SHRINK_MORE: &str = "thin_shrink -i x -o y --data d --nr-blocks 1";
+
+/// Requests over three devices: their words, what the input, the output and the third device hold, and the status that comes
+/// where nothing fails.
+pub(crate) type AskedOfThree = (&'static str, Image, Image, Image, u8);
+
+pub(crate) const OF_THREE: &[AskedOfThree] = &[
+    (WRITEBACK, DirtyCache, Data, Data, 0),
+    (WRITEBACK, Pool, Data, Data, 1),
+    (WRITEBACK, DirtyCache, Nothing, Data, 4),
+    (SHRINK, Apart, Target, Data, 0),
+    (SHRINK, DamagedPool, Target, Data, 1),
+    (SHRINK_MORE, Apart, Target, Data, 4),
 ];
 
 /// The words of the restore that makes the cache.
@@ -152,8 +208,20 @@ pub(crate) fn blocks(
         Image::Twice => restored(rt, alloc, MAKE_POOL, TWICE),
         Image::Cache => restored(rt, alloc, MAKE_CACHE, CACHE_TEXT),
         Image::Target => restored(rt, alloc, MAKE_TARGET, TARGET_TEXT),
+        Image::Apart => restored(rt, alloc, MAKE_POOL, APART),
+        Image::DirtyCache => restored(rt, alloc, MAKE_CACHE, DIRTY),
+        Image::Data => filled(alloc, &[0xA0, 0xA1, 0xA2, 0xA3]),
         _ => Vec::from_slice(alloc, &pool(image)),
     }
+}
+
+/// Blocks that are filled with these bytes, one a block.
+pub(crate) fn filled(alloc: Global, fill: &[u8]) -> Result<Vec<Block>, AllocError> {
+    let mut blocks = Vec::new(alloc);
+    for byte in fill {
+        blocks.push(Block([*byte; 4096]))?;
+    }
+    Ok(blocks)
 }
 
 /// The sixteen blocks of a pool, or of ones.

@@ -34,7 +34,7 @@ fn expect_counts(
 }
 
 /// A bitmap in which this count is changed.
-fn with_count(place: u64, used: usize, i: usize, bits: u8) -> Block
+pub(crate) fn with_count(place: u64, used: usize, i: usize, bits: u8) -> Block
     requires used { used ≤ 16320 }
     requires entry { i < 16320 }
     requires bits { bits ≤ 3 }

@@ -248,7 +248,20 @@ fn words_and_roots_of_the_first_version(rt: HostRuntime) -> Result<(), Fail> {
 }
 
 /// The same in the second version, with the dirty bits.
-const SECOND_NUMBERS: &[u64] = &[2, 3, 5, 7, 8, 12, 458753, 524289, 2305843009213693952];
+const SECOND_NUMBERS: &[u64] = &[
+    2,
+    3,
+    5,
+    7,
+    8,
+    12,
+    9,
+    10,
+    11,
+    458753,
+    524289,
+    2305843009213693952,
+];
 
 #[test]
 fn words_and_roots_of_the_second_version(rt: HostRuntime) -> Result<(), Fail> {
@@ -261,6 +274,9 @@ fn words_and_roots_of_the_second_version(rt: HostRuntime) -> Result<(), Fail> {
         fields.dirty_root,
         fields.discard_root,
         fields.meta_map.allocated,
+        fields.meta_map.bitmap_root,
+        index_entry(&image[9], 0).block,
+        fields.meta_map.overflow_root,
         u64_at(&image[1].0, WORDS_AT),
         u64_at(&image[2].0, WORDS_AT),
         u64_at(&image[6].0, WORDS_AT + 56),

@@ -1,12 +1,14 @@
-//! Checks that clear the flag "needs check" of a pool's superblock.
+//! Checks that clear the flag "needs check" in the superblock of a pool or a cache.
 
-use crate::expected::{PICKS, Trouble, expect_held};
+use crate::cache_tests::TWO_MAPPED;
+use crate::expected::{FIRST, PICKS, Trouble, expect_held, made};
+use pd_bitmap::{new_bitmap, seal_bitmap, set_two_bits};
 use pd_crc::any_valid;
 use pd_image::Pick;
 use pd_kinds::Block;
 use pd_samples::pool::{damaged, pool_of_one_mapping};
 use pd_samples::runs::{Failing, NOTHING_FAILS, Ran, blocks_after_crash, run};
-use pd_supers::{read_thin_super, write_thin_super};
+use pd_supers::{read_cache_super, read_thin_super, write_cache_super, write_thin_super};
 use std::alloc::{AllocError, Global};
 use std::process::Abort;
 use std::test::Fail;
@@ -34,7 +36,29 @@ const CLEAR_BEFORE_THE_END: &[&str] = &[
 /// The words of a check that doesn't, and of one that can't.
 const KEEP: &[&str] = &["thin_check", "x"];
 
-const CLEAR_OF_A_CACHE: &[&str] = &["cache_check", "--clear-needs-check-flag", "x"];
+const CLEAR_OF_A_TARGET: &[&str] = &["era_check", "--clear-needs-check-flag", "x"];
+
+/// The words of checks in which leaks pass: one that clears the flag, in either order, and one that doesn't.
+const PASS_AND_CLEAR: &[&str] = &[
+    "thin_check",
+    "--ignore-non-fatal-errors",
+    "--clear-needs-check-flag",
+    "x",
+];
+
+const CLEAR_AND_PASS: &[&str] = &[
+    "thin_check",
+    "--clear-needs-check-flag",
+    "x",
+    "--ignore-non-fatal-errors",
+];
+
+const PASS: &[&str] = &["thin_check", "--ignore-non-fatal-errors", "x"];
+
+/// The words of checks of a cache.
+const CLEAR_CACHE: &[&str] = &["cache_check", "--clear-needs-check-flag", "x"];
+
+const KEEP_CACHE: &[&str] = &["cache_check", "x"];
 
 /// A report of the damaged leaf.
 const DAMAGED: &str = "fault meta 1 checksum\nfaults 1\n";
@@ -51,7 +75,10 @@ const ROWS: &[Row] = &[
     (KEEP, 1, false, 0, "clean\n", 1),
     (CLEAR, 1, true, 1, DAMAGED, 1),
     (CLEAR_BEFORE_THE_END, 1, false, 2, "", 1),
-    (CLEAR_OF_A_CACHE, 1, false, 2, "", 1),
+    (CLEAR_OF_A_TARGET, 1, false, 2, "", 1),
+    (PASS_AND_CLEAR, 3, false, 0, "clean\n", 2),
+    (PASS_AND_CLEAR, 1, true, 1, DAMAGED, 1),
+    (PASS, 1, false, 0, "clean\n", 1),
 ];
 
 /// The pool of one mapping with these flags in its superblock, and maybe a leaf whose checksum is wrong.
@@ -81,6 +108,75 @@ fn the_flag_alone_is_cleared_where_a_whole_check_found_nothing(
 ) -> Result<(), Fail> {
     for row in ROWS {
         expect_row(&rt, rt.alloc(), *row)?;
+    }
+    Ok(())
+}
+
+/// The same pool with a data block whose count is above its references.
+fn leaking(flags: u32) -> [Block; 16] {
+    let mut image = flagged(flags, false);
+    let mut counts = new_bitmap();
+    set_two_bits(&mut counts, 0, 2);
+    seal_bitmap(&mut counts, 4);
+    image[4] = counts;
+    image
+}
+
+// A leak leaves the flag, but where leaks pass.
+#[test]
+fn the_flag_of_a_leaking_pool_is_cleared_where_leaks_pass(rt: HostRuntime) -> Result<(), Fail> {
+    let alloc = rt.alloc();
+    let report = "fault data 0 leak stored 2 references 1\nfaults 1\n";
+    let ran = run(alloc, CLEAR, &leaking(1), NOTHING_FAILS)?;
+    assert!(rt; ran.status == 1);
+    expect_held(&rt, alloc, &ran.input, &leaking(1), "a leak")?;
+    let ran = run(alloc, CLEAR_AND_PASS, &leaking(1), NOTHING_FAILS)?;
+    assert!(rt; ran.status == 0);
+    assert!(rt; ran.out.bytes() == report.as_bytes());
+    expect_held(&rt, alloc, &ran.input, &leaking(0), "it passes")?;
+    Ok(())
+}
+
+/// The words of a check of a cache, its flags, and those that the check leaves.
+const CACHE_FLAGS: &[(&[&str], u32, u32)] = &[
+    (CLEAR_CACHE, 2, 0),
+    (CLEAR_CACHE, 3, 1),
+    (CLEAR_CACHE, 1, 1),
+    (CLEAR_CACHE, u32::MAX, u32::MAX - 2),
+    (KEEP_CACHE, 3, 3),
+];
+
+/// A cache of version 1, which has no bitset of dirty blocks, with these flags in its superblock.
+fn flagged_cache(rt: &impl Abort, alloc: Global, flags: u32) -> Result<Vec<Block>, AllocError> {
+    let mut image = made(rt, alloc, FIRST, TWO_MAPPED, 16)?;
+    let mut fields = read_cache_super(&image[0]);
+    fields.flags = flags;
+    fields.dirty_root = 0;
+    image[0] = write_cache_super(&fields);
+    Ok(image)
+}
+
+/// Checks a cache with these flags by these words, which must leave those.
+fn expect_cache(
+    rt: &impl Abort,
+    alloc: Global,
+    words: &[&str],
+    flags: u32,
+    left: u32,
+) -> Result<(), AllocError> {
+    let image = flagged_cache(rt, alloc, flags)?;
+    let ran = run(alloc, words, image.as_slice(), NOTHING_FAILS)?;
+    assert!(rt; ran.status == 0);
+    assert!(rt; ran.out.bytes() == "clean\n".as_bytes());
+    let kept = flagged_cache(rt, alloc, left)?;
+    expect_held(rt, alloc, &ran.input, kept.as_slice(), "a cache")
+}
+
+// Bit 0 says that a cache was shut down, and stays.
+#[test]
+fn of_a_cache_bit_1_of_the_flags_is_cleared(rt: HostRuntime) -> Result<(), Fail> {
+    for (words, flags, left) in CACHE_FLAGS {
+        expect_cache(&rt, rt.alloc(), words, *flags, *left)?;
     }
     Ok(())
 }

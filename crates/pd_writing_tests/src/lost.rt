@@ -20,8 +20,22 @@ pub enum Lost {
     MoreMappings,
     /// The pool of one mapping, and newer trees in which it has a later time.
     LaterTime,
+    /// The pool of one mapping, and a newer mapping tree in which it has a later time.
+    LaterTop,
+    /// The pool of one mapping at a later time, and another mapping tree in which it has an earlier one.
+    EarlierTop,
     /// The pool of one mapping, and newer trees in which its device was made later.
     LaterDetails,
+    /// A pool of two mappings, and other trees with one, at a later time.
+    FewerAndLater,
+    /// The pool of one mapping at a later time, and other trees with two.
+    EarlierMappings,
+    /// The pool of one mapping in a later transaction, and other trees.
+    LaterInTransaction,
+    /// The same, where the device of the other details was made later, and the mapping of the other mapping tree later still.
+    LaterThanDetails,
+    /// A pool of two mappings at a later time, and another mapping tree in which only one of them has it.
+    LaterSum,
     /// The pool of one mapping, and newer trees without any.
     FewerMappings,
     /// The pool of one mapping, twice.
@@ -74,10 +88,13 @@ fn one_mapping(place: u64, time: u16) -> Block {
     write_leaf(place, &[(0, mapping)])
 }
 
-/// The mappings of virtual blocks 0 and 1 to data blocks 0 and 1, the second at time 1.
+/// The mappings of virtual blocks 0 and 1 to data blocks 0 and 1, the first at this time and the second at time 1.
 #[tactic(auto, unfolding(pd_kinds::specs::Node::is_ascending))]
-fn two_mappings(place: u64) -> Block {
-    let first = BlockTime { block: 0, time: 0 };
+fn two_mappings(place: u64, time: u16) -> Block {
+    let first = BlockTime {
+        block: 0,
+        time: u32::from(time),
+    };
     let second = BlockTime { block: 1, time: 1 };
     write_leaf(place, &[(0, first), (1, second)])
 }
@@ -87,6 +104,29 @@ fn put_others(image: &mut [Block; 16], mappings: Block, of_device: Details) {
     image[10] = mappings;
     image[11] = device_leaf(11, 10);
     image[12] = details_leaf(12, 1, of_device);
+}
+
+/// Puts another mapping tree of device 1 behind the pool's: these mappings in block 10.
+fn put_other_top(image: &mut [Block; 16], mappings: Block) {
+    image[10] = mappings;
+    image[11] = device_leaf(11, 10);
+}
+
+/// The details of a device with one mapping, which was made in transaction 9.
+fn in_transaction_nine(place: u64) -> Block {
+    let details = Details {
+        mapped: 1,
+        transaction: 9,
+        created: 0,
+        snapped: 0,
+    };
+    details_leaf(place, 1, details)
+}
+
+/// Makes the pool's trees those of two mappings, the first at this time.
+fn map_two(image: &mut [Block; 16], time: u16) {
+    image[1] = two_mappings(1, time);
+    image[3] = details_leaf(3, 1, details(2, 0));
 }
 
 /// Two devices of which the multiples of 2^22 have one fingerprint, each in a mapping tree and in a details tree.
@@ -115,8 +155,33 @@ fn held_copy_pool() -> [Block; 16] {
 /// Changes the pool of one mapping.
 fn change(image: &mut [Block; 16], lost: Lost) {
     match lost {
-        Lost::MoreMappings => put_others(image, two_mappings(10), details(2, 0)),
+        Lost::MoreMappings => put_others(image, two_mappings(10, 0), details(2, 0)),
         Lost::LaterTime => put_others(image, one_mapping(10, 3), details(1, 0)),
+        Lost::LaterTop => put_other_top(image, one_mapping(10, 3)),
+        Lost::EarlierTop => {
+            image[1] = one_mapping(1, 3);
+            put_other_top(image, one_mapping(10, 0));
+        }
+        Lost::FewerAndLater => {
+            map_two(image, 0);
+            put_others(image, one_mapping(10, 3), details(1, 0));
+        }
+        Lost::EarlierMappings => {
+            image[1] = one_mapping(1, 3);
+            put_others(image, two_mappings(10, 0), details(2, 0));
+        }
+        Lost::LaterInTransaction => {
+            image[3] = in_transaction_nine(3);
+            put_others(image, one_mapping(10, 0), details(1, 0));
+        }
+        Lost::LaterThanDetails => {
+            image[3] = in_transaction_nine(3);
+            put_others(image, one_mapping(10, 5), details(1, 4));
+        }
+        Lost::LaterSum => {
+            map_two(image, 1);
+            put_other_top(image, two_mappings(10, 0));
+        }
         Lost::LaterDetails => put_others(image, one_mapping(10, 0), details(1, 4)),
         Lost::FewerMappings => put_others(image, empty_leaf::<BlockTime>(10), details(0, 0)),
         Lost::Copies => put_others(image, one_mapping(10, 0), details(1, 0)),

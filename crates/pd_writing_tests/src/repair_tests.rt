@@ -94,16 +94,24 @@ fn broken_pool(
     Ok(image)
 }
 
-/// Pools, the block that is damaged, and the text of what is kept: a device without details has the transaction of its pool,
-/// nothing is kept below a damaged mapping tree, and the other leaves of a device are kept.
+/// Pools, the block that is damaged, and the text of what is kept: a device without details has the transaction and the time of
+/// its pool, nothing is kept below a damaged mapping tree, and the other leaves of a device are kept.
 const BROKEN: &[(&str, usize, &str)] = &[
     (ONE, 3, WITHOUT_DETAILS),
+    (VOLUME_AND_SNAPSHOT, 4, BOTH_WITHOUT_DETAILS),
     (ONE, 2, WITHOUT_DEVICES),
     (THREE_LEAVES, 2, TWO_OF_THREE_LEAVES),
 ];
 
 const WITHOUT_DETAILS: &str =
     "thin 1\npool 00000000-0000-0000-0000-000000000000 0 7 128 1\ndevice 1 1 7 0 0\nmap 0 0 1 0\nend\n";
+
+/// A volume and its snapshot, which lead to one data block.
+const VOLUME_AND_SNAPSHOT: &str =
+    "thin 1\npool 00000000-0000-0000-0000-000000000000 1 0 128 1\ndevice 1 1 0 0 1\nmap 0 0 1 0\ndevice 2 1 0 0 1\nmap 0 0 1 0\nend\n";
+
+const BOTH_WITHOUT_DETAILS: &str =
+    "thin 1\npool 00000000-0000-0000-0000-000000000000 1 0 128 1\ndevice 1 1 0 1 1\nmap 0 0 1 0\ndevice 2 1 0 1 1\nmap 0 0 1 0\nend\n";
 
 const WITHOUT_DEVICES: &str = "thin 1\npool 00000000-0000-0000-0000-000000000000 0 7 128 1\nend\n";
 
@@ -117,6 +125,15 @@ fn what_is_not_damaged_is_kept(rt: HostRuntime) -> Result<(), Fail> {
         let image = broken_pool(&rt, rt.alloc(), text, *b)?;
         expect_saved(&rt, rt.alloc(), image.as_slice(), kept)?;
     }
+    Ok(())
+}
+
+// With the pool's time as snapped a kernel copies the data block that both lead to before it writes to it.
+#[test]
+fn a_volume_and_its_snapshot_without_details_share_still(rt: HostRuntime) -> Result<(), Fail> {
+    let mut image = pool_of(&rt, rt.alloc(), VOLUME_AND_SNAPSHOT, 16)?;
+    image[4] = Block::zeros();
+    expect_saved(&rt, rt.alloc(), image.as_slice(), BOTH_WITHOUT_DETAILS)?;
     Ok(())
 }
 

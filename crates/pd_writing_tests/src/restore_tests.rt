@@ -121,6 +121,16 @@ fn restored_pools_are_clean(rt: HostRuntime) -> Result<(), Fail> {
     Ok(())
 }
 
+#[test]
+fn a_restore_writes_the_blocks_that_it_needs_and_no_others(rt: HostRuntime) -> Result<(), Fail> {
+    let image = made(&rt, rt.alloc(), THIN, WIDE, 8192)?;
+    assert!(rt; image[6173] != ONES);
+    for b in 6174..8192 {
+        assert!(rt; image[b] == ONES, "{b}");
+    }
+    Ok(())
+}
+
 /// Two mappings in one line, in two that join, and in two of different times, which don't.
 const JOINED: &str =
     "thin 1\npool 00000000-0000-0000-0000-000000000000 0 0 128 2\ndevice 1 2 0 0 0\nmap 0 0 2 0\nend\n";

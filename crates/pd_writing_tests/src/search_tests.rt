@@ -1,11 +1,14 @@
 //! Searches for the roots of pools whose superblock is lost: which trees are taken, what is refused, and what the output
 //! holds then.
 
-use crate::expected::{ONE_MAPPING, ONES, expect_held, expect_report, expect_said, pool_of};
+use crate::expected::{
+    ONE_MAPPING, ONES, expect_dumped, expect_held, expect_report, expect_said, pool_of,
+};
 use crate::lost::Lost::{
-    Copies, DamagedMappings, FewerMappings, HeldCopy, LaterDetails, LaterTime, MoreMappings,
-    OneFingerprint, OneMapping, OtherDevice, OtherNumber, OwnChild, SameNodes, TopInBlockZero,
-    Zeros,
+    Copies, DamagedMappings, EarlierMappings, EarlierTop, FewerAndLater, FewerMappings, HeldCopy,
+    LaterDetails, LaterInTransaction, LaterSum, LaterThanDetails, LaterTime, LaterTop,
+    MoreMappings, OneFingerprint, OneMapping, OtherDevice, OtherNumber, OwnChild, SameNodes,
+    TopInBlockZero, Zeros,
 };
 use crate::lost::{Lost, lost_pool};
 use pd_kinds::Block;
@@ -32,7 +35,15 @@ const LATER_TIME: &str = " 3 7 128 1\ndevice 1 1 0 0 0\nmap 0 0 1 3\nend\n";
 
 const LATER_DETAILS: &str = " 4 7 128 1\ndevice 1 1 0 4 0\nmap 0 0 1 0\nend\n";
 
-const OTHER_DEVICE: &str = " 0 7 128 1\ndevice 4194304 0 0 0 0\nend\n";
+const FEWER: &str = " 3 7 128 2\ndevice 1 1 0 0 0\nmap 0 0 1 3\nend\n";
+
+const LATER_SUM: &str = " 1 7 128 2\ndevice 1 2 0 0 0\nmap 0 0 2 1\nend\n";
+
+const LATER_TRANSACTION: &str = " 0 7 128 1\ndevice 1 1 9 0 0\nmap 0 0 1 0\nend\n";
+
+const LATER_THAN_DETAILS: &str = " 5 7 128 1\ndevice 1 1 9 0 0\nmap 0 0 1 5\nend\n";
+
+const OTHER_DEVICE: &str = " 0 7 128 1\ndevice 8388608 0 0 0 0\nend\n";
 
 const FOUND: &[Found] = &[
     (OneMapping, "1", PLAIN, ONE_MAPPED),
@@ -41,11 +52,32 @@ const FOUND: &[Found] = &[
     (MoreMappings, "2", "11 12 mappings 2 time 1", TWO_MAPPINGS),
     // The second mapping is past the pool's last data block.
     (MoreMappings, "1", PLAIN, ONE_MAPPED),
-    (LaterTime, "1", "11 3 mappings 1 time 3", LATER_TIME),
-    (LaterDetails, "1", "2 12 mappings 1 time 4", LATER_DETAILS),
+    // The time decides first, wherever it stands.
+    (LaterTime, "1", "11 12 mappings 1 time 3", LATER_TIME),
+    (LaterTop, "1", "11 3 mappings 1 time 3", LATER_TIME),
+    (EarlierTop, "1", "2 3 mappings 1 time 3", LATER_TIME),
+    (LaterDetails, "1", "11 12 mappings 1 time 4", LATER_DETAILS),
+    (FewerAndLater, "2", "11 12 mappings 1 time 3", FEWER),
+    (EarlierMappings, "2", "2 3 mappings 1 time 3", FEWER),
+    // Then the transaction.
+    (
+        LaterInTransaction,
+        "1",
+        "11 3 mappings 1 time 0",
+        LATER_TRANSACTION,
+    ),
+    (
+        LaterThanDetails,
+        "1",
+        "11 3 mappings 1 time 5",
+        LATER_THAN_DETAILS,
+    ),
+    // Then the sum of the times, and the number of mappings.
+    (LaterSum, "2", "2 3 mappings 2 time 1", LATER_SUM),
     (FewerMappings, "1", PLAIN, ONE_MAPPED),
-    (Copies, "1", PLAIN, ONE_MAPPED),
-    (OneFingerprint, "1", "2 12 mappings 0 time 0", OTHER_DEVICE),
+    // Where all these are equal, the higher place.
+    (Copies, "1", "11 12 mappings 1 time 0", ONE_MAPPED),
+    (OneFingerprint, "1", "11 3 mappings 0 time 0", OTHER_DEVICE),
 ];
 
 /// Pools in which no two trees fit each other, and the number of their data blocks.
@@ -62,11 +94,22 @@ const NOT_FOUND: &[(Lost, &str)] = &[
 
 const NO_ROOTS: &str = "pdata_tools: no roots\n";
 
-/// Searches an image for its roots, and makes the pool on these blocks.
+/// Searches an image for its roots, and makes the pool on these blocks, with transaction 7.
 fn search(
     alloc: Global,
     image: &[Block],
     base: &[Block],
+    data_blocks: &str,
+) -> Result<Ran, AllocError> {
+    search_for(alloc, image, base, "7", data_blocks)
+}
+
+/// Searches an image for its roots, and makes the pool of this transaction on these blocks.
+fn search_for(
+    alloc: Global,
+    image: &[Block],
+    base: &[Block],
+    transaction: &str,
     data_blocks: &str,
 ) -> Result<Ran, AllocError> {
     let held = Held {
@@ -82,7 +125,7 @@ fn search(
         "-o",
         "found",
         "--transaction-id",
-        "7",
+        transaction,
         "--data-block-size",
         "128",
         "--nr-data-blocks",
@@ -133,6 +176,23 @@ fn the_best_trees_that_fit_are_found(rt: HostRuntime) -> Result<(), Fail> {
         let image = lost_pool(*lost);
         expect_found(&rt, rt.alloc(), &image, data_blocks, roots, text)?;
     }
+    Ok(())
+}
+
+#[test]
+fn roots_are_found_in_a_pool_whose_superblock_is_zeros(rt: HostRuntime) -> Result<(), Fail> {
+    let alloc = rt.alloc();
+    let base = [ONES; 16];
+    let image = lost_pool(OneMapping);
+    let found = search_for(alloc, &image, &base, "0", "1")?;
+    expect_said(&rt, &found, 0, "roots 2 3 mappings 1 time 0\n", "");
+    let made = blocks_of(alloc, &found.output)?;
+    let tools = ("thin_check", "thin_dump");
+    expect_dumped(&rt, alloc, tools, made.as_slice(), ONE_MAPPING)?;
+    // No data block is the pool's, so no mapping leads to one.
+    let none = search_for(alloc, &image, &base, "0", "0")?;
+    expect_said(&rt, &none, 1, "", NO_ROOTS);
+    expect_held(&rt, alloc, &none.output, &base, "the output")?;
     Ok(())
 }
 

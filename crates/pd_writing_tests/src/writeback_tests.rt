@@ -2,9 +2,9 @@
 
 use crate::devices::{Devices, Fill, filled, may_be_old};
 use crate::expected::End::{Done, NoRoom, Stopped};
-use crate::expected::{End, FIRST, SECOND, Trouble, expect_end, expect_held, holds, made};
+use crate::expected::{End, FIRST, ONES, SECOND, Trouble, expect_end, expect_held, holds, made};
 use pd_image::{MemDevice, Pick};
-use pd_kinds::Block;
+use pd_kinds::{Block, u64_at};
 use pd_samples::pool::damaged;
 use pd_samples::runs::{Failing, NOTHING_FAILS, Ran, blocks_after_crash, blocks_of, run};
 use std::alloc::{AllocError, Global};
@@ -43,6 +43,10 @@ const OF_4_SECTORS: &str =
 const OF_NO_SECTORS: &str =
     "cache 1\ncache 00000000-0000-0000-0000-000000000000 0 1 1 736d7100000000000000000000000000 2 0 0 0\nmap 0 1 1 0\nend\n";
 
+/// The cache of two blocks, of 6144 bytes each.
+const DIRTY_OF_12_SECTORS: &str =
+    "cache 1\ncache 00000000-0000-0000-0000-000000000000 12 2 1 736d7100000000000000000000000000 2 0 0 4\nmap 0 3 1 0\nmap 1 0 0 0\nend\n";
+
 const BAD_SIZE: End = Stopped("pdata_tools: block size\n");
 
 /// The words of a writeback.
@@ -68,6 +72,8 @@ const OF_THREE: Fill = &[1, 2, 3];
 
 const STALE: Fill = &[0xBB, 0, 0, 0];
 
+const STALE_OF_THREE: Fill = &[0xBB, 0, 0];
+
 /// What is copied of these.
 const COPIED: Fill = &[0xBB, 0, 0, 0xAA];
 
@@ -85,6 +91,23 @@ type Row = (&'static str, Fill, Fill, End, Fill, &'static str);
 
 const ROWS: &[Row] = &[
     (DIRTY, FAST, STALE, ONE, COPIED, CLEAN),
+    (
+        DIRTY,
+        FAST,
+        STALE_OF_THREE,
+        NoRoom(4, 3),
+        STALE_OF_THREE,
+        DIRTY,
+    ),
+    (IN_USE, FAST, STALE, TWO, COPIED, CLEAN_IN_USE),
+    (
+        DIRTY_OF_12_SECTORS,
+        FAST,
+        STALE,
+        BAD_SIZE,
+        STALE,
+        DIRTY_OF_12_SECTORS,
+    ),
     (IN_USE, FAST, ORIGIN, TWO, BOTH_COPIED, CLEAN_IN_USE),
     (CLEAN, FAST, ORIGIN, Done("copied 0\n"), ORIGIN, CLEAN),
     // A clean block needs no room, on either device.
@@ -180,6 +203,29 @@ fn writebacks_copy_what_is_hot_and_mark_it(rt: HostRuntime) -> Result<(), Fail> 
         expect_row(&rt, rt.alloc(), FIRST, row)?;
         expect_row(&rt, rt.alloc(), SECOND, row)?;
     }
+    Ok(())
+}
+
+/// The first mapping word of a cache: it stands in block 1, behind the 24 bytes that an array block begins with.
+fn first_word(image: &[Block]) -> Option<u64> {
+    match image.get(1) {
+        Some(block) => Some(u64_at(&block.0, 24)),
+        None => None,
+    }
+}
+
+// The first block of the cache leads to block 3 of the origin, is valid and is dirty: 3 * 65536 + 1 + 2.
+#[test]
+fn a_writeback_of_one_block_clears_its_flag(rt: HostRuntime) -> Result<(), Fail> {
+    let alloc = rt.alloc();
+    let before = devices_of(&rt, alloc, FIRST, DIRTY, FAST, STALE)?;
+    assert!(rt; first_word(before.meta.as_slice()) == Some(196611));
+    for b in 9..before.meta.len() {
+        assert!(rt; before.meta[b] == ONES);
+    }
+    let ran = write_back(alloc, &*before, NOTHING_FAILS)?;
+    let after = blocks_of(alloc, &ran.input)?;
+    assert!(rt; first_word(after.as_slice()) == Some(196609));
     Ok(())
 }
 
