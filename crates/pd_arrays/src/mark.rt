@@ -1,3 +1,5 @@
+//! How full the blocks of an array are that stand below a node.
+
 ghost use Rattle.std.specs.Prelude.{◌≡◌, [], ◌∷◌};
 ghost use Rattle.pd_kinds.specs.Array.{max_words, word_count};
 ghost use Rattle.pd_array.specs.Word.{size_of};

@@ -1,3 +1,5 @@
+//! The table of such marks, by block number.
+
 use crate::mark::ArrayMark;
 use pd_graph::BlockTable;
 use std::alloc::{AllocError, Global};

@@ -1,3 +1,5 @@
+//! The roles of one kind of array in a format.
+
 use pd_array::Word;
 
 /// The arrays of one kind in a format: the role of the nodes of their trees, that of their blocks, and the size of

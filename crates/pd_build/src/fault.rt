@@ -1,3 +1,5 @@
+//! Why a builder stopped.
+
 /// Why a builder stopped.
 #[derive(Clone, Copy, Debug, PartialEq, Eq)]
 pub enum BuildFault {

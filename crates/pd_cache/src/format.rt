@@ -1,3 +1,5 @@
+//! A cache's metadata as a table, versions 1 and 2.
+
 use pd_array::Word;
 use pd_kinds::{Block, CacheSuper, Edges, Rules, cache_role};
 use pd_layouts::{Layout, LeafValue, Names, Table, Tabled};

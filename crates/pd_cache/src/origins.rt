@@ -1,3 +1,5 @@
+//! Whether two entries of a cache have one origin.
+
 ghost use Rattle.std.specs.Prelude.{◌≡◌, ℕ, ◌+◌, ◌*◌, ◌≤◌, ◌<◌, List, ◌++◌, [], length, None, false, IfOk, replicate, vec_len, vec_capacity};
 ghost use Rattle.pd_kinds.specs.Whole.{has_repeat};
 ghost use Rattle.pd_cache.specs.OriginSet.{AreAdded};

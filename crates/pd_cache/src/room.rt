@@ -1,3 +1,5 @@
+//! The memory of a cache's check.
+
 ghost use Rattle.std.specs.Prelude.{◌≡◌, ◌≤◌, IfOk};
 ghost use Rattle.pd_kinds.specs.declared.limits.TheConstants.{MAX_META_BLOCKS};
 ghost use Rattle.pd_cache.specs.Room.{IsRoomFor};

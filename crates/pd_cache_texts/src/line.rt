@@ -1,3 +1,5 @@
+//! The lines of a cache's text.
+
 /// A line of the text of a cache that isn't the first or the last one.
 #[derive(Clone, Copy, Debug, PartialEq, Eq)]
 pub enum CacheLine {

@@ -1,3 +1,5 @@
+//! Two watchers of one walk.
+
 use pd_graph::{Format, Watch};
 use pd_kinds::{Block, Rules};
 

@@ -1,3 +1,5 @@
+//! What a check counts references to.
+
 use pd_kinds::SmRoot;
 
 /// The data blocks that metadata counts: the root of their space map, and the role of the blocks that refer to them.

@@ -1,3 +1,5 @@
+//! An era target's metadata as a table.
+
 use pd_array::Word;
 use pd_kinds::{Block, Edges, EraSuper, Rules, era_role};
 use pd_layouts::{Layout, LeafValue, Names, Table, Tabled};

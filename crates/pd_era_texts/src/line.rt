@@ -1,3 +1,5 @@
+//! The lines of an era target's text.
+
 /// A line of the text of an era target that isn't the first or the last one.
 #[derive(Clone, Copy, Debug, PartialEq, Eq)]
 pub enum EraLine {

@@ -1,3 +1,4 @@
+-- Trusted base.
 -- The causes of a refusal: their numbers and their printed names.
 use Rattle.std.specs.Prelude.{ℕ, List, codes}
 use Rattle.pd_grammar.specs.declared.cause.TextCause.{TextCause}

@@ -1,3 +1,4 @@
+-- Trusted base.
 -- What a text spells, and the verdict on it where so many blocks are there.
 use Rattle.std.specs.Prelude.{◌≡◌, ℕ, ◌==◌, ◌&&◌, not, nat_lt, if◌then◌else◌, List, [], ◌∷◌, length, Option, Some, None}
 use Rattle.pd_grammar.specs.Texts.{TextFormat, Refusal, reading, refusal, text_of_lines}

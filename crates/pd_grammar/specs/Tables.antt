@@ -1,3 +1,4 @@
+-- Trusted base.
 -- A kind of text as a table: for each kind of line its keyword, its fields and where it may stand.
 use Rattle.std.specs.Prelude.{ℕ, zero, suc, ◌==◌, ◌&&◌, Bool, false, nat_lt, if◌then◌else◌, List, [], ◌∷◌, length, map, replicate, Option, Some, None, Result, Ok, Err, codes, decimal}
 use Rattle.std.specs.List.{slice_get, join_with_byte}

@@ -1,3 +1,4 @@
+-- Trusted base.
 -- Texts of lines of words: the lines of a text, and where it is refused.
 use Rattle.std.specs.Prelude.{ℕ, ◌+◌, ◌-◌, ◌^◌, ◌==◌, Bool, false, nat_lt, min, if◌then◌else◌, List, [], ◌∷◌, ◌++◌, length, Option, Some, None, Result, Ok, Err}
 use Rattle.std.specs.List.{list_all, flat_map, join_with_byte}

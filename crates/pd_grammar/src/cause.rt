@@ -1,3 +1,5 @@
+//! The causes of a refusal.
+
 ghost use Rattle.std.specs.Prelude.{◌≡◌, ◌≤◌, length};
 ghost use Rattle.pd_grammar.specs.Causes.{cause_name, cause_number};
 

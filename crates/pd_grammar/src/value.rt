@@ -1,3 +1,5 @@
+//! The fields of a line, and their values.
+
 /// What stands in a field of a line.
 #[derive(Clone, Copy, Debug, PartialEq, Eq)]
 pub enum Field {

@@ -1,3 +1,5 @@
+//! What a walk and settling find out of each block.
+
 ghost use Rattle.pd_kinds.specs.declared.limits.TheConstants.{MAX_META_BLOCKS};
 ghost use Rattle.std.specs.Prelude.{◌≡◌, ℕ, ◌<◌, ◌≤◌, ◌==◌, ◌||◌, ◌&&◌, false, IfOk, if◌then◌else◌};
 ghost use Rattle.pd_kinds.specs.declared.rule.Rule.{Rule};

@@ -1,3 +1,5 @@
+//! A table by block number that takes memory only as far as it is used.
+
 ghost use Rattle.std.specs.Prelude.{◌≡◌, ◌≤◌};
 ghost use Rattle.std.specs.Vec.{vec_capacity, vec_len};
 

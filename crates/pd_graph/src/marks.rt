@@ -1,3 +1,5 @@
+//! The marks of the walk, by block number.
+
 ghost use Rattle.pd_kinds.specs.declared.limits.TheConstants.{MAX_META_BLOCKS};
 ghost use Rattle.std.specs.Prelude.{◌≡◌, ℕ, ◌<◌, ◌==◌, ◌||◌, ◌&&◌, ◌+◌, ◌^◌, ◌≤◌, [], ◌∷◌, length, slice_index, IfOk, IfSome, IfNone};
 ghost use Rattle.pd_kinds.specs.declared.rule.Rule.{Rule as BrokenRule};

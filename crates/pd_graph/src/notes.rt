@@ -1,3 +1,5 @@
+//! What is noted of the nodes of trees, by block number.
+
 ghost use Rattle.pd_kinds.specs.declared.limits.TheConstants.{MAX_META_BLOCKS};
 ghost use Rattle.std.specs.Prelude.{◌≡◌, ℕ, ◌<◌, ◌≤◌, ◌==◌, length, IfOk, if◌then◌else◌};
 ghost use Rattle.pd_graph.specs.BlockTable.{values_of};

@@ -1,3 +1,5 @@
+//! Where a walk looks next.
+
 use std::alloc::{AllocError, Global};
 
 /// A stack of block numbers with a fixed number of places. It says where to look first for what is

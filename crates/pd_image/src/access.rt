@@ -1,3 +1,5 @@
+//! How an object outside is attached.
+
 /// How far an object outside has been attached.
 #[derive(Clone, Copy)]
 pub enum Access {

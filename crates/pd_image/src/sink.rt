@@ -1,3 +1,5 @@
+//! A sink for bytes, and what its calls mean.
+
 ghost use Rattle.std.specs.Prelude.{None, ◌≡◌, [], is_ok, OnOk, unwrap_or};
 ghost use Rattle.std.specs.Option.{option_copied};
 ghost use Rattle.pd_kinds.specs.Objects.{SinkState, CountsFault, Appends, AppendsFront};

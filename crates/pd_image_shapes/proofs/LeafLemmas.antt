@@ -49,7 +49,7 @@ module _ (xs : List ℕ) (ascend : Ascend 0 xs) where
       rw (place, lt-ltb k (length xs) within) refl
 
   -- it is used where it stands
-  uses_one : (k : ℕ) → k < length xs → (c : ℕ) (found : Option ℕ) → number_of xs c ≡ found
+  pub uses_one : (k : ℕ) → k < length xs → (c : ℕ) (found : Option ℕ) → number_of xs c ≡ found
       → count_by (λ used. nat_eq used k) (numbers found) ≡ cond (nat_eq c (get_or xs k 0)) 1 0
   uses_one k within c found e = elim (cases_eq c (get_or xs k 0)) [
     | inl same ↦

@@ -23,20 +23,20 @@ number_is shared_ones b k e =
     (at.0, eqb-true (get_or shared_ones k 0) b at.1)
 
 -- own mappings before pieces
-own_means : (leaves : List (List Mapping)) (ms : List Mapping) (pieces : List Piece)
+pub own_means : (leaves : List (List Mapping)) (ms : List Mapping) (pieces : List Piece)
     → flat_map (piece_mappings leaves) (with_own ms pieces) ≡ ms ++ flat_map (piece_mappings leaves) pieces
 own_means leaves [] pieces = refl
 own_means leaves (m ∷ ms) [] = refl
 own_means leaves (m ∷ ms) (own others ∷ pieces) = append_assoc (m ∷ ms) others (flat_map (piece_mappings leaves) pieces)
 own_means leaves (m ∷ ms) (shared k ∷ pieces) = refl
 
-own_uses : (ms : List Mapping) (pieces : List Piece) → flat_map uses_of_piece (with_own ms pieces) ≡ flat_map uses_of_piece pieces
+pub own_uses : (ms : List Mapping) (pieces : List Piece) → flat_map uses_of_piece (with_own ms pieces) ≡ flat_map uses_of_piece pieces
 own_uses [] pieces = refl
 own_uses (m ∷ ms) [] = refl
 own_uses (m ∷ ms) (own others ∷ pieces) = refl
 own_uses (m ∷ ms) (shared k ∷ pieces) = refl
 
-own_are : (number : ℕ) (ms : List Mapping) (pieces : List Piece) → ArePieces number pieces → ArePieces number (with_own ms pieces)
+pub own_are : (number : ℕ) (ms : List Mapping) (pieces : List Piece) → ArePieces number pieces → ArePieces number (with_own ms pieces)
 own_are number [] pieces are = are
 own_are number (m ∷ ms) [] are = omega arith
 own_are number (m ∷ ms) (own others ∷ []) are = omega arith
@@ -51,7 +51,7 @@ module _ (image : List (List ℕ)) (shared_ones : List ℕ) where
   abbrev pub pieces : List ℕ → List Piece
   pieces bs = pieces_of image shared_ones bs
 
-  leaf_at : (xs : List ℕ) (k : ℕ) → k < length xs → leaf_mappings (map (mappings_in image) xs) k ≡ mappings_in image (get_or xs k 0)
+  pub leaf_at : (xs : List ℕ) (k : ℕ) → k < length xs → leaf_mappings (map (mappings_in image) xs) k ≡ mappings_in image (get_or xs k 0)
   leaf_at [] k within = absurd (omega arith)
   leaf_at (x ∷ xs) zero within = refl
   leaf_at (x ∷ xs) (suc k) within = leaf_at xs k (omega arith)

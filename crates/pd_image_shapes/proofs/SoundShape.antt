@@ -17,6 +17,7 @@ use Rattle.pd_kinds.specs.ThinFormat.{mapped_block, mapped_time, thin_graph}
 use Rattle.pd_kinds.specs.ThinSuper.{thin_fields}
 use Rattle.pd_kinds.specs.Trees.{entries_below}
 use Rattle.pd_kinds.specs.Whole.{details_entries, mapping_entries, top_entries}
+use Rattle.pd_laid.proofs.NodeFacts.{leaves_entries}
 use Rattle.pd_laid.specs.Shape.{ArePieces, IsShape, ShapeDevice, device_of, pool_of, uses_of}
 use Rattle.pd_shapes.specs.ImageShape.{all_leaf_blocks, device_shapes, image_shape, is_shared_leaf, leaf_blocks, mappings_in, shared_leaves}
 use Rattle.pd_laws.proofs.CleanLemmas.{clean_super_where_none}
@@ -25,34 +26,9 @@ use Rattle.pd_image_shapes.specs.Uses.{IsSharedTwice}
 use Rattle.pd_image_shapes.proofs.LeafLemmas.{Ascend, at_place, counted_any, filtered_all, filtered_ascend, filtered_few, uses_counted}
 use Rattle.pd_image_shapes.proofs.PieceLemmas.{leaves, number_of, numbers, pieces_are, pieces_mean, pieces_uses}
 
--- what stands in leaves is what stands in each of them
-module _ {X Y : Type 0} (f : X → List Y) (inner : ℕ → Bool) (down : ℕ → List ℕ) (own : ℕ → List X) where
-  here_flat : (b : Bool) (p : ℕ) → cond b [] (flat_map f (own p)) ≡ flat_map f (cond b [] (own p))
-  here_flat true p = refl
-  here_flat false p = refl
-
-  both_flat : (b : Bool) (xs : List Y) (ys : List X) (p : ℕ) → xs ≡ flat_map f ys → cond b xs (flat_map f (own p)) ≡ flat_map f (cond b ys (own p))
-  both_flat true xs ys p same = same
-  both_flat false xs ys p same = refl
-
-  each_flat : (g : ℕ → List Y) (h : ℕ → List X) → ((q : ℕ) → g q ≡ flat_map f (h q)) → (qs : List ℕ) → flat_map g qs ≡ flat_map f (flat_map h qs)
-  each_flat g h same [] = refl
-  each_flat g h same (q ∷ qs) =
-      ap₂ (λ (front back : List Y). front ++ back) (same q) (each_flat g h same qs) ∙ sym (flat_map-append f (h q) (flat_map h qs))
-
-  pub gathered_flat : (j p : ℕ) → gathered inner down (λ q. flat_map f (own q)) j p ≡ flat_map f (gathered inner down own j p)
-  unfolding gathered
-  gathered_flat zero p = here_flat (inner p) p
-  gathered_flat (suc j) p =
-      both_flat (inner p) (flat_map (gathered inner down (λ q. flat_map f (own q)) j) (down p)) (flat_map (gathered inner down own j) (down p)) p
-      (each_flat (gathered inner down (λ q. flat_map f (own q)) j) (gathered inner down own j) (gathered_flat j) (down p))
-
 -- the mappings of entries
 abbrev pub mapping_of_entry : Entry → Mapping
 mapping_of_entry e = record { virtual_block = e.key; data_block = mapped_block e.value; time = mapped_time e.value }
-
-append_none : (b : ℕ) (image : List (List ℕ)) → flat_map (λ c. leaf_entries 8 (block_at image c)) (b ∷ []) ≡ leaf_entries 8 (block_at image b)
-append_none b image = append-nil (leaf_entries 8 (block_at image b))
 
 map_flat : (image : List (List ℕ)) (bs : List ℕ) → map mapping_of_entry (flat_map (λ c. leaf_entries 8 (block_at image c)) bs) ≡ flat_map (mappings_in image) bs
 map_flat image [] = refl
@@ -69,11 +45,8 @@ module _ (image : List (List ℕ)) where
 
   -- a device's entries are those of its leaves
   entries_are : (root : ℕ) → mapping_entries graph image root ≡ flat_map (λ b. leaf_entries 8 (block_at image b)) (leaf_blocks graph image root)
-  unfolding entries_below leaf_blocks
-  entries_are root =
-      ap (λ (own : ℕ → List Entry). gathered (is_inner_pair graph image) (children graph image) own 63 (pair root 3))
-      (fun_ext (λ p. sym (append_none (block_of p) image)))
-      ∙ gathered_flat (λ b. leaf_entries 8 (block_at image b)) (is_inner_pair graph image) (children graph image) (λ p. block_of p ∷ []) 63 (pair root 3)
+  unfolding leaf_blocks
+  entries_are root = leaves_entries 8 graph image 3 root
 
   pub mappings_are : (root : ℕ) → map mapping_of_entry (mapping_entries graph image root) ≡ flat_map (mappings_in image) (leaf_blocks graph image root)
   mappings_are root = ap (map mapping_of_entry) (entries_are root) ∙ map_flat image (leaf_blocks graph image root)

@@ -1,3 +1,4 @@
+-- Trusted base.
 -- How many mappings the leaves have that stand in the trees of devices twice or more.
 use Rattle.std.specs.Prelude.{ℕ, ◌<◌, ◌≤◌, List, length}
 use Rattle.pd_kinds.specs.Graph.{block_at}

@@ -1,3 +1,4 @@
+-- Trusted base.
 -- How often the shared leaves of a shape are used.
 use Rattle.std.specs.Prelude.{ℕ, ◌<◌, ◌≤◌, ◌==◌, length, count_by}
 use Rattle.std.specs.List.{flat_map}

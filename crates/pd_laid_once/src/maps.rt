@@ -1,3 +1,5 @@
+//! A metadata map over blocks that are named once.
+
 ghost use Rattle.std.specs.Prelude.{◌≡◌, ◌≤◌, ◌+◌, ◌==◌, not, List, [], ℕ, count_by};
 ghost use Rattle.std.specs.List.{range_with_len};
 ghost use Rattle.pd_spells.specs.Need.{need_meta_map};

@@ -1,3 +1,5 @@
+//! Trees that are written one behind the other.
+
 ghost use Rattle.std.specs.Prelude.{◌≡◌, ◌++◌, ◌+◌, List, ℕ};
 ghost use Rattle.pd_kinds.specs.Meaning.{ThinDevice};
 ghost use Rattle.pd_laid_once.specs.Written.{device_roots, device_trees, trees_need};

@@ -1,3 +1,5 @@
+//! In a laid cache and a laid era target each block is named once.
+
 ghost use Rattle.std.specs.Prelude.{◌≤◌, ◌^◌, ℕ};
 ghost use Rattle.pd_kinds.specs.Meaning.{CacheMeaning, EraMeaning};
 ghost use Rattle.pd_laid.specs.LaidCache.{cache_named, meta_map_at};

@@ -1,3 +1,5 @@
+//! A laid cache and a laid era target take their need.
+
 ghost use Rattle.std.specs.Prelude.{◌≡◌, ◌≤◌, ◌^◌, length, ℕ};
 ghost use Rattle.pd_kinds.specs.Meaning.{CacheMeaning, EraMeaning};
 ghost use Rattle.pd_laid.specs.Laid.{laid_number};

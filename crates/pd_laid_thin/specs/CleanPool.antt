@@ -1,3 +1,4 @@
+-- Trusted base.
 -- What a laid image is.
 use Rattle.std.specs.Prelude.{◌≡◌, ℕ, true, List}
 use Rattle.pd_kinds.specs.declared.kind.Kind.TheVariants.{Thin}

@@ -1,3 +1,5 @@
+//! A laid pool is clean, and means what was laid.
+
 ghost use Rattle.std.specs.Prelude.{◌≡◌, ◌≤◌, List, length, ℕ};
 ghost use Rattle.pd_kinds.specs.declared.limits.TheConstants.{MAX_META_BLOCKS};
 ghost use Rattle.pd_kinds.specs.Meaning.{ThinPool};

@@ -1,3 +1,5 @@
+//! A laid pool says how many blocks it uses.
+
 ghost use Rattle.std.specs.Prelude.{◌≡◌, ◌≤◌, List, length, ℕ};
 ghost use Rattle.pd_kinds.specs.Graph.{block_at};
 ghost use Rattle.pd_kinds.specs.Limits.{room_of};

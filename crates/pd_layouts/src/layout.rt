@@ -1,3 +1,5 @@
+//! What a block is in a role.
+
 use crate::leaf_value::LeafValue;
 use crate::names::Names;
 use pd_array::Word;

@@ -1,3 +1,5 @@
+//! The values of a tree's leaves.
+
 ghost use Rattle.std.specs.Prelude.{◌≡◌, ◌<◌, true, false};
 ghost use Rattle.pd_kinds.specs.declared.rule.Rule.{Rule as BrokenRule};
 ghost use Rattle.pd_kinds.specs.Node.{child_at, entry_count, is_inner_node, key_at, node_bad, value_at};

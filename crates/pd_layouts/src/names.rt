@@ -1,3 +1,5 @@
+//! What the entries of a tree's leaves name.
+
 ghost use Rattle.std.specs.Prelude.{◌≡◌};
 
 /// What each entry of a tree's leaves names, and the range in which it lies.

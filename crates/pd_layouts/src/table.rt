@@ -1,3 +1,5 @@
+//! A format as a table from role to layout.
+
 ghost use Rattle.pd_kinds.specs.declared.limits.TheConstants.{MAX_META_BLOCKS};
 ghost use Rattle.std.specs.Prelude.{◌≡◌, ℕ, ◌<◌, ◌≤◌, Bool, List};
 ghost use Rattle.pd_kinds.specs.declared.rule.Rule.{Rule};

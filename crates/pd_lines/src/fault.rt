@@ -1,3 +1,5 @@
+//! Why there is no next line.
+
 /// Why there is no next line. A number is the line's, from 1; a line past the one with number 2^64 - 1 has that
 /// number too.
 #[derive(Clone, Copy, Debug, PartialEq, Eq)]

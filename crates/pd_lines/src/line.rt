@@ -1,3 +1,5 @@
+//! A line that is put together in a buffer.
+
 ghost use Rattle.std.specs.Prelude.{◌≡◌, ℕ, ◌+◌, ◌≤◌, ◌++◌, List, [], length, take, decimal};
 
 use crate::number::write_number;

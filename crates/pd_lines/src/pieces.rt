@@ -1,3 +1,5 @@
+//! Bytes that are gathered before they are put.
+
 ghost use Rattle.std.specs.Prelude.{◌≡◌, ℕ, ◌+◌, ◌≤◌, ◌++◌, List, [], length, take, Option, OnOk, OnErr};
 ghost use Rattle.pd_kinds.specs.Objects.{CountsFault, Appends, AppendsFront};
 ghost use Rattle.pd_lines.specs.Pieces.{Gathers};

@@ -1,3 +1,5 @@
+//! Lines that are put to a sink in large pieces.
+
 ghost use Rattle.std.specs.Prelude.{◌≡◌, ◌≤◌, [], length};
 ghost use Rattle.pd_kinds.specs.Objects.{CountsFault};
 ghost use Rattle.pd_lines.specs.Printing.{Finishes, Prints};

@@ -1,3 +1,5 @@
+//! The printed report of a check.
+
 ghost use Rattle.std.specs.Prelude.{◌≡◌, ◌==◌, false, ℕ, ◌+◌, ◌≤◌, ◌++◌, ◌∷◌, [], List, Option, OnOk, length, codes, decimal};
 ghost use Rattle.std.specs.List.{flat_map};
 ghost use Rattle.pd_kinds.specs.Objects.{CountsFault, Appends, AppendsFront};

@@ -1,3 +1,5 @@
+//! Why a query ended early.
+
 /// Why a query ended before its last line.
 #[derive(Clone, Copy, Debug, PartialEq, Eq)]
 pub enum QueryFault {

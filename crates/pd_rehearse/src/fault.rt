@@ -1,3 +1,5 @@
+//! Why a rehearsal has no numbers.
+
 use pd_kinds::Report;
 
 /// Why a rehearsal has no numbers.

@@ -1,3 +1,5 @@
+//! Why a repair failed.
+
 use pd_kinds::Rules;
 use pd_restore::MadeFault;
 use pd_salvage::SalvageFault;

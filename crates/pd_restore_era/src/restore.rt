@@ -1,3 +1,5 @@
+//! The restore of an era target.
+
 ghost use Rattle.std.specs.Prelude.{◌≡◌};
 ghost use Rattle.pd_image.specs.Device.{IsWritable, KeepsPlace};
 ghost use Rattle.pd_image.specs.Source.{KeepsSource};

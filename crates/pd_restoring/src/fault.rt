@@ -1,3 +1,5 @@
+//! Why a restore failed.
+
 ghost use Rattle.std.specs.Prelude.{◌≡◌};
 ghost use Rattle.pd_restoring.specs.Faults.{read_fault, build_fault};
 

@@ -1,3 +1,5 @@
+//! A kind of metadata, as a restore sees it.
+
 ghost use Rattle.std.specs.Prelude.{◌≡◌, ◌≤◌, ℕ, List, Option, Some, IfOk, IfErr, MatchResult};
 ghost use Rattle.pd_image.specs.Device.{IsWritable};
 ghost use Rattle.pd_image.specs.Source.{KeepsSource};

@@ -1,3 +1,4 @@
+-- Trusted base.
 -- How many blocks a cache needs, and the verdict on its text, for both versions of the metadata.
 use Rattle.std.specs.Prelude.{ℕ, ◌+◌, ◌==◌, if◌then◌else◌, List}
 use Rattle.pd_kinds.specs.Meaning.{CacheMeaning}

@@ -1,3 +1,4 @@
+-- Trusted base.
 -- The text of a cache, and what it means. One text serves caches of both versions.
 use Rattle.std.specs.Prelude.{◌≡◌, ℕ, ◌+◌, ◌^◌, ◌==◌, ◌&&◌, ◌||◌, Bool, false, not, nat_lt, if◌then◌else◌, List, [], ◌∷◌, ◌++◌, slice_index, map, Option, Some, None, codes}
 use Rattle.std.specs.List.{list_any}

@@ -1,3 +1,4 @@
+-- Trusted base.
 -- Whether the first two lines of a text decide what becomes of it: one of them is refused, or they need more blocks
 -- than there are.
 use Rattle.std.specs.Prelude.{ℕ, nat_lt, Bool, true, List, [], ◌∷◌}

@@ -1,3 +1,4 @@
+-- Trusted base.
 -- How many blocks an era target needs, and the verdict on its text.
 use Rattle.std.specs.Prelude.{ℕ, ◌+◌, List}
 use Rattle.pd_kinds.specs.Meaning.{EraMeaning}

@@ -1,3 +1,4 @@
+-- Trusted base.
 -- The meanings that a text can spell, one record a kind.
 use Rattle.std.specs.Prelude.{◌≡◌, ◌⊎◌, ℕ, ◌+◌, ◌^◌, ◌<◌, ◌≤◌, ◌==◌, false, List, [], ◌∷◌, length, All}
 use Rattle.std.specs.List.{list_any, AllByRecursion}

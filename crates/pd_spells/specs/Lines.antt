@@ -1,3 +1,4 @@
+-- Trusted base.
 -- The bytes of the lines that the tools print.
 use Rattle.std.specs.Prelude.{ℕ, zero, suc, List, [], ◌∷◌, ◌++◌, codes, decimal}
 use Rattle.std.specs.List.{flat_map}

@@ -1,3 +1,4 @@
+-- Trusted base.
 -- How many blocks a tree, an array and a metadata map take.
 use Rattle.std.specs.Prelude.{ℕ, zero, suc, ◌+◌, ◌-◌, ◌/◌, max, nat_lt, if◌then◌else◌}
 use Rattle.pd_kinds.specs.Node.{max_entries}

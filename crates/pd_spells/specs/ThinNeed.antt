@@ -1,3 +1,4 @@
+-- Trusted base.
 -- How many blocks a thin pool needs, and the verdict on its text.
 use Rattle.std.specs.Prelude.{ℕ, ◌+◌, ◌==◌, nat_le, List, [], ◌∷◌, length, map, count_by, sum_by}
 use Rattle.std.specs.List.{range_with_len, flat_map}

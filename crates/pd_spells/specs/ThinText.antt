@@ -1,3 +1,4 @@
+-- Trusted base.
 -- The text of a thin pool: its lines in either version, and what a text of version 1 means.
 use Rattle.std.specs.Prelude.{◌≡◌, ℕ, zero, suc, ◌+◌, ◌-◌, ◌^◌, ◌≤◌, ◌==◌, ◌&&◌, ◌||◌, Bool, true, false, not, nat_lt, nat_le, if◌then◌else◌, List, [], ◌∷◌, ◌++◌, map, sum_by, Option, Some, None, codes}
 use Rattle.std.specs.List.{flat_map, list_any, range_with_len, AllByRecursion}

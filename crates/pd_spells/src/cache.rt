@@ -1,3 +1,5 @@
+//! What texts of caches spell.
+
 ghost use Rattle.std.specs.Prelude.{◌≡◌, ◌↔◌, ◌<◌, ◌≤◌, [], None, List, ℕ};
 ghost use Rattle.pd_kinds.specs.Meaning.{CacheMeaning};
 ghost use Rattle.pd_grammar.specs.Texts.{reading, refusal, stopped};

@@ -1,3 +1,5 @@
+//! What texts of era targets spell.
+
 ghost use Rattle.std.specs.Prelude.{◌≡◌, ◌↔◌, ◌<◌, ◌≤◌, None, List, ℕ};
 ghost use Rattle.pd_kinds.specs.Meaning.{EraMeaning};
 ghost use Rattle.pd_grammar.specs.Texts.{refusal};

@@ -1,3 +1,5 @@
+//! How many inner nodes a tree needs.
+
 ghost use Rattle.std.specs.Prelude.{◌≡◌, ◌<◌, ◌≤◌, ◌+◌, ◌^◌, ℕ};
 ghost use Rattle.pd_spells.specs.Need.{need_above, nodes_for};
 

@@ -1,3 +1,5 @@
+//! What texts of pools spell.
+
 ghost use Rattle.std.specs.Prelude.{◌≡◌, ◌↔◌, ◌<◌, ◌≤◌, None, List, ℕ};
 ghost use Rattle.pd_kinds.specs.Meaning.{ThinPool};
 ghost use Rattle.pd_grammar.specs.Texts.{refusal};

@@ -1,3 +1,5 @@
+//! A cache's superblock, read and written.
+
 ghost use Rattle.std.specs.Prelude.{◌≡◌, ◌≢◌, ℕ, false, map};
 ghost use Rattle.pd_kinds.specs.declared.rule.Rule.TheVariants.{Checksum, Place, Magic};
 ghost use Rattle.pd_kinds.specs.CacheFormat.{cache_fields, cache_rows, cache_super_bad, cache_super_block};

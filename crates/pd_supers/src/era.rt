@@ -1,3 +1,5 @@
+//! An era target's superblock, read and written.
+
 ghost use Rattle.std.specs.Prelude.{◌≡◌, ℕ, false, map};
 ghost use Rattle.pd_kinds.specs.declared.rule.Rule.TheVariants.{Checksum, Place, Magic};
 ghost use Rattle.pd_kinds.specs.EraFormat.{era_fields, era_rows, era_super_bad, era_super_block};

@@ -1,3 +1,5 @@
+//! The root of a space map, read and written in a superblock.
+
 ghost use Rattle.std.specs.Prelude.{◌≡◌, ◌+◌, ◌≤◌};
 ghost use Rattle.pd_kinds.specs.SpaceMap.{map_fields};
 

@@ -1,3 +1,5 @@
+//! A thin pool's superblock, read and written.
+
 ghost use Rattle.std.specs.Prelude.{◌≡◌, ℕ, false, map};
 ghost use Rattle.pd_kinds.specs.declared.rule.Rule.TheVariants.{Checksum, Place, Magic};
 ghost use Rattle.pd_kinds.specs.ThinSuper.{thin_fields, thin_rows, thin_super_bad, thin_super_block};

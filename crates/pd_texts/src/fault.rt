@@ -1,3 +1,5 @@
+//! Where and why a text is refused.
+
 ghost use Rattle.std.specs.Prelude.{◌≡◌};
 ghost use Rattle.pd_texts.specs.Faults.{fault_of, fault_after_end, text_fault};
 

@@ -1,3 +1,5 @@
+//! Which line of a text may come next.
+
 ghost use Rattle.std.specs.Prelude.{◌≡◌};
 ghost use Rattle.pd_texts.specs.Stage.{is_second, is_body};
 

@@ -1,3 +1,5 @@
+//! A kind of text, as its reader sees it.
+
 ghost use Rattle.std.specs.Prelude.{◌≡◌, ◌==◌, ◌≤◌, ℕ, List, [], ◌∷◌, length, Option, Some, None, is_none, true, false, IfOk, IfErr, OnOk};
 ghost use Rattle.std.specs.List.{list_all};
 ghost use Rattle.pd_grammar.specs.Words.{is_printable};

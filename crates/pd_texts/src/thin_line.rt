@@ -1,3 +1,5 @@
+//! The lines of a pool's text.
+
 use pd_value::Details;
 
 /// Mappings of a device whose virtual blocks follow each other, and whose data blocks do.

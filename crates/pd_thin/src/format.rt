@@ -1,3 +1,5 @@
+//! A thin pool's metadata as a table.
+
 use pd_kinds::{Block, Edges, Rules, thin_role};
 use pd_layouts::{Layout, LeafValue, Names, Table, Tabled};
 use pd_supers::{

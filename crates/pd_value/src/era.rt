@@ -1,3 +1,5 @@
+//! The leaf value of an era target's writesets.
+
 ghost use Rattle.std.specs.Prelude.{◌/◌, ◌%◌, ◌^◌, ◌&&◌, nat_lt};
 ghost use Rattle.std.proofs.Common.{rules};
 ghost use Rattle.pd_kinds.specs.Value.{writeset_code};

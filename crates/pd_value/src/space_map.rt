@@ -1,3 +1,5 @@
+//! The leaf values of space maps.
+
 ghost use Rattle.std.specs.Prelude.{◌/◌, ◌%◌, ◌^◌, ◌&&◌, nat_lt};
 ghost use Rattle.std.proofs.Common.{rules};
 ghost use Rattle.pd_kinds.specs.Value.{index_code};

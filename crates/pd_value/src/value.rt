@@ -1,3 +1,5 @@
+//! A leaf value, as a number and as bytes.
+
 ghost use Rattle.std.specs.Prelude.{◌≡◌, ℕ, ◌+◌, ◌^◌, ◌<◌, ◌≤◌, Bool, true, List, length};
 ghost use Rattle.pd_kinds.specs.Field.{le, put};
 
