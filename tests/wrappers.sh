@@ -144,7 +144,9 @@ notes "$usage"
 try 2 thin_check thin-pool.img thin-pool.img
 try 2 thin_check --until all thin-pool.img
 try 2 thin_check --until super --clear-needs-check-flag thin-pool.img
-try 2 cache_check --clear-needs-check-flag cache.img
+try 2 era_check --clear-needs-check-flag era.img
+try 2 thin_check --ignore-non-fatal-errors --until whole thin-pool.img
+try 2 thin_check --ignore-non-fatal-errors --ignore-non-fatal-errors thin-pool.img
 try 2 thin_rmap --region 5..4 thin-pool.img
 try 2 thin_rmap --region 05..6 thin-pool.img
 try 2 thin_generate --number 0
@@ -201,11 +203,19 @@ out 'fault data 15 leak stored 1 references 0' 'faults 1'
 notes
 try 0 thin_check --until whole leak.img
 out clean
+try 0 thin_check --ignore-non-fatal-errors leak.img
+out 'fault data 15 leak stored 1 references 0' 'faults 1'
+notes
+try 0 pdata_tools thin_check --until counts --ignore-non-fatal-errors leak.img
 cp thin-pool.img short.img
 poke short.img 729088 '\105\361\052\374'
 poke short.img 729106 '\217'
 try 1 thin_check short.img
 out 'fault data 10 short stored 0 references 1' 'faults 1'
+try 1 thin_check --ignore-non-fatal-errors short.img
+out 'fault data 10 short stored 0 references 1' 'faults 1'
+try 0 cache_check --ignore-non-fatal-errors cache.img
+try 0 era_check --ignore-non-fatal-errors era.img
 
 # the root of the mapping tree is damaged
 cp thin-pool.img damaged.img
@@ -215,7 +225,7 @@ out 'fault meta 183 checksum' 'faults 1'
 try 1 thin_check --until walk damaged.img
 try 0 thin_check --until super damaged.img
 
-# the flag "needs check", which is cleared in a clean pool alone
+# the flag "needs check", which is cleared where nothing was found, or leaks alone that pass
 cp thin-pool.img flag.img
 poke flag.img 0 '\075\054\342\015\001'
 cp flag.img set.img
@@ -227,6 +237,12 @@ same flag.img thin-pool.img
 cp leak.img before.img
 try 1 thin_check --clear-needs-check-flag leak.img
 same leak.img before.img
+try 0 thin_check --clear-needs-check-flag --ignore-non-fatal-errors leak.img
+same leak.img before.img
+cp cache.img before.img
+try 0 cache_check --clear-needs-check-flag cache.img
+out clean
+same cache.img before.img
 
 # Dumps and restores
 
@@ -407,6 +423,259 @@ out 'written 10 5' 'written 1017 3'
 try 0 era_invalidate --written-since 7 era.img
 out
 
+# The words of thin-provisioning-tools that the commands take for ours
+
+for word in -q --quiet; do
+    try 0 thin_check $word thin-pool.img
+    out
+    notes
+    try 1 thin_check leak.img $word
+    out
+    notes
+    try 0 thin_dump $word thin-pool.img
+    same out thin-pool.txt
+done
+for word in --super-block-only --until=super; do
+    try 0 thin_check $word damaged.img
+    out clean
+done
+for word in --output=dumped.txt '--output dumped.txt'; do
+    rm -f dumped.txt
+    # shellcheck disable=SC2086 # two words
+    try 0 thin_dump $word thin-pool.img
+    out
+    same dumped.txt thin-pool.txt
+done
+zeros new.img 1024
+try 0 cache_restore --input=cache.txt --metadata-version=2 --output new.img
+try 0 cache_check new.img
+try 0 thin_rmap --region=100..101 thin-pool.img
+out 'block 100 device 3 virtual 100'
+try 2 thin_dump --output --quiet thin-pool.img
+try 2 thin_check --until= thin-pool.img
+
+# Two names of one file
+
+ln thin-pool.img hard.img
+ln -s thin-pool.img soft.img
+cp thin-pool.img before.img
+zeros fresh.img 1024
+for name in thin-pool.img ./thin-pool.img hard.img soft.img "$tmp/soft.img"; do
+    try 2 thin_repair -i thin-pool.img -o "$name"
+    out
+    notes "thin_repair: thin-pool.img and $name are one file: nothing is opened"
+    try 2 thin_repair --input=thin-pool.img --output "$name"
+    try 2 thin_dump -o "$name" thin-pool.img
+    notes "thin_dump: thin-pool.img and $name are one file: nothing is opened"
+    try 2 thin_restore -i "$name" -o thin-pool.img
+    try 2 thin_shrink -i thin-pool.img -o fresh.img --data "$name" --nr-blocks 2
+    try 2 thin_shrink -i fresh.img -o thin-pool.img --data "$name" --nr-blocks 2
+    try 2 cache_writeback --metadata-device thin-pool.img --fast-device "$name" --origin-device fresh.img
+    try 2 cache_writeback --metadata-device fresh.img --fast-device thin-pool.img --origin-device "$name"
+    try 1 "$lvm/thin_repair" -i thin-pool.img -o "$name"
+    notes "thin_repair: thin-pool.img and $name are one file: nothing is opened" \
+        'thin_repair: nothing is repaired; see pdata_tools-lvm(8)'
+done
+same thin-pool.img before.img
+rm hard.img soft.img
+if mknod one b 250 250 2>/dev/null && mknod other b 250 250 && mknod third b 250 251; then
+    try 2 thin_repair -i one -o other
+    notes 'thin_repair: one and other are one file: nothing is opened'
+    try 5 thin_repair -i one -o third
+else
+    skip 'two names of one device, as only root makes block devices'
+fi
+
+# What a name holds that isn't metadata, or not all of it
+
+try 1 thin_check thin-pool.txt
+notes 'thin_check: thin-pool.txt is a text, as thin_dump prints it and thin_restore reads it'
+try 1 cache_dump cache.txt
+notes_have 'cache_dump: cache.txt is a text, as cache_dump prints it and cache_restore reads it'
+echo '<superblock uuid="" time="0">' >pool.xml
+zeros new.img 1024
+try 3 thin_restore -i pool.xml -o new.img
+notes 'pdata_tools: line 1: header' 'thin_restore: pool.xml is XML, as thin-provisioning-tools have it, and nothing here reads that'
+try 3 thin_restore -i cache.txt -o new.img
+notes 'pdata_tools: line 1: header' 'thin_restore: cache.txt is a text, as cache_dump prints it and cache_restore reads it'
+for kind in thin-pool cache era; do
+    dd if=$kind.img of=cut.img bs=4096 count=200 2>/dev/null
+    blocks=$(($(wc -c <$kind.img) / 4096))
+    try 1 ${kind%-pool}_check cut.img
+    out 'fault meta 0 size' 'faults 1'
+    notes "${kind%-pool}_check: cut.img has 200 blocks of 4 KiB, and its superblock says $blocks: $((blocks - 200)) are missing"
+done
+name=$(printf 'name\377.img')
+cp thin-pool.img "$name"
+try 2 thin_check "$name"
+sed 1q notes >kept && mv kept notes
+notes "thin_check: a word isn't UTF-8, and the program takes no such name: $name"
+rm "$name"
+# a full disk, and a pipe that nobody reads on
+mkdir full
+printf '#!/bin/sh\nprintf "%%s\\n" "Filesystem 1024-blocks Used Available" "none 100 100 0 100%% /"\n' >full/df
+chmod +x full/df
+if [ -c /dev/full ]; then
+    try 6 env PATH="$tmp/full:$PATH" "$prefix/sbin/thin_dump" -o /dev/full thin-pool.img
+    notes 'pdata_tools: source or sink fault' 'thin_dump: there is no room in /dev/'
+fi
+try 0 sh -c '{ thin_generate --number 100; echo "$?" >code; } | sed 1q'
+out 'thin 1'
+notes
+[ "$(cat code)" = 141 ] || bad "status $(cat code) and not 141"
+try 0 sh -c '{ thin_dump damaged.img; echo "$?" >code; } | cat'
+out
+notes 'fault meta 183 checksum' 'faults 1'
+[ "$(cat code)" = 1 ] || bad "status $(cat code) and not 1"
+
+# Blocks that can't be read: a program that fails on bad.img, and a dd that can't read the blocks of it that a file names
+
+mkdir failing
+cat >failing/program <<END
+#!/bin/sh
+for word do
+    [ "\$word" != bad.img ] || { echo 'pdata_tools: device fault' >&2 && exit 5; }
+done
+exec $PROGRAM "\$@"
+END
+cat >failing/dd <<END
+#!/bin/sh
+input='' skip=0 count=''
+for word do
+    case \$word in
+    if=*) input=\${word#if=} ;;
+    skip=*) skip=\${word#skip=} ;;
+    count=*) count=\${word#count=} ;;
+    esac
+done
+if [ "\$input" = bad.img ]; then
+    for block in \$(cat '$tmp/blocks'); do
+        if [ "\$block" -ge "\$skip" ] && [ "\$block" -lt \$((skip + \${count:-1024})) ]; then
+            $(command -v dd) "\$@" count=\$((block - skip))
+            exit 1
+        fi
+    done
+fi
+exec $(command -v dd) "\$@"
+END
+chmod +x failing/*
+for tool in thin_check thin_repair thin_dump; do
+    sed "s|^program=.*|program=$tmp/failing/program|" "$prefix/sbin/$tool" >"failing/$tool"
+    sed "s|^program=.*|program=$tmp/failing/program|" "$lvm/$tool" >"failing/lvm-$tool"
+    chmod +x "failing/$tool" "failing/lvm-$tool"
+done
+mkdir temporary
+failing() {
+    wanted=$1
+    shift
+    try "$wanted" env PATH="$tmp/failing:$PATH" TMPDIR="$tmp/temporary" "$@"
+    [ -z "$(ls temporary)" ] || bad 'a file is left in the temporary folder'
+}
+cp thin-pool.img bad.img
+zeroed() {
+    cp thin-pool.img zeroed.img
+    for block do
+        dd if=/dev/zero of=zeroed.img bs=4096 seek="$block" count=1 conv=notrunc 2>/dev/null
+    done
+    printf '%s\n' "$@" >blocks
+}
+# each copy has the other blocks in their places, and zeros for these
+for list in 0 1023 '0 1 2' '1022 1023' '5 7 8 900' '0 500 1023'; do
+    # shellcheck disable=SC2086 # several blocks
+    zeroed $list
+    # shellcheck disable=SC2016 # the inner shell's
+    failing 0 sh -c '. "$0/commands/common" && . "$0/commands/running" && copy_readable bad.img copied.img && echo "$left_out"' "$here"
+    # shellcheck disable=SC2086
+    set -- $list
+    out $#
+    same copied.img zeroed.img
+done
+zeroed 184 300
+first='bad.img: block 184 can'"'t be read, the first such block of 1024 (of 4 KiB, from 0 on)"
+of_copy="what follows is of a copy, in which zeros stand for blocks that can't be read: 2"
+failing 1 failing/thin_check bad.img
+out 'fault meta 184 checksum' 'faults 1'
+notes 'pdata_tools: device fault' "thin_check: $first" "thin_check: $of_copy"
+failing 1 failing/thin_check -q bad.img
+out
+failing 5 failing/thin_check --clear-needs-check-flag bad.img
+out
+helps='what helps is a copy of it: dd if=bad.img of=COPY bs=4096 conv=noerror,sync; see pdata_tools(8)'
+notes 'pdata_tools: device fault' "thin_check: $first" "thin_check: $helps"
+failing 5 failing/thin_dump bad.img
+out
+notes 'pdata_tools: device fault' "thin_dump: $first" "thin_dump: $helps"
+zeros wanted.img 1024
+try 0 thin_repair -i zeroed.img -o wanted.img
+for command in thin_repair lvm-thin_repair; do
+    zeros fresh.img 1024
+    failing 0 failing/$command -i bad.img -o fresh.img
+    out
+    notes 'pdata_tools: device fault' "thin_repair: $first" "thin_repair: $of_copy"
+    same fresh.img wanted.img
+    # no room for a copy
+    try 5 env PATH="$tmp/full:$tmp/failing:$PATH" TMPDIR="$tmp/temporary" failing/thin_repair -i bad.img -o fresh.img
+    notes 'pdata_tools: device fault' "thin_repair: $first" \
+        "thin_repair: a copy of it needs 4096 KiB, and $tmp/temporary has room for 0: TMPDIR=/folder names another folder"
+done
+failing 1 sh -c "exec failing/lvm-thin_check -q bad.img"
+notes_have "$first"
+# all is read in the second try: a fault that passes
+: >blocks
+failing 5 failing/thin_check bad.img
+out
+notes 'pdata_tools: device fault'
+# the superblock
+zeroed 0
+failing 1 failing/thin_repair -i bad.img -o fresh.img
+notes_have 'fault meta 0 checksum'
+
+# Progress, on a terminal: of a program that takes three seconds after a megabyte
+
+if command -v script >/dev/null && [ "$(script -qec 'echo there' /dev/null </dev/null 2>/dev/null | tr -d '\r')" = there ]; then
+    mkdir slow
+    cat >slow/program <<END
+#!/bin/sh
+dd if=thin-pool.img of=/dev/null bs=1048576 count=1 2>/dev/null
+for second in 1 2 3 4; do
+    sleep 1
+    read -r line </dev/null
+done
+exec $PROGRAM "\$@"
+END
+    chmod +x slow/program
+    for tool in thin_check thin_dump; do
+        sed "s|^program=.*|program=$tmp/slow/program|" "$prefix/sbin/$tool" >slow/$tool
+        chmod +x slow/$tool
+    done
+    terminal() {
+        what=$*
+        tries=$((tries + 1))
+        # what erases a line is written as a bar
+        script -qec "$*" /dev/null </dev/null | tr -d '\r' | tr '\033' '^' | sed 's/\^\[K/|/g' >out
+    }
+    terminal slow/thin_check thin-pool.img
+    grep -q "^thin_check: [1-9] MiB read, [0-9]* written, about [1-9][0-9]* %|" out || bad "no progress: $(cat out)"
+    grep -q '|clean$' out || bad "another end: $(cat out)"
+    terminal slow/thin_dump -o dumped.txt thin-pool.img
+    grep -q '^thin_dump: [1-9] MiB read' out || bad "no progress: $(cat out)"
+    same dumped.txt thin-pool.txt
+    # nothing of it with -q, where it is quick, and where the text itself goes to the terminal
+    terminal slow/thin_check -q thin-pool.img
+    out
+    terminal thin_check thin-pool.img
+    out clean
+    terminal slow/thin_dump thin-pool.img
+    same out thin-pool.txt
+    terminal 'slow/thin_check thin-pool.img 2>notes'
+    out clean
+    notes
+    terminal 'thin_check damaged.img 2>notes; echo "$?"'
+    out 'fault meta 183 checksum' 'faults 1' 1
+else
+    skip 'progress, as there is no script'
+fi
+
 # The generator and the rehearsal
 
 try 0 thin_generate --number 1 -o generated.txt
@@ -474,7 +743,7 @@ try 4 thin_repair -i leak.img -o small.img
 notes_have 'pdata_tools: no room: need '
 
 # Searches, in which block 0 isn't looked at: the kernel left older trees with more mappings, in which device 2 wasn't deleted
-# yet, and device 7 still had two
+# yet, and device 7 still had two; the last state is found, with all its devices
 
 search() {
     wanted=$1 from=$2 blocks=$3
@@ -482,18 +751,13 @@ search() {
 }
 cp lost.img before.img
 search 0 lost.img 4000
-out 'roots 161 165 mappings 1818 time 4'
+out 'roots 183 184 mappings 1461 time 4'
 notes
 same lost.img before.img
 try 0 thin_check fresh.img
 out clean
 try 0 thin_dump fresh.img
-sed '/^device 2 /,/^device 3 /{/^device 3 /!d;}; /^device 7 /,/^device 16777215 /{/^device 16777215 /!d;}' out >kept.txt
-sed '/^device 7 /d' thin-pool.txt >wanted.txt
-same kept.txt wanted.txt
-grep '^device [27] ' out >kept.txt
-printf '%s\n' 'device 2 355 1 1 2' 'device 7 2 0 0 0' >wanted.txt
-same kept.txt wanted.txt
+same out thin-pool.txt
 cp fresh.img before.img
 search 1 era.img 4000
 out
@@ -501,6 +765,10 @@ notes 'pdata_tools: no roots'
 same fresh.img before.img
 try 4 thin_repair -i lost.img -o small.img --transaction-id 5 --data-block-size 128 --nr-data-blocks 4000
 notes_have 'pdata_tools: no room: need '
+for sectors in 0 8 100 2097280; do
+    try 1 thin_repair -i era.img -o fresh.img --transaction-id 5 --data-block-size $sectors --nr-data-blocks 4000
+    notes_have "thin_repair: no kernel has data blocks of $sectors sectors: the number is 128 to 2097152, and a multiple of 128"
+done
 try 2 thin_repair -i lost.img -o fresh.img --transaction-id 5 --data-block-size 128
 notes_have 'usage: thin_repair -i DEVICE -o DEVICE'
 same fresh.img before.img
@@ -690,6 +958,21 @@ if command -v mkfifo >/dev/null; then
     sleep 1
     kill $!
     wait $! 2>/dev/null && bad 'status 0'
+    # and says what a restore has left
+    for image in thin-pool.img spare.img; do
+        dd if=$image of=new.img bs=4096 2>/dev/null
+        [ $image != spare.img ] || dd if=/dev/zero of=new.img bs=4096 count=1 conv=notrunc 2>/dev/null
+        thin_restore -i stopped -o new.img 2>notes &
+        sleep 1
+        kill $!
+        wait $! 2>/dev/null && bad 'status 0'
+        if [ $image = thin-pool.img ]; then
+            notes 'thin_restore: stopped: new.img holds what it held, or all that was to be written'
+        else
+            notes 'thin_restore: stopped: block 0 of new.img is zeros, which a kernel takes for a new device.' \
+                'thin_restore: Activate nothing that names it, and run this again to its end.'
+        fi
+    done
     # a reader that comes too late would be waited for, if the program were there
     if command -v pgrep >/dev/null; then
         ! pgrep -f "$prefix/bin/pdata_tools thin_dump -o stopped" >/dev/null || bad 'the program goes on'
@@ -707,8 +990,6 @@ fi
 # The commands for LVM, which end with 0 or 1 alone
 
 page='see pdata_tools-lvm(8)'
-PDATA_TOOLS_STOCK=$tmp/stock
-export PDATA_TOOLS_STOCK
 for tool in thin_check cache_check thin_repair thin_dump; do
     try 0 "$lvm/$tool" -V
     out "0.9.0 pdata_tools $release"
@@ -754,11 +1035,10 @@ poke flag.img 0 '\147\241\230\174\003'
 cp flag.img set-cache.img
 try 0 "$lvm/cache_check" -q flag.img
 notes "cache_check: flag.img: the flag \"needs check\" is set, and stays without --clear-needs-check-flag; $page"
-try 0 "$lvm/cache_check" -q --clear-needs-check-flag flag.img
-notes_have 'cache_check: flag.img: the flag "needs check" is set and stays'
-notes_have 'cache_check:   cache_dump -o text flag.img'
-notes_have 'cache_check:   cache_restore --metadata-version 1 -i text -o /dev/VG/FRESH'
 same flag.img set-cache.img
+try 0 "$lvm/cache_check" -q --clear-needs-check-flag flag.img
+notes 'cache_check: flag.img: the flag "needs check" was set, and is cleared'
+same flag.img cache.img
 try 1 "$lvm/cache_check" -q thin-pool.img
 zeros fresh.img 1024
 try 0 "$lvm/thin_repair" '' -i leak.img -o fresh.img
@@ -766,7 +1046,7 @@ notes
 try 0 thin_check fresh.img
 try 1 "$lvm/thin_repair" -i lost.img -o fresh.img
 notes 'fault meta 0 checksum' 'faults 1' \
-    "thin_repair: the superblock of lost.img has faults, so nothing can be kept; $page"
+    "thin_repair: the superblock of lost.img has faults: by hand, thin_repair can search for the trees without it; $page"
 try 1 "$lvm/thin_repair" -i leak.img -o missing.img
 notes_have "thin_repair: missing.img isn't there"
 try 1 "$lvm/thin_repair" -i leak.img -o small.img
@@ -801,101 +1081,50 @@ dd if=/dev/zero bs=1 count=250 2>/dev/null | tr '\000' '\252' | dd of=thousand.i
 poke thousand.img 12288 '\232\055\232\353'
 try 0 "$lvm/thin_check" -q thousand.img
 notes 'thin_check: thousand.img has leaked blocks, and no other fault: 1000'
-try 1 "$lvm/thin_check" -q many.img
-notes "thin_check: many.img has faults: 1200; the first thousand are leaks, and of the others nothing is known; $page" \
-    'thin_check: what cures it: lvconvert --repair, or thin_dump, and thin_restore onto a second volume'
-try 1 "$lvm/thin_check" many.img
-[ "$(tail -n 1 out)" = 'faults 1200' ] || bad 'the report was to be printed'
-
-# What thin-provisioning-tools are asked: here a command that says what it was called for, ends with the status in the
-# file of that name, and puts the bytes of the file cleared, if there is one, over the superblock's first ones
-mkdir "$PDATA_TOOLS_STOCK"
-cat >"$PDATA_TOOLS_STOCK/thin_check" <<'END'
-#!/bin/sh
-if [ "$1" = -V ]; then
-    cat answer
-    exit 0
-fi
-echo "${0##*/} $*" >&2
-for image do :; done
-case $* in
-*--clear-needs-check-flag*) [ ! -e cleared ] || dd if=cleared of="$image" conv=notrunc 2>/dev/null ;;
-esac
-exit "$(cat status)"
-END
-chmod +x "$PDATA_TOOLS_STOCK/thin_check"
-cp "$PDATA_TOOLS_STOCK/thin_check" "$PDATA_TOOLS_STOCK/cache_check"
-echo 0.9.0 >answer
-echo 0 >status
-cp many.img before.img
 try 0 "$lvm/thin_check" -q many.img
-notes 'thin_check -q --ignore-non-fatal-errors many.img' "thin_check: many.img has faults: 1200; the first thousand \
-are leaks, and $PDATA_TOOLS_STOCK/thin_check passes it, so it passes; $page"
-same many.img before.img
-echo 1 >status
-try 1 "$lvm/thin_check" -q many.img
-notes 'thin_check -q --ignore-non-fatal-errors many.img' "thin_check: many.img has faults: 1200; the first thousand \
-are leaks, and $PDATA_TOOLS_STOCK/thin_check refuses it; $page" \
-    'thin_check: what cures it: lvconvert --repair, or thin_dump, and thin_restore onto a second volume'
-# it isn't asked of anything else, nor where it is a command of pdata_tools
-try 1 "$lvm/thin_check" -q damaged.img
-notes_have 'the first is "fault meta 183 checksum"'
-echo "thin_check (pdata_tools) $release" >answer
-try 1 "$lvm/thin_check" -q many.img
-notes_have 'of the others nothing is known'
-echo 0.9.0 >answer
-# the flag, of a pool that has leaks alone
+notes 'thin_check: many.img has leaked blocks, and no other fault: 1200'
+try 0 "$lvm/thin_check" many.img
+[ "$(tail -n 1 out)" = 'faults 1200' ] || bad 'the report was to be printed'
+# the flag, of a pool that has leaks alone, and of one that has another fault behind a thousand leaks
 cp thousand.img flagged.img
 poke flagged.img 0 '\024\112\024\004\001'
 cp flagged.img before.img
 try 0 "$lvm/thin_check" -q flagged.img
 notes 'thin_check: flagged.img has leaked blocks, and no other fault: 1000' \
     "thin_check: flagged.img: the flag \"needs check\" is set, and stays without --clear-needs-check-flag; $page"
-try 0 "$lvm/thin_check" -q --clear-needs-check-flag flagged.img
-notes_have 'thin_check -q --clear-needs-check-flag flagged.img'
-notes_have 'thin_check: flagged.img: the flag "needs check" is set and stays'
-notes_have 'lvconvert --repair'
 same flagged.img before.img
-echo 0 >status
-dd if=thousand.img of=cleared bs=8 count=1 2>/dev/null
 try 0 "$lvm/thin_check" -q --clear-needs-check-flag flagged.img
 notes 'thin_check: flagged.img has leaked blocks, and no other fault: 1000' \
-    'thin_check -q --clear-needs-check-flag flagged.img' \
-    "thin_check: flagged.img: $PDATA_TOOLS_STOCK/thin_check cleared the flag \"needs check\""
+    'thin_check: flagged.img: the flag "needs check" was set, and is cleared'
 same flagged.img thousand.img
-# and of a cache
-dd if=cache.img of=cleared bs=8 count=1 2>/dev/null
-try 0 "$lvm/cache_check" -q --clear-needs-check-flag set-cache.img
-notes 'cache_check -q --clear-needs-check-flag set-cache.img' \
-    "cache_check: set-cache.img: $PDATA_TOOLS_STOCK/cache_check cleared the flag \"needs check\""
-same set-cache.img cache.img
-# a superblock that isn't valid after it
-cp flag.img set-cache.img
-printf '\000\000\000\000\001' >cleared
-try 0 "$lvm/cache_check" -q --clear-needs-check-flag set-cache.img
-notes_have 'cache_check: set-cache.img: the flag "needs check" is set and stays'
-# no word of it where there is damage
 try 1 "$lvm/thin_check" -q --clear-needs-check-flag damaged.img
 notes "thin_check: damaged.img has faults: 1; the first is \"fault meta 183 checksum\"; $page"
-
-# The same with thin-provisioning-tools themselves
-PDATA_TOOLS_STOCK=/usr/sbin
-if [ "$(/usr/sbin/thin_check -V 2>/dev/null)" = 0.9.0 ] && /usr/sbin/thin_check -q thin-pool.img; then
-    try 0 "$lvm/thin_check" -q many.img
-    notes_have '/usr/sbin/thin_check passes it'
-    cp before.img flagged.img
-    try 0 "$lvm/thin_check" -q --clear-needs-check-flag flagged.img
-    same flagged.img thousand.img
-    cp flag.img set-cache.img
-    try 0 "$lvm/cache_check" -q --clear-needs-check-flag set-cache.img
-    notes 'cache_check: set-cache.img: /usr/sbin/cache_check cleared the flag "needs check"'
-    # (version 0.9.0 sets the size of the hints to 0)
-    sed -e '2s/ 4$/ 0/' -e 's/^\(map .*\) [0-9]*$/\1 0/' cache.txt >kept.txt
-    try 0 cache_dump set-cache.img
-    same out kept.txt
-else
-    skip 'thin-provisioning-tools 0.9.0, which is not there or opens no file here'
-fi
+# a program that reports a thousand leaks and ends with 1
+cat >reporting <<'END'
+#!/bin/sh
+i=0
+while [ $i -lt 1000 ]; do
+    echo "fault data $i leak stored 1 references 0"
+    i=$((i + 1))
+done
+echo 'faults 1001'
+exit 1
+END
+chmod +x reporting
+sed "s|^program=.*|program=$tmp/reporting|" "$lvm/thin_check" >reported
+try 1 sh reported -q many.img
+notes "reported: many.img has faults: 1001; the first thousand are leaks, and one of the others isn't; $page"
+# with nothing on the path but what a small system has, and no thin-provisioning-tools
+mkdir few
+for name in sh ls od tr dd wc cat; do
+    ln -s "$(command -v $name)" few/$name
+done
+cp before.img flagged.img
+try 0 env -i PATH="$tmp/few" "$lvm/thin_check" -q --clear-needs-check-flag flagged.img
+same flagged.img thousand.img
+cp set-cache.img flag.img
+try 0 env -i PATH="$tmp/few" "$lvm/cache_check" -q --clear-needs-check-flag flag.img
+same flag.img cache.img
 
 # A device in use: a block device that nothing is behind, and what the kernel would say of it
 if mknod held b 250 250 2>/dev/null && [ -b held ]; then
@@ -993,15 +1222,45 @@ create) cat >&2 ;;
 esac
 END
     chmod +x dmsetup/dmsetup
-    sed -i 's|twin=/dev/mapper/pdata_tools-\$\$|twin=twin.img|' sbin-looking/thin_check
+    sed -i 's|^\( *twin=\)/dev/mapper/.*|\1twin.img|' sbin-looking/thin_check
     cp set.img twin.img
     try 0 env PATH="$tmp/dmsetup:$PATH" sbin-looking/thin_check --clear-needs-check-flag held
     out clean
     sed 's/pdata_tools-[0-9]*/pdata_tools-N/' notes >kept && mv kept notes
-    notes 'dmsetup table -j 250' 'dmsetup create pdata_tools-N ' '0 8192 linear 254:0 2048' \
+    notes 'dmsetup table -j 250' 'dmsetup create pdata_tools-N-tmeta ' '0 8192 linear 254:0 2048' \
         'thin_check: held is read-only, as LVM activates it: it is written by way of twin.img' \
-        'dmsetup remove --retry twin.img'
+        'dmsetup remove --retry pdata_tools-N-tmeta'
     same twin.img thin-pool.img
+    # and so is the data of a pool, and the metadata and the origin of a cache
+    for part in tdata cmeta real; do
+        echo LVM-of-a-pool-$part >"$sys/dm/uuid"
+        case $part in
+        tdata)
+            set -- thin_shrink -i meta.img -o smaller.img --data held --nr-blocks 2
+            zeros meta.img 16
+            thin_restore -i pool.txt -o meta.img
+            cp whole.img twin.img
+            ;;
+        cmeta)
+            set -- cache_writeback --metadata-device held --fast-device fast.img --origin-device origin.img
+            cp dirty.img twin.img
+            ;;
+        real)
+            set -- cache_writeback --metadata-device meta.img --fast-device fast.img --origin-device held
+            cp dirty.img meta.img
+            zeros twin.img 4
+            ;;
+        esac
+        sed -i 's|^\( *twin=\)/dev/mapper/.*|\1twin.img|' "sbin-looking/$1"
+        tool=$1
+        shift
+        try 0 env PATH="$tmp/dmsetup:$PATH" "sbin-looking/$tool" "$@"
+        notes_have "dmsetup remove --retry pdata_tools-"
+        notes_have "$tool: held is read-only, as LVM activates it: it is written by way of twin.img"
+    done
+    # what a restore or a repair would write is left as it is
+    try 5 env PATH="$tmp/dmsetup:$PATH" sbin-looking/thin_repair -i thin-pool.img -o held
+    notes 'pdata_tools: device fault' 'thin_repair: held is a read-only device'
 else
     skip 'a device in use, as only root makes block devices'
 fi
@@ -1025,7 +1284,17 @@ END
     try 0 bash complete.bash "$complete" thin_check --until w
     out walk whole
     try 0 bash complete.bash "$complete" pdata_tools thin_check --until counts -
-    out --clear-needs-check-flag
+    out --ignore-non-fatal-errors --clear-needs-check-flag
+    try 0 bash complete.bash "$complete" cache_check --ignore-non-fatal-errors -
+    out --until --clear-needs-check-flag
+    try 0 bash complete.bash "$complete" era_check -
+    out --until --ignore-non-fatal-errors --help --version
+    try 0 bash complete.bash "$complete" thin_ls --v
+    out --version
+    try 0 bash complete.bash "$complete" pdata_thin_restore --h
+    out --help
+    try 0 bash complete.bash "$complete" pdata_tools thin_ls --h
+    out ''
     for stage in super walk order whole; do
         try 0 bash complete.bash "$complete" thin_check --until $stage -
         out ''
@@ -1051,6 +1320,11 @@ fi
 # The pages
 
 for page in "$prefix"/share/man/man8/*.8; do
+    # also before the installation: man ./man/thin_check.8
+    what=${page##*/}
+    grep -qx ".Os \"pdata_tools $release\"" "$here/man/${page##*/}" || bad 'the page has another version than the file VERSION'
+    ! grep -q '@[A-Z]*@' "$here/man/${page##*/}" || bad 'the page has something to be put in'
+    ! sed -n '/^\.Bd/,/^\.Ed/p' "$here/man/${page##*/}" | grep -q '\\$' || bad 'a backslash ends a line'
     if command -v mandoc >/dev/null; then
         try 0 mandoc -T lint -W warning "$page"
         out
@@ -1078,6 +1352,51 @@ done
 command -v mandoc >/dev/null || skip "the pages' lint, as there is no mandoc"
 command -v man >/dev/null || skip 'the pages, as there is no man'
 
+# The package, of a copy that no repository has around it
+
+if command -v sha256sum >/dev/null && command -v gzip >/dev/null && tar --version 2>/dev/null | grep -q GNU; then
+    mkdir packed packing
+    for part in VERSION README.md install package commands completion docs lvm man; do
+        cp -R "$here/$part" packing
+    done
+    # here the program may be a script that names no C library
+    cat "$PROGRAM" >packing/pdata_tools
+    echo '# GLIBC_2.34' >>packing/pdata_tools
+    chmod +x packing/pdata_tools
+    echo '12 passed, 1 failed (12 of 13)' >gate.log
+    try 1 env PROGRAM="$tmp/packing/pdata_tools" packing/package gate.log packed
+    notes "package: the last line of gate.log isn't that of a gate in which nothing failed"
+    try 1 env PROGRAM="$tmp/missing" packing/package gate.log packed
+    echo '13 passed, 0 failed (all)' >gate.log
+    try 0 env PROGRAM="$tmp/packing/pdata_tools" packing/package gate.log packed
+    sed 1q out >kept
+    printf '%s\n' "packed/pdata_tools-$release-x86_64.tar.xz" >wanted
+    same kept wanted
+    (cd packed && xz -dc "pdata_tools-$release-x86_64.tar.xz" | tar -xf -)
+    unpacked=packed/pdata_tools-$release
+    tail -n 1 "$unpacked/PROVED" >kept
+    same kept gate.log
+    try 0 env PREFIX="$tmp/unpacked" PROGRAM="$tmp/$unpacked/pdata_tools" "$unpacked/install"
+    try 0 unpacked/sbin/thin_check thin-pool.img
+    out clean
+    echo 'more' >>"$unpacked/man/thin_ls.8"
+    try 1 env PREFIX="$tmp/unpacked" PROGRAM="$tmp/$unpacked/pdata_tools" "$unpacked/install"
+    notes_have "install: $tmp/$unpacked isn't as it was packed"
+    if [ -f "packed/pdata-tools_${release}_amd64.deb" ]; then
+        try 0 dpkg-deb -c "packed/pdata-tools_${release}_amd64.deb"
+        awk '{ print $6 }' out | grep -v '/$' >paths
+        ! grep -v -e '^./usr/lib/pdata_tools/' -e '^./usr/sbin/pdata_[a-z_]*$' -e '/pdata_[a-z_-]*\(\.8\.gz\)*$' -e /pdata-tools paths ||
+            bad 'a name that others may have'
+        try 0 dpkg-deb -x "packed/pdata-tools_${release}_amd64.deb" extracted
+        grep -qx 'program=/usr/lib/pdata_tools/bin/pdata_tools' extracted/usr/sbin/pdata_thin_check || bad 'another program'
+    else
+        skip 'the Debian package, as there is no dpkg-deb'
+    fi
+    rm -rf packed packing unpacked extracted
+else
+    skip 'the package, as tar, gzip or sha256sum is not there'
+fi
+
 # The end
 
 echo '# changed' >>"$prefix/sbin/thin_ls"
@@ -1092,13 +1411,14 @@ is_gone
 # Installs that go wrong, with a program that is quickly copied
 
 printf '#!/bin/sh\nexec %s "$@"\n' "$PROGRAM" >program
+chmod +x program
 PROGRAM=$tmp/program
 mkdir copy
 for name in VERSION install commands completion lvm man; do
     cp -R "$here/$name" copy
 done
 # a text that is missing, is empty, or is no script: nothing is installed
-for text in VERSION commands/common commands/tool completion/pdata_tools lvm/check lvm/thin_dump lvm/initramfs-hook man/thin_ls.8; do
+for text in VERSION commands/common commands/running commands/tool completion/pdata_tools lvm/check lvm/thin_dump lvm/initramfs-hook man/thin_ls.8; do
     for harm in missing empty; do
         mv "copy/$text" kept
         [ $harm = missing ] || : >"copy/$text"
@@ -1141,10 +1461,39 @@ for last in "$prefix//" /usr/local/there/ /; do
 done
 DESTDIR=''
 try 1 env PREFIX=relative "$here/install"
-try 1 env STOCK=relative "$here/install"
-STOCK=/opt/stock try 0 "$here/install"
-what='another folder of thin-provisioning-tools'
-grep -qF '{PDATA_TOOLS_STOCK-/opt/stock}' "$prefix/libexec/pdata_tools/cache_check" || bad 'it is not there'
+# a program that isn't pdata_tools, and one that takes other words
+PROGRAM=/bin/true try 1 "$here/install"
+notes "install: /bin/true isn't pdata_tools $release: it doesn't run here, or takes other words"
+is_gone
+cat >another <<END
+#!/bin/sh
+case \$* in
+*--ignore-non-fatal-errors*) exit 2 ;;
+esac
+exec $tmp/program "\$@"
+END
+chmod +x another
+PROGRAM=$tmp/another try 1 "$here/install"
+is_gone
+# what names the commands after they are gone, or were others
+mkdir -p lvm-system
+printf 'global {\n    thin_check_executable = "%s/libexec/pdata_tools/thin_check"\n}\n' "$prefix" >lvm-system/lvm.conf
+try 0 "$here/install"
+notes
+try 0 env LVM_SYSTEM_DIR="$tmp/lvm-system" "$here/install" uninstall
+notes 'install: lvm.conf names commands that are gone: LVM now activates without a check. Take these lines out'
+is_gone
+mkdir -p "$tmp/dest/etc/initramfs-tools/hooks" "$tmp/dest/etc/dracut.conf.d"
+: >"$tmp/dest/etc/initramfs-tools/hooks/pdata_tools"
+: >"$tmp/dest/etc/dracut.conf.d/pdata_tools.conf"
+ramdisk='install: the initial RAM disk is to be made anew:'
+try 0 env DESTDIR="$tmp/dest" "$here/install"
+notes
+try 0 env DESTDIR="$tmp/dest" "$here/install"
+notes "$ramdisk update-initramfs -u" "$ramdisk dracut -f"
+try 0 env DESTDIR="$tmp/dest" "$here/install" uninstall
+notes "$ramdisk update-initramfs -u" "$ramdisk dracut -f"
+try 0 "$here/install"
 
 # an upgrade: a file of the earlier version that this one lacks, one of them changed, and commands that only the mark tells
 for name in old changed; do
