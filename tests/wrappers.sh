@@ -722,7 +722,7 @@ try 0 thin_dump fresh.img
     echo end
 } >kept.txt
 same out kept.txt
-# without the details tree the devices have the pool's transaction, and times of 0
+# without the details tree the devices have the pool's transaction, and its time twice
 cp thin-pool.img details.img
 poke details.img 753764 '\377\377'
 try 1 thin_check details.img
@@ -730,7 +730,7 @@ out 'fault meta 184 checksum' 'faults 1'
 try 0 thin_repair -i details.img -o fresh.img
 try 0 thin_check fresh.img
 try 0 thin_dump fresh.img
-sed 's/^\(device [0-9]* [0-9]*\) .*$/\1 5 0 0/' thin-pool.txt >kept.txt
+sed 's/^\(device [0-9]* [0-9]*\) .*$/\1 5 4 4/' thin-pool.txt >kept.txt
 same out kept.txt
 cp fresh.img before.img
 cp thin-pool.img lost.img
