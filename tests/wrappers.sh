@@ -88,6 +88,7 @@ done
 
 # The map of the crates
 try 0 "$here/tests/architecture.sh"
+try 0 "$here/tests/trusted_base.sh"
 out
 notes
 
