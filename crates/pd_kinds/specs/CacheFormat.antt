@@ -1,9 +1,6 @@
 -- Trusted base.
 -- A cache's metadata, versions 1 and 2 (struct cache_disk_superblock of "drivers/md/dm-cache-metadata.c"):
--- the superblock's fields and rules, and the roles. These are 0 superblock, 1 tree of the mapping array,
--- 2 its blocks, 3 tree of the hint array, 4 its blocks, 5 tree of the discard bitset, 6 its blocks,
--- 7 index block of the metadata bitmaps, 8 metadata bitmap, 9 metadata overflow tree, and in version 2
--- 10 tree of the dirty bitset, 11 its blocks.
+-- the superblock's fields and rules, and what a block is in each role.
 use Rattle.std.specs.Prelude.{ℕ, Bool, ◌==◌, ◌&&◌, ◌||◌, not, if◌then◌else◌, List, [], ◌∷◌, ◌++◌, slice_index}
 use Rattle.pd_kinds.specs.declared.kind.Kind.TheVariants.{Cache}
 use Rattle.pd_kinds.specs.declared.cache_super.CacheSuper.{CacheSuper}
@@ -12,6 +9,7 @@ use Rattle.pd_kinds.specs.declared.rule.Rule.TheVariants as r
 use Rattle.pd_kinds.specs.Field.{Row, bytes_at, le, put_bytes, rows_at, written, zeros}
 use Rattle.pd_kinds.specs.RuleSet.{Test}
 use Rattle.pd_kinds.specs.Super.{super_block, super_rules}
+use Rattle.pd_kinds.specs.CacheRoles as cache_role
 use Rattle.pd_kinds.specs.SpaceMap.{map_table, map_numbers}
 use Rattle.pd_kinds.specs.Edge.{Edge, optional_edge, has_edge_outside}
 use Rattle.pd_kinds.specs.Limits.{is_meta_size_bad}
@@ -78,16 +76,16 @@ cache_numbers f =
 
 -- the root of the dirty bitset, where there is one
 abbrev pub dirty_edges : CacheFields → List Edge
-dirty_edges fields = if has_dirty_bits fields.version then record { role = 10; block = fields.dirty_root } ∷ [] else []
+dirty_edges fields = if has_dirty_bits fields.version then record { role = cache_role.dirty_node; block = fields.dirty_root } ∷ [] else []
 
 -- the blocks that a cache superblock names, with their roles
 abbrev pub cache_super_edges : CacheFields → List Edge
 cache_super_edges fields =
-    record { role = 1; block = fields.mapping_root }
-    ∷ (optional_edge 3 fields.hint_root
-    ++ (optional_edge 5 fields.discard_root
-    ++ (record { role = 7; block = fields.meta_map.bitmap_root }
-    ∷ record { role = 9; block = fields.meta_map.overflow_root }
+    record { role = cache_role.mapping_node; block = fields.mapping_root }
+    ∷ (optional_edge cache_role.hint_node fields.hint_root
+    ++ (optional_edge cache_role.discard_node fields.discard_root
+    ++ (record { role = cache_role.meta_index; block = fields.meta_map.bitmap_root }
+    ∷ record { role = cache_role.meta_overflow; block = fields.meta_map.overflow_root }
     ∷ dirty_edges fields)))
 
 -- whether a cache's sizes are out of range: those of the metadata, or a hint size that is neither 0 nor 4
@@ -126,19 +124,19 @@ unfoldable pub cache_layout : ℕ → ℕ → Layout
 cache_layout nr role =
     layouts role (
     copy (λ place block. cache_super_bad nr block) (λ block. cache_super_edges (cache_fields block))
-    ∷ tree_to 8 2 (λ v. v)
+    ∷ tree_to 8 cache_role.mapping_block (λ v. v)
     ∷ array 8
-    ∷ tree_to 8 4 (λ v. v)
+    ∷ tree_to 8 cache_role.hint_block (λ v. v)
     ∷ array 4
-    ∷ tree_to 8 6 (λ v. v)
+    ∷ tree_to 8 cache_role.discard_block (λ v. v)
     ∷ array 8
-    ∷ index 8
+    ∷ index cache_role.meta_bitmap
     ∷ bitmap
     ∷ plain_tree 4
-    ∷ tree_to 8 11 (λ v. v)
+    ∷ tree_to 8 cache_role.dirty_block (λ v. v)
     ∷ array 8
     ∷ [])
 
 -- a cache's format, by its superblock
 unfoldable pub cache_graph : List ℕ → Graph
-cache_graph super = graph_of 12 (cache_fields super).meta_map.blocks 0 (cache_layout (cache_fields super).meta_map.blocks)
+cache_graph super = graph_of cache_role.roles (cache_fields super).meta_map.blocks 0 (cache_layout (cache_fields super).meta_map.blocks)

@@ -1,8 +1,6 @@
 -- Trusted base.
 -- An era target's metadata, version 1 (struct superblock_disk of "drivers/md/dm-era-target.c"): the
--- superblock's fields and rules, and the roles. These are 0 superblock, 1 metadata snapshot, 2 tree of
--- the archived writesets, by era, 3 tree of a writeset's bits, 4 its blocks, 5 tree of the era array,
--- 6 its blocks, 7 index block of the metadata bitmaps, 8 metadata bitmap, 9 metadata overflow tree.
+-- superblock's fields and rules, and what a block is in each role.
 use Rattle.std.specs.Prelude.{ℕ, ◌/◌, ◌%◌, ◌^◌, Bool, ◌==◌, ◌&&◌, not, nat_lt, List, [], ◌∷◌, ◌++◌}
 use Rattle.pd_kinds.specs.declared.kind.Kind.TheVariants.{Era}
 use Rattle.pd_kinds.specs.declared.era_super.EraSuper.{EraSuper}
@@ -11,6 +9,7 @@ use Rattle.pd_kinds.specs.declared.rule.Rule.TheVariants as r
 use Rattle.pd_kinds.specs.Field.{Row, bytes_at, le, rows_at, written, zeros}
 use Rattle.pd_kinds.specs.RuleSet.{Test}
 use Rattle.pd_kinds.specs.Super.{super_block, super_rules}
+use Rattle.pd_kinds.specs.EraRoles as era_role
 use Rattle.pd_kinds.specs.SpaceMap.{map_table, map_numbers}
 use Rattle.pd_kinds.specs.Edge.{Edge, optional_edge, has_edge_outside}
 use Rattle.pd_kinds.specs.Limits.{is_meta_size_bad}
@@ -54,19 +53,19 @@ era_numbers f =
 -- the blocks that an era superblock names, with their roles
 abbrev pub era_super_edges : EraFields → List Edge
 era_super_edges fields =
-    optional_edge 1 fields.snap_root
-    ++ (record { role = 2; block = fields.writesets_root }
-    ∷ (optional_edge 3 fields.current_root
-    ++ (record { role = 5; block = fields.array_root }
-    ∷ record { role = 7; block = fields.meta_map.bitmap_root }
-    ∷ record { role = 9; block = fields.meta_map.overflow_root }
+    optional_edge era_role.snapshot fields.snap_root
+    ++ (record { role = era_role.writesets; block = fields.writesets_root }
+    ∷ (optional_edge era_role.bit_node fields.current_root
+    ++ (record { role = era_role.era_node; block = fields.array_root }
+    ∷ record { role = era_role.meta_index; block = fields.meta_map.bitmap_root }
+    ∷ record { role = era_role.meta_overflow; block = fields.meta_map.overflow_root }
     ∷ [])))
 
 -- of a metadata snapshot only the archived writesets and the era array count
 abbrev pub era_snap_edges : EraFields → List Edge
 era_snap_edges fields =
-    record { role = 2; block = fields.writesets_root }
-    ∷ record { role = 5; block = fields.array_root }
+    record { role = era_role.writesets; block = fields.writesets_root }
+    ∷ record { role = era_role.era_node; block = fields.array_root }
     ∷ []
 
 abbrev pub snap_edges : List ℕ → List Edge
@@ -119,7 +118,7 @@ writeset_root value = value / 2 ^ 32
 abbrev pub writesets_tree : Layout
 writesets_tree = tree (record {
   size = 12;
-  leaf_edges = λ e. record { role = 3; block = writeset_root e.value } ∷ [];
+  leaf_edges = λ e. record { role = era_role.bit_node; block = writeset_root e.value } ∷ [];
   leaf_data = λ e. [];
   is_beyond = λ e. not (nat_lt e.key (2 ^ 32));
 })
@@ -131,15 +130,15 @@ era_layout nr role =
     copy (λ place block. era_super_bad nr block) (λ block. era_super_edges (era_fields block))
     ∷ copy (era_snap_bad nr) snap_edges
     ∷ writesets_tree
-    ∷ tree_to 8 4 (λ v. v)
+    ∷ tree_to 8 era_role.bit_block (λ v. v)
     ∷ array 8
-    ∷ tree_to 8 6 (λ v. v)
+    ∷ tree_to 8 era_role.era_block (λ v. v)
     ∷ array 4
-    ∷ index 8
+    ∷ index era_role.meta_bitmap
     ∷ bitmap
     ∷ plain_tree 4
     ∷ [])
 
 -- an era target's format, by its superblock
 unfoldable pub era_graph : List ℕ → Graph
-era_graph super = graph_of 10 (era_fields super).meta_map.blocks 0 (era_layout (era_fields super).meta_map.blocks)
+era_graph super = graph_of era_role.roles (era_fields super).meta_map.blocks 0 (era_layout (era_fields super).meta_map.blocks)

@@ -13,6 +13,9 @@ pub mod Edge
 pub mod Edges
 pub mod SpaceMap
 pub mod Limits
+pub mod ThinRoles
+pub mod CacheRoles
+pub mod EraRoles
 pub mod ThinSuper
 pub mod Faults
 pub mod Value

@@ -4,6 +4,8 @@ use Rattle.std.specs.Prelude.{ℕ, ◌/◌, ◌%◌, ◌^◌, max, Bool, ◌==�
 use Rattle.std.specs.List.{range_with_len}
 use Rattle.std.specs.Option.{unwrap_or}
 use Rattle.std.specs.Int.{bit_at}
+use Rattle.pd_kinds.specs.CacheRoles as cache_role
+use Rattle.pd_kinds.specs.EraRoles as era_role
 use Rattle.pd_kinds.specs.Node.{Entry}
 use Rattle.pd_kinds.specs.Graph.{Graph, block_at}
 use Rattle.pd_kinds.specs.ThinSuper.{thin_fields}
@@ -89,7 +91,7 @@ unfoldable pub cache_hints : Graph → List (List ℕ) → List ℕ
 cache_hints graph image =
     let fields = cache_fields (block_at image 0) in
     if (fields.hint_size == 4) && not (fields.hint_root == 0)
-    then array_words graph image (record { role = 3; root = fields.hint_root; size = 4; lengths = [] })
+    then array_words graph image (record { role = cache_role.hint_node; root = fields.hint_root; size = 4; lengths = [] })
     else []
 
 -- the words of the dirty bits, where there are any
@@ -160,8 +162,8 @@ current_era graph image b =
 unfoldable pub era_of : Graph → List (List ℕ) → ℕ → ℕ
 era_of graph image b =
     let fields = era_fields (block_at image 0) in
-    let word = slice_index (array_words graph image (record { role = 5; root = fields.array_root; size = 4; lengths = [] })) b in
-    let archived = map (archived_era graph image b) (entries_below graph image 12 2 fields.writesets_root) in
+    let word = slice_index (array_words graph image (record { role = era_role.era_node; root = fields.array_root; size = 4; lengths = [] })) b in
+    let archived = map (archived_era graph image b) (entries_below graph image 12 era_role.writesets fields.writesets_root) in
     max (fold max word archived) (current_era graph image b)
 
 -- the meaning of an era target's image

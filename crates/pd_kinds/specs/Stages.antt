@@ -16,6 +16,9 @@ use Rattle.pd_kinds.specs.ThinSuper.{thin_fields, thin_super_bad}
 use Rattle.pd_kinds.specs.ThinFormat.{thin_graph}
 use Rattle.pd_kinds.specs.CacheFormat.{cache_fields, cache_super_bad, cache_graph}
 use Rattle.pd_kinds.specs.EraFormat.{era_fields, era_super_bad, era_graph}
+use Rattle.pd_kinds.specs.ThinRoles as thin_role
+use Rattle.pd_kinds.specs.CacheRoles as cache_role
+use Rattle.pd_kinds.specs.EraRoles as era_role
 use Rattle.pd_kinds.specs.Graph.{Graph, block_at, pair, is_reached, is_inner_pair, meta_count, data_count}
 use Rattle.pd_kinds.specs.Order.{is_deep, is_in_range}
 use Rattle.pd_kinds.specs.Trees.{entries_below, stored_meta_in, stored_data_in}
@@ -40,8 +43,8 @@ thin_checked image =
       super_bad = thin_super_bad;
       graph = graph;
       whole = thin_whole graph image;
-      stored_meta = stored_meta_in image fields.meta_map.bitmap_root (entries_below graph image 4 10 fields.meta_map.overflow_root);
-      stored_data = stored_data_in image (data_index_entries graph image) (entries_below graph image 4 7 fields.data_map.overflow_root);
+      stored_meta = stored_meta_in image fields.meta_map.bitmap_root (entries_below graph image 4 thin_role.meta_overflow fields.meta_map.overflow_root);
+      stored_data = stored_data_in image (data_index_entries graph image) (entries_below graph image 4 thin_role.data_overflow fields.data_map.overflow_root);
     }
 
 unfoldable pub cache_checked : List (List ℕ) → Checked
@@ -52,7 +55,7 @@ cache_checked image =
       super_bad = cache_super_bad;
       graph = graph;
       whole = cache_whole graph image;
-      stored_meta = stored_meta_in image fields.meta_map.bitmap_root (entries_below graph image 4 9 fields.meta_map.overflow_root);
+      stored_meta = stored_meta_in image fields.meta_map.bitmap_root (entries_below graph image 4 cache_role.meta_overflow fields.meta_map.overflow_root);
       stored_data = λ d. None;
     }
 
@@ -64,7 +67,7 @@ era_checked image =
       super_bad = era_super_bad;
       graph = graph;
       whole = era_whole graph image;
-      stored_meta = stored_meta_in image fields.meta_map.bitmap_root (entries_below graph image 4 9 fields.meta_map.overflow_root);
+      stored_meta = stored_meta_in image fields.meta_map.bitmap_root (entries_below graph image 4 era_role.meta_overflow fields.meta_map.overflow_root);
       stored_data = λ d. None;
     }
 

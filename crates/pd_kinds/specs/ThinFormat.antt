@@ -1,8 +1,5 @@
 -- Trusted base.
--- The roles of a thin pool's metadata ("drivers/md/dm-thin-metadata.c"): 0 superblock, 1 held superblock
--- copy, 2 mapping tree, by device, 3 a device's mappings, by virtual block, 4 details, by device,
--- 5 index of the data bitmaps, 6 data bitmap, 7 data overflow tree, 8 index block of the metadata
--- bitmaps, 9 metadata bitmap, 10 metadata overflow tree.
+-- What a block of a thin pool's metadata is in each role ("drivers/md/dm-thin-metadata.c").
 use Rattle.std.specs.Prelude.{ℕ, ◌/◌, ◌%◌, ◌^◌, Bool, ◌==◌, not, nat_lt, List, [], ◌∷◌}
 use Rattle.pd_kinds.specs.declared.kind.Kind.TheVariants.{Thin}
 use Rattle.pd_kinds.specs.declared.rule.Rule.{Rule}
@@ -10,6 +7,7 @@ use Rattle.pd_kinds.specs.declared.rule.Rule.TheVariants as r
 use Rattle.pd_kinds.specs.Field.{le}
 use Rattle.pd_kinds.specs.RuleSet.{Test}
 use Rattle.pd_kinds.specs.Super.{super_rules}
+use Rattle.pd_kinds.specs.ThinRoles as thin_role
 use Rattle.pd_kinds.specs.Edge.{Edge, has_edge_outside}
 use Rattle.pd_kinds.specs.ThinSuper.{ThinFields, thin_fields, thin_super_bad, thin_super_edges}
 use Rattle.pd_kinds.specs.Graph.{Graph}
@@ -18,8 +16,8 @@ use Rattle.pd_kinds.specs.Layout.{Layout, copy, tree, bitmap, index, plain_tree,
 -- of a held superblock copy only the two roots of trees count
 abbrev pub thin_held_edges : ThinFields → List Edge
 thin_held_edges fields =
-    record { role = 2; block = fields.mapping_root }
-    ∷ record { role = 4; block = fields.details_root }
+    record { role = thin_role.devices; block = fields.mapping_root }
+    ∷ record { role = thin_role.details; block = fields.details_root }
     ∷ []
 
 abbrev pub held_edges : List ℕ → List Edge
@@ -58,13 +56,13 @@ thin_layout nr data_blocks role =
     layouts role (
     copy (λ place block. thin_super_bad nr block) (λ block. thin_super_edges (thin_fields block))
     ∷ copy (thin_held_bad nr) held_edges
-    ∷ tree_to 8 3 (λ v. v)
+    ∷ tree_to 8 thin_role.mappings (λ v. v)
     ∷ mappings_tree data_blocks
     ∷ plain_tree 24
-    ∷ tree_to 16 6 (λ v. v % 2 ^ 64)
+    ∷ tree_to 16 thin_role.data_bitmap (λ v. v % 2 ^ 64)
     ∷ bitmap
     ∷ plain_tree 4
-    ∷ index 9
+    ∷ index thin_role.meta_bitmap
     ∷ bitmap
     ∷ plain_tree 4
     ∷ [])
@@ -72,5 +70,5 @@ thin_layout nr data_blocks role =
 -- a pool's format, by its superblock
 unfoldable pub thin_graph : List ℕ → Graph
 thin_graph super =
-    graph_of 11 (thin_fields super).meta_map.blocks (thin_fields super).data_map.blocks
+    graph_of thin_role.roles (thin_fields super).meta_map.blocks (thin_fields super).data_map.blocks
     (thin_layout (thin_fields super).meta_map.blocks (thin_fields super).data_map.blocks)

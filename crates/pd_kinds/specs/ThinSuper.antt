@@ -4,6 +4,7 @@
 -- struct disk_sm_root of "drivers/md/persistent-data/dm-space-map-common.h".
 use Rattle.std.specs.Prelude.{ℕ, Bool, ◌==◌, ◌&&◌, ◌||◌, not, nat_lt, List, [], ◌∷◌, ◌++◌}
 use Rattle.pd_kinds.specs.Edge.{Edge, optional_edge, has_edge_outside}
+use Rattle.pd_kinds.specs.ThinRoles as thin_role
 use Rattle.pd_kinds.specs.SpaceMap.{map_table, map_numbers}
 use Rattle.pd_kinds.specs.declared.kind.Kind.TheVariants.{Thin}
 use Rattle.pd_kinds.specs.declared.thin_super.ThinSuper.{ThinSuper}
@@ -52,18 +53,16 @@ thin_numbers f =
     ++ (f.mapping_root ∷ f.details_root ∷ f.block_size ∷ f.meta_block_size ∷ f.meta_blocks
     ∷ f.compat ∷ f.compat_ro ∷ f.incompat ∷ [])))
 
--- the blocks that a thin superblock names, with their roles: 1 held superblock, 2 mapping tree,
--- 4 details tree, 5 data index tree, 7 data overflow tree, 8 metadata index block, 10 metadata
--- overflow tree
+-- the blocks that a thin superblock names, with their roles
 abbrev pub thin_super_edges : ThinFields → List Edge
 thin_super_edges fields =
-    optional_edge 1 fields.held_root
-    ++ (record { role = 2; block = fields.mapping_root }
-    ∷ record { role = 4; block = fields.details_root }
-    ∷ record { role = 5; block = fields.data_map.bitmap_root }
-    ∷ record { role = 7; block = fields.data_map.overflow_root }
-    ∷ record { role = 8; block = fields.meta_map.bitmap_root }
-    ∷ record { role = 10; block = fields.meta_map.overflow_root }
+    optional_edge thin_role.held fields.held_root
+    ++ (record { role = thin_role.devices; block = fields.mapping_root }
+    ∷ record { role = thin_role.details; block = fields.details_root }
+    ∷ record { role = thin_role.data_index; block = fields.data_map.bitmap_root }
+    ∷ record { role = thin_role.data_overflow; block = fields.data_map.overflow_root }
+    ∷ record { role = thin_role.meta_index; block = fields.meta_map.bitmap_root }
+    ∷ record { role = thin_role.meta_overflow; block = fields.meta_map.overflow_root }
     ∷ [])
 
 -- whether a thin pool's sizes are out of range: those of the metadata, or more than 2 ^ 40 data blocks

@@ -9,6 +9,9 @@ use Rattle.pd_kinds.specs.Rule.{same_rule}
 use Rattle.pd_kinds.specs.Node.{Entry}
 use Rattle.pd_kinds.specs.Array.{word_count, max_words}
 use Rattle.pd_kinds.specs.Bitmap.{bitmaps_for}
+use Rattle.pd_kinds.specs.ThinRoles as thin_role
+use Rattle.pd_kinds.specs.CacheRoles as cache_role
+use Rattle.pd_kinds.specs.EraRoles as era_role
 use Rattle.pd_kinds.specs.Graph.{Graph, block_at, block_of, role_of, nodes, meta_count}
 use Rattle.pd_kinds.specs.Layout.{leaf_entries}
 use Rattle.pd_kinds.specs.Trees.{entries_below, keys_of, words_of}
@@ -54,16 +57,16 @@ thin_roots image =
 
 -- the entries of a pool's trees
 abbrev pub top_entries : Graph → List (List ℕ) → ℕ → List Entry
-top_entries graph image root = entries_below graph image 8 2 root
+top_entries graph image root = entries_below graph image 8 thin_role.devices root
 
 abbrev pub mapping_entries : Graph → List (List ℕ) → ℕ → List Entry
-mapping_entries graph image root = entries_below graph image 8 3 root
+mapping_entries graph image root = entries_below graph image 8 thin_role.mappings root
 
 abbrev pub details_entries : Graph → List (List ℕ) → ℕ → List Entry
-details_entries graph image root = entries_below graph image 24 4 root
+details_entries graph image root = entries_below graph image 24 thin_role.details root
 
 abbrev pub data_index_entries : Graph → List (List ℕ) → List Entry
-data_index_entries graph image = entries_below graph image 16 5 (thin_fields (block_at image 0)).data_map.bitmap_root
+data_index_entries graph image = entries_below graph image 16 thin_role.data_index (thin_fields (block_at image 0)).data_map.bitmap_root
 
 -- the number of mapped blocks in a device's details
 abbrev pub mapped_number : ℕ → ℕ
@@ -97,7 +100,7 @@ thin_whole graph image =
       rule = r.Index;
       fails = is_not_counting (keys_of (data_index_entries graph image)) (bitmaps_for graph.data_blocks);
     }
-    ∷ (bitmap_tests graph image (λ role. (role == 6) || (role == 9))
+    ∷ (bitmap_tests graph image (λ role. (role == thin_role.data_bitmap) || (role == thin_role.meta_bitmap))
     ++ (map (device_test graph image) (thin_roots image)
     ++ flat_map (mapped_tests graph image) (thin_roots image)))
 
@@ -144,7 +147,7 @@ optional_array role root size lengths =
 -- the arrays of a cache
 abbrev pub mapping_array : List (List ℕ) → Array
 mapping_array image = record {
-  role = 1;
+  role = cache_role.mapping_node;
   root = (cache_fields (block_at image 0)).mapping_root;
   size = 8;
   lengths = (cache_fields (block_at image 0)).blocks ∷ [];
@@ -153,7 +156,7 @@ mapping_array image = record {
 -- its dirty bits, 64 in a word, which version 2 has
 abbrev pub dirty_array : List (List ℕ) → Array
 dirty_array image = record {
-  role = 10;
+  role = cache_role.dirty_node;
   root = (cache_fields (block_at image 0)).dirty_root;
   size = 8;
   lengths = ((cache_fields (block_at image 0)).blocks + 63) / 64 ∷ [];
@@ -163,8 +166,8 @@ unfoldable pub cache_arrays : List (List ℕ) → List Array
 cache_arrays image =
     let fields = cache_fields (block_at image 0) in
     mapping_array image
-    ∷ (optional_array 3 fields.hint_root 4 []
-    ++ (optional_array 5 fields.discard_root 8 []
+    ∷ (optional_array cache_role.hint_node fields.hint_root 4 []
+    ++ (optional_array cache_role.discard_node fields.discard_root 8 []
     ++ (if has_dirty_bits fields.version then dirty_array image ∷ [] else [])))
 
 -- a word of the mapping array: bit 0 says that it is valid, in version 1 bit 1 that it is dirty, the origin is above
@@ -190,30 +193,30 @@ cache_whole graph image =
       rule = r.Origin;
       fails = has_repeat (map origin_of_word (filter is_valid_word (array_words graph image (mapping_array image))));
     }
-    ∷ (bitmap_tests graph image (λ role. role == 8)
+    ∷ (bitmap_tests graph image (λ role. role == cache_role.meta_bitmap)
     ++ flat_map (array_whole graph image) (cache_arrays image))
 
 -- the entries of all reached leaves of archived writesets, those of a snapshot too
 unfoldable pub reached_writesets : Graph → List (List ℕ) → List Entry
 reached_writesets graph image =
-    flat_map (λ p. leaf_entries 12 (block_at image (block_of p))) (filter (λ p. role_of p == 2) (nodes graph image))
+    flat_map (λ p. leaf_entries 12 (block_at image (block_of p))) (filter (λ p. role_of p == era_role.writesets) (nodes graph image))
 
 -- a writeset's bits are an array of words of 64 bits
 abbrev pub writeset_array : ℕ → ℕ → Array
-writeset_array bits root = record { role = 3; root = root; size = 8; lengths = (bits + 63) / 64 ∷ [] }
+writeset_array bits root = record { role = era_role.bit_node; root = root; size = 8; lengths = (bits + 63) / 64 ∷ [] }
 
 -- the arrays of an era target: the era array, that of the snapshot, and the bits of the writesets
 unfoldable pub era_arrays : Graph → List (List ℕ) → List Array
 era_arrays graph image =
     let fields = era_fields (block_at image 0) in
-    record { role = 5; root = fields.array_root; size = 4; lengths = fields.blocks ∷ [] }
+    record { role = era_role.era_node; root = fields.array_root; size = 4; lengths = fields.blocks ∷ [] }
     ∷ ((if fields.snap_root == 0
     then []
-    else record { role = 5; root = (era_fields (block_at image fields.snap_root)).array_root; size = 4; lengths = [] } ∷ [])
+    else record { role = era_role.era_node; root = (era_fields (block_at image fields.snap_root)).array_root; size = 4; lengths = [] } ∷ [])
     ++ ((if fields.current_root == 0 then [] else writeset_array fields.current_bits fields.current_root ∷ [])
     ++ map (λ (e : Entry). writeset_array (writeset_bits e.value) (writeset_root e.value)) (reached_writesets graph image)))
 
 -- the rules of an era target's whole image
 unfoldable pub era_whole : Graph → List (List ℕ) → List WholeTest
 era_whole graph image =
-    bitmap_tests graph image (λ role. role == 8) ++ flat_map (array_whole graph image) (era_arrays graph image)
+    bitmap_tests graph image (λ role. role == era_role.meta_bitmap) ++ flat_map (array_whole graph image) (era_arrays graph image)

@@ -1,5 +1,7 @@
-//! What tests of the tools share: images of thin pools, and runs of the tools over objects in memory.
+//! What tests of the tools share: images of thin pools, runs of the tools over objects in memory, and what they must come to.
 #![tactic(auto)]
 
+pub mod devices;
+pub mod expected;
 pub mod pool;
 pub mod runs;

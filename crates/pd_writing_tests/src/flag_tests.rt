@@ -1,14 +1,13 @@
-//! Checks that clear the flag "needs check" in the superblock of a pool or a cache.
+//! Checks that clear the flag "needs check" in the superblock of a pool.
 
-use crate::cache_tests::TWO_MAPPED;
-use crate::expected::{FIRST, PICKS, Trouble, expect_held, made};
 use pd_bitmap::{new_bitmap, seal_bitmap, set_two_bits};
 use pd_crc::any_valid;
 use pd_image::Pick;
 use pd_kinds::Block;
+use pd_samples::expected::{PICKS, Trouble, expect_held};
 use pd_samples::pool::{damaged, pool_of_one_mapping};
 use pd_samples::runs::{Failing, NOTHING_FAILS, Ran, blocks_after_crash, run};
-use pd_supers::{read_cache_super, read_thin_super, write_cache_super, write_thin_super};
+use pd_supers::{read_thin_super, write_thin_super};
 use std::alloc::{AllocError, Global};
 use std::process::Abort;
 use std::test::Fail;
@@ -55,11 +54,6 @@ const CLEAR_AND_PASS: &[&str] = &[
 
 const PASS: &[&str] = &["thin_check", "--ignore-non-fatal-errors", "x"];
 
-/// The words of checks of a cache.
-const CLEAR_CACHE: &[&str] = &["cache_check", "--clear-needs-check-flag", "x"];
-
-const KEEP_CACHE: &[&str] = &["cache_check", "x"];
-
 /// A report of the damaged leaf.
 const DAMAGED: &str = "fault meta 1 checksum\nfaults 1\n";
 
@@ -94,12 +88,12 @@ fn flagged(flags: u32, broken: bool) -> [Block; 16] {
 }
 
 /// Checks a pool as a row says, which must come to what the row says.
-fn expect_row(rt: &impl Abort, alloc: Global, row: Row) -> Result<(), AllocError> {
+fn expect_row(rt: &impl Abort, alloc: Global, row: Row) -> Result<(), Fail> {
     let (words, flags, broken, status, out, left) = row;
     let ran = run(alloc, words, &flagged(flags, broken), NOTHING_FAILS)?;
     assert!(rt; ran.status == status, "{out}");
     assert!(rt; ran.out.bytes() == out.as_bytes(), "{out}");
-    expect_held(rt, alloc, &ran.input, &flagged(left, broken), out)
+    expect_held(alloc, &ran.input, &flagged(left, broken), out)
 }
 
 #[test]
@@ -129,63 +123,19 @@ fn the_flag_of_a_leaking_pool_is_cleared_where_leaks_pass(rt: HostRuntime) -> Re
     let report = "fault data 0 leak stored 2 references 1\nfaults 1\n";
     let ran = run(alloc, CLEAR, &leaking(1), NOTHING_FAILS)?;
     assert!(rt; ran.status == 1);
-    expect_held(&rt, alloc, &ran.input, &leaking(1), "a leak")?;
+    expect_held(alloc, &ran.input, &leaking(1), "a leak")?;
     let ran = run(alloc, CLEAR_AND_PASS, &leaking(1), NOTHING_FAILS)?;
     assert!(rt; ran.status == 0);
     assert!(rt; ran.out.bytes() == report.as_bytes());
-    expect_held(&rt, alloc, &ran.input, &leaking(0), "it passes")?;
-    Ok(())
-}
-
-/// The words of a check of a cache, its flags, and those that the check leaves.
-const CACHE_FLAGS: &[(&[&str], u32, u32)] = &[
-    (CLEAR_CACHE, 2, 0),
-    (CLEAR_CACHE, 3, 1),
-    (CLEAR_CACHE, 1, 1),
-    (CLEAR_CACHE, u32::MAX, u32::MAX - 2),
-    (KEEP_CACHE, 3, 3),
-];
-
-/// A cache of version 1, which has no bitset of dirty blocks, with these flags in its superblock.
-fn flagged_cache(rt: &impl Abort, alloc: Global, flags: u32) -> Result<Vec<Block>, AllocError> {
-    let mut image = made(rt, alloc, FIRST, TWO_MAPPED, 16)?;
-    let mut fields = read_cache_super(&image[0]);
-    fields.flags = flags;
-    fields.dirty_root = 0;
-    image[0] = write_cache_super(&fields);
-    Ok(image)
-}
-
-/// Checks a cache with these flags by these words, which must leave those.
-fn expect_cache(
-    rt: &impl Abort,
-    alloc: Global,
-    words: &[&str],
-    flags: u32,
-    left: u32,
-) -> Result<(), AllocError> {
-    let image = flagged_cache(rt, alloc, flags)?;
-    let ran = run(alloc, words, image.as_slice(), NOTHING_FAILS)?;
-    assert!(rt; ran.status == 0);
-    assert!(rt; ran.out.bytes() == "clean\n".as_bytes());
-    let kept = flagged_cache(rt, alloc, left)?;
-    expect_held(rt, alloc, &ran.input, kept.as_slice(), "a cache")
-}
-
-// Bit 0 says that a cache was shut down, and stays.
-#[test]
-fn of_a_cache_bit_1_of_the_flags_is_cleared(rt: HostRuntime) -> Result<(), Fail> {
-    for (words, flags, left) in CACHE_FLAGS {
-        expect_cache(&rt, rt.alloc(), words, *flags, *left)?;
-    }
+    expect_held(alloc, &ran.input, &leaking(0), "it passes")?;
     Ok(())
 }
 
 /// Checks a pool with this call of `out` failing, which leaves the flag.
-fn expect_kept(rt: &impl Abort, alloc: Global, call: u64) -> Result<(), AllocError> {
+fn expect_kept(rt: &impl Abort, alloc: Global, call: u64) -> Result<(), Fail> {
     let ran = run(alloc, CLEAR, &flagged(1, false), Trouble::Out.at(call))?;
     assert!(rt; ran.status == 6, "{call}");
-    expect_held(rt, alloc, &ran.input, &flagged(1, false), "the flag")
+    expect_held(alloc, &ran.input, &flagged(1, false), "the flag")
 }
 
 // The calls of `out` are 0 for attaching, and one for each piece.
@@ -213,13 +163,13 @@ fn is_outcome(alloc: Global, ran: &Ran, pick: Pick) -> Result<bool, AllocError> 
 
 /// Runs a clearing check with these failures, whose crashes must leave what they may: whether the device failed after
 /// the report was put.
-fn fails_late(rt: &impl Abort, alloc: Global, failing: Failing) -> Result<bool, AllocError> {
+fn fails_late(rt: &impl Abort, alloc: Global, failing: Failing) -> Result<bool, Fail> {
     let ran = run(alloc, CLEAR, &flagged(1, false), failing)?;
     for pick in PICKS {
         assert!(rt; is_outcome(alloc, &ran, *pick)?);
     }
     if ran.status == 0 {
-        expect_held(rt, alloc, &ran.input, &flagged(0, false), "no flag")?;
+        expect_held(alloc, &ran.input, &flagged(0, false), "no flag")?;
         return Ok(false);
     }
     assert!(rt; ran.status == 5);
@@ -229,7 +179,7 @@ fn fails_late(rt: &impl Abort, alloc: Global, failing: Failing) -> Result<bool, 
 
 /// How often the device fails after the report was put, of a check in which this call of it fails, and one before
 /// which it stops.
-fn late_failures(rt: &impl Abort, alloc: Global, call: u64) -> Result<u32, AllocError> {
+fn late_failures(rt: &impl Abort, alloc: Global, call: u64) -> Result<u32, Fail> {
     let failed = fails_late(rt, alloc, Trouble::Input.at(call))?;
     let stopped = fails_late(rt, alloc, Trouble::InputStops.at(call))?;
     Ok(failed as u32 + stopped as u32)

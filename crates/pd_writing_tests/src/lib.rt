@@ -1,20 +1,7 @@
-//! Tests of whole runs, over objects in memory, that write a pool, and of all tools of caches and of era targets: restores,
-//! repairs, searches for the roots of pools whose superblock is lost, shrinks, checks that clear the flag "needs check", and
-//! checks, dumps, queries and writebacks of caches and of targets.
+//! Tests of whole runs, over objects in memory, that write a pool: restores, repairs, searches for the roots of pools whose
+//! superblock is lost, shrinks, and checks that clear the flag "needs check".
 #![tactic(auto)]
 
-#[cfg(test)]
-mod cache_restore_tests;
-#[cfg(test)]
-mod cache_tests;
-#[cfg(test)]
-mod devices;
-#[cfg(test)]
-mod era_restore_tests;
-#[cfg(test)]
-mod era_tests;
-#[cfg(test)]
-mod expected;
 #[cfg(test)]
 mod flag_tests;
 #[cfg(test)]
@@ -31,7 +18,3 @@ mod shared_pool;
 mod shared_restore_tests;
 #[cfg(test)]
 mod shrink_tests;
-#[cfg(test)]
-mod targets;
-#[cfg(test)]
-mod writeback_tests;

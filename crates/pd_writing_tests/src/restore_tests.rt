@@ -1,12 +1,12 @@
 //! Whole runs of `thin_restore` over objects in memory: what is restored, what is refused, and what the output holds then.
 
-use crate::expected::End::{Done, NoRoom, Refused};
-use crate::expected::Left::{Closed, Old, Written};
-use crate::expected::{
+use pd_kinds::Block;
+use pd_samples::expected::End::{Done, NoRoom, Refused};
+use pd_samples::expected::Left::{Closed, Old, Written};
+use pd_samples::expected::{
     Left, ONE_MAPPING, ONES, PICKS, Row, THIN, Trouble, expect, expect_output_faults,
     expect_restored, expect_said, left_by, left_by_source_fault, left_of, made, made_over, restore,
 };
-use pd_kinds::Block;
 use pd_samples::pool::{bitmap, empty_pool, pool_of_one_mapping};
 use pd_samples::runs::{self, NOTHING_FAILS, blocks_of, restored};
 use std::alloc::{AllocError, Global};
@@ -77,7 +77,7 @@ const ROWS: &[Row] = &[
 #[test]
 fn restores_come_to_their_status(rt: HostRuntime) -> Result<(), Fail> {
     for row in ROWS {
-        expect_restored(&rt, rt.alloc(), row)?;
+        expect_restored(rt.alloc(), row)?;
     }
     Ok(())
 }
@@ -93,15 +93,14 @@ fn restored_pools_are_those_put_together_by_hand(rt: HostRuntime) -> Result<(), 
 
 /// Restores a text to so many blocks of ones, and runs a tool over them, which has status 0 and writes this.
 fn expect_written(
-    rt: &impl Abort,
     alloc: Global,
     tool: &str,
     text: &str,
     blocks: usize,
     written: &str,
-) -> Result<(), AllocError> {
-    let image = made(rt, alloc, THIN, text, blocks)?;
-    expect(rt, alloc, &[tool, "image"], image.as_slice(), 0, written)
+) -> Result<(), Fail> {
+    let image = made(alloc, THIN, text, blocks)?;
+    expect(alloc, &[tool, "image"], image.as_slice(), 0, written)
 }
 
 /// Texts, with the blocks of a device that has room for them.
@@ -116,14 +115,14 @@ const TEXTS: &[(&str, usize)] = &[
 #[test]
 fn restored_pools_are_clean(rt: HostRuntime) -> Result<(), Fail> {
     for (text, blocks) in TEXTS {
-        expect_written(&rt, rt.alloc(), "thin_check", text, *blocks, "clean\n")?;
+        expect_written(rt.alloc(), "thin_check", text, *blocks, "clean\n")?;
     }
     Ok(())
 }
 
 #[test]
 fn a_restore_writes_the_blocks_that_it_needs_and_no_others(rt: HostRuntime) -> Result<(), Fail> {
-    let image = made(&rt, rt.alloc(), THIN, WIDE, 8192)?;
+    let image = made(rt.alloc(), THIN, WIDE, 8192)?;
     assert!(rt; image[6173] != ONES);
     for b in 6174..8192 {
         assert!(rt; image[b] == ONES, "{b}");
@@ -152,7 +151,7 @@ const DUMPS: &[(&str, &str)] = &[
 #[test]
 fn restored_pools_are_dumped_with_their_runs_joined(rt: HostRuntime) -> Result<(), Fail> {
     for (text, dump) in DUMPS {
-        expect_written(&rt, rt.alloc(), "thin_dump", text, 16, dump)?;
+        expect_written(rt.alloc(), "thin_dump", text, 16, dump)?;
     }
     Ok(())
 }
@@ -162,7 +161,7 @@ fn restored_pools_are_dumped_with_their_runs_joined(rt: HostRuntime) -> Result<(
 #[test]
 fn a_source_that_fails_is_blamed(rt: HostRuntime) -> Result<(), Fail> {
     for call in 0..14 {
-        let left = left_by_source_fault(&rt, rt.alloc(), THIN, ONE_MAPPING, call)?;
+        let left = left_by_source_fault(rt.alloc(), THIN, ONE_MAPPING, call)?;
         let wanted = if call < 10 { Left::Old } else { Left::Closed };
         assert!(rt; left == wanted, "{call}");
     }
@@ -170,16 +169,11 @@ fn a_source_that_fails_is_blamed(rt: HostRuntime) -> Result<(), Fail> {
 }
 
 /// Restores the front of a text onto these blocks, which is refused at its last line.
-fn expect_no_end(
-    rt: &impl Abort,
-    alloc: Global,
-    front: &[u8],
-    base: &[Block],
-) -> Result<(), AllocError> {
+fn expect_no_end(alloc: Global, front: &[u8], base: &[Block]) -> Result<(), Fail> {
     let line = 1 + front.iter().filter(|b| **b == b'\n').count();
     let notes = format!(in alloc; "pdata_tools: line {line}: no end\n")?;
     let refused = runs::restore(alloc, front, base, NOTHING_FAILS)?;
-    expect_said(rt, &refused, 3, "", notes.as_str());
+    expect_said(&refused, 3, "", notes.as_str())?;
     Ok(())
 }
 
@@ -188,7 +182,7 @@ fn a_text_that_ends_early_has_no_end(rt: HostRuntime) -> Result<(), Fail> {
     let text = ONE_MAPPING.as_bytes();
     let base = [ONES; 16];
     for end in 0..text.len() {
-        expect_no_end(&rt, rt.alloc(), &text[..end], &base)?;
+        expect_no_end(rt.alloc(), &text[..end], &base)?;
     }
     Ok(())
 }
@@ -198,9 +192,9 @@ fn leaves_are_written_as_their_lines_come(rt: HostRuntime) -> Result<(), Fail> {
     let alloc = rt.alloc();
     let base = [ONES; 16];
     let refused = restore(alloc, THIN, NO_WORD, &base, NOTHING_FAILS)?;
-    expect_said(&rt, &refused, 3, "", "pdata_tools: line 5: word\n");
+    expect_said(&refused, 3, "", "pdata_tools: line 5: word\n")?;
     let found = blocks_of(alloc, &refused.output)?;
-    let whole = made(&rt, alloc, THIN, ONE_MAPPING, 16)?;
+    let whole = made(alloc, THIN, ONE_MAPPING, 16)?;
     assert!(rt; left_of(found.as_slice(), &base, whole.as_slice()) == Left::Closed);
     assert!(rt; found.get(1) == whole.get(1));
     Ok(())
@@ -242,8 +236,8 @@ fn expect_stopped(
 
 #[test]
 fn a_stop_leaves_the_old_pool_none_or_the_new_one(rt: HostRuntime) -> Result<(), Fail> {
-    let old = made(&rt, rt.alloc(), THIN, EMPTY, 16)?;
-    let new = made_over(&rt, rt.alloc(), THIN, ONE_MAPPING, old.as_slice())?;
+    let old = made(rt.alloc(), THIN, EMPTY, 16)?;
+    let new = made_over(rt.alloc(), THIN, ONE_MAPPING, old.as_slice())?;
     for calls in 0..17 {
         expect_stopped(&rt, rt.alloc(), calls, old.as_slice(), new.as_slice())?;
     }
@@ -252,7 +246,7 @@ fn a_stop_leaves_the_old_pool_none_or_the_new_one(rt: HostRuntime) -> Result<(),
 
 #[test]
 fn a_failed_call_leaves_the_old_pool_none_or_the_new_one(rt: HostRuntime) -> Result<(), Fail> {
-    expect_output_faults(&rt, rt.alloc(), (THIN, EMPTY), (THIN, ONE_MAPPING), 15)?;
+    expect_output_faults(rt.alloc(), (THIN, EMPTY), (THIN, ONE_MAPPING), 15)?;
     Ok(())
 }
 
@@ -270,18 +264,11 @@ fn leaks(alloc: Global, total: u64) -> Result<String, Fail> {
 fn a_thousand_and_one_leaks_are_counted(rt: HostRuntime) -> Result<(), Fail> {
     let alloc = rt.alloc();
     let text = "thin 1\npool 00000000-0000-0000-0000-000000000000 0 0 128 1001\nend\n";
-    let mut image = made(&rt, alloc, THIN, text, 16)?;
+    let mut image = made(alloc, THIN, text, 16)?;
     image[3] = bitmap(3, 1001);
     let report = leaks(alloc, 1001)?;
     let image = image.as_slice();
-    expect(
-        &rt,
-        alloc,
-        &["thin_check", "image"],
-        image,
-        1,
-        report.as_str(),
-    )?;
-    expect(&rt, alloc, &["thin_dump", "image"], image, 0, text)?;
+    expect(alloc, &["thin_check", "image"], image, 1, report.as_str())?;
+    expect(alloc, &["thin_dump", "image"], image, 0, text)?;
     Ok(())
 }

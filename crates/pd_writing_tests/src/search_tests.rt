@@ -1,9 +1,6 @@
 //! Searches for the roots of pools whose superblock is lost: which trees are taken, what is refused, and what the output
 //! holds then.
 
-use crate::expected::{
-    ONE_MAPPING, ONES, expect_dumped, expect_held, expect_report, expect_said, pool_of,
-};
 use crate::lost::Lost::{
     Copies, DamagedMappings, EarlierMappings, EarlierTop, FewerAndLater, FewerMappings, HeldCopy,
     LaterDetails, LaterInTransaction, LaterSum, LaterThanDetails, LaterTime, LaterTop,
@@ -12,6 +9,9 @@ use crate::lost::Lost::{
 };
 use crate::lost::{Lost, lost_pool};
 use pd_kinds::Block;
+use pd_samples::expected::{
+    ONE_MAPPING, ONES, expect_dumped, expect_held, expect_report, expect_said, pool_of,
+};
 use pd_samples::pool::{device_leaf, inner};
 use pd_samples::runs::{Held, NOTHING_FAILS, Ran, blocks_of, run, run_over};
 use std::alloc::{AllocError, Global};
@@ -142,14 +142,14 @@ fn expect_found(
     data_blocks: &str,
     roots: &str,
     text: &str,
-) -> Result<(), AllocError> {
+) -> Result<(), Fail> {
     let line = format!(in alloc; "roots {roots}\n")?;
     let line = line.as_str();
     let found = search(alloc, image, &[ONES; 16], data_blocks)?;
-    expect_said(rt, &found, 0, line, "");
-    expect_held(rt, alloc, &found.input, image, line)?;
+    expect_said(&found, 0, line, "")?;
+    expect_held(alloc, &found.input, image, line)?;
     let made = blocks_of(alloc, &found.output)?;
-    expect_report(rt, alloc, "thin_check", made.as_slice(), "clean\n")?;
+    expect_report(alloc, "thin_check", made.as_slice(), "clean\n")?;
     let dumped = run(alloc, &["thin_dump", "x"], made.as_slice(), NOTHING_FAILS)?;
     assert!(rt; dumped.out.bytes().ends_with(text.as_bytes()), "{line}");
     Ok(())
@@ -157,17 +157,16 @@ fn expect_found(
 
 /// Searches an image, which comes to this status and these notes, with nothing written.
 fn expect_refused(
-    rt: &impl Abort,
     alloc: Global,
     image: &[Block],
     data_blocks: &str,
     base: &[Block],
     status: u8,
     notes: &str,
-) -> Result<(), AllocError> {
+) -> Result<(), Fail> {
     let refused = search(alloc, image, base, data_blocks)?;
-    expect_said(rt, &refused, status, "", notes);
-    expect_held(rt, alloc, &refused.output, base, notes)
+    expect_said(&refused, status, "", notes)?;
+    expect_held(alloc, &refused.output, base, notes)
 }
 
 #[test]
@@ -185,14 +184,14 @@ fn roots_are_found_in_a_pool_whose_superblock_is_zeros(rt: HostRuntime) -> Resul
     let base = [ONES; 16];
     let image = lost_pool(OneMapping);
     let found = search_for(alloc, &image, &base, "0", "1")?;
-    expect_said(&rt, &found, 0, "roots 2 3 mappings 1 time 0\n", "");
+    expect_said(&found, 0, "roots 2 3 mappings 1 time 0\n", "")?;
     let made = blocks_of(alloc, &found.output)?;
     let tools = ("thin_check", "thin_dump");
-    expect_dumped(&rt, alloc, tools, made.as_slice(), ONE_MAPPING)?;
+    expect_dumped(alloc, tools, made.as_slice(), ONE_MAPPING)?;
     // No data block is the pool's, so no mapping leads to one.
     let none = search_for(alloc, &image, &base, "0", "0")?;
-    expect_said(&rt, &none, 1, "", NO_ROOTS);
-    expect_held(&rt, alloc, &none.output, &base, "the output")?;
+    expect_said(&none, 1, "", NO_ROOTS)?;
+    expect_held(alloc, &none.output, &base, "the output")?;
     Ok(())
 }
 
@@ -201,10 +200,10 @@ fn trees_that_do_not_fit_are_not_found(rt: HostRuntime) -> Result<(), Fail> {
     let base = [ONES; 16];
     for (lost, data_blocks) in NOT_FOUND {
         let image = lost_pool(*lost);
-        expect_refused(&rt, rt.alloc(), &image, data_blocks, &base, 1, NO_ROOTS)?;
+        expect_refused(rt.alloc(), &image, data_blocks, &base, 1, NO_ROOTS)?;
     }
-    expect_refused(&rt, rt.alloc(), &[], "1", &base, 1, NO_ROOTS)?;
-    expect_refused(&rt, rt.alloc(), &[Block::zeros()], "1", &base, 1, NO_ROOTS)?;
+    expect_refused(rt.alloc(), &[], "1", &base, 1, NO_ROOTS)?;
+    expect_refused(rt.alloc(), &[Block::zeros()], "1", &base, 1, NO_ROOTS)?;
     Ok(())
 }
 
@@ -212,14 +211,14 @@ fn trees_that_do_not_fit_are_not_found(rt: HostRuntime) -> Result<(), Fail> {
 fn a_found_pool_needs_room(rt: HostRuntime) -> Result<(), Fail> {
     let image = lost_pool(OneMapping);
     let notes = "pdata_tools: no room: need 10, blocks 9\n";
-    expect_refused(&rt, rt.alloc(), &image, "1", &[ONES; 9], 4, notes)?;
+    expect_refused(rt.alloc(), &image, "1", &[ONES; 9], 4, notes)?;
     Ok(())
 }
 
 #[test]
 fn trees_of_64_nodes_in_a_row_are_sound_and_no_deeper_ones(rt: HostRuntime) -> Result<(), Fail> {
     // 63 inner nodes above the leaf, each with one child, behind the pool's blocks.
-    let mut image = pool_of(&rt, rt.alloc(), ONE_MAPPING, 128)?;
+    let mut image = pool_of(rt.alloc(), ONE_MAPPING, 128)?;
     image[0] = Block::zeros();
     for b in 20..83 {
         let child = if b < 82 { b as u64 + 1 } else { 1 };
@@ -230,7 +229,7 @@ fn trees_of_64_nodes_in_a_row_are_sound_and_no_deeper_ones(rt: HostRuntime) -> R
     expect_found(&rt, rt.alloc(), image.as_slice(), "1", PLAIN, ONE_MAPPED)?;
     image[2] = device_leaf(2, 19);
     let base = [ONES; 16];
-    expect_refused(&rt, rt.alloc(), image.as_slice(), "1", &base, 1, NO_ROOTS)?;
+    expect_refused(rt.alloc(), image.as_slice(), "1", &base, 1, NO_ROOTS)?;
     Ok(())
 }
 

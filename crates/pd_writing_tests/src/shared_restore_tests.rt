@@ -1,15 +1,14 @@
 //! Restores of texts of version 2: what is restored, what is refused, and where there is no room.
 
-use crate::expected::End::{Done, NoRoom, Refused};
-use crate::expected::Left::{Closed, Old, Written};
-use crate::expected::{
+use crate::shared_pool::{image_of_many, text_of_leaves, text_of_many};
+use pd_samples::expected::End::{Done, NoRoom, Refused};
+use pd_samples::expected::Left::{Closed, Old, Written};
+use pd_samples::expected::{
     Left, ONES, Row, THIN, expect, expect_end, expect_left, expect_restored, expect_said, left_of,
     made, made_over, restore,
 };
-use crate::shared_pool::{image_of_many, text_of_leaves, text_of_many};
 use pd_samples::runs::NOTHING_FAILS;
-use std::alloc::{AllocError, Global};
-use std::process::Abort;
+use std::alloc::Global;
 use std::test::Fail;
 
 /// Two devices on one leaf.
@@ -91,27 +90,21 @@ const ROWS: &[Row] = &[
 #[test]
 fn restores_of_shared_leaves_come_to_their_status(rt: HostRuntime) -> Result<(), Fail> {
     for row in ROWS {
-        expect_restored(&rt, rt.alloc(), row)?;
+        expect_restored(rt.alloc(), row)?;
     }
     Ok(())
 }
 
 /// Restores a text of this version and these lines behind that of the pool, which has four data blocks. The line is refused.
-fn expect_refused(
-    rt: &impl Abort,
-    alloc: Global,
-    version: u8,
-    lines: &str,
-    refusal: &str,
-) -> Result<(), AllocError> {
+fn expect_refused(alloc: Global, version: u8, lines: &str, refusal: &str) -> Result<(), Fail> {
     let text = format!(in alloc;
         "thin {version}\npool 00000000-0000-0000-0000-000000000000 0 0 128 4\n{lines}"
     )?;
     let notes = format!(in alloc; "pdata_tools: line {refusal}\n")?;
     let base = [ONES; 16];
     let refused = restore(alloc, THIN, text.as_str(), &base, NOTHING_FAILS)?;
-    expect_said(rt, &refused, 3, "", notes.as_str());
-    expect_left(rt, alloc, &refused, &base, Left::Closed, lines)
+    expect_said(&refused, 3, "", notes.as_str())?;
+    expect_left(alloc, &refused, &base, Left::Closed, lines)
 }
 
 /// Lines from the third one on, and the line that is refused with its cause.
@@ -217,10 +210,10 @@ const REFUSALS_OF_FIRST: &[Refusal] = &[
 #[test]
 fn lines_of_shared_leaves_are_refused_in_their_place(rt: HostRuntime) -> Result<(), Fail> {
     for (lines, refusal) in REFUSALS {
-        expect_refused(&rt, rt.alloc(), 2, lines, refusal)?;
+        expect_refused(rt.alloc(), 2, lines, refusal)?;
     }
     for (lines, refusal) in REFUSALS_OF_FIRST {
-        expect_refused(&rt, rt.alloc(), 1, lines, refusal)?;
+        expect_refused(rt.alloc(), 1, lines, refusal)?;
     }
     Ok(())
 }
@@ -230,7 +223,7 @@ fn a_pool_of_many_runs_is_that_put_together_by_hand(rt: HostRuntime) -> Result<(
     let alloc = rt.alloc();
     let text = text_of_many(alloc)?;
     let base = [ONES; 16];
-    let image = made_over(&rt, alloc, THIN, text.as_str(), &base)?;
+    let image = made_over(alloc, THIN, text.as_str(), &base)?;
     assert!(rt; image.as_slice() == image_of_many().as_slice());
     Ok(())
 }
@@ -240,23 +233,17 @@ fn a_pool_of_many_runs_is_clean_and_is_told_again(rt: HostRuntime) -> Result<(),
     let alloc = rt.alloc();
     let text = text_of_many(alloc)?;
     let image = image_of_many();
-    expect(&rt, alloc, &["thin_check", "image"], &image, 0, "clean\n")?;
+    expect(alloc, &["thin_check", "image"], &image, 0, "clean\n")?;
     let words = &["thin_dump", "--shared", "image"];
-    expect(&rt, alloc, words, &image, 0, text.as_str())?;
+    expect(alloc, words, &image, 0, text.as_str())?;
     Ok(())
 }
 
 /// Restores the pool of many runs onto so many blocks, where it needs more.
-fn expect_no_room(
-    rt: &impl Abort,
-    alloc: Global,
-    text: &str,
-    blocks: usize,
-    need: u64,
-) -> Result<(), AllocError> {
+fn expect_no_room(alloc: Global, text: &str, blocks: usize, need: u64) -> Result<(), Fail> {
     let base = vec![in alloc; ONES; blocks]?;
     let refused = restore(alloc, THIN, text, base.as_slice(), NOTHING_FAILS)?;
-    expect_end(rt, alloc, &refused, NoRoom(need, blocks as u64))
+    expect_end(alloc, &refused, NoRoom(need, blocks as u64))
 }
 
 /// Blocks, and how many are needed where there are no more. The need passes them at the line of the pool, of the leaf, of the
@@ -269,9 +256,9 @@ fn the_need_grows_with_the_lines(rt: HostRuntime) -> Result<(), Fail> {
     let alloc = rt.alloc();
     let text = text_of_many(alloc)?;
     for (blocks, need) in NEEDS {
-        expect_no_room(&rt, alloc, text.as_str(), *blocks, *need)?;
+        expect_no_room(alloc, text.as_str(), *blocks, *need)?;
     }
-    let least = made(&rt, alloc, THIN, text.as_str(), 14)?;
+    let least = made(alloc, THIN, text.as_str(), 14)?;
     assert!(rt; left_of(least.as_slice(), &[ONES; 14], &[]) == Left::Written);
     Ok(())
 }
@@ -282,13 +269,13 @@ fn the_need_grows_with_the_lines(rt: HostRuntime) -> Result<(), Fail> {
 fn leaves_of_three_devices_have_counts_of_their_own(rt: HostRuntime) -> Result<(), Fail> {
     let alloc = rt.alloc();
     let text = text_of_leaves(alloc, 336)?;
-    expect_no_room(&rt, alloc, text.as_str(), 353, 354)?;
+    expect_no_room(alloc, text.as_str(), 353, 354)?;
     let text = text_of_leaves(alloc, 337)?;
-    expect_no_room(&rt, alloc, text.as_str(), 356, 357)?;
-    let image = made(&rt, alloc, THIN, text.as_str(), 357)?;
+    expect_no_room(alloc, text.as_str(), 356, 357)?;
+    let image = made(alloc, THIN, text.as_str(), 357)?;
     let image = image.as_slice();
-    expect(&rt, alloc, &["thin_check", "image"], image, 0, "clean\n")?;
+    expect(alloc, &["thin_check", "image"], image, 0, "clean\n")?;
     let words = &["thin_dump", "--shared", "image"];
-    expect(&rt, alloc, words, image, 0, text.as_str())?;
+    expect(alloc, words, image, 0, text.as_str())?;
     Ok(())
 }

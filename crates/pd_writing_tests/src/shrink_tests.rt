@@ -2,15 +2,15 @@
 
 ghost use Rattle.std.specs.Prelude.{◌<◌, ◌^◌};
 
-use crate::devices::{Devices, Fill, filled, may_be_old};
-use crate::expected::End::{Done, NoRoom, Stopped};
-use crate::expected::{
-    End, ONES, PICKS, THIN, Trouble, expect_dumped, expect_end, expect_held, made,
-};
 use pd_bitmap::{seal_bitmap, set_two_bits};
 use pd_image::Pick;
 use pd_kinds::{BLOCK_SIZE, Block};
 use pd_node::write_leaf;
+use pd_samples::devices::{Devices, Fill, filled, may_be_old};
+use pd_samples::expected::End::{Done, NoRoom, Stopped};
+use pd_samples::expected::{
+    End, ONES, PICKS, THIN, Trouble, expect_dumped, expect_end, expect_held, made,
+};
 use pd_samples::pool::{
     bitmap, damaged, device_leaf, empty_leaf, empty_super, held_copy, index, index_entry,
     index_leaf, map_root,
@@ -197,92 +197,61 @@ fn shrink(
 }
 
 /// The output is as it was, or is clean and dumps as this text.
-fn expect_text(
-    rt: &impl Abort,
-    alloc: Global,
-    before: &Devices,
-    ran: &Ran,
-    text: &str,
-) -> Result<(), AllocError> {
+fn expect_text(alloc: Global, before: &Devices, ran: &Ran, text: &str) -> Result<(), Fail> {
     if text == UNTOUCHED {
-        return expect_held(
-            rt,
-            alloc,
-            &ran.output,
-            before.output.as_slice(),
-            "the output",
-        );
+        return expect_held(alloc, &ran.output, before.output.as_slice(), "the output");
     }
     let image = blocks_of(alloc, &ran.output)?;
-    expect_dumped(
-        rt,
-        alloc,
-        ("thin_check", "thin_dump"),
-        image.as_slice(),
-        text,
-    )
+    expect_dumped(alloc, ("thin_check", "thin_dump"), image.as_slice(), text)
 }
 
 /// The metadata is as it was.
-fn expect_kept(
-    rt: &impl Abort,
-    alloc: Global,
-    before: &Devices,
-    ran: &Ran,
-) -> Result<(), AllocError> {
-    expect_held(
-        rt,
-        alloc,
-        &ran.input,
-        before.meta.as_slice(),
-        "the metadata",
-    )
+fn expect_kept(alloc: Global, before: &Devices, ran: &Ran) -> Result<(), Fail> {
+    expect_held(alloc, &ran.input, before.meta.as_slice(), "the metadata")
 }
 
 /// Makes a pool smaller, which comes to this, leaves the metadata, and leaves this on the data device and this text.
 fn expect_shrink(
-    rt: &impl Abort,
     alloc: Global,
     before: &Devices,
     (number, end): (&str, End),
     after: &[u8],
     text: &str,
-) -> Result<(), AllocError> {
+) -> Result<(), Fail> {
     let ran = shrink(alloc, before, number, NOTHING_FAILS)?;
-    expect_end(rt, alloc, &ran, end)?;
-    expect_kept(rt, alloc, before, &ran)?;
+    expect_end(alloc, &ran, end)?;
+    expect_kept(alloc, before, &ran)?;
     let wanted = filled(alloc, after)?;
-    expect_held(rt, alloc, &ran.third, wanted.as_slice(), "the data device")?;
-    expect_text(rt, alloc, before, &ran, text)
+    expect_held(alloc, &ran.third, wanted.as_slice(), "the data device")?;
+    expect_text(alloc, before, &ran, text)
 }
 
 /// Makes a pool of a text smaller.
-fn expect_row(rt: &impl Abort, alloc: Global, row: &Row) -> Result<(), AllocError> {
+fn expect_row(alloc: Global, row: &Row) -> Result<(), Fail> {
     let (text, fill, output_blocks, number, end, after, text_after) = *row;
-    let meta = made(rt, alloc, THIN, text, 16)?;
+    let meta = made(alloc, THIN, text, 16)?;
     let before = devices_over(alloc, meta, output_blocks, fill)?;
-    expect_shrink(rt, alloc, &*before, (number, end), after, text_after)
+    expect_shrink(alloc, &*before, (number, end), after, text_after)
 }
 
 #[test]
 fn shrinks_move_what_lies_behind_and_write_a_smaller_pool(rt: HostRuntime) -> Result<(), Fail> {
     for row in ROWS {
-        expect_row(&rt, rt.alloc(), row)?;
+        expect_row(rt.alloc(), row)?;
     }
     Ok(())
 }
 
 /// A shrink of this metadata comes to this, and leaves this on the data device and this text.
 fn expect_made_smaller(
-    rt: &impl Abort,
     alloc: Global,
     meta: Vec<Block>,
     asked: (&str, End),
     after: &[u8],
     text: &str,
-) -> Result<(), AllocError> {
+) -> Result<(), Fail> {
     let before = devices_over(alloc, meta, 16, FOUR)?;
-    expect_shrink(rt, alloc, &*before, asked, after, text)
+    expect_shrink(alloc, &*before, asked, after, text)
 }
 
 /// A leaf of mappings in which the virtual blocks 0 and 1 have these data blocks, at time 0.
@@ -362,8 +331,8 @@ fn pool_with_held_blocks() -> [Block; 16] {
 }
 
 /// The metadata of `POOL` with a damaged leaf.
-fn torn_pool(rt: &impl Abort, alloc: Global) -> Result<Vec<Block>, AllocError> {
-    let mut torn = made(rt, alloc, THIN, POOL, 16)?;
+fn torn_pool(alloc: Global) -> Result<Vec<Block>, Fail> {
+    let mut torn = made(alloc, THIN, POOL, 16)?;
     torn[1] = damaged(torn[1], 100);
     Ok(torn)
 }
@@ -373,10 +342,10 @@ fn metadata_with_faults_is_not_made_smaller(rt: HostRuntime) -> Result<(), Fail>
     let alloc = rt.alloc();
     let leak = Vec::from_slice(alloc, &pool_with_counts(&[0, 2, 3]))?;
     let report = Stopped("fault data 2 leak stored 1 references 0\nfaults 1\n");
-    expect_made_smaller(&rt, alloc, leak, ("2", report), FOUR, UNTOUCHED)?;
-    let torn = torn_pool(&rt, alloc)?;
+    expect_made_smaller(alloc, leak, ("2", report), FOUR, UNTOUCHED)?;
+    let torn = torn_pool(alloc)?;
     let report = Stopped("fault meta 1 checksum\nfaults 1\n");
-    expect_made_smaller(&rt, alloc, torn, ("2", report), FOUR, UNTOUCHED)?;
+    expect_made_smaller(alloc, torn, ("2", report), FOUR, UNTOUCHED)?;
     Ok(())
 }
 
@@ -384,9 +353,9 @@ fn metadata_with_faults_is_not_made_smaller(rt: HostRuntime) -> Result<(), Fail>
 fn what_a_held_copy_uses_is_not_free(rt: HostRuntime) -> Result<(), Fail> {
     let alloc = rt.alloc();
     let held = Vec::from_slice(alloc, &pool_with_held_blocks())?;
-    expect_made_smaller(&rt, alloc, held, ("3", NoRoom(4, 3)), FOUR, UNTOUCHED)?;
+    expect_made_smaller(alloc, held, ("3", NoRoom(4, 3)), FOUR, UNTOUCHED)?;
     let alone = Vec::from_slice(alloc, &pool_with_counts(&[0, 3]))?;
-    expect_made_smaller(&rt, alloc, alone, ("2", ONE), MOVED, SMALLER)?;
+    expect_made_smaller(alloc, alone, ("2", ONE), MOVED, SMALLER)?;
     Ok(())
 }
 
@@ -443,8 +412,8 @@ fn expect_failed(
     before: &Devices,
     whole: &[Block],
     ran: &Ran,
-) -> Result<(), AllocError> {
-    expect_kept(rt, alloc, before, ran)?;
+) -> Result<(), Fail> {
+    expect_kept(alloc, before, ran)?;
     for of_output in PICKS {
         for of_third in PICKS {
             expect_left(rt, alloc, before, whole, ran, (*of_output, *of_third))?;
@@ -461,7 +430,7 @@ fn is_past_trouble(
     whole: &[Block],
     trouble: Trouble,
     call: u64,
-) -> Result<bool, AllocError> {
+) -> Result<bool, Fail> {
     let ran = shrink(alloc, before, "2", trouble.at(call))?;
     let is_past = ran.status == 0;
     assert!(rt; is_past | (ran.status == trouble.status()), "{call}");
@@ -478,7 +447,7 @@ fn expect_troubles(
     before: &Devices,
     whole: &[Block],
     trouble: Trouble,
-) -> Result<(), AllocError> {
+) -> Result<(), Fail> {
     for call in 0..MANY {
         if is_past_trouble(rt, alloc, before, whole, trouble, call)? {
             return Ok(());
@@ -491,7 +460,7 @@ fn expect_troubles(
 #[test]
 fn a_shrink_that_fails_or_stops_anywhere_reads_the_same(rt: HostRuntime) -> Result<(), Fail> {
     let alloc = rt.alloc();
-    let meta = made(&rt, alloc, THIN, POOL, 16)?;
+    let meta = made(alloc, THIN, POOL, 16)?;
     let before = devices_over(alloc, meta, 16, FOUR)?;
     let ran = shrink(alloc, &*before, "2", NOTHING_FAILS)?;
     let whole = blocks_of(alloc, &ran.output)?;

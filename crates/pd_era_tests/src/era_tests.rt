@@ -6,22 +6,21 @@ use crate::era_tests::Change::{
     CurrentBits, Damage, LateIndex, LateWriteset, NoCurrent, OneMoreBit, ShortArray, ShortWriteset,
     Version,
 };
-use crate::expected::{
-    ERA, Trouble, expect, expect_device_faults, expect_dumped, expect_fault_in_notes,
-    expect_faults_of, expect_said, made, status_in,
-};
-use crate::targets::{EMPTY, SUPER, WRITTEN, writeset, written_target, zero_words};
+use crate::targets::{EMPTY, ERA, SUPER, WRITTEN, writeset, written_target, zero_words};
 use pd_array::{Word, write_array};
 use pd_bitmap::{seal_bitmap, set_two_bits};
 use pd_crc::seal;
 use pd_kinds::{Block, EraSuper, Kind, put_u32, put_u64};
 use pd_node::{write_inner, write_leaf};
+use pd_samples::expected::{
+    Trouble, expect, expect_device_faults, expect_dumped, expect_fault_in_notes, expect_faults_of,
+    expect_said, made, status_in,
+};
 use pd_samples::pool::{NODE_SALT, bitmap, damaged, index, index_entry, resealed};
 use pd_samples::runs::run;
 use pd_supers::write_era_super;
 use pd_value::{Count, Root, Writeset};
-use std::alloc::{AllocError, Global};
-use std::process::Abort;
+use std::alloc::Global;
 use std::test::Fail;
 
 /// The tool that checks.
@@ -34,35 +33,30 @@ const DUMP: &[&str] = &["era_dump", "image"];
 const TOOLS: (&str, &str) = ("era_check", "era_dump");
 
 /// Asks for the blocks of that target that were written since an era.
-fn expect_since(rt: &impl Abort, alloc: Global, era: &str, lines: &str) -> Result<(), AllocError> {
+fn expect_since(alloc: Global, era: &str, lines: &str) -> Result<(), Fail> {
     let words = ["era_invalidate", "--written-since", era, "image"];
-    expect(rt, alloc, &words, &written_target(), 0, lines)
+    expect(alloc, &words, &written_target(), 0, lines)
 }
 
 #[test]
 fn blocks_that_were_written_since_an_era(rt: HostRuntime) -> Result<(), Fail> {
-    expect_since(&rt, rt.alloc(), "3", "written 3 1\nwritten 64 1\n")?;
-    expect_since(&rt, rt.alloc(), "9", "written 64 1\n")?;
-    expect_since(&rt, rt.alloc(), "10", "")?;
-    expect_since(&rt, rt.alloc(), "0", "written 0 100\n")?;
+    expect_since(rt.alloc(), "3", "written 3 1\nwritten 64 1\n")?;
+    expect_since(rt.alloc(), "9", "written 64 1\n")?;
+    expect_since(rt.alloc(), "10", "")?;
+    expect_since(rt.alloc(), "0", "written 0 100\n")?;
     Ok(())
 }
 
 /// Restores a text onto so many blocks, and checks and dumps the target.
-fn expect_same(
-    rt: &impl Abort,
-    alloc: Global,
-    text: &str,
-    blocks: usize,
-) -> Result<(), AllocError> {
-    let image = made(rt, alloc, ERA, text, blocks)?;
-    expect_dumped(rt, alloc, TOOLS, image.as_slice(), text)
+fn expect_same(alloc: Global, text: &str, blocks: usize) -> Result<(), Fail> {
+    let image = made(alloc, ERA, text, blocks)?;
+    expect_dumped(alloc, TOOLS, image.as_slice(), text)
 }
 
 #[test]
 fn a_dump_is_restored_to_a_target_that_dumps_the_same(rt: HostRuntime) -> Result<(), Fail> {
-    expect_same(&rt, rt.alloc(), WRITTEN, 7)?;
-    expect_same(&rt, rt.alloc(), EMPTY, 6)?;
+    expect_same(rt.alloc(), WRITTEN, 7)?;
+    expect_same(rt.alloc(), EMPTY, 6)?;
     Ok(())
 }
 
@@ -151,7 +145,7 @@ const TWO_LEAKS: &str = "11 leak stored 1 references 0\nfault meta 12 leak store
 #[test]
 fn eras_are_the_greatest_of_all_writesets(rt: HostRuntime) -> Result<(), Fail> {
     for changes in CLEAN_ROWS {
-        expect_dumped(&rt, rt.alloc(), TOOLS, &changed_target(changes), WRITTEN)?;
+        expect_dumped(rt.alloc(), TOOLS, &changed_target(changes), WRITTEN)?;
     }
     Ok(())
 }
@@ -159,7 +153,7 @@ fn eras_are_the_greatest_of_all_writesets(rt: HostRuntime) -> Result<(), Fail> {
 #[test]
 fn rules_that_targets_break(rt: HostRuntime) -> Result<(), Fail> {
     for (changes, faults) in ROWS {
-        expect_faults_of(&rt, rt.alloc(), CHECK, &changed_target(changes), faults)?;
+        expect_faults_of(rt.alloc(), CHECK, &changed_target(changes), faults)?;
     }
     Ok(())
 }
@@ -193,14 +187,8 @@ fn target_with_snapshot(bits: u32) -> [Block; 18] {
 
 #[test]
 fn trees_of_a_snapshot_are_checked_and_do_not_count(rt: HostRuntime) -> Result<(), Fail> {
-    expect_dumped(&rt, rt.alloc(), TOOLS, &target_with_snapshot(100), WRITTEN)?;
-    expect_faults_of(
-        &rt,
-        rt.alloc(),
-        CHECK,
-        &target_with_snapshot(60),
-        "7 length",
-    )?;
+    expect_dumped(rt.alloc(), TOOLS, &target_with_snapshot(100), WRITTEN)?;
+    expect_faults_of(rt.alloc(), CHECK, &target_with_snapshot(60), "7 length")?;
     Ok(())
 }
 
@@ -257,10 +245,10 @@ fn a_thousand_writesets_over_one_array(rt: HostRuntime) -> Result<(), Fail> {
     // Fourteen blocks are in one role each, so at most 85 reads follow the call that attaches the image: a failure of the
     // next call shows nowhere.
     let ran = run(rt.alloc(), &[CHECK, "image"], &image, Trouble::Input.at(87))?;
-    expect_said(&rt, &ran, 0, "clean\n", "");
+    expect_said(&ran, 0, "clean\n", "")?;
     let text =
         "era 1\nera 00000000-0000-0000-0000-000000000000 128 100 2000\nrun 0 3 0\nrun 3 1 1000\nrun 4 96 0\nend\n";
-    expect(&rt, rt.alloc(), DUMP, &image, 0, text)?;
+    expect(rt.alloc(), DUMP, &image, 0, text)?;
     Ok(())
 }
 
@@ -270,9 +258,9 @@ const SINCE: &[&str] = &["era_invalidate", "--written-since", "5", "image"];
 #[test]
 fn each_call_of_the_device_of_a_target_may_fail(rt: HostRuntime) -> Result<(), Fail> {
     let image = written_target();
-    expect_device_faults(&rt, rt.alloc(), &[CHECK, "image"], &image, 300)?;
-    expect_device_faults(&rt, rt.alloc(), DUMP, &image, 300)?;
-    expect_device_faults(&rt, rt.alloc(), SINCE, &image, 300)?;
+    expect_device_faults(rt.alloc(), &[CHECK, "image"], &image, 300)?;
+    expect_device_faults(rt.alloc(), DUMP, &image, 300)?;
+    expect_device_faults(rt.alloc(), SINCE, &image, 300)?;
     Ok(())
 }
 
@@ -283,7 +271,7 @@ fn a_query_reports_faults_and_says_that_out_failed(rt: HostRuntime) -> Result<()
     let image = written_target();
     let report = "fault meta 12 checksum\nfaults 1\n";
     for words in [DUMP, SINCE] {
-        expect_fault_in_notes(&rt, alloc, words, &broken, report)?;
+        expect_fault_in_notes(alloc, words, &broken, report)?;
         let status = status_in(alloc, words, &image, Trouble::Out, 1)?;
         assert!(rt; status == 6);
     }

@@ -3,20 +3,41 @@
 use crate::cache_tests::Change::{
     Damage, Eighth, First, GapIndex, Hints, Magic, OneHint, SevenWords, ShortIndex, Version,
 };
-use crate::expected::{
-    FIRST, SECOND, Trouble, expect, expect_device_faults, expect_dumped, expect_fault_in_notes,
-    expect_faults_of, made, status_in,
-};
 use pd_array::{Word, write_array};
 use pd_bitmap::index_entry;
 use pd_kinds::{Block, Kind, u64_at};
 use pd_node::write_leaf;
+use pd_samples::expected::{
+    Trouble, expect, expect_device_faults, expect_dumped, expect_fault_in_notes, expect_faults_of,
+    made, status_in,
+};
 use pd_samples::pool::{damaged, resealed};
 use pd_supers::{read_cache_super, write_cache_super};
 use pd_value::Root;
-use std::alloc::{AllocError, Global};
-use std::process::Abort;
+use std::alloc::Global;
 use std::test::Fail;
+
+/// The words of a restore of a cache in the first version of the metadata.
+pub(crate) const FIRST: &[&str] = &[
+    "cache_restore",
+    "--metadata-version",
+    "1",
+    "-i",
+    "text",
+    "-o",
+    "image",
+];
+
+/// The same in the second version.
+pub(crate) const SECOND: &[&str] = &[
+    "cache_restore",
+    "--metadata-version",
+    "2",
+    "-i",
+    "text",
+    "-o",
+    "image",
+];
 
 /// A cache of 510 blocks with hints, of which the first and the last block are mapped, the last one dirty.
 pub(crate) const TWO_MAPPED: &str =
@@ -98,12 +119,11 @@ fn changed(block: &Block, change: Change) -> Block {
 
 /// `TWO_MAPPED` in this version, with these blocks changed.
 fn changed_cache(
-    rt: &impl Abort,
     alloc: Global,
     version: &[&str],
     changes: &[(usize, Change)],
-) -> Result<Vec<Block>, AllocError> {
-    let mut image = made(rt, alloc, version, TWO_MAPPED, 16)?;
+) -> Result<Vec<Block>, Fail> {
+    let mut image = made(alloc, version, TWO_MAPPED, 16)?;
     for (b, change) in changes {
         if *b < image.len() {
             image[*b] = changed(&image[*b], *change);
@@ -163,63 +183,46 @@ const ONE_HINT: &str =
 const TWO_LEAKS: &str = "4 leak stored 1 references 0\nfault meta 5 leak stored 1 references 0";
 
 /// Checks and dumps a changed cache.
-fn expect_clean(rt: &impl Abort, alloc: Global, row: &Row) -> Result<(), AllocError> {
+fn expect_clean(alloc: Global, row: &Row) -> Result<(), Fail> {
     let (version, changes, text) = *row;
-    let image = changed_cache(rt, alloc, version, changes)?;
-    expect_dumped(
-        rt,
-        alloc,
-        ("cache_check", "cache_dump"),
-        image.as_slice(),
-        text,
-    )
+    let image = changed_cache(alloc, version, changes)?;
+    expect_dumped(alloc, ("cache_check", "cache_dump"), image.as_slice(), text)
 }
 
 #[test]
 fn changed_caches_are_dumped_as_they_are(rt: HostRuntime) -> Result<(), Fail> {
     for row in CLEAN_ROWS {
-        expect_clean(&rt, rt.alloc(), row)?;
+        expect_clean(rt.alloc(), row)?;
     }
     Ok(())
 }
 
 /// Checks a cache that breaks a rule.
-fn expect_broken(rt: &impl Abort, alloc: Global, row: &Row) -> Result<(), AllocError> {
+fn expect_broken(alloc: Global, row: &Row) -> Result<(), Fail> {
     let (version, changes, faults) = *row;
-    let image = changed_cache(rt, alloc, version, changes)?;
-    expect_faults_of(rt, alloc, "cache_check", image.as_slice(), faults)
+    let image = changed_cache(alloc, version, changes)?;
+    expect_faults_of(alloc, "cache_check", image.as_slice(), faults)
 }
 
 #[test]
 fn rules_that_caches_break(rt: HostRuntime) -> Result<(), Fail> {
     for row in ROWS {
-        expect_broken(&rt, rt.alloc(), row)?;
+        expect_broken(rt.alloc(), row)?;
     }
     Ok(())
 }
 
 /// Restores a text, and checks and dumps the cache.
-fn expect_same(
-    rt: &impl Abort,
-    alloc: Global,
-    words: &[&str],
-    text: &str,
-) -> Result<(), AllocError> {
-    let image = made(rt, alloc, words, text, 16)?;
-    expect_dumped(
-        rt,
-        alloc,
-        ("cache_check", "cache_dump"),
-        image.as_slice(),
-        text,
-    )
+fn expect_same(alloc: Global, words: &[&str], text: &str) -> Result<(), Fail> {
+    let image = made(alloc, words, text, 16)?;
+    expect_dumped(alloc, ("cache_check", "cache_dump"), image.as_slice(), text)
 }
 
 #[test]
 fn restored_caches_are_clean_and_dumped_as_they_were(rt: HostRuntime) -> Result<(), Fail> {
     for text in [TWO_MAPPED, EMPTY] {
-        expect_same(&rt, rt.alloc(), FIRST, text)?;
-        expect_same(&rt, rt.alloc(), SECOND, text)?;
+        expect_same(rt.alloc(), FIRST, text)?;
+        expect_same(rt.alloc(), SECOND, text)?;
     }
     Ok(())
 }
@@ -229,7 +232,7 @@ const FIRST_NUMBERS: &[u64] = &[1, 3, 5, 6, 10, 7, 8, 9, 458753, 524291];
 
 #[test]
 fn words_and_roots_of_the_first_version(rt: HostRuntime) -> Result<(), Fail> {
-    let image = made(&rt, rt.alloc(), FIRST, TWO_MAPPED, 16)?;
+    let image = made(rt.alloc(), FIRST, TWO_MAPPED, 16)?;
     let fields = read_cache_super(&image[0]);
     let found = [
         u64::from(fields.version),
@@ -265,7 +268,7 @@ const SECOND_NUMBERS: &[u64] = &[
 
 #[test]
 fn words_and_roots_of_the_second_version(rt: HostRuntime) -> Result<(), Fail> {
-    let image = made(&rt, rt.alloc(), SECOND, TWO_MAPPED, 16)?;
+    let image = made(rt.alloc(), SECOND, TWO_MAPPED, 16)?;
     let fields = read_cache_super(&image[0]);
     let found = [
         u64::from(fields.version),
@@ -288,37 +291,36 @@ fn words_and_roots_of_the_second_version(rt: HostRuntime) -> Result<(), Fail> {
 #[test]
 fn a_dump_reports_faults_and_says_which_object_failed(rt: HostRuntime) -> Result<(), Fail> {
     let alloc = rt.alloc();
-    let broken = changed_cache(&rt, alloc, FIRST, &[(4, Damage)])?;
+    let broken = changed_cache(alloc, FIRST, &[(4, Damage)])?;
     let report = "fault meta 4 checksum\nfaults 1\n";
-    expect_fault_in_notes(&rt, alloc, DUMP, broken.as_slice(), report)?;
-    let image = made(&rt, alloc, FIRST, TWO_MAPPED, 16)?;
+    expect_fault_in_notes(alloc, DUMP, broken.as_slice(), report)?;
+    let image = made(alloc, FIRST, TWO_MAPPED, 16)?;
     let status = status_in(alloc, DUMP, image.as_slice(), Trouble::Out, 1)?;
     assert!(rt; status == 6);
     Ok(())
 }
 
 /// Checks and dumps a restored cache with each call of the device failing in turn.
-fn expect_faults(rt: &impl Abort, alloc: Global, words: &[&str]) -> Result<(), AllocError> {
-    let image = made(rt, alloc, words, TWO_MAPPED, 16)?;
-    expect_device_faults(rt, alloc, CHECK, image.as_slice(), 200)?;
-    expect_device_faults(rt, alloc, DUMP, image.as_slice(), 200)
+fn expect_faults(alloc: Global, words: &[&str]) -> Result<(), Fail> {
+    let image = made(alloc, words, TWO_MAPPED, 16)?;
+    expect_device_faults(alloc, CHECK, image.as_slice(), 200)?;
+    expect_device_faults(alloc, DUMP, image.as_slice(), 200)
 }
 
 #[test]
 fn each_call_of_the_device_of_a_cache_may_fail(rt: HostRuntime) -> Result<(), Fail> {
-    expect_faults(&rt, rt.alloc(), FIRST)?;
-    expect_faults(&rt, rt.alloc(), SECOND)?;
+    expect_faults(rt.alloc(), FIRST)?;
+    expect_faults(rt.alloc(), SECOND)?;
     Ok(())
 }
 
 /// Checks caches up to this stage, a sound one and one whose superblock breaks a rule.
-fn expect_stage(rt: &impl Abort, alloc: Global, stage: &str) -> Result<(), AllocError> {
+fn expect_stage(alloc: Global, stage: &str) -> Result<(), Fail> {
     let words = ["cache_check", "--until", stage, "image"];
-    let image = changed_cache(rt, alloc, SECOND, &[])?;
-    expect(rt, alloc, &words, image.as_slice(), 0, "clean\n")?;
-    let broken = changed_cache(rt, alloc, SECOND, &[(0, Magic)])?;
+    let image = changed_cache(alloc, SECOND, &[])?;
+    expect(alloc, &words, image.as_slice(), 0, "clean\n")?;
+    let broken = changed_cache(alloc, SECOND, &[(0, Magic)])?;
     expect(
-        rt,
         alloc,
         &words,
         broken.as_slice(),
@@ -331,7 +333,7 @@ fn expect_stage(rt: &impl Abort, alloc: Global, stage: &str) -> Result<(), Alloc
 #[test]
 fn stages_of_a_check(rt: HostRuntime) -> Result<(), Fail> {
     for stage in ["super", "walk", "order", "whole", "counts"] {
-        expect_stage(&rt, rt.alloc(), stage)?;
+        expect_stage(rt.alloc(), stage)?;
     }
     Ok(())
 }

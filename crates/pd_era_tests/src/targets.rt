@@ -11,6 +11,9 @@ use pd_value::{Count, Root, Writeset};
 /// The salt of the checksums of array blocks (drivers/md/persistent-data/dm-array.c).
 const ARRAY_SALT: u32 = 595846735;
 
+/// The words of a restore of an era target.
+pub(crate) const ERA: &[&str] = &["era_restore", "-i", "text", "-o", "image"];
+
 /// A hundred blocks, of which block 64 was written in the current era, and block 3 in the eras 3 and 5.
 pub(crate) const WRITTEN: &str =
     "era 1\nera 00000000-0000-0000-0000-000000000000 128 100 9\nrun 0 3 0\nrun 3 1 5\nrun 4 60 0\nrun 64 1 9\nrun 65 35 0\nend\n";

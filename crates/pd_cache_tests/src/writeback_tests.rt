@@ -1,10 +1,11 @@
 //! Writebacks of caches: what is dirty is copied, and marked clean after that.
 
-use crate::devices::{Devices, Fill, filled, may_be_old};
-use crate::expected::End::{Done, NoRoom, Stopped};
-use crate::expected::{End, FIRST, ONES, SECOND, Trouble, expect_end, expect_held, holds, made};
+use crate::cache_tests::{FIRST, SECOND};
 use pd_image::{MemDevice, Pick};
 use pd_kinds::{Block, u64_at};
+use pd_samples::devices::{Devices, Fill, filled, may_be_old};
+use pd_samples::expected::End::{Done, NoRoom, Stopped};
+use pd_samples::expected::{End, ONES, Trouble, expect_end, expect_held, holds, made};
 use pd_samples::pool::damaged;
 use pd_samples::runs::{Failing, NOTHING_FAILS, Ran, blocks_after_crash, blocks_of, run};
 use std::alloc::{AllocError, Global};
@@ -132,16 +133,15 @@ const ROWS: &[Row] = &[
 
 /// The devices of a cache of this text: the origin is the output, and the fast device the third.
 fn devices_of(
-    rt: &impl Abort,
     alloc: Global,
     version: &[&str],
     text: &str,
     fast: &[u8],
     origin: &[u8],
-) -> Result<Box<Devices>, AllocError> {
-    let meta = made(rt, alloc, version, text, 16)?;
+) -> Result<Box<Devices>, Fail> {
+    let meta = made(alloc, version, text, 16)?;
     let origin = filled(alloc, origin)?;
-    Devices::of(alloc, meta, origin, fast)
+    Ok(Devices::of(alloc, meta, origin, fast)?)
 }
 
 /// Writes a cache back.
@@ -162,14 +162,8 @@ fn dumps_as(alloc: Global, device: &MemDevice, text: &str) -> Result<bool, Alloc
 }
 
 /// The fast device is as it was.
-fn expect_fast(
-    rt: &impl Abort,
-    alloc: Global,
-    before: &Devices,
-    ran: &Ran,
-) -> Result<(), AllocError> {
+fn expect_fast(alloc: Global, before: &Devices, ran: &Ran) -> Result<(), Fail> {
     expect_held(
-        rt,
         alloc,
         &ran.third,
         before.third.as_slice(),
@@ -178,19 +172,14 @@ fn expect_fast(
 }
 
 /// Writes a cache back, which comes to this. The metadata is written where the text changes, and dumps as the text after it.
-fn expect_row(
-    rt: &impl Abort,
-    alloc: Global,
-    version: &[&str],
-    row: &Row,
-) -> Result<(), AllocError> {
+fn expect_row(rt: &impl Abort, alloc: Global, version: &[&str], row: &Row) -> Result<(), Fail> {
     let (text, fast, origin, end, after, text_after) = *row;
-    let before = devices_of(rt, alloc, version, text, fast, origin)?;
+    let before = devices_of(alloc, version, text, fast, origin)?;
     let ran = write_back(alloc, &*before, NOTHING_FAILS)?;
-    expect_end(rt, alloc, &ran, end)?;
-    expect_fast(rt, alloc, &*before, &ran)?;
+    expect_end(alloc, &ran, end)?;
+    expect_fast(alloc, &*before, &ran)?;
     let copied = filled(alloc, after)?;
-    expect_held(rt, alloc, &ran.output, copied.as_slice(), "the origin")?;
+    expect_held(alloc, &ran.output, copied.as_slice(), "the origin")?;
     let is_dumped = dumps_as(alloc, &ran.input, text_after)?;
     let stays = holds(alloc, &ran.input, before.meta.as_slice())?;
     assert!(rt; is_dumped & (stays == (text == text_after)));
@@ -218,7 +207,7 @@ fn first_word(image: &[Block]) -> Option<u64> {
 #[test]
 fn a_writeback_of_one_block_clears_its_flag(rt: HostRuntime) -> Result<(), Fail> {
     let alloc = rt.alloc();
-    let before = devices_of(&rt, alloc, FIRST, DIRTY, FAST, STALE)?;
+    let before = devices_of(alloc, FIRST, DIRTY, FAST, STALE)?;
     assert!(rt; first_word(before.meta.as_slice()) == Some(196611));
     for b in 9..before.meta.len() {
         assert!(rt; before.meta[b] == ONES);
@@ -232,31 +221,14 @@ fn a_writeback_of_one_block_clears_its_flag(rt: HostRuntime) -> Result<(), Fail>
 #[test]
 fn metadata_with_faults_is_not_written_back(rt: HostRuntime) -> Result<(), Fail> {
     let alloc = rt.alloc();
-    let mut before = devices_of(&rt, alloc, FIRST, DIRTY, &[1, 2], &[3, 4, 5, 6])?;
+    let mut before = devices_of(alloc, FIRST, DIRTY, &[1, 2], &[3, 4, 5, 6])?;
     if 1 < before.meta.len() {
         before.meta[1] = damaged(before.meta[1], 100);
     }
     let ran = write_back(alloc, &*before, NOTHING_FAILS)?;
-    expect_end(
-        &rt,
-        alloc,
-        &ran,
-        Stopped("fault meta 1 checksum\nfaults 1\n"),
-    )?;
-    expect_held(
-        &rt,
-        alloc,
-        &ran.input,
-        before.meta.as_slice(),
-        "the metadata",
-    )?;
-    expect_held(
-        &rt,
-        alloc,
-        &ran.output,
-        before.output.as_slice(),
-        "the origin",
-    )?;
+    expect_end(alloc, &ran, Stopped("fault meta 1 checksum\nfaults 1\n"))?;
+    expect_held(alloc, &ran.input, before.meta.as_slice(), "the metadata")?;
+    expect_held(alloc, &ran.output, before.output.as_slice(), "the origin")?;
     Ok(())
 }
 
@@ -316,12 +288,12 @@ fn is_past_trouble(
     whole: &Devices,
     trouble: Trouble,
     call: u64,
-) -> Result<bool, AllocError> {
+) -> Result<bool, Fail> {
     let ran = write_back(alloc, before, trouble.at(call))?;
     let is_past = ran.status == 0;
     assert!(rt; is_past | (ran.status == trouble.status()), "{call}");
     if !is_past {
-        expect_fast(rt, alloc, before, &ran)?;
+        expect_fast(alloc, before, &ran)?;
         for pick in PICKS {
             expect_left(rt, alloc, before, whole, &ran, *pick)?;
         }
@@ -336,7 +308,7 @@ fn expect_troubles(
     before: &Devices,
     whole: &Devices,
     trouble: Trouble,
-) -> Result<(), AllocError> {
+) -> Result<(), Fail> {
     for call in 0..MANY {
         if is_past_trouble(rt, alloc, before, whole, trouble, call)? {
             return Ok(());
@@ -358,7 +330,7 @@ fn written_back(alloc: Global, before: &Devices) -> Result<Box<Devices>, AllocEr
 fn a_writeback_that_fails_or_stops_anywhere_reads_the_same(rt: HostRuntime) -> Result<(), Fail> {
     let alloc = rt.alloc();
     for version in [FIRST, SECOND] {
-        let before = devices_of(&rt, alloc, version, DIRTY, FAST, STALE)?;
+        let before = devices_of(alloc, version, DIRTY, FAST, STALE)?;
         let whole = written_back(alloc, &*before)?;
         for trouble in TROUBLES {
             expect_troubles(&rt, alloc, &*before, &*whole, *trouble)?;

@@ -1,15 +1,14 @@
 //! Restores of caches: what is restored, what is refused, and what the output holds then.
 
-use crate::cache_tests::{EMPTY, TWO_MAPPED};
-use crate::expected::End::{Done, NoRoom, Refused};
-use crate::expected::Left::{Closed, Old, Written};
-use crate::expected::{
-    FIRST, Left, ONES, Row, SECOND, expect_end, expect_left, expect_output_faults, expect_restored,
+use crate::cache_tests::{EMPTY, FIRST, SECOND, TWO_MAPPED};
+use pd_samples::expected::End::{Done, NoRoom, Refused};
+use pd_samples::expected::Left::{Closed, Old, Written};
+use pd_samples::expected::{
+    Left, ONES, Row, expect_end, expect_left, expect_output_faults, expect_restored,
     left_by_source_fault, restore,
 };
 use pd_samples::runs::NOTHING_FAILS;
 use std::alloc::{AllocError, Global};
-use std::process::Abort;
 use std::test::Fail;
 
 /// Two blocks of the cache with one origin.
@@ -84,29 +83,25 @@ const ROWS: &[Row] = &[
 #[test]
 fn restores_of_caches_come_to_their_status(rt: HostRuntime) -> Result<(), Fail> {
     for row in ROWS {
-        expect_restored(&rt, rt.alloc(), row)?;
+        expect_restored(rt.alloc(), row)?;
     }
     Ok(())
 }
 
 /// Restores the cache of eight blocks with more lines, of which one is refused.
-fn expect_refused(
-    rt: &impl Abort,
-    alloc: Global,
-    row: &(&str, u32, &'static str),
-) -> Result<(), AllocError> {
+fn expect_refused(alloc: Global, row: &(&str, u32, &'static str)) -> Result<(), Fail> {
     let (lines, line, cause) = *row;
     let text = format!(in alloc; "{EIGHT_BLOCKS}{lines}")?;
     let base = [ONES; 16];
     let refused = restore(alloc, FIRST, text.as_str(), &base, NOTHING_FAILS)?;
-    expect_end(rt, alloc, &refused, Refused(line, cause))?;
-    expect_left(rt, alloc, &refused, &base, Closed, lines)
+    expect_end(alloc, &refused, Refused(line, cause))?;
+    expect_left(alloc, &refused, &base, Closed, lines)
 }
 
 #[test]
 fn the_first_line_that_could_be_is_refused(rt: HostRuntime) -> Result<(), Fail> {
     for row in REFUSED {
-        expect_refused(&rt, rt.alloc(), row)?;
+        expect_refused(rt.alloc(), row)?;
     }
     Ok(())
 }
@@ -151,7 +146,7 @@ fn a_version_is_1_or_2_and_1_where_none_is_given(rt: HostRuntime) -> Result<(), 
 #[test]
 fn a_source_of_a_cache_that_fails_is_blamed(rt: HostRuntime) -> Result<(), Fail> {
     for call in 0..20 {
-        let left = left_by_source_fault(&rt, rt.alloc(), SECOND, TWO_MAPPED, call)?;
+        let left = left_by_source_fault(rt.alloc(), SECOND, TWO_MAPPED, call)?;
         assert!(rt; left != Left::Written, "{call}");
     }
     Ok(())
@@ -161,7 +156,7 @@ fn a_source_of_a_cache_that_fails_is_blamed(rt: HostRuntime) -> Result<(), Fail>
 #[test]
 fn a_source_that_fails_behind_a_repeated_origin_is_blamed(rt: HostRuntime) -> Result<(), Fail> {
     for call in 0..21 {
-        let left = left_by_source_fault(&rt, rt.alloc(), FIRST, REPEATED, call)?;
+        let left = left_by_source_fault(rt.alloc(), FIRST, REPEATED, call)?;
         assert!(rt; left != Left::Written, "{call}");
     }
     Ok(())
@@ -170,6 +165,6 @@ fn a_source_that_fails_behind_a_repeated_origin_is_blamed(rt: HostRuntime) -> Re
 #[test]
 fn a_failed_call_leaves_the_old_cache_none_or_the_new_one(rt: HostRuntime) -> Result<(), Fail> {
     // Attaching, the closing of block 0 and a sync, eleven blocks, a sync, the superblock and a sync.
-    expect_output_faults(&rt, rt.alloc(), (FIRST, EMPTY), (SECOND, TWO_MAPPED), 17)?;
+    expect_output_faults(rt.alloc(), (FIRST, EMPTY), (SECOND, TWO_MAPPED), 17)?;
     Ok(())
 }

@@ -1,15 +1,15 @@
 //! The three devices of shrinks and of writebacks.
 
+use crate::runs::{Failing, Held, Ran, run_over};
 use pd_crc::any_valid;
 use pd_kinds::{BLOCK_SIZE, Block};
-use pd_samples::runs::{Failing, Held, Ran, run_over};
 use std::alloc::{AllocError, Global};
 
 /// What the blocks of a device are filled with, one number a block.
-pub(crate) type Fill = &'static [u8];
+pub type Fill = &'static [u8];
 
 /// Blocks that are filled so.
-pub(crate) fn filled(alloc: Global, fill: &[u8]) -> Result<Vec<Block>, AllocError> {
+pub fn filled(alloc: Global, fill: &[u8]) -> Result<Vec<Block>, AllocError> {
     let mut blocks = Vec::new(alloc);
     for byte in fill {
         blocks.push(Block([*byte; BLOCK_SIZE]))?;
@@ -19,15 +19,15 @@ pub(crate) fn filled(alloc: Global, fill: &[u8]) -> Result<Vec<Block>, AllocErro
 
 /// The blocks of the metadata, of the output and of the third device.
 #[derive(Drop)]
-pub(crate) struct Devices {
-    pub(crate) meta: Vec<Block>,
-    pub(crate) output: Vec<Block>,
-    pub(crate) third: Vec<Block>,
+pub struct Devices {
+    pub meta: Vec<Block>,
+    pub output: Vec<Block>,
+    pub third: Vec<Block>,
 }
 
 impl Devices {
     /// Such devices. They are boxed, as runs are: dropped in place, they are three paths at each exit.
-    pub(crate) fn of(
+    pub fn of(
         alloc: Global,
         meta: Vec<Block>,
         output: Vec<Block>,
@@ -42,12 +42,7 @@ impl Devices {
     }
 
     /// Runs a tool over them.
-    pub(crate) fn run(
-        &self,
-        alloc: Global,
-        words: &[&str],
-        failing: Failing,
-    ) -> Result<Ran, AllocError> {
+    pub fn run(&self, alloc: Global, words: &[&str], failing: Failing) -> Result<Ran, AllocError> {
         let held = Held {
             text: b"",
             input: self.meta.as_slice(),
@@ -59,7 +54,7 @@ impl Devices {
 }
 
 /// Whether metadata is as it was, where it may also be the new one, or have no valid superblock.
-pub(crate) fn may_be_old(found: &[Block], old: &[Block], new: &[Block]) -> Option<bool> {
+pub fn may_be_old(found: &[Block], old: &[Block], new: &[Block]) -> Option<bool> {
     let is_closed = match found.first() {
         Some(first) => !any_valid(first),
         None => false,

@@ -1,11 +1,11 @@
 //! Restores of era targets: what is restored, what is refused, and what the output holds then.
 
-use crate::expected::End::{Done, NoRoom, Refused};
-use crate::expected::Left::{Closed, Old, Written};
-use crate::expected::{
-    ERA, Left, Row, expect_output_faults, expect_restored, left_by_source_fault,
+use crate::targets::{EMPTY, ERA, WRITTEN};
+use pd_samples::expected::End::{Done, NoRoom, Refused};
+use pd_samples::expected::Left::{Closed, Old, Written};
+use pd_samples::expected::{
+    Left, Row, expect_output_faults, expect_restored, left_by_source_fault,
 };
-use crate::targets::{EMPTY, WRITTEN};
 use std::test::Fail;
 
 /// Runs that leave a block out.
@@ -35,7 +35,7 @@ const ROWS: &[Row] = &[
 #[test]
 fn restores_of_targets_come_to_their_status(rt: HostRuntime) -> Result<(), Fail> {
     for row in ROWS {
-        expect_restored(&rt, rt.alloc(), row)?;
+        expect_restored(rt.alloc(), row)?;
     }
     Ok(())
 }
@@ -43,7 +43,7 @@ fn restores_of_targets_come_to_their_status(rt: HostRuntime) -> Result<(), Fail>
 #[test]
 fn a_source_of_a_target_that_fails_is_blamed(rt: HostRuntime) -> Result<(), Fail> {
     for call in 0..16 {
-        let left = left_by_source_fault(&rt, rt.alloc(), ERA, WRITTEN, call)?;
+        let left = left_by_source_fault(rt.alloc(), ERA, WRITTEN, call)?;
         assert!(rt; left != Left::Written, "{call}");
     }
     Ok(())
@@ -52,6 +52,6 @@ fn a_source_of_a_target_that_fails_is_blamed(rt: HostRuntime) -> Result<(), Fail
 #[test]
 fn a_failed_call_leaves_the_old_target_none_or_the_new_one(rt: HostRuntime) -> Result<(), Fail> {
     // Attaching, the closing of block 0 and a sync, six blocks, a sync, the superblock and a sync.
-    expect_output_faults(&rt, rt.alloc(), (ERA, EMPTY), (ERA, WRITTEN), 12)?;
+    expect_output_faults(rt.alloc(), (ERA, EMPTY), (ERA, WRITTEN), 12)?;
     Ok(())
 }
