@@ -8,6 +8,7 @@ use pd_samples::expected::End::{Done, NoRoom, Stopped};
 use pd_samples::expected::{End, ONES, Trouble, expect_end, expect_held, holds, made};
 use pd_samples::pool::damaged;
 use pd_samples::runs::{Failing, NOTHING_FAILS, Ran, blocks_after_crash, blocks_of, run};
+use pd_supers::read_cache_super;
 use std::alloc::{AllocError, Global};
 use std::process::Abort;
 use std::test::Fail;
@@ -203,11 +204,20 @@ fn first_word(image: &[Block]) -> Option<u64> {
     }
 }
 
+/// How many blocks of a cache's metadata are used.
+fn used_blocks(image: &[Block]) -> Option<u64> {
+    match image.first() {
+        Some(block) => Some(read_cache_super(block).meta_map.allocated),
+        None => None,
+    }
+}
+
 // The first block of the cache leads to block 3 of the origin, is valid and is dirty: 3 * 65536 + 1 + 2.
 #[test]
 fn a_writeback_of_one_block_clears_its_flag(rt: HostRuntime) -> Result<(), Fail> {
     let alloc = rt.alloc();
     let before = devices_of(alloc, FIRST, DIRTY, FAST, STALE)?;
+    assert!(rt; used_blocks(before.meta.as_slice()) == Some(9));
     assert!(rt; first_word(before.meta.as_slice()) == Some(196611));
     for b in 9..before.meta.len() {
         assert!(rt; before.meta[b] == ONES);

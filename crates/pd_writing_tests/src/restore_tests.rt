@@ -9,6 +9,7 @@ use pd_samples::expected::{
 };
 use pd_samples::pool::{bitmap, empty_pool, pool_of_one_mapping};
 use pd_samples::runs::{self, NOTHING_FAILS, blocks_of, restored};
+use pd_supers::read_thin_super;
 use std::alloc::{AllocError, Global};
 use std::process::Abort;
 use std::test::Fail;
@@ -123,7 +124,8 @@ fn restored_pools_are_clean(rt: HostRuntime) -> Result<(), Fail> {
 #[test]
 fn a_restore_writes_the_blocks_that_it_needs_and_no_others(rt: HostRuntime) -> Result<(), Fail> {
     let image = made(rt.alloc(), THIN, WIDE, 8192)?;
-    assert!(rt; image[6173] != ONES);
+    let used = read_thin_super(&image[0]).meta_map.allocated;
+    assert!(rt; (used == 6174) & (image[6173] != ONES));
     for b in 6174..8192 {
         assert!(rt; image[b] == ONES, "{b}");
     }
