@@ -1,11 +1,12 @@
 -- A pool's format sees the same in two images that are alike, in each block and role.
 use Rattle.std.proofs.Common.{◌≡◌, ℕ, zero, suc, ◌≤◌, Bool, true, false, not, List, [], ◌∷◌, drop, length, refl, sym, ap, ◌∙◌, arith}
 use Rattle.std.proofs.lemmas.Bool.{both_ways}
+use Rattle.pd_kinds.specs.declared.kind.Kind.{Kind}
 use Rattle.pd_kinds.specs.declared.kind.Kind.TheVariants.{Thin}
 use Rattle.pd_kinds.specs.declared.rule.Rule.{Rule}
 use Rattle.pd_kinds.specs.declared.rule.Rule.TheVariants as r
 use Rattle.pd_kinds.specs.Checksum.{has_checksum}
-use Rattle.pd_kinds.specs.Graph.{block_at}
+use Rattle.pd_kinds.specs.Graph.{Graph, block_at}
 use Rattle.pd_kinds.specs.Layout.{graph_of}
 use Rattle.pd_kinds.specs.RuleSet.{alone}
 use Rattle.pd_kinds.specs.Stages.{HasCleanSuper, thin_checked}
@@ -49,7 +50,7 @@ clean_checksum (block ∷ blocks) clean = sound_checksum (length (block ∷ bloc
 pub breaks_there : (block : List ℕ) (role : ℕ) → has_checksum block (salt_of Thin) ≡ true → (thin_graph block).bad (suc (suc role)) 0 block r.Checksum ≡ true
 unfolding thin_graph graph_of
 breaks_there block role has =
-    breaks_checksum _ (suc (suc role)) 0 _ block r.Checksum (no_copy (thin_fields block).meta_map.blocks (thin_fields block).data_map.blocks role) has
+    breaks_checksum Thin _ (suc (suc role)) 0 _ block r.Checksum (no_copy (thin_fields block).meta_map.blocks (thin_fields block).data_map.blocks role) has
 
 -- block 0 of both
 first_same : (block other : List ℕ) → drop 8 other ≡ drop 8 block → has_checksum block (salt_of Thin) ≡ true → has_checksum other (salt_of Thin) ≡ true
@@ -68,14 +69,14 @@ first_same block other same has also (suc zero) =
 first_same block other same has also (suc (suc role)) =
     let nr = (thin_fields block).meta_map.blocks in
     same_broken 11 nr (thin_fields block).data_map.blocks (thin_layout nr (thin_fields block).data_map.blocks) (suc (suc role)) 0 block other
-    (no_copy nr (thin_fields block).data_map.blocks role) has also
+    Thin (no_copy nr (thin_fields block).data_map.blocks role) has also
 
 -- a block behind block 0
 at_drop : (image : List (List ℕ)) (b : ℕ) → block_at image (suc b) ≡ block_at (drop 1 image) b
 at_drop [] b = refl
 at_drop (block ∷ blocks) b = refl
 
-module _ (image other : List (List ℕ)) (alike : AreAlike image other) where
+module _ {kind : Kind} (image other : List (List ℕ)) (alike : AreAlike kind image other) where
   rest_same : (b : ℕ) → block_at other (suc b) ≡ block_at image (suc b)
   rest_same b = at_drop other b ∙ (ap (λ (blocks : List (List ℕ)). block_at blocks b) alike.blocks ∙ sym (at_drop image b))
 
@@ -89,7 +90,12 @@ module _ (image other : List (List ℕ)) (alike : AreAlike image other) where
   bytes_same zero = alike.bytes
   bytes_same (suc b) = ap (drop 8) (rest_same b)
 
-  -- and so is what is seen of it
-  pub same : has_checksum (block_at image 0) (salt_of Thin) ≡ true → (role b : ℕ) → IsSameIn (thin_graph (block_at image 0)) role b (block_at image b) (block_at other b)
-  same has role zero = first_same (block_at image 0) (block_at other 0) alike.bytes has alike.checksum role
-  same has role (suc b) = rw (rest_same b) (record { bad = λ _. refl; is_inner = refl; edges = refl; keys = refl; data_refs = refl })
+  -- and so is what a format sees of it, if that is so of block 0
+  pub same_from : (graph : Graph) → ((role : ℕ) → IsSameIn graph role 0 (block_at image 0) (block_at other 0)) → (role b : ℕ) → IsSameIn graph role b (block_at image b) (block_at other b)
+  same_from graph first role zero = first role
+  same_from graph first role (suc b) = rw (rest_same b) (record { bad = λ _. refl; is_inner = refl; edges = refl; keys = refl; data_refs = refl })
+
+pub same : (image other : List (List ℕ)) → AreAlike Thin image other → has_checksum (block_at image 0) (salt_of Thin) ≡ true
+    → (role b : ℕ) → IsSameIn (thin_graph (block_at image 0)) role b (block_at image b) (block_at other b)
+same image other alike has =
+    same_from image other alike (thin_graph (block_at image 0)) (first_same (block_at image 0) (block_at other 0) alike.bytes has alike.checksum)

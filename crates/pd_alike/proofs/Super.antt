@@ -26,13 +26,13 @@ module _ (block other : List ℕ) (same : drop 8 other ≡ drop 8 block) where
   pub number_is : (o k : ℕ) → le other (8 + o) k ≡ le block (8 + o) k
   number_is o k = le_same other block (8 + o) (8 + o) k (λ i _. let place : 8 + o + i ≡ 8 + (o + i) = omega arith in rw place (byte_is (o + i)))
 
-  numbers_are : (o k : ℕ) → cond (nat_lt o 8) 0 (le other o k) ≡ cond (nat_lt o 8) 0 (le block o k)
+  pub numbers_are : (o k : ℕ) → cond (nat_lt o 8) 0 (le other o k) ≡ cond (nat_lt o 8) 0 (le block o k)
   numbers_are o k = elim (cases_lt o 8) [
     | inl before ↦ rw (lt-ltb o 8 before) refl
     | inr past ↦ let place : 8 + (o - 8) ≡ o = omega arith in ap (λ (n : ℕ). cond (nat_lt o 8) 0 n) (rw place at (number_is (o - 8) k))
   ]
 
-  bytes_are : (o k : ℕ) → cond (nat_lt o 8) [] (take k (drop o other)) ≡ cond (nat_lt o 8) [] (take k (drop o block))
+  pub bytes_are : (o k : ℕ) → cond (nat_lt o 8) [] (take k (drop o other)) ≡ cond (nat_lt o 8) [] (take k (drop o block))
   bytes_are o k = elim (cases_lt o 8) [
     | inl before ↦ rw (lt-ltb o 8 before) refl
     | inr past ↦

@@ -4,6 +4,7 @@ use Rattle.std.proofs.lemmas.Bool.{lt-ltb}
 use Rattle.std.specs.List.{flat_map, range_with_len}
 use Rattle.pd_kinds.specs.declared.fault.Fault.{Fault}
 use Rattle.pd_kinds.specs.declared.fault.Space.TheVariants.{Meta, DataBlock}
+use Rattle.pd_kinds.specs.declared.kind.Kind.{Kind}
 use Rattle.pd_kinds.specs.declared.kind.Kind.TheVariants.{Thin}
 use Rattle.pd_kinds.specs.declared.kind.Stage.{Stage}
 use Rattle.pd_kinds.specs.declared.kind.Stage.TheVariants as stages
@@ -11,12 +12,13 @@ use Rattle.pd_kinds.specs.declared.rule.Rule.{Rule}
 use Rattle.pd_kinds.specs.Checksum.{has_checksum}
 use Rattle.pd_kinds.specs.Faults.{faults_at}
 use Rattle.pd_kinds.specs.Graph.{Graph, block_at}
-use Rattle.pd_kinds.specs.Stages.{Checked, block_faults, count_fault, count_faults, faults, first_failing, order_bad, stage_faults, stages_to, super_faults, thin_checked, walk_bad}
+use Rattle.pd_kinds.specs.Stages.{Checked, HasCleanSuper, block_faults, checked_of, count_fault, count_faults, faults, first_failing, order_bad, stage_faults, stages_to, super_faults, thin_checked, walk_bad}
 use Rattle.pd_kinds.specs.Super.{salt_of}
 use Rattle.pd_kinds.specs.ThinFormat.{thin_graph}
 use Rattle.pd_kinds.specs.ThinSuper.{thin_fields, thin_super_bad}
 use Rattle.pd_kinds.specs.Trees.{entries_below, stored_data_in, stored_meta_in}
 use Rattle.pd_kinds.specs.Whole.{data_index_entries, thin_whole, whole_bad}
+use Rattle.pd_laws.proofs.CleanLemmas.{clean_super_where_none}
 use Rattle.pd_alike.specs.Alike.{AreAlike}
 use Rattle.pd_alike.proofs.Frozen.{data_count_is, meta_count_is, order_is, walk_is}
 use Rattle.pd_alike.proofs.Pools.{same}
@@ -54,7 +56,28 @@ module _ (checked also : Checked) where
         ap (λ (here : List Fault). cond (nat_lt 0 (length here)) here (first_failing also other later)) each.0
         ∙ chosen_same (stage_faults checked image stage) _ _ (λ none. first_same later (each.1 none))
 
-module _ (image other : List (List ℕ)) (alike : AreAlike image other) (has : has_checksum (block_at image 0) (salt_of Thin) ≡ true) where
+    abbrev IsSame : Stage → Type 0
+    IsSame stage = stage_faults also other stage ≡ stage_faults checked image stage
+
+    -- the stages past Order are looked at where there is no fault up to it
+    module _ (first : IsSame stages.Super) (walk : IsSame stages.Walk) (order : IsSame stages.Order)
+        (last : first_failing checked image (stages_to stages.Order) ≡ [] → IsSame stages.Whole × IsSame stages.Counts) where
+      past_order : (later : List Stage) → (IsSame stages.Whole × IsSame stages.Counts → AreSame later) → AreSame (stages.Super ∷ stages.Walk ∷ stages.Order ∷ later)
+      unfolding first_failing
+      past_order later each = (first, λ none. (walk, λ none_reached. (order, λ none_deep. each (last (rw (none, none_reached, none_deep) refl)))))
+
+      each_same : (until : Stage) → AreSame (stages_to until)
+      each_same stages.Super = (first, λ _. tt)
+      each_same stages.Walk = (first, λ _. (walk, λ _. tt))
+      each_same stages.Order = past_order [] (λ _. tt)
+      each_same stages.Whole = past_order (stages.Whole ∷ []) (λ both. (both.0, λ _. tt))
+      each_same stages.Counts = past_order (stages.Whole ∷ stages.Counts ∷ []) (λ both. (both.0, λ _. (both.1, λ _. tt)))
+
+      -- so up to each stage the faults are the same
+      pub same_until : (until : Stage) → first_failing also other (stages_to until) ≡ first_failing checked image (stages_to until)
+      same_until until = first_same (stages_to until) (each_same until)
+
+module _ (image other : List (List ℕ)) (alike : AreAlike Thin image other) (has : has_checksum (block_at image 0) (salt_of Thin) ≡ true) where
   abbrev checked : Checked
   checked = thin_checked image
 
@@ -113,24 +136,15 @@ module _ (image other : List (List ℕ)) (alike : AreAlike image other) (has : h
     whole_stage_same : stage_faults also other stages.Whole ≡ stage_faults checked image stages.Whole
     whole_stage_same = ap (λ (c : Checked). block_faults c.graph.nr (whole_bad c.whole)) checked_same
 
-  module _ (know : faults Thin stages.Order image ≡ [] → IsKnown image) where
-    none_to_order : stage_faults checked image stages.Super ≡ [] → stage_faults checked image stages.Walk ≡ [] → stage_faults checked image stages.Order ≡ []
-        → faults Thin stages.Order image ≡ []
-    unfolding faults first_failing
-    none_to_order none_first none_reached none_deep = rw (none_first, none_reached, none_deep) refl
+  pub faults_same : (faults Thin stages.Order image ≡ [] → IsKnown image) → (until : Stage) → faults Thin until other ≡ faults Thin until image
+  unfolding faults
+  faults_same know = same_until checked also image other super_same walk_same order_same (λ none. (whole_stage_same (know none), counts_same (know none)))
 
-    -- the stages past Order are looked at where there is no fault up to it
-    past_order : (later : List Stage) → (IsKnown image → AreSame checked also image other later)
-        → AreSame checked also image other (stages.Super ∷ stages.Walk ∷ stages.Order ∷ later)
-    past_order later each = (super_same, λ first. (walk_same, λ reached. (order_same, λ deep. each (know (none_to_order first reached deep)))))
-
-    same_to : (until : Stage) → AreSame checked also image other (stages_to until)
-    same_to stages.Super = (super_same, λ _. tt)
-    same_to stages.Walk = (super_same, λ _. (walk_same, λ _. tt))
-    same_to stages.Order = past_order [] (λ _. tt)
-    same_to stages.Whole = past_order (stages.Whole ∷ []) (λ known. (whole_stage_same known, λ _. tt))
-    same_to stages.Counts = past_order (stages.Whole ∷ stages.Counts ∷ []) (λ known. (whole_stage_same known, λ _. (counts_same known, λ _. tt)))
-
-    pub faults_same : (until : Stage) → faults Thin until other ≡ faults Thin until image
-    unfolding faults
-    faults_same until = first_same checked also image other (stages_to until) (same_to until)
+-- the superblock breaks no rule where there is no fault up to some stage, as each stage comes after its own
+pub clean_super : (kind : Kind) (some : Stage) (image : List (List ℕ)) → faults kind some image ≡ [] → HasCleanSuper (checked_of kind image) image
+unfolding faults
+clean_super kind stages.Super image none = clean_super_where_none (checked_of kind image) image _ none
+clean_super kind stages.Walk image none = clean_super_where_none (checked_of kind image) image _ none
+clean_super kind stages.Order image none = clean_super_where_none (checked_of kind image) image _ none
+clean_super kind stages.Whole image none = clean_super_where_none (checked_of kind image) image _ none
+clean_super kind stages.Counts image none = clean_super_where_none (checked_of kind image) image _ none

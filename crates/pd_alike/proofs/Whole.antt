@@ -3,6 +3,7 @@
 use Rattle.std.proofs.Common.{◌≡◌, ℕ, suc, ◌<◌, nat_eq, ◌==◌, ◌||◌, not, cond, List, [], ◌∷◌, ◌++◌, map, filter, length, ap, ap₂, ◌∙◌, arith}
 use Rattle.std.specs.List.{AllByRecursion, flat_map}
 use Rattle.std.specs.Str.{bytes_eq}
+use Rattle.pd_kinds.specs.declared.kind.Kind.TheVariants.{Thin}
 use Rattle.pd_kinds.specs.declared.rule.Rule.TheVariants as r
 use Rattle.pd_kinds.specs.Bitmap.{bitmaps_for}
 use Rattle.pd_kinds.specs.Graph.{Graph, block_at}
@@ -24,7 +25,7 @@ use Rattle.pd_alike.proofs.Pools.{bytes_same, rest, same}
 use Rattle.pd_alike.proofs.Roots.{AreReached, has_sum, reached_behind, roots_reached}
 use Rattle.pd_alike.proofs.Super.{fields_are, graph_is, unflagged}
 
-module _ (image other : List (List ℕ)) (alike : AreAlike image other) (known : IsKnown image) where
+module _ (image other : List (List ℕ)) (alike : AreAlike Thin image other) (known : IsKnown image) where
   abbrev graph : Graph
   graph = thin_graph (block_at image 0)
 

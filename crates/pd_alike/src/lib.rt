@@ -31,14 +31,14 @@ fn pools_in_order_are_known()
 /// Images of a pool that are alike have the same faults up to each stage, where one of them has none up to some stage, so
 /// none in its superblock.
 pub fn alike_pools_have_the_same_faults()
-    ensures { (some until : Stage) (image other : List (List ℕ)) → AreAlike image other → faults Thin some image ≡ [] → faults Thin until other ≡ faults Thin until image }
+    ensures { (some until : Stage) (image other : List (List ℕ)) → AreAlike Thin image other → faults Thin some image ≡ [] → faults Thin until other ≡ faults Thin until image }
 {
     pools_in_order_are_known();
 }
 
 /// They mean the same, where one has no faults up to the stage Order, or up to a later one.
 pub fn alike_pools_mean_the_same()
-    ensures { (until : Stage) (image other : List (List ℕ)) → AreAlike image other → LooksAtOrder until → faults Thin until image ≡ [] → thin_meaning other ≡ thin_meaning image }
+    ensures { (until : Stage) (image other : List (List ℕ)) → AreAlike Thin image other → LooksAtOrder until → faults Thin until image ≡ [] → thin_meaning other ≡ thin_meaning image }
 {
     pools_in_order_are_known();
 }

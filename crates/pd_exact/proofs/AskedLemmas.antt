@@ -8,6 +8,7 @@ use Rattle.std.proofs.lemmas.Option.{same_Some}
 use Rattle.pd_kinds.specs.declared.kind.Flagged.{Flagged}
 use Rattle.pd_kinds.specs.declared.kind.Flagged.TheVariants as flagged
 use Rattle.pd_kinds.specs.declared.kind.Kind.{Kind}
+use Rattle.pd_kinds.specs.declared.kind.Passing.{Passing}
 use Rattle.pd_kinds.specs.declared.kind.Passing.TheVariants.{Nothing, Leaks}
 use Rattle.pd_kinds.specs.Flagged.{kind_of}
 use Rattle.pd_kinds.specs.declared.kind.Kind.TheVariants.{Thin, Cache, Era}
@@ -15,7 +16,7 @@ use Rattle.pd_kinds.specs.declared.kind.Stage.TheVariants.{Counts}
 use Rattle.pd_answers.specs.Requests.{check, check_and_clear, passing_check, dump, dump_shared, restore, repair, search, rmap, list_devices, since, generate, rehearse, writeback, shrink}
 use Rattle.pd_answers.specs.Words.{Region, is_flag, items_of, given, version_of, generated_number, number_below, region_of, tool_in, request_of, asked}
 use Rattle.pd_exact.specs.Search.{DoNumbersFit, NumberWords, SayNumbers, with_numbers}
-use Rattle.pd_exact.specs.Words.{IsName, check_name, to_file, in_version}
+use Rattle.pd_exact.specs.Words.{IsName, check_name, in_version, letting_pass, to_file}
 
 pub thin_check_asked : (image : List ℕ) → IsName image → asked (codes "thin_check" ∷ image ∷ []) ≡ Some (check Thin Counts image)
 unfolding is_flag items_of given version_of tool_in request_of asked
@@ -35,19 +36,13 @@ passing_asked Thin image is_image = rw is_image refl
 passing_asked Cache image is_image = rw is_image refl
 passing_asked Era image is_image = rw is_image refl
 
-pub passing_clearing_asked : (flagged : Flagged) (image : List ℕ) → IsName image
-    → asked (check_name (kind_of flagged) ∷ codes "--ignore-non-fatal-errors" ∷ codes "--clear-needs-check-flag" ∷ image ∷ []) ≡ Some (check_and_clear flagged Leaks image)
+pub clearing_asked : (flagged : Flagged) (passing : Passing) (image : List ℕ) → IsName image
+    → asked (check_name (kind_of flagged) ∷ (letting_pass passing ++ (codes "--clear-needs-check-flag" ∷ image ∷ []))) ≡ Some (check_and_clear flagged passing image)
 unfolding is_flag items_of given version_of tool_in request_of asked
-passing_clearing_asked flagged.Pool image is_image = rw is_image refl
-passing_clearing_asked flagged.Cache image is_image = rw is_image refl
-
-pub cache_clearing_asked : (image : List ℕ) → IsName image → asked (codes "cache_check" ∷ codes "--clear-needs-check-flag" ∷ image ∷ []) ≡ Some (check_and_clear flagged.Cache Nothing image)
-unfolding is_flag items_of given version_of tool_in request_of asked
-cache_clearing_asked image is_image = rw is_image refl
-
-pub thin_clearing_asked : (image : List ℕ) → IsName image → asked (codes "thin_check" ∷ codes "--clear-needs-check-flag" ∷ image ∷ []) ≡ Some (check_and_clear flagged.Pool Nothing image)
-unfolding is_flag items_of given version_of tool_in request_of asked
-thin_clearing_asked image is_image = rw is_image refl
+clearing_asked flagged.Pool Nothing image is_image = rw is_image refl
+clearing_asked flagged.Pool Leaks image is_image = rw is_image refl
+clearing_asked flagged.Cache Nothing image is_image = rw is_image refl
+clearing_asked flagged.Cache Leaks image is_image = rw is_image refl
 
 pub thin_dump_asked : (file : Option (List ℕ)) (image : List ℕ) → IfSome file IsName → IsName image → asked (codes "thin_dump" ∷ (to_file file ++ (image ∷ []))) ≡ Some (dump Thin file image)
 unfolding is_flag items_of given version_of tool_in request_of asked

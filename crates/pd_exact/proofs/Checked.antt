@@ -1,6 +1,6 @@
 -- What an answered check to its end says of the image.
-use Rattle.std.proofs.Common.{◌≡◌, ◌↔◌, ◌⊎◌, inl, inr, ℕ, ◌≤◌, Bool, true, false, cond, List, [], length, nat_eq, IfSome, refl, sym, ap, subst, ◌∙◌, arith, eq-eqb}
-use Rattle.std.proofs.lemmas.Bool.{cases_Bool, eqb-true}
+use Rattle.std.proofs.Common.{◌≡◌, ◌↔◌, ◌⊎◌, ℕ, ◌≤◌, Bool, true, false, cond, List, [], length, IfSome, refl, sym, ap, subst, ◌∙◌, arith, eq-eqb}
+use Rattle.std.proofs.lemmas.Bool.{eqb-true}
 use Rattle.std.proofs.lemmas.Option.{IfSome_then}
 use Rattle.pd_kinds.specs.declared.fault.Fault.{Fault}
 use Rattle.pd_kinds.specs.declared.kind.Flagged.{Flagged}
@@ -56,7 +56,7 @@ module _ (clean : (kind : Kind) (image : List (List ℕ)) → (faults kind Count
       tells Nothing kind (clean_law kind) before after status answered.finding answered.found answered.sound answered.complete
 
   module _ (leaks : (found : List Fault) → (passes Leaks (report_of found) ≡ true) ↔ AreLeaks found) where
-    law_of : (passing : Passing) (kind : Kind) (image : List (List ℕ)) → (passes passing (report_of (faults kind Counts image)) ≡ true) ↔ IsPassed passing kind image
+    pub law_of : (passing : Passing) (kind : Kind) (image : List (List ℕ)) → (passes passing (report_of (faults kind Counts image)) ≡ true) ↔ IsPassed passing kind image
     law_of Nothing kind image = clean_law kind image
     law_of Leaks kind image = leaks (faults kind Counts image)
 

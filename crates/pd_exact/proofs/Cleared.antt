@@ -1,26 +1,35 @@
--- A pool whose flag "needs check" was cleared is alike to the one that it was.
-use Rattle.std.proofs.Common.{ap, ◌≡◌, ◌⊎◌, inl, inr, ⊎_elim, ℕ, ◌^◌, ◌<◌, ◌==◌, true, false, List, [], ◌∷◌, drop, length, get_or, Option, IfSome, refl, sym, subst, ◌∙◌, arith}
+-- A pool or a cache whose flag "needs check" was cleared is alike to the one that it was.
+use Rattle.std.proofs.Common.{ap, ◌≡◌, ◌↔◌, ◌⊎◌, inl, inr, ⊎_elim, ℕ, ◌^◌, ◌<◌, ◌%◌, ◌==◌, true, false, List, [], ◌∷◌, drop, length, get_or, Option, IfSome, refl, sym, subst, ◌∙◌, arith}
 use Rattle.std.specs.Int.{bit_at}
 use Rattle.std.proofs.lemmas.Bool.{cases_Bool, ne_eqb}
 use Rattle.std.proofs.lemmas.List.Elements.{All-head}
 use Rattle.std.proofs.lemmas.Option.{IfSome_then}
+use Rattle.pd_kinds.specs.declared.fault.Fault.{Fault}
 use Rattle.pd_kinds.specs.declared.kind.Flagged.{Flagged}
 use Rattle.pd_kinds.specs.declared.kind.Flagged.TheVariants.{Pool, Cache}
-use Rattle.pd_kinds.specs.declared.kind.Kind.TheVariants.{Thin}
+use Rattle.pd_kinds.specs.declared.kind.Kind.{Kind}
 use Rattle.pd_kinds.specs.declared.kind.Passing.{Passing}
-use Rattle.pd_kinds.specs.Checksum.{has_checksum, sealed}
-use Rattle.pd_kinds.specs.Crash.{HoldsSynced}
+use Rattle.pd_kinds.specs.declared.kind.Passing.TheVariants.{Nothing, Leaks}
+use Rattle.pd_kinds.specs.declared.kind.Stage.TheVariants.{Counts}
+use Rattle.pd_kinds.specs.Checksum.{has_checksum}
+use Rattle.pd_kinds.specs.Crash.{HoldsSynced, LeavesOnly}
 use Rattle.pd_kinds.specs.Field.{le, put}
 use Rattle.pd_kinds.specs.Flagged.{kind_of}
 use Rattle.pd_kinds.specs.Image.{IsImage}
+use Rattle.pd_kinds.specs.Leaks.{AreLeaks, OnlyLeaks}
+use Rattle.pd_kinds.specs.Meaning.{cache_meaning}
+use Rattle.pd_kinds.specs.Report.{passes, report_of}
+use Rattle.pd_kinds.specs.Stages.{IsClean, faults}
 use Rattle.pd_kinds.specs.Super.{salt_of}
+use Rattle.pd_kinds.proofs.CrashLemmas.{weaken}
 use Rattle.pd_kinds.proofs.FieldLemmas.{drop-put, le-lt, le-put, length-put}
 use Rattle.pd_kinds.proofs.WrittenLemmas.{drop-sealed, le-sealed_other}
 use Rattle.pd_laid_graph.proofs.Bytes.{bytes_put, valid_sealed}
 use Rattle.pd_answers.specs.Answer.{Objects}
-use Rattle.pd_answers.specs.Flag.{cleared, cleared_super, flag_bit, flags_without, is_flag_set, needs_check}
+use Rattle.pd_answers.specs.Flag.{IsOldOrCleared, cleared, cleared_super, flag_bit, flags_without, is_flag_set, needs_check}
 use Rattle.pd_alike.specs.Alike.{AreAlike}
-use Rattle.pd_exact.specs.Exact.{HoldsCleared, IsClearedPool, IsClearingAnswered, IsPassed, TellsPassed}
+use Rattle.pd_exact.specs.Exact.{HoldsCleared, IsCleared, IsClearingAnswered, IsPassed, LeavesOldOrCleared, TellsPassed}
+use Rattle.pd_exact.proofs.Checked.{law_of}
 use Rattle.pd_exact.proofs.Restored.{both_told}
 
 module _ (flagged : Flagged) (block : List ℕ) (len : length block ≡ 4096) (bytes : (i : ℕ) → get_or block i 0 < 256) where
@@ -62,18 +71,30 @@ whole : (block : List ℕ) (blocks : List (List ℕ)) → IsImage (block ∷ blo
 whole block blocks is = All-head (λ (b : List ℕ). length b ≡ 4096) block blocks is.blocks
 
 -- an image is as it was, or alike
-pub cleared_alike : (image : List (List ℕ)) → IsImage image → (cleared Pool image ≡ image) ⊎ AreAlike image (cleared Pool image)
+pub cleared_alike : (flagged : Flagged) (image : List (List ℕ)) → IsImage image → (cleared flagged image ≡ image) ⊎ AreAlike (kind_of flagged) image (cleared flagged image)
 unfolding cleared
-cleared_alike [] is = inl refl
-cleared_alike (block ∷ blocks) is = elim (cases_Bool (needs_check Pool (block ∷ blocks))) [
+cleared_alike flagged [] is = inl refl
+cleared_alike flagged (block ∷ blocks) is = elim (cases_Bool (needs_check flagged (block ∷ blocks))) [
   | inl found ↦ inr (rw found (record {
     size = refl;
     blocks = refl;
-    bytes = super_bytes Pool block (whole block blocks is) (is.bytes 0);
-    checksum = super_checksum Pool block (whole block blocks is) (is.bytes 0);
+    bytes = super_bytes flagged block (whole block blocks is) (is.bytes 0);
+    checksum = super_checksum flagged block (whole block blocks is) (is.bytes 0);
   }))
   | inr unset ↦ inl (rw unset refl)
 ]
+
+-- a cache says as before whether it was shut down
+pub cleared_clean : (image : List (List ℕ)) → IsImage image → (cache_meaning (cleared Cache image)).clean ≡ (cache_meaning image).clean
+unfolding cleared cache_meaning
+cleared_clean [] is = refl
+cleared_clean (block ∷ blocks) is = elim (cases_Bool (needs_check Cache (block ∷ blocks))) [
+  | inl found ↦ rw found (ap (λ (n : ℕ). n % 2 == 1) (flags_are Cache block (whole block blocks is) (is.bytes 0)) ∙ low_bit (le block 4 4))
+  | inr unset ↦ rw unset refl
+]
+  where
+    low_bit : (n : ℕ) → (flags_without Cache n % 2 == 1) ≡ (n % 2 == 1)
+    low_bit n = let same : flags_without Cache n % 2 ≡ n % 2 = omega arith in rw same refl
 
 -- its flag isn't set
 pub cleared_unset : (flagged : Flagged) (image : List (List ℕ)) → IsImage image → needs_check flagged (cleared flagged image) ≡ false
@@ -85,17 +106,44 @@ cleared_unset flagged (block ∷ blocks) is = elim (cases_Bool (needs_check flag
   | inr unset ↦ rw unset unset
 ]
 
--- so a law of alike pools is one of the cleared pool
-pub on_cleared : (P : List (List ℕ) → Type 0) (image : List (List ℕ)) → IsImage image → P image → (AreAlike image (cleared Pool image) → P (cleared Pool image)) → P (cleared Pool image)
-on_cleared P image is same alike = ⊎_elim (λ equal. rw equal same) alike (cleared_alike image is)
+-- so a law of alike images is one of the cleared image
+pub on_cleared : (flagged : Flagged) (P : List (List ℕ) → Type 0) (image : List (List ℕ)) → IsImage image → P image
+    → (AreAlike (kind_of flagged) image (cleared flagged image) → P (cleared flagged image)) → P (cleared flagged image)
+on_cleared flagged P image is same alike = ⊎_elim (λ equal. rw equal same) alike (cleared_alike flagged image is)
 
--- what the device holds after an answered check that cleared the flag
-pub holds_cleared : (passing : Passing) (path : List ℕ) (before after : Objects) → IsClearingAnswered Pool passing path before after 0
-    → ((image : List (List ℕ)) → IsImage image → IsPassed passing Thin image → IsClearedPool passing image (cleared Pool image))
-    → IfSome before.input.held (TellsPassed passing Thin before after 0) → HoldsCleared passing before after
-holds_cleared passing path before after answered law told =
-    IfSome_then before.input.held
-    (both_told before.input.held (TellsPassed passing Thin before after 0) (λ image. HoldsSynced (cleared Pool image) after.input) told (answered.leaves.done refl))
-    (λ image both is.
-    subst (λ (o : Option (List (List ℕ))). IfSome o (λ left. IsClearedPool passing image left × HoldsSynced left after.input)) (sym both.1.held)
-    (law image is (both.0.passed refl), both.1))
+-- an image that passes has leaks alone, and one of the same faults passes
+module _ (clean : (kind : Kind) (image : List (List ℕ)) → (faults kind Counts image ≡ []) ↔ IsClean kind image) where
+  pub only_leaks : (passing : Passing) (kind : Kind) (image : List (List ℕ)) → IsPassed passing kind image → OnlyLeaks kind image
+  only_leaks Nothing kind image passed = subst (λ (found : List Fault). AreLeaks found) (sym ((clean kind image).1 passed)) tt
+  only_leaks Leaks kind image passed = passed
+
+  pub passes_too : (passing : Passing) (kind : Kind) (image other : List (List ℕ)) → faults kind Counts other ≡ faults kind Counts image → IsPassed passing kind image → IsPassed passing kind other
+  passes_too Nothing kind image other same passed = (clean kind other).0 (same ∙ (clean kind image).1 passed)
+  passes_too Leaks kind image other same passed = subst (λ (found : List Fault). AreLeaks found) (sym same) passed
+
+module _ (flagged : Flagged) (passing : Passing)
+    (law : (image : List (List ℕ)) → IsImage image → IsPassed passing (kind_of flagged) image → IsCleared flagged passing image (cleared flagged image)) where
+  -- what the device holds after an answered check that cleared the flag
+  pub holds_cleared : (path : List ℕ) (before after : Objects) → IsClearingAnswered flagged passing path before after 0
+      → IfSome before.input.held (TellsPassed passing (kind_of flagged) before after 0) → HoldsCleared flagged passing before after
+  holds_cleared path before after answered told =
+      IfSome_then before.input.held
+      (both_told before.input.held (TellsPassed passing (kind_of flagged) before after 0) (λ image. HoldsSynced (cleared flagged image) after.input) told (answered.leaves.done refl))
+      (λ image both is.
+      subst (λ (o : Option (List (List ℕ))). IfSome o (λ left. IsCleared flagged passing image left × HoldsSynced left after.input)) (sym both.1.held)
+      (law image is (both.0.passed refl), both.1))
+
+  -- and what a crash leaves
+  pub leaves_cleared : ((kind : Kind) (image : List (List ℕ)) → (faults kind Counts image ≡ []) ↔ IsClean kind image) → ((found : List Fault) → (passes Leaks (report_of found) ≡ true) ↔ AreLeaks found)
+      → (path : List ℕ) (before after : Objects) (status : ℕ) → IsClearingAnswered flagged passing path before after status → LeavesOldOrCleared flagged passing before after
+  leaves_cleared clean leaks path before after status answered =
+      let report = answered.finding in
+      let kind = kind_of flagged in
+      IfSome_then before.input.held
+      (both_told before.input.held (λ image. report ≡ report_of (faults kind Counts image)) (λ image. LeavesOnly (IsOldOrCleared flagged (passes passing report) image) before.input after.input)
+      answered.found answered.leaves.crash)
+      (λ image both is. weaken both.1 (λ left firsts outcome chance. ⊎_elim (λ old. inl old) (λ other. inr (⊎_elim
+      (λ made.
+      let passed = (law_of clean leaks passing kind image).0 (ap (passes passing) (sym both.0) ∙ made.0) in
+      inr (rw made.1 (law image is passed)))
+      (λ none. inl none.0) other)) (outcome chance)))

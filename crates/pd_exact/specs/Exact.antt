@@ -4,12 +4,14 @@ use Rattle.std.specs.Prelude.{◌≡◌, ◌⊎◌, ℕ, ◌≤◌, false, List,
 use Rattle.pd_kinds.specs.declared.kind.Kind.{Kind}
 use Rattle.pd_kinds.specs.declared.kind.Kind.TheVariants.{Thin, Cache, Era}
 use Rattle.pd_kinds.specs.declared.kind.Flagged.{Flagged}
-use Rattle.pd_kinds.specs.declared.kind.Flagged.TheVariants.{Pool}
+use Rattle.pd_kinds.specs.declared.kind.Flagged.TheVariants as flags
 use Rattle.pd_kinds.specs.declared.kind.Passing.{Passing}
 use Rattle.pd_kinds.specs.declared.kind.Passing.TheVariants.{Nothing, Leaks}
+use Rattle.pd_kinds.specs.declared.kind.Stage.{Stage}
 use Rattle.pd_kinds.specs.declared.kind.Stage.TheVariants.{Counts, Whole}
 use Rattle.pd_kinds.specs.CacheFormat.{cache_fields}
 use Rattle.pd_kinds.specs.Crash.{HoldsSynced, IsOldNoneOrMade, LeavesOnly}
+use Rattle.pd_kinds.specs.Flagged.{kind_of}
 use Rattle.pd_kinds.specs.Graph.{block_at, data_count}
 use Rattle.pd_kinds.specs.Meaning.{CacheMeaning, thin_meaning, cache_meaning, era_meaning}
 use Rattle.pd_kinds.specs.Leaks.{AreCountsEnough, OnlyLeaks}
@@ -152,17 +154,30 @@ pub record LosesNothing (kind : Kind) (image : List (List ℕ)) : Type 0 where
   pub sound : faults kind Whole image ≡ []
   pub counts : AreCountsEnough (checked_of kind image) image
 
--- the image passes, means what the old one did, and its flag "needs check" isn't set
-pub record IsClearedPool (passing : Passing) (old image : List (List ℕ)) : Type 0 where
-  pub passed : IsPassed passing Thin image
-  pub same : thin_meaning image ≡ thin_meaning old
-  pub unset : needs_check Pool image ≡ false
+-- a pool or a cache means what another one does
+abbrev pub MeansTheSame : Flagged → List (List ℕ) → List (List ℕ) → Type 0
+MeansTheSame flags.Pool image other = thin_meaning image ≡ thin_meaning other
+MeansTheSame flags.Cache image other = cache_meaning image ≡ cache_meaning other
+
+-- the image passes and loses nothing, has the faults of the old one, means what that did, and its flag "needs check" isn't set
+pub record IsCleared (flagged : Flagged) (passing : Passing) (old image : List (List ℕ)) : Type 0 where
+  pub passed : IsPassed passing (kind_of flagged) image
+  pub kept : LosesNothing (kind_of flagged) image
+  pub same_faults : (until : Stage) → faults (kind_of flagged) until image ≡ faults (kind_of flagged) until old
+  pub same : MeansTheSame flagged image old
+  pub unset : needs_check flagged image ≡ false
 
 -- the device that was checked holds such an image of what it held, and nothing of it is unsynced
-abbrev pub HoldsCleared : Passing → Objects → Objects → Type 0
-HoldsCleared passing before after =
+abbrev pub HoldsCleared : Flagged → Passing → Objects → Objects → Type 0
+HoldsCleared flagged passing before after =
     IfSome before.input.held (λ image. IsImage image →
-    IfSome after.input.held (λ left. IsClearedPool passing image left × HoldsSynced left after.input))
+    IfSome after.input.held (λ left. IsCleared flagged passing image left × HoldsSynced left after.input))
+
+-- a crash at any moment leaves, by no chance, the old image, no valid superblock, or such an image
+abbrev pub LeavesOldOrCleared : Flagged → Passing → Objects → Objects → Type 0
+LeavesOldOrCleared flagged passing before after =
+    IfSome before.input.held (λ image. IsImage image →
+    LeavesOnly (IsOldNoneOrMade image (IsCleared flagged passing image)) before.input after.input)
 
 -- a repair of one image onto another was asked, and was answered with this status
 abbrev pub IsRepairAnswered : List ℕ → List ℕ → Objects → Objects → ℕ → Type 0

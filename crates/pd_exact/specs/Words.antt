@@ -5,6 +5,7 @@ use Rattle.std.specs.Prelude.{◌≡◌, ℕ, true, List, [], ◌∷◌, Option,
 use Rattle.pd_kinds.specs.declared.kind.Kind.{Kind}
 use Rattle.pd_kinds.specs.declared.kind.Kind.TheVariants.{Thin, Cache, Era}
 use Rattle.pd_kinds.specs.declared.kind.Passing.{Passing}
+use Rattle.pd_kinds.specs.declared.kind.Passing.TheVariants.{Nothing, Leaks}
 use Rattle.pd_kinds.specs.declared.kind.Stage.TheVariants.{Whole}
 use Rattle.pd_kinds.specs.Crash.{HoldsSynced}
 use Rattle.pd_kinds.specs.Image.{IsImage}
@@ -39,6 +40,11 @@ to_file (Some file) = codes "-o" ∷ file ∷ []
 abbrev pub in_version : Option (List ℕ) → List (List ℕ)
 in_version None = []
 in_version (Some word) = codes "--metadata-version" ∷ word ∷ []
+
+-- `--ignore-non-fatal-errors`, where leaks pass
+abbrev pub letting_pass : Passing → List (List ℕ)
+letting_pass Nothing = []
+letting_pass Leaks = codes "--ignore-non-fatal-errors" ∷ []
 
 -- the status of a check tells whether the image is clean
 abbrev pub TellsWhetherClean : Kind → Objects → Objects → ℕ → Type 0

@@ -3,7 +3,6 @@
 ghost use Rattle.std.specs.Prelude.{◌≡◌, ◌⊎◌, ℕ, false, List, [], IfSome};
 ghost use Rattle.pd_kinds.specs.declared.kind.Kind.{Kind};
 ghost use Rattle.pd_kinds.specs.declared.kind.Flagged.{Flagged};
-ghost use Rattle.pd_kinds.specs.declared.kind.Flagged.TheVariants.{Pool};
 ghost use Rattle.pd_kinds.specs.declared.kind.Kind.TheVariants.{Thin};
 ghost use Rattle.pd_kinds.specs.declared.kind.Passing.{Passing};
 ghost use Rattle.pd_kinds.specs.declared.kind.Passing.TheVariants.{Leaks};
@@ -15,11 +14,12 @@ ghost use Rattle.pd_kinds.specs.Stages.{faults};
 ghost use Rattle.pd_laws.specs.InOrder.{LooksAtOrder};
 ghost use Rattle.pd_answers.specs.Answer.{NoFaults, Objects};
 ghost use Rattle.pd_answers.specs.Flag.{cleared, needs_check};
-ghost use Rattle.pd_exact.specs.Exact.{HoldsCleared, HoldsPoolOfText, IsCheckAnswered, IsClearingAnswered, IsDumpOf, IsPassingAnswered, IsRestoreAnswered, LeavesPoolOfText, LosesNothing, TellsClean, TellsPassed};
+ghost use Rattle.pd_exact.specs.Exact.{HoldsCleared, HoldsPoolOfText, IsCheckAnswered, IsCleared, IsClearingAnswered, IsDumpOf, IsPassed, IsPassingAnswered, IsRestoreAnswered, LeavesOldOrCleared, LeavesPoolOfText, LosesNothing, MeansTheSame, TellsClean, TellsPassed};
 
 use crate::shared::laid_shapes_are_clean;
 use pd_alike::{alike_pools_have_the_same_faults, alike_pools_mean_the_same};
 use pd_laws::{faults_are_none_where_clean, leaks_alone_lose_nothing, reports_tell_leaks};
+use pd_settled::{alike_caches_have_the_same_faults, alike_caches_mean_the_same};
 use pd_shape_verdicts::pool_text_is_accepted_where_there_is_room;
 use pd_shapes::{
     either_version_spells_a_shape, pool_text_has_one_shape, pool_text_has_one_verdict,
@@ -97,27 +97,50 @@ pub fn clearing_checks_tell_what_passes()
     reports_tell_leaks();
 }
 
-/// A pool without faults up to some stage, so without any in its superblock, has the faults up to each stage that it had once its flag
-/// "needs check" is cleared: where it has none up to a stage, it has none. Where that is the stage Order or a later one, it means what it
-/// meant. The flag then isn't set.
-pub fn cleared_pools_stay_clean()
-    ensures same { (some until : Stage) (image : List (List ℕ)) → IsImage image → faults Thin some image ≡ [] → faults Thin until (cleared Pool image) ≡ faults Thin until image }
-    ensures clean { (until : Stage) (image : List (List ℕ)) → IsImage image → faults Thin until image ≡ [] → faults Thin until (cleared Pool image) ≡ [] }
-    ensures meaning { (until : Stage) (image : List (List ℕ)) → IsImage image → LooksAtOrder until → faults Thin until image ≡ []
-        → thin_meaning (cleared Pool image) ≡ thin_meaning image }
-    ensures unset { (image : List (List ℕ)) → IsImage image → needs_check Pool (cleared Pool image) ≡ false }
+/// A pool or a cache without faults up to some stage, so without any in its superblock, has the faults up to each stage that it had
+/// once its flag "needs check" is cleared: where it has none up to a stage, it has none. Where that is the stage Order or a later one,
+/// it means what it meant. The flag then isn't set.
+pub fn cleared_images_stay_clean()
+    ensures same { (flagged : Flagged) (some until : Stage) (image : List (List ℕ)) → IsImage image → faults (kind_of flagged) some image ≡ []
+        → faults (kind_of flagged) until (cleared flagged image) ≡ faults (kind_of flagged) until image }
+    ensures clean { (flagged : Flagged) (until : Stage) (image : List (List ℕ)) → IsImage image → faults (kind_of flagged) until image ≡ []
+        → faults (kind_of flagged) until (cleared flagged image) ≡ [] }
+    ensures meaning { (flagged : Flagged) (until : Stage) (image : List (List ℕ)) → IsImage image → LooksAtOrder until → faults (kind_of flagged) until image ≡ []
+        → MeansTheSame flagged (cleared flagged image) image }
+    ensures unset { (flagged : Flagged) (image : List (List ℕ)) → IsImage image → needs_check flagged (cleared flagged image) ≡ false }
 {
     alike_pools_have_the_same_faults();
     alike_pools_mean_the_same();
+    alike_caches_have_the_same_faults();
+    alike_caches_mean_the_same();
 }
 
-/// At status 0 of a check of a pool that clears the flag, the device holds, with nothing unsynced, an image that is clean, or, where
-/// leaks pass, has leaks alone, means what it meant before, and whose flag isn't set.
-pub fn cleared_pool_is_clean()
-    ensures { (passing : Passing) (path : List ℕ) (before after : Objects) → IsClearingAnswered Pool passing path before after 0 → HoldsCleared passing before after }
+/// So an image that passes does so once its flag is cleared, loses nothing, and has the same faults and the same meaning.
+pub fn cleared_images_pass()
+    ensures { (flagged : Flagged) (passing : Passing) (image : List (List ℕ)) → IsImage image → IsPassed passing (kind_of flagged) image
+        → IsCleared flagged passing image (cleared flagged image) }
 {
-    clearing_checks_tell_what_passes();
-    cleared_pools_stay_clean();
+    cleared_images_stay_clean();
     faults_are_none_where_clean();
     leaks_alone_lose_nothing();
+}
+
+/// At status 0 of a check that clears the flag, the device holds, with nothing unsynced, an image that is clean, or, where leaks pass,
+/// has leaks alone, has the faults that it had, means what it meant before, and whose flag isn't set.
+pub fn cleared_image_is_clean()
+    ensures { (flagged : Flagged) (passing : Passing) (path : List ℕ) (before after : Objects) → IsClearingAnswered flagged passing path before after 0
+        → HoldsCleared flagged passing before after }
+{
+    clearing_checks_tell_what_passes();
+    cleared_images_pass();
+}
+
+/// Under every status a crash at any moment of it leaves, by no chance, the old image, no valid superblock, or such an image.
+pub fn crashed_clearing_leaves_no_other_image()
+    ensures { (flagged : Flagged) (passing : Passing) (path : List ℕ) (before after : Objects) (status : ℕ) → IsClearingAnswered flagged passing path before after status
+        → LeavesOldOrCleared flagged passing before after }
+{
+    cleared_images_pass();
+    faults_are_none_where_clean();
+    reports_tell_leaks();
 }

@@ -1,5 +1,5 @@
 //! What a restored pool, cache or era target is, and which leaves the pool's devices share, what a repaired or found pool is, what a check
-//! says of an image, what a pool is whose flag was cleared, what a cache is that was written back, and what a pool is that was made smaller:
+//! says of an image, what a pool or a cache is whose flag was cleared, what a cache is that was written back, and what a pool is that was made smaller:
 //! the laws of laid images, of sound images, of shapes, of what is saved, of texts, of clean images, of alike ones, of settled ones and of
 //! moved data blocks, in the terms of the tools.
 #![tactic(auto)]
@@ -19,8 +19,9 @@ pub use caches::{
     restored_cache_is_clean, sound_caches_are_lawful,
 };
 pub use laws::{
-    checks_tell_clean_images, cleared_pool_is_clean, cleared_pools_stay_clean,
-    clearing_checks_tell_what_passes, crashed_restore_leaves_no_other_pool,
+    checks_tell_clean_images, cleared_image_is_clean, cleared_images_pass,
+    cleared_images_stay_clean, clearing_checks_tell_what_passes,
+    crashed_clearing_leaves_no_other_image, crashed_restore_leaves_no_other_pool,
     passing_checks_tell_leaks, restored_dump_means_the_same, restored_pool_is_clean,
 };
 pub use repairs::{
@@ -39,9 +40,10 @@ pub use targets::{
 };
 pub use words::{
     cache_check_tells_clean, cache_check_tells_what_passes, cache_dump_puts_the_text,
-    cache_restore_makes_the_cache, cache_writeback_leaves_nothing_dirty, checks_let_leaks_pass,
-    era_check_tells_clean, era_dump_puts_the_text, era_invalidate_puts_the_written_blocks,
-    era_restore_makes_the_target, thin_check_lets_leaks_pass_and_clears, thin_check_tells_clean,
+    cache_restore_makes_the_cache, cache_writeback_leaves_nothing_dirty,
+    checks_clear_the_flag_alone, checks_let_leaks_pass, era_check_tells_clean,
+    era_dump_puts_the_text, era_invalidate_puts_the_written_blocks, era_restore_makes_the_target,
+    thin_check_lets_leaks_pass_and_clears, thin_check_tells_clean,
     thin_check_tells_clean_and_clears, thin_dump_puts_the_text, thin_generate_puts_its_text,
     thin_ls_puts_the_devices, thin_rehearse_makes_its_pool, thin_repair_finds_the_roots,
     thin_repair_makes_what_is_saved, thin_repair_sees_sharing, thin_restore_is_asked,

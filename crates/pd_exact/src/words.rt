@@ -1,9 +1,13 @@
 //! What status 0 says of each tool, over the words that were given and what the objects hold before and after the call.
 
 ghost use Rattle.std.specs.Prelude.{◌≡◌, ◌^◌, ◌∷◌, ◌++◌, [], List, ℕ, IfSome, Option, Some, codes, true};
+ghost use Rattle.pd_kinds.specs.declared.kind.Flagged.{Flagged};
+ghost use Rattle.pd_kinds.specs.declared.kind.Flagged.TheVariants.{Pool};
 ghost use Rattle.pd_kinds.specs.declared.kind.Kind.{Kind};
 ghost use Rattle.pd_kinds.specs.declared.kind.Kind.TheVariants.{Cache, Era, Thin};
+ghost use Rattle.pd_kinds.specs.declared.kind.Passing.{Passing};
 ghost use Rattle.pd_kinds.specs.declared.kind.Passing.TheVariants.{Nothing, Leaks};
+ghost use Rattle.pd_kinds.specs.Flagged.{kind_of};
 ghost use Rattle.pd_kinds.specs.Meaning.{cache_meaning, era_meaning, thin_meaning};
 ghost use Rattle.pd_spells.specs.CacheText.{SpellsCache};
 ghost use Rattle.pd_spells.specs.EraText.{SpellsEra};
@@ -13,17 +17,17 @@ ghost use Rattle.pd_answers.specs.Outputs.{IsWorkDone};
 ghost use Rattle.pd_answers.specs.QueryLines.{list_lines, rmap_lines, since_lines};
 ghost use Rattle.pd_answers.specs.Requests.{restore};
 ghost use Rattle.pd_answers.specs.Words.{Region, asked, generated_number, is_value, number_below, region_of, version_of};
-ghost use Rattle.pd_exact.specs.Exact.{HoldsCacheOfText, HoldsCleared, HoldsPoolOfText, HoldsSalvage, HoldsTargetOfText};
+ghost use Rattle.pd_exact.specs.Exact.{HoldsCacheOfText, HoldsCleared, HoldsPoolOfText, HoldsSalvage, HoldsTargetOfText, LeavesOldOrCleared};
 ghost use Rattle.pd_exact.specs.Sharing.{HasTimesOfSharing, IsDamagedPool, IsKeptPool, SeesSharingWhere};
 ghost use Rattle.pd_exact.specs.Search.{HasNoRoots, HoldsBestPool, HoldsFoundPool, NumberWords, SayNumbers, with_numbers};
 ghost use Rattle.pd_exact.specs.Shrink.{HoldsShrunk};
-ghost use Rattle.pd_exact.specs.Words.{CallEnds, HoldsGenerated, InputLosesNothing, IsName, PutsGenerated, PutsOfInput, PutsShapeOfInput, PutsTextOfInput, TellsWhetherClean, TellsWhetherPassed, check_name, in_version, to_file};
+ghost use Rattle.pd_exact.specs.Words.{CallEnds, HoldsGenerated, InputLosesNothing, IsName, PutsGenerated, PutsOfInput, PutsShapeOfInput, PutsTextOfInput, TellsWhetherClean, TellsWhetherPassed, check_name, in_version, letting_pass, to_file};
 ghost use Rattle.pd_exact.specs.Writeback.{HoldsWrittenBack};
 
 use crate::caches::{restored_cache_is_clean, sound_caches_are_lawful};
 use crate::laws::{
-    checks_tell_clean_images, cleared_pool_is_clean, clearing_checks_tell_what_passes,
-    passing_checks_tell_leaks, restored_pool_is_clean,
+    checks_tell_clean_images, cleared_image_is_clean, clearing_checks_tell_what_passes,
+    crashed_clearing_leaves_no_other_image, passing_checks_tell_leaks, restored_pool_is_clean,
 };
 use crate::repairs::{repaired_pool_is_clean, repaired_pool_sees_sharing};
 use crate::searches::searched_pool_is_clean;
@@ -65,10 +69,10 @@ pub fn era_check_tells_clean()
 /// it is still clean, means what it meant, and its flag "needs check" isn't set, with nothing unsynced.
 pub fn thin_check_tells_clean_and_clears()
     ensures tells { (image : List ℕ) (before after : Objects) (status : ℕ) → IsName image → CallEnds (codes "thin_check" ∷ codes "--clear-needs-check-flag" ∷ image ∷ []) status before after → TellsWhetherClean Thin before after status }
-    ensures clears { (image : List ℕ) (before after : Objects) → IsName image → CallEnds (codes "thin_check" ∷ codes "--clear-needs-check-flag" ∷ image ∷ []) 0 before after → HoldsCleared Nothing before after }
+    ensures clears { (image : List ℕ) (before after : Objects) → IsName image → CallEnds (codes "thin_check" ∷ codes "--clear-needs-check-flag" ∷ image ∷ []) 0 before after → HoldsCleared Pool Nothing before after }
 {
     clearing_checks_tell_what_passes();
-    cleared_pool_is_clean();
+    cleared_image_is_clean();
 }
 
 /// `thin_check --ignore-non-fatal-errors IMAGE`, and `cache_check` and `era_check` so: status 0 says that each fault of the image is a
@@ -86,10 +90,10 @@ pub fn checks_let_leaks_pass()
 /// isn't set, with nothing unsynced.
 pub fn thin_check_lets_leaks_pass_and_clears()
     ensures tells { (image : List ℕ) (before after : Objects) (status : ℕ) → IsName image → CallEnds (codes "thin_check" ∷ codes "--ignore-non-fatal-errors" ∷ codes "--clear-needs-check-flag" ∷ image ∷ []) status before after → TellsWhetherPassed Leaks Thin before after status }
-    ensures clears { (image : List ℕ) (before after : Objects) → IsName image → CallEnds (codes "thin_check" ∷ codes "--ignore-non-fatal-errors" ∷ codes "--clear-needs-check-flag" ∷ image ∷ []) 0 before after → HoldsCleared Leaks before after }
+    ensures clears { (image : List ℕ) (before after : Objects) → IsName image → CallEnds (codes "thin_check" ∷ codes "--ignore-non-fatal-errors" ∷ codes "--clear-needs-check-flag" ∷ image ∷ []) 0 before after → HoldsCleared Pool Leaks before after }
 {
     clearing_checks_tell_what_passes();
-    cleared_pool_is_clean();
+    cleared_image_is_clean();
 }
 
 /// `cache_check --clear-needs-check-flag IMAGE`, with `--ignore-non-fatal-errors` before it or not: status 0 says that the cache's image
@@ -99,6 +103,18 @@ pub fn cache_check_tells_what_passes()
     ensures leaks { (image : List ℕ) (before after : Objects) (status : ℕ) → IsName image → CallEnds (codes "cache_check" ∷ codes "--ignore-non-fatal-errors" ∷ codes "--clear-needs-check-flag" ∷ image ∷ []) status before after → TellsWhetherPassed Leaks Cache before after status }
 {
     clearing_checks_tell_what_passes();
+}
+
+/// `cache_check --clear-needs-check-flag IMAGE`, and `thin_check` so, with `--ignore-non-fatal-errors` before it or not: at status 0 the
+/// image is still clean, or has leaks alone; it has the faults that it had, none up to the stage Whole and no count below its references;
+/// it means what it meant; and its flag "needs check" isn't set, with nothing unsynced. Under every status a crash at any moment leaves,
+/// by no chance, the old image, no valid superblock, or such an image.
+pub fn checks_clear_the_flag_alone()
+    ensures clears { (flagged : Flagged) (passing : Passing) (image : List ℕ) (before after : Objects) → IsName image → CallEnds (check_name (kind_of flagged) ∷ (letting_pass passing ++ (codes "--clear-needs-check-flag" ∷ image ∷ []))) 0 before after → HoldsCleared flagged passing before after }
+    ensures crashed { (flagged : Flagged) (passing : Passing) (image : List ℕ) (before after : Objects) (status : ℕ) → IsName image → CallEnds (check_name (kind_of flagged) ∷ (letting_pass passing ++ (codes "--clear-needs-check-flag" ∷ image ∷ []))) status before after → LeavesOldOrCleared flagged passing before after }
+{
+    cleared_image_is_clean();
+    crashed_clearing_leaves_no_other_image();
 }
 
 /// `thin_dump IMAGE`, to a file or not: status 0 says that the image has no faults up to the stage Whole, and that a text of the

@@ -8,6 +8,8 @@ pub mod SettledBlock
 pub mod Resealed
 pub mod SameBelow
 pub mod SameFaults
+pub mod SameMeaning
+pub mod AlikeCaches
 pub mod WordLemmas
 pub mod OneRole
 pub mod SettledImage

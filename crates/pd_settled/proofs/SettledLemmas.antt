@@ -1,7 +1,7 @@
 -- The faults of a cache in which nothing is dirty, and what it means.
-use Rattle.std.proofs.Common.{◌≡◌, inl, inr, ℕ, ◌%◌, ◌<◌, Bool, true, false, not, ◌&&◌, nat_eq, cond, List, [], length, get_or, map, filter, refl, sym, subst, ap, ap₂, ◌∙◌, arith}
+use Rattle.std.proofs.Common.{◌≡◌, inl, inr, ℕ, suc, ◌<◌, Bool, true, false, not, nat_eq, cond, List, [], length, get_or, map, filter, refl, sym, subst, ap, ap₂, ◌∙◌, arith}
 use Rattle.std.specs.List.{AllByRecursion, range_with_len}
-use Rattle.std.proofs.lemmas.Bool.{and_parts, cases_Bool, cond_both, eqb-false, eqb-true, not-true, or_parts}
+use Rattle.std.proofs.lemmas.Bool.{cases_Bool, cond_both, eqb-true, or_parts}
 use Rattle.pd_kinds.specs.declared.kind.Kind.TheVariants.{Cache}
 use Rattle.pd_kinds.specs.declared.kind.Stage.{Stage}
 use Rattle.pd_kinds.specs.declared.kind.Stage.TheVariants as stages
@@ -9,7 +9,7 @@ use Rattle.pd_kinds.specs.CacheFormat.{CacheFields, cache_fields, cache_graph, c
 use Rattle.pd_kinds.specs.Graph.{Graph, block_at}
 use Rattle.pd_kinds.specs.Image.{IsImage}
 use Rattle.pd_kinds.specs.Layout.{graph_of}
-use Rattle.pd_kinds.specs.Meaning.{CacheEntry, CacheMeaning, cache_dirty_bits, cache_entry, cache_hints, cache_meaning}
+use Rattle.pd_kinds.specs.Meaning.{CacheEntry, CacheMeaning, cache_entry, cache_meaning}
 use Rattle.pd_kinds.specs.Node.{Entry}
 use Rattle.pd_kinds.specs.Stages.{IsReached, faults}
 use Rattle.pd_kinds.specs.Trees.{entries_below, words_of}
@@ -19,8 +19,9 @@ use Rattle.pd_answers.specs.CachedView.{CachedBlock, blocks_each, cached_block, 
 use Rattle.pd_settled.specs.Known.{IsKnown}
 use Rattle.pd_settled.specs.Premises.{undirtied, without_dirt}
 use Rattle.pd_settled.proofs.Resealed.{BreaksChecksum, tree_breaks}
-use Rattle.pd_settled.proofs.SameBelow.{entries_same}
+use Rattle.pd_settled.proofs.SameBelow.{entries_same, resealed_kept, resealed_seen}
 use Rattle.pd_settled.proofs.SameFaults.{faults_same}
+use Rattle.pd_settled.proofs.SameMeaning.{bits_by, entries_of, hints_by, hints_same, meaning_by, means, words_by}
 use Rattle.pd_settled.proofs.SettledImage.{are_resealed, settled_image, settled_is_image, words_of_others, words_of_places}
 use Rattle.pd_settled.proofs.WordLemmas.{AreSettled, cached_undirtied, cold_entries, entries_settled, none_dirty, origins_settled, settled_first, settled_second}
 
@@ -35,21 +36,23 @@ module _ (image : List (List ℕ)) (is : IsImage image) (none : faults Cache sta
   after = settled_image image is none known
 
   -- the entries of a tree
-  same_entries : (role b : ℕ) → role < graph.roles → BreaksChecksum fields.meta_map.blocks role (cache_layout fields.meta_map.blocks role) → IsReached graph image b role
-      → entries_below graph after 8 role b ≡ entries_below graph image 8 role b
-  same_entries role b few breaks reached = entries_same image after (are_resealed image is none known) known 8 role b few reached breaks
+  same_entries : (role b : ℕ) → suc role < graph.roles → BreaksChecksum fields.meta_map.blocks (suc role) (cache_layout fields.meta_map.blocks (suc role))
+      → IsReached graph image b (suc role) → entries_below graph after 8 (suc role) b ≡ entries_below graph image 8 (suc role) b
+  same_entries role b few breaks reached =
+      let are = are_resealed image is none known in
+      entries_same image after (resealed_seen image after are) (resealed_kept image after are known) 8 role b few reached breaks
 
   -- the mapping array, in version 1 and in version 2
   words_first : has_dirty_bits fields.version ≡ false → array_words graph after (mapping_array image) ≡ map (settled_word fields.version) (array_words graph image (mapping_array image))
   unfolding cache_graph graph_of cache_layout
   words_first first =
-      ap (words_of 8 after) (same_entries 1 fields.mapping_root (omega arith) (tree_breaks fields.meta_map.blocks 1 _) known.roots.mappings)
+      ap (words_of 8 after) (same_entries 0 fields.mapping_root (omega arith) (tree_breaks fields.meta_map.blocks 1 _) known.roots.mappings)
       ∙ words_of_places image is none known (entries_below graph image 8 1 fields.mapping_root) (rw first (known.named fields.mapping_root 1 2 known.trees.mappings known.roots.mappings))
 
   words_second : has_dirty_bits fields.version ≡ true → array_words graph after (mapping_array image) ≡ array_words graph image (mapping_array image)
   unfolding cache_graph graph_of cache_layout
   words_second second =
-      ap (words_of 8 after) (same_entries 1 fields.mapping_root (omega arith) (tree_breaks fields.meta_map.blocks 1 _) known.roots.mappings)
+      ap (words_of 8 after) (same_entries 0 fields.mapping_root (omega arith) (tree_breaks fields.meta_map.blocks 1 _) known.roots.mappings)
       ∙ words_of_others image is none known 8 2 (rw second (λ same. omega arith)) (entries_below graph image 8 1 fields.mapping_root) (known.named fields.mapping_root 1 2 known.trees.mappings known.roots.mappings)
 
   -- the dirty bits of version 2
@@ -60,7 +63,7 @@ module _ (image : List (List ℕ)) (is : IsImage image) (none : faults Cache sta
   unfolding cache_graph graph_of cache_layout
   bits_second second =
       let root = known.roots.dirty_bits (eqb-true fields.version 2 second) in
-      ap (words_of 8 after) (same_entries 10 fields.dirty_root (omega arith) (tree_breaks fields.meta_map.blocks 10 _) root)
+      ap (words_of 8 after) (same_entries 9 fields.dirty_root (omega arith) (tree_breaks fields.meta_map.blocks 10 _) root)
       ∙ words_of_places image is none known (entries_below graph image 8 10 fields.dirty_root) (subst (λ (x : ℕ). AllByRecursion (λ (e : Entry). IsReached graph image e.value x) (entries_below graph image 8 10 fields.dirty_root)) (bits_role second) (known.named fields.dirty_root 10 11 known.trees.dirty_bits root))
 
   -- the origins of what is valid
@@ -76,7 +79,9 @@ module _ (image : List (List ℕ)) (is : IsImage image) (none : faults Cache sta
   unfolding settled
   same_faults until =
       cond_both (nat_eq (length (hot_blocks (cache_meaning image))) 0) image after (λ other. faults Cache until other ≡ faults Cache until image)
-      (λ _. refl) (λ _. faults_same image after (are_resealed image is none known) known origins_same until)
+      (λ _. refl) (λ _.
+      let are = are_resealed image is none known in
+      faults_same image after (resealed_seen image after are) (λ _. (resealed_kept image after are known, origins_same)) until)
 
   -- the hints are
   no_hint_role : 4 ≡ dirty_role fields.version → ⊥
@@ -89,46 +94,8 @@ module _ (image : List (List ℕ)) (is : IsImage image) (none : faults Cache sta
   unfolding cache_graph graph_of cache_layout
   hints_there some =
       let root = known.roots.hints some in
-      ap (words_of 4 after) (same_entries 3 fields.hint_root (omega arith) (tree_breaks fields.meta_map.blocks 3 _) root)
+      ap (words_of 4 after) (same_entries 2 fields.hint_root (omega arith) (tree_breaks fields.meta_map.blocks 3 _) root)
       ∙ words_of_others image is none known 4 4 no_hint_role (entries_below graph image 8 3 fields.hint_root) (known.named fields.hint_root 3 4 known.trees.hints root)
-
-  -- what an image means, by its blocks and a superblock
-  abbrev hints_by : List (List ℕ) → List ℕ → List ℕ
-  hints_by seen block =
-      cond (nat_eq (cache_fields block).hint_size 4 && not (nat_eq (cache_fields block).hint_root 0))
-      (words_of 4 seen (entries_below (cache_graph block) seen 8 3 (cache_fields block).hint_root)) []
-
-  abbrev bits_by : List (List ℕ) → List ℕ → List ℕ
-  bits_by seen block =
-      cond (has_dirty_bits (cache_fields block).version) (words_of 8 seen (entries_below (cache_graph block) seen 8 10 (cache_fields block).dirty_root)) []
-
-  abbrev words_by : List (List ℕ) → List ℕ → List ℕ
-  words_by seen block = words_of 8 seen (entries_below (cache_graph block) seen 8 1 (cache_fields block).mapping_root)
-
-  abbrev entries_of : ℕ → List ℕ → List ℕ → List ℕ → List CacheEntry
-  entries_of version words hints bits = map (cache_entry version words hints bits) (filter (λ i. is_valid_word (get_or words i 0)) (range_with_len 0 (length words)))
-
-  abbrev meaning_by : List (List ℕ) → List ℕ → CacheMeaning
-  meaning_by seen block = record {
-    uuid = (cache_fields block).uuid;
-    block_size = (cache_fields block).block_size;
-    blocks = (cache_fields block).blocks;
-    clean = nat_eq ((cache_fields block).flags % 2) 1;
-    policy = (cache_fields block).policy;
-    versions = (cache_fields block).versions;
-    hint_size = (cache_fields block).hint_size;
-    entries = entries_of (cache_fields block).version (words_by seen block) (hints_by seen block) (bits_by seen block);
-  }
-
-  means : (seen : List (List ℕ)) → cache_meaning seen ≡ meaning_by seen (block_at seen 0)
-  unfolding cache_meaning cache_hints cache_dirty_bits
-  means seen = refl
-
-  hints_same : hints_by after (block_at image 0) ≡ hints_by image (block_at image 0)
-  hints_same = elim (cases_Bool (nat_eq fields.hint_size 4 && not (nat_eq fields.hint_root 0))) [
-    | inl there ↦ rw there (hints_there (eqb-false fields.hint_root 0 (not-true (nat_eq fields.hint_root 0) (and_parts (nat_eq fields.hint_size 4) (not (nat_eq fields.hint_root 0)) there).1)))
-    | inr other ↦ rw other refl
-  ]
 
   -- settled words and bits make the same entries with nothing dirty
   settle : (words hints bits now unset : List ℕ) → AreSettled fields.version words bits now unset
@@ -143,30 +110,35 @@ module _ (image : List (List ℕ)) (is : IsImage image) (none : faults Cache sta
   no_bits : (second : Bool) (bits other : List ℕ) → second ≡ false → cond second bits [] ≡ cond second other []
   no_bits second bits other same = rw same refl
 
-  entries_same_but_dirt : entries_of fields.version (words_by after (block_at image 0)) (hints_by after (block_at image 0)) (bits_by after (block_at image 0))
-      ≡ map undirtied (entries_of fields.version (words_by image (block_at image 0)) (hints_by image (block_at image 0)) (bits_by image (block_at image 0)))
+  abbrev old_words : List ℕ
+  old_words = words_by image graph fields
+
+  abbrev old_bits : List ℕ
+  old_bits = bits_by image graph fields
+
+  entries_same_but_dirt : entries_of fields.version (words_by after graph fields) (hints_by after graph fields) (bits_by after graph fields)
+      ≡ map undirtied (entries_of fields.version old_words (hints_by image graph fields) old_bits)
   entries_same_but_dirt =
       let version = fields.version in
-      let words = words_by image (block_at image 0) in
-      let hints = hints_by image (block_at image 0) in
+      let hints = hints_by image graph fields in
       let has = has_dirty_bits version in
       let raw = λ (seen : List (List ℕ)). words_of 8 seen (entries_below graph seen 8 10 fields.dirty_root) in
-      ap (λ (h : List ℕ). entries_of version (words_by after (block_at image 0)) h (bits_by after (block_at image 0))) hints_same
+      ap (λ (h : List ℕ). entries_of version (words_by after graph fields) h (bits_by after graph fields)) (hints_same image after graph fields hints_there)
       ∙ elim (cases_Bool has) [
         | inl second ↦
             let unset = bits_by_version has (raw after) second ∙ (bits_second second ∙ ap (map (settled_word version)) (sym (bits_by_version has (raw image) second))) in
             ap₂ (λ (w b : List ℕ). entries_of version w hints b) (words_second second) unset
-            ∙ settle words hints (bits_by image (block_at image 0)) words (map (settled_word version) (bits_by image (block_at image 0))) (settled_second version words (bits_by image (block_at image 0)) second)
+            ∙ settle old_words hints old_bits old_words (map (settled_word version) old_bits) (settled_second version old_words old_bits second)
         | inr first ↦
             ap₂ (λ (w b : List ℕ). entries_of version w hints b) (words_first first) (no_bits has (raw after) (raw image) first)
-            ∙ settle words hints (bits_by image (block_at image 0)) (map (settled_word version) words) (bits_by image (block_at image 0)) (settled_first version words (bits_by image (block_at image 0)) first)
+            ∙ settle old_words hints old_bits (map (settled_word version) old_words) old_bits (settled_first version old_words old_bits first)
       ]
 
   meaning_after : cache_meaning after ≡ without_dirt (cache_meaning image)
   meaning_after =
       means after
-      ∙ (ap (meaning_by after) (are_resealed image is none known).super
-      ∙ (ap (λ (es : List CacheEntry). record (meaning_by image (block_at image 0)) { entries = es }) entries_same_but_dirt
+      ∙ (ap (λ (block : List ℕ). meaning_by after (cache_graph block) (cache_fields block)) (are_resealed image is none known).super
+      ∙ (ap (λ (es : List CacheEntry). record (meaning_by image graph fields) { entries = es }) entries_same_but_dirt
       ∙ sym (ap without_dirt (means image))))
 
   -- the meaning is the old one, with nothing dirty

@@ -43,7 +43,7 @@ valid_block blocks block sound =
     let place = not-false (nat_eq (le block 8 8) 0) tests.1.1.1.1.0 in
     or_right (is_super_of kinds.Thin block) _ (or_left (is_super_of Cache block) _ (and_from _ _ (super_checksum blocks block sound) (and_from _ _ magic place)))
 
-sound_if_clean : (image : List (List ℕ)) → HasCleanSuper (cache_checked image) image → IsSound (cache_super_bad (length image) (block_at image 0))
+pub sound_if_clean : (image : List (List ℕ)) → HasCleanSuper (cache_checked image) image → IsSound (cache_super_bad (length image) (block_at image 0))
 unfolding cache_checked
 sound_if_clean [] clean = absurd clean
 sound_if_clean (block ∷ blocks) clean = clean

@@ -1,11 +1,13 @@
 //! Laws of a writeback: of a cache in which nothing is dirty any more, and of what a cached device reads while its hot blocks are
-//! copied to the origin, and once they are.
+//! copied to the origin, and once they are. And laws of two caches that differ in the flags and the checksum of the superblock alone.
 #![tactic(auto)]
 
+mod alike;
 mod places;
 mod settled;
 mod views;
 
+pub use alike::{alike_caches_have_the_same_faults, alike_caches_mean_the_same};
 pub use places::dirty_places_are_named;
 pub use settled::{
     settled_caches_have_the_same_faults, settled_caches_mean_the_same, settled_caches_show_the_same,

@@ -20,7 +20,7 @@ use pd_tree::{
 };
 
 /// What is known of a cache that has no faults up to the stage Order, or up to a later one.
-fn caches_in_order_are_known()
+pub(crate) fn caches_in_order_are_known()
     ensures { (until : Stage) (image : List (List ℕ)) → LooksAtOrder until → faults Cache until image ≡ [] → IsKnown image }
 {
     trees_are_in_order();
