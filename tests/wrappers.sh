@@ -664,7 +664,10 @@ END
     # nothing of it with -q, where it is quick, and where the text itself goes to the terminal
     terminal slow/thin_check -q thin-pool.img
     out
+    started=$(date +%s)
     terminal thin_check thin-pool.img
+    # (a busy machine may take two seconds for it, and then a line is erased)
+    [ $(($(date +%s) - started)) -lt 2 ] || sed -i 's/^.*|//' out
     out clean
     terminal slow/thin_dump thin-pool.img
     same out thin-pool.txt

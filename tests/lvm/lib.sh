@@ -1,0 +1,83 @@
+# shellcheck shell=sh
+# What the scenarios share; README.md says what they want of the machine.
+say() { echo "## $*"; }
+is() {
+    what=$1
+    shift
+    if "$@"; then echo "CHECK ok $what"; else echo "CHECK BAD $what"; fi
+}
+isnt() {
+    what=$1
+    shift
+    if "$@"; then echo "CHECK BAD $what"; else echo "CHECK ok $what"; fi
+}
+# A command, with what it says and its status; what it said stays in /tmp/said
+L() {
+    echo "\$ $*"
+    "$@" >/tmp/said 2>&1 </dev/null
+    rc=$?
+    grep -v '^File descriptor' /tmp/said
+    echo "   -> $rc"
+    return $rc
+}
+said() { grep -qE -- "$1" /tmp/said; }
+# The commands of a page, as they stand there: PAGE, a word of their block, and what sed changes in it. Questions get a y.
+page() {
+    awk -v word="$2" '/^\.Ed/ { if (index(block, word)) printf "%s", block; on = 0 }
+        on { block = block $0 "\n" }
+        /^\.Bd/ { on = 1; block = "" }' "/usr/local/share/man/man8/$1.8" | sed -e 's/\\e/\\/g; s/\\&//g' -e "${3-}" >/tmp/commands
+    is "$1(8) has such commands" [ -s /tmp/commands ]
+    (cd /tmp && yes | sh -ex /tmp/commands) >/tmp/said 2>&1
+    rc=$?
+    grep -v '^File descriptor' /tmp/said
+    echo "   -> $rc"
+}
+# What is at /dev/vdc, written to a volume, and whether it is there: DEVICE TO COUNT FROM, in MiB
+wr() { dd if=/dev/vdc of="$1" bs=1M seek="$2" count="$3" skip="$4" oflag=direct conv=notrunc 2>/dev/null; }
+sum() { dd if="$1" bs=1M skip="$2" count="$3" 2>/dev/null | sha256sum; }
+same() { [ "$(sum "$1" "$2" "$3")" = "$(sum /dev/vdc "$4" "$3")" ]; }
+# A device that may be written, at the place of an inactive volume of vg, to do harm to it
+harm() {
+    lvchange -ay -y "vg/$1" >/dev/null 2>&1
+    place=$(dmsetup table "vg-$1")
+    lvchange -an "vg/$1" >/dev/null 2>&1
+    dmsetup create harm --table "$place"
+}
+unharm() { dmsetup remove --retry harm; }
+# The number of eight bytes at a byte of a device
+number_at() { od -An -tu8 -j"$2" -N8 "$1" | tr -d ' '; }
+# Four bytes of a number, written to a byte of a device
+put_at() {
+    # shellcheck disable=SC2059 # it makes the bytes
+    printf "$(printf '\\%03o' $(($3 & 255)) $(($3 >> 8 & 255)) $(($3 >> 16 & 255)) $(($3 >> 24 & 255)))" |
+        dd of="$1" bs=1 seek="$2" conv=notrunc 2>/dev/null
+}
+# Sets the flag "needs check" of a cache
+flag_cache() {
+    put_at "$1" 4 $(($(od -An -tu4 -j4 -N4 "$1") | 2))
+    crc=4294967295
+    for byte in $(od -An -v -tu1 -j4 -N4092 "$1"); do
+        crc=$((crc ^ byte))
+        for _ in 1 2 3 4 5 6 7 8; do
+            crc=$((crc & 1 ? crc >> 1 ^ 2197175160 : crc >> 1))
+        done
+    done
+    put_at "$1" 0 $((crc ^ 9031977))
+    sync
+}
+# How many blocks of the cached volume vg/main are dirty
+dirty() { dmsetup status vg-main | cut -d ' ' -f 14; }
+# Blocks of vg/main that are in the cache and newer there: 40 MiB from /dev/vdc's tenth MiB on
+make_dirty() {
+    for _ in 1 2 3; do wr /dev/vg/main 0 40 0; done
+    L dmsetup message vg-main 0 migration_threshold 0
+    wr /dev/vg/main 0 40 10
+    dmsetup status vg-main
+    is 'blocks are dirty' [ "$(dirty)" -gt 0 ]
+}
+reset_now() {
+    say reset
+    sleep 1
+    echo b >/proc/sysrq-trigger
+    sleep 60
+}
