@@ -36,6 +36,10 @@ pub items_outside : {X : Type 0} → (size : ℕ) (decoded : ℕ → X) (image :
 items_outside size decoded image j b outside =
     rw (items_below_is size decoded image j b, none_outside image b outside, no_items size decoded, no_kids size, each_none (items_below size decoded image) j) refl
 
+pub nodes_outside : (size : ℕ) (image : List (List ℕ)) (j b : ℕ) → length image ≤ b → nodes_below size image j b ≡ b ∷ []
+nodes_outside size image j b outside =
+    rw (nodes_below_is size image j b, none_outside image b outside, no_kids size, each_none (nodes_below size image) j) refl
+
 -- the node itself is among those that are read
 pub nodes_some : (size : ℕ) (image : List (List ℕ)) (j b : ℕ) → 1 ≤ length (nodes_below size image j b)
 nodes_some size image j b = rw (nodes_below_is size image j b) (omega arith)
