@@ -4,6 +4,7 @@ pub mod Steps
 pub mod Ascending
 pub mod Cursor
 pub mod Saved
+pub mod SavedShape
 pub mod Faults
 pub mod Details
 pub mod Gather

@@ -1,0 +1,146 @@
+//! A pool that is held in memory with the leaves that its devices share.
+
+ghost use Rattle.std.specs.Prelude.{◌≡◌};
+
+use crate::saved::SavedHead;
+use pd_thin_meaning::Run;
+use pd_value::Details;
+use std::marker::Model;
+
+/// A leaf that devices share.
+#[derive(Clone, Copy, Debug, PartialEq, Eq)]
+pub struct SavedLeaf {
+    /// How many mappings it has.
+    pub entries: u64,
+    /// How many runs these are.
+    pub runs: usize,
+}
+
+/// A piece of a device's mappings.
+#[derive(Clone, Copy, Debug, PartialEq, Eq)]
+pub enum SavedPiece {
+    /// So many runs of the device's own.
+    Own(usize),
+    /// All of the shared leaf with this number; the first one has 0.
+    Shared(u64),
+}
+
+/// A thin device, and how many of the pieces are its.
+#[derive(Clone, Copy, Debug, PartialEq, Eq)]
+pub struct ShapedDevice {
+    /// The number of the device.
+    pub id: u64,
+    /// Its details.
+    pub details: Details,
+    /// How many pieces its mappings are.
+    pub pieces: usize,
+}
+
+/// A pool that is held in memory with its shared leaves: 16 bytes a leaf or a piece, 40 a device and 32 a run. A shared
+/// leaf's runs stand in it once.
+///
+/// It is a shape whose meaning is a lawful pool.
+#[derive(Drop)]
+pub struct SavedShape {
+    head: SavedHead,
+    leaves: Vec<SavedLeaf>,
+    leaf_runs: Vec<Run>,
+    devices: Vec<ShapedDevice>,
+    pieces: Vec<SavedPiece>,
+    runs: Vec<Run>,
+}
+
+impl Model for SavedShape {
+    ghost use Rattle.pd_salvage.specs.SavedShape.{HeldShape, IsSavedShape};
+
+    ghost Value = { HeldShape };
+
+    ghost view = { λ s. record {
+      head = s.head;
+      leaves = s.leaves.items;
+      leaf_runs = s.leaf_runs.items;
+      devices = s.devices.items;
+      pieces = s.pieces.items;
+      runs = s.runs.items;
+    } };
+
+    ghost invariant = { λ s. IsSavedShape (record {
+      head = s.head;
+      leaves = s.leaves.items;
+      leaf_runs = s.leaf_runs.items;
+      devices = s.devices.items;
+      pieces = s.pieces.items;
+      runs = s.runs.items;
+    }) };
+}
+
+impl SavedShape {
+    ghost use Rattle.pd_salvage.specs.SavedShape.{IsSavedShape, held};
+
+    /// A pool of this head, these leaves with the runs of all of them, and these devices with the pieces of all of them and
+    /// the runs of all own pieces.
+    pub fn of_parts(
+        head: SavedHead,
+        leaves: Vec<SavedLeaf>,
+        leaf_runs: Vec<Run>,
+        devices: Vec<ShapedDevice>,
+        pieces: Vec<SavedPiece>,
+        runs: Vec<Run>,
+    ) -> SavedShape
+        requires { IsSavedShape (held head leaves.items leaf_runs.items devices.items pieces.items runs.items) }
+        ensures { result ≡ held head leaves.items leaf_runs.items devices.items pieces.items runs.items }
+    {
+        SavedShape {
+            head,
+            leaves,
+            leaf_runs,
+            devices,
+            pieces,
+            runs,
+        }
+    }
+
+    /// What the superblock says of the pool.
+    pub fn head(&self) -> &SavedHead
+        ensures head { result.now ≡ self.now.head }
+        // It is a shape, its meaning is a lawful pool, and its runs are as long as can be.
+        ensures sound { IsSavedShape self.now }
+    {
+        &self.head
+    }
+
+    /// The shared leaves.
+    pub fn leaves(&self) -> &[SavedLeaf]
+        ensures { result.now ≡ self.now.leaves }
+    {
+        &self.leaves
+    }
+
+    /// The runs of all shared leaves, by ascending virtual block, those of the first leaf first.
+    pub fn leaf_runs(&self) -> &[Run]
+        ensures { result.now ≡ self.now.leaf_runs }
+    {
+        &self.leaf_runs
+    }
+
+    /// The devices, by ascending id.
+    pub fn devices(&self) -> &[ShapedDevice]
+        ensures { result.now ≡ self.now.devices }
+    {
+        &self.devices
+    }
+
+    /// The pieces of all devices, by ascending virtual block, those of the first device first.
+    pub fn pieces(&self) -> &[SavedPiece]
+        ensures { result.now ≡ self.now.pieces }
+    {
+        &self.pieces
+    }
+
+    /// The runs of all own pieces, by ascending virtual block, those of the first piece first.
+    pub fn runs(&self) -> &[Run]
+        ensures { result.now ≡ self.now.runs }
+    {
+        &self.runs
+    }
+}
