@@ -94,12 +94,12 @@ cause_7 terms before after Stream cause e = absurd (omega arith)
 cause_7 terms before after Memory cause e = cause
 
 -- what comes after others comes after `notes` too
-after_notes : (given : Use) (access : ℕ) (Earlier Notes : Type 0) → Notes → ComesAfter given access Earlier → ComesAfter given access (Notes × Earlier)
+pub after_notes : (given : Use) (access : ℕ) (Earlier Notes : Type 0) → Notes → ComesAfter given access Earlier → ComesAfter given access (Notes × Earlier)
 after_notes unused access Earlier Notes attached turn = tt
 after_notes (reading path) access Earlier Notes attached turn = λ some. (attached, turn some)
 after_notes (writing path) access Earlier Notes attached turn = λ some. (attached, turn some)
 
-after_notes_alone : (given : Use) (access : ℕ) (Notes : Type 0) → Notes → ComesAfter given access Notes
+pub after_notes_alone : (given : Use) (access : ℕ) (Notes : Type 0) → Notes → ComesAfter given access Notes
 after_notes_alone unused access Notes attached = tt
 after_notes_alone (reading path) access Notes attached = λ _. attached
 after_notes_alone (writing path) access Notes attached = λ _. attached
@@ -151,13 +151,13 @@ module _ (terms : Terms) (before after : Objects) (fresh : AreFresh before) wher
   }
 
 -- what isn't attached is in order
-no_turn : (given : Use) (access : ℕ) (Earlier : Type 0) → access ≡ 0 → ComesAfter given access Earlier
+pub no_turn : (given : Use) (access : ℕ) (Earlier : Type 0) → access ≡ 0 → ComesAfter given access Earlier
 no_turn unused access Earlier none = tt
 no_turn (reading path) access Earlier none = λ ne. absurd (ne none)
 no_turn (writing path) access Earlier none = λ ne. absurd (ne none)
 
 -- what isn't attached yet
-not_yet : (given : Use) (access : ℕ) (told : Option (List ℕ)) → access ≡ 0 → IsFollowed given (λ as_named. IsUsed as_named access told)
+pub not_yet : (given : Use) (access : ℕ) (told : Option (List ℕ)) → access ≡ 0 → IsFollowed given (λ as_named. IsUsed as_named access told)
 not_yet unused access told none = tt
 not_yet (reading path) access told none = record { allowed = inl none; named = λ ne. absurd (ne none) }
 not_yet (writing path) access told none = record { allowed = inl none; named = λ ne. absurd (ne none) }

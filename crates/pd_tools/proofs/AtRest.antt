@@ -1,5 +1,5 @@
 -- What a request finds before anything was done.
-use Rattle.std.proofs.Common.{[], ℕ, Option, Some, None}
+use Rattle.std.proofs.Common.{[], ℕ, Option, Some, None, refl, arith}
 use Rattle.std.specs.Option.{option_map_or}
 use Rattle.pd_kinds.specs.declared.kind.Kind.{Kind}
 use Rattle.pd_kinds.specs.declared.kind.Kind.TheVariants.{Thin, Cache, Era}
@@ -11,6 +11,10 @@ use Rattle.pd_kinds.specs.Report.{report_of}
 use Rattle.pd_kinds.specs.Stages.{faults}
 use Rattle.pd_answers.specs.Answer.{Objects, AreFresh}
 use Rattle.pd_answers.specs.Requests.{Request, check, passing_check, check_and_clear, dump, dump_shared, restore, repair, search, rmap, list_devices, since, generate, rehearse, writeback, shrink}
+use Rattle.pd_answers.specs.Repairs as repairs
+use Rattle.pd_answers.specs.Shrinks as shrinks
+use Rattle.pd_answers.specs.Terms.{Terms}
+use Rattle.pd_answers.specs.Writebacks as writebacks
 use Rattle.pd_answers.specs.QueryLines.{list_lines, rmap_lines, since_lines}
 use Rattle.pd_answers.specs.Promises.{image_text, terms_of}
 use Rattle.pd_shapes.specs.ImageShape.{image_shape}
@@ -23,16 +27,32 @@ use Rattle.pd_laid.specs.LaidThin.{laid_shape}
 use Rattle.pd_laid.specs.LaidCache.{laid_cache}
 use Rattle.pd_laid.specs.LaidEra.{laid_era}
 use Rattle.pd_tools.specs.Restore.{TextsHaveVerdicts}
+use Rattle.pd_tools.specs.Task.{AreAlone, IsAtRest}
 use Rattle.pd_tools.proofs.Checks.{told}
 use Rattle.pd_tools.proofs.FewReads.{unread}
 use Rattle.pd_tools.proofs.Clears.{clearing_at_rest}
 use Rattle.pd_tools.proofs.Queries.{query_at_rest}
 use Rattle.pd_tools.proofs.Rehearses.{rehearse_at_rest}
-use Rattle.pd_tools.proofs.Repairs.{repair_at_rest}
+use Rattle.pd_tools.proofs.Repairs.{repair_rests}
 use Rattle.pd_tools.proofs.Restores.{restore_at_rest}
-use Rattle.pd_tools.proofs.Searches.{search_at_rest}
-use Rattle.pd_tools.proofs.Shrinks.{shrink_at_rest}
-use Rattle.pd_tools.proofs.Writebacks.{writeback_at_rest}
+use Rattle.pd_tools.proofs.Searches.{search_rests}
+use Rattle.pd_tools.proofs.Shrinks.{shrink_rests}
+use Rattle.pd_tools.proofs.Writebacks.{writeback_rests}
+
+-- what holds of a task before a device is attached
+none_written : (before : Objects) (notes : SinkState) → AreFresh before → AreAlone before (record before { notes = notes })
+none_written before notes fresh = record {
+  out = refl;
+  input = record { held = refl; history = refl };
+  output = record { held = refl; history = refl };
+  third = record { held = refl; history = refl };
+  output_measured = λ some. absurd (some fresh.output.0);
+  third_measured = λ some. absurd (some fresh.third.0);
+}
+
+task_at_rest : (terms : Terms) (before : Objects) (notes : SinkState) → IsAtRest terms before (record before { notes = notes })
+    → (finding : terms.Finding) × (terms.finds before (record before { notes = notes }) finding) × (terms.leaves finding before (record before { notes = notes }) 6)
+task_at_rest terms before notes rest = (rest.finding, rest.found, rest.leaves 6 (λ e. omega arith))
 
 -- something is right to find, and nothing was written
 pub at_rest : (request : Option Request) (before : Objects) (notes : SinkState) → AreFresh before → ((kind : Kind) (version : ℕ) → TextsHaveVerdicts kind version)
@@ -56,8 +76,7 @@ at_rest (Some (restore Cache version file path)) before notes fresh verdicts =
     restore_at_rest (IsCacheVerdict version) (is_cache_early version) (λ m room. laid_cache m version room) file path before (record before { notes = notes }) before.source before.output fresh.output.2 (verdicts Cache version) fresh.output.0
 at_rest (Some (restore Era version file path)) before notes fresh verdicts =
     restore_at_rest IsEraVerdict is_era_early laid_era file path before (record before { notes = notes }) before.source before.output fresh.output.2 (verdicts Era version) fresh.output.0
-at_rest (Some (repair from to)) before notes fresh verdicts =
-    repair_at_rest from to before (record before { notes = notes }) before.input before.output fresh.output.2 fresh.output.0
+at_rest (Some (repair from to)) before notes fresh verdicts = task_at_rest (repairs.repair from to) before notes (repair_rests from to before (record before { notes = notes }) fresh (none_written before notes fresh))
 at_rest (Some (dump kind file path)) before notes fresh verdicts = query_at_rest kind (image_text kind) before.input.held
 at_rest (Some (dump_shared file path)) before notes fresh verdicts = query_at_rest Thin (λ image. text_of_shape (image_shape image)) before.input.held
 at_rest (Some (rmap first end file path)) before notes fresh verdicts = query_at_rest Thin (λ image. rmap_lines first end (thin_meaning image)) before.input.held
@@ -65,10 +84,13 @@ at_rest (Some (list_devices file path)) before notes fresh verdicts = query_at_r
 at_rest (Some (since era file path)) before notes fresh verdicts = query_at_rest Era (λ image. since_lines era (era_meaning image)) before.input.held
 at_rest (Some (generate number file)) before notes fresh verdicts = (tt, tt, tt)
 at_rest (Some (rehearse number path)) before notes fresh verdicts = rehearse_at_rest number path before notes fresh.output.2 (verdicts Thin 1) fresh.output.0
-at_rest (Some (writeback metadata fast origin)) before notes fresh verdicts = writeback_at_rest metadata fast origin before notes fresh
-at_rest (Some (shrink input output pool blocks)) before notes fresh verdicts = shrink_at_rest input output pool blocks before notes fresh
+at_rest (Some (writeback metadata fast origin)) before notes fresh verdicts =
+    task_at_rest (writebacks.writeback metadata fast origin) before notes (writeback_rests metadata fast origin before (record before { notes = notes }) fresh (none_written before notes fresh))
+at_rest (Some (shrink input output pool blocks)) before notes fresh verdicts =
+    task_at_rest (shrinks.shrink input output pool blocks) before notes (shrink_rests input output pool blocks before (record before { notes = notes }) fresh (none_written before notes fresh))
 at_rest (Some (search from to transaction block_size blocks)) before notes fresh verdicts =
-    search_at_rest (record { transaction = transaction; block_size = block_size; blocks = blocks }) from to before notes fresh
+    task_at_rest (repairs.search from to transaction block_size blocks) before notes
+    (search_rests (record { transaction = transaction; block_size = block_size; blocks = blocks }) from to before (record before { notes = notes }) fresh (none_written before notes fresh))
 
 -- and nothing was read
 pub reads_at_rest : (request : Option Request) (before : Objects) (notes : SinkState)

@@ -1,5 +1,7 @@
 pub mod Answered
 pub mod Works
+pub mod Tasks
+pub mod Rooms
 pub mod FewReads
 pub mod Checks
 pub mod Clears

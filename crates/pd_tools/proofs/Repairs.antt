@@ -1,6 +1,6 @@
 -- What the work of a repair comes to, over plain variables.
 use Rattle.std.proofs.Common.{◌≡◌, ◌≢◌, inl, inr, ℕ, ◌≤◌, ◌<◌, false, not, nat_eq, IsTrue, List, [], ◌∷◌, length, Option, Some, None, IfSome, Result, Ok, Err, refl, sym, ap, ◌∙◌, subst, arith, lit≤}
-use Rattle.std.specs.Prelude.{IfErr, MatchResult}
+use Rattle.std.specs.Prelude.{IfErr}
 use Rattle.std.specs.Option.{option_map_or}
 use Rattle.std.proofs.lemmas.Bool.{lt-ltb, le-ltb}
 use Rattle.std.proofs.lemmas.Option.{IfSome_then}
@@ -10,7 +10,7 @@ use Rattle.pd_kinds.specs.declared.kind.Kind.TheVariants.{Thin}
 use Rattle.pd_kinds.specs.declared.kind.Stage.TheVariants.{Super}
 use Rattle.pd_kinds.specs.declared.rule.Rule.{Rule}
 use Rattle.pd_kinds.specs.declared.rules.Rules.{Rules}
-use Rattle.pd_kinds.specs.Objects.{DeviceState, SinkState, Rose}
+use Rattle.pd_kinds.specs.Objects.{DeviceState, Rose}
 use Rattle.pd_kinds.specs.Crash.{HoldsOldOrNone, IsSynced, IsUntouched}
 use Rattle.pd_kinds.specs.Faults.{faults_at}
 use Rattle.pd_kinds.specs.Limits.{room_of}
@@ -22,8 +22,8 @@ use Rattle.pd_laws.proofs.CleanLemmas.{no_rule_broken}
 use Rattle.pd_spells.specs.Lines.{no_room_line, reported_lines}
 use Rattle.pd_spells.specs.ThinNeed.{thin_need}
 use Rattle.pd_laid.specs.Salvage.{salvage}
-use Rattle.pd_image.specs.Device.{KeepsPlace, OnlyReads}
-use Rattle.pd_answers.specs.Answer.{Answer, Objects}
+use Rattle.pd_image.specs.Device.{KeepsPlace}
+use Rattle.pd_answers.specs.Answer.{Answer, AreFresh, Objects}
 use Rattle.pd_answers.specs.Repairs.{LaysPool, LeavesRepaired, Salvaged, repair, repair_answer}
 use Rattle.pd_answers.specs.Terms.{is_possible}
 use Rattle.pd_repair.specs.declared.fault.RepairFault.{RepairFault}
@@ -33,15 +33,17 @@ use Rattle.pd_repair.specs.Repaired.{AnswersSuper, CountsRepair, IsRepaired, Nam
 use Rattle.pd_restore.specs.Made.{AnswersMade, Ending, IsEarly, IsOfOthers}
 use Rattle.pd_tools.specs.declared.stop.Stop.{Stop}
 use Rattle.pd_tools.specs.declared.stop.Stop.TheVariants.{Device, Memory}
-use Rattle.pd_tools.specs.Ending.{ending_line, ending_status, repair_ended}
-use Rattle.pd_tools.specs.Repair.{AreOpened, AreUnopened}
+use Rattle.pd_tools.specs.Ending.{repair_ended}
+use Rattle.pd_tools.specs.Opened.{AreOpened, Devices, devices_of}
 use Rattle.pd_tools.specs.Stop.{stop_status}
-use Rattle.pd_tools.specs.Work.{HasCause, IsFinished, IsStopped}
+use Rattle.pd_tools.specs.Task.{AreAlone, IsAtRest, IsEnded, IsHalted, Works}
+use Rattle.pd_tools.specs.Work.{HasCause}
 use Rattle.pd_tools.proofs.Answered.{not_risen}
 use Rattle.pd_tools.proofs.Laying.{any_leaves, laid_kept, laid_leaves}
 use Rattle.pd_tools.proofs.Queries.{two_told}
-use Rattle.pd_tools.proofs.Works.{Stands, finished_early, stopped_early}
-use Rattle.pd_tools.proofs.Restores.{Image, last_lost, room-held, room-told, room_in, untouched_last}
+use Rattle.pd_tools.proofs.Restores.{Image, last_lost, untouched_last}
+use Rattle.pd_tools.proofs.Rooms.{blocks_of, has_room, room_at_rest}
+use Rattle.pd_tools.proofs.Tasks.{and_same}
 
 -- what is found in what the input tells
 report_in : Option Image → Reported
@@ -95,50 +97,26 @@ repaired_lost saved status output last some left = record {
   input_failed = λ e. absurd (omega arith);
 }
 
--- before anything was done
-pub repair_at_rest : (from to : List ℕ) (before after : Objects) (input output : DeviceState) → IsSynced output → output.access ≡ 0
-    → (finding : Salvaged) × ((repair from to).finds (record before { input = input; output = output }) (record after { input = input; output = output }) finding)
-    × ((repair from to).leaves finding (record before { input = input; output = output }) (record after { input = input; output = output }) 6)
-repair_at_rest from to before after input output synced closed =
-    let room = room_in output.held in
-    let finding = found_of (report_in input.held) (pool_in input.held) room in (
-      finding,
-      (
-        record { told = room-told output.held; attached = λ e. absurd (omega arith) },
-        two_told input.held (λ image report pool. (report, pool)) (report-told input.held) (pool-told input.held),
-      ),
-      left_alone finding 6 output output synced (record { held = refl; history = refl }) (λ e. omega arith),
-    )
-
--- a device couldn't be attached
-pub repair_unopened : (from to : List ℕ) (others : Objects) (notes : SinkState) (input last_input output last : DeviceState) → IsSynced output
-    → AreUnopened from to input last_input output last
-    → IsStopped (repair from to) (record others { input = input; output = output }) (record others { notes = notes; input = last_input; output = last }) Device
-repair_unopened from to others notes input last_input output last synced un =
-    let room = room_in output.held in
-    let finding = found_of (report_in input.held) (pool_in input.held) room in
-    let leaves = λ (status : ℕ) (some : status ≢ 0). left_alone finding status output last synced un.output_untouched some in
-    stopped_early (repair from to) (record others { input = input; output = output }) (record others { notes = notes; input = last_input; output = last }) (record {
-      followed = record { source = tt; out = tt; input = un.input_used; output = un.output_used; third = tt };
-      order = record { input = λ _. tt; output = λ ne. (tt, un.order ne); third = tt; out = tt };
-      kept = record { source = refl; out = refl; input = un.input_untouched; output = tt; third = refl };
-      reads = tt;
-    }) finding (
-      record { told = room-told output.held; attached = λ e. absurd (un.closed e) },
-      two_told input.held (λ image report pool. (report, pool)) (report-told input.held) (pool-told input.held),
-    ) refl Device refl (elim un.cause [ inl rose ↦ inl rose | inr rose ↦ inr (inl rose) ]) (leaves 5 (λ e. omega arith)) (leaves 6 (λ e. omega arith))
+-- before anything was written
+pub repair_rests : (from to : List ℕ) (before after : Objects) → AreFresh before → AreAlone before after → IsAtRest (repair from to) before after
+repair_rests from to before after fresh alone = record {
+  finding = found_of (report_in before.input.held) (pool_in before.input.held) (room_of (blocks_of before.output after.output));
+  found = (
+    room_at_rest before.output after.output alone.output.held alone.output_measured,
+    two_told before.input.held (λ image report pool. (report, pool)) (report-told before.input.held) (pool-told before.input.held),
+  );
+  leaves = λ status some. left_alone _ status before.output after.output fresh.output.2 alone.output some;
+}
 
 -- what holds of the ending of a result that is known
 pub of_ending : (P : Ending → Type 0) (result known : Result (Unit {0}) RepairFault) → result ≡ known → P (output_ending result) → P (output_ending known)
 of_ending P result known is all = subst (λ (r : Result (Unit {0}) RepairFault). P (output_ending r)) is all
 
-module _ (from to : List ℕ) (others : Objects) (notes : SinkState) (input opened last_input output writable last : DeviceState)
-    (synced : IsSynced output) (both : AreOpened from to input opened output writable)
-    (measured : IfSome writable.held (λ image. length image ≡ writable.blocks))
-    (reads : OnlyReads opened last_input) (place : KeepsPlace writable last)
-    (result : Result (Unit {0}) RepairFault) (done : IsRepaired result opened writable last) where
+module _ (from to : List ℕ) (before after : Objects) (opened : Devices) (fresh : AreFresh before) (both : AreOpened (repair from to).uses (devices_of before) opened)
+    (measured : IfSome opened.output.held (λ image. length image ≡ opened.output.blocks)) (place : KeepsPlace opened.output after.output)
+    (result : Result (Unit {0}) RepairFault) (done : IsRepaired result opened.input opened.output after.output) where
   abbrev room : ℕ
-  room = room_of writable.blocks
+  room = room_of opened.output.blocks
 
   abbrev pool : ThinPool
   pool = done.pool
@@ -146,80 +124,50 @@ module _ (from to : List ℕ) (others : Objects) (notes : SinkState) (input open
   abbrev finding : Reported → Salvaged
   finding report = found_of report pool room
 
-  abbrev before : Objects
-  before = record others { input = input; output = output }
-
-  abbrev after : Objects
-  after = record others { notes = notes; input = last_input; output = last }
-
   -- what is right to report
   abbrev IsRight : Reported → Type 0
-  IsRight report = IfSome input.held (λ image. report ≡ report_of (faults Thin Super image))
+  IsRight report = IfSome before.input.held (λ image. report ≡ report_of (faults Thin Super image))
 
   -- what is left of the output
   abbrev Leaves : Reported → ℕ → Type 0
-  Leaves report status = LeavesRepaired (finding report) status output last
+  Leaves report status = LeavesRepaired (finding report) status before.output after.output
 
   -- what was found is right
   found : (report : Reported) → IsRight report → (repair from to).finds before after (finding report)
   found report right = (
-    record {
-      told = room-held output.held writable.held writable.blocks both.output.untouched.held measured;
-      attached = λ _. ap room_of (sym place.blocks);
-    },
-    two_told input.held (λ image is saved. (is, saved)) right
+    has_room before.output opened.output after.output room refl both.output.untouched.held measured place.blocks,
+    two_told before.input.held (λ image is saved. (is, saved)) right
         (subst (λ (h : Option Image). IfSome h (λ image. pool ≡ salvage image)) both.input.untouched.held done.right),
   )
 
   -- what the faults of the superblock are answered by
-  of_super : (P : List Fault → Type 0) → IfSome opened.held (λ image. P (faults Thin Super image)) → IfSome input.held (λ image. P (faults Thin Super image))
+  of_super : (P : List Fault → Type 0) → IfSome opened.input.held (λ image. P (faults Thin Super image)) → IfSome before.input.held (λ image. P (faults Thin Super image))
   of_super P told = subst (λ (h : Option Image). IfSome h (λ image. P (faults Thin Super image))) both.input.untouched.held told
 
   -- there are none
-  none_right : IfSome opened.held (λ image. faults Thin Super image ≡ []) → IsRight (report_of [])
-  none_right none = IfSome_then input.held (of_super (λ list. list ≡ []) none) (λ image is. ap (λ (list : List Fault). report_of list) (sym is))
+  none_right : IfSome opened.input.held (λ image. faults Thin Super image ≡ []) → IsRight (report_of [])
+  none_right none = IfSome_then before.input.held (of_super (λ list. list ≡ []) none) (λ image is. ap (λ (list : List Fault). report_of list) (sym is))
 
-  fault_answer : (f : RepairFault) → result ≡ Err f → IfSome opened.held (λ image. AnswersSuper (Err f) (faults Thin Super image))
-  fault_answer f is = subst (λ (r : Result (Unit {0}) RepairFault). IfSome opened.held (λ image. AnswersSuper r (faults Thin Super image))) is done.rules
-
-  stands : Stands (repair from to) before after
-  stands = record {
-    followed = record {
-      source = tt;
-      out = tt;
-      input = record { allowed = inr (inl (reads.access ∙ both.input.attached)); named = λ _. rw reads.path both.input.named };
-      output = record { allowed = inr (inl (place.access ∙ both.output.attached)); named = λ _. rw place.path both.output.named };
-      third = tt;
-    };
-    order = record { input = λ _. tt; output = λ _. (tt, reads.access ∙ both.input.attached); third = tt; out = tt };
-    kept = record {
-      source = refl;
-      out = refl;
-      input = record { held = reads.held ∙ both.input.untouched.held; history = reads.history ∙ both.input.untouched.history };
-      output = tt;
-      third = refl;
-    };
-    reads = tt;
-  }
+  fault_answer : (f : RepairFault) → result ≡ Err f → IfSome opened.input.held (λ image. AnswersSuper (Err f) (faults Thin Super image))
+  fault_answer f is = subst (λ (r : Result (Unit {0}) RepairFault). IfSome opened.input.held (λ image. AnswersSuper r (faults Thin Super image))) is done.rules
 
   -- an output that the repair left alone
-  alone : IsUntouched writable last → (report : Reported) (status : ℕ) → status ≢ 0 → Leaves report status
-  alone same report status some =
-      left_alone (finding report) status output last synced
-      (record { held = same.held ∙ both.output.untouched.held; history = same.history ∙ both.output.untouched.history }) some
+  alone : IsUntouched opened.output after.output → (report : Reported) (status : ℕ) → status ≢ 0 → Leaves report status
+  alone same report status some = left_alone (finding report) status before.output after.output fresh.output.2 (and_same both.output.untouched same) some
 
   -- after a fault that isn't the output's
-  spared : (f : RepairFault) → result ≡ Err f → IsOfOthers (output_ending (Err f)) → HoldsOldOrNone output last
+  spared : (f : RepairFault) → result ≡ Err f → IsOfOthers (output_ending (Err f)) → HoldsOldOrNone before.output after.output
   spared f is others =
-      laid_kept output writable last synced both.output.untouched pool (output_ending result) done.output (repair_answer (finding (report_of [])))
+      laid_kept before.output opened.output after.output fresh.output.2 both.output.untouched pool (output_ending result) done.output (repair_answer (finding (report_of [])))
       (of_ending (λ ending. IsOfOthers ending) (Err f) result (sym is) others)
 
   -- whatever there is room for, where no faults are reported
-  either_way : (last.faults ≡ output.faults → HoldsOldOrNone output last) → (status : ℕ) → (status ≡ 5 → last.faults ≡ output.faults → IsUntouched output last)
+  either_way : (after.output.faults ≡ before.output.faults → HoldsOldOrNone before.output after.output) → (status : ℕ)
+      → (status ≡ 5 → after.output.faults ≡ before.output.faults → IsUntouched before.output after.output)
       → status ≢ 0 → status ≢ 3 → status ≢ 4 → Leaves (report_of []) status
   either_way kept status input_failed some three four = record {
     output = record {
-      made = any_leaves output writable last synced both.output.untouched pool (output_ending result) done.output (repair_answer (finding (report_of [])))
+      made = any_leaves before.output opened.output after.output fresh.output.2 both.output.untouched pool (output_ending result) done.output (repair_answer (finding (report_of [])))
           (λ fits. ap (λ (a : Answer). a.status) (answer_made pool room fits)) status some three four;
       kept = λ _. kept;
     };
@@ -227,86 +175,79 @@ module _ (from to : List ℕ) (others : Objects) (notes : SinkState) (input open
   }
 
   -- it came to an answer
-  finished : (report : Reported) → IsRight report → (status : ℕ) (line : List ℕ) → status ≤ 4 → IsTrue (is_possible (repair from to) status)
+  ended : (report : Reported) → IsRight report → (status : ℕ) (line : List ℕ) → IsTrue (is_possible (repair from to) status)
       → repair_answer (finding report) ≡ record { status = status; out = []; notes = line } → Leaves report status
-      → IsFinished (repair from to) before after status line
-  finished report right status line low possible answer left =
-      finished_early (repair from to) before after stands (finding report) (found report right) refl status line low possible answer
-      (record { source = tt; input = reads.access ∙ both.input.attached; output = place.access ∙ both.output.attached; third = tt }) (λ _. tt) (λ _. tt) left
+      → IsEnded (repair from to) before after status line
+  ended report right status line possible answer left =
+      record { finding = finding report; found = found report right; answer = answer; possible = possible; no_line = λ _. tt; leaves = left }
 
-  repair_made : result ≡ Ok tt → IsFinished (repair from to) before after 0 []
+  -- or was stopped
+  halted : (report : Reported) → IsRight report → (stop : Stop) → IsTrue (is_possible (repair from to) (stop_status stop)) → HasCause (repair from to) before after stop
+      → Leaves report (stop_status stop) → IsHalted (repair from to) before after stop
+  halted report right stop possible cause left =
+      record { finding = finding report; found = found report right; possible = possible; cause = cause; leaves = left }
+
+  repair_made : result ≡ Ok tt → IsEnded (repair from to) before after 0 []
   repair_made is =
       let answer = of_ending (λ ending. AnswersMade ending pool room) result (Ok tt) is done.output.answer in
       let fits : thin_need pool room ≤ room = answer.1 in
-      let none = subst (λ (r : Result (Unit {0}) RepairFault). IfSome opened.held (λ image. AnswersSuper r (faults Thin Super image))) is done.rules in
-      finished (report_of []) (none_right none) 0 [] (lit≤ tt) refl (answer_made pool room fits)
+      let none = subst (λ (r : Result (Unit {0}) RepairFault). IfSome opened.input.held (λ image. AnswersSuper r (faults Thin Super image))) is done.rules in
+      ended (report_of []) (none_right none) 0 [] refl (answer_made pool room fits)
       (record {
         output = record {
-          made = laid_leaves output writable last synced both.output.untouched pool (output_ending result) done.output (repair_answer (finding (report_of [])))
+          made = laid_leaves before.output opened.output after.output fresh.output.2 both.output.untouched pool (output_ending result) done.output (repair_answer (finding (report_of [])))
               (ap (λ (a : Answer). a.status) (answer_made pool room fits)) 0 (λ _. rw is tt) (λ either. elim either [ inl e ↦ omega arith | inr e ↦ omega arith ]);
           kept = λ some. absurd (some refl);
         };
         input_failed = λ e. absurd (omega arith);
       })
 
-  repair_no_room : (need blocks : ℕ) → result ≡ Err (fault.NoRoom need blocks) → IsFinished (repair from to) before after 4 (no_room_line need blocks)
+  repair_no_room : (need blocks : ℕ) → result ≡ Err (fault.NoRoom need blocks) → IsEnded (repair from to) before after 4 (no_room_line need blocks)
   repair_no_room need blocks is =
       let answer = of_ending (λ ending. AnswersMade ending pool room) result (Err (fault.NoRoom need blocks)) is done.output.answer in
       let small : room < thin_need pool room = subst (λ (n : ℕ). room < n) answer.0 answer.1.1 in
-      let same = of_ending (λ ending. IsEarly ending → IsUntouched writable last) result (Err (fault.NoRoom need blocks)) is done.output.early tt in
-      finished (report_of []) (none_right (fault_answer (fault.NoRoom need blocks) is)) 4 (no_room_line need blocks) (lit≤ tt) refl
+      let same = of_ending (λ ending. IsEarly ending → IsUntouched opened.output after.output) result (Err (fault.NoRoom need blocks)) is done.output.early tt in
+      ended (report_of []) (none_right (fault_answer (fault.NoRoom need blocks) is)) 4 (no_room_line need blocks) refl
       (rw (answer.0, answer.1.0) (answer_small pool room small)) (alone same (report_of []) 4 (λ e. omega arith))
 
   repair_faulty : (rules : Rules) → result ≡ Err (fault.NoSuper rules) → (((rule : Rule) → has_rule rules rule ≡ false) → ⊥)
-      → (report : Reported) → report ≡ report_of (faults_at 0 (has_rule rules)) → IsFinished (repair from to) before after 1 (reported_lines report)
+      → (report : Reported) → report ≡ report_of (faults_at 0 (has_rule rules)) → IsEnded (repair from to) before after 1 (reported_lines report)
   repair_faulty rules is named report reported =
-      let same = of_ending (λ ending. IsEarly ending → IsUntouched writable last) result (Err (fault.NoSuper rules)) is done.output.early tt in
-      let right = IfSome_then input.held (of_super (λ list. (list ≢ []) × (faults_at 0 (has_rule rules) ≡ list)) (fault_answer (fault.NoSuper rules) is))
+      let same = of_ending (λ ending. IsEarly ending → IsUntouched opened.output after.output) result (Err (fault.NoSuper rules)) is done.output.early tt in
+      let right = IfSome_then before.input.held (of_super (λ list. (list ≢ []) × (faults_at 0 (has_rule rules) ≡ list)) (fault_answer (fault.NoSuper rules) is))
       (λ image broken. reported ∙ ap (λ (list : List Fault). report_of list) broken.1) in
       let faulty : nat_eq report.total 0 ≡ false = ap (λ (r : Reported). nat_eq r.total 0) reported ∙ named_some rules (faults_at 0 (has_rule rules)) refl named in
-      finished report right 1 (reported_lines report) (lit≤ tt) refl (answer_faulty report pool room faulty) (alone same report 1 (λ e. omega arith))
+      ended report right 1 (reported_lines report) refl (answer_faulty report pool room faulty) (alone same report 1 (λ e. omega arith))
 
-  stopped : (report : Reported) → IsRight report → (stop : Stop) → IsTrue (is_possible (repair from to) (stop_status stop)) → HasCause (repair from to) before after stop
-      → Leaves report (stop_status stop) → Leaves report 6 → IsStopped (repair from to) before after stop
-  stopped report right stop possible cause leaves lost =
-      stopped_early (repair from to) before after stands (finding report) (found report right) refl stop possible cause leaves lost
-
-  repair_memory : result ≡ Err fault.Memory → IsStopped (repair from to) before after Memory
+  repair_memory : result ≡ Err fault.Memory → IsHalted (repair from to) before after Memory
   repair_memory is =
       let none = fault_answer fault.Memory is in
-      let left : (status : ℕ) → (status ≡ 5 → ⊥) → status ≢ 0 → status ≢ 3 → status ≢ 4 → Leaves (report_of []) status =
-      λ status five. either_way (λ _. spared fault.Memory is tt) status (λ e. absurd (five e)) in
-      stopped (report_of []) (none_right none) Memory refl (of_super (λ list. list ≡ []) none)
-      (left 7 (λ e. omega arith) (λ e. omega arith) (λ e. omega arith) (λ e. omega arith))
-      (left 6 (λ e. omega arith) (λ e. omega arith) (λ e. omega arith) (λ e. omega arith))
+      halted (report_of []) (none_right none) Memory refl (of_super (λ list. list ≡ []) none)
+      (either_way (λ _. spared fault.Memory is tt) 7 (λ e. absurd (omega arith)) (λ e. omega arith) (λ e. omega arith) (λ e. omega arith))
 
-  repair_output : result ≡ Err fault.Output → output.faults ≡ 0 → Rose writable.faults last.faults → IsStopped (repair from to) before after Device
-  repair_output is fresh rose =
-      let risen : Rose output.faults last.faults = rw both.output.faults at rose in
-      let never : last.faults ≡ output.faults → ⊥ = λ same. not_risen output.faults last.faults fresh same risen in
-      let left : (status : ℕ) → status ≢ 0 → status ≢ 3 → status ≢ 4 → Leaves (report_of []) status =
-      λ status. either_way (λ same. absurd (never same)) status (λ _ same. absurd (never same)) in
-      stopped (report_of []) (none_right (fault_answer fault.Output is)) Device refl (inr (inl risen))
-      (left 5 (λ e. omega arith) (λ e. omega arith) (λ e. omega arith)) (left 6 (λ e. omega arith) (λ e. omega arith) (λ e. omega arith))
+  repair_output : result ≡ Err fault.Output → Rose opened.output.faults after.output.faults → IsHalted (repair from to) before after Device
+  repair_output is rose =
+      let risen : Rose before.output.faults after.output.faults = rw both.output.faults at rose in
+      let never : after.output.faults ≡ before.output.faults → ⊥ = λ same. not_risen before.output.faults after.output.faults fresh.output.1 same risen in
+      halted (report_of []) (none_right (fault_answer fault.Output is)) Device refl (inr (inl risen))
+      (either_way (λ same. absurd (never same)) 5 (λ _ same. absurd (never same)) (λ e. omega arith) (λ e. omega arith) (λ e. omega arith))
 
-  repair_input : result ≡ Err fault.Input → Rose opened.faults last_input.faults → IsStopped (repair from to) before after Device
+  repair_input : result ≡ Err fault.Input → Rose opened.input.faults after.input.faults → IsHalted (repair from to) before after Device
   repair_input is rose =
-      let same = of_ending (λ ending. IsEarly ending → IsUntouched writable last) result (Err fault.Input) is done.output.early tt in
-      stopped (report_in input.held) (report-told input.held) Device refl (inl (rw both.input.faults at rose))
-      (alone same (report_in input.held) 5 (λ e. omega arith)) (alone same (report_in input.held) 6 (λ e. omega arith))
+      let same = of_ending (λ ending. IsEarly ending → IsUntouched opened.output after.output) result (Err fault.Input) is done.output.early tt in
+      halted (report_in before.input.held) (report-told before.input.held) Device refl (inl (rw both.input.faults at rose))
+      (alone same (report_in before.input.held) 5 (λ e. omega arith))
 
   -- whatever its result
-  abbrev RepairEnds : Result (Unit {0}) RepairFault → Type 0
-  RepairEnds r = MatchResult (repair_ended r) (λ ending. IsFinished (repair from to) before after (ending_status ending) (ending_line ending)) (IsStopped (repair from to) before after)
+  works_by : (r : Result (Unit {0}) RepairFault) → result ≡ r → IfErr r NamesRules
+      → CountsRepair r opened.input.faults after.input.faults opened.output.faults after.output.faults → Works (repair from to) before after (repair_ended r)
+  works_by (Ok answer) is named counts = repair_made is
+  works_by (Err fault.Memory) is named counts = repair_memory is
+  works_by (Err fault.Input) is named counts = repair_input is counts.0.0
+  works_by (Err fault.Output) is named counts = repair_output is counts.1.0
+  works_by (Err (fault.NoSuper rules)) is named counts = repair_faulty rules is named (report_of (faults_at 0 (has_rule rules))) refl
+  works_by (Err (fault.NoRoom need blocks)) is named counts = repair_no_room need blocks is
 
-  ends_by : (r : Result (Unit {0}) RepairFault) → result ≡ r → output.faults ≡ 0 → IfErr r NamesRules
-      → CountsRepair r opened.faults last_input.faults writable.faults last.faults → RepairEnds r
-  ends_by (Ok answer) is fresh named counts = repair_made is
-  ends_by (Err fault.Memory) is fresh named counts = repair_memory is
-  ends_by (Err fault.Input) is fresh named counts = repair_input is counts.0.0
-  ends_by (Err fault.Output) is fresh named counts = repair_output is fresh counts.1.0
-  ends_by (Err (fault.NoSuper rules)) is fresh named counts = repair_faulty rules is named (report_of (faults_at 0 (has_rule rules))) refl
-  ends_by (Err (fault.NoRoom need blocks)) is fresh named counts = repair_no_room need blocks is
-
-  pub repair_ends : output.faults ≡ 0 → IfErr result NamesRules → CountsRepair result opened.faults last_input.faults writable.faults last.faults → RepairEnds result
-  repair_ends = ends_by result refl
+  pub repair_works : IfErr result NamesRules → CountsRepair result opened.input.faults after.input.faults opened.output.faults after.output.faults
+      → Works (repair from to) before after (repair_ended result)
+  repair_works = works_by result refl

@@ -1,26 +1,24 @@
 -- What the work of a search comes to, over plain variables.
 use Rattle.std.proofs.Common.{◌≡◌, ◌≢◌, ◌⊎◌, inl, inr, ℕ, ◌≤◌, ◌<◌, true, not, nat_eq, IsTrue, List, [], length, Option, Some, None, IfSome, Result, Ok, Err, min, refl, sym, ap, ◌∙◌, subst, arith, lit≤}
-use Rattle.std.specs.Prelude.{MatchResult}
 use Rattle.std.specs.Option.{option_map_or}
 use Rattle.std.proofs.lemmas.Bool.{lt-ltb, le-ltb}
 use Rattle.pd_kinds.specs.declared.limits.TheConstants.{MAX_META_BLOCKS}
-use Rattle.pd_kinds.specs.Objects.{DeviceState, SinkState, Appends, AppendsFront, Rose}
+use Rattle.pd_kinds.specs.Objects.{DeviceState, SinkState, Rose}
 use Rattle.pd_kinds.specs.Crash.{HoldsOldOrNone, IsSynced, IsUntouched}
 use Rattle.pd_kinds.specs.Image.{HasBytes}
 use Rattle.pd_kinds.specs.Layout.{graph_of}
 use Rattle.pd_kinds.specs.Limits.{room_of}
 use Rattle.pd_kinds.specs.Meaning.{ThinPool}
-use Rattle.pd_kinds.proofs.AppendLemmas.{appends_none, front_none}
 use Rattle.pd_spells.specs.Lines.{no_room_line}
 use Rattle.pd_spells.specs.ThinNeed.{thin_need}
 use Rattle.pd_laid.specs.FoundRoots.{AreBest, FoundRoots, IsFound, are_fitting, found_pool, lost_graph}
 use Rattle.pd_laid.specs.Salvage.{salvage, salvage_from}
 use Rattle.pd_image.specs.Device.{KeepsPlace, OnlyReads}
-use Rattle.pd_answers.specs.Answer.{Answer, AreFresh, IsUsed, Objects, reading}
+use Rattle.pd_answers.specs.Answer.{Answer, AreFresh, Objects}
 use Rattle.pd_answers.specs.Outputs.{LeavesMade}
 use Rattle.pd_answers.specs.Repairs.{LaysPool, LeavesFound, Searched, searched_answer}
 use Rattle.pd_answers.specs.SearchLines.{no_roots_line, roots_line}
-use Rattle.pd_answers.specs.Terms.{is_one_of, is_possible}
+use Rattle.pd_answers.specs.Terms.{is_possible}
 use Rattle.pd_repair.specs.declared.fault.RepairFault.{RepairFault}
 use Rattle.pd_repair.specs.declared.fault.RepairFault.TheVariants as fault
 use Rattle.pd_repair.specs.Faults.{output_ending}
@@ -29,20 +27,22 @@ use Rattle.pd_restore.specs.Made.{AnswersMade, IsEarly}
 use Rattle.pd_scan.specs.Roots.{lost_fields}
 use Rattle.pd_tools.specs.declared.search.Given.{Given}
 use Rattle.pd_tools.specs.declared.stop.Stop.{Stop}
-use Rattle.pd_tools.specs.declared.stop.Stop.TheVariants.{Device, Stream, Memory}
-use Rattle.pd_tools.specs.Ending.{ending_line, ending_status, repair_ended}
-use Rattle.pd_tools.specs.Repair.{AreOpened, AreUnopened}
+use Rattle.pd_tools.specs.declared.stop.Stop.TheVariants.{Device, Memory}
+use Rattle.pd_tools.specs.Ending.{repair_ended}
+use Rattle.pd_tools.specs.Opened.{AreOpened, Devices, devices_of}
 use Rattle.pd_tools.specs.Search.{terms_of_search}
 use Rattle.pd_tools.specs.Stop.{stop_status}
-use Rattle.pd_tools.specs.Work.{HasCause, IsFinished, IsStopped}
-use Rattle.pd_tools.proofs.Answered.{not_risen, stop_status-low}
+use Rattle.pd_tools.specs.Task.{AreAlone, IsAtRest, IsDone, IsEnded, IsHalted, IsMeasured, Works}
+use Rattle.pd_tools.specs.Work.{HasCause}
+use Rattle.pd_tools.proofs.Answered.{not_risen}
 use Rattle.pd_tools.proofs.BestRoots.{best_roots}
-use Rattle.pd_tools.proofs.Checks.{not_yet}
 use Rattle.pd_tools.proofs.Laying.{any_leaves, laid_kept, laid_leaves}
 use Rattle.pd_tools.proofs.Queries.{one_told, two_told}
 use Rattle.pd_tools.proofs.Repairs.{of_ending}
-use Rattle.pd_tools.proofs.Restores.{Image, left_lost, room-held, room-told, room_in, same_held, untouched_output}
-use Rattle.pd_tools.proofs.Works.{Stands, finished_by, is_touched, not_done, still_done, stopped_by, stopped_early}
+use Rattle.pd_tools.proofs.Restores.{Image, left_lost, same_held, untouched_output}
+use Rattle.pd_tools.proofs.Rooms.{blocks_of, has_room, room_at_rest}
+use Rattle.pd_tools.proofs.Tasks.{and_same, halted_at_rest, read_alone, read_by}
+use Rattle.pd_tools.proofs.Works.{not_done, still_done}
 
 -- what is right to find in what is told
 abbrev pub IsRight : Given → Option Image → Option FoundRoots → ThinPool → Type 0
@@ -103,144 +103,49 @@ found_lost found before after status some left = record {
   input_failed = λ e. absurd (omega arith);
 }
 
--- before anything was done
-pub search_at_rest : (given : Given) (from to : List ℕ) (before : Objects) (notes : SinkState) → AreFresh before
-    → (finding : Searched) × ((terms_of_search given from to).finds before (record before { notes = notes }) finding)
-    × ((terms_of_search given from to).leaves finding before (record before { notes = notes }) 6)
-search_at_rest given from to before notes fresh =
+-- before anything was written
+pub search_rests : (given : Given) (from to : List ℕ) (before after : Objects) → AreFresh before → AreAlone before after → IsAtRest (terms_of_search given from to) before after
+search_rests given from to before after fresh alone =
     let m = meant given before.input.held in
-    let finding = found_of m.roots m.pool (room_in before.output.held) in (
-      finding,
-      (record { told = room-told before.output.held; attached = λ e. absurd (let closed = fresh.output.0 in omega arith) }, m.right),
-      left_alone finding before (record before { notes = notes }) 6 fresh.output.2 refl (record { held = refl; history = refl }) (λ e. omega arith),
-    )
-
--- a device couldn't be attached
-pub search_unopened : (given : Given) (from to : List ℕ) (others : Objects) (notes out : SinkState) (input last_input output last : DeviceState) → out.access ≡ 0 → IsSynced output
-    → AreUnopened from to input last_input output last
-    → IsStopped (terms_of_search given from to) (record others { out = out; input = input; output = output })
-    (record others { out = out; notes = notes; input = last_input; output = last }) Device
-search_unopened given from to others notes out input last_input output last fresh synced un =
-    let m = meant given input.held in
-    let finding = found_of m.roots m.pool (room_in output.held) in
-    let before : Objects = record others { out = out; input = input; output = output } in
-    let after : Objects = record others { out = out; notes = notes; input = last_input; output = last } in
-    let leaves = λ (status : ℕ) (some : status ≢ 0). left_alone finding before after status synced refl un.output_untouched some in
-    stopped_early (terms_of_search given from to) before after (record {
-      followed = record { source = tt; out = not_yet [] out.access out.path fresh; input = un.input_used; output = un.output_used; third = tt };
-      order = record { input = λ _. tt; output = λ ne. (tt, un.order ne); third = tt; out = λ ne. absurd (ne fresh) };
-      kept = record { source = refl; out = tt; input = un.input_untouched; output = tt; third = refl };
-      reads = tt;
-    }) finding (record { told = room-told output.held; attached = λ e. absurd (un.closed e) }, m.right) refl Device refl
-    (elim un.cause [ inl rose ↦ inl rose | inr rose ↦ inr (inl rose) ]) (leaves 5 (λ e. omega arith)) (leaves 6 (λ e. omega arith))
-
--- devices that were attached
-module _ (given : Given) (from to : List ℕ) (others : Objects) (notes out out' : SinkState) (input opened last_input output writable last : DeviceState)
-    (both : AreOpened from to input opened output writable) (measured : IfSome writable.held (λ image. length image ≡ writable.blocks))
-    (reads : OnlyReads opened last_input) (place : KeepsPlace writable last) (out_used : IsUsed (reading []) out'.access out'.path) where
-  abbrev before : Objects
-  before = record others { out = out; input = input; output = output }
-
-  abbrev after : Objects
-  after = record others { out = out'; notes = notes; input = last_input; output = last }
-
-  abbrev finding : Option FoundRoots → ThinPool → Searched
-  finding roots pool = found_of roots pool (room_of writable.blocks)
-
-  stands : Stands (terms_of_search given from to) before after
-  stands = record {
-    followed = record {
-      source = tt;
-      out = out_used;
-      input = record { allowed = inr (inl (reads.access ∙ both.input.attached)); named = λ _. rw reads.path both.input.named };
-      output = record { allowed = inr (inl (place.access ∙ both.output.attached)); named = λ _. rw place.path both.output.named };
-      third = tt;
-    };
-    order = record {
-      input = λ _. tt;
-      output = λ _. (tt, reads.access ∙ both.input.attached);
-      third = tt;
-      out = λ _. record { source = tt; input = reads.access ∙ both.input.attached; output = place.access ∙ both.output.attached; third = tt };
-    };
-    kept = record {
-      source = refl;
-      out = tt;
-      input = record { held = reads.held ∙ both.input.untouched.held; history = reads.history ∙ both.input.untouched.history };
-      output = tt;
-      third = refl;
-    };
-    reads = tt;
-  }
-
-  is_found : (roots : Option FoundRoots) (pool : ThinPool) → IsRight given input.held roots pool → (terms_of_search given from to).finds before after (finding roots pool)
-  is_found roots pool right = (
     record {
-      told = room-held output.held writable.held writable.blocks both.output.untouched.held measured;
-      attached = λ _. ap room_of (sym place.blocks);
-    },
-    right,
-  )
+      finding = found_of m.roots m.pool (room_of (blocks_of before.output after.output));
+      found = (room_at_rest before.output after.output alone.output.held alone.output_measured, m.right);
+      leaves = λ status some. left_alone _ before after status fresh.output.2 alone.out alone.output some;
+    }
 
-  finished : (roots : Option FoundRoots) (pool : ThinPool) → IsRight given input.held roots pool → (status : ℕ) (bytes line : List ℕ) → status ≤ 4
-      → IsTrue (is_possible (terms_of_search given from to) status)
-      → (IsTrue (is_one_of (terms_of_search given from to).silent status) → out' ≡ out) → (status ≢ 0 → out' ≡ out)
-      → searched_answer (finding roots pool) ≡ record { status = status; out = bytes; notes = line }
-      → Appends bytes out.written out'.written → (status ≡ 0 → out'.access ≡ 1) → LeavesFound (finding roots pool) before after status
-      → IsFinished (terms_of_search given from to) before after status line
-  finished roots pool right status bytes line low possible silent spared answer whole attached left =
-      finished_by (terms_of_search given from to) before after stands (finding roots pool) (is_found roots pool right) status bytes line low possible silent
-      (λ some. spared (λ zero. some (ap (λ (a : Answer). a.status) answer ∙ zero))) answer whole
-      (record { source = tt; input = reads.access ∙ both.input.attached; output = place.access ∙ both.output.attached; third = tt }) attached (λ _. tt) left
+-- devices that were attached, and of which the input was read
+module _ (given : Given) (from to : List ℕ) (before : Objects) (opened : Devices) (notes : SinkState) (last_input : DeviceState) (fresh : AreFresh before)
+    (both : AreOpened (terms_of_search given from to).uses (devices_of before) opened)
+    (measured : IfSome opened.output.held (λ image. length image ≡ opened.output.blocks)) (third : IsMeasured opened.third) (reads : OnlyReads opened.input last_input) where
+  abbrev read_after : Objects
+  read_after = read_by before opened notes last_input
 
-  stopped : (roots : Option FoundRoots) (pool : ThinPool) → IsRight given input.held roots pool → (stop : Stop) → IsTrue (is_possible (terms_of_search given from to) (stop_status stop))
-      → (IsTrue (is_one_of (terms_of_search given from to).silent (stop_status stop)) → out' ≡ out) → ((searched_answer (finding roots pool)).status ≢ 0 → out' ≡ out)
-      → HasCause (terms_of_search given from to) before after stop → AppendsFront (searched_answer (finding roots pool)).out out.written out'.written
-      → LeavesFound (finding roots pool) before after (stop_status stop) → IsStopped (terms_of_search given from to) before after stop
-  stopped roots pool right stop possible silent spared cause front left =
-      let high = stop_status-low stop in
-      stopped_by (terms_of_search given from to) before after stands (finding roots pool) (is_found roots pool right) stop possible silent spared cause front left
-      (found_lost (finding roots pool) before after (stop_status stop) (λ e. omega arith) left)
-
--- devices that were attached, and of which the output was left alone
-module _ (given : Given) (from to : List ℕ) (others : Objects) (notes out : SinkState) (input opened last_input output writable : DeviceState)
-    (fresh : out.access ≡ 0) (synced : IsSynced output) (both : AreOpened from to input opened output writable)
-    (measured : IfSome writable.held (λ image. length image ≡ writable.blocks)) (reads : OnlyReads opened last_input) where
-  abbrev unwritten : KeepsPlace writable writable
-  unwritten = record { access = refl; path = refl; blocks = refl }
-
-  left_as_opened : (found : Searched) (status : ℕ) → status ≢ 0
-      → LeavesFound found (record others { out = out; input = input; output = output }) (record others { out = out; notes = notes; input = last_input; output = writable }) status
-  left_as_opened found status some =
-      left_alone found (record others { out = out; input = input; output = output }) (record others { out = out; notes = notes; input = last_input; output = writable }) status
-      synced refl both.output.untouched some
+  alone_here : AreAlone before read_after
+  alone_here = read_alone (terms_of_search given from to).uses before opened notes last_input both (record { held = reads.held; history = reads.history }) (λ _. measured) third
 
   -- there are no roots
-  pub search_none : IfSome opened.held (λ image. IsFound (lost_graph image given.blocks) image None)
-      → IsFinished (terms_of_search given from to) (record others { out = out; input = input; output = output })
-      (record others { out = out; notes = notes; input = last_input; output = writable }) 1 no_roots_line
-  search_none none =
-      finished given from to others notes out out input opened last_input output writable writable both measured reads unwritten (not_yet [] out.access out.path fresh)
-      None (salvage []) (one_told input.held (λ image is. (is, tt)) (rw both.input.untouched.held at none)) 1 [] no_roots_line (lit≤ tt) refl (λ _. refl) (λ _. refl) refl
-      (appends_none out.written) (λ e. absurd (omega arith)) (left_as_opened _ 1 (λ e. omega arith))
+  pub search_none : IfSome opened.input.held (λ image. IsFound (lost_graph image given.blocks) image None) → IsEnded (terms_of_search given from to) before read_after 1 no_roots_line
+  search_none none = record {
+    finding = found_of None (salvage []) (room_of opened.output.blocks);
+    found = (
+      has_room before.output opened.output opened.output (room_of opened.output.blocks) refl both.output.untouched.held measured refl,
+      one_told before.input.held (λ image is. (is, tt)) (rw both.input.untouched.held at none),
+    );
+    answer = refl;
+    possible = refl;
+    no_line = λ e. absurd (omega arith);
+    leaves = left_alone _ before read_after 1 fresh.output.2 refl both.output.untouched (λ e. omega arith);
+  }
 
   -- the search failed
-  failed : (stop : Stop) → IsTrue (is_possible (terms_of_search given from to) (stop_status stop)) → stop_status stop ≢ 0
-      → HasCause (terms_of_search given from to) (record others { out = out; input = input; output = output }) (record others { out = out; notes = notes; input = last_input; output = writable }) stop
-      → IsStopped (terms_of_search given from to) (record others { out = out; input = input; output = output })
-      (record others { out = out; notes = notes; input = last_input; output = writable }) stop
-  failed stop possible some cause =
-      let m = meant given input.held in
-      stopped given from to others notes out out input opened last_input output writable writable both measured reads unwritten (not_yet [] out.access out.path fresh)
-      m.roots m.pool m.right stop possible (λ _. refl) (λ _. refl) cause (front_none _ out.written) (left_as_opened _ (stop_status stop) some)
+  pub search_wanting : IsHalted (terms_of_search given from to) before read_after Memory
+  search_wanting =
+      halted_at_rest (terms_of_search given from to) before read_after Memory (search_rests given from to before read_after fresh alone_here) refl tt
 
-  pub search_wanting : IsStopped (terms_of_search given from to) (record others { out = out; input = input; output = output })
-      (record others { out = out; notes = notes; input = last_input; output = writable }) Memory
-  search_wanting = failed Memory refl (λ e. omega arith) tt
-
-  pub search_unread : Rose opened.faults last_input.faults
-      → IsStopped (terms_of_search given from to) (record others { out = out; input = input; output = output })
-      (record others { out = out; notes = notes; input = last_input; output = writable }) Device
-  search_unread rose = failed Device refl (λ e. omega arith) (inl (rw both.input.faults at rose))
+  pub search_unread : Rose opened.input.faults last_input.faults → IsHalted (terms_of_search given from to) before read_after Device
+  search_unread rose =
+      halted_at_rest (terms_of_search given from to) before read_after Device (search_rests given from to before read_after fresh alone_here) refl
+      (inl (rw both.input.faults at rose))
 
 -- of a pool whose trees fit each other all is saved
 abbrev pub AreSavedWhole : Type 0
@@ -263,15 +168,15 @@ saved_found whole given roots blocks pool image bytes number best saved =
     ∙ whole image given.blocks given.transaction given.block_size roots bytes best.fitting
 
 -- devices that were attached, and roots that were found
-module _ (given : Given) (from to : List ℕ) (others : Objects) (notes out : SinkState) (input opened last_input output writable last : DeviceState)
-    (fresh : out.access ≡ 0) (synced : IsSynced output) (both : AreOpened from to input opened output writable)
-    (measured : IfSome writable.held (λ image. length image ≡ writable.blocks)) (reads : OnlyReads opened last_input) (place : KeepsPlace writable last)
-    (whole : AreSavedWhole) (bytes : IfSome opened.held HasBytes) (number : IfSome opened.held (λ image. length image ≡ opened.blocks))
-    (roots : FoundRoots) (best : IfSome opened.held (λ image. AreBest (lost_graph image given.blocks) image roots))
+module _ (given : Given) (from to : List ℕ) (before after : Objects) (opened : Devices) (fresh : AreFresh before) (unput : after.out ≡ before.out)
+    (both : AreOpened (terms_of_search given from to).uses (devices_of before) opened)
+    (measured : IfSome opened.output.held (λ image. length image ≡ opened.output.blocks)) (place : KeepsPlace opened.output after.output)
+    (whole : AreSavedWhole) (bytes : IfSome opened.input.held HasBytes) (number : IfSome opened.input.held (λ image. length image ≡ opened.input.blocks))
+    (roots : FoundRoots) (best : IfSome opened.input.held (λ image. AreBest (lost_graph image given.blocks) image roots))
     (result : Result (Unit {0}) RepairFault)
-    (done : IsRepairedFrom (lost_fields roots given.transaction given.block_size (min opened.blocks MAX_META_BLOCKS) given.blocks) result opened writable last) where
+    (done : IsRepairedFrom (lost_fields roots given.transaction given.block_size (min opened.input.blocks MAX_META_BLOCKS) given.blocks) result opened.input opened.output after.output) where
   abbrev room : ℕ
-  room = room_of writable.blocks
+  room = room_of opened.output.blocks
 
   abbrev pool : ThinPool
   pool = done.pool
@@ -279,122 +184,108 @@ module _ (given : Given) (from to : List ℕ) (others : Objects) (notes out : Si
   abbrev found : Searched
   found = found_of (Some roots) pool room
 
-  abbrev before_writing : Objects
-  before_writing = record others { out = out; input = input; output = output }
+  abbrev Leaves : ℕ → Type 0
+  Leaves status = LeavesFound found before after status
 
-  abbrev after_writing : SinkState → Objects
-  after_writing last_out = record others { out = last_out; notes = notes; input = last_input; output = last }
-
-  abbrev Leaves : SinkState → ℕ → Type 0
-  Leaves last_out status = LeavesFound found before_writing (after_writing last_out) status
-
-  right : IsRight given input.held (Some roots) pool
+  right : IsRight given before.input.held (Some roots) pool
   right =
-      let image_is : IfSome opened.held (λ image. HasBytes image × (length image ≡ opened.blocks)) = two_told opened.held (λ image a b. (a, b)) bytes number in
-      let best_is : IfSome opened.held (λ image. AreBest (lost_graph image given.blocks) image roots × (HasBytes image × (length image ≡ opened.blocks))) =
-      two_told opened.held (λ image a b. (a, b)) best image_is in
-      let right_here : IsRight given opened.held (Some roots) pool =
-      two_told opened.held (λ image is saved. (is.0, saved_found whole given roots opened.blocks pool image is.1.0 is.1.1 is.0 saved)) best_is done.right in
+      let image_is : IfSome opened.input.held (λ image. HasBytes image × (length image ≡ opened.input.blocks)) = two_told opened.input.held (λ image a b. (a, b)) bytes number in
+      let best_is : IfSome opened.input.held (λ image. AreBest (lost_graph image given.blocks) image roots × (HasBytes image × (length image ≡ opened.input.blocks))) =
+      two_told opened.input.held (λ image a b. (a, b)) best image_is in
+      let right_here : IsRight given opened.input.held (Some roots) pool =
+      two_told opened.input.held (λ image is saved. (is.0, saved_found whole given roots opened.input.blocks pool image is.1.0 is.1.1 is.0 saved)) best_is done.right in
       subst (λ (h : Option Image). IsRight given h (Some roots) pool) both.input.untouched.held right_here
 
+  is_found : (out : SinkState) → (terms_of_search given from to).finds before (record after { out = out }) found
+  is_found out = (has_room before.output opened.output after.output room refl both.output.untouched.held measured place.blocks, right)
+
   -- the output was left alone
-  alone : IsUntouched writable last → (status : ℕ) → status ≢ 0 → Leaves out status
-  alone same status some = left_alone found before_writing (after_writing out) status synced refl
-      (record { held = same.held ∙ both.output.untouched.held; history = same.history ∙ both.output.untouched.history }) some
+  alone : IsUntouched opened.output after.output → (status : ℕ) → status ≢ 0 → Leaves status
+  alone same status some = left_alone found before after status fresh.output.2 unput (and_same both.output.untouched same) some
 
   -- there is room
   zero_if : thin_need pool room ≤ room → (searched_answer found).status ≡ 0
   zero_if fits = ap (λ (a : Answer). a.status) (answer_made roots pool room fits)
 
   -- after a fault of memory, or of the output
-  either_way : (status : ℕ) → (last.faults ≡ output.faults → HoldsOldOrNone output last) → (status ≡ 5 → last.faults ≡ output.faults → IsUntouched output last)
-      → status ≢ 0 → status ≢ 3 → status ≢ 4 → Leaves out status
+  either_way : (status : ℕ) → (after.output.faults ≡ before.output.faults → HoldsOldOrNone before.output after.output)
+      → (status ≡ 5 → after.output.faults ≡ before.output.faults → IsUntouched before.output after.output)
+      → status ≢ 0 → status ≢ 3 → status ≢ 4 → Leaves status
   either_way status kept input_failed some three four = record {
-    made = λ done. absurd (not_done before_writing (after_writing out) status some refl done);
-    output = any_leaves output writable last synced both.output.untouched pool (output_ending result) done.output (searched_answer found) zero_if status some three four;
+    made = λ worked. absurd (not_done before after status some unput worked);
+    output = any_leaves before.output opened.output after.output fresh.output.2 both.output.untouched pool (output_ending result) done.output (searched_answer found) zero_if status some three four;
     kept = λ _ _. kept;
     input_failed = input_failed;
   }
 
-  -- what it comes to where nothing was put
-  module _ (unput : IsUsed (reading []) out.access out.path) where
-    ended : (stop : Stop) → IsTrue (is_possible (terms_of_search given from to) (stop_status stop)) → HasCause (terms_of_search given from to) before_writing (after_writing out) stop
-        → Leaves out (stop_status stop) → IsStopped (terms_of_search given from to) before_writing (after_writing out) stop
-    ended stop possible cause left =
-        stopped given from to others notes out out input opened last_input output writable last both measured reads place unput
-        (Some roots) pool right stop possible (λ _. refl) (λ _. refl) cause (front_none _ out.written) left
+  halted : (stop : Stop) → IsTrue (is_possible (terms_of_search given from to) (stop_status stop)) → HasCause (terms_of_search given from to) before after stop
+      → Leaves (stop_status stop) → IsHalted (terms_of_search given from to) before after stop
+  halted stop possible cause left = record { finding = found; found = is_found after.out; possible = possible; cause = cause; leaves = left }
 
-    memory : result ≡ Err fault.Memory → IsStopped (terms_of_search given from to) before_writing (after_writing out) Memory
-    memory is =
-        let held = laid_kept output writable last synced both.output.untouched pool (output_ending result) done.output (searched_answer found) (rw is tt) in
-        ended Memory refl tt (either_way 7 (λ _. held) (λ e. absurd (omega arith)) (λ e. omega arith) (λ e. omega arith) (λ e. omega arith))
+  memory : result ≡ Err fault.Memory → IsHalted (terms_of_search given from to) before after Memory
+  memory is =
+      let held = laid_kept before.output opened.output after.output fresh.output.2 both.output.untouched pool (output_ending result) done.output (searched_answer found) (rw is tt) in
+      halted Memory refl tt (either_way 7 (λ _. held) (λ e. absurd (omega arith)) (λ e. omega arith) (λ e. omega arith) (λ e. omega arith))
 
-    output_failed : output.faults ≡ 0 → Rose writable.faults last.faults → IsStopped (terms_of_search given from to) before_writing (after_writing out) Device
-    output_failed none rose =
-        let risen : Rose output.faults last.faults = rw both.output.faults at rose in
-        let never : last.faults ≡ output.faults → ⊥ = λ same. not_risen output.faults last.faults none same risen in
-        ended Device refl (inr (inl risen))
-        (either_way 5 (λ same. absurd (never same)) (λ _ same. absurd (never same)) (λ e. omega arith) (λ e. omega arith) (λ e. omega arith))
+  output_failed : Rose opened.output.faults after.output.faults → IsHalted (terms_of_search given from to) before after Device
+  output_failed rose =
+      let risen : Rose before.output.faults after.output.faults = rw both.output.faults at rose in
+      let never : after.output.faults ≡ before.output.faults → ⊥ = λ same. not_risen before.output.faults after.output.faults fresh.output.1 same risen in
+      halted Device refl (inr (inl risen))
+      (either_way 5 (λ same. absurd (never same)) (λ _ same. absurd (never same)) (λ e. omega arith) (λ e. omega arith) (λ e. omega arith))
 
-    input_failed : result ≡ Err fault.Input → Rose opened.faults last_input.faults → IsStopped (terms_of_search given from to) before_writing (after_writing out) Device
-    input_failed is rose =
-        let same = of_ending (λ ending. IsEarly ending → IsUntouched writable last) result (Err fault.Input) is done.output.early tt in
-        ended Device refl (inl (rw both.input.faults at rose)) (alone same 5 (λ e. omega arith))
+  input_failed : result ≡ Err fault.Input → Rose opened.input.faults after.input.faults → IsHalted (terms_of_search given from to) before after Device
+  input_failed is rose =
+      let same = of_ending (λ ending. IsEarly ending → IsUntouched opened.output after.output) result (Err fault.Input) is done.output.early tt in
+      halted Device refl (inl (rw both.input.faults at rose)) (alone same 5 (λ e. omega arith))
 
-    no_room : (need blocks : ℕ) → result ≡ Err (fault.NoRoom need blocks) → IsFinished (terms_of_search given from to) before_writing (after_writing out) 4 (no_room_line need blocks)
-    no_room need blocks is =
-        let answer = of_ending (λ ending. AnswersMade ending pool room) result (Err (fault.NoRoom need blocks)) is done.output.answer in
-        let small : room < thin_need pool room = subst (λ (n : ℕ). room < n) answer.0 answer.1.1 in
-        let same = of_ending (λ ending. IsEarly ending → IsUntouched writable last) result (Err (fault.NoRoom need blocks)) is done.output.early tt in
-        finished given from to others notes out out input opened last_input output writable last both measured reads place unput
-        (Some roots) pool right 4 [] (no_room_line need blocks) (lit≤ tt) refl (λ _. refl) (λ _. refl)
-        (rw (answer.0, answer.1.0) (answer_small roots pool room small)) (appends_none out.written) (λ e. absurd (omega arith)) (alone same 4 (λ e. omega arith))
+  no_room : (need blocks : ℕ) → result ≡ Err (fault.NoRoom need blocks) → IsEnded (terms_of_search given from to) before after 4 (no_room_line need blocks)
+  no_room need blocks is =
+      let answer = of_ending (λ ending. AnswersMade ending pool room) result (Err (fault.NoRoom need blocks)) is done.output.answer in
+      let small : room < thin_need pool room = subst (λ (n : ℕ). room < n) answer.0 answer.1.1 in
+      let same = of_ending (λ ending. IsEarly ending → IsUntouched opened.output after.output) result (Err (fault.NoRoom need blocks)) is done.output.early tt in
+      record {
+        finding = found;
+        found = is_found after.out;
+        answer = rw (answer.0, answer.1.0) (answer_small roots pool room small);
+        possible = refl;
+        no_line = λ e. absurd (omega arith);
+        leaves = alone same 4 (λ e. omega arith);
+      }
 
   -- whatever the fault
-  pub search_unmade : (f : RepairFault) → result ≡ Err f → IsOther f → output.faults ≡ 0 → BlamesOne f opened.faults last_input.faults writable.faults last.faults
-      → MatchResult (repair_ended (Err f))
-      (λ ending. IsFinished (terms_of_search given from to) (record others { out = out; input = input; output = output })
-      (record others { out = out; notes = notes; input = last_input; output = last }) (ending_status ending) (ending_line ending))
-      (IsStopped (terms_of_search given from to) (record others { out = out; input = input; output = output })
-      (record others { out = out; notes = notes; input = last_input; output = last }))
-  search_unmade fault.Memory is other none counts = memory (not_yet [] out.access out.path fresh) is
-  search_unmade fault.Input is other none counts = input_failed (not_yet [] out.access out.path fresh) is counts.0.0
-  search_unmade fault.Output is other none counts = output_failed (not_yet [] out.access out.path fresh) none counts.1.0
-  search_unmade (fault.NoSuper rules) is other none counts = absurd other
-  search_unmade (fault.NoRoom need blocks) is other none counts = no_room (not_yet [] out.access out.path fresh) need blocks is
+  pub search_unmade : (f : RepairFault) → result ≡ Err f → IsOther f → BlamesOne f opened.input.faults after.input.faults opened.output.faults after.output.faults
+      → Works (terms_of_search given from to) before after (repair_ended (Err f))
+  search_unmade fault.Memory is other counts = memory is
+  search_unmade fault.Input is other counts = input_failed is counts.0.0
+  search_unmade fault.Output is other counts = output_failed counts.1.0
+  search_unmade (fault.NoSuper rules) is other counts = absurd other
+  search_unmade (fault.NoRoom need blocks) is other counts = no_room need blocks is
 
   -- the pool was written
-  module _ (is : result ≡ Ok tt) (out' : SinkState) (used : IsUsed (reading []) out'.access out'.path) (touched : out'.access ≢ 0) where
-    answer : searched_answer found ≡ record { status = 0; out = roots_line roots; notes = [] }
-    answer = answer_made roots pool room (of_ending (λ ending. AnswersMade ending pool room) result (Ok tt) is done.output.answer).1
-
-    laid : (status : ℕ) → (status ≡ 0) ⊎ (status ≡ 6) → LeavesMade (LaysPool (searched_answer found) pool room) (not (nat_eq (searched_answer found).status 0)) status output last
-    laid status which =
-        laid_leaves output writable last synced both.output.untouched pool (output_ending result) done.output (searched_answer found)
-        (ap (λ (a : Answer). a.status) answer) status (λ _. rw is tt)
-        (λ either. elim which [ inl e ↦ elim either [ inl t ↦ omega arith | inr t ↦ omega arith ] | inr e ↦ elim either [ inl t ↦ omega arith | inr t ↦ omega arith ] ])
-
-    written : (status : ℕ) → (status ≡ 0) ⊎ (status ≡ 6) → Leaves out' status
-    written status which = record {
+  pub search_done : result ≡ Ok tt → IsDone (terms_of_search given from to) before after (roots_line roots)
+  search_done is = record {
+    finding = found;
+    found = is_found;
+    answer = answer;
+    named = refl;
+    possible = refl;
+    loud = λ e. absurd cc;
+    loud_lost = λ e. absurd cc;
+    unspared = λ some. some (ap (λ (a : Answer). a.status) answer);
+    leaves = λ out status which touched. record {
       output = laid status which;
       made = λ _. (laid 0 (inl refl)).output.made refl;
-      kept = λ _ unput. absurd (is_touched out out' fresh touched unput);
+      kept = λ _ same. absurd (touched same);
       input_failed = λ five. absurd (elim which [ inl e ↦ omega arith | inr e ↦ omega arith ]);
-    }
+    };
+  }
+    where
+      answer : searched_answer found ≡ record { status = 0; out = roots_line roots; notes = [] }
+      answer = answer_made roots pool room (of_ending (λ ending. AnswersMade ending pool room) result (Ok tt) is done.output.answer).1
 
-    -- and the line was put
-    pub search_done : Appends (roots_line roots) out.written out'.written → out'.access ≡ 1
-        → IsFinished (terms_of_search given from to) (record others { out = out; input = input; output = output })
-        (record others { out = out'; notes = notes; input = last_input; output = last }) 0 []
-    search_done put attached =
-        finished given from to others notes out out' input opened last_input output writable last both measured reads place used
-        (Some roots) pool right 0 (roots_line roots) [] (lit≤ tt) refl (λ e. absurd cc) (λ some. absurd (some refl)) answer put (λ _. attached) (written 0 (inl refl))
-
-    -- or a front of it, since `out` failed
-    pub search_unput : AppendsFront (roots_line roots) out.written out'.written → Rose out.faults out'.faults
-        → IsStopped (terms_of_search given from to) (record others { out = out; input = input; output = output })
-        (record others { out = out'; notes = notes; input = last_input; output = last }) Stream
-    search_unput front rose =
-        stopped given from to others notes out out' input opened last_input output writable last both measured reads place used
-        (Some roots) pool right Stream refl (λ e. absurd cc) (λ some. absurd (some (ap (λ (a : Answer). a.status) answer))) (inr rose)
-        (subst (λ (a : Answer). AppendsFront a.out out.written out'.written) (sym answer) front) (written 6 (inr refl))
+      laid : (status : ℕ) → (status ≡ 0) ⊎ (status ≡ 6) → LeavesMade (LaysPool (searched_answer found) pool room) (not (nat_eq (searched_answer found).status 0)) status before.output after.output
+      laid status which =
+          laid_leaves before.output opened.output after.output fresh.output.2 both.output.untouched pool (output_ending result) done.output (searched_answer found)
+          (ap (λ (a : Answer). a.status) answer) status (λ _. rw is tt)
+          (λ either. elim which [ inl e ↦ elim either [ inl t ↦ omega arith | inr t ↦ omega arith ] | inr e ↦ elim either [ inl t ↦ omega arith | inr t ↦ omega arith ] ])

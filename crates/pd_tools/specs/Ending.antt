@@ -19,6 +19,8 @@ use Rattle.pd_shrink.specs.declared.fault.ShrinkFault.{ShrinkFault}
 use Rattle.pd_shrink.specs.declared.fault.ShrinkFault.TheVariants as s
 use Rattle.pd_tools.specs.declared.ending.Ending.{Ending}
 use Rattle.pd_tools.specs.declared.ending.Ending.TheVariants.{Done, Faulty, Refused, NoRoom, BlockSize, NoRoots}
+use Rattle.pd_tools.specs.declared.ending.Outcome.{Outcome}
+use Rattle.pd_tools.specs.declared.ending.Outcome.TheVariants.{Ended}
 use Rattle.pd_tools.specs.declared.stop.Stop.{Stop}
 use Rattle.pd_tools.specs.declared.stop.Stop.TheVariants.{Device, Stream, Memory}
 use Rattle.pd_tools.specs.Notes.{PutsLine}
@@ -61,13 +63,13 @@ restore_ended (Err (r.Text fault)) = Ok (Refused fault)
 restore_ended (Err (r.NoRoom need blocks)) = Ok (NoRoom need blocks)
 
 -- how a repair ended
-abbrev pub repair_ended : Result (Unit {0}) RepairFault → Result Ending Stop
-repair_ended (Ok answer) = Ok Done
+abbrev pub repair_ended : Result (Unit {0}) RepairFault → Result Outcome Stop
+repair_ended (Ok answer) = Ok (Ended Done)
 repair_ended (Err f.Memory) = Err Memory
 repair_ended (Err f.Input) = Err Device
 repair_ended (Err f.Output) = Err Device
-repair_ended (Err (f.NoSuper rules)) = Ok (Faulty (report_of (faults_at 0 (has_rule rules))))
-repair_ended (Err (f.NoRoom need blocks)) = Ok (NoRoom need blocks)
+repair_ended (Err (f.NoSuper rules)) = Ok (Ended (Faulty (report_of (faults_at 0 (has_rule rules)))))
+repair_ended (Err (f.NoRoom need blocks)) = Ok (Ended (NoRoom need blocks))
 
 -- how a rehearsal ended that has no numbers
 abbrev pub rehearsal_ended : RehearseFault → Result Ending Stop
@@ -77,18 +79,18 @@ rehearsal_ended (q.NoRoom need blocks) = Ok (NoRoom need blocks)
 rehearsal_ended (q.Faulty report) = Ok (Faulty report)
 
 -- how a writeback ended of which no plan was made
-abbrev pub plan_ended : WriteFault → Result Ending Stop
+abbrev pub plan_ended : WriteFault → Result Outcome Stop
 plan_ended w.Memory = Err Memory
 plan_ended w.Meta = Err Device
 plan_ended w.Origin = Err Device
 plan_ended w.Fast = Err Device
-plan_ended w.BlockSize = Ok BlockSize
-plan_ended (w.NoRoom need blocks) = Ok (NoRoom need blocks)
+plan_ended w.BlockSize = Ok (Ended BlockSize)
+plan_ended (w.NoRoom need blocks) = Ok (Ended (NoRoom need blocks))
 
 -- how a shrink ended of which no plan was made
-abbrev pub shrink_ended : ShrinkFault → Result Ending Stop
+abbrev pub shrink_ended : ShrinkFault → Result Outcome Stop
 shrink_ended s.Memory = Err Memory
 shrink_ended s.Meta = Err Device
 shrink_ended s.Output = Err Device
-shrink_ended s.BlockSize = Ok BlockSize
-shrink_ended (s.NoRoom need blocks) = Ok (NoRoom need blocks)
+shrink_ended s.BlockSize = Ok (Ended BlockSize)
+shrink_ended (s.NoRoom need blocks) = Ok (Ended (NoRoom need blocks))

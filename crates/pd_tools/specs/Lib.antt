@@ -1,5 +1,6 @@
 pub mod Notes
 pub mod Stop
+pub mod Task
 pub mod Read
 pub mod Restore
 pub mod Work
@@ -7,7 +8,6 @@ pub mod Opened
 pub mod Writeback
 pub mod Query
 pub mod Rehearse
-pub mod Repair
 pub mod Search
 pub mod Shrink
 pub mod Ending

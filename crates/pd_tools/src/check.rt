@@ -108,6 +108,7 @@ pub(crate) fn check_attached<A: Device>(
     ensures report { IfOk result (λ report. IfSome (A.state input.old).held (λ image. report ≡ report_of (faults kind until image))) }
     ensures access { (A.state input.new).access ≡ (A.state input.old).access }
     ensures path { (A.state input.new).path ≡ (A.state input.old).path }
+    ensures blocks { (A.state input.new).blocks ≡ (A.state input.old).blocks }
     ensures untouched { IsUntouched (A.state input.old) (A.state input.new) }
     ensures kept { OnOk result ((A.state input.new).faults ≡ (A.state input.old).faults) }
     ensures reads { IfSome (A.state input.old).held (λ image. ReadsFew kind until image ((A.state input.old).reads + 1) (A.state input.new).reads) }

@@ -10,6 +10,7 @@ use crate::refusals::{no_room_line, refusal_line};
 use crate::stop::Stop;
 use pd_image::Sink;
 use pd_kinds::Report;
+use pd_lines::LineBuffer;
 use pd_texts::TextFault;
 
 /// How work ended that wasn't stopped.
@@ -27,6 +28,15 @@ pub enum Ending {
     BlockSize,
     /// No two trees of the image fit each other.
     NoRoots,
+}
+
+/// How the work of a task ended that wasn't stopped.
+#[derive(Drop)]
+pub(crate) enum Outcome {
+    /// It was done, and this line is to be put.
+    Line(LineBuffer),
+    /// It has no line for `out`.
+    Ended(Ending),
 }
 
 /// That so many blocks are needed, and so many are there.

@@ -16,6 +16,7 @@ mod run;
 mod search;
 mod shrink;
 mod stop;
+mod task;
 mod writeback;
 
 pub use run::run_tool;

@@ -1,23 +1,31 @@
-//! Attaching the three devices of a request, one after another.
+//! Attaching the devices of a request, one after another.
 
-ghost use Rattle.std.specs.Prelude.{◌≡◌, OnOk, IfErr};
-ghost use Rattle.pd_tools.specs.Opened.{AreOpened, AreUnopened, devices};
-ghost use Rattle.pd_tools.specs.Read.{attached_for};
+ghost use Rattle.std.specs.Prelude.{◌≡◌, OnOk, MatchResult};
+ghost use Rattle.pd_kinds.specs.Objects.{CountsFault};
+ghost use Rattle.pd_answers.specs.Answer.{Objects, Use};
+ghost use Rattle.pd_tools.specs.Opened.{AreOpened, AreUnopened, AsksAs, OpensAs, devices, use_of, uses_at};
 
 use pd_image::{Device, Failed};
 
-/// A path at which a device is attached, and whether for writing.
+/// How a request names a device: not at all, or by its path, for reading, or for writing too.
 #[derive(Clone, Copy)]
-pub(crate) struct Place<'a> {
-    pub(crate) path: &'a str,
-    pub(crate) write: bool,
+pub(crate) enum Place<'a> {
+    Unused,
+    Reading(&'a str),
+    Writing(&'a str),
 }
 
-/// Attaches three devices, each at its place.
+/// How a request names its devices.
+#[derive(Clone, Copy)]
+pub(crate) struct Places<'a> {
+    pub(crate) input: Place<'a>,
+    pub(crate) output: Place<'a>,
+    pub(crate) third: Place<'a>,
+}
+
+/// Attaches the devices that are named, in their order.
 pub(crate) fn open_all<A: Device, B: Device, C: Device>(
-    first: Place<'_>,
-    second: Place<'_>,
-    last: Place<'_>,
+    places: Places<'_>,
     input: &mut A,
     output: &mut B,
     third: &mut C,
@@ -25,12 +33,26 @@ pub(crate) fn open_all<A: Device, B: Device, C: Device>(
     requires input { (A.state input.old).access ≡ 0 }
     requires output { (B.state output.old).access ≡ 0 }
     requires third { (C.state third.old).access ≡ 0 }
-    ensures opened { OnOk result (AreOpened (attached_for first.entry.write first.entry.path.now) (attached_for second.entry.write second.entry.path.now) (attached_for last.entry.write last.entry.path.now)
-        (devices (A.state input.old) (B.state output.old) (C.state third.old)) (devices (A.state input.new) (B.state output.new) (C.state third.new))) }
-    ensures unopened { IfErr result (λ failed. AreUnopened (attached_for first.entry.write first.entry.path.now) (attached_for second.entry.write second.entry.path.now) (attached_for last.entry.write last.entry.path.now)
-        (devices (A.state input.old) (B.state output.old) (C.state third.old)) (devices (A.state input.new) (B.state output.new) (C.state third.new))) }
+    ensures { (out : Use) →
+        let old = devices (A.state input.old) (B.state output.old) (C.state third.old) in
+        let new = devices (A.state input.new) (B.state output.new) (C.state third.new) in
+        MatchResult result (λ _. AreOpened (uses_at out places.entry) old new) (λ _. AreUnopened (uses_at out places.entry) old new) }
 {
-    input.attach(first.path, first.write)?;
-    output.attach(second.path, second.write)?;
-    third.attach(last.path, last.write)
+    open(places.input, input)?;
+    open(places.output, output)?;
+    open(places.third, third)
+}
+
+/// Attaches a device where it is named.
+fn open<D: Device>(place: Place<'_>, device: &mut D) -> Result<(), Failed>
+    requires { (D.state device.old).access ≡ 0 }
+    ensures opened { OnOk result (OpensAs (use_of place.entry) (D.state device.old) (D.state device.new)) }
+    ensures asked { AsksAs (use_of place.entry) (D.state device.old) (D.state device.new) }
+    ensures faults { CountsFault result (D.state device.old).faults (D.state device.new).faults }
+{
+    match place {
+        Place::Unused => Ok(()),
+        Place::Reading(path) => device.attach(path, false),
+        Place::Writing(path) => device.attach(path, true),
+    }
 }

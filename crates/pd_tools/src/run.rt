@@ -15,11 +15,12 @@ use crate::generate::run_generate;
 use crate::notes::{USAGE_LINE, put_line};
 use crate::query::{Asked, run_query};
 use crate::rehearse::run_rehearse;
-use crate::repair::run_repair;
+use crate::repair::Repair;
 use crate::restore::{run_restore, texts_have_verdicts};
-use crate::search::run_search;
-use crate::shrink::run_shrink;
-use crate::writeback::run_writeback;
+use crate::search::{Given, Search};
+use crate::shrink::Shrinking;
+use crate::task::run_task;
+use crate::writeback::Writeback;
 use pd_image::{Device, Sink, Source};
 use pd_kinds::{Passing, Stage};
 use pd_words::{Name, Request, read_words};
@@ -165,32 +166,31 @@ fn run_request<S: Source, K: Sink, E: Sink, A: Device, B: Device, C: Device>(
         Request::Repair {
             input: from,
             output: to,
-        } => run_repair(
-            alloc,
-            from.word_in(words),
-            to.word_in(words),
-            notes,
-            input,
-            output,
-        ),
+        } => {
+            let task = Repair {
+                from: from.word_in(words),
+                to: to.word_in(words),
+            };
+            run_task(alloc, &task, out, notes, input, output, third)
+        }
         Request::Search {
             input: from,
             output: to,
             transaction,
             block_size,
             blocks,
-        } => run_search(
-            alloc,
-            from.word_in(words),
-            to.word_in(words),
-            transaction,
-            block_size,
-            blocks,
-            out,
-            notes,
-            input,
-            output,
-        ),
+        } => {
+            let task = Search {
+                from: from.word_in(words),
+                to: to.word_in(words),
+                given: Given {
+                    transaction,
+                    block_size,
+                    blocks,
+                },
+            };
+            run_task(alloc, &task, out, notes, input, output, third)
+        }
         Request::Rmap {
             first,
             end,
@@ -230,34 +230,28 @@ fn run_request<S: Source, K: Sink, E: Sink, A: Device, B: Device, C: Device>(
         Request::Generate { number, out: file } => {
             run_generate(number, file_in(words, file), out, notes)
         }
-        Request::Writeback { meta, fast, origin } => run_writeback(
-            alloc,
-            meta.word_in(words),
-            fast.word_in(words),
-            origin.word_in(words),
-            out,
-            notes,
-            input,
-            output,
-            third,
-        ),
+        Request::Writeback { meta, fast, origin } => {
+            let task = Writeback {
+                metadata: meta.word_in(words),
+                fast: fast.word_in(words),
+                origin: origin.word_in(words),
+            };
+            run_task(alloc, &task, out, notes, input, output, third)
+        }
         Request::Shrink {
             input: from,
             output: to,
             pool,
             blocks,
-        } => run_shrink(
-            alloc,
-            from.word_in(words),
-            to.word_in(words),
-            pool.word_in(words),
-            blocks,
-            out,
-            notes,
-            input,
-            output,
-            third,
-        ),
+        } => {
+            let task = Shrinking {
+                from: from.word_in(words),
+                to: to.word_in(words),
+                pool: pool.word_in(words),
+                blocks,
+            };
+            run_task(alloc, &task, out, notes, input, output, third)
+        }
         Request::Rehearse { number, image } => run_rehearse(
             alloc,
             number,

@@ -1,26 +1,24 @@
 //! A repair without a superblock, from the paths of two images and the numbers that are given to the line of the roots.
 
-ghost use Rattle.std.specs.Prelude.{◌≡◌, ℕ, List, IfSome, MatchResult, min};
+ghost use Rattle.std.specs.Prelude.{◌≡◌, ℕ, List, IfSome, min};
 ghost use Rattle.pd_kinds.specs.declared.limits.TheConstants.{MAX_META_BLOCKS};
 ghost use Rattle.pd_kinds.specs.Objects.{DeviceState, SinkState};
-ghost use Rattle.pd_kinds.specs.Crash.{IsSynced};
-ghost use Rattle.pd_image.specs.Device.{IsAttached, IsWritable};
+ghost use Rattle.pd_image.specs.Device.{IsAttached, IsWritable, KeepsPlace, OnlyReads};
 ghost use Rattle.pd_laid.specs.FoundRoots.{AreBest, lost_graph};
 ghost use Rattle.pd_scan.specs.Roots.{AreInside, roots_of};
 ghost use Rattle.pd_words.specs.Words.{IsPoolSize};
-ghost use Rattle.pd_answers.specs.Answer.{Objects};
-ghost use Rattle.pd_answers.specs.Repairs.{search};
+ghost use Rattle.pd_answers.specs.Answer.{AreFresh, Objects};
 ghost use Rattle.pd_answers.specs.SearchLines.{roots_line};
-ghost use Rattle.pd_tools.specs.Ending.{ending_line, ending_status};
-ghost use Rattle.pd_tools.specs.Repair.{AreOpened};
+ghost use Rattle.pd_tools.specs.Opened.{AreOpened, Devices, devices};
 ghost use Rattle.pd_tools.specs.Search.{terms_of_search};
-ghost use Rattle.pd_tools.specs.Work.{IsFinished, IsStopped, AnswersTerms};
+ghost use Rattle.pd_tools.specs.Task.{Works};
 
-use crate::ending::{Ending, put_ending};
-use crate::notes::put_last_line;
-use crate::repair::{ended_of, open_both};
+use crate::ending::{Ending, Outcome};
+use crate::opening::{Place, Places};
+use crate::repair::ended_of;
 use crate::stop::Stop;
-use pd_image::{Device, Sink};
+use crate::task::Task;
+use pd_image::Device;
 use pd_kinds::{CheckFault, MAX_META_BLOCKS};
 use pd_lines::LineBuffer;
 use pd_repair::repair_from;
@@ -40,115 +38,69 @@ pub struct Given {
 
 /// Writes the pool of the best roots that are found in the image at one path to the image at another, with the numbers
 /// that are given, and puts the line of these roots.
-#[inline(never)]
-pub fn run_search<K: Sink, E: Sink, A: Device, B: Device>(
-    alloc: Global,
-    from: &str,
-    to: &str,
-    transaction: u64,
-    block_size: u32,
-    blocks: u64,
-    out: &mut K,
-    notes: &mut E,
-    input: &mut A,
-    output: &mut B,
-) -> u8
-    requires size { IsPoolSize blocks }
-    requires out { (K.state out.old).access ≡ 0 }
-    requires notes { (E.state notes.old).access ≡ 1 }
-    requires input { (A.state input.old).access ≡ 0 }
-    requires output { (B.state output.old).access ≡ 0 }
-    ensures { (others : Objects) → AnswersTerms (search from.now to.now transaction block_size blocks) (E.state notes.old)
-        (record others { out = K.state out.old; input = A.state input.old; output = B.state output.old })
-        (record others { out = K.state out.new; notes = E.state notes.new; input = A.state input.new; output = B.state output.new }) result }
-{
-    let given = Given {
-        transaction,
-        block_size,
-        blocks,
-    };
-    let ended = search_image(alloc, from, to, &given, out, input, output);
-    put_ending(ended, notes)
+#[derive(Clone, Copy)]
+pub struct Search<'a> {
+    pub from: &'a str,
+    pub to: &'a str,
+    pub given: Given,
+    ghost size: { IsPoolSize given.blocks },
 }
 
-/// Attaches both images, searches the one, and writes what is found to the other.
-fn search_image<K: Sink, A: Device, B: Device>(
-    alloc: Global,
-    from: &str,
-    to: &str,
-    given: &Given,
-    out: &mut K,
-    input: &mut A,
-    output: &mut B,
-) -> Result<Ending, Stop>
-    requires size { IsPoolSize given.now.blocks }
-    requires out { (K.state out.old).access ≡ 0 }
-    requires input { (A.state input.old).access ≡ 0 }
-    requires output { (B.state output.old).access ≡ 0 }
-    ensures { (others : Objects) (notes : SinkState) → (B.state output.old).faults ≡ 0 →
-        let before = record others { out = K.state out.old; input = A.state input.old; output = B.state output.old } in
-        let after = record others { out = K.state out.new; notes = notes; input = A.state input.new; output = B.state output.new } in
-        let terms = terms_of_search given.now from.now to.now in
-        MatchResult result (λ ending. IsFinished terms before after (ending_status ending) (ending_line ending)) (IsStopped terms before after) }
-{
-    match open_both(from, to, input, output) {
-        Ok(()) => search_opened(alloc, given, out, input, output),
-        Err(_) => Err(Stop::Device),
+impl Task for Search<'_> {
+    ghost use Rattle.pd_tools.specs.Search.{terms_of_search};
+
+    ghost terms = { λ task. terms_of_search task.given task.from.now task.to.now };
+
+    fn places(&self) -> Places<'_> {
+        Places {
+            input: Place::Reading(self.from),
+            output: Place::Writing(self.to),
+            third: Place::Unused,
+        }
+    }
+
+    fn laws(&self) {}
+
+    fn work<A: Device, B: Device, C: Device>(
+        &self,
+        alloc: Global,
+        input: &mut A,
+        output: &mut B,
+        third: &mut C,
+    ) -> Result<Outcome, Stop> {
+        match find_roots(alloc, input, self.given.blocks) {
+            Ok(found) => match found {
+                Some(roots) => write_found(alloc, &roots, &self.given, input, output),
+                None => Ok(Outcome::Ended(Ending::NoRoots)),
+            },
+            Err(fault) => match fault {
+                CheckFault::Memory => Err(Stop::Memory),
+                CheckFault::Device => Err(Stop::Device),
+            },
+        }
     }
 }
 
-/// Searches an image, and writes what is found to another, which are both attached.
-fn search_opened<K: Sink, A: Device, B: Device>(
-    alloc: Global,
-    given: &Given,
-    out: &mut K,
-    input: &mut A,
-    output: &mut B,
-) -> Result<Ending, Stop>
-    requires size { IsPoolSize given.now.blocks }
-    requires out { (K.state out.old).access ≡ 0 }
-    requires input { (A.state input.old).access ≡ 1 }
-    requires output { IsWritable (B.state output.old) }
-    ensures { (from to : List ℕ) (before_input before_output : DeviceState) (others : Objects) (notes : SinkState) →
-        IsSynced before_output → before_output.faults ≡ 0 → AreOpened from to before_input (A.state input.old) before_output (B.state output.old) →
-        let before = record others { out = K.state out.old; input = before_input; output = before_output } in
-        let after = record others { out = K.state out.new; notes = notes; input = A.state input.new; output = B.state output.new } in
-        let terms = terms_of_search given.now from to in
-        MatchResult result (λ ending. IsFinished terms before after (ending_status ending) (ending_line ending)) (IsStopped terms before after) }
-{
-    match find_roots(alloc, input, given.blocks) {
-        Ok(found) => match found {
-            Some(roots) => write_found(alloc, &roots, given, out, input, output),
-            None => Ok(Ending::NoRoots),
-        },
-        Err(fault) => match fault {
-            CheckFault::Memory => Err(Stop::Memory),
-            CheckFault::Device => Err(Stop::Device),
-        },
-    }
-}
-
-/// Writes the pool of the best roots, and puts their line.
-fn write_found<K: Sink, A: Device, B: Device>(
+/// Writes the pool of the best roots: their line.
+fn write_found<A: Device, B: Device>(
     alloc: Global,
     roots: &Roots,
     given: &Given,
-    out: &mut K,
     input: &mut A,
     output: &mut B,
-) -> Result<Ending, Stop>
+) -> Result<Outcome, Stop>
     requires size { IsPoolSize given.now.blocks }
     requires inside { AreInside (min (A.state input.old).blocks MAX_META_BLOCKS) roots.now }
     requires best { IfSome (A.state input.old).held (λ image. AreBest (lost_graph image given.now.blocks) image (roots_of roots.now)) }
-    requires out { (K.state out.old).access ≡ 0 }
     requires input { (A.state input.old).access ≡ 1 }
     requires output { IsWritable (B.state output.old) }
-    ensures { (from to : List ℕ) (before_input before_output : DeviceState) (others : Objects) (notes : SinkState) →
-        IsSynced before_output → before_output.faults ≡ 0 → AreOpened from to before_input (A.state input.old) before_output (B.state output.old) →
-        let before = record others { out = K.state out.old; input = before_input; output = before_output } in
-        let after = record others { out = K.state out.new; notes = notes; input = A.state input.new; output = B.state output.new } in
+    ensures input { OnlyReads (A.state input.old) (A.state input.new) }
+    ensures output { KeepsPlace (B.state output.old) (B.state output.new) }
+    ensures works { (from to : List ℕ) (others : Objects) (notes : SinkState) (first : Devices) (third : DeviceState) →
+        let before = record others { input = first.input; output = first.output; third = first.third } in
+        let after = record others { notes = notes; input = A.state input.new; output = B.state output.new; third = third } in
         let terms = terms_of_search given.now from to in
-        MatchResult result (λ ending. IsFinished terms before after (ending_status ending) (ending_line ending)) (IsStopped terms before after) }
+        AreFresh before → AreOpened terms.uses first (devices (A.state input.old) (B.state output.old) third) → Works terms before after result }
 {
     found_pools_are_saved_whole();
     let meta_blocks = usable_blocks(input);
@@ -160,12 +112,8 @@ fn write_found<K: Sink, A: Device, B: Device>(
         given.blocks,
     );
     match repair_from(alloc, input, output, &lost) {
-        Ok(()) => {}
-        Err(fault) => return ended_of(Err(fault)),
-    }
-    match put_last_line(out, roots_text(roots).as_bytes()) {
-        Ok(()) => Ok(Ending::Done),
-        Err(_) => Err(Stop::Stream),
+        Ok(()) => Ok(Outcome::Line(roots_text(roots))),
+        Err(fault) => ended_of(Err(fault)),
     }
 }
 

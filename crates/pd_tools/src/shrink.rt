@@ -1,27 +1,26 @@
 //! A shrink, from the paths of its three devices to the line that says how many data blocks were moved.
 
-ghost use Rattle.std.specs.Prelude.{◌≡◌, [], None, List, ℕ, IfOk, IfSome, MatchResult, length};
+ghost use Rattle.std.specs.Prelude.{◌≡◌, [], None, List, ℕ, IfOk, IfSome, length};
 ghost use Rattle.pd_kinds.specs.declared.kind.Kind.TheVariants.{Thin};
 ghost use Rattle.pd_kinds.specs.declared.kind.Stage.TheVariants.{Counts};
 ghost use Rattle.pd_kinds.specs.Objects.{DeviceState, SinkState};
-ghost use Rattle.pd_kinds.specs.Crash.{IsSynced};
 ghost use Rattle.pd_kinds.specs.Stages.{faults};
-ghost use Rattle.pd_image.specs.Device.{IsWritable};
-ghost use Rattle.pd_answers.specs.Answer.{Objects, reading, writing};
+ghost use Rattle.pd_image.specs.Device.{IsWritable, KeepsPlace, OnlyReads};
+ghost use Rattle.pd_answers.specs.Answer.{AreFresh, Objects};
 ghost use Rattle.pd_answers.specs.MovedPool.{sources};
 ghost use Rattle.pd_answers.specs.Shrinks.{ShrinkGround, lack_of, moved_line, shrink};
 ghost use Rattle.pd_shrink.specs.Planned.{IsPlanOf};
-ghost use Rattle.pd_tools.specs.Ending.{ending_line, ending_status, shrink_ended};
-ghost use Rattle.pd_tools.specs.Work.{IsFinished, IsStopped, AnswersTerms};
-ghost use Rattle.pd_tools.specs.Opened.{AreOpened, devices};
+ghost use Rattle.pd_tools.specs.Ending.{shrink_ended};
+ghost use Rattle.pd_tools.specs.Opened.{AreOpened, Devices, devices};
 ghost use Rattle.pd_tools.specs.Shrink.{IsWritten};
+ghost use Rattle.pd_tools.specs.Task.{Works};
 
 use crate::check::check_attached;
-use crate::ending::{Ending, put_ending};
-use crate::notes::put_last_line;
-use crate::opening::{Place, open_all};
+use crate::ending::{Ending, Outcome};
+use crate::opening::{Place, Places};
 use crate::stop::Stop;
-use pd_image::{Device, Sink};
+use crate::task::Task;
+use pd_image::Device;
 use pd_kinds::{Kind, Stage};
 use pd_lines::LineBuffer;
 use pd_shrink::{Shrink, ShrinkFault};
@@ -29,142 +28,84 @@ use std::alloc::Global;
 
 /// Makes the pool of the metadata at the path `from` smaller, to so many data blocks or fewer: moves what lies past them on the
 /// data device at the path `pool`, and writes the new metadata at the path `to`.
-#[inline(never)]
-pub fn run_shrink<K: Sink, E: Sink, A: Device, B: Device, C: Device>(
-    alloc: Global,
-    from: &str,
-    to: &str,
-    pool: &str,
-    blocks: u64,
-    out: &mut K,
-    notes: &mut E,
-    input: &mut A,
-    output: &mut B,
-    third: &mut C,
-) -> u8
-    requires out { (K.state out.old).access ≡ 0 }
-    requires notes { (E.state notes.old).access ≡ 1 }
-    requires input { (A.state input.old).access ≡ 0 }
-    requires output { (B.state output.old).access ≡ 0 }
-    requires third { (C.state third.old).access ≡ 0 }
-    ensures { (others : Objects) → AnswersTerms (shrink from.now to.now pool.now blocks) (E.state notes.old)
-        (record others { out = K.state out.old; input = A.state input.old; output = B.state output.old; third = C.state third.old })
-        (record others { out = K.state out.new; notes = E.state notes.new; input = A.state input.new; output = B.state output.new; third = C.state third.new }) result }
-{
-    let ended = make_smaller(alloc, from, to, pool, blocks, out, input, output, third);
-    put_ending(ended, notes)
+#[derive(Clone, Copy)]
+pub struct Shrinking<'a> {
+    pub from: &'a str,
+    pub to: &'a str,
+    pub pool: &'a str,
+    pub blocks: u64,
 }
 
-/// Attaches the three devices, and makes the pool smaller.
-fn make_smaller<K: Sink, A: Device, B: Device, C: Device>(
-    alloc: Global,
-    from: &str,
-    to: &str,
-    pool: &str,
-    blocks: u64,
-    out: &mut K,
-    input: &mut A,
-    output: &mut B,
-    third: &mut C,
-) -> Result<Ending, Stop>
-    requires out { (K.state out.old).access ≡ 0 }
-    requires input { (A.state input.old).access ≡ 0 }
-    requires output { (B.state output.old).access ≡ 0 }
-    requires third { (C.state third.old).access ≡ 0 }
-    ensures { (others : Objects) (notes : SinkState) → (B.state output.old).faults ≡ 0 → (C.state third.old).faults ≡ 0 →
-        let before = record others { out = K.state out.old; input = A.state input.old; output = B.state output.old; third = C.state third.old } in
-        let after = record others { out = K.state out.new; notes = notes; input = A.state input.new; output = B.state output.new; third = C.state third.new } in
-        let terms = shrink from.now to.now pool.now blocks in
-        MatchResult result (λ ending. IsFinished terms before after (ending_status ending) (ending_line ending)) (IsStopped terms before after) }
-{
-    let metadata = Place {
-        path: from,
-        write: false,
-    };
-    let made = Place {
-        path: to,
-        write: true,
-    };
-    let data = Place {
-        path: pool,
-        write: true,
-    };
-    match open_all(metadata, made, data, input, output, third) {
-        Ok(()) => shrink_opened(alloc, blocks, out, input, output, third),
-        Err(_) => Err(Stop::Device),
+impl Task for Shrinking<'_> {
+    ghost use Rattle.pd_answers.specs.Shrinks.{shrink};
+
+    ghost terms = { λ task. shrink task.from.now task.to.now task.pool.now task.blocks };
+
+    fn places(&self) -> Places<'_> {
+        Places {
+            input: Place::Reading(self.from),
+            output: Place::Writing(self.to),
+            third: Place::Writing(self.pool),
+        }
+    }
+
+    fn laws(&self) {}
+
+    fn work<A: Device, B: Device, C: Device>(
+        &self,
+        alloc: Global,
+        input: &mut A,
+        output: &mut B,
+        third: &mut C,
+    ) -> Result<Outcome, Stop> {
+        let report = check_attached(alloc, Kind::Thin, Stage::Counts, input)?;
+        if !report.is_empty() {
+            return Ok(Outcome::Ended(Ending::Faulty(report)));
+        }
+        shrink_sound(alloc, self.blocks, input, output, third)
     }
 }
 
-/// Checks the metadata of devices that are attached, and makes the pool smaller where that is sound.
-fn shrink_opened<K: Sink, A: Device, B: Device, C: Device>(
+/// Makes a pool smaller whose metadata is sound.
+fn shrink_sound<A: Device, B: Device, C: Device>(
     alloc: Global,
     blocks: u64,
-    out: &mut K,
     input: &mut A,
     output: &mut B,
     third: &mut C,
-) -> Result<Ending, Stop>
-    requires out { (K.state out.old).access ≡ 0 }
-    requires input { (A.state input.old).access ≡ 1 }
-    requires output { IsWritable (B.state output.old) }
-    requires third { IsWritable (C.state third.old) }
-    ensures { (from to pool : List ℕ) (meta_before output_before pool_before : DeviceState) (others : Objects) (notes : SinkState) →
-        IsSynced output_before → output_before.faults ≡ 0 → IsSynced pool_before → pool_before.faults ≡ 0 →
-        AreOpened (reading from) (writing to) (writing pool) (devices meta_before output_before pool_before) (devices (A.state input.old) (B.state output.old) (C.state third.old)) →
-        let before = record others { out = K.state out.old; input = meta_before; output = output_before; third = pool_before } in
-        let after = record others { out = K.state out.new; notes = notes; input = A.state input.new; output = B.state output.new; third = C.state third.new } in
-        let terms = shrink from to pool blocks in
-        MatchResult result (λ ending. IsFinished terms before after (ending_status ending) (ending_line ending)) (IsStopped terms before after) }
-{
-    let report = check_attached(alloc, Kind::Thin, Stage::Counts, input)?;
-    if !report.is_empty() {
-        return Ok(Ending::Faulty(report));
-    }
-    shrink_sound(alloc, blocks, out, input, output, third)
-}
-
-/// Makes a pool smaller whose metadata is sound, and puts the line.
-fn shrink_sound<K: Sink, A: Device, B: Device, C: Device>(
-    alloc: Global,
-    blocks: u64,
-    out: &mut K,
-    input: &mut A,
-    output: &mut B,
-    third: &mut C,
-) -> Result<Ending, Stop>
-    requires out { (K.state out.old).access ≡ 0 }
+) -> Result<Outcome, Stop>
     requires input { (A.state input.old).access ≡ 1 }
     requires output { IsWritable (B.state output.old) }
     requires third { IsWritable (C.state third.old) }
     requires sound { IfSome (A.state input.old).held (λ image. faults Thin Counts image ≡ []) }
-    ensures { (from to pool : List ℕ) (meta_before output_before pool_before : DeviceState) (others : Objects) (notes : SinkState) →
-        IsSynced output_before → output_before.faults ≡ 0 → IsSynced pool_before → pool_before.faults ≡ 0 →
-        AreOpened (reading from) (writing to) (writing pool) (devices meta_before output_before pool_before) (devices (A.state input.old) (B.state output.old) (C.state third.old)) →
-        let before = record others { out = K.state out.old; input = meta_before; output = output_before; third = pool_before } in
-        let after = record others { out = K.state out.new; notes = notes; input = A.state input.new; output = B.state output.new; third = C.state third.new } in
+    ensures input { OnlyReads (A.state input.old) (A.state input.new) }
+    ensures output { KeepsPlace (B.state output.old) (B.state output.new) }
+    ensures third { KeepsPlace (C.state third.old) (C.state third.new) }
+    ensures works { (from to pool : List ℕ) (others : Objects) (notes : SinkState) (first : Devices) →
+        let before = record others { input = first.input; output = first.output; third = first.third } in
+        let after = record others { notes = notes; input = A.state input.new; output = B.state output.new; third = C.state third.new } in
         let terms = shrink from to pool blocks in
-        MatchResult result (λ ending. IsFinished terms before after (ending_status ending) (ending_line ending)) (IsStopped terms before after) }
+        AreFresh before → AreOpened terms.uses first (devices (A.state input.old) (B.state output.old) (C.state third.old)) → Works terms before after result }
 {
     let plan = match Shrink::plan(alloc, input, output, third, blocks) {
         Ok(plan) => plan,
         Err(fault) => return ended_without_plan(fault),
     };
     let count = move_and_write(alloc, plan, output, third)?;
-    match put_last_line(out, moved_text(count).as_bytes()) {
-        Ok(()) => Ok(Ending::Done),
-        Err(_) => Err(Stop::Stream),
-    }
+    Ok(Outcome::Line(moved_text(count)))
 }
 
 /// How a shrink ended of which no plan was made.
-fn ended_without_plan(fault: ShrinkFault) -> Result<Ending, Stop>
+fn ended_without_plan(fault: ShrinkFault) -> Result<Outcome, Stop>
     ensures { result ≡ shrink_ended fault }
 {
     match fault {
         ShrinkFault::Memory => Err(Stop::Memory),
         ShrinkFault::Meta | ShrinkFault::Output => Err(Stop::Device),
-        ShrinkFault::BlockSize => Ok(Ending::BlockSize),
-        ShrinkFault::NoRoom { need, blocks } => Ok(Ending::NoRoom { need, blocks }),
+        ShrinkFault::BlockSize => Ok(Outcome::Ended(Ending::BlockSize)),
+        ShrinkFault::NoRoom { need, blocks } => {
+            Ok(Outcome::Ended(Ending::NoRoom { need, blocks }))
+        }
     }
 }
 

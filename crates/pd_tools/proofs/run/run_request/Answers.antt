@@ -109,7 +109,7 @@ returns-in-Repair g c others =
     let w = c.in-Repair in
     rw w.is (repaired_as_asked (word_of words w.from) (word_of words w.to) c.word_in-in-Repair.result.now c.word_in-in-Repair-2.result.now _ _ _ _
     c.word_in-in-Repair.ensures c.word_in-in-Repair-2.ensures
-    (c.run_repair.ensures (record others { source = g.S.Source.state c.args.source.now; out = g.K.Sink.state c.args.out.now; third = g.C.Device.state c.args.third.now })))
+    (c.run_task.ensures (record others { source = g.S.Source.state c.args.source.now })))
 
 -- so with those of a search
 searched_as_asked : (from to given_from given_to : List ℕ) (transaction block_size blocks : ℕ) (attached : SinkState) (before after : Objects) (status : ℕ)
@@ -123,7 +123,7 @@ returns-in-Search g c others =
     let w = c.in-Search in
     rw w.is (searched_as_asked (word_of words w.from) (word_of words w.to) c.word_in-in-Search.result.now c.word_in-in-Search-2.result.now w.transaction w.block_size w.blocks _ _ _ _
     c.word_in-in-Search.ensures c.word_in-in-Search-2.ensures
-    (c.run_search.ensures (record others { source = g.S.Source.state c.args.source.now; third = g.C.Device.state c.args.third.now })))
+    (c.run_task-in-Search.ensures (record others { source = g.S.Source.state c.args.source.now })))
 
 -- the generator's file of these words is the one that is asked
 generated_as_asked : (number : ℕ) (file given : Option (List ℕ)) (attached : SinkState) (before after : Objects) (status : ℕ)
@@ -163,7 +163,7 @@ returns-in-Writeback g c others =
     rw w.is (written_back_as_asked (word_of words w.meta) (word_of words w.fast) (word_of words w.origin)
     c.word_in-in-Writeback.result.now c.word_in-in-Writeback-2.result.now c.word_in-in-Writeback-3.result.now _ _ _ _
     c.word_in-in-Writeback.ensures c.word_in-in-Writeback-2.ensures c.word_in-in-Writeback-3.ensures
-    (c.run_writeback.ensures (record others { source = g.S.Source.state c.args.source.now })))
+    (c.run_task-in-Writeback.ensures (record others { source = g.S.Source.state c.args.source.now })))
 
 -- so with the devices of a shrink
 shrunk_as_asked : (from to pool given_from given_to given_pool : List ℕ) (blocks : ℕ) (attached : SinkState) (before after : Objects) (status : ℕ)
@@ -179,4 +179,4 @@ returns-in-Shrink g c others =
     rw w.is (shrunk_as_asked (word_of words w.from) (word_of words w.to) (word_of words w.pool)
     c.word_in-in-Shrink.result.now c.word_in-in-Shrink-2.result.now c.word_in-in-Shrink-3.result.now w.blocks _ _ _ _
     c.word_in-in-Shrink.ensures c.word_in-in-Shrink-2.ensures c.word_in-in-Shrink-3.ensures
-    (c.run_shrink.ensures (record others { source = g.S.Source.state c.args.source.now })))
+    (c.run_task-in-Shrink.ensures (record others { source = g.S.Source.state c.args.source.now })))

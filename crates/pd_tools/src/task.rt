@@ -1,0 +1,116 @@
+//! The shell of what writes: a task attaches its devices, does its work over them, and ends with a line.
+
+ghost use Rattle.std.specs.Prelude.{◌≡◌, IsTrue};
+ghost use Rattle.pd_kinds.specs.Objects.{SinkState};
+ghost use Rattle.pd_answers.specs.Answer.{AreFresh, IsOpen, Objects};
+ghost use Rattle.pd_answers.specs.Terms.{Terms, is_possible};
+ghost use Rattle.pd_tools.specs.Opened.{AreOpened, Devices, KeepsAs, devices, uses_at};
+ghost use Rattle.pd_tools.specs.Task.{AreAlone, Ends, IsAtRest, LosesLine, PutsOutcome, Works};
+ghost use Rattle.pd_tools.specs.Work.{AnswersTerms};
+
+use crate::ending::{Ending, Outcome, put_ending};
+use crate::notes::put_last_line;
+use crate::opening::{Places, open_all};
+use crate::stop::Stop;
+use pd_image::{Device, Sink};
+use std::alloc::Global;
+
+/// A request that writes devices, as it is asked.
+pub(crate) trait Task {
+    /// Its terms.
+    ghost terms: { Self → Terms };
+
+    /// How it names its devices. It names no text.
+    fn places(&self) -> Places<'_>
+        ensures { uses_at (terms self.now).uses.out result ≡ (terms self.now).uses };
+
+    /// What holds of its terms: before a device is written, and where its line is lost.
+    fn laws(&self)
+        ensures rests { (before after : Objects) → AreFresh before → AreAlone before after → IsAtRest (terms self.now) before after }
+        ensures loses { LosesLine (terms self.now) }
+        ensures reads { (before after : Objects) → (terms self.now).reads before after }
+        ensures can_fail { IsTrue (is_possible (terms self.now) 5) };
+
+    /// Does the work over devices that were attached.
+    fn work<A: Device, B: Device, C: Device>(
+        &self,
+        alloc: Global,
+        input: &mut A,
+        output: &mut B,
+        third: &mut C,
+    ) -> Result<Outcome, Stop>
+        requires input { IsOpen (terms self.now).uses.input (A.state input.old).access }
+        requires output { IsOpen (terms self.now).uses.output (B.state output.old).access }
+        requires third { IsOpen (terms self.now).uses.third (C.state third.old).access }
+        ensures input { KeepsAs (terms self.now).uses.input (A.state input.old) (A.state input.new) }
+        ensures output { KeepsAs (terms self.now).uses.output (B.state output.old) (B.state output.new) }
+        ensures third { KeepsAs (terms self.now).uses.third (C.state third.old) (C.state third.new) }
+        ensures works { (others : Objects) (notes : SinkState) (first : Devices) →
+            let before = record others { input = first.input; output = first.output; third = first.third } in
+            let after = record others { notes = notes; input = A.state input.new; output = B.state output.new; third = C.state third.new } in
+            AreFresh before → AreOpened (terms self.now).uses first (devices (A.state input.old) (B.state output.old) (C.state third.old)) → Works (terms self.now) before after result };
+}
+
+/// Does what a task asks, and answers the status.
+#[inline(never)]
+pub(crate) fn run_task<T: Task, K: Sink, E: Sink, A: Device, B: Device, C: Device>(
+    alloc: Global,
+    task: &T,
+    out: &mut K,
+    notes: &mut E,
+    input: &mut A,
+    output: &mut B,
+    third: &mut C,
+) -> u8
+    requires out { (K.state out.old).access ≡ 0 }
+    requires notes { (E.state notes.old).access ≡ 1 }
+    requires input { (A.state input.old).access ≡ 0 }
+    requires output { (B.state output.old).access ≡ 0 }
+    requires third { (C.state third.old).access ≡ 0 }
+    ensures { (others : Objects) → AnswersTerms (T.terms task.now) (E.state notes.old)
+        (record others { out = K.state out.old; input = A.state input.old; output = B.state output.old; third = C.state third.old })
+        (record others { out = K.state out.new; notes = E.state notes.new; input = A.state input.new; output = B.state output.new; third = C.state third.new }) result }
+{
+    task.laws();
+    let ended = attach_and_work(alloc, task, out, input, output, third);
+    put_ending(ended, notes)
+}
+
+/// Attaches the devices, does the work, and puts its line.
+fn attach_and_work<T: Task, K: Sink, A: Device, B: Device, C: Device>(
+    alloc: Global,
+    task: &T,
+    out: &mut K,
+    input: &mut A,
+    output: &mut B,
+    third: &mut C,
+) -> Result<Ending, Stop>
+    requires out { (K.state out.old).access ≡ 0 }
+    requires input { (A.state input.old).access ≡ 0 }
+    requires output { (B.state output.old).access ≡ 0 }
+    requires third { (C.state third.old).access ≡ 0 }
+    ensures { (others : Objects) (notes : SinkState) →
+        let before = record others { out = K.state out.old; input = A.state input.old; output = B.state output.old; third = C.state third.old } in
+        let after = record others { out = K.state out.new; notes = notes; input = A.state input.new; output = B.state output.new; third = C.state third.new } in
+        AreFresh before → Ends (T.terms task.now) before after result }
+{
+    task.laws();
+    match open_all(task.places(), input, output, third) {
+        Ok(()) => put_outcome(task.work(alloc, input, output, third), out),
+        Err(_) => Err(Stop::Device),
+    }
+}
+
+/// Puts the line of work that was done.
+fn put_outcome<K: Sink>(worked: Result<Outcome, Stop>, out: &mut K) -> Result<Ending, Stop>
+    requires { (K.state out.old).access ≡ 0 }
+    ensures { PutsOutcome worked result (K.state out.old) (K.state out.new) }
+{
+    match worked? {
+        Outcome::Line(line) => match put_last_line(out, line.as_bytes()) {
+            Ok(()) => Ok(Ending::Done),
+            Err(_) => Err(Stop::Stream),
+        },
+        Outcome::Ended(ending) => Ok(ending),
+    }
+}
