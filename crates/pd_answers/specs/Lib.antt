@@ -1,6 +1,6 @@
+pub mod QueryLines
 pub mod Requests
 pub mod Words
-pub mod QueryLines
 pub mod Generated
 pub mod SearchLines
 pub mod Flag

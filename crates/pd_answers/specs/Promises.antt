@@ -3,7 +3,6 @@
 use Rattle.std.specs.Prelude.{◌≡◌, ◌≢◌, ℕ, true, false, ◌==◌, if◌then◌else◌, List, [], ◌∷◌, Option, Some, None, IfSome, unwrap_or}
 use Rattle.pd_kinds.specs.declared.kind.Flagged.{Flagged}
 use Rattle.pd_kinds.specs.declared.kind.Kind.{Kind}
-use Rattle.pd_kinds.specs.declared.kind.Kind.TheVariants.{Thin, Cache, Era}
 use Rattle.pd_kinds.specs.declared.kind.Passing.{Passing}
 use Rattle.pd_kinds.specs.declared.kind.Passing.TheVariants.{Nothing, Leaks}
 use Rattle.pd_kinds.specs.declared.kind.Stage.{Stage}
@@ -11,15 +10,9 @@ use Rattle.pd_kinds.specs.declared.kind.Stage.TheVariants.{Super, Walk, Order, W
 use Rattle.pd_kinds.specs.Flagged.{kind_of}
 use Rattle.pd_kinds.specs.Report.{Reported, passes, report_of}
 use Rattle.pd_kinds.specs.Stages.{faults, CanWantMemory}
-use Rattle.pd_kinds.specs.Meaning.{thin_meaning, cache_meaning, era_meaning}
-use Rattle.pd_spells.specs.ThinText.{text_of_pool}
-use Rattle.pd_spells.specs.CacheText.{text_of_cache}
-use Rattle.pd_spells.specs.EraText.{text_of_era}
-use Rattle.pd_shapes.specs.SharedText.{text_of_shape}
-use Rattle.pd_shapes.specs.ImageShape.{image_shape}
 use Rattle.pd_spells.specs.Lines.{reported_lines, usage_line}
 use Rattle.pd_answers.specs.Requests as request
-use Rattle.pd_answers.specs.QueryLines.{rmap_lines, list_lines, since_lines}
+use Rattle.pd_answers.specs.QueryLines.{Asked, asked_kind, asked_text}
 use Rattle.pd_answers.specs.Generated.{generated_text}
 use Rattle.pd_answers.specs.Flag.{LeavesCleared}
 use Rattle.pd_answers.specs.Answer.{Answer, reading, writing}
@@ -101,30 +94,20 @@ query_answer queried =
     else record { status = 1; out = []; notes = reported_lines queried.report }
 
 -- a query over the meaning of an image, which has one where there is no fault up to the stage Whole
-abbrev pub query : Kind → (List (List ℕ) → List ℕ) → Option (List ℕ) → List ℕ → Terms
-query kind text_of file path = record {
+abbrev pub query : Asked → Option (List ℕ) → List ℕ → Terms
+query asked file path = record {
   uses = record unnamed { out = reading (unwrap_or file []); input = reading path };
   Finding = Queried;
   finds = λ before after queried. IfSome before.input.held (λ image.
-      (queried.report ≡ report_of (faults kind Whole image)) × (queried.text ≡ text_of image));
+      (queried.report ≡ report_of (faults (asked_kind asked) Whole image)) × (queried.text ≡ asked_text asked image));
   answer = query_answer;
   statuses = 0 ∷ 1 ∷ 5 ∷ 7 ∷ [];
-  memory = λ before. CanWantMemory kind Whole before.input.held;
+  memory = λ before. CanWantMemory (asked_kind asked) Whole before.input.held;
   silent = 1 ∷ [];
   spared = λ queried. queried.report.total ≢ 0;
   reads = any_reads;
   leaves = nothing;
 }
-
--- the three queries
-abbrev pub rmap : ℕ → ℕ → Option (List ℕ) → List ℕ → Terms
-rmap first end file path = query Thin (λ image. rmap_lines first end (thin_meaning image)) file path
-
-abbrev pub list_devices : Option (List ℕ) → List ℕ → Terms
-list_devices file path = query Thin (λ image. list_lines (thin_meaning image)) file path
-
-abbrev pub since : ℕ → Option (List ℕ) → List ℕ → Terms
-since era file path = query Era (λ image. since_lines era (era_meaning image)) file path
 
 -- the generator takes no memory, and no device
 abbrev pub generate : ℕ → Option (List ℕ) → Terms
@@ -141,34 +124,16 @@ generate number file = record {
   leaves = nothing;
 }
 
--- the text of an image, which is that of its meaning
-abbrev pub image_text : Kind → List (List ℕ) → List ℕ
-image_text Thin image = text_of_pool (thin_meaning image)
-image_text Cache image = text_of_cache (cache_meaning image)
-image_text Era image = text_of_era (era_meaning image)
-
--- a dump is the query for the text
-abbrev pub dump : Kind → Option (List ℕ) → List ℕ → Terms
-dump kind file path = query kind (image_text kind) file path
-
--- a dump that tells the leaves that a pool's devices share once
-abbrev pub dump_shared : Option (List ℕ) → List ℕ → Terms
-dump_shared file path = query Thin (λ image. text_of_shape (image_shape image)) file path
-
 -- the terms of a request
 abbrev pub terms_of : Option request.Request → Terms
 terms_of None = refused
 terms_of (Some (request.check kind until path)) = check kind until Nothing path
 terms_of (Some (request.passing_check kind path)) = check kind Counts Leaks path
 terms_of (Some (request.check_and_clear flagged passing path)) = check_and_clear flagged passing path
-terms_of (Some (request.dump kind file path)) = dump kind file path
-terms_of (Some (request.dump_shared file path)) = dump_shared file path
+terms_of (Some (request.query asked file path)) = query asked file path
 terms_of (Some (request.restore kind version file path)) = restore kind version file path
 terms_of (Some (request.repair from to)) = repair from to
 terms_of (Some (request.search from to transaction block_size blocks)) = search from to transaction block_size blocks
-terms_of (Some (request.rmap first end file path)) = rmap first end file path
-terms_of (Some (request.list_devices file path)) = list_devices file path
-terms_of (Some (request.since era file path)) = since era file path
 terms_of (Some (request.generate number file)) = generate number file
 terms_of (Some (request.rehearse number path)) = rehearse number path
 terms_of (Some (request.writeback metadata fast origin)) = writeback metadata fast origin

@@ -1,8 +1,15 @@
 -- Trusted base.
--- The bytes of the lines that the queries print, over the meaning of an image.
+-- What can be asked of an image, and the bytes that answer, over the meaning of the image.
 use Rattle.std.specs.Prelude.{ℕ, ◌-◌, Bool, ◌==◌, ◌&&◌, ◌||◌, not, nat_lt, List, [], ◌∷◌, ◌++◌, map, filter, length, drop, slice_index, count_by, codes, decimal}
 use Rattle.std.specs.List.{flat_map, range_with_len, take_while}
-use Rattle.pd_kinds.specs.Meaning.{Mapping, ThinDevice, ThinPool, EraMeaning}
+use Rattle.pd_kinds.specs.declared.kind.Kind.{Kind}
+use Rattle.pd_kinds.specs.declared.kind.Kind.TheVariants.{Thin, Cache, Era}
+use Rattle.pd_kinds.specs.Meaning.{Mapping, ThinDevice, ThinPool, EraMeaning, thin_meaning, cache_meaning, era_meaning}
+use Rattle.pd_spells.specs.ThinText.{text_of_pool}
+use Rattle.pd_spells.specs.CacheText.{text_of_cache}
+use Rattle.pd_spells.specs.EraText.{text_of_era}
+use Rattle.pd_shapes.specs.SharedText.{text_of_shape}
+use Rattle.pd_shapes.specs.ImageShape.{image_shape}
 
 -- the reverse map: the line of a mapping to a data block
 abbrev pub mapping_line : ℕ → ThinDevice → Mapping → List ℕ
@@ -60,3 +67,38 @@ run_line era eras block =
 -- the longest runs of blocks whose era is the given one or a later one, ascending
 unfoldable pub since_lines : ℕ → EraMeaning → List ℕ
 since_lines era meaning = flat_map (run_line era meaning.eras) (filter (begins_run era meaning.eras) (range_with_len 0 (length meaning.eras)))
+
+-- the text of an image, which is that of its meaning
+abbrev pub image_text : Kind → List (List ℕ) → List ℕ
+image_text Thin image = text_of_pool (thin_meaning image)
+image_text Cache image = text_of_cache (cache_meaning image)
+image_text Era image = text_of_era (era_meaning image)
+
+-- what is asked of an image
+pub data Asked : Type 0 where
+  -- its text: a dump is the query for it
+  text : Kind → Asked
+  -- the text of a thin pool, in which the leaves that its devices share are told once
+  shared_text : Asked
+  -- the mappings of a pool to the data blocks from one on and below another
+  reverse_map : ℕ → ℕ → Asked
+  -- the thin devices of a pool
+  device_list : Asked
+  -- the blocks of an era target that were written in an era or later
+  since : ℕ → Asked
+
+-- the kind of the image
+abbrev pub asked_kind : Asked → Kind
+asked_kind (text kind) = kind
+asked_kind shared_text = Thin
+asked_kind (reverse_map first end) = Thin
+asked_kind device_list = Thin
+asked_kind (since era) = Era
+
+-- what answers, where the image has no fault up to the stage Whole
+abbrev pub asked_text : Asked → List (List ℕ) → List ℕ
+asked_text (text kind) image = image_text kind image
+asked_text shared_text image = text_of_shape (image_shape image)
+asked_text (reverse_map first end) image = rmap_lines first end (thin_meaning image)
+asked_text device_list image = list_lines (thin_meaning image)
+asked_text (since era) image = since_lines era (era_meaning image)

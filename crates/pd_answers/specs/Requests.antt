@@ -5,6 +5,7 @@ use Rattle.pd_kinds.specs.declared.kind.Flagged.{Flagged}
 use Rattle.pd_kinds.specs.declared.kind.Kind.{Kind}
 use Rattle.pd_kinds.specs.declared.kind.Passing.{Passing}
 use Rattle.pd_kinds.specs.declared.kind.Stage.{Stage}
+use Rattle.pd_answers.specs.QueryLines.{Asked}
 
 -- a request, with the words that name its objects: images, texts, and the file of `out` where one is named
 pub data Request : Type 0 where
@@ -14,22 +15,14 @@ pub data Request : Type 0 where
   passing_check : Kind → List ℕ → Request
   -- the whole check of a pool or a cache, by which "needs check" is cleared where all that was found passes
   check_and_clear : Flagged → Passing → List ℕ → Request
-  -- the text of an image, to a file
-  dump : Kind → Option (List ℕ) → List ℕ → Request
-  -- that of a thin pool, in which the leaves that its devices share are told once
-  dump_shared : Option (List ℕ) → List ℕ → Request
+  -- what is asked of an image, to a file
+  query : Asked → Option (List ℕ) → List ℕ → Request
   -- an image of this version of its format, from the text of a file
   restore : Kind → ℕ → List ℕ → List ℕ → Request
   -- what can be saved of an image, to another one
   repair : List ℕ → List ℕ → Request
   -- the same without a superblock: its transaction, block size and number of data blocks are given
   search : List ℕ → List ℕ → ℕ → ℕ → ℕ → Request
-  -- the mappings to the data blocks from one on and below another
-  rmap : ℕ → ℕ → Option (List ℕ) → List ℕ → Request
-  -- the thin devices of a pool
-  list_devices : Option (List ℕ) → List ℕ → Request
-  -- the blocks that were written in an era or later
-  since : ℕ → Option (List ℕ) → List ℕ → Request
   -- the text of the generator for a number
   generate : ℕ → Option (List ℕ) → Request
   -- the restore, check and dump of that text, over an image

@@ -13,7 +13,8 @@ use Rattle.pd_kinds.specs.declared.kind.Passing.{Passing}
 use Rattle.pd_kinds.specs.declared.kind.Passing.TheVariants.{Nothing, Leaks}
 use Rattle.pd_kinds.specs.declared.kind.Stage.{Stage}
 use Rattle.pd_kinds.specs.declared.kind.Stage.TheVariants.{Super, Walk, Order, Whole, Counts}
-use Rattle.pd_answers.specs.Requests.{Request, check, passing_check, check_and_clear, dump, dump_shared, restore, repair, search, rmap, list_devices, since, generate, rehearse, writeback, shrink}
+use Rattle.pd_answers.specs.QueryLines as ask
+use Rattle.pd_answers.specs.Requests.{Request, check, passing_check, check_and_clear, query, restore, repair, search, generate, rehearse, writeback, shrink}
 
 -- the next step needs the value of this one
 infixl 10 ◌>>=◌
@@ -259,8 +260,8 @@ check_with kind until leaks clear image = None
 
 -- only of a pool the leaves that are shared are told once
 abbrev pub dump_with : Kind → Bool → Option (List ℕ) → List ℕ → Option Request
-dump_with kind false file image = Some (dump kind file image)
-dump_with Thin true file image = Some (dump_shared file image)
+dump_with kind false file image = Some (query (ask.text kind) file image)
+dump_with Thin true file image = Some (query ask.shared_text file image)
 dump_with Cache true file image = None
 dump_with Era true file image = None
 
@@ -306,17 +307,17 @@ request_of rmap_tool items = do
   region ← region_of word
   file ← optional (codes "-o") items
   image ← required image_word items
-  Some (rmap region.first region.end file image)
+  Some (query (ask.reverse_map region.first region.end) file image)
 request_of list_tool items = do
   file ← optional (codes "-o") items
   image ← required image_word items
-  Some (list_devices file image)
+  Some (query ask.device_list file image)
 request_of since_tool items = do
   word ← required (codes "--written-since") items
   era ← number_below (2 ^ 32) word
   file ← optional (codes "-o") items
   image ← required image_word items
-  Some (since era file image)
+  Some (query (ask.since era) file image)
 request_of generate_tool items = do
   word ← required (codes "--number") items
   number ← generated_number word

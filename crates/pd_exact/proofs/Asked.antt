@@ -10,6 +10,7 @@ use Rattle.pd_kinds.specs.Report.{Reported}
 use Rattle.pd_kinds.specs.Stages.{faults}
 use Rattle.pd_answers.specs.Answer.{Objects}
 use Rattle.pd_answers.specs.Promises.{Queried, query, query_answer, terms_of}
+use Rattle.pd_answers.specs.QueryLines.{Asked, asked_kind, asked_text}
 use Rattle.pd_answers.specs.Requests.{Request}
 use Rattle.pd_answers.specs.Terms.{IsAnswered}
 use Rattle.pd_answers.specs.Words.{asked}
@@ -50,13 +51,13 @@ is_queried queried zero = elim (cases_Bool (nat_eq queried.report.total 0)) [
     zero_one : (let zero : ℕ = 0 in zero ≡ 1) → ⊥
     zero_one e = omega arith
 
-module _ (kind : Kind) (text_of : Image → List ℕ) (file : Option (List ℕ)) (path : List ℕ) (before after : Objects) where
-  pub puts : IsAnswered (query kind text_of file path) before after 0 → PutsOfInput kind text_of before after
+module _ (q : Asked) (file : Option (List ℕ)) (path : List ℕ) (before after : Objects) where
+  pub puts : IsAnswered (query q file path) before after 0 → PutsOfInput (asked_kind q) (asked_text q) before after
   puts answered =
       let given = answered.sound (omega arith) in
       let is = is_queried answered.finding given.status in
       IfSome_then before.input.held answered.found (λ image right. record {
-        sound = none_counted (faults kind Whole image) (sym (ap (λ (r : Reported). r.total) right.0) ∙ is.0);
+        sound = none_counted (faults (asked_kind q) Whole image) (sym (ap (λ (r : Reported). r.total) right.0) ∙ is.0);
         put = subst (λ (bytes : List ℕ). Appends bytes before.out.written after.out.written) (is.1 ∙ right.1) given.out;
       })
 

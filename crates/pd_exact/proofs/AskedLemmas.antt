@@ -13,7 +13,8 @@ use Rattle.pd_kinds.specs.declared.kind.Passing.TheVariants.{Nothing, Leaks}
 use Rattle.pd_kinds.specs.Flagged.{kind_of}
 use Rattle.pd_kinds.specs.declared.kind.Kind.TheVariants.{Thin, Cache, Era}
 use Rattle.pd_kinds.specs.declared.kind.Stage.TheVariants.{Counts}
-use Rattle.pd_answers.specs.Requests.{check, check_and_clear, passing_check, dump, dump_shared, restore, repair, search, rmap, list_devices, since, generate, rehearse, writeback, shrink}
+use Rattle.pd_answers.specs.QueryLines.{text, shared_text, reverse_map, device_list, since}
+use Rattle.pd_answers.specs.Requests.{check, check_and_clear, passing_check, query, restore, repair, search, generate, rehearse, writeback, shrink}
 use Rattle.pd_answers.specs.Words.{Region, is_flag, items_of, given, version_of, generated_number, number_below, region_of, tool_in, request_of, asked}
 use Rattle.pd_exact.specs.Search.{DoNumbersFit, NumberWords, SayNumbers, with_numbers}
 use Rattle.pd_exact.specs.Words.{IsName, check_name, in_version, letting_pass, to_file}
@@ -44,28 +45,28 @@ clearing_asked flagged.Pool Leaks image is_image = rw is_image refl
 clearing_asked flagged.Cache Nothing image is_image = rw is_image refl
 clearing_asked flagged.Cache Leaks image is_image = rw is_image refl
 
-pub thin_dump_asked : (file : Option (List ℕ)) (image : List ℕ) → IfSome file IsName → IsName image → asked (codes "thin_dump" ∷ (to_file file ++ (image ∷ []))) ≡ Some (dump Thin file image)
+pub thin_dump_asked : (file : Option (List ℕ)) (image : List ℕ) → IfSome file IsName → IsName image → asked (codes "thin_dump" ∷ (to_file file ++ (image ∷ []))) ≡ Some (query (text Thin) file image)
 unfolding is_flag items_of given version_of tool_in request_of asked
 thin_dump_asked None image is_file is_image = rw (is_image) refl
 thin_dump_asked (Some file) image is_file is_image = rw (is_file, is_image) refl
 
 pub thin_shared_dump_asked : (file : Option (List ℕ)) (image : List ℕ) → IfSome file IsName → IsName image
-    → asked (codes "thin_dump" ∷ codes "--shared" ∷ (to_file file ++ (image ∷ []))) ≡ Some (dump_shared file image)
+    → asked (codes "thin_dump" ∷ codes "--shared" ∷ (to_file file ++ (image ∷ []))) ≡ Some (query shared_text file image)
 unfolding is_flag items_of given version_of tool_in request_of asked
 thin_shared_dump_asked None image is_file is_image = rw (is_image) refl
 thin_shared_dump_asked (Some file) image is_file is_image = rw (is_file, is_image) refl
 
-pub cache_dump_asked : (file : Option (List ℕ)) (image : List ℕ) → IfSome file IsName → IsName image → asked (codes "cache_dump" ∷ (to_file file ++ (image ∷ []))) ≡ Some (dump Cache file image)
+pub cache_dump_asked : (file : Option (List ℕ)) (image : List ℕ) → IfSome file IsName → IsName image → asked (codes "cache_dump" ∷ (to_file file ++ (image ∷ []))) ≡ Some (query (text Cache) file image)
 unfolding is_flag items_of given version_of tool_in request_of asked
 cache_dump_asked None image is_file is_image = rw (is_image) refl
 cache_dump_asked (Some file) image is_file is_image = rw (is_file, is_image) refl
 
-pub era_dump_asked : (file : Option (List ℕ)) (image : List ℕ) → IfSome file IsName → IsName image → asked (codes "era_dump" ∷ (to_file file ++ (image ∷ []))) ≡ Some (dump Era file image)
+pub era_dump_asked : (file : Option (List ℕ)) (image : List ℕ) → IfSome file IsName → IsName image → asked (codes "era_dump" ∷ (to_file file ++ (image ∷ []))) ≡ Some (query (text Era) file image)
 unfolding is_flag items_of given version_of tool_in request_of asked
 era_dump_asked None image is_file is_image = rw (is_image) refl
 era_dump_asked (Some file) image is_file is_image = rw (is_file, is_image) refl
 
-pub thin_ls_asked : (file : Option (List ℕ)) (image : List ℕ) → IfSome file IsName → IsName image → asked (codes "thin_ls" ∷ (to_file file ++ (image ∷ []))) ≡ Some (list_devices file image)
+pub thin_ls_asked : (file : Option (List ℕ)) (image : List ℕ) → IfSome file IsName → IsName image → asked (codes "thin_ls" ∷ (to_file file ++ (image ∷ []))) ≡ Some (query device_list file image)
 unfolding is_flag items_of given version_of tool_in request_of asked
 thin_ls_asked None image is_file is_image = rw (is_image) refl
 thin_ls_asked (Some file) image is_file is_image = rw (is_file, is_image) refl
@@ -135,13 +136,13 @@ cache_restore_asked None version file path is_word is is_file is_path = rw (is_f
 cache_restore_asked (Some word) version file path is_word is is_file is_path = rw (is_word, is_file, is_path, is) refl
 
 pub era_invalidate_asked : (word : List ℕ) (era : ℕ) (file : Option (List ℕ)) (image : List ℕ) → IsName word → number_below (2 ^ 32) word ≡ Some era → IfSome file IsName → IsName image
-    → asked (codes "era_invalidate" ∷ codes "--written-since" ∷ word ∷ (to_file file ++ (image ∷ []))) ≡ Some (since era file image)
+    → asked (codes "era_invalidate" ∷ codes "--written-since" ∷ word ∷ (to_file file ++ (image ∷ []))) ≡ Some (query (since era) file image)
 unfolding is_flag items_of given version_of tool_in request_of asked
 era_invalidate_asked word era None image is_word is is_file is_image = rw (is_word, is_image, is) refl
 era_invalidate_asked word era (Some file) image is_word is is_file is_image = rw (is_word, is_file, is_image, is) refl
 
 pub thin_rmap_asked : (word : List ℕ) (region : Region) (file : Option (List ℕ)) (image : List ℕ) → IsName word → region_of word ≡ Some region → IfSome file IsName → IsName image
-    → asked (codes "thin_rmap" ∷ codes "--region" ∷ word ∷ (to_file file ++ (image ∷ []))) ≡ Some (rmap region.first region.end file image)
+    → asked (codes "thin_rmap" ∷ codes "--region" ∷ word ∷ (to_file file ++ (image ∷ []))) ≡ Some (query (reverse_map region.first region.end) file image)
 unfolding is_flag items_of given version_of tool_in request_of asked
 thin_rmap_asked word region None image is_word is is_file is_image = rw (is_word, is_image, is) refl
 thin_rmap_asked word region (Some file) image is_word is is_file is_image = rw (is_word, is_file, is_image, is) refl

@@ -37,7 +37,8 @@ use Rattle.pd_laid_cache.specs.CleanCache.{IsCleanCache}
 use Rattle.pd_laid_era.specs.CleanEra.{IsCleanEra}
 use Rattle.pd_answers.specs.Answer.{NoFaults, Objects}
 use Rattle.pd_answers.specs.Flag.{needs_check}
-use Rattle.pd_answers.specs.Promises.{image_text, terms_of}
+use Rattle.pd_answers.specs.Promises.{terms_of}
+use Rattle.pd_answers.specs.QueryLines.{image_text}
 use Rattle.pd_answers.specs.Requests.{check, check_and_clear, passing_check, repair, restore}
 use Rattle.pd_answers.specs.Terms.{IsAnswered}
 

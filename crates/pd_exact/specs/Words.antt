@@ -18,7 +18,8 @@ use Rattle.pd_shapes.specs.SharedText.{text_of_shape}
 use Rattle.pd_laid_thin.specs.CleanPool.{IsCleanPool}
 use Rattle.pd_answers.specs.Answer.{Objects}
 use Rattle.pd_answers.specs.Generated.{generated_text}
-use Rattle.pd_answers.specs.Promises.{image_text, terms_of}
+use Rattle.pd_answers.specs.Promises.{terms_of}
+use Rattle.pd_answers.specs.QueryLines.{image_text}
 use Rattle.pd_answers.specs.Terms.{IsAnswered}
 use Rattle.pd_answers.specs.Words.{asked, is_value}
 use Rattle.pd_exact.specs.Exact.{IsOfText, LosesNothing, TellsClean, TellsPassed}

@@ -6,19 +6,15 @@ use Rattle.pd_kinds.specs.declared.kind.Kind.TheVariants.{Thin, Cache, Era}
 use Rattle.pd_kinds.specs.declared.kind.Stage.TheVariants.{Counts}
 use Rattle.pd_kinds.specs.Flagged.{kind_of}
 use Rattle.pd_kinds.specs.Objects.{SinkState}
-use Rattle.pd_kinds.specs.Meaning.{thin_meaning, era_meaning}
 use Rattle.pd_kinds.specs.Report.{report_of}
 use Rattle.pd_kinds.specs.Stages.{faults}
 use Rattle.pd_answers.specs.Answer.{Objects, AreFresh}
-use Rattle.pd_answers.specs.Requests.{Request, check, passing_check, check_and_clear, dump, dump_shared, restore, repair, search, rmap, list_devices, since, generate, rehearse, writeback, shrink}
+use Rattle.pd_answers.specs.Requests.{Request, check, passing_check, check_and_clear, query, restore, repair, search, generate, rehearse, writeback, shrink}
 use Rattle.pd_answers.specs.Repairs as repairs
 use Rattle.pd_answers.specs.Shrinks as shrinks
 use Rattle.pd_answers.specs.Terms.{Terms}
 use Rattle.pd_answers.specs.Writebacks as writebacks
-use Rattle.pd_answers.specs.QueryLines.{list_lines, rmap_lines, since_lines}
-use Rattle.pd_answers.specs.Promises.{image_text, terms_of}
-use Rattle.pd_shapes.specs.ImageShape.{image_shape}
-use Rattle.pd_shapes.specs.SharedText.{text_of_shape}
+use Rattle.pd_answers.specs.Promises.{terms_of}
 use Rattle.pd_shapes.specs.PoolText.{IsPoolTextVerdict, is_pool_text_early}
 use Rattle.pd_spells.specs.Early.{is_cache_early, is_era_early}
 use Rattle.pd_spells.specs.CacheNeed.{IsCacheVerdict}
@@ -77,11 +73,7 @@ at_rest (Some (restore Cache version file path)) before notes fresh verdicts =
 at_rest (Some (restore Era version file path)) before notes fresh verdicts =
     restore_at_rest IsEraVerdict is_era_early laid_era file path before (record before { notes = notes }) before.source before.output fresh.output.2 (verdicts Era version) fresh.output.0
 at_rest (Some (repair from to)) before notes fresh verdicts = task_at_rest (repairs.repair from to) before notes (repair_rests from to before (record before { notes = notes }) fresh (none_written before notes fresh))
-at_rest (Some (dump kind file path)) before notes fresh verdicts = query_at_rest kind (image_text kind) before.input.held
-at_rest (Some (dump_shared file path)) before notes fresh verdicts = query_at_rest Thin (λ image. text_of_shape (image_shape image)) before.input.held
-at_rest (Some (rmap first end file path)) before notes fresh verdicts = query_at_rest Thin (λ image. rmap_lines first end (thin_meaning image)) before.input.held
-at_rest (Some (list_devices file path)) before notes fresh verdicts = query_at_rest Thin (λ image. list_lines (thin_meaning image)) before.input.held
-at_rest (Some (since era file path)) before notes fresh verdicts = query_at_rest Era (λ image. since_lines era (era_meaning image)) before.input.held
+at_rest (Some (query asked file path)) before notes fresh verdicts = query_at_rest asked before.input.held
 at_rest (Some (generate number file)) before notes fresh verdicts = (tt, tt, tt)
 at_rest (Some (rehearse number path)) before notes fresh verdicts = rehearse_at_rest number path before notes fresh.output.2 (verdicts Thin 1) fresh.output.0
 at_rest (Some (writeback metadata fast origin)) before notes fresh verdicts =
@@ -103,11 +95,7 @@ reads_at_rest (Some (restore Thin version file path)) before notes = tt
 reads_at_rest (Some (restore Cache version file path)) before notes = tt
 reads_at_rest (Some (restore Era version file path)) before notes = tt
 reads_at_rest (Some (repair from to)) before notes = tt
-reads_at_rest (Some (dump kind file path)) before notes = tt
-reads_at_rest (Some (dump_shared file path)) before notes = tt
-reads_at_rest (Some (rmap first end file path)) before notes = tt
-reads_at_rest (Some (list_devices file path)) before notes = tt
-reads_at_rest (Some (since era file path)) before notes = tt
+reads_at_rest (Some (query asked file path)) before notes = tt
 reads_at_rest (Some (generate number file)) before notes = tt
 reads_at_rest (Some (rehearse number path)) before notes = tt
 reads_at_rest (Some (writeback metadata fast origin)) before notes = tt

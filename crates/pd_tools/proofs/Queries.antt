@@ -11,12 +11,12 @@ use Rattle.pd_kinds.specs.Stages.{Checked, checked_of, faults, first_failing, st
 use Rattle.pd_kinds.specs.Crash.{IsUntouched}
 use Rattle.pd_image.specs.Device.{OnlyReads}
 use Rattle.pd_answers.specs.Answer.{Objects, IsUsed, reading}
-use Rattle.pd_answers.specs.Promises.{Queried}
+use Rattle.pd_answers.specs.Promises.{Queried, query}
+use Rattle.pd_answers.specs.QueryLines.{Asked, asked_kind, asked_text}
 use Rattle.pd_answers.specs.Terms.{is_one_of, is_possible}
-use Rattle.pd_tools.specs.declared.query.Asked.{Asked}
 use Rattle.pd_tools.specs.declared.stop.Stop.{Stop}
 use Rattle.pd_tools.specs.declared.stop.Stop.TheVariants.{Device, Stream, Memory}
-use Rattle.pd_tools.specs.Query.{IsUnput, kind_of, query_line, query_status, terms_of_query, text_of}
+use Rattle.pd_tools.specs.Query.{IsUnput, query_line, query_status}
 use Rattle.pd_tools.specs.Read.{IsUnread}
 use Rattle.pd_tools.specs.Stop.{stop_status}
 use Rattle.pd_tools.specs.Work.{HasCause, IsFinished, IsStopped}
@@ -61,21 +61,21 @@ pub one_told : {X : Type 0} {P Q : X → Type 0} → (o : Option X) → ((x : X)
 one_told None join p = tt
 one_told (Some x) join p = join x p
 
-text_told : (held : Option (List (List ℕ))) (f : List (List ℕ) → List ℕ) → IfSome held (λ image. told_or f [] held ≡ f image)
-text_told None f = tt
-text_told (Some image) f = refl
+text_told : (held : Option (List (List ℕ))) (q : Asked) → IfSome held (λ image. told_or (asked_text q) [] held ≡ asked_text q image)
+text_told None q = tt
+text_told (Some image) q = refl
 
-pub both_told : (held : Option (List (List ℕ))) (kind : Kind) (f : List (List ℕ) → List ℕ)
-    → IfSome held (λ image. (told_or (λ image. report_of (faults kind stages.Whole image)) (report_of []) held ≡ report_of (faults kind stages.Whole image)) × (told_or f [] held ≡ f image))
-both_told None kind f = tt
-both_told (Some image) kind f = (refl, refl)
+pub both_told : (held : Option (List (List ℕ))) (q : Asked)
+    → IfSome held (λ image. (told_or (λ image. report_of (faults (asked_kind q) stages.Whole image)) (report_of []) held ≡ report_of (faults (asked_kind q) stages.Whole image)) × (told_or (asked_text q) [] held ≡ asked_text q image))
+both_told None q = tt
+both_told (Some image) q = (refl, refl)
 
 -- what a query finds before anything was done
-pub query_at_rest : (kind : Kind) (f : List (List ℕ) → List ℕ) (held : Option (List (List ℕ)))
-    → (queried : Queried) × IfSome held (λ image. (queried.report ≡ report_of (faults kind stages.Whole image)) × (queried.text ≡ f image)) × Unit {0}
-query_at_rest kind f held = (
-  record { report = told_or (λ image. report_of (faults kind stages.Whole image)) (report_of []) held; text = told_or f [] held },
-  both_told held kind f,
+pub query_at_rest : (q : Asked) (held : Option (List (List ℕ)))
+    → (queried : Queried) × IfSome held (λ image. (queried.report ≡ report_of (faults (asked_kind q) stages.Whole image)) × (queried.text ≡ asked_text q image)) × Unit {0}
+query_at_rest q held = (
+  record { report = told_or (λ image. report_of (faults (asked_kind q) stages.Whole image)) (report_of []) held; text = told_or (asked_text q) [] held },
+  both_told held q,
   tt,
 )
 
@@ -89,7 +89,7 @@ module _ (q : Asked) (file : Option (List ℕ)) (path : List ℕ) (others : Obje
   abbrev finding : Reported → List ℕ → Queried
   finding report text = record { report = report; text = text }
 
-  unput : (input' : DeviceState) → IsUsed (reading path) input'.access input'.path → IsUntouched input input' → Stands (terms_of_query q file path) before (after out input')
+  unput : (input' : DeviceState) → IsUsed (reading path) input'.access input'.path → IsUntouched input input' → Stands (query q file path) before (after out input')
   unput input' used untouched = record {
     followed = record { source = tt; out = not_yet (unwrap_or file []) out.access out.path fresh; input = used; output = tt; third = tt };
     order = record { input = λ _. tt; output = tt; third = tt; out = λ ne. absurd (ne fresh) };
@@ -98,26 +98,26 @@ module _ (q : Asked) (file : Option (List ℕ)) (path : List ℕ) (others : Obje
   }
 
   -- the image was not read
-  pub query_unread : (input' : DeviceState) (stop : Stop) → IsUsed (reading path) input'.access input'.path → IsUntouched input input' → IsUnread (kind_of q) stages.Whole input input' stop
-      → IsStopped (terms_of_query q file path) before (after out input') stop
+  pub query_unread : (input' : DeviceState) (stop : Stop) → IsUsed (reading path) input'.access input'.path → IsUntouched input input' → IsUnread (asked_kind q) stages.Whole input input' stop
+      → IsStopped (query q file path) before (after out input') stop
   query_unread input' stop used untouched unread =
-      stopped_unread (terms_of_query q file path) before (after out input') (unput input' used untouched)
-      (finding (told_or (λ image. report_of (faults (kind_of q) stages.Whole image)) (report_of []) input.held) (told_or (text_of q) [] input.held))
-      (both_told input.held (kind_of q) (text_of q)) refl (kind_of q) stages.Whole stop unread refl (λ wants. (refl, wants)) (λ _ _. tt)
+      stopped_unread (query q file path) before (after out input') (unput input' used untouched)
+      (finding (told_or (λ image. report_of (faults (asked_kind q) stages.Whole image)) (report_of []) input.held) (told_or (asked_text q) [] input.held))
+      (both_told input.held q) refl (asked_kind q) stages.Whole stop unread refl (λ wants. (refl, wants)) (λ _ _. tt)
 
-  module _ (input' : DeviceState) (report : Reported) (right : IfSome input.held (λ image. report ≡ report_of (faults (kind_of q) stages.Whole image)))
+  module _ (input' : DeviceState) (report : Reported) (right : IfSome input.held (λ image. report ≡ report_of (faults (asked_kind q) stages.Whole image)))
       (used : IsUsed (reading path) input'.access input'.path) (untouched : IsUntouched input input') (opened : input'.access ≡ 1) where
     -- the image has faults
-    pub query_faulty : (nat_eq report.total 0) ≡ false → IsFinished (terms_of_query q file path) before (after out input') (query_status report) (query_line report)
+    pub query_faulty : (nat_eq report.total 0) ≡ false → IsFinished (query q file path) before (after out input') (query_status report) (query_line report)
     query_faulty faulty =
-        rw faulty (finished_early (terms_of_query q file path) before (after out input') (unput input' used untouched) (finding report (told_or (text_of q) [] input.held))
-        (two_told input.held (λ image is text. (is, text)) right (text_told input.held (text_of q))) refl 1 (reported_lines report) (lit≤ tt) refl (rw faulty refl)
+        rw faulty (finished_early (query q file path) before (after out input') (unput input' used untouched) (finding report (told_or (asked_text q) [] input.held))
+        (two_told input.held (λ image is text. (is, text)) right (text_told input.held q)) refl 1 (reported_lines report) (lit≤ tt) refl (rw faulty refl)
         (record { source = tt; input = opened; output = tt; third = tt }) (λ e. absurd (omega arith)) (λ _. tt) tt)
 
     -- it has none, and the text was put
     module _ (clean : (nat_eq report.total 0) ≡ true) (out' : SinkState) (out_used : IsUsed (reading (unwrap_or file [])) out'.access out'.path)
-        (text : List ℕ) (told : IfSome input.held (λ image. faults (kind_of q) stages.Whole image ≡ [] → text ≡ text_of q image)) where
-      stands : Stands (terms_of_query q file path) before (after out' input')
+        (text : List ℕ) (told : IfSome input.held (λ image. faults (asked_kind q) stages.Whole image ≡ [] → text ≡ asked_text q image)) where
+      stands : Stands (query q file path) before (after out' input')
       stands = record {
         followed = record { source = tt; out = out_used; input = used; output = tt; third = tt };
         order = record { input = λ _. tt; output = tt; third = tt; out = λ _. record { source = tt; input = opened; output = tt; third = tt } };
@@ -125,30 +125,30 @@ module _ (q : Asked) (file : Option (List ℕ)) (path : List ℕ) (others : Obje
         reads = tt;
       }
 
-      found_text : IfSome input.held (λ image. (report ≡ report_of (faults (kind_of q) stages.Whole image)) × (text ≡ text_of q image))
-      found_text = two_told input.held (λ image is answers. (is, answers (none_reported (kind_of q) stages.Whole image report is clean))) right told
+      found_text : IfSome input.held (λ image. (report ≡ report_of (faults (asked_kind q) stages.Whole image)) × (text ≡ asked_text q image))
+      found_text = two_told input.held (λ image is answers. (is, answers (none_reported (asked_kind q) stages.Whole image report is clean))) right told
 
       pub query_done : out'.access ≡ 1 → Appends text out.written out'.written
-          → IsFinished (terms_of_query q file path) before (after out' input') (query_status report) (query_line report)
+          → IsFinished (query q file path) before (after out' input') (query_status report) (query_line report)
       query_done access whole =
-          rw clean (finished_by (terms_of_query q file path) before (after out' input') stands (finding report text) found_text 0 text [] (lit≤ tt) refl (λ e. absurd cc)
+          rw clean (finished_by (query q file path) before (after out' input') stands (finding report text) found_text 0 text [] (lit≤ tt) refl (λ e. absurd cc)
           (λ some. absurd (some (eqb-true report.total 0 clean))) (rw clean refl) whole (record { source = tt; input = opened; output = tt; third = tt }) (λ _. access) (λ _. tt) tt)
 
       -- or a front of it
-      stopped : (stop : Stop) → IsTrue (is_possible (terms_of_query q file path) (stop_status stop)) → (IsTrue (is_one_of (1 ∷ []) (stop_status stop)) → ⊥)
-          → HasCause (terms_of_query q file path) before (after out' input') stop → AppendsFront text out.written out'.written
-          → IsStopped (terms_of_query q file path) before (after out' input') stop
+      stopped : (stop : Stop) → IsTrue (is_possible (query q file path) (stop_status stop)) → (IsTrue (is_one_of (1 ∷ []) (stop_status stop)) → ⊥)
+          → HasCause (query q file path) before (after out' input') stop → AppendsFront text out.written out'.written
+          → IsStopped (query q file path) before (after out' input') stop
       stopped stop possible loud cause front =
-          stopped_by (terms_of_query q file path) before (after out' input') stands (finding report text) found_text stop possible (λ e. absurd (loud e))
+          stopped_by (query q file path) before (after out' input') stands (finding report text) found_text stop possible (λ e. absurd (loud e))
           (λ some. absurd (some (eqb-true report.total 0 clean))) cause (rw clean front) tt tt
 
       pub query_unput : (stop : Stop) → AppendsFront text out.written out'.written → IsUnput input.faults input'.faults out.faults out'.faults stop
-          → IsStopped (terms_of_query q file path) before (after out' input') stop
+          → IsStopped (query q file path) before (after out' input') stop
       query_unput Device front unput = stopped Device refl (λ e. cc) (inl unput) front
       query_unput Stream front unput = stopped Stream refl (λ e. cc) (inr unput) front
       query_unput Memory front unput = stopped Memory refl (λ e. cc) (record {
         past_super = λ e. absurd cc;
-        sound = one_told input.held (λ image is. none_at_super (kind_of q) stages.Whole image (none_reported (kind_of q) stages.Whole image report is clean)) right;
+        sound = one_told input.held (λ image is. none_at_super (asked_kind q) stages.Whole image (none_reported (asked_kind q) stages.Whole image report is clean)) right;
       }) front
 
 -- what is only read after it was opened

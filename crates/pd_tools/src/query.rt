@@ -6,9 +6,12 @@ ghost use Rattle.pd_kinds.specs.Objects.{SinkState};
 ghost use Rattle.pd_image.specs.Device.{OnlyReads};
 ghost use Rattle.pd_spells.specs.Lines.{reported_lines};
 ghost use Rattle.pd_answers.specs.Answer.{Objects, IsUsed, reading};
+ghost use Rattle.pd_answers.specs.Promises.{query as terms_of_query};
+ghost use Rattle.pd_answers.specs.QueryLines.{asked_kind, asked_text};
 ghost use Rattle.pd_query.specs.Puts.{PutsAnswer};
+ghost use Rattle.pd_words.specs.Words.{asked_as};
 ghost use Rattle.pd_tools.specs.Notes.{PutsLine};
-ghost use Rattle.pd_tools.specs.Query.{IsUnput, kind_of, query_line, query_status, stop_as, terms_of_query, text_of};
+ghost use Rattle.pd_tools.specs.Query.{IsUnput, query_line, query_status, stop_as};
 ghost use Rattle.pd_tools.specs.Work.{IsFinished, IsStopped, AnswersTerms};
 
 use crate::check::read_report;
@@ -19,22 +22,8 @@ use pd_kinds::{Kind, Report, Stage};
 use pd_lines::print_report;
 use pd_query::{Query, QueryFault, TextOfPool, TextOfShape};
 use pd_uses::{DeviceList, ReverseMap};
+use pd_words::Asked;
 use std::alloc::Global;
-
-/// What is asked of an image.
-#[derive(Clone, Copy)]
-pub enum Asked {
-    /// Its text.
-    Dump(Kind),
-    /// The text of a pool in which each leaf that its devices share stands once.
-    SharedDump,
-    /// The mappings of a pool to the data blocks from the first on and below the end.
-    ReverseMap { first: u64, end: u64 },
-    /// The thin devices of a pool.
-    DeviceList,
-    /// The blocks of an era target that were written in this era or later.
-    Since { era: u32 },
-}
 
 /// Checks the image at the path up to the stage Whole, and puts the text that answers to the file, or to the
 /// standard output. Where the image has faults, their report goes to `notes`, and `out` isn't attached.
@@ -50,7 +39,7 @@ pub fn run_query<K: Sink, E: Sink, A: Device>(
     requires out { (K.state out.old).access ≡ 0 }
     requires notes { (E.state notes.old).access ≡ 1 }
     requires input { (A.state input.old).access ≡ 0 }
-    ensures { (others : Objects) → AnswersTerms (terms_of_query asked (option_copied file.entry) image.now) (E.state notes.old)
+    ensures { (others : Objects) → AnswersTerms (terms_of_query (asked_as asked) (option_copied file.entry) image.now) (E.state notes.old)
         (record others { out = K.state out.old; input = A.state input.old })
         (record others { out = K.state out.new; notes = E.state notes.new; input = A.state input.new }) result }
 {
@@ -91,28 +80,15 @@ fn query_image<K: Sink, A: Device>(
     ensures { (others : Objects) (notes : SinkState) →
         let before = record others { out = K.state out.old; input = A.state input.old } in
         let after = record others { out = K.state out.new; notes = notes; input = A.state input.new } in
-        let terms = terms_of_query asked (option_copied file.entry) image.now in
+        let terms = terms_of_query (asked_as asked) (option_copied file.entry) image.now in
         MatchResult result (λ report. IsFinished terms before after (query_status report) (query_line report)) (IsStopped terms before after) }
 {
-    let report = read_report(alloc, kind_of(asked), Stage::Whole, image, false, input)?;
+    let report = read_report(alloc, asked.kind(), Stage::Whole, image, false, input)?;
     if !report.is_empty() {
         return Ok(report);
     }
     put_text(alloc, asked, file, out, input)?;
     Ok(report)
-}
-
-/// The kind of metadata that is asked about.
-fn kind_of(asked: Asked) -> Kind
-    ensures { result ≡ kind_of asked }
-{
-    match asked {
-        Asked::Dump(kind) => kind,
-        Asked::SharedDump => Kind::Thin,
-        Asked::ReverseMap { first: _, end: _ } => Kind::Thin,
-        Asked::DeviceList => Kind::Thin,
-        Asked::Since { era: _ } => Kind::Era,
-    }
 }
 
 /// Puts the text that answers what is asked.
@@ -125,17 +101,17 @@ fn put_text<K: Sink, A: Device>(
 ) -> Result<(), Stop>
     requires out { (K.state out.old).access ≡ 0 }
     requires input { (A.state input.old).access ≡ 1 }
-    ensures text { PutsAnswer (kind_of asked) (text_of asked) result (A.state input.old).held (K.state out.old).written (K.state out.new).written }
+    ensures text { PutsAnswer (asked_kind (asked_as asked)) (asked_text (asked_as asked)) result (A.state input.old).held (K.state out.old).written (K.state out.new).written }
     ensures kept { OnlyReads (A.state input.old) (A.state input.new) }
     ensures used { IsUsed (reading (unwrap_or (option_copied file.entry) [])) (K.state out.new).access (K.state out.new).path }
     ensures access { OnOk result ((K.state out.new).access ≡ 1) }
     ensures stopped { IfErr result (IsUnput (A.state input.old).faults (A.state input.new).faults (K.state out.old).faults (K.state out.new).faults) }
 {
     match asked {
-        Asked::Dump(Kind::Thin) => put_answer(alloc, &TextOfPool, file, out, input),
-        Asked::Dump(Kind::Cache) => put_answer(alloc, &TextOfCache, file, out, input),
-        Asked::Dump(Kind::Era) => put_answer(alloc, &TextOfEra, file, out, input),
-        Asked::SharedDump => put_answer(alloc, &TextOfShape, file, out, input),
+        Asked::Text(Kind::Thin) => put_answer(alloc, &TextOfPool, file, out, input),
+        Asked::Text(Kind::Cache) => put_answer(alloc, &TextOfCache, file, out, input),
+        Asked::Text(Kind::Era) => put_answer(alloc, &TextOfEra, file, out, input),
+        Asked::SharedText => put_answer(alloc, &TextOfShape, file, out, input),
         Asked::ReverseMap { first, end } => {
             put_answer(alloc, &ReverseMap { first, end }, file, out, input)
         }

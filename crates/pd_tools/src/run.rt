@@ -13,7 +13,7 @@ use crate::check::run_check;
 use crate::clear::run_clearing_check;
 use crate::generate::run_generate;
 use crate::notes::{USAGE_LINE, put_line};
-use crate::query::{Asked, run_query};
+use crate::query::run_query;
 use crate::rehearse::run_rehearse;
 use crate::repair::Repair;
 use crate::restore::{run_restore, texts_have_verdicts};
@@ -92,6 +92,17 @@ fn run_request<S: Source, K: Sink, E: Sink, A: Device, B: Device, C: Device>(
         (record others { source = S.state source.old; out = K.state out.old; input = A.state input.old; output = B.state output.old; third = C.state third.old })
         (record others { source = S.state source.new; out = K.state out.new; notes = E.state notes.new; input = A.state input.new; output = B.state output.new; third = C.state third.new }) result }
 {
+    if let Some(query) = request.as_query() {
+        return run_query(
+            alloc,
+            query.asked,
+            file_in(words, query.out),
+            query.image.word_in(words),
+            out,
+            notes,
+            input,
+        );
+    }
     match request {
         Request::Check { kind, until, image } => run_check(
             alloc,
@@ -121,28 +132,6 @@ fn run_request<S: Source, K: Sink, E: Sink, A: Device, B: Device, C: Device>(
             alloc,
             flagged,
             passing,
-            image.word_in(words),
-            out,
-            notes,
-            input,
-        ),
-        Request::Dump {
-            kind,
-            image,
-            out: file,
-        } => run_query(
-            alloc,
-            Asked::Dump(kind),
-            file_in(words, file),
-            image.word_in(words),
-            out,
-            notes,
-            input,
-        ),
-        Request::DumpShared { image, out: file } => run_query(
-            alloc,
-            Asked::SharedDump,
-            file_in(words, file),
             image.word_in(words),
             out,
             notes,
@@ -191,42 +180,6 @@ fn run_request<S: Source, K: Sink, E: Sink, A: Device, B: Device, C: Device>(
             };
             run_task(alloc, &task, out, notes, input, output, third)
         }
-        Request::Rmap {
-            first,
-            end,
-            image,
-            out: file,
-        } => run_query(
-            alloc,
-            Asked::ReverseMap { first, end },
-            file_in(words, file),
-            image.word_in(words),
-            out,
-            notes,
-            input,
-        ),
-        Request::List { image, out: file } => run_query(
-            alloc,
-            Asked::DeviceList,
-            file_in(words, file),
-            image.word_in(words),
-            out,
-            notes,
-            input,
-        ),
-        Request::Since {
-            era,
-            image,
-            out: file,
-        } => run_query(
-            alloc,
-            Asked::Since { era },
-            file_in(words, file),
-            image.word_in(words),
-            out,
-            notes,
-            input,
-        ),
         Request::Generate { number, out: file } => {
             run_generate(number, file_in(words, file), out, notes)
         }
@@ -260,6 +213,12 @@ fn run_request<S: Source, K: Sink, E: Sink, A: Device, B: Device, C: Device>(
             notes,
             output,
         ),
+        // A query was answered above.
+        Request::Dump { .. }
+        | Request::DumpShared { .. }
+        | Request::Rmap { .. }
+        | Request::List { .. }
+        | Request::Since { .. } => unreachable!(),
     }
 }
 

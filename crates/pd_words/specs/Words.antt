@@ -1,11 +1,15 @@
 -- What a request that was read means.
 use Rattle.std.specs.Prelude.{◌≡◌, ◌⊎◌, ℕ, ◌^◌, ◌<◌, ◌≤◌, List, Option, Some, None, IfSome, Result, Ok, Err}
 use Rattle.std.specs.Option.{option_map}
+use Rattle.pd_words.specs.declared.request.Asked.{Asked}
+use Rattle.pd_words.specs.declared.request.Asked.TheVariants as code
+use Rattle.pd_words.specs.declared.request.ImageQuery.{ImageQuery}
 use Rattle.pd_words.specs.declared.request.Name.{Name}
 use Rattle.pd_words.specs.declared.request.Request.{Request}
 use Rattle.pd_words.specs.declared.request.Request.TheVariants.{Check, PassingCheck, CheckAndClear, Dump, DumpShared, Restore, Repair, Search, Rmap, List as ListDevices, Since, Generate, Rehearse, Writeback, Shrink}
 use Rattle.pd_words.specs.declared.request.WordFault.{WordFault}
 use Rattle.pd_words.specs.Items.{word_at}
+use Rattle.pd_answers.specs.QueryLines as ask
 use Rattle.pd_answers.specs.Requests as requests
 use Rattle.pd_answers.specs.Words as asked
 
@@ -16,25 +20,43 @@ word_of words name = word_at words name.0
 abbrev pub words_of : List (List ℕ) → Option Name → Option (List ℕ)
 words_of words name = option_map (word_of words) name
 
+-- what a query asks, as the definitions speak of it
+abbrev pub asked_as : Asked → ask.Asked
+asked_as (code.Text kind) = ask.text kind
+asked_as code.SharedText = ask.shared_text
+asked_as (code.ReverseMap first end) = ask.reverse_map first end
+asked_as code.DeviceList = ask.device_list
+asked_as (code.Since era) = ask.since era
+
 -- the request as the definitions speak of it, with the words that its names stand for
 abbrev pub request_as : List (List ℕ) → Request → requests.Request
 request_as words (Check kind until image) = requests.check kind until (word_of words image)
 request_as words (PassingCheck kind image) = requests.passing_check kind (word_of words image)
 request_as words (CheckAndClear flagged passing image) = requests.check_and_clear flagged passing (word_of words image)
-request_as words (Dump kind image out) = requests.dump kind (words_of words out) (word_of words image)
-request_as words (DumpShared image out) = requests.dump_shared (words_of words out) (word_of words image)
+request_as words (Dump kind image out) = requests.query (ask.text kind) (words_of words out) (word_of words image)
+request_as words (DumpShared image out) = requests.query ask.shared_text (words_of words out) (word_of words image)
 request_as words (Restore kind text image version) = requests.restore kind version (word_of words text) (word_of words image)
 request_as words (Repair input output) = requests.repair (word_of words input) (word_of words output)
 request_as words (Search input output transaction block_size blocks) =
     requests.search (word_of words input) (word_of words output) transaction block_size blocks
-request_as words (Rmap first end image out) = requests.rmap first end (words_of words out) (word_of words image)
-request_as words (ListDevices image out) = requests.list_devices (words_of words out) (word_of words image)
-request_as words (Since era image out) = requests.since era (words_of words out) (word_of words image)
+request_as words (Rmap first end image out) = requests.query (ask.reverse_map first end) (words_of words out) (word_of words image)
+request_as words (ListDevices image out) = requests.query ask.device_list (words_of words out) (word_of words image)
+request_as words (Since era image out) = requests.query (ask.since era) (words_of words out) (word_of words image)
 request_as words (Generate number out) = requests.generate number (words_of words out)
 request_as words (Rehearse number image) = requests.rehearse number (word_of words image)
 request_as words (Writeback meta fast origin) = requests.writeback (word_of words meta) (word_of words fast) (word_of words origin)
 request_as words (Shrink input output pool blocks) =
     requests.shrink (word_of words input) (word_of words output) (word_of words pool) blocks
+
+-- a request that is no query
+abbrev pub IsNoQuery : requests.Request → Type 0
+IsNoQuery (requests.query asked file image) = ⊥
+IsNoQuery _ = Unit {0}
+
+-- the request is this query; without one it is no query
+abbrev pub IsQueryAs : List (List ℕ) → requests.Request → Option ImageQuery → Type 0
+IsQueryAs words request None = IsNoQuery request
+IsQueryAs words request (Some query) = request ≡ requests.query (asked_as query.asked) (words_of words query.out) (word_of words query.image)
 
 -- the request that was read, if one was
 abbrev pub read_as : List (List ℕ) → Option Request → Option requests.Request
@@ -68,6 +90,10 @@ IsVersion version = (version ≡ 1) ⊎ (version ≡ 2)
 -- a number of data blocks of a pool
 abbrev pub IsPoolSize : ℕ → Type 0
 IsPoolSize blocks = blocks ≤ 2 ^ 40
+
+-- the names of a query
+abbrev pub AreQueryNames : ℕ → ImageQuery → Type 0
+AreQueryNames number query = IsName number query.image × IsNameIfAny number query.out
 
 -- each name of a request is, its version is one, and so are the generator's number and that of a pool's data blocks
 abbrev pub AreNames : ℕ → Request → Type 0

@@ -6,5 +6,5 @@ mod numbers;
 mod request;
 mod words;
 
-pub use request::{Name, Request, WordFault};
+pub use request::{Asked, ImageQuery, Name, Request, WordFault};
 pub use words::read_words;

@@ -1,6 +1,6 @@
 //! What words can ask for, and why they ask for nothing.
 
-ghost use Rattle.std.specs.Prelude.{◌≡◌, ◌<◌, length, map, string_bytes};
+ghost use Rattle.std.specs.Prelude.{◌≡◌, ◌<◌, ℕ, List, IfSome, length, map, string_bytes};
 
 use pd_kinds::{Flagged, Kind, Passing, Stage};
 
@@ -115,6 +115,98 @@ pub enum Request {
         pool: Name,
         blocks: u64,
     },
+}
+
+impl Request {
+    ghost use Rattle.pd_words.specs.Words.{AreNames, AreQueryNames, IsQueryAs, request_as};
+
+    /// The query that the request is, or `None` where it is another request.
+    pub fn as_query(self) -> Option<ImageQuery>
+        ensures asked { (words : List (List ℕ)) → IsQueryAs words (request_as words self) result }
+        ensures names { (number : ℕ) → AreNames number self → IfSome result (AreQueryNames number) }
+    {
+        match self {
+            Request::Dump { kind, image, out } => Some(ImageQuery {
+                asked: Asked::Text(kind),
+                image,
+                out,
+            }),
+            Request::DumpShared { image, out } => Some(ImageQuery {
+                asked: Asked::SharedText,
+                image,
+                out,
+            }),
+            Request::Rmap {
+                first,
+                end,
+                image,
+                out,
+            } => Some(ImageQuery {
+                asked: Asked::ReverseMap { first, end },
+                image,
+                out,
+            }),
+            Request::List { image, out } => Some(ImageQuery {
+                asked: Asked::DeviceList,
+                image,
+                out,
+            }),
+            Request::Since { era, image, out } => Some(ImageQuery {
+                asked: Asked::Since { era },
+                image,
+                out,
+            }),
+            Request::Check { .. }
+            | Request::PassingCheck { .. }
+            | Request::CheckAndClear { .. }
+            | Request::Restore { .. }
+            | Request::Repair { .. }
+            | Request::Search { .. }
+            | Request::Generate { .. }
+            | Request::Rehearse { .. }
+            | Request::Writeback { .. }
+            | Request::Shrink { .. } => None,
+        }
+    }
+}
+
+/// A query: what is asked, of which image, and the file for the answer, without which it is the standard output.
+#[derive(Clone, Copy)]
+pub struct ImageQuery {
+    pub asked: Asked,
+    pub image: Name,
+    pub out: Option<Name>,
+}
+
+/// What is asked of an image.
+#[derive(Clone, Copy)]
+pub enum Asked {
+    /// Its text.
+    Text(Kind),
+    /// The text of a pool in which the leaves that its devices share are told once.
+    SharedText,
+    /// The mappings of a pool to the data blocks from `first` on and below `end`.
+    ReverseMap { first: u64, end: u64 },
+    /// The thin devices of a pool.
+    DeviceList,
+    /// The blocks of an era target that were written in this era or later.
+    Since { era: u32 },
+}
+
+impl Asked {
+    ghost use Rattle.pd_answers.specs.QueryLines.{asked_kind};
+    ghost use Rattle.pd_words.specs.Words.{asked_as};
+
+    /// The kind of metadata that is asked about.
+    pub fn kind(self) -> Kind
+        ensures { result ≡ asked_kind (asked_as self) }
+    {
+        match self {
+            Asked::Text(kind) => kind,
+            Asked::SharedText | Asked::ReverseMap { .. } | Asked::DeviceList => Kind::Thin,
+            Asked::Since { .. } => Kind::Era,
+        }
+    }
 }
 
 /// Why words have no request.

@@ -1,7 +1,7 @@
 use Rattle.pd_kinds.specs.declared.kind.Kind.TheVariants.{Thin}
 use Rattle.pd_kinds.specs.Meaning.{thin_meaning}
 use Rattle.pd_spells.specs.ThinText.{SpellsPool}
-use Rattle.pd_answers.specs.Promises.{image_text}
+use Rattle.pd_answers.specs.QueryLines.{image_text, text}
 use Rattle.pd_exact.proofs.Asked.{answered_for, puts, puts_text}
 use Rattle.pd_exact.proofs.AskedLemmas.{thin_dump_asked}
 use Rattle.pd_exact.proofs.words.thin_dump_puts_the_text.Goals as goal
@@ -9,4 +9,4 @@ use Rattle.pd_exact.proofs.words.thin_dump_puts_the_text.Goals as goal
 pub returns : goal.returns
 returns c = λ file image before after is_file is_image ends.
     puts_text Thin SpellsPool thin_meaning (image_text Thin) (λ held is none. c.thin_text_spells.ensures (thin_meaning held) (c.sound_pools_are_lawful.ensures held is none)) before after
-    (puts Thin (image_text Thin) file image before after (answered_for _ _ 0 before after (thin_dump_asked file image is_file is_image) ends))
+    (puts (text Thin) file image before after (answered_for _ _ 0 before after (thin_dump_asked file image is_file is_image) ends))

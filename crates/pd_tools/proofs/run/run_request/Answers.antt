@@ -1,21 +1,20 @@
-use Rattle.std.proofs.Common.{◌≡◌, ℕ, List, Option, map, string_bytes}
+use Rattle.std.proofs.Common.{◌≡◌, ℕ, List, Option, Some, map, string_bytes}
 use Rattle.pd_kinds.specs.declared.kind.Kind.{Kind}
 use Rattle.pd_kinds.specs.declared.kind.Passing.TheVariants.{Nothing, Leaks}
 use Rattle.pd_kinds.specs.declared.kind.Stage.TheVariants.{Counts}
 use Rattle.pd_kinds.specs.Objects.{SinkState}
 use Rattle.pd_answers.specs.Answer.{Objects}
-use Rattle.pd_answers.specs.Promises.{check, check_and_clear, generate}
+use Rattle.pd_answers.specs.Promises.{check, check_and_clear, generate, query, terms_of}
+use Rattle.pd_answers.specs.QueryLines.{Asked}
 use Rattle.pd_answers.specs.Rehearsals.{rehearse}
 use Rattle.pd_answers.specs.Repairs.{repair, search}
+use Rattle.pd_answers.specs.Requests.{Request, query as a_query}
 use Rattle.pd_answers.specs.Restores.{restore}
 use Rattle.pd_answers.specs.Shrinks.{shrink}
 use Rattle.pd_answers.specs.Terms.{Terms}
 use Rattle.pd_answers.specs.Writebacks.{writeback}
 use Rattle.std.specs.Option.{option_copied}
-use Rattle.pd_words.specs.Words.{word_of, words_of}
-use Rattle.pd_tools.specs.declared.query.Asked.{Asked}
-use Rattle.pd_tools.specs.declared.query.Asked.TheVariants.{Dump, SharedDump, ReverseMap, DeviceList, Since}
-use Rattle.pd_tools.specs.Query.{terms_of_query}
+use Rattle.pd_words.specs.Words.{asked_as, request_as, word_of, words_of}
 use Rattle.pd_tools.specs.Work.{AnswersTerms}
 use Rattle.pd_tools.proofs.run.run_request.Goals as goal
 
@@ -28,7 +27,7 @@ pub returns-in-Check : goal.returns-in-Check
 returns-in-Check g c others =
     let words = map string_bytes c.args.words.now in
     let w = c.in-Check in
-    rw w.is (as_asked (check w.kind w.until Nothing) (word_of words w.image) c.word_in.result.now _ _ _ _ c.word_in.ensures
+    rw w.is (as_asked (check w.kind w.until Nothing) (word_of words w.image) c.word_in-in-Check.result.now _ _ _ _ c.word_in-in-Check.ensures
     (c.run_check.ensures (record others { source = g.S.Source.state c.args.source.now; output = g.B.Device.state c.args.output.now; third = g.C.Device.state c.args.third.now })))
 
 pub returns-in-PassingCheck : goal.returns-in-PassingCheck
@@ -47,43 +46,21 @@ returns-in-CheckAndClear g c others =
 
 -- so with a query
 query_as_asked : (asked : Asked) (file given : Option (List ℕ)) (path word : List ℕ) (attached : SinkState) (before after : Objects) (status : ℕ)
-    → given ≡ file → word ≡ path → AnswersTerms (terms_of_query asked given word) attached before after status → AnswersTerms (terms_of_query asked file path) attached before after status
+    → given ≡ file → word ≡ path → AnswersTerms (query asked given word) attached before after status → AnswersTerms (query asked file path) attached before after status
 query_as_asked asked file given path word attached before after status file_is same answers = rw (file_is, same) at answers
 
-pub returns-in-Dump : goal.returns-in-Dump
-returns-in-Dump g c others =
-    let words = map string_bytes c.args.words.now in
-    let w = c.in-Dump in
-    rw w.is (query_as_asked (Dump w.kind) (words_of words w.file) (option_copied c.file_in.result) (word_of words w.image) c.word_in-in-Dump.result.now _ _ _ _
-    c.file_in.ensures c.word_in-in-Dump.ensures (c.run_query.ensures (record others { source = g.S.Source.state c.args.source.now; output = g.B.Device.state c.args.output.now; third = g.C.Device.state c.args.third.now })))
+-- the request is this query
+query_is : (request : Request) (asked : Asked) (file : Option (List ℕ)) (path : List ℕ) (attached : SinkState) (before after : Objects) (status : ℕ)
+    → request ≡ a_query asked file path → AnswersTerms (query asked file path) attached before after status → AnswersTerms (terms_of (Some request)) attached before after status
+query_is request asked file path attached before after status is answers = rw is answers
 
-pub returns-in-DumpShared : goal.returns-in-DumpShared
-returns-in-DumpShared g c others =
+pub returns-in-Some : goal.returns-in-Some
+returns-in-Some g c others =
     let words = map string_bytes c.args.words.now in
-    let w = c.in-DumpShared in
-    rw w.is (query_as_asked SharedDump (words_of words w.file) (option_copied c.file_in-in-DumpShared.result) (word_of words w.image) c.word_in-in-DumpShared.result.now _ _ _ _
-    c.file_in-in-DumpShared.ensures c.word_in-in-DumpShared.ensures (c.run_query-in-DumpShared.ensures (record others { source = g.S.Source.state c.args.source.now; output = g.B.Device.state c.args.output.now; third = g.C.Device.state c.args.third.now })))
-
-pub returns-in-Rmap : goal.returns-in-Rmap
-returns-in-Rmap g c others =
-    let words = map string_bytes c.args.words.now in
-    let w = c.in-Rmap in
-    rw w.is (query_as_asked (ReverseMap w.first w.end) (words_of words w.file) (option_copied c.file_in-in-Rmap.result) (word_of words w.image) c.word_in-in-Rmap.result.now _ _ _ _
-    c.file_in-in-Rmap.ensures c.word_in-in-Rmap.ensures (c.run_query-in-Rmap.ensures (record others { source = g.S.Source.state c.args.source.now; output = g.B.Device.state c.args.output.now; third = g.C.Device.state c.args.third.now })))
-
-pub returns-in-List : goal.returns-in-List
-returns-in-List g c others =
-    let words = map string_bytes c.args.words.now in
-    let w = c.in-List in
-    rw w.is (query_as_asked DeviceList (words_of words w.file) (option_copied c.file_in-in-List.result) (word_of words w.image) c.word_in-in-List.result.now _ _ _ _
-    c.file_in-in-List.ensures c.word_in-in-List.ensures (c.run_query-in-List.ensures (record others { source = g.S.Source.state c.args.source.now; output = g.B.Device.state c.args.output.now; third = g.C.Device.state c.args.third.now })))
-
-pub returns-in-Since : goal.returns-in-Since
-returns-in-Since g c others =
-    let words = map string_bytes c.args.words.now in
-    let w = c.in-Since in
-    rw w.is (query_as_asked (Since w.era) (words_of words w.file) (option_copied c.file_in-in-Since.result) (word_of words w.image) c.word_in-in-Since.result.now _ _ _ _
-    c.file_in-in-Since.ensures c.word_in-in-Since.ensures (c.run_query-in-Since.ensures (record others { source = g.S.Source.state c.args.source.now; output = g.B.Device.state c.args.output.now; third = g.C.Device.state c.args.third.now })))
+    let w = c.in-Some.query in
+    query_is (request_as words c.args.request) (asked_as w.asked) (words_of words w.out) (word_of words w.image) _ _ _ _ (c.in-Some.ensures.asked words)
+    (query_as_asked (asked_as w.asked) (words_of words w.out) (option_copied c.file_in.result) (word_of words w.image) c.word_in.result.now _ _ _ _
+    c.file_in.ensures c.word_in.ensures (c.run_query.ensures (record others { source = g.S.Source.state c.args.source.now; output = g.B.Device.state c.args.output.now; third = g.C.Device.state c.args.third.now })))
 
 -- the restore of these words is the one that is asked
 restored_as_asked : (kind : Kind) (version : ℕ) (file path text image : List ℕ) (attached : SinkState) (before after : Objects) (status : ℕ)
