@@ -48,8 +48,8 @@ device_of_list pool device =
     ++ (codes " snapped " ++ (decimal device.snapped ++ (10 ∷ []))))))))))))))
 
 -- the list of a pool's devices, by ascending id
-unfoldable pub list_lines : ThinPool → List ℕ
-list_lines pool = flat_map (device_of_list pool) pool.devices
+unfoldable pub device_list_lines : ThinPool → List ℕ
+device_list_lines pool = flat_map (device_of_list pool) pool.devices
 
 -- whether the era of a block is the given one or a later one
 abbrev pub is_since : ℕ → ℕ → Bool
@@ -100,5 +100,5 @@ abbrev pub asked_text : Asked → List (List ℕ) → List ℕ
 asked_text (text kind) image = image_text kind image
 asked_text shared_text image = text_of_shape (image_shape image)
 asked_text (reverse_map first end) image = rmap_lines first end (thin_meaning image)
-asked_text device_list image = list_lines (thin_meaning image)
+asked_text device_list image = device_list_lines (thin_meaning image)
 asked_text (since era) image = since_lines era (era_meaning image)

@@ -39,15 +39,15 @@ abbrev pub pool_after : ShrinkGround → ThinPool
 pool_after ground = moved_pool ground.pool ground.end (moves_of ground)
 
 -- why a pool isn't made smaller: the block size is none, or so many blocks are needed and there are so many
-pub data Lack : Type 0 where
-  bad_block_size : Lack
-  no_room : ℕ → ℕ → Lack
+pub data ShrinkLack : Type 0 where
+  bad_block_size : ShrinkLack
+  no_room : ℕ → ℕ → ShrinkLack
 
-abbrev pub or_lack : ℕ → ℕ → Option Lack → Option Lack
+abbrev pub or_lack : ℕ → ℕ → Option ShrinkLack → Option ShrinkLack
 or_lack need blocks lack = if nat_lt blocks need then Some (no_room need blocks) else lack
 
 -- the first of these: the block size, then what the smaller pool, the data device, and the output would need
-unfoldable pub lack_of : ShrinkGround → Option Lack
+unfoldable pub lack_of : ShrinkGround → Option ShrinkLack
 lack_of ground =
     if is_block_size_bad ground.pool.block_size then Some bad_block_size
     else or_lack (moved_need ground.pool ground.end ground.free) ground.end
@@ -72,7 +72,7 @@ pub record FindsShrink (blocks : ℕ) (before after : Objects) (found : ShrinkFo
   pub told : IfSome before.input.held (λ image. (found.report ≡ report_of (faults Thin Counts image)) × IsGroundOf image blocks found.ground)
 
 -- a shrink puts a line with the number of moved blocks after its work; else why it made nothing, to `notes`
-abbrev pub answer_to : Option Lack → ShrinkGround → Answer
+abbrev pub answer_to : Option ShrinkLack → ShrinkGround → Answer
 answer_to None ground = record { status = 0; out = moved_line (length (sources ground.pool ground.end)); notes = [] }
 answer_to (Some bad_block_size) ground = noted 1 block_size_line
 answer_to (Some (no_room need blocks)) ground = noted 4 (no_room_line need blocks)

@@ -91,10 +91,10 @@ unfoldable pub given : List ℕ → List Item → Given
 given purpose items = given_of (filter_map (value_of purpose) items)
 
 -- a value that is wanted
-abbrev pub sole : Given → Option (List ℕ)
-sole never = None
-sole (once value) = Some value
-sole often = None
+abbrev pub single_value : Given → Option (List ℕ)
+single_value never = None
+single_value (once value) = Some value
+single_value often = None
 
 -- a value that may be left out
 abbrev pub at_most_one : Given → Option (Option (List ℕ))
@@ -109,7 +109,7 @@ is_set (once value) = Some true
 is_set often = None
 
 abbrev pub required : List ℕ → List Item → Option (List ℕ)
-required purpose items = sole (given purpose items)
+required purpose items = single_value (given purpose items)
 
 abbrev pub optional : List ℕ → List Item → Option (Option (List ℕ))
 optional purpose items = at_most_one (given purpose items)
@@ -176,7 +176,7 @@ pub data Tool : Type 0 where
   restore_tool : Kind → Tool
   repair_tool : Tool
   rmap_tool : Tool
-  list_tool : Tool
+  device_list_tool : Tool
   since_tool : Tool
   generate_tool : Tool
   rehearse_tool : Tool
@@ -201,7 +201,7 @@ tools =
     ∷ record { name = codes "era_restore"; tool = restore_tool Era }
     ∷ record { name = codes "thin_repair"; tool = repair_tool }
     ∷ record { name = codes "thin_rmap"; tool = rmap_tool }
-    ∷ record { name = codes "thin_ls"; tool = list_tool }
+    ∷ record { name = codes "thin_ls"; tool = device_list_tool }
     ∷ record { name = codes "era_invalidate"; tool = since_tool }
     ∷ record { name = codes "thin_generate"; tool = generate_tool }
     ∷ record { name = codes "thin_rehearse"; tool = rehearse_tool }
@@ -231,7 +231,7 @@ purposes_of (restore_tool Era) = codes "-i" ∷ codes "-o" ∷ []
 purposes_of repair_tool =
     codes "-i" ∷ codes "-o" ∷ codes "--transaction-id" ∷ codes "--data-block-size" ∷ codes "--nr-data-blocks" ∷ []
 purposes_of rmap_tool = codes "--region" ∷ codes "-o" ∷ image_word ∷ []
-purposes_of list_tool = codes "-o" ∷ image_word ∷ []
+purposes_of device_list_tool = codes "-o" ∷ image_word ∷ []
 purposes_of since_tool = codes "--written-since" ∷ codes "-o" ∷ image_word ∷ []
 purposes_of generate_tool = codes "--number" ∷ codes "-o" ∷ []
 purposes_of rehearse_tool = codes "--number" ∷ codes "-o" ∷ []
@@ -308,7 +308,7 @@ request_of rmap_tool items = do
   file ← optional (codes "-o") items
   image ← required image_word items
   Some (query (ask.reverse_map region.first region.end) file image)
-request_of list_tool items = do
+request_of device_list_tool items = do
   file ← optional (codes "-o") items
   image ← required image_word items
   Some (query ask.device_list file image)

@@ -7,8 +7,8 @@ use Rattle.pd_graph.specs.declared.audit.Audit.{Audit}
 use Rattle.pd_graph.specs.Audit.{blocks_of, note_at, roles_at, KeepsButRules}
 use Rattle.pd_graph.specs.Roles.{has_bit}
 use Rattle.pd_graph.proofs.BitLemmas.{range_more}
-use Rattle.pd_refs.specs.Refs.{number_in}
-use Rattle.pd_refs.proofs.RefsLemmas.{number_more, number_none}
+use Rattle.pd_whole.specs.Refs.{number_in}
+use Rattle.pd_whole.proofs.RefsLemmas.{number_more, number_none}
 use Rattle.pd_arrays.specs.declared.roles.ArrayRoles.{ArrayRoles}
 use Rattle.pd_arrays.specs.KindReads.{kind_reads}
 use Rattle.pd_arrays.specs.Reads.{is_at, is_under, number_where}

@@ -2,7 +2,7 @@
 use Rattle.std.specs.Prelude.{ℕ}
 use Rattle.pd_graph.specs.declared.audit.Audit.{Audit}
 use Rattle.pd_graph.specs.Audit.{blocks_of}
-use Rattle.pd_refs.specs.Refs.{number_in}
+use Rattle.pd_whole.specs.Refs.{number_in}
 use Rattle.pd_arrays.specs.declared.roles.ArrayRoles.{ArrayRoles}
 
 -- the nodes of their trees

@@ -5,7 +5,7 @@ use Rattle.std.proofs.Math.Seq.{take-append_seam, drop-append_seam}
 use Rattle.std.proofs.lemmas.List.{append_assoc, append-nil, nil_from_length, take_all, drop_all}
 use Rattle.pd_kinds.specs.Array.{array_block, max_words}
 use Rattle.pd_draft.specs.Closed.{IsClosed}
-use Rattle.pd_draft.specs.Placed.{Stand, Wrote}
+use Rattle.pd_draft.specs.Placed.{DraftState, Wrote}
 use Rattle.pd_draft.proofs.PlacedLemmas.{wrote_none, wrote_then}
 use Rattle.pd_spells.specs.Need.{nodes_for, need_tree, need_array}
 use Rattle.pd_laid.specs.Tree.{blocks_from, tree_blocks, tree_root}
@@ -75,10 +75,10 @@ module _ (most : ℕ) (xs ws : List ℕ) (some : 1 ≤ length xs) (few : length 
       ends
 
 -- the word ends no block
-pub push_none : (size word : ℕ) (old new : Words) (stand : Stand) → IsClosed stand.device → new.begun ≡ old.begun ++ word ∷ [] → new.left + 1 ≡ old.left → new.made ≡ old.made
-    → Pushes size word old new stand stand
+pub push_none : (size word : ℕ) (old new : Words) (draft_state : DraftState) → IsClosed draft_state.device → new.begun ≡ old.begun ++ word ∷ [] → new.left + 1 ≡ old.left → new.made ≡ old.made
+    → Pushes size word old new draft_state draft_state
 unfolding array_left array_root_left array_number
-push_none size word old new stand closed begun left made =
+push_none size word old new draft_state closed begun left made =
     let count : length new.begun ≡ length old.begun + 1 = ap length begun ∙ length-append old.begun (word ∷ []) in
     let same : (words : List ℕ) → pieces_left size old (word ∷ words) ≡ pieces_left size new words =
     λ words.
@@ -87,21 +87,21 @@ push_none size word old new stand closed begun left made =
     (sym (append_assoc old.begun (word ∷ []) words) ∙ ap (λ (b : List ℕ). b ++ words) (sym begun)) in
     record {
       written = [];
-      wrote = wrote_none stand closed;
+      wrote = wrote_none draft_state closed;
       blocks = λ words count.
-          ap₂ (λ (left : List (List ℕ)) (made : ℕ). blocks_from (array_block size) stand.place left
-          ++ tree_blocks 8 (stand.place + length left) (array_items (stand.place - made) (made + length left))) (same words) (sym made);
+          ap₂ (λ (left : List (List ℕ)) (made : ℕ). blocks_from (array_block size) draft_state.place left
+          ++ tree_blocks 8 (draft_state.place + length left) (array_items (draft_state.place - made) (made + length left))) (same words) (sym made);
       root = λ words count.
-          ap₂ (λ (left : List (List ℕ)) (made : ℕ). tree_root 8 (stand.place + length left) (array_items (stand.place - made) (made + length left)))
+          ap₂ (λ (left : List (List ℕ)) (made : ℕ). tree_root 8 (draft_state.place + length left) (array_items (draft_state.place - made) (made + length left)))
           (same words) (sym made);
       number = left;
-      room = ap₂ (λ (n made : ℕ). stand.place + (nodes_for (max_words size) n + need_tree 8 (made + nodes_for (max_words size) n)))
+      room = ap₂ (λ (n made : ℕ). draft_state.place + (nodes_for (max_words size) n + need_tree 8 (made + nodes_for (max_words size) n)))
           (omega arith) made;
       stood = λ stood. omega arith;
     }
 
 -- the word ends a block
-pub push_end : (size word : ℕ) (old new : Words) (from to : Stand) → new.begun ≡ [] → new.left + 1 ≡ old.left → new.made ≡ old.made + 1
+pub push_end : (size word : ℕ) (old new : Words) (from to : DraftState) → new.begun ≡ [] → new.left + 1 ≡ old.left → new.made ≡ old.made + 1
     → length old.begun < max_words size → (length old.begun + 1 ≡ max_words size) ⊎ (new.left ≡ 0)
     → Wrote (array_block size from.place (old.begun ++ word ∷ []) ∷ []) from to → Pushes size word old new from to
 unfolding array_left array_root_left array_number blocks_from
@@ -174,13 +174,13 @@ pub array_some : (size : ℕ) (t : Words) → 1 ≤ max_words size → 1 ≤ len
 unfolding array_number
 array_some size t room some = let is = parts_some (max_words size) (length t.begun + t.left) room some in omega arith
 
-pub index_at : {size : ℕ} {t : TreeLeft} {from to : Stand} (first count i : ℕ) → IsBuilding size (array_items first count) (drop i (array_items first count)) t from to → i < count
+pub index_at : {size : ℕ} {t : TreeLeft} {from to : DraftState} (first count i : ℕ) → IsBuilding size (array_items first count) (drop i (array_items first count)) t from to → i < count
     → IsBuilding size (array_items first count) (record { key = i; value = first + i } ∷ drop (i + 1) (array_items first count)) t from to
 index_at {size} {t} {from} {to} first count i b within =
     let n = length-array_items first count in
     building_at i (record { key = i; value = first + i }) b (omega arith) (array_item_at first count i (record { key = i; value = first + i }) within)
 
-pub index_end : {size : ℕ} {t : TreeLeft} {from to : Stand} (first count i : ℕ) → IsBuilding size (array_items first count) (drop i (array_items first count)) t from to → count ≤ i
+pub index_end : {size : ℕ} {t : TreeLeft} {from to : DraftState} (first count i : ℕ) → IsBuilding size (array_items first count) (drop i (array_items first count)) t from to → count ≤ i
     → IsBuilding size (array_items first count) [] t from to
 index_end {size} {t} {from} {to} first count i b past =
     let n = length-array_items first count in
@@ -247,23 +247,23 @@ done_number size t room none left =
     omega arith
 
 -- an array, word by word
-pub filling_start : {size : ℕ} {stand : Stand} (all : List ℕ) (t : ArrayLeft) → IsClosed stand.device → t.size ≡ size
-    → array_left size stand.place t.words all ≡ array_blocks size stand.place all
-    → array_root_left size stand.place t.words all ≡ array_root size stand.place all
+pub filling_start : {size : ℕ} {draft_state : DraftState} (all : List ℕ) (t : ArrayLeft) → IsClosed draft_state.device → t.size ≡ size
+    → array_left size draft_state.place t.words all ≡ array_blocks size draft_state.place all
+    → array_root_left size draft_state.place t.words all ≡ array_root size draft_state.place all
     → t.words.left ≡ length all → array_number size t.words ≡ need_array size (length all) → t.words.made ≡ 0
-    → IsFilling size all all t stand stand
-filling_start {size} {stand} all t closed sized blocks root number room made = record {
+    → IsFilling size all all t draft_state draft_state
+filling_start {size} {draft_state} all t closed sized blocks root number room made = record {
   done = [];
-  wrote = wrote_none stand closed;
+  wrote = wrote_none draft_state closed;
   sized = sized;
   whole = sym blocks;
   root = root;
   number = number;
-  room = ap (λ (n : ℕ). stand.place + n) room;
+  room = ap (λ (n : ℕ). draft_state.place + n) room;
   stood = omega arith;
 }
 
-pub filling_next : {size word : ℕ} {all words : List ℕ} {old new : ArrayLeft} {from mid to : Stand} → IsFilling size all (word ∷ words) old from mid
+pub filling_next : {size word : ℕ} {all words : List ℕ} {old new : ArrayLeft} {from mid to : DraftState} → IsFilling size all (word ∷ words) old from mid
     → new.size ≡ old.size → Pushes size word old.words new.words mid to → IsFilling size all words new from to
 filling_next {size} {word} {all} {words} {old} {new} {from} {mid} {to} f same p =
     let left : length words ≡ new.words.left = omega (arith, f.number, p.number) in
@@ -278,7 +278,7 @@ filling_next {size} {word} {all} {words} {old} {new} {from} {mid} {to} f same p 
       stood = p.stood f.stood;
     }
 
-pub filling_end : {size : ℕ} {all : List ℕ} {t : ArrayLeft} {from mid to : Stand} → IsFilling size all [] t from mid
+pub filling_end : {size : ℕ} {all : List ℕ} {t : ArrayLeft} {from mid to : DraftState} → IsFilling size all [] t from mid
     → Wrote (array_left size mid.place t.words []) mid to → Wrote (array_blocks size from.place all) from to
 filling_end {size} {all} {t} {from} {mid} {to} f wrote =
     subst (λ (blocks : List (List ℕ)). Wrote blocks from to) (sym f.whole) (wrote_then f.wrote wrote)

@@ -7,7 +7,7 @@ use Rattle.pd_draft.specs.Closed.{IsClosed}
 use Rattle.pd_node.specs.Items.{entries_of}
 use Rattle.std.specs.List.{drop-map}
 use Rattle.std.specs.Prelude.{Result, Ok, Err, IfOk}
-use Rattle.pd_draft.specs.Placed.{Stand, Wrote}
+use Rattle.pd_draft.specs.Placed.{DraftState, Wrote}
 use Rattle.pd_draft.proofs.PlacedLemmas.{wrote_none, wrote_then}
 use Rattle.pd_laid.specs.Tree.{tree_blocks, tree_root}
 use Rattle.pd_spells.specs.Need.{need_tree}
@@ -26,23 +26,23 @@ starts_next e [] low asc is = tt
 starts_next e (f ∷ items) low asc is =
     let less : e.key < f.key = ltb-true e.key f.key (and_parts (nat_lt e.key f.key) _ asc).0 in omega arith
 
-pub building_start : {size : ℕ} {stand : Stand} (all : List Entry) (t : TreeLeft) → IsClosed stand.device
-    → blocks_left size stand.place t all ≡ tree_blocks size stand.place all
-    → root_left stand.place t all ≡ tree_root size stand.place all
+pub building_start : {size : ℕ} {draft_state : DraftState} (all : List Entry) (t : TreeLeft) → IsClosed draft_state.device
+    → blocks_left size draft_state.place t all ≡ tree_blocks size draft_state.place all
+    → root_left draft_state.place t all ≡ tree_root size draft_state.place all
     → items_to_come t.leaves ≡ length all → number_left t ≡ need_tree size (length all) → t.leaves.low ≡ 0 → is_ascending (keys all) ≡ true
-    → IsBuilding size all all t stand stand
-building_start {size} {stand} all t closed blocks root number room low asc = record {
+    → IsBuilding size all all t draft_state draft_state
+building_start {size} {draft_state} all t closed blocks root number room low asc = record {
   done = [];
-  wrote = wrote_none stand closed;
+  wrote = wrote_none draft_state closed;
   whole = sym blocks;
   root = root;
   number = number;
-  room = ap (λ (n : ℕ). stand.place + n) room;
+  room = ap (λ (n : ℕ). draft_state.place + n) room;
   ascending = asc;
   above = starts_at_none t.leaves.low all low;
 }
 
-pub building_next : {size : ℕ} {all items : List Entry} {e : Entry} {old new : TreeLeft} {from mid to : Stand} → IsBuilding size all (e ∷ items) old from mid
+pub building_next : {size : ℕ} {all items : List Entry} {e : Entry} {old new : TreeLeft} {from mid to : DraftState} → IsBuilding size all (e ∷ items) old from mid
     → Grows size e old new mid to → IsBuilding size all items new from to
 building_next {size} {all} {items} {e} {old} {new} {from} {mid} {to} b g = record {
   done = b.done ++ g.written;
@@ -56,19 +56,19 @@ building_next {size} {all} {items} {e} {old} {new} {from} {mid} {to} b g = recor
 }
 
 -- at an index
-pub building_at : {size : ℕ} {all : List Entry} {t : TreeLeft} {from to : Stand} (i : ℕ) (e : Entry) → IsBuilding size all (drop i all) t from to → i < length all
+pub building_at : {size : ℕ} {all : List Entry} {t : TreeLeft} {from to : DraftState} (i : ℕ) (e : Entry) → IsBuilding size all (drop i all) t from to → i < length all
     → get_or all i e ≡ e → IsBuilding size all (e ∷ drop (i + 1) all) t from to
 building_at {size} {all} {t} {from} {to} i e b within is =
     subst (λ (rest : List Entry). IsBuilding size all rest t from to)
     (drop-cons all i e within ∙ (ap (λ (first : Entry). first ∷ drop (suc i) all) is ∙ ap (λ (n : ℕ). e ∷ drop n all) (sym (add-one i)))) b
 
-pub building_end : {size : ℕ} {all : List Entry} {t : TreeLeft} {from mid to : Stand} → IsBuilding size all [] t from mid
+pub building_end : {size : ℕ} {all : List Entry} {t : TreeLeft} {from mid to : DraftState} → IsBuilding size all [] t from mid
     → Wrote (blocks_left size mid.place t []) mid to → Wrote (tree_blocks size from.place all) from to
 building_end {size} {all} {t} {from} {mid} {to} b wrote =
     subst (λ (blocks : List (List ℕ)). Wrote blocks from to) (sym b.whole) (wrote_then b.wrote wrote)
 
 -- over items with values
-pub building_at_item : {X : Type 0} → (code : X → ℕ) {size : ℕ} {t : TreeLeft} {from to : Stand} (xs : List (ℕ × X)) (i : ℕ) (x : ℕ × X)
+pub building_at_item : {X : Type 0} → (code : X → ℕ) {size : ℕ} {t : TreeLeft} {from to : DraftState} (xs : List (ℕ × X)) (i : ℕ) (x : ℕ × X)
     → IsBuilding size (entries_of code xs) (drop i (entries_of code xs)) t from to → i < length xs → x ≡ get_or xs i x
     → IsBuilding size (entries_of code xs) (record { key = x.0; value = code x.1 } ∷ drop (i + 1) (entries_of code xs)) t from to
 building_at_item {X} code {size} {t} {from} {to} xs i x b within is =
@@ -80,7 +80,7 @@ building_at_item {X} code {size} {t} {from} {to} xs i x b within is =
         ∙ (ap (λ (y : ℕ × X). record { key = y.0; value = code y.1 } ∷ entries_of code (drop (suc i) xs)) (sym is)
         ∙ ap (λ (rest : List Entry). record { key = x.0; value = code x.1 } ∷ rest) (sym (drop-map (λ (x : ℕ × X). record { key = x.0; value = code x.1 }) (suc i) xs))))
 
-pub building_root : {E : Type 0} {size : ℕ} {all : List Entry} {t : TreeLeft} {from mid : Stand} (r : Result ℕ E) → IsBuilding size all [] t from mid
+pub building_root : {E : Type 0} {size : ℕ} {all : List Entry} {t : TreeLeft} {from mid : DraftState} (r : Result ℕ E) → IsBuilding size all [] t from mid
     → IfOk r (λ root. root ≡ root_left mid.place t []) → IfOk r (λ root. root ≡ tree_root size from.place all)
 building_root (Ok root) b is = is ∙ b.root
 building_root (Err e) b is = tt

@@ -4,7 +4,7 @@ use Rattle.std.specs.Prelude.{sum}
 use Rattle.std.proofs.Math.Seq.{take-append_seam, drop-append_seam}
 use Rattle.std.proofs.lemmas.List.{length-drop}
 use Rattle.std.proofs.lemmas.List.Sums.{sum_by-cons}
-use Rattle.pd_laid.specs.Tree.{spread}
+use Rattle.pd_laid.specs.Tree.{even_parts}
 use Rattle.pd_laid.proofs.SpreadParts.{first_of}
 use Rattle.pd_build.specs.Parts.{even_sizes, cut}
 
@@ -30,8 +30,8 @@ unfolding even_sizes
 sum-any zero n none = sym (none refl)
 sum-any (suc k) n none = sum-even k n
 
-pub spread_is_cut : {X : Type 0} → (k : ℕ) (xs : List X) → spread k xs ≡ cut (even_sizes k (length xs)) xs
-unfolding spread cut even_sizes
+pub spread_is_cut : {X : Type 0} → (k : ℕ) (xs : List X) → even_parts k xs ≡ cut (even_sizes k (length xs)) xs
+unfolding even_parts cut even_sizes
 spread_is_cut zero xs = refl
 spread_is_cut {X} (suc k) xs =
     let c = (length xs + k) / suc k in

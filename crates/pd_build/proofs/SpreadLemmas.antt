@@ -2,7 +2,7 @@
 use Rattle.std.proofs.Common.{◌≡◌, ℕ, suc, ◌-◌, ◌*◌, ◌^◌, ◌≤◌, List, length, arith}
 use Rattle.std.specs.List.{AllByRecursion, flat_map}
 use Rattle.pd_kinds.specs.Node.{Entry}
-use Rattle.pd_laid.specs.Tree.{spread}
+use Rattle.pd_laid.specs.Tree.{even_parts}
 use Rattle.pd_laid.proofs.SpreadLemmas.{length-spread, joined_spread}
 use Rattle.pd_laid.proofs.SpreadParts.{spread_some}
 use Rattle.pd_spells.specs.Need.{nodes_for}
@@ -15,7 +15,7 @@ pub record IsSpread (k : ℕ) (row : List Entry) (level : List (List Entry)) : T
   pub some : 1 ≤ length level
   pub small : length row ≤ 252 ^ suc k → length level ≤ 252 ^ k
 
-pub level_spread : (k : ℕ) (row : List Entry) → 1 ≤ length row → IsSpread k row (spread (nodes_for 252 (length row)) row)
+pub level_spread : (k : ℕ) (row : List Entry) → 1 ≤ length row → IsSpread k row (even_parts (nodes_for 252 (length row)) row)
 level_spread k row some =
     let u = nodes_for 252 (length row) in
     let least : 1 ≤ u = omega arith in

@@ -6,9 +6,9 @@ use Rattle.std.proofs.lemmas.Bool.{cases_eq, ne_eqb}
 use Rattle.pd_node.specs.Items.{entries_of, keys_of}
 use Rattle.pd_kinds.specs.Node.{Entry, leaf_block, max_entries}
 use Rattle.pd_draft.specs.Closed.{IsClosed}
-use Rattle.pd_draft.specs.Placed.{Stand, Wrote}
+use Rattle.pd_draft.specs.Placed.{DraftState, Wrote}
 use Rattle.pd_draft.proofs.PlacedLemmas.{wrote_none}
-use Rattle.pd_laid.specs.Tree.{heads, blocks_from, first_key, tree_leaves, spread}
+use Rattle.pd_laid.specs.Tree.{heads, blocks_from, first_key, tree_leaves, even_parts}
 use Rattle.pd_spells.specs.Need.{nodes_for}
 use Rattle.pd_build.specs.Parts.{even_sizes, cut}
 use Rattle.pd_build.specs.Leaves.{LeavesLeft, items_to_come, leaves_to_come, size_of_first, TakesItem, AreCounts}
@@ -16,11 +16,11 @@ use Rattle.pd_build.proofs.PartLemmas.{length-even, sum-any, cut_full, first_siz
 use Rattle.pd_build.proofs.CountLemmas.{IsEndOf, end_of, nodes_at, counts_start, parts_some, parts_none}
 
 -- the item ends no leaf
-pub takes_none : (size : ℕ) (e : Entry) (old new : LeavesLeft) (stand : Stand) → IsClosed stand.device
+pub takes_none : (size : ℕ) (e : Entry) (old new : LeavesLeft) (draft_state : DraftState) → IsClosed draft_state.device
     → new.sizes ≡ old.sizes → new.begun ≡ old.begun ++ e ∷ [] → new.low ≡ e.key + 1 → 1 ≤ items_to_come old
-    → length old.begun + 1 < size_of_first old.sizes → TakesItem size e None old new stand stand
+    → length old.begun + 1 < size_of_first old.sizes → TakesItem size e None old new draft_state draft_state
 unfolding blocks_from heads
-takes_none size e old new stand closed sizes begun low more ends =
+takes_none size e old new draft_state closed sizes begun low more ends =
     let one = length-append old.begun (e ∷ []) in
     let count : length new.begun ≡ length old.begun + 1 = ap length begun ∙ one in
     let whole : sum new.sizes ≡ sum old.sizes = ap sum sizes in
@@ -28,7 +28,7 @@ takes_none size e old new stand closed sizes begun low more ends =
       ends = ends;
       to_come = λ items. ap (λ (all : List Entry). cut old.sizes all) (sym (append_assoc old.begun (e ∷ []) items))
           ∙ sym (ap₂ (λ (s : List ℕ) (b : List Entry). cut s (b ++ items)) sizes begun);
-      wrote = wrote_none stand closed;
+      wrote = wrote_none draft_state closed;
       heads_are = refl;
       number = omega arith;
       leaves = let same = ap length sizes in omega arith;
@@ -50,7 +50,7 @@ pub first_is : {most leaves items first begun : ℕ} → AreCounts most leaves i
 first_is c one = ap size_of_first (first_even c one)
 
 -- the item ends a leaf
-pub takes_one : {most leaves items first begun : ℕ} (size : ℕ) (e : Entry) (head : ℕ × ℕ) (old new : LeavesLeft) (from to : Stand)
+pub takes_one : {most leaves items first begun : ℕ} (size : ℕ) (e : Entry) (head : ℕ × ℕ) (old new : LeavesLeft) (from to : DraftState)
     → AreCounts most leaves items first begun → 1 ≤ leaves
     → old.sizes ≡ even_sizes leaves items → length old.begun ≡ begun → begun + 1 ≡ first
     → new.sizes ≡ even_sizes (leaves - 1) (items - first) → new.begun ≡ [] → new.low ≡ e.key + 1
@@ -96,7 +96,7 @@ unfolding tree_leaves
 start_leaves size leaves b items number some sizes none =
     let least : leaves ≡ max 1 (nodes_for (max_entries size) (length items)) = omega arith in
     ap₂ (λ (s : List ℕ) (begun : List Entry). cut s (begun ++ items)) sizes none
-    ∙ (sym (spread_is_cut leaves items) ∙ ap (λ (k : ℕ). spread k items) least)
+    ∙ (sym (spread_is_cut leaves items) ∙ ap (λ (k : ℕ). even_parts k items) least)
 
 -- no leaves for no items
 pub none_then : {leaves : ℕ} (most n : ℕ) → 1 ≤ most → leaves ≡ nodes_for most n → leaves ≡ 0 → n ≡ 0

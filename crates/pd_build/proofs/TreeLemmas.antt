@@ -5,13 +5,13 @@ use Rattle.std.specs.List.{AllByRecursion}
 use Rattle.std.proofs.lemmas.Bool.{cases_eq, eqb-true, eqb-false, ne_eqb}
 use Rattle.std.proofs.lemmas.List.{append_assoc, append-nil, map-append, nil_from_length}
 use Rattle.pd_kinds.specs.Node.{Entry, leaf_block, inner_block, max_entries, is_ascending}
-use Rattle.pd_draft.specs.Placed.{Stand}
-use Rattle.pd_laid.specs.Tree.{heads, blocks_from, first_key, spread, tree_leaves, tree_blocks, tree_root, levels_above, root_above}
+use Rattle.pd_draft.specs.Placed.{DraftState}
+use Rattle.pd_laid.specs.Tree.{heads, blocks_from, first_key, even_parts, tree_leaves, tree_blocks, tree_root, levels_above, root_above}
 use Rattle.pd_spells.specs.Need.{need_above, need_tree, nodes_for, nodes_of_tree}
 use Rattle.pd_build.proofs.OrderLemmas.{keys, asc_left, ascending_more, below_more, below_higher}
 use Rattle.pd_laid.proofs.NeedLemmas.{length-heads}
 use Rattle.pd_build.specs.Parts.{cut}
-use Rattle.pd_build.specs.Leaves.{LeavesLeft, items_to_come, leaves_to_come, ended, answered, Loses, TakesItem}
+use Rattle.pd_build.specs.Leaves.{LeavesLeft, items_to_come, leaves_to_come, leaf_ended, row_entry, LosesLeaf, TakesItem}
 use Rattle.pd_build.specs.Tree.{TreeLeft, leaf_number, leaves_left, blocks_left, root_left, number_left, Grows, AreKeysInOrder}
 use Rattle.pd_build.proofs.CountLemmas.{parts_none, parts_some}
 use Rattle.pd_laid.proofs.LaidLemmas.{blocks_from-append}
@@ -61,11 +61,11 @@ pub sizes_least : (t : TreeLeft) → 1 ≤ items_to_come t.leaves → length t.l
 sizes_least t more = let some = some_to_come t more in omega (arith, number_some t (omega arith))
 
 -- an item was taken
-pub grow : {size : ℕ} {e : Entry} {head : Option (ℕ × ℕ)} {from to : Stand} (old new : TreeLeft) → TakesItem size e head old.leaves new.leaves from to
-    → new.heads ≡ old.heads ++ answered head → 1 ≤ items_to_come old.leaves → Grows size e old new from to
+pub grow : {size : ℕ} {e : Entry} {head : Option (ℕ × ℕ)} {from to : DraftState} (old new : TreeLeft) → TakesItem size e head old.leaves new.leaves from to
+    → new.heads ≡ old.heads ++ row_entry head → 1 ≤ items_to_come old.leaves → Grows size e old new from to
 unfolding blocks_left root_left
 grow {size} {e} {head} {from} {to} old new takes heads_are more =
-    let first = ended old.leaves e head in
+    let first = leaf_ended old.leaves e head in
     let some : 1 ≤ length old.leaves.sizes = some_to_come old more in
     let above : new.heads ≡ old.heads ++ heads from.place first = heads_are ∙ ap (λ (hs : List Entry). old.heads ++ hs) (sym takes.heads_are) in
     let at : to.place ≡ from.place + length first = moved_by (leaf_block size) first takes.wrote in
@@ -142,8 +142,8 @@ first_head_is : (place key value : ℕ) (part : List Entry) → heads place (par
 unfolding heads
 first_head_is place key value part is = ap first_key is
 
-pub order_takes : {size : ℕ} {e : Entry} (head : Option (ℕ × ℕ)) {old new : LeavesLeft} {from to : Stand} (hs next : List Entry) → TakesItem size e head old new from to
-    → AreKeysInOrder old hs → old.low ≤ e.key → (next ≡ hs ++ answered head) ⊎ (next ≡ hs) → AreKeysInOrder new next
+pub order_takes : {size : ℕ} {e : Entry} (head : Option (ℕ × ℕ)) {old new : LeavesLeft} {from to : DraftState} (hs next : List Entry) → TakesItem size e head old new from to
+    → AreKeysInOrder old hs → old.low ≤ e.key → (next ≡ hs ++ row_entry head) ⊎ (next ≡ hs) → AreKeysInOrder new next
 order_takes {size} {e} None {old} {new} {from} {to} hs next takes order above added =
     let is : next ≡ hs = ⊎_elim (λ more. more ∙ append-nil hs) (λ same. same) added in
     rw is (order_more old new hs e order above takes.begun_is takes.raised)
@@ -163,7 +163,7 @@ pub order_start : (leaves : LeavesLeft) (hs : List Entry) → leaves.begun ≡ [
 unfolding is_ascending
 order_start leaves hs begun none = record { ascending = rw (none, begun) refl; below = rw (none, begun) tt }
 
-pub order_loses : (e : Entry) {old new : LeavesLeft} (hs : List Entry) → Loses old e new → AreKeysInOrder old hs → old.low ≤ e.key → AreKeysInOrder new hs
+pub order_loses : (e : Entry) {old new : LeavesLeft} (hs : List Entry) → LosesLeaf old e new → AreKeysInOrder old hs → old.low ≤ e.key → AreKeysInOrder new hs
 order_loses e {old} {new} hs loses order above =
     ⊎_elim
     (λ same. subst (λ (b : LeavesLeft). AreKeysInOrder b hs) (sym same) order)
@@ -241,7 +241,7 @@ done_number t some sizes =
 pub start_blocks : (size n place : ℕ) (leaves : LeavesLeft) (items : List Entry) → 1 ≤ max_entries size → length items ≡ n → length leaves.sizes ≡ nodes_for (max_entries size) n
     → (1 ≤ n → leaves_to_come leaves items ≡ tree_leaves size items)
     → leaves_left (record { leaves = leaves; heads = [] }) items ≡ tree_leaves size items
-unfolding tree_leaves spread
+unfolding tree_leaves even_parts
 start_blocks size n place leaves items room count number some = elim (cases_eq n 0) [
   | inl none ↦
       let nothing : items ≡ [] = nil_from_length items (omega arith) in
@@ -249,7 +249,7 @@ start_blocks size n place leaves items room count number some = elim (cases_eq n
       let no_nodes : nodes_for (max_entries size) n ≡ 0 = ap (nodes_for (max_entries size)) none ∙ no_parts in
       let one : max 1 (nodes_for (max_entries size) (length items)) ≡ 1 = (let e = ap (nodes_for (max_entries size)) count in omega arith) in
       left_none (record { leaves = leaves; heads = [] }) items (omega arith)
-      ∙ sym (ap (λ (k : ℕ). spread k items) one ∙ ap (λ (xs : List Entry). spread 1 xs) nothing)
+      ∙ sym (ap (λ (k : ℕ). even_parts k items) one ∙ ap (λ (xs : List Entry). even_parts 1 xs) nothing)
   | inr more ↦
       let at = parts_some (max_entries size) n room (omega arith) in
       left_some (record { leaves = leaves; heads = [] }) items (omega arith) ∙ some (omega arith)

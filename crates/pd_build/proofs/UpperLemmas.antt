@@ -7,8 +7,8 @@ use Rattle.std.proofs.lemmas.List.{append_assoc, append-nil, map-append, length-
 use Rattle.pd_kinds.specs.Node.{Entry, is_ascending, inner_block}
 use Rattle.pd_node.specs.Items.{keys_of}
 use Rattle.pd_draft.specs.Closed.{IsClosed}
-use Rattle.pd_draft.specs.Placed.{Stand, Wrote}
-use Rattle.pd_laid.specs.Tree.{spread, heads, blocks_from, first_key, levels_above, first_place, root_above}
+use Rattle.pd_draft.specs.Placed.{DraftState, Wrote}
+use Rattle.pd_laid.specs.Tree.{even_parts, heads, blocks_from, first_key, levels_above, first_place, root_above}
 use Rattle.pd_spells.specs.Need.{nodes_for, need_above}
 use Rattle.pd_laid.proofs.SpreadLemmas.{length-spread}
 use Rattle.pd_build.proofs.OrderLemmas.{keys, asc_left, asc_right, heads_ascend}
@@ -17,20 +17,20 @@ use Rattle.pd_laid.proofs.Rows.{levels_one, levels_more, first_head}
 use Rattle.pd_build.proofs.RowLemmas.{moved_by, rows_then, row_next, wrote_nothing}
 use Rattle.pd_build.proofs.SpreadLemmas.{level_spread}
 use Rattle.pd_build.specs.Leaves.{AreCounts}
-use Rattle.pd_build.specs.Rows.{links}
+use Rattle.pd_build.specs.Rows.{link_entries}
 use Rattle.pd_build.proofs.CountLemmas.{IsEndOf, end_of, parts_some, nodes_at}
 use Rattle.pd_build.proofs.NeedLemmas.{need_more}
 
 -- where a level is half written: the first parts of the level below were used up
 pub record IsHalf (nodes : ℕ) (all : List Entry) (i used : ℕ) : Type 0 where
-  pub rest : drop i (spread nodes all) ≡ spread (nodes - i) (drop used all)
+  pub rest : drop i (even_parts nodes all) ≡ even_parts (nodes - i) (drop used all)
   pub behind : i ≤ used
   pub within : used ≤ length all
   pub some : nodes - i ≤ length all - used
   pub few : length all - used ≤ (nodes - i) * 252
 
 -- where the levels are half written
-pub record IsRising (all level : List Entry) (from to : Stand) : Type 0 where
+pub record IsRising (all level : List Entry) (from to : DraftState) : Type 0 where
   pub fuel : ℕ
   pub done : List (List Entry)
   pub high : length level ≤ 252 ^ fuel
@@ -68,7 +68,7 @@ half_counts {nodes} {i} {used} {all} half more =
 
 pub half_start : (nodes : ℕ) (all : List Entry) → nodes ≤ length all → length all ≤ nodes * 252 → IsHalf nodes all 0 0
 half_start nodes all some few = record {
-  rest = ap (λ (k : ℕ). spread k all) (omega arith);
+  rest = ap (λ (k : ℕ). even_parts k all) (omega arith);
   behind = omega arith;
   within = omega arith;
   some = omega arith;
@@ -77,33 +77,33 @@ half_start nodes all some few = record {
 
 -- the next part
 pub record IsPart (nodes : ℕ) (all : List Entry) (i used size : ℕ) : Type 0 where
-  pub is : take (i + 1) (spread nodes all) ≡ take i (spread nodes all) ++ take size (drop used all) ∷ []
+  pub is : take (i + 1) (even_parts nodes all) ≡ take i (even_parts nodes all) ++ take size (drop used all) ∷ []
   pub next : IsHalf nodes all (i + 1) (used + size)
   pub some : 1 ≤ size
   pub most : size ≤ 252
 
 pub half_next : {nodes i used : ℕ} {all : List Entry} (size : ℕ) → IsHalf nodes all i used → i < nodes → size ≡ nodes_for (nodes - i) (length all - used)
     → IsPart nodes all i used size
-unfolding spread
+unfolding even_parts
 half_next {nodes} {i} {used} {all} size half more is =
     let counts : AreCounts 252 (nodes - i) (length all - used) size 0 = rw is (half_counts half more) in
     let end : IsEndOf 252 (nodes - i) (length all - used) size = end_of counts (omega arith) in
-    let whole = spread nodes all in
+    let whole = even_parts nodes all in
     let x = drop used all in
     let k = nodes - i - 1 in
     let left : nodes - i ≡ suc k = omega arith in
     let size_is : (length x + k) / suc k ≡ size =
     ap (λ (n : ℕ). (n + k) / suc k) (length-drop used all) ∙ sym (is ∙ nodes_at (nodes - i) k (length all - used) left) in
     let within : i < length whole = omega (arith, length-spread nodes all) in
-    let split : get_or whole i [] ∷ drop (suc i) whole ≡ take size x ∷ spread k (drop size x) =
-    sym (drop-cons whole i [] within) ∙ (half.rest ∙ (ap (λ (n : ℕ). spread n x) left ∙ ap (λ (c : ℕ). take c x ∷ spread k (drop c x)) size_is)) in
+    let split : get_or whole i [] ∷ drop (suc i) whole ≡ take size x ∷ even_parts k (drop size x) =
+    sym (drop-cons whole i [] within) ∙ (half.rest ∙ (ap (λ (n : ℕ). even_parts n x) left ∙ ap (λ (c : ℕ). take c x ∷ even_parts k (drop c x)) size_is)) in
     let part : get_or whole i [] ≡ take size x = cc in
-    let others : drop (suc i) whole ≡ spread k (drop size x) = cc in
+    let others : drop (suc i) whole ≡ even_parts k (drop size x) = cc in
     let one : 1 ≤ size = omega (arith, counts.begun_less) in
     record {
       is = rw add-one (take-suc whole i [] within ∙ ap (λ (p : List Entry). take i whole ++ p ∷ []) part);
       next = record {
-        rest = rw add-one (others ∙ ap₂ (λ (n : ℕ) (y : List Entry). spread n y) (omega arith) (drop-drop size used all));
+        rest = rw add-one (others ∙ ap₂ (λ (n : ℕ) (y : List Entry). even_parts n y) (omega arith) (drop-drop size used all));
         behind = omega (arith, half.behind);
         within = omega (arith, half.within, end.within);
         some = omega (arith, end.some);
@@ -114,19 +114,19 @@ half_next {nodes} {i} {used} {all} size half more is =
     }
 
 -- a row of keys and places
-pub length-links : (items : List (ℕ × ℕ)) → length (links items) ≡ length items
+pub length-links : (items : List (ℕ × ℕ)) → length (link_entries items) ≡ length items
 length-links items = length-map items (λ (item : ℕ × ℕ). record { key = item.0; value = item.1 })
 
-pub links-append : (xs ys : List (ℕ × ℕ)) → links (xs ++ ys) ≡ links xs ++ links ys
+pub links-append : (xs ys : List (ℕ × ℕ)) → link_entries (xs ++ ys) ≡ link_entries xs ++ link_entries ys
 links-append xs ys = map-append (λ (item : ℕ × ℕ). record { key = item.0; value = item.1 }) xs ys
 
-pub links-take : (n : ℕ) (xs : List (ℕ × ℕ)) → take n (links xs) ≡ links (take n xs)
+pub links-take : (n : ℕ) (xs : List (ℕ × ℕ)) → take n (link_entries xs) ≡ link_entries (take n xs)
 links-take n xs = take-map (λ (item : ℕ × ℕ). record { key = item.0; value = item.1 }) n xs
 
-pub links-drop : (n : ℕ) (xs : List (ℕ × ℕ)) → drop n (links xs) ≡ links (drop n xs)
+pub links-drop : (n : ℕ) (xs : List (ℕ × ℕ)) → drop n (link_entries xs) ≡ link_entries (drop n xs)
 links-drop n xs = drop-map (λ (item : ℕ × ℕ). record { key = item.0; value = item.1 }) n xs
 
-pub keys-links : (xs : List (ℕ × ℕ)) → keys (links xs) ≡ keys_of xs
+pub keys-links : (xs : List (ℕ × ℕ)) → keys (link_entries xs) ≡ keys_of xs
 keys-links [] = refl
 keys-links (x ∷ xs) = ap (λ (rest : List ℕ). x.0 ∷ rest) (keys-links xs)
 
@@ -144,63 +144,63 @@ part_ascends used size was level same asc =
 
 -- the part of the level as it is now
 pub part_is : (used size : ℕ) (was level : List (ℕ × ℕ)) → drop used level ≡ drop used was
-    → links (take size (drop used level)) ≡ take size (drop used (links was))
+    → link_entries (take size (drop used level)) ≡ take size (drop used (link_entries was))
 part_is used size was level same =
-    ap (λ (xs : List (ℕ × ℕ)). links (take size xs)) same ∙ sym (ap (take size) (links-drop used was) ∙ links-take size (drop used was))
+    ap (λ (xs : List (ℕ × ℕ)). link_entries (take size xs)) same ∙ sym (ap (take size) (links-drop used was) ∙ links-take size (drop used was))
 
-first_is : (size : ℕ) (xs : List (ℕ × ℕ)) (d : ℕ × ℕ) (rest : List (ℕ × ℕ)) → 1 ≤ size → xs ≡ d ∷ rest → d.0 ≡ first_key (links (take size xs))
+first_is : (size : ℕ) (xs : List (ℕ × ℕ)) (d : ℕ × ℕ) (rest : List (ℕ × ℕ)) → 1 ≤ size → xs ≡ d ∷ rest → d.0 ≡ first_key (link_entries (take size xs))
 first_is zero xs d rest some is = absurd (omega arith)
 first_is (suc size) xs d rest some is = rw is refl
 
 pub least_is : (used size : ℕ) (level : List (ℕ × ℕ)) (d : ℕ × ℕ) → 1 ≤ size → used < length level
-    → (get_or level used d).0 ≡ first_key (links (take size (drop used level)))
+    → (get_or level used d).0 ≡ first_key (link_entries (take size (drop used level)))
 least_is used size level d some within =
     first_is size (drop used level) (get_or level used d) (drop (suc used) level) some (drop-cons level used d within)
 
 -- one head more
 pub heads_next : (nodes i used size place least start : ℕ) (was level : List (ℕ × ℕ)) (d : ℕ × ℕ)
-    → IsPart nodes (links was) i used size → i < nodes → IsHalf nodes (links was) i used → length level ≡ length was
+    → IsPart nodes (link_entries was) i used size → i < nodes → IsHalf nodes (link_entries was) i used → length level ≡ length was
     → drop used level ≡ drop used was
-    → links (take i level) ≡ heads start (take i (spread nodes (links was)))
+    → link_entries (take i level) ≡ heads start (take i (even_parts nodes (link_entries was)))
     → place ≡ start + i → least ≡ (get_or level used d).0
-    → links (take (i + 1) (set level i (least, place))) ≡ heads start (take (i + 1) (spread nodes (links was)))
+    → link_entries (take (i + 1) (set level i (least, place))) ≡ heads start (take (i + 1) (even_parts nodes (link_entries was)))
 heads_next nodes i used size place least start was level d part more half same below so_far at is_least =
-    let whole = spread nodes (links was) in
-    let p = take size (drop used (links was)) in
-    let room : length (links was) ≡ length was = length-links was in
+    let whole = even_parts nodes (link_entries was) in
+    let p = take size (drop used (link_entries was)) in
+    let room : length (link_entries was) ≡ length was = length-links was in
     let within : i < length level = omega (arith, half.some, half.behind, half.within) in
-    let count : length (take i whole) ≡ i = length-take-le i whole (omega (arith, length-spread nodes (links was))) in
+    let count : length (take i whole) ≡ i = length-take-le i whole (omega (arith, length-spread nodes (link_entries was))) in
     let key : least ≡ first_key p =
     is_least ∙ (least_is used size level d part.some (omega (arith, half.some, half.within)) ∙ ap first_key (part_is used size was level below)) in
     let spot : place ≡ start + length (take i whole) = omega arith in
-    ap (λ (n : ℕ). links (take n (set level i (least, place)))) (add-one i)
-    ∙ (ap links (take-suc-set level i (least, place) within)
+    ap (λ (n : ℕ). link_entries (take n (set level i (least, place)))) (add-one i)
+    ∙ (ap link_entries (take-suc-set level i (least, place) within)
     ∙ (links-append (take i level) ((least, place) ∷ [])
     ∙ (ap₂ (λ (front : List Entry) (e : Entry). front ++ e ∷ []) so_far (ap₂ (λ (k v : ℕ). record { key = k; value = v }) key spot)
     ∙ (ap (λ (back : List Entry). heads start (take i whole) ++ back) (sym (head_one (start + length (take i whole)) p))
     ∙ (sym (heads-append start (take i whole) (p ∷ [])) ∙ ap (heads start) (sym part.is))))))
 
 -- one block more
-pub wrote_next : (nodes i used size place : ℕ) (block : List ℕ) (was level : List (ℕ × ℕ)) (from mid to : Stand)
-    → IsPart nodes (links was) i used size → drop used level ≡ drop used was
-    → Wrote (blocks_from inner_block from.place (take i (spread nodes (links was)))) from mid
-    → block ≡ inner_block place (links (take size (drop used level))) → place ≡ mid.place
+pub wrote_next : (nodes i used size place : ℕ) (block : List ℕ) (was level : List (ℕ × ℕ)) (from mid to : DraftState)
+    → IsPart nodes (link_entries was) i used size → drop used level ≡ drop used was
+    → Wrote (blocks_from inner_block from.place (take i (even_parts nodes (link_entries was)))) from mid
+    → block ≡ inner_block place (link_entries (take size (drop used level))) → place ≡ mid.place
     → Wrote (block ∷ []) mid to
-    → Wrote (blocks_from inner_block from.place (take (i + 1) (spread nodes (links was)))) from to
+    → Wrote (blocks_from inner_block from.place (take (i + 1) (even_parts nodes (link_entries was)))) from to
 wrote_next nodes i used size place block was level from mid to part below before is_block at wrote =
-    let p = take size (drop used (links was)) in
+    let p = take size (drop used (link_entries was)) in
     subst (λ (nodes : List (List Entry)). Wrote (blocks_from inner_block from.place nodes) from to) (sym part.is)
-    (row_next inner_block (take i (spread nodes (links was))) p block before (is_block ∙ ap₂ inner_block at (part_is used size was level below)) wrote)
+    (row_next inner_block (take i (even_parts nodes (link_entries was))) p block before (is_block ∙ ap₂ inner_block at (part_is used size was level below)) wrote)
 
 -- how far it is written
-pub half_moved : (nodes i : ℕ) (all : List Entry) (from to : Stand) → i ≤ nodes
-    → Wrote (blocks_from inner_block from.place (take i (spread nodes all))) from to → to.place ≡ from.place + i
+pub half_moved : (nodes i : ℕ) (all : List Entry) (from to : DraftState) → i ≤ nodes
+    → Wrote (blocks_from inner_block from.place (take i (even_parts nodes all))) from to → to.place ≡ from.place + i
 half_moved nodes i all from to within wrote =
-    moved_by inner_block (take i (spread nodes all)) wrote
-    ∙ ap (λ (n : ℕ). from.place + n) (length-take-le i (spread nodes all) (omega (arith, length-spread nodes all)))
+    moved_by inner_block (take i (even_parts nodes all)) wrote
+    ∙ ap (λ (n : ℕ). from.place + n) (length-take-le i (even_parts nodes all) (omega (arith, length-spread nodes all)))
 
-pub all_parts_taken : (nodes : ℕ) (all : List Entry) → take nodes (spread nodes all) ≡ spread nodes all
-all_parts_taken nodes all = take_all nodes (spread nodes all) (omega (arith, length-spread nodes all))
+pub all_parts_taken : (nodes : ℕ) (all : List Entry) → take nodes (even_parts nodes all) ≡ even_parts nodes all
+all_parts_taken nodes all = take_all nodes (even_parts nodes all) (omega (arith, length-spread nodes all))
 
 pub root_one : (place : ℕ) (below : List Entry) → length below ≤ 1 → root_above place below ≡ first_place below
 unfolding root_above
@@ -210,33 +210,33 @@ pub root_more : (place : ℕ) (below : List Entry) → 1 < length below → root
 unfolding root_above
 root_more place below many = rw (lt-ltb 1 (length below) many) refl
 
-pub rising_start : (all : List Entry) (stand : Stand) → 1 ≤ length all → length all ≤ 252 ^ 10
-    → is_ascending (keys all) ≡ true → IsClosed stand.device → IsRising all all stand stand
-rising_start all stand some few asc closed = record {
+pub rising_start : (all : List Entry) (draft_state : DraftState) → 1 ≤ length all → length all ≤ 252 ^ 10
+    → is_ascending (keys all) ≡ true → IsClosed draft_state.device → IsRising all all draft_state draft_state
+rising_start all draft_state some few asc closed = record {
   fuel = 10;
   done = [];
   high = few;
   some = some;
   ascending = asc;
   whole = refl;
-  wrote = wrote_nothing inner_block stand closed;
-  top = λ one. sym (root_one stand.place all (omega arith));
+  wrote = wrote_nothing inner_block draft_state closed;
+  top = λ one. sym (root_one draft_state.place all (omega arith));
   need = refl;
 }
 
 -- one level more
-rising_by : (fuel : ℕ) (done : List (List Entry)) (all level next : List Entry) (from mid to : Stand)
+rising_by : (fuel : ℕ) (done : List (List Entry)) (all level next : List Entry) (from mid to : DraftState)
     → length level ≤ 252 ^ fuel → is_ascending (keys level) ≡ true
     → levels_above 10 from.place all ≡ done ++ levels_above fuel mid.place level
     → Wrote (blocks_from inner_block from.place done) from mid
     → mid.place + need_above fuel (length level) ≡ from.place + need_above 10 (length all)
     → 1 < length level
-    → next ≡ heads mid.place (spread (nodes_for 252 (length level)) level)
-    → Wrote (blocks_from inner_block mid.place (spread (nodes_for 252 (length level)) level)) mid to
+    → next ≡ heads mid.place (even_parts (nodes_for 252 (length level)) level)
+    → Wrote (blocks_from inner_block mid.place (even_parts (nodes_for 252 (length level)) level)) mid to
     → IsRising all next from to
 rising_by zero done all level next from mid to high asc whole before need many is wrote = absurd (omega arith)
 rising_by (suc k) done all level next from mid to high asc whole before need many is wrote =
-    let row = spread (nodes_for 252 (length level)) level in
+    let row = even_parts (nodes_for 252 (length level)) level in
     let spreads = level_spread k level (omega arith) in
     let moved : to.place ≡ mid.place + length row = moved_by inner_block row wrote in
     let at : mid.place ≡ from.place + length done = moved_by inner_block done before in
@@ -274,9 +274,9 @@ rising_by (suc k) done all level next from mid to high asc whole before need man
           omega arith;
     }
 
-pub rising_next : {all level next : List Entry} {from mid to : Stand} → IsRising all level from mid → 1 < length level
-    → next ≡ heads mid.place (spread (nodes_for 252 (length level)) level)
-    → Wrote (blocks_from inner_block mid.place (spread (nodes_for 252 (length level)) level)) mid to
+pub rising_next : {all level next : List Entry} {from mid to : DraftState} → IsRising all level from mid → 1 < length level
+    → next ≡ heads mid.place (even_parts (nodes_for 252 (length level)) level)
+    → Wrote (blocks_from inner_block mid.place (even_parts (nodes_for 252 (length level)) level)) mid to
     → IsRising all next from to
 rising_next {all} {level} {next} {from} {mid} {to} r many is wrote =
     rising_by r.fuel r.done all level next from mid to r.high r.ascending r.whole r.wrote r.need many is wrote
@@ -285,11 +285,11 @@ need_least : (fuel n : ℕ) → n ≤ 252 ^ fuel → 1 < n → nodes_for 252 n �
 need_least zero n high many = absurd (omega arith)
 need_least (suc k) n high many = omega (arith, need_more k n many)
 
-pub rising_room : {all level : List Entry} {from to : Stand} → IsRising all level from to → 1 < length level
+pub rising_room : {all level : List Entry} {from to : DraftState} → IsRising all level from to → 1 < length level
     → to.place + nodes_for 252 (length level) ≤ from.place + need_above 10 (length all)
 rising_room {all} {level} {from} {to} r many = omega (arith, r.need, need_least r.fuel (length level) r.high many)
 
-pub rising_end : {all level : List Entry} {from to : Stand} → IsRising all level from to → length level ≤ 1
+pub rising_end : {all level : List Entry} {from to : DraftState} → IsRising all level from to → length level ≤ 1
     → Wrote (blocks_from inner_block from.place (levels_above 10 from.place all)) from to
 rising_end {all} {level} {from} {to} r few =
     let last : levels_above 10 from.place all ≡ r.done =

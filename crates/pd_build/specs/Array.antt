@@ -1,7 +1,7 @@
 -- What a builder of an array still writes.
 use Rattle.std.specs.Prelude.{◌≡◌, ℕ, ◌+◌, ◌-◌, ◌≤◌, List, ◌∷◌, ◌++◌, length}
 use Rattle.pd_kinds.specs.Array.{array_block, max_words}
-use Rattle.pd_draft.specs.Placed.{Stand, Wrote}
+use Rattle.pd_draft.specs.Placed.{DraftState, Wrote}
 use Rattle.pd_spells.specs.Need.{nodes_for, need_tree}
 use Rattle.pd_laid.specs.Tree.{blocks_from, tree_blocks, tree_root}
 use Rattle.pd_laid.specs.Array.{pieces, array_items, array_pieces}
@@ -42,7 +42,7 @@ array_number size t =
     left + need_tree 8 (t.made + left)
 
 -- a word was taken
-pub record Pushes (size word : ℕ) (old new : Words) (from to : Stand) : Type 0 where
+pub record Pushes (size word : ℕ) (old new : Words) (from to : DraftState) : Type 0 where
   pub written : List (List ℕ)
   pub wrote : Wrote written from to
   pub blocks : (words : List ℕ) → length words ≡ new.left → array_left size from.place old (word ∷ words) ≡ written ++ array_left size to.place new words

@@ -1,7 +1,7 @@
 -- A tree or an array that is being built: what a caller's loop keeps.
 use Rattle.std.specs.Prelude.{◌≡◌, ℕ, ◌+◌, ◌≤◌, true, List, [], ◌∷◌, ◌++◌, length, map}
 use Rattle.pd_kinds.specs.Node.{Entry, is_ascending}
-use Rattle.pd_draft.specs.Placed.{Stand, Wrote}
+use Rattle.pd_draft.specs.Placed.{DraftState, Wrote}
 use Rattle.pd_laid.specs.Tree.{tree_blocks, tree_root}
 use Rattle.pd_laid.specs.Array.{array_root}
 use Rattle.pd_spells.specs.Need.{need_tree, need_array}
@@ -15,7 +15,7 @@ StartsAt low [] = Unit {0}
 StartsAt low (e ∷ items) = low ≤ e.key
 
 -- the tree of all these items is begun: these items are to come
-pub record IsBuilding (size : ℕ) (all items : List Entry) (t : TreeLeft) (from to : Stand) : Type 0 where
+pub record IsBuilding (size : ℕ) (all items : List Entry) (t : TreeLeft) (from to : DraftState) : Type 0 where
   pub done : List (List ℕ)
   pub wrote : Wrote done from to
   pub whole : tree_blocks size from.place all ≡ done ++ blocks_left size to.place t items
@@ -26,7 +26,7 @@ pub record IsBuilding (size : ℕ) (all items : List Entry) (t : TreeLeft) (from
   pub above : StartsAt t.leaves.low items
 
 -- the array of all these words is begun: these words are to come
-pub record IsFilling (size : ℕ) (all words : List ℕ) (t : ArrayLeft) (from to : Stand) : Type 0 where
+pub record IsFilling (size : ℕ) (all words : List ℕ) (t : ArrayLeft) (from to : DraftState) : Type 0 where
   pub done : List (List ℕ)
   pub wrote : Wrote done from to
   pub sized : t.size ≡ size

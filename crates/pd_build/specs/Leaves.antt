@@ -3,7 +3,7 @@ use Rattle.std.specs.Prelude.{◌≡◌, ◌⊎◌, ℕ, ◌+◌, ◌-◌, ◌*�
 use Rattle.std.specs.List.{All, AllByRecursion}
 use Rattle.pd_node.specs.Items.{keys_of}
 use Rattle.pd_kinds.specs.Node.{Entry, leaf_block, is_ascending}
-use Rattle.pd_draft.specs.Placed.{Stand, Wrote}
+use Rattle.pd_draft.specs.Placed.{DraftState, Wrote}
 use Rattle.pd_laid.specs.Tree.{heads, blocks_from}
 use Rattle.pd_spells.specs.Need.{nodes_for}
 use Rattle.pd_build.specs.Parts.{cut}
@@ -24,14 +24,14 @@ abbrev pub leaves_to_come : LeavesLeft → List Entry → List (List Entry)
 leaves_to_come b items = cut b.sizes (b.begun ++ items)
 
 -- the leaf that an item ends, where it ends one
-abbrev pub ended : LeavesLeft → Entry → Option (ℕ × ℕ) → List (List Entry)
-ended b e None = []
-ended b e (Some head) = (b.begun ++ e ∷ []) ∷ []
+abbrev pub leaf_ended : LeavesLeft → Entry → Option (ℕ × ℕ) → List (List Entry)
+leaf_ended b e None = []
+leaf_ended b e (Some head) = (b.begun ++ e ∷ []) ∷ []
 
 -- what is answered of it
-abbrev pub answered : Option (ℕ × ℕ) → List Entry
-answered None = []
-answered (Some head) = record { key = head.0; value = head.1 } ∷ []
+abbrev pub row_entry : Option (ℕ × ℕ) → List Entry
+row_entry None = []
+row_entry (Some head) = record { key = head.0; value = head.1 } ∷ []
 
 -- what is begun then
 abbrev pub begun_then : LeavesLeft → Entry → Option (ℕ × ℕ) → List Entry
@@ -49,17 +49,17 @@ EndsWhereFull b None = length b.begun + 1 < size_of_first b.sizes
 EndsWhereFull b (Some head) = length b.begun + 1 ≡ size_of_first b.sizes
 
 -- an item that wasn't taken: all is as it was, or the leaf that it ends is lost
-abbrev pub Loses : LeavesLeft → Entry → LeavesLeft → Type 0
-Loses old e new = (new ≡ old) ⊎ ((new.begun ≡ []) × (new.low ≡ e.key + 1))
+abbrev pub LosesLeaf : LeavesLeft → Entry → LeavesLeft → Type 0
+LosesLeaf old e new = (new ≡ old) ⊎ ((new.begun ≡ []) × (new.low ≡ e.key + 1))
 
 -- an item was taken: the leaf that it ends was written, and the others are to come as they were
-pub record TakesItem (size : ℕ) (e : Entry) (head : Option (ℕ × ℕ)) (old new : LeavesLeft) (from to : Stand) : Type 0 where
+pub record TakesItem (size : ℕ) (e : Entry) (head : Option (ℕ × ℕ)) (old new : LeavesLeft) (from to : DraftState) : Type 0 where
   pub ends : EndsWhereFull old head
-  pub to_come : (items : List Entry) → leaves_to_come old (e ∷ items) ≡ ended old e head ++ leaves_to_come new items
-  pub wrote : Wrote (blocks_from (leaf_block size) from.place (ended old e head)) from to
-  pub heads_are : heads from.place (ended old e head) ≡ answered head
+  pub to_come : (items : List Entry) → leaves_to_come old (e ∷ items) ≡ leaf_ended old e head ++ leaves_to_come new items
+  pub wrote : Wrote (blocks_from (leaf_block size) from.place (leaf_ended old e head)) from to
+  pub heads_are : heads from.place (leaf_ended old e head) ≡ row_entry head
   pub number : items_to_come new + 1 ≡ items_to_come old
-  pub leaves : length (ended old e head) + length new.sizes ≡ length old.sizes
+  pub leaves : length (leaf_ended old e head) + length new.sizes ≡ length old.sizes
   pub raised : new.low ≡ e.key + 1
   pub begun_is : new.begun ≡ begun_then old e head
 

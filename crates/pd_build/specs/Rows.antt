@@ -4,5 +4,5 @@ use Rattle.pd_kinds.specs.Node.{Entry}
 use Rattle.pd_node.specs.Items.{entries_of}
 
 -- a row of keys and places
-abbrev pub links : List (ℕ × ℕ) → List Entry
-links items = entries_of (λ child. child) items
+abbrev pub link_entries : List (ℕ × ℕ) → List Entry
+link_entries items = entries_of (λ child. child) items

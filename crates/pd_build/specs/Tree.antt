@@ -2,7 +2,7 @@
 use Rattle.std.specs.Prelude.{◌≡◌, ℕ, ◌+◌, ◌<◌, nat_eq, if◌then◌else◌, true, List, [], ◌∷◌, ◌++◌, length, map}
 use Rattle.std.specs.List.{AllByRecursion}
 use Rattle.pd_kinds.specs.Node.{Entry, leaf_block, inner_block, is_ascending}
-use Rattle.pd_draft.specs.Placed.{Stand, Wrote}
+use Rattle.pd_draft.specs.Placed.{DraftState, Wrote}
 use Rattle.pd_laid.specs.Tree.{heads, blocks_from, levels_above, root_above}
 use Rattle.pd_spells.specs.Need.{need_above}
 use Rattle.pd_build.specs.Leaves.{LeavesLeft, items_to_come, leaves_to_come}
@@ -38,7 +38,7 @@ unfoldable pub number_left : TreeLeft → ℕ
 number_left t = if nat_eq (leaf_number t) 0 then 1 else length t.leaves.sizes + need_above 10 (leaf_number t)
 
 -- an item was taken: what was written then, and what is left, are what was left
-pub record Grows (size : ℕ) (e : Entry) (old new : TreeLeft) (from to : Stand) : Type 0 where
+pub record Grows (size : ℕ) (e : Entry) (old new : TreeLeft) (from to : DraftState) : Type 0 where
   pub written : List (List ℕ)
   pub wrote : Wrote written from to
   pub blocks : (items : List Entry) → blocks_left size from.place old (e ∷ items) ≡ written ++ blocks_left size to.place new items

@@ -7,7 +7,7 @@ ghost use Rattle.pd_array.specs.Word.{size_of};
 ghost use Rattle.pd_image.specs.Device.{IsWritable};
 ghost use Rattle.pd_draft.specs.Closed.{IsClosed, StaysClosed};
 ghost use Rattle.pd_draft.specs.Placed.{Wrote};
-ghost use Rattle.pd_draft.specs.Stand.{stand};
+ghost use Rattle.pd_draft.specs.DraftState.{draft_state};
 ghost use Rattle.pd_laid.specs.Tree.{tree_blocks, tree_root};
 ghost use Rattle.pd_spells.specs.Need.{need_array, need_tree};
 ghost use Rattle.pd_laid.specs.Array.{array_items, array_root};
@@ -76,14 +76,14 @@ impl ArrayBuilder {
         requires fits { value < 256 ^ self.old.size }
         requires more { 1 ≤ self.old.words.left }
         requires stood { self.old.words.made ≤ draft.old.next }
-        requires writable { IsWritable (stand draft.old).device }
-        requires room { draft.old.next + array_number self.old.size self.old.words ≤ (stand draft.old).device.blocks }
-        requires closed { IsClosed (stand draft.old).device }
+        requires writable { IsWritable (draft_state draft.old).device }
+        requires room { draft.old.next + array_number self.old.size self.old.words ≤ (draft_state draft.old).device.blocks }
+        requires closed { IsClosed (draft_state draft.old).device }
         ensures same_reference { draft.new.dev.ghost_name ≡ draft.old.dev.ghost_name }
         ensures size { self.new.size ≡ self.old.size }
-        ensures pushes { OnOk result (Pushes self.old.size value self.old.words self.new.words (stand draft.old) (stand draft.new)) }
-        ensures closed { StaysClosed (stand draft.old).device (stand draft.new).device }
-        ensures faults { CountsBuildFault result (stand draft.old).device.faults (stand draft.new).device.faults }
+        ensures pushes { OnOk result (Pushes self.old.size value self.old.words self.new.words (draft_state draft.old) (draft_state draft.new)) }
+        ensures closed { StaysClosed (draft_state draft.old).device (draft_state draft.new).device }
+        ensures faults { CountsBuildFault result (draft_state draft.old).device.faults (draft_state draft.new).device.faults }
     {
         let _blocks = draft.blocks();
         push_word(&mut self.begun, value)?;
@@ -102,14 +102,14 @@ impl ArrayBuilder {
     pub fn finish<D: Device>(self, draft: &mut Draft<'_, D>) -> Result<u64, BuildFault>
         requires done { self.words.left ≡ 0 }
         requires stood { self.words.made ≤ draft.old.next }
-        requires writable { IsWritable (stand draft.old).device }
-        requires room { draft.old.next + array_number self.size self.words ≤ (stand draft.old).device.blocks }
-        requires closed { IsClosed (stand draft.old).device }
+        requires writable { IsWritable (draft_state draft.old).device }
+        requires room { draft.old.next + array_number self.size self.words ≤ (draft_state draft.old).device.blocks }
+        requires closed { IsClosed (draft_state draft.old).device }
         ensures same_reference { draft.new.dev.ghost_name ≡ draft.old.dev.ghost_name }
-        ensures wrote { OnOk result (Wrote (array_left self.size draft.old.next self.words []) (stand draft.old) (stand draft.new)) }
+        ensures wrote { OnOk result (Wrote (array_left self.size draft.old.next self.words []) (draft_state draft.old) (draft_state draft.new)) }
         ensures root { IfOk result (λ root. root ≡ array_root_left self.size draft.old.next self.words []) }
-        ensures closed { StaysClosed (stand draft.old).device (stand draft.new).device }
-        ensures faults { CountsBuildFault result (stand draft.old).device.faults (stand draft.new).device.faults }
+        ensures closed { StaysClosed (draft_state draft.old).device (draft_state draft.new).device }
+        ensures faults { CountsBuildFault result (draft_state draft.old).device.faults (draft_state draft.new).device.faults }
     {
         write_index(self.alloc, draft, self.made)
     }
@@ -142,15 +142,15 @@ fn write_index<D: Device>(
     draft: &mut Draft<'_, D>,
     count: u64,
 ) -> Result<u64, BuildFault>
-    requires writable { IsWritable (stand draft.old).device }
-    requires room { draft.old.next + need_tree 8 count ≤ (stand draft.old).device.blocks }
+    requires writable { IsWritable (draft_state draft.old).device }
+    requires room { draft.old.next + need_tree 8 count ≤ (draft_state draft.old).device.blocks }
     requires stood { count ≤ draft.old.next }
-    requires closed { IsClosed (stand draft.old).device }
+    requires closed { IsClosed (draft_state draft.old).device }
     ensures same_reference { draft.new.dev.ghost_name ≡ draft.old.dev.ghost_name }
-    ensures wrote { OnOk result (Wrote (tree_blocks 8 draft.old.next (array_items (draft.old.next - count) count)) (stand draft.old) (stand draft.new)) }
+    ensures wrote { OnOk result (Wrote (tree_blocks 8 draft.old.next (array_items (draft.old.next - count) count)) (draft_state draft.old) (draft_state draft.new)) }
     ensures root { IfOk result (λ root. root ≡ tree_root 8 draft.old.next (array_items (draft.old.next - count) count)) }
-    ensures closed { StaysClosed (stand draft.old).device (stand draft.new).device }
-    ensures faults { CountsBuildFault result (stand draft.old).device.faults (stand draft.new).device.faults }
+    ensures closed { StaysClosed (draft_state draft.old).device (draft_state draft.new).device }
+    ensures faults { CountsBuildFault result (draft_state draft.old).device.faults (draft_state draft.new).device.faults }
 {
     let first = draft.next() - count;
     let mut builder = match Builder::<Root>::new(alloc, count) {

@@ -5,10 +5,10 @@ ghost use Rattle.pd_kinds.specs.Node.{Entry};
 ghost use Rattle.pd_image.specs.Device.{IsWritable};
 ghost use Rattle.pd_draft.specs.Closed.{IsClosed, StaysClosed};
 ghost use Rattle.pd_draft.specs.Placed.{Wrote};
-ghost use Rattle.pd_draft.specs.Stand.{stand};
+ghost use Rattle.pd_draft.specs.DraftState.{draft_state};
 ghost use Rattle.pd_laid.specs.Tree.{tree_blocks, tree_root};
 ghost use Rattle.pd_spells.specs.Need.{need_tree};
-ghost use Rattle.pd_build.specs.Leaves.{items_to_come, size_of_first, answered};
+ghost use Rattle.pd_build.specs.Leaves.{items_to_come, size_of_first, row_entry};
 ghost use Rattle.pd_build.specs.Tree.{TreeLeft, Grows, AreKeysInOrder, blocks_left, root_left, number_left};
 ghost use Rattle.pd_build.specs.Causes.{CountsBuildFault};
 
@@ -64,13 +64,13 @@ impl<V: Value> Builder<V> {
         requires low { self.old.leaves.low ≤ key }
         requires fits { V.fitting value ≡ true }
         requires more { 1 ≤ items_to_come self.old.leaves }
-        requires writable { IsWritable (stand draft.old).device }
-        requires room { draft.old.next + number_left self.old ≤ (stand draft.old).device.blocks }
-        requires closed { IsClosed (stand draft.old).device }
+        requires writable { IsWritable (draft_state draft.old).device }
+        requires room { draft.old.next + number_left self.old ≤ (draft_state draft.old).device.blocks }
+        requires closed { IsClosed (draft_state draft.old).device }
         ensures same_reference { draft.new.dev.ghost_name ≡ draft.old.dev.ghost_name }
-        ensures grows { OnOk result (Grows V.SIZE (record { key = key; value = V.code value }) self.old self.new (stand draft.old) (stand draft.new)) }
-        ensures closed { StaysClosed (stand draft.old).device (stand draft.new).device }
-        ensures faults { CountsBuildFault result (stand draft.old).device.faults (stand draft.new).device.faults }
+        ensures grows { OnOk result (Grows V.SIZE (record { key = key; value = V.code value }) self.old self.new (draft_state draft.old) (draft_state draft.new)) }
+        ensures closed { StaysClosed (draft_state draft.old).device (draft_state draft.new).device }
+        ensures faults { CountsBuildFault result (draft_state draft.old).device.faults (draft_state draft.new).device.faults }
     {
         if self.leaves.hold(key, value) {
             return Ok(());
@@ -90,13 +90,13 @@ impl<V: Value> Builder<V> {
         requires fits { V.fitting value ≡ true }
         requires more { 1 ≤ items_to_come self.old.leaves }
         requires last { length self.old.leaves.begun + 1 ≡ size_of_first self.old.leaves.sizes }
-        requires writable { IsWritable (stand draft.old).device }
-        requires room { draft.old.next + number_left self.old ≤ (stand draft.old).device.blocks }
-        requires closed { IsClosed (stand draft.old).device }
+        requires writable { IsWritable (draft_state draft.old).device }
+        requires room { draft.old.next + number_left self.old ≤ (draft_state draft.old).device.blocks }
+        requires closed { IsClosed (draft_state draft.old).device }
         ensures same_reference { draft.new.dev.ghost_name ≡ draft.old.dev.ghost_name }
-        ensures grows { OnOk result (Grows V.SIZE (record { key = key; value = V.code value }) self.old self.new (stand draft.old) (stand draft.new)) }
-        ensures closed { StaysClosed (stand draft.old).device (stand draft.new).device }
-        ensures faults { CountsBuildFault result (stand draft.old).device.faults (stand draft.new).device.faults }
+        ensures grows { OnOk result (Grows V.SIZE (record { key = key; value = V.code value }) self.old self.new (draft_state draft.old) (draft_state draft.new)) }
+        ensures closed { StaysClosed (draft_state draft.old).device (draft_state draft.new).device }
+        ensures faults { CountsBuildFault result (draft_state draft.old).device.faults (draft_state draft.new).device.faults }
     {
         let head = self.leaves.end_leaf(draft, key, value)?;
         add_head(&mut self.upper, head)
@@ -105,14 +105,14 @@ impl<V: Value> Builder<V> {
     /// Writes what is left of the tree, and answers the place of its root.
     pub fn finish<D: Device>(self, draft: &mut Draft<'_, D>) -> Result<u64, BuildFault>
         requires done { items_to_come self.leaves ≡ 0 }
-        requires writable { IsWritable (stand draft.old).device }
-        requires room { draft.old.next + number_left self ≤ (stand draft.old).device.blocks }
-        requires closed { IsClosed (stand draft.old).device }
+        requires writable { IsWritable (draft_state draft.old).device }
+        requires room { draft.old.next + number_left self ≤ (draft_state draft.old).device.blocks }
+        requires closed { IsClosed (draft_state draft.old).device }
         ensures same_reference { draft.new.dev.ghost_name ≡ draft.old.dev.ghost_name }
-        ensures wrote { OnOk result (Wrote (blocks_left V.SIZE draft.old.next self []) (stand draft.old) (stand draft.new)) }
+        ensures wrote { OnOk result (Wrote (blocks_left V.SIZE draft.old.next self []) (draft_state draft.old) (draft_state draft.new)) }
         ensures root { IfOk result (λ root. root ≡ root_left draft.old.next self []) }
-        ensures closed { StaysClosed (stand draft.old).device (stand draft.new).device }
-        ensures faults { CountsBuildFault result (stand draft.old).device.faults (stand draft.new).device.faults }
+        ensures closed { StaysClosed (draft_state draft.old).device (draft_state draft.new).device }
+        ensures faults { CountsBuildFault result (draft_state draft.old).device.faults (draft_state draft.new).device.faults }
         ensures fault { IfErr result (λ fault. fault ≡ BuildFault.Device) }
     {
         let _done = self.leaves.is_done();
@@ -129,7 +129,7 @@ impl<V: Value> Builder<V> {
 
 /// Adds the leaf that was written, if one was.
 fn add_head(upper: &mut UpperBuilder, head: Option<(u64, u64)>) -> Result<(), BuildFault>
-    ensures added { OnOk result (upper.new ≡ upper.old ++ answered head) }
+    ensures added { OnOk result (upper.new ≡ upper.old ++ row_entry head) }
     ensures kept { OnErr result (upper.new ≡ upper.old) }
     ensures fault { IfErr result (λ fault. fault ≡ BuildFault.Memory) }
 {

@@ -4,13 +4,13 @@ ghost use Rattle.std.specs.Prelude.{◌≡◌, ◌+◌, ◌-◌, ◌*◌, ◌<�
 ghost use Rattle.pd_kinds.specs.Node.{Entry, max_entries};
 ghost use Rattle.pd_image.specs.Device.{IsWritable};
 ghost use Rattle.pd_draft.specs.Closed.{IsClosed, StaysClosed};
-ghost use Rattle.pd_draft.specs.Placed.{Stand};
-ghost use Rattle.pd_draft.specs.Stand.{stand};
+ghost use Rattle.pd_draft.specs.Placed.{DraftState};
+ghost use Rattle.pd_draft.specs.DraftState.{draft_state};
 ghost use Rattle.pd_spells.specs.Need.{nodes_for};
 ghost use Rattle.pd_laid.specs.Tree.{tree_leaves};
 ghost use Rattle.pd_build.specs.Parts.{even_sizes};
 ghost use Rattle.pd_build.specs.OpenLeaf.{entries_in, begun_block};
-ghost use Rattle.pd_build.specs.Leaves.{LeavesLeft, items_to_come, leaves_to_come, size_of_first, TakesItem, AreCounts, low_of, low_after, Loses};
+ghost use Rattle.pd_build.specs.Leaves.{LeavesLeft, items_to_come, leaves_to_come, size_of_first, TakesItem, AreCounts, low_of, low_after, LosesLeaf};
 ghost use Rattle.pd_build.specs.Causes.{CountsBuildFault};
 
 use crate::BuildFault;
@@ -94,14 +94,14 @@ impl<V: Value> LeafBuilder<V> {
         requires low { self.old.low ≤ key }
         requires fits { V.fitting value ≡ true }
         requires more { 1 ≤ items_to_come self.old }
-        requires writable { IsWritable (stand draft.old).device }
-        requires room { draft.old.next + length self.old.sizes ≤ (stand draft.old).device.blocks }
-        requires closed { IsClosed (stand draft.old).device }
+        requires writable { IsWritable (draft_state draft.old).device }
+        requires room { draft.old.next + length self.old.sizes ≤ (draft_state draft.old).device.blocks }
+        requires closed { IsClosed (draft_state draft.old).device }
         ensures same_reference { draft.new.dev.ghost_name ≡ draft.old.dev.ghost_name }
-        ensures takes { IfOk result (λ head. TakesItem V.SIZE (record { key = key; value = V.code value }) head self.old self.new (stand draft.old) (stand draft.new)) }
-        ensures lost { OnErr result (Loses self.old (record { key = key; value = V.code value }) self.new) }
-        ensures closed { StaysClosed (stand draft.old).device (stand draft.new).device }
-        ensures faults { CountsBuildFault result (stand draft.old).device.faults (stand draft.new).device.faults }
+        ensures takes { IfOk result (λ head. TakesItem V.SIZE (record { key = key; value = V.code value }) head self.old self.new (draft_state draft.old) (draft_state draft.new)) }
+        ensures lost { OnErr result (LosesLeaf self.old (record { key = key; value = V.code value }) self.new) }
+        ensures closed { StaysClosed (draft_state draft.old).device (draft_state draft.new).device }
+        ensures faults { CountsBuildFault result (draft_state draft.old).device.faults (draft_state draft.new).device.faults }
     {
         if self.hold(key, value) {
             return Ok(None);
@@ -114,7 +114,7 @@ impl<V: Value> LeafBuilder<V> {
     pub(crate) fn hold(&mut self, key: u64, value: V) -> bool
         requires fits { V.fitting value ≡ true }
         requires more { 1 ≤ items_to_come self.old }
-        ensures held { result ≡ true → (now : Stand) → IsClosed now.device → TakesItem V.SIZE (record { key = key; value = V.code value }) None self.old self.new now now }
+        ensures held { result ≡ true → (now : DraftState) → IsClosed now.device → TakesItem V.SIZE (record { key = key; value = V.code value }) None self.old self.new now now }
         ensures kept { result ≡ false → self.new ≡ self.old }
         ensures last { result ≡ false → length self.old.begun + 1 ≡ size_of_first self.old.sizes }
     {
@@ -138,14 +138,14 @@ impl<V: Value> LeafBuilder<V> {
         requires fits { V.fitting value ≡ true }
         requires more { 1 ≤ items_to_come self.old }
         requires last { length self.old.begun + 1 ≡ size_of_first self.old.sizes }
-        requires writable { IsWritable (stand draft.old).device }
-        requires room { draft.old.next + length self.old.sizes ≤ (stand draft.old).device.blocks }
-        requires closed { IsClosed (stand draft.old).device }
+        requires writable { IsWritable (draft_state draft.old).device }
+        requires room { draft.old.next + length self.old.sizes ≤ (draft_state draft.old).device.blocks }
+        requires closed { IsClosed (draft_state draft.old).device }
         ensures same_reference { draft.new.dev.ghost_name ≡ draft.old.dev.ghost_name }
-        ensures takes { IfOk result (λ head. TakesItem V.SIZE (record { key = key; value = V.code value }) head self.old self.new (stand draft.old) (stand draft.new)) }
-        ensures lost { OnErr result (Loses self.old (record { key = key; value = V.code value }) self.new) }
-        ensures closed { StaysClosed (stand draft.old).device (stand draft.new).device }
-        ensures faults { CountsBuildFault result (stand draft.old).device.faults (stand draft.new).device.faults }
+        ensures takes { IfOk result (λ head. TakesItem V.SIZE (record { key = key; value = V.code value }) head self.old self.new (draft_state draft.old) (draft_state draft.new)) }
+        ensures lost { OnErr result (LosesLeaf self.old (record { key = key; value = V.code value }) self.new) }
+        ensures closed { StaysClosed (draft_state draft.old).device (draft_state draft.new).device }
+        ensures faults { CountsBuildFault result (draft_state draft.old).device.faults (draft_state draft.new).device.faults }
     {
         put_item(&mut self.block, self.count as usize, key, value);
         let place = draft.next();

@@ -6,10 +6,10 @@ ghost use Rattle.pd_node.specs.Items.{keys_of};
 ghost use Rattle.pd_image.specs.Device.{IsWritable};
 ghost use Rattle.pd_draft.specs.Closed.{IsClosed, StaysClosed};
 ghost use Rattle.pd_draft.specs.Placed.{Wrote};
-ghost use Rattle.pd_draft.specs.Stand.{stand};
-ghost use Rattle.pd_laid.specs.Tree.{blocks_from, heads, spread, levels_above, root_above};
+ghost use Rattle.pd_draft.specs.DraftState.{draft_state};
+ghost use Rattle.pd_laid.specs.Tree.{blocks_from, heads, even_parts, levels_above, root_above};
 ghost use Rattle.pd_spells.specs.Need.{need_above};
-ghost use Rattle.pd_build.specs.Rows.{links};
+ghost use Rattle.pd_build.specs.Rows.{link_entries};
 ghost use Rattle.pd_build.specs.Causes.{CountsBuildFault};
 
 use crate::BuildFault;
@@ -31,7 +31,7 @@ pub struct UpperBuilder {
 impl Model for UpperBuilder {
     ghost Value = { List Entry };
 
-    ghost view = { λ b. links b.level.items };
+    ghost view = { λ b. link_entries b.level.items };
 }
 
 impl UpperBuilder {
@@ -66,14 +66,14 @@ impl UpperBuilder {
     pub fn finish<D: Device>(self, draft: &mut Draft<'_, D>) -> Result<u64, BuildFault>
         requires some { 1 ≤ length self }
         requires ascend { is_ascending (map (λ (e : Entry). e.key) self) ≡ true }
-        requires writable { IsWritable (stand draft.old).device }
-        requires room { draft.old.next + need_above 10 (length self) ≤ (stand draft.old).device.blocks }
-        requires closed { IsClosed (stand draft.old).device }
+        requires writable { IsWritable (draft_state draft.old).device }
+        requires room { draft.old.next + need_above 10 (length self) ≤ (draft_state draft.old).device.blocks }
+        requires closed { IsClosed (draft_state draft.old).device }
         ensures same_reference { draft.new.dev.ghost_name ≡ draft.old.dev.ghost_name }
-        ensures wrote { OnOk result (Wrote (blocks_from inner_block draft.old.next (levels_above 10 draft.old.next self)) (stand draft.old) (stand draft.new)) }
+        ensures wrote { OnOk result (Wrote (blocks_from inner_block draft.old.next (levels_above 10 draft.old.next self)) (draft_state draft.old) (draft_state draft.new)) }
         ensures root { IfOk result (λ root. root ≡ root_above draft.old.next self) }
-        ensures closed { StaysClosed (stand draft.old).device (stand draft.new).device }
-        ensures faults { CountsBuildFault result (stand draft.old).device.faults (stand draft.new).device.faults }
+        ensures closed { StaysClosed (draft_state draft.old).device (draft_state draft.new).device }
+        ensures faults { CountsBuildFault result (draft_state draft.old).device.faults (draft_state draft.new).device.faults }
         ensures fault { IfErr result (λ fault. fault ≡ BuildFault.Device) }
     {
         let mut level = self.level;
@@ -96,14 +96,14 @@ fn write_level<D: Device>(
     requires some { nodes ≤ length level.old }
     requires few { length level.old ≤ nodes * 252 }
     requires ascend { is_ascending (keys_of level.old) ≡ true }
-    requires writable { IsWritable (stand draft.old).device }
-    requires room { draft.old.next + nodes ≤ (stand draft.old).device.blocks }
-    requires closed { IsClosed (stand draft.old).device }
+    requires writable { IsWritable (draft_state draft.old).device }
+    requires room { draft.old.next + nodes ≤ (draft_state draft.old).device.blocks }
+    requires closed { IsClosed (draft_state draft.old).device }
     ensures same_reference { draft.new.dev.ghost_name ≡ draft.old.dev.ghost_name }
-    ensures heads_are { OnOk result (links (take nodes level.new) ≡ heads draft.old.next (spread nodes (links level.old))) }
-    ensures wrote { OnOk result (Wrote (blocks_from inner_block draft.old.next (spread nodes (links level.old))) (stand draft.old) (stand draft.new)) }
-    ensures closed { StaysClosed (stand draft.old).device (stand draft.new).device }
-    ensures faults { CountsBuildFault result (stand draft.old).device.faults (stand draft.new).device.faults }
+    ensures heads_are { OnOk result (link_entries (take nodes level.new) ≡ heads draft.old.next (even_parts nodes (link_entries level.old))) }
+    ensures wrote { OnOk result (Wrote (blocks_from inner_block draft.old.next (even_parts nodes (link_entries level.old))) (draft_state draft.old) (draft_state draft.new)) }
+    ensures closed { StaysClosed (draft_state draft.old).device (draft_state draft.new).device }
+    ensures faults { CountsBuildFault result (draft_state draft.old).device.faults (draft_state draft.new).device.faults }
     ensures fault { IfErr result (λ fault. fault ≡ BuildFault.Device) }
 {
     let mut used = 0;
@@ -125,14 +125,14 @@ fn write_node<D: Device>(
     requires some { 1 ≤ length children.now }
     requires few { length children.now ≤ 252 }
     requires ascend { is_ascending (keys_of children.now) ≡ true }
-    requires writable { IsWritable (stand draft.old).device }
-    requires room { draft.old.next < (stand draft.old).device.blocks }
-    requires closed { IsClosed (stand draft.old).device }
+    requires writable { IsWritable (draft_state draft.old).device }
+    requires room { draft.old.next < (draft_state draft.old).device.blocks }
+    requires closed { IsClosed (draft_state draft.old).device }
     ensures same_reference { draft.new.dev.ghost_name ≡ draft.old.dev.ghost_name }
-    ensures wrote { OnOk result (Wrote (inner_block draft.old.next (links children.now) ∷ []) (stand draft.old) (stand draft.new)) }
+    ensures wrote { OnOk result (Wrote (inner_block draft.old.next (link_entries children.now) ∷ []) (draft_state draft.old) (draft_state draft.new)) }
     ensures place { IfOk result (λ place. place ≡ draft.old.next) }
-    ensures closed { StaysClosed (stand draft.old).device (stand draft.new).device }
-    ensures faults { CountsBuildFault result (stand draft.old).device.faults (stand draft.new).device.faults }
+    ensures closed { StaysClosed (draft_state draft.old).device (draft_state draft.new).device }
+    ensures faults { CountsBuildFault result (draft_state draft.old).device.faults (draft_state draft.new).device.faults }
     ensures fault { IfErr result (λ fault. fault ≡ BuildFault.Device) }
 {
     let place = draft.next();

@@ -7,7 +7,7 @@ ghost use Rattle.pd_node.specs.Items.{entries_of, keys_of};
 ghost use Rattle.pd_image.specs.Device.{IsWritable};
 ghost use Rattle.pd_draft.specs.Closed.{IsClosed, StaysClosed};
 ghost use Rattle.pd_draft.specs.Placed.{Wrote};
-ghost use Rattle.pd_draft.specs.Stand.{stand};
+ghost use Rattle.pd_draft.specs.DraftState.{draft_state};
 ghost use Rattle.pd_laid.specs.Tree.{tree_blocks, tree_root};
 ghost use Rattle.pd_spells.specs.Need.{need_tree};
 ghost use Rattle.pd_build.specs.Building.{IsBuilding};
@@ -27,14 +27,14 @@ pub fn write_tree<V: Value, D: Device>(
 ) -> Result<u64, BuildFault>
     requires ascend { is_ascending (keys_of items.now) ≡ true }
     requires fit { All (λ item. V.fitting item.1 ≡ true) items.now }
-    requires writable { IsWritable (stand draft.old).device }
-    requires room { draft.old.next + need_tree V.SIZE (length items.now) ≤ (stand draft.old).device.blocks }
-    requires closed { IsClosed (stand draft.old).device }
+    requires writable { IsWritable (draft_state draft.old).device }
+    requires room { draft.old.next + need_tree V.SIZE (length items.now) ≤ (draft_state draft.old).device.blocks }
+    requires closed { IsClosed (draft_state draft.old).device }
     ensures same_reference { draft.new.dev.ghost_name ≡ draft.old.dev.ghost_name }
-    ensures wrote { OnOk result (Wrote (tree_blocks V.SIZE draft.old.next (entries_of V.code items.now)) (stand draft.old) (stand draft.new)) }
+    ensures wrote { OnOk result (Wrote (tree_blocks V.SIZE draft.old.next (entries_of V.code items.now)) (draft_state draft.old) (draft_state draft.new)) }
     ensures root { IfOk result (λ root. root ≡ tree_root V.SIZE draft.old.next (entries_of V.code items.now)) }
-    ensures closed { StaysClosed (stand draft.old).device (stand draft.new).device }
-    ensures faults { CountsBuildFault result (stand draft.old).device.faults (stand draft.new).device.faults }
+    ensures closed { StaysClosed (draft_state draft.old).device (draft_state draft.new).device }
+    ensures faults { CountsBuildFault result (draft_state draft.old).device.faults (draft_state draft.new).device.faults }
 {
     let mut builder = match Builder::<V>::new(alloc, items.len() as u64) {
         Ok(builder) => builder,
@@ -50,14 +50,14 @@ fn put_items<V: Value, D: Device>(
     draft: &mut Draft<'_, D>,
     items: &[(u64, V)],
 ) -> Result<(), BuildFault>
-    requires building { IsBuilding V.SIZE (entries_of V.code items.now) (entries_of V.code items.now) builder.old (stand draft.old) (stand draft.old) }
+    requires building { IsBuilding V.SIZE (entries_of V.code items.now) (entries_of V.code items.now) builder.old (draft_state draft.old) (draft_state draft.old) }
     requires fit { All (λ item. V.fitting item.1 ≡ true) items.now }
-    requires writable { IsWritable (stand draft.old).device }
-    requires room { draft.old.next + need_tree V.SIZE (length items.now) ≤ (stand draft.old).device.blocks }
+    requires writable { IsWritable (draft_state draft.old).device }
+    requires room { draft.old.next + need_tree V.SIZE (length items.now) ≤ (draft_state draft.old).device.blocks }
     ensures same_reference { draft.new.dev.ghost_name ≡ draft.old.dev.ghost_name }
-    ensures building { OnOk result (IsBuilding V.SIZE (entries_of V.code items.now) [] builder.new (stand draft.old) (stand draft.new)) }
-    ensures closed { StaysClosed (stand draft.old).device (stand draft.new).device }
-    ensures faults { CountsBuildFault result (stand draft.old).device.faults (stand draft.new).device.faults }
+    ensures building { OnOk result (IsBuilding V.SIZE (entries_of V.code items.now) [] builder.new (draft_state draft.old) (draft_state draft.new)) }
+    ensures closed { StaysClosed (draft_state draft.old).device (draft_state draft.new).device }
+    ensures faults { CountsBuildFault result (draft_state draft.old).device.faults (draft_state draft.new).device.faults }
 {
     for item in items {
         let (key, value) = *item;

@@ -11,7 +11,7 @@ use Rattle.pd_graph.specs.Audit.{blocks_of, roles_at}
 use Rattle.pd_graph.specs.Roles.{has_bit}
 use Rattle.pd_graph.proofs.AnyLemmas.{same_test}
 use Rattle.pd_graph.proofs.BitLemmas.{counts_none, counts_one}
-use Rattle.pd_refs.specs.Refs.{number_in}
+use Rattle.pd_whole.specs.Refs.{number_in}
 use Rattle.pd_arrays.specs.Reads.{number_where}
 use Rattle.pd_arrays.proofs.ReadLemmas.{in_role, where_fewer, where_more, where_zero}
 use Rattle.pd_cache.specs.declared.origin_set.OriginSet.{OriginSet}

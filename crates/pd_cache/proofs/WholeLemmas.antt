@@ -16,7 +16,7 @@ use Rattle.pd_value.specs.declared.thin.Root.{Root}
 use Rattle.pd_laws.proofs.AllLemmas.{all_from, all_mapped}
 use Rattle.pd_graph.specs.declared.audit.Audit.{Audit}
 use Rattle.pd_graph.specs.Audit.{KeepsButRules}
-use Rattle.pd_refs.proofs.RefsLemmas.{if_then}
+use Rattle.pd_whole.proofs.RefsLemmas.{if_then}
 use Rattle.pd_tree.specs.Items.{item_of, root_of}
 use Rattle.pd_whole.specs.Charges.{Charges}
 use Rattle.pd_whole.proofs.ChargeLemmas.{charges_then}

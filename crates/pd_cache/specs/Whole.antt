@@ -10,7 +10,7 @@ use Rattle.pd_array.specs.declared.word.Word.TheVariants.{Four, Eight}
 use Rattle.pd_laws.specs.InOrder.{AreInOrder}
 use Rattle.pd_graph.specs.declared.audit.Audit.{Audit}
 use Rattle.pd_graph.specs.Audit.{blocks_of}
-use Rattle.pd_refs.specs.Refs.{number_in}
+use Rattle.pd_whole.specs.Refs.{number_in}
 use Rattle.pd_tree.specs.Below.{nodes_below}
 use Rattle.pd_tree.specs.Roots.{HasCacheRoots}
 use Rattle.pd_tree.specs.TreeRoles.{HasCacheTrees}

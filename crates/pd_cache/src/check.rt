@@ -24,7 +24,7 @@ impl Metadata for CacheTable {
 
     type Format = CacheFormat;
 
-    type Room = CacheRoom;
+    type WholeMemory = CacheRoom;
 
     ghost kind = { Cache };
 

@@ -16,7 +16,7 @@ pub type CacheFormat = Tabled<CacheTable>;
 impl Table for CacheTable {
     ghost use Rattle.pd_kinds.specs.CacheFormat.{cache_layout};
     ghost use Rattle.pd_laws.proofs.CacheTable.{cache_table};
-    ghost use Rattle.pd_cache.specs.Copies.{copy_edges, copy_rules};
+    ghost use Rattle.pd_cache.specs.Copies.{super_copy_edges, super_copy_rules};
 
     const ROLES: u8 = cache_role::ROLES;
 
@@ -30,9 +30,9 @@ impl Table for CacheTable {
 
     ghost layout = { λ nr data_blocks. cache_layout nr };
 
-    ghost copy_bad = { copy_rules };
+    ghost super_copy_bad = { super_copy_rules };
 
-    ghost copy_edges = { copy_edges };
+    ghost super_copy_edges = { super_copy_edges };
 
     fn meta_blocks_of(s: &CacheSuper) -> u64 {
         s.meta_map.blocks
@@ -73,11 +73,11 @@ impl Table for CacheTable {
         }
     }
 
-    fn copy_rules(_role: u8, _place: u64, b: &Block, nr: u64) -> Rules {
+    fn super_copy_rules(_role: u8, _place: u64, b: &Block, nr: u64) -> Rules {
         cache_super_rules(b, nr)
     }
 
-    fn copy_edges(_role: u8, b: &Block) -> Edges {
+    fn super_copy_edges(_role: u8, b: &Block) -> Edges {
         cache_super_edges(&read_cache_super(b))
     }
 

@@ -6,7 +6,7 @@ ghost use Rattle.pd_kinds.specs.Objects.{CountsFault};
 ghost use Rattle.pd_kinds.specs.Whole.{has_repeat};
 ghost use Rattle.pd_image.specs.Device.{IsAttached, OnlyReads};
 ghost use Rattle.pd_graph.specs.Audit.{blocks_of};
-ghost use Rattle.pd_refs.specs.Refs.{number_in};
+ghost use Rattle.pd_whole.specs.Refs.{number_in};
 ghost use Rattle.pd_tree.specs.Below.{items_below, nodes_below};
 ghost use Rattle.pd_tree.specs.Cursor.{cursor_nodes, cursor_room};
 ghost use Rattle.pd_tree.specs.Items.{root_of};

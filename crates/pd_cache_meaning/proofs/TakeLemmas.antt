@@ -34,6 +34,6 @@ none_of (Some x) other = absurd (other x refl)
 
 -- no rows are left where no words are
 pub rows_end : (image : List (List ℕ)) (start now last : CacheMaps) (words : List ℕ) → rows_left image start ≡ rows_left image now → (array_words image now.words ≡ []) × (words ≡ [])
-    → (rows_left image start ≡ []) × (rows_beside image last.beside words ≡ [])
+    → (rows_left image start ≡ []) × (rows_beside image last.hints_and_dirty words ≡ [])
 unfolding rows_of
 rows_end image start now last words same none = (same ∙ rw none.0 refl, rw none.1 refl)

@@ -31,17 +31,17 @@ dirty_reads_below image fields = if has_dirty_bits fields.version then reads_of_
 
 -- the rows that are left, how many reads they take at most, and a number that falls
 abbrev pub rows_left : List (List ℕ) → CacheMaps → List CacheRow
-rows_left image maps = rows_beside image maps.beside (array_words image maps.words)
+rows_left image maps = rows_beside image maps.hints_and_dirty (array_words image maps.words)
 
 abbrev pub rows_reads : List (List ℕ) → CacheMaps → ℕ
-rows_reads image maps = array_reads image maps.words + side_reads image maps.beside
+rows_reads image maps = array_reads image maps.words + side_reads image maps.hints_and_dirty
 
 abbrev pub rows_number : CacheMaps → ℕ
 rows_number maps = array_number maps.words
 
 -- how many blocks the device must have for the roots that are still to be read
 abbrev pub rows_room : CacheMaps → ℕ
-rows_room maps = max (array_room maps.words) (side_room maps.beside)
+rows_room maps = max (array_room maps.words) (side_room maps.hints_and_dirty)
 
 -- the roots of a superblock that are read are below a number of blocks
 pub record RootsBelow (blocks : ℕ) (fields : CacheFields) : Type 0 where

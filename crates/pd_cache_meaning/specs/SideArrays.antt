@@ -66,13 +66,13 @@ bits_in_room (Some bits) = bits_room bits
 
 -- the rows of these words, by what stands beside them
 abbrev pub rows_beside : List (List ℕ) → SideArrays → List ℕ → List CacheRow
-rows_beside image beside words = rows_of beside.block words (hints_in image beside.hints) (bits_in image beside.bits)
+rows_beside image hints_and_dirty words = rows_of hints_and_dirty.block words (hints_in image hints_and_dirty.hints) (bits_in image hints_and_dirty.bits)
 
 abbrev pub side_reads : List (List ℕ) → SideArrays → ℕ
-side_reads image beside = hints_in_reads image beside.hints + bits_in_reads image beside.bits
+side_reads image hints_and_dirty = hints_in_reads image hints_and_dirty.hints + bits_in_reads image hints_and_dirty.bits
 
 abbrev pub side_room : SideArrays → ℕ
-side_room beside = max (hints_in_room beside.hints) (bits_in_room beside.bits)
+side_room hints_and_dirty = max (hints_in_room hints_and_dirty.hints) (bits_in_room hints_and_dirty.bits)
 
 -- the row of a word was given, where the word is valid
 abbrev pub given_of : ℕ → CacheRow → List CacheRow

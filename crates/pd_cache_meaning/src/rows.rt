@@ -21,7 +21,7 @@ use std::alloc::{AllocError, Global};
 #[derive(Drop)]
 pub struct CacheMaps {
     words: ArrayCursor,
-    beside: SideArrays,
+    hints_and_dirty: SideArrays,
 }
 
 impl CacheMaps {
@@ -36,8 +36,11 @@ impl CacheMaps {
         ensures room { (blocks : ℕ) → RootsBelow blocks s.now → IfOk result (λ maps. rows_room maps ≤ blocks) }
     {
         let words = ArrayCursor::start(alloc, s.mapping_root, Word::Eight)?;
-        let beside = SideArrays::start(alloc, s)?;
-        Ok(CacheMaps { words, beside })
+        let hints_and_dirty = SideArrays::start(alloc, s)?;
+        Ok(CacheMaps {
+            words,
+            hints_and_dirty,
+        })
     }
 
     /// The next mapping, or `None` after the last one. It takes no memory.
@@ -60,7 +63,7 @@ impl CacheMaps {
         ensures faults { CountsFault result (D.state dev.old).faults (D.state dev.new).faults }
     {
         while let Some(word) = self.words.next(dev)? {
-            let row = self.beside.take(dev, word)?;
+            let row = self.hints_and_dirty.take(dev, word)?;
             if word % 2 == 1 {
                 return Ok(Some(row));
             }

@@ -38,9 +38,9 @@ impl SideArrays {
 
     /// What stands beside the first word of the cache with this superblock. It takes all memory that is needed.
     pub(crate) fn start(alloc: Global, s: &CacheSuper) -> Result<SideArrays, AllocError>
-        ensures rows { (image : List (List ℕ)) (words : List ℕ) → IfOk result (λ beside. rows_beside image beside words ≡ rows_of 0 words (hints_below image s.now) (dirty_below image s.now)) }
-        ensures reads { (image : List (List ℕ)) → IfOk result (λ beside. side_reads image beside ≡ hints_reads_below image s.now + dirty_reads_below image s.now) }
-        ensures room { (blocks : ℕ) → RootsBelow blocks s.now → IfOk result (λ beside. side_room beside ≤ blocks) }
+        ensures rows { (image : List (List ℕ)) (words : List ℕ) → IfOk result (λ hints_and_dirty. rows_beside image hints_and_dirty words ≡ rows_of 0 words (hints_below image s.now) (dirty_below image s.now)) }
+        ensures reads { (image : List (List ℕ)) → IfOk result (λ hints_and_dirty. side_reads image hints_and_dirty ≡ hints_reads_below image s.now + dirty_reads_below image s.now) }
+        ensures room { (blocks : ℕ) → RootsBelow blocks s.now → IfOk result (λ hints_and_dirty. side_room hints_and_dirty ≤ blocks) }
     {
         let hints = hints_of(alloc, s)?;
         let bits = bits_of(alloc, s)?;

@@ -38,9 +38,9 @@ use Rattle.pd_tree.specs.Roots.{HasCacheRoots, HasEraRoots, HasThinRoots}
 use Rattle.pd_tree.specs.Sound.{IsSoundTree}
 use Rattle.pd_tree.specs.TreeRoles.{HasCacheTrees, HasEraTrees, HasThinTrees, IsTreeRole}
 use Rattle.pd_count.specs.Counted.{Counted, count_of}
-use Rattle.pd_refs.specs.declared.counter.RefCounter.{RefCounter}
-use Rattle.pd_refs.specs.Counter.{HasSeen}
-use Rattle.pd_refs.specs.Refs.{HasDataCounts, NamesDataIn}
+use Rattle.pd_whole.specs.declared.counter.RefCounter.{RefCounter}
+use Rattle.pd_whole.specs.Counter.{HasSeen}
+use Rattle.pd_whole.specs.Refs.{HasDataCounts, NamesDataIn}
 use Rattle.pd_smap.specs.Counted.{faults_from}
 use Rattle.pd_smap.specs.Entries.{IsIndex, IsOverflow, index_of, overflow_of}
 use Rattle.pd_smap.specs.Reports.{Adds}

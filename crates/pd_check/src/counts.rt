@@ -10,7 +10,7 @@ ghost use Rattle.pd_kinds.specs.Stages.{checked_of, count_faults, faults};
 ghost use Rattle.pd_image.specs.Device.{IsAttached, OnlyReads};
 ghost use Rattle.pd_graph.specs.Audit.{blocks_of};
 ghost use Rattle.pd_graph.specs.Watch.{no_pairs};
-ghost use Rattle.pd_refs.specs.Counter.{HasSeen, data_blocks_of};
+ghost use Rattle.pd_whole.specs.Counter.{HasSeen, data_blocks_of};
 ghost use Rattle.pd_smap.specs.Reports.{Adds};
 ghost use Rattle.pd_check.specs.ByKind.{data_space_of, graph_of_super, meta_map_of};
 ghost use Rattle.pd_check.specs.Counts.{count_reads, data_faults, data_reads, meta_faults, meta_reads, space_reads};
@@ -21,9 +21,9 @@ use crate::metadata::Metadata;
 use pd_graph::Audit;
 use pd_image::Device;
 use pd_kinds::{Block, CheckFault, Report};
-use pd_refs::RefCounter;
 use pd_smap::{compare_data, compare_meta, index_trees_name_bitmaps, overflow_trees_hold_counts};
 use pd_tree::{formats_have_trees, reached_trees_are_sound, superblocks_lead_to_reached_roots};
+use pd_whole::RefCounter;
 use std::alloc::{AllocError, Global};
 
 /// A counter of the references to data blocks, where this is block 0; it counts none where this kind has none. Want of

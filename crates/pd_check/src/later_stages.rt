@@ -16,7 +16,7 @@ ghost use Rattle.pd_graph.specs.Watch.{no_pairs};
 ghost use Rattle.pd_whole.specs.Known.{IsWellSettled};
 ghost use Rattle.pd_check.specs.Check.{goes_past_walk, past_faults, reads_of, reads_to_order};
 
-use crate::walked::{walk_report, walked};
+use crate::walked::{walk_all, walk_report};
 use pd_graph::{Audit, Format, NoWatch, Watch};
 use pd_image::{Device, Failed};
 use pd_kinds::{CheckFault, Report, Stage};
@@ -46,7 +46,7 @@ pub fn check_later_stages<F: Format, D: Device>(
     ensures kept { OnlyReads (D.state dev.old) (D.state dev.new) }
     ensures faults { CountsCheckFault result (D.state dev.old).faults (D.state dev.new).faults }
 {
-    let (_audit, report) = looked_at(alloc, dev, format, until, &mut NoWatch)?;
+    let (_audit, report) = walk_and_settle(alloc, dev, format, until, &mut NoWatch)?;
     Ok(report)
 }
 
@@ -55,7 +55,7 @@ pub fn check_later_stages<F: Format, D: Device>(
 ///
 /// Fails as `check_later_stages` does.
 #[inline(never)]
-pub(crate) fn looked_at<F: Format, D: Device, W: Watch>(
+pub(crate) fn walk_and_settle<F: Format, D: Device, W: Watch>(
     alloc: Global,
     dev: &mut D,
     format: &F,
@@ -82,7 +82,7 @@ pub(crate) fn looked_at<F: Format, D: Device, W: Watch>(
     ensures kept { OnlyReads (D.state dev.old) (D.state dev.new) }
     ensures faults { CountsCheckFault result (D.state dev.old).faults (D.state dev.new).faults }
 {
-    let mut audit = walked(alloc, dev, format, watch)?;
+    let mut audit = walk_all(alloc, dev, format, watch)?;
     let report = walk_report(&audit);
     let goes_on = is_past_walk(until);
     if goes_on & report.is_empty() {

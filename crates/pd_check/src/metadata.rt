@@ -27,7 +27,7 @@ pub trait Metadata {
     type Format: Format + Copy;
 
     /// The memory that the rules of the whole image need. It watches the walk.
-    type Room: Watch + Drop;
+    type WholeMemory: Watch + Drop;
 
     /// Which kind it is.
     ghost kind: { Kind };
@@ -53,9 +53,9 @@ pub trait Metadata {
 
     /// Takes the memory that the rules of the whole image need, where this is block 0. Want of it is the only
     /// error.
-    fn room(alloc: Global, b: &Block) -> Result<Self::Room, AllocError>
-        ensures room { IfOk result (λ room. Self.Room.has_room room (graph_of_super kind b.now.0)) }
-        ensures unseen { IfOk result (λ room. (image : List (List ℕ)) → Self.Room.has_seen room (graph_of_super kind b.now.0) image no_pairs) };
+    fn room(alloc: Global, b: &Block) -> Result<Self::WholeMemory, AllocError>
+        ensures room { IfOk result (λ room. Self.WholeMemory.has_room room (graph_of_super kind b.now.0)) }
+        ensures unseen { IfOk result (λ room. (image : List (List ℕ)) → Self.WholeMemory.has_seen room (graph_of_super kind b.now.0) image no_pairs) };
 
     /// Gives each block the rules of the whole image that it breaks, where this is block 0 and no block has a
     /// rule up to the order of the trees. It takes no memory.
@@ -63,18 +63,18 @@ pub trait Metadata {
     /// What it says of content holds where the audit knows what the device holds, and the room was shown all that
     /// is reached; over any other device, audit or room it is safe.
     fn mark_whole<D: Device>(
-        room: Self::Room,
+        room: Self::WholeMemory,
         b: &Block,
         audit: &mut Audit,
         dev: &mut D,
     ) -> Result<(), Failed>
-        requires room { Self.Room.has_room room (graph_of_super kind b.now.0) }
+        requires room { Self.WholeMemory.has_room room (graph_of_super kind b.now.0) }
         requires attached { IsAttached (D.state dev.old) }
         requires number { blocks_of audit.old ≡ (graph_of_super kind b.now.0).nr }
         requires within { (graph_of_super kind b.now.0).nr ≤ (D.state dev.old).blocks }
         ensures number { blocks_of audit.new ≡ blocks_of audit.old }
         ensures charges { OnOk result (IfSome (D.state dev.old).held (λ image. IsOrdered kind b.now.0 image audit.old
-            → Self.Room.has_seen room (graph_of_super kind b.now.0) image (is_reached (graph_of_super kind b.now.0) image)
+            → Self.WholeMemory.has_seen room (graph_of_super kind b.now.0) image (is_reached (graph_of_super kind b.now.0) image)
             → Charges (checked_of kind image).whole audit.old audit.new)) }
 
         // At most two reads for each reachable pair, also where one failed.

@@ -24,7 +24,7 @@ use std::alloc::Global;
 ///
 /// Fails with `CheckFault::Memory` where that memory wasn't found, and with `CheckFault::Device` where a
 /// read failed.
-pub(crate) fn walked<F: Format, D: Device, W: Watch>(
+pub(crate) fn walk_all<F: Format, D: Device, W: Watch>(
     alloc: Global,
     dev: &mut D,
     format: &F,

@@ -21,15 +21,14 @@ ghost use Rattle.pd_check.specs.Whole.{IsOrdered, IsWhole};
 
 use crate::both::Both;
 use crate::counts::{count_report, ref_counter};
-use crate::later_stages::looked_at;
+use crate::later_stages::walk_and_settle;
 use crate::metadata::Metadata;
 use crate::read_bounds::counts_read_no_more_than_nodes;
 use crate::walked::walk_report;
 use pd_graph::{Audit, NoWatch, Watch};
 use pd_image::{Device, Failed};
 use pd_kinds::{Block, CheckFault, Report, Stage};
-use pd_refs::RefCounter;
-use pd_whole::settled_audits_are_known;
+use pd_whole::{RefCounter, settled_audits_are_known};
 use std::alloc::Global;
 
 /// Looks at all that block 0, which breaks no rule, leads to, and where no block breaks a rule up to the order
@@ -57,7 +56,7 @@ pub(crate) fn check_whole<M: Metadata, D: Device>(
     ensures kept { OnlyReads (D.state dev.old) (D.state dev.new) }
     ensures faults { CountsCheckFault result (D.state dev.old).faults (D.state dev.new).faults }
 {
-    let (_audit, report, _watch) = whole_looked::<M, D, NoWatch>(
+    let (_audit, report, _watch) = check_whole_watched::<M, D, NoWatch>(
         alloc, dev, first, blocks, NoWatch,
     )?;
     Ok(report)
@@ -68,7 +67,7 @@ pub(crate) fn check_whole<M: Metadata, D: Device>(
 ///
 /// Fails as `check_whole` does.
 #[inline(never)]
-pub(crate) fn whole_looked<M: Metadata, D: Device, W: Watch + Drop>(
+pub(crate) fn check_whole_watched<M: Metadata, D: Device, W: Watch + Drop>(
     alloc: Global,
     dev: &mut D,
     first: &Block,
@@ -106,7 +105,7 @@ pub(crate) fn whole_looked<M: Metadata, D: Device, W: Watch + Drop>(
         first: room,
         second: watch,
     };
-    let (mut audit, report) = looked_at(
+    let (mut audit, report) = walk_and_settle(
         alloc,
         dev,
         &M::format(first, blocks),
@@ -152,7 +151,7 @@ pub(crate) fn check_counts<M: Metadata, D: Device>(
         Ok(counter) => counter,
         Err(_) => return Err(CheckFault::Memory),
     };
-    let (audit, report, counter) = whole_looked::<M, D, RefCounter>(
+    let (audit, report, counter) = check_whole_watched::<M, D, RefCounter>(
         alloc, dev, first, blocks, counter,
     )?;
     if !report.is_empty() {
@@ -163,21 +162,21 @@ pub(crate) fn check_counts<M: Metadata, D: Device>(
 
 /// Marks the rules of the whole image, where no block has a rule yet, and reports them.
 fn whole_report<M: Metadata, D: Device>(
-    room: M::Room,
+    room: M::WholeMemory,
     first: &Block,
     audit: &mut Audit,
     dev: &mut D,
 ) -> Result<Report, Failed>
-    requires room { M.Room.has_room room (graph_of_super M.kind first.now.0) }
+    requires room { M.WholeMemory.has_room room (graph_of_super M.kind first.now.0) }
     requires attached { IsAttached (D.state dev.old) }
     requires number { blocks_of audit.old ≡ (graph_of_super M.kind first.now.0).nr }
     requires within { (graph_of_super M.kind first.now.0).nr ≤ (D.state dev.old).blocks }
     requires none { (b : ℕ) (rule : Rule) → b < (graph_of_super M.kind first.now.0).nr → has_rule_at audit.old b rule ≡ false }
     ensures report { IfOk result (λ report. IfSome (D.state dev.old).held (λ image. IsOrdered M.kind first.now.0 image audit.old
-        → M.Room.has_seen room (graph_of_super M.kind first.now.0) image (is_reached (graph_of_super M.kind first.now.0) image)
+        → M.WholeMemory.has_seen room (graph_of_super M.kind first.now.0) image (is_reached (graph_of_super M.kind first.now.0) image)
         → report ≡ report_of (block_faults (graph_of_super M.kind first.now.0).nr (whole_bad (checked_of M.kind image).whole)))) }
     ensures known { OnOk result (IfSome (D.state dev.old).held (λ image. IsOrdered M.kind first.now.0 image audit.old
-        → M.Room.has_seen room (graph_of_super M.kind first.now.0) image (is_reached (graph_of_super M.kind first.now.0) image)
+        → M.WholeMemory.has_seen room (graph_of_super M.kind first.now.0) image (is_reached (graph_of_super M.kind first.now.0) image)
         → IsKnown (graph_of_super M.kind first.now.0) image audit.new)) }
     ensures number { blocks_of audit.new ≡ blocks_of audit.old }
     ensures told { IfOk result (λ report. report ≡ report_of (flat_map (λ b. faults_at b (has_rule_at audit.new b)) (range_with_len 0 (blocks_of audit.new)))) }

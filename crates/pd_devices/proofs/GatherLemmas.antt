@@ -12,7 +12,7 @@ use Rattle.pd_value.specs.declared.thin.Root.{Root}
 use Rattle.pd_value.specs.declared.thin.Details.{Details}
 use Rattle.pd_node.specs.Items.{entries_of}
 use Rattle.pd_draft.specs.Closed.{IsClosed}
-use Rattle.pd_draft.specs.Placed.{Stand, Wrote}
+use Rattle.pd_draft.specs.Placed.{DraftState, Wrote}
 use Rattle.pd_draft.proofs.PlacedLemmas.{wrote_none, wrote_then}
 use Rattle.pd_count.specs.Counted.{HasCounted}
 use Rattle.pd_spells.specs.Need.{need_tree}
@@ -40,13 +40,13 @@ use Rattle.pd_devices.proofs.RunLemmas.{length-items, items-append, length-mappi
 use Rattle.pd_devices.proofs.TreeLemmas.{length-device_trees, one_tree_more, one_root_more, sum_few}
 
 -- the open tree is that of the open device
-pub opened_some : (devices : List ThinDevice) (low left : ℕ) (o : Growing) (from to : Stand) → IsOpen devices low left (Some o) from to
+pub opened_some : (devices : List ThinDevice) (low left : ℕ) (o : Growing) (from to : DraftState) → IsOpen devices low left (Some o) from to
     → (d : ThinDevice) × ((devices ≡ d ∷ []) × Grown d low left o from to)
 opened_some [] low left o from to is = absurd is
 opened_some (d ∷ []) low left o from to is = (d, (refl, is))
 opened_some (d ∷ e ∷ devices) low left o from to is = absurd is
 
-pub opened_none : (devices : List ThinDevice) (low left : ℕ) (from to : Stand) → IsOpen devices low left None from to → (devices ≡ []) × (from ≡ to)
+pub opened_none : (devices : List ThinDevice) (low left : ℕ) (from to : DraftState) → IsOpen devices low left None from to → (devices ≡ []) × (from ≡ to)
 opened_none [] low left from to is = (refl, is)
 opened_none (d ∷ []) low left from to is = absurd is
 opened_none (d ∷ e ∷ devices) low left from to is = absurd is
@@ -80,7 +80,7 @@ abbrev top : ℕ
 top = 2 ^ 64 - 1
 
 -- nothing but a pool line was read
-pub gathered_start : (p : Head) (s : Devices) (start : Stand) → start.place ≡ 1 → IsClosed start.device → p.data_blocks ≤ 2 ^ 40
+pub gathered_start : (p : Head) (s : Devices) (start : DraftState) → start.place ≡ 1 → IsClosed start.device → p.data_blocks ≤ 2 ^ 40
     → s.counts.counts.size ≡ p.data_blocks → HasCounted s.counts.counts [] → s.counts.total ≡ 0 → s.trees ≡ 0
     → s.roots.items ≡ [] → s.details.items ≡ [] → s.growing ≡ None → HasGathered (pool_line p ∷ first_line ∷ []) s start start
 unfolding device_trees device_roots
@@ -105,7 +105,7 @@ gathered_start p s start first closed small size counted total trees roots detai
 }
 
 -- where the trees of devices end
-behind_trees : {start behind : Stand} (devices : List ThinDevice) → start.place ≡ 1 → Wrote (device_trees 1 devices) start behind → behind.place ≡ 1 + trees_need devices
+behind_trees : {start behind : DraftState} (devices : List ThinDevice) → start.place ≡ 1 → Wrote (device_trees 1 devices) start behind → behind.place ≡ 1 + trees_need devices
 behind_trees devices first written = omega (arith, first, written.moved, length-device_trees 1 devices)
 
 -- the last entry by its parts
@@ -113,12 +113,12 @@ last_entry : (es : List Entry) (i j v w : ℕ) → i ≡ j → v ≡ w → es ++
 last_entry es i j v w a b = cc
 
 -- where no device is open, no tree is
-closed_here : (o : Option Growing) (from to : Stand) → IsOpen [] 0 0 o from to → from ≡ to
+closed_here : (o : Option Growing) (from to : DraftState) → IsOpen [] 0 0 o from to → from ≡ to
 closed_here None from to is = is
 closed_here (Some o) from to is = absurd is
 
 -- the tree of the open device was ended
-pub gathered_ended : {start mid now : Stand} (before : List Line) (old new : Devices) (o : Growing) (root : ℕ) → HasGathered before old start mid → unmapped before ≡ 0
+pub gathered_ended : {start mid now : DraftState} (before : List Line) (old new : Devices) (o : Growing) (root : ℕ) → HasGathered before old start mid → unmapped before ≡ 0
     → old.growing ≡ Some o → new.growing ≡ None → new.details ≡ old.details → new.counts ≡ old.counts → new.trees ≡ old.trees
     → new.roots.items ≡ old.roots.items ++ (o.id, record { 0 = root }) ∷ []
     → Wrote (blocks_left 8 mid.place o.builder []) mid now → root ≡ root_left mid.place o.builder [] → root < 2 ^ 64
@@ -164,7 +164,7 @@ gathered_ended {start} {mid} {now} before old new o root h none growing ended de
         }
 
 -- a device was begun
-pub gathered_begun : {start now : Stand} (before : List Line) (old new : Devices) (id : ℕ) (details : Details) (t : TreeLeft) → IsClosed now.device
+pub gathered_begun : {start now : DraftState} (before : List Line) (old new : Devices) (id : ℕ) (details : Details) (t : TreeLeft) → IsClosed now.device
     → HasGathered (end_line ∷ before) old start now → IsBegun 8 details.mapped t → t.leaves.low ≡ 0
     → new.growing ≡ Some (record { id = id; builder = t }) → new.roots ≡ old.roots → new.counts ≡ old.counts
     → new.trees ≡ min (old.trees + need_tree 8 details.mapped) top → new.details.items ≡ old.details.items ++ (id, details) ∷ [] → details_fit (id, details)
@@ -195,7 +195,7 @@ gathered_begun {start} {now} before old new id details t closed h begun low grow
       total = rw counts (omega (arith, h.total, sum_by-cons (λ (x : ℕ). x) details.mapped (mapped_in before)));
       trees = omega (arith, trees, h.trees, sum_by-cons (need_tree 8) details.mapped (mapped_in before));
       number = omega (arith, ap (λ (items : List (ℕ × Details)). length items) listed, length-append old.details.items ((id, details) ∷ []), h.number);
-      place = omega (arith, h.place, ap (λ (stand : Stand). stand.place) here, sum_by-cons (need_tree 8) details.mapped (mapped_in before));
+      place = omega (arith, h.place, ap (λ (draft_state : DraftState). draft_state.place) here, sum_by-cons (need_tree 8) details.mapped (mapped_in before));
     }
 
 -- the details of a device stay where it takes a run
@@ -204,7 +204,7 @@ same_details r [] d = refl
 same_details r (e ∷ ds) d = ap (λ (es : List Entry). record { key = e.id; value = details_code e.mapped e.transaction e.created e.snapped } ∷ es) (same_details r ds d)
 
 -- a run of the open device was taken
-pub gathered_run : {start mid now : Stand} (before : List Line) (old new : Devices) (o p : Growing) (r : Run) → HasGathered before old start mid → MayFollow before r
+pub gathered_run : {start mid now : DraftState} (before : List Line) (old new : Devices) (o p : Growing) (r : Run) → HasGathered before old start mid → MayFollow before r
     → old.growing ≡ Some o → new.growing ≡ Some p → p.id ≡ o.id → new.roots ≡ old.roots → new.details ≡ old.details → new.trees ≡ old.trees
     → new.counts.counts.size ≡ old.counts.counts.size → new.counts.total ≡ old.counts.total + r.length
     → HasCounted new.counts.counts (range_with_len r.data_block r.length ++ data_in before)
@@ -251,12 +251,12 @@ unfolding thin_need_so_far need_of_devices
 trees_within room before = omega arith
 
 -- so all counts stay small, also with those of a run more
-pub gathered_few : {s : Devices} {start now : Stand} (before : List Line) (room more : ℕ) → HasGathered before s start now → thin_need_so_far room before ≤ room → room ≤ 4161600
+pub gathered_few : {s : Devices} {start now : DraftState} (before : List Line) (room more : ℕ) → HasGathered before s start now → thin_need_so_far room before ≤ room → room ≤ 4161600
     → more ≤ unmapped before → s.counts.total + more < 2 ^ 32
 gathered_few before room more h need most enough = omega (arith, h.total, sum_few (mapped_in before), trees_within room before)
 
 -- and what is left of the open tree has room
-pub gathered_room : {s : Devices} {start now : Stand} (before : List Line) (room : ℕ) (o : Growing) → HasGathered before s start now → s.growing ≡ Some o
+pub gathered_room : {s : Devices} {start now : DraftState} (before : List Line) (room : ℕ) (o : Growing) → HasGathered before s start now → s.growing ≡ Some o
     → thin_need_so_far room before ≤ room → now.place + number_left o.builder ≤ room
 gathered_room {s} {start} {now} before room o h growing need =
     within (opened_some (open_device before) (piece_end before) (unmapped before) o h.behind now (rw growing at h.growing))
@@ -265,7 +265,7 @@ gathered_room {s} {start} {now} before room o h growing need =
     within (d, (opened, g)) = omega (arith, g.grows.room, g.begun.room, h.place, ap open_need opened, trees_within room before, need)
 
 -- where mappings are to come, a tree is open
-pub gathered_some : {s : Devices} {start now : Stand} (before : List Line) → HasGathered before s start now → s.growing ≡ None → 1 ≤ unmapped before → ⊥
+pub gathered_some : {s : Devices} {start now : DraftState} (before : List Line) → HasGathered before s start now → s.growing ≡ None → 1 ≤ unmapped before → ⊥
 gathered_some {s} {start} {now} before h growing some =
     let closed = opened_none (open_device before) (piece_end before) (unmapped before) h.behind now (rw growing at h.growing) in
     let one = open_some before h.leaves some in
@@ -275,7 +275,7 @@ gathered_some {s} {start} {now} before h growing some =
     no_device d e = cc
 
 -- the need of what was gathered
-pub gathered_need : {s : Devices} {start now : Stand} (before : List Line) (room : ℕ) → HasGathered before s start now
+pub gathered_need : {s : Devices} {start now : DraftState} (before : List Line) (room : ℕ) → HasGathered before s start now
     → min (need_of_trees s.trees (length s.details.items) s.counts.counts.size (overflows_of s.counts.counts s.counts.counts.size) room) top ≡ min (thin_need_so_far room before) top
 unfolding thin_need_so_far
 gathered_need {s} {start} {now} before room h =

@@ -3,7 +3,7 @@ use Rattle.std.proofs.Common.{◌≡◌, ℕ, List, [], ◌∷◌, ◌++◌, len
 use Rattle.std.proofs.lemmas.List.{append-nil}
 use Rattle.pd_kinds.specs.Node.{Entry}
 use Rattle.pd_draft.specs.Closed.{IsClosed}
-use Rattle.pd_draft.specs.Placed.{Stand, Wrote}
+use Rattle.pd_draft.specs.Placed.{DraftState, Wrote}
 use Rattle.pd_draft.proofs.PlacedLemmas.{wrote_none, wrote_then}
 use Rattle.pd_laid.specs.Tree.{tree_blocks, tree_root}
 use Rattle.pd_build.specs.Leaves.{items_to_come}
@@ -11,10 +11,10 @@ use Rattle.pd_build.specs.Tree.{TreeLeft, Grows, blocks_left, root_left}
 use Rattle.pd_devices.specs.Growth.{IsBegun, GrowsBy}
 
 -- nothing was taken yet
-pub grows_none : (size : ℕ) (t : TreeLeft) (stand : Stand) → IsClosed stand.device → GrowsBy size [] t t stand stand
-grows_none size t stand closed = record {
+pub grows_none : (size : ℕ) (t : TreeLeft) (draft_state : DraftState) → IsClosed draft_state.device → GrowsBy size [] t t draft_state draft_state
+grows_none size t draft_state closed = record {
   written = [];
-  wrote = wrote_none stand closed;
+  wrote = wrote_none draft_state closed;
   blocks = λ items. refl;
   root = λ items. refl;
   items = omega arith;
@@ -22,7 +22,7 @@ grows_none size t stand closed = record {
 }
 
 -- some items, and others after them
-pub grows_then : {size : ℕ} {xs ys : List Entry} {a b c : TreeLeft} {from mid to : Stand} → GrowsBy size xs a b from mid → GrowsBy size ys b c mid to
+pub grows_then : {size : ℕ} {xs ys : List Entry} {a b c : TreeLeft} {from mid to : DraftState} → GrowsBy size xs a b from mid → GrowsBy size ys b c mid to
     → GrowsBy size (xs ++ ys) a c from to
 grows_then {size} {xs} {ys} {a} {b} {c} {from} {mid} {to} first last = record {
   written = first.written ++ last.written;
@@ -38,7 +38,7 @@ grows_then {size} {xs} {ys} {a} {b} {c} {from} {mid} {to} first last = record {
 }
 
 -- one item
-pub grows_one : {size : ℕ} {e : Entry} {a b : TreeLeft} {from to : Stand} → Grows size e a b from to → GrowsBy size (e ∷ []) a b from to
+pub grows_one : {size : ℕ} {e : Entry} {a b : TreeLeft} {from to : DraftState} → Grows size e a b from to → GrowsBy size (e ∷ []) a b from to
 grows_one {size} {e} {a} {b} {from} {to} g = record {
   written = g.written;
   wrote = g.wrote;
@@ -49,7 +49,7 @@ grows_one {size} {e} {a} {b} {from} {to} g = record {
 }
 
 -- all items were taken, and the rest of the tree was written
-pub grown_end : {size number : ℕ} {all : List Entry} {first last : TreeLeft} {from mid to : Stand} → IsBegun size number first
+pub grown_end : {size number : ℕ} {all : List Entry} {first last : TreeLeft} {from mid to : DraftState} → IsBegun size number first
     → GrowsBy size all first last from mid → items_to_come last.leaves ≡ 0 → Wrote (blocks_left size mid.place last []) mid to
     → Wrote (tree_blocks size from.place all) from to
 grown_end {size} {number} {all} {first} {last} {from} {mid} {to} begun grows done wrote =
@@ -59,7 +59,7 @@ grown_end {size} {number} {all} {first} {last} {from} {mid} {to} begun grows don
     ∙ (ap (λ (items : List Entry). blocks_left size from.place first items) (sym (append-nil all)) ∙ grows.blocks []) in
     subst (λ (blocks : List (List ℕ)). Wrote blocks from to) (sym whole) (wrote_then grows.wrote wrote)
 
-pub grown_root : {size number : ℕ} {all : List Entry} {first last : TreeLeft} {from mid : Stand} → IsBegun size number first
+pub grown_root : {size number : ℕ} {all : List Entry} {first last : TreeLeft} {from mid : DraftState} → IsBegun size number first
     → GrowsBy size all first last from mid → items_to_come last.leaves ≡ 0 → root_left mid.place last [] ≡ tree_root size from.place all
 grown_root {size} {number} {all} {first} {last} {from} {mid} begun grows done =
     let full : length all ≡ number = omega (arith, grows.items, begun.items, done) in

@@ -7,7 +7,7 @@ use Rattle.pd_kinds.specs.Value.{details_code}
 use Rattle.pd_value.specs.declared.thin.Root.{Root}
 use Rattle.pd_value.specs.declared.thin.Details.{Details}
 use Rattle.pd_node.specs.Items.{entries_of}
-use Rattle.pd_draft.specs.Placed.{Stand, Wrote}
+use Rattle.pd_draft.specs.Placed.{DraftState, Wrote}
 use Rattle.pd_count.specs.Counted.{HasCounted}
 use Rattle.pd_spells.specs.Need.{need_tree}
 use Rattle.pd_spells.specs.ThinText.{Line, Run, data_blocks_of, is_shared, leaf_number, piece_end, unmapped}
@@ -23,7 +23,7 @@ use Rattle.pd_devices.specs.Devices.{open_device, whole_devices, MayFollow}
 
 -- the tree of a device is begun, and has its mappings so far: the next one's virtual block is at least this, and so
 -- many are to come
-pub record Grown (device : ThinDevice) (least coming : ℕ) (o : Growing) (from to : Stand) : Type 0 where
+pub record Grown (device : ThinDevice) (least coming : ℕ) (o : Growing) (from to : DraftState) : Type 0 where
   pub id : o.id ≡ device.id
   pub first : TreeLeft
   pub begun : IsBegun 8 device.mapped first
@@ -32,7 +32,7 @@ pub record Grown (device : ThinDevice) (least coming : ℕ) (o : Growing) (from 
   pub left : items_to_come o.builder.leaves ≡ coming
 
 -- the tree of the open device, where there is one
-abbrev pub IsOpen : List ThinDevice → ℕ → ℕ → Option Growing → Stand → Stand → Type 0
+abbrev pub IsOpen : List ThinDevice → ℕ → ℕ → Option Growing → DraftState → DraftState → Type 0
 IsOpen [] low left None from to = from ≡ to
 IsOpen [] low left (Some o) from to = ⊥
 IsOpen (d ∷ []) low left None from to = ⊥
@@ -53,11 +53,11 @@ data_in before = flat_map data_of_line before
 
 -- of these lines, which are of version 1, all was gathered, and from the start on the trees of the devices that are
 -- over are written, and then what is there of the tree of the open one
-pub record HasGathered (before : List Line) (s : Devices) (start now : Stand) : Type 0 where
+pub record HasGathered (before : List Line) (s : Devices) (start now : DraftState) : Type 0 where
   pub version : is_shared before ≡ false
   pub leaves : leaf_number before ≡ 0
   pub begin : start.place ≡ 1
-  pub behind : Stand
+  pub behind : DraftState
   pub written : Wrote (device_trees 1 (whole_devices before)) start behind
   pub growing : IsOpen (open_device before) (piece_end before) (unmapped before) s.growing behind now
   pub roots : entries_of (λ (r : Root). r.0) s.roots.items ≡ device_roots 1 (whole_devices before)
@@ -75,9 +75,9 @@ pub record HasGathered (before : List Line) (s : Devices) (start now : Stand) : 
   pub place : behind.place + open_need (open_device before) ≡ 1 + sum_by (need_tree 8) (mapped_in before)
 
 -- what was gathered of some lines, whose need has room on the device
-pub record Gathered (s : Devices) (now : Stand) : Type 0 where
+pub record Gathered (s : Devices) (now : DraftState) : Type 0 where
   pub before : List Line
-  pub start : Stand
+  pub start : DraftState
   pub gathered : HasGathered before s start now
   pub room : ℕ
   pub need : thin_need_so_far room before ≤ room
@@ -85,11 +85,11 @@ pub record Gathered (s : Devices) (now : Stand) : Type 0 where
   pub there : room ≤ now.device.blocks
 
 -- the open device has all its mappings
-pub record CanEnd (s : Devices) (now : Stand) : Type 0 where
+pub record CanEnd (s : Devices) (now : DraftState) : Type 0 where
   pub so_far : Gathered s now
   pub full : unmapped so_far.before ≡ 0
 
 -- a run may follow
-pub record CanTake (s : Devices) (r : Run) (now : Stand) : Type 0 where
+pub record CanTake (s : Devices) (r : Run) (now : DraftState) : Type 0 where
   pub so_far : Gathered s now
   pub follows : MayFollow so_far.before r

@@ -1,7 +1,7 @@
 -- A tree that grows by the items of a run, whatever comes after them.
 use Rattle.std.specs.Prelude.{◌≡◌, ℕ, ◌+◌, List, ◌++◌, length}
 use Rattle.pd_kinds.specs.Node.{Entry}
-use Rattle.pd_draft.specs.Placed.{Stand, Wrote}
+use Rattle.pd_draft.specs.Placed.{DraftState, Wrote}
 use Rattle.pd_laid.specs.Tree.{tree_blocks, tree_root}
 use Rattle.pd_spells.specs.Need.{need_tree}
 use Rattle.pd_build.specs.Leaves.{items_to_come}
@@ -15,7 +15,7 @@ pub record IsBegun (size number : ℕ) (t : TreeLeft) : Type 0 where
   pub room : number_left t ≡ need_tree size number
 
 -- these items were taken, one after another: what was written then, and what is left, are what was left
-pub record GrowsBy (size : ℕ) (taken : List Entry) (old new : TreeLeft) (from to : Stand) : Type 0 where
+pub record GrowsBy (size : ℕ) (taken : List Entry) (old new : TreeLeft) (from to : DraftState) : Type 0 where
   pub written : List (List ℕ)
   pub wrote : Wrote written from to
   pub blocks : (items : List Entry) → blocks_left size from.place old (taken ++ items) ≡ written ++ blocks_left size to.place new items

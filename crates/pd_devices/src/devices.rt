@@ -3,8 +3,8 @@
 ghost use Rattle.std.specs.Prelude.{◌≡◌, ℕ, ◌+◌, ◌-◌, ◌<◌, ◌≤◌, ◌^◌, List, [], ◌∷◌, ◌++◌, min, IfOk, IfErr, OnOk};
 ghost use Rattle.pd_image.specs.Device.{IsWritable};
 ghost use Rattle.pd_draft.specs.Closed.{IsClosed, StaysClosed};
-ghost use Rattle.pd_draft.specs.Placed.{Stand};
-ghost use Rattle.pd_draft.specs.Stand.{stand};
+ghost use Rattle.pd_draft.specs.Placed.{DraftState};
+ghost use Rattle.pd_draft.specs.DraftState.{draft_state};
 ghost use Rattle.pd_spells.specs.ThinText.{Head, Line, first_line, pool_line, device_line, map_line, end_line, unmapped};
 ghost use Rattle.pd_spells.specs.ThinNeed.{thin_need_so_far};
 ghost use Rattle.pd_build.specs.Causes.{CountsBuildFault};
@@ -51,7 +51,7 @@ impl Devices {
     /// No device of a pool of so many data blocks.
     pub fn new(alloc: Global, blocks: u64) -> Result<Devices, AllocError>
         requires { blocks ≤ 2 ^ 40 }
-        ensures { (p : Head) (start : Stand) → p.data_blocks ≡ blocks → start.place ≡ 1 → IsClosed start.device
+        ensures { (p : Head) (start : DraftState) → p.data_blocks ≡ blocks → start.place ≡ 1 → IsClosed start.device
             → IfOk result (λ s. HasGathered (pool_line p ∷ first_line ∷ []) s start start) }
     {
         Ok(Devices {
@@ -71,14 +71,14 @@ impl Devices {
         id: u64,
         details: Details,
     ) -> Result<(), BuildFault>
-        requires gathered { CanEnd self.old (stand draft.old) }
-        requires writable { IsWritable (stand draft.old).device }
-        requires closed { IsClosed (stand draft.old).device }
+        requires gathered { CanEnd self.old (draft_state draft.old) }
+        requires writable { IsWritable (draft_state draft.old).device }
+        requires closed { IsClosed (draft_state draft.old).device }
         ensures same_reference { draft.new.dev.ghost_name ≡ draft.old.dev.ghost_name }
-        ensures gathered { (before : List Line) (start : Stand) → HasGathered before self.old start (stand draft.old) → unmapped before ≡ 0
-            → OnOk result (HasGathered (device_line (details_line id details) ∷ before) self.new start (stand draft.new)) }
-        ensures closed { StaysClosed (stand draft.old).device (stand draft.new).device }
-        ensures faults { CountsBuildFault result (stand draft.old).device.faults (stand draft.new).device.faults }
+        ensures gathered { (before : List Line) (start : DraftState) → HasGathered before self.old start (draft_state draft.old) → unmapped before ≡ 0
+            → OnOk result (HasGathered (device_line (details_line id details) ∷ before) self.new start (draft_state draft.new)) }
+        ensures closed { StaysClosed (draft_state draft.old).device (draft_state draft.new).device }
+        ensures faults { CountsBuildFault result (draft_state draft.old).device.faults (draft_state draft.new).device.faults }
     {
         self.end(draft)?;
         self.begin(id, details)
@@ -90,14 +90,14 @@ impl Devices {
         draft: &mut Draft<'_, D>,
         run: Run,
     ) -> Result<(), BuildFault>
-        requires gathered { CanTake self.old (run_of run) (stand draft.old) }
-        requires writable { IsWritable (stand draft.old).device }
-        requires closed { IsClosed (stand draft.old).device }
+        requires gathered { CanTake self.old (run_of run) (draft_state draft.old) }
+        requires writable { IsWritable (draft_state draft.old).device }
+        requires closed { IsClosed (draft_state draft.old).device }
         ensures same_reference { draft.new.dev.ghost_name ≡ draft.old.dev.ghost_name }
-        ensures gathered { (before : List Line) (start : Stand) → HasGathered before self.old start (stand draft.old) → MayFollow before (run_of run)
-            → OnOk result (HasGathered (map_line (run_of run) ∷ before) self.new start (stand draft.new)) }
-        ensures closed { StaysClosed (stand draft.old).device (stand draft.new).device }
-        ensures faults { CountsBuildFault result (stand draft.old).device.faults (stand draft.new).device.faults }
+        ensures gathered { (before : List Line) (start : DraftState) → HasGathered before self.old start (draft_state draft.old) → MayFollow before (run_of run)
+            → OnOk result (HasGathered (map_line (run_of run) ∷ before) self.new start (draft_state draft.new)) }
+        ensures closed { StaysClosed (draft_state draft.old).device (draft_state draft.new).device }
+        ensures faults { CountsBuildFault result (draft_state draft.old).device.faults (draft_state draft.new).device.faults }
     {
         count_run(&mut self.counts, run)?;
         match &mut self.growing {
@@ -108,14 +108,14 @@ impl Devices {
 
     /// Writes what is left of the tree of the last device.
     pub fn end<D: Device>(&mut self, draft: &mut Draft<'_, D>) -> Result<(), BuildFault>
-        requires gathered { CanEnd self.old (stand draft.old) }
-        requires writable { IsWritable (stand draft.old).device }
-        requires closed { IsClosed (stand draft.old).device }
+        requires gathered { CanEnd self.old (draft_state draft.old) }
+        requires writable { IsWritable (draft_state draft.old).device }
+        requires closed { IsClosed (draft_state draft.old).device }
         ensures same_reference { draft.new.dev.ghost_name ≡ draft.old.dev.ghost_name }
-        ensures gathered { (before : List Line) (start : Stand) → HasGathered before self.old start (stand draft.old) → unmapped before ≡ 0
-            → OnOk result (HasGathered (end_line ∷ before) self.new start (stand draft.new)) }
-        ensures closed { StaysClosed (stand draft.old).device (stand draft.new).device }
-        ensures faults { CountsBuildFault result (stand draft.old).device.faults (stand draft.new).device.faults }
+        ensures gathered { (before : List Line) (start : DraftState) → HasGathered before self.old start (draft_state draft.old) → unmapped before ≡ 0
+            → OnOk result (HasGathered (end_line ∷ before) self.new start (draft_state draft.new)) }
+        ensures closed { StaysClosed (draft_state draft.old).device (draft_state draft.new).device }
+        ensures faults { CountsBuildFault result (draft_state draft.old).device.faults (draft_state draft.new).device.faults }
     {
         match self.growing.take() {
             None => Ok(()),
@@ -128,7 +128,7 @@ impl Devices {
 
     /// Begins the tree of a device.
     fn begin(&mut self, id: u64, details: Details) -> Result<(), BuildFault>
-        ensures begun { (before : List Line) (start now : Stand) → IsClosed now.device → HasGathered (end_line ∷ before) self.old start now
+        ensures begun { (before : List Line) (start now : DraftState) → IsClosed now.device → HasGathered (end_line ∷ before) self.old start now
             → OnOk result (HasGathered (device_line (details_line id details) ∷ before) self.new start now) }
         ensures fault { IfErr result (λ fault. fault ≡ BuildFault.Memory) }
     {
@@ -145,7 +145,7 @@ impl Devices {
     /// How many blocks the pool needs so far, where there are so many for metadata. It stays at 2^64 - 1 where it would
     /// pass that.
     pub fn need(&self, room: u64) -> u64
-        ensures { (before : List Line) (start now : Stand) → HasGathered before self.now start now → result ≡ min (thin_need_so_far room before) (2 ^ 64 - 1) }
+        ensures { (before : List Line) (start now : DraftState) → HasGathered before self.now start now → result ≡ min (thin_need_so_far room before) (2 ^ 64 - 1) }
     {
         let blocks = self.counts.counts().size();
         let devices = self.details.len() as u64;

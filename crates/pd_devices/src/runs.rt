@@ -3,7 +3,7 @@
 ghost use Rattle.std.specs.Prelude.{◌≡◌, ◌+◌, ◌<◌, ◌≤◌, ◌^◌, OnOk};
 ghost use Rattle.pd_image.specs.Device.{IsWritable};
 ghost use Rattle.pd_draft.specs.Closed.{IsClosed, StaysClosed};
-ghost use Rattle.pd_draft.specs.Stand.{stand};
+ghost use Rattle.pd_draft.specs.DraftState.{draft_state};
 ghost use Rattle.pd_spells.specs.ThinText.{mappings_from};
 ghost use Rattle.pd_laid.specs.LaidThin.{mapping_items};
 ghost use Rattle.pd_build.specs.Leaves.{items_to_come};
@@ -40,14 +40,14 @@ pub(crate) fn put_run<D: Device>(
     requires within { run.data_block + run.length ≤ 2 ^ 40 }
     requires time { run.time < 2 ^ 24 }
     requires more { run.length ≤ items_to_come builder.old.leaves }
-    requires writable { IsWritable (stand draft.old).device }
-    requires room { draft.old.next + number_left builder.old ≤ (stand draft.old).device.blocks }
-    requires closed { IsClosed (stand draft.old).device }
+    requires writable { IsWritable (draft_state draft.old).device }
+    requires room { draft.old.next + number_left builder.old ≤ (draft_state draft.old).device.blocks }
+    requires closed { IsClosed (draft_state draft.old).device }
     ensures same_reference { draft.new.dev.ghost_name ≡ draft.old.dev.ghost_name }
-    ensures grows { OnOk result (GrowsBy 8 (mapping_items (mappings_from run.virtual_block run.data_block run.time run.length)) builder.old builder.new (stand draft.old) (stand draft.new)) }
+    ensures grows { OnOk result (GrowsBy 8 (mapping_items (mappings_from run.virtual_block run.data_block run.time run.length)) builder.old builder.new (draft_state draft.old) (draft_state draft.new)) }
     ensures raised { OnOk result (builder.new.leaves.low ≤ run.virtual_block + run.length) }
-    ensures closed { StaysClosed (stand draft.old).device (stand draft.new).device }
-    ensures faults { CountsBuildFault result (stand draft.old).device.faults (stand draft.new).device.faults }
+    ensures closed { StaysClosed (draft_state draft.old).device (draft_state draft.new).device }
+    ensures faults { CountsBuildFault result (draft_state draft.old).device.faults (draft_state draft.new).device.faults }
 {
     for i in 0..run.length {
         let mapping = BlockTime {

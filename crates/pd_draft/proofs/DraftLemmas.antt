@@ -10,7 +10,7 @@ use Rattle.pd_kinds.specs.Field.{zeros}
 use Rattle.pd_image.proofs.BlockLemmas.{slice_get-set_other}
 use Rattle.pd_kinds.specs.Graph.{block_at}
 use Rattle.pd_kinds.specs.Super.{is_valid_super}
-use Rattle.pd_kinds.specs.Moments.{Moment, History, now, IsLeft, after_write, after_sync}
+use Rattle.pd_kinds.specs.Moments.{Moment, History, present_moment, IsLeft, after_write, after_sync}
 use Rattle.pd_kinds.specs.Objects.{DeviceState}
 use Rattle.pd_kinds.specs.Crash.{LeavesNow, LeavesOnly, HoldsSynced, HasNoSuper, IsAmong, IsOldOrNone, IsNoneOrNew}
 use Rattle.pd_kinds.proofs.CrashLemmas.{left_synced, left_now, left_is, left_held, zeros_no_super, untold, and_then}
@@ -86,7 +86,7 @@ put_back image left b us fs fs' l = record {
 
 -- a write past block 0 of an image that a crash now leaves with zeros there
 pub torn_place : (device : DeviceState) (image left : Image) (b : ℕ) (bytes : List ℕ) → 1 ≤ b → IsClosed device → device.held ≡ Some image
-    → IsLeft (now image (after_write b bytes image device.history)) left → HasZeros left (after_write b bytes image device.history).firsts
+    → IsLeft (present_moment image (after_write b bytes image device.history)) left → HasZeros left (after_write b bytes image device.history).firsts
 torn_place device image left b bytes past closed held l =
     let back = set left b (get_or image b []) in
     let leaves = left_is device image back held (put_back image left b device.history.unsynced _ _ l) in
@@ -113,7 +113,7 @@ closed_now old new done told some measured left firsts leaves =
     let image = was.0 in
     let made = set image 0 zeros in
     let synced : HoldsSynced made new = at_some old.held (λ (i : Image). HoldsSynced (set i 0 zeros) new) image was.1 done in
-    let is : left ≡ made = left_synced made left (now made new.history) refl synced.unsynced (left_now new made left firsts synced.held leaves).0 in
+    let is : left ≡ made = left_synced made left (present_moment made new.history) refl synced.unsynced (left_now new made left firsts synced.held leaves).0 in
     ap (λ (i : Image). slice_get i 0) is ∙ set_zeros image (has_first image old was.1 some measured))
     (told_or_not old.held)
 
@@ -161,9 +161,9 @@ place_write {old} {new} b bytes past closed crash told others =
 
 -- block 0 of a synced image was being replaced
 pub torn_replaced : (image left : Image) (bytes : List ℕ) (h : History) → h.unsynced ≡ [] → h.firsts ≡ take 1 image → 1 ≤ length image
-    → IsLeft (now image (after_write 0 bytes image h)) left → IsReplaced image (set image 0 bytes) left (bytes ∷ h.firsts)
+    → IsLeft (present_moment image (after_write 0 bytes image h)) left → IsReplaced image (set image 0 bytes) left (bytes ∷ h.firsts)
 torn_replaced image left bytes h none firsts some l chance =
-    let others = others_left image left (now image (after_write 0 bytes image h)) refl (ap (λ (us : List ℕ). 0 ∷ us) none) l in
+    let others = others_left image left (present_moment image (after_write 0 bytes image h)) refl (ap (λ (us : List ℕ). 0 ∷ us) none) l in
     let within : 0 < length image = omega arith in
     ⊎_elim
     (λ among. ⊎_elim
@@ -177,14 +177,14 @@ torn_replaced image left bytes h none firsts some l chance =
 
 pub replaced_here : (image made : Image) (old : DeviceState) → HoldsSynced image old → LeavesNow (IsReplaced image made) old
 replaced_here image made old synced left firsts leaves chance =
-    inl (left_synced image left (now image old.history) refl synced.unsynced (left_now old image left firsts synced.held leaves).0)
+    inl (left_synced image left (present_moment image old.history) refl synced.unsynced (left_now old image left firsts synced.held leaves).0)
 
 pub replaced_write : (image : Image) (bytes : List ℕ) {old new : DeviceState} → HoldsSynced image old → 1 ≤ length image → IfSome old.held (λ i. MayWrite 0 bytes i old new)
     → is_some new.held ≡ is_some old.held → IfSome old.held (λ i. IfSome new.held (MayChange 0 i)) → LeavesOnly (IsReplaced image (set image 0 bytes)) old new
 replaced_write image bytes {old} {new} synced some crash told others =
     writes 0 bytes crash told others (replaced_here image (set image 0 bytes) old synced) (λ i held left l.
     let same : i ≡ image = same_Some i image (sym held ∙ synced.held) in
-    subst (λ (j : Image). IsLeft (now j (after_write 0 bytes j old.history)) left → IsReplaced image (set image 0 bytes) left (bytes ∷ old.history.firsts)) (sym same)
+    subst (λ (j : Image). IsLeft (present_moment j (after_write 0 bytes j old.history)) left → IsReplaced image (set image 0 bytes) left (bytes ∷ old.history.firsts)) (sym same)
     (λ l'. torn_replaced image left bytes old.history synced.unsynced synced.firsts some l') l)
 
 pub replaced_last : (image : Image) (bytes : List ℕ) {old mid new : DeviceState} (ok : Bool) → LeavesOnly (IsReplaced image (set image 0 bytes)) old mid

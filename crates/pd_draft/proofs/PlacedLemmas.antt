@@ -5,7 +5,7 @@ use Rattle.std.proofs.lemmas.List.{append_assoc, drop-set-lt, length-set, take-a
 use Rattle.std.specs.Prelude.{IfSome}
 use Rattle.pd_image.proofs.CrashLemmas.{at_some}
 use Rattle.pd_draft.specs.Closed.{IsClosed, StaysClosed}
-use Rattle.pd_draft.specs.Placed.{placed, Stand, Wrote}
+use Rattle.pd_draft.specs.Placed.{placed, DraftState, Wrote}
 use Rattle.pd_draft.proofs.StaysLemmas.{closed_start, closed_then}
 
 abbrev Image : Type 0
@@ -46,16 +46,16 @@ same_placed None place = tt
 same_placed (Some image) place = refl
 
 -- before the first put
-pub wrote_none : (stand : Stand) → IsClosed stand.device → Wrote [] stand stand
-wrote_none stand closed = record {
+pub wrote_none : (draft_state : DraftState) → IsClosed draft_state.device → Wrote [] draft_state draft_state
+wrote_none draft_state closed = record {
   moved = omega arith;
-  content = same_placed stand.device.held stand.place;
-  stays = closed_start stand.device closed;
+  content = same_placed draft_state.device.held draft_state.place;
+  stays = closed_start draft_state.device closed;
   faults = refl;
 }
 
 -- one run after another
-pub wrote_then : {xs ys : List (List ℕ)} {a b c : Stand} → Wrote xs a b → Wrote ys b c → Wrote (xs ++ ys) a c
+pub wrote_then : {xs ys : List (List ℕ)} {a b c : DraftState} → Wrote xs a b → Wrote ys b c → Wrote (xs ++ ys) a c
 wrote_then {xs} {ys} {a} {b} {c} first second = record {
   moved = let sum = length-append xs ys in omega (arith, first.moved, second.moved);
   content = both_placed a.device.held b.device.held c.device.held a.place b.place xs ys first.moved first.content second.content;
@@ -70,7 +70,7 @@ one_placed None new place block put = tt
 one_placed (Some image) new place block put = put
 
 -- one put
-pub wrote_one : (block : List ℕ) (old new : Stand) → new.place ≡ old.place + 1
+pub wrote_one : (block : List ℕ) (old new : DraftState) → new.place ≡ old.place + 1
     → IfSome old.device.held (λ image. new.device.held ≡ Some (set image old.place block))
     → StaysClosed old.device new.device → new.device.faults ≡ old.device.faults → Wrote (block ∷ []) old new
 wrote_one block old new moved content stays faults = record {

@@ -1,4 +1,4 @@
 pub mod Closed
 pub mod Placed
 pub mod Replaced
-pub mod Stand
+pub mod DraftState

@@ -21,7 +21,7 @@ pub struct Draft<'a, D: Device> {
 }
 
 impl<'a, D: Device> Draft<'a, D> {
-    ghost use Rattle.pd_draft.specs.Stand.{stand};
+    ghost use Rattle.pd_draft.specs.DraftState.{draft_state};
 
     /// Zeroes block 0 and syncs. What it leaves where it fails is what `clear` leaves.
     pub fn start(dev: &'a mut D) -> Result<Draft<'a, D>, Failed>
@@ -39,11 +39,11 @@ impl<'a, D: Device> Draft<'a, D> {
         ensures faults { IfOk result (λ draft. (D.state draft.dev.now).faults ≡ (D.state dev.old).faults) }
     {
         clear(dev)?;
-        Ok(Draft::over(dev))
+        Ok(Draft::on_closed(dev))
     }
 
     /// A draft over a device whose block 0 is closed.
-    pub fn over(dev: &'a mut D) -> Draft<'a, D>
+    pub fn on_closed(dev: &'a mut D) -> Draft<'a, D>
         ensures same_reference { result.dev.ghost_name ≡ dev.entry.ghost_name }
         ensures next { result.next ≡ 1 }
         ensures same { result.dev.now ≡ dev.old }
@@ -74,7 +74,7 @@ impl<'a, D: Device> Draft<'a, D> {
         ensures same_reference { self.new.dev.ghost_name ≡ self.old.dev.ghost_name }
         ensures place { IfOk result (λ place. (place ≡ self.old.next) × (self.new.next ≡ place + 1)) }
         ensures failed { OnErr result (self.new.next ≡ self.old.next) }
-        ensures wrote { OnOk result (Wrote (block.now.0 ∷ []) (stand self.old) (stand self.new)) }
+        ensures wrote { OnOk result (Wrote (block.now.0 ∷ []) (draft_state self.old) (draft_state self.new)) }
         ensures content { OnOk result (IfSome (D.state self.old.dev.now).held (λ image. (D.state self.new.dev.now).held ≡ Some (slice_set image self.old.next block.now.0))) }
         ensures closed { IsClosed (D.state self.new.dev.now) }
 

@@ -33,11 +33,11 @@ impl<'a, D: Device> Rewrite<'a, D> {
         ensures faults { IfOk result (λ rewrite. (D.state rewrite.dev.now).faults ≡ (D.state dev.old).faults) }
     {
         clear(dev)?;
-        Ok(Rewrite::over(dev))
+        Ok(Rewrite::on_closed(dev))
     }
 
     /// A rewriting of a device whose block 0 is closed.
-    pub fn over(dev: &'a mut D) -> Rewrite<'a, D>
+    pub fn on_closed(dev: &'a mut D) -> Rewrite<'a, D>
         ensures same_reference { result.dev.ghost_name ≡ dev.entry.ghost_name }
         ensures same { result.dev.now ≡ dev.old }
     {

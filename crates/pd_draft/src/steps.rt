@@ -14,7 +14,7 @@ use pd_kinds::Block;
 /// Zeroes block 0 and syncs.
 ///
 /// `Draft::start` and `Rewrite::start` do just this. A caller that has to know what they leave where they
-/// fail calls this, and then `over`.
+/// fail calls this, and then `on_closed`.
 pub fn clear<D: Device>(dev: &mut D) -> Result<(), Failed>
     requires writable { IsWritable (D.state dev.old) }
     requires some { 1 ≤ (D.state dev.old).blocks }

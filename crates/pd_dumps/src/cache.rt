@@ -50,14 +50,14 @@ impl CacheDump {
             Ok(s) => s,
             Err(_) => return Err(QueryFault::Device),
         };
-        match CacheDump::over(alloc, s, dev.blocks()) {
+        match CacheDump::with_super(alloc, s, dev.blocks()) {
             Ok(dump) => Ok(dump),
             Err(_) => Err(QueryFault::Memory),
         }
     }
 
     /// Takes the memory for the dump of the cache with this superblock, in a device of so many blocks.
-    fn over(alloc: Global, s: CacheSuper, blocks: u64) -> Result<CacheDump, AllocError>
+    fn with_super(alloc: Global, s: CacheSuper, blocks: u64) -> Result<CacheDump, AllocError>
         ensures text { (image : List (List ℕ)) → length image ≡ blocks → IfOk result (λ dump. text_left image dump ≡ cache_dump_text image s) }
         ensures room { IfOk result (λ dump. dump_room dump ≤ blocks) }
     {
@@ -77,7 +77,7 @@ impl CacheDump {
         ensures sink { KeepsSink (K.state out.old) (K.state out.new) }
         ensures faults { Fails result (D.state dev.old).faults (D.state dev.new).faults (K.state out.old).faults (K.state out.new).faults }
     {
-        let mut printer = Printer::over(out);
+        let mut printer = Printer::to_sink(out);
         add_cache(&self.s, &mut self.maps, dev, &mut printer)?;
         finish(printer)
     }

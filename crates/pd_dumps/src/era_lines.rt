@@ -72,7 +72,7 @@ pub(crate) fn put_eras<K: Sink>(s: &EraSuper, eras: &[u32], out: &mut K) -> Resu
     ensures sink { KeepsSink (K.state out.old) (K.state out.new) }
     ensures faults { SinkFails result (K.state out.old).faults (K.state out.new).faults }
 {
-    let mut printer = Printer::over(out);
+    let mut printer = Printer::to_sink(out);
     add_target(s, eras, &mut printer)?;
     finish(printer)
 }

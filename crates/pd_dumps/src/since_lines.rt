@@ -100,7 +100,7 @@ pub(crate) fn put_since<K: Sink>(since: u32, eras: &[u32], out: &mut K) -> Resul
     ensures sink { KeepsSink (K.state out.old) (K.state out.new) }
     ensures faults { SinkFails result (K.state out.old).faults (K.state out.new).faults }
 {
-    let mut printer = Printer::over(out);
+    let mut printer = Printer::to_sink(out);
     add_since(since, eras, &mut printer)?;
     finish(printer)
 }

@@ -16,7 +16,7 @@ use Rattle.pd_laws.specs.InOrder.{AreInOrder}
 use Rattle.pd_graph.specs.declared.audit.Audit.{Audit}
 use Rattle.pd_graph.specs.Audit.{blocks_of, roles_at}
 use Rattle.pd_graph.specs.Roles.{has_bit}
-use Rattle.pd_refs.specs.Refs.{number_in}
+use Rattle.pd_whole.specs.Refs.{number_in}
 use Rattle.pd_tree.proofs.RootLemmas.{at_optional}
 use Rattle.pd_tree.proofs.TableLemmas.{none_passes}
 use Rattle.pd_whole.specs.Charges.{Charges}

@@ -18,7 +18,7 @@ use Rattle.pd_graph.proofs.BitLemmas.{pair_block, pair_role, range_more}
 use Rattle.pd_tree.specs.Sound.{IsCleanPair}
 use Rattle.pd_tree.specs.TreeRoles.{HasEraTrees}
 use Rattle.pd_tree.proofs.TableLemmas.{block_pair, leaf_edges_at, role_pair}
-use Rattle.pd_refs.proofs.RoleLemmas.{one_of, passing, range_split}
+use Rattle.pd_whole.proofs.RoleLemmas.{one_of, passing, range_split}
 use Rattle.pd_whole.specs.Charges.{Charges}
 use Rattle.pd_whole.proofs.ChargeLemmas.{charges_none, charges_then}
 use Rattle.pd_era.specs.Whole.{first_sets, set_array, set_tests, sets_at, sets_before}

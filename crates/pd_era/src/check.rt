@@ -24,7 +24,7 @@ impl Metadata for EraTable {
 
     type Format = EraFormat;
 
-    type Room = ArrayRoom<EraTable>;
+    type WholeMemory = ArrayRoom<EraTable>;
 
     ghost kind = { Era };
 

@@ -16,7 +16,7 @@ pub type EraFormat = Tabled<EraTable>;
 impl Table for EraTable {
     ghost use Rattle.pd_kinds.specs.EraFormat.{era_layout};
     ghost use Rattle.pd_laws.proofs.EraTable.{era_table};
-    ghost use Rattle.pd_era.specs.Copies.{copy_edges, copy_rules};
+    ghost use Rattle.pd_era.specs.Copies.{super_copy_edges, super_copy_rules};
 
     const ROLES: u8 = era_role::ROLES;
 
@@ -30,9 +30,9 @@ impl Table for EraTable {
 
     ghost layout = { λ nr data_blocks. era_layout nr };
 
-    ghost copy_bad = { copy_rules };
+    ghost super_copy_bad = { super_copy_rules };
 
-    ghost copy_edges = { copy_edges };
+    ghost super_copy_edges = { super_copy_edges };
 
     fn meta_blocks_of(s: &EraSuper) -> u64 {
         s.meta_map.blocks
@@ -68,7 +68,7 @@ impl Table for EraTable {
         }
     }
 
-    fn copy_rules(role: u8, place: u64, b: &Block, nr: u64) -> Rules {
+    fn super_copy_rules(role: u8, place: u64, b: &Block, nr: u64) -> Rules {
         if role == era_role::SUPER {
             era_super_rules(b, nr)
         } else {
@@ -76,7 +76,7 @@ impl Table for EraTable {
         }
     }
 
-    fn copy_edges(role: u8, b: &Block) -> Edges {
+    fn super_copy_edges(role: u8, b: &Block) -> Edges {
         let fields = read_era_super(b);
         if role == era_role::SUPER {
             era_super_edges(&fields)

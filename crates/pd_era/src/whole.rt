@@ -8,7 +8,7 @@ ghost use Rattle.pd_kinds.specs.Stages.{IsReached};
 ghost use Rattle.pd_kinds.specs.Whole.{array_whole, reached_writesets};
 ghost use Rattle.pd_image.specs.Device.{IsAttached, OnlyReads};
 ghost use Rattle.pd_graph.specs.Audit.{blocks_of, KeepsButRules};
-ghost use Rattle.pd_refs.specs.Refs.{number_in};
+ghost use Rattle.pd_whole.specs.Refs.{number_in};
 ghost use Rattle.pd_whole.specs.Charges.{Charges};
 ghost use Rattle.pd_arrays.specs.ArrayMarks.{places_of};
 ghost use Rattle.pd_arrays.specs.Arrays.{AreAllCounted, AreCounted, AreMarked, HasArrays, KeepsBlocks, array_of};

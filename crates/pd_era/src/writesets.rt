@@ -11,7 +11,7 @@ ghost use Rattle.pd_kinds.specs.Stages.{IsReached};
 ghost use Rattle.pd_kinds.specs.Whole.{array_whole, reached_writesets, writeset_array};
 ghost use Rattle.pd_image.specs.Device.{IsAttached, OnlyReads};
 ghost use Rattle.pd_graph.specs.Audit.{blocks_of, KeepsButRules};
-ghost use Rattle.pd_refs.specs.Refs.{number_in};
+ghost use Rattle.pd_whole.specs.Refs.{number_in};
 ghost use Rattle.pd_tree.specs.TreeRoles.{HasEraTrees};
 ghost use Rattle.pd_whole.specs.Charges.{Charges};
 ghost use Rattle.pd_arrays.specs.Arrays.{AreMarked, HasArrays};

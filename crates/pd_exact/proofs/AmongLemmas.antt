@@ -4,7 +4,7 @@ use Rattle.std.specs.List.{All, Contains}
 use Rattle.std.proofs.lemmas.Bool.{cases_Bool, both_ways}
 use Rattle.std.proofs.lemmas.List.Elements.{All-cons, All-contains, All-filter, All-map, All-nil, All-weaker, Contains-append_right, Contains-get_or, filter_passes}
 use Rattle.pd_kinds.specs.Node.{Entry}
-use Rattle.pd_laid.specs.Saved.{Has}
+use Rattle.pd_laid.specs.Saved.{ContainsEntry}
 
 first_among : {X : Type 0} (x : X) (xs : List X) → Contains (x ∷ xs) x
 first_among x xs = (0, omega arith, refl)
@@ -58,14 +58,14 @@ module _ {X : Type 0} (p : X → Bool) where
   )
 
 -- entries, by cases on the list
-pub among_has : (es : List Entry) (e : Entry) → Has es e → Contains es e
+pub among_has : (es : List Entry) (e : Entry) → ContainsEntry es e → Contains es e
 among_has [] e has = absurd has
 among_has (x ∷ es) e (inl here) = rw here (first_among x es)
 among_has (x ∷ es) e (inr later) = later_among x e es (among_has es e later)
 
-all_have : (es : List Entry) → All (Has es) es
-all_have [] = All-nil (Has [])
-all_have (x ∷ es) = All-cons (Has (x ∷ es)) x es (inl refl) (All-weaker (Has es) (Has (x ∷ es)) (λ e later. inr later) es (all_have es))
+all_have : (es : List Entry) → All (ContainsEntry es) es
+all_have [] = All-nil (ContainsEntry [])
+all_have (x ∷ es) = All-cons (ContainsEntry (x ∷ es)) x es (inl refl) (All-weaker (ContainsEntry es) (ContainsEntry (x ∷ es)) (λ e later. inr later) es (all_have es))
 
-pub has_among : (es : List Entry) (e : Entry) → Contains es e → Has es e
-has_among es e here = All-contains (Has es) es e (all_have es) here
+pub has_among : (es : List Entry) (e : Entry) → Contains es e → ContainsEntry es e
+has_among es e here = All-contains (ContainsEntry es) es e (all_have es) here

@@ -22,7 +22,7 @@ use Rattle.pd_kinds.specs.Image.{HasBytes}
 use Rattle.pd_spells.specs.Lawful.{AreEntries, IsLawfulCache}
 use Rattle.pd_tree.specs.Roots.{HasCacheRoots}
 use Rattle.pd_cache_meaning.proofs.SoundCache.{roots_inside}
-use Rattle.pd_settled.proofs.SoundCache.{holds_here, is_valid_at, origin_at, origins_are, single_words}
+use Rattle.pd_changed.proofs.SoundCache.{holds_here, is_valid_at, origin_at, origins_are, single_words}
 use Rattle.pd_exact.proofs.EntryLemmas.{IsNew, entries_lawful, filter_ascends}
 use Rattle.pd_exact.proofs.WordLemmas.{DoWordsFit, field_fits, first_whole, word_fits, words_fit}
 

@@ -27,7 +27,7 @@ use Rattle.pd_kinds.proofs.WrittenLemmas.{drop-sealed, le-sealed_other}
 use Rattle.pd_laid_graph.proofs.Bytes.{bytes_put, valid_sealed}
 use Rattle.pd_answers.specs.Answer.{Objects}
 use Rattle.pd_answers.specs.Flag.{IsOldOrCleared, cleared, cleared_super, flag_bit, flags_without, is_flag_set, needs_check}
-use Rattle.pd_alike.specs.Alike.{AreAlike}
+use Rattle.pd_changed.specs.Alike.{AreAlike}
 use Rattle.pd_exact.specs.Exact.{HoldsCleared, IsCleared, IsClearingAnswered, IsPassed, LeavesOldOrCleared, TellsPassed}
 use Rattle.pd_exact.proofs.Checked.{law_of}
 use Rattle.pd_exact.proofs.Restored.{both_told}

@@ -5,7 +5,7 @@ use Rattle.std.proofs.lemmas.Bool.{cases_Bool, eqb-false, ne_eqb, or_parts}
 use Rattle.pd_kinds.specs.Meaning.{cache_entry}
 use Rattle.pd_kinds.specs.Whole.{has_repeat}
 use Rattle.pd_spells.specs.Lawful.{AreEntries}
-use Rattle.pd_settled.proofs.SoundCache.{origin_at}
+use Rattle.pd_changed.proofs.SoundCache.{origin_at}
 
 -- numbers that ascend, from the least one on and below an end
 abbrev pub DoAscend : ℕ → ℕ → List ℕ → Type 0

@@ -14,8 +14,8 @@ use Rattle.pd_kinds.proofs.FieldLemmas.{le-lt}
 use Rattle.pd_laws.proofs.AllLemmas.{all_flat_map, all_map, all_of}
 use Rattle.pd_laws.proofs.SoundLemmas.{inside_from}
 use Rattle.pd_kinds.specs.Image.{HasBytes}
-use Rattle.pd_laid.specs.Salvage.{child_high, child_low, give, given, is_damaged}
-use Rattle.pd_laid.specs.Saved.{Has}
+use Rattle.pd_laid.specs.Salvage.{child_high, child_low, salvaged_below, salvaged_entries, is_damaged}
+use Rattle.pd_laid.specs.Saved.{ContainsEntry}
 use Rattle.pd_salvage.proofs.AscendLemmas.{AreAscending, give_ascends}
 
 -- what holds of all holds of those that pass a test
@@ -28,8 +28,8 @@ all_kept P p (x ∷ xs) all = elim (cases_Bool (p x)) [
 
 -- what holds of the entries of all leaves holds of those that are given
 module _ (P : Entry → Type 0) (size nr : ℕ) (image : List (List ℕ)) (each : (place : ℕ) → place < nr → AllByRecursion P (leaf_entries size (block_at image place))) where
-  pub give_all : (j place low high : ℕ) → AllByRecursion P (give size nr image j place low high)
-  unfolding give
+  pub give_all : (j place low high : ℕ) → AllByRecursion P (salvaged_below size nr image j place low high)
+  unfolding salvaged_below
   give_all zero place low high = tt
   give_all (suc j) place low high = elim (cases_Bool (is_outside nr place || is_damaged size place (block_at image place))) [
     | inl out ↦ rw out tt
@@ -75,16 +75,16 @@ few_in_leaves size image (suc n) bytes =
     omega (arith, length-append (leaf_entries size (block_at image n)) (all_leaves size image n), few_in_leaf size (block_at image n) (bytes n), few_in_leaves size image n bytes)
 
 -- one of two lists has it
-has_first : (xs ys : List Entry) (e : Entry) → Has xs e → Has (xs ++ ys) e
+has_first : (xs ys : List Entry) (e : Entry) → ContainsEntry xs e → ContainsEntry (xs ++ ys) e
 has_first [] ys e has = absurd has
 has_first (x ∷ xs) ys e (inl here) = inl here
 has_first (x ∷ xs) ys e (inr later) = inr (has_first xs ys e later)
 
-has_last : (xs ys : List Entry) (e : Entry) → Has ys e → Has (xs ++ ys) e
+has_last : (xs ys : List Entry) (e : Entry) → ContainsEntry ys e → ContainsEntry (xs ++ ys) e
 has_last [] ys e has = has
 has_last (x ∷ xs) ys e has = inr (has_last xs ys e has)
 
-in_leaves : (size : ℕ) (image : List (List ℕ)) (n place : ℕ) (e : Entry) → place < n → Has (leaf_entries size (block_at image place)) e → Has (all_leaves size image n) e
+in_leaves : (size : ℕ) (image : List (List ℕ)) (n place : ℕ) (e : Entry) → place < n → ContainsEntry (leaf_entries size (block_at image place)) e → ContainsEntry (all_leaves size image n) e
 in_leaves size image zero place e within has = absurd (omega arith)
 in_leaves size image (suc n) place e within has = elim (cases_lt place n) [
   | inl before ↦ has_last (leaf_entries size (block_at image n)) _ e (in_leaves size image n place e before has)
@@ -92,7 +92,7 @@ in_leaves size image (suc n) place e within has = elim (cases_lt place n) [
 ]
 
 -- each entry is one of all
-all_has : (all es : List Entry) → ((e : Entry) → Has es e → Has all e) → AllByRecursion (Has all) es
+all_has : (all es : List Entry) → ((e : Entry) → ContainsEntry es e → ContainsEntry all e) → AllByRecursion (ContainsEntry all) es
 all_has all [] each = tt
 all_has all (e ∷ es) each = (each e (inl refl), all_has all es (λ x has. each x (inr has)))
 
@@ -100,7 +100,7 @@ all_has all (e ∷ es) each = (each e (inl refl), all_has all es (λ x has. each
 abbrev is_past : ℕ → Entry → Bool
 is_past key e = nat_lt key e.key
 
-past_has : (key : ℕ) (us : List Entry) (e : Entry) → key < e.key → Has us e → Has (filter (is_past key) us) e
+past_has : (key : ℕ) (us : List Entry) (e : Entry) → key < e.key → ContainsEntry us e → ContainsEntry (filter (is_past key) us) e
 past_has key [] e past has = absurd has
 past_has key (u ∷ us) e past (inl here) = rw (← here, lt-ltb key e.key past) (inl refl)
 past_has key (u ∷ us) e past (inr later) = elim (cases_Bool (is_past key u)) [
@@ -108,7 +108,7 @@ past_has key (u ∷ us) e past (inr later) = elim (cases_Bool (is_past key u)) [
   | inr other ↦ rw other (past_has key us e past later)
 ]
 
-past_all : (key low high : ℕ) (es us : List Entry) → key < low → AreAscending low high es → AllByRecursion (Has us) es → AllByRecursion (Has (filter (is_past key) us)) es
+past_all : (key low high : ℕ) (es us : List Entry) → key < low → AreAscending low high es → AllByRecursion (ContainsEntry us) es → AllByRecursion (ContainsEntry (filter (is_past key) us)) es
 past_all key low high [] us past are all = tt
 past_all key low high (e ∷ es) us past are all =
     let first = are.0 in
@@ -119,7 +119,7 @@ pub no_more_kept : (p : Entry → Bool) (us : List Entry) → length (filter p u
 no_more_kept p us = omega (arith, length-filter p us, count_by-le-length p us)
 
 -- those past the key of one are fewer
-fewer_past : (us : List Entry) (e : Entry) → Has us e → length (filter (is_past e.key) us) + 1 ≤ length us
+fewer_past : (us : List Entry) (e : Entry) → ContainsEntry us e → length (filter (is_past e.key) us) + 1 ≤ length us
 fewer_past [] e has = absurd has
 fewer_past (u ∷ us) e (inl here) =
     let rest = no_more_kept (is_past e.key) us in
@@ -131,7 +131,7 @@ fewer_past (u ∷ us) e (inr later) = elim (cases_Bool (is_past e.key u)) [
 ]
 
 -- entries whose keys ascend are no more than those that they are of
-no_more : (low high : ℕ) (es us : List Entry) → AreAscending low high es → AllByRecursion (Has us) es → length es ≤ length us
+no_more : (low high : ℕ) (es us : List Entry) → AreAscending low high es → AllByRecursion (ContainsEntry us) es → length es ≤ length us
 no_more low high [] us are all = omega arith
 no_more low high (e ∷ es) us are all =
     let rest = no_more (e.key + 1) high es (filter (is_past e.key) us) are.2 (past_all e.key (e.key + 1) high es us (omega arith) are.2 all.1) in
@@ -139,10 +139,10 @@ no_more low high (e ∷ es) us are all =
     omega arith
 
 -- so those that are given are few
-pub few_given : (size nr : ℕ) (image : List (List ℕ)) (root : ℕ) → HasBytes image → nr ≤ MAX_META_BLOCKS → length (given size nr image root) < 2 ^ 64
-unfolding given
+pub few_given : (size nr : ℕ) (image : List (List ℕ)) (root : ℕ) → HasBytes image → nr ≤ MAX_META_BLOCKS → length (salvaged_entries size nr image root) < 2 ^ 64
+unfolding salvaged_entries
 few_given size nr image root bytes few =
-    let all = give_all (Has (all_leaves size image nr)) size nr image
+    let all = give_all (ContainsEntry (all_leaves size image nr)) size nr image
     (λ place within. all_has (all_leaves size image nr) (leaf_entries size (block_at image place)) (λ e has. in_leaves size image nr place e within has)) 64 root 0 (2 ^ 64) in
-    let below = no_more 0 (2 ^ 64) (give size nr image 64 root 0 (2 ^ 64)) (all_leaves size image nr) (give_ascends size nr image 64 root 0 (2 ^ 64)) all in
+    let below = no_more 0 (2 ^ 64) (salvaged_below size nr image 64 root 0 (2 ^ 64)) (all_leaves size image nr) (give_ascends size nr image 64 root 0 (2 ^ 64)) all in
     omega (arith, below, few_in_leaves size image nr bytes)

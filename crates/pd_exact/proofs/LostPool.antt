@@ -26,7 +26,7 @@ use Rattle.pd_laws.proofs.AllLemmas.{all_from, all_from_two, all_mapped}
 use Rattle.pd_laws.proofs.PathLemmas.{path_from_reached}
 use Rattle.pd_laid.specs.FoundRoots.{FoundRoots, IsFound, are_fitting, devices_below, found_pool, is_better, is_sound_tree, lost_graph, roots_at}
 use Rattle.pd_laid.proofs.NodeFacts.{block_pair, none_pass, role_pair}
-use Rattle.pd_alike.specs.Known.{IsKnown}
+use Rattle.pd_changed.specs.KnownPool.{IsKnown}
 use Rattle.pd_scan.proofs.OrderLemmas.{not_greater_start}
 use Rattle.pd_scan.proofs.SameBelow.{entries_same, map_same, tree_sound}
 use Rattle.pd_thin_meaning.proofs.SuperLemmas.{same_keys as same_keys_in}

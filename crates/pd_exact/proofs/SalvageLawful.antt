@@ -20,7 +20,7 @@ use Rattle.pd_kinds.proofs.FieldLemmas.{le-lt}
 use Rattle.pd_laws.proofs.CleanLemmas.{clean_super_where_none}
 use Rattle.pd_laws.proofs.ThinTable.{few_data_blocks, super_sound}
 use Rattle.pd_kinds.specs.Image.{HasBytes}
-use Rattle.pd_laid.specs.Salvage.{give, given, given_details, given_device, given_mappings, salvage, salvage_from}
+use Rattle.pd_laid.specs.Salvage.{salvaged_below, salvaged_entries, salvaged_details, salvaged_device, salvaged_mappings, salvage, salvage_from}
 use Rattle.pd_spells.specs.Lawful.{AreDevices, AreMappings, IsDevice, IsLawfulPool}
 use Rattle.pd_salvage.proofs.AscendLemmas.{AreAscending, give_ascends}
 use Rattle.pd_exact.proofs.GivenLemmas.{few_given, give_all, no_more_kept, values_fit}
@@ -52,25 +52,25 @@ value_fits limit id other (e ∷ es) fits all = elim (cases_Bool (nat_eq e.key i
 
 module _ (fields : ThinFields) (image : List (List ℕ)) (bytes : HasBytes image) (few : fields.meta_map.blocks ≤ MAX_META_BLOCKS) (small : fields.transaction < 2 ^ 64)
     (timely : fields.time < 2 ^ 32) where
-  mappings_lawful : (root : ℕ) → AreMappings fields.data_map.blocks 0 (given_mappings fields image root)
-  unfolding given_mappings given
+  mappings_lawful : (root : ℕ) → AreMappings fields.data_map.blocks 0 (salvaged_mappings fields image root)
+  unfolding salvaged_mappings salvaged_entries
   mappings_lawful root = mappings_are fields.data_map.blocks 0 0 _ (omega arith) (give_ascends 8 fields.meta_map.blocks image 64 root 0 (2 ^ 64))
 
-  few_mappings : (root : ℕ) → length (given_mappings fields image root) < 2 ^ 64
-  unfolding given_mappings
+  few_mappings : (root : ℕ) → length (salvaged_mappings fields image root) < 2 ^ 64
+  unfolding salvaged_mappings
   few_mappings root =
-      let es = given 8 fields.meta_map.blocks image root in
+      let es = salvaged_entries 8 fields.meta_map.blocks image root in
       let kept = filter (λ (e : Entry). nat_lt (mapped_block e.value) fields.data_map.blocks) es in
       omega (arith, length-map kept mapping_at, no_more_kept (λ (e : Entry). nat_lt (mapped_block e.value) fields.data_map.blocks) es, few_given 8 fields.meta_map.blocks image root bytes few)
 
-  details_fit : (id : ℕ) → given_details fields image id < 256 ^ 24
-  unfolding given
+  details_fit : (id : ℕ) → salvaged_details fields image id < 256 ^ 24
+  unfolding salvaged_entries
   details_fit id =
-      value_fits (256 ^ 24) id (details_code 0 fields.transaction fields.time fields.time) (give 24 fields.meta_map.blocks image 64 fields.details_root 0 (2 ^ 64)) (omega arith)
+      value_fits (256 ^ 24) id (details_code 0 fields.transaction fields.time fields.time) (salvaged_below 24 fields.meta_map.blocks image 64 fields.details_root 0 (2 ^ 64)) (omega arith)
       (give_all (λ (e : Entry). e.value < 256 ^ 24) 24 fields.meta_map.blocks image (λ place within. values_fit 24 (block_at image place) (bytes place)) 64 fields.details_root 0 (2 ^ 64))
 
-  device_is : (least : ℕ) (top : Entry) → least ≤ top.key → top.key < 2 ^ 64 → IsDevice fields.data_map.blocks least (given_device fields image top)
-  unfolding given_device
+  device_is : (least : ℕ) (top : Entry) → least ≤ top.key → top.key < 2 ^ 64 → IsDevice fields.data_map.blocks least (salvaged_device fields image top)
+  unfolding salvaged_device
   device_is least top above fits =
       let details = details_fit top.key in
       record {
@@ -85,8 +85,8 @@ module _ (fields : ThinFields) (image : List (List ℕ)) (bytes : HasBytes image
       }
 
   devices_are : (least low : ℕ) (es : List Entry) → least ≤ low → AreAscending low (2 ^ 64) es
-      → AreDevices fields.data_map.blocks least (map (given_device fields image) (filter (λ (top : Entry). not (is_outside fields.meta_map.blocks top.value)) es))
-  unfolding given_device
+      → AreDevices fields.data_map.blocks least (map (salvaged_device fields image) (filter (λ (top : Entry). not (is_outside fields.meta_map.blocks top.value)) es))
+  unfolding salvaged_device
   devices_are least low [] from are = tt
   devices_are least low (e ∷ es) from are =
       let first = are.0 in
@@ -96,7 +96,7 @@ module _ (fields : ThinFields) (image : List (List ℕ)) (bytes : HasBytes image
       ]
 
   pub devices_lawful : AreDevices fields.data_map.blocks 0 (salvage_from fields image).devices
-  unfolding salvage_from given
+  unfolding salvage_from salvaged_entries
   devices_lawful = devices_are 0 0 _ (omega arith) (give_ascends 8 fields.meta_map.blocks image 64 fields.mapping_root 0 (2 ^ 64))
 
 -- what is known of a superblock without faults

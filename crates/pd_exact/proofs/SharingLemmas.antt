@@ -19,9 +19,9 @@ use Rattle.pd_laid_thin.specs.CleanPool.{IsCleanPool}
 use Rattle.pd_spells.specs.ThinNeed.{thin_need}
 use Rattle.pd_answers.specs.Answer.{Objects}
 use Rattle.pd_exact.specs.Exact.{IsRepairAnswered}
-use Rattle.pd_laid.specs.Salvage.{given, given_device, salvage, salvage_from}
+use Rattle.pd_laid.specs.Salvage.{salvaged_entries, salvaged_device, salvage, salvage_from}
 use Rattle.pd_spells.specs.Lawful.{IsLawfulPool}
-use Rattle.pd_exact.specs.Sharing.{HasTimesOfSharing, IsShared, Place, SeesSharingWhere, SharingIsSeen, details_in}
+use Rattle.pd_exact.specs.Sharing.{HasTimesOfSharing, IsShared, MappingPlace, SeesSharingWhere, SharingIsSeen, details_in}
 use Rattle.pd_exact.proofs.AmongLemmas.{comes_from}
 use Rattle.pd_exact.proofs.Repaired.{holds_at_zero}
 use Rattle.pd_exact.proofs.Restored.{Image}
@@ -31,35 +31,35 @@ abbrev pub is_kept_top : ℕ → Entry → Bool
 is_kept_top nr top = not (is_outside nr top.value)
 
 abbrev pub kept_tops : ThinFields → List (List ℕ) → List Entry
-kept_tops fields image = filter (is_kept_top fields.meta_map.blocks) (given 8 fields.meta_map.blocks image fields.mapping_root)
+kept_tops fields image = filter (is_kept_top fields.meta_map.blocks) (salvaged_entries 8 fields.meta_map.blocks image fields.mapping_root)
 
 -- a device that was saved, by its entry
 pub record IsSavedDevice (image : List (List ℕ)) (d : ThinDevice) : Type 0 where
   pub top : Entry
   pub among : Contains (kept_tops (thin_fields (block_at image 0)) image) top
-  pub is : given_device (thin_fields (block_at image 0)) image top ≡ d
+  pub is : salvaged_device (thin_fields (block_at image 0)) image top ≡ d
 
 pub saved_device : (image : List (List ℕ)) (d : ThinDevice) → Contains (salvage image).devices d → IsSavedDevice image d
 unfolding salvage_from
 saved_device image d here =
-    let found = comes_from (given_device (thin_fields (block_at image 0)) image) _ d here in
+    let found = comes_from (salvaged_device (thin_fields (block_at image 0)) image) _ d here in
     record { top = found.item; among = found.among; is = found.is }
 
-pub device_id : (image : List (List ℕ)) (top : Entry) → (given_device (thin_fields (block_at image 0)) image top).id ≡ top.key
-unfolding given_device
+pub device_id : (image : List (List ℕ)) (top : Entry) → (salvaged_device (thin_fields (block_at image 0)) image top).id ≡ top.key
+unfolding salvaged_device
 device_id image top = refl
 
 -- the times of a device whose details are lost are the pool's
 lost_snapped : (image : List (List ℕ)) (top : Entry) → IsLawfulPool (salvage image) → details_in image top.key ≡ None
-    → (given_device (thin_fields (block_at image 0)) image top).snapped ≡ (salvage image).time
-unfolding given_device salvage_from
+    → (salvaged_device (thin_fields (block_at image 0)) image top).snapped ≡ (salvage image).time
+unfolding salvaged_device salvage_from
 lost_snapped image top lawful none =
     let transaction = lawful.transaction_fits in
     let time = lawful.time_fits in
     rw none (omega arith)
 
 module _ (image : List (List ℕ)) (lawful : IsLawfulPool (salvage image)) (times : HasTimesOfSharing image) where
-  seen_by : (place : Place (salvage image)) → IsShared place → (details : Option ℕ) → details_in image place.device.id ≡ details → place.mapping.time < place.device.snapped
+  seen_by : (place : MappingPlace (salvage image)) → IsShared place → (details : Option ℕ) → details_in image place.device.id ≡ details → place.mapping.time < place.device.snapped
   seen_by place shared (Some value) found = times.before_the_snap place shared (rw found refl)
   seen_by place shared None lost =
       let from = saved_device image place.device place.of_pool in

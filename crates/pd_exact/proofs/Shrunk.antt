@@ -23,7 +23,7 @@ use Rattle.pd_answers.specs.Outputs.{IsWorkDone}
 use Rattle.pd_answers.specs.Repairs.{LaysPool}
 use Rattle.pd_answers.specs.Shrinks.{IsGroundOf, ShrinkFound, ShrinkGround, lack_of, moves_of, pool_after, shrink_answer}
 use Rattle.pd_answers.specs.Writebacks.{KeepsOthers}
-use Rattle.pd_moved.specs.Moving.{AreFree, AreUnnamed, IsMoving}
+use Rattle.pd_changed.specs.Moving.{AreFree, AreUnnamed, IsMoving}
 use Rattle.pd_exact.specs.Shrink.{AreMoved, HoldsShrunk, IsShrinkAnswered, IsShrunk, KeepsReads, LeavesReads, front_of_data, without_places}
 use Rattle.pd_exact.proofs.CutLemmas.{cut_reads, size_after, stays_the_same}
 use Rattle.pd_exact.proofs.Restored.{Image, at_told, both_told}

@@ -3,7 +3,7 @@ use Rattle.std.proofs.Common.{◌≡◌, ◌≢◌, ◌⊎◌, inl, inr, ℕ, �
 use Rattle.std.proofs.lemmas.Bool.{cases_Bool, eqb-false, eqb-true}
 use Rattle.pd_kinds.specs.declared.fault.Fault.{Fault}
 use Rattle.pd_kinds.specs.Crash.{HoldsSynced, IsSynced, IsUntouched, LeavesNow, may_leave, moment}
-use Rattle.pd_kinds.specs.Moments.{now}
+use Rattle.pd_kinds.specs.Moments.{present_moment}
 use Rattle.pd_kinds.specs.Objects.{DeviceState}
 use Rattle.pd_kinds.proofs.CrashLemmas.{left_now, left_synced, stays}
 use Rattle.pd_answers.specs.Answer.{Objects}
@@ -46,7 +46,7 @@ two (Some x) (Some y) P each = each x y refl refl
 
 -- what a crash leaves of a device of which nothing is unsynced
 pub left_of_synced : (device : DeviceState) (held left firsts : Image) → HoldsSynced held device → may_leave device (moment device) left firsts → left ≡ held
-left_of_synced device held left firsts is leaves = left_synced held left (now held device.history) refl is.unsynced (left_now device held left firsts is.held leaves).0
+left_of_synced device held left firsts is leaves = left_synced held left (present_moment held device.history) refl is.unsynced (left_now device held left firsts is.held leaves).0
 
 -- of one that is as it was, and was synced
 pub left_as_was : (device : DeviceState) (held left firsts : Image) → device.held ≡ Some held → IsSynced device → may_leave device (moment device) left firsts → left ≡ held

@@ -13,7 +13,7 @@ use Rattle.pd_answers.specs.Answer.{Objects}
 use Rattle.pd_answers.specs.CachedView.{blocks_each, copied, fast_need, hot_blocks, is_block_size_bad, settled, view}
 use Rattle.pd_answers.specs.Outputs.{IsWorkDone}
 use Rattle.pd_answers.specs.Writebacks.{AllTold, KeepsOthers, WritebackFound, writeback_answer}
-use Rattle.pd_settled.specs.Premises.{HasHotBlocks, without_dirt}
+use Rattle.pd_changed.specs.Premises.{HasHotBlocks, without_dirt}
 use Rattle.pd_exact.specs.Writeback.{HoldsWrittenBack, IsWritebackAnswered, IsWrittenBack, KeepsTheView, LeavesTheView, ReadsAlone}
 use Rattle.pd_exact.proofs.Restored.{at_told}
 use Rattle.pd_exact.proofs.TellLemmas.{four_zero, given_once_done, left_as_was, left_of_synced, left_untouched, none_counted, one_zero, zero_or_not}

@@ -11,37 +11,37 @@ use Rattle.pd_kinds.specs.Meaning.{Mapping, ThinDevice, ThinPool, thin_meaning}
 use Rattle.pd_kinds.specs.Stages.{faults}
 use Rattle.pd_kinds.specs.ThinSuper.{thin_fields}
 use Rattle.pd_kinds.specs.Trees.{value_of_key}
-use Rattle.pd_laid.specs.Salvage.{given, is_damaged, salvage}
+use Rattle.pd_laid.specs.Salvage.{salvaged_entries, is_damaged, salvage}
 use Rattle.pd_answers.specs.Answer.{Objects}
 
 -- a place in a pool: a device, and one of its mappings
-pub record Place (pool : ThinPool) : Type 0 where
+pub record MappingPlace (pool : ThinPool) : Type 0 where
   pub device : ThinDevice
   pub mapping : Mapping
   pub of_pool : Contains pool.devices device
   pub of_device : Contains device.mappings mapping
 
 -- another place, of another device or virtual block, leads to the same data block
-pub record IsShared {pool : ThinPool} (place : Place pool) : Type 0 where
-  pub other : Place pool
+pub record IsShared {pool : ThinPool} (place : MappingPlace pool) : Type 0 where
+  pub other : MappingPlace pool
   pub apart : (other.device.id ≡ place.device.id) × (other.mapping.virtual_block ≡ place.mapping.virtual_block) → ⊥
   pub same : other.mapping.data_block ≡ place.mapping.data_block
 
 -- sharing is seen in a pool: at each place whose data block another one leads to, a kernel copies it before it writes
 abbrev pub SharingIsSeen : ThinPool → Type 0
-SharingIsSeen pool = (place : Place pool) → IsShared place → place.mapping.time < place.device.snapped
+SharingIsSeen pool = (place : MappingPlace pool) → IsShared place → place.mapping.time < place.device.snapped
 
 -- the details of a device that can be saved of an image, if there are any
 abbrev pub details_in : List (List ℕ) → ℕ → Option ℕ
 details_in image id =
     let fields = thin_fields (block_at image 0) in
-    value_of_key (given 24 fields.meta_map.blocks image fields.details_root) id
+    value_of_key (salvaged_entries 24 fields.meta_map.blocks image fields.details_root) id
 
 -- What kernels keep in every pool, said of what is saved of an image: where a data block is shared, the mapping was made before the
 -- pool's time, and, where the details of its device are found, before the device was snapped
 pub record HasTimesOfSharing (image : List (List ℕ)) : Type 0 where
-  pub before_the_pool : (place : Place (salvage image)) → IsShared place → place.mapping.time < (salvage image).time
-  pub before_the_snap : (place : Place (salvage image)) → IsShared place → IsSome (details_in image place.device.id) → place.mapping.time < place.device.snapped
+  pub before_the_pool : (place : MappingPlace (salvage image)) → IsShared place → place.mapping.time < (salvage image).time
+  pub before_the_snap : (place : MappingPlace (salvage image)) → IsShared place → IsSome (details_in image place.device.id) → place.mapping.time < place.device.snapped
 
 -- a pool as kernels keep it: it has no faults up to the stage Whole, sharing is seen in it, and no device was snapped after its time
 pub record IsKeptPool (image : List (List ℕ)) : Type 0 where

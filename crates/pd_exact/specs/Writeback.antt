@@ -13,7 +13,7 @@ use Rattle.pd_answers.specs.Promises.{terms_of}
 use Rattle.pd_answers.specs.Requests.{writeback}
 use Rattle.pd_answers.specs.Terms.{IsAnswered}
 use Rattle.pd_answers.specs.Writebacks.{AllTold}
-use Rattle.pd_settled.specs.Premises.{AgreeElsewhere, without_dirt}
+use Rattle.pd_changed.specs.Premises.{AgreeElsewhere, without_dirt}
 
 -- a writeback of a cache was asked, by the paths of its metadata, its fast device and its origin, and was answered with this status
 abbrev pub IsWritebackAnswered : List ℕ → List ℕ → List ℕ → Objects → Objects → ℕ → Type 0

@@ -17,12 +17,14 @@ ghost use Rattle.pd_answers.specs.Flag.{cleared, needs_check};
 ghost use Rattle.pd_exact.specs.Exact.{HoldsCleared, HoldsPoolOfText, IsCheckAnswered, IsCleared, IsClearingAnswered, IsDumpOf, IsPassed, IsPassingAnswered, IsRestoreAnswered, LeavesOldOrCleared, LeavesPoolOfText, LosesNothing, MeansTheSame, TellsClean, TellsPassed};
 
 use crate::shared::laid_shapes_are_clean;
-use pd_alike::{alike_pools_have_the_same_faults, alike_pools_mean_the_same};
+use pd_changed::{
+    alike_caches_have_the_same_faults, alike_caches_mean_the_same,
+    alike_pools_have_the_same_faults, alike_pools_mean_the_same,
+};
 use pd_laws::{faults_are_none_where_clean, leaks_alone_lose_nothing, reports_tell_leaks};
-use pd_settled::{alike_caches_have_the_same_faults, alike_caches_mean_the_same};
-use pd_shape_verdicts::pool_text_is_accepted_where_there_is_room;
 use pd_shapes::{
     either_version_spells_a_shape, pool_text_has_one_shape, pool_text_has_one_verdict,
+    pool_text_is_accepted_where_there_is_room,
 };
 use pd_spells::thin_text_spells;
 use pd_thin_meaning::sound_pools_are_lawful;

@@ -25,9 +25,9 @@ use pd_image_shapes::{
 };
 use pd_laid_shared::shape_takes_its_need;
 use pd_laid_thin::laid_shape_is_clean;
-use pd_shape_verdicts::pool_text_is_accepted_where_there_is_room;
 use pd_shapes::{
     either_version_spells_a_shape, pool_text_has_one_shape, pool_text_has_one_verdict,
+    pool_text_is_accepted_where_there_is_room,
 };
 
 /// What is laid of a shape that a text can spell, over a device with room for its need, is clean and means its pool. Its devices

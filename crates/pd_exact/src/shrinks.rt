@@ -6,11 +6,11 @@ ghost use Rattle.pd_answers.specs.Answer.{Objects};
 ghost use Rattle.pd_answers.specs.Outputs.{IsWorkDone};
 ghost use Rattle.pd_exact.specs.Shrink.{HoldsShrunk, IsShrinkAnswered, LeavesReads};
 
-use pd_laid_thin::laid_pool_is_clean;
-use pd_moved::{
+use pd_changed::{
     free_blocks_are_read_by_none, moved_pool_is_lawful, moved_pool_reads_the_same,
     moving_keeps_what_is_read,
 };
+use pd_laid_thin::laid_pool_is_clean;
 use pd_thin_meaning::sound_pools_are_lawful;
 
 /// At status 0 the output holds a smaller pool: it is clean, has as many data blocks as were asked for, or as there were if those are

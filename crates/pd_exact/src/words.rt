@@ -14,7 +14,7 @@ ghost use Rattle.pd_spells.specs.EraText.{SpellsEra};
 ghost use Rattle.pd_spells.specs.ThinText.{SpellsPool};
 ghost use Rattle.pd_answers.specs.Answer.{Objects};
 ghost use Rattle.pd_answers.specs.Outputs.{IsWorkDone};
-ghost use Rattle.pd_answers.specs.QueryLines.{list_lines, rmap_lines, since_lines};
+ghost use Rattle.pd_answers.specs.QueryLines.{device_list_lines, rmap_lines, since_lines};
 ghost use Rattle.pd_answers.specs.Requests.{restore};
 ghost use Rattle.pd_answers.specs.Words.{Region, asked, generated_number, is_value, number_below, region_of, version_of};
 ghost use Rattle.pd_exact.specs.Exact.{HoldsCacheOfText, HoldsCleared, HoldsPoolOfText, HoldsSalvage, HoldsTargetOfText, LeavesOldOrCleared};
@@ -37,9 +37,9 @@ use crate::targets::{restored_target_is_clean, sound_targets_are_lawful};
 use crate::writebacks::written_back_cache_is_clean;
 use pd_gen::generated_text_spells_a_pool;
 use pd_image_shapes::sound_pools_have_a_shape;
-use pd_shape_verdicts::pool_text_is_accepted_where_there_is_room;
 use pd_shapes::{
     either_version_spells_a_shape, pool_text_has_one_shape, pool_text_has_one_verdict,
+    pool_text_is_accepted_where_there_is_room,
 };
 use pd_spells::{cache_text_spells, era_text_spells, thin_text_spells};
 use pd_thin_meaning::sound_pools_are_lawful;
@@ -216,7 +216,7 @@ pub fn thin_rmap_puts_the_mappings()
 /// `thin_ls IMAGE`, to a file or not: status 0 says that the image has no faults up to the stage Whole, and that the list of
 /// its devices was put.
 pub fn thin_ls_puts_the_devices()
-    ensures { (file : Option (List ℕ)) (image : List ℕ) (before after : Objects) → IfSome file IsName → IsName image → CallEnds (codes "thin_ls" ∷ (to_file file ++ (image ∷ []))) 0 before after → PutsOfInput Thin (λ held. list_lines (thin_meaning held)) before after }
+    ensures { (file : Option (List ℕ)) (image : List ℕ) (before after : Objects) → IfSome file IsName → IsName image → CallEnds (codes "thin_ls" ∷ (to_file file ++ (image ∷ []))) 0 before after → PutsOfInput Thin (λ held. device_list_lines (thin_meaning held)) before after }
 {}
 
 /// `era_invalidate --written-since ERA IMAGE`, to a file or not: status 0 says that the image has no faults up to the stage

@@ -6,11 +6,11 @@ ghost use Rattle.pd_answers.specs.Answer.{Objects};
 ghost use Rattle.pd_answers.specs.Outputs.{IsWorkDone};
 ghost use Rattle.pd_exact.specs.Writeback.{HoldsWrittenBack, IsWritebackAnswered, LeavesTheView};
 
-use pd_laws::faults_are_none_where_clean;
-use pd_settled::{
+use pd_changed::{
     copied_origins_stand_alone, copying_keeps_the_view, settled_caches_have_the_same_faults,
     settled_caches_mean_the_same, settled_caches_show_the_same,
 };
+use pd_laws::faults_are_none_where_clean;
 
 /// At status 0 nothing in the cache is dirty: its metadata has no faults up to the stage Whole, is clean where it was, and means what it
 /// meant but for what was dirty. The cached device reads what it read, and so does the origin alone, where the blocks that weren't copied

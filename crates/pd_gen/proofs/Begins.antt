@@ -6,7 +6,7 @@ use Rattle.std.proofs.lemmas.List.{append-nil}
 use Rattle.pd_grammar.specs.Texts.{text_of_lines}
 use Rattle.pd_spells.specs.ThinText.{Line, end_line, first_line, map_line, thin}
 use Rattle.pd_answers.specs.Generated.{generated_mapped, generated_text}
-use Rattle.pd_gen.specs.declared.lines.Place.TheVariants.{Pool}
+use Rattle.pd_gen.specs.declared.lines.NextLine.TheVariants.{Pool}
 use Rattle.pd_gen.specs.Lines.{generated_lines, lines_from, run_of}
 use Rattle.pd_gen.specs.Pool.{generated_pool, snapshot_mapping}
 use Rattle.pd_gen.proofs.Spelled.{text_is}

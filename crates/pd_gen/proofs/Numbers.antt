@@ -12,7 +12,7 @@ use Rattle.pd_grammar.specs.Texts.{text_of_lines, written}
 use Rattle.pd_grammar.proofs.GrammarLemmas.{AreLines}
 use Rattle.pd_grammar.proofs.PlainLemmas.{printable_join, printable_lacks}
 use Rattle.pd_grammar.proofs.SplitLemmas.{Lacks}
-use Rattle.pd_spells.specs.ThinText.{Run, Line, Part, thin, AreApart, joins, joined_runs, joined_part, head_of, lines_of_parts, text_of_pool}
+use Rattle.pd_spells.specs.ThinText.{Run, Line, Part, thin, AreApart, continues_run, joined_runs, joined_part, head_of, lines_of_parts, text_of_pool}
 use Rattle.pd_spells.proofs.ThinJoin.{runs_joined}
 use Rattle.pd_spells.proofs.ThinLaws.{thin_language}
 use Rattle.pd_spells.proofs.ThinRead.{FitsLine, Placed, thin_grammar}
@@ -22,7 +22,7 @@ use Rattle.pd_gen.specs.Lines.{generated_lines, part_of, run_of}
 use Rattle.pd_gen.proofs.Spelled.{generated_means, have_mappings, written_out}
 
 -- two runs don't join where the data blocks don't follow each other, or the times differ
-not_joined : (r s : Run) → (r.data_block + r.length ≡ s.data_block → r.time ≡ s.time → ⊥) → joins r s ≡ false
+not_joined : (r s : Run) → (r.data_block + r.length ≡ s.data_block → r.time ≡ s.time → ⊥) → continues_run r s ≡ false
 not_joined r s apart = elim (cases_Bool (eqb (r.virtual_block + r.length) s.virtual_block)) [
   | inr e ↦ rw e refl
   | inl e ↦ elim (cases_Bool (eqb (r.data_block + r.length) s.data_block)) [
@@ -34,14 +34,14 @@ not_joined r s apart = elim (cases_Bool (eqb (r.virtual_block + r.length) s.virt
   ]
 ]
 
-device_apart : (v : ℕ) → joins (run_of (device_mapping v)) (run_of (device_mapping (v + 1))) ≡ false
+device_apart : (v : ℕ) → continues_run (run_of (device_mapping v)) (run_of (device_mapping (v + 1))) ≡ false
 device_apart v = not_joined (run_of (device_mapping v)) (run_of (device_mapping (v + 1))) (λ block time. absurd (omega arith))
 
 -- a mapping of the snapshot to a block of its own
 abbrev changed : ℕ → Mapping
 changed v = record { virtual_block = v; data_block = 2 * v + 1; time = 1 }
 
-snapshot_apart : (v : ℕ) → joins (run_of (snapshot_mapping v)) (run_of (snapshot_mapping (v + 1))) ≡ false
+snapshot_apart : (v : ℕ) → continues_run (run_of (snapshot_mapping v)) (run_of (snapshot_mapping (v + 1))) ≡ false
 snapshot_apart v = elim (cases_Bool (nat_eq (v % 200) 0)) [
   | inl e ↦
       let here : v % 200 ≡ 0 = (Decides-eqb (v % 200) 0).0 e in
@@ -53,19 +53,19 @@ snapshot_apart v = elim (cases_Bool (nat_eq (v % 200) 0)) [
   ]
 ]
 
-runs_apart : (f : ℕ → Mapping) → ((v : ℕ) → joins (run_of (f v)) (run_of (f (v + 1))) ≡ false) → (a n : ℕ) → AreApart (map run_of (map f (range_with_len a n)))
+runs_apart : (f : ℕ → Mapping) → ((v : ℕ) → continues_run (run_of (f v)) (run_of (f (v + 1))) ≡ false) → (a n : ℕ) → AreApart (map run_of (map f (range_with_len a n)))
 runs_apart f each a zero = tt
 runs_apart f each a (suc zero) = tt
 runs_apart f each a (suc (suc n)) = (each a, runs_apart f each (a + 1) (suc n))
 
 -- so its runs are as long as can be
-joined_are : (f : ℕ → Mapping) → ((v : ℕ) → joins (run_of (f v)) (run_of (f (v + 1))) ≡ false) → (n : ℕ)
+joined_are : (f : ℕ → Mapping) → ((v : ℕ) → continues_run (run_of (f v)) (run_of (f (v + 1))) ≡ false) → (n : ℕ)
     → joined_runs (map f (range_with_len 0 n)) ≡ map run_of (map f (range_with_len 0 n))
 joined_are f each n =
     let ms = map f (range_with_len 0 n) in
     ap joined_runs (sym (written_out ms)) ∙ runs_joined (map run_of ms) (have_mappings ms) (runs_apart f each 0 n)
 
-same_part : (number id : ℕ) (f : ℕ → Mapping) → ((v : ℕ) → joins (run_of (f v)) (run_of (f (v + 1))) ≡ false)
+same_part : (number id : ℕ) (f : ℕ → Mapping) → ((v : ℕ) → continues_run (run_of (f v)) (run_of (f (v + 1))) ≡ false)
     → joined_part (generated_device number id f) ≡ part_of (generated_device number id f)
 same_part number id f each = rw (joined_are f each (generated_mapped number)) refl
 

@@ -6,8 +6,8 @@ use Rattle.pd_spells.specs.ThinText.{Line, Part, Run, pool_line, device_line, ma
 use Rattle.pd_texts.specs.ThinLine.{line_of}
 use Rattle.pd_answers.specs.Generated.{generated_mapped}
 use Rattle.pd_gen.specs.declared.lines.Generated.{Generated}
-use Rattle.pd_gen.specs.declared.lines.Place.{Place}
-use Rattle.pd_gen.specs.declared.lines.Place.TheVariants.{Pool, Device, Maps, SnapshotMaps}
+use Rattle.pd_gen.specs.declared.lines.NextLine.{NextLine}
+use Rattle.pd_gen.specs.declared.lines.NextLine.TheVariants.{Pool, Device, Maps, SnapshotMaps}
 use Rattle.pd_gen.specs.declared.lines.Step.{Step}
 use Rattle.pd_gen.specs.Pool.{device_mapping, details_with, generated_head, generated_pool, snapshot_mapping}
 
@@ -34,7 +34,7 @@ abbrev pub device_maps_from : ℕ → ℕ → List Line
 device_maps_from number v = maps_from device_mapping number v ++ (device_line (details_with number 1) ∷ maps_from snapshot_mapping number 0)
 
 -- the lines from a place on, but for the last one
-abbrev pub lines_from : ℕ → Place → List Line
+abbrev pub lines_from : ℕ → NextLine → List Line
 lines_from number Pool = pool_line (generated_head number) ∷ device_line (details_with number 0) ∷ device_maps_from number 0
 lines_from number Device = device_line (details_with number 0) ∷ device_maps_from number 0
 lines_from number (Maps v) = device_maps_from number v
@@ -45,5 +45,5 @@ abbrev pub lines_left : Generated → List Line
 lines_left made = lines_from made.number made.next
 
 -- the line in a place was given, and the place after it
-pub record Gives (number : ℕ) (place : Place) (step : Step) : Type 0 where
+pub record GivesGenerated (number : ℕ) (place : NextLine) (step : Step) : Type 0 where
   pub line : lines_from number place ≡ line_of step.line ∷ lines_from number step.next

@@ -3,7 +3,7 @@
 ghost use Rattle.std.specs.Prelude.{◌≡◌, ◌<◌, ◌^◌, ◌∷◌, [], IfNone, IfSome};
 ghost use Rattle.pd_spells.specs.ThinText as p;
 ghost use Rattle.pd_texts.specs.ThinLine.{line_of};
-ghost use Rattle.pd_gen.specs.Lines.{Gives, lines_from, run_of};
+ghost use Rattle.pd_gen.specs.Lines.{GivesGenerated, lines_from, run_of};
 ghost use Rattle.pd_gen.specs.Pool.{device_mapping, details_with, generated_head, snapshot_mapping};
 
 use pd_texts::{Run2, ThinLine};
@@ -14,7 +14,7 @@ const CHANGED: u64 = 200;
 
 /// The next line.
 #[derive(Clone, Copy)]
-enum Place {
+enum NextLine {
     /// The pool's.
     Pool,
     /// The device's.
@@ -29,14 +29,14 @@ enum Place {
 #[derive(Drop)]
 struct Step {
     line: ThinLine,
-    next: Place,
+    next: NextLine,
 }
 
 /// The lines of the text of a number that stand between its first and its last one.
 #[derive(Drop)]
 pub(crate) struct Generated {
     number: u32,
-    next: Place,
+    next: NextLine,
 }
 
 impl Generated {
@@ -44,11 +44,11 @@ impl Generated {
 
     /// All of them.
     pub(crate) fn new(number: u32) -> Generated
-        ensures { lines_left result ≡ lines_from number Place.Pool }
+        ensures { lines_left result ≡ lines_from number NextLine.Pool }
     {
         Generated {
             number,
-            next: Place::Pool,
+            next: NextLine::Pool,
         }
     }
 
@@ -64,50 +64,50 @@ impl Generated {
 }
 
 /// The line in a place of the text of the number.
-fn step_at(number: u32, place: Place) -> Option<Step>
-    ensures some { IfSome result (Gives number place) }
+fn step_at(number: u32, place: NextLine) -> Option<Step>
+    ensures some { IfSome result (GivesGenerated number place) }
     ensures none { IfNone result (lines_from number place ≡ []) }
 {
     match place {
-        Place::Pool => Some(Step {
+        NextLine::Pool => Some(Step {
             line: pool_line(number),
-            next: Place::Device,
+            next: NextLine::Device,
         }),
-        Place::Device => Some(Step {
+        NextLine::Device => Some(Step {
             line: device_line(number, 0),
-            next: Place::Maps(0),
+            next: NextLine::Maps(0),
         }),
-        Place::Maps(v) => Some(map_step(number, v)),
-        Place::SnapshotMaps(v) => snapshot_step(number, v),
+        NextLine::Maps(v) => Some(map_step(number, v)),
+        NextLine::SnapshotMaps(v) => snapshot_step(number, v),
     }
 }
 
 /// The device's map line of a virtual block, or after the last of these the line of the snapshot.
 fn map_step(number: u32, v: u64) -> Step
-    ensures { Gives number (Place.Maps v) result }
+    ensures { GivesGenerated number (NextLine.Maps v) result }
 {
     if v < 1000 * number as u64 {
         Step {
             line: device_map_line(v),
-            next: Place::Maps(v + 1),
+            next: NextLine::Maps(v + 1),
         }
     } else {
         Step {
             line: device_line(number, 1),
-            next: Place::SnapshotMaps(0),
+            next: NextLine::SnapshotMaps(0),
         }
     }
 }
 
 /// The snapshot's map line of a virtual block, or none after the last of these.
 fn snapshot_step(number: u32, v: u64) -> Option<Step>
-    ensures some { IfSome result (Gives number (Place.SnapshotMaps v)) }
-    ensures none { IfNone result (lines_from number (Place.SnapshotMaps v) ≡ []) }
+    ensures some { IfSome result (GivesGenerated number (NextLine.SnapshotMaps v)) }
+    ensures none { IfNone result (lines_from number (NextLine.SnapshotMaps v) ≡ []) }
 {
     if v < 1000 * number as u64 {
         Some(Step {
             line: snapshot_map_line(v),
-            next: Place::SnapshotMaps(v + 1),
+            next: NextLine::SnapshotMaps(v + 1),
         })
     } else {
         None

@@ -54,7 +54,7 @@ impl GenSource {
             if !self.has_more() {
                 return filled;
             }
-            filled += self.give(&mut into[filled..]);
+            filled += self.move_bytes(&mut into[filled..]);
         }
         filled
     }
@@ -85,7 +85,7 @@ impl GenSource {
     }
 
     /// Moves bytes of the line to the front of `into`: how many.
-    fn give(&mut self, into: &mut [u8]) -> usize
+    fn move_bytes(&mut self, into: &mut [u8]) -> usize
         requires more { self.old.given < length self.old.line }
         requires room { 0 < length into.old }
         ensures some { 0 < result }

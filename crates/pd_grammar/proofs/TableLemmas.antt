@@ -18,7 +18,7 @@ use Rattle.pd_grammar.specs.declared.value.Value.{Value}
 use Rattle.pd_grammar.specs.declared.value.Value.TheVariants as v
 use Rattle.pd_grammar.specs.Words.{uuid_of, policy_of, number_of, result_map}
 use Rattle.pd_grammar.specs.Texts.{written}
-use Rattle.pd_grammar.specs.Tables.{field_of, word_of, value_of, with_value, values_in, bytes_at, number_at, Place, second_line, later_line, later_line_where, may_stand, LineKind, Table, words_of, words_by, kind_named, line_in, parsed_by, first_among, first_by, format_of}
+use Rattle.pd_grammar.specs.Tables.{field_of, word_of, value_of, with_value, values_in, bytes_at, number_at, LinePlace, second_line, later_line, later_line_where, may_stand, LineKind, Table, words_of, words_by, kind_named, line_in, parsed_by, first_among, first_by, format_of}
 use Rattle.pd_grammar.proofs.NumberLemmas.{ok-err, same_Ok, chosen, both, number_is, number_again}
 use Rattle.pd_grammar.proofs.PlainLemmas.{Plain, Printable, number_plain, uuid_plain, uuid_again, uuid_is, bytes_everywhere, policy_plain, policy_again, policy_is}
 use Rattle.pd_grammar.proofs.ShortLemmas.{room_of, joined_short, decimal_short}
@@ -152,19 +152,19 @@ values_short (v.Policy bytes ∷ xs) fits = omega (arith, policy_length bytes fi
 values_short (v.Number n ∷ xs) fits = omega (arith, decimal_short n fits.0, values_short xs fits.1)
 
 -- a line may stand in a place
-abbrev pub IsPlaced : {L : Type 0} → Place L → List L → Type 0
+abbrev pub IsPlaced : {L : Type 0} → LinePlace L → List L → Type 0
 IsPlaced second_line before = length before ≡ 1
 IsPlaced later_line before = 2 ≤ length before
 IsPlaced (later_line_where test) before = (2 ≤ length before) × (test before ≡ true)
 
-is_placed : {L : Type 0} → (place : Place L) (before : List L) → may_stand place before ≡ true → IsPlaced place before
+is_placed : {L : Type 0} → (place : LinePlace L) (before : List L) → may_stand place before ≡ true → IsPlaced place before
 is_placed second_line before stands = (Decides-eqb (length before) 1).0 stands
 is_placed later_line before stands = grind (arith, nat_tests)
 is_placed (later_line_where test) before stands =
     let parts = both (ltb 1 (length before)) (test before) stands in
     (grind (arith, nat_tests, parts.0), parts.1)
 
-pub stands_again : {L : Type 0} → (place : Place L) (before : List L) → IsPlaced place before → may_stand place before ≡ true
+pub stands_again : {L : Type 0} → (place : LinePlace L) (before : List L) → IsPlaced place before → may_stand place before ≡ true
 stands_again second_line before placed = (Decides-eqb (length before) 1).1 placed
 stands_again later_line before placed = grind (arith, nat_tests)
 stands_again (later_line_where test) before placed =
@@ -295,7 +295,7 @@ module _ {L : Type 0} (table : Table L) (lawful : IsLawful table) where
       ap (λ (k : Option (LineKind L)). join_with_byte 32 (words_of (table.first_words line) k (table.values line))) known.1.kind in
       rw known.0 (words, (subst Fits (sym known.1.values) tt, (subst Stands (sym known.1.kind) (refl, again), known.1.printable)))
 
-  none_first : {P : Type 0} → (place : Place L) → IsPlaced place [] → P
+  none_first : {P : Type 0} → (place : LinePlace L) → IsPlaced place [] → P
   none_first second_line placed = absurd (omega (arith, placed))
   none_first later_line placed = absurd (omega (arith, placed))
   none_first (later_line_where test) placed = absurd (omega (arith, placed.0))

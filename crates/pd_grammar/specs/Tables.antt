@@ -73,13 +73,13 @@ abbrev pub number_at : List Value → ℕ → ℕ
 number_at values i = number_in (slice_get values i)
 
 -- where a line may stand: on line 2, on a later line, or there where a test of the lines before holds
-pub data Place (L : Type 0) : Type 0 where
-  second_line : Place L
-  later_line : Place L
-  later_line_where : (List L → Bool) → Place L
+pub data LinePlace (L : Type 0) : Type 0 where
+  second_line : LinePlace L
+  later_line : LinePlace L
+  later_line_where : (List L → Bool) → LinePlace L
 
 -- whether it may stand after these lines, the newest first
-abbrev pub may_stand : {L : Type 0} → Place L → List L → Bool
+abbrev pub may_stand : {L : Type 0} → LinePlace L → List L → Bool
 may_stand second_line before = length before == 1
 may_stand later_line before = nat_lt 1 (length before)
 may_stand (later_line_where test) before = nat_lt 1 (length before) && test before
@@ -88,7 +88,7 @@ may_stand (later_line_where test) before = nat_lt 1 (length before) && test befo
 pub record LineKind (L : Type 0) : Type 0 where
   pub keyword : List ℕ
   pub fields : List Field
-  pub place : Place L
+  pub place : LinePlace L
   -- the line of its values
   pub make : List Value → L
 

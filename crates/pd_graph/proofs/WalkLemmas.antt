@@ -15,7 +15,7 @@ use Rattle.pd_kinds.specs.Paths.{edge}
 use Rattle.pd_graph.specs.declared.marks.Marks.{Marks}
 use Rattle.pd_graph.specs.Roles.{is_in, IsAllRead}
 use Rattle.pd_graph.specs.Weight.{weigh}
-use Rattle.pd_graph.specs.Marks.{HasPlaces, has_rule_in, seen_of, read_of, counts_of, rules_of, TakesPair, Follows, Looks, KeepsTables}
+use Rattle.pd_graph.specs.Marks.{HasPlaces, has_rule_in, seen_of, read_of, counts_of, rules_of, TakesPair, Follows, LooksAtPair, KeepsTables}
 use Rattle.pd_graph.specs.Walk.{IsSafe, IsTold, read_number, edges_to}
 use Rattle.pd_graph.proofs.BitLemmas.{differ, pair_block, pair_role}
 use Rattle.pd_graph.proofs.Weights.{more_weight, wider_weight, ones_below, length_weighs}
@@ -34,7 +34,7 @@ pub record StepsMarks (b role : ℕ) (edges : List Edge) (bad : Rule → Bool) (
   pub counts : (c : ℕ) → get_or (counts_of new) c 0 ≡ get_or (counts_of old) c 0 + count_by (λ r. nat_eq r c) (map (λ (edge : Edge). edge.block) edges)
   pub rules : (c : ℕ) (wanted : Rule) → has_rule_in (rules_of new) c wanted ≡ (has_rule_in (rules_of old) c wanted || (nat_eq c b && bad wanted))
 
-pub steps_from : (b role : ℕ) (edges : List Edge) (bad : Rule → Bool) (old between new : Marks) → TakesPair b role old between → Looks edges b bad between new
+pub steps_from : (b role : ℕ) (edges : List Edge) (bad : Rule → Bool) (old between new : Marks) → TakesPair b role old between → LooksAtPair edges b bad between new
     → StepsMarks b role edges bad old new
 steps_from b role edges bad old between new takes looks = record {
   places = λ nr places. looks.follows.places nr (takes.places nr places);
@@ -98,7 +98,7 @@ leads_within graph (x ∷ xs) t few all leads = elim (or_cases (nat_eq (pair x.b
 
 -- a step is safe
 pub safe_step : (graph : Graph) (b role : ℕ) (block : List ℕ) (old between new : Marks) → graph.roles ≤ 16 → KeepsLaws graph role b block
-    → IsSafe graph old → TakesPair b role old between → Looks (graph.edges role b block) b (graph.bad role b block) between new → IsSafe graph new
+    → IsSafe graph old → TakesPair b role old between → LooksAtPair (graph.edges role b block) b (graph.bad role b block) between new → IsSafe graph new
 safe_step graph b role block old between new few laws safe takes looks =
     let step = steps_from b role (graph.edges role b block) (graph.bad role b block) old between new takes looks in
     let more = one_more_read graph.nr b role old between safe.places takes in
@@ -194,7 +194,7 @@ rules_step graph image b role block old new found step c n wanted few within = e
 
 -- a step is told
 pub told_step : (graph : Graph) (image : List (List ℕ)) (b role : ℕ) (block : List ℕ) (old between new : Marks) → IsSafe graph old
-    → slice_get image b ≡ Some block → IsTold graph image old → TakesPair b role old between → Looks (graph.edges role b block) b (graph.bad role b block) between new → IsTold graph image new
+    → slice_get image b ≡ Some block → IsTold graph image old → TakesPair b role old between → LooksAtPair (graph.edges role b block) b (graph.bad role b block) between new → IsTold graph image new
 told_step graph image b role block old between new safe found told takes looks =
     let edges = graph.edges role b block in
     let step = steps_from b role edges (graph.bad role b block) old between new takes looks in

@@ -69,7 +69,7 @@ pub record TakesPair (b role : ℕ) (old new : Marks) : Type 0 where
   pub rules : rules_of new ≡ rules_of old
 
 -- a pair was looked at: its edges were followed, and its block has the rules that it breaks in this role
-pub record Looks (edges : List Edge) (b : ℕ) (bad : Rule → Bool) (old new : Marks) : Type 0 where
+pub record LooksAtPair (edges : List Edge) (b : ℕ) (bad : Rule → Bool) (old new : Marks) : Type 0 where
   pub follows : Follows edges old new
   pub rules : (c : ℕ) (wanted : Rule) → has_rule_in (rules_of new) c wanted
       ≡ (has_rule_in (rules_of old) c wanted || ((c == b) && bad wanted))

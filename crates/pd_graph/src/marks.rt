@@ -32,7 +32,7 @@ pub(crate) struct Marks {
 }
 
 impl Marks {
-    ghost use Rattle.pd_graph.specs.Marks.{seen_of, read_of, counts_of, rules_of, has_rule_in, HasPlaces, IsUnmarked, KeepsTables, TakesPair, Follows, Looks};
+    ghost use Rattle.pd_graph.specs.Marks.{seen_of, read_of, counts_of, rules_of, has_rule_in, HasPlaces, IsUnmarked, KeepsTables, TakesPair, Follows, LooksAtPair};
 
     /// Tables for so many blocks, without a mark.
     pub(crate) fn new(alloc: Global, nr: usize) -> Result<Marks, AllocError>
@@ -164,7 +164,7 @@ impl Marks {
         requires places { HasPlaces (F.graph format.now).nr self.old }
         requires room { (c : ℕ) → slice_index (counts_of self.old) c + 256 ≤ 2 ^ 64 }
         requires judged { (rule : BrokenRule) → has_rule broken.now rule ≡ (F.graph format.now).bad role b block.now.0 rule }
-        ensures { Looks ((F.graph format.now).edges role b block.now.0) b ((F.graph format.now).bad role b block.now.0) self.old self.new }
+        ensures { LooksAtPair ((F.graph format.now).edges role b block.now.0) b ((F.graph format.now).bad role b block.now.0) self.old self.new }
     {
         if broken.is_empty() {
             self.follow(format, role, b, block);

@@ -120,7 +120,7 @@ impl Source for MemSource {
         ensures piece { mem_source_piece self.new ≡ mem_source_piece self.old }
     {
         self.calls.begin()?;
-        let n = give(&self.bytes[self.taken..], self.piece, into);
+        let n = copy_some(&self.bytes[self.taken..], self.piece, into);
         self.taken += n;
         Ok(n)
     }
@@ -128,7 +128,7 @@ impl Source for MemSource {
 
 /// Copies as many bytes as there are, as there is room for, and as are wanted at most, and answers how
 /// many.
-fn give(from: &[u8], most: usize, into: &mut [u8]) -> usize
+fn copy_some(from: &[u8], most: usize, into: &mut [u8]) -> usize
     ensures number { result ≡ min (min most (length into.old)) (length from.now) }
     ensures front { take result into.new ≡ take result from.now }
     ensures rest { drop result into.new ≡ drop result into.old }

@@ -26,9 +26,9 @@ use Rattle.pd_tree.specs.TreeRoles.{IsTreeTo}
 use Rattle.pd_tree.proofs.ReachLemmas.{met}
 use Rattle.pd_tree.proofs.TableLemmas.{leaf_edges_at, tree_at}
 use Rattle.pd_shared_leaves.proofs.OccursLemmas.{among_flat, holds_among}
-use Rattle.pd_settled.proofs.TreePaths.{IsDown, further, is_gathered, short}
-use Rattle.pd_settled.proofs.TreePaths.IsDown.{at_once}
-use Rattle.pd_settled.proofs.DirtyPlaces.{any_named, next_of_child}
+use Rattle.pd_changed.proofs.TreePaths.{IsDown, further, is_gathered, short}
+use Rattle.pd_changed.proofs.TreePaths.IsDown.{at_once}
+use Rattle.pd_changed.proofs.DirtyPlaces.{any_named, next_of_child}
 
 -- the tree of mappings has role 3
 pub bottom_is : (nr data_blocks : ℕ) → thin_layout nr data_blocks 3 ≡ tree (bottom_tree data_blocks)

@@ -20,8 +20,7 @@ use crate::laid::laid_shapes_keep_their_shape;
 use crate::sound::sound_pools_have_a_shape;
 use pd_laid_shared::shape_takes_its_need;
 use pd_laid_thin::laid_shape_is_clean;
-use pd_shape_verdicts::pool_text_is_accepted_where_there_is_room;
-use pd_shapes::either_version_spells_a_shape;
+use pd_shapes::{either_version_spells_a_shape, pool_text_is_accepted_where_there_is_room};
 use pd_thin_meaning::sound_pools_are_lawful;
 
 /// Where there is room for the need of a sound pool's shape, its text is accepted for that shape, and what is laid of it is a clean

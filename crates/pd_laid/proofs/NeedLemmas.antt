@@ -9,7 +9,7 @@ use Rattle.pd_kinds.specs.Node.{Entry, max_entries}
 use Rattle.pd_kinds.specs.Array.{max_words}
 use Rattle.pd_kinds.specs.Bitmap.{bitmaps_for}
 use Rattle.pd_spells.specs.Need.{nodes_for, need_above, need_tree, need_array, need_meta_map, nodes_of_tree}
-use Rattle.pd_laid.specs.Tree.{heads, levels_above, inners_above, tree_blocks, tree_leaves, tree_inners, leaf_row, behind_leaves, spread}
+use Rattle.pd_laid.specs.Tree.{heads, levels_above, inners_above, tree_blocks, tree_leaves, tree_inners, leaf_row, behind_leaves, even_parts}
 use Rattle.pd_laid.specs.Laid.{LaidBlock, laid_number, tree_of, laid_leaf, laid_inner, laid_tree}
 use Rattle.pd_laid.specs.Array.{pieces, array_pieces, array_items, laid_words, laid_array}
 use Rattle.pd_laid.specs.Map.{laid_bitmap, laid_bitmaps, meta_overflow, meta_overflow_at, meta_overflow_blocks, meta_counts, laid_meta_map}
@@ -28,7 +28,7 @@ length-levels : (k place : ℕ) (row : List Entry) → length (levels_above k pl
 unfolding levels_above need_above
 length-levels zero place row = refl
 length-levels (suc k) place row =
-    let level = spread (nodes_for 252 (length row)) row in
+    let level = even_parts (nodes_for 252 (length row)) row in
     let number = length-spread (nodes_for 252 (length row)) row in
     let rest = length-levels k (place + length level) (heads place level) in
     let row_number = length-heads place level in

@@ -26,7 +26,7 @@ use Rattle.pd_laws.proofs.PathLemmas.{path_from_reached, reached_from_path, pass
 use Rattle.pd_kinds.specs.Trees.{entries_below}
 use Rattle.pd_kinds.proofs.FieldLemmas.{le-lt}
 use Rattle.pd_kinds.specs.Image.{HasBytes}
-use Rattle.pd_laid.specs.Salvage.{is_damaged, child_low, child_high, given}
+use Rattle.pd_laid.specs.Salvage.{is_damaged, child_low, child_high, salvaged_entries}
 use Rattle.pd_laid.specs.Visits.{Visit, entries_of_visit, visited, visits}
 use Rattle.pd_laid.proofs.GatherLemmas.{AreFrom, AreBelow, from_test, below_test, kept_in_range, all_first, all_last, all_at, all_joined, same_joined, same_each, map_joined, gathered_flat, gathered_leaf, gathered_inner, stable, child_range}
 use Rattle.pd_laid.proofs.VisitLemmas.{visits_give}
@@ -405,8 +405,8 @@ module _ (roles nr data_blocks : ℕ) (layout : ℕ → Layout) (image : List (L
         63 b reached)
 
     -- so all entries below it are given
-    pub given_root : HasBytes image → (b : ℕ) → Reached b → is_outside nr b ≡ false → given t.size nr image b ≡ entries_below graph image t.size role b
-    unfolding given visited entries_below
+    pub given_root : HasBytes image → (b : ℕ) → Reached b → is_outside nr b ≡ false → salvaged_entries t.size nr image b ≡ entries_below graph image t.size role b
+    unfolding salvaged_entries visited entries_below
     given_root bytes b reached inside =
         sym (visits_give t.size nr image 64 b 0 (2 ^ 64))
         ∙ (visits_entries (visited t.size nr image b) (leaves_under 63 b) (visited_root bytes b reached inside)

@@ -6,7 +6,7 @@ use Rattle.std.proofs.lemmas.List.{map-append, append_assoc, length-append}
 use Rattle.std.proofs.lemmas.Grind.{flat_map-append}
 use Rattle.pd_kinds.specs.Node.{Entry}
 use Rattle.pd_spells.specs.Need.{nodes_for}
-use Rattle.pd_laid.specs.Tree.{spread, first_place, heads, levels_above}
+use Rattle.pd_laid.specs.Tree.{even_parts, first_place, heads, levels_above}
 use Rattle.pd_laid.proofs.NeedLemmas.{length-heads}
 use Rattle.pd_laid.proofs.SpreadLemmas.{length-spread, joined_spread}
 
@@ -34,7 +34,7 @@ values-heads place (node ∷ nodes) = ap (λ (rest : List ℕ). place ∷ rest) 
 
 -- the level above a row
 abbrev pub level_of : List Entry → List (List Entry)
-level_of row = spread (nodes_for 252 (length row)) row
+level_of row = even_parts (nodes_for 252 (length row)) row
 
 abbrev pub upper_of : ℕ → ℕ → List Entry → List (List Entry)
 upper_of k place row = levels_above k (place + length (level_of row)) (heads place (level_of row))

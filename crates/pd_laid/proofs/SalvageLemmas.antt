@@ -28,7 +28,7 @@ use Rattle.pd_laws.proofs.SoundLemmas.{inside_from}
 use Rattle.pd_laws.proofs.PathLemmas.{reached_start}
 use Rattle.pd_laid.specs.Laid.{tree_of}
 use Rattle.pd_kinds.specs.Image.{HasBytes}
-use Rattle.pd_laid.specs.Salvage.{given, given_mappings, given_device, salvage_from, salvage}
+use Rattle.pd_laid.specs.Salvage.{salvaged_entries, salvaged_mappings, salvaged_device, salvage_from, salvage}
 use Rattle.pd_laid.proofs.GatherLemmas.{all_first, all_last}
 use Rattle.pd_laid.proofs.NodeFacts.{all_parts, among_mapped, none_pass, reached_next, given_root, under_all, leaf_named, within_at, block_pair}
 
@@ -113,14 +113,14 @@ module _ (fields : ThinFields) (image : List (List ℕ))
   IsRoot role b = (is_outside nr b ≡ false) × IsReached graph image b role
 
   -- what is given below the roots of the three trees
-  pub given_tops : (b : ℕ) → IsRoot 2 b → given 8 nr image b ≡ top_entries graph image b
+  pub given_tops : (b : ℕ) → IsRoot 2 b → salvaged_entries 8 nr image b ≡ top_entries graph image b
   given_tops b root = given_root 11 nr data_blocks (thin_layout nr data_blocks) image ordered top_tree 2 (omega arith) (top_is nr data_blocks) bytes b root.1 root.0
 
-  given_bottom : (b : ℕ) → IsRoot 3 b → given 8 nr image b ≡ mapping_entries graph image b
+  given_bottom : (b : ℕ) → IsRoot 3 b → salvaged_entries 8 nr image b ≡ mapping_entries graph image b
   given_bottom b root =
       given_root 11 nr data_blocks (thin_layout nr data_blocks) image ordered (bottom_tree data_blocks) 3 (omega arith) (bottom_is nr data_blocks) bytes b root.1 root.0
 
-  given_all_details : (b : ℕ) → IsRoot 4 b → given 24 nr image b ≡ details_entries graph image b
+  given_all_details : (b : ℕ) → IsRoot 4 b → salvaged_entries 24 nr image b ≡ details_entries graph image b
   given_all_details b root =
       given_root 11 nr data_blocks (thin_layout nr data_blocks) image ordered details_tree 4 (omega arith) (details_is nr data_blocks) bytes b root.1 root.0
 
@@ -150,8 +150,8 @@ module _ (fields : ThinFields) (image : List (List ℕ))
   abbrev mapping_of : Entry → Mapping
   mapping_of e = record { virtual_block = e.key; data_block = mapped_block e.value; time = mapped_time e.value }
 
-  mappings_given : (b : ℕ) → IsRoot 3 b → given_mappings fields image b ≡ map mapping_of (mapping_entries graph image b)
-  unfolding given_mappings
+  mappings_given : (b : ℕ) → IsRoot 3 b → salvaged_mappings fields image b ≡ map mapping_of (mapping_entries graph image b)
+  unfolding salvaged_mappings
   mappings_given b root =
       let all = given_bottom b root in
       rw all (ap (map mapping_of) (filter_all (λ (e : Entry). nat_lt (mapped_block e.value) data_blocks) (mapping_entries graph image b) (mappings_within b root)))
@@ -162,8 +162,8 @@ module _ (fields : ThinFields) (image : List (List ℕ))
 
   device_given : (top : Entry) → IsRoot 3 top.value → IsRoot 4 fields.details_root
       → Finds (details_entries graph image fields.details_root) top.key (IsCounted top)
-      → given_device fields image top ≡ thin_device graph image (details_entries graph image fields.details_root) top
-  unfolding given_device thin_device value_of_key
+      → salvaged_device fields image top ≡ thin_device graph image (details_entries graph image fields.details_root) top
+  unfolding salvaged_device thin_device value_of_key
   device_given top root details is =
       let mappings = mappings_given top.value root in
       let number = length-map (mapping_entries graph image top.value) mapping_of in
@@ -291,7 +291,7 @@ module _ (image : List (List ℕ))
         tops (among_mapped (λ (e : Entry). e.key) tops) counted
 
     -- so each device is saved as it is
-    devices_saved : map (given_device own image) (filter (λ (top : Entry). not (is_outside own.meta_map.blocks top.value)) (given 8 own.meta_map.blocks image own.mapping_root))
+    devices_saved : map (salvaged_device own image) (filter (λ (top : Entry). not (is_outside own.meta_map.blocks top.value)) (salvaged_entries 8 own.meta_map.blocks image own.mapping_root))
         ≡ map (thin_device own_graph image details) tops
     devices_saved =
         let roots = tops_are_roots own image ordered bytes own.mapping_root mapping_is_root in
@@ -299,9 +299,9 @@ module _ (image : List (List ℕ))
         let kept = filter_all (λ (top : Entry). not (is_outside own.meta_map.blocks top.value)) tops
         (all_from (λ (top : Entry). IsRoot own image ordered bytes 3 top.value) (λ (top : Entry). not (is_outside own.meta_map.blocks top.value) ≡ true)
         (λ top root. not_from_false (is_outside own.meta_map.blocks top.value) root.0) tops roots) in
-        rw (all, kept) (same_made (given_device own image) (thin_device own_graph image details) tops
+        rw (all, kept) (same_made (salvaged_device own image) (thin_device own_graph image details) tops
         (all_from_two (λ (top : Entry). IsRoot own image ordered bytes 3 top.value) (λ (top : Entry). Finds details top.key (IsCounted own image ordered bytes top))
-        (λ (top : Entry). given_device own image top ≡ thin_device own_graph image details top)
+        (λ (top : Entry). salvaged_device own image top ≡ thin_device own_graph image details top)
         (λ top root is. device_given own image ordered bytes top root details_is_root is) tops roots all_found))
 
     pub pool_saved : salvage_from own image ≡ thin_meaning image

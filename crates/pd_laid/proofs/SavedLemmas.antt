@@ -6,10 +6,10 @@ use Rattle.pd_kinds.specs.Edge.{is_outside}
 use Rattle.pd_kinds.specs.Node.{Entry, entry_count, child_at, is_inner_node}
 use Rattle.pd_kinds.specs.Graph.{block_at}
 use Rattle.pd_kinds.specs.Layout.{leaf_entries}
-use Rattle.pd_laid.specs.Salvage.{is_damaged, child_low, child_high, give}
-use Rattle.pd_laid.specs.Saved.{Has, IsWhole, IsInChild, IsSaved, in_leaf, in_child}
+use Rattle.pd_laid.specs.Salvage.{is_damaged, child_low, child_high, salvaged_below}
+use Rattle.pd_laid.specs.Saved.{ContainsEntry, IsWhole, IsInChild, IsSaved, in_leaf, in_child}
 
-has_cases : (xs ys : List Entry) (e : Entry) → Has (xs ++ ys) e → Has xs e ⊎ Has ys e
+has_cases : (xs ys : List Entry) (e : Entry) → ContainsEntry (xs ++ ys) e → ContainsEntry xs e ⊎ ContainsEntry ys e
 has_cases [] ys e has = inr has
 has_cases (x ∷ xs) ys e (inl here) = inl (inl here)
 has_cases (x ∷ xs) ys e (inr later) = elim (has_cases xs ys e later) [
@@ -17,24 +17,24 @@ has_cases (x ∷ xs) ys e (inr later) = elim (has_cases xs ys e later) [
   | inr last ↦ inr last
 ]
 
-has_first : (xs ys : List Entry) (e : Entry) → Has xs e → Has (xs ++ ys) e
+has_first : (xs ys : List Entry) (e : Entry) → ContainsEntry xs e → ContainsEntry (xs ++ ys) e
 has_first [] ys e has = absurd has
 has_first (x ∷ xs) ys e (inl here) = inl here
 has_first (x ∷ xs) ys e (inr later) = inr (has_first xs ys e later)
 
-has_last : (xs ys : List Entry) (e : Entry) → Has ys e → Has (xs ++ ys) e
+has_last : (xs ys : List Entry) (e : Entry) → ContainsEntry ys e → ContainsEntry (xs ++ ys) e
 has_last [] ys e has = has
 has_last (x ∷ xs) ys e has = inr (has_last xs ys e has)
 
 -- lists that are joined along a range
-has_joined : (f : ℕ → List Entry) (a n : ℕ) (e : Entry) → Has (flat_map f (range_with_len a n)) e → (k : ℕ) × (a ≤ k) × (k < a + n) × Has (f k) e
+has_joined : (f : ℕ → List Entry) (a n : ℕ) (e : Entry) → ContainsEntry (flat_map f (range_with_len a n)) e → (k : ℕ) × (a ≤ k) × (k < a + n) × ContainsEntry (f k) e
 has_joined f a zero e has = absurd has
 has_joined f a (suc n) e has = elim (has_cases (f a) (flat_map f (range_with_len (a + 1) n)) e has) [
   | inl here ↦ (a, omega arith, omega arith, here)
   | inr later ↦ let found = has_joined f (a + 1) n e later in let from = found.1 in let below = found.2 in (found.0, omega arith, omega arith, found.3)
 ]
 
-joined_has : (f : ℕ → List Entry) (a n k : ℕ) (e : Entry) → a ≤ k → k < a + n → Has (f k) e → Has (flat_map f (range_with_len a n)) e
+joined_has : (f : ℕ → List Entry) (a n k : ℕ) (e : Entry) → a ≤ k → k < a + n → ContainsEntry (f k) e → ContainsEntry (flat_map f (range_with_len a n)) e
 joined_has f a zero k e from below has = absurd (omega arith)
 joined_has f a (suc n) k e from below has = elim (cases_lt a k) [
   | inl later ↦ has_last (f a) _ e (joined_has f (a + 1) n k e (omega arith) (omega arith) has)
@@ -42,17 +42,17 @@ joined_has f a (suc n) k e from below has = elim (cases_lt a k) [
 ]
 
 -- those that pass a test
-has_kept : (p : Entry → Bool) (xs : List Entry) (e : Entry) → Has (filter p xs) e → Has xs e × (p e ≡ true)
+has_kept : (p : Entry → Bool) (xs : List Entry) (e : Entry) → ContainsEntry (filter p xs) e → ContainsEntry xs e × (p e ≡ true)
 has_kept p [] e has = absurd has
 has_kept p (x ∷ xs) e has = elim (cases_Bool (p x)) [
-  | inl passes ↦ elim (rw passes at has) as (λ _. Has (x ∷ xs) e × (p e ≡ true)) [
+  | inl passes ↦ elim (rw passes at has) as (λ _. ContainsEntry (x ∷ xs) e × (p e ≡ true)) [
     | inl here ↦ (inl here, rw here passes)
     | inr later ↦ let rest = has_kept p xs e later in (inr rest.0, rest.1)
   ]
   | inr fails ↦ let rest = has_kept p xs e (rw fails at has) in (inr rest.0, rest.1)
 ]
 
-kept_has : (p : Entry → Bool) (xs : List Entry) (e : Entry) → Has xs e → p e ≡ true → Has (filter p xs) e
+kept_has : (p : Entry → Bool) (xs : List Entry) (e : Entry) → ContainsEntry xs e → p e ≡ true → ContainsEntry (filter p xs) e
 kept_has p [] e has passes = absurd has
 kept_has p (x ∷ xs) e (inl here) passes = rw (rw here at passes) (inl here)
 kept_has p (x ∷ xs) e (inr later) passes = elim (cases_Bool (p x)) [
@@ -74,30 +74,30 @@ module _ (size nr : ℕ) (image : List (List ℕ)) where
   -- the children's entries along an inner node
   abbrev children_give : ℕ → ℕ → ℕ → ℕ → ℕ → List Entry
   children_give j place low high i =
-      give size nr image j (child_at (block_at image place) i) (child_low (block_at image place) low i) (child_high size (block_at image place) high i)
+      salvaged_below size nr image j (child_at (block_at image place) i) (child_low (block_at image place) low i) (child_high size (block_at image place) high i)
 
   -- what is given of a node, by what it is
-  give_outside : (j place low high : ℕ) (e : Entry) → is_outside nr place ≡ true → Has (give size nr image (suc j) place low high) e → ⊥
-  unfolding give
+  give_outside : (j place low high : ℕ) (e : Entry) → is_outside nr place ≡ true → ContainsEntry (salvaged_below size nr image (suc j) place low high) e → ⊥
+  unfolding salvaged_below
   give_outside j place low high e outside has = rw outside at has
 
   give_damaged : (j place low high : ℕ) (e : Entry) → is_outside nr place ≡ false → is_damaged size place (block_at image place) ≡ true
-      → Has (give size nr image (suc j) place low high) e → ⊥
-  unfolding give
+      → ContainsEntry (salvaged_below size nr image (suc j) place low high) e → ⊥
+  unfolding salvaged_below
   give_damaged j place low high e inside damaged has = rw (inside, damaged) at has
 
   give_inner : (j place low high : ℕ) → IsWhole size nr image place → is_inner_node (block_at image place) ≡ true
-      → give size nr image (suc j) place low high ≡ flat_map (children_give j place low high) (range_with_len 0 (entry_count size (block_at image place)))
-  unfolding give
+      → salvaged_below size nr image (suc j) place low high ≡ flat_map (children_give j place low high) (range_with_len 0 (entry_count size (block_at image place)))
+  unfolding salvaged_below
   give_inner j place low high whole inner = rw (whole.inside, whole.undamaged, inner) refl
 
   give_leaf : (j place low high : ℕ) → IsWhole size nr image place → is_inner_node (block_at image place) ≡ false
-      → give size nr image (suc j) place low high
+      → salvaged_below size nr image (suc j) place low high
       ≡ filter (λ (e : Entry). not (nat_lt e.key low) && nat_lt e.key high) (leaf_entries size (block_at image place))
-  unfolding give
+  unfolding salvaged_below
   give_leaf j place low high whole leaf = rw (whole.inside, whole.undamaged, leaf) refl
 
-  whole_where : (j place low high : ℕ) (e : Entry) → Has (give size nr image (suc j) place low high) e → IsWhole size nr image place
+  whole_where : (j place low high : ℕ) (e : Entry) → ContainsEntry (salvaged_below size nr image (suc j) place low high) e → IsWhole size nr image place
   whole_where j place low high e has = elim (cases_Bool (is_outside nr place)) [
     | inl outside ↦ absurd (give_outside j place low high e outside has)
     | inr inside ↦ elim (cases_Bool (is_damaged size place (block_at image place))) [
@@ -148,8 +148,8 @@ module _ (size nr : ℕ) (image : List (List ℕ)) where
         | inr above ↦ absurd (differs (omega arith))
       ]
 
-  saved : (j place low high : ℕ) (e : Entry) → Has (give size nr image j place low high) e → IsSaved size nr image j place e × InRange low high e.key
-  unfolding give
+  saved : (j place low high : ℕ) (e : Entry) → ContainsEntry (salvaged_below size nr image j place low high) e → IsSaved size nr image j place e × InRange low high e.key
+  unfolding salvaged_below
   saved zero place low high e has = absurd has
   saved (suc j) place low high e has =
       let whole = whole_where j place low high e has in
@@ -167,7 +167,7 @@ module _ (size nr : ℕ) (image : List (List ℕ)) where
             (in_leaf j place e whole leaf kept.0, in_range low high e.key kept.1)
       ]
 
-  give_saved : (j place low high : ℕ) (e : Entry) → IsSaved size nr image j place e → InRange low high e.key → Has (give size nr image j place low high) e
+  give_saved : (j place low high : ℕ) (e : Entry) → IsSaved size nr image j place e → InRange low high e.key → ContainsEntry (salvaged_below size nr image j place low high) e
   give_saved j place low high e (in_leaf k place' e' whole leaf has) range =
       rw (give_leaf k place low high whole leaf)
       (kept_has (λ (e : Entry). not (nat_lt e.key low) && nat_lt e.key high) (leaf_entries size (block_at image place)) e has (range_in low high e.key range.0 range.1))
@@ -179,5 +179,5 @@ module _ (size nr : ℕ) (image : List (List ℕ)) where
       (join_range place low high i e.key child range)))
 
   pub given_where_saved : (j place low high : ℕ) (e : Entry)
-      → Has (give size nr image j place low high) e ↔ (IsSaved size nr image j place e × ((low ≤ e.key) × (e.key < high)))
+      → ContainsEntry (salvaged_below size nr image j place low high) e ↔ (IsSaved size nr image j place e × ((low ≤ e.key) × (e.key < high)))
   given_where_saved j place low high e = (saved j place low high e, λ is. give_saved j place low high e is.0 is.1)

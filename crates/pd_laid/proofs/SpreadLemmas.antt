@@ -6,10 +6,10 @@ use Rattle.std.proofs.lemmas.List.{length-take-le, length-drop, take-append-drop
 use Rattle.std.proofs.Math.Seq.{take-length}
 use Rattle.std.proofs.Math.Nat.{suc-mul, mul-suc}
 use Rattle.std.proofs.lemmas.Nat.{div-mul-add}
-use Rattle.pd_laid.specs.Tree.{spread}
+use Rattle.pd_laid.specs.Tree.{even_parts}
 
-pub length-spread : {X : Type 0} (k : ℕ) (xs : List X) → length (spread k xs) ≡ k
-unfolding spread
+pub length-spread : {X : Type 0} (k : ℕ) (xs : List X) → length (even_parts k xs) ≡ k
+unfolding even_parts
 length-spread zero xs = refl
 length-spread (suc k) xs = ap suc (length-spread k (drop ((length xs + k) / suc k) xs))
 
@@ -38,8 +38,8 @@ next_less i r = elim (cases_lt i r) [
 
 -- the sizes of all parts
 pub part_sizes : {X : Type 0} (k q r i : ℕ) (xs : List X) → length xs ≡ q * suc k + r → r < suc k → i < suc k
-    → length (get_or (spread (suc k) xs) i []) ≡ q + cond (nat_lt i r) 1 0
-unfolding spread
+    → length (get_or (even_parts (suc k) xs) i []) ≡ q + cond (nat_lt i r) 1 0
+unfolding even_parts
 part_sizes k q r zero xs is below within =
     let size = first_size (length xs) k q r is below in
     let fits = size_fits (length xs) k q r is below in
@@ -59,8 +59,8 @@ part_sizes (suc k) q (suc r) (suc i) xs is below within =
     rw (next_less i r) (part_sizes k q r i rest left (omega arith) (omega arith))
 
 -- the parts joined are the list
-pub joined_spread : {X : Type 0} (k : ℕ) (xs : List X) → flat_map (λ (part : List X). part) (spread (suc k) xs) ≡ xs
-unfolding spread
+pub joined_spread : {X : Type 0} (k : ℕ) (xs : List X) → flat_map (λ (part : List X). part) (even_parts (suc k) xs) ≡ xs
+unfolding even_parts
 joined_spread zero xs =
     let size : (length xs + 0) / 1 ≡ length xs = first_size (length xs) 0 (length xs) 0 (omega arith) (omega arith) ∙ omega arith in
     append-nil (take ((length xs + 0) / 1) xs) ∙ (ap (λ (n : ℕ). take n xs) size ∙ take-length xs)

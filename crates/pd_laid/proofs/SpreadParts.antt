@@ -4,7 +4,7 @@ use Rattle.std.specs.List.{AllByRecursion}
 use Rattle.std.proofs.Math.Nat.{div-mul-le_self, lt-div-mul-add, mul-suc, mul-le-mul_right, suc-mul, mul_comm}
 use Rattle.std.proofs.lemmas.Bool.{cases_lt, cases_eq}
 use Rattle.std.proofs.lemmas.List.{length-drop, length-take-le}
-use Rattle.pd_laid.specs.Tree.{spread}
+use Rattle.pd_laid.specs.Tree.{even_parts}
 
 -- the size of the first part
 pub record IsFirstOf (n k c : ℕ) : Type 0 where
@@ -29,8 +29,8 @@ first_of n k =
 
 module _ {X : Type 0} where
   -- none is empty where there are as many elements
-  pub spread_some : (k : ℕ) (xs : List X) → k ≤ length xs → AllByRecursion (λ (part : List X). 1 ≤ length part) (spread k xs)
-  unfolding spread
+  pub spread_some : (k : ℕ) (xs : List X) → k ≤ length xs → AllByRecursion (λ (part : List X). 1 ≤ length part) (even_parts k xs)
+  unfolding even_parts
   spread_some zero xs many = tt
   spread_some (suc k) xs many =
       let c = (length xs + k) / suc k in
@@ -48,8 +48,8 @@ module _ {X : Type 0} where
       (omega arith, spread_some k (drop c xs) (omega arith))
 
   -- none has more than there is room, where there are nodes enough
-  pub spread_most : (most k : ℕ) (xs : List X) → length xs ≤ k * most → AllByRecursion (λ (part : List X). length part ≤ most) (spread k xs)
-  unfolding spread
+  pub spread_most : (most k : ℕ) (xs : List X) → length xs ≤ k * most → AllByRecursion (λ (part : List X). length part ≤ most) (even_parts k xs)
+  unfolding even_parts
   spread_most most zero xs few = tt
   spread_most most (suc k) xs few =
       let c = (length xs + k) / suc k in

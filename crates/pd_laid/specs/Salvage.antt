@@ -29,39 +29,39 @@ child_high size block high i = if i + 1 == entry_count size block then high else
 
 -- the entries that a path of at most so many nodes leads to from the node at a place, with keys from low up to
 -- and without high: nothing from a place outside the metadata, and nothing from a damaged node
-unfoldable pub give : ℕ → ℕ → List (List ℕ) → ℕ → ℕ → ℕ → ℕ → List Entry
-give size nr image zero place low high = []
-give size nr image (suc j) place low high =
+unfoldable pub salvaged_below : ℕ → ℕ → List (List ℕ) → ℕ → ℕ → ℕ → ℕ → List Entry
+salvaged_below size nr image zero place low high = []
+salvaged_below size nr image (suc j) place low high =
     let block = block_at image place in
     if is_outside nr place || is_damaged size place block
     then []
     else if is_inner_node block
-    then flat_map (λ i. give size nr image j (child_at block i) (child_low block low i) (child_high size block high i))
+    then flat_map (λ i. salvaged_below size nr image j (child_at block i) (child_low block low i) (child_high size block high i))
     (range_with_len 0 (entry_count size block))
     else filter (λ (e : Entry). not (nat_lt e.key low) && nat_lt e.key high) (leaf_entries size block)
 
 -- the entries below a root: of all keys, by paths of at most 64 nodes
-unfoldable pub given : ℕ → ℕ → List (List ℕ) → ℕ → List Entry
-given size nr image root = give size nr image 64 root 0 (2 ^ 64)
+unfoldable pub salvaged_entries : ℕ → ℕ → List (List ℕ) → ℕ → List Entry
+salvaged_entries size nr image root = salvaged_below size nr image 64 root 0 (2 ^ 64)
 
 -- the mappings below a device's root, whose data blocks are in the pool
-unfoldable pub given_mappings : ThinFields → List (List ℕ) → ℕ → List Mapping
-given_mappings fields image root =
+unfoldable pub salvaged_mappings : ThinFields → List (List ℕ) → ℕ → List Mapping
+salvaged_mappings fields image root =
     map (λ (e : Entry). record { virtual_block = e.key; data_block = mapped_block e.value; time = mapped_time e.value })
-    (filter (λ (e : Entry). nat_lt (mapped_block e.value) fields.data_map.blocks) (given 8 fields.meta_map.blocks image root))
+    (filter (λ (e : Entry). nat_lt (mapped_block e.value) fields.data_map.blocks) (salvaged_entries 8 fields.meta_map.blocks image root))
 
 -- The details of a device. Without any they are the pool's transaction, and the pool's time as created and as snapped: a
 -- kernel takes a data block for shared where the device's snapped time is above the mapping's, and a mapping that a
 -- snapshot shares has a time below the pool's
-abbrev pub given_details : ThinFields → List (List ℕ) → ℕ → ℕ
-given_details fields image id =
-    unwrap_or (value_of_key (given 24 fields.meta_map.blocks image fields.details_root) id) (details_code 0 fields.transaction fields.time fields.time)
+abbrev pub salvaged_details : ThinFields → List (List ℕ) → ℕ → ℕ
+salvaged_details fields image id =
+    unwrap_or (value_of_key (salvaged_entries 24 fields.meta_map.blocks image fields.details_root) id) (details_code 0 fields.transaction fields.time fields.time)
 
 -- a device, by its entry of the mapping tree: its mapped number is counted again
-unfoldable pub given_device : ThinFields → List (List ℕ) → Entry → ThinDevice
-given_device fields image top =
-    let details = given_details fields image top.key in
-    let mappings = given_mappings fields image top.value in
+unfoldable pub salvaged_device : ThinFields → List (List ℕ) → Entry → ThinDevice
+salvaged_device fields image top =
+    let details = salvaged_details fields image top.key in
+    let mappings = salvaged_mappings fields image top.value in
     record {
       id = top.key;
       mapped = length mappings;
@@ -79,8 +79,8 @@ salvage_from fields image = record {
   transaction = fields.transaction;
   block_size = fields.block_size;
   data_blocks = fields.data_map.blocks;
-  devices = map (given_device fields image)
-      (filter (λ (top : Entry). not (is_outside fields.meta_map.blocks top.value)) (given 8 fields.meta_map.blocks image fields.mapping_root));
+  devices = map (salvaged_device fields image)
+      (filter (λ (top : Entry). not (is_outside fields.meta_map.blocks top.value)) (salvaged_entries 8 fields.meta_map.blocks image fields.mapping_root));
 }
 
 -- what is saved of an image

@@ -8,9 +8,9 @@ use Rattle.pd_kinds.specs.Layout.{leaf_entries}
 use Rattle.pd_laid.specs.Salvage.{is_damaged}
 
 -- one of the entries is this
-abbrev pub Has : List Entry → Entry → Type 0
-Has [] e = ⊥
-Has (entry ∷ entries) e = (e ≡ entry) ⊎ Has entries e
+abbrev pub ContainsEntry : List Entry → Entry → Type 0
+ContainsEntry [] e = ⊥
+ContainsEntry (entry ∷ entries) e = (e ≡ entry) ⊎ ContainsEntry entries e
 
 -- the node at a place is in the metadata, and isn't damaged
 pub record IsWhole (size nr : ℕ) (image : List (List ℕ)) (place : ℕ) : Type 0 where
@@ -26,7 +26,7 @@ pub record IsInChild (size : ℕ) (block : List ℕ) (i key : ℕ) : Type 0 wher
 -- a path of at most so many such nodes, from the one at a place, ends in a leaf that has the entry
 pub data IsSaved (size nr : ℕ) (image : List (List ℕ)) : ℕ → ℕ → Entry → Type 0 where
   in_leaf : (j place : ℕ) (e : Entry) → IsWhole size nr image place → is_inner_node (block_at image place) ≡ false
-      → Has (leaf_entries size (block_at image place)) e → IsSaved size nr image (suc j) place e
+      → ContainsEntry (leaf_entries size (block_at image place)) e → IsSaved size nr image (suc j) place e
   in_child : (j place i : ℕ) (e : Entry) → IsWhole size nr image place → is_inner_node (block_at image place) ≡ true
       → IsInChild size (block_at image place) i e.key → IsSaved size nr image j (child_at (block_at image place) i) e
       → IsSaved size nr image (suc j) place e

@@ -5,13 +5,13 @@ use Rattle.pd_kinds.specs.Node.{Entry, max_entries, leaf_block, inner_block}
 use Rattle.pd_spells.specs.Need.{nodes_for}
 
 -- a list in so many parts, as even as can be: the first ones have one element more than the others
-unfoldable pub spread : {X : Type 0} → ℕ → List X → List (List X)
-spread zero xs = []
-spread (suc k) xs = take ((length xs + k) / suc k) xs ∷ spread k (drop ((length xs + k) / suc k) xs)
+unfoldable pub even_parts : {X : Type 0} → ℕ → List X → List (List X)
+even_parts zero xs = []
+even_parts (suc k) xs = take ((length xs + k) / suc k) xs ∷ even_parts k (drop ((length xs + k) / suc k) xs)
 
 -- a tree's leaves: the fewest that hold the items, and one at least
 unfoldable pub tree_leaves : ℕ → List Entry → List (List Entry)
-tree_leaves size items = spread (max 1 (nodes_for (max_entries size) (length items))) items
+tree_leaves size items = even_parts (max 1 (nodes_for (max_entries size) (length items))) items
 
 -- the key of the first entry, which is the least one
 abbrev pub first_key : List Entry → ℕ
@@ -30,7 +30,7 @@ unfoldable pub levels_above : ℕ → ℕ → List Entry → List (List Entry)
 levels_above zero place row = []
 levels_above (suc k) place row =
     if nat_lt 1 (length row)
-    then (let level = spread (nodes_for (max_entries 8) (length row)) row in level ++ levels_above k (place + length level) (heads place level))
+    then (let level = even_parts (nodes_for (max_entries 8) (length row)) row in level ++ levels_above k (place + length level) (heads place level))
     else []
 
 -- all of them: ten levels are more than 2 ^ 64 nodes need

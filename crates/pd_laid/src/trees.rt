@@ -10,15 +10,15 @@ ghost use Rattle.pd_laid.specs.Array.{array_items, array_pieces, laid_array};
 ghost use Rattle.pd_laid.specs.Laid.{laid_tree, written_from};
 ghost use Rattle.pd_laid.specs.LaidThin.{device_inners, device_leaves, laid_device};
 ghost use Rattle.pd_laid.specs.Shape.{ShapeDevice};
-ghost use Rattle.pd_laid.specs.Tree.{blocks_from, spread, tree_blocks};
+ghost use Rattle.pd_laid.specs.Tree.{blocks_from, even_parts, tree_blocks};
 
 /// The parts of an even spread are as many as asked, and joined they are the list. Each has as many
 /// elements as the division gives, and the first ones, as many as are left over, one more.
 pub fn spread_is_even<X>()
-    ensures number { (k : ℕ) (xs : List X) → length (spread k xs) ≡ k }
-    ensures joined { (k : ℕ) (xs : List X) → flat_map (λ (part : List X). part) (spread (suc k) xs) ≡ xs }
+    ensures number { (k : ℕ) (xs : List X) → length (even_parts k xs) ≡ k }
+    ensures joined { (k : ℕ) (xs : List X) → flat_map (λ (part : List X). part) (even_parts (suc k) xs) ≡ xs }
     ensures sizes { (k i : ℕ) (xs : List X) → i < suc k
-        → length (get_or (spread (suc k) xs) i []) ≡ length xs / suc k + (if nat_lt i (length xs % suc k) then 1 else 0) }
+        → length (get_or (even_parts (suc k) xs) i []) ≡ length xs / suc k + (if nat_lt i (length xs % suc k) then 1 else 0) }
 {}
 
 /// What is written of a laid tree are the blocks of the tree, as one writes it who knows its items alone.

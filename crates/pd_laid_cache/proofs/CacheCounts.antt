@@ -14,10 +14,10 @@ use Rattle.pd_laid.specs.LaidCache.{cache_laid_fields, cache_named, cache_parts,
 use Rattle.pd_laid.specs.Map.{meta_counts, meta_map_number, meta_overflow_root}
 use Rattle.pd_laid_graph.proofs.ListLemmas.{count_append}
 use Rattle.pd_laid_graph.proofs.Names.{blocks_of}
-use Rattle.pd_laid_maps.proofs.Formats.{references_are}
-use Rattle.pd_laid_maps.proofs.MetaMap.{one_more}
-use Rattle.pd_laid_maps.proofs.RoleCounts.{NameNone, both_count, edges_in, meta_map_once, no_edges, none_count, role_count, tree_names_none}
-use Rattle.pd_laid_arrays.proofs.Arrays.{array_names_none}
+use Rattle.pd_laid_graph.proofs.Formats.{references_are}
+use Rattle.pd_laid_graph.proofs.MetaMap.{one_more}
+use Rattle.pd_laid_graph.proofs.RoleCounts.{NameNone, both_count, edges_in, meta_map_once, no_edges, none_count, role_count, tree_names_none}
+use Rattle.pd_laid_graph.proofs.LaidArrays.{array_names_none}
 use Rattle.pd_laid_cache.proofs.CacheParts.{behind_hints, cache_all, dirty_edges, hint_edges, super_edges}
 use Rattle.pd_laid_cache.proofs.Optional.{all_if, all_where, one_if, root_if}
 

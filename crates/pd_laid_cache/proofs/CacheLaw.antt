@@ -21,14 +21,14 @@ use Rattle.pd_laid.specs.Array.{array_root}
 use Rattle.pd_laid.specs.Laid.{IsLaid, LaidBlock}
 use Rattle.pd_laid.specs.LaidCache.{cache_laid_fields, cache_named, cache_parts, dirty_at, dirty_root, dirty_word, dirty_words, discard_root, entry_of, has_hints, hint_words, hints_at, laid_cache, mapping_word, mapping_words, meta_map_at, meta_map_blocks}
 use Rattle.pd_laid.specs.Map.{meta_counts, meta_map_number, meta_overflow}
-use Rattle.pd_laid_once_arrays.proofs.NeedLemmas.{cache_takes_need}
+use Rattle.pd_laid_once.proofs.NeedLemmas.{cache_takes_need}
 use Rattle.pd_laid_graph.specs.LaidOut.{AllFrom, AreLaidInOrder, IsInPlace, IsLaidOut, role_at}
 use Rattle.pd_laid_graph.proofs.CheckLemmas.{clean_super, same_bytes, whole_holds}
 use Rattle.pd_laid_graph.proofs.LaidLemmas.{laid_in_order}
-use Rattle.pd_laid_maps.proofs.Formats.{bitmaps_hold, laid_out_of, referred_few}
-use Rattle.pd_laid_maps.proofs.MapNames.{length-meta_map}
-use Rattle.pd_laid_arrays.specs.ArraySeen.{array_at}
-use Rattle.pd_laid_arrays.proofs.Arrays.{array_holds}
+use Rattle.pd_laid_graph.proofs.Formats.{bitmaps_hold, laid_out_of, referred_few}
+use Rattle.pd_laid_graph.proofs.MapNames.{length-meta_map}
+use Rattle.pd_laid_graph.specs.ArraySeen.{array_at}
+use Rattle.pd_laid_graph.proofs.LaidArrays.{array_holds}
 use Rattle.pd_laid_cache.specs.CleanCache.{IsCleanCache}
 use Rattle.pd_laid_cache.proofs.CacheCounts.{bitmap_once, references_count}
 use Rattle.pd_laid_cache.proofs.CacheEntries.{entries_are, origins_differ}

@@ -23,11 +23,11 @@ use Rattle.pd_laid_graph.proofs.PlaceLemmas.{laid_in_place}
 use Rattle.pd_laid_graph.specs.Items.{IsTreeSeen}
 use Rattle.pd_laid_graph.proofs.Names.{root_leads}
 use Rattle.pd_laid_graph.proofs.Trees.{tree_seen}
-use Rattle.pd_laid_maps.specs.MetaMap.{IsMetaMapSeen}
-use Rattle.pd_laid_maps.proofs.Formats.{leads_more, no_items}
-use Rattle.pd_laid_maps.proofs.MetaMap.{map_seen}
-use Rattle.pd_laid_arrays.specs.ArraySeen.{IsArraySeen}
-use Rattle.pd_laid_arrays.proofs.Arrays.{array_seen}
+use Rattle.pd_laid_graph.specs.MetaMap.{IsMetaMapSeen}
+use Rattle.pd_laid_graph.proofs.Formats.{leads_more, no_items}
+use Rattle.pd_laid_graph.proofs.MetaMap.{map_seen}
+use Rattle.pd_laid_graph.specs.ArraySeen.{IsArraySeen}
+use Rattle.pd_laid_graph.proofs.LaidArrays.{array_seen}
 use Rattle.pd_laid_cache.proofs.Optional.{MayBeSeen, all_if, below_if, edge_if, length-one_if, may_see, one_if, root_if}
 use Rattle.pd_laid_cache.proofs.CacheWords.{dirty_words_fit, hint_words_fit, mapping_words_fit}
 

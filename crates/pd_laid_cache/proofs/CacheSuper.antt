@@ -20,9 +20,9 @@ use Rattle.pd_laid_graph.specs.LaidOut.{AllFrom, IsInPlace, IsSeen, laid_super}
 use Rattle.pd_laid_graph.proofs.Bytes.{bytes_written, bytes_zeros}
 use Rattle.pd_laid_graph.proofs.Nodes.{none_outside}
 use Rattle.pd_laid_graph.proofs.SuperBytes.{all_bytes, bytes_put_bytes, is_super_written}
-use Rattle.pd_laid_maps.proofs.Formats.{size_good}
-use Rattle.pd_laid_maps.proofs.Plain.{plain_seen}
-use Rattle.pd_laid_arrays.proofs.Pieces.{at_index}
+use Rattle.pd_laid_graph.proofs.Formats.{size_good}
+use Rattle.pd_laid_graph.proofs.Plain.{plain_seen}
+use Rattle.pd_laid_graph.proofs.Pieces.{at_index}
 use Rattle.pd_laid_cache.proofs.CacheParts.{cache_all, dirty_below, discards_lead, hint_below, mapping_is, meta_is, super_edges, super_edges_are, super_leads, super_stands}
 
 -- a superblock of sound fields breaks no rule

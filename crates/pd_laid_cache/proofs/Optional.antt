@@ -9,8 +9,8 @@ use Rattle.pd_kinds.specs.Whole.{optional_array}
 use Rattle.pd_laid.specs.Array.{array_root, laid_array}
 use Rattle.pd_laid.specs.Laid.{LaidBlock}
 use Rattle.pd_laid_graph.specs.LaidOut.{AllFrom, IsFitting, IsInPlace, IsNamed, LeadsBelow}
-use Rattle.pd_laid_arrays.specs.ArraySeen.{IsArraySeen}
-use Rattle.pd_laid_arrays.proofs.Arrays.{array_seen}
+use Rattle.pd_laid_graph.specs.ArraySeen.{IsArraySeen}
+use Rattle.pd_laid_graph.proofs.LaidArrays.{array_seen}
 
 -- one thing where it is there
 abbrev pub one_if : {X : Type 0} → Bool → X → List X

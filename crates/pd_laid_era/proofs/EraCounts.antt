@@ -8,9 +8,9 @@ use Rattle.pd_laid.specs.Laid.{count_in, named_by, tree_of}
 use Rattle.pd_laid.specs.LaidEra.{array_root_of, era_blocks, era_laid_fields, era_named, era_parts, meta_map_at, meta_map_blocks, writeset_blocks, writesets_at, writesets_root}
 use Rattle.pd_laid.specs.Map.{meta_counts, meta_map_number}
 use Rattle.pd_laid_graph.proofs.ListLemmas.{count_append}
-use Rattle.pd_laid_maps.proofs.Formats.{references_are}
-use Rattle.pd_laid_maps.proofs.RoleCounts.{NameNone, both_count, edges_in, meta_map_once, no_edges, none_count, role_count, tree_names_none}
-use Rattle.pd_laid_arrays.proofs.Arrays.{array_names_none}
+use Rattle.pd_laid_graph.proofs.Formats.{references_are}
+use Rattle.pd_laid_graph.proofs.RoleCounts.{NameNone, both_count, edges_in, meta_map_once, no_edges, none_count, role_count, tree_names_none}
+use Rattle.pd_laid_graph.proofs.LaidArrays.{array_names_none}
 use Rattle.pd_laid_era.proofs.EraParts.{era_all, super_edges}
 
 module _ (m : EraMeaning) (n : ℕ) where

@@ -22,15 +22,15 @@ use Rattle.pd_laid.specs.Array.{laid_array}
 use Rattle.pd_laid.specs.Laid.{IsLaid, LaidBlock, laid_number, laid_tree, tree_of}
 use Rattle.pd_laid.specs.LaidEra.{array_root_of, era_blocks, era_laid_fields, era_named, era_parts, laid_era, meta_map_at, meta_map_blocks, writeset_blocks, writesets_at}
 use Rattle.pd_laid.specs.Map.{laid_bitmap, laid_bitmaps, laid_meta_map, meta_counts, meta_map_number, meta_overflow, meta_overflow_at, meta_overflow_blocks}
-use Rattle.pd_laid_once_arrays.proofs.NeedLemmas.{era_takes_need}
+use Rattle.pd_laid_once.proofs.NeedLemmas.{era_takes_need}
 use Rattle.pd_laid_graph.specs.LaidOut.{AllFrom, AreLaidInOrder, IsInPlace, IsLaidOut, role_at}
 use Rattle.pd_laid_graph.proofs.CheckLemmas.{clean_super, whole_holds}
 use Rattle.pd_laid_graph.proofs.FromLemmas.{by_place, from_both, from_follows, from_pairs}
 use Rattle.pd_laid_graph.proofs.LaidLemmas.{laid_in_order}
 use Rattle.pd_laid_graph.proofs.Names.{tree_roles}
-use Rattle.pd_laid_maps.proofs.Formats.{at_roles, bitmaps_hold, laid_out_of, referred_few}
-use Rattle.pd_laid_maps.proofs.MapNames.{length-meta_map}
-use Rattle.pd_laid_arrays.proofs.Arrays.{array_holds, array_roles}
+use Rattle.pd_laid_graph.proofs.Formats.{at_roles, bitmaps_hold, laid_out_of, referred_few}
+use Rattle.pd_laid_graph.proofs.MapNames.{length-meta_map}
+use Rattle.pd_laid_graph.proofs.LaidArrays.{array_holds, array_roles}
 use Rattle.pd_kinds.specs.Limits.{room_of}
 use Rattle.pd_laid_era.specs.CleanEra.{IsCleanEra}
 use Rattle.pd_laid_era.proofs.EraCounts.{bitmap_once, references_count}

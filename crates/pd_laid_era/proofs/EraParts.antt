@@ -13,7 +13,7 @@ use Rattle.pd_spells.specs.Lawful.{IsLawfulEra}
 use Rattle.pd_laid.specs.Laid.{IsLaid, LaidBlock, laid_leaf, laid_number, laid_tree, tree_of}
 use Rattle.pd_laid.specs.LaidEra.{array_root_of, era_blocks, era_laid_fields, era_named, era_parts, laid_era, meta_map_at, meta_map_blocks, writeset_blocks, writesets_at, writesets_root}
 use Rattle.pd_laid.specs.Map.{meta_overflow_root}
-use Rattle.pd_laid.specs.Tree.{heads, levels_above, spread, tree_leaves}
+use Rattle.pd_laid.specs.Tree.{heads, levels_above, even_parts, tree_leaves}
 use Rattle.pd_laid_graph.specs.LaidOut.{AllFrom, IsFitting, IsInPlace, LeadsBelow, laid_super}
 use Rattle.pd_laid_graph.proofs.FitLemmas.{few_named, named_lower}
 use Rattle.pd_laid_graph.proofs.FromLemmas.{from_back, from_both, from_front}
@@ -22,11 +22,11 @@ use Rattle.pd_laid_graph.specs.Items.{IsTreeSeen}
 use Rattle.pd_laid_graph.proofs.Names.{root_leads}
 use Rattle.pd_laid_graph.proofs.Nodes.{leaf_seen}
 use Rattle.pd_laid_graph.proofs.Trees.{tree_seen}
-use Rattle.pd_laid_maps.specs.MetaMap.{IsMetaMapSeen}
-use Rattle.pd_laid_maps.proofs.Formats.{leads_more, no_items}
-use Rattle.pd_laid_maps.proofs.MetaMap.{map_seen}
-use Rattle.pd_laid_arrays.specs.ArraySeen.{IsArraySeen}
-use Rattle.pd_laid_arrays.proofs.Arrays.{array_seen}
+use Rattle.pd_laid_graph.specs.MetaMap.{IsMetaMapSeen}
+use Rattle.pd_laid_graph.proofs.Formats.{leads_more, no_items}
+use Rattle.pd_laid_graph.proofs.MetaMap.{map_seen}
+use Rattle.pd_laid_graph.specs.ArraySeen.{IsArraySeen}
+use Rattle.pd_laid_graph.proofs.LaidArrays.{array_seen}
 
 -- what the superblock names
 abbrev pub super_edges : EraMeaning → ℕ → List Edge
@@ -86,7 +86,7 @@ roles n = record { writesets = refl; eras = refl; era_words = refl; map_index = 
 
 -- the tree of writesets is one empty leaf
 pub one_leaf : (m : EraMeaning) → writeset_blocks m ≡ laid_leaf 2 (tree_of writesets_tree) [] ∷ []
-unfolding writeset_blocks laid_tree tree_leaves spread levels_above heads
+unfolding writeset_blocks laid_tree tree_leaves even_parts levels_above heads
 one_leaf m = refl
 
 module _ (m : EraMeaning) (n : ℕ) (image : List (List ℕ)) (few : n ≤ 4161600) (lawful : IsLawfulEra m)

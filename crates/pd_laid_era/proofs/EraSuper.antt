@@ -19,8 +19,8 @@ use Rattle.pd_laid.specs.LaidEra.{era_laid_fields, meta_map_at, meta_map_blocks}
 use Rattle.pd_laid_graph.specs.LaidOut.{AllFrom, IsInPlace, IsSeen, laid_super}
 use Rattle.pd_laid_graph.proofs.Nodes.{none_outside}
 use Rattle.pd_laid_graph.proofs.SuperBytes.{is_super_of_rows}
-use Rattle.pd_laid_maps.proofs.Formats.{size_good}
-use Rattle.pd_laid_maps.proofs.Plain.{plain_seen}
+use Rattle.pd_laid_graph.proofs.Formats.{size_good}
+use Rattle.pd_laid_graph.proofs.Plain.{plain_seen}
 use Rattle.pd_laid_era.proofs.EraParts.{era_all, super_edges, super_edges_are, super_leads, super_stands}
 
 -- a superblock of sound fields breaks no rule

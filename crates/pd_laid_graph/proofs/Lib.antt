@@ -15,3 +15,15 @@ pub mod Nodes
 pub mod Trees
 pub mod Names
 pub mod SuperBytes
+pub mod Counts
+pub mod Plain
+pub mod Bitmaps
+pub mod MapItems
+pub mod Index
+pub mod Stored
+pub mod MetaMap
+pub mod RoleCounts
+pub mod MapNames
+pub mod Formats
+pub mod Pieces
+pub mod LaidArrays

@@ -2,6 +2,9 @@
 //! is reached, and what is below the root of a tree.
 #![tactic(auto)]
 
+mod arrays;
+mod maps;
+
 ghost use Rattle.std.specs.Prelude.{◌≡◌, ◌<◌, ◌≤◌, ◌+◌, List, length, ℕ};
 ghost use Rattle.pd_kinds.specs.declared.limits.TheConstants.{MAX_META_BLOCKS};
 ghost use Rattle.pd_kinds.specs.Graph.{Graph};
@@ -12,6 +15,9 @@ ghost use Rattle.pd_laid.specs.Laid.{LaidBlock, laid_tree};
 ghost use Rattle.pd_laid.specs.Tree.{tree_root};
 ghost use Rattle.pd_laid_graph.specs.Items.{AreItems, IsTreeSeen};
 ghost use Rattle.pd_laid_graph.specs.LaidOut.{AllFrom, AreLaidInOrder, IsInPlace, IsLaidOut, IsNamed};
+
+pub use arrays::laid_array_is_seen;
+pub use maps::laid_meta_map_is_seen;
 
 /// Blocks that are laid from block 0 on, each of them sound and in order by itself, named by another one and naming
 /// laid blocks in their roles, are the blocks that are reached; they are in order, and their references are counted.

@@ -4,3 +4,7 @@ pub mod Items
 pub mod Pool
 pub mod MapLemmas
 pub mod WrittenLemmas
+pub mod Arrays
+pub mod EraNamed
+pub mod CacheNamed
+pub mod NeedLemmas

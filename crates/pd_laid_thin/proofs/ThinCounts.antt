@@ -17,10 +17,10 @@ use Rattle.pd_laid.specs.Shape.{ShapeDevice, ThinShape}
 use Rattle.pd_laid.specs.Tree.{tree_root}
 use Rattle.pd_laid_graph.specs.LaidOut.{laid_super}
 use Rattle.pd_laid_graph.proofs.ListLemmas.{count_append}
-use Rattle.pd_laid_maps.proofs.MapItems.{index_edges}
-use Rattle.pd_laid_maps.proofs.Formats.{references_are}
-use Rattle.pd_laid_maps.proofs.MapNames.{bitmaps_no_data, meta_no_data, no_data, tree_no_data}
-use Rattle.pd_laid_maps.proofs.RoleCounts.{NameNone, bitmaps_count, both_count, edges_in, inners_name_none, leaves_name_none, meta_map_none, meta_map_once, no_edges, none_count, range_count, role_count, tree_count, tree_names_none}
+use Rattle.pd_laid_graph.proofs.MapItems.{index_edges}
+use Rattle.pd_laid_graph.proofs.Formats.{references_are}
+use Rattle.pd_laid_graph.proofs.MapNames.{bitmaps_no_data, meta_no_data, no_data, tree_no_data}
+use Rattle.pd_laid_graph.proofs.RoleCounts.{NameNone, bitmaps_count, both_count, edges_in, inners_name_none, leaves_name_none, meta_map_none, meta_map_once, no_edges, none_count, range_count, role_count, tree_count, tree_names_none}
 use Rattle.pd_laid_thin.proofs.ThinPool.{pool_blocks, super_edges}
 
 module _ (w : ThinShape) (n : ℕ) (few : meta_map_number 8 n (meta_map_at w) (pool_named w) ≤ 4161600) where

@@ -15,7 +15,7 @@ use Rattle.pd_laid.specs.Shape.{ShapeDevice, device_of, piece_mappings}
 use Rattle.pd_laid_graph.specs.LaidOut.{LeadsBelow}
 use Rattle.pd_laid_graph.specs.Items.{AreItems}
 use Rattle.pd_laid_graph.proofs.Ascending.{asc_cons}
-use Rattle.pd_laid_maps.proofs.MapItems.{made_all, made_keys}
+use Rattle.pd_laid_graph.proofs.MapItems.{made_all, made_keys}
 
 -- what each mapping keeps
 abbrev pub MappingFits : ℕ → Mapping → Type 0

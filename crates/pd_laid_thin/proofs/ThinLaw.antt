@@ -29,10 +29,10 @@ use Rattle.pd_laid_shared.proofs.PoolCase.{laid_need}
 use Rattle.pd_laid_graph.specs.LaidOut.{AllFrom, AreLaidInOrder, IsInPlace, IsLaidOut, role_at}
 use Rattle.pd_laid_graph.proofs.CheckLemmas.{clean_super, same_bytes, whole_holds}
 use Rattle.pd_laid_graph.proofs.LaidLemmas.{laid_in_order}
-use Rattle.pd_laid_maps.proofs.Formats.{bitmaps_hold, laid_out_of, referred_few}
-use Rattle.pd_laid_maps.proofs.MapItems.{made_keys}
-use Rattle.pd_laid_maps.proofs.MapNames.{length-meta_map}
-use Rattle.pd_laid_maps.proofs.Stored.{stored_by_tree}
+use Rattle.pd_laid_graph.proofs.Formats.{bitmaps_hold, laid_out_of, referred_few}
+use Rattle.pd_laid_graph.proofs.MapItems.{made_keys}
+use Rattle.pd_laid_graph.proofs.MapNames.{length-meta_map}
+use Rattle.pd_laid_graph.proofs.Stored.{stored_by_tree}
 use Rattle.pd_kinds.specs.Limits.{room_of}
 use Rattle.pd_laid_thin.specs.CleanPool.{IsCleanPool}
 use Rattle.pd_laid_thin.proofs.ThinCounts.{bitmap_once, data_references, references_count}

@@ -30,10 +30,10 @@ use Rattle.pd_laid_graph.specs.Items.{AreItems, IsTreeSeen}
 use Rattle.pd_laid_graph.proofs.Names.{root_leads}
 use Rattle.pd_laid_graph.proofs.Rows.{by_keys}
 use Rattle.pd_laid_graph.proofs.Trees.{SeenLeaf, leaf_roles, leaves_fit, leaves_seen, tree_seen}
-use Rattle.pd_laid_maps.specs.MetaMap.{IsMetaMapSeen}
-use Rattle.pd_laid_maps.proofs.Bitmaps.{bitmap_at, bitmaps_fit}
-use Rattle.pd_laid_maps.proofs.MapItems.{index_are, index_edges, overflow_are}
-use Rattle.pd_laid_maps.proofs.MetaMap.{map_seen, unmapped}
+use Rattle.pd_laid_graph.specs.MetaMap.{IsMetaMapSeen}
+use Rattle.pd_laid_graph.proofs.Bitmaps.{bitmap_at, bitmaps_fit}
+use Rattle.pd_laid_graph.proofs.MapItems.{index_are, index_edges, overflow_are}
+use Rattle.pd_laid_graph.proofs.MetaMap.{map_seen, unmapped}
 use Rattle.pd_laid_thin.proofs.ThinDevices.{AreDevicesSeen, devices_seen, few_roles, known, leaves_are_items, tops_inside, wide}
 use Rattle.pd_laid_thin.proofs.ThinItems.{DeviceFits, details_items_are, devices_ascend, devices_fit}
 use Rattle.pd_laid_thin.proofs.ThinRoles.{layout_roles}

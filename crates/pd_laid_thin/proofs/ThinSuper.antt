@@ -21,8 +21,8 @@ use Rattle.pd_laid.specs.LaidThin.{data_counts, meta_map_at, meta_map_blocks, po
 use Rattle.pd_laid.specs.Shape.{IsShape, ThinShape}
 use Rattle.pd_laid_graph.specs.LaidOut.{AllFrom, IsInPlace, IsSeen, LeadsBelow, laid_super}
 use Rattle.pd_laid_graph.proofs.Nodes.{none_outside}
-use Rattle.pd_laid_maps.proofs.Formats.{leads_more}
-use Rattle.pd_laid_maps.proofs.Plain.{plain_seen}
+use Rattle.pd_laid_graph.proofs.Formats.{leads_more}
+use Rattle.pd_laid_graph.proofs.Plain.{plain_seen}
 use Rattle.pd_laid_graph.proofs.SuperBytes.{is_super_of_rows}
 use Rattle.pd_laid_thin.proofs.ThinPool.{ShapeFits, data_index_root_leads, data_overflow_root_leads, details_root_leads, mapping_root_leads, meta_map_seen, pool_blocks, super_edges, super_edges_are, super_stands}
 

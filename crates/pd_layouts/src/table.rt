@@ -35,9 +35,9 @@ pub trait Table {
     ghost layout: { ℕ → ℕ → ℕ → TheLayout };
 
     // of the copy of a superblock in a role, for so many metadata blocks: its rules in a place, and its edges
-    ghost copy_bad: { ℕ → ℕ → ℕ → List ℕ → Rule → Bool };
+    ghost super_copy_bad: { ℕ → ℕ → ℕ → List ℕ → Rule → Bool };
 
-    ghost copy_edges: { ℕ → List ℕ → List Edge };
+    ghost super_copy_edges: { ℕ → List ℕ → List Edge };
 
     /// How many metadata blocks the superblock says that there are.
     fn meta_blocks_of(s: &Self::Super) -> u64
@@ -50,15 +50,15 @@ pub trait Table {
     /// What a block is in this role, of so many data blocks.
     fn layout(role: u8, data_blocks: u64) -> Layout
         requires { role < ROLES }
-        ensures { (nr : ℕ) → layout nr data_blocks role ≡ layout_of (copy_bad nr role) (copy_edges role) result };
+        ensures { (nr : ℕ) → layout nr data_blocks role ≡ layout_of (super_copy_bad nr role) (super_copy_edges role) result };
 
     /// The rules that the block breaks as the copy of a superblock in this role.
-    fn copy_rules(role: u8, place: u64, b: &Block, nr: u64) -> Rules
-        ensures { (rule : Rule) → has_rule result rule ≡ copy_bad nr role place b.now.0 rule };
+    fn super_copy_rules(role: u8, place: u64, b: &Block, nr: u64) -> Rules
+        ensures { (rule : Rule) → has_rule result rule ≡ super_copy_bad nr role place b.now.0 rule };
 
     /// The blocks that the copy of a superblock in this role names.
-    fn copy_edges(role: u8, b: &Block) -> Edges
-        ensures { result ≡ copy_edges role b.now.0 };
+    fn super_copy_edges(role: u8, b: &Block) -> Edges
+        ensures { result ≡ super_copy_edges role b.now.0 };
 
     /// The format keeps the laws.
     ghost lawful: { (nr data_blocks : ℕ) → 1 ≤ nr → nr ≤ MAX_META_BLOCKS → IsLawful (graph_of ROLES nr data_blocks (layout nr data_blocks)) };

@@ -149,10 +149,10 @@ impl<T: Table> Format for Tabled<T> {
 fn layout_rules<T: Table>(nr: u64, layout: Layout, role: u8, place: u64, b: &Block) -> Rules
     requires { nr ≤ MAX_META_BLOCKS }
     ensures { (rule : BrokenRule) → has_rule result rule
-        ≡ layout_bad nr role (layout_of (T.copy_bad nr role) (T.copy_edges role) layout) place b.now.0 rule }
+        ≡ layout_bad nr role (layout_of (T.super_copy_bad nr role) (T.super_copy_edges role) layout) place b.now.0 rule }
 {
     match layout {
-        Layout::Copy => T::copy_rules(role, place, b, nr),
+        Layout::Copy => T::super_copy_rules(role, place, b, nr),
         Layout::Tree(value, names) => tree_rules(b, value, names, role, place, nr),
         Layout::Bitmap => bitmap_rules(b, place),
         Layout::Index(_) => index_rules(b, place, nr),
@@ -164,10 +164,10 @@ fn layout_rules<T: Table>(nr: u64, layout: Layout, role: u8, place: u64, b: &Blo
 fn edges_in<T: Table>(nr: u64, layout: Layout, role: u8, b: &Block) -> usize
     requires { nr ≤ MAX_META_BLOCKS }
     ensures { result
-        ≡ length (layout_edges nr role (layout_of (T.copy_bad nr role) (T.copy_edges role) layout) b.now.0) }
+        ≡ length (layout_edges nr role (layout_of (T.super_copy_bad nr role) (T.super_copy_edges role) layout) b.now.0) }
 {
     match layout {
-        Layout::Copy => T::copy_edges(role, b).len(),
+        Layout::Copy => T::super_copy_edges(role, b).len(),
         Layout::Tree(value, names) => edge_count(b, value, names),
         Layout::Bitmap | Layout::Array(_) => 0,
         Layout::Index(_) => bitmaps_for(nr) as usize,
@@ -177,12 +177,12 @@ fn edges_in<T: Table>(nr: u64, layout: Layout, role: u8, b: &Block) -> usize
 /// The role and the number of block `i`, from 0, that a block with this layout names.
 fn edge_in<T: Table>(nr: u64, layout: Layout, role: u8, b: &Block, i: usize) -> (u8, u64)
     requires few { nr ≤ MAX_META_BLOCKS }
-    requires within { i < length (layout_edges nr role (layout_of (T.copy_bad nr role) (T.copy_edges role) layout) b.now.0) }
-    ensures { slice_get (layout_edges nr role (layout_of (T.copy_bad nr role) (T.copy_edges role) layout) b.now.0) i
+    requires within { i < length (layout_edges nr role (layout_of (T.super_copy_bad nr role) (T.super_copy_edges role) layout) b.now.0) }
+    ensures { slice_get (layout_edges nr role (layout_of (T.super_copy_bad nr role) (T.super_copy_edges role) layout) b.now.0) i
         ≡ Some (edge_of result.0 result.1) }
 {
     match layout {
-        Layout::Copy => T::copy_edges(role, b).get(i),
+        Layout::Copy => T::super_copy_edges(role, b).get(i),
         Layout::Tree(value, names) => edge_of_node(b, value, names, role, i),
         // These name nothing.
         Layout::Bitmap | Layout::Array(_) => (role, 0),

@@ -20,7 +20,7 @@ impl<'a, K: Sink> Printer<'a, K> {
     ghost use Rattle.pd_lines.specs.Printer.{printing};
 
     /// Nothing is printed yet.
-    pub fn over(out: &'a mut K) -> Printer<'a, K>
+    pub fn to_sink(out: &'a mut K) -> Printer<'a, K>
         ensures same_reference { result.out.ghost_name ≡ out.entry.ghost_name }
         ensures same { result.out.now ≡ out.old }
         ensures none { result.pieces ≡ [] }

@@ -6,15 +6,15 @@ use Rattle.pd_tree.specs.Items.{item_of, root_of}
 use Rattle.pd_value.specs.declared.thin.Details.{Details}
 use Rattle.pd_value.specs.declared.thin.Root.{Root}
 use Rattle.pd_measures.specs.Counts.{counts_by_details, counts_by_roots, pairs_of}
-use Rattle.pd_measures.specs.Lists.{details_of, pair_of}
+use Rattle.pd_measures.specs.Lists.{details_of, key_and_told}
 
 pub tops_listed : (below number : ℕ → ℕ) (ts : List Entry) → AllByRecursion (λ (e : Entry). below e.value ≡ number e.value) ts
-    → map (pair_of (λ (root : Root). below root.0)) (map (item_of root_of) ts) ≡ pairs_of (counts_by_roots number ts)
+    → map (key_and_told (λ (root : Root). below root.0)) (map (item_of root_of) ts) ≡ pairs_of (counts_by_roots number ts)
 tops_listed below number [] told = refl
 tops_listed below number (t ∷ ts) told =
     ap₂ (λ (n : ℕ) (rest : List (ℕ × ℕ)). (t.key, n) ∷ rest) told.0 (tops_listed below number ts told.1)
 
-pub details_listed : (ds : List Entry) → map (pair_of (λ (details : Details). details.mapped)) (map (item_of details_of) ds) ≡ pairs_of (counts_by_details ds)
+pub details_listed : (ds : List Entry) → map (key_and_told (λ (details : Details). details.mapped)) (map (item_of details_of) ds) ≡ pairs_of (counts_by_details ds)
 details_listed [] = refl
 details_listed (d ∷ ds) = ap (λ (rest : List (ℕ × ℕ)). (d.key, (details_of d.value).mapped) ∷ rest) (details_listed ds)
 

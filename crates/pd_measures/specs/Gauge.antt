@@ -16,11 +16,11 @@ abbrev pub entry_of : ℕ → List ℕ → ℕ → Entry
 entry_of size block i = record { key = key_at block i; value = value_at size block i }
 
 -- a device and its number of mappings as one number, and its cube: nothing is used of it but that it is a function
-abbrev pub spread : ℕ → ℕ → ℕ
-spread id mapped = (id * 11400714819323198485 % 2 ^ 64 + mapped) % 2 ^ 64
+abbrev pub fingerprint_term : ℕ → ℕ → ℕ
+fingerprint_term id mapped = (id * 11400714819323198485 % 2 ^ 64 + mapped) % 2 ^ 64
 
 unfoldable pub print_of : ℕ → ℕ → ℕ
-print_of id mapped = spread id mapped * spread id mapped % 2 ^ 64 * spread id mapped % 2 ^ 64
+print_of id mapped = fingerprint_term id mapped * fingerprint_term id mapped % 2 ^ 64 * fingerprint_term id mapped % 2 ^ 64
 
 -- a mapping, by its time
 abbrev pub mappings_gauge : Entry → Measured

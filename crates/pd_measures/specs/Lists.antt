@@ -15,8 +15,8 @@ details_of number = record {
 }
 
 -- an entry as a pair of the device's id and its number of mappings, as its value tells it
-abbrev pub pair_of : {V : Type 0} → (V → ℕ) → ℕ × V → ℕ × ℕ
-pair_of told item = (item.0, told item.1)
+abbrev pub key_and_told : {V : Type 0} → (V → ℕ) → ℕ × V → ℕ × ℕ
+key_and_told told item = (item.0, told item.1)
 
 -- whether two devices are one
 abbrev pub is_one : (ℕ → ℕ) → ℕ × Root → ℕ × Details → Bool

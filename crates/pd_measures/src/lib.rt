@@ -15,7 +15,7 @@ pub use comparing::{ListCursors, do_trees_fit};
 pub use gauge::Gauge;
 pub use gauges::{DetailsGauge, MappingsGauge, TopGauge};
 pub use laws::{fitting_trees_have_one_list, found_trees_are_sound, measures_are_those_of_lists};
-pub use listing::{DeviceList, list_of_details, list_of_top};
+pub use listing::{DeviceCounts, list_of_details, list_of_top};
 pub use measured::Measured;
 pub use measures::Measures;
 pub use nodes::measure_trees;

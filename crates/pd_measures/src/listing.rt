@@ -11,7 +11,7 @@ ghost use Rattle.pd_image.specs.Device.{IsAttached, OnlyReads};
 ghost use Rattle.pd_tree.specs.Cursor.{cursor_items, cursor_room};
 ghost use Rattle.pd_measures.specs.Counts.{counts_of_details, counts_of_top, mappings_below, pairs_of};
 ghost use Rattle.pd_measures.specs.Gauge.{below_root as number_below};
-ghost use Rattle.pd_measures.specs.Lists.{pair_of};
+ghost use Rattle.pd_measures.specs.Lists.{key_and_told};
 
 use crate::comparing::ListCursors;
 use crate::gauges::below_root;
@@ -25,7 +25,7 @@ use pd_value::{Details, Root, Value};
 use std::alloc::Global;
 
 /// The devices of a tree by ascending id: of each its id, and how many mappings it has.
-pub type DeviceList = Vec<(u64, u64)>;
+pub type DeviceCounts = Vec<(u64, u64)>;
 
 /// A value of a tree's entry that tells how many mappings a device has.
 trait TellsMappings: Value {
@@ -58,11 +58,11 @@ fn gather<V: TellsMappings, D: Device>(
     entries: &mut Cursor<V>,
     notes: &Notes,
     dev: &mut D,
-) -> Result<DeviceList, CheckFault>
+) -> Result<DeviceCounts, CheckFault>
     requires attached { IsAttached (D.state dev.old) }
     requires within { cursor_room entries.old ≤ (D.state dev.old).blocks }
     ensures list { IfOk result (λ list. IfSome (D.state dev.old).held (λ image.
-        list.items ≡ map (pair_of (V.told notes.now)) (cursor_items V.SIZE V.decoded image entries.old))) }
+        list.items ≡ map (key_and_told (V.told notes.now)) (cursor_items V.SIZE V.decoded image entries.old))) }
     ensures kept { OnlyReads (D.state dev.old) (D.state dev.new) }
     ensures faults { CountsCheckFault result (D.state dev.old).faults (D.state dev.new).faults }
 {
@@ -91,7 +91,7 @@ pub fn list_of_top<D: Device>(
     notes: &Notes,
     dev: &mut D,
     top: u64,
-) -> Result<DeviceList, CheckFault>
+) -> Result<DeviceCounts, CheckFault>
     requires attached { IsAttached (D.state dev.old) }
     requires within { top < (D.state dev.old).blocks }
     ensures list { IfOk result (λ list. IfSome (D.state dev.old).held (λ image. (data_blocks : ℕ) → let graph = lost_graph image data_blocks in
@@ -119,7 +119,7 @@ pub fn list_of_details<D: Device>(
     notes: &Notes,
     dev: &mut D,
     details: u64,
-) -> Result<DeviceList, CheckFault>
+) -> Result<DeviceCounts, CheckFault>
     requires attached { IsAttached (D.state dev.old) }
     requires within { details < (D.state dev.old).blocks }
     ensures list { IfOk result (λ list. IfSome (D.state dev.old).held (λ image. (data_blocks : ℕ) → let graph = lost_graph image data_blocks in

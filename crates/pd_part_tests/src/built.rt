@@ -6,7 +6,7 @@ ghost use Rattle.pd_image.specs.Device.{IsAttached, IsWritable, KeepsPlace};
 ghost use Rattle.pd_kinds.specs.Node.{is_ascending};
 ghost use Rattle.pd_node.specs.Items.{keys_of};
 ghost use Rattle.pd_draft.specs.Closed.{IsClosed};
-ghost use Rattle.pd_draft.specs.Stand.{stand};
+ghost use Rattle.pd_draft.specs.DraftState.{draft_state};
 ghost use Rattle.pd_spells.specs.Need.{need_array};
 
 use pd_array::Word;
@@ -67,7 +67,7 @@ fn put_tree<D: Device>(alloc: Global, dev: &mut D, items: &[(u64, Root)]) -> Res
     requires fit { All (λ item. ⟦<Root as Value>⟧.fitting item.1 ≡ true) items.now }
     ensures kept { KeepsPlace (D.state dev.old) (D.state dev.new) }
 {
-    let mut draft = Draft::over(dev);
+    let mut draft = Draft::on_closed(dev);
     if need_tree(items.len() as u64, 252) >= draft.blocks() {
         return Err(BuildFault::Memory);
     }
@@ -113,7 +113,7 @@ fn put_array<D: Device>(alloc: Global, dev: &mut D, count: u64) -> Result<u64, B
     requires closed { IsClosed (D.state dev.old) }
     ensures kept { KeepsPlace (D.state dev.old) (D.state dev.new) }
 {
-    let mut draft = Draft::over(dev);
+    let mut draft = Draft::on_closed(dev);
     let blocks = count.div_ceil(509);
     let above = need_tree(blocks, 252);
     let room = draft.blocks();
@@ -131,11 +131,11 @@ fn push_numbers<D: Device>(
     draft: &mut Draft<'_, D>,
     count: u64,
 ) -> Result<u64, BuildFault>
-    requires writable { IsWritable (stand draft.old).device }
-    requires room { draft.old.next + need_array 8 count ≤ (stand draft.old).device.blocks }
-    requires closed { IsClosed (stand draft.old).device }
+    requires writable { IsWritable (draft_state draft.old).device }
+    requires room { draft.old.next + need_array 8 count ≤ (draft_state draft.old).device.blocks }
+    requires closed { IsClosed (draft_state draft.old).device }
     ensures same_reference { draft.new.dev.ghost_name ≡ draft.old.dev.ghost_name }
-    ensures kept { KeepsPlace (stand draft.old).device (stand draft.new).device }
+    ensures kept { KeepsPlace (draft_state draft.old).device (draft_state draft.new).device }
 {
     let mut builder = match ArrayBuilder::new(alloc, count, Word::Eight) {
         Ok(builder) => builder,

@@ -27,7 +27,7 @@ fn put_data_map<D: Device>(
     requires closed { IsClosed (D.state dev.old) }
     requires room { 1 + data_map_need (count_of counts.now) counts.now.size ≤ (D.state dev.old).blocks }
 {
-    let mut draft = Draft::over(dev);
+    let mut draft = Draft::on_closed(dev);
     write_data_map(alloc, &mut draft, counts)
 }
 
@@ -84,7 +84,7 @@ fn put_meta_map<D: Device>(
     ensures size { OnOk result (counts.new.size ≡ 16) }
     ensures kept { KeepsPlace (D.state dev.old) (D.state dev.new) }
 {
-    let mut draft = Draft::over(dev);
+    let mut draft = Draft::on_closed(dev);
     put_block(&mut draft, &Block::zeros())?;
     write_meta_map(alloc, &mut draft, counts)
 }

@@ -38,7 +38,7 @@ fn fill<D: Device>(dev: &mut D, blocks: &[Block], super_block: &Block) -> Result
     ensures kept { KeepsPlace (D.state dev.old) (D.state dev.new) }
     ensures faults { CountsFault result (D.state dev.old).faults (D.state dev.new).faults }
 {
-    let mut draft = Draft::over(dev);
+    let mut draft = Draft::on_closed(dev);
     for block in blocks {
         draft.put(block)?;
     }

@@ -64,14 +64,14 @@ impl SharingDevices {
             Err(CheckFault::Device) => return Err(QueryFault::Device),
             Err(CheckFault::Memory) => return Err(QueryFault::Memory),
         };
-        match SharingDevices::over(alloc, s, shared) {
+        match SharingDevices::with_super(alloc, s, shared) {
             Ok(sharing) => Ok(Some(sharing)),
             Err(_) => Err(QueryFault::Memory),
         }
     }
 
     /// Takes the memory for the four cursors over the pool with this superblock and these shared leaves.
-    fn over(
+    fn with_super(
         alloc: Global,
         s: &ThinSuper,
         shared: SharedLeaves,

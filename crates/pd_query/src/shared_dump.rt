@@ -67,7 +67,7 @@ impl SharedDump {
         ensures sink { KeepsSink (K.state out.old) (K.state out.new) }
         ensures faults { Fails result (D.state dev.old).faults (D.state dev.new).faults (K.state out.old).faults (K.state out.new).faults }
     {
-        let mut printer = Printer::over(out);
+        let mut printer = Printer::to_sink(out);
         add_shared_pool(&self.s, &mut self.sharing, dev, &mut printer)?;
         finish(printer)
     }

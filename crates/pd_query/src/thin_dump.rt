@@ -56,14 +56,14 @@ impl ThinDump {
             Ok(s) => s,
             Err(_) => return Err(QueryFault::Device),
         };
-        match ThinDump::over(alloc, s, dev.blocks()) {
+        match ThinDump::with_super(alloc, s, dev.blocks()) {
             Ok(dump) => Ok(dump),
             Err(_) => Err(QueryFault::Memory),
         }
     }
 
     /// Takes the memory for the dump of the pool with this superblock, in a device of so many blocks.
-    fn over(alloc: Global, s: ThinSuper, blocks: u64) -> Result<ThinDump, AllocError>
+    fn with_super(alloc: Global, s: ThinSuper, blocks: u64) -> Result<ThinDump, AllocError>
         ensures text { (image : List (List ℕ)) → length image ≡ blocks → IfOk result (λ dump. text_left image dump ≡ dump_text image s) }
         ensures lines { (image : List (List ℕ)) → length image ≡ blocks → IfOk result (λ dump. lines_left image dump ≡ super_lines image s) }
         ensures used { IfOk result (λ dump. used_of dump ≡ s.meta_map.allocated) }
@@ -112,7 +112,7 @@ impl ThinDump {
         ensures sink { KeepsSink (K.state out.old) (K.state out.new) }
         ensures faults { Fails result (D.state dev.old).faults (D.state dev.new).faults (K.state out.old).faults (K.state out.new).faults }
     {
-        let mut printer = Printer::over(out);
+        let mut printer = Printer::to_sink(out);
         let mut counts = DumpCounts::none();
         add_pool(
             &self.s,

@@ -17,7 +17,7 @@ use Rattle.pd_shapes.specs.SharedNeed.{shape_need}
 use Rattle.pd_shapes.proofs.PoolLaws.{pool_language}
 use Rattle.pd_shapes.proofs.ShapeText.{unshared_spelled}
 use Rattle.pd_shapes.proofs.Unshared.{unshared_need}
-use Rattle.pd_shape_verdicts.proofs.Unshared.{either_without_room}
+use Rattle.pd_shapes.proofs.UnsharedNeed.{either_without_room}
 use Rattle.pd_answers.specs.Generated.{generated_text}
 use Rattle.pd_gen.specs.Pool.{generated_pool}
 use Rattle.pd_gen.proofs.Spelled.{generated_spells}

@@ -1,7 +1,7 @@
 -- A pool that is held in memory, as its lines are restored.
 use Rattle.std.proofs.Common.{◌≡◌, ℕ, ◌≤◌, List, [], ◌∷◌, ◌++◌, Option, Result, Ok, Err, refl, sym, ◌∙◌, ap, subst, arith}
 use Rattle.std.specs.Prelude.{IfErr, OnOk, MatchResult}
-use Rattle.pd_draft.specs.Placed.{Stand}
+use Rattle.pd_draft.specs.Placed.{DraftState}
 use Rattle.pd_grammar.specs.Texts.{Reading, whole, written}
 use Rattle.pd_grammar.proofs.LineLemmas.{AreRead}
 use Rattle.pd_spells.specs.ThinText.{Line, first_line, pool_line, end_line, pool_format}
@@ -14,7 +14,7 @@ use Rattle.pd_restoring.specs.Reading.{SaysOf}
 use Rattle.pd_restoring.proofs.ReadingLemmas.{above_next}
 use Rattle.pd_salvage.specs.declared.saved.SavedHead.{SavedHead}
 use Rattle.pd_restore.specs.declared.saved_lines.SavedLines.{SavedLines}
-use Rattle.pd_restore.specs.Coming.{Coming, HasMade, IsTextOf, Took, lines_to_end, made_begun}
+use Rattle.pd_restore.specs.Coming.{Coming, HasMade, IsTextOf, TakesLines, lines_to_end, made_begun}
 use Rattle.pd_restore.specs.Reading.{EndsAll, Follows, HasRoom, IsOver}
 use Rattle.pd_restore.specs.SavedLines.{lines_left}
 use Rattle.pd_restore.specs.Unshared.{HasUnshared}
@@ -30,7 +30,7 @@ pub made_pool : (p : SavedHead) (made : SavedLines) → AreRead pool_format [] (
 made_pool p made reads = first_read (first_line ∷ []) (pool_line (head_of_pool p)) (lines_to_end made) reads.1.1.1
 
 -- the first two lines, with what comes after them
-pub made_coming : (p : SavedHead) (room : ℕ) (made : SavedLines) (s : Devices) (start : Stand) → HasMade made p room start → HasGathered (made_begun p) s start start → Coming (made_begun p) room made s start start
+pub made_coming : (p : SavedHead) (room : ℕ) (made : SavedLines) (s : Devices) (start : DraftState) → HasMade made p room start → HasGathered (made_begun p) s start start → Coming (made_begun p) room made s start start
 made_coming p room made s start has gathered = record {
   so_far = record {
     gathered = gathered;
@@ -48,7 +48,7 @@ made_coming p room made s start has gathered = record {
 to_end : (made : SavedLines) (lines : List Line) → lines_left made ≡ lines → lines_to_end made ≡ lines ++ end_line ∷ []
 to_end made lines is = ap (λ (ls : List Line). ls ++ end_line ∷ []) is
 
-module _ (before : List Line) (room : ℕ) (old made : SavedLines) (s : Devices) (start now : Stand) (took : Took before room old made s start now) where
+module _ (before : List Line) (room : ℕ) (old made : SavedLines) (s : Devices) (start now : DraftState) (took : TakesLines before room old made s start now) where
   follows_first : (line : Line) (lines : List Line) → lines_to_end made ≡ line ∷ lines → Follows HasUnshared took.lines room s line start now
   follows_first line lines is =
       let h = took.so_far in
@@ -78,7 +78,7 @@ module _ (before : List Line) (room : ℕ) (old made : SavedLines) (s : Devices)
       → IfErr result (SaysOf pool_format pool_need_so_far room t)
   last_says result left t none = first_says result end_line [] left t (to_end made [] none)
 
-  module _ (t : Devices) (to : Stand) (blocks : to.device.blocks ≡ now.device.blocks) where
+  module _ (t : Devices) (to : DraftState) (blocks : to.device.blocks ≡ now.device.blocks) where
     has_room : (line : Line) → Follows HasUnshared took.lines room s line start now → HasUnshared room (line ∷ took.lines) t start to
         → pool_need_so_far room (line ∷ took.lines) ≤ room → HasRoom HasUnshared (line ∷ took.lines) room t start to
     has_room line follows gathered need =
@@ -86,7 +86,7 @@ module _ (before : List Line) (room : ℕ) (old made : SavedLines) (s : Devices)
 
     -- it was taken
     pub took_next : (rest : SavedLines) (line : Line) → lines_left made ≡ line ∷ lines_left rest → HasUnshared room (line ∷ took.lines) t start to
-        → pool_need_so_far room (line ∷ took.lines) ≤ room → Took before room old rest t start to
+        → pool_need_so_far room (line ∷ took.lines) ≤ room → TakesLines before room old rest t start to
     took_next rest line is gathered need =
         let all = to_end made (line ∷ lines_left rest) is in
         let h = took.so_far in

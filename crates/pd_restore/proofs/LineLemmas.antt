@@ -5,7 +5,7 @@ use Rattle.std.specs.List.{count_by, flat_map}
 use Rattle.std.proofs.lemmas.List.{append-nil, map-append}
 use Rattle.std.proofs.lemmas.List.Sums.{sum_by-append}
 use Rattle.pd_kinds.specs.Meaning.{ThinPool, ThinDevice, Mapping}
-use Rattle.pd_draft.specs.Placed.{Stand, Wrote}
+use Rattle.pd_draft.specs.Placed.{DraftState, Wrote}
 use Rattle.pd_count.specs.Counted.{Counted, HasCounted}
 use Rattle.pd_spells.specs.Lawful.{IsLawfulPool}
 use Rattle.pd_spells.specs.Need.{need_tree}
@@ -25,7 +25,7 @@ use Rattle.pd_devices.specs.Gathered.{HasGathered, IsOpen, data_in, mapped_in}
 use Rattle.pd_devices.specs.declared.devices.Growing.{Growing}
 use Rattle.pd_laid_once.specs.Written.{device_details}
 use Rattle.pd_restore.specs.Written.{HasDevices, Known}
-use Rattle.pd_shape_verdicts.proofs.ToldLeaves.{pushed, pushed-append}
+use Rattle.pd_shapes.proofs.ToldLeaves.{pushed, pushed-append}
 use Rattle.pd_shared_devices.proofs.WholeLemmas.{pushed_again}
 
 -- the runs of a device
@@ -119,10 +119,10 @@ none_open : (parts : List Part) (before : List Line) → open_device (pushed bef
 none_open [] before = refl
 none_open (p ∷ parts) before = ap open_device (part_lines p before (end_line ∷ []) parts) ∙ none_open parts (pushed (device_line p.details ∷ before) (map map_line p.runs))
 
-closed_at : {start now : Stand} (lines : List Line) (s : Devices) (h : HasGathered lines s start now) → open_device lines ≡ [] → h.behind ≡ now
+closed_at : {start now : DraftState} (lines : List Line) (s : Devices) (h : HasGathered lines s start now) → open_device lines ≡ [] → h.behind ≡ now
 closed_at {start} {now} lines s h closed = closed_by s.growing (piece_end lines) (unmapped lines) h.behind now (rw closed at h.growing)
   where
-    closed_by : (o : Option Growing) (low left : ℕ) (from to : Stand) → IsOpen [] low left o from to → from ≡ to
+    closed_by : (o : Option Growing) (low left : ℕ) (from to : DraftState) → IsOpen [] low left o from to → from ≡ to
     closed_by None low left from to is = is
     closed_by (Some o) low left from to is = absurd is
 
@@ -140,7 +140,7 @@ abbrev pub known_of : Devices → Counted → Known
 known_of s uses = record { roots = s.roots.items; details = s.details.items; counts = s.counts.counts; leaves = 0; uses = uses }
 
 -- so what was gathered of all lines of a pool is what its shape has
-pub devices_of_lines : {start now : Stand} (lines : List Line) (m : ThinPool) (s : Devices) (uses : Counted) → HasGathered lines s start now → MeansPool (in_order lines []) m → HasCounted uses []
+pub devices_of_lines : {start now : DraftState} (lines : List Line) (m : ThinPool) (s : Devices) (uses : Counted) → HasGathered lines s start now → MeansPool (in_order lines []) m → HasCounted uses []
     → HasDevices (shape_of m) (known_of s uses) start now
 unfolding blocks_from leaves_and_trees shape_of
 devices_of_lines {start} {now} lines m s uses h means none =

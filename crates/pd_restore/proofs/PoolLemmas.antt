@@ -2,7 +2,7 @@
 use Rattle.std.proofs.Common.{◌≡◌, ℕ, Bool, true, false, List, [], ◌∷◌, Option, Result, Ok, Err, refl, sym, subst, ◌∙◌, ap}
 use Rattle.std.specs.Prelude.{IfOk}
 use Rattle.pd_kinds.specs.declared.block.Block.{Block}
-use Rattle.pd_draft.specs.Placed.{Stand}
+use Rattle.pd_draft.specs.Placed.{DraftState}
 use Rattle.pd_kinds.specs.ThinSuper.{thin_super_block}
 use Rattle.pd_grammar.specs.Texts.{reading, text_of_lines, whole}
 use Rattle.pd_grammar.proofs.GrammarLemmas.{is_reader}
@@ -18,15 +18,15 @@ use Rattle.pd_texts.proofs.LawLemmas as any
 use Rattle.pd_restoring.specs.declared.fault.RestoreFault.{RestoreFault}
 use Rattle.pd_restoring.specs.Whole.{Writes}
 use Rattle.pd_restore.specs.declared.begin.Rest.{Rest}
-use Rattle.pd_restore.specs.declared.parts.Parts.{Parts}
+use Rattle.pd_restore.specs.declared.parts.PoolRoots.{PoolRoots}
 use Rattle.pd_salvage.specs.declared.saved.SavedHead.{SavedHead}
-use Rattle.pd_restore.specs.Parts.{AreParts}
+use Rattle.pd_restore.specs.PoolRoots.{AreParts}
 use Rattle.pd_restore.specs.Pools.{LeavesBefore, pools}
 use Rattle.pd_restore.specs.Whole.{head_of_pool, fields_of}
 use Rattle.pd_restore.specs.Written.{shape_behind}
 
 -- the superblock's fields are those of the laid shape
-pub fields_are : (p : SavedHead) (parts : Parts) (room : ℕ) (w : ThinShape) → head_of_pool p ≡ head_of_shape w → AreParts w room parts → fields_of p parts room ≡ pool_fields w room
+pub fields_are : (p : SavedHead) (parts : PoolRoots) (room : ℕ) (w : ThinShape) → head_of_pool p ≡ head_of_shape w → AreParts w room parts → fields_of p parts room ≡ pool_fields w room
 unfolding pool_fields
 fields_are p parts room w head are =
     let uuid : p.uuid ≡ w.uuid = ap (λ (h : Head). h.uuid) head in
@@ -64,7 +64,7 @@ head_is first p later lines w means front =
     ap (λ (ls : List Line). head_in ls p) (sym front) ∙ head_as (is_shared (in_order lines [])) (in_order lines []) w p means
 
 -- what is written of those lines is of each text that has them
-pub writes_of : (lines : List Line) (room : ℕ) (left : Option (List ℕ)) (start now : Stand) (IsOf : List ℕ → Type 0) → ((t : List ℕ) → IsOf t → IsWhole pool_format t lines left)
+pub writes_of : (lines : List Line) (room : ℕ) (left : Option (List ℕ)) (start now : DraftState) (IsOf : List ℕ → Type 0) → ((t : List ℕ) → IsOf t → IsWhole pool_format t lines left)
     → (result : Result Block RestoreFault) → IfOk result (Writes pools room (λ t. IsWhole pool_format t lines left) left start now) → IfOk result (Writes pools room IsOf left start now)
 writes_of lines room left start now IsOf of (Err fault) w = tt
 writes_of lines room left start now IsOf of (Ok block) w = record {
@@ -77,7 +77,7 @@ writes_of lines room left start now IsOf of (Ok block) w = record {
 }
 
 -- and is the same under each name of what gives the lines
-pub rest_writes : (p : SavedHead) (named rest : Rest) (room : ℕ) (was left : Option (List ℕ)) (start now : Stand) (result : Result Block RestoreFault) → named ≡ rest
+pub rest_writes : (p : SavedHead) (named rest : Rest) (room : ℕ) (was left : Option (List ℕ)) (start now : DraftState) (result : Result Block RestoreFault) → named ≡ rest
     → IfOk result (Writes pools room (λ t. LeavesBefore t p rest was) left start now) → IfOk result (Writes pools room (λ t. LeavesBefore t p named was) left start now)
 rest_writes p named rest room was left start now result is w =
     subst (λ (other : Rest). IfOk result (Writes pools room (λ t. LeavesBefore t p other was) left start now)) (sym is) w

@@ -1,7 +1,7 @@
 -- A text that is read and restored, line by line.
 use Rattle.std.proofs.Common.{◌≡◌, ℕ, ◌-◌, ◌<◌, ◌≤◌, ◌^◌, Bool, true, false, List, [], ◌∷◌, length, refl, sym, ◌∙◌, ap, arith, Option, Some, Result, Ok, Err, subst, if◌then◌else◌}
 use Rattle.std.specs.Prelude.{MatchResult, IfOk, IfErr, OnOk}
-use Rattle.pd_draft.specs.Placed.{Stand}
+use Rattle.pd_draft.specs.Placed.{DraftState}
 use Rattle.pd_grammar.specs.Spelling.{need_above_room}
 use Rattle.pd_grammar.specs.Texts.{reading}
 use Rattle.pd_lines.specs.Reader.{lines_of}
@@ -66,7 +66,7 @@ lacking (Err (r.NoRoom needed blocks)) before more line room t above some told o
 
 module _ {G : Type 0} (Has : Gathers G) where
   -- a step that took a line
-  pub stepped : (result : Result Bool RestoreFault) (before : List Line) (line : ThinLine) (room : ℕ) (old text : TextReader ThinState ThinLine) (was left : Option (List ℕ)) (s t : G) (start now to : Stand)
+  pub stepped : (result : Result Bool RestoreFault) (before : List Line) (line : ThinLine) (room : ℕ) (old text : TextReader ThinState ThinLine) (was left : Option (List ℕ)) (s t : G) (start now to : DraftState)
       → Reading Has before room old s start now → to.device.blocks ≡ now.device.blocks → ReadsOn pool_format ThinStands (line_of line ∷ before) text
       → ((x : List ℕ) → LeavesOf pool_format x before old was → LeavesOf pool_format x (line_of line ∷ before) text left)
       → IfOk result (λ more. more ≡ true) → OnOk result (Has room (line_of line ∷ before) t start to)
@@ -88,7 +88,7 @@ module _ {G : Type 0} (Has : Gathers G) where
       )
 
   -- a step that came to the end
-  pub came_to_end : (result : Result Bool RestoreFault) (before : List Line) (room : ℕ) (old text : TextReader ThinState ThinLine) (was left : Option (List ℕ)) (s t : G) (start now to : Stand)
+  pub came_to_end : (result : Result Bool RestoreFault) (before : List Line) (room : ℕ) (old text : TextReader ThinState ThinLine) (was left : Option (List ℕ)) (s t : G) (start now to : DraftState)
       → Reading Has before room old s start now → to.device.blocks ≡ now.device.blocks → AreReadSoFar pool_format (end_line ∷ before)
       → ((x : List ℕ) → LeavesOf pool_format x before old was → IsWhole pool_format x (end_line ∷ before) left)
       → IfOk result (λ more. more ≡ false) → OnOk result (Has room (end_line ∷ before) t start to)
@@ -106,18 +106,18 @@ module _ {G : Type 0} (Has : Gathers G) where
       )
 
   -- a step by its answer
-  pub steps_as : (a b : Bool) (before : List Line) (room : ℕ) (old text : TextReader ThinState ThinLine) (was left : Option (List ℕ)) (s : G) (start now : Stand) → a ≡ b
+  pub steps_as : (a b : Bool) (before : List Line) (room : ℕ) (old text : TextReader ThinState ThinLine) (was left : Option (List ℕ)) (s : G) (start now : DraftState) → a ≡ b
       → Steps Has a before room old was text left s start now → Steps Has b before room old was text left s start now
   steps_as a b before room old text was left s start now is steps = rw is at steps
 
   -- what a fault of the reader says after lines that have room
-  pub line_says : (fault : ReadFault) (first : Line) (room : ℕ) (t : List ℕ) (before : List Line) (text : TextReader ThinState ThinLine) (s : G) (start now : Stand) → Reading Has before room text s start now
+  pub line_says : (fault : ReadFault) (first : Line) (room : ℕ) (t : List ℕ) (before : List Line) (text : TextReader ThinState ThinLine) (s : G) (start now : DraftState) → Reading Has before room text s start now
       → pool_need_so_far room (end_line ∷ before) ≤ room → RefusesNext pool_format first end_line t before fault → SaysOf pool_format pool_need_so_far room t (read_fault fault)
   line_says fault first room t before text s start now h need refuses =
       next_says pool_format pool_need_so_far first end_line fault room t before (omega (arith, h.later)) h.above need refuses
 
   -- the first two lines were read
-  pub begun_text : (shared : Bool) (p : SavedHead) (room : ℕ) (text : TextReader ThinState ThinLine) (s : G) (start : Stand) → HasBegun shared text p room start
+  pub begun_text : (shared : Bool) (p : SavedHead) (room : ℕ) (text : TextReader ThinState ThinLine) (s : G) (start : DraftState) → HasBegun shared text p room start
       → Has room (pool_line (head_of_pool p) ∷ (if shared then shared_first_line else first_line) ∷ []) s start start → Reading Has (begun_lines text p) room text s start start
   begun_text shared p room text s start begun gathered = record {
     reads = begun.reads;

@@ -16,7 +16,7 @@ use Rattle.pd_value.specs.declared.thin.Details.{Details}
 use Rattle.pd_node.specs.Items.{entries_of, keys_of}
 use Rattle.pd_build.specs.declared.fault.BuildFault.{BuildFault}
 use Rattle.pd_build.proofs.TakesLemmas.{keys-entries, length-entries}
-use Rattle.pd_draft.specs.Placed.{Stand, Wrote}
+use Rattle.pd_draft.specs.Placed.{DraftState, Wrote}
 use Rattle.pd_draft.proofs.PlacedLemmas.{wrote_then}
 use Rattle.pd_count.specs.Counted.{count_of}
 use Rattle.pd_spells.specs.Lawful.{AreDevices}
@@ -39,8 +39,8 @@ use Rattle.pd_shapes.specs.SharedNeed.{shape_need, used_often}
 use Rattle.pd_smwrite.specs.Map as smap
 use Rattle.pd_smwrite.specs.Map.{data_map_blocks, data_map_need, data_map_root, allocated_of, meta_map_need, written_bitmap}
 use Rattle.pd_texts.specs.Reader.{in_order}
-use Rattle.pd_restore.specs.declared.parts.Parts.{Parts}
-use Rattle.pd_restore.specs.Parts.{AreParts}
+use Rattle.pd_restore.specs.declared.parts.PoolRoots.{PoolRoots}
+use Rattle.pd_restore.specs.PoolRoots.{AreParts}
 use Rattle.pd_restore.specs.Reading.{WritesParts}
 use Rattle.pd_restore.specs.Written.{HasDevices, Known, shape_behind}
 
@@ -111,7 +111,7 @@ length-data_map counts n place =
     )
 
 -- where the parts are written, one behind another
-pub record Behind (w : ThinShape) (a b e f : Stand) : Type 0 where
+pub record Behind (w : ThinShape) (a b e f : DraftState) : Type 0 where
   pub details_at : b.place ≡ details_at w
   pub bitmaps_at : e.place ≡ bitmaps_at w
   pub map_at : f.place ≡ meta_map_at w
@@ -119,7 +119,7 @@ pub record Behind (w : ThinShape) (a b e f : Stand) : Type 0 where
   pub details : Wrote (tree_blocks 24 b.place (details_items w.devices)) b e
   pub data_map : Wrote (data_map_blocks (data_counts w) w.data_blocks e.place) e f
 
-module _ (w : ThinShape) (s : Known) (start a : Stand) (room : ℕ) (h : HasDevices w s start a) (need : shape_need w room ≤ room) (most : room ≤ 4161600) where
+module _ (w : ThinShape) (s : Known) (start a : DraftState) (room : ℕ) (h : HasDevices w s start a) (need : shape_need w room ≤ room) (most : room ≤ 4161600) where
   places : AreShapePlaces w
   places = places_are w h.shape
 
@@ -163,15 +163,15 @@ module _ (w : ThinShape) (s : Known) (start a : Stand) (room : ℕ) (h : HasDevi
   data_room place here = rw (h.counted, h.size) (omega (arith, here, bitmaps_room, place_law, need))
 
   -- each part as it is written, with the place behind it
-  pub roots_step : {b : Stand} → Wrote (tree_blocks 8 a.place (entries_of root_code s.roots)) a b → b.place ≡ details_at w
+  pub roots_step : {b : DraftState} → Wrote (tree_blocks 8 a.place (entries_of root_code s.roots)) a b → b.place ≡ details_at w
   roots_step {b} wrote =
       omega (arith, wrote.moved, length-tree_blocks 8 a.place (entries_of root_code s.roots), ap (need_tree 8) (length-entries root_code s.roots), ap (need_tree 8) roots_number, roots_place, places.details)
 
-  pub details_step : {b e : Stand} → b.place ≡ details_at w → Wrote (tree_blocks 24 b.place (entries_of details_codes s.details)) b e → e.place ≡ bitmaps_at w
+  pub details_step : {b e : DraftState} → b.place ≡ details_at w → Wrote (tree_blocks 24 b.place (entries_of details_codes s.details)) b e → e.place ≡ bitmaps_at w
   details_step {b} {e} here wrote =
       omega (arith, wrote.moved, length-tree_blocks 24 b.place (entries_of details_codes s.details), ap (need_tree 24) (length-entries details_codes s.details), ap (need_tree 24) details_number, here, places.bitmaps)
 
-  pub steps : {b e f : Stand} → Wrote (tree_blocks 8 a.place (entries_of root_code s.roots)) a b → Wrote (tree_blocks 24 b.place (entries_of details_codes s.details)) b e
+  pub steps : {b e f : DraftState} → Wrote (tree_blocks 8 a.place (entries_of root_code s.roots)) a b → Wrote (tree_blocks 24 b.place (entries_of details_codes s.details)) b e
       → Wrote (data_map_blocks (count_of s.counts) s.counts.size e.place) e f → Behind w a b e f
   steps {b} {e} {f} tops details counts =
       let at_details = roots_step tops in
@@ -218,7 +218,7 @@ module _ (w : ThinShape) (s : Known) (start a : Stand) (room : ℕ) (h : HasDevi
       omega (arith, ap (need_tree 4) same, here, place_law, need)
 
   -- the parts, one behind another, are the shape's blocks behind the superblock
-  pub behind_written : {b e f g : Stand} → Behind w a b e f
+  pub behind_written : {b e f g : DraftState} → Behind w a b e f
       → ((role : ℕ) (named : List ℕ) → ((b : ℕ) → count_in named b ≡ named_times (count_of s.uses) s.leaves f.place b) → Wrote (written_from f.place (laid_meta_map role room f.place named)) f g)
       → Wrote (shape_behind w room) start g
   unfolding shape_parts meta_map_blocks
@@ -262,8 +262,8 @@ module _ (w : ThinShape) (s : Known) (start a : Stand) (room : ℕ) (h : HasDevi
   leaves_before place here = omega (arith, h.leaves, here, leaves_before_map w)
 
 -- all lines mean a shape, and its parts are written
-pub whole_written : (w : ThinShape) (s : Known) (start now to : Stand) (room : ℕ) (lines : List Line) → HasDevices w s start now → MeansPoolShape (in_order lines []) w → shape_need w room ≤ room → room ≤ 4161600
-    → (result : Result Parts BuildFault) → OnOk result (Wrote (shape_behind w room) start to) → IfOk result (AreParts w room) → IfOk result (WritesParts lines room start to)
+pub whole_written : (w : ThinShape) (s : Known) (start now to : DraftState) (room : ℕ) (lines : List Line) → HasDevices w s start now → MeansPoolShape (in_order lines []) w → shape_need w room ≤ room → room ≤ 4161600
+    → (result : Result PoolRoots BuildFault) → OnOk result (Wrote (shape_behind w room) start to) → IfOk result (AreParts w room) → IfOk result (WritesParts lines room start to)
 whole_written w s start now to room lines h means need most (Ok parts) wrote named = record {
   shape = w;
   means = means;

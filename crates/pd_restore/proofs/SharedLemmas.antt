@@ -1,7 +1,7 @@
 -- What is gathered of a pool's text of version 2.
 use Rattle.std.proofs.Common.{◌≡◌, ⊎_elim, ℕ, suc, ◌+◌, ◌-◌, ◌<◌, ◌≤◌, ◌^◌, min, Bool, true, false, if◌then◌else◌, List, [], ◌∷◌, length, refl, sym, ◌∙◌, ap, subst, arith, Some, Result, Ok, Err}
 use Rattle.std.specs.Prelude.{OnOk}
-use Rattle.pd_draft.specs.Placed.{Stand}
+use Rattle.pd_draft.specs.Placed.{DraftState}
 use Rattle.pd_grammar.specs.Spelling.{need_above_room}
 use Rattle.pd_grammar.specs.Texts as Texts
 use Rattle.pd_grammar.specs.Texts.{has_ended}
@@ -39,7 +39,7 @@ pub need_shared : (room : ℕ) (before : List Line) → is_shared before ≡ tru
 need_shared room before version = rw version refl
 
 -- what was gathered of lines that have room
-abbrev pub as_gathered : {s : SharedDevices} {start now : Stand} (before : List Line) (room : ℕ) → HasRoom HasGathered before room s start now → Gathered s now
+abbrev pub as_gathered : {s : SharedDevices} {start now : DraftState} (before : List Line) (room : ℕ) → HasRoom HasGathered before room s start now → Gathered s now
 as_gathered {s} {start} {now} before room h = record {
   room = room;
   before = before;
@@ -51,7 +51,7 @@ as_gathered {s} {start} {now} before room h = record {
 }
 
 -- what the wrapped lines have
-abbrev pub bare_follows : {s : SharedLines} {start now : Stand} (before : List Line) (room : ℕ) (line : Line) → Follows HasShared before room s line start now → Follows HasGathered before room s.devices line start now
+abbrev pub bare_follows : {s : SharedLines} {start now : DraftState} (before : List Line) (room : ℕ) (line : Line) → Follows HasShared before room s line start now → Follows HasGathered before room s.devices line start now
 bare_follows before room line f = record {
   so_far = record { gathered = f.so_far.gathered.gathered; lines = f.so_far.lines; need = f.so_far.need; most = f.so_far.most; there = f.so_far.there };
   later = f.later;
@@ -67,7 +67,7 @@ on_ok (Ok value) p = p
 on_ok (Err fault) p = tt
 
 -- a line after these ones
-module _ {s : SharedDevices} {start now : Stand} (room : ℕ) (before : List Line) where
+module _ {s : SharedDevices} {start now : DraftState} (room : ℕ) (before : List Line) where
   pub leaf_follows : (l : LeafHead) → Follows HasGathered before room s (leaf_line l) start now → IsLeafLine before l
   leaf_follows l f = leaf_read firsts pool_grammar before l f.lines.0
 
@@ -110,12 +110,12 @@ module _ {s : SharedDevices} {start now : Stand} (room : ℕ) (before : List Lin
   run_fits m needed f is within = omega (arith, is, within, f.so_far.most)
 
 -- a text that has room has few lines
-pub few_after : {s : SharedLines} {start now : Stand} (room : ℕ) (before : List Line) (line : Line) → Follows HasShared before room s line start now → length before < 2 ^ 62
+pub few_after : {s : SharedLines} {start now : DraftState} (room : ℕ) (before : List Line) (line : Line) → Follows HasShared before room s line start now → length before < 2 ^ 62
 few_after room before line f =
     few_lines room before f.so_far.lines f.lines.0.going (subst (λ (n : ℕ). n ≤ room) (need_shared room before f.so_far.gathered.gathered.version) f.so_far.need) f.so_far.most
 
 -- what the end needs, where the last device has no piece, and where it has some
-module _ {s : SharedLines} {start now : Stand} (room needed : ℕ) where
+module _ {s : SharedLines} {start now : DraftState} (room needed : ℕ) where
   at_end : (before : List Line) (b : Bool) → HasShared room before s start now → has_ended pool_format before ≡ false → s.lacks_pieces ≡ b
       → shape_need_so_far room (end_line ∷ before) ≡ shape_need_so_far room before + (if b then 1 else 0)
   at_end before b h going is = end_needs room before going ∙ ap (λ (b : Bool). shape_need_so_far room before + (if b then 1 else 0)) (sym h.last ∙ is)
@@ -146,7 +146,7 @@ begun_same first [] some = absurd (omega arith)
 begun_same first (line ∷ before) some = refl
 
 -- what a refusal says, behind the last line and before
-module _ (room : ℕ) (before : List Line) (text : TextReader ThinState ThinLine) (s : SharedLines) (start now : Stand) (h : Reading HasShared before room text s start now) (first : Line) (t : List ℕ) (fault : TextFault)
+module _ (room : ℕ) (before : List Line) (text : TextReader ThinState ThinLine) (s : SharedLines) (start now : DraftState) (h : Reading HasShared before room text s start now) (first : Line) (t : List ℕ) (fault : TextFault)
     (refuses : RefusesNext pool_format first end_line t before (c.Text fault)) where
   same : begun first before ≡ before
   same = begun_same first before (omega (arith, h.later))
@@ -181,6 +181,6 @@ module _ (room : ℕ) (before : List Line) (text : TextReader ThinState ThinLine
       late end = omega (arith, end.number, within, few)
 
 -- so many lines were read
-pub few_lines_before : (room : ℕ) (before : List Line) (text : TextReader ThinState ThinLine) (s : SharedLines) (start now : Stand) → Reading HasShared before room text s start now → length before < 2 ^ 62
+pub few_lines_before : (room : ℕ) (before : List Line) (text : TextReader ThinState ThinLine) (s : SharedLines) (start now : DraftState) → Reading HasShared before room text s start now → length before < 2 ^ 62
 few_lines_before room before text s start now h =
     few_lines room before h.so_far.lines h.reads.going (subst (λ (n : ℕ). n ≤ room) (need_shared room before h.so_far.gathered.gathered.version) h.so_far.need) h.so_far.most

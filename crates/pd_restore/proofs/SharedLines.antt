@@ -9,7 +9,7 @@ use Rattle.pd_kinds.specs.Bitmap.{bitmaps_for}
 use Rattle.pd_kinds.specs.Node.{max_entries}
 use Rattle.pd_grammar.specs.Texts.{has_ended}
 use Rattle.pd_grammar.proofs.GrammarLemmas.{is_read}
-use Rattle.pd_shapes.specs.SharedNeed.{Told, leaf_count, leaves_of_ended, leaves_of_told, lengthened, need_of_leaves, need_of_shared, shape_need_so_far, tell, told_devices, untold, used_often, with_run, with_use}
+use Rattle.pd_shapes.specs.SharedNeed.{Told, leaf_count, leaves_of_ended, leaves_of_told, lengthened, need_of_leaves, need_of_shared, shape_need_so_far, tell_newest, told_devices, told_nothing, used_often, with_run, with_use}
 use Rattle.pd_spells.specs.Need.{nodes_for, need_above, need_tree}
 use Rattle.pd_spells.specs.ThinNeed.{data_of_line, overflows_in}
 use Rattle.pd_spells.specs.ThinText as d
@@ -117,7 +117,7 @@ weights (t ∷ told) =
     omega (arith, sum_by-cons weight t told, sum_by-cons need_of_leaves (leaf_count t.own t.uses) (map leaves_of_ended told), weight_of t, weights_ended told)
 
 -- devices are told where there is one
-told_some : (more : Told → Told) (told : List Told) → length (tell more told) ≡ length told
+told_some : (more : Told → Told) (told : List Told) → length (tell_newest more told) ≡ length told
 told_some more [] = refl
 told_some more (t ∷ told) = refl
 
@@ -133,7 +133,7 @@ some_told (map_line r ∷ before) is = omega (arith, told_some (with_run r.lengt
 some_told (end_line ∷ before) is = some_told before is
 
 -- a use weighs one, and a run its mappings
-use_weighs : (told : List Told) → 1 ≤ length told → sum_by weight (tell with_use told) ≡ sum_by weight told + 1
+use_weighs : (told : List Told) → 1 ≤ length told → sum_by weight (tell_newest with_use told) ≡ sum_by weight told + 1
 use_weighs [] some = absurd (omega arith)
 use_weighs (t ∷ told) some = omega (arith, sum_by-cons weight (with_use t) told, sum_by-cons weight t told)
 
@@ -145,11 +145,11 @@ run_sum : (in_run : Bool) (n : ℕ) (own : List ℕ) → sum (if in_run then len
 run_sum true n own = longer_sum n own
 run_sum false n own = omega (arith, sum_by-cons (λ (x : ℕ). x) n own)
 
-run_weighs : (n : ℕ) (told : List Told) → 1 ≤ length told → sum_by weight (tell (with_run n) told) ≡ sum_by weight told + n
+run_weighs : (n : ℕ) (told : List Told) → 1 ≤ length told → sum_by weight (tell_newest (with_run n) told) ≡ sum_by weight told + n
 run_weighs n [] some = absurd (omega arith)
 run_weighs n (t ∷ told) some = omega (arith, sum_by-cons weight (with_run n t) told, sum_by-cons weight t told, run_sum t.in_run n t.own)
 
-run_more : (n : ℕ) (told : List Told) → sum_by weight told ≤ sum_by weight (tell (with_run n) told)
+run_more : (n : ℕ) (told : List Told) → sum_by weight told ≤ sum_by weight (tell_newest (with_run n) told)
 run_more n [] = omega arith
 run_more n (t ∷ told) = omega (arith, run_weighs n (t ∷ told) (omega arith))
 
@@ -175,7 +175,7 @@ count_lines (leaf_line l ∷ before) so_far going =
     let is = leaf_read firsts pool_grammar before l so_far.0 in
     omega (arith, count_lines before so_far.1 so_far.0.going, left_most (has_device before) l.entries, is.few)
 count_lines (device_line e ∷ before) so_far going =
-    omega (arith, count_lines before so_far.1 so_far.0.going, sum_by-cons weight untold (told_devices before))
+    omega (arith, count_lines before so_far.1 so_far.0.going, sum_by-cons weight told_nothing (told_devices before))
 count_lines (use_line n ∷ before) so_far going =
     let is = use_read firsts pool_grammar before n so_far.0 in
     let rest = count_lines before so_far.1 so_far.0.going in
@@ -186,7 +186,7 @@ count_lines (map_line m ∷ before) so_far going =
     counted (has_device before) refl rest
   where
     counted : (b : Bool) → has_device before ≡ b → length before + left_of b (unmapped before) ≤ 2 + (253 * leaf_number before + sum_by weight (told_devices before))
-        → suc (length before) + left_of b (unmapped before - m.length) ≤ 2 + (253 * leaf_number before + sum_by weight (tell (with_run m.length) (told_devices before)))
+        → suc (length before) + left_of b (unmapped before - m.length) ≤ 2 + (253 * leaf_number before + sum_by weight (tell_newest (with_run m.length) (told_devices before)))
     counted true has rest = let is = run_read firsts pool_grammar before m so_far.0 in omega (arith, rest, run_weighs m.length (told_devices before) (some_told before has), is.some)
     counted false has rest = let is = run_read firsts pool_grammar before m so_far.0 in omega (arith, rest, run_more m.length (told_devices before), is.some, is.mapped)
 count_lines (end_line ∷ before) so_far going = absurd (true≢false going)
@@ -221,7 +221,7 @@ total_fits leaves below devices blocks over often more grown number another agai
     let oftens = (small_most again (omega arith)).1.1 in
     omega (arith, many.0, many.1.0, overs, oftens)
 
-use_grows : (told : List Told) → trees false told ≤ 4161600 → trees false (tell with_use told) ≤ 2 ^ 62
+use_grows : (told : List Told) → trees false told ≤ 4161600 → trees false (tell_newest with_use told) ≤ 2 ^ 62
 use_grows [] few = omega arith
 use_grows (t ∷ told) few =
     omega (
@@ -240,7 +240,7 @@ run_spread : (in_run : Bool) (n : ℕ) (own : List ℕ) → spread (if in_run th
 run_spread true n own = longer_spread n own
 run_spread false n own = omega (arith, sum_by-cons (λ (m : ℕ). nodes_for (max_entries 8) m) n own)
 
-run_grows : (n : ℕ) (told : List Told) → n ≤ 2 ^ 64 → trees false told ≤ 4161600 → trees false (tell (with_run n) told) ≤ 2 ^ 62
+run_grows : (n : ℕ) (told : List Told) → n ≤ 2 ^ 64 → trees false told ≤ 4161600 → trees false (tell_newest (with_run n) told) ≤ 2 ^ 62
 run_grows n [] fits few = omega arith
 run_grows n (t ∷ told) fits few =
     let own = if t.in_run then lengthened n t.own else n ∷ t.own in
@@ -253,7 +253,7 @@ run_grows n (t ∷ told) fits few =
       run_spread t.in_run n t.own,
     )
 
-device_grows : (told : List Told) → trees false (untold ∷ told) ≤ trees false told + 1
+device_grows : (told : List Told) → trees false (told_nothing ∷ told) ≤ trees false told + 1
 unfolding need_above
 device_grows [] = omega arith
 device_grows (t ∷ told) = omega (arith, sum_by-cons need_of_leaves (leaf_count [] 0) (map leaves_of_ended (t ∷ told)), at_end (t ∷ told), last (lacks_pieces (t ∷ told)))
@@ -284,21 +284,21 @@ module _ (room : ℕ) (before : List Line) (lines : AreReadSoFar pool_format bef
   pub device_fits : (e : d.Details) → shape_need_so_far room (device_line e ∷ before) ≤ top
   device_fits e =
       subst (λ (n : ℕ). n ≤ top) (sym (parts_are false room (device_line e ∷ before) refl))
-      (fits_then (leaf_number before) (trees false (untold ∷ told_devices before)) (suc (length (told_devices before))) (overflows_in (flat_map data_of_line before) (data_blocks_of before))
+      (fits_then (leaf_number before) (trees false (told_nothing ∷ told_devices before)) (suc (length (told_devices before))) (overflows_in (flat_map data_of_line before) (data_blocks_of before))
       (used_often (uses_of before) (leaf_number before)) (omega arith) (omega (arith, now, device_grows (told_devices before))) (omega arith) (overflows_most (flat_map data_of_line before) (data_blocks_of before))
       (often_most (uses_of before) (leaf_number before)))
 
   pub use_fits : (n : ℕ) → shape_need_so_far room (use_line n ∷ before) ≤ top
   use_fits n =
       subst (λ (n : ℕ). n ≤ top) (sym (parts_are false room (use_line n ∷ before) refl))
-      (fits_then (leaf_number before) (trees false (tell with_use (told_devices before))) (length (tell with_use (told_devices before))) (overflows_in (flat_map data_of_line before) (data_blocks_of before))
+      (fits_then (leaf_number before) (trees false (tell_newest with_use (told_devices before))) (length (tell_newest with_use (told_devices before))) (overflows_in (flat_map data_of_line before) (data_blocks_of before))
       (used_often (n ∷ uses_of before) (leaf_number before)) (omega arith) (use_grows (told_devices before) (omega (arith, now))) (omega (arith, told_some with_use (told_devices before)))
       (overflows_most (flat_map data_of_line before) (data_blocks_of before)) (often_most (n ∷ uses_of before) (leaf_number before)))
 
   pub map_fits : (m : d.Run) → m.length ≤ 2 ^ 64 → shape_need_so_far room (map_line m ∷ before) ≤ top
   map_fits m fits =
       subst (λ (n : ℕ). n ≤ top) (sym (parts_are false room (map_line m ∷ before) refl))
-      (fits_then (leaf_number before) (trees false (tell (with_run m.length) (told_devices before))) (length (tell (with_run m.length) (told_devices before)))
+      (fits_then (leaf_number before) (trees false (tell_newest (with_run m.length) (told_devices before))) (length (tell_newest (with_run m.length) (told_devices before)))
       (overflows_in (flat_map data_of_line (map_line m ∷ before)) (data_blocks_of before)) (used_often (uses_of before) (leaf_number before)) (omega arith)
       (run_grows m.length (told_devices before) fits (omega (arith, now))) (omega (arith, told_some (with_run m.length) (told_devices before)))
       (overflows_most (flat_map data_of_line (map_line m ∷ before)) (data_blocks_of before)) (often_most (uses_of before) (leaf_number before)))

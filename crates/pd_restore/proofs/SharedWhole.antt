@@ -2,7 +2,7 @@
 use Rattle.std.proofs.Common.{◌≡◌, ℕ, ◌≤◌, Bool, true, false, ◌||◌, List, [], length, sym, ◌∙◌, ap, subst, arith, Result}
 use Rattle.std.specs.Prelude.{IfOk, OnOk}
 use Rattle.pd_build.specs.declared.fault.BuildFault.{BuildFault}
-use Rattle.pd_draft.specs.Placed.{Stand, Wrote}
+use Rattle.pd_draft.specs.Placed.{DraftState, Wrote}
 use Rattle.pd_spells.specs.ThinText.{Line, is_shared}
 use Rattle.pd_laid.specs.Shape.{ThinShape}
 use Rattle.pd_shapes.specs.PoolText.{MeansAs}
@@ -11,9 +11,9 @@ use Rattle.pd_shapes.specs.SharedText.{MeansShape}
 use Rattle.pd_texts.specs.Reader.{in_order}
 use Rattle.pd_shared_devices.specs.declared.devices.SharedDevices.{SharedDevices}
 use Rattle.pd_shared_devices.specs.Shape.{IsGatheredShape, counts_of, details_of, leaves_of, roots_of, uses_counted}
-use Rattle.pd_restore.specs.declared.parts.Parts.{Parts}
+use Rattle.pd_restore.specs.declared.parts.PoolRoots.{PoolRoots}
 use Rattle.pd_restore.specs.declared.shared.SharedLines.{SharedLines}
-use Rattle.pd_restore.specs.Parts.{AreParts}
+use Rattle.pd_restore.specs.PoolRoots.{AreParts}
 use Rattle.pd_restore.specs.Reading.{HasReadAll, WritesParts}
 use Rattle.pd_restore.specs.Shared.{HasShared}
 use Rattle.pd_restore.specs.Written.{CanWriteParts, HasDevices, Known, shape_behind}
@@ -29,7 +29,7 @@ leaves_within w room = omega arith
 abbrev pub known_of : SharedDevices → Known
 known_of s = record { roots = roots_of s; details = details_of s; counts = counts_of s; leaves = leaves_of s; uses = uses_counted s }
 
-has_devices : (w : ThinShape) (s : SharedDevices) (start now : Stand) → IsGatheredShape w s start now → HasDevices w (known_of s) start now
+has_devices : (w : ThinShape) (s : SharedDevices) (start now : DraftState) → IsGatheredShape w s start now → HasDevices w (known_of s) start now
 has_devices w s start now h = record {
   shape = h.shape;
   lawful = h.lawful;
@@ -45,7 +45,7 @@ has_devices w s start now h = record {
   uses = h.uses;
 }
 
-module _ (room : ℕ) (lines : List Line) (s : SharedLines) (start now : Stand) (h : HasReadAll HasShared lines room s start now)
+module _ (room : ℕ) (lines : List Line) (s : SharedLines) (start now : DraftState) (h : HasReadAll HasShared lines room s start now)
     (found : (w : ThinShape) × (MeansShape (in_order lines []) w × (IsGatheredShape w s.devices start now × ((shape_need_so_far room lines ≡ shape_need w room) × ((uses_counted s.devices).size ≡ room))))) where
   has_room : shape_need found.0 room ≤ room
   has_room =
@@ -66,9 +66,9 @@ module _ (room : ℕ) (lines : List Line) (s : SharedLines) (start now : Stand) 
   version = version_in_order lines [] ∙ ap (λ (b : Bool). b || false) h.all.gathered.gathered.version
 
   -- and then they are
-  pub parts_written : (to : Stand) (result : Result Parts BuildFault)
-      → ((w : ThinShape) (start : Stand) → HasDevices w (known_of s.devices) start now → shape_need w room ≤ room → OnOk result (Wrote (shape_behind w room) start to))
-      → ((w : ThinShape) (start : Stand) → HasDevices w (known_of s.devices) start now → shape_need w room ≤ room → IfOk result (AreParts w room))
+  pub parts_written : (to : DraftState) (result : Result PoolRoots BuildFault)
+      → ((w : ThinShape) (start : DraftState) → HasDevices w (known_of s.devices) start now → shape_need w room ≤ room → OnOk result (Wrote (shape_behind w room) start to))
+      → ((w : ThinShape) (start : DraftState) → HasDevices w (known_of s.devices) start now → shape_need w room ≤ room → IfOk result (AreParts w room))
       → IfOk result (WritesParts lines room start to)
   parts_written to result wrote named =
       whole_written found.0 (known_of s.devices) start now to room lines devices (subst (λ (b : Bool). MeansAs b (in_order lines []) found.0) (sym version) found.1.0)

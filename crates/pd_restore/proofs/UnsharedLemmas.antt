@@ -1,6 +1,6 @@
 -- What is gathered of a pool's text of version 1.
 use Rattle.std.proofs.Common.{◌≡◌, ℕ, ◌-◌, ◌<◌, ◌≤◌, ◌^◌, min, false, List, [], ◌∷◌, length, sym, ◌∙◌, subst, arith}
-use Rattle.pd_draft.specs.Placed.{Stand}
+use Rattle.pd_draft.specs.Placed.{DraftState}
 use Rattle.pd_spells.specs.ThinText.{Line, first_line, shared_first_line, end_line, is_shared, pool_format}
 use Rattle.pd_spells.specs.ThinNeed.{thin_need_so_far}
 use Rattle.pd_spells.proofs.ThinRead.{pool_grammar}
@@ -17,7 +17,7 @@ use Rattle.pd_restore.specs.Unshared.{HasUnshared}
 use Rattle.pd_restore.proofs.UnsharedLines.{need_is, need_fits, end_need, few_lines, same_version}
 
 -- what was gathered of lines that have room
-abbrev pub as_gathered : {s : Devices} {start now : Stand} (before : List Line) (room : ℕ) → HasRoom HasUnshared before room s start now → Gathered s now
+abbrev pub as_gathered : {s : Devices} {start now : DraftState} (before : List Line) (room : ℕ) → HasRoom HasUnshared before room s start now → Gathered s now
 as_gathered {s} {start} {now} before room h = record {
   before = before;
   start = start;
@@ -37,7 +37,7 @@ pub end_fits : (room : ℕ) (before : List Line) → is_shared before ≡ false 
 end_fits room before version need = subst (λ (n : ℕ). n ≤ room) (sym (end_need room before version)) need
 
 -- what is needed after a line more is known
-pub line_fits : {s : Devices} {start now : Stand} (room : ℕ) (before : List Line) (line : ThinLine) → Follows HasUnshared before room s (line_of line) start now
+pub line_fits : {s : Devices} {start now : DraftState} (room : ℕ) (before : List Line) (line : ThinLine) → Follows HasUnshared before room s (line_of line) start now
     → min (thin_need_so_far room (line_of line ∷ before)) (2 ^ 64 - 1) ≡ pool_need_so_far room (line_of line ∷ before)
 line_fits {s} {start} {now} room before line f =
     let version = f.so_far.gathered.version in
@@ -49,5 +49,5 @@ line_fits {s} {start} {now} room before line f =
     capped most = omega arith
 
 -- a text that has room has few lines
-pub few_after : {s : Devices} {start now : Stand} (room : ℕ) (before : List Line) (line : ThinLine) → Follows HasUnshared before room s (line_of line) start now → length before < 2 ^ 64 - 1
+pub few_after : {s : Devices} {start now : DraftState} (room : ℕ) (before : List Line) (line : ThinLine) → Follows HasUnshared before room s (line_of line) start now → length before < 2 ^ 64 - 1
 few_after room before line f = few_lines room before f.so_far.gathered f.so_far.lines f.lines.0.going f.so_far.need f.so_far.most

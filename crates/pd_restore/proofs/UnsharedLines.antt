@@ -4,7 +4,7 @@ use Rattle.std.specs.List.{count_by, flat_map, range_with_len}
 use Rattle.std.proofs.lemmas.Bool.{true≢false}
 use Rattle.std.proofs.lemmas.List.FromFn.{length-range_with_len}
 use Rattle.std.proofs.lemmas.List.Sums.{sum_by-cons, count_by-le-length}
-use Rattle.pd_draft.specs.Placed.{Stand}
+use Rattle.pd_draft.specs.Placed.{DraftState}
 use Rattle.pd_grammar.specs.Texts.{has_ended}
 use Rattle.pd_grammar.proofs.GrammarLemmas.{is_read}
 use Rattle.pd_shapes.specs.PoolText.{pool_need_so_far}
@@ -138,7 +138,7 @@ count_lines (map_line m ∷ before) so_far going version =
 count_lines (end_line ∷ before) so_far going version = absurd (true≢false going)
 
 -- so a text that has room has few of them
-pub few_lines : {s : Devices} {start now : Stand} (room : ℕ) (before : List Line) → HasGathered before s start now → AreReadSoFar pool_format before → has_ended pool_format before ≡ false
+pub few_lines : {s : Devices} {start now : DraftState} (room : ℕ) (before : List Line) → HasGathered before s start now → AreReadSoFar pool_format before → has_ended pool_format before ≡ false
     → pool_need_so_far room before ≤ room → room ≤ 4161600 → length before < 2 ^ 64 - 1
 few_lines room before h lines going need most =
     let lacks : thin_need_so_far room before ≤ room = subst (λ (n : ℕ). n ≤ room) (need_is room before h.version) need in

@@ -3,7 +3,7 @@ use Rattle.std.proofs.Common.{◌≡◌, ℕ, ◌≤◌, Bool, true, false, ◌|
 use Rattle.std.specs.Prelude.{IfOk, OnOk}
 use Rattle.pd_build.specs.declared.fault.BuildFault.{BuildFault}
 use Rattle.pd_kinds.specs.Meaning.{ThinPool}
-use Rattle.pd_draft.specs.Placed.{Stand, Wrote}
+use Rattle.pd_draft.specs.Placed.{DraftState, Wrote}
 use Rattle.pd_count.specs.Counted.{Counted, HasCounted}
 use Rattle.pd_spells.specs.Lawful.{IsLawfulPool}
 use Rattle.pd_spells.specs.ThinNeed.{thin_need, thin_need_so_far}
@@ -16,8 +16,8 @@ use Rattle.pd_shapes.proofs.PoolLaws.{pool_language}
 use Rattle.pd_texts.specs.Reader.{in_order}
 use Rattle.pd_texts.proofs.LawLemmas as any
 use Rattle.pd_devices.specs.declared.devices.Devices.{Devices}
-use Rattle.pd_restore.specs.declared.parts.Parts.{Parts}
-use Rattle.pd_restore.specs.Parts.{AreParts}
+use Rattle.pd_restore.specs.declared.parts.PoolRoots.{PoolRoots}
+use Rattle.pd_restore.specs.PoolRoots.{AreParts}
 use Rattle.pd_restore.specs.Reading.{HasReadAll, WritesParts}
 use Rattle.pd_restore.specs.Unshared.{HasUnshared}
 use Rattle.pd_restore.specs.Written.{CanWriteParts, HasDevices, shape_behind}
@@ -55,7 +55,7 @@ version_in_order [] lines = refl
 version_in_order (line ∷ before) lines =
     version_in_order before (line ∷ lines) ∙ shared_after line lines (is_shared before) ∙ ap (λ (b : Bool). b || is_shared lines) (sym (shared_with line before))
 
-module _ (room : ℕ) (lines : List Line) (s : Devices) (uses : Counted) (start now : Stand) (h : HasReadAll HasUnshared lines room s start now) (none : HasCounted uses [])
+module _ (room : ℕ) (lines : List Line) (s : Devices) (uses : Counted) (start now : DraftState) (h : HasReadAll HasUnshared lines room s start now) (none : HasCounted uses [])
     (need_of : (m : ThinPool) (room : ℕ) → IsLawfulPool m → shape_need (shape_of m) room ≡ thin_need m room) where
   version : is_shared (in_order lines []) ≡ false
   version = version_in_order lines [] ∙ ap (λ (b : Bool). b || false) h.all.gathered.version
@@ -83,9 +83,9 @@ module _ (room : ℕ) (lines : List Line) (s : Devices) (uses : Counted) (start 
   can_write_parts = record { shape = shape_of pool; start = start; devices = devices; need = has_room; most = h.all.most; there = h.all.there; used = omega arith }
 
   -- and then they are
-  pub parts_written : (to : Stand) (result : Result Parts BuildFault)
-      → ((w : ThinShape) (start : Stand) → HasDevices w (known_of s uses) start now → shape_need w room ≤ room → OnOk result (Wrote (shape_behind w room) start to))
-      → ((w : ThinShape) (start : Stand) → HasDevices w (known_of s uses) start now → shape_need w room ≤ room → IfOk result (AreParts w room))
+  pub parts_written : (to : DraftState) (result : Result PoolRoots BuildFault)
+      → ((w : ThinShape) (start : DraftState) → HasDevices w (known_of s uses) start now → shape_need w room ≤ room → OnOk result (Wrote (shape_behind w room) start to))
+      → ((w : ThinShape) (start : DraftState) → HasDevices w (known_of s uses) start now → shape_need w room ≤ room → IfOk result (AreParts w room))
       → IfOk result (WritesParts lines room start to)
   parts_written to result wrote named =
       whole_written (shape_of pool) (known_of s uses) start now to room lines devices

@@ -1,7 +1,7 @@
 -- A pool's text of either version that is read and restored, line by line; of lines the newest comes first.
 use Rattle.std.specs.Prelude.{◌≡◌, ℕ, ◌<◌, ◌≤◌, Bool, true, false, List, [], ◌∷◌, ◌++◌, length, Option}
 use Rattle.pd_kinds.specs.declared.limits.TheConstants.{MAX_META_BLOCKS}
-use Rattle.pd_draft.specs.Placed.{Stand, Wrote}
+use Rattle.pd_draft.specs.Placed.{DraftState, Wrote}
 use Rattle.pd_grammar.specs.Texts.{has_ended}
 use Rattle.pd_laid.specs.Laid.{laid_number}
 use Rattle.pd_laid.specs.LaidThin.{laid_shape}
@@ -16,17 +16,17 @@ use Rattle.pd_texts.specs.ThinState.{ThinStands}
 use Rattle.pd_restoring.specs.declared.fault.RestoreFault.{RestoreFault}
 use Rattle.pd_restoring.specs.declared.fault.RestoreFault.TheVariants as r
 use Rattle.pd_restoring.specs.Reading.{NoneAbove}
-use Rattle.pd_restore.specs.declared.parts.Parts.{Parts}
-use Rattle.pd_restore.specs.Parts.{AreParts}
+use Rattle.pd_restore.specs.declared.parts.PoolRoots.{PoolRoots}
+use Rattle.pd_restore.specs.PoolRoots.{AreParts}
 use Rattle.pd_restore.specs.Written.{shape_behind}
 
 -- What it is that of some lines all was gathered, where there are so many metadata blocks, and what is over of them is
 -- written from one stand to another
 abbrev pub Gathers : Type 0 → Type 1
-Gathers G = ℕ → List Line → G → Stand → Stand → Type 0
+Gathers G = ℕ → List Line → G → DraftState → DraftState → Type 0
 
 -- these lines were gathered, and have room on the device
-pub record HasRoom {G : Type 0} (Has : Gathers G) (before : List Line) (room : ℕ) (s : G) (start now : Stand) : Type 0 where
+pub record HasRoom {G : Type 0} (Has : Gathers G) (before : List Line) (room : ℕ) (s : G) (start now : DraftState) : Type 0 where
   pub gathered : Has room before s start now
   pub lines : AreReadSoFar pool_format before
   pub need : pool_need_so_far room before ≤ room
@@ -34,44 +34,44 @@ pub record HasRoom {G : Type 0} (Has : Gathers G) (before : List Line) (room : �
   pub there : room ≤ now.device.blocks
 
 -- these lines were read and gathered, and have room
-pub record Reading {G : Type 0} (Has : Gathers G) (before : List Line) (room : ℕ) (text : TextReader ThinState ThinLine) (s : G) (start now : Stand) : Type 0 where
+pub record Reading {G : Type 0} (Has : Gathers G) (before : List Line) (room : ℕ) (text : TextReader ThinState ThinLine) (s : G) (start now : DraftState) : Type 0 where
   pub reads : ReadsOn pool_format ThinStands before text
   pub later : 2 ≤ length before
   pub so_far : HasRoom Has before room s start now
   pub above : NoneAbove pool_need_so_far room before
 
 -- some lines were
-pub record CanRead {G : Type 0} (Has : Gathers G) (room : ℕ) (text : TextReader ThinState ThinLine) (s : G) (now : Stand) : Type 0 where
+pub record CanRead {G : Type 0} (Has : Gathers G) (room : ℕ) (text : TextReader ThinState ThinLine) (s : G) (now : DraftState) : Type 0 where
   pub before : List Line
-  pub start : Stand
+  pub start : DraftState
   pub so_far : Reading Has before room text s start now
 
 -- this line was read after these ones
-pub record Follows {G : Type 0} (Has : Gathers G) (before : List Line) (room : ℕ) (s : G) (line : Line) (start now : Stand) : Type 0 where
+pub record Follows {G : Type 0} (Has : Gathers G) (before : List Line) (room : ℕ) (s : G) (line : Line) (start now : DraftState) : Type 0 where
   pub so_far : HasRoom Has before room s start now
   pub later : 2 ≤ length before
   pub lines : AreReadSoFar pool_format (line ∷ before)
 
 -- a line may be taken
-pub record CanTake {G : Type 0} (Has : Gathers G) (room : ℕ) (s : G) (line : Line) (now : Stand) : Type 0 where
+pub record CanTake {G : Type 0} (Has : Gathers G) (room : ℕ) (s : G) (line : Line) (now : DraftState) : Type 0 where
   pub before : List Line
-  pub start : Stand
+  pub start : DraftState
   pub follows : Follows Has before room s line start now
 
 -- these are all lines, with the last one, and they have room
-pub record HasReadAll {G : Type 0} (Has : Gathers G) (lines : List Line) (room : ℕ) (s : G) (start now : Stand) : Type 0 where
+pub record HasReadAll {G : Type 0} (Has : Gathers G) (lines : List Line) (room : ℕ) (s : G) (start now : DraftState) : Type 0 where
   pub all : HasRoom Has lines room s start now
   pub ended : has_ended pool_format lines ≡ true
   pub above : NoneAbove pool_need_so_far room lines
 
 -- all lines were gathered
-pub record CanWrite {G : Type 0} (Has : Gathers G) (room : ℕ) (s : G) (now : Stand) : Type 0 where
+pub record CanWrite {G : Type 0} (Has : Gathers G) (room : ℕ) (s : G) (now : DraftState) : Type 0 where
   pub lines : List Line
-  pub start : Stand
+  pub start : DraftState
   pub all : HasReadAll Has lines room s start now
 
 -- the lines mean a shape, which has room and is written but for its superblock, and these are the parts that this one names
-pub record WritesParts (lines : List Line) (room : ℕ) (start now : Stand) (parts : Parts) : Type 0 where
+pub record WritesParts (lines : List Line) (room : ℕ) (start now : DraftState) (parts : PoolRoots) : Type 0 where
   pub shape : ThinShape
   pub means : MeansPoolShape (in_order lines []) shape
   pub lawful : IsLawfulShape shape
@@ -80,14 +80,14 @@ pub record WritesParts (lines : List Line) (room : ℕ) (start now : Stand) (par
   pub named : AreParts shape room parts
 
 -- one step after these lines: a line more, or the end
-abbrev pub Steps : {G : Type 0} → Gathers G → Bool → List Line → ℕ → TextReader ThinState ThinLine → Option (List ℕ) → TextReader ThinState ThinLine → Option (List ℕ) → G → Stand → Stand → Type 0
+abbrev pub Steps : {G : Type 0} → Gathers G → Bool → List Line → ℕ → TextReader ThinState ThinLine → Option (List ℕ) → TextReader ThinState ThinLine → Option (List ℕ) → G → DraftState → DraftState → Type 0
 Steps Has true before room old was text left s start now = (line : Line) × (Reading Has (line ∷ before) room text s start now
     × ((t : List ℕ) → LeavesOf pool_format t before old was → LeavesOf pool_format t (line ∷ before) text left))
 Steps Has false before room old was text left s start now = HasReadAll Has (end_line ∷ before) room s start now
     × ((t : List ℕ) → LeavesOf pool_format t before old was → IsWhole pool_format t (end_line ∷ before) left)
 
 -- after these lines all others were gathered, which are those of the texts in question
-pub record EndsAll {G : Type 0} (Has : Gathers G) (before : List Line) (room : ℕ) (IsOf : List ℕ → Type 0) (left : Option (List ℕ)) (s : G) (start now : Stand) : Type 0 where
+pub record EndsAll {G : Type 0} (Has : Gathers G) (before : List Line) (room : ℕ) (IsOf : List ℕ → Type 0) (left : Option (List ℕ)) (s : G) (start now : DraftState) : Type 0 where
   pub lines : List Line
   pub later : List Line
   pub front : in_order lines [] ≡ in_order before later
@@ -95,8 +95,8 @@ pub record EndsAll {G : Type 0} (Has : Gathers G) (before : List Line) (room : �
   pub told : (t : List ℕ) → IsOf t → IsWhole pool_format t lines left
 
 -- from the lines before some others were read
-pub record Went {G : Type 0} (Has : Gathers G) (before : List Line) (room : ℕ) (old : TextReader ThinState ThinLine) (was : Option (List ℕ)) (text : TextReader ThinState ThinLine)
-    (left : Option (List ℕ)) (s : G) (start now : Stand) : Type 0 where
+pub record ReadsLinesOn {G : Type 0} (Has : Gathers G) (before : List Line) (room : ℕ) (old : TextReader ThinState ThinLine) (was : Option (List ℕ)) (text : TextReader ThinState ThinLine)
+    (left : Option (List ℕ)) (s : G) (start now : DraftState) : Type 0 where
   pub lines : List Line
   pub later : List Line
   pub front : (others : List Line) → in_order lines others ≡ in_order before (later ++ others)

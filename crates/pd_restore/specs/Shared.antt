@@ -1,6 +1,6 @@
 -- What is gathered of a pool's text of version 2.
 use Rattle.std.specs.Prelude.{◌≡◌, ℕ, ◌+◌, ◌==◌, Bool, false, List, [], ◌∷◌, length}
-use Rattle.pd_draft.specs.Placed.{Stand}
+use Rattle.pd_draft.specs.Placed.{DraftState}
 use Rattle.pd_shapes.specs.SharedNeed.{Told, told_devices}
 use Rattle.pd_spells.specs.ThinText.{Line, Run, map_line}
 use Rattle.pd_shared_devices.specs.declared.devices.SharedDevices.{SharedDevices}
@@ -14,12 +14,12 @@ lacks_pieces [] = false
 lacks_pieces (newest ∷ devices) = (length newest.own + newest.uses) == 0
 
 -- these lines were gathered, and it is known how many they are, and whether the last device has no piece
-pub record HasShared (room : ℕ) (before : List Line) (s : SharedLines) (start now : Stand) : Type 0 where
+pub record HasShared (room : ℕ) (before : List Line) (s : SharedLines) (start now : DraftState) : Type 0 where
   pub gathered : HasGathered room before s.devices start now
   pub lines : s.lines ≡ length before
   pub last : s.lacks_pieces ≡ lacks_pieces (told_devices before)
 
 -- a run may be taken
 pub record CanPutRun (room : ℕ) (s : SharedDevices) (r : Run) : Type 0 where
-  pub now : Stand
+  pub now : DraftState
   pub can : CanTake HasGathered room s (map_line r) now

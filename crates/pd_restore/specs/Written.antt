@@ -6,7 +6,7 @@ use Rattle.pd_kinds.specs.Value.{details_code}
 use Rattle.pd_value.specs.declared.thin.Root.{Root}
 use Rattle.pd_value.specs.declared.thin.Details.{Details}
 use Rattle.pd_node.specs.Items.{entries_of}
-use Rattle.pd_draft.specs.Placed.{Stand, Wrote}
+use Rattle.pd_draft.specs.Placed.{DraftState, Wrote}
 use Rattle.pd_count.specs.Counted.{Counted, count_of}
 use Rattle.pd_spells.specs.Lawful.{IsLawfulPool}
 use Rattle.pd_laid.specs.Laid.{written_from}
@@ -26,7 +26,7 @@ pub record Known : Type 0 where
   pub uses : Counted
 
 -- the leaves and the trees of a pool are written, and that is known of them
-pub record HasDevices (w : ThinShape) (s : Known) (start now : Stand) : Type 0 where
+pub record HasDevices (w : ThinShape) (s : Known) (start now : DraftState) : Type 0 where
   pub shape : IsShape w
   pub lawful : IsLawfulPool (pool_of w)
   pub begin : start.place ≡ 1
@@ -42,9 +42,9 @@ pub record HasDevices (w : ThinShape) (s : Known) (start now : Stand) : Type 0 w
   pub uses : (number : ℕ) → count_of s.uses number ≡ used_times (flat_map uses_of w.devices) number
 
 -- what stands behind them has room on the device
-pub record CanWriteParts (s : Known) (room : ℕ) (now : Stand) : Type 0 where
+pub record CanWriteParts (s : Known) (room : ℕ) (now : DraftState) : Type 0 where
   pub shape : ThinShape
-  pub start : Stand
+  pub start : DraftState
   pub devices : HasDevices shape s start now
   pub need : shape_need shape room ≤ room
   pub most : room ≤ MAX_META_BLOCKS

@@ -3,8 +3,8 @@
 ghost use Rattle.std.specs.Prelude.{◌≡◌, ◌-◌, ◌<◌, ◌≤◌, ◌^◌, ℕ, Bool, if◌then◌else◌, List, [], ◌∷◌, length, IfOk, IfErr, OnOk, MatchResult};
 ghost use Rattle.pd_image.specs.Device.{IsWritable};
 ghost use Rattle.pd_draft.specs.Closed.{IsClosed, StaysClosed};
-ghost use Rattle.pd_draft.specs.Placed.{Stand};
-ghost use Rattle.pd_draft.specs.Stand.{stand};
+ghost use Rattle.pd_draft.specs.Placed.{DraftState};
+ghost use Rattle.pd_draft.specs.DraftState.{draft_state};
 ghost use Rattle.pd_spells.specs.ThinText.{Head, Line, end_line, first_line, pool_format, pool_line, shared_first_line};
 ghost use Rattle.pd_shapes.specs.PoolText.{pool_need_so_far};
 ghost use Rattle.pd_texts.specs.Reader.{RefusesNext};
@@ -15,7 +15,7 @@ ghost use Rattle.pd_build.specs.Causes.{CountsBuildFault};
 ghost use Rattle.pd_restoring.specs.Reading.{CountsTake, IsOfLater, SaysOf};
 ghost use Rattle.pd_restore.specs.Reading.{Gathers, Reading, CanTake, Follows, CanWrite, HasReadAll, WritesParts, IsNoRoom, IsOfText, IsOver, IsShort};
 
-use crate::parts::Parts;
+use crate::parts::PoolRoots;
 use pd_build::BuildFault;
 use pd_draft::Draft;
 use pd_image::Device;
@@ -36,7 +36,7 @@ pub(crate) trait Gathering: Drop {
     fn start(alloc: Global, blocks: u64, room: u64) -> Result<Self, AllocError>
         requires blocks { blocks ≤ 2 ^ 40 }
         requires room { room ≤ 4161600 }
-        ensures { (p : Head) (start : Stand) → p.data_blocks ≡ blocks → start.place ≡ 1 → IsClosed start.device
+        ensures { (p : Head) (start : DraftState) → p.data_blocks ≡ blocks → start.place ≡ 1 → IsClosed start.device
             → IfOk result (λ s. HasGathered room (pool_line p ∷ (if shared then shared_first_line else first_line) ∷ []) s start start) };
 
     /// Takes a line after the pool line, where there is room for it. A text that has room has few lines.
@@ -46,17 +46,17 @@ pub(crate) trait Gathering: Drop {
         line: ThinLine,
         room: u64,
     ) -> Result<(), RestoreFault>
-        requires follows { CanTake HasGathered room self.old (line_of line) (stand draft.old) }
-        requires writable { IsWritable (stand draft.old).device }
-        requires closed { IsClosed (stand draft.old).device }
+        requires follows { CanTake HasGathered room self.old (line_of line) (draft_state draft.old) }
+        requires writable { IsWritable (draft_state draft.old).device }
+        requires closed { IsClosed (draft_state draft.old).device }
         ensures same_reference { draft.new.dev.ghost_name ≡ draft.old.dev.ghost_name }
-        ensures gathered { (before : List Line) (start : Stand) → Follows HasGathered before room self.old (line_of line) start (stand draft.old)
-            → OnOk result (HasGathered room (line_of line ∷ before) self.new start (stand draft.new)) }
-        ensures need { (before : List Line) (start : Stand) → Follows HasGathered before room self.old (line_of line) start (stand draft.old)
+        ensures gathered { (before : List Line) (start : DraftState) → Follows HasGathered before room self.old (line_of line) start (draft_state draft.old)
+            → OnOk result (HasGathered room (line_of line ∷ before) self.new start (draft_state draft.new)) }
+        ensures need { (before : List Line) (start : DraftState) → Follows HasGathered before room self.old (line_of line) start (draft_state draft.old)
             → MatchResult result (λ _. pool_need_so_far room (line_of line ∷ before) ≤ room) (IsOver room (pool_need_so_far room (line_of line ∷ before))) }
-        ensures few { (before : List Line) (start : Stand) → Follows HasGathered before room self.old (line_of line) start (stand draft.old) → length before < 2 ^ 64 - 1 }
-        ensures closed { StaysClosed (stand draft.old).device (stand draft.new).device }
-        ensures faults { CountsTake result (stand draft.old).device.faults (stand draft.new).device.faults };
+        ensures few { (before : List Line) (start : DraftState) → Follows HasGathered before room self.old (line_of line) start (draft_state draft.old) → length before < 2 ^ 64 - 1 }
+        ensures closed { StaysClosed (draft_state draft.old).device (draft_state draft.new).device }
+        ensures faults { CountsTake result (draft_state draft.old).device.faults (draft_state draft.new).device.faults };
 
     /// Takes the last line, where there is room for it.
     fn take_end<D: Device>(
@@ -64,21 +64,21 @@ pub(crate) trait Gathering: Drop {
         draft: &mut Draft<'_, D>,
         room: u64,
     ) -> Result<(), RestoreFault>
-        requires follows { CanTake HasGathered room self.old end_line (stand draft.old) }
-        requires writable { IsWritable (stand draft.old).device }
-        requires closed { IsClosed (stand draft.old).device }
+        requires follows { CanTake HasGathered room self.old end_line (draft_state draft.old) }
+        requires writable { IsWritable (draft_state draft.old).device }
+        requires closed { IsClosed (draft_state draft.old).device }
         ensures same_reference { draft.new.dev.ghost_name ≡ draft.old.dev.ghost_name }
-        ensures gathered { (before : List Line) (start : Stand) → Follows HasGathered before room self.old end_line start (stand draft.old)
-            → OnOk result (HasGathered room (end_line ∷ before) self.new start (stand draft.new)) }
-        ensures need { (before : List Line) (start : Stand) → Follows HasGathered before room self.old end_line start (stand draft.old)
+        ensures gathered { (before : List Line) (start : DraftState) → Follows HasGathered before room self.old end_line start (draft_state draft.old)
+            → OnOk result (HasGathered room (end_line ∷ before) self.new start (draft_state draft.new)) }
+        ensures need { (before : List Line) (start : DraftState) → Follows HasGathered before room self.old end_line start (draft_state draft.old)
             → MatchResult result (λ _. pool_need_so_far room (end_line ∷ before) ≤ room) (IsOver room (pool_need_so_far room (end_line ∷ before))) }
-        ensures closed { StaysClosed (stand draft.old).device (stand draft.new).device }
-        ensures faults { CountsTake result (stand draft.old).device.faults (stand draft.new).device.faults };
+        ensures closed { StaysClosed (draft_state draft.old).device (draft_state draft.new).device }
+        ensures faults { CountsTake result (draft_state draft.old).device.faults (draft_state draft.new).device.faults };
 
     /// What is answered where the text is refused: that there is no room where it is refused behind its last line, for which
     /// there is none.
     fn refused(&self, fault: TextFault, room: u64) -> RestoreFault
-        ensures says { (before : List Line) (text : TextReader ThinState ThinLine) (start now : Stand) → Reading HasGathered before room text self.now start now
+        ensures says { (before : List Line) (text : TextReader ThinState ThinLine) (start now : DraftState) → Reading HasGathered before room text self.now start now
             → (first : Line) (t : List ℕ) → RefusesNext pool_format first end_line t before (ReadFault.Text fault) → SaysOf pool_format pool_need_so_far room t result }
         ensures later { 3 ≤ fault.line → IsOfLater result }
         ensures fault { IsOfText result };
@@ -89,15 +89,15 @@ pub(crate) trait Gathering: Drop {
         alloc: Global,
         draft: &mut Draft<'_, D>,
         room: u64,
-    ) -> Result<Parts, BuildFault>
-        requires whole { CanWrite HasGathered room self.now (stand draft.old) }
-        requires writable { IsWritable (stand draft.old).device }
-        requires closed { IsClosed (stand draft.old).device }
+    ) -> Result<PoolRoots, BuildFault>
+        requires whole { CanWrite HasGathered room self.now (draft_state draft.old) }
+        requires writable { IsWritable (draft_state draft.old).device }
+        requires closed { IsClosed (draft_state draft.old).device }
         ensures same_reference { draft.new.dev.ghost_name ≡ draft.old.dev.ghost_name }
-        ensures writes { (lines : List Line) (start : Stand) → HasReadAll HasGathered lines room self.now start (stand draft.old)
-            → IfOk result (WritesParts lines room start (stand draft.new)) }
-        ensures closed { StaysClosed (stand draft.old).device (stand draft.new).device }
-        ensures faults { CountsBuildFault result (stand draft.old).device.faults (stand draft.new).device.faults };
+        ensures writes { (lines : List Line) (start : DraftState) → HasReadAll HasGathered lines room self.now start (draft_state draft.old)
+            → IfOk result (WritesParts lines room start (draft_state draft.new)) }
+        ensures closed { StaysClosed (draft_state draft.old).device (draft_state draft.new).device }
+        ensures faults { CountsBuildFault result (draft_state draft.old).device.faults (draft_state draft.new).device.faults };
 }
 
 /// Whether there is room for so many blocks.

@@ -4,8 +4,8 @@ ghost use Rattle.std.specs.Prelude.{◌≡◌, ◌-◌, ◌<◌, ◌≤◌, ◌^
 ghost use Rattle.pd_image.specs.Device.{IsWritable};
 ghost use Rattle.pd_image.specs.Source.{KeepsSource};
 ghost use Rattle.pd_draft.specs.Closed.{IsClosed, StaysClosed};
-ghost use Rattle.pd_draft.specs.Placed.{Stand};
-ghost use Rattle.pd_draft.specs.Stand.{stand};
+ghost use Rattle.pd_draft.specs.Placed.{DraftState};
+ghost use Rattle.pd_draft.specs.DraftState.{draft_state};
 ghost use Rattle.pd_lines.specs.Reader.{lines_of};
 ghost use Rattle.pd_spells.specs.ThinText.{Line, end_line, pool_format};
 ghost use Rattle.pd_shapes.specs.PoolText.{pool_need_so_far};
@@ -34,18 +34,18 @@ pub(crate) fn restore_lines<S: Source, D: Device, G: Gathering>(
     room: u64,
 ) -> Result<(), RestoreFault>
     requires attached { (S.state source.old).access ≡ 1 }
-    requires reading { CanRead G.HasGathered room text.old gathered.old (stand draft.old) }
-    requires writable { IsWritable (stand draft.old).device }
-    requires closed { IsClosed (stand draft.old).device }
+    requires reading { CanRead G.HasGathered room text.old gathered.old (draft_state draft.old) }
+    requires writable { IsWritable (draft_state draft.old).device }
+    requires closed { IsClosed (draft_state draft.old).device }
     ensures same_reference { draft.new.dev.ghost_name ≡ draft.old.dev.ghost_name }
-    ensures all { (before : List Line) (start : Stand) → Reading G.HasGathered before room text.old gathered.old start (stand draft.old)
-        → OnOk result (EndsAll G.HasGathered before room (λ t. LeavesOf pool_format t before text.old (S.state source.old).left) (S.state source.new).left gathered.new start (stand draft.new)) }
-    ensures room { (before : List Line) (start : Stand) → Reading G.HasGathered before room text.old gathered.old start (stand draft.old)
+    ensures all { (before : List Line) (start : DraftState) → Reading G.HasGathered before room text.old gathered.old start (draft_state draft.old)
+        → OnOk result (EndsAll G.HasGathered before room (λ t. LeavesOf pool_format t before text.old (S.state source.old).left) (S.state source.new).left gathered.new start (draft_state draft.new)) }
+    ensures room { (before : List Line) (start : DraftState) → Reading G.HasGathered before room text.old gathered.old start (draft_state draft.old)
         → (t : List ℕ) → LeavesOf pool_format t before text.old (S.state source.old).left → IfErr result (SaysOf pool_format pool_need_so_far room t) }
     ensures later { IfErr result IsOfLater }
     ensures source { KeepsSource (S.state source.old) (S.state source.new) }
-    ensures closed { StaysClosed (stand draft.old).device (stand draft.new).device }
-    ensures faults { CountsRestore result (S.state source.old).faults (S.state source.new).faults (stand draft.old).device.faults (stand draft.new).device.faults }
+    ensures closed { StaysClosed (draft_state draft.old).device (draft_state draft.new).device }
+    ensures faults { CountsRestore result (S.state source.old).faults (S.state source.new).faults (draft_state draft.old).device.faults (draft_state draft.new).device.faults }
 {
     'lines: while step(text, source, draft, gathered, room)? {}
     Ok(())
@@ -60,19 +60,19 @@ pub(crate) fn step<S: Source, D: Device, G: Gathering>(
     room: u64,
 ) -> Result<bool, RestoreFault>
     requires attached { (S.state source.old).access ≡ 1 }
-    requires reading { CanRead G.HasGathered room text.old gathered.old (stand draft.old) }
-    requires writable { IsWritable (stand draft.old).device }
-    requires closed { IsClosed (stand draft.old).device }
+    requires reading { CanRead G.HasGathered room text.old gathered.old (draft_state draft.old) }
+    requires writable { IsWritable (draft_state draft.old).device }
+    requires closed { IsClosed (draft_state draft.old).device }
     ensures same_reference { draft.new.dev.ghost_name ≡ draft.old.dev.ghost_name }
-    ensures steps { (before : List Line) (start : Stand) → Reading G.HasGathered before room text.old gathered.old start (stand draft.old)
-        → IfOk result (λ more. Steps G.HasGathered more before room text.old (S.state source.old).left text.new (S.state source.new).left gathered.new start (stand draft.new)) }
-    ensures room { (before : List Line) (start : Stand) → Reading G.HasGathered before room text.old gathered.old start (stand draft.old)
+    ensures steps { (before : List Line) (start : DraftState) → Reading G.HasGathered before room text.old gathered.old start (draft_state draft.old)
+        → IfOk result (λ more. Steps G.HasGathered more before room text.old (S.state source.old).left text.new (S.state source.new).left gathered.new start (draft_state draft.new)) }
+    ensures room { (before : List Line) (start : DraftState) → Reading G.HasGathered before room text.old gathered.old start (draft_state draft.old)
         → (t : List ℕ) → LeavesOf pool_format t before text.old (S.state source.old).left → IfErr result (SaysOf pool_format pool_need_so_far room t) }
     ensures grows { IfOk result (λ more. more ≡ true → lines_of text.old.reader < lines_of text.new.reader) }
     ensures later { IfErr result IsOfLater }
     ensures source { KeepsSource (S.state source.old) (S.state source.new) }
-    ensures closed { StaysClosed (stand draft.old).device (stand draft.new).device }
-    ensures faults { CountsRestore result (S.state source.old).faults (S.state source.new).faults (stand draft.old).device.faults (stand draft.new).device.faults }
+    ensures closed { StaysClosed (draft_state draft.old).device (draft_state draft.new).device }
+    ensures faults { CountsRestore result (S.state source.old).faults (S.state source.new).faults (draft_state draft.old).device.faults (draft_state draft.new).device.faults }
 {
     match text.next(source) {
         Ok(Some(line)) => take(draft, gathered, line, room),
@@ -88,18 +88,18 @@ fn take<D: Device, G: Gathering>(
     line: ThinLine,
     room: u64,
 ) -> Result<bool, RestoreFault>
-    requires follows { CanTake G.HasGathered room gathered.old (line_of line) (stand draft.old) }
-    requires writable { IsWritable (stand draft.old).device }
-    requires closed { IsClosed (stand draft.old).device }
+    requires follows { CanTake G.HasGathered room gathered.old (line_of line) (draft_state draft.old) }
+    requires writable { IsWritable (draft_state draft.old).device }
+    requires closed { IsClosed (draft_state draft.old).device }
     ensures same_reference { draft.new.dev.ghost_name ≡ draft.old.dev.ghost_name }
     ensures more { IfOk result (λ more. more ≡ true) }
-    ensures gathered { (before : List Line) (start : Stand) → Follows G.HasGathered before room gathered.old (line_of line) start (stand draft.old)
-        → OnOk result (G.HasGathered room (line_of line ∷ before) gathered.new start (stand draft.new)) }
-    ensures need { (before : List Line) (start : Stand) → Follows G.HasGathered before room gathered.old (line_of line) start (stand draft.old)
+    ensures gathered { (before : List Line) (start : DraftState) → Follows G.HasGathered before room gathered.old (line_of line) start (draft_state draft.old)
+        → OnOk result (G.HasGathered room (line_of line ∷ before) gathered.new start (draft_state draft.new)) }
+    ensures need { (before : List Line) (start : DraftState) → Follows G.HasGathered before room gathered.old (line_of line) start (draft_state draft.old)
         → MatchResult result (λ _. pool_need_so_far room (line_of line ∷ before) ≤ room) (IsOver room (pool_need_so_far room (line_of line ∷ before))) }
-    ensures few { (before : List Line) (start : Stand) → Follows G.HasGathered before room gathered.old (line_of line) start (stand draft.old) → length before < 2 ^ 64 - 1 }
-    ensures closed { StaysClosed (stand draft.old).device (stand draft.new).device }
-    ensures faults { CountsTake result (stand draft.old).device.faults (stand draft.new).device.faults }
+    ensures few { (before : List Line) (start : DraftState) → Follows G.HasGathered before room gathered.old (line_of line) start (draft_state draft.old) → length before < 2 ^ 64 - 1 }
+    ensures closed { StaysClosed (draft_state draft.old).device (draft_state draft.new).device }
+    ensures faults { CountsTake result (draft_state draft.old).device.faults (draft_state draft.new).device.faults }
 {
     gathered.take_line(draft, line, room)?;
     Ok(true)
@@ -111,17 +111,17 @@ fn end<D: Device, G: Gathering>(
     gathered: &mut G,
     room: u64,
 ) -> Result<bool, RestoreFault>
-    requires follows { CanTake G.HasGathered room gathered.old end_line (stand draft.old) }
-    requires writable { IsWritable (stand draft.old).device }
-    requires closed { IsClosed (stand draft.old).device }
+    requires follows { CanTake G.HasGathered room gathered.old end_line (draft_state draft.old) }
+    requires writable { IsWritable (draft_state draft.old).device }
+    requires closed { IsClosed (draft_state draft.old).device }
     ensures same_reference { draft.new.dev.ghost_name ≡ draft.old.dev.ghost_name }
     ensures more { IfOk result (λ more. more ≡ false) }
-    ensures gathered { (before : List Line) (start : Stand) → Follows G.HasGathered before room gathered.old end_line start (stand draft.old)
-        → OnOk result (G.HasGathered room (end_line ∷ before) gathered.new start (stand draft.new)) }
-    ensures need { (before : List Line) (start : Stand) → Follows G.HasGathered before room gathered.old end_line start (stand draft.old)
+    ensures gathered { (before : List Line) (start : DraftState) → Follows G.HasGathered before room gathered.old end_line start (draft_state draft.old)
+        → OnOk result (G.HasGathered room (end_line ∷ before) gathered.new start (draft_state draft.new)) }
+    ensures need { (before : List Line) (start : DraftState) → Follows G.HasGathered before room gathered.old end_line start (draft_state draft.old)
         → MatchResult result (λ _. pool_need_so_far room (end_line ∷ before) ≤ room) (IsOver room (pool_need_so_far room (end_line ∷ before))) }
-    ensures closed { StaysClosed (stand draft.old).device (stand draft.new).device }
-    ensures faults { CountsTake result (stand draft.old).device.faults (stand draft.new).device.faults }
+    ensures closed { StaysClosed (draft_state draft.old).device (draft_state draft.new).device }
+    ensures faults { CountsTake result (draft_state draft.old).device.faults (draft_state draft.new).device.faults }
 {
     gathered.take_end(draft, room)?;
     Ok(false)
@@ -129,7 +129,7 @@ fn end<D: Device, G: Gathering>(
 
 /// What is answered where the next line isn't given.
 fn fault_after<G: Gathering>(gathered: &G, fault: ReadFault, room: u64) -> RestoreFault
-    ensures says { (before : List Line) (text : TextReader ThinState ThinLine) (start now : Stand) → Reading G.HasGathered before room text gathered.now start now
+    ensures says { (before : List Line) (text : TextReader ThinState ThinLine) (start now : DraftState) → Reading G.HasGathered before room text gathered.now start now
         → (first : Line) (t : List ℕ) → RefusesNext pool_format first end_line t before fault → SaysOf pool_format pool_need_so_far room t result }
     ensures later { IsOfLater (read_fault fault) → IsOfLater result }
     ensures counts { (s t d : ℕ) → CountsRead fault s t → BlamesOne result s t d d }

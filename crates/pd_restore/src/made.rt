@@ -21,8 +21,7 @@ use pd_image::{Device, Failed, Source};
 use pd_kinds::MAX_META_BLOCKS;
 use pd_restoring::{RestoreFault, restore_begun};
 use pd_salvage::Salvage;
-use pd_shape_verdicts::pool_text_is_accepted_where_there_is_room;
-use pd_shapes::pool_text_has_one_verdict;
+use pd_shapes::{pool_text_has_one_verdict, pool_text_is_accepted_where_there_is_room};
 use std::alloc::Global;
 
 /// Why a pool wasn't written.

@@ -4,8 +4,8 @@ ghost use Rattle.std.specs.Prelude.{◌≡◌, ℕ, List, [], ◌∷◌, Option,
 ghost use Rattle.pd_image.specs.Device.{IsWritable};
 ghost use Rattle.pd_image.specs.Source.{KeepsSource};
 ghost use Rattle.pd_draft.specs.Closed.{IsClosed, StaysClosed};
-ghost use Rattle.pd_draft.specs.Placed.{Stand};
-ghost use Rattle.pd_draft.specs.Stand.{stand};
+ghost use Rattle.pd_draft.specs.Placed.{DraftState};
+ghost use Rattle.pd_draft.specs.DraftState.{draft_state};
 ghost use Rattle.pd_shapes.specs.PoolText.{pool_need_so_far};
 ghost use Rattle.pd_spells.specs.ThinText.{Line, pool_line, pool_format};
 ghost use Rattle.pd_texts.specs.Reader.{in_order, IsWhole, LeavesOf};
@@ -18,7 +18,7 @@ ghost use Rattle.pd_restore.specs.Whole.{begun_lines, fields_of, head_of_pool, C
 
 use crate::gathering::Gathering;
 use crate::lines::restore_lines;
-use crate::parts::Parts;
+use crate::parts::PoolRoots;
 use pd_draft::Draft;
 use pd_image::{Device, Source};
 use pd_kinds::{Block, ThinSuper};
@@ -39,18 +39,18 @@ pub(crate) fn write_pool<S: Source, D: Device, G: Gathering>(
     room: u64,
 ) -> Result<Block, RestoreFault>
     requires attached { (S.state source.old).access ≡ 1 }
-    requires reading { CanBegin G.HasGathered pool.now room text.old gathered.old (stand draft.old) }
-    requires writable { IsWritable (stand draft.old).device }
-    requires closed { IsClosed (stand draft.old).device }
+    requires reading { CanBegin G.HasGathered pool.now room text.old gathered.old (draft_state draft.old) }
+    requires writable { IsWritable (draft_state draft.old).device }
+    requires closed { IsClosed (draft_state draft.old).device }
     ensures same_reference { draft.new.dev.ghost_name ≡ draft.old.dev.ghost_name }
-    ensures writes { (start : Stand) → Reading G.HasGathered (begun_lines text.old pool.now) room text.old gathered.old start (stand draft.old)
-        → IfOk result (Writes pools room (λ t. LeavesOf pool_format t (begun_lines text.old pool.now) text.old (S.state source.old).left) (S.state source.new).left start (stand draft.new)) }
-    ensures says { (start : Stand) → Reading G.HasGathered (begun_lines text.old pool.now) room text.old gathered.old start (stand draft.old)
+    ensures writes { (start : DraftState) → Reading G.HasGathered (begun_lines text.old pool.now) room text.old gathered.old start (draft_state draft.old)
+        → IfOk result (Writes pools room (λ t. LeavesOf pool_format t (begun_lines text.old pool.now) text.old (S.state source.old).left) (S.state source.new).left start (draft_state draft.new)) }
+    ensures says { (start : DraftState) → Reading G.HasGathered (begun_lines text.old pool.now) room text.old gathered.old start (draft_state draft.old)
         → (t : List ℕ) → LeavesOf pool_format t (begun_lines text.old pool.now) text.old (S.state source.old).left → IfErr result (SaysOf pool_format pool_need_so_far room t) }
     ensures later { IfErr result IsOfLater }
     ensures source { KeepsSource (S.state source.old) (S.state source.new) }
-    ensures closed { StaysClosed (stand draft.old).device (stand draft.new).device }
-    ensures faults { CountsRestore result (S.state source.old).faults (S.state source.new).faults (stand draft.old).device.faults (stand draft.new).device.faults }
+    ensures closed { StaysClosed (draft_state draft.old).device (draft_state draft.new).device }
+    ensures faults { CountsRestore result (S.state source.old).faults (S.state source.new).faults (draft_state draft.old).device.faults (draft_state draft.new).device.faults }
 {
     restore_lines(text, source, draft, gathered, room)?;
     write_rest(alloc, draft, gathered, pool, room)
@@ -64,16 +64,16 @@ pub(crate) fn write_rest<D: Device, G: Gathering>(
     pool: &SavedHead,
     room: u64,
 ) -> Result<Block, RestoreFault>
-    requires whole { CanWrite G.HasGathered room gathered.now (stand draft.old) }
-    requires writable { IsWritable (stand draft.old).device }
-    requires closed { IsClosed (stand draft.old).device }
+    requires whole { CanWrite G.HasGathered room gathered.now (draft_state draft.old) }
+    requires writable { IsWritable (draft_state draft.old).device }
+    requires closed { IsClosed (draft_state draft.old).device }
     ensures same_reference { draft.new.dev.ghost_name ≡ draft.old.dev.ghost_name }
-    ensures writes { (first : Line) (lines later : List Line) (left : Option (List ℕ)) (start : Stand)
-        → in_order lines [] ≡ in_order (pool_line (head_of_pool pool.now) ∷ first ∷ []) later → HasReadAll G.HasGathered lines room gathered.now start (stand draft.old)
-        → IfOk result (Writes pools room (λ t. IsWhole pool_format t lines left) left start (stand draft.new)) }
+    ensures writes { (first : Line) (lines later : List Line) (left : Option (List ℕ)) (start : DraftState)
+        → in_order lines [] ≡ in_order (pool_line (head_of_pool pool.now) ∷ first ∷ []) later → HasReadAll G.HasGathered lines room gathered.now start (draft_state draft.old)
+        → IfOk result (Writes pools room (λ t. IsWhole pool_format t lines left) left start (draft_state draft.new)) }
     ensures build { IfErr result IsOfBuild }
-    ensures closed { StaysClosed (stand draft.old).device (stand draft.new).device }
-    ensures faults { CountsTake result (stand draft.old).device.faults (stand draft.new).device.faults }
+    ensures closed { StaysClosed (draft_state draft.old).device (draft_state draft.new).device }
+    ensures faults { CountsTake result (draft_state draft.old).device.faults (draft_state draft.new).device.faults }
 {
     match gathered.write_parts(alloc, draft, room) {
         Ok(parts) => Ok(write_thin_super(&super_of(pool, parts, room))),
@@ -82,7 +82,7 @@ pub(crate) fn write_rest<D: Device, G: Gathering>(
 }
 
 /// The superblock's fields.
-fn super_of(pool: &SavedHead, parts: Parts, room: u64) -> ThinSuper
+fn super_of(pool: &SavedHead, parts: PoolRoots, room: u64) -> ThinSuper
     ensures { result ≡ fields_of pool.now parts room }
 {
     ThinSuper {

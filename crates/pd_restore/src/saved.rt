@@ -3,8 +3,8 @@
 ghost use Rattle.std.specs.Prelude.{◌≡◌, ℕ, List, Option, IfOk, IfErr, OnOk};
 ghost use Rattle.pd_image.specs.Device.{IsWritable};
 ghost use Rattle.pd_draft.specs.Closed.{IsClosed, StaysClosed};
-ghost use Rattle.pd_draft.specs.Placed.{Stand};
-ghost use Rattle.pd_draft.specs.Stand.{stand};
+ghost use Rattle.pd_draft.specs.Placed.{DraftState};
+ghost use Rattle.pd_draft.specs.DraftState.{draft_state};
 ghost use Rattle.pd_spells.specs.ThinText.{Line, pool_format};
 ghost use Rattle.pd_shapes.specs.PoolText.{pool_need_so_far};
 ghost use Rattle.pd_restoring.specs.Reading.{CountsTake, SaysOf};
@@ -33,14 +33,14 @@ pub(crate) fn write_saved<D: Device>(
     pool: &SavedHead,
     room: u64,
 ) -> Result<Block, RestoreFault>
-    requires made { HasMade lines.old pool.now room (stand draft.old) }
-    requires writable { IsWritable (stand draft.old).device }
-    requires closed { IsClosed (stand draft.old).device }
+    requires made { HasMade lines.old pool.now room (draft_state draft.old) }
+    requires writable { IsWritable (draft_state draft.old).device }
+    requires closed { IsClosed (draft_state draft.old).device }
     ensures same_reference { draft.new.dev.ghost_name ≡ draft.old.dev.ghost_name }
-    ensures writes { (left : Option (List ℕ)) → IfOk result (Writes pools room (IsTextOf (made_begun pool.now) lines.old left) left (stand draft.old) (stand draft.new)) }
+    ensures writes { (left : Option (List ℕ)) → IfOk result (Writes pools room (IsTextOf (made_begun pool.now) lines.old left) left (draft_state draft.old) (draft_state draft.new)) }
     ensures says { (left : Option (List ℕ)) (t : List ℕ) → IsTextOf (made_begun pool.now) lines.old left t → IfErr result (SaysOf pool_format pool_need_so_far room t) }
-    ensures closed { StaysClosed (stand draft.old).device (stand draft.new).device }
-    ensures faults { CountsTake result (stand draft.old).device.faults (stand draft.new).device.faults }
+    ensures closed { StaysClosed (draft_state draft.old).device (draft_state draft.new).device }
+    ensures faults { CountsTake result (draft_state draft.old).device.faults (draft_state draft.new).device.faults }
 {
     let mut devices = match Devices::new(alloc, pool.blocks) {
         Ok(devices) => devices,
@@ -57,16 +57,16 @@ fn take_all<D: Device>(
     devices: &mut Devices,
     room: u64,
 ) -> Result<(), RestoreFault>
-    requires made { CanTakeMade room lines.old devices.old (stand draft.old) }
-    requires writable { IsWritable (stand draft.old).device }
-    requires closed { IsClosed (stand draft.old).device }
+    requires made { CanTakeMade room lines.old devices.old (draft_state draft.old) }
+    requires writable { IsWritable (draft_state draft.old).device }
+    requires closed { IsClosed (draft_state draft.old).device }
     ensures same_reference { draft.new.dev.ghost_name ≡ draft.old.dev.ghost_name }
-    ensures all { (before : List Line) (start : Stand) → Coming before room lines.old devices.old start (stand draft.old)
-        → (left : Option (List ℕ)) → OnOk result (EndsAll HasUnshared before room (IsTextOf before lines.old left) left devices.new start (stand draft.new)) }
-    ensures says { (before : List Line) (start : Stand) → Coming before room lines.old devices.old start (stand draft.old)
+    ensures all { (before : List Line) (start : DraftState) → Coming before room lines.old devices.old start (draft_state draft.old)
+        → (left : Option (List ℕ)) → OnOk result (EndsAll HasUnshared before room (IsTextOf before lines.old left) left devices.new start (draft_state draft.new)) }
+    ensures says { (before : List Line) (start : DraftState) → Coming before room lines.old devices.old start (draft_state draft.old)
         → (left : Option (List ℕ)) (t : List ℕ) → IsTextOf before lines.old left t → IfErr result (SaysOf pool_format pool_need_so_far room t) }
-    ensures closed { StaysClosed (stand draft.old).device (stand draft.new).device }
-    ensures faults { CountsTake result (stand draft.old).device.faults (stand draft.new).device.faults }
+    ensures closed { StaysClosed (draft_state draft.old).device (draft_state draft.new).device }
+    ensures faults { CountsTake result (draft_state draft.old).device.faults (draft_state draft.new).device.faults }
 {
     while let Some(line) = lines.next() {
         devices.take_line(draft, line, room)?;

@@ -1,7 +1,7 @@
 //! A pool's text of version 2, whose devices share leaves.
 
 ghost use Rattle.std.specs.Prelude.{◌≡◌, ◌≤◌, List, ◌∷◌, false};
-ghost use Rattle.pd_draft.specs.Placed.{Stand};
+ghost use Rattle.pd_draft.specs.Placed.{DraftState};
 ghost use Rattle.pd_grammar.specs.Texts.{has_ended};
 ghost use Rattle.pd_spells.specs.ThinText.{Line, end_line, pool_format};
 ghost use Rattle.pd_shapes.specs.PoolText.{pool_need_so_far};
@@ -10,7 +10,7 @@ ghost use Rattle.pd_texts.specs.ThinLine.{line_of};
 ghost use Rattle.pd_restore.specs.Shared.{HasShared, lacks_pieces};
 
 use crate::gathering::{Gathering, within};
-use crate::parts::{Parts, write_behind};
+use crate::parts::{PoolRoots, write_behind};
 use crate::shared_lines::put_shared;
 use pd_build::BuildFault;
 use pd_draft::Draft;
@@ -33,7 +33,7 @@ pub(crate) struct SharedLines {
 impl SharedLines {
     /// How many blocks the pool needs where the next line is the last one.
     fn need_at_end(&self, room: u64) -> u64
-        ensures { (before : List Line) (start now : Stand) → HasShared room before self.now start now → has_ended pool_format before ≡ false
+        ensures { (before : List Line) (start now : DraftState) → HasShared room before self.now start now → has_ended pool_format before ≡ false
             → pool_need_so_far room before ≤ room → room ≤ 4161600 → result ≡ pool_need_so_far room (end_line ∷ before) }
     {
         let needed = self.devices.need(room);
@@ -109,7 +109,7 @@ impl Gathering for SharedLines {
         alloc: Global,
         draft: &mut Draft<'_, D>,
         room: u64,
-    ) -> Result<Parts, BuildFault> {
+    ) -> Result<PoolRoots, BuildFault> {
         gathered_lines_are_a_shape();
         write_behind(
             alloc,

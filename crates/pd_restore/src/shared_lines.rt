@@ -3,8 +3,8 @@
 ghost use Rattle.std.specs.Prelude.{◌≡◌, ◌-◌, ◌≤◌, ◌^◌, ℕ, List, ◌∷◌, min, IfErr, OnOk, MatchResult};
 ghost use Rattle.pd_image.specs.Device.{IsWritable};
 ghost use Rattle.pd_draft.specs.Closed.{IsClosed, StaysClosed};
-ghost use Rattle.pd_draft.specs.Placed.{Stand};
-ghost use Rattle.pd_draft.specs.Stand.{stand};
+ghost use Rattle.pd_draft.specs.Placed.{DraftState};
+ghost use Rattle.pd_draft.specs.DraftState.{draft_state};
 ghost use Rattle.pd_spells.specs.ThinText.{LeafHead, Line, leaf_line, device_line, use_line, map_line};
 ghost use Rattle.pd_shapes.specs.PoolText.{pool_need_so_far};
 ghost use Rattle.pd_shapes.specs.SharedNeed.{shape_need_so_far};
@@ -30,16 +30,16 @@ pub(crate) fn put_shared<D: Device>(
     line: ThinLine,
     room: u64,
 ) -> Result<(), RestoreFault>
-    requires follows { CanTake HasGathered room devices.old (line_of line) (stand draft.old) }
-    requires writable { IsWritable (stand draft.old).device }
-    requires closed { IsClosed (stand draft.old).device }
+    requires follows { CanTake HasGathered room devices.old (line_of line) (draft_state draft.old) }
+    requires writable { IsWritable (draft_state draft.old).device }
+    requires closed { IsClosed (draft_state draft.old).device }
     ensures same_reference { draft.new.dev.ghost_name ≡ draft.old.dev.ghost_name }
-    ensures gathered { (before : List Line) (start : Stand) → Follows HasGathered before room devices.old (line_of line) start (stand draft.old)
-        → OnOk result (HasGathered room (line_of line ∷ before) devices.new start (stand draft.new)) }
-    ensures need { (before : List Line) (start : Stand) → Follows HasGathered before room devices.old (line_of line) start (stand draft.old)
+    ensures gathered { (before : List Line) (start : DraftState) → Follows HasGathered before room devices.old (line_of line) start (draft_state draft.old)
+        → OnOk result (HasGathered room (line_of line ∷ before) devices.new start (draft_state draft.new)) }
+    ensures need { (before : List Line) (start : DraftState) → Follows HasGathered before room devices.old (line_of line) start (draft_state draft.old)
         → MatchResult result (λ _. pool_need_so_far room (line_of line ∷ before) ≤ room) (IsOver room (pool_need_so_far room (line_of line ∷ before))) }
-    ensures closed { StaysClosed (stand draft.old).device (stand draft.new).device }
-    ensures faults { CountsTake result (stand draft.old).device.faults (stand draft.new).device.faults }
+    ensures closed { StaysClosed (draft_state draft.old).device (draft_state draft.new).device }
+    ensures faults { CountsTake result (draft_state draft.old).device.faults (draft_state draft.new).device.faults }
 {
     match line {
         ThinLine::Pool { .. } => Ok(()),
@@ -56,16 +56,16 @@ fn put_leaf<D: Device>(
     devices: &mut SharedDevices,
     room: u64,
 ) -> Result<(), RestoreFault>
-    requires gathered { CanEnd devices.old (stand draft.old) }
-    requires writable { IsWritable (stand draft.old).device }
-    requires closed { IsClosed (stand draft.old).device }
+    requires gathered { CanEnd devices.old (draft_state draft.old) }
+    requires writable { IsWritable (draft_state draft.old).device }
+    requires closed { IsClosed (draft_state draft.old).device }
     ensures same_reference { draft.new.dev.ghost_name ≡ draft.old.dev.ghost_name }
-    ensures gathered { (before : List Line) (start : Stand) (l : LeafHead) → Follows HasGathered before room devices.old (leaf_line l) start (stand draft.old)
-        → OnOk result (HasGathered room (leaf_line l ∷ before) devices.new start (stand draft.new)) }
-    ensures need { (before : List Line) (start : Stand) (l : LeafHead) → Follows HasGathered before room devices.old (leaf_line l) start (stand draft.old)
+    ensures gathered { (before : List Line) (start : DraftState) (l : LeafHead) → Follows HasGathered before room devices.old (leaf_line l) start (draft_state draft.old)
+        → OnOk result (HasGathered room (leaf_line l ∷ before) devices.new start (draft_state draft.new)) }
+    ensures need { (before : List Line) (start : DraftState) (l : LeafHead) → Follows HasGathered before room devices.old (leaf_line l) start (draft_state draft.old)
         → MatchResult result (λ _. pool_need_so_far room (leaf_line l ∷ before) ≤ room) (IsOver room (pool_need_so_far room (leaf_line l ∷ before))) }
-    ensures closed { StaysClosed (stand draft.old).device (stand draft.new).device }
-    ensures faults { CountsTake result (stand draft.old).device.faults (stand draft.new).device.faults }
+    ensures closed { StaysClosed (draft_state draft.old).device (draft_state draft.new).device }
+    ensures faults { CountsTake result (draft_state draft.old).device.faults (draft_state draft.new).device.faults }
 {
     match devices.add_leaf(draft) {
         Ok(()) => look(devices, room),
@@ -81,16 +81,16 @@ fn put_device<D: Device>(
     details: Details,
     room: u64,
 ) -> Result<(), RestoreFault>
-    requires gathered { CanEnd devices.old (stand draft.old) }
-    requires writable { IsWritable (stand draft.old).device }
-    requires closed { IsClosed (stand draft.old).device }
+    requires gathered { CanEnd devices.old (draft_state draft.old) }
+    requires writable { IsWritable (draft_state draft.old).device }
+    requires closed { IsClosed (draft_state draft.old).device }
     ensures same_reference { draft.new.dev.ghost_name ≡ draft.old.dev.ghost_name }
-    ensures gathered { (before : List Line) (start : Stand) → Follows HasGathered before room devices.old (device_line (details_of id details)) start (stand draft.old)
-        → OnOk result (HasGathered room (device_line (details_of id details) ∷ before) devices.new start (stand draft.new)) }
-    ensures need { (before : List Line) (start : Stand) → Follows HasGathered before room devices.old (device_line (details_of id details)) start (stand draft.old)
+    ensures gathered { (before : List Line) (start : DraftState) → Follows HasGathered before room devices.old (device_line (details_of id details)) start (draft_state draft.old)
+        → OnOk result (HasGathered room (device_line (details_of id details) ∷ before) devices.new start (draft_state draft.new)) }
+    ensures need { (before : List Line) (start : DraftState) → Follows HasGathered before room devices.old (device_line (details_of id details)) start (draft_state draft.old)
         → MatchResult result (λ _. pool_need_so_far room (device_line (details_of id details) ∷ before) ≤ room) (IsOver room (pool_need_so_far room (device_line (details_of id details) ∷ before))) }
-    ensures closed { StaysClosed (stand draft.old).device (stand draft.new).device }
-    ensures faults { CountsTake result (stand draft.old).device.faults (stand draft.new).device.faults }
+    ensures closed { StaysClosed (draft_state draft.old).device (draft_state draft.new).device }
+    ensures faults { CountsTake result (draft_state draft.old).device.faults (draft_state draft.new).device.faults }
 {
     match devices.add_device(draft, id, details) {
         Ok(()) => look(devices, room),
@@ -105,16 +105,16 @@ fn put_use<D: Device>(
     number: u64,
     room: u64,
 ) -> Result<(), RestoreFault>
-    requires gathered { CanUse devices.old number (stand draft.old) }
-    requires writable { IsWritable (stand draft.old).device }
-    requires closed { IsClosed (stand draft.old).device }
+    requires gathered { CanUse devices.old number (draft_state draft.old) }
+    requires writable { IsWritable (draft_state draft.old).device }
+    requires closed { IsClosed (draft_state draft.old).device }
     ensures same_reference { draft.new.dev.ghost_name ≡ draft.old.dev.ghost_name }
-    ensures gathered { (before : List Line) (start : Stand) → Follows HasGathered before room devices.old (use_line number) start (stand draft.old)
-        → OnOk result (HasGathered room (use_line number ∷ before) devices.new start (stand draft.new)) }
-    ensures need { (before : List Line) (start : Stand) → Follows HasGathered before room devices.old (use_line number) start (stand draft.old)
+    ensures gathered { (before : List Line) (start : DraftState) → Follows HasGathered before room devices.old (use_line number) start (draft_state draft.old)
+        → OnOk result (HasGathered room (use_line number ∷ before) devices.new start (draft_state draft.new)) }
+    ensures need { (before : List Line) (start : DraftState) → Follows HasGathered before room devices.old (use_line number) start (draft_state draft.old)
         → MatchResult result (λ _. pool_need_so_far room (use_line number ∷ before) ≤ room) (IsOver room (pool_need_so_far room (use_line number ∷ before))) }
-    ensures closed { StaysClosed (stand draft.old).device (stand draft.new).device }
-    ensures faults { CountsTake result (stand draft.old).device.faults (stand draft.new).device.faults }
+    ensures closed { StaysClosed (draft_state draft.old).device (draft_state draft.new).device }
+    ensures faults { CountsTake result (draft_state draft.old).device.faults (draft_state draft.new).device.faults }
 {
     match devices.add_use(draft, number) {
         Ok(()) => look(devices, room),
@@ -125,9 +125,9 @@ fn put_use<D: Device>(
 /// Takes a run, where there is room for it: its length is what the line says, so the room is looked at first.
 fn put_run(devices: &mut SharedDevices, run: Run2, room: u64) -> Result<(), RestoreFault>
     requires follows { CanPutRun room devices.old (run_of run) }
-    ensures gathered { (before : List Line) (start now : Stand) → Follows HasGathered before room devices.old (map_line (run_of run)) start now
+    ensures gathered { (before : List Line) (start now : DraftState) → Follows HasGathered before room devices.old (map_line (run_of run)) start now
         → OnOk result (HasGathered room (map_line (run_of run) ∷ before) devices.new start now) }
-    ensures need { (before : List Line) (start now : Stand) → Follows HasGathered before room devices.old (map_line (run_of run)) start now
+    ensures need { (before : List Line) (start now : DraftState) → Follows HasGathered before room devices.old (map_line (run_of run)) start now
         → MatchResult result (λ _. pool_need_so_far room (map_line (run_of run) ∷ before) ≤ room) (IsOver room (pool_need_so_far room (map_line (run_of run) ∷ before))) }
     ensures faults { (faults : ℕ) → CountsTake result faults faults }
 {
@@ -147,7 +147,7 @@ fn put_run(devices: &mut SharedDevices, run: Run2, room: u64) -> Result<(), Rest
 
 /// Whether there is room for what was restored so far.
 fn look(devices: &SharedDevices, room: u64) -> Result<(), RestoreFault>
-    ensures need { (before : List Line) (start now : Stand) → HasGathered room before devices.now start now
+    ensures need { (before : List Line) (start now : DraftState) → HasGathered room before devices.now start now
         → MatchResult result (λ _. min (shape_need_so_far room before) (2 ^ 64 - 1) ≤ room) (IsShort room (min (shape_need_so_far room before) (2 ^ 64 - 1))) }
     ensures fault { IfErr result IsNoRoom }
 {

@@ -3,8 +3,8 @@
 ghost use Rattle.std.specs.Prelude.{◌≡◌, ◌-◌, ◌≤◌, ◌^◌, List, ◌∷◌, min, IfErr, OnOk, MatchResult};
 ghost use Rattle.pd_image.specs.Device.{IsWritable};
 ghost use Rattle.pd_draft.specs.Closed.{IsClosed, StaysClosed};
-ghost use Rattle.pd_draft.specs.Placed.{Stand};
-ghost use Rattle.pd_draft.specs.Stand.{stand};
+ghost use Rattle.pd_draft.specs.Placed.{DraftState};
+ghost use Rattle.pd_draft.specs.DraftState.{draft_state};
 ghost use Rattle.pd_spells.specs.ThinNeed.{thin_need_so_far};
 ghost use Rattle.pd_spells.specs.ThinText.{Line};
 ghost use Rattle.pd_texts.specs.ThinLine.{line_of};
@@ -14,14 +14,14 @@ ghost use Rattle.pd_restore.specs.Reading.{CanTake, Follows, IsNoRoom, IsShort};
 ghost use Rattle.pd_restore.specs.Unshared.{HasUnshared};
 
 use crate::gathering::{Gathering, within};
-use crate::parts::{Parts, write_behind};
+use crate::parts::{PoolRoots, write_behind};
 use pd_build::BuildFault;
 use pd_count::Counts;
 use pd_devices::{Devices, Run};
 use pd_draft::Draft;
 use pd_image::Device;
 use pd_restoring::{RestoreFault, of_build};
-use pd_shape_verdicts::pool_text_is_accepted_where_there_is_room;
+use pd_shapes::pool_text_is_accepted_where_there_is_room;
 use pd_texts::{TextFault, ThinLine};
 use std::alloc::{AllocError, Global};
 
@@ -72,7 +72,7 @@ impl Gathering for Devices {
         alloc: Global,
         draft: &mut Draft<'_, D>,
         room: u64,
-    ) -> Result<Parts, BuildFault> {
+    ) -> Result<PoolRoots, BuildFault> {
         pool_text_is_accepted_where_there_is_room();
         let uses = match Counts::new(alloc, 0) {
             Ok(uses) => uses,
@@ -98,14 +98,14 @@ fn put_line<D: Device>(
     line: ThinLine,
     room: u64,
 ) -> Result<(), BuildFault>
-    requires follows { CanTake HasUnshared room devices.old (line_of line) (stand draft.old) }
-    requires writable { IsWritable (stand draft.old).device }
-    requires closed { IsClosed (stand draft.old).device }
+    requires follows { CanTake HasUnshared room devices.old (line_of line) (draft_state draft.old) }
+    requires writable { IsWritable (draft_state draft.old).device }
+    requires closed { IsClosed (draft_state draft.old).device }
     ensures same_reference { draft.new.dev.ghost_name ≡ draft.old.dev.ghost_name }
-    ensures gathered { (before : List Line) (start : Stand) → Follows HasUnshared before room devices.old (line_of line) start (stand draft.old)
-        → OnOk result (HasUnshared room (line_of line ∷ before) devices.new start (stand draft.new)) }
-    ensures closed { StaysClosed (stand draft.old).device (stand draft.new).device }
-    ensures faults { CountsBuildFault result (stand draft.old).device.faults (stand draft.new).device.faults }
+    ensures gathered { (before : List Line) (start : DraftState) → Follows HasUnshared before room devices.old (line_of line) start (draft_state draft.old)
+        → OnOk result (HasUnshared room (line_of line ∷ before) devices.new start (draft_state draft.new)) }
+    ensures closed { StaysClosed (draft_state draft.old).device (draft_state draft.new).device }
+    ensures faults { CountsBuildFault result (draft_state draft.old).device.faults (draft_state draft.new).device.faults }
 {
     match line {
         ThinLine::Pool { .. } => Ok(()),
@@ -126,7 +126,7 @@ fn put_line<D: Device>(
 
 /// Whether there is room for what was restored so far.
 fn look(devices: &Devices, room: u64) -> Result<(), RestoreFault>
-    ensures need { (before : List Line) (start now : Stand) → HasGathered before devices.now start now
+    ensures need { (before : List Line) (start now : DraftState) → HasGathered before devices.now start now
         → MatchResult result (λ _. min (thin_need_so_far room before) (2 ^ 64 - 1) ≤ room) (IsShort room (min (thin_need_so_far room before) (2 ^ 64 - 1))) }
     ensures fault { IfErr result IsNoRoom }
 {

@@ -4,7 +4,7 @@ use Rattle.pd_kinds.specs.CacheFormat.{has_dirty_bits}
 use Rattle.pd_kinds.specs.Layout.{tree_to}
 use Rattle.pd_kinds.specs.Meaning.{CacheMeaning}
 use Rattle.pd_kinds.specs.declared.map_root.SmRoot.{SmRoot}
-use Rattle.pd_draft.specs.Placed.{Stand, Wrote}
+use Rattle.pd_draft.specs.Placed.{DraftState, Wrote}
 use Rattle.pd_draft.proofs.PlacedLemmas.{wrote_then}
 use Rattle.pd_spells.specs.Lawful.{IsLawfulCache, AreEntries}
 use Rattle.pd_spells.specs.CacheNeed.{need_of_cache, cache_need}
@@ -21,7 +21,7 @@ use Rattle.pd_laid_once.specs.Once.{ones_below, NamesEachOnce}
 use Rattle.pd_laid_once.specs.Written.{meta_map_from, bitmaps_from}
 use Rattle.pd_laid_once.proofs.MapLemmas.{ones_overflow, named_overflow, stored_counts, ones_allocated}
 use Rattle.pd_laid_once.proofs.WrittenLemmas.{map_written}
-use Rattle.pd_laid_once_arrays.proofs.CacheNamed.{cache_named_once}
+use Rattle.pd_laid_once.proofs.CacheNamed.{cache_named_once}
 use Rattle.pd_build.specs.Array.{array_blocks}
 use Rattle.pd_smwrite.specs.Map.{bitmap_blocks, allocated_of, index_block, meta_map_blocks, meta_map_root}
 use Rattle.pd_restore_cache.specs.declared.gather.Cache.{Cache}
@@ -211,32 +211,32 @@ module _ (c : Cache) (rows : List Row) (version : ℕ) where
       ∙ five_parts mapping_written hints_written dirty_written discards_written (own_map_written room fits)))
 
   -- each, with the place behind it
-  pub mapping_step : {a b : Stand} → a.place ≡ 1 → Wrote (array_blocks 8 a.place (words_of (Mapping version) rows c.blocks)) a b → b.place ≡ hints_at m version
+  pub mapping_step : {a b : DraftState} → a.place ≡ 1 → Wrote (array_blocks 8 a.place (words_of (Mapping version) rows c.blocks)) a b → b.place ≡ hints_at m version
   mapping_step {a} {b} here wrote =
       let words = words_of (Mapping version) rows c.blocks in
       let size = ap (need_array 8) (length-words (Mapping version) rows c.blocks) in
       omega (arith, wrote.moved, array_number 8 a.place words, size, here, hints_place)
 
-  pub hints_step : {a b : Stand} → a.place ≡ hints_at m version → Wrote (cond (has_hints m) (array_blocks 4 a.place (words_of Hints rows c.blocks)) []) a b → b.place ≡ dirty_at m version
+  pub hints_step : {a b : DraftState} → a.place ≡ hints_at m version → Wrote (cond (has_hints m) (array_blocks 4 a.place (words_of Hints rows c.blocks)) []) a b → b.place ≡ dirty_at m version
   hints_step {a} {b} here wrote =
       omega (arith, wrote.moved, where_length (has_hints m) 4 a.place c.blocks (words_of Hints rows c.blocks) (length-words Hints rows c.blocks), here, dirty_place)
 
-  pub dirty_counted : {a b : Stand} (place count : ℕ) → count ≡ nodes_for 64 c.blocks → Wrote (cond (has_dirty_bits version) (array_blocks 8 place (words_of Dirty rows count)) []) a b
+  pub dirty_counted : {a b : DraftState} (place count : ℕ) → count ≡ nodes_for 64 c.blocks → Wrote (cond (has_dirty_bits version) (array_blocks 8 place (words_of Dirty rows count)) []) a b
       → Wrote (cond (has_dirty_bits version) (array_blocks 8 place (words_of Dirty rows (nodes_for 64 c.blocks))) []) a b
   dirty_counted {a} {b} place count is wrote =
       subst (λ (n : ℕ). Wrote (cond (has_dirty_bits version) (array_blocks 8 place (words_of Dirty rows n)) []) a b) is wrote
 
-  pub dirty_step : {a b : Stand} → a.place ≡ dirty_at m version → Wrote (cond (has_dirty_bits version) (array_blocks 8 a.place (words_of Dirty rows (nodes_for 64 c.blocks))) []) a b
+  pub dirty_step : {a b : DraftState} → a.place ≡ dirty_at m version → Wrote (cond (has_dirty_bits version) (array_blocks 8 a.place (words_of Dirty rows (nodes_for 64 c.blocks))) []) a b
       → b.place ≡ discards_at m version
   dirty_step {a} {b} here wrote =
       let count = nodes_for 64 c.blocks in
       omega (arith, wrote.moved, where_length (has_dirty_bits version) 8 a.place count (words_of Dirty rows count) (length-words Dirty rows count), here, discards_place)
 
-  pub discards_step : {a b : Stand} → a.place ≡ discards_at m version → Wrote (tree_blocks 8 a.place []) a b → b.place ≡ meta_map_at m version
+  pub discards_step : {a b : DraftState} → a.place ≡ discards_at m version → Wrote (tree_blocks 8 a.place []) a b → b.place ≡ meta_map_at m version
   discards_step {a} {b} here wrote = omega (arith, wrote.moved, none_number a.place, here, map_place)
 
   -- they are the blocks of the laid cache
-  pub all_wrote : {s t u v w x : Stand} (room : ℕ) → meta_map_at m version ≤ 2 ^ 64 → s.place ≡ 1 → t.place ≡ hints_at m version → u.place ≡ dirty_at m version
+  pub all_wrote : {s t u v w x : DraftState} (room : ℕ) → meta_map_at m version ≤ 2 ^ 64 → s.place ≡ 1 → t.place ≡ hints_at m version → u.place ≡ dirty_at m version
       → v.place ≡ discards_at m version → w.place ≡ meta_map_at m version
       → Wrote (array_blocks 8 s.place (words_of (Mapping version) rows c.blocks)) s t → Wrote (cond (has_hints m) (array_blocks 4 t.place (words_of Hints rows c.blocks)) []) t u
       → Wrote (cond (has_dirty_bits version) (array_blocks 8 u.place (words_of Dirty rows (nodes_for 64 c.blocks))) []) u v → Wrote (tree_blocks 8 v.place []) v w

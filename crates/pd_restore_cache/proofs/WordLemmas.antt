@@ -3,7 +3,7 @@ use Rattle.std.proofs.Common.{◌≡◌, ℕ, zero, suc, ◌+◌, ◌^◌, ◌<�
 use Rattle.std.specs.Prelude.{IfOk}
 use Rattle.std.proofs.lemmas.List.{drop_more, drop_all}
 use Rattle.std.proofs.lemmas.List.FromFn.{sum_by-map-range_with_len_more, length-map-range_with_len, get_or-map-range_with_len}
-use Rattle.pd_draft.specs.Placed.{Stand}
+use Rattle.pd_draft.specs.Placed.{DraftState}
 use Rattle.pd_laid.specs.Array.{array_root}
 use Rattle.pd_laid.specs.LaidCache.{is_dirty}
 use Rattle.pd_build.specs.Array.{ArrayLeft, array_root_left}
@@ -44,7 +44,7 @@ unfolding words_of
 length-words kind rows count = length-map-range_with_len (word_of kind rows) 0 count
 
 -- the next word of an array, and its end
-module _ (kind : Words) (rows : List Row) (count i : ℕ) {t : ArrayLeft} {from to : Stand}
+module _ (kind : Words) (rows : List Row) (count i : ℕ) {t : ArrayLeft} {from to : DraftState}
     (f : IsFilling (bytes_of kind) (words_of kind rows count) (drop i (words_of kind rows count)) t from to) where
   next_word : i < count → drop i (words_of kind rows count) ≡ word_of kind rows i ∷ drop (i + 1) (words_of kind rows count)
   unfolding words_of
@@ -62,7 +62,7 @@ module _ (kind : Words) (rows : List Row) (count i : ℕ) {t : ArrayLeft} {from 
       (drop_all i (words_of kind rows count) (omega (arith, length-words kind rows count))) f
 
 -- its root
-pub words_root : {E : Type 0} {size : ℕ} {all : List ℕ} {t : ArrayLeft} {from mid : Stand} (r : Result ℕ E) → IsFilling size all [] t from mid
+pub words_root : {E : Type 0} {size : ℕ} {all : List ℕ} {t : ArrayLeft} {from mid : DraftState} (r : Result ℕ E) → IsFilling size all [] t from mid
     → IfOk r (λ root. root ≡ array_root_left size mid.place t.words []) → IfOk r (λ root. root ≡ array_root size from.place all)
 words_root (Ok root) f is = is ∙ f.root
 words_root (Err e) f is = tt

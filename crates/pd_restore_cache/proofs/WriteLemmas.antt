@@ -4,12 +4,12 @@ use Rattle.std.specs.Prelude.{IfOk, OnOk, MatchResult}
 use Rattle.std.proofs.lemmas.Bool.{ne_eqb}
 use Rattle.pd_kinds.specs.declared.block.Block.{Block}
 use Rattle.pd_kinds.specs.Meaning.{CacheMeaning}
-use Rattle.pd_draft.specs.Placed.{Stand, Wrote}
+use Rattle.pd_draft.specs.Placed.{DraftState, Wrote}
 use Rattle.pd_spells.specs.CacheNeed.{need_of_cache, cache_need, cache_need_so_far}
 use Rattle.pd_spells.specs.CacheText.{Line, first_line, cache_line, end_line, cache, cache_single}
 use Rattle.pd_laid.specs.Laid.{written_from}
 use Rattle.pd_laid.specs.LaidCache.{cache_laid_fields, laid_cache}
-use Rattle.pd_laid_once_arrays.proofs.NeedLemmas.{cache_takes_need}
+use Rattle.pd_laid_once.proofs.NeedLemmas.{cache_takes_need}
 use Rattle.pd_texts.specs.Reader.{IsWhole}
 use Rattle.pd_restoring.specs.declared.fault.RestoreFault.{RestoreFault}
 use Rattle.pd_restoring.specs.declared.fault.RestoreFault.TheVariants as r
@@ -20,12 +20,12 @@ use Rattle.pd_restoring.proofs.ReadingLemmas.{above_next, refused_says}
 use Rattle.pd_restore_cache.specs.declared.begin.Begun.{Begun}
 use Rattle.pd_restore_cache.specs.declared.gather.Cache.{Cache}
 use Rattle.pd_restore_cache.specs.declared.gather.Gathered.{Gathered}
-use Rattle.pd_restore_cache.specs.declared.parts.Parts.{Parts}
+use Rattle.pd_restore_cache.specs.declared.parts.CacheRoots.{CacheRoots}
 use Rattle.pd_restore_cache.specs.declared.row.Row.{Row}
 use Rattle.pd_restore_cache.specs.Caches.{caches, CacheLeaves}
 use Rattle.pd_restore_cache.specs.Gathered.{after_rows, begun_lines, head_of_cache, lines_of}
 use Rattle.pd_restore_cache.specs.Meaning.{cache_meaning, meaning_of}
-use Rattle.pd_restore_cache.specs.Parts.{AreParts, fields_of}
+use Rattle.pd_restore_cache.specs.CacheRoots.{AreParts, fields_of}
 use Rattle.pd_restore_cache.specs.Reading.{HasAll, SaysAfter}
 use Rattle.pd_restore_cache.proofs.MeaningLemmas.{gathered_lawful, gathered_accepted}
 
@@ -62,12 +62,12 @@ says_of c version room t (r.Text fault) fits (rows, inr is) =
 says_of c version room t (r.NoRoom needed blocks) fits says = absurd says
 
 -- the superblock
-pub fields_are : (c : Cache) (rows : List Row) (parts : Parts) (version room : ℕ) → AreParts (cache_meaning c rows) version room parts
+pub fields_are : (c : Cache) (rows : List Row) (parts : CacheRoots) (version room : ℕ) → AreParts (cache_meaning c rows) version room parts
     → fields_of c parts version ≡ cache_laid_fields (cache_meaning c rows) version room
 unfolding cache_laid_fields
 fields_are c rows parts version room are = rw (are.mapping_root, are.hint_root, are.dirty_root, are.discard_root, are.meta_map) refl
 
-pub no_dirty_root : (m : CacheMeaning) (version room : ℕ) (parts : Parts) → AreParts m version room parts → version ≢ 2 → parts.dirty_root ≡ 0
+pub no_dirty_root : (m : CacheMeaning) (version room : ℕ) (parts : CacheRoots) → AreParts m version room parts → version ≢ 2 → parts.dirty_root ≡ 0
 unfolding cache_laid_fields
 no_dirty_root m version room parts are other = are.dirty_root ∙ rw (ne_eqb version 2 other) refl
 
@@ -77,7 +77,7 @@ pub gathered_need : (g : Gathered) (begun : Begun) (version room : ℕ) → g.ca
 gathered_need g begun version room same need = subst (λ (c : Cache). need_of_cache version c.blocks c.hint_size room ≤ room) (sym same) need
 
 -- what is written is a laid cache, and what a text means whose lines were gathered
-pub writes_of : (start now : Stand) (result : Result Block RestoreFault) (begun : Begun) (g : Gathered) (version room : ℕ) (was left : Option (List ℕ)) → length g.cache.versions ≡ 3 → HasAll g
+pub writes_of : (start now : DraftState) (result : Result Block RestoreFault) (begun : Begun) (g : Gathered) (version room : ℕ) (was left : Option (List ℕ)) → length g.cache.versions ≡ 3 → HasAll g
     → cache_need version (meaning_of g) room ≤ room → room ≤ 4161600 → ((t : List ℕ) → CacheLeaves t begun was → IsWhole cache_single t (end_line ∷ lines_of g) left)
     → IfOk result (λ block. block.0 ≡ (laid_cache (meaning_of g) version room).super_block) → OnOk result (Wrote (written_from 1 (laid_cache (meaning_of g) version room).blocks) start now)
     → IfOk result (Writes (caches version) room (λ t. CacheLeaves t begun was) left start now)

@@ -2,7 +2,7 @@ pub mod Begin
 pub mod Caches
 pub mod Gathered
 pub mod Meaning
-pub mod Parts
+pub mod CacheRoots
 pub mod Reading
 pub mod Repeats
 pub mod Rows

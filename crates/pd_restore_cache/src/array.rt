@@ -4,7 +4,7 @@ ghost use Rattle.std.specs.Prelude.{◌≡◌, ◌+◌, ◌^◌, ◌≤◌, IfOk
 ghost use Rattle.pd_image.specs.Device.{IsWritable};
 ghost use Rattle.pd_draft.specs.Closed.{IsClosed, StaysClosed};
 ghost use Rattle.pd_draft.specs.Placed.{Wrote};
-ghost use Rattle.pd_draft.specs.Stand.{stand};
+ghost use Rattle.pd_draft.specs.DraftState.{draft_state};
 ghost use Rattle.pd_spells.specs.Need.{need_array};
 ghost use Rattle.pd_laid.specs.Array.{array_root};
 ghost use Rattle.pd_build.specs.Array.{array_blocks};
@@ -29,14 +29,14 @@ pub(crate) fn write_words<D: Device>(
 ) -> Result<u64, BuildFault>
     requires rows { AreRows 0 rows.now }
     requires few { count ≤ 2 ^ 32 }
-    requires writable { IsWritable (stand draft.old).device }
-    requires room { draft.old.next + need_array (bytes_of words) count ≤ (stand draft.old).device.blocks }
-    requires closed { IsClosed (stand draft.old).device }
+    requires writable { IsWritable (draft_state draft.old).device }
+    requires room { draft.old.next + need_array (bytes_of words) count ≤ (draft_state draft.old).device.blocks }
+    requires closed { IsClosed (draft_state draft.old).device }
     ensures same_reference { draft.new.dev.ghost_name ≡ draft.old.dev.ghost_name }
-    ensures wrote { OnOk result (Wrote (array_blocks (bytes_of words) draft.old.next (words_of words rows.now count)) (stand draft.old) (stand draft.new)) }
+    ensures wrote { OnOk result (Wrote (array_blocks (bytes_of words) draft.old.next (words_of words rows.now count)) (draft_state draft.old) (draft_state draft.new)) }
     ensures root { IfOk result (λ root. root ≡ array_root (bytes_of words) draft.old.next (words_of words rows.now count)) }
-    ensures closed { StaysClosed (stand draft.old).device (stand draft.new).device }
-    ensures faults { CountsBuildFault result (stand draft.old).device.faults (stand draft.new).device.faults }
+    ensures closed { StaysClosed (draft_state draft.old).device (draft_state draft.new).device }
+    ensures faults { CountsBuildFault result (draft_state draft.old).device.faults (draft_state draft.new).device.faults }
 {
     let mut builder = match ArrayBuilder::new(alloc, count, words.size()) {
         Ok(builder) => builder,

@@ -4,7 +4,7 @@ ghost use Rattle.std.specs.Prelude.{◌≡◌, ◌+◌, ◌^◌, ◌≤◌, [], 
 ghost use Rattle.pd_image.specs.Device.{IsWritable};
 ghost use Rattle.pd_draft.specs.Closed.{IsClosed, StaysClosed};
 ghost use Rattle.pd_draft.specs.Placed.{Wrote};
-ghost use Rattle.pd_draft.specs.Stand.{stand};
+ghost use Rattle.pd_draft.specs.DraftState.{draft_state};
 ghost use Rattle.pd_spells.specs.Lawful.{IsLawfulCache};
 ghost use Rattle.pd_spells.specs.CacheNeed.{cache_need};
 ghost use Rattle.pd_spells.specs.Need.{need_array, need_tree};
@@ -15,7 +15,7 @@ ghost use Rattle.pd_laid.specs.Tree.{tree_blocks, tree_root};
 ghost use Rattle.pd_build.specs.Array.{array_blocks};
 ghost use Rattle.pd_build.specs.Causes.{CountsBuildFault};
 ghost use Rattle.pd_restore_cache.specs.Meaning.{cache_meaning};
-ghost use Rattle.pd_restore_cache.specs.Parts.{AreParts};
+ghost use Rattle.pd_restore_cache.specs.CacheRoots.{AreParts};
 ghost use Rattle.pd_restore_cache.specs.Rows.{AreRows};
 ghost use Rattle.pd_restore_cache.specs.Words.{bytes_of, words_of};
 
@@ -34,7 +34,7 @@ use std::alloc::Global;
 
 /// The roots that the superblock of a cache names; 0 is none.
 #[derive(Clone, Copy, Debug, PartialEq, Eq)]
-pub(crate) struct Parts {
+pub(crate) struct CacheRoots {
     pub(crate) mapping_root: u64,
     pub(crate) hint_root: u64,
     pub(crate) dirty_root: u64,
@@ -50,19 +50,19 @@ pub(crate) fn write_parts<D: Device>(
     rows: &[Row],
     version: u32,
     room: u64,
-) -> Result<Parts, BuildFault>
+) -> Result<CacheRoots, BuildFault>
     requires lawful { IsLawfulCache (cache_meaning cache.now rows.now) }
-    requires place { (stand draft.old).place ≡ 1 }
+    requires place { (draft_state draft.old).place ≡ 1 }
     requires need { cache_need version (cache_meaning cache.now rows.now) room ≤ room }
     requires most { room ≤ 4161600 }
-    requires there { room ≤ (stand draft.old).device.blocks }
-    requires writable { IsWritable (stand draft.old).device }
-    requires closed { IsClosed (stand draft.old).device }
+    requires there { room ≤ (draft_state draft.old).device.blocks }
+    requires writable { IsWritable (draft_state draft.old).device }
+    requires closed { IsClosed (draft_state draft.old).device }
     ensures same_reference { draft.new.dev.ghost_name ≡ draft.old.dev.ghost_name }
-    ensures wrote { OnOk result (Wrote (written_from 1 (laid_cache (cache_meaning cache.now rows.now) version room).blocks) (stand draft.old) (stand draft.new)) }
+    ensures wrote { OnOk result (Wrote (written_from 1 (laid_cache (cache_meaning cache.now rows.now) version room).blocks) (draft_state draft.old) (draft_state draft.new)) }
     ensures parts { IfOk result (AreParts (cache_meaning cache.now rows.now) version room) }
-    ensures closed { StaysClosed (stand draft.old).device (stand draft.new).device }
-    ensures faults { CountsBuildFault result (stand draft.old).device.faults (stand draft.new).device.faults }
+    ensures closed { StaysClosed (draft_state draft.old).device (draft_state draft.new).device }
+    ensures faults { CountsBuildFault result (draft_state draft.old).device.faults (draft_state draft.new).device.faults }
 {
     let blocks = cache.blocks as u64;
     let mapping_root = write_words(alloc, draft, Words::Mapping(version), rows, blocks)?;
@@ -72,7 +72,7 @@ pub(crate) fn write_parts<D: Device>(
     let dirty_root = write_where(version == 2, alloc, draft, Words::Dirty, rows, words)?;
     let discard_root = write_none(alloc, draft)?;
     let meta_map = write_own_map(alloc, draft, room)?;
-    Ok(Parts {
+    Ok(CacheRoots {
         mapping_root,
         hint_root,
         dirty_root,
@@ -92,14 +92,14 @@ fn write_where<D: Device>(
 ) -> Result<u64, BuildFault>
     requires rows { AreRows 0 rows.now }
     requires few { count ≤ 2 ^ 32 }
-    requires writable { IsWritable (stand draft.old).device }
-    requires room { draft.old.next + (if there then need_array (bytes_of words) count else 0) ≤ (stand draft.old).device.blocks }
-    requires closed { IsClosed (stand draft.old).device }
+    requires writable { IsWritable (draft_state draft.old).device }
+    requires room { draft.old.next + (if there then need_array (bytes_of words) count else 0) ≤ (draft_state draft.old).device.blocks }
+    requires closed { IsClosed (draft_state draft.old).device }
     ensures same_reference { draft.new.dev.ghost_name ≡ draft.old.dev.ghost_name }
-    ensures wrote { OnOk result (Wrote (if there then array_blocks (bytes_of words) draft.old.next (words_of words rows.now count) else []) (stand draft.old) (stand draft.new)) }
+    ensures wrote { OnOk result (Wrote (if there then array_blocks (bytes_of words) draft.old.next (words_of words rows.now count) else []) (draft_state draft.old) (draft_state draft.new)) }
     ensures root { IfOk result (λ root. root ≡ (if there then array_root (bytes_of words) draft.old.next (words_of words rows.now count) else 0)) }
-    ensures closed { StaysClosed (stand draft.old).device (stand draft.new).device }
-    ensures faults { CountsBuildFault result (stand draft.old).device.faults (stand draft.new).device.faults }
+    ensures closed { StaysClosed (draft_state draft.old).device (draft_state draft.new).device }
+    ensures faults { CountsBuildFault result (draft_state draft.old).device.faults (draft_state draft.new).device.faults }
 {
     if there {
         write_words(alloc, draft, words, rows, count)
@@ -110,14 +110,14 @@ fn write_where<D: Device>(
 
 /// Writes the tree of a discard bitset without words, and answers the place of its root.
 fn write_none<D: Device>(alloc: Global, draft: &mut Draft<'_, D>) -> Result<u64, BuildFault>
-    requires writable { IsWritable (stand draft.old).device }
-    requires room { draft.old.next + need_tree 8 0 ≤ (stand draft.old).device.blocks }
-    requires closed { IsClosed (stand draft.old).device }
+    requires writable { IsWritable (draft_state draft.old).device }
+    requires room { draft.old.next + need_tree 8 0 ≤ (draft_state draft.old).device.blocks }
+    requires closed { IsClosed (draft_state draft.old).device }
     ensures same_reference { draft.new.dev.ghost_name ≡ draft.old.dev.ghost_name }
-    ensures wrote { OnOk result (Wrote (tree_blocks 8 draft.old.next []) (stand draft.old) (stand draft.new)) }
+    ensures wrote { OnOk result (Wrote (tree_blocks 8 draft.old.next []) (draft_state draft.old) (draft_state draft.new)) }
     ensures root { IfOk result (λ root. root ≡ tree_root 8 draft.old.next []) }
-    ensures closed { StaysClosed (stand draft.old).device (stand draft.new).device }
-    ensures faults { CountsBuildFault result (stand draft.old).device.faults (stand draft.new).device.faults }
+    ensures closed { StaysClosed (draft_state draft.old).device (draft_state draft.new).device }
+    ensures faults { CountsBuildFault result (draft_state draft.old).device.faults (draft_state draft.new).device.faults }
 {
     let none: [(u64, Root); 0] = [];
     write_tree(alloc, draft, &none)

@@ -5,7 +5,7 @@ ghost use Rattle.pd_image.specs.Device.{IsWritable};
 ghost use Rattle.pd_image.specs.Source.{KeepsSource};
 ghost use Rattle.pd_draft.specs.Closed.{IsClosed, StaysClosed};
 ghost use Rattle.pd_draft.specs.Placed.{Wrote};
-ghost use Rattle.pd_draft.specs.Stand.{stand};
+ghost use Rattle.pd_draft.specs.DraftState.{draft_state};
 ghost use Rattle.pd_spells.specs.CacheNeed.{cache_need, cache_need_so_far};
 ghost use Rattle.pd_spells.specs.CacheText.{cache as cache_texts};
 ghost use Rattle.pd_spells.specs.Lawful.{IsLawfulCache};
@@ -18,12 +18,12 @@ ghost use Rattle.pd_restore_cache.specs.Begin.{HasBegun};
 ghost use Rattle.pd_restore_cache.specs.Caches.{CacheLeaves, caches};
 ghost use Rattle.pd_restore_cache.specs.Gathered.{begun_lines};
 ghost use Rattle.pd_restore_cache.specs.Meaning.{meaning_of};
-ghost use Rattle.pd_restore_cache.specs.Parts.{fields_of};
+ghost use Rattle.pd_restore_cache.specs.CacheRoots.{fields_of};
 
 use crate::begin::Begun;
 use crate::gather::{Cache, Gathered};
 use crate::lines::gather_lines;
-use crate::parts::{Parts, write_parts};
+use crate::parts::{CacheRoots, write_parts};
 use pd_draft::Draft;
 use pd_image::{Device, Source};
 use pd_kinds::{Block, CacheSuper};
@@ -42,19 +42,19 @@ pub(crate) fn write_cache<S: Source, D: Device>(
 ) -> Result<Block, RestoreFault>
     requires attached { (S.state source.old).access ≡ 1 }
     requires stands { HasBegun begun }
-    requires place { (stand draft.old).place ≡ 1 }
+    requires place { (draft_state draft.old).place ≡ 1 }
     requires need { cache_need_so_far version room (begun_lines begun.cache) ≤ room }
     requires most { room ≤ 4161600 }
-    requires there { room ≤ (stand draft.old).device.blocks }
-    requires writable { IsWritable (stand draft.old).device }
-    requires closed { IsClosed (stand draft.old).device }
+    requires there { room ≤ (draft_state draft.old).device.blocks }
+    requires writable { IsWritable (draft_state draft.old).device }
+    requires closed { IsClosed (draft_state draft.old).device }
     ensures same_reference { draft.new.dev.ghost_name ≡ draft.old.dev.ghost_name }
-    ensures writes { IfOk result (Writes (caches version) room (λ t. CacheLeaves t begun (S.state source.old).left) (S.state source.new).left (stand draft.old) (stand draft.new)) }
+    ensures writes { IfOk result (Writes (caches version) room (λ t. CacheLeaves t begun (S.state source.old).left) (S.state source.new).left (draft_state draft.old) (draft_state draft.new)) }
     ensures says { (t : List ℕ) → CacheLeaves t begun (S.state source.old).left → IfErr result (SaysOf cache_texts (cache_need_so_far version) room t) }
     ensures later { IfErr result IsOfLater }
     ensures source { KeepsSource (S.state source.old) (S.state source.new) }
-    ensures closed { StaysClosed (stand draft.old).device (stand draft.new).device }
-    ensures faults { CountsRestore result (S.state source.old).faults (S.state source.new).faults (stand draft.old).device.faults (stand draft.new).device.faults }
+    ensures closed { StaysClosed (draft_state draft.old).device (draft_state draft.new).device }
+    ensures faults { CountsRestore result (S.state source.old).faults (S.state source.new).faults (draft_state draft.old).device.faults (draft_state draft.new).device.faults }
 {
     let Begun { mut text, cache } = begun;
     let mut gathered = Gathered::new(alloc, cache);
@@ -71,18 +71,18 @@ fn write_gathered<D: Device>(
     room: u64,
 ) -> Result<Block, RestoreFault>
     requires lawful { IsLawfulCache (meaning_of gathered.now) }
-    requires place { (stand draft.old).place ≡ 1 }
+    requires place { (draft_state draft.old).place ≡ 1 }
     requires need { cache_need version (meaning_of gathered.now) room ≤ room }
     requires most { room ≤ 4161600 }
-    requires there { room ≤ (stand draft.old).device.blocks }
-    requires writable { IsWritable (stand draft.old).device }
-    requires closed { IsClosed (stand draft.old).device }
+    requires there { room ≤ (draft_state draft.old).device.blocks }
+    requires writable { IsWritable (draft_state draft.old).device }
+    requires closed { IsClosed (draft_state draft.old).device }
     ensures same_reference { draft.new.dev.ghost_name ≡ draft.old.dev.ghost_name }
     ensures super_is { IfOk result (λ block. block.0 ≡ (laid_cache (meaning_of gathered.now) version room).super_block) }
-    ensures wrote { OnOk result (Wrote (written_from 1 (laid_cache (meaning_of gathered.now) version room).blocks) (stand draft.old) (stand draft.new)) }
+    ensures wrote { OnOk result (Wrote (written_from 1 (laid_cache (meaning_of gathered.now) version room).blocks) (draft_state draft.old) (draft_state draft.new)) }
     ensures fault { IfErr result IsOfBuild }
-    ensures closed { StaysClosed (stand draft.old).device (stand draft.new).device }
-    ensures faults { CountsTake result (stand draft.old).device.faults (stand draft.new).device.faults }
+    ensures closed { StaysClosed (draft_state draft.old).device (draft_state draft.new).device }
+    ensures faults { CountsTake result (draft_state draft.old).device.faults (draft_state draft.new).device.faults }
 {
     let cache = &gathered.cache;
     match write_parts(alloc, draft, cache, &gathered.rows, version, room) {
@@ -92,7 +92,7 @@ fn write_gathered<D: Device>(
 }
 
 /// The superblock's fields.
-fn super_of(cache: &Cache, parts: Parts, version: u32) -> CacheSuper
+fn super_of(cache: &Cache, parts: CacheRoots, version: u32) -> CacheSuper
     ensures { result ≡ fields_of cache.now parts version }
 {
     CacheSuper {

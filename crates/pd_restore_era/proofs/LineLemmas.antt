@@ -3,19 +3,19 @@ use Rattle.std.proofs.Common.{◌≡◌, ℕ, ◌+◌, ◌≤◌, List, [], ◌�
 use Rattle.std.specs.List.{flat_map}
 use Rattle.std.proofs.lemmas.List.{append-nil}
 use Rattle.pd_kinds.specs.Meaning.{EraMeaning}
-use Rattle.pd_draft.specs.Placed.{Stand}
+use Rattle.pd_draft.specs.Placed.{DraftState}
 use Rattle.pd_spells.specs.EraText.{Line, Head, Stretch, first_line, era_line, run_line, end_line, blocks_of, run_lines, eras_of, head_of, MeansEra}
 use Rattle.pd_spells.specs.EraNeed.{need_of_era, era_need, era_need_so_far}
 use Rattle.pd_laid.specs.Laid.{laid_number}
 use Rattle.pd_laid.specs.LaidEra.{era_laid_fields, laid_era}
-use Rattle.pd_laid_once_arrays.proofs.NeedLemmas.{era_takes_need}
+use Rattle.pd_laid_once.proofs.NeedLemmas.{era_takes_need}
 use Rattle.pd_texts.specs.Reader.{in_order}
 use Rattle.pd_build.specs.Array.{ArrayLeft}
 use Rattle.pd_build.specs.Building.{IsFilling}
 use Rattle.pd_restore_era.specs.declared.begin.Target.{Target}
-use Rattle.pd_restore_era.specs.declared.parts.Parts.{Parts}
+use Rattle.pd_restore_era.specs.declared.parts.EraRoots.{EraRoots}
 use Rattle.pd_restore_era.specs.Begin.{head_of_target}
-use Rattle.pd_restore_era.specs.Parts.{HasEras, AreParts}
+use Rattle.pd_restore_era.specs.EraRoots.{HasEras, AreParts}
 use Rattle.pd_restore_era.specs.Reading.{HasGathered, eras_in}
 use Rattle.pd_restore_era.specs.Target.{fields_of}
 
@@ -53,7 +53,7 @@ blocks_are : (lines : List Line) (m : EraMeaning) → MeansEra (in_order lines [
 blocks_are lines m means = ap blocks_of (lines_are lines m means) ∙ stretches_blocks 0 means.stretches (era_line (head_of m) ∷ first_line ∷ [])
 
 -- so what was put of all lines of a target are its eras
-pub eras_of_lines : {array : ArrayLeft} {start now : Stand} (lines : List Line) (m : EraMeaning) → HasGathered lines array start now → array.words.left ≡ 0 → start.place ≡ 1
+pub eras_of_lines : {array : ArrayLeft} {start now : DraftState} (lines : List Line) (m : EraMeaning) → HasGathered lines array start now → array.words.left ≡ 0 → start.place ≡ 1
     → MeansEra (in_order lines []) m → HasEras m array start now
 eras_of_lines {array} {start} {now} lines m h covered begin means = record {
   one_each = means.lawful.one_each;
@@ -80,7 +80,7 @@ pub head_is : (h : Head) (later lines : List Line) (m : EraMeaning) → MeansEra
 head_is h later lines m means front = ap (λ (ls : List Line). head_in ls h) (sym (front []) ∙ means.lines_are)
 
 -- the superblock's fields are those of the laid target
-pub fields_are : (t : Target) (parts : Parts) (room : ℕ) (m : EraMeaning) → head_of_target t ≡ head_of m → AreParts m room parts → fields_of t parts ≡ era_laid_fields m room
+pub fields_are : (t : Target) (parts : EraRoots) (room : ℕ) (m : EraMeaning) → head_of_target t ≡ head_of m → AreParts m room parts → fields_of t parts ≡ era_laid_fields m room
 unfolding era_laid_fields
 fields_are t parts room m head are =
     let uuid : t.uuid ≡ m.uuid = ap (λ (h : Head). h.uuid) head in

@@ -4,7 +4,7 @@ use Rattle.std.proofs.lemmas.List.{append_assoc}
 use Rattle.pd_kinds.specs.declared.map_root.SmRoot.{SmRoot}
 use Rattle.pd_kinds.specs.EraFormat.{writesets_tree}
 use Rattle.pd_kinds.specs.Meaning.{EraMeaning}
-use Rattle.pd_draft.specs.Placed.{Stand, Wrote}
+use Rattle.pd_draft.specs.Placed.{DraftState, Wrote}
 use Rattle.pd_draft.proofs.PlacedLemmas.{wrote_then}
 use Rattle.pd_spells.specs.Need.{need_array, need_tree, need_meta_map}
 use Rattle.pd_spells.specs.EraNeed.{need_of_era, era_need}
@@ -19,12 +19,12 @@ use Rattle.pd_laid_once.specs.Once.{ones_below, NamesEachOnce}
 use Rattle.pd_laid_once.specs.Written.{bitmaps_from, meta_map_from}
 use Rattle.pd_laid_once.proofs.MapLemmas.{ones_overflow, named_overflow, stored_counts, ones_allocated}
 use Rattle.pd_laid_once.proofs.WrittenLemmas.{map_written}
-use Rattle.pd_laid_once_arrays.proofs.EraNamed.{era_named_once}
+use Rattle.pd_laid_once.proofs.EraNamed.{era_named_once}
 use Rattle.pd_build.specs.Array.{ArrayLeft, array_blocks, array_left, array_root_left}
 use Rattle.pd_build.proofs.ArrayLemmas.{filling_end}
 use Rattle.pd_smwrite.specs.Map as sm
 use Rattle.pd_smwrite.specs.Map.{allocated_of, index_block, bitmap_blocks, meta_map_root}
-use Rattle.pd_restore_era.specs.Parts.{HasEras, target_behind}
+use Rattle.pd_restore_era.specs.EraRoots.{HasEras, target_behind}
 
 abbrev write : ℕ → LaidBlock → List ℕ
 write at b = b.written at
@@ -64,7 +64,7 @@ have_room m room one =
     }
 
 -- the array is ended
-pub array_step : {start a b : Stand} (m : EraMeaning) (array : ArrayLeft) → HasEras m array start a → Wrote (array_left array.size a.place array.words []) a b
+pub array_step : {start a b : DraftState} (m : EraMeaning) (array : ArrayLeft) → HasEras m array start a → Wrote (array_left array.size a.place array.words []) a b
     → Wrote (array_blocks 4 1 m.eras) start b × (b.place ≡ writesets_at m)
 array_step {start} {a} {b} m array h wrote =
     let f = h.filling in
@@ -74,7 +74,7 @@ array_step {start} {a} {b} m array h wrote =
     (whole, omega (arith, whole.moved, number, h.begin))
 
 -- and the empty tree is written
-pub tree_step : {b c : Stand} (m : EraMeaning) → b.place ≡ writesets_at m → Wrote (tree_blocks 12 b.place []) b c
+pub tree_step : {b c : DraftState} (m : EraMeaning) → b.place ≡ writesets_at m → Wrote (tree_blocks 12 b.place []) b c
     → Wrote (tree_blocks 12 (writesets_at m) []) b c × (c.place ≡ meta_map_at m)
 tree_step {b} {c} m here wrote =
     let written : Wrote (tree_blocks 12 (writesets_at m) []) b c = subst (λ (place : ℕ). Wrote (tree_blocks 12 place []) b c) here wrote in
@@ -100,7 +100,7 @@ behind_parts m room =
     ∙ (blocks_from-append write 1 (era_blocks m) (writeset_blocks m ++ meta_map_blocks m room)
     ∙ ap (λ (rest : List (List ℕ)). written_from 1 (era_blocks m) ++ rest) (blocks_from-append write (writesets_at m) (writeset_blocks m) (meta_map_blocks m room)))
 
-pub behind_written : {start b c d : Stand} (m : EraMeaning) (room : ℕ) → c.place ≡ meta_map_at m → meta_map_at m ≤ 2 ^ 64
+pub behind_written : {start b c d : DraftState} (m : EraMeaning) (room : ℕ) → c.place ≡ meta_map_at m → meta_map_at m ≤ 2 ^ 64
     → Wrote (array_blocks 4 1 m.eras) start b → Wrote (tree_blocks 12 (writesets_at m) []) b c
     → Wrote (sm.meta_map_blocks (ones_below (c.place + need_meta_map room)) room c.place) c d → Wrote (target_behind m room) start d
 behind_written {start} {b} {c} {d} m room here fits first second third =
@@ -115,7 +115,7 @@ behind_written {start} {b} {c} {d} m room here fits first second third =
         ∙ sym (behind_parts m room)
 
 -- the roots are those that the superblock names
-pub array_end : {start a : Stand} (m : EraMeaning) (room : ℕ) (array : ArrayLeft) → HasEras m array start a → array_root_left array.size a.place array.words [] ≡ (era_laid_fields m room).array_root
+pub array_end : {start a : DraftState} (m : EraMeaning) (room : ℕ) (array : ArrayLeft) → HasEras m array start a → array_root_left array.size a.place array.words [] ≡ (era_laid_fields m room).array_root
 unfolding era_laid_fields
 array_end {start} {a} m room array h =
     ap (λ (size : ℕ). array_root_left size a.place array.words []) h.filling.sized ∙ (h.filling.root ∙ ap (λ (place : ℕ). array_root 4 place m.eras) h.begin)

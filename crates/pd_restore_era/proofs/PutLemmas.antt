@@ -2,7 +2,7 @@
 use Rattle.std.proofs.Common.{◌≡◌, ℕ, zero, suc, ◌+◌, List, [], ◌∷◌, ◌++◌, length, refl, sym, ◌∙◌, ap, subst, append_assoc, length-append, add-one, arith}
 use Rattle.std.proofs.lemmas.List.{append-nil}
 use Rattle.pd_draft.specs.Closed.{IsClosed}
-use Rattle.pd_draft.specs.Placed.{Stand}
+use Rattle.pd_draft.specs.Placed.{DraftState}
 use Rattle.pd_spells.specs.Need.{need_array}
 use Rattle.pd_spells.specs.EraText.{eras_from}
 use Rattle.pd_laid.specs.Array.{array_root}
@@ -24,7 +24,7 @@ length-eras_from e zero = refl
 length-eras_from e (suc n) = omega (arith, length-eras_from e n)
 
 -- one era more was put
-pub put_next : {old new : ArrayLeft} {start now to : Stand} (eras : List ℕ) (blocks e : ℕ) → HasPut eras blocks old start now → new.size ≡ old.size
+pub put_next : {old new : ArrayLeft} {start now to : DraftState} (eras : List ℕ) (blocks e : ℕ) → HasPut eras blocks old start now → new.size ≡ old.size
     → Pushes old.size e old.words new.words now to → HasPut (eras ++ (e ∷ [])) blocks new start to
 put_next {old} {new} {start} {now} {to} eras blocks e h same pushes =
     let p : Pushes 4 e old.words new.words now to = subst (λ (size : ℕ). Pushes size e old.words new.words now to) h.sized pushes in
@@ -41,16 +41,16 @@ put_next {old} {new} {start} {now} {to} eras blocks e h same pushes =
     }
 
 -- and so on through a run
-pub put_more : {array : ArrayLeft} {start now : Stand} (eras : List ℕ) (blocks e n : ℕ) → HasPut ((eras ++ eras_from e n) ++ (e ∷ [])) blocks array start now
+pub put_more : {array : ArrayLeft} {start now : DraftState} (eras : List ℕ) (blocks e n : ℕ) → HasPut ((eras ++ eras_from e n) ++ (e ∷ [])) blocks array start now
     → HasPut (eras ++ eras_from e (n + 1)) blocks array start now
 put_more {array} {start} {now} eras blocks e n h =
     subst (λ (all : List ℕ). HasPut all blocks array start now) (append_assoc eras (eras_from e n) (e ∷ []) ∙ ap (λ (rest : List ℕ). eras ++ rest) (sym (eras_more e n))) h
 
-pub put_none : {array : ArrayLeft} {start now : Stand} (eras : List ℕ) (blocks : ℕ) → HasPut eras blocks array start now → HasPut (eras ++ []) blocks array start now
+pub put_none : {array : ArrayLeft} {start now : DraftState} (eras : List ℕ) (blocks : ℕ) → HasPut eras blocks array start now → HasPut (eras ++ []) blocks array start now
 put_none {array} {start} {now} eras blocks h = subst (λ (all : List ℕ). HasPut all blocks array start now) (sym (append-nil eras)) h
 
 -- before the first era
-pub put_start : {array : ArrayLeft} {start : Stand} (blocks : ℕ) → IsClosed start.device → array.size ≡ 4 → array.words.left ≡ blocks → array.words.made ≡ 0
+pub put_start : {array : ArrayLeft} {start : DraftState} (blocks : ℕ) → IsClosed start.device → array.size ≡ 4 → array.words.left ≡ blocks → array.words.made ≡ 0
     → ((place : ℕ) (words : List ℕ) → length words ≡ blocks → array_left 4 place array.words words ≡ array_blocks 4 place words)
     → ((place : ℕ) (words : List ℕ) → length words ≡ blocks → array_root_left 4 place array.words words ≡ array_root 4 place words)
     → array_number 4 array.words ≡ need_array 4 blocks → HasPut [] blocks array start start

@@ -2,7 +2,7 @@
 use Rattle.std.proofs.Common.{◌≡◌, ℕ, ◌+◌, ◌<◌, ◌≤◌, Bool, true, false, List, [], ◌∷◌, length, refl, ap, length-append, arith, Option, Result, Ok, Err}
 use Rattle.std.specs.Prelude.{IfOk, OnOk}
 use Rattle.pd_draft.specs.Closed.{IsClosed}
-use Rattle.pd_draft.specs.Placed.{Stand}
+use Rattle.pd_draft.specs.Placed.{DraftState}
 use Rattle.pd_spells.specs.Need.{need_array}
 use Rattle.pd_spells.specs.EraText.{Line, first_line, era_line, run_line, end_line, era, blocks_of, eras_from}
 use Rattle.pd_spells.specs.EraNeed.{need_of_era, era_need_so_far}
@@ -35,7 +35,7 @@ array_within : (blocks room : ℕ) → 1 + need_array 4 blocks ≤ need_of_era b
 unfolding need_of_era
 array_within blocks room = omega arith
 
-pub run_follows : {array : ArrayLeft} {start now : Stand} (before : List Line) (line : EraLine) (first n e room : ℕ) → line ≡ v.Run first n e → HasGathered before array start now
+pub run_follows : {array : ArrayLeft} {start now : DraftState} (before : List Line) (line : EraLine) (first n e room : ℕ) → line ≡ v.Run first n e → HasGathered before array start now
     → IsReadAfter era before (line_of line) → start.place ≡ 1 → era_need_so_far room before ≤ room → room ≤ now.device.blocks → MayFollow n array now
 run_follows {array} {start} {now} before line first n e room is h after begin need there =
     let one = run_read before (record { first = first; length = n; era = e }) (rw is at after) in
@@ -48,7 +48,7 @@ run_follows {array} {start} {now} before line first n e room is h after begin ne
       there = omega (arith, array_within (blocks_of before) room, begin, need, there);
     }
 
-pub run_gathered : {old new : ArrayLeft} {start now to : Stand} (before : List Line) (line : EraLine) (first n e : ℕ) → line ≡ v.Run first n e → HasGathered before old start now
+pub run_gathered : {old new : ArrayLeft} {start now to : DraftState} (before : List Line) (line : EraLine) (first n e : ℕ) → line ≡ v.Run first n e → HasGathered before old start now
     → IsReadAfter era before (line_of line) → HasPut (eras_in (run_line (record { first = first; length = n; era = e }) ∷ before)) (blocks_of before) new start to
     → HasGathered (line_of line ∷ before) new start to
 run_gathered before line first n e is h after put =
@@ -61,7 +61,7 @@ same_blocks before (v.Era uuid block_size blocks current) later after = absurd (
 same_blocks before (v.Run first n e) later after = refl
 
 -- a step that took a line
-pub stepped : (result : Result Bool RestoreFault) (before : List Line) (line : EraLine) (room : ℕ) (old text : TextReader EraState EraLine) (was left : Option (List ℕ)) (s t : ArrayLeft) (start now to : Stand)
+pub stepped : (result : Result Bool RestoreFault) (before : List Line) (line : EraLine) (room : ℕ) (old text : TextReader EraState EraLine) (was left : Option (List ℕ)) (s t : ArrayLeft) (start now to : DraftState)
     → Reading before room old s start now → to.device.blocks ≡ now.device.blocks → ReadsOn era EraStands (line_of line ∷ before) text
     → ((x : List ℕ) → LeavesOf era x before old was → LeavesOf era x (line_of line ∷ before) text left)
     → IfOk result (λ more. more ≡ true) → OnOk result (HasGathered (line_of line ∷ before) t start to)
@@ -87,7 +87,7 @@ stepped (Ok more) before line room old text was left s t start now to h blocks r
     )
 
 -- a step that came to the end
-pub came_to_end : (before : List Line) (room : ℕ) (old text : TextReader EraState EraLine) (was left : Option (List ℕ)) (array : ArrayLeft) (start now : Stand)
+pub came_to_end : (before : List Line) (room : ℕ) (old text : TextReader EraState EraLine) (was left : Option (List ℕ)) (array : ArrayLeft) (start now : DraftState)
     → Reading before room old array start now → AreReadSoFar era (end_line ∷ before) → ((x : List ℕ) → LeavesOf era x before old was → IsWhole era x (end_line ∷ before) left)
     → StepsEras false before room old was text left array start now
 came_to_end before room old text was left array start now h reads told =
@@ -106,25 +106,25 @@ came_to_end before room old text was left array start now h reads told =
     )
 
 -- each line puts an era at least
-falls : {old new : ArrayLeft} {start now to : Stand} (before : List Line) (line : EraLine) → 2 ≤ length before → IsReadAfter era before (line_of line)
+falls : {old new : ArrayLeft} {start now to : DraftState} (before : List Line) (line : EraLine) → 2 ≤ length before → IsReadAfter era before (line_of line)
     → HasGathered before old start now → HasGathered (line_of line ∷ before) new start to → new.words.left < old.words.left
 falls before (v.Era uuid block_size blocks current) later after g h = absurd (era_after before (v.Era uuid block_size blocks current) uuid block_size blocks current refl later after)
 falls before (v.Run first n e) later after g h =
     let one = run_read before (record { first = first; length = n; era = e }) after in
     omega (arith, one.some, g.put.number, h.put.number, g.ends, h.ends, one.follows)
 
-pub falls_where : (result : Result Bool RestoreFault) (before : List Line) (line : EraLine) (old new : ArrayLeft) (start now to : Stand) → 2 ≤ length before → IsReadAfter era before (line_of line)
+pub falls_where : (result : Result Bool RestoreFault) (before : List Line) (line : EraLine) (old new : ArrayLeft) (start now to : DraftState) → 2 ≤ length before → IsReadAfter era before (line_of line)
     → HasGathered before old start now → OnOk result (HasGathered (line_of line ∷ before) new start to) → IfOk result (λ more. more ≡ true → new.words.left < old.words.left)
 falls_where (Err fault) before line old new start now to later after g h = tt
 falls_where (Ok more) before line old new start now to later after g h = λ is. falls before line later after g h
 
 -- a step by its answer
-pub steps_as : (a b : Bool) (before : List Line) (room : ℕ) (old text : TextReader EraState EraLine) (was left : Option (List ℕ)) (array : ArrayLeft) (start now : Stand) → a ≡ b
+pub steps_as : (a b : Bool) (before : List Line) (room : ℕ) (old text : TextReader EraState EraLine) (was left : Option (List ℕ)) (array : ArrayLeft) (start now : DraftState) → a ≡ b
     → StepsEras a before room old was text left array start now → StepsEras b before room old was text left array start now
 steps_as a b before room old text was left array start now is steps = rw is at steps
 
 -- the first two lines were read, and no era is put yet
-pub target_reading : {array : ArrayLeft} {start : Stand} (target : Target) (room : ℕ) (text : TextReader EraState EraLine) → ReadsOn era EraStands (begun_lines target) text → IsClosed start.device
+pub target_reading : {array : ArrayLeft} {start : DraftState} (target : Target) (room : ℕ) (text : TextReader EraState EraLine) → ReadsOn era EraStands (begun_lines target) text → IsClosed start.device
     → array.size ≡ 4 → array.words.left ≡ target.blocks → array.words.made ≡ 0
     → ((place : ℕ) (words : List ℕ) → length words ≡ target.blocks → array_left 4 place array.words words ≡ array_blocks 4 place words)
     → ((place : ℕ) (words : List ℕ) → length words ≡ target.blocks → array_root_left 4 place array.words words ≡ array_root 4 place words)

@@ -1,6 +1,6 @@
 pub mod Put
 pub mod Reading
 pub mod Begin
-pub mod Parts
+pub mod EraRoots
 pub mod Target
 pub mod Subject

@@ -1,6 +1,6 @@
 -- An era target's text that is read and restored, line by line; of lines the newest comes first.
 use Rattle.std.specs.Prelude.{◌≡◌, ℕ, ◌≤◌, Bool, true, false, List, [], ◌∷◌, ◌++◌, length, Option}
-use Rattle.pd_draft.specs.Placed.{Stand}
+use Rattle.pd_draft.specs.Placed.{DraftState}
 use Rattle.pd_grammar.specs.Texts.{has_ended}
 use Rattle.pd_spells.specs.EraText.{Line, first_line, era_line, run_line, end_line, era, blocks_of, run_end, eras_from}
 use Rattle.pd_spells.specs.EraNeed.{era_need_so_far}
@@ -23,13 +23,13 @@ eras_in (run_line r ∷ before) = eras_in before ++ eras_from r.era r.length
 eras_in (end_line ∷ before) = eras_in before
 
 -- what was put of these lines
-pub record HasGathered (before : List Line) (array : ArrayLeft) (start now : Stand) : Type 0 where
+pub record HasGathered (before : List Line) (array : ArrayLeft) (start now : DraftState) : Type 0 where
   pub put : HasPut (eras_in before) (blocks_of before) array start now
   -- the last run ends behind the blocks that were put
   pub ends : run_end before ≡ length (eras_in before)
 
 -- these lines were read and restored, and have room
-pub record Reading (before : List Line) (room : ℕ) (text : TextReader EraState EraLine) (array : ArrayLeft) (start now : Stand) : Type 0 where
+pub record Reading (before : List Line) (room : ℕ) (text : TextReader EraState EraLine) (array : ArrayLeft) (start now : DraftState) : Type 0 where
   pub reads : ReadsOn era EraStands before text
   pub later : 2 ≤ length before
   pub gathered : HasGathered before array start now
@@ -39,14 +39,14 @@ pub record Reading (before : List Line) (room : ℕ) (text : TextReader EraState
   pub there : room ≤ now.device.blocks
 
 -- some lines were
-pub record CanRead (text : TextReader EraState EraLine) (array : ArrayLeft) (now : Stand) : Type 0 where
+pub record CanRead (text : TextReader EraState EraLine) (array : ArrayLeft) (now : DraftState) : Type 0 where
   pub before : List Line
   pub room : ℕ
-  pub start : Stand
+  pub start : DraftState
   pub so_far : Reading before room text array start now
 
 -- these are all lines, with the last one, and they have room
-pub record HasReadAll (lines : List Line) (room : ℕ) (array : ArrayLeft) (start now : Stand) : Type 0 where
+pub record HasReadAll (lines : List Line) (room : ℕ) (array : ArrayLeft) (start now : DraftState) : Type 0 where
   pub reads : AreReadSoFar era lines
   pub ended : has_ended era lines ≡ true
   pub gathered : HasGathered lines array start now
@@ -57,9 +57,9 @@ pub record HasReadAll (lines : List Line) (room : ℕ) (array : ArrayLeft) (star
   pub there : room ≤ now.device.blocks
 
 -- a line may be put after what was gathered
-pub record CanTake (array : ArrayLeft) (line : EraLine) (now : Stand) : Type 0 where
+pub record CanTake (array : ArrayLeft) (line : EraLine) (now : DraftState) : Type 0 where
   pub before : List Line
-  pub start : Stand
+  pub start : DraftState
   pub room : ℕ
   pub gathered : HasGathered before array start now
   pub later : 2 ≤ length before
@@ -69,14 +69,14 @@ pub record CanTake (array : ArrayLeft) (line : EraLine) (now : Stand) : Type 0 w
   pub there : room ≤ now.device.blocks
 
 -- one step after these lines: a line more, or the end
-abbrev pub StepsEras : Bool → List Line → ℕ → TextReader EraState EraLine → Option (List ℕ) → TextReader EraState EraLine → Option (List ℕ) → ArrayLeft → Stand → Stand → Type 0
+abbrev pub StepsEras : Bool → List Line → ℕ → TextReader EraState EraLine → Option (List ℕ) → TextReader EraState EraLine → Option (List ℕ) → ArrayLeft → DraftState → DraftState → Type 0
 StepsEras true before room old was text left array start now = (line : Line) × (Reading (line ∷ before) room text array start now
     × ((t : List ℕ) → LeavesOf era t before old was → LeavesOf era t (line ∷ before) text left))
 StepsEras false before room old was text left array start now = HasReadAll (end_line ∷ before) room array start now
     × ((t : List ℕ) → LeavesOf era t before old was → IsWhole era t (end_line ∷ before) left)
 
 -- after these lines all others were read
-pub record EndsEras (before : List Line) (room : ℕ) (old : TextReader EraState EraLine) (was left : Option (List ℕ)) (array : ArrayLeft) (start now : Stand) : Type 0 where
+pub record EndsEras (before : List Line) (room : ℕ) (old : TextReader EraState EraLine) (was left : Option (List ℕ)) (array : ArrayLeft) (start now : DraftState) : Type 0 where
   pub lines : List Line
   pub later : List Line
   pub front : (others : List Line) → in_order lines others ≡ in_order before (later ++ others)
@@ -84,8 +84,8 @@ pub record EndsEras (before : List Line) (room : ℕ) (old : TextReader EraState
   pub told : (t : List ℕ) → LeavesOf era t before old was → IsWhole era t lines left
 
 -- from the lines before some others were read
-pub record Went (before : List Line) (room : ℕ) (old : TextReader EraState EraLine) (was : Option (List ℕ)) (text : TextReader EraState EraLine) (left : Option (List ℕ)) (array : ArrayLeft)
-    (start now : Stand) : Type 0 where
+pub record ReadsErasOn (before : List Line) (room : ℕ) (old : TextReader EraState EraLine) (was : Option (List ℕ)) (text : TextReader EraState EraLine) (left : Option (List ℕ)) (array : ArrayLeft)
+    (start now : DraftState) : Type 0 where
   pub lines : List Line
   pub later : List Line
   pub front : (others : List Line) → in_order lines others ≡ in_order before (later ++ others)

@@ -1,10 +1,10 @@
 -- The superblock of an era target.
 use Rattle.pd_kinds.specs.EraFormat.{EraFields}
 use Rattle.pd_restore_era.specs.declared.begin.Target.{Target}
-use Rattle.pd_restore_era.specs.declared.parts.Parts.{Parts}
+use Rattle.pd_restore_era.specs.declared.parts.EraRoots.{EraRoots}
 
 -- the fields of the superblock
-abbrev pub fields_of : Target → Parts → EraFields
+abbrev pub fields_of : Target → EraRoots → EraFields
 fields_of t parts = record {
   flags = 0;
   uuid = t.uuid;

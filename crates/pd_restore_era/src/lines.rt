@@ -4,8 +4,8 @@ ghost use Rattle.std.specs.Prelude.{◌≡◌, ◌<◌, ◌≤◌, ℕ, List, �
 ghost use Rattle.pd_image.specs.Device.{IsWritable};
 ghost use Rattle.pd_image.specs.Source.{KeepsSource};
 ghost use Rattle.pd_draft.specs.Closed.{IsClosed, StaysClosed};
-ghost use Rattle.pd_draft.specs.Placed.{Stand};
-ghost use Rattle.pd_draft.specs.Stand.{stand};
+ghost use Rattle.pd_draft.specs.Placed.{DraftState};
+ghost use Rattle.pd_draft.specs.DraftState.{draft_state};
 ghost use Rattle.pd_spells.specs.EraText.{Line, era};
 ghost use Rattle.pd_spells.specs.EraNeed.{era_need_so_far};
 ghost use Rattle.pd_texts.specs.Reader.{IsReadAfter, LeavesOf};
@@ -29,18 +29,18 @@ pub(crate) fn restore_lines<S: Source, D: Device>(
     array: &mut ArrayBuilder,
 ) -> Result<(), RestoreFault>
     requires attached { (S.state source.old).access ≡ 1 }
-    requires reading { CanRead text.old array.old (stand draft.old) }
-    requires writable { IsWritable (stand draft.old).device }
-    requires closed { IsClosed (stand draft.old).device }
+    requires reading { CanRead text.old array.old (draft_state draft.old) }
+    requires writable { IsWritable (draft_state draft.old).device }
+    requires closed { IsClosed (draft_state draft.old).device }
     ensures same_reference { draft.new.dev.ghost_name ≡ draft.old.dev.ghost_name }
-    ensures all { (before : List Line) (room : ℕ) (start : Stand) → Reading before room text.old array.old start (stand draft.old)
-        → OnOk result (EndsEras before room text.old (S.state source.old).left (S.state source.new).left array.new start (stand draft.new)) }
-    ensures says { (before : List Line) (room : ℕ) (start : Stand) → Reading before room text.old array.old start (stand draft.old)
+    ensures all { (before : List Line) (room : ℕ) (start : DraftState) → Reading before room text.old array.old start (draft_state draft.old)
+        → OnOk result (EndsEras before room text.old (S.state source.old).left (S.state source.new).left array.new start (draft_state draft.new)) }
+    ensures says { (before : List Line) (room : ℕ) (start : DraftState) → Reading before room text.old array.old start (draft_state draft.old)
         → (t : List ℕ) → LeavesOf era t before text.old (S.state source.old).left → IfErr result (SaysOf era era_need_so_far room t) }
     ensures later { IfErr result IsOfLater }
     ensures source { KeepsSource (S.state source.old) (S.state source.new) }
-    ensures closed { StaysClosed (stand draft.old).device (stand draft.new).device }
-    ensures faults { CountsRestore result (S.state source.old).faults (S.state source.new).faults (stand draft.old).device.faults (stand draft.new).device.faults }
+    ensures closed { StaysClosed (draft_state draft.old).device (draft_state draft.new).device }
+    ensures faults { CountsRestore result (S.state source.old).faults (S.state source.new).faults (draft_state draft.old).device.faults (draft_state draft.new).device.faults }
 {
     'lines: while step(text, source, draft, array)? {}
     Ok(())
@@ -54,19 +54,19 @@ pub(crate) fn step<S: Source, D: Device>(
     array: &mut ArrayBuilder,
 ) -> Result<bool, RestoreFault>
     requires attached { (S.state source.old).access ≡ 1 }
-    requires reading { CanRead text.old array.old (stand draft.old) }
-    requires writable { IsWritable (stand draft.old).device }
-    requires closed { IsClosed (stand draft.old).device }
+    requires reading { CanRead text.old array.old (draft_state draft.old) }
+    requires writable { IsWritable (draft_state draft.old).device }
+    requires closed { IsClosed (draft_state draft.old).device }
     ensures same_reference { draft.new.dev.ghost_name ≡ draft.old.dev.ghost_name }
-    ensures steps { (before : List Line) (room : ℕ) (start : Stand) → Reading before room text.old array.old start (stand draft.old)
-        → IfOk result (λ more. StepsEras more before room text.old (S.state source.old).left text.new (S.state source.new).left array.new start (stand draft.new)) }
-    ensures says { (before : List Line) (room : ℕ) (start : Stand) → Reading before room text.old array.old start (stand draft.old)
+    ensures steps { (before : List Line) (room : ℕ) (start : DraftState) → Reading before room text.old array.old start (draft_state draft.old)
+        → IfOk result (λ more. StepsEras more before room text.old (S.state source.old).left text.new (S.state source.new).left array.new start (draft_state draft.new)) }
+    ensures says { (before : List Line) (room : ℕ) (start : DraftState) → Reading before room text.old array.old start (draft_state draft.old)
         → (t : List ℕ) → LeavesOf era t before text.old (S.state source.old).left → IfErr result (SaysOf era era_need_so_far room t) }
     ensures falls { IfOk result (λ more. more ≡ true → array.new.words.left < array.old.words.left) }
     ensures later { IfErr result IsOfLater }
     ensures source { KeepsSource (S.state source.old) (S.state source.new) }
-    ensures closed { StaysClosed (stand draft.old).device (stand draft.new).device }
-    ensures faults { CountsRestore result (S.state source.old).faults (S.state source.new).faults (stand draft.old).device.faults (stand draft.new).device.faults }
+    ensures closed { StaysClosed (draft_state draft.old).device (draft_state draft.new).device }
+    ensures faults { CountsRestore result (S.state source.old).faults (S.state source.new).faults (draft_state draft.old).device.faults (draft_state draft.new).device.faults }
 {
     match text.next(source) {
         Ok(Some(line)) => take(draft, array, line),
@@ -81,16 +81,16 @@ fn take<D: Device>(
     array: &mut ArrayBuilder,
     line: EraLine,
 ) -> Result<bool, RestoreFault>
-    requires take { CanTake array.old line (stand draft.old) }
-    requires writable { IsWritable (stand draft.old).device }
-    requires closed { IsClosed (stand draft.old).device }
+    requires take { CanTake array.old line (draft_state draft.old) }
+    requires writable { IsWritable (draft_state draft.old).device }
+    requires closed { IsClosed (draft_state draft.old).device }
     ensures same_reference { draft.new.dev.ghost_name ≡ draft.old.dev.ghost_name }
     ensures more { IfOk result (λ more. more ≡ true) }
-    ensures gathered { (before : List Line) (start : Stand) → HasGathered before array.old start (stand draft.old) → 2 ≤ length before → IsReadAfter era before (line_of line)
-        → OnOk result (HasGathered (line_of line ∷ before) array.new start (stand draft.new)) }
+    ensures gathered { (before : List Line) (start : DraftState) → HasGathered before array.old start (draft_state draft.old) → 2 ≤ length before → IsReadAfter era before (line_of line)
+        → OnOk result (HasGathered (line_of line ∷ before) array.new start (draft_state draft.new)) }
     ensures fault { IfErr result IsOfBuild }
-    ensures closed { StaysClosed (stand draft.old).device (stand draft.new).device }
-    ensures faults { CountsTake result (stand draft.old).device.faults (stand draft.new).device.faults }
+    ensures closed { StaysClosed (draft_state draft.old).device (draft_state draft.new).device }
+    ensures faults { CountsTake result (draft_state draft.old).device.faults (draft_state draft.new).device.faults }
 {
     match line {
         EraLine::Era { .. } => Ok(true),

@@ -4,10 +4,10 @@ ghost use Rattle.std.specs.Prelude.{◌≡◌, IfOk, OnOk};
 ghost use Rattle.pd_image.specs.Device.{IsWritable};
 ghost use Rattle.pd_kinds.specs.Meaning.{EraMeaning};
 ghost use Rattle.pd_draft.specs.Closed.{IsClosed, StaysClosed};
-ghost use Rattle.pd_draft.specs.Placed.{Stand, Wrote};
-ghost use Rattle.pd_draft.specs.Stand.{stand};
+ghost use Rattle.pd_draft.specs.Placed.{DraftState, Wrote};
+ghost use Rattle.pd_draft.specs.DraftState.{draft_state};
 ghost use Rattle.pd_build.specs.Causes.{CountsBuildFault};
-ghost use Rattle.pd_restore_era.specs.Parts.{HasEras, CanWrite, AreParts, target_behind};
+ghost use Rattle.pd_restore_era.specs.EraRoots.{HasEras, CanWrite, AreParts, target_behind};
 
 use pd_build::{ArrayBuilder, BuildFault, write_tree};
 use pd_draft::Draft;
@@ -19,7 +19,7 @@ use std::alloc::Global;
 
 /// The roots that the superblock of an era target names.
 #[derive(Clone, Copy, Debug, PartialEq, Eq)]
-pub(crate) struct Parts {
+pub(crate) struct EraRoots {
     pub(crate) array_root: u64,
     pub(crate) writesets_root: u64,
     pub(crate) meta_map: SmRoot,
@@ -31,21 +31,21 @@ pub(crate) fn write_parts<D: Device>(
     draft: &mut Draft<'_, D>,
     array: ArrayBuilder,
     room: u64,
-) -> Result<Parts, BuildFault>
-    requires room { CanWrite array room (stand draft.old) }
-    requires writable { IsWritable (stand draft.old).device }
-    requires closed { IsClosed (stand draft.old).device }
+) -> Result<EraRoots, BuildFault>
+    requires room { CanWrite array room (draft_state draft.old) }
+    requires writable { IsWritable (draft_state draft.old).device }
+    requires closed { IsClosed (draft_state draft.old).device }
     ensures same_reference { draft.new.dev.ghost_name ≡ draft.old.dev.ghost_name }
-    ensures wrote { (m : EraMeaning) (start : Stand) → HasEras m array start (stand draft.old)
-        → OnOk result (Wrote (target_behind m room) start (stand draft.new)) }
-    ensures parts { (m : EraMeaning) (start : Stand) → HasEras m array start (stand draft.old) → IfOk result (AreParts m room) }
-    ensures closed { StaysClosed (stand draft.old).device (stand draft.new).device }
-    ensures faults { CountsBuildFault result (stand draft.old).device.faults (stand draft.new).device.faults }
+    ensures wrote { (m : EraMeaning) (start : DraftState) → HasEras m array start (draft_state draft.old)
+        → OnOk result (Wrote (target_behind m room) start (draft_state draft.new)) }
+    ensures parts { (m : EraMeaning) (start : DraftState) → HasEras m array start (draft_state draft.old) → IfOk result (AreParts m room) }
+    ensures closed { StaysClosed (draft_state draft.old).device (draft_state draft.new).device }
+    ensures faults { CountsBuildFault result (draft_state draft.old).device.faults (draft_state draft.new).device.faults }
 {
     let array_root = array.finish(draft)?;
     let writesets_root = write_tree::<Writeset, D>(alloc, draft, &[])?;
     let meta_map = write_own_map(alloc, draft, room)?;
-    Ok(Parts {
+    Ok(EraRoots {
         array_root,
         writesets_root,
         meta_map,

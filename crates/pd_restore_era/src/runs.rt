@@ -3,8 +3,8 @@
 ghost use Rattle.std.specs.Prelude.{◌≡◌, ℕ, List, ◌++◌, OnOk};
 ghost use Rattle.pd_image.specs.Device.{IsWritable};
 ghost use Rattle.pd_draft.specs.Closed.{IsClosed, StaysClosed};
-ghost use Rattle.pd_draft.specs.Placed.{Stand};
-ghost use Rattle.pd_draft.specs.Stand.{stand};
+ghost use Rattle.pd_draft.specs.Placed.{DraftState};
+ghost use Rattle.pd_draft.specs.DraftState.{draft_state};
 ghost use Rattle.pd_spells.specs.EraText.{eras_from};
 ghost use Rattle.pd_build.specs.Causes.{CountsBuildFault};
 ghost use Rattle.pd_restore_era.specs.Put.{HasPut, MayFollow};
@@ -20,14 +20,14 @@ pub(crate) fn put_run<D: Device>(
     count: u32,
     era: u32,
 ) -> Result<(), BuildFault>
-    requires follow { MayFollow count array.old (stand draft.old) }
-    requires writable { IsWritable (stand draft.old).device }
-    requires closed { IsClosed (stand draft.old).device }
+    requires follow { MayFollow count array.old (draft_state draft.old) }
+    requires writable { IsWritable (draft_state draft.old).device }
+    requires closed { IsClosed (draft_state draft.old).device }
     ensures same_reference { draft.new.dev.ghost_name ≡ draft.old.dev.ghost_name }
-    ensures put { (eras : List ℕ) (blocks : ℕ) (start : Stand) → HasPut eras blocks array.old start (stand draft.old)
-        → OnOk result (HasPut (eras ++ eras_from era count) blocks array.new start (stand draft.new)) }
-    ensures closed { StaysClosed (stand draft.old).device (stand draft.new).device }
-    ensures faults { CountsBuildFault result (stand draft.old).device.faults (stand draft.new).device.faults }
+    ensures put { (eras : List ℕ) (blocks : ℕ) (start : DraftState) → HasPut eras blocks array.old start (draft_state draft.old)
+        → OnOk result (HasPut (eras ++ eras_from era count) blocks array.new start (draft_state draft.new)) }
+    ensures closed { StaysClosed (draft_state draft.old).device (draft_state draft.new).device }
+    ensures faults { CountsBuildFault result (draft_state draft.old).device.faults (draft_state draft.new).device.faults }
 {
     for _i in 0..count {
         array.push(draft, era as u64)?;

@@ -4,7 +4,7 @@ ghost use Rattle.std.specs.Prelude.{◌≡◌, ◌≤◌, ℕ, List, IfOk, IfErr
 ghost use Rattle.pd_image.specs.Device.{IsWritable};
 ghost use Rattle.pd_image.specs.Source.{KeepsSource};
 ghost use Rattle.pd_draft.specs.Closed.{IsClosed, StaysClosed};
-ghost use Rattle.pd_draft.specs.Stand.{stand};
+ghost use Rattle.pd_draft.specs.DraftState.{draft_state};
 ghost use Rattle.pd_spells.specs.EraText.{era};
 ghost use Rattle.pd_spells.specs.EraNeed.{era_need_so_far};
 ghost use Rattle.pd_texts.specs.Reader.{LeavesOf, ReadsOn};
@@ -18,7 +18,7 @@ ghost use Rattle.pd_restore_era.specs.Target.{fields_of};
 
 use crate::begin::Target;
 use crate::lines::restore_lines;
-use crate::parts::{Parts, write_parts};
+use crate::parts::{EraRoots, write_parts};
 use pd_array::Word;
 use pd_build::ArrayBuilder;
 use pd_draft::Draft;
@@ -40,19 +40,19 @@ pub(crate) fn write_target<S: Source, D: Device>(
 ) -> Result<Block, RestoreFault>
     requires attached { (S.state source.old).access ≡ 1 }
     requires reads { ReadsOn era EraStands (begun_lines target.now) text.old }
-    requires place { (stand draft.old).place ≡ 1 }
+    requires place { (draft_state draft.old).place ≡ 1 }
     requires need { era_need_so_far room (begun_lines target.now) ≤ room }
     requires most { room ≤ 4161600 }
-    requires there { room ≤ (stand draft.old).device.blocks }
-    requires writable { IsWritable (stand draft.old).device }
-    requires closed { IsClosed (stand draft.old).device }
+    requires there { room ≤ (draft_state draft.old).device.blocks }
+    requires writable { IsWritable (draft_state draft.old).device }
+    requires closed { IsClosed (draft_state draft.old).device }
     ensures same_reference { draft.new.dev.ghost_name ≡ draft.old.dev.ghost_name }
-    ensures writes { IfOk result (Writes era_targets room (λ t. LeavesOf era t (begun_lines target.now) text.old (S.state source.old).left) (S.state source.new).left (stand draft.old) (stand draft.new)) }
+    ensures writes { IfOk result (Writes era_targets room (λ t. LeavesOf era t (begun_lines target.now) text.old (S.state source.old).left) (S.state source.new).left (draft_state draft.old) (draft_state draft.new)) }
     ensures says { (t : List ℕ) → LeavesOf era t (begun_lines target.now) text.old (S.state source.old).left → IfErr result (SaysOf era era_need_so_far room t) }
     ensures later { IfErr result IsOfLater }
     ensures source { KeepsSource (S.state source.old) (S.state source.new) }
-    ensures closed { StaysClosed (stand draft.old).device (stand draft.new).device }
-    ensures faults { CountsRestore result (S.state source.old).faults (S.state source.new).faults (stand draft.old).device.faults (stand draft.new).device.faults }
+    ensures closed { StaysClosed (draft_state draft.old).device (draft_state draft.new).device }
+    ensures faults { CountsRestore result (S.state source.old).faults (S.state source.new).faults (draft_state draft.old).device.faults (draft_state draft.new).device.faults }
 {
     let mut array = match ArrayBuilder::new(alloc, target.blocks as u64, Word::Four) {
         Ok(array) => array,
@@ -66,7 +66,7 @@ pub(crate) fn write_target<S: Source, D: Device>(
 }
 
 /// The superblock's fields.
-fn super_of(target: &Target, parts: Parts) -> EraSuper
+fn super_of(target: &Target, parts: EraRoots) -> EraSuper
     ensures { result ≡ fields_of target.now parts }
 {
     EraSuper {

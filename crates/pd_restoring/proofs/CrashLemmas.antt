@@ -7,7 +7,7 @@ use Rattle.pd_kinds.specs.Objects.{DeviceState}
 use Rattle.pd_kinds.specs.Crash.{LeavesOnly, HoldsSynced, IsNoneOrNew}
 use Rattle.pd_kinds.proofs.CrashLemmas.{and_then, weaken}
 use Rattle.pd_draft.specs.Closed.{StaysClosed}
-use Rattle.pd_draft.specs.Placed.{Stand, Wrote, placed}
+use Rattle.pd_draft.specs.Placed.{DraftState, Wrote, placed}
 use Rattle.pd_draft.proofs.DraftLemmas.{zeros_none}
 use Rattle.pd_laid.specs.Laid.{Laid, written_from}
 use Rattle.pd_restoring.specs.Subject.{Subject}
@@ -21,12 +21,12 @@ none_yet : (made : Image) {old new : DeviceState} → StaysClosed old new → Le
 none_yet made stays = weaken stays.crash (λ image firsts zeroed chance. inl (zeros_none image firsts zeroed))
 
 -- what is held once all is written but the superblock
-held_then : {a b : Stand} (blocks image : Image) → a.place ≡ 1 → Wrote blocks a b → a.device.held ≡ Some image → b.device.held ≡ Some (placed image 1 blocks)
+held_then : {a b : DraftState} (blocks image : Image) → a.place ≡ 1 → Wrote blocks a b → a.device.held ≡ Some image → b.device.held ≡ Some (placed image 1 blocks)
 held_then {a} {b} blocks image begin wrote held =
     at_some a.device.held (λ (i : Image). b.device.held ≡ Some (placed i a.place blocks)) image held wrote.content ∙ ap (λ (place : ℕ). Some (placed image place blocks)) begin
 
 -- then the superblock
-committed : {a b : Stand} {c : DeviceState} (laid : Laid) (super_block : List ℕ) → a.place ≡ 1 → super_block ≡ laid.super_block
+committed : {a b : DraftState} {c : DeviceState} (laid : Laid) (super_block : List ℕ) → a.place ≡ 1 → super_block ≡ laid.super_block
     → Wrote (written_from 1 laid.blocks) a b → ((image : Image) → b.device.held ≡ Some image → LeavesOnly (IsNoneOrNew (set image 0 super_block)) b.device c)
     → (image : Image) → a.device.held ≡ Some image → LeavesOnly (IsNoneOrNew (made_of laid image)) a.device c
 unfolding made_of
@@ -37,7 +37,7 @@ committed {a} {b} {c} laid super_block begin is wrote last image held =
     and_then (none_yet made wrote.stays) leaves
 
 -- and what is held and synced then
-synced : {a b : Stand} {c : DeviceState} (laid : Laid) (super_block : List ℕ) → a.place ≡ 1 → super_block ≡ laid.super_block
+synced : {a b : DraftState} {c : DeviceState} (laid : Laid) (super_block : List ℕ) → a.place ≡ 1 → super_block ≡ laid.super_block
     → Wrote (written_from 1 laid.blocks) a b → IfSome b.device.held (λ image. HoldsSynced (set image 0 super_block) c)
     → (image : Image) → a.device.held ≡ Some image → HoldsSynced (made_of laid image) c
 unfolding made_of
@@ -46,7 +46,7 @@ synced {a} {b} {c} laid super_block begin is wrote done image held =
     rw is at (at_some b.device.held (λ (i : Image). HoldsSynced (set i 0 super_block) c) (placed image 1 behind) (held_then behind image begin wrote held) done)
 
 -- what was written and is committed
-module _ {L M : Type 0} (k : Subject L M) (room : ℕ) (IsOf : List ℕ → Type 0) (left : Option (List ℕ)) {a b : Stand} {old new : DeviceState} {block : Block} (same : a.device ≡ old) (begin : a.place ≡ 1)
+module _ {L M : Type 0} (k : Subject L M) (room : ℕ) (IsOf : List ℕ → Type 0) (left : Option (List ℕ)) {a b : DraftState} {old new : DeviceState} {block : Block} (same : a.device ≡ old) (begin : a.place ≡ 1)
     (w : Writes k room IsOf left a b block) (last : (image : Image) → b.device.held ≡ Some image → LeavesOnly (IsNoneOrNew (set image 0 block.0)) b.device new) where
   pub commits : Commits k room IsOf left old new
   commits = subst (λ (d : DeviceState). Commits k room IsOf left d new) same (record {

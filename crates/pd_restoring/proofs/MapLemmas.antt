@@ -9,7 +9,7 @@ use Rattle.pd_spells.specs.Need.{need_tree, need_meta_map}
 use Rattle.pd_laid_once.specs.Once.{ones_below}
 use Rattle.pd_laid_once.proofs.MapLemmas.{ones_overflow}
 use Rattle.pd_smwrite.specs.Map.{meta_map_blocks, meta_map_need, meta_map_root}
-use Rattle.pd_draft.specs.Placed.{Stand, Wrote}
+use Rattle.pd_draft.specs.Placed.{DraftState, Wrote}
 use Rattle.pd_smwrite.specs.Own.{CountsOwn, HasNone}
 
 -- a one below, and none from there on
@@ -75,7 +75,7 @@ stored_ones : (old new : Counted) (end place number room : ℕ) → end ≡ plac
 stored_ones old new end place number room here is own ones =
     own_ones old new place number own (λ b. ones b ∙ ap (λ (e : ℕ). ones_below e b) here) ∙ ap (λ (n : ℕ). ones_below (place + n)) is
 
-pub stored_blocks : (old new : Counted) (end place number room : ℕ) (from to : Stand) → end ≡ place → number ≡ need_meta_map room → old.size ≡ room → CountsOwn place number old new
+pub stored_blocks : (old new : Counted) (end place number room : ℕ) (from to : DraftState) → end ≡ place → number ≡ need_meta_map room → old.size ≡ room → CountsOwn place number old new
     → ((b : ℕ) → count_of old b ≡ ones_below end b) → Wrote (meta_map_blocks (count_of new) old.size place) from to
     → Wrote (meta_map_blocks (ones_below (place + need_meta_map room)) room place) from to
 stored_blocks old new end place number room from to here is size own ones wrote = rw (stored_ones old new end place number room here is own ones, size) at wrote

@@ -7,7 +7,7 @@ use Rattle.std.proofs.lemmas.Option.{IfSome_then, same_Some}
 use Rattle.pd_kinds.specs.Crash.{HasNoSuper, HoldsOldOrNone, HoldsSynced, IsOldNoneOrMade, IsOldOrNone, LeavesOnly}
 use Rattle.pd_kinds.specs.Field.{zeros}
 use Rattle.pd_kinds.specs.Limits.{room_of}
-use Rattle.pd_kinds.specs.Moments.{now}
+use Rattle.pd_kinds.specs.Moments.{present_moment}
 use Rattle.pd_kinds.specs.Objects.{DeviceState, SourceState}
 use Rattle.pd_kinds.proofs.CrashLemmas.{and_then, weaken, stays, still_tells, left_now, left_synced, left_held}
 use Rattle.pd_image.proofs.CrashLemmas.{at_some}
@@ -51,7 +51,7 @@ both_told (Some text) P Q p q = (p, q)
 -- the device as it was
 pub at_rest : (image : Image) (Made : Image → Type 0) (device : DeviceState) → HoldsSynced image device → LeavesOnly (IsOldNoneOrMade image Made) device device
 at_rest image Made device synced =
-    stays refl refl (λ left firsts leaves chance. inl (left_synced image left (now image device.history) refl synced.unsynced (left_now device image left firsts synced.held leaves).0))
+    stays refl refl (λ left firsts leaves chance. inl (left_synced image left (present_moment image device.history) refl synced.unsynced (left_now device image left firsts synced.held leaves).0))
 
 pub kept_same : (held : Option Image) → IfSome held (λ image. IfSome held (λ now. (now ≡ image) ⊎ HasNoSuper now))
 kept_same None = tt

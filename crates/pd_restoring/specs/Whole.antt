@@ -4,7 +4,7 @@ use Rattle.pd_kinds.specs.declared.block.Block.{Block}
 use Rattle.pd_kinds.specs.Objects.{DeviceState, SourceState}
 use Rattle.pd_kinds.specs.Crash.{LeavesOnly, HoldsSynced, IsNoneOrNew}
 use Rattle.pd_draft.specs.Closed.{StaysClosed}
-use Rattle.pd_draft.specs.Placed.{Stand, Wrote, placed}
+use Rattle.pd_draft.specs.Placed.{DraftState, Wrote, placed}
 use Rattle.pd_grammar.specs.Spelling.{accepted}
 use Rattle.pd_grammar.specs.Texts.{reading}
 use Rattle.pd_laid.specs.Laid.{Laid, laid_number, written_from}
@@ -16,7 +16,7 @@ use Rattle.pd_restoring.specs.Restored.{IsRestored}
 
 -- A meaning is written but for its superblock, which is this block. Of the texts whose first two lines were read, where
 -- the source tells one, that spells it, and has been read to its end
-pub record Writes {L M : Type 0} (k : Subject L M) (room : ℕ) (IsOf : List ℕ → Type 0) (left : Option (List ℕ)) (start now : Stand) (block : Block) : Type 0 where
+pub record Writes {L M : Type 0} (k : Subject L M) (room : ℕ) (IsOf : List ℕ → Type 0) (left : Option (List ℕ)) (start now : DraftState) (block : Block) : Type 0 where
   pub meaning : M
   pub lawful : k.Lawful meaning
   pub fits : laid_number (k.laid meaning room) ≤ room

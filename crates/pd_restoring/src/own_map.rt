@@ -4,7 +4,7 @@ ghost use Rattle.std.specs.Prelude.{◌≡◌, ◌+◌, ◌≤◌, ℕ, IfOk, On
 ghost use Rattle.pd_image.specs.Device.{IsWritable};
 ghost use Rattle.pd_draft.specs.Closed.{IsClosed, StaysClosed};
 ghost use Rattle.pd_draft.specs.Placed.{Wrote};
-ghost use Rattle.pd_draft.specs.Stand.{stand};
+ghost use Rattle.pd_draft.specs.DraftState.{draft_state};
 ghost use Rattle.pd_count.specs.Counted.{count_of};
 ghost use Rattle.pd_spells.specs.Need.{need_meta_map};
 ghost use Rattle.pd_laid_once.specs.Once.{ones_below};
@@ -27,14 +27,14 @@ pub fn write_own_map<D: Device>(
 ) -> Result<SmRoot, BuildFault>
     requires few { room ≤ 4161600 }
     requires within { draft.old.next + need_meta_map room ≤ room }
-    requires writable { IsWritable (stand draft.old).device }
-    requires room { room ≤ (stand draft.old).device.blocks }
-    requires closed { IsClosed (stand draft.old).device }
+    requires writable { IsWritable (draft_state draft.old).device }
+    requires room { room ≤ (draft_state draft.old).device.blocks }
+    requires closed { IsClosed (draft_state draft.old).device }
     ensures same_reference { draft.new.dev.ghost_name ≡ draft.old.dev.ghost_name }
-    ensures wrote { OnOk result (Wrote (meta_map_blocks (ones_below (draft.old.next + need_meta_map room)) room draft.old.next) (stand draft.old) (stand draft.new)) }
+    ensures wrote { OnOk result (Wrote (meta_map_blocks (ones_below (draft.old.next + need_meta_map room)) room draft.old.next) (draft_state draft.old) (draft_state draft.new)) }
     ensures root { IfOk result (λ root. root ≡ meta_map_root (ones_below (draft.old.next + need_meta_map room)) room draft.old.next) }
-    ensures closed { StaysClosed (stand draft.old).device (stand draft.new).device }
-    ensures faults { CountsBuildFault result (stand draft.old).device.faults (stand draft.new).device.faults }
+    ensures closed { StaysClosed (draft_state draft.old).device (draft_state draft.new).device }
+    ensures faults { CountsBuildFault result (draft_state draft.old).device.faults (draft_state draft.new).device.faults }
 {
     let mut counts = match counts_of_ones(alloc, room, draft.next()) {
         Ok(counts) => counts,

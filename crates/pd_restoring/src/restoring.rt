@@ -4,7 +4,7 @@ ghost use Rattle.std.specs.Prelude.{◌≡◌, ◌≤◌, ℕ, List, Option, Som
 ghost use Rattle.pd_image.specs.Device.{IsWritable};
 ghost use Rattle.pd_image.specs.Source.{KeepsSource};
 ghost use Rattle.pd_draft.specs.Closed.{IsClosed, StaysClosed};
-ghost use Rattle.pd_draft.specs.Stand.{stand};
+ghost use Rattle.pd_draft.specs.DraftState.{draft_state};
 ghost use Rattle.pd_restoring.specs.Begin.{BeginsOf, BeginsWith, CountsBegin};
 ghost use Rattle.pd_restoring.specs.Reading.{IsOfLater, SaysOf};
 ghost use Rattle.pd_restoring.specs.Restored.{CountsRestore};
@@ -74,17 +74,17 @@ pub trait Restoring {
     ) -> Result<Block, RestoreFault>
         requires attached { (S.state source.old).access ≡ 1 }
         requires stands { Stands begun }
-        requires place { (stand draft.old).place ≡ 1 }
+        requires place { (draft_state draft.old).place ≡ 1 }
         requires need { (subject self.now).need room (lines begun) ≤ room }
         requires most { room ≤ 4161600 }
-        requires there { room ≤ (stand draft.old).device.blocks }
-        requires writable { IsWritable (stand draft.old).device }
-        requires closed { IsClosed (stand draft.old).device }
+        requires there { room ≤ (draft_state draft.old).device.blocks }
+        requires writable { IsWritable (draft_state draft.old).device }
+        requires closed { IsClosed (draft_state draft.old).device }
         ensures same_reference { draft.new.dev.ghost_name ≡ draft.old.dev.ghost_name }
-        ensures writes { IfOk result (Writes (subject self.now) room (λ t. Leaves t begun (S.state source.old).left) (S.state source.new).left (stand draft.old) (stand draft.new)) }
+        ensures writes { IfOk result (Writes (subject self.now) room (λ t. Leaves t begun (S.state source.old).left) (S.state source.new).left (draft_state draft.old) (draft_state draft.new)) }
         ensures says { (t : List ℕ) → Leaves t begun (S.state source.old).left → IfErr result (SaysOf (subject self.now).format (subject self.now).need room t) }
         ensures later { IfErr result IsOfLater }
         ensures source { KeepsSource (S.state source.old) (S.state source.new) }
-        ensures closed { StaysClosed (stand draft.old).device (stand draft.new).device }
-        ensures faults { CountsRestore result (S.state source.old).faults (S.state source.new).faults (stand draft.old).device.faults (stand draft.new).device.faults };
+        ensures closed { StaysClosed (draft_state draft.old).device (draft_state draft.new).device }
+        ensures faults { CountsRestore result (S.state source.old).faults (S.state source.new).faults (draft_state draft.old).device.faults (draft_state draft.new).device.faults };
 }

@@ -97,7 +97,7 @@ fn restore_closed<K: Restoring, S: Source, D: Device>(
     ensures kept { KeepsPlace (D.state dev.old) (D.state dev.new) }
     ensures faults { CountsRestore result (S.state source.old).faults (S.state source.new).faults (D.state dev.old).faults (D.state dev.new).faults }
 {
-    let mut draft = Draft::over(dev);
+    let mut draft = Draft::on_closed(dev);
     let block = kind.write(alloc, begun, source, &mut draft, room)?;
     match draft.commit(&block) {
         Ok(()) => Ok(()),

@@ -7,7 +7,7 @@ use Rattle.pd_kinds.specs.Edge.{is_outside}
 use Rattle.pd_kinds.specs.Graph.{block_at}
 use Rattle.pd_kinds.specs.Layout.{leaf_entries, node_entries_of}
 use Rattle.pd_kinds.specs.Node.{Entry, entry_count, is_ascending, is_inner_node, key_at, value_at, child_at, node_bad, node_keys, node_tests}
-use Rattle.pd_laid.specs.Salvage.{give, given, is_damaged, child_low, child_high}
+use Rattle.pd_laid.specs.Salvage.{salvaged_below, salvaged_entries, is_damaged, child_low, child_high}
 use Rattle.pd_laws.proofs.SoundLemmas.{none_broken, tests_after_one}
 use Rattle.pd_tree.specs.Cursor.{root_left}
 use Rattle.pd_tree.specs.Items.{item_of}
@@ -98,8 +98,8 @@ module _ (size : ℕ) (block : List ℕ) (ordered : KeysAscend size block) where
   ]
 
 -- what is given ascends, and lies in the range
-pub give_ascends : (size nr : ℕ) (image : List (List ℕ)) (j place low high : ℕ) → AreAscending low high (give size nr image j place low high)
-unfolding give leaf_entries node_entries_of
+pub give_ascends : (size nr : ℕ) (image : List (List ℕ)) (j place low high : ℕ) → AreAscending low high (salvaged_below size nr image j place low high)
+unfolding salvaged_below leaf_entries node_entries_of
 give_ascends size nr image zero place low high = tt
 give_ascends size nr image (suc j) place low high = elim (cases_Bool (is_outside nr place || is_damaged size place (block_at image place))) [
   | inl out ↦ rw out tt
@@ -140,11 +140,11 @@ ascending_none {X} least = refl
 
 -- a cursor at its start, before a root that wasn't read
 pub started : {X : Type 0} (size : ℕ) (decoded : ℕ → X) (nr : ℕ) (image : List (List ℕ)) (root : ℕ) (left : List (ℕ × X)) → left ≡ []
-    → ascending_from 0 (saved_below size decoded nr image 64 all_keys root ++ left) ≡ map (item_of decoded) (given size nr image root)
-unfolding saved_below given
+    → ascending_from 0 (saved_below size decoded nr image 64 all_keys root ++ left) ≡ map (item_of decoded) (salvaged_entries size nr image root)
+unfolding saved_below salvaged_entries
 started {X} size decoded nr image root left none =
-    rw (none, append-nil (map (item_of decoded) (give size nr image 64 root 0 (2 ^ 64))))
-    (all_ascend decoded 0 (2 ^ 64) (give size nr image 64 root 0 (2 ^ 64)) (give_ascends size nr image 64 root 0 (2 ^ 64)))
+    rw (none, append-nil (map (item_of decoded) (salvaged_below size nr image 64 root 0 (2 ^ 64))))
+    (all_ascend decoded 0 (2 ^ 64) (salvaged_below size nr image 64 root 0 (2 ^ 64)) (give_ascends size nr image 64 root 0 (2 ^ 64)))
 
 -- nothing is left below a root that was read
 pub none_below : {X : Type 0} (below : ℕ → List X) (root : Option ℕ) → root ≡ None → root_left below root ≡ []

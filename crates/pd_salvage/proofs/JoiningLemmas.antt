@@ -32,7 +32,7 @@ longer_run v d t (suc n) k =
 abbrev pub longer : Run → Run → Run
 longer begun next = record begun { length = next.target - begun.target + next.length }
 
-taken_on : (begun next : Run) → text.joins (spelled begun) (spelled next) ≡ true
+taken_on : (begun next : Run) → text.continues_run (spelled begun) (spelled next) ≡ true
     → begun_mappings (Some begun) ++ mappings_of (spelled next) ≡ begun_mappings (Some (longer begun next))
 taken_on begun next is =
     let parts = and_parts (nat_eq (begun.virt + begun.length) next.virt) (nat_eq (begun.target + begun.length) next.target && nat_eq begun.time next.time) is in
@@ -51,13 +51,13 @@ run_before_at v d t (suc n) rest some apart = run_before v d t n rest apart
 
 -- a run that doesn't follow another ends it
 apart_next : (r : text.Run) (v d t n : ℕ) (rest : List Mapping) → 1 ≤ n
-    → ((k : ℕ) → text.joins r (record { virtual_block = v; data_block = d; length = k; time = t }) ≡ false)
+    → ((k : ℕ) → text.continues_run r (record { virtual_block = v; data_block = d; length = k; time = t }) ≡ false)
     → IsApart r (joined_runs (mappings_from v d t n ++ rest))
 apart_next r v d t zero rest some apart = absurd (omega arith)
 apart_next r v d t (suc n) rest some apart =
     apart_first r (record { virtual_block = v; data_block = d; time = t }) (joined_runs (mappings_from (suc v) (suc d) t n ++ rest)) apart
 
-taken_apart : (begun next : Run) (rest : List Mapping) → 1 ≤ begun.length → 1 ≤ next.length → text.joins (spelled begun) (spelled next) ≡ false
+taken_apart : (begun next : Run) (rest : List Mapping) → 1 ≤ begun.length → 1 ≤ next.length → text.continues_run (spelled begun) (spelled next) ≡ false
     → joined_runs (begun_mappings (Some begun) ++ (mappings_of (spelled next) ++ rest)) ≡ spelled begun ∷ joined_runs (mappings_of (spelled next) ++ rest)
 taken_apart begun next rest some first apart =
     run_before_at begun.virt begun.target begun.time begun.length (mappings_of (spelled next) ++ rest) some
@@ -81,7 +81,7 @@ module _ (before runs : List Run) (joining : Joining) (ms : List Mapping) (is : 
     more = mappings_of (spelled next)
 
     -- one that follows the begun run
-    pub joins_on : (begun : Run) → joining.begun ≡ Some begun → text.joins (spelled begun) (spelled next) ≡ true
+    pub joins_on : (begun : Run) → joining.begun ≡ Some begun → text.continues_run (spelled begun) (spelled next) ≡ true
         → IsJoining before runs (record { begun = Some (longer begun next) }) (ms ++ more)
     joins_on begun here on =
         let written = rw here at is.written in
@@ -102,7 +102,7 @@ module _ (before runs : List Run) (joining : Joining) (ms : List Mapping) (is : 
         }
 
     -- one that doesn't
-    pub joins_apart : (begun : Run) (new : List Run) → joining.begun ≡ Some begun → text.joins (spelled begun) (spelled next) ≡ false → new ≡ runs ++ begun ∷ []
+    pub joins_apart : (begun : Run) (new : List Run) → joining.begun ≡ Some begun → text.continues_run (spelled begun) (spelled next) ≡ false → new ≡ runs ++ begun ∷ []
         → IsJoining before new (record { begun = Some next }) (ms ++ more)
     joins_apart begun new here apart pushed =
         let written = rw here at is.written in

@@ -7,10 +7,10 @@ use Rattle.pd_kinds.specs.Edge.{is_outside}
 use Rattle.pd_kinds.specs.Graph.{block_at}
 use Rattle.pd_kinds.specs.Layout.{leaf_entries, node_entries_of}
 use Rattle.pd_kinds.specs.Node.{Entry, entry_count, is_inner_node, key_at, value_at, child_at}
-use Rattle.pd_laid.specs.Salvage.{give, is_damaged, child_low, child_high}
-use Rattle.pd_tree.specs.declared.place.Place.{Place}
+use Rattle.pd_laid.specs.Salvage.{salvaged_below, is_damaged, child_low, child_high}
+use Rattle.pd_tree.specs.declared.place.NodePlace.{NodePlace}
 use Rattle.pd_tree.specs.Items.{item_of}
-use Rattle.pd_tree.specs.Place.{after, place_left}
+use Rattle.pd_tree.specs.NodePlace.{after, place_left}
 use Rattle.pd_tree.proofs.PlaceLemmas.{one_less}
 use Rattle.pd_salvage.specs.declared.range.Range.{Range}
 use Rattle.pd_salvage.specs.Range.{child_range, is_in_range, left_at, saved_below}
@@ -20,7 +20,7 @@ none_if : {X : Type 0} (inner : Bool) (xs : List X) → xs ≡ [] → cond inner
 none_if true xs none = none
 none_if false xs none = none
 
-module _ {X : Type 0} (size : ℕ) (decoded : ℕ → X) (nr : ℕ) (image : List (List ℕ)) (j : ℕ) (range : Range) (place : Place) where
+module _ {X : Type 0} (size : ℕ) (decoded : ℕ → X) (nr : ℕ) (image : List (List ℕ)) (j : ℕ) (range : Range) (place : NodePlace) where
   pub takes_nothing : place_left size place ≡ 0 → left_at size decoded nr image j range place ≡ []
   unfolding left_at
   takes_nothing none = rw none (none_if {X = ℕ × X} (is_inner_node place.block.0) [] refl)
@@ -52,26 +52,26 @@ map_joined {X} f g a (suc n) = map-append f (g a) (flat_map g (range_with_len (a
 
 -- an undamaged node that was entered
 module _ {X : Type 0} (size : ℕ) (decoded : ℕ → X) (nr : ℕ) (image : List (List ℕ)) where
-  entered_if : (inner : Bool) (j b : ℕ) (range : Range) (place : Place) → is_inner_node place.block.0 ≡ inner
+  entered_if : (inner : Bool) (j b : ℕ) (range : Range) (place : NodePlace) → is_inner_node place.block.0 ≡ inner
       → is_outside nr b ≡ false → is_damaged size b place.block.0 ≡ false → block_at image b ≡ place.block.0 → place.next ≡ 0
       → saved_below size decoded nr image (suc j) range b ≡ left_at size decoded nr image j range place
-  unfolding saved_below left_at give leaf_entries node_entries_of
+  unfolding saved_below left_at salvaged_below leaf_entries node_entries_of
   entered_if true j b range place inner inside sound is first =
       let all : entry_count size place.block.0 - 0 ≡ entry_count size place.block.0 = omega arith in
       rw (inside, is, sound, inner, first, all)
-      (map_joined (item_of decoded) (λ i. give size nr image j (child_at place.block.0 i) (child_low place.block.0 range.low i) (child_high size place.block.0 range.high i)) 0 (entry_count size place.block.0))
+      (map_joined (item_of decoded) (λ i. salvaged_below size nr image j (child_at place.block.0 i) (child_low place.block.0 range.low i) (child_high size place.block.0 range.high i)) 0 (entry_count size place.block.0))
   entered_if false j b range place leaf inside sound is first =
       let all : entry_count size place.block.0 - 0 ≡ entry_count size place.block.0 = omega arith in
       rw (inside, is, sound, leaf, first, all) refl
 
-  pub entered : (i j b : ℕ) (range : Range) (place : Place) → i ≡ suc j
+  pub entered : (i j b : ℕ) (range : Range) (place : NodePlace) → i ≡ suc j
       → is_outside nr b ≡ false → is_damaged size b place.block.0 ≡ false → block_at image b ≡ place.block.0 → place.next ≡ 0
       → saved_below size decoded nr image i range b ≡ left_at size decoded nr image j range place
   entered i j b range place step inside sound is first = rw step (entered_if (is_inner_node place.block.0) j b range place refl inside sound is first)
 
   -- nothing is given from outside, of a damaged node, and by paths of no node
   pub none_outside : (j b : ℕ) (range : Range) → is_outside nr b ≡ true → saved_below size decoded nr image j range b ≡ []
-  unfolding saved_below give
+  unfolding saved_below salvaged_below
   none_outside zero b range outside = refl
   none_outside (suc j) b range outside = rw outside refl
 
@@ -80,12 +80,12 @@ module _ {X : Type 0} (size : ℕ) (decoded : ℕ → X) (nr : ℕ) (image : Lis
   damaged_if false damaged xs is = rw is refl
 
   pub none_damaged : (j b : ℕ) (range : Range) → is_damaged size b (block_at image b) ≡ true → saved_below size decoded nr image j range b ≡ []
-  unfolding saved_below give
+  unfolding saved_below salvaged_below
   none_damaged zero b range damaged = refl
   none_damaged (suc j) b range damaged = rw (damaged_if (is_outside nr b) (is_damaged size b (block_at image b)) _ damaged) refl
 
   pub none_deep : (j b : ℕ) (range : Range) → j ≡ 0 → saved_below size decoded nr image j range b ≡ []
-  unfolding saved_below give
+  unfolding saved_below salvaged_below
   none_deep j b range deep = rw deep refl
 
   -- nothing is given in a range without keys
@@ -107,8 +107,8 @@ module _ {X : Type 0} (size : ℕ) (decoded : ℕ → X) (nr : ℕ) (image : Lis
   narrow true key next low high empty = omega arith
   narrow false key next low high empty = omega arith
 
-  pub give_empty : (j place low high : ℕ) → high ≤ low → give size nr image j place low high ≡ []
-  unfolding give
+  pub give_empty : (j place low high : ℕ) → high ≤ low → salvaged_below size nr image j place low high ≡ []
+  unfolding salvaged_below
   give_empty zero place low high empty = refl
   give_empty (suc j) place low high empty = elim (cases_Bool (is_outside nr place || is_damaged size place (block_at image place))) [
     | inl out ↦ rw out refl

@@ -14,7 +14,7 @@ use Rattle.pd_kinds.specs.Value.{details_code}
 use Rattle.pd_value.specs.declared.thin.BlockTime.{BlockTime}
 use Rattle.pd_value.specs.declared.thin.Details.{Details}
 use Rattle.pd_value.specs.declared.thin.Root.{Root}
-use Rattle.pd_laid.specs.Salvage.{given, given_device, given_mappings, salvage_from}
+use Rattle.pd_laid.specs.Salvage.{salvaged_entries, salvaged_device, salvaged_mappings, salvage_from}
 use Rattle.pd_thin_meaning.specs.declared.joined.Run.{Run}
 use Rattle.pd_thin_meaning.specs.Items.{block_time_of, details_of}
 use Rattle.pd_thin_meaning.specs.Joined.{mapping_of, spelled}
@@ -66,13 +66,13 @@ mappings_same blocks (e ∷ es) = mapping_if (nat_lt (mapped_block e.value) bloc
 
 -- so are the devices
 device_if : (s : ThinSuper) (image : List (List ℕ)) (keeps : Bool) (e : Entry) (items : List (ℕ × Root)) (es : List Entry)
-    → map (λ item. given_device s image (entry_of item)) items ≡ map (given_device s image) es
-    → map (λ item. given_device s image (entry_of item)) (cond keeps (item_of root_of e ∷ items) items) ≡ map (given_device s image) (cond keeps (e ∷ es) es)
-device_if s image true e items es same = ap (λ (ds : List ThinDevice). given_device s image e ∷ ds) same
+    → map (λ item. salvaged_device s image (entry_of item)) items ≡ map (salvaged_device s image) es
+    → map (λ item. salvaged_device s image (entry_of item)) (cond keeps (item_of root_of e ∷ items) items) ≡ map (salvaged_device s image) (cond keeps (e ∷ es) es)
+device_if s image true e items es same = ap (λ (ds : List ThinDevice). salvaged_device s image e ∷ ds) same
 device_if s image false e items es same = same
 
 pub devices_same : (s : ThinSuper) (image : List (List ℕ)) (es : List Entry)
-    → devices_of s image (map (item_of root_of) es) ≡ map (given_device s image) (filter (λ (top : Entry). not (is_outside s.meta_map.blocks top.value)) es)
+    → devices_of s image (map (item_of root_of) es) ≡ map (salvaged_device s image) (filter (λ (top : Entry). not (is_outside s.meta_map.blocks top.value)) es)
 devices_same s image [] = refl
 devices_same s image (e ∷ es) = device_if s image (not (is_outside s.meta_map.blocks e.value)) e _ _ (devices_same s image es)
 
@@ -93,16 +93,16 @@ details_are transaction time details (Some number) fits is = rw is (record { tra
 -- a device that was saved is the one that is given
 module _ (s : ThinSuper) (image : List (List ℕ)) (id root mapped : ℕ) (details : Details) (given_runs : List Run) where
   pub device_is : FitLost s.transaction s.time
-      → details ≡ unwrap_or (lookup id (map (item_of details_of) (given 24 s.meta_map.blocks image s.details_root))) (lost_details s.transaction s.time)
+      → details ≡ unwrap_or (lookup id (map (item_of details_of) (salvaged_entries 24 s.meta_map.blocks image s.details_root))) (lost_details s.transaction s.time)
       → mapped ≡ length (mappings_of_runs given_runs)
-      → mappings_of_runs given_runs ≡ map mapping_of (filter (λ (item : ℕ × BlockTime). nat_lt item.1.block s.data_map.blocks) (map (item_of block_time_of) (given 8 s.meta_map.blocks image root)))
-      → device_of_part (part_of (saved_device id details mapped (length given_runs)) given_runs) ≡ given_device s image (record { key = id; value = root })
-  unfolding given_device given_mappings
+      → mappings_of_runs given_runs ≡ map mapping_of (filter (λ (item : ℕ × BlockTime). nat_lt item.1.block s.data_map.blocks) (map (item_of block_time_of) (salvaged_entries 8 s.meta_map.blocks image root)))
+      → device_of_part (part_of (saved_device id details mapped (length given_runs)) given_runs) ≡ salvaged_device s image (record { key = id; value = root })
+  unfolding salvaged_device salvaged_mappings
   device_is fits chosen counted written =
-      let entries = given 24 s.meta_map.blocks image s.details_root in
+      let entries = salvaged_entries 24 s.meta_map.blocks image s.details_root in
       let number = value_of_key entries id in
       let are = details_are s.transaction s.time details number fits (chosen ∙ ap (λ (o : Option Details). unwrap_or o (lost_details s.transaction s.time)) (lookup_entries details_of id entries)) in
-      let mappings = written ∙ mappings_same s.data_map.blocks (given 8 s.meta_map.blocks image root) in
+      let mappings = written ∙ mappings_same s.data_map.blocks (salvaged_entries 8 s.meta_map.blocks image root) in
       rw (counted, mappings, are.transaction, are.created, are.snapped) refl
 
 -- the devices with one more
@@ -148,13 +148,13 @@ module _ (blocks least : ℕ) (ds : List SavedDevice) (runs new given_runs : Lis
 pub record Saves (s : ThinSuper) (image : List (List ℕ)) (saving : Saving) : Type 0 where
   pub knows : KnowsFrom (saved_least saving.tops) image saving
   pub all : saved_devices saving.devices.items saving.runs.items ++ devices_of s image (saved_left 8 root_of image saving.tops)
-      ≡ devices_of s image (map (item_of root_of) (given 8 s.meta_map.blocks image s.mapping_root))
+      ≡ devices_of s image (map (item_of root_of) (salvaged_entries 8 s.meta_map.blocks image s.mapping_root))
 
 -- one device more was saved
 module _ (held : Option (List (List ℕ))) (id root mapped runs : ℕ) (details : Details) (old new : Saving) (cursor : SavedCursor BlockTime)
     (small : FitLost old.s.transaction old.s.time) (same : new.s ≡ old.s)
     (found : IfSome held (λ image. IsFoundOr (lost_details old.s.transaction old.s.time) id details (details_left image old.details) (details_left image new.details)))
-    (left : (image : List (List ℕ)) → saved_left 8 block_time_of image cursor ≡ map (item_of block_time_of) (given 8 old.s.meta_map.blocks image root))
+    (left : (image : List (List ℕ)) → saved_left 8 block_time_of image cursor ≡ map (item_of block_time_of) (salvaged_entries 8 old.s.meta_map.blocks image root))
     (low : ℕ) (zero : low ≡ 0)
     (gathered : IsGathered old.s.data_map.blocks low mapped held (λ image. to_come old.s.data_map.blocks image cursor) old.runs.items new.runs.items)
     (number : runs ≡ length gathered.given)
@@ -201,7 +201,7 @@ later_devices blocks low least (d ∷ ds) below are =
 
 -- the device that comes next, and one that is left out
 devices_next : (s : ThinSuper) (image : List (List ℕ)) (id root : ℕ) (left later : List (ℕ × Root)) → left ≡ (id, root_of root) ∷ later → is_outside s.meta_map.blocks root ≡ false
-    → devices_of s image left ≡ given_device s image (record { key = id; value = root }) ∷ devices_of s image later
+    → devices_of s image left ≡ salvaged_device s image (record { key = id; value = root }) ∷ devices_of s image later
 devices_next s image id root left later is inside = rw (is, inside) refl
 
 devices_skip : (s : ThinSuper) (image : List (List ℕ)) (id root : ℕ) (left later : List (ℕ × Root)) → left ≡ (id, root_of root) ∷ later → is_outside s.meta_map.blocks root ≡ true
@@ -217,15 +217,15 @@ module _ (held : Option (List (List ℕ))) (id root : ℕ) (old new : Saving) (t
     one_sound = rw (same, same_tops, step) (saves.lawful (saved_least old.tops) from saving)
 
     one_all : (image : List (List ℕ)) → saved_left 8 root_of image old.tops ≡ (id, root_of root) ∷ saved_left 8 root_of image tops → Saves old.s image old
-        → saved_devices new.devices.items new.runs.items ≡ saved_devices old.devices.items old.runs.items ++ given_device old.s image (record { key = id; value = root }) ∷ []
+        → saved_devices new.devices.items new.runs.items ≡ saved_devices old.devices.items old.runs.items ++ salvaged_device old.s image (record { key = id; value = root }) ∷ []
         → saved_devices new.devices.items new.runs.items ++ devices_of new.s image (saved_left 8 root_of image new.tops)
-        ≡ devices_of new.s image (map (item_of root_of) (given 8 new.s.meta_map.blocks image new.s.mapping_root))
+        ≡ devices_of new.s image (map (item_of root_of) (salvaged_entries 8 new.s.meta_map.blocks image new.s.mapping_root))
     one_all image comes is more =
         rw (
           same,
           same_tops,
           more,
-          append_assoc (saved_devices old.devices.items old.runs.items) (given_device old.s image (record { key = id; value = root }) ∷ []) (devices_of old.s image (saved_left 8 root_of image tops)),
+          append_assoc (saved_devices old.devices.items old.runs.items) (salvaged_device old.s image (record { key = id; value = root }) ∷ []) (devices_of old.s image (saved_left 8 root_of image tops)),
           ← devices_next old.s image id root (saved_left 8 root_of image old.tops) (saved_left 8 root_of image tops) comes inside,
         )
         is.all
@@ -273,9 +273,9 @@ pub all_saved : (s : ThinSuper) (image : List (List ℕ)) (saving : Saving) → 
     → pool_of (record { head = head_of s; devices = saving.devices.items; runs = saving.runs.items }) ≡ salvage_from s image
 unfolding pool_of salvage_from
 all_saved s image saving is none =
-    let devices : saved_devices saving.devices.items saving.runs.items ≡ devices_of s image (map (item_of root_of) (given 8 s.meta_map.blocks image s.mapping_root)) =
+    let devices : saved_devices saving.devices.items saving.runs.items ≡ devices_of s image (map (item_of root_of) (salvaged_entries 8 s.meta_map.blocks image s.mapping_root)) =
     sym (append-nil (saved_devices saving.devices.items saving.runs.items)) ∙ (rw none at is.all) in
-    rw (devices, devices_same s image (given 8 s.meta_map.blocks image s.mapping_root)) refl
+    rw (devices, devices_same s image (salvaged_entries 8 s.meta_map.blocks image s.mapping_root)) refl
 
 abbrev SavedEnds : SavedCursor Root → SavedCursor Root → List (List ℕ) → Type 0
 SavedEnds old new image = (saved_left 8 root_of image old ≡ []) × (saved_left 8 root_of image new ≡ [])

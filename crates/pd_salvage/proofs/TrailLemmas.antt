@@ -11,7 +11,7 @@ use Rattle.pd_kinds.specs.Rule.{all_rules}
 use Rattle.pd_laws.proofs.SoundLemmas.{none_broken}
 use Rattle.pd_laid.proofs.NodeFacts.{none_pass}
 use Rattle.pd_laid.specs.Salvage.{is_damaged}
-use Rattle.pd_tree.specs.declared.place.Place.{Place}
+use Rattle.pd_tree.specs.declared.place.NodePlace.{NodePlace}
 use Rattle.pd_tree.specs.declared.stack.Stack.{Stack}
 use Rattle.pd_tree.specs.Stack.{last_place, place_at, stacked}
 use Rattle.pd_tree.specs.Steps.{TakesLast, IsPassed, ended, deep}
@@ -24,7 +24,7 @@ use Rattle.pd_salvage.proofs.RangeLemmas.{entered, none_damaged, none_deep, none
 
 module _ {X : Type 0} (size : ℕ) (decoded : ℕ → X) (nr : ℕ) (image : List (List ℕ)) (ranges : List Range) where
   -- a range that is written changes nothing at the places before it
-  ranges_before : (places : List Place) (d n : ℕ) (range : Range) → n ≤ d
+  ranges_before : (places : List NodePlace) (d n : ℕ) (range : Range) → n ≤ d
       → stacked (left_below size decoded nr image (set ranges d range)) places n ≡ stacked (left_below size decoded nr image ranges) places n
   unfolding stacked
   ranges_before places d zero range before = refl
@@ -32,9 +32,9 @@ module _ {X : Type 0} (size : ℕ) (decoded : ℕ → X) (nr : ℕ) (image : Lis
       let other : n ≢ d = omega arith in
       rw (get_or-set_other ranges d n range no_range other, ranges_before places d n range (omega arith)) refl
 
-  module _ (places now : List Place) (d beside b : ℕ) (range : Range) (at : beside ≡ d) (same : SameBelow places now d) where
+  module _ (places now : List NodePlace) (d beside b : ℕ) (range : Range) (at : beside ≡ d) (same : SameBelow places now d) where
     -- a node that was entered
-    pub entered_left : (n : ℕ) (place : Place) → n ≡ d + 1 → place_at now (n - 1) ≡ place → block_at image b ≡ place.block.0 → d < length ranges → d < 64 → is_outside nr b ≡ false
+    pub entered_left : (n : ℕ) (place : NodePlace) → n ≡ d + 1 → place_at now (n - 1) ≡ place → block_at image b ≡ place.block.0 → d < length ranges → d < 64 → is_outside nr b ≡ false
         → is_damaged size b place.block.0 ≡ false → place.next ≡ 0
         → stacked (left_below size decoded nr image (set ranges beside range)) now n ≡ saved_below size decoded nr image (64 - d) range b ++ stacked (left_below size decoded nr image ranges) places d
     entered_left n place depth last is room most inside sound first =
@@ -63,7 +63,7 @@ module _ {X : Type 0} (size : ℕ) (decoded : ℕ → X) (nr : ℕ) (image : Lis
 
   -- a step at the last place
   module _ (old new : Stack) (some : 0 < old.depth) (room : old.depth ≤ length old.places.items) where
-    abbrev place : Place
+    abbrev place : NodePlace
     place = last_place old
 
     abbrev range : Range

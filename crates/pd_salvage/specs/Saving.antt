@@ -7,7 +7,7 @@ use Rattle.pd_kinds.specs.Meaning.{ThinDevice}
 use Rattle.pd_kinds.specs.Node.{Entry}
 use Rattle.pd_value.specs.declared.thin.Details.{Details}
 use Rattle.pd_value.specs.declared.thin.Root.{Root}
-use Rattle.pd_laid.specs.Salvage.{given, given_device}
+use Rattle.pd_laid.specs.Salvage.{salvaged_entries, salvaged_device}
 use Rattle.pd_thin_meaning.specs.declared.joined.Run.{Run}
 use Rattle.pd_thin_meaning.specs.Items.{details_of}
 use Rattle.pd_spells.specs.Lawful.{AreDevices}
@@ -40,7 +40,7 @@ pub record HasReadyCursors (saving : Saving) : Type 0 where
 
 -- the entries of the details tree
 abbrev pub all_details : ThinSuper → List (List ℕ) → List Entry
-all_details s image = given 24 s.meta_map.blocks image s.details_root
+all_details s image = salvaged_entries 24 s.meta_map.blocks image s.details_root
 
 -- the details of a device whose own are lost: the pool's transaction, and its time as created and as snapped
 abbrev pub lost_details : ℕ → ℕ → Details
@@ -57,7 +57,7 @@ pub record IsStarted (s : ThinSuper) (saving : Saving) : Type 0 where
   pub ready : HasReadyCursors saving
   pub devices : saving.devices.items ≡ []
   pub runs : saving.runs.items ≡ []
-  pub tops_left : (image : List (List ℕ)) → saved_left 8 root_of image saving.tops ≡ map (item_of root_of) (given 8 s.meta_map.blocks image s.mapping_root)
+  pub tops_left : (image : List (List ℕ)) → saved_left 8 root_of image saving.tops ≡ map (item_of root_of) (salvaged_entries 8 s.meta_map.blocks image s.mapping_root)
   pub least : saved_least saving.tops ≡ 0
   pub details : (image : List (List ℕ)) → details_left image saving.details ≡ map (item_of details_of) (all_details s image)
 
@@ -68,7 +68,7 @@ entry_of item = record { key = item.0; value = item.1.0 }
 -- the devices of some entries of the mapping tree
 abbrev pub devices_of : ThinSuper → List (List ℕ) → List (ℕ × Root) → List ThinDevice
 devices_of s image items =
-    map (λ item. given_device s image (entry_of item)) (filter (λ (item : ℕ × Root). not (is_outside s.meta_map.blocks item.1.0)) items)
+    map (λ item. salvaged_device s image (entry_of item)) (filter (λ (item : ℕ × Root). not (is_outside s.meta_map.blocks item.1.0)) items)
 
 -- the details of ids from this one on can be found
 abbrev pub KnowsFrom : ℕ → List (List ℕ) → Saving → Type 0
@@ -113,4 +113,4 @@ pub record SavesDevice (held : Option (List (List ℕ))) (id root : ℕ) (old ne
       → IsSaving old.s.data_map.blocks (id + 1) new.devices.items new.runs.items
   pub told : IfSome held (λ image. (least : ℕ) → least ≤ id → KnowsFrom least image old → runs_of_devices old.devices.items ≡ length old.runs.items
       → KnowsFrom (id + 1) image new
-      × (saved_devices new.devices.items new.runs.items ≡ saved_devices old.devices.items old.runs.items ++ given_device old.s image (record { key = id; value = root }) ∷ []))
+      × (saved_devices new.devices.items new.runs.items ≡ saved_devices old.devices.items old.runs.items ++ salvaged_device old.s image (record { key = id; value = root }) ∷ []))

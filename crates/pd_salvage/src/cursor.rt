@@ -35,7 +35,7 @@ impl<V: Value> SavedCursor<V> {
     ghost use Rattle.std.specs.Prelude.{◌≡◌, ℕ, ◌+◌, ◌<◌, ◌≤◌, List, ◌++◌, true, map, None, OnOk, IfOk, IfSome};
     ghost use Rattle.pd_kinds.specs.Objects.{CountsFault};
     ghost use Rattle.pd_image.specs.Device.{IsAttached, OnlyReads};
-    ghost use Rattle.pd_laid.specs.Salvage.{given};
+    ghost use Rattle.pd_laid.specs.Salvage.{salvaged_entries};
     ghost use Rattle.pd_tree.specs.Cursor.{root_left};
     ghost use Rattle.pd_tree.specs.Items.{item_of};
     ghost use Rattle.pd_tree.specs.Next.{IsNext};
@@ -48,7 +48,7 @@ impl<V: Value> SavedCursor<V> {
     ///
     /// Fails with `AllocError` where that memory wasn't found.
     pub fn start(alloc: Global, nr: u64, root: u64) -> Result<SavedCursor<V>, AllocError>
-        ensures left { (image : List (List ℕ)) → IfOk result (λ cursor. saved_left V.SIZE V.decoded image cursor ≡ map (item_of V.decoded) (given V.SIZE nr image root)) }
+        ensures left { (image : List (List ℕ)) → IfOk result (λ cursor. saved_left V.SIZE V.decoded image cursor ≡ map (item_of V.decoded) (salvaged_entries V.SIZE nr image root)) }
         ensures least { IfOk result (λ cursor. saved_least cursor ≡ 0) }
         ensures room { IfOk result (λ cursor. saved_room cursor ≡ nr) }
     {
@@ -63,7 +63,7 @@ impl<V: Value> SavedCursor<V> {
     /// Goes before the first entry of the tree with this root, of a pool with so many metadata blocks, in the memory
     /// that the cursor has.
     pub fn restart(&mut self, nr: u64, root: u64)
-        ensures left { (image : List (List ℕ)) → saved_left V.SIZE V.decoded image self.new ≡ map (item_of V.decoded) (given V.SIZE nr image root) }
+        ensures left { (image : List (List ℕ)) → saved_left V.SIZE V.decoded image self.new ≡ map (item_of V.decoded) (salvaged_entries V.SIZE nr image root) }
         ensures least { saved_least self.new ≡ 0 }
         ensures room { saved_room self.new ≡ nr }
     {

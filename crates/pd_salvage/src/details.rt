@@ -33,14 +33,14 @@ impl SavedDetails {
     ghost use Rattle.std.specs.Prelude.{◌≡◌, ℕ, ◌+◌, ◌^◌, ◌<◌, ◌≤◌, List, map, IfOk, IfSome};
     ghost use Rattle.pd_kinds.specs.Objects.{CountsFault};
     ghost use Rattle.pd_image.specs.Device.{IsAttached, OnlyReads};
-    ghost use Rattle.pd_laid.specs.Salvage.{given};
+    ghost use Rattle.pd_laid.specs.Salvage.{salvaged_entries};
     ghost use Rattle.pd_thin_meaning.specs.Items.{details_of};
     ghost use Rattle.pd_tree.specs.Items.{item_of};
     ghost use Rattle.pd_salvage.specs.Details.{details_left, details_room, IsFound, IsFoundOr, IsKnown};
 
     /// Those of the details tree with this root, of a pool with so many metadata blocks.
     pub(crate) fn start(alloc: Global, nr: u64, root: u64) -> Result<SavedDetails, AllocError>
-        ensures left { (image : List (List ℕ)) → IfOk result (λ details. details_left image details ≡ map (item_of details_of) (given 24 nr image root)) }
+        ensures left { (image : List (List ℕ)) → IfOk result (λ details. details_left image details ≡ map (item_of details_of) (salvaged_entries 24 nr image root)) }
         ensures room { IfOk result (λ details. details_room details ≡ nr) }
     {
         let entries = SavedCursor::start(alloc, nr, root)?;

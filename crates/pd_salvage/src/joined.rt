@@ -1,7 +1,7 @@
 //! Runs that are joined as they come.
 
 ghost use Rattle.std.specs.Prelude.{◌≡◌};
-ghost use Rattle.pd_spells.specs.ThinText.{joins};
+ghost use Rattle.pd_spells.specs.ThinText.{continues_run};
 ghost use Rattle.pd_thin_meaning.specs.Joined.{spelled};
 
 use pd_thin_meaning::Run;
@@ -15,7 +15,7 @@ pub struct Joining {
 
 /// Whether a run follows another.
 fn follows(begun: &Run, next: &Run) -> bool
-    ensures { result ≡ joins (spelled begun.now) (spelled next.now) }
+    ensures { result ≡ continues_run (spelled begun.now) (spelled next.now) }
 {
     let next_virtual = next.virt >= begun.virt && next.virt - begun.virt == begun.length;
     let next_data = next.target >= begun.target && next.target - begun.target == begun.length;

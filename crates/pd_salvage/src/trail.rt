@@ -38,7 +38,7 @@ impl Trail {
     ghost use Rattle.std.specs.Prelude.{◌≡◌, ◌+◌, ◌-◌, ◌<◌, ◌≤◌, ◌++◌, ◌↔◌, IsTrue, OnOk, IfOk, IfSome};
     ghost use Rattle.pd_kinds.specs.Objects.{CountsFault};
     ghost use Rattle.pd_image.specs.Device.{IsAttached, OnlyReads};
-    ghost use Rattle.pd_tree.specs.Stack.{unit};
+    ghost use Rattle.pd_tree.specs.Stack.{child_weight};
     ghost use Rattle.pd_salvage.specs.Range.{saved_below};
     ghost use Rattle.pd_salvage.specs.Trail.{range_at, trail_left, trail_number};
     ghost use Rattle.pd_salvage.specs.Steps.{StepsOnTrail};
@@ -79,7 +79,7 @@ impl Trail {
         requires room { self.old.stack.depth < 64 }
         ensures left { OnOk result (IfSome (D.state dev.old).held (λ image.
             trail_left V.SIZE V.decoded image self.new ≡ saved_below V.SIZE V.decoded self.old.nr image (64 - self.old.stack.depth) range b ++ trail_left V.SIZE V.decoded image self.old)) }
-        ensures number { OnOk result (trail_number V.SIZE self.new < trail_number V.SIZE self.old + unit (64 - self.old.stack.depth)) }
+        ensures number { OnOk result (trail_number V.SIZE self.new < trail_number V.SIZE self.old + child_weight (64 - self.old.stack.depth)) }
         ensures same { self.new.nr ≡ self.old.nr }
         ensures kept { OnlyReads (D.state dev.old) (D.state dev.new) }
         ensures faults { CountsFault result (D.state dev.old).faults (D.state dev.new).faults }

@@ -18,7 +18,7 @@ use Rattle.pd_kinds.specs.ThinSuper.{ThinFields, thin_fields}
 use Rattle.pd_kinds.specs.Whole.{top_entries}
 use Rattle.pd_laws.specs.InOrder.{AreInOrder}
 use Rattle.pd_laws.proofs.AllLemmas.{all_from, none_passes}
-use Rattle.pd_laid.specs.Salvage.{given_device, salvage, salvage_from}
+use Rattle.pd_laid.specs.Salvage.{salvaged_device, salvage, salvage_from}
 use Rattle.pd_laid.specs.Shape.{Piece, ShapeDevice, ThinShape}
 use Rattle.pd_laid.specs.Visits.{Visit, entries_of_visit}
 use Rattle.pd_laid.proofs.NodeFacts.{block_pair, under_all, visited_root, within_at}
@@ -254,7 +254,7 @@ module _ (image : List (List ℕ))
       ∙ ap₂ (λ (ones leaves : List ℕ). pieces_of image ones leaves) shared_same all.leaves
 
   devices_same : (es : List Entry) → AllByRecursion (λ (top : Entry). IsDeviceRoot top.value) es
-      → map (saved_device_shape fields image) es ≡ device_shapes graph image (map (given_device fields image) es) (map (λ (e : Entry). e.value) es)
+      → map (saved_device_shape fields image) es ≡ device_shapes graph image (map (salvaged_device fields image) es) (map (λ (e : Entry). e.value) es)
   devices_same [] are = refl
   devices_same (top ∷ es) are =
       ap₂ (λ (pieces : List Piece) (rest : List ShapeDevice). record (saved_device_shape fields image top) { pieces = pieces } ∷ rest)
@@ -270,7 +270,7 @@ module _ (image : List (List ℕ))
       = ap (map (saved_device_shape fields image)) tops_saved
       ∙ (devices_same tops roots_are
       ∙ ap (λ (ds : List ThinDevice). device_shapes graph image ds (map (λ (e : Entry). e.value) tops))
-      (ap (map (given_device fields image)) (sym tops_saved) ∙ ap (λ (m : ThinPool). m.devices) same)) in
+      (ap (map (salvaged_device fields image)) (sym tops_saved) ∙ ap (λ (m : ThinPool). m.devices) same)) in
       ap (λ (m : ThinPool). shape_with m (map (mappings_in image) (saved_shared fields image)) (map (saved_device_shape fields image) (saved_tops fields image))) same
       ∙ ap₂ (λ (ones : List ℕ) (ds : List ShapeDevice). shape_with (thin_meaning image) (map (mappings_in image) ones) ds) shared_same devices
 

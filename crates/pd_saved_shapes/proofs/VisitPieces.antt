@@ -13,7 +13,7 @@ use Rattle.pd_kinds.specs.Meaning.{Mapping, ThinDevice}
 use Rattle.pd_kinds.specs.Node.{Entry}
 use Rattle.pd_kinds.specs.ThinFormat.{mapped_block, mapped_time}
 use Rattle.pd_kinds.specs.ThinSuper.{ThinFields}
-use Rattle.pd_laid.specs.Salvage.{given, given_device, given_mappings, salvage_from}
+use Rattle.pd_laid.specs.Salvage.{salvaged_entries, salvaged_device, salvaged_mappings, salvage_from}
 use Rattle.pd_laid.specs.Shape.{ArePieces, IsShape, Piece, ShapeDevice, device_of, piece_mappings, pool_of, uses_of, uses_of_piece}
 use Rattle.pd_laid.specs.Visits.{Visit, entries_of_visit, visited}
 use Rattle.pd_laid.proofs.VisitLemmas.{visits_give}
@@ -168,8 +168,8 @@ module _ (fields : ThinFields) (image : List (List ℕ)) where
       ap (λ (rest : List Mapping). saved v ++ rest) (saved_joined vs)
       ∙ sym (ap (map mapping_of) (filter-append in_pool here later) ∙ map-append mapping_of (filter in_pool here) (filter in_pool later))
 
-  visits_save : (root : ℕ) → flat_map saved (visited 8 fields.meta_map.blocks image root) ≡ given_mappings fields image root
-  unfolding given_mappings given visited
+  visits_save : (root : ℕ) → flat_map saved (visited 8 fields.meta_map.blocks image root) ≡ salvaged_mappings fields image root
+  unfolding salvaged_mappings salvaged_entries visited
   visits_save root =
       saved_joined (visited 8 fields.meta_map.blocks image root)
       ∙ ap (λ (es : List Entry). map mapping_of (filter (λ (e : Entry). nat_lt (mapped_block e.value) fields.data_map.blocks) es))
@@ -179,13 +179,13 @@ module _ (fields : ThinFields) (image : List (List ℕ)) where
   ones = saved_shared fields image
 
   -- each device means the saved one
-  device_means : (top : Entry) → device_of (leaves image ones) (saved_device_shape fields image top) ≡ given_device fields image top
-  unfolding given_device
+  device_means : (top : Entry) → device_of (leaves image ones) (saved_device_shape fields image top) ≡ salvaged_device fields image top
+  unfolding salvaged_device
   device_means top =
-      ap (λ (ms : List Mapping). record (given_device fields image top) { mappings = ms })
+      ap (λ (ms : List Mapping). record (salvaged_device fields image top) { mappings = ms })
       (visits_mean ones (device_visits fields image top) ∙ visits_save top.value)
 
-  devices_mean : (tops : List Entry) → map (device_of (leaves image ones)) (map (saved_device_shape fields image) tops) ≡ map (given_device fields image) tops
+  devices_mean : (tops : List Entry) → map (device_of (leaves image ones)) (map (saved_device_shape fields image) tops) ≡ map (salvaged_device fields image) tops
   devices_mean [] = refl
   devices_mean (top ∷ tops) = ap₂ (λ (d : ThinDevice) (ds : List ThinDevice). d ∷ ds) (device_means top) (devices_mean tops)
 

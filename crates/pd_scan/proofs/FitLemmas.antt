@@ -13,7 +13,7 @@ use Rattle.pd_measures.specs.Measures.{measure_at}
 use Rattle.pd_measures.proofs.SoundLemmas.{root_inside}
 use Rattle.pd_scan.specs.declared.trees.LostTrees.{LostTrees}
 use Rattle.pd_scan.specs.Lost.{AreRoots}
-use Rattle.pd_scan.specs.Pairs.{AreTreesOf, IsBestOf, may_fit, pair_of}
+use Rattle.pd_scan.specs.Pairs.{AreTreesOf, IsBestOf, may_fit, pair_of_trees}
 use Rattle.pd_scan.specs.Partners.{has_sum, is_partner, sum_of, time_at}
 use Rattle.pd_scan.specs.Tops.{is_noted_good}
 
@@ -109,8 +109,8 @@ module _ (image : List (List ℕ)) (data_blocks : ℕ) (trees : LostTrees) (are 
     -- and their roots are told by what is measured of them
     pub pair_by : roots_by top details (total_of (counts_of_top (lost_graph image data_blocks) image top))
         (max (top_time (lost_graph image data_blocks) image top) (details_time (lost_graph image data_blocks) image details))
-        (details_transaction (lost_graph image data_blocks) image details) (times_of_top (lost_graph image data_blocks) image top) ≡ pair_of trees top details
-    unfolding pair_of
+        (details_transaction (lost_graph image data_blocks) image details) (times_of_top (lost_graph image data_blocks) image top) ≡ pair_of_trees trees top details
+    unfolding pair_of_trees
     pair_by =
         let graph = lost_graph image data_blocks in
         let told = are.told in
@@ -133,9 +133,9 @@ module _ (image : List (List ℕ)) (data_blocks : ℕ) (trees : LostTrees) (are 
 
   -- the best of all pairs by what is measured of them is what is to be found
   module _ (roots : (top details : ℕ) → are_fitting (lost_graph image data_blocks) image top details ≡ true
-      → roots_at (lost_graph image data_blocks) image top details ≡ pair_of trees top details) where
+      → roots_at (lost_graph image data_blocks) image top details ≡ pair_of_trees trees top details) where
     pub is_found : (found : Option FoundRoots)
-        → IsBestOf (are_fitting (lost_graph image data_blocks) image) (pair_of trees) (λ t d. t < size_of trees.tops) found → IsFound (lost_graph image data_blocks) image found
+        → IsBestOf (are_fitting (lost_graph image data_blocks) image) (pair_of_trees trees) (λ t d. t < size_of trees.tops) found → IsFound (lost_graph image data_blocks) image found
     is_found None none = λ top details.
         let graph = lost_graph image data_blocks in
         false_from_ne_true (are_fitting graph image top details)

@@ -19,8 +19,8 @@ use Rattle.pd_measures.specs.Counts.{DeviceCount, counts_of_details, counts_of_t
 use Rattle.pd_measures.specs.Measures.{measure_at}
 use Rattle.pd_measures.proofs.SoundLemmas.{root_inside}
 use Rattle.pd_scan.specs.declared.trees.LostTrees.{LostTrees}
-use Rattle.pd_scan.specs.Numbers.{AreDetailsNumbered, AreNumbered, AreTold, AreTopsChanged, AreTopsNumbered, DeviceList, HaveNumbers, IsNumber, IsTopNumber, Numbers, details_list, list_cmp, top_list, with_number}
-use Rattle.pd_scan.specs.Pairs.{AreTreesOf, IsBestOf, may_fit, pair_of}
+use Rattle.pd_scan.specs.Numbers.{AreDetailsNumbered, AreNumbered, AreTold, AreTopsChanged, AreTopsNumbered, DeviceCounts, HaveNumbers, IsNumber, IsTopNumber, Numbers, details_list, list_cmp, top_list, with_number}
+use Rattle.pd_scan.specs.Pairs.{AreTreesOf, IsBestOf, may_fit, pair_of_trees}
 use Rattle.pd_scan.specs.Partners.{has_sum, is_partner, sum_cmp, sum_of, time_of}
 use Rattle.pd_scan.specs.Lost.{AreRoots}
 use Rattle.pd_scan.specs.Tops.{is_noted_good}
@@ -63,8 +63,8 @@ own_list (x ∷ xs) =
     equal_both (sum_cmp x x) (slice_cmp sum_cmp xs xs) (equal_both (nat_cmp x.0 x.0) (nat_cmp x.1 x.1) (own_number x.0) (own_number x.1)) (own_list xs)
 
 -- what a table has at a list
-same_key : (numbers : Numbers) (a b : DeviceList) → vec_items a ≡ vec_items b → get list_cmp numbers a ≡ get list_cmp numbers b
-same_key numbers a b same = ap (λ (items : List (ℕ × ℕ)). get_by (λ (key : DeviceList). slice_cmp sum_cmp items (vec_items key)) numbers) same
+same_key : (numbers : Numbers) (a b : DeviceCounts) → vec_items a ≡ vec_items b → get list_cmp numbers a ≡ get list_cmp numbers b
+same_key numbers a b same = ap (λ (items : List (ℕ × ℕ)). get_by (λ (key : DeviceCounts). slice_cmp sum_cmp items (vec_items key)) numbers) same
 
 abbrev the_count : ℕ → ℕ → DeviceCount
 the_count id mapped = record { id = id; mapped = mapped }
@@ -98,7 +98,7 @@ module _ (graph : Graph) (image : List (List ℕ)) where
   }
 
   -- and one that is
-  module _ (old new : Measures) (before after : Numbers) (list : DeviceList) (b number : ℕ) (is_list : vec_items list ≡ details_list graph image b)
+  module _ (old new : Measures) (before after : Numbers) (list : DeviceCounts) (b number : ℕ) (is_list : vec_items list ≡ details_list graph image b)
       (changed : (c : ℕ) → measure_at new c ≡ cond (nat_eq c b) (with_number (measure_at old b) number) (measure_at old c))
       (are : AreNumbered graph image old b before) where
     here : (c : ℕ) → c ≡ b → (measure_at new c).print ≡ number
@@ -115,11 +115,11 @@ module _ (graph : Graph) (image : List (List ℕ)) where
         let print = earlier c ne in
         (omega arith, ap (details_list graph image) print ∙ is.1)
 
-    at_list : (c : ℕ) → c ≡ b → (key : DeviceList) → vec_items key ≡ details_list graph image c → vec_items list ≡ vec_items key
+    at_list : (c : ℕ) → c ≡ b → (key : DeviceCounts) → vec_items key ≡ details_list graph image c → vec_items list ≡ vec_items key
     at_list c same key e = is_list ∙ (ap (details_list graph image) (sym same) ∙ sym e)
 
     numbered_by : (found : Option ℕ) → get list_cmp before list ≡ found
-        → MatchOption found ((number ≡ b) × ((key : DeviceList) → get list_cmp after key ≡ cond (is_eq (list_cmp list key)) (Some b) (get list_cmp before key)))
+        → MatchOption found ((number ≡ b) × ((key : DeviceCounts) → get list_cmp after key ≡ cond (is_eq (list_cmp list key)) (Some b) (get list_cmp before key)))
         (λ known. (number ≡ known) × (after ≡ before))
         → AreNumbered graph image new (b + 1) after
     numbered_by (Some n) e is =
@@ -182,7 +182,7 @@ module _ (graph : Graph) (image : List (List ℕ)) where
     ];
   }
 
-  pub top_numbered : (numbers : Numbers) (none top number : ℕ) (old new : Measures) (list : DeviceList) → vec_items list ≡ top_list graph image top
+  pub top_numbered : (numbers : Numbers) (none top number : ℕ) (old new : Measures) (list : DeviceCounts) → vec_items list ≡ top_list graph image top
       → number ≡ unwrap_or (get list_cmp numbers list) none
       → ((t : ℕ) → measure_at new t ≡ cond (nat_eq t top) (with_number (measure_at old top) number) (measure_at old t))
       → AreTopsNumbered graph image numbers none top old → AreTopsNumbered graph image numbers none (top + 1) new
@@ -255,10 +255,10 @@ module _ (old middle new : LostTrees) (first : AreDetailsNumbered old middle) (s
   both_changed : new ≡ record old { details_measures = middle.details_measures; top_measures = new.top_measures }
   both_changed = second.same ∙ ap (λ (t : LostTrees). record t { top_measures = new.top_measures }) first.same
 
-  pub pairs_same : (top details : ℕ) → pair_of new top details ≡ pair_of old top details
-  unfolding pair_of roots_by
+  pub pairs_same : (top details : ℕ) → pair_of_trees new top details ≡ pair_of_trees old top details
+  unfolding pair_of_trees roots_by
   pairs_same top details =
-      ap (λ (t : LostTrees). pair_of t top details) both_changed
+      ap (λ (t : LostTrees). pair_of_trees t top details) both_changed
       ∙ ap₂ (λ (m d : Measured). roots_by top details m d)
       (second.measures.measures top ∙ ap (λ (t : LostTrees). with_number (measure_at t.top_measures top) (measure_at new.top_measures top).print) first.same)
       (first.measures.measures details)
@@ -355,7 +355,7 @@ on_both (Err e) P Q R f p q = tt
 
 -- the best of trees that may fit are among them
 pub best_inside : (trees : LostTrees) (n : ℕ) (A : ℕ → ℕ → Type 0) → size_of trees.tops ≡ n → size_of trees.details ≡ n → (found : Option Roots)
-    → IsBestOf (may_fit trees) (pair_of trees) A (found_of found) → IfSome found (AreInside n)
+    → IsBestOf (may_fit trees) (pair_of_trees trees) A (found_of found) → IfSome found (AreInside n)
 best_inside trees n A tops details None best = tt
 best_inside trees n A tops details (Some roots) best =
     let inside = fitting_inside trees roots.top roots.details best.fitting in

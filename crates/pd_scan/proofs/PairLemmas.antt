@@ -9,7 +9,7 @@ use Rattle.pd_laid.specs.FoundRoots.{FoundRoots, is_better, is_greater}
 use Rattle.pd_scan.specs.declared.partners.Partner.{Partner}
 use Rattle.pd_scan.specs.declared.partners.Partners.{Partners}
 use Rattle.pd_scan.specs.declared.trees.LostTrees.{LostTrees}
-use Rattle.pd_scan.specs.Pairs.{IsBest, IsBestOf, better_of, is_partner_of, may_fit, pair_of}
+use Rattle.pd_scan.specs.Pairs.{IsBest, IsBestOf, better_of, is_partner_of, may_fit, pair_of_trees}
 use Rattle.pd_scan.specs.Partners.{ArePartners, ArePartnersBefore, best_partner, by_time, by_transaction, is_partner, partner_at, sum_of, time_at}
 use Rattle.pd_scan.specs.Tops.{is_noted_good}
 use Rattle.pd_scan.proofs.OrderLemmas.{first_parts, not_better_back, not_better_from, not_better_over}
@@ -85,7 +85,7 @@ module _ (trees : LostTrees) where
 
   module _ (top : ℕ) where
     -- no tree may fit one that isn't sound
-    pub none_of_top : is_noted_good trees.tops top ≡ false → IsBestOf (may_fit trees) (pair_of trees) (λ t d. t ≡ top) None
+    pub none_of_top : is_noted_good trees.tops top ≡ false → IsBestOf (may_fit trees) (pair_of_trees trees) (λ t d. t ≡ top) None
     none_of_top bad t d same =
         false_from_ne_true (may_fit trees t d)
         (λ e. both_ways (is_noted_good trees.tops t) (ap (is_noted_good trees.tops) same ∙ bad) (fitting_parts t d e).0)
@@ -94,7 +94,7 @@ module _ (trees : LostTrees) where
     passing t d same e = (fitting_parts top d (ap (λ (x : ℕ). may_fit trees x d) (sym same) ∙ e)).1
 
     no_partner : ArePartnersBefore (is_partner_of trees top) (partner_at trees.details_measures)
-        (size_of trees.details) None → IsBestOf (may_fit trees) (pair_of trees) (λ t d. t ≡ top) None
+        (size_of trees.details) None → IsBestOf (may_fit trees) (pair_of_trees trees) (λ t d. t ≡ top) None
     no_partner none t d same =
         false_from_ne_true (may_fit trees t d)
         (λ e. let p = passing t d same e in both_ways _ (none d (partner_inside (sum_of (measure_at trees.top_measures top)) d p)) p)
@@ -117,16 +117,16 @@ module _ (trees : LostTrees) where
           → ((d : ℕ) → d < size_of trees.details → is_partner_of trees top d ≡ true
           → (max time (tree d).time ≤ max time (tree b).time)
           × (max time (tree d).time ≡ max time (tree b).time → is_greater (by_transaction (tree d)) (by_transaction (tree b)) ≡ false))
-          → IsBest (may_fit trees) (pair_of trees) (λ t d. t ≡ top) (pair_of trees top b)
-      unfolding pair_of
+          → IsBest (may_fit trees) (pair_of_trees trees) (λ t d. t ≡ top) (pair_of_trees trees top b)
+      unfolding pair_of_trees
       by_partner b p best = record {
         fitting = with_partner b p;
         numbers = refl;
         none_better = λ t d same fit.
             let q = passing t d same fit in
             let order = best d (partner_inside (sum_of (measure_at trees.top_measures top)) d q) q in
-            subst (λ (x : ℕ). is_better (pair_of trees x d) (pair_of trees top b) ≡ false) (sym same)
-            (not_better_from (pair_of trees top d) (pair_of trees top b) refl refl refl order.0 order.1);
+            subst (λ (x : ℕ). is_better (pair_of_trees trees x d) (pair_of_trees trees top b) ≡ false) (sym same)
+            (not_better_from (pair_of_trees trees top d) (pair_of_trees trees top b) refl refl refl order.0 order.1);
       }
 
       -- no other one is later than the latest one, and at its time none is newer
@@ -143,7 +143,7 @@ module _ (trees : LostTrees) where
           subst (λ (one : Partner). is_greater (by_transaction (tree d)) (by_transaction one) ≡ false) are.newest.told (are.newest.none_greater d small p)
 
       by_their_time : (is_later : Bool) → nat_lt time partners.latest.time ≡ is_later
-          → IsBest (may_fit trees) (pair_of trees) (λ t d. t ≡ top) (pair_of trees top (cond is_later partners.latest.root partners.newest.root))
+          → IsBest (may_fit trees) (pair_of_trees trees) (λ t d. t ≡ top) (pair_of_trees trees top (cond is_later partners.latest.root partners.newest.root))
       by_their_time true e =
           let later = ltb-true time partners.latest.time e in
           let same : partners.latest.time ≡ (tree partners.latest.root).time = ap (λ (one : Partner). one.time) are.latest.told in
@@ -163,6 +163,6 @@ module _ (trees : LostTrees) where
     pub best_of_top : is_noted_good trees.tops top ≡ true → (partners : Option Partners)
         → ArePartnersBefore (is_partner_of trees top) (partner_at trees.details_measures)
         (size_of trees.details) partners
-        → IsBestOf (may_fit trees) (pair_of trees) (λ t d. t ≡ top) (option_map (λ (p : Partners). pair_of trees top (best_partner p (time_at trees.top_measures top))) partners)
+        → IsBestOf (may_fit trees) (pair_of_trees trees) (λ t d. t ≡ top) (option_map (λ (p : Partners). pair_of_trees trees top (best_partner p (time_at trees.top_measures top))) partners)
     best_of_top good None none = no_partner none
     best_of_top good (Some partners) are = by_their_time good partners are (nat_lt (time_at trees.top_measures top) partners.latest.time) refl

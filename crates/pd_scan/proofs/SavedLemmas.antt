@@ -19,7 +19,7 @@ use Rattle.pd_kinds.specs.Whole.{top_entries, mapping_entries, details_entries}
 use Rattle.pd_laws.specs.InOrder.{AreInOrder}
 use Rattle.pd_laws.proofs.AllLemmas.{all_from, all_from_two, none_passes}
 use Rattle.pd_laid.specs.FoundRoots.{FoundRoots, are_fitting, devices_below, found_pool, is_sound_tree}
-use Rattle.pd_laid.specs.Salvage.{given, given_mappings, given_device, salvage_from}
+use Rattle.pd_laid.specs.Salvage.{salvaged_entries, salvaged_mappings, salvaged_device, salvage_from}
 use Rattle.pd_laid.proofs.NodeFacts.{among_mapped, block_pair, given_root, leaf_named, under_all, within_at}
 use Rattle.pd_laid.proofs.SalvageLemmas.{top_tree, bottom_tree, details_tree}
 use Rattle.pd_scan.specs.Roots.{lost_fields}
@@ -134,17 +134,17 @@ module _ (nr data_blocks transaction block_size : ℕ) (image : List (List ℕ))
   details_is_root = root_is 4 roots.details (omega arith) (omega arith) (roots_reached 11 nr data_blocks (thin_layout nr data_blocks) image lawful both_roots are_parts).1.0
 
   -- what is given below the roots of the three trees
-  given_tops : given 8 nr image roots.top ≡ top_entries graph image roots.top
+  given_tops : salvaged_entries 8 nr image roots.top ≡ top_entries graph image roots.top
   given_tops =
       given_root 11 nr data_blocks table image in_order top_tree 2 (omega arith) (top_is nr data_blocks) bytes roots.top top_is_root.1 top_is_root.0
       ∙ same_below 8 roots.top 2 (omega arith) top_is_root.1
 
-  given_bottom : (b : ℕ) → IsRoot 3 b → given 8 nr image b ≡ mapping_entries graph image b
+  given_bottom : (b : ℕ) → IsRoot 3 b → salvaged_entries 8 nr image b ≡ mapping_entries graph image b
   given_bottom b root =
       given_root 11 nr data_blocks table image in_order (bottom_tree data_blocks) 3 (omega arith) (bottom_is nr data_blocks) bytes b root.1 root.0
       ∙ same_below 8 b 3 (omega arith) root.1
 
-  given_all_details : given 24 nr image roots.details ≡ details_entries graph image roots.details
+  given_all_details : salvaged_entries 24 nr image roots.details ≡ details_entries graph image roots.details
   given_all_details =
       given_root 11 nr data_blocks table image in_order details_tree 4 (omega arith) (details_is nr data_blocks) bytes roots.details details_is_root.1 details_is_root.0
       ∙ same_below 24 roots.details 4 (omega arith) details_is_root.1
@@ -179,9 +179,9 @@ module _ (nr data_blocks transaction block_size : ℕ) (image : List (List ℕ))
   mappings_within : (b : ℕ) → IsRoot 3 b → AllByRecursion IsInPool (mapping_entries graph image b)
   mappings_within b root = subst (AllByRecursion IsInPool) (same_below 8 b 3 (omega arith) root.1) (mappings_seen b root)
 
-  mappings_given : (b : ℕ) → IsRoot 3 b → given_mappings fields image b
+  mappings_given : (b : ℕ) → IsRoot 3 b → salvaged_mappings fields image b
       ≡ map (λ (e : Entry). record { virtual_block = e.key; data_block = mapped_block e.value; time = mapped_time e.value }) (mapping_entries graph image b)
-  unfolding given_mappings
+  unfolding salvaged_mappings
   mappings_given b root =
       rw (given_bottom b root)
       (ap (map (λ (e : Entry). record { virtual_block = e.key; data_block = mapped_block e.value; time = mapped_time e.value }))
@@ -190,8 +190,8 @@ module _ (nr data_blocks transaction block_size : ℕ) (image : List (List ℕ))
   -- a device whose details are found, with the right number of mappings
   device_given : (top : Entry) → IsRoot 3 top.value → HasValue (details_entries graph image roots.details) top.key
       → IsCounted (thin_device graph image (details_entries graph image roots.details) top)
-      → given_device fields image top ≡ thin_device graph image (details_entries graph image roots.details) top
-  unfolding given_device thin_device
+      → salvaged_device fields image top ≡ thin_device graph image (details_entries graph image roots.details) top
+  unfolding salvaged_device thin_device
   device_given top root has counted =
       let right = rw has.found at counted in
       rw (given_all_details, mappings_given top.value root, has.found, right) refl
@@ -208,12 +208,12 @@ module _ (nr data_blocks transaction block_size : ℕ) (image : List (List ℕ))
       (λ top among. has_value details top.key (rw same at among)) tops (among_mapped (λ (e : Entry). e.key) tops) in
       let counted = all_counted (thin_device graph image details) tops lists.1 in
       let each = all_from_two (λ (top : Entry). HasValue details top.key) (λ (top : Entry). IsCounted (thin_device graph image details top))
-      (λ (top : Entry). IsRoot 3 top.value → given_device fields image top ≡ thin_device graph image details top)
+      (λ (top : Entry). IsRoot 3 top.value → salvaged_device fields image top ≡ thin_device graph image details top)
       (λ top has right root. device_given top root has right) tops found counted in
       let inside = all_from (λ (top : Entry). IsRoot 3 top.value) (λ (top : Entry). not (is_outside nr top.value) ≡ true)
       (λ top root. not_from_false (is_outside nr top.value) root.0) tops tops_are_roots in
       rw (given_tops, filter_all (λ (top : Entry). not (is_outside nr top.value)) tops inside)
-      rw (map_same (given_device fields image) (thin_device graph image details) tops
-      (all_from_two (λ (top : Entry). IsRoot 3 top.value) (λ (top : Entry). IsRoot 3 top.value → given_device fields image top ≡ thin_device graph image details top)
-      (λ (top : Entry). given_device fields image top ≡ thin_device graph image details top) (λ top root follows. follows root)
+      rw (map_same (salvaged_device fields image) (thin_device graph image details) tops
+      (all_from_two (λ (top : Entry). IsRoot 3 top.value) (λ (top : Entry). IsRoot 3 top.value → salvaged_device fields image top ≡ thin_device graph image details top)
+      (λ (top : Entry). salvaged_device fields image top ≡ thin_device graph image details top) (λ top root follows. follows root)
       tops tops_are_roots each)) refl

@@ -23,15 +23,15 @@ use Rattle.pd_scan.specs.Lost.{AreRoots}
 use Rattle.pd_scan.specs.Partners.{sum_cmp}
 
 -- a list of devices in memory, and the order of such lists
-abbrev pub DeviceList : Type 0
-DeviceList = Vec (ℕ × ℕ) Global
+abbrev pub DeviceCounts : Type 0
+DeviceCounts = Vec (ℕ × ℕ) Global
 
-abbrev pub list_cmp : DeviceList → DeviceList → Ordering
+abbrev pub list_cmp : DeviceCounts → DeviceCounts → Ordering
 list_cmp a b = slice_cmp sum_cmp (vec_items a) (vec_items b)
 
 -- a table of lists with their numbers
 abbrev pub Numbers : Type 0
-Numbers = BTreeMap DeviceList ℕ
+Numbers = BTreeMap DeviceCounts ℕ
 
 -- the list of a details tree, and that of a mapping tree
 abbrev pub details_list : Graph → List (List ℕ) → ℕ → List (ℕ × ℕ)
@@ -41,9 +41,9 @@ abbrev pub top_list : Graph → List (List ℕ) → ℕ → List (ℕ × ℕ)
 top_list graph image b = pairs_of (counts_of_top graph image b)
 
 -- a list has the number that it has in the table, or this one, which it gets there
-abbrev pub IsNumber : Numbers → Numbers → DeviceList → ℕ → ℕ → Type 0
+abbrev pub IsNumber : Numbers → Numbers → DeviceCounts → ℕ → ℕ → Type 0
 IsNumber old new list own number = MatchOption (get list_cmp old list)
-    ((number ≡ own) × ((key : DeviceList) → get list_cmp new key ≡ (if is_eq (list_cmp list key) then Some own else get list_cmp old key)))
+    ((number ≡ own) × ((key : DeviceCounts) → get list_cmp new key ≡ (if is_eq (list_cmp list key) then Some own else get list_cmp old key)))
     (λ known. (number ≡ known) × (new ≡ old))
 
 -- a measure with a number in the place of its fingerprint
@@ -60,13 +60,13 @@ pub record AreNumbered (graph : Graph) (image : List (List ℕ)) (measures : Mea
   pub same : (b : ℕ) → b < before → is_sound_tree graph image 4 b ≡ true
       → ((measure_at measures b).print < before) × (details_list graph image (measure_at measures b).print ≡ details_list graph image b)
   pub known : (b : ℕ) → b < before → is_sound_tree graph image 4 b ≡ true
-      → (key : DeviceList) → vec_items key ≡ details_list graph image b → get list_cmp numbers key ≡ Some (measure_at measures b).print
-  pub told : (key : DeviceList) (number : ℕ) → get list_cmp numbers key ≡ Some number
+      → (key : DeviceCounts) → vec_items key ≡ details_list graph image b → get list_cmp numbers key ≡ Some (measure_at measures b).print
+  pub told : (key : DeviceCounts) (number : ℕ) → get list_cmp numbers key ≡ Some number
       → (number < before) × (details_list graph image number ≡ vec_items key)
 
 -- the number of a mapping tree is that of its list, and another one where no details tree has it
 pub record IsTopNumber (graph : Graph) (image : List (List ℕ)) (numbers : Numbers) (none top number : ℕ) : Type 0 where
-  pub key : DeviceList
+  pub key : DeviceCounts
   pub is_list : vec_items key ≡ top_list graph image top
   pub is : number ≡ unwrap_or (get list_cmp numbers key) none
 

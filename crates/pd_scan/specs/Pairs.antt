@@ -17,8 +17,8 @@ unfoldable pub may_fit : LostTrees → ℕ → ℕ → Bool
 may_fit trees top details = is_noted_good trees.tops top && is_partner_of trees top details
 
 -- the roots of two trees that fit each other, by what is measured of them
-unfoldable pub pair_of : LostTrees → ℕ → ℕ → FoundRoots
-pair_of trees top details = record {
+unfoldable pub pair_of_trees : LostTrees → ℕ → ℕ → FoundRoots
+pair_of_trees trees top details = record {
   top = top;
   details = details;
   mappings = (measure_at trees.top_measures top).total;

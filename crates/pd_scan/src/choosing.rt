@@ -5,7 +5,7 @@ ghost use Rattle.pd_kinds.specs.CheckFault.{CountsCheckFault};
 ghost use Rattle.pd_image.specs.Device.{IsAttached, OnlyReads};
 ghost use Rattle.pd_graph.specs.Notes.{size_of};
 ghost use Rattle.pd_laid.specs.FoundRoots.{IsFound, are_fitting, lost_graph};
-ghost use Rattle.pd_scan.specs.Pairs.{AreTreesOf, IsBest, IsBestOf, may_fit, pair_of};
+ghost use Rattle.pd_scan.specs.Pairs.{AreTreesOf, IsBest, IsBestOf, may_fit, pair_of_trees};
 ghost use Rattle.pd_scan.specs.Roots.{AreInside, found_of, roots_of};
 ghost use Rattle.pd_scan.specs.Trees.{AreLostTrees, HavePlaces};
 
@@ -22,7 +22,7 @@ use std::alloc::{AllocError, Global};
 /// The best roots of all trees that may fit each other. It takes memory for each sum that a details tree has; want of it is the
 /// only error.
 fn best_by_sums(alloc: Global, trees: &LostTrees) -> Result<Option<Roots>, AllocError>
-    ensures { IfOk result (λ found. IsBestOf (may_fit trees.now) (pair_of trees.now) (λ t d. t < size_of trees.now.tops) (found_of found)) }
+    ensures { IfOk result (λ found. IsBestOf (may_fit trees.now) (pair_of_trees trees.now) (λ t d. t < size_of trees.now.tops) (found_of found)) }
 {
     let by_sum = partners_by_sum(alloc, &trees.details, &trees.details_measures)?;
     Ok(best_of_tops(trees, &by_sum))
@@ -40,9 +40,9 @@ fn best_of_fitting<D: Device>(
     requires attached { IsAttached (D.state dev.old) }
     requires places { HavePlaces (size_of trees.old.tops) trees.old }
     requires within { size_of trees.old.tops ≤ (D.state dev.old).blocks }
-    requires best { IsBest (may_fit trees.old) (pair_of trees.old) (λ t d. t < size_of trees.old.tops) (roots_of roots) }
+    requires best { IsBest (may_fit trees.old) (pair_of_trees trees.old) (λ t d. t < size_of trees.old.tops) (roots_of roots) }
     ensures best { IfOk result (λ found. IfSome (D.state dev.old).held (λ image. (data_blocks : ℕ) → AreTreesOf image data_blocks trees.old
-        → IsBestOf (are_fitting (lost_graph image data_blocks) image) (pair_of trees.old) (λ t d. t < size_of trees.old.tops) (found_of found))) }
+        → IsBestOf (are_fitting (lost_graph image data_blocks) image) (pair_of_trees trees.old) (λ t d. t < size_of trees.old.tops) (found_of found))) }
     ensures inside { IfOk result (λ found. IfSome found (AreInside (size_of trees.old.tops))) }
     ensures kept { OnlyReads (D.state dev.old) (D.state dev.new) }
     ensures faults { CountsCheckFault result (D.state dev.old).faults (D.state dev.new).faults }

@@ -7,7 +7,7 @@ ghost use Rattle.pd_image.specs.Device.{IsAttached, OnlyReads};
 ghost use Rattle.pd_graph.specs.Notes.{size_of};
 ghost use Rattle.pd_laid.specs.FoundRoots.{are_fitting, lost_graph, roots_at};
 ghost use Rattle.pd_scan.specs.declared.trees.LostTrees.{LostTrees as TheTrees};
-ghost use Rattle.pd_scan.specs.Pairs.{AreTreesOf, IsBest, IsBestOf, may_fit as may_match, pair_of};
+ghost use Rattle.pd_scan.specs.Pairs.{AreTreesOf, IsBest, IsBestOf, may_fit as may_match, pair_of_trees};
 ghost use Rattle.pd_scan.specs.Roots.{AreInside, found_of, roots_of};
 ghost use Rattle.pd_scan.specs.Trees.{HavePlaces};
 
@@ -27,7 +27,7 @@ pub(crate) fn fitting_trees_match()
         → are_fitting (lost_graph image data_blocks) image top details ≡ true → may_match trees top details ≡ true }
     ensures roots { (image : List (List ℕ)) (data_blocks : ℕ) (trees : TheTrees) (top details : ℕ) → AreTreesOf image data_blocks trees
         → are_fitting (lost_graph image data_blocks) image top details ≡ true
-        → roots_at (lost_graph image data_blocks) image top details ≡ pair_of trees top details }
+        → roots_at (lost_graph image data_blocks) image top details ≡ pair_of_trees trees top details }
 {
     fitting_trees_have_one_list();
 }
@@ -65,7 +65,7 @@ fn best_by_numbers<D: Device>(
     requires places { HavePlaces (size_of trees.old.tops) trees.old }
     requires within { size_of trees.old.tops ≤ (D.state dev.old).blocks }
     ensures best { IfOk result (λ found. IfSome (D.state dev.old).held (λ image. (data_blocks : ℕ) → AreTreesOf image data_blocks trees.old
-        → IsBestOf (are_fitting (lost_graph image data_blocks) image) (pair_of trees.old) (λ t d. t < size_of trees.old.tops) (found_of found))) }
+        → IsBestOf (are_fitting (lost_graph image data_blocks) image) (pair_of_trees trees.old) (λ t d. t < size_of trees.old.tops) (found_of found))) }
     ensures inside { IfOk result (λ found. IfSome found (AreInside (size_of trees.old.tops))) }
     ensures kept { OnlyReads (D.state dev.old) (D.state dev.new) }
     ensures faults { CountsCheckFault result (D.state dev.old).faults (D.state dev.new).faults }
@@ -92,9 +92,9 @@ pub(crate) fn best_from<D: Device>(
     requires attached { IsAttached (D.state dev.old) }
     requires places { HavePlaces (size_of trees.old.tops) trees.old }
     requires within { size_of trees.old.tops ≤ (D.state dev.old).blocks }
-    requires best { IsBest (may_match trees.old) (pair_of trees.old) (λ t d. t < size_of trees.old.tops) (roots_of roots) }
+    requires best { IsBest (may_match trees.old) (pair_of_trees trees.old) (λ t d. t < size_of trees.old.tops) (roots_of roots) }
     ensures best { IfOk result (λ found. IfSome (D.state dev.old).held (λ image. (data_blocks : ℕ) → AreTreesOf image data_blocks trees.old
-        → IsBestOf (are_fitting (lost_graph image data_blocks) image) (pair_of trees.old) (λ t d. t < size_of trees.old.tops) (found_of found))) }
+        → IsBestOf (are_fitting (lost_graph image data_blocks) image) (pair_of_trees trees.old) (λ t d. t < size_of trees.old.tops) (found_of found))) }
     ensures inside { IfOk result (λ found. IfSome found (AreInside (size_of trees.old.tops))) }
     ensures kept { OnlyReads (D.state dev.old) (D.state dev.new) }
     ensures faults { CountsCheckFault result (D.state dev.old).faults (D.state dev.new).faults }

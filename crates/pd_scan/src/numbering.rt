@@ -6,7 +6,7 @@ ghost use Rattle.pd_image.specs.Device.{IsAttached, OnlyReads};
 ghost use Rattle.pd_graph.specs.Notes.{size_of};
 ghost use Rattle.pd_laid.specs.FoundRoots.{are_fitting, lost_graph};
 ghost use Rattle.pd_scan.specs.Numbers.{AreDetailsNumbered, AreNumbered, AreTold, AreTopsChanged, AreTopsNumbered, IsNumber, with_number};
-ghost use Rattle.pd_scan.specs.Pairs.{AreTreesOf, may_fit, pair_of};
+ghost use Rattle.pd_scan.specs.Pairs.{AreTreesOf, may_fit, pair_of_trees};
 ghost use Rattle.pd_scan.specs.Trees.{HavePlaces};
 
 use crate::tops::is_good;
@@ -14,17 +14,17 @@ use crate::trees::LostTrees;
 use pd_image::Device;
 use pd_kinds::CheckFault;
 use pd_measures::{
-    DeviceList, ListCursors, Measured, fitting_trees_have_one_list, list_of_details, list_of_top,
+    DeviceCounts, ListCursors, Measured, fitting_trees_have_one_list, list_of_details, list_of_top,
 };
 use std::alloc::{AllocError, Global};
 use std::collections::BTreeMap;
 
 /// The lists of details trees, each with its number: the lowest root that has it.
-pub(crate) type Numbers = BTreeMap<DeviceList, u64>;
+pub(crate) type Numbers = BTreeMap<DeviceCounts, u64>;
 
 /// The number of a list: the one that it has in the table, or its own, which it gets there then. Want of memory is the only
 /// error.
-fn number_of(numbers: &mut Numbers, list: DeviceList, own: u64) -> Result<u64, AllocError>
+fn number_of(numbers: &mut Numbers, list: DeviceCounts, own: u64) -> Result<u64, AllocError>
     ensures { IfOk result (λ number. IsNumber numbers.old numbers.new list own number) }
 {
     match numbers.get(&list).copied() {
@@ -171,7 +171,7 @@ pub(crate) fn number_lists<D: Device>(
     requires within { size_of trees.old.tops ≤ (D.state dev.old).blocks }
     ensures fits { OnOk result (IfSome (D.state dev.old).held (λ image. (data_blocks : ℕ) → AreTreesOf image data_blocks trees.old
         → (top details : ℕ) → may_fit trees.new top details ≡ are_fitting (lost_graph image data_blocks) image top details)) }
-    ensures pairs { OnOk result ((top details : ℕ) → pair_of trees.new top details ≡ pair_of trees.old top details) }
+    ensures pairs { OnOk result ((top details : ℕ) → pair_of_trees trees.new top details ≡ pair_of_trees trees.old top details) }
     ensures places { OnOk result (HavePlaces (size_of trees.old.tops) trees.new) }
     ensures kept { OnlyReads (D.state dev.old) (D.state dev.new) }
     ensures faults { CountsCheckFault result (D.state dev.old).faults (D.state dev.new).faults }

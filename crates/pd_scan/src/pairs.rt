@@ -2,7 +2,7 @@
 
 ghost use Rattle.std.specs.Prelude.{◌≡◌, ℕ, ◌<◌, true, false};
 ghost use Rattle.pd_graph.specs.Notes.{size_of};
-ghost use Rattle.pd_scan.specs.Pairs.{IsBestOf, better_of, improves as does_improve, may_fit as may_match, pair_of};
+ghost use Rattle.pd_scan.specs.Pairs.{IsBestOf, better_of, improves as does_improve, may_fit as may_match, pair_of_trees};
 ghost use Rattle.pd_scan.specs.Partners.{AreBySum};
 ghost use Rattle.pd_scan.specs.Roots.{found_of, roots_of};
 
@@ -12,9 +12,9 @@ use crate::tops::is_good;
 use crate::trees::LostTrees;
 
 /// The roots of two trees that fit each other, by what is measured of them.
-#[tactic(auto, unfolding(crate::specs::Pairs::pair_of))]
+#[tactic(auto, unfolding(crate::specs::Pairs::pair_of_trees))]
 fn pair(trees: &LostTrees, top: u64, details: u64) -> Roots
-    ensures { roots_of result ≡ pair_of trees.now top details }
+    ensures { roots_of result ≡ pair_of_trees trees.now top details }
 {
     let mappings = trees.top_measures.get(top);
     let devices = trees.details_measures.get(details);
@@ -51,7 +51,7 @@ fn better(best: Option<Roots>, roots: Option<Roots>) -> Option<Roots>
 /// The best roots of those whose mapping tree is this one, by the partners of each sum.
 fn best_of_top(trees: &LostTrees, by_sum: &BySum, top: u64) -> Option<Roots>
     requires { AreBySum trees.now.details trees.now.details_measures (size_of trees.now.details) by_sum.now }
-    ensures { IsBestOf (may_match trees.now) (pair_of trees.now) (λ t d. t ≡ top) (found_of result) }
+    ensures { IsBestOf (may_match trees.now) (pair_of_trees trees.now) (λ t d. t ≡ top) (found_of result) }
 {
     if !is_good(&trees.tops, top) {
         return None;
@@ -66,7 +66,7 @@ fn best_of_top(trees: &LostTrees, by_sum: &BySum, top: u64) -> Option<Roots>
 /// The best roots of all trees that may fit each other, by the partners of each sum.
 pub(crate) fn best_of_tops(trees: &LostTrees, by_sum: &BySum) -> Option<Roots>
     requires { AreBySum trees.now.details trees.now.details_measures (size_of trees.now.details) by_sum.now }
-    ensures { IsBestOf (may_match trees.now) (pair_of trees.now) (λ t d. t < size_of trees.now.tops) (found_of result) }
+    ensures { IsBestOf (may_match trees.now) (pair_of_trees trees.now) (λ t d. t < size_of trees.now.tops) (found_of result) }
 {
     let mut best = None;
     for top in 0..trees.tops.nr() {

@@ -15,7 +15,7 @@ use Rattle.pd_graph.proofs.AnyLemmas.{if_both, if_any}
 use Rattle.pd_settle.specs.Good.{is_good_node, AreSettleable, IsGoodNote}
 use Rattle.pd_settle.specs.Looking.{blocks_of_edges}
 use Rattle.pd_settle.specs.Stepping.{open_note, IsVerdict, Opens, Settles, Closes}
-use Rattle.pd_settle.specs.Ordering.{IsOrdering, IsClosed, Knows}
+use Rattle.pd_settle.specs.Ordering.{IsOrdering, IsClosed, KeepsKnown}
 use Rattle.pd_settle.proofs.ChainLemmas.{is_among}
 use Rattle.pd_settle.proofs.StackLemmas.{IsStack, Changes, changed_here, changed_there, stack_opened, stack_closed, AreStacked, all_opened, all_closed}
 use Rattle.pd_settle.proofs.NodeLemmas.{child_at, IsTrail}
@@ -120,7 +120,7 @@ pub record Descending (graph : Graph) (held : Option (List (List ℕ))) (role st
   pub linked : IsStack (note_in now) graph.nr top stack
   pub are : AreStacked (note_in now) stack
   pub number : size_of now ≡ size_of first
-  pub knows : Knows (note_in first) (note_in now)
+  pub knows : KeepsKnown (note_in first) (note_in now)
   pub started : 1 ≤ (note_in now start).height
   pub told : IfSome held (λ image. (nodes fit : ℕ → Bool) → AreSettleable graph image nodes fit → IsOrdering graph image nodes fit strict (note_in first)
       → nodes (pair start role) ≡ true → IsOrdering graph image nodes fit strict (note_in now) × IsTrail graph image nodes role stack)
@@ -134,7 +134,7 @@ with_top graph held role start strict first now top b (c ∷ rest) e descending 
     let same : c ≡ b = omega arith in
     (rest, subst (λ (d : ℕ). Descending graph held role start strict first now top (d ∷ rest)) same descending)
 
-known_changed : (b : ℕ) (note : Note) (old new : ℕ → Note) → Changes b note old new → 1 ≤ note.height → Knows old new
+known_changed : (b : ℕ) (note : Note) (old new : ℕ → Note) → Changes b note old new → 1 ≤ note.height → KeepsKnown old new
 known_changed b note old new changes low = record {
   known = λ c some. elim (cases_eq c b) [
     | inl e ↦
@@ -146,7 +146,7 @@ known_changed b note old new changes low = record {
   ];
 }
 
-pub knows_both : (a b c : ℕ → Note) → Knows a b → Knows b c → Knows a c
+pub knows_both : (a b c : ℕ → Note) → KeepsKnown a b → KeepsKnown b c → KeepsKnown a c
 knows_both a b c first second = record { known = λ d some. second.known d (first.known d some) }
 
 -- the block of a node is sound

@@ -5,7 +5,7 @@ use Rattle.pd_kinds.specs.Order.{has_chain, gathered, are_children_in_range}
 use Rattle.pd_laws.proofs.AllLemmas.{all_from, all_from_two}
 use Rattle.pd_graph.specs.declared.notes.Note.{Note}
 use Rattle.pd_graph.specs.Notes.{no_note}
-use Rattle.pd_settle.specs.Notes.{keys_note, joined, are_notes_in_range, raised, IsNoted}
+use Rattle.pd_settle.specs.Notes.{keys_note, joined, are_notes_in_range, one_step_higher, IsNoted}
 use Rattle.pd_settle.proofs.ChainLemmas.{is_among, all_among, longer_chain, ends_by, ends_above, chain_by}
 use Rattle.pd_settle.proofs.KeyLemmas.{gathered_step, joined_keys, joined_above, joined_within, joined_is, ranges_kept}
 
@@ -53,7 +53,7 @@ module _ (inner : ℕ → Bool) (down : ℕ → List ℕ) (own : ℕ → List �
       subst (λ (k : ℕ). has_chain down k p ≡ true) same (longer_chain down ((notes c).height - 1) p c one.1 noted.long)
 
   pub noted_inner : (notes : ℕ → Note) (p : ℕ) (r : Bool) → inner p ≡ true → ((c : ℕ) → is_among c (down p) ≡ true → IsLow c (notes c))
-      → IsNoted inner down own p (raised (joined notes no_note (down p)) r)
+      → IsNoted inner down own p (one_step_higher (joined notes no_note (down p)) r)
   noted_inner notes p r is_inner each =
       let sum = joined notes no_note (down p) in
       let m = sum.height in
@@ -74,7 +74,7 @@ module _ (inner : ℕ → Bool) (down : ℕ → List ℕ) (own : ℕ → List �
         high = omega arith;
         long = subst (λ (k : ℕ). has_chain down k p ≡ true) (let e : m ≡ m + 1 - 1 = omega arith in e) (long_at notes p m each (joined_is notes (down p) no_note));
         ends = ends;
-        keys = ap (λ (n : Note). raised n r) keys ∙ ap (λ (ks : List ℕ). keys_note ks (m + 1) r) below;
+        keys = ap (λ (n : Note). one_step_higher n r) keys ∙ ap (λ (ks : List ℕ). keys_note ks (m + 1) r) below;
       }
 
   -- and so are its children's ranges

@@ -10,7 +10,7 @@ use Rattle.pd_graph.specs.Notes.{no_note, note_in}
 use Rattle.pd_graph.proofs.BitLemmas.{pair_block, pair_role}
 use Rattle.pd_settle.specs.Good.{is_well, is_good_node, AreSettleable, IsGoodNote}
 use Rattle.pd_settle.specs.Notes.{IsNoted}
-use Rattle.pd_settle.specs.Ordering.{IsOrdering, IsClosed, Knows}
+use Rattle.pd_settle.specs.Ordering.{IsOrdering, IsClosed, KeepsKnown}
 use Rattle.pd_settle.specs.Settled.{AreSettled, AreFit, AreSettledIn}
 use Rattle.pd_settle.specs.Stepping.{bad_note}
 use Rattle.pd_settle.proofs.ChainLemmas.{is_among, chain_by, longer_chain}
@@ -186,7 +186,7 @@ ruled_more fit c b first before now e f = elim (cases_lt c b) [
 ]
 
 -- one block more is noted
-pub done_one : (b : ℕ) (old new : ℕ → Note) → Knows old new → ((c : ℕ) → c < b → 1 ≤ (old c).height) → 1 ≤ (new b).height → (c : ℕ) → c < b + 1 → 1 ≤ (new c).height
+pub done_one : (b : ℕ) (old new : ℕ → Note) → KeepsKnown old new → ((c : ℕ) → c < b → 1 ≤ (old c).height) → 1 ≤ (new b).height → (c : ℕ) → c < b + 1 → 1 ≤ (new c).height
 done_one b old new knows done here c small = elim (cases_eq c b) [
   | inl same ↦ let h = ap (λ (d : ℕ). (new d).height) same in omega arith
   | inr ne ↦ knows.known c (done c (omega arith))

@@ -23,7 +23,7 @@ use Rattle.pd_settle.specs.Notes.{keys_note}
 use Rattle.pd_settle.specs.Good.{is_well, is_good_node, IsGoodNote}
 use Rattle.pd_settle.proofs.ExactLemmas.{exact_at, never_deep}
 use Rattle.pd_settle.proofs.ReachLemmas.{reached_within, any_child_node}
-use Rattle.pd_settle.specs.Ordering.{is_node, IsClean, IsOrdering, IsClosed, HasRoles, Knows}
+use Rattle.pd_settle.specs.Ordering.{is_node, IsClean, IsOrdering, IsClosed, HasRoles, KeepsKnown}
 use Rattle.pd_settle.specs.Settled.{AreSettled, noted_rule, breaks, IsSettled}
 use Rattle.pd_settle.proofs.GoodLemmas.{good_is_shallow}
 use Rattle.pd_settle.proofs.ChainLemmas.{is_among, longer_chain, chain_by}
@@ -286,7 +286,7 @@ done_from graph image first now roles b lawful same past walked done p node =
     parts.1
 
 -- and one more is
-pub done_more : (roles b : ℕ) (tree : ℕ → Bool) (first before now : Audit) → KeepsButNotes first before → Knows (note_at before) (note_at now)
+pub done_more : (roles b : ℕ) (tree : ℕ → Bool) (first before now : Audit) → KeepsButNotes first before → KeepsKnown (note_at before) (note_at now)
     → ((c role : ℕ) → c < b → role < roles → has_bit (roles_at first c) role ≡ true → tree role ≡ true → 1 ≤ (note_at before c).height)
     → ((role : ℕ) → role < roles → has_bit (roles_at before b) role ≡ true → tree role ≡ true → 1 ≤ (note_at now b).height)
     → (c role : ℕ) → c < b + 1 → role < roles → has_bit (roles_at first c) role ≡ true → tree role ≡ true → 1 ≤ (note_at now c).height

@@ -8,7 +8,7 @@ use Rattle.pd_kinds.specs.Order.{children, keys_below, is_in_range}
 use Rattle.pd_graph.specs.declared.notes.Note.{Note}
 use Rattle.pd_graph.specs.Notes.{no_note, ends_note}
 use Rattle.pd_graph.proofs.BitLemmas.{pair_block}
-use Rattle.pd_settle.specs.Notes.{keys_note, raised, joined, are_notes_in_range, IsNoted}
+use Rattle.pd_settle.specs.Notes.{keys_note, one_step_higher, joined, are_notes_in_range, IsNoted}
 use Rattle.pd_settle.specs.Good.{is_well, is_good_node, AreSettleable, IsGoodNote}
 use Rattle.pd_settle.specs.Looking.{blocks_of_edges, is_low, is_high}
 use Rattle.pd_settle.specs.Stepping.{IsVerdict, outside, leaf, deep, stray, shallow}
@@ -152,7 +152,7 @@ module _ (graph : Graph) (image : List (List ℕ)) (nodes fit : ℕ → Bool) (s
   inner_is = inner_at graph image b role block within found
 
   shallow_right : (note : Note) → graph.is_inner role b block ≡ true → list_all (λ c. is_low (notes c)) (blocks_of_edges (graph.edges role b block)) ≡ true
-      → note ≡ raised (joined notes no_note (blocks_of_edges (graph.edges role b block))) note.in_range
+      → note ≡ one_step_higher (joined notes no_note (blocks_of_edges (graph.edges role b block))) note.in_range
       → note.in_range ≡ are_notes_in_range notes (graph.keys role b block) (blocks_of_edges (graph.edges role b block))
       → (strict && not note.in_range) ≡ false → IsGoodNote graph image fit strict (pair b role) note
   unfolding is_good_node
@@ -165,7 +165,7 @@ module _ (graph : Graph) (image : List (List ℕ)) (nodes fit : ℕ → Bool) (s
       ap (joined by_pair no_note) kids ∙ joined_map (λ c. pair c role) by_pair notes cs no_note (λ c. ap notes (pair_block c role within)) in
       let noted : IsNoted (is_inner_pair graph image) down (own_keys graph image) (pair b role) note =
       subst (λ (n : Note). IsNoted (is_inner_pair graph image) down (own_keys graph image) (pair b role) n)
-      (ap (λ (n : Note). raised n note.in_range) sums ∙ sym joins)
+      (ap (λ (n : Note). one_step_higher n note.in_range) sums ∙ sym joins)
       (noted_inner (is_inner_pair graph image) down (own_keys graph image) by_pair (pair b role) note.in_range (inner_is ∙ e) (low_note e all)) in
       let in_range : is_in_range graph image (pair b role) ≡ note.in_range = range_of e all ∙ sym ranges in
       record {

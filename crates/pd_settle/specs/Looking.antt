@@ -6,7 +6,7 @@ use Rattle.pd_graph.specs.declared.notes.Note.{Note}
 use Rattle.pd_graph.specs.Notes.{no_note}
 use Rattle.pd_settle.specs.declared.looking.Seen.{Seen}
 use Rattle.pd_settle.specs.declared.looking.Seen.TheVariants.{Down, Outside, Deep, Stray, Shallow}
-use Rattle.pd_settle.specs.Notes.{joined, raised, are_notes_in_range}
+use Rattle.pd_settle.specs.Notes.{joined, one_step_higher, are_notes_in_range}
 
 -- the blocks that edges lead to
 abbrev pub blocks_of_edges : List Edge → List ℕ
@@ -22,7 +22,7 @@ is_high note = not (nat_lt note.height 64)
 -- all children are settled and low: their notes as one, and whether each is in range
 pub record IsShallow (notes : ℕ → Note) (lows cs : List ℕ) (note : Note) : Type 0 where
   pub low : list_all (λ c. is_low (notes c)) cs ≡ true
-  pub joins : note ≡ raised (joined notes no_note cs) note.in_range
+  pub joins : note ≡ one_step_higher (joined notes no_note cs) note.in_range
   pub ranges : note.in_range ≡ are_notes_in_range notes lows cs
 
 -- a child is still unknown

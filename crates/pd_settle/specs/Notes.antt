@@ -63,8 +63,8 @@ join a b = record {
 }
 
 -- the note one step higher, and whether the children are in range
-abbrev pub raised : Note → Bool → Note
-raised note in_range = record note { height = note.height + 1; in_range = in_range }
+abbrev pub one_step_higher : Note → Bool → Note
+one_step_higher note in_range = record note { height = note.height + 1; in_range = in_range }
 
 -- the notes of children, one after another
 abbrev pub joined : (ℕ → Note) → Note → List ℕ → Note

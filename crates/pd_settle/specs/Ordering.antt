@@ -34,7 +34,7 @@ pub record IsClosed (notes : ℕ → Note) : Type 0 where
   pub none : (c : ℕ) → (notes c).height ≡ 66 → ⊥
 
 -- what was noted of a block isn't forgotten
-pub record Knows (old new : ℕ → Note) : Type 0 where
+pub record KeepsKnown (old new : ℕ → Note) : Type 0 where
   pub known : (c : ℕ) → 1 ≤ (old c).height → 1 ≤ (new c).height
 
 -- the notes of the blocks that were settled are right

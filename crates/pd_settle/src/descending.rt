@@ -6,7 +6,7 @@ ghost use Rattle.pd_kinds.specs.Graph.{pair};
 ghost use Rattle.pd_image.specs.Device.{IsAttached, OnlyReads};
 ghost use Rattle.pd_graph.specs.Notes.{size_of, note_in};
 ghost use Rattle.pd_settle.specs.Good.{AreSettleable};
-ghost use Rattle.pd_settle.specs.Ordering.{IsOrdering, IsClosed, Knows, steps};
+ghost use Rattle.pd_settle.specs.Ordering.{IsOrdering, IsClosed, KeepsKnown, steps};
 
 use crate::fetching::{Kept, fetch, keep};
 use crate::stepping::{open, step};
@@ -35,7 +35,7 @@ pub(crate) fn descend<F: Format, D: Device>(
     requires within { (F.graph format.now).nr ≤ (D.state dev.old).blocks }
     ensures ended { OnOk result (IsClosed (note_in notes.new)) }
     ensures number { size_of notes.new ≡ size_of notes.old }
-    ensures knows { Knows (note_in notes.old) (note_in notes.new) }
+    ensures knows { KeepsKnown (note_in notes.old) (note_in notes.new) }
     ensures started { 1 ≤ (note_in notes.new start).height }
     ensures told { IfSome (D.state dev.old).held (λ image. (nodes fit : ℕ → Bool) → AreSettleable (F.graph format.now) image nodes fit
         → IsOrdering (F.graph format.now) image nodes fit strict (note_in notes.old) → nodes (pair start role) ≡ true

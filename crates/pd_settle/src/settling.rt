@@ -9,7 +9,7 @@ ghost use Rattle.pd_graph.specs.Notes.{no_note, size_of, note_in};
 ghost use Rattle.pd_graph.specs.Walk.{IsWalked, HasNotedLeaves};
 ghost use Rattle.pd_graph.specs.Audit.{blocks_of, has_walked, roles_at, has_rule_at, note_at, KeepsButNotes, KeepsButRules};
 ghost use Rattle.pd_settle.specs.Good.{AreSettleable};
-ghost use Rattle.pd_settle.specs.Ordering.{is_node, IsOrdering, IsClosed, Knows, HasRoles, steps};
+ghost use Rattle.pd_settle.specs.Ordering.{is_node, IsOrdering, IsClosed, KeepsKnown, HasRoles, steps};
 ghost use Rattle.pd_settle.specs.Settled.{inner_nodes, noted_rule, breaks, AreSettled, IsSettled, KeepsMet, KeepsWalk};
 
 use crate::descending::descend;
@@ -83,7 +83,7 @@ fn visit<F: Format, D: Device>(
     requires within { (F.graph format.now).nr ≤ (D.state dev.old).blocks }
     ensures ended { OnOk result (IsClosed (note_at audit.new)) }
     ensures marks { KeepsButNotes audit.old audit.new }
-    ensures knows { Knows (note_at audit.old) (note_at audit.new) }
+    ensures knows { KeepsKnown (note_at audit.old) (note_at audit.new) }
     ensures done { OnOk result ((role : ℕ) → role < F.ROLES → has_bit (roles_at audit.old b) role ≡ true → (F.graph format.now).is_tree role ≡ true
         → 1 ≤ (note_at audit.new b).height) }
     ensures told { IfSome (D.state dev.old).held (λ image. AreSettleable (F.graph format.now) image (is_node (F.graph format.now) image) (λ c. true)

@@ -7,3 +7,7 @@ pub mod SharedPieces
 pub mod SharedMeaning
 pub mod PoolLaws
 pub mod Unshared
+pub mod NeedGrows
+pub mod ToldLeaves
+pub mod WholeNeed
+pub mod UnsharedNeed

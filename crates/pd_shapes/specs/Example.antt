@@ -41,5 +41,5 @@ abbrev pub lines_with_another_use : List (List ℕ)
 lines_with_another_use = lines_of_leaf ++ (codes "device 1 1 0 0 0" ∷ codes "use 1" ∷ codes "end" ∷ [])
 
 -- lines, each ended by a line feed
-abbrev pub ended : List (List ℕ) → List ℕ
-ended lines = flat_map (λ line. line ++ (10 ∷ [])) lines
+abbrev pub with_line_feeds : List (List ℕ) → List ℕ
+with_line_feeds lines = flat_map (λ line. line ++ (10 ∷ [])) lines

@@ -9,7 +9,7 @@ use Rattle.pd_kinds.specs.Layout.{leaf_entries}
 use Rattle.pd_kinds.specs.ThinSuper.{ThinFields, thin_fields}
 use Rattle.pd_kinds.specs.ThinFormat.{mapped_block, mapped_time}
 use Rattle.pd_kinds.specs.Meaning.{Mapping, ThinDevice}
-use Rattle.pd_laid.specs.Salvage.{given, given_device, salvage_from}
+use Rattle.pd_laid.specs.Salvage.{salvaged_entries, salvaged_device, salvage_from}
 use Rattle.pd_laid.specs.Shape.{Piece, ShapeDevice, ThinShape}
 use Rattle.pd_laid.specs.Visits.{Visit, entries_of_visit, visited}
 use Rattle.pd_shapes.specs.ImageShape.{mappings_in, with_leaf}
@@ -29,7 +29,7 @@ is_whole_visit fields image v =
 -- the entries of the mapping tree whose devices are saved
 abbrev pub saved_tops : ThinFields → List (List ℕ) → List Entry
 saved_tops fields image =
-    filter (λ (top : Entry). not (is_outside fields.meta_map.blocks top.value)) (given 8 fields.meta_map.blocks image fields.mapping_root)
+    filter (λ (top : Entry). not (is_outside fields.meta_map.blocks top.value)) (salvaged_entries 8 fields.meta_map.blocks image fields.mapping_root)
 
 -- the visits below the root of a device's mappings, and those of all saved devices
 abbrev pub device_visits : ThinFields → List (List ℕ) → Entry → List Visit
@@ -62,7 +62,7 @@ pieces_of_visits fields image shared_ones (v ∷ vs) =
 -- a saved device with its pieces, by its entry of the mapping tree
 abbrev pub saved_device_shape : ThinFields → List (List ℕ) → Entry → ShapeDevice
 saved_device_shape fields image top =
-    let d = given_device fields image top in
+    let d = salvaged_device fields image top in
     record {
       id = d.id;
       mapped = d.mapped;

@@ -83,8 +83,8 @@ pub record Told : Type 0 where
   pub in_run : Bool
 
 -- a device of which nothing is told yet
-abbrev pub untold : Told
-untold = record { own = []; uses = 0; in_run = false }
+abbrev pub told_nothing : Told
+told_nothing = record { own = []; uses = 0; in_run = false }
 
 -- a number of mappings more in the newest piece
 abbrev pub lengthened : ℕ → List ℕ → List ℕ
@@ -103,9 +103,9 @@ abbrev pub with_use : Told → Told
 with_use told = record { own = told.own; uses = told.uses + 1; in_run = false }
 
 -- what the newest of some devices is told by one line more
-abbrev pub tell : (Told → Told) → List Told → List Told
-tell more [] = []
-tell more (newest ∷ devices) = more newest ∷ devices
+abbrev pub tell_newest : (Told → Told) → List Told → List Told
+tell_newest more [] = []
+tell_newest more (newest ∷ devices) = more newest ∷ devices
 
 -- the devices of the lines, the newest first: a map line before all devices is one of a leaf
 abbrev pub told_devices : List Line → List Told
@@ -114,9 +114,9 @@ told_devices (first_line ∷ before) = told_devices before
 told_devices (shared_first_line ∷ before) = told_devices before
 told_devices (pool_line p ∷ before) = told_devices before
 told_devices (leaf_line l ∷ before) = told_devices before
-told_devices (device_line d ∷ before) = untold ∷ told_devices before
-told_devices (use_line n ∷ before) = tell with_use (told_devices before)
-told_devices (map_line r ∷ before) = tell (with_run r.length) (told_devices before)
+told_devices (device_line d ∷ before) = told_nothing ∷ told_devices before
+told_devices (use_line n ∷ before) = tell_newest with_use (told_devices before)
+told_devices (map_line r ∷ before) = tell_newest (with_run r.length) (told_devices before)
 told_devices (end_line ∷ before) = told_devices before
 
 -- the leaves of a device that has ended: one without pieces has one leaf

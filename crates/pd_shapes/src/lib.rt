@@ -4,6 +4,7 @@
 
 mod example;
 mod laws;
+mod verdicts;
 
 pub use example::two_users_of_a_leaf;
 pub use laws::{
@@ -11,3 +12,4 @@ pub use laws::{
     pool_text_has_one_verdict, pool_text_unless_refused, shape_text_spells,
     shape_text_with_runs_apart,
 };
+pub use verdicts::pool_text_is_accepted_where_there_is_room;

@@ -3,7 +3,7 @@ use Rattle.std.proofs.Common.{◌≡◌, inl, inr, ℕ, suc, ◌+◌, ◌*◌, �
 use Rattle.std.proofs.lemmas.Bool.{cases_Bool}
 use Rattle.std.proofs.lemmas.Bool.Decides.{nat_tests}
 use Rattle.std.proofs.lemmas.List.Sums.{sum_by-cons}
-use Rattle.pd_draft.specs.Placed.{Stand}
+use Rattle.pd_draft.specs.Placed.{DraftState}
 use Rattle.pd_grammar.specs.Texts.{has_ended}
 use Rattle.pd_spells.specs.Need.{nodes_for}
 use Rattle.pd_spells.specs.ThinText.{Line, pool_format}
@@ -94,7 +94,7 @@ uses_most false (t ∷ ts) = omega (
     same_number [] = refl
     same_number (t ∷ ts) = ap suc (same_number ts)
 
-pub uses_few : {room : ℕ} {before : List Line} {s : SharedDevices} {start now : Stand} (h : HasGathered room before s start now) → shape_need_so_far room before ≤ room → room ≤ 4161600
+pub uses_few : {room : ℕ} {before : List Line} {s : SharedDevices} {start now : DraftState} (h : HasGathered room before s start now) → shape_need_so_far room before ≤ room → room ≤ 4161600
     → s.uses.total + 1 < 2 ^ 32
 unfolding shape_need_so_far need_of_shared
 uses_few {room} {before} {s} {start} {now} h need most =

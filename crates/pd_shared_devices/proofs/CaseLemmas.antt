@@ -1,6 +1,6 @@
 -- What is open, by what is held of it.
 use Rattle.std.proofs.Common.{◌≡◌, ℕ, ◌≤◌, ◌<◌, List, length, refl, sym, ◌∙◌, ap, subst, arith, unwrap_or, Option, None, Some}
-use Rattle.pd_draft.specs.Placed.{Stand}
+use Rattle.pd_draft.specs.Placed.{DraftState}
 use Rattle.pd_spells.specs.ThinText.{Line, Run, data_blocks_of, piece_end}
 use Rattle.pd_laid.specs.Shape.{ShapeDevice}
 use Rattle.pd_shapes.specs.SharedText.{mappings_of_runs}
@@ -16,7 +16,7 @@ use Rattle.pd_shared_devices.proofs.RiseLemmas.{held_can}
 use Rattle.pd_shared_devices.proofs.RoomLemmas.{leaf_room, device_room}
 
 -- a device is open whose tree is grown
-pub record DeviceCase (before : List Line) (o : Growing) (from to : Stand) : Type 0 where
+pub record DeviceCase (before : List Line) (o : Growing) (from to : DraftState) : Type 0 where
   pub device : ShapeDevice
   pub runs : List Run
   pub opens : opened before ≡ open_device device runs
@@ -25,7 +25,7 @@ pub record DeviceCase (before : List Line) (o : Growing) (from to : Stand) : Typ
 none_is_some : (o : Growing) → None ≡ Some o → ⊥
 none_is_some o e = cc
 
-pub device_case : {room : ℕ} {before : List Line} {s : SharedDevices} {start now : Stand} (o : Growing) (h : HasGathered room before s start now) → s.growing ≡ Some o → DeviceCase before o h.behind now
+pub device_case : {room : ℕ} {before : List Line} {s : SharedDevices} {start now : DraftState} (o : Growing) (h : HasGathered room before s start now) → s.growing ≡ Some o → DeviceCase before o h.behind now
 device_case {room} {before} {s} {start} {now} o h growing = elim (which h) [
   | is_nothing opens none same full ↦ absurd (none_is_some o (sym none ∙ growing))
   | is_leaf runs opens none same lo ↦ absurd (none_is_some o (sym none ∙ growing))
@@ -35,13 +35,13 @@ device_case {room} {before} {s} {start} {now} o h growing = elim (which h) [
 ]
 
 -- a leaf is open that has mappings
-pub record LeafCase (before : List Line) (from to : Stand) : Type 0 where
+pub record LeafCase (before : List Line) (from to : DraftState) : Type 0 where
   pub runs : List Run
   pub opens : opened before ≡ open_leaf runs
   pub same : from ≡ to
   pub is : IsLeafOpen before runs
 
-pub leaf_case : {room : ℕ} {before : List Line} {s : SharedDevices} {start now : Stand} (h : HasGathered room before s start now) → s.growing ≡ None → 1 ≤ s.held.number → LeafCase before h.behind now
+pub leaf_case : {room : ℕ} {before : List Line} {s : SharedDevices} {start now : DraftState} (h : HasGathered room before s start now) → s.growing ≡ None → 1 ≤ s.held.number → LeafCase before h.behind now
 leaf_case {room} {before} {s} {start} {now} h growing some = elim (which h) [
   | is_nothing opens none same full ↦ absurd (omega (arith, some, h.held.number, ap (λ (o : Open). length (mappings_of_runs (open_runs o))) opens))
   | is_leaf runs opens none same lo ↦ record { runs = runs; opens = opens; same = same; is = lo }
@@ -49,21 +49,21 @@ leaf_case {room} {before} {s} {start} {now} h growing some = elim (which h) [
 ]
 
 -- what is held is what is open
-pub held_is : {room : ℕ} {before : List Line} {s : SharedDevices} {start now : Stand} (h : HasGathered room before s start now) → HasHeld (held_runs s.held) s.held
+pub held_is : {room : ℕ} {before : List Line} {s : SharedDevices} {start now : DraftState} (h : HasGathered room before s start now) → HasHeld (held_runs s.held) s.held
 held_is {room} {before} {s} {start} {now} h = record { runs_are = refl; number = h.held.number ∙ ap (λ (rs : List Run). length (mappings_of_runs rs)) (sym h.held.runs_are) }
 
-pub device_held : {room : ℕ} {before : List Line} {s : SharedDevices} {start now : Stand} {o : Growing} (h : HasGathered room before s start now) (c : DeviceCase before o h.behind now)
+pub device_held : {room : ℕ} {before : List Line} {s : SharedDevices} {start now : DraftState} {o : Growing} (h : HasGathered room before s start now) (c : DeviceCase before o h.behind now)
     → AreHeld (data_blocks_of before) c.is.low (piece_end before) (held_runs s.held)
 device_held {room} {before} {s} {start} {now} {o} h c =
     subst (AreHeld (data_blocks_of before) c.is.low (piece_end before)) (sym (h.held.runs_are ∙ ap open_runs c.opens)) c.is.runs_are
 
-pub leaf_held : {room : ℕ} {before : List Line} {s : SharedDevices} {start now : Stand} (h : HasGathered room before s start now) (c : LeafCase before h.behind now)
+pub leaf_held : {room : ℕ} {before : List Line} {s : SharedDevices} {start now : DraftState} (h : HasGathered room before s start now) (c : LeafCase before h.behind now)
     → AreHeld (data_blocks_of before) 0 (piece_end before) (held_runs s.held)
 leaf_held {room} {before} {s} {start} {now} h c =
     subst (AreHeld (data_blocks_of before) 0 (piece_end before)) (sym (h.held.runs_are ∙ ap open_runs c.opens)) c.is.runs_are
 
 -- what is left of a tree can be written
-pub can_end_tree : {s : SharedDevices} {now : Stand} (g : Gathered s now) (o : Growing) → s.growing ≡ Some o → CanEndTree o s.held now
+pub can_end_tree : {s : SharedDevices} {now : DraftState} (g : Gathered s now) (o : Growing) → s.growing ≡ Some o → CanEndTree o s.held now
 can_end_tree {s} {now} g o growing =
     let h = g.gathered in
     let c = device_case o h growing in
@@ -84,12 +84,12 @@ can_end_tree {s} {now} g o growing =
     }
 
 -- and a leaf
-pub record CanWriteLeaf (s : SharedDevices) (now : Stand) : Type 0 where
+pub record CanWriteLeaf (s : SharedDevices) (now : DraftState) : Type 0 where
   pub can : CanBeLaid (held_runs s.held) 0
   pub few : s.held.number ≤ 252
   pub room : now.place < now.device.blocks
 
-pub can_write_leaf : {s : SharedDevices} {now : Stand} (g : Gathered s now) → s.growing ≡ None → 1 ≤ s.held.number → CanWriteLeaf s now
+pub can_write_leaf : {s : SharedDevices} {now : DraftState} (g : Gathered s now) → s.growing ≡ None → 1 ≤ s.held.number → CanWriteLeaf s now
 can_write_leaf {s} {now} g growing some =
     let h = g.gathered in
     let c = leaf_case h growing some in

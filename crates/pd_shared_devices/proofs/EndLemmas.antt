@@ -4,12 +4,12 @@ use Rattle.std.specs.Prelude.{OnOk, IfOk}
 use Rattle.std.specs.List.{AllByRecursion, flat_map}
 use Rattle.std.proofs.lemmas.Bool.Decides.{nat_tests}
 use Rattle.pd_kinds.specs.Node.{Entry, leaf_block, inner_block}
-use Rattle.pd_draft.specs.Placed.{Stand, Wrote}
+use Rattle.pd_draft.specs.Placed.{DraftState, Wrote}
 use Rattle.pd_draft.proofs.PlacedLemmas.{wrote_then}
 use Rattle.pd_spells.specs.Need.{need_above}
 use Rattle.pd_laid.specs.LaidThin.{device_root, device_row, mapping_items, own_leaves, pieces_row, some_pieces}
 use Rattle.pd_laid.specs.Shape.{Piece, own, shared, ShapeDevice, uses_of_piece}
-use Rattle.pd_laid.specs.Tree.{blocks_from, heads, levels_above, root_above, spread, tree_leaves}
+use Rattle.pd_laid.specs.Tree.{blocks_from, heads, levels_above, root_above, even_parts, tree_leaves}
 use Rattle.pd_laid_shared.specs.Written.{device_tree, own_blocks_from, IsFilled}
 use Rattle.pd_laid_shared.proofs.DeviceNeed.{leaves_number}
 use Rattle.pd_shared_devices.specs.Growth.{Grown, need_left}
@@ -48,7 +48,7 @@ no_pieces (own ms ∷ pieces) filled none =
     absurd (omega (arith, none, filled.0, leaves_number ms filled.0, length-append (own_leaves (own ms)) (flat_map own_leaves pieces)))
 no_pieces (shared n ∷ pieces) filled none = absurd (omega (arith, none))
 
-module _ {leaves : List (List Entry)} {d : ShapeDevice} {low : ℕ} {o : Growing} {from now : Stand} (g : Grown leaves d low o from now) where
+module _ {leaves : List (List Entry)} {d : ShapeDevice} {low : ℕ} {o : Growing} {from now : DraftState} (g : Grown leaves d low o from now) where
   without : length o.row ≡ 0 → d.pieces ≡ []
   without none = no_pieces d.pieces g.filled (omega (arith, none, grown_number g, g.own, g.uses))
 
@@ -56,18 +56,18 @@ module _ {leaves : List (List Entry)} {d : ShapeDevice} {low : ℕ} {o : Growing
   stayed none = omega (arith, grown_place g, none, grown_number g)
 
   empty_tree : (place : ℕ) → d.pieces ≡ [] → device_tree leaves place d ≡ leaf_block 8 place [] ∷ []
-  unfolding device_tree device_row levels_above heads spread tree_leaves mapping_items blocks_from
+  unfolding device_tree device_row levels_above heads even_parts tree_leaves mapping_items blocks_from
   empty_tree place none = rw none refl
 
   empty_root : (place : ℕ) → d.pieces ≡ [] → device_root leaves place d ≡ place
-  unfolding device_root device_row levels_above root_above heads spread tree_leaves mapping_items
+  unfolding device_root device_row levels_above root_above heads even_parts tree_leaves mapping_items
   empty_root place none = rw none refl
 
   nothing_written : d.pieces ≡ [] → own_blocks_from from.place d.pieces ≡ []
   unfolding blocks_from
   nothing_written none = rw none refl
 
-  pub tree_empty : {to : Stand} → length o.row ≡ 0 → Wrote (leaf_block 8 now.place [] ∷ []) now to → Wrote (device_tree leaves from.place d) from to
+  pub tree_empty : {to : DraftState} → length o.row ≡ 0 → Wrote (leaf_block 8 now.place [] ∷ []) now to → Wrote (device_tree leaves from.place d) from to
   tree_empty {to} none wrote =
       subst (λ (bs : List (List ℕ)). Wrote bs from to)
       (ap₂ (λ (xs : List (List ℕ)) (p : ℕ). xs ++ (leaf_block 8 p [] ∷ [])) (nothing_written (without none)) (stayed none) ∙ sym (empty_tree from.place (without none)))
@@ -87,7 +87,7 @@ module _ {leaves : List (List Entry)} {d : ShapeDevice} {low : ℕ} {o : Growing
   same : 1 ≤ length o.row → some_pieces d.pieces ≡ d.pieces
   same some = some_same d.pieces (omega (arith, some, ap (λ (es : List Entry). length es) g.row))
 
-  pub tree_done : {to : Stand} → 1 ≤ length o.row → Wrote (blocks_from inner_block now.place (levels_above 10 now.place o.row)) now to → Wrote (device_tree leaves from.place d) from to
+  pub tree_done : {to : DraftState} → 1 ≤ length o.row → Wrote (blocks_from inner_block now.place (levels_above 10 now.place o.row)) now to → Wrote (device_tree leaves from.place d) from to
   unfolding device_tree device_row
   tree_done {to} some wrote =
       rw (same some) (subst (λ (bs : List (List ℕ)). Wrote bs from to)

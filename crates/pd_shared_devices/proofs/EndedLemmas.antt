@@ -10,7 +10,7 @@ use Rattle.std.proofs.lemmas.Bool.Decides.{nat_tests}
 use Rattle.pd_kinds.specs.Node.{Entry, leaf_block}
 use Rattle.pd_value.specs.declared.thin.Root.{Root}
 use Rattle.pd_node.specs.Items.{entries_of}
-use Rattle.pd_draft.specs.Placed.{Stand, Wrote}
+use Rattle.pd_draft.specs.Placed.{DraftState, Wrote}
 use Rattle.pd_draft.proofs.PlacedLemmas.{wrote_then}
 use Rattle.pd_spells.specs.Need.{nodes_for, need_above}
 use Rattle.pd_spells.specs.ThinText.{Line, Run, end_line, data_blocks_of, least_of, unmapped}
@@ -57,7 +57,7 @@ all_leaves_push P [] x all last = (last, tt)
 all_leaves_push P (y ∷ xs) x all last = (all.0, all_leaves_push P xs x all.1 last)
 
 -- a leaf ended
-pub ended_with_leaf : {room : ℕ} {start mid now : Stand} (before : List Line) (old new : SharedDevices) (least : ℕ) (runs : List Run) (h : HasGathered room before old start mid)
+pub ended_with_leaf : {room : ℕ} {start mid now : DraftState} (before : List Line) (old new : SharedDevices) (least : ℕ) (runs : List Run) (h : HasGathered room before old start mid)
     → opened before ≡ open_leaf runs → h.behind ≡ mid → IsLeafOpen before runs → unmapped before ≡ 0
     → new.counts ≡ old.counts → new.uses ≡ old.uses → new.leaves ≡ old.leaves → new.firsts.items ≡ old.firsts.items ++ least ∷ [] → least ≡ least_of (held_runs old.held)
     → new.trees ≡ old.trees → new.roots ≡ old.roots → new.details ≡ old.details → HasHeld [] new.held → new.growing ≡ None
@@ -75,7 +75,7 @@ ended_with_leaf {room} {start} {mid} {now} before old new least runs h opens sam
     record { have = lo.runs_are.have; some = omega (arith, lo.some, full); few = omega (arith, lo.few, full); mappings = lo.runs_are.mappings } in
     let mappings : leaves_told (whole_leaves (end_line ∷ before)) ≡ leaves_told w ++ mappings_of_runs runs ∷ [] = ap leaves_told all ∙ map-append mappings_of_runs w (runs ∷ []) in
     let place : 1 + length (leaves_told w) ≡ mid.place =
-    omega (arith, length-map w mappings_of_runs, h.place, ap trees_need none, ap (λ (at : Stand). at.place) same) in
+    omega (arith, length-map w mappings_of_runs, h.place, ap trees_need none, ap (λ (at : DraftState). at.place) same) in
     let blocks : leaves_and_trees (leaves_told (whole_leaves (end_line ∷ before))) (whole_devices (end_line ∷ before))
     ≡ leaves_and_trees (leaves_told w) wd ++ (leaf_block 8 mid.place (items_of_runs (held_runs old.held)) ∷ []) =
     ap₂ leaves_and_trees mappings (dev ∙ none)
@@ -108,13 +108,13 @@ ended_with_leaf {room} {start} {mid} {now} before old new least runs h opens sam
       };
       held = held;
       behind = now;
-      written = subst (λ (bs : List (List ℕ)). Wrote bs start now) (sym blocks) (wrote_then (subst (λ (at : Stand). Wrote (leaves_and_trees (leaves_told w) wd) start at) same h.written) wrote);
+      written = subst (λ (bs : List (List ℕ)). Wrote bs start now) (sym blocks) (wrote_then (subst (λ (at : DraftState). Wrote (leaves_and_trees (leaves_told w) wd) start at) same h.written) wrote);
       growing = rw growing (refl, refl);
       place = omega (
         arith,
         wrote.moved,
         h.place,
-        ap (λ (at : Stand). at.place) same,
+        ap (λ (at : DraftState). at.place) same,
         ap (λ (ls : List (List Run)). length ls) all,
         length-append w (runs ∷ []),
         ap trees_need dev,
@@ -219,7 +219,7 @@ all_ended told ds d runs t =
     }
 
 -- a device ended
-pub ended_with_device : {room : ℕ} {start mid now : Stand} (before : List Line) (old new : SharedDevices) (d : ShapeDevice) (runs : List Run) (o : Growing) (id root blocks : ℕ)
+pub ended_with_device : {room : ℕ} {start mid now : DraftState} (before : List Line) (old new : SharedDevices) (d : ShapeDevice) (runs : List Run) (o : Growing) (id root blocks : ℕ)
     (h : HasGathered room before old start mid) → opened before ≡ open_device d runs → IsDeviceOpen before d runs o h.behind mid
     → new.counts ≡ old.counts → new.uses ≡ old.uses → new.leaves ≡ old.leaves → new.firsts ≡ old.firsts → new.trees ≡ min (old.trees + blocks) (2 ^ 64 - 1)
     → new.roots.items ≡ old.roots.items ++ (id, record { 0 = root }) ∷ [] → new.details ≡ old.details → HasHeld [] new.held → new.growing ≡ None

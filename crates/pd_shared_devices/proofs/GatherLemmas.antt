@@ -11,7 +11,7 @@ use Rattle.pd_value.specs.declared.thin.Root.{Root}
 use Rattle.pd_value.specs.declared.thin.Details.{Details}
 use Rattle.pd_node.specs.Items.{entries_of}
 use Rattle.pd_draft.specs.Closed.{IsClosed}
-use Rattle.pd_draft.specs.Placed.{Stand}
+use Rattle.pd_draft.specs.Placed.{DraftState}
 use Rattle.pd_draft.proofs.PlacedLemmas.{wrote_none}
 use Rattle.pd_count.specs.Counted.{HasCounted}
 use Rattle.pd_spells.specs.ThinText.{Line, Head, LeafHead, Run, shared_first_line, pool_line, leaf_line, device_line, end_line, leaf_number, unmapped}
@@ -19,7 +19,7 @@ use Rattle.pd_spells.specs.ThinText as text
 use Rattle.pd_laid.specs.LaidThin.{details_items}
 use Rattle.pd_laid.specs.Shape.{ShapeDevice}
 use Rattle.pd_laid.specs.Tree.{blocks_from}
-use Rattle.pd_shapes.specs.SharedNeed.{Told, leaves_of_ended, leaves_of_told, told_devices, untold}
+use Rattle.pd_shapes.specs.SharedNeed.{Told, leaves_of_ended, leaves_of_told, told_devices, told_nothing}
 use Rattle.pd_shapes.proofs.LeafRuns.{HaveTold, told_leaf}
 use Rattle.pd_laid_shared.specs.Written.{device_roots, device_trees, leaves_and_trees}
 use Rattle.pd_texts.specs.ThinNext.{IsLeafLine}
@@ -45,7 +45,7 @@ abbrev pub details_fit : ℕ × Details → Type 0
 details_fit item = (ltb item.1.mapped (2 ^ 64) && (ltb item.1.transaction (2 ^ 64) && (ltb item.1.created (2 ^ 32) && ltb item.1.snapped (2 ^ 32)))) ≡ true
 
 -- nothing but a pool line was read
-pub gathered_start : (room : ℕ) (p : Head) (s : SharedDevices) (start : Stand) → start.place ≡ 1 → IsClosed start.device → p.data_blocks ≤ 2 ^ 40
+pub gathered_start : (room : ℕ) (p : Head) (s : SharedDevices) (start : DraftState) → start.place ≡ 1 → IsClosed start.device → p.data_blocks ≤ 2 ^ 40
     → s.counts.counts.size ≡ p.data_blocks → HasCounted s.counts.counts [] → s.counts.total ≡ 0
     → s.uses.counts.size ≡ room → HasCounted s.uses.counts [] → s.uses.total ≡ 0
     → s.leaves ≡ 0 → s.firsts.items ≡ [] → s.trees ≡ 0 → s.roots.items ≡ [] → s.details.items ≡ [] → HasHeld [] s.held → s.growing ≡ None
@@ -89,7 +89,7 @@ gathered_start room p s start first closed small size counted total uses_size us
 }
 
 -- where nothing is open
-pub closed_here : (before : List Line) (o : Option Growing) (from to : Stand) → IsOpen before nothing_open o from to → (o ≡ None) × (from ≡ to)
+pub closed_here : (before : List Line) (o : Option Growing) (from to : DraftState) → IsOpen before nothing_open o from to → (o ≡ None) × (from ≡ to)
 closed_here before None from to is = (refl, is.0)
 closed_here before (Some o) from to is = absurd is
 
@@ -105,7 +105,7 @@ without_none : (before : List Line) (leaves : List (List Run)) → HaveTold befo
 without_none before leaves told = subst (HaveTold before) (append-nil leaves) told
 
 -- a leaf begins
-pub gathered_leaf : {room : ℕ} {start now : Stand} (before : List Line) (old new : SharedDevices) (l : LeafHead) → HasGathered room (end_line ∷ before) old start now → IsLeafLine before l
+pub gathered_leaf : {room : ℕ} {start now : DraftState} (before : List Line) (old new : SharedDevices) (l : LeafHead) → HasGathered room (end_line ∷ before) old start now → IsLeafLine before l
     → new.counts ≡ old.counts → new.uses ≡ old.uses → new.leaves ≡ old.leaves + 1 → new.firsts ≡ old.firsts → new.trees ≡ old.trees → new.roots ≡ old.roots
     → new.details ≡ old.details → new.held ≡ old.held → new.growing ≡ old.growing → HasGathered room (leaf_line l ∷ before) new start now
 gathered_leaf {room} {start} {now} before old new l h line counts uses leaves firsts trees roots details held growing =
@@ -161,7 +161,7 @@ gathered_leaf {room} {start} {now} before old new l h line counts uses leaves fi
     }
 
 -- a device begins
-pub gathered_begun : {room : ℕ} {start now : Stand} (before : List Line) (old new : SharedDevices) (id : ℕ) (details : Details) (o : Growing) → HasGathered room (end_line ∷ before) old start now
+pub gathered_begun : {room : ℕ} {start now : DraftState} (before : List Line) (old new : SharedDevices) (id : ℕ) (details : Details) (o : Growing) → HasGathered room (end_line ∷ before) old start now
     → ((leaves : List (List Entry)) (d : ShapeDevice) → d.id ≡ id → d.pieces ≡ [] → Grown leaves d 0 o now now) → details_fit (id, details)
     → new.counts ≡ old.counts → new.uses ≡ old.uses → new.leaves ≡ old.leaves → new.firsts ≡ old.firsts → new.trees ≡ old.trees → new.roots ≡ old.roots
     → new.details.items ≡ old.details.items ++ (id, details) ∷ [] → new.held ≡ old.held → new.growing ≡ Some o
@@ -183,10 +183,10 @@ gathered_begun {room} {start} {now} before old new id details o h grown fits cou
         counted = rw counts c.counted;
         size = rw counts c.size;
         small = c.small;
-        total = rw counts (omega (arith, c.total, sum_by-cons (λ (t : Told). sum t.own) untold (told_devices before)));
+        total = rw counts (omega (arith, c.total, sum_by-cons (λ (t : Told). sum t.own) told_nothing (told_devices before)));
         uses_counted = rw uses c.uses_counted;
         uses_size = rw uses c.uses_size;
-        uses_total = rw uses (omega (arith, c.uses_total, sum_by-cons (λ (t : Told). t.uses) untold (told_devices before)));
+        uses_total = rw uses (omega (arith, c.uses_total, sum_by-cons (λ (t : Told). t.uses) told_nothing (told_devices before)));
         uses_within = c.uses_within;
       };
       leaves = record {
@@ -208,7 +208,7 @@ gathered_begun {room} {start} {now} before old new id details o h grown fits cou
         trees = rw trees h.listed.trees;
         number = omega (arith, ap (λ (items : List (ℕ × Details)). length items) listed, length-append old.details.items ((id, details) ∷ []), h.listed.number);
         told = record {
-          newest = untold;
+          newest = told_nothing;
           older = told_devices before;
           both = refl;
           over = h.listed.told;
@@ -229,12 +229,12 @@ gathered_begun {room} {start} {now} before old new id details o h grown fits cou
     }
 
 -- Line by line: what is open, as a case
-pub data IsWhich (before : List Line) (opens : Open) (s : SharedDevices) (from to : Stand) : Type 0 where
+pub data IsWhich (before : List Line) (opens : Open) (s : SharedDevices) (from to : DraftState) : Type 0 where
   is_nothing : opens ≡ nothing_open → s.growing ≡ None → from ≡ to → unmapped before ≡ 0 → IsWhich before opens s from to
   is_leaf : (runs : List Run) → opens ≡ open_leaf runs → s.growing ≡ None → from ≡ to → IsLeafOpen before runs → IsWhich before opens s from to
   is_device : (d : ShapeDevice) (runs : List Run) (o : Growing) → opens ≡ open_device d runs → s.growing ≡ Some o → IsDeviceOpen before d runs o from to → IsWhich before opens s from to
 
-which_of : (before : List Line) (s : SharedDevices) (opens : Open) (o : Option Growing) (from to : Stand) → s.growing ≡ o → IsOpen before opens o from to → IsWhich before opens s from to
+which_of : (before : List Line) (s : SharedDevices) (opens : Open) (o : Option Growing) (from to : DraftState) → s.growing ≡ o → IsOpen before opens o from to → IsWhich before opens s from to
 which_of before s nothing_open None from to e is = is_nothing refl e is.0 is.1
 which_of before s nothing_open (Some o) from to e is = absurd is
 which_of before s (open_leaf runs) None from to e is = is_leaf runs refl e is.0 is.1
@@ -242,5 +242,5 @@ which_of before s (open_leaf runs) (Some o) from to e is = absurd is
 which_of before s (open_device d runs) None from to e is = absurd is
 which_of before s (open_device d runs) (Some o) from to e is = is_device d runs o refl e is
 
-pub which : {room : ℕ} {before : List Line} {s : SharedDevices} {start now : Stand} (h : HasGathered room before s start now) → IsWhich before (opened before) s h.behind now
+pub which : {room : ℕ} {before : List Line} {s : SharedDevices} {start now : DraftState} (h : HasGathered room before s start now) → IsWhich before (opened before) s h.behind now
 which {room} {before} {s} {start} {now} h = which_of before s (opened before) s.growing h.behind now refl h.growing

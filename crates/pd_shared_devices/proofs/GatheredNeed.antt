@@ -4,7 +4,7 @@ use Rattle.std.specs.List.{AllByRecursion, count_by, flat_map, range_with_len}
 use Rattle.std.proofs.lemmas.Bool.{cases_Bool}
 use Rattle.std.proofs.lemmas.Bool.Decides.{nat_tests}
 use Rattle.std.proofs.lemmas.List.Sums.{sum_by-cons}
-use Rattle.pd_draft.specs.Placed.{Stand}
+use Rattle.pd_draft.specs.Placed.{DraftState}
 use Rattle.pd_grammar.specs.Texts.{has_ended}
 use Rattle.pd_spells.specs.ThinNeed.{data_of_line, overflows_in}
 use Rattle.pd_spells.specs.ThinText.{Line, data_blocks_of, leaf_number, pool_format}
@@ -18,7 +18,7 @@ use Rattle.pd_shared_devices.specs.Growth.{open_need}
 use Rattle.pd_shared_devices.specs.Need.{need_of_parts}
 use Rattle.pd_shared_devices.specs.Told.{Open, whole_devices}
 use Rattle.pd_shared_devices.specs.declared.devices.SharedDevices.{SharedDevices}
-use Rattle.pd_shared_devices.specs.declared.need.Parts.{Parts}
+use Rattle.pd_shared_devices.specs.declared.need.NeedCounts.{NeedCounts}
 use Rattle.pd_shared_devices.proofs.GatherLemmas.{is_nothing, is_leaf, is_device, which}
 use Rattle.pd_shared_devices.proofs.NeedLemmas.{passing_more}
 use Rattle.pd_shared_devices.proofs.RoomLemmas.{device_sum}
@@ -68,7 +68,7 @@ told_number ended (t ∷ ts) = ap suc (same_number ts)
     same_number (t ∷ ts) = ap suc (same_number ts)
 
 -- the blocks of the open tree and of those that are over
-trees_all : {room : ℕ} {before : List Line} {s : SharedDevices} {start now : Stand} (h : HasGathered room before s start now) → s.held.number < 2 ^ 64
+trees_all : {room : ℕ} {before : List Line} {s : SharedDevices} {start now : DraftState} (h : HasGathered room before s start now) → s.held.number < 2 ^ 64
     → open_need s.growing (min (s.held.number + 0) (2 ^ 64 - 1)) + trees_need (whole_devices before) ≡ sum_by need_of_leaves (leaves_of_told (has_ended pool_format before) (told_devices before))
 trees_all {room} {before} {s} {start} {now} h fits =
     let told = told_devices before in
@@ -89,7 +89,7 @@ trees_all {room} {before} {s} {start} {now} h fits =
     ]
 
 -- the need of what was gathered
-pub gathered_need : {room : ℕ} {before : List Line} {s : SharedDevices} {start now : Stand} (p : Parts) (h : HasGathered room before s start now) → s.held.number < 2 ^ 64
+pub gathered_need : {room : ℕ} {before : List Line} {s : SharedDevices} {start now : DraftState} (p : NeedCounts) (h : HasGathered room before s start now) → s.held.number < 2 ^ 64
     → p.leaves ≡ s.leaves → p.often ≡ overflows_of s.uses.counts s.uses.counts.size → p.trees ≡ s.trees → p.begun ≡ open_need s.growing (min (s.held.number + 0) (2 ^ 64 - 1))
     → p.devices ≡ length s.details.items → p.blocks ≡ s.counts.counts.size → p.over ≡ min (overflows_of s.counts.counts s.counts.counts.size + 0) (2 ^ 64 - 1)
     → min (need_of_parts p room) (2 ^ 64 - 1) ≡ min (shape_need_so_far room before) (2 ^ 64 - 1)

@@ -4,13 +4,13 @@ use Rattle.std.proofs.Math.Seq.{take-length}
 use Rattle.pd_kinds.specs.Node.{Entry, leaf_block, max_entries}
 use Rattle.pd_spells.specs.Need.{nodes_for}
 use Rattle.pd_spells.specs.ThinText.{Run}
-use Rattle.pd_laid.specs.Tree.{blocks_from, spread, tree_leaves}
+use Rattle.pd_laid.specs.Tree.{blocks_from, even_parts, tree_leaves}
 use Rattle.pd_shapes.specs.SharedText.{mappings_of_runs}
 use Rattle.pd_devices.proofs.RunLemmas.{length-items}
 use Rattle.pd_shared_devices.specs.Piece.{items_of_runs}
 
-spread_one : (xs : List Entry) → spread 1 xs ≡ xs ∷ []
-unfolding spread
+spread_one : (xs : List Entry) → even_parts 1 xs ≡ xs ∷ []
+unfolding even_parts
 spread_one xs = let all : (length xs + 0) / 1 ≡ length xs = omega arith in rw (all, take-length xs) refl
 
 pub leaves_one : (items : List Entry) → 1 ≤ length items → length items ≤ 252 → tree_leaves 8 items ≡ items ∷ []

@@ -2,13 +2,13 @@
 use Rattle.std.proofs.Common.{◌≡◌, ℕ, ◌+◌, ◌-◌, ◌<◌, ◌^◌, min, cond, false, eqb, List, [], ◌∷◌, ◌++◌, length, map, sum_by, refl, sym, ◌∙◌, ap, subst, arith}
 use Rattle.std.specs.List.{count_by, flat_map, range_with_len}
 use Rattle.std.proofs.lemmas.List.Sums.{sum_by-cons, sum_by-append}
-use Rattle.pd_draft.specs.Placed.{Stand}
+use Rattle.pd_draft.specs.Placed.{DraftState}
 use Rattle.pd_count.specs.Counted.{count_of}
 use Rattle.pd_spells.specs.Need.{need_above, nodes_for}
 use Rattle.pd_spells.specs.ThinNeed.{data_of_line, overflows_in}
 use Rattle.pd_spells.specs.ThinText.{Line, Run, map_line, data_blocks_of, leaf_number}
 use Rattle.pd_spells.specs.ThinText as text
-use Rattle.pd_shapes.specs.SharedNeed.{Told, leaf_count, leaves_of_ended, leaves_of_told, need_of_leaves, need_of_shared, shape_need_so_far, tell, told_devices, used_often}
+use Rattle.pd_shapes.specs.SharedNeed.{Told, leaf_count, leaves_of_ended, leaves_of_told, need_of_leaves, need_of_shared, shape_need_so_far, tell_newest, told_devices, used_often}
 use Rattle.pd_shapes.specs.SharedNeed as by_line
 use Rattle.pd_shapes.specs.SharedText.{mappings_of_runs}
 use Rattle.pd_texts.specs.ThinNext.{IsRunLine}
@@ -24,7 +24,7 @@ use Rattle.pd_shared_devices.specs.Need.{need_of_parts}
 use Rattle.pd_shared_devices.specs.Told.{Open, open_runs, whole_devices}
 use Rattle.pd_shared_devices.specs.declared.devices.SharedDevices.{SharedDevices}
 use Rattle.pd_shared_devices.specs.declared.growing.Growing.{Growing}
-use Rattle.pd_shared_devices.specs.declared.need.Parts.{Parts}
+use Rattle.pd_shared_devices.specs.declared.need.NeedCounts.{NeedCounts}
 use Rattle.pd_shared_devices.proofs.GatherLemmas.{is_nothing, is_leaf, is_device, which}
 use Rattle.pd_shared_devices.proofs.GatheredNeed.{often_same, told_number}
 use Rattle.pd_shared_devices.proofs.MoreLemmas.{overflows_row}
@@ -33,7 +33,7 @@ use Rattle.pd_shared_devices.proofs.RoomLemmas.{held_nodes}
 use Rattle.pd_shared_devices.proofs.RunLemmas.{none_told, told_more}
 
 -- what the trees need where a device is told with these runs behind its pieces that are over
-told_sum : (before : List Line) (d : ShapeDevice) (runs : List Run) (o : Growing) (n : ℕ) (newest : Told) (older : List Told) (devices : List ShapeDevice) {from to : Stand} (was : List Run)
+told_sum : (before : List Line) (d : ShapeDevice) (runs : List Run) (o : Growing) (n : ℕ) (newest : Told) (older : List Told) (devices : List ShapeDevice) {from to : DraftState} (was : List Run)
     → IsDeviceOpen before d was o from to → IsTold newest d runs → AreTold older devices → n ≡ length (mappings_of_runs runs)
     → sum_by need_of_leaves (leaves_of_told false (newest ∷ older)) ≡ o.own + nodes_for 252 n + need_above 10 (o.own + nodes_for 252 n + o.uses) + trees_need devices
 told_sum before d runs o n newest older devices was do_ last over number =
@@ -56,7 +56,7 @@ told_sum before d runs o n newest older devices was do_ last over number =
     sum_by-cons need_of_leaves (leaf_count newest.own newest.uses) (map leaves_of_ended older) ∙ omega (arith, mine, over.trees)
 
 -- the blocks of the open tree with a run more, and of those that are over
-trees_more : {room : ℕ} {before : List Line} {s : SharedDevices} {start now : Stand} (r : Run) (h : HasGathered room before s start now) → IsRunLine before r → s.held.number + r.length < 2 ^ 64
+trees_more : {room : ℕ} {before : List Line} {s : SharedDevices} {start now : DraftState} (r : Run) (h : HasGathered room before s start now) → IsRunLine before r → s.held.number + r.length < 2 ^ 64
     → open_need s.growing (min (s.held.number + r.length) (2 ^ 64 - 1)) + trees_need (whole_devices before)
     ≡ sum_by need_of_leaves (leaves_of_told false (told_devices (map_line r ∷ before)))
 trees_more {room} {before} {s} {start} {now} r h next fits =
@@ -67,11 +67,11 @@ trees_more {room} {before} {s} {start} {now} r h next fits =
       | is_leaf runs opens none same lo ↦
           let over = subst (AreAllTold told wd) opens h.listed.told in
           let untold : told ≡ [] = none_told told (omega (arith, over.number, ap (λ (ds : List ShapeDevice). length ds) (h.leaves.alone lo.none))) in
-          let still : told_devices (map_line r ∷ before) ≡ [] = ap (tell (by_line.with_run r.length)) untold in
+          let still : told_devices (map_line r ∷ before) ≡ [] = ap (tell_newest (by_line.with_run r.length)) untold in
           rw none (omega (arith, ap trees_need (h.leaves.alone lo.none), ap (λ (ts : List Told). sum_by need_of_leaves (leaves_of_told false ts)) still))
       | is_device d runs o opens some do_ ↦
           let t = subst (AreAllTold told wd) opens h.listed.told in
-          let both : told_devices (map_line r ∷ before) ≡ by_line.with_run r.length t.newest ∷ t.older = ap (tell (by_line.with_run r.length)) t.both in
+          let both : told_devices (map_line r ∷ before) ≡ by_line.with_run r.length t.newest ∷ t.older = ap (tell_newest (by_line.with_run r.length)) t.both in
           let held : s.held.number ≡ length (mappings_of_runs runs) = h.held.number ∙ ap (λ (o : Open). length (mappings_of_runs (open_runs o))) opens in
           let n = s.held.number + r.length in
           let number : n ≡ length (mappings_of_runs (runs ++ r ∷ [])) = omega (arith, held, number_behind runs r) in
@@ -83,7 +83,7 @@ trees_more {room} {before} {s} {start} {now} r h next fits =
     ]
 
 -- the need of what was gathered with a run more
-pub need_more : {room : ℕ} {before : List Line} {s : SharedDevices} {start now : Stand} (p : Parts) (r : Run) (h : HasGathered room before s start now) → IsRunLine before r → s.held.number + r.length < 2 ^ 64
+pub need_more : {room : ℕ} {before : List Line} {s : SharedDevices} {start now : DraftState} (p : NeedCounts) (r : Run) (h : HasGathered room before s start now) → IsRunLine before r → s.held.number + r.length < 2 ^ 64
     → p.leaves ≡ s.leaves → p.often ≡ overflows_of s.uses.counts s.uses.counts.size → p.trees ≡ s.trees → p.begun ≡ open_need s.growing (min (s.held.number + r.length) (2 ^ 64 - 1))
     → p.devices ≡ length s.details.items → p.blocks ≡ s.counts.counts.size
     → p.over ≡ min (overflows_of s.counts.counts s.counts.counts.size + count_by (λ d. eqb (count_of s.counts.counts d) 2) (range_with_len r.data_block r.length)) (2 ^ 64 - 1)
@@ -108,7 +108,7 @@ need_more {room} {before} {s} {start} {now} p r h next fits leaves often trees o
     often ∙ (ap (overflows_of s.uses.counts) c.uses_size ∙ (overflows_listed s.uses.counts (text.uses_of before) room c.uses_counted ∙ often_same (text.uses_of before) (leaf_number before) room c.uses_within)) in
     rw (many, blocks ∙ c.size, over_is, often_is, leaves ∙ h.leaves.number, trees ∙ h.listed.trees) (omega (arith, opens, trees_more r h next fits))
   where
-    tell_number : (more : Told → Told) (ts : List Told) → length (tell more ts) ≡ length ts
+    tell_number : (more : Told → Told) (ts : List Told) → length (tell_newest more ts) ≡ length ts
     tell_number more [] = refl
     tell_number more (t ∷ ts) = refl
 

@@ -5,7 +5,7 @@ use Rattle.std.proofs.lemmas.List.Concat.{flat_map-append}
 use Rattle.pd_kinds.specs.Meaning.{Mapping}
 use Rattle.pd_kinds.specs.Node.{Entry, leaf_block}
 use Rattle.pd_draft.specs.Closed.{IsClosed}
-use Rattle.pd_draft.specs.Placed.{Stand, Wrote}
+use Rattle.pd_draft.specs.Placed.{DraftState, Wrote}
 use Rattle.pd_draft.proofs.PlacedLemmas.{wrote_none, wrote_then}
 use Rattle.pd_spells.specs.Lawful.{AreMappings}
 use Rattle.pd_spells.specs.ThinText.{Run, mappings_of}
@@ -14,7 +14,7 @@ use Rattle.pd_laid.specs.LaidThin.{mapping_items}
 use Rattle.pd_laid.specs.Tree.{blocks_from, heads}
 use Rattle.pd_laid.proofs.LaidLemmas.{blocks_from-append, length-blocks_from}
 use Rattle.pd_shapes.specs.SharedText.{mappings_of_runs}
-use Rattle.pd_build.specs.Leaves.{LeavesLeft, leaves_to_come, ended}
+use Rattle.pd_build.specs.Leaves.{LeavesLeft, leaves_to_come, leaf_ended}
 use Rattle.pd_build.specs.Parts.{cut}
 use Rattle.pd_build.proofs.UpperLemmas.{heads-append}
 use Rattle.pd_devices.proofs.RunLemmas.{items-append}
@@ -23,11 +23,11 @@ use Rattle.pd_devices.specs.declared.runs.Run.{Run as Value}
 use Rattle.pd_shared_devices.specs.Piece.{runs_of, items_of_runs, CanBeLaid, TakesAll}
 
 -- nothing was taken yet
-pub takes_none : (size : ℕ) (t : LeavesLeft) (row : List Entry) (stand : Stand) → IsClosed stand.device → TakesAll size [] t t row row stand stand
+pub takes_none : (size : ℕ) (t : LeavesLeft) (row : List Entry) (draft_state : DraftState) → IsClosed draft_state.device → TakesAll size [] t t row row draft_state draft_state
 unfolding blocks_from heads
-takes_none size t row stand closed = record {
+takes_none size t row draft_state closed = record {
   ended = [];
-  wrote = wrote_none stand closed;
+  wrote = wrote_none draft_state closed;
   to_come = λ items. refl;
   row_is = sym (append-nil row);
   items = omega arith;
@@ -35,7 +35,7 @@ takes_none size t row stand closed = record {
 }
 
 -- some items, and others after them
-pub takes_then : {size : ℕ} {xs ys : List Entry} {a b c : LeavesLeft} {row mid last : List Entry} {from on to : Stand}
+pub takes_then : {size : ℕ} {xs ys : List Entry} {a b c : LeavesLeft} {row mid last : List Entry} {from on to : DraftState}
     → TakesAll size xs a b row mid from on → TakesAll size ys b c mid last on to → TakesAll size (xs ++ ys) a c row last from to
 takes_then {size} {xs} {ys} {a} {b} {c} {row} {mid} {last} {from} {on} {to} first second =
     let front = first.ended in
@@ -68,7 +68,7 @@ unfolding cut
 none_to_come t items none = rw none refl
 
 -- all items were taken: the leaves are those of all
-pub took_all : {size : ℕ} {all : List Entry} {a b : LeavesLeft} {row longer : List Entry} {from to : Stand} {leaves : List (List Entry)}
+pub took_all : {size : ℕ} {all : List Entry} {a b : LeavesLeft} {row longer : List Entry} {from to : DraftState} {leaves : List (List Entry)}
     → TakesAll size all a b row longer from to → b.sizes ≡ [] → leaves_to_come a all ≡ leaves
     → Wrote (blocks_from (leaf_block size) from.place leaves) from to × (longer ≡ row ++ heads from.place leaves)
 took_all {size} {all} {a} {b} {row} {longer} {from} {to} {leaves} takes none are =

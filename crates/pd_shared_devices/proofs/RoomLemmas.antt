@@ -3,7 +3,7 @@ use Rattle.std.proofs.Common.{◌≡◌, inl, inr, ℕ, ◌+◌, ◌*◌, ◌≤
 use Rattle.std.proofs.lemmas.Bool.{cases_Bool}
 use Rattle.std.proofs.lemmas.Bool.Decides.{nat_tests}
 use Rattle.std.proofs.lemmas.List.Sums.{sum_by-cons, sum_by-append}
-use Rattle.pd_draft.specs.Placed.{Stand}
+use Rattle.pd_draft.specs.Placed.{DraftState}
 use Rattle.pd_grammar.specs.Texts.{has_ended}
 use Rattle.pd_spells.specs.Need.{nodes_for, need_above, nodes_of_tree}
 use Rattle.pd_spells.specs.ThinText.{Line, Run, pool_format, leaf_number, number_in}
@@ -27,7 +27,7 @@ unfolding shape_need_so_far need_of_shared nodes_of_tree
 parts_within room before = omega arith
 
 -- where a leaf is open
-pub leaf_room : {room : ℕ} {before : List Line} {s : SharedDevices} {start now : Stand} (runs : List Run) (h : HasGathered room before s start now)
+pub leaf_room : {room : ℕ} {before : List Line} {s : SharedDevices} {start now : DraftState} (runs : List Run) (h : HasGathered room before s start now)
     → opened before ≡ open_leaf runs → h.behind ≡ now → IsLeafOpen before runs → shape_need_so_far room before ≤ room → now.place < room
 leaf_room {room} {before} {s} {start} {now} runs h opens same lo need =
     let number = h.leaves.told.number ∙ ap (λ (o : Open). length (whole_leaves before ++ ended_leaf o)) opens in
@@ -37,7 +37,7 @@ leaf_room {room} {before} {s} {start} {now} runs h opens same lo need =
       length-append (whole_leaves before) (runs ∷ []),
       h.place,
       ap trees_need (h.leaves.alone lo.none),
-      ap (λ (at : Stand). at.place) same,
+      ap (λ (at : DraftState). at.place) same,
       parts_within room before,
       need,
     )
@@ -66,7 +66,7 @@ pub record HasDeviceRoom (room place : ℕ) (o : Growing) (nodes : ℕ) : Type 0
   pub uses_few : o.uses ≤ 252 * need_above 10 (o.own + nodes + o.uses) + 1
 
 -- what the trees need then: its own leaves so far, the levels above all its leaves, and the trees of the devices before it
-pub device_sum : {room : ℕ} {before : List Line} {s : SharedDevices} {start now : Stand} (d : ShapeDevice) (runs : List Run) (o : Growing) (h : HasGathered room before s start now)
+pub device_sum : {room : ℕ} {before : List Line} {s : SharedDevices} {start now : DraftState} (d : ShapeDevice) (runs : List Run) (o : Growing) (h : HasGathered room before s start now)
     → opened before ≡ open_device d runs → IsDeviceOpen before d runs o h.behind now
     → sum_by need_of_leaves (leaves_of_told (has_ended pool_format before) (told_devices before))
     ≡ o.own + nodes_for 252 s.held.number + need_above 10 (o.own + nodes_for 252 s.held.number + o.uses) + trees_need (whole_devices before)
@@ -95,7 +95,7 @@ device_sum {room} {before} {s} {start} {now} d runs o h opens do_ =
     ∙ (ap (λ (ts : List Told). sum_by need_of_leaves (leaves_of_told false ts)) t.both
     ∙ (sum_by-cons need_of_leaves (leaf_count t.newest.own t.newest.uses) (map leaves_of_ended t.older) ∙ omega (arith, mine, t.over.trees)))
 
-pub device_room : {room : ℕ} {before : List Line} {s : SharedDevices} {start now : Stand} (d : ShapeDevice) (runs : List Run) (o : Growing) (h : HasGathered room before s start now)
+pub device_room : {room : ℕ} {before : List Line} {s : SharedDevices} {start now : DraftState} (d : ShapeDevice) (runs : List Run) (o : Growing) (h : HasGathered room before s start now)
     → opened before ≡ open_device d runs → IsDeviceOpen before d runs o h.behind now → shape_need_so_far room before ≤ room → room ≤ 4161600
     → HasDeviceRoom room now.place o (nodes_for 252 s.held.number)
 device_room {room} {before} {s} {start} {now} d runs o h opens do_ need most =

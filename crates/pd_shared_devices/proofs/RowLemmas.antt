@@ -8,7 +8,7 @@ use Rattle.std.proofs.lemmas.List.Concat.{flat_map-append}
 use Rattle.pd_kinds.specs.Meaning.{Mapping}
 use Rattle.pd_kinds.specs.Node.{Entry, leaf_block}
 use Rattle.pd_draft.specs.Closed.{IsClosed}
-use Rattle.pd_draft.specs.Placed.{Stand, Wrote}
+use Rattle.pd_draft.specs.Placed.{DraftState, Wrote}
 use Rattle.pd_draft.proofs.PlacedLemmas.{wrote_none, wrote_then}
 use Rattle.pd_spells.specs.Need.{nodes_for}
 use Rattle.pd_spells.specs.ThinText.{Run}
@@ -44,16 +44,16 @@ own_blocks-append place xs ys =
     ap (blocks_from (leaf_block 8) place) (flat_map-append own_leaves xs ys) ∙ blocks_from-append (leaf_block 8) place (flat_map own_leaves xs) (flat_map own_leaves ys)
 
 -- how many leaves a row has
-pub grown_number : {leaves : List (List Entry)} {d : ShapeDevice} {low : ℕ} {o : Growing} {from to : Stand} → Grown leaves d low o from to → length o.row ≡ o.own + o.uses
+pub grown_number : {leaves : List (List Entry)} {d : ShapeDevice} {low : ℕ} {o : Growing} {from to : DraftState} → Grown leaves d low o from to → length o.row ≡ o.own + o.uses
 grown_number {leaves} {d} {low} {o} {from} {to} g = omega (arith, ap (λ (es : List Entry). length es) g.row, row_length leaves from.place d.pieces, g.own, g.uses)
 
 -- where the own leaves end
-pub grown_place : {leaves : List (List Entry)} {d : ShapeDevice} {low : ℕ} {o : Growing} {from to : Stand} → Grown leaves d low o from to → to.place ≡ from.place + o.own
+pub grown_place : {leaves : List (List Entry)} {d : ShapeDevice} {low : ℕ} {o : Growing} {from to : DraftState} → Grown leaves d low o from to → to.place ≡ from.place + o.own
 grown_place {leaves} {d} {low} {o} {from} {to} g =
     omega (arith, g.written.moved, length-blocks_from (leaf_block 8) from.place (flat_map own_leaves d.pieces), g.own)
 
 -- a device without pieces
-pub grown_none : (leaves : List (List Entry)) (d : ShapeDevice) (o : Growing) (now : Stand) → IsClosed now.device → d.pieces ≡ [] → o.id ≡ d.id → o.row ≡ [] → o.own ≡ 0 → o.uses ≡ 0
+pub grown_none : (leaves : List (List Entry)) (d : ShapeDevice) (o : Growing) (now : DraftState) → IsClosed now.device → d.pieces ≡ [] → o.id ≡ d.id → o.row ≡ [] → o.own ≡ 0 → o.uses ≡ 0
     → Grown leaves d 0 o now now
 unfolding blocks_from
 grown_none leaves d o now closed none id row mine uses = record {
@@ -72,7 +72,7 @@ all_push P [] x all last = (last, tt)
 all_push P (y ∷ xs) x all last = (all.0, all_push P xs x all.1 last)
 
 -- one piece more of its own
-pub grown_own : {leaves : List (List Entry)} {d : ShapeDevice} {low end : ℕ} {o p : Growing} {from mid to : Stand} (ms : List Mapping) → Grown leaves d low o from mid
+pub grown_own : {leaves : List (List Entry)} {d : ShapeDevice} {low end : ℕ} {o p : Growing} {from mid to : DraftState} (ms : List Mapping) → Grown leaves d low o from mid
     → 1 ≤ length ms → Rises low end (keys_in (mapping_items ms)) → p.id ≡ o.id → p.own ≡ o.own + length (tree_leaves 8 (mapping_items ms)) → p.uses ≡ o.uses
     → p.own + p.uses ≤ 2 ^ 61
     → Wrote (blocks_from (leaf_block 8) mid.place (tree_leaves 8 (mapping_items ms))) mid to
@@ -114,7 +114,7 @@ grown_own {leaves} {d} {low} {end} {o} {p} {from} {mid} {to} ms g some rises id 
     }
 
 -- the use of a shared leaf
-pub grown_use : {leaves : List (List Entry)} {d : ShapeDevice} {low end : ℕ} {o p : Growing} {from now : Stand} (least number : ℕ) → Grown leaves d low o from now
+pub grown_use : {leaves : List (List Entry)} {d : ShapeDevice} {low end : ℕ} {o p : Growing} {from now : DraftState} (least number : ℕ) → Grown leaves d low o from now
     → low ≤ least → least < end → least ≡ first_key (unwrap_or (slice_get leaves number) []) → p.id ≡ o.id → p.own ≡ o.own → p.uses ≡ o.uses + 1
     → p.own + p.uses ≤ 2 ^ 61
     → p.row ≡ o.row ++ record { key = least; value = number + 1 } ∷ []
@@ -152,7 +152,7 @@ grown_use {leaves} {d} {low} {end} {o} {p} {from} {now} least number g above bel
     same_head j k v w a b = cc
 
 -- the own piece of held runs, which may be none
-pub grown_higher : {leaves : List (List Entry)} {d : ShapeDevice} {low end : ℕ} {o : Growing} {from to : Stand} → low ≤ end → Grown leaves d low o from to → Grown leaves d end o from to
+pub grown_higher : {leaves : List (List Entry)} {d : ShapeDevice} {low end : ℕ} {o : Growing} {from to : DraftState} → low ≤ end → Grown leaves d low o from to → Grown leaves d end o from to
 grown_higher {leaves} {d} {low} {end} {o} {from} {to} high g = record {
   id = g.id;
   written = g.written;
@@ -168,13 +168,13 @@ without_more : (d : ShapeDevice) → d ≡ with_pieces [] d
 without_more d =
     sym (ap (λ (ps : List Piece). record { id = d.id; mapped = d.mapped; transaction = d.transaction; created = d.created; snapped = d.snapped; pieces = ps }) (append-nil d.pieces))
 
-pub grown_without : {leaves : List (List Entry)} {d : ShapeDevice} {blocks low end : ℕ} {o : Growing} {from to : Stand} (runs : List Run) → length (mappings_of_runs runs) ≡ 0
+pub grown_without : {leaves : List (List Entry)} {d : ShapeDevice} {blocks low end : ℕ} {o : Growing} {from to : DraftState} (runs : List Run) → length (mappings_of_runs runs) ≡ 0
     → AreHeld blocks low end runs → Grown leaves d low o from to → Grown leaves (with_pieces (own_piece runs) d) end o from to
 grown_without {leaves} {d} {blocks} {low} {end} {o} {from} {to} [] none held g =
     subst (λ (e : ShapeDevice). Grown leaves e end o from to) (without_more d) (grown_higher held.ends g)
 grown_without {leaves} {d} {blocks} {low} {end} {o} {from} {to} (r ∷ runs) none held g = absurd (omega (arith, none, runs_some r runs held.have))
 
-pub grown_with : {leaves : List (List Entry)} {d : ShapeDevice} {blocks low end : ℕ} {o p : Growing} {from mid to : Stand} (runs : List Run) → 1 ≤ length (mappings_of_runs runs)
+pub grown_with : {leaves : List (List Entry)} {d : ShapeDevice} {blocks low end : ℕ} {o p : Growing} {from mid to : DraftState} (runs : List Run) → 1 ≤ length (mappings_of_runs runs)
     → AreHeld blocks low end runs → Grown leaves d low o from mid → p.id ≡ o.id → p.own ≡ o.own + nodes_for 252 (length (mappings_of_runs runs)) → p.uses ≡ o.uses
     → p.own + p.uses ≤ 2 ^ 61
     → Wrote (blocks_from (leaf_block 8) mid.place (tree_leaves 8 (items_of_runs runs))) mid to

@@ -2,7 +2,7 @@
 use Rattle.std.proofs.Common.{◌≡◌, ℕ, ◌+◌, ◌-◌, ◌*◌, ◌≤◌, false, List, [], ◌∷◌, ◌++◌, length, map, sum, sum_by, refl, sym, ◌∙◌, ap, subst, arith, Option, None, Some}
 use Rattle.std.specs.List.{flat_map, range_with_len}
 use Rattle.std.proofs.lemmas.List.Sums.{sum_by-cons, sum_by-append}
-use Rattle.pd_draft.specs.Placed.{Stand}
+use Rattle.pd_draft.specs.Placed.{DraftState}
 use Rattle.pd_count.specs.Counted.{HasCounted}
 use Rattle.pd_spells.specs.ThinNeed.{data_of_line}
 use Rattle.pd_spells.specs.ThinText.{Line, Run, map_line, leaf_number, number_in, unmapped}
@@ -10,7 +10,7 @@ use Rattle.pd_laid.specs.LaidThin.{details_items}
 use Rattle.pd_laid.specs.Shape.{Piece, ShapeDevice}
 use Rattle.pd_kinds.specs.Node.{Entry}
 use Rattle.pd_kinds.specs.Value.{details_code}
-use Rattle.pd_shapes.specs.SharedNeed.{Told, leaves_of_ended, leaves_of_told, lengthened, tell, told_devices}
+use Rattle.pd_shapes.specs.SharedNeed.{Told, leaves_of_ended, leaves_of_told, lengthened, tell_newest, told_devices}
 use Rattle.pd_shapes.specs.SharedNeed as told
 use Rattle.pd_shapes.specs.SharedText.{mappings_of_runs}
 use Rattle.pd_shapes.proofs.LeafRuns.{HaveTold, number_mapped, told_run, told_map}
@@ -69,7 +69,7 @@ unfolding details_items
 details_kept [] d ps qs = refl
 details_kept (e ∷ ds) d ps qs = ap (λ (es : List Entry). record { key = e.id; value = details_code e.mapped e.transaction e.created e.snapped } ∷ es) (details_kept ds d ps qs)
 
-pub gathered_run : {room : ℕ} {start now : Stand} (before : List Line) (old new : SharedDevices) (r : Run) → HasGathered room before old start now → IsRunLine before r
+pub gathered_run : {room : ℕ} {start now : DraftState} (before : List Line) (old new : SharedDevices) (r : Run) → HasGathered room before old start now → IsRunLine before r
     → new.counts.counts.size ≡ old.counts.counts.size → new.counts.total ≡ old.counts.total + r.length
     → HasCounted new.counts.counts (range_with_len r.data_block r.length ++ flat_map data_of_line before)
     → HasHeld (open_runs (opened before) ++ r ∷ []) new.held
@@ -92,7 +92,7 @@ gathered_run {room} {start} {now} before old new r h next size total counted hel
         let after : opened (map_line r ∷ before) ≡ open_leaf (runs ++ r ∷ []) = ap (after_run r) opens in
         let over = subst (AreAllTold (told_devices before) wd) opens h.listed.told in
         let untold : told_devices before ≡ [] = none_told (told_devices before) (omega (arith, over.number, ap (λ (ds : List ShapeDevice). length ds) (h.leaves.alone lo.none))) in
-        let still : told_devices (map_line r ∷ before) ≡ [] = ap (tell (told.with_run r.length)) untold in
+        let still : told_devices (map_line r ∷ before) ≡ [] = ap (tell_newest (told.with_run r.length)) untold in
         record {
           version = h.version;
           begin = h.begin;
@@ -158,7 +158,7 @@ gathered_run {room} {start} {now} before old new r h next size total counted hel
         let after : opened (map_line r ∷ before) ≡ open_device d longer = ap (after_run r) opens in
         let t = subst (AreAllTold (told_devices before) wd) opens h.listed.told in
         let n = r.length in
-        let both : told_devices (map_line r ∷ before) ≡ told.with_run n t.newest ∷ t.older = ap (tell (told.with_run n)) t.both in
+        let both : told_devices (map_line r ∷ before) ≡ told.with_run n t.newest ∷ t.older = ap (tell_newest (told.with_run n)) t.both in
         record {
           version = h.version;
           begin = h.begin;
@@ -223,7 +223,7 @@ gathered_run {room} {start} {now} before old new r h next size total counted hel
         }
 
 -- how many mappings are counted then
-pub total_more : {room : ℕ} {before : List Line} {s : SharedDevices} {start now : Stand} (r : Run) (h : HasGathered room before s start now) → IsRunLine before r
+pub total_more : {room : ℕ} {before : List Line} {s : SharedDevices} {start now : DraftState} (r : Run) (h : HasGathered room before s start now) → IsRunLine before r
     → s.counts.total + r.length ≤ 252 * leaf_number before + sum_by (λ (t : Told). sum t.own) (told_devices (map_line r ∷ before))
 total_more {room} {before} {s} {start} {now} r h next = elim (which h) [
   | is_nothing opens none same full ↦ absurd (omega (arith, next.some, next.mapped, full))
@@ -235,7 +235,7 @@ total_more {room} {before} {s} {start} {now} r h next = elim (which h) [
       omega (arith, h.counts.total, next.mapped, ap (λ (o : Open). leaf_left o (unmapped before)) opens, sum_none)
   | is_device d runs o opens some do_ ↦
       let t = subst (AreAllTold (told_devices before) (whole_devices before)) opens h.listed.told in
-      let both : told_devices (map_line r ∷ before) ≡ told.with_run r.length t.newest ∷ t.older = ap (tell (told.with_run r.length)) t.both in
+      let both : told_devices (map_line r ∷ before) ≡ told.with_run r.length t.newest ∷ t.older = ap (tell_newest (told.with_run r.length)) t.both in
       omega (
         arith,
         h.counts.total,
@@ -248,7 +248,7 @@ total_more {room} {before} {s} {start} {now} r h next = elim (which h) [
 ]
 
 -- and how many are held
-pub held_most : {room : ℕ} {before : List Line} {s : SharedDevices} {start now : Stand} (h : HasGathered room before s start now)
+pub held_most : {room : ℕ} {before : List Line} {s : SharedDevices} {start now : DraftState} (h : HasGathered room before s start now)
     → s.held.number ≤ 252 + sum_by (λ (t : Told). sum t.own) (told_devices before)
 held_most {room} {before} {s} {start} {now} h = elim (which h) [
   | is_nothing opens none same full ↦ omega (arith, h.held.number, ap (λ (o : Open). length (mappings_of_runs (open_runs o))) opens)

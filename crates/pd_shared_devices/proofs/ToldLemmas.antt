@@ -4,7 +4,7 @@ use Rattle.std.specs.List.{AllByRecursion, flat_map}
 use Rattle.pd_spells.specs.ThinText.{Line, Run, device_line, end_line, leaf_line, map_line, use_line}
 use Rattle.pd_laid.specs.Shape.{ArePieces, Piece, own, shared, ShapeDevice}
 use Rattle.pd_shapes.specs.SharedText.{PartPiece, SharedPart, own_runs, used_leaf, device_of_part, lines_of_leaves, lines_of_part, lines_of_piece, mappings_of_runs, piece_of_part}
-use Rattle.pd_shape_verdicts.proofs.ToldLeaves.{pushed, pushed-append}
+use Rattle.pd_shapes.proofs.ToldLeaves.{pushed, pushed-append}
 use Rattle.pd_shared_devices.specs.Told.{open_leaf, open_device, bare_device, with_pieces, own_piece, after_run, after_use, opened, ended_leaf, ended_device, whole_leaves, whole_devices}
 
 -- all that lines tell, where what is open ends with them

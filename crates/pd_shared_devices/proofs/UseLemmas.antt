@@ -5,7 +5,7 @@ use Rattle.std.proofs.lemmas.Bool.{true≢false}
 use Rattle.std.proofs.lemmas.List.{append-nil}
 use Rattle.std.proofs.lemmas.List.Concat.{flat_map-append}
 use Rattle.std.proofs.lemmas.List.Sums.{sum_by-cons, sum_by-append}
-use Rattle.pd_draft.specs.Placed.{Stand}
+use Rattle.pd_draft.specs.Placed.{DraftState}
 use Rattle.pd_count.specs.Counted.{HasCounted}
 use Rattle.pd_spells.specs.Need.{nodes_for}
 use Rattle.pd_spells.specs.ThinText.{Line, Run, use_line, data_blocks_of, end_of, has_device, leaf_number, least_of, number_in, runs_of_leaf, unmapped}
@@ -14,7 +14,7 @@ use Rattle.pd_spells.proofs.ThinMeaning.{run_fits}
 use Rattle.pd_laid.specs.LaidThin.{details_items}
 use Rattle.pd_laid.specs.Shape.{Piece, shared, ShapeDevice, uses_of_piece}
 use Rattle.pd_laid.specs.Tree.{first_key}
-use Rattle.pd_shapes.specs.SharedNeed.{Told, leaves_of_told, own_number, tell, told_devices}
+use Rattle.pd_shapes.specs.SharedNeed.{Told, leaves_of_told, own_number, tell_newest, told_devices}
 use Rattle.pd_shapes.specs.SharedNeed as told
 use Rattle.pd_shapes.specs.SharedText.{mappings_of_runs}
 use Rattle.pd_shapes.proofs.LeafRuns.{HaveTold, IsLeaf, all_at, list_at, number_mapped, told_use}
@@ -101,7 +101,7 @@ first_is blocks (runs ∷ leaves) (suc n) all within =
     let rest = first_is blocks leaves n all.1 (omega (arith, within)) in
     record { first = rest.first; below = rest.below; listed = rest.listed; within = within }
 
-pub used_leaf : {room : ℕ} {before : List Line} {s : SharedDevices} {start now : Stand} (n : ℕ) (h : HasGathered room before s start now) → ended_leaf (opened before) ≡ [] → n < leaf_number before
+pub used_leaf : {room : ℕ} {before : List Line} {s : SharedDevices} {start now : DraftState} (n : ℕ) (h : HasGathered room before s start now) → ended_leaf (opened before) ≡ [] → n < leaf_number before
     → UsedLeaf (whole_leaves before) n (runs_of_leaf before n)
 used_leaf {room} {before} {s} {start} {now} n h none told =
     let w = whole_leaves before in
@@ -110,7 +110,7 @@ used_leaf {room} {before} {s} {start} {now} n h none told =
     subst (UsedLeaf w n) (sym (t.runs n)) (first_is (data_blocks_of before) w n h.leaves.lawful (omega (arith, told, t.number)))
 
 -- no leaf can be used where no device is open
-pub not_used : {room : ℕ} {before : List Line} {s : SharedDevices} {start now : Stand} (n : ℕ) (h : HasGathered room before s start now) → s.growing ≡ None → IsUseLine before n → ⊥
+pub not_used : {room : ℕ} {before : List Line} {s : SharedDevices} {start now : DraftState} (n : ℕ) (h : HasGathered room before s start now) → s.growing ≡ None → IsUseLine before n → ⊥
 not_used {room} {before} {s} {start} {now} n h growing next = elim (which h) [
   | is_nothing opens none same full ↦
       let w = whole_leaves before in
@@ -124,7 +124,7 @@ not_used {room} {before} {s} {start} {now} n h growing next = elim (which h) [
     none_is_some : (o : Growing) → None ≡ Some o → ⊥
     none_is_some o e = cc
 
-pub gathered_use : {room : ℕ} {start mid now : Stand} (before : List Line) (old new : SharedDevices) (n : ℕ) (o p : Growing) (h : HasGathered room before old start mid) → IsUseLine before n
+pub gathered_use : {room : ℕ} {start mid now : DraftState} (before : List Line) (old new : SharedDevices) (n : ℕ) (o p : Growing) (h : HasGathered room before old start mid) → IsUseLine before n
     → (c : DeviceCase before o h.behind mid)
     → n < room → new.counts ≡ old.counts → new.uses.counts.size ≡ old.uses.counts.size → new.uses.total ≡ old.uses.total + 1 → HasCounted new.uses.counts (n ∷ text.uses_of before)
     → new.leaves ≡ old.leaves → new.firsts ≡ old.firsts → new.trees ≡ old.trees → new.roots ≡ old.roots → new.details ≡ old.details → HasHeld [] new.held → new.growing ≡ Some p
@@ -138,7 +138,7 @@ gathered_use {room} {start} {mid} {now} before old new n o p h next c small coun
     let dd = with_pieces (shared n ∷ []) (with_pieces (own_piece runs) d) in
     let after : opened (use_line n ∷ before) ≡ open_device dd [] = ap (after_use n) c.opens in
     let t = subst (AreAllTold (told_devices before) wd) c.opens h.listed.told in
-    let both : told_devices (use_line n ∷ before) ≡ told.with_use t.newest ∷ t.older = ap (tell told.with_use) t.both in
+    let both : told_devices (use_line n ∷ before) ≡ told.with_use t.newest ∷ t.older = ap (tell_newest told.with_use) t.both in
     record {
       version = h.version;
       begin = h.begin;

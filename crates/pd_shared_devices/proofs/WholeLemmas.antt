@@ -4,7 +4,7 @@ use Rattle.std.proofs.Math.Path.{fun_ext}
 use Rattle.std.proofs.lemmas.Bool.{true≢false}
 use Rattle.std.specs.List.{AllByRecursion, flat_map}
 use Rattle.pd_kinds.specs.Meaning.{Mapping}
-use Rattle.pd_draft.specs.Placed.{Stand, Wrote}
+use Rattle.pd_draft.specs.Placed.{DraftState, Wrote}
 use Rattle.pd_grammar.specs.Texts.{has_ended}
 use Rattle.pd_spells.specs.ThinText.{Line, first_line, shared_first_line, pool_line, leaf_line, device_line, use_line, map_line, end_line, pool_format, is_shared}
 use Rattle.pd_spells.proofs.ThinRead.{FitsLine, PlacedInPool}
@@ -16,8 +16,8 @@ use Rattle.pd_shapes.specs.PoolText.{MeansAs, MeansPoolShape}
 use Rattle.pd_shapes.specs.SharedNeed.{shape_need, shape_need_so_far}
 use Rattle.pd_shapes.specs.SharedText.{MeansShape, device_of_part, head_of_shape, lines_of_leaves, lines_of_part, mappings_of_runs}
 use Rattle.pd_shapes.proofs.PoolLaws.{pool_language}
-use Rattle.pd_shape_verdicts.proofs.ToldLeaves.{pushed, pushed-append}
-use Rattle.pd_shape_verdicts.proofs.WholeNeed as need
+use Rattle.pd_shapes.proofs.ToldLeaves.{pushed, pushed-append}
+use Rattle.pd_shapes.proofs.WholeNeed as need
 use Rattle.pd_texts.specs.Reader.{AreReadSoFar, in_order}
 use Rattle.pd_texts.proofs.LawLemmas.{read_lines_mean}
 use Rattle.pd_shared_devices.specs.declared.devices.SharedDevices.{SharedDevices}
@@ -57,11 +57,11 @@ pushed_again [] lines = refl
 pushed_again (line ∷ before) lines = pushed_again before (line ∷ lines)
 
 -- where nothing is open, all is written
-all_written : (before : List Line) (growing : Option Growing) (from to : Stand) → IsOpen before nothing_open growing from to → from ≡ to
+all_written : (before : List Line) (growing : Option Growing) (from to : DraftState) → IsOpen before nothing_open growing from to → from ≡ to
 all_written before None from to is = is.0
 all_written before (Some o) from to is = absurd is
 
-module _ (room : ℕ) (lines : List Line) (s : SharedDevices) (start now : Stand) (w : ThinShape) (means : MeansShape (in_order lines []) w) where
+module _ (room : ℕ) (lines : List Line) (s : SharedDevices) (start now : DraftState) (w : ThinShape) (means : MeansShape (in_order lines []) w) where
   abbrev begun : List Line
   begun = pool_line (head_of_shape w) ∷ shared_first_line ∷ []
 
@@ -103,7 +103,7 @@ module _ (room : ℕ) (lines : List Line) (s : SharedDevices) (start now : Stand
         shape = means.shape;
         lawful = means.lawful;
         begin = g.begin;
-        written = subst (λ (to : Stand). Wrote (leaves_and_trees w.leaves w.devices) start to)
+        written = subst (λ (to : DraftState). Wrote (leaves_and_trees w.leaves w.devices) start to)
             (all_written (end_line ∷ told) s.growing g.behind now g.growing) behind;
         roots = g.listed.roots
             ∙ ap₂ (λ (ls : List (List Mapping)) (ds : List ShapeDevice). device_roots (map mapping_items ls) (1 + length ls) ds) leaves_same devices_same;
@@ -122,7 +122,7 @@ module _ (room : ℕ) (lines : List Line) (s : SharedDevices) (start now : Stand
       ∙ need.end_need room w means.leaves means.parts means.leaves_are means.devices_are means.shape.pieces
 
 -- so all lines that were read come to a shape
-pub lines_are_a_shape : (room : ℕ) (lines : List Line) (s : SharedDevices) (start now : Stand) → HasGathered room lines s start now
+pub lines_are_a_shape : (room : ℕ) (lines : List Line) (s : SharedDevices) (start now : DraftState) → HasGathered room lines s start now
     → AreReadSoFar pool_format lines → has_ended pool_format lines ≡ true
     → (w : ThinShape) × (MeansShape (in_order lines []) w × (IsGatheredShape w s start now × ((shape_need_so_far room lines ≡ shape_need w room) × ((uses_counted s).size ≡ room))))
 lines_are_a_shape room lines s start now g reads ended =

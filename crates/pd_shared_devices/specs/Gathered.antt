@@ -6,7 +6,7 @@ use Rattle.pd_kinds.specs.Value.{details_code}
 use Rattle.pd_value.specs.declared.thin.Root.{Root}
 use Rattle.pd_value.specs.declared.thin.Details.{Details}
 use Rattle.pd_node.specs.Items.{entries_of}
-use Rattle.pd_draft.specs.Placed.{Stand, Wrote}
+use Rattle.pd_draft.specs.Placed.{DraftState, Wrote}
 use Rattle.pd_count.specs.Counted.{HasCounted}
 use Rattle.pd_spells.specs.Need.{nodes_for}
 use Rattle.pd_grammar.specs.Texts.{has_ended}
@@ -35,14 +35,14 @@ pub record IsLeafOpen (before : List Line) (runs : List Run) : Type 0 where
   pub few : length (mappings_of_runs runs) + unmapped before ≤ 252
 
 -- a device is open: the leaves of its pieces that are over are written
-pub record IsDeviceOpen (before : List Line) (d : ShapeDevice) (runs : List Run) (o : Growing) (from to : Stand) : Type 0 where
+pub record IsDeviceOpen (before : List Line) (d : ShapeDevice) (runs : List Run) (o : Growing) (from to : DraftState) : Type 0 where
   pub has : has_device before ≡ true
   pub low : ℕ
   pub grown : Grown (leaf_items (whole_leaves before)) d low o from to
   pub runs_are : AreHeld (data_blocks_of before) low (piece_end before) runs
 
 -- what isn't over
-abbrev pub IsOpen : List Line → Open → Option Growing → Stand → Stand → Type 0
+abbrev pub IsOpen : List Line → Open → Option Growing → DraftState → DraftState → Type 0
 IsOpen before nothing_open None from to = (from ≡ to) × (unmapped before ≡ 0)
 IsOpen before nothing_open (Some o) from to = ⊥
 IsOpen before (open_leaf runs) None from to = (from ≡ to) × IsLeafOpen before runs
@@ -130,47 +130,47 @@ pub record HasListed (before : List Line) (s : SharedDevices) : Type 0 where
 
 -- of these lines all was gathered, where there are so many metadata blocks, and what is over of them is written from the
 -- start on
-pub record HasGathered (room : ℕ) (before : List Line) (s : SharedDevices) (start now : Stand) : Type 0 where
+pub record HasGathered (room : ℕ) (before : List Line) (s : SharedDevices) (start now : DraftState) : Type 0 where
   pub version : is_shared before ≡ true
   pub begin : start.place ≡ 1
   pub counts : HasCounts room before s
   pub leaves : HasLeaves before s
   pub listed : HasListed before s
   pub held : HasHeld (open_runs (opened before)) s.held
-  pub behind : Stand
+  pub behind : DraftState
   pub written : Wrote (leaves_and_trees (leaves_told (whole_leaves before)) (whole_devices before)) start behind
   pub growing : IsOpen before (opened before) s.growing behind now
   pub place : behind.place ≡ 1 + (length (whole_leaves before) + trees_need (whole_devices before))
 
 -- what was gathered of some lines, whose need has room on the device
-pub record Gathered (s : SharedDevices) (now : Stand) : Type 0 where
+pub record Gathered (s : SharedDevices) (now : DraftState) : Type 0 where
   pub room : ℕ
   pub before : List Line
-  pub start : Stand
+  pub start : DraftState
   pub gathered : HasGathered room before s start now
   pub need : shape_need_so_far room before ≤ room
   pub most : room ≤ MAX_META_BLOCKS
   pub there : room ≤ now.device.blocks
 
 -- the last leaf or device has all its mappings
-pub record CanEnd (s : SharedDevices) (now : Stand) : Type 0 where
+pub record CanEnd (s : SharedDevices) (now : DraftState) : Type 0 where
   pub so_far : Gathered s now
   pub full : unmapped so_far.before ≡ 0
 
 -- a use of a leaf may follow
-pub record CanUse (s : SharedDevices) (number : ℕ) (now : Stand) : Type 0 where
+pub record CanUse (s : SharedDevices) (number : ℕ) (now : DraftState) : Type 0 where
   pub so_far : Gathered s now
   pub follows : IsUseLine so_far.before number
 
 -- a run may follow, and with it there is room, too
 pub record CanTake (s : SharedDevices) (r : Run) : Type 0 where
-  pub now : Stand
+  pub now : DraftState
   pub so_far : Gathered s now
   pub follows : IsRunLine so_far.before r
   pub fits : shape_need_so_far so_far.room (map_line r ∷ so_far.before) ≤ so_far.room
 
 -- a run may follow, and whether there is room isn't known
 pub record CanLook (s : SharedDevices) (r : Run) : Type 0 where
-  pub now : Stand
+  pub now : DraftState
   pub so_far : Gathered s now
   pub follows : IsRunLine so_far.before r

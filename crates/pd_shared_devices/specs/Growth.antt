@@ -2,7 +2,7 @@
 use Rattle.std.specs.Prelude.{◌≡◌, ℕ, ◌+◌, ◌≤◌, ◌^◌, ◌==◌, if◌then◌else◌, min, List, length, Option, None, Some}
 use Rattle.std.specs.List.{AllByRecursion, flat_map}
 use Rattle.pd_kinds.specs.Node.{Entry}
-use Rattle.pd_draft.specs.Placed.{Stand, Wrote}
+use Rattle.pd_draft.specs.Placed.{DraftState, Wrote}
 use Rattle.pd_laid.specs.LaidThin.{own_leaves, pieces_row}
 use Rattle.pd_spells.specs.Need.{need_above, nodes_for}
 use Rattle.pd_laid.specs.Shape.{own, ShapeDevice, uses_of_piece}
@@ -13,7 +13,7 @@ use Rattle.pd_shared_devices.specs.declared.growing.Growing.{Growing}
 use Rattle.pd_shared_devices.specs.declared.piece.Held.{Held}
 
 -- of a device with these pieces the own leaves are written, and the row of all leaves ends below a bound
-pub record Grown (leaves : List (List Entry)) (d : ShapeDevice) (low : ℕ) (o : Growing) (from to : Stand) : Type 0 where
+pub record Grown (leaves : List (List Entry)) (d : ShapeDevice) (low : ℕ) (o : Growing) (from to : DraftState) : Type 0 where
   pub id : o.id ≡ d.id
   pub written : Wrote (own_blocks_from from.place d.pieces) from to
   pub row : o.row ≡ pieces_row leaves from.place d.pieces
@@ -45,22 +45,22 @@ abbrev pub need_left : ℕ → ℕ
 need_left leaves = if leaves == 0 then 1 else need_above 10 leaves
 
 -- what is left of the tree of a device has room
-pub record CanFinish (o : Growing) (now : Stand) : Type 0 where
+pub record CanFinish (o : Growing) (now : DraftState) : Type 0 where
   pub leaves : List (List Entry)
   pub device : ShapeDevice
   pub low : ℕ
-  pub from : Stand
+  pub from : DraftState
   pub grown : Grown leaves device low o from now
   pub room : now.place + need_left (o.own + o.uses) ≤ now.device.blocks
 
 -- the same where runs of a piece are held
-pub record CanEndTree (o : Growing) (held : Held) (now : Stand) : Type 0 where
+pub record CanEndTree (o : Growing) (held : Held) (now : DraftState) : Type 0 where
   pub leaves : List (List Entry)
   pub device : ShapeDevice
   pub blocks : ℕ
   pub low : ℕ
   pub end : ℕ
-  pub from : Stand
+  pub from : DraftState
   pub grown : Grown leaves device low o from now
   pub small : blocks ≤ 2 ^ 40
   pub runs_are : AreHeld blocks low end (held_runs held)

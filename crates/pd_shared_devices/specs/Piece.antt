@@ -1,7 +1,7 @@
 -- Runs that are held until the leaf or the piece that they are of is over, and the leaves that they come to.
 use Rattle.std.specs.Prelude.{◌≡◌, ℕ, ◌+◌, ◌^◌, ◌≤◌, List, ◌++◌, length, map}
 use Rattle.pd_kinds.specs.Node.{Entry, leaf_block}
-use Rattle.pd_draft.specs.Placed.{Stand, Wrote}
+use Rattle.pd_draft.specs.Placed.{DraftState, Wrote}
 use Rattle.pd_spells.specs.Lawful.{AreMappings}
 use Rattle.pd_spells.specs.ThinText.{Run}
 use Rattle.pd_laid.specs.LaidThin.{mapping_items}
@@ -31,7 +31,7 @@ pub record CanBeLaid (runs : List Run) (least : ℕ) : Type 0 where
   pub mappings : AreMappings blocks least (mappings_of_runs runs)
 
 -- these items were taken, one after another: the leaves that they ended are written, and the row has their heads, too
-pub record TakesAll (size : ℕ) (taken : List Entry) (old new : LeavesLeft) (row longer : List Entry) (from to : Stand) : Type 0 where
+pub record TakesAll (size : ℕ) (taken : List Entry) (old new : LeavesLeft) (row longer : List Entry) (from to : DraftState) : Type 0 where
   pub ended : List (List Entry)
   pub wrote : Wrote (blocks_from (leaf_block size) from.place ended) from to
   pub to_come : (items : List Entry) → leaves_to_come old (taken ++ items) ≡ ended ++ leaves_to_come new items

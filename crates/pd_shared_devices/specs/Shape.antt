@@ -5,7 +5,7 @@ use Rattle.pd_kinds.specs.Value.{details_code}
 use Rattle.pd_value.specs.declared.thin.Root.{Root}
 use Rattle.pd_value.specs.declared.thin.Details.{Details}
 use Rattle.pd_node.specs.Items.{entries_of}
-use Rattle.pd_draft.specs.Placed.{Stand, Wrote}
+use Rattle.pd_draft.specs.Placed.{DraftState, Wrote}
 use Rattle.pd_count.specs.Counted.{Counted, count_of}
 use Rattle.pd_spells.specs.Lawful.{IsLawfulPool}
 use Rattle.pd_laid.specs.LaidThin.{data_counts, details_items, devices_at, shared_items}
@@ -32,7 +32,7 @@ abbrev pub uses_counted : SharedDevices → Counted
 uses_counted s = s.uses.counts
 
 -- these are of the shape, and from the start on its leaves and the trees of its devices are written
-pub record IsGatheredShape (w : ThinShape) (s : SharedDevices) (start now : Stand) : Type 0 where
+pub record IsGatheredShape (w : ThinShape) (s : SharedDevices) (start now : DraftState) : Type 0 where
   pub shape : IsShape w
   pub lawful : IsLawfulPool (pool_of w)
   pub begin : start.place ≡ 1

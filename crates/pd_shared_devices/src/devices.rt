@@ -5,8 +5,8 @@ ghost use Rattle.std.specs.List.{range_with_len};
 ghost use Rattle.pd_count.specs.Counted.{HasCounted, count_of};
 ghost use Rattle.pd_image.specs.Device.{IsWritable};
 ghost use Rattle.pd_draft.specs.Closed.{IsClosed, StaysClosed};
-ghost use Rattle.pd_draft.specs.Placed.{Stand};
-ghost use Rattle.pd_draft.specs.Stand.{stand};
+ghost use Rattle.pd_draft.specs.Placed.{DraftState};
+ghost use Rattle.pd_draft.specs.DraftState.{draft_state};
 ghost use Rattle.pd_spells.specs.ThinText.{Head, LeafHead, Line, shared_first_line, pool_line, leaf_line, device_line, use_line, map_line, end_line, unmapped};
 ghost use Rattle.pd_shapes.specs.SharedNeed.{shape_need_so_far};
 ghost use Rattle.pd_texts.specs.ThinNext.{IsLeafLine, IsDeviceLine, IsUseLine, IsRunLine, IsEndLine};
@@ -20,7 +20,7 @@ ghost use Rattle.pd_shared_devices.specs.Shape.{roots_of, details_of, counts_of,
 
 use crate::ending::{end_tree, use_leaf, write_shared_leaf};
 use crate::growing::Growing;
-use crate::need::{Parts, need_of};
+use crate::need::{NeedCounts, need_of};
 use crate::piece::Held;
 use pd_build::BuildFault;
 use pd_count::Counts;
@@ -61,7 +61,7 @@ impl SharedDevices {
     pub fn new(alloc: Global, blocks: u64, room: u64) -> Result<SharedDevices, AllocError>
         requires blocks { blocks ≤ 2 ^ 40 }
         requires room { room ≤ 4161600 }
-        ensures { (p : Head) (start : Stand) → p.data_blocks ≡ blocks → start.place ≡ 1 → IsClosed start.device
+        ensures { (p : Head) (start : DraftState) → p.data_blocks ≡ blocks → start.place ≡ 1 → IsClosed start.device
             → IfOk result (λ s. HasGathered room (pool_line p ∷ shared_first_line ∷ []) s start start) }
     {
         Ok(SharedDevices {
@@ -80,14 +80,14 @@ impl SharedDevices {
 
     /// Takes a leaf: the one before it is written.
     pub fn add_leaf<D: Device>(&mut self, draft: &mut Draft<'_, D>) -> Result<(), BuildFault>
-        requires gathered { CanEnd self.old (stand draft.old) }
-        requires writable { IsWritable (stand draft.old).device }
-        requires closed { IsClosed (stand draft.old).device }
+        requires gathered { CanEnd self.old (draft_state draft.old) }
+        requires writable { IsWritable (draft_state draft.old).device }
+        requires closed { IsClosed (draft_state draft.old).device }
         ensures same_reference { draft.new.dev.ghost_name ≡ draft.old.dev.ghost_name }
-        ensures gathered { (room : ℕ) (before : List Line) (start : Stand) (l : LeafHead) → HasGathered room before self.old start (stand draft.old) → IsLeafLine before l
-            → OnOk result (HasGathered room (leaf_line l ∷ before) self.new start (stand draft.new)) }
-        ensures closed { StaysClosed (stand draft.old).device (stand draft.new).device }
-        ensures faults { CountsBuildFault result (stand draft.old).device.faults (stand draft.new).device.faults }
+        ensures gathered { (room : ℕ) (before : List Line) (start : DraftState) (l : LeafHead) → HasGathered room before self.old start (draft_state draft.old) → IsLeafLine before l
+            → OnOk result (HasGathered room (leaf_line l ∷ before) self.new start (draft_state draft.new)) }
+        ensures closed { StaysClosed (draft_state draft.old).device (draft_state draft.new).device }
+        ensures faults { CountsBuildFault result (draft_state draft.old).device.faults (draft_state draft.new).device.faults }
     {
         self.close(draft)?;
         self.leaves += 1;
@@ -101,14 +101,14 @@ impl SharedDevices {
         id: u64,
         details: Details,
     ) -> Result<(), BuildFault>
-        requires gathered { CanEnd self.old (stand draft.old) }
-        requires writable { IsWritable (stand draft.old).device }
-        requires closed { IsClosed (stand draft.old).device }
+        requires gathered { CanEnd self.old (draft_state draft.old) }
+        requires writable { IsWritable (draft_state draft.old).device }
+        requires closed { IsClosed (draft_state draft.old).device }
         ensures same_reference { draft.new.dev.ghost_name ≡ draft.old.dev.ghost_name }
-        ensures gathered { (room : ℕ) (before : List Line) (start : Stand) → HasGathered room before self.old start (stand draft.old) → IsDeviceLine before (details_line id details)
-            → OnOk result (HasGathered room (device_line (details_line id details) ∷ before) self.new start (stand draft.new)) }
-        ensures closed { StaysClosed (stand draft.old).device (stand draft.new).device }
-        ensures faults { CountsBuildFault result (stand draft.old).device.faults (stand draft.new).device.faults }
+        ensures gathered { (room : ℕ) (before : List Line) (start : DraftState) → HasGathered room before self.old start (draft_state draft.old) → IsDeviceLine before (details_line id details)
+            → OnOk result (HasGathered room (device_line (details_line id details) ∷ before) self.new start (draft_state draft.new)) }
+        ensures closed { StaysClosed (draft_state draft.old).device (draft_state draft.new).device }
+        ensures faults { CountsBuildFault result (draft_state draft.old).device.faults (draft_state draft.new).device.faults }
     {
         self.close(draft)?;
         self.begin(id, details)
@@ -120,14 +120,14 @@ impl SharedDevices {
         draft: &mut Draft<'_, D>,
         number: u64,
     ) -> Result<(), BuildFault>
-        requires gathered { CanUse self.old number (stand draft.old) }
-        requires writable { IsWritable (stand draft.old).device }
-        requires closed { IsClosed (stand draft.old).device }
+        requires gathered { CanUse self.old number (draft_state draft.old) }
+        requires writable { IsWritable (draft_state draft.old).device }
+        requires closed { IsClosed (draft_state draft.old).device }
         ensures same_reference { draft.new.dev.ghost_name ≡ draft.old.dev.ghost_name }
-        ensures gathered { (room : ℕ) (before : List Line) (start : Stand) → HasGathered room before self.old start (stand draft.old) → IsUseLine before number
-            → OnOk result (HasGathered room (use_line number ∷ before) self.new start (stand draft.new)) }
-        ensures closed { StaysClosed (stand draft.old).device (stand draft.new).device }
-        ensures faults { CountsBuildFault result (stand draft.old).device.faults (stand draft.new).device.faults }
+        ensures gathered { (room : ℕ) (before : List Line) (start : DraftState) → HasGathered room before self.old start (draft_state draft.old) → IsUseLine before number
+            → OnOk result (HasGathered room (use_line number ∷ before) self.new start (draft_state draft.new)) }
+        ensures closed { StaysClosed (draft_state draft.old).device (draft_state draft.new).device }
+        ensures faults { CountsBuildFault result (draft_state draft.old).device.faults (draft_state draft.new).device.faults }
     {
         match &mut self.growing {
             Some(growing) => {
@@ -142,7 +142,7 @@ impl SharedDevices {
     /// Takes a run of the last leaf or device, for which there is room. Nothing is written.
     pub fn add_run(&mut self, run: Run) -> Result<(), AllocError>
         requires gathered { CanTake self.old (run_of run) }
-        ensures gathered { (room : ℕ) (before : List Line) (start now : Stand) → HasGathered room before self.old start now → IsRunLine before (run_of run)
+        ensures gathered { (room : ℕ) (before : List Line) (start now : DraftState) → HasGathered room before self.old start now → IsRunLine before (run_of run)
             → shape_need_so_far room (map_line (run_of run) ∷ before) ≤ room
             → OnOk result (HasGathered room (map_line (run_of run) ∷ before) self.new start now) }
     {
@@ -152,28 +152,28 @@ impl SharedDevices {
 
     /// Writes what is left of the last leaf or device.
     pub fn end<D: Device>(&mut self, draft: &mut Draft<'_, D>) -> Result<(), BuildFault>
-        requires gathered { CanEnd self.old (stand draft.old) }
-        requires writable { IsWritable (stand draft.old).device }
-        requires closed { IsClosed (stand draft.old).device }
+        requires gathered { CanEnd self.old (draft_state draft.old) }
+        requires writable { IsWritable (draft_state draft.old).device }
+        requires closed { IsClosed (draft_state draft.old).device }
         ensures same_reference { draft.new.dev.ghost_name ≡ draft.old.dev.ghost_name }
-        ensures gathered { (room : ℕ) (before : List Line) (start : Stand) → HasGathered room before self.old start (stand draft.old) → IsEndLine before
-            → OnOk result (HasGathered room (end_line ∷ before) self.new start (stand draft.new)) }
-        ensures closed { StaysClosed (stand draft.old).device (stand draft.new).device }
-        ensures faults { CountsBuildFault result (stand draft.old).device.faults (stand draft.new).device.faults }
+        ensures gathered { (room : ℕ) (before : List Line) (start : DraftState) → HasGathered room before self.old start (draft_state draft.old) → IsEndLine before
+            → OnOk result (HasGathered room (end_line ∷ before) self.new start (draft_state draft.new)) }
+        ensures closed { StaysClosed (draft_state draft.old).device (draft_state draft.new).device }
+        ensures faults { CountsBuildFault result (draft_state draft.old).device.faults (draft_state draft.new).device.faults }
     {
         self.close(draft)
     }
 
     /// Writes what is left of the last leaf or device.
     fn close<D: Device>(&mut self, draft: &mut Draft<'_, D>) -> Result<(), BuildFault>
-        requires gathered { CanEnd self.old (stand draft.old) }
-        requires writable { IsWritable (stand draft.old).device }
-        requires closed { IsClosed (stand draft.old).device }
+        requires gathered { CanEnd self.old (draft_state draft.old) }
+        requires writable { IsWritable (draft_state draft.old).device }
+        requires closed { IsClosed (draft_state draft.old).device }
         ensures same_reference { draft.new.dev.ghost_name ≡ draft.old.dev.ghost_name }
-        ensures gathered { (room : ℕ) (before : List Line) (start : Stand) → HasGathered room before self.old start (stand draft.old) → unmapped before ≡ 0
-            → OnOk result (HasGathered room (end_line ∷ before) self.new start (stand draft.new)) }
-        ensures closed { StaysClosed (stand draft.old).device (stand draft.new).device }
-        ensures faults { CountsBuildFault result (stand draft.old).device.faults (stand draft.new).device.faults }
+        ensures gathered { (room : ℕ) (before : List Line) (start : DraftState) → HasGathered room before self.old start (draft_state draft.old) → unmapped before ≡ 0
+            → OnOk result (HasGathered room (end_line ∷ before) self.new start (draft_state draft.new)) }
+        ensures closed { StaysClosed (draft_state draft.old).device (draft_state draft.new).device }
+        ensures faults { CountsBuildFault result (draft_state draft.old).device.faults (draft_state draft.new).device.faults }
         ensures leaves { OnOk result (self.new.leaves ≡ self.old.leaves) }
     {
         match self.growing.take() {
@@ -194,7 +194,7 @@ impl SharedDevices {
 
     /// Begins the tree of a device.
     fn begin(&mut self, id: u64, details: Details) -> Result<(), BuildFault>
-        ensures begun { (room : ℕ) (before : List Line) (start now : Stand) → IsClosed now.device → HasGathered room (end_line ∷ before) self.old start now
+        ensures begun { (room : ℕ) (before : List Line) (start now : DraftState) → IsClosed now.device → HasGathered room (end_line ∷ before) self.old start now
             → OnOk result (HasGathered room (device_line (details_line id details) ∷ before) self.new start now) }
         ensures fault { IfErr result (λ fault. fault ≡ BuildFault.Memory) }
     {
@@ -206,7 +206,7 @@ impl SharedDevices {
     /// How many blocks the pool needs so far, where there are so many for metadata. It stays at 2^64 - 1 where it would
     /// pass that.
     pub fn need(&self, room: u64) -> u64
-        ensures { (before : List Line) (start now : Stand) → HasGathered room before self.now start now → result ≡ min (shape_need_so_far room before) (2 ^ 64 - 1) }
+        ensures { (before : List Line) (start now : DraftState) → HasGathered room before self.now start now → result ≡ min (shape_need_so_far room before) (2 ^ 64 - 1) }
     {
         need_of(self.parts(0, 0), room)
     }
@@ -214,7 +214,7 @@ impl SharedDevices {
     /// How many blocks it needs with a run more, which isn't taken yet: each of the run's data blocks is looked at.
     pub fn need_with(&self, run: &Run, room: u64) -> u64
         requires gathered { CanLook self.now (run_of run.now) }
-        ensures { (before : List Line) (start now : Stand) → HasGathered room before self.now start now → IsRunLine before (run_of run.now)
+        ensures { (before : List Line) (start now : DraftState) → HasGathered room before self.now start now → IsRunLine before (run_of run.now)
             → result ≡ min (shape_need_so_far room (map_line (run_of run.now) ∷ before)) (2 ^ 64 - 1) }
     {
         let thirds = thirds_in(self.counts.counts(), run.data_block, run.length);
@@ -232,7 +232,7 @@ impl SharedDevices {
     }
 
     /// What the need goes by, where so many mappings and so many data blocks that stand three times or more are one run more.
-    fn parts(&self, more: u64, thirds: u64) -> Parts
+    fn parts(&self, more: u64, thirds: u64) -> NeedCounts
         ensures fits { self.now.held.number < 2 ^ 64 }
         ensures leaves { result.leaves ≡ self.now.leaves }
         ensures often { result.often ≡ overflows_of self.now.uses.counts self.now.uses.counts.size }
@@ -243,7 +243,7 @@ impl SharedDevices {
         ensures over { result.over ≡ min (overflows_of self.now.counts.counts self.now.counts.counts.size + thirds) (2 ^ 64 - 1) }
     {
         let _number = self.held.number;
-        Parts {
+        NeedCounts {
             leaves: self.leaves,
             often: self.uses.over(),
             trees: self.trees,

@@ -5,8 +5,8 @@ ghost use Rattle.std.specs.Option.{unwrap_or};
 ghost use Rattle.pd_kinds.specs.Node.{Entry, leaf_block};
 ghost use Rattle.pd_image.specs.Device.{IsWritable};
 ghost use Rattle.pd_draft.specs.Closed.{IsClosed, StaysClosed};
-ghost use Rattle.pd_draft.specs.Placed.{Stand, Wrote};
-ghost use Rattle.pd_draft.specs.Stand.{stand};
+ghost use Rattle.pd_draft.specs.Placed.{DraftState, Wrote};
+ghost use Rattle.pd_draft.specs.DraftState.{draft_state};
 ghost use Rattle.pd_spells.specs.Need.{nodes_for};
 ghost use Rattle.pd_spells.specs.ThinText.{Run, least_of};
 ghost use Rattle.pd_laid.specs.LaidThin.{device_root};
@@ -46,15 +46,15 @@ pub(crate) fn write_shared_leaf<D: Device>(
     requires number { HasHeld (held_runs held.old) held.old }
     requires some { 1 ≤ held.old.number }
     requires few { held.old.number ≤ 252 }
-    requires writable { IsWritable (stand draft.old).device }
-    requires room { draft.old.next < (stand draft.old).device.blocks }
-    requires closed { IsClosed (stand draft.old).device }
+    requires writable { IsWritable (draft_state draft.old).device }
+    requires room { draft.old.next < (draft_state draft.old).device.blocks }
+    requires closed { IsClosed (draft_state draft.old).device }
     ensures same_reference { draft.new.dev.ghost_name ≡ draft.old.dev.ghost_name }
-    ensures wrote { OnOk result (Wrote (leaf_block 8 draft.old.next (items_of_runs (held_runs held.old)) ∷ []) (stand draft.old) (stand draft.new)) }
+    ensures wrote { OnOk result (Wrote (leaf_block 8 draft.old.next (items_of_runs (held_runs held.old)) ∷ []) (draft_state draft.old) (draft_state draft.new)) }
     ensures least { IfOk result (λ least. least ≡ least_of (held_runs held.old)) }
     ensures none { OnOk result (HasHeld [] held.new) }
-    ensures closed { StaysClosed (stand draft.old).device (stand draft.new).device }
-    ensures faults { CountsBuildFault result (stand draft.old).device.faults (stand draft.new).device.faults }
+    ensures closed { StaysClosed (draft_state draft.old).device (draft_state draft.new).device }
+    ensures faults { CountsBuildFault result (draft_state draft.old).device.faults (draft_state draft.new).device.faults }
 {
     let mut row = UpperBuilder::new(alloc);
     let least = held.least();
@@ -76,16 +76,16 @@ pub(crate) fn use_leaf<D: Device>(
     requires number { HasHeld (held_runs held.old) held.old }
     requires few { growing.old.own + nodes_for 252 held.old.number + growing.old.uses + 1 ≤ 2 ^ 61 }
     requires number_fits { number + 1 < 2 ^ 64 }
-    requires writable { IsWritable (stand draft.old).device }
-    requires room { draft.old.next + nodes_for 252 held.old.number ≤ (stand draft.old).device.blocks }
-    requires closed { IsClosed (stand draft.old).device }
+    requires writable { IsWritable (draft_state draft.old).device }
+    requires room { draft.old.next + nodes_for 252 held.old.number ≤ (draft_state draft.old).device.blocks }
+    requires closed { IsClosed (draft_state draft.old).device }
     ensures same_reference { draft.new.dev.ghost_name ≡ draft.old.dev.ghost_name }
-    ensures grown { (leaves : List (List Entry)) (d : ShapeDevice) (blocks low mid end : ℕ) (from : Stand) → Grown leaves d low growing.old from (stand draft.old)
+    ensures grown { (leaves : List (List Entry)) (d : ShapeDevice) (blocks low mid end : ℕ) (from : DraftState) → Grown leaves d low growing.old from (draft_state draft.old)
         → AreHeld blocks low mid (held_runs held.old) → mid ≤ least → least < end → least ≡ first_key (unwrap_or (slice_get leaves number) [])
-        → OnOk result (Grown leaves (with_pieces (shared number ∷ []) (with_pieces (own_piece (held_runs held.old)) d)) end growing.new from (stand draft.new)) }
+        → OnOk result (Grown leaves (with_pieces (shared number ∷ []) (with_pieces (own_piece (held_runs held.old)) d)) end growing.new from (draft_state draft.new)) }
     ensures none { OnOk result (HasHeld [] held.new) }
-    ensures closed { StaysClosed (stand draft.old).device (stand draft.new).device }
-    ensures faults { CountsBuildFault result (stand draft.old).device.faults (stand draft.new).device.faults }
+    ensures closed { StaysClosed (draft_state draft.old).device (draft_state draft.new).device }
+    ensures faults { CountsBuildFault result (draft_state draft.old).device.faults (draft_state draft.new).device.faults }
 {
     growing.end_piece(alloc, draft, held)?;
     held.clear();
@@ -99,21 +99,21 @@ pub(crate) fn end_tree<D: Device>(
     mut growing: Growing,
     held: &mut Held,
 ) -> Result<Tree, BuildFault>
-    requires can { CanEndTree growing held.old (stand draft.old) }
-    requires writable { IsWritable (stand draft.old).device }
-    requires closed { IsClosed (stand draft.old).device }
+    requires can { CanEndTree growing held.old (draft_state draft.old) }
+    requires writable { IsWritable (draft_state draft.old).device }
+    requires closed { IsClosed (draft_state draft.old).device }
     ensures same_reference { draft.new.dev.ghost_name ≡ draft.old.dev.ghost_name }
-    ensures wrote { (leaves : List (List Entry)) (d : ShapeDevice) (blocks low end : ℕ) (from : Stand) → Grown leaves d low growing from (stand draft.old)
+    ensures wrote { (leaves : List (List Entry)) (d : ShapeDevice) (blocks low end : ℕ) (from : DraftState) → Grown leaves d low growing from (draft_state draft.old)
         → AreHeld blocks low end (held_runs held.old)
-        → OnOk result (Wrote (device_tree leaves from.place (with_pieces (own_piece (held_runs held.old)) d)) from (stand draft.new)) }
-    ensures root { (leaves : List (List Entry)) (d : ShapeDevice) (blocks low end : ℕ) (from : Stand) → Grown leaves d low growing from (stand draft.old)
+        → OnOk result (Wrote (device_tree leaves from.place (with_pieces (own_piece (held_runs held.old)) d)) from (draft_state draft.new)) }
+    ensures root { (leaves : List (List Entry)) (d : ShapeDevice) (blocks low end : ℕ) (from : DraftState) → Grown leaves d low growing from (draft_state draft.old)
         → AreHeld blocks low end (held_runs held.old)
         → IfOk result (λ tree. tree.root ≡ device_root leaves from.place (with_pieces (own_piece (held_runs held.old)) d)) }
     ensures id { IfOk result (λ tree. tree.id ≡ growing.id) }
     ensures blocks { IfOk result (λ tree. tree.blocks ≡ need_ended (growing.own + nodes_for 252 held.old.number) growing.uses) }
     ensures none { OnOk result (HasHeld [] held.new) }
-    ensures closed { StaysClosed (stand draft.old).device (stand draft.new).device }
-    ensures faults { CountsBuildFault result (stand draft.old).device.faults (stand draft.new).device.faults }
+    ensures closed { StaysClosed (draft_state draft.old).device (draft_state draft.new).device }
+    ensures faults { CountsBuildFault result (draft_state draft.old).device.faults (draft_state draft.new).device.faults }
 {
     growing.end_piece(alloc, draft, held)?;
     held.clear();

@@ -5,8 +5,8 @@ ghost use Rattle.std.specs.Option.{unwrap_or};
 ghost use Rattle.pd_kinds.specs.Node.{Entry, leaf_block};
 ghost use Rattle.pd_image.specs.Device.{IsWritable};
 ghost use Rattle.pd_draft.specs.Closed.{IsClosed, StaysClosed};
-ghost use Rattle.pd_draft.specs.Placed.{Stand, Wrote};
-ghost use Rattle.pd_draft.specs.Stand.{stand};
+ghost use Rattle.pd_draft.specs.Placed.{DraftState, Wrote};
+ghost use Rattle.pd_draft.specs.DraftState.{draft_state};
 ghost use Rattle.pd_spells.specs.Need.{nodes_for};
 ghost use Rattle.pd_laid.specs.LaidThin.{device_root};
 ghost use Rattle.pd_laid.specs.Shape.{ShapeDevice, shared};
@@ -42,7 +42,7 @@ pub struct Growing {
 impl Growing {
     /// A device without leaves.
     pub(crate) fn new(alloc: Global, id: u64) -> Growing
-        ensures { (leaves : List (List Entry)) (d : ShapeDevice) (now : Stand) → d.id ≡ id → d.pieces ≡ [] → IsClosed now.device → Grown leaves d 0 result now now }
+        ensures { (leaves : List (List Entry)) (d : ShapeDevice) (now : DraftState) → d.id ≡ id → d.pieces ≡ [] → IsClosed now.device → Grown leaves d 0 result now now }
     {
         Growing {
             id,
@@ -62,18 +62,18 @@ impl Growing {
         requires can { CanBeLaid (held_runs held.now) 0 }
         requires number { held.now.number ≡ length (mappings_of_runs (held_runs held.now)) }
         requires few { self.old.own + nodes_for 252 held.now.number + self.old.uses ≤ 2 ^ 61 }
-        requires writable { IsWritable (stand draft.old).device }
-        requires room { draft.old.next + nodes_for 252 held.now.number ≤ (stand draft.old).device.blocks }
-        requires closed { IsClosed (stand draft.old).device }
+        requires writable { IsWritable (draft_state draft.old).device }
+        requires room { draft.old.next + nodes_for 252 held.now.number ≤ (draft_state draft.old).device.blocks }
+        requires closed { IsClosed (draft_state draft.old).device }
         ensures same_reference { draft.new.dev.ghost_name ≡ draft.old.dev.ghost_name }
-        ensures grown { (leaves : List (List Entry)) (d : ShapeDevice) (blocks low end : ℕ) (from : Stand) → Grown leaves d low self.old from (stand draft.old) → AreHeld blocks low end (held_runs held.now)
-            → OnOk result (Grown leaves (with_pieces (own_piece (held_runs held.now)) d) end self.new from (stand draft.new)) }
+        ensures grown { (leaves : List (List Entry)) (d : ShapeDevice) (blocks low end : ℕ) (from : DraftState) → Grown leaves d low self.old from (draft_state draft.old) → AreHeld blocks low end (held_runs held.now)
+            → OnOk result (Grown leaves (with_pieces (own_piece (held_runs held.now)) d) end self.new from (draft_state draft.new)) }
         ensures id { OnOk result (self.new.id ≡ self.old.id) }
         ensures own { OnOk result (self.new.own ≡ self.old.own + nodes_for 252 held.now.number) }
         ensures uses { OnOk result (self.new.uses ≡ self.old.uses) }
         ensures moved { OnOk result (draft.new.next ≡ draft.old.next + nodes_for 252 held.now.number) }
-        ensures closed { StaysClosed (stand draft.old).device (stand draft.new).device }
-        ensures faults { CountsBuildFault result (stand draft.old).device.faults (stand draft.new).device.faults }
+        ensures closed { StaysClosed (draft_state draft.old).device (draft_state draft.new).device }
+        ensures faults { CountsBuildFault result (draft_state draft.old).device.faults (draft_state draft.new).device.faults }
     {
         if held.number == 0 {
             return Ok(());
@@ -87,7 +87,7 @@ impl Growing {
     pub(crate) fn use_leaf(&mut self, least: u64, number: u64) -> Result<(), BuildFault>
         requires few { self.old.own + self.old.uses + 1 ≤ 2 ^ 61 }
         requires number { number + 1 < 2 ^ 64 }
-        ensures grown { (leaves : List (List Entry)) (d : ShapeDevice) (low end : ℕ) (from now : Stand) → Grown leaves d low self.old from now → low ≤ least → least < end
+        ensures grown { (leaves : List (List Entry)) (d : ShapeDevice) (low end : ℕ) (from now : DraftState) → Grown leaves d low self.old from now → low ≤ least → least < end
             → least ≡ first_key (unwrap_or (slice_get leaves number) []) → OnOk result (Grown leaves (with_pieces (shared number ∷ []) d) end self.new from now) }
         ensures fault { IfErr result (λ fault. fault ≡ BuildFault.Memory) }
     {
@@ -107,16 +107,16 @@ impl Growing {
 
     /// Writes the levels above the leaves, and answers the place of the root. A device without leaves has an empty one.
     pub(crate) fn finish<D: Device>(self, draft: &mut Draft<'_, D>) -> Result<u64, BuildFault>
-        requires can { CanFinish self (stand draft.old) }
-        requires writable { IsWritable (stand draft.old).device }
-        requires closed { IsClosed (stand draft.old).device }
+        requires can { CanFinish self (draft_state draft.old) }
+        requires writable { IsWritable (draft_state draft.old).device }
+        requires closed { IsClosed (draft_state draft.old).device }
         ensures same_reference { draft.new.dev.ghost_name ≡ draft.old.dev.ghost_name }
-        ensures wrote { (leaves : List (List Entry)) (d : ShapeDevice) (low : ℕ) (from : Stand) → Grown leaves d low self from (stand draft.old)
-            → OnOk result (Wrote (device_tree leaves from.place d) from (stand draft.new)) }
-        ensures root { (leaves : List (List Entry)) (d : ShapeDevice) (low : ℕ) (from : Stand) → Grown leaves d low self from (stand draft.old)
+        ensures wrote { (leaves : List (List Entry)) (d : ShapeDevice) (low : ℕ) (from : DraftState) → Grown leaves d low self from (draft_state draft.old)
+            → OnOk result (Wrote (device_tree leaves from.place d) from (draft_state draft.new)) }
+        ensures root { (leaves : List (List Entry)) (d : ShapeDevice) (low : ℕ) (from : DraftState) → Grown leaves d low self from (draft_state draft.old)
             → IfOk result (λ root. root ≡ device_root leaves from.place d) }
-        ensures closed { StaysClosed (stand draft.old).device (stand draft.new).device }
-        ensures faults { CountsBuildFault result (stand draft.old).device.faults (stand draft.new).device.faults }
+        ensures closed { StaysClosed (draft_state draft.old).device (draft_state draft.new).device }
+        ensures faults { CountsBuildFault result (draft_state draft.old).device.faults (draft_state draft.new).device.faults }
     {
         if self.row.is_empty() {
             return write_empty(draft);
@@ -127,14 +127,14 @@ impl Growing {
 
 /// Writes an empty leaf, and answers its place.
 fn write_empty<D: Device>(draft: &mut Draft<'_, D>) -> Result<u64, BuildFault>
-    requires writable { IsWritable (stand draft.old).device }
-    requires room { draft.old.next < (stand draft.old).device.blocks }
-    requires closed { IsClosed (stand draft.old).device }
+    requires writable { IsWritable (draft_state draft.old).device }
+    requires room { draft.old.next < (draft_state draft.old).device.blocks }
+    requires closed { IsClosed (draft_state draft.old).device }
     ensures same_reference { draft.new.dev.ghost_name ≡ draft.old.dev.ghost_name }
-    ensures wrote { OnOk result (Wrote (leaf_block 8 draft.old.next [] ∷ []) (stand draft.old) (stand draft.new)) }
+    ensures wrote { OnOk result (Wrote (leaf_block 8 draft.old.next [] ∷ []) (draft_state draft.old) (draft_state draft.new)) }
     ensures place { IfOk result (λ place. place ≡ draft.old.next) }
-    ensures closed { StaysClosed (stand draft.old).device (stand draft.new).device }
-    ensures faults { CountsBuildFault result (stand draft.old).device.faults (stand draft.new).device.faults }
+    ensures closed { StaysClosed (draft_state draft.old).device (draft_state draft.new).device }
+    ensures faults { CountsBuildFault result (draft_state draft.old).device.faults (draft_state draft.new).device.faults }
 {
     let place = draft.next();
     let empty: [(u64, BlockTime); 0] = [];

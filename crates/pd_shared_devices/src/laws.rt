@@ -1,7 +1,7 @@
 //! That the lines of a whole text come to a shape.
 
 ghost use Rattle.std.specs.Prelude.{◌≡◌, ◌≤◌, ℕ, List, [], true};
-ghost use Rattle.pd_draft.specs.Placed.{Stand};
+ghost use Rattle.pd_draft.specs.Placed.{DraftState};
 ghost use Rattle.pd_grammar.specs.Texts.{has_ended};
 ghost use Rattle.pd_laid.specs.Shape.{ThinShape};
 ghost use Rattle.pd_shapes.specs.SharedNeed.{shape_need, shape_need_so_far};
@@ -16,6 +16,6 @@ ghost use Rattle.pd_shared_devices.specs.Shape.{IsGatheredShape, uses_counted};
 /// leaves and trees are written, and what the lines need is the shape's need. The uses of as many leaves are counted
 /// as there are metadata blocks.
 pub fn gathered_lines_are_a_shape()
-    ensures { (room : ℕ) (lines : List Line) (s : SharedDevices) (start now : Stand) → HasGathered room lines s start now → AreReadSoFar pool_format lines → has_ended pool_format lines ≡ true
+    ensures { (room : ℕ) (lines : List Line) (s : SharedDevices) (start now : DraftState) → HasGathered room lines s start now → AreReadSoFar pool_format lines → has_ended pool_format lines ≡ true
         → (w : ThinShape) × (MeansShape (in_order lines []) w × (IsGatheredShape w s start now × ((shape_need_so_far room lines ≡ shape_need w room) × ((uses_counted s).size ≡ room)))) }
 {}

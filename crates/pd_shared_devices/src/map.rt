@@ -5,7 +5,7 @@ ghost use Rattle.std.specs.List.{range_with_len};
 ghost use Rattle.pd_image.specs.Device.{IsWritable};
 ghost use Rattle.pd_draft.specs.Closed.{IsClosed, StaysClosed};
 ghost use Rattle.pd_draft.specs.Placed.{Wrote};
-ghost use Rattle.pd_draft.specs.Stand.{stand};
+ghost use Rattle.pd_draft.specs.DraftState.{draft_state};
 ghost use Rattle.pd_count.specs.Counted.{count_of};
 ghost use Rattle.pd_laid.specs.Laid.{count_in, written_from};
 ghost use Rattle.pd_laid.specs.Map.{laid_meta_map, meta_counts, meta_overflow_root};
@@ -36,12 +36,12 @@ pub fn write_leaves_map<D: Device>(
     requires leaves { leaves < draft.old.next }
     requires counted { leaves ≤ uses.now.size }
     requires within { draft.old.next + meta_map_need (named_times (count_of uses.now) leaves draft.old.next) room ≤ room }
-    requires writable { IsWritable (stand draft.old).device }
-    requires room { room ≤ (stand draft.old).device.blocks }
-    requires closed { IsClosed (stand draft.old).device }
+    requires writable { IsWritable (draft_state draft.old).device }
+    requires room { room ≤ (draft_state draft.old).device.blocks }
+    requires closed { IsClosed (draft_state draft.old).device }
     ensures same_reference { draft.new.dev.ghost_name ≡ draft.old.dev.ghost_name }
     ensures laid { OnOk result ((role : ℕ) (named : List ℕ) → ((b : ℕ) → count_in named b ≡ named_times (count_of uses.now) leaves draft.old.next b)
-        → Wrote (written_from draft.old.next (laid_meta_map role room draft.old.next named)) (stand draft.old) (stand draft.new)) }
+        → Wrote (written_from draft.old.next (laid_meta_map role room draft.old.next named)) (draft_state draft.old) (draft_state draft.new)) }
     ensures root { IfOk result (λ root. (role : ℕ) (named : List ℕ) → ((b : ℕ) → count_in named b ≡ named_times (count_of uses.now) leaves draft.old.next b)
         → root ≡ record {
           blocks = room;
@@ -49,8 +49,8 @@ pub fn write_leaves_map<D: Device>(
           bitmap_root = draft.old.next;
           overflow_root = meta_overflow_root room draft.old.next named;
         }) }
-    ensures closed { StaysClosed (stand draft.old).device (stand draft.new).device }
-    ensures faults { CountsBuildFault result (stand draft.old).device.faults (stand draft.new).device.faults }
+    ensures closed { StaysClosed (draft_state draft.old).device (draft_state draft.new).device }
+    ensures faults { CountsBuildFault result (draft_state draft.old).device.faults (draft_state draft.new).device.faults }
 {
     let mut counts = match named_counts(alloc, leaves, uses, room, draft.next()) {
         Ok(counts) => counts,

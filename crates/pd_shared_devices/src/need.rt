@@ -45,7 +45,7 @@ pub(crate) fn tree_ended(own: u64, uses: u64) -> u64
 
 /// What a pool's need goes by.
 #[derive(Clone, Copy)]
-pub(crate) struct Parts {
+pub(crate) struct NeedCounts {
     /// How many shared leaves there are, and how many of them are used three times or more.
     pub leaves: u64,
     pub often: u64,
@@ -59,7 +59,7 @@ pub(crate) struct Parts {
 }
 
 /// How many blocks it needs, where there are so many for metadata. It stays at 2^64 - 1 where it would pass that.
-pub(crate) fn need_of(parts: Parts, room: u64) -> u64
+pub(crate) fn need_of(parts: NeedCounts, room: u64) -> u64
     ensures { result ≡ min (need_of_parts parts room) (2 ^ 64 - 1) }
 {
     let bitmaps = bitmaps_for(parts.blocks);

@@ -7,7 +7,7 @@ ghost use Rattle.pd_kinds.specs.Value.{mapping_code};
 ghost use Rattle.pd_image.specs.Device.{IsWritable};
 ghost use Rattle.pd_draft.specs.Closed.{IsClosed, StaysClosed};
 ghost use Rattle.pd_draft.specs.Placed.{Wrote};
-ghost use Rattle.pd_draft.specs.Stand.{stand};
+ghost use Rattle.pd_draft.specs.DraftState.{draft_state};
 ghost use Rattle.pd_spells.specs.Need.{nodes_for};
 ghost use Rattle.pd_spells.specs.ThinText.{least_of, mappings_from};
 ghost use Rattle.pd_laid.specs.LaidThin.{mapping_items};
@@ -86,14 +86,14 @@ pub(crate) fn write_piece<D: Device>(
     requires can { CanBeLaid (held_runs held.now) 0 }
     requires number { held.now.number ≡ length (mappings_of_runs (held_runs held.now)) }
     requires some { 1 ≤ held.now.number }
-    requires writable { IsWritable (stand draft.old).device }
-    requires room { draft.old.next + nodes_for 252 held.now.number ≤ (stand draft.old).device.blocks }
-    requires closed { IsClosed (stand draft.old).device }
+    requires writable { IsWritable (draft_state draft.old).device }
+    requires room { draft.old.next + nodes_for 252 held.now.number ≤ (draft_state draft.old).device.blocks }
+    requires closed { IsClosed (draft_state draft.old).device }
     ensures same_reference { draft.new.dev.ghost_name ≡ draft.old.dev.ghost_name }
-    ensures wrote { OnOk result (Wrote (blocks_from (leaf_block 8) draft.old.next (tree_leaves 8 (items_of_runs (held_runs held.now)))) (stand draft.old) (stand draft.new)) }
+    ensures wrote { OnOk result (Wrote (blocks_from (leaf_block 8) draft.old.next (tree_leaves 8 (items_of_runs (held_runs held.now)))) (draft_state draft.old) (draft_state draft.new)) }
     ensures row_is { OnOk result (row.new ≡ row.old ++ heads draft.old.next (tree_leaves 8 (items_of_runs (held_runs held.now)))) }
-    ensures closed { StaysClosed (stand draft.old).device (stand draft.new).device }
-    ensures faults { CountsBuildFault result (stand draft.old).device.faults (stand draft.new).device.faults }
+    ensures closed { StaysClosed (draft_state draft.old).device (draft_state draft.new).device }
+    ensures faults { CountsBuildFault result (draft_state draft.old).device.faults (draft_state draft.new).device.faults }
 {
     let mut builder = match LeafBuilder::<BlockTime>::new(alloc, held.number) {
         Ok(builder) => builder,
@@ -113,13 +113,13 @@ fn put_runs<D: Device>(
 ) -> Result<(), BuildFault>
     requires can { CanBeLaid (runs_of runs.now) builder.old.low }
     requires more { items_to_come builder.old ≡ length (mappings_of_runs (runs_of runs.now)) }
-    requires writable { IsWritable (stand draft.old).device }
-    requires room { draft.old.next + length builder.old.sizes ≤ (stand draft.old).device.blocks }
-    requires closed { IsClosed (stand draft.old).device }
+    requires writable { IsWritable (draft_state draft.old).device }
+    requires room { draft.old.next + length builder.old.sizes ≤ (draft_state draft.old).device.blocks }
+    requires closed { IsClosed (draft_state draft.old).device }
     ensures same_reference { draft.new.dev.ghost_name ≡ draft.old.dev.ghost_name }
-    ensures takes { OnOk result (TakesAll 8 (items_of_runs (runs_of runs.now)) builder.old builder.new row.old row.new (stand draft.old) (stand draft.new)) }
-    ensures closed { StaysClosed (stand draft.old).device (stand draft.new).device }
-    ensures faults { CountsBuildFault result (stand draft.old).device.faults (stand draft.new).device.faults }
+    ensures takes { OnOk result (TakesAll 8 (items_of_runs (runs_of runs.now)) builder.old builder.new row.old row.new (draft_state draft.old) (draft_state draft.new)) }
+    ensures closed { StaysClosed (draft_state draft.old).device (draft_state draft.new).device }
+    ensures faults { CountsBuildFault result (draft_state draft.old).device.faults (draft_state draft.new).device.faults }
 {
     for run in runs {
         put_run(builder, row, draft, *run)?;
@@ -139,14 +139,14 @@ fn put_run<D: Device>(
     requires within { run.data_block + run.length ≤ 2 ^ 40 }
     requires time { run.time < 2 ^ 24 }
     requires more { run.length ≤ items_to_come builder.old }
-    requires writable { IsWritable (stand draft.old).device }
-    requires room { draft.old.next + length builder.old.sizes ≤ (stand draft.old).device.blocks }
-    requires closed { IsClosed (stand draft.old).device }
+    requires writable { IsWritable (draft_state draft.old).device }
+    requires room { draft.old.next + length builder.old.sizes ≤ (draft_state draft.old).device.blocks }
+    requires closed { IsClosed (draft_state draft.old).device }
     ensures same_reference { draft.new.dev.ghost_name ≡ draft.old.dev.ghost_name }
-    ensures takes { OnOk result (TakesAll 8 (mapping_items (mappings_from run.virtual_block run.data_block run.time run.length)) builder.old builder.new row.old row.new (stand draft.old) (stand draft.new)) }
+    ensures takes { OnOk result (TakesAll 8 (mapping_items (mappings_from run.virtual_block run.data_block run.time run.length)) builder.old builder.new row.old row.new (draft_state draft.old) (draft_state draft.new)) }
     ensures raised { OnOk result (builder.new.low ≤ run.virtual_block + run.length) }
-    ensures closed { StaysClosed (stand draft.old).device (stand draft.new).device }
-    ensures faults { CountsBuildFault result (stand draft.old).device.faults (stand draft.new).device.faults }
+    ensures closed { StaysClosed (draft_state draft.old).device (draft_state draft.new).device }
+    ensures faults { CountsBuildFault result (draft_state draft.old).device.faults (draft_state draft.new).device.faults }
 {
     for i in 0..run.length {
         let mapping = BlockTime {
@@ -170,14 +170,14 @@ fn put_mapping<D: Device>(
     requires block { mapping.block < 2 ^ 40 }
     requires time { mapping.time < 2 ^ 24 }
     requires more { 1 ≤ items_to_come builder.old }
-    requires writable { IsWritable (stand draft.old).device }
-    requires room { draft.old.next + length builder.old.sizes ≤ (stand draft.old).device.blocks }
-    requires closed { IsClosed (stand draft.old).device }
+    requires writable { IsWritable (draft_state draft.old).device }
+    requires room { draft.old.next + length builder.old.sizes ≤ (draft_state draft.old).device.blocks }
+    requires closed { IsClosed (draft_state draft.old).device }
     ensures same_reference { draft.new.dev.ghost_name ≡ draft.old.dev.ghost_name }
-    ensures takes { OnOk result (TakesAll 8 (record { key = key; value = mapping_code mapping.block mapping.time } ∷ []) builder.old builder.new row.old row.new (stand draft.old) (stand draft.new)) }
+    ensures takes { OnOk result (TakesAll 8 (record { key = key; value = mapping_code mapping.block mapping.time } ∷ []) builder.old builder.new row.old row.new (draft_state draft.old) (draft_state draft.new)) }
     ensures raised { OnOk result (builder.new.low ≡ key + 1) }
-    ensures closed { StaysClosed (stand draft.old).device (stand draft.new).device }
-    ensures faults { CountsBuildFault result (stand draft.old).device.faults (stand draft.new).device.faults }
+    ensures closed { StaysClosed (draft_state draft.old).device (draft_state draft.new).device }
+    ensures faults { CountsBuildFault result (draft_state draft.old).device.faults (draft_state draft.new).device.faults }
 {
     match builder.put(draft, key, mapping)? {
         None => Ok(()),

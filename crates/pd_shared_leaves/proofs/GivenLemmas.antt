@@ -25,7 +25,7 @@ use Rattle.pd_thin_meaning.proofs.FitLemmas.{spelled_given}
 use Rattle.pd_thin_meaning.proofs.SuperLemmas.{HasSizes}
 use Rattle.pd_shared_leaves.specs.Given.{GivesLeaf, GivesShape, IsGivenWhole, device_pieces, pool_leaves, pool_roots}
 use Rattle.pd_shared_leaves.specs.Leaves.{leaves_below, roots_below, roots_of}
-use Rattle.pd_shared_leaves.specs.Parts.{number_of}
+use Rattle.pd_shared_leaves.specs.TreeParts.{number_of}
 use Rattle.pd_shared_leaves.specs.Pieces.{given_piece, pieces_below}
 use Rattle.pd_shared_leaves.proofs.LeafLemmas.{IsOuter, OwnAll, leaf_mappings_are, leaves_outer, mappings_are, mappings_by_leaves, pieces_all}
 use Rattle.pd_shared_leaves.proofs.MemberLemmas.{all_flat_parts, all_kept, at_counted, at_position}

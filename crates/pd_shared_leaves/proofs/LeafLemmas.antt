@@ -21,7 +21,7 @@ use Rattle.pd_thin_meaning.specs.Runs.{mappings_below}
 use Rattle.pd_thin_meaning.proofs.SoundPool.{leaf_items}
 use Rattle.std.proofs.Common.{Option, Some, None}
 use Rattle.pd_shared_leaves.specs.Leaves.{leaves_below}
-use Rattle.pd_shared_leaves.specs.Parts.{number_of}
+use Rattle.pd_shared_leaves.specs.TreeParts.{number_of}
 use Rattle.pd_shared_leaves.proofs.ShapeLemmas.{by_leaves}
 
 -- pieces of a device's own have mappings of one kind

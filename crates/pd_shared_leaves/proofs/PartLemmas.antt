@@ -5,23 +5,23 @@ use Rattle.std.proofs.lemmas.Grind.{flat_map-append}
 use Rattle.pd_kinds.specs.Graph.{block_at}
 use Rattle.pd_value.specs.declared.thin.BlockTime.{BlockTime}
 use Rattle.pd_tree.specs.Below.{each_below, items_from, kids_from}
-use Rattle.pd_tree.specs.Frontier.{Left, node, left_of_item, left_at, left_in}
+use Rattle.pd_tree.specs.Frontier.{FrontierItem, node, left_of_item, left_at, left_in}
 use Rattle.pd_tree.specs.declared.stack.Stack.{Stack}
 use Rattle.pd_tree.proofs.BelowLemmas.{gather_is, each_none}
 use Rattle.pd_tree.proofs.FrontierLemmas.{child_alone}
 use Rattle.pd_tree.proofs.NextLemmas.{none_left, none_outside, no_items, no_kids}
 use Rattle.pd_thin_meaning.specs.Items.{block_time_of}
 use Rattle.pd_thin_meaning.specs.Joined.{mapping_of}
-use Rattle.pd_shared_leaves.specs.Parts.{Part, mapped, leaf, number_of, kids_of_block, parts_of_block, parts_below, read_of_block, read_below, parts_of_left, read_of_left, stack_parts, stack_reads}
+use Rattle.pd_shared_leaves.specs.TreeParts.{Part, mapped, leaf, number_of, kids_of_block, parts_of_block, parts_below, read_of_block, read_below, parts_of_left, read_of_left, stack_parts, stack_reads}
 
 -- what a node that was read gives: what its entries give, and then what each block that it names gives
-flat_each : {V X : Type 0} → (f : Left V → List X) (j : ℕ) (bs : List ℕ) → flat_map f (each_below child_alone j bs) ≡ each_below (λ i b. f (node i b)) j bs
+flat_each : {V X : Type 0} → (f : FrontierItem V → List X) (j : ℕ) (bs : List ℕ) → flat_map f (each_below child_alone j bs) ≡ each_below (λ i b. f (node i b)) j bs
 unfolding each_below
 flat_each f zero bs = refl
 flat_each f (suc j) [] = refl
 flat_each f (suc j) (b ∷ bs) = ap (λ xs. f (node j b) ++ xs) (flat_each f (suc j) bs)
 
-flat_left : {V X : Type 0} → (f : Left V → List X) (size : ℕ) (decoded : ℕ → V) (j : ℕ) (block : List ℕ)
+flat_left : {V X : Type 0} → (f : FrontierItem V → List X) (size : ℕ) (decoded : ℕ → V) (j : ℕ) (block : List ℕ)
     → flat_map f (left_in size decoded j block) ≡ flat_map f (map left_of_item (items_from size decoded block 0)) ++ each_below (λ i b. f (node i b)) j (kids_from size block 0)
 unfolding left_in
 flat_left f size decoded j block =
@@ -71,12 +71,12 @@ module _ (shared : List ℕ) (image : List (List ℕ)) where
   read_some j b none = rw (read_below_is j b, none) (omega arith)
 
   -- a node that was read, before what was left
-  pub pushed_parts : (j b : ℕ) (old new : List (Left BlockTime)) → number_of shared b ≡ None → new ≡ left_in 8 block_time_of j (block_at image b) ++ old
+  pub pushed_parts : (j b : ℕ) (old new : List (FrontierItem BlockTime)) → number_of shared b ≡ None → new ≡ left_in 8 block_time_of j (block_at image b) ++ old
       → flat_map (parts_of_left shared image) new ≡ parts_below shared image j b ++ flat_map (parts_of_left shared image) old
   pushed_parts j b old new none is =
       rw (is, flat_map-append (parts_of_left shared image) (left_in 8 block_time_of j (block_at image b)) old, parts_read j b none) refl
 
-  pub pushed_reads : (j b : ℕ) (old new : List (Left BlockTime)) → number_of shared b ≡ None → new ≡ left_in 8 block_time_of j (block_at image b) ++ old
+  pub pushed_reads : (j b : ℕ) (old new : List (FrontierItem BlockTime)) → number_of shared b ≡ None → new ≡ left_in 8 block_time_of j (block_at image b) ++ old
       → suc (length (flat_map (read_of_left shared image) new)) ≡ length (read_below shared image j b) + length (flat_map (read_of_left shared image) old)
   pushed_reads j b old new none is =
       rw (is, flat_map-append (read_of_left shared image) (left_in 8 block_time_of j (block_at image b)) old, ← reads_read j b none)

@@ -9,7 +9,7 @@ use Rattle.pd_thin_meaning.specs.Joined.{begun_mappings, begun_number, given_run
 use Rattle.pd_shared_leaves.specs.declared.pieces.Piece.{Piece}
 use Rattle.pd_shared_leaves.specs.declared.pieces.Piece.TheVariants.{Run, SharedLeaf}
 use Rattle.pd_shared_leaves.specs.declared.pieces.PieceRuns.{PieceRuns}
-use Rattle.pd_shared_leaves.specs.Parts.{Part, mapped, leaf, parts_left}
+use Rattle.pd_shared_leaves.specs.TreeParts.{Part, mapped, leaf, parts_left}
 use Rattle.pd_shared_leaves.specs.Pieces.{joined_pieces, pieces_left, pieces_reads}
 
 -- the mappings up to the first shared leaf, and the pieces from it on

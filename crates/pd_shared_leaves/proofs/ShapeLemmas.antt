@@ -15,7 +15,7 @@ use Rattle.pd_thin_meaning.specs.Items.{block_time_of}
 use Rattle.pd_thin_meaning.specs.Joined.{given_runs, mapping_of}
 use Rattle.pd_shared_leaves.specs.declared.pieces.Piece.TheVariants.{Run, SharedLeaf}
 use Rattle.pd_shared_leaves.specs.Leaves.{leaves_below}
-use Rattle.pd_shared_leaves.specs.Parts.{Part, mapped, kids_of_block, number_of, parts_below, parts_of_block}
+use Rattle.pd_shared_leaves.specs.TreeParts.{Part, mapped, kids_of_block, number_of, parts_below, parts_of_block}
 use Rattle.pd_shared_leaves.specs.Pieces.{given_piece, joined_pieces, pieces_below}
 
 -- what is gathered from nodes is what is gathered from their leaves, where each node's share is that of the leaf that it is

@@ -2,6 +2,6 @@ pub mod Found
 pub mod Given
 pub mod Leaves
 pub mod Marks
-pub mod Parts
+pub mod TreeParts
 pub mod Pieces
 pub mod Walk

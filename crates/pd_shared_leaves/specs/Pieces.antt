@@ -6,7 +6,7 @@ use Rattle.pd_thin_meaning.specs.Joined.{begun_mappings, begun_number, given_run
 use Rattle.pd_shared_leaves.specs.declared.pieces.Piece.{Piece}
 use Rattle.pd_shared_leaves.specs.declared.pieces.PieceRuns.{PieceRuns}
 use Rattle.pd_shared_leaves.specs.declared.pieces.Piece.TheVariants.{Run, SharedLeaf}
-use Rattle.pd_shared_leaves.specs.Parts.{Part, mapped, leaf, met_leaf, parts_below, parts_left, parts_number, parts_reads, parts_room}
+use Rattle.pd_shared_leaves.specs.TreeParts.{Part, mapped, leaf, met_leaf, parts_below, parts_left, parts_number, parts_reads, parts_room}
 
 -- the pieces of some mappings, and then of these parts
 abbrev pub joined_pieces : List Mapping → List Part → List Piece

@@ -3,9 +3,9 @@
 ghost use Rattle.std.specs.Prelude.{◌≡◌, ◌+◌, ◌-◌, ◌<◌, ◌≤◌, ◌++◌, length, IfOk, IfSome, OnOk};
 ghost use Rattle.pd_kinds.specs.Objects.{CountsFault};
 ghost use Rattle.pd_image.specs.Device.{IsAttached, OnlyReads};
-ghost use Rattle.pd_tree.specs.Stack.{stack_number, unit};
+ghost use Rattle.pd_tree.specs.Stack.{stack_number, child_weight};
 ghost use Rattle.pd_shared_leaves.specs.Leaves.{shared_blocks};
-ghost use Rattle.pd_shared_leaves.specs.Parts.{IsNextPart, met_leaf, parts_below, read_below, stack_parts, stack_reads};
+ghost use Rattle.pd_shared_leaves.specs.TreeParts.{IsNextPart, met_leaf, parts_below, read_below, stack_parts, stack_reads};
 
 use crate::find::SharedLeaves;
 use crate::parts::Found;
@@ -30,7 +30,7 @@ pub(crate) fn go_to<D: Device>(
         ≤ (D.state dev.old).reads + (length (read_below (shared_blocks shared.now) image (63 - stack.old.depth) b) + stack_reads (shared_blocks shared.now) image stack.old))) }
     ensures reads_failed { IfSome (D.state dev.old).held (λ image.
         (D.state dev.new).reads ≤ (D.state dev.old).reads + length (read_below (shared_blocks shared.now) image (63 - stack.old.depth) b)) }
-    ensures number { OnOk result (stack_number 8 stack.new < stack_number 8 stack.old + unit (64 - stack.old.depth)) }
+    ensures number { OnOk result (stack_number 8 stack.new < stack_number 8 stack.old + child_weight (64 - stack.old.depth)) }
     ensures kept { OnlyReads (D.state dev.old) (D.state dev.new) }
     ensures faults { CountsFault result (D.state dev.old).faults (D.state dev.new).faults }
 {

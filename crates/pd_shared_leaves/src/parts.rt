@@ -21,28 +21,28 @@ pub(crate) enum Found {
 
 /// The mappings of a tree, by ascending virtual block, and its shared leaves in their places.
 #[derive(Drop)]
-pub(crate) struct Parts {
+pub(crate) struct TreeParts {
     stack: Stack,
     /// The root, until it was looked at.
     root: Option<u64>,
     ghost fresh: { ForSome root (λ _. stack.depth ≡ 0) },
 }
 
-impl Parts {
+impl TreeParts {
     ghost use Rattle.std.specs.Prelude.{◌≡◌, ◌+◌, ◌<◌, ◌≤◌, ℕ, List, length, IfOk, IfSome, OnOk};
     ghost use Rattle.pd_kinds.specs.Objects.{CountsFault};
     ghost use Rattle.pd_image.specs.Device.{IsAttached, OnlyReads};
     ghost use Rattle.pd_shared_leaves.specs.Leaves.{shared_blocks};
-    ghost use Rattle.pd_shared_leaves.specs.Parts.{IsNextPart, parts_below, parts_left, parts_number, parts_reads, parts_room, read_below};
+    ghost use Rattle.pd_shared_leaves.specs.TreeParts.{IsNextPart, parts_below, parts_left, parts_number, parts_reads, parts_room, read_below};
 
     /// A cursor before the first part of the tree with this root.
-    pub(crate) fn start(alloc: Global, root: u64) -> Result<Parts, AllocError>
+    pub(crate) fn start(alloc: Global, root: u64) -> Result<TreeParts, AllocError>
         ensures parts { (shared : List ℕ) (image : List (List ℕ)) → IfOk result (λ parts. parts_left shared image parts ≡ parts_below shared image 63 root) }
         ensures reads { (shared : List ℕ) (image : List (List ℕ)) → IfOk result (λ parts. parts_reads shared image parts ≡ length (read_below shared image 63 root)) }
         ensures room { IfOk result (λ parts. parts_room parts ≡ root + 1) }
     {
         let stack = Stack::new(alloc)?;
-        Ok(Parts {
+        Ok(TreeParts {
             stack,
             root: Some(root),
         })

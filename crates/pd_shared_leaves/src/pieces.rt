@@ -6,11 +6,11 @@ ghost use Rattle.pd_image.specs.Device.{IsAttached, OnlyReads};
 ghost use Rattle.pd_tree.specs.Next.{IsNext};
 ghost use Rattle.pd_thin_meaning.specs.Joined.{begun_mappings};
 ghost use Rattle.pd_shared_leaves.specs.Leaves.{shared_blocks};
-ghost use Rattle.pd_shared_leaves.specs.Parts.{Part, met_leaf, read_below};
+ghost use Rattle.pd_shared_leaves.specs.TreeParts.{Part, met_leaf, read_below};
 ghost use Rattle.pd_shared_leaves.specs.Pieces.{joined_pieces, pieces_below, pieces_left, pieces_number, pieces_reads, pieces_room};
 
 use crate::find::SharedLeaves;
-use crate::parts::{Found, Parts};
+use crate::parts::{Found, TreeParts};
 use pd_image::{Device, Failed};
 use pd_thin_meaning::{Joined, Run};
 use std::alloc::{AllocError, Global};
@@ -28,7 +28,7 @@ pub enum Piece {
 /// which aren't read.
 #[derive(Drop)]
 pub struct PieceRuns {
-    parts: Parts,
+    parts: TreeParts,
     joined: Joined,
     /// The number of a shared leaf that stands behind the begun run.
     waiting: Option<u64>,
@@ -44,7 +44,7 @@ impl PieceRuns {
         ensures reads { (shared : List ℕ) (image : List (List ℕ)) → IfOk result (λ pieces. pieces_reads shared image pieces ≡ length (read_below shared image 63 root)) }
         ensures room { IfOk result (λ pieces. pieces_room pieces ≡ root + 1) }
     {
-        let parts = Parts::start(alloc, root)?;
+        let parts = TreeParts::start(alloc, root)?;
         Ok(PieceRuns {
             parts,
             joined: Joined::new(),
@@ -95,14 +95,14 @@ impl PieceRuns {
                     }
                 }
                 Some(Found::SharedLeaf(number)) => self.waiting = Some(number),
-                None => return Ok(self.give()),
+                None => return Ok(self.take_waiting()),
             }
         }
-        Ok(self.give())
+        Ok(self.take_waiting())
     }
 
     /// Gives the begun run, or else the leaf that waits behind it.
-    fn give(&mut self) -> Option<Piece>
+    fn take_waiting(&mut self) -> Option<Piece>
         ensures next { (parts : List Part) → (self.old.waiting ≡ None → parts ≡ [])
             → IsNext result (joined_pieces (begun_mappings self.old.joined.begun) (met_leaf self.old.waiting ++ parts)) (joined_pieces (begun_mappings self.new.joined.begun) (met_leaf self.new.waiting ++ parts)) }
         ensures parts { self.new.parts ≡ self.old.parts }

@@ -19,7 +19,7 @@ use Rattle.pd_kinds.specs.Trees.{entries_below, keys_of, stored_data_in}
 use Rattle.pd_kinds.specs.Whole.{data_index_entries, thin_whole, whole_bad}
 use Rattle.pd_answers.specs.MovedPool.{free_blocks}
 use Rattle.pd_smap.specs.Entries.{index_of, overflow_of}
-use Rattle.pd_shrink.specs.Gathered.{chosen}
+use Rattle.pd_shrink.specs.Gathered.{numbers_where}
 use Rattle.pd_shrink.specs.Unused.{is_unused, is_zero, unused_below}
 use Rattle.pd_shrink.proofs.GatherLemmas.{chosen_same}
 
@@ -53,7 +53,7 @@ pub free_same : (image : List (List ℕ)) (end : ℕ) → IsClean Thin image →
     ≡ stored_data_in image (data_index_entries (thin_graph (block_at image 0)) image) overflow d)
     → overflow_of image (thin_fields (block_at image 0)).data_map.overflow_root ≡ entries_below (thin_graph (block_at image 0)) image 4 7 (thin_fields (block_at image 0)).data_map.overflow_root
     → unused_below image (thin_fields (block_at image 0)).data_map end ≡ free_blocks image end
-unfolding thin_checked unused_below free_blocks chosen
+unfolding thin_checked unused_below free_blocks numbers_where
 free_same image end clean within index overflow =
     let graph = thin_graph (block_at image 0) in
     let map = (thin_fields (block_at image 0)).data_map in

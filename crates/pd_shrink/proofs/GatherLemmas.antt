@@ -7,42 +7,42 @@ use Rattle.std.proofs.lemmas.List.Elements.{filter-append}
 use Rattle.pd_smap.specs.OverflowLeft.{stored_by}
 use Rattle.pd_smap.proofs.MapLemmas.{few_bits, many_bits}
 use Rattle.pd_smap.proofs.StepLemmas.{range_split}
-use Rattle.pd_moved.specs.Moving.{AreBelow, Ascend}
+use Rattle.pd_changed.specs.Moving.{AreBelow, Ascend}
 use Rattle.pd_shrink.specs.declared.free.FreeBlocks.{FreeBlocks}
-use Rattle.pd_shrink.specs.Gathered.{Gathers, Holds, Lie, chosen}
+use Rattle.pd_shrink.specs.Gathered.{Gathers, HoldsFirstFree, AscendWithin, numbers_where}
 use Rattle.pd_shrink.specs.Unused.{is_zero}
 
 -- some blocks, and then more
-pub chosen_split : (is : ℕ → Bool) (low m n : ℕ) → chosen is low (m + n) ≡ chosen is low m ++ chosen is (low + m) n
-unfolding chosen
+pub chosen_split : (is : ℕ → Bool) (low m n : ℕ) → numbers_where is low (m + n) ≡ numbers_where is low m ++ numbers_where is (low + m) n
+unfolding numbers_where
 chosen_split is low m n = ap (filter is) (range_split low m n) ∙ filter-append is (range_with_len low m) (range_with_len (low + m) n)
 
 -- one block
-pub chosen_one : (is : ℕ → Bool) (d : ℕ) (free : Bool) → free ≡ is d → chosen is d 1 ≡ cond free (d ∷ []) []
-unfolding chosen
+pub chosen_one : (is : ℕ → Bool) (d : ℕ) (free : Bool) → free ≡ is d → numbers_where is d 1 ≡ cond free (d ∷ []) []
+unfolding numbers_where
 chosen_one is d free says = ap (λ t. cond t (d ∷ []) []) (sym says)
 
 -- blocks of which the same holds
-pub chosen_same : (one other : ℕ → Bool) (low len : ℕ) → ((d : ℕ) → low ≤ d → d < low + len → one d ≡ other d) → chosen one low len ≡ chosen other low len
-unfolding chosen
+pub chosen_same : (one other : ℕ → Bool) (low len : ℕ) → ((d : ℕ) → low ≤ d → d < low + len → one d ≡ other d) → numbers_where one low len ≡ numbers_where other low len
+unfolding numbers_where
 chosen_same one other low zero same = refl
 chosen_same one other low (suc len) same =
-    ap (λ t. cond t (low ∷ chosen one (low + 1) len) (chosen one (low + 1) len)) (same low (omega arith) (omega arith))
+    ap (λ t. cond t (low ∷ numbers_where one (low + 1) len) (numbers_where one (low + 1) len)) (same low (omega arith) (omega arith))
     ∙ ap (λ (ds : List ℕ). cond (other low) (low ∷ ds) ds) (chosen_same one other (low + 1) len (λ d from below. same d (omega arith) (omega arith)))
 
 -- blocks of which it holds nowhere, or everywhere
-pub chosen_none : (is : ℕ → Bool) (low len : ℕ) → ((d : ℕ) → low ≤ d → d < low + len → is d ≡ false) → chosen is low len ≡ []
-unfolding chosen
+pub chosen_none : (is : ℕ → Bool) (low len : ℕ) → ((d : ℕ) → low ≤ d → d < low + len → is d ≡ false) → numbers_where is low len ≡ []
+unfolding numbers_where
 chosen_none is low zero none = refl
 chosen_none is low (suc len) none =
-    ap (λ t. cond t (low ∷ chosen is (low + 1) len) (chosen is (low + 1) len)) (none low (omega arith) (omega arith))
+    ap (λ t. cond t (low ∷ numbers_where is (low + 1) len) (numbers_where is (low + 1) len)) (none low (omega arith) (omega arith))
     ∙ chosen_none is (low + 1) len (λ d from below. none d (omega arith) (omega arith))
 
-pub chosen_all : (is : ℕ → Bool) (low len : ℕ) → ((d : ℕ) → low ≤ d → d < low + len → is d ≡ true) → chosen is low len ≡ range_with_len low len
-unfolding chosen
+pub chosen_all : (is : ℕ → Bool) (low len : ℕ) → ((d : ℕ) → low ≤ d → d < low + len → is d ≡ true) → numbers_where is low len ≡ range_with_len low len
+unfolding numbers_where
 chosen_all is low zero each = refl
 chosen_all is low (suc len) each =
-    ap (λ t. cond t (low ∷ chosen is (low + 1) len) (chosen is (low + 1) len)) (each low (omega arith) (omega arith))
+    ap (λ t. cond t (low ∷ numbers_where is (low + 1) len) (numbers_where is (low + 1) len)) (each low (omega arith) (omega arith))
     ∙ ap (λ (ds : List ℕ). low ∷ ds) (chosen_all is (low + 1) len (λ d from below. each d (omega arith) (omega arith)))
 
 -- two bits below 3 are the count, and others leave it to the overflow tree
@@ -54,7 +54,7 @@ zero_by_tree found bits over same many = sym (ap is_zero (many_bits found over m
 
 -- nothing was gathered
 pub gathers_none : (wanted : ℕ) (free : FreeBlocks) → Gathers wanted [] free free
-gathers_none wanted free all held = subst (λ ds. Holds wanted ds free) (sym (append-nil all)) held
+gathers_none wanted free all held = subst (λ ds. HoldsFirstFree wanted ds free) (sym (append-nil all)) held
 
 -- blocks where nothing more is kept
 pub gathers_full : (wanted : ℕ) (more : List ℕ) (old new : FreeBlocks) → new.number ≡ old.number + length more → new.first.items ≡ old.first.items
@@ -69,7 +69,7 @@ gathers_full wanted more old new number same full all held =
 -- some blocks, and then more
 pub gathers_then : (wanted : ℕ) (some more : List ℕ) (x y z : FreeBlocks) → Gathers wanted some x y → Gathers wanted more y z → Gathers wanted (some ++ more) x z
 gathers_then wanted some more x y z first next all held =
-    subst (λ ds. Holds wanted ds z) (append_assoc all some more) (next (all ++ some) (first all held))
+    subst (λ ds. HoldsFirstFree wanted ds z) (append_assoc all some more) (next (all ++ some) (first all held))
 
 -- blocks below a number are below a greater one, and those that ascend from one on do so from a lesser one on
 below_later : (low high : ℕ) (ds : List ℕ) → low ≤ high → AreBelow low ds → AreBelow high ds
@@ -90,7 +90,7 @@ ascend_append low middle (x ∷ xs) ys order below first next =
     (first.0, ascend_append (x + 1) middle xs ys (omega (arith, below.0)) below.1 first.1 next)
 
 -- blocks, and later ones
-pub lie_then : (low middle high : ℕ) (xs ys : List ℕ) → low ≤ middle → middle ≤ high → Lie low middle xs → Lie middle high ys → Lie low high (xs ++ ys)
+pub lie_then : (low middle high : ℕ) (xs ys : List ℕ) → low ≤ middle → middle ≤ high → AscendWithin low middle xs → AscendWithin middle high ys → AscendWithin low high (xs ++ ys)
 lie_then low middle high xs ys from to first next = record {
   below = below_append high xs ys (below_later middle high xs to first.below) next.below;
   ascend = ascend_append low middle xs ys from first.below first.ascend next.ascend;
@@ -105,7 +105,7 @@ ascend_row : (low len : ℕ) → Ascend low (range_with_len low len)
 ascend_row low zero = tt
 ascend_row low (suc len) = (omega arith, ascend_row (low + 1) len)
 
-pub lie_row : (low len : ℕ) → Lie low (low + len) (range_with_len low len)
+pub lie_row : (low len : ℕ) → AscendWithin low (low + len) (range_with_len low len)
 lie_row low len = record { below = below_row low len (low + len) (omega arith); ascend = ascend_row low len }
 
 -- as many as fit between
@@ -114,7 +114,7 @@ length-between low high [] below ascend = omega arith
 length-between low high (d ∷ ds) below ascend =
     let rest = length-between (d + 1) high ds below.1 ascend.1 in omega (arith, rest, below.0, ascend.0)
 
-pub length-lie : (high : ℕ) (ds : List ℕ) → Lie 0 high ds → length ds ≤ high
+pub length-lie : (high : ℕ) (ds : List ℕ) → AscendWithin 0 high ds → length ds ≤ high
 length-lie high ds lie = let few = length-between 0 high ds lie.below lie.ascend in omega (arith, few)
 
 -- the first ones of them
@@ -128,5 +128,5 @@ take_ascend zero low ds ascend = tt
 take_ascend (suc n) low [] ascend = tt
 take_ascend (suc n) low (d ∷ ds) ascend = (ascend.0, take_ascend n (d + 1) ds ascend.1)
 
-pub lie_first : (n low high : ℕ) (ds : List ℕ) → Lie low high ds → Lie low high (take n ds)
+pub lie_first : (n low high : ℕ) (ds : List ℕ) → AscendWithin low high ds → AscendWithin low high (take n ds)
 lie_first n low high ds lie = record { below = take_below n high ds lie.below; ascend = take_ascend n low ds lie.ascend }

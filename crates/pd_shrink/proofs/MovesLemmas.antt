@@ -6,8 +6,8 @@ use Rattle.std.proofs.lemmas.List.{nil_from_length, take-append-drop}
 use Rattle.pd_kinds.specs.Meaning.{Mapping, ThinDevice, ThinPool}
 use Rattle.pd_answers.specs.MovedPool.{Move, moved_pool, moves_to, sources}
 use Rattle.pd_laws.proofs.AllLemmas.{all_append}
-use Rattle.pd_moved.specs.Moving.{AreBelow, Ascend, IsMoving}
-use Rattle.pd_moved.proofs.FreeBlocks.{kept_ascend}
+use Rattle.pd_changed.specs.Moving.{AreBelow, Ascend, IsMoving}
+use Rattle.pd_changed.proofs.FreeBlocks.{kept_ascend}
 use Rattle.pd_spells.specs.Lawful.{AreDevices, AreMappings, IsLawfulPool}
 use Rattle.pd_spells.specs.ThinNeed.{mapped_data}
 use Rattle.pd_spells.specs.ThinText.{device_of_part, mappings_from}

@@ -19,7 +19,7 @@ use Rattle.pd_spells.specs.ThinNeed.{thin_need}
 use Rattle.pd_answers.specs.CachedView.{blocks_each, is_block_size_bad}
 use Rattle.pd_answers.specs.MovedPool.{Move, data_need, end_of_pool, free_blocks, moved_pool, moves_to, sources}
 use Rattle.pd_answers.specs.Shrinks.{IsGroundOf, ShrinkGround, bad_block_size, no_room}
-use Rattle.pd_moved.specs.Moving.{AreBelow, Ascend}
+use Rattle.pd_changed.specs.Moving.{AreBelow, Ascend}
 use Rattle.pd_salvage.specs.declared.saved.SavedHead.{SavedHead}
 use Rattle.pd_salvage.specs.Saved.{SavedPool, pool_of}
 use Rattle.pd_shrink.specs.declared.fault.ShrinkFault.{ShrinkFault}

@@ -5,8 +5,8 @@ use Rattle.std.proofs.lemmas.Bool.{cases_Bool, ltb-false, ne_eqb}
 use Rattle.pd_spells.specs.ThinNeed.{thin_need}
 use Rattle.pd_answers.specs.CachedView.{blocks_each, is_block_size_bad}
 use Rattle.pd_answers.specs.MovedPool.{Move, data_need, moves_to, sources}
-use Rattle.pd_answers.specs.Shrinks.{Lack, ShrinkGround, bad_block_size, lack_of, moves_of, no_room, or_lack, pool_after}
-use Rattle.pd_moved.specs.Moving.{AreBelow, Ascend}
+use Rattle.pd_answers.specs.Shrinks.{ShrinkLack, ShrinkGround, bad_block_size, lack_of, moves_of, no_room, or_lack, pool_after}
+use Rattle.pd_changed.specs.Moving.{AreBelow, Ascend}
 use Rattle.pd_shrink.specs.Making.{lack_of_moves}
 use Rattle.pd_shrink.specs.Moves.{AreOnce, IsAcross, move_in, moves_in}
 use Rattle.pd_shrink.specs.declared.moves.MovedBlock.{MovedBlock}
@@ -15,20 +15,20 @@ isnt_none : {X : Type 0} {x : X} → Some x ≡ None → ⊥
 isnt_none e = cc
 
 -- there is room, or there is none
-enough : (need blocks : ℕ) (lack : Option Lack) → need ≤ blocks → or_lack need blocks lack ≡ lack
+enough : (need blocks : ℕ) (lack : Option ShrinkLack) → need ≤ blocks → or_lack need blocks lack ≡ lack
 enough need blocks lack few = rw (le-ltb blocks need few) refl
 
-too_few : (need blocks : ℕ) (lack : Option Lack) → blocks < need → or_lack need blocks lack ≡ Some (no_room need blocks)
+too_few : (need blocks : ℕ) (lack : Option ShrinkLack) → blocks < need → or_lack need blocks lack ≡ Some (no_room need blocks)
 too_few need blocks lack many = rw (lt-ltb blocks need many) refl
 
-nothing_lacks : (need blocks : ℕ) (lack : Option Lack) → or_lack need blocks lack ≡ None → (need ≤ blocks) × (lack ≡ None)
+nothing_lacks : (need blocks : ℕ) (lack : Option ShrinkLack) → or_lack need blocks lack ≡ None → (need ≤ blocks) × (lack ≡ None)
 nothing_lacks need blocks lack none = elim (cases_Bool (nat_lt blocks need)) [
   | inl many ↦ absurd (isnt_none (rw many at none))
   | inr few ↦ (ltb-false blocks need few, rw few at none)
 ]
 
 -- a first lack stays, whatever is looked at later
-still_lacks : (need blocks : ℕ) (lack other : Option Lack) (x : Lack) → (lack ≡ Some x → other ≡ Some x) → or_lack need blocks lack ≡ Some x → or_lack need blocks other ≡ Some x
+still_lacks : (need blocks : ℕ) (lack other : Option ShrinkLack) (x : ShrinkLack) → (lack ≡ Some x → other ≡ Some x) → or_lack need blocks lack ≡ Some x → or_lack need blocks other ≡ Some x
 still_lacks need blocks lack other x later is = elim (cases_Bool (nat_lt blocks need)) [
   | inl many ↦ rw many (rw many at is)
   | inr few ↦ rw few (later (rw few at is))
@@ -55,7 +55,7 @@ module _ (basis : ShrinkGround) where
   abbrev need : ℕ
   need = thin_need (pool_after basis) basis.room
 
-  abbrev moves_lack : Option Lack
+  abbrev moves_lack : Option ShrinkLack
   moves_lack = lack_of_moves k ds (length basis.free) basis.end basis.data_blocks
 
   pub bad_size : is_block_size_bad basis.pool.block_size ≡ true → lack_of basis ≡ Some bad_block_size
@@ -67,7 +67,7 @@ module _ (basis : ShrinkGround) where
     unfolding lack_of
     lack_is = rw whole refl
 
-    pub moves_lacking : (x : Lack) → moves_lack ≡ Some x → lack_of basis ≡ Some x
+    pub moves_lacking : (x : ShrinkLack) → moves_lack ≡ Some x → lack_of basis ≡ Some x
     moves_lacking x is =
         lack_is
         ∙ still_lacks ((basis.end - length basis.free) + length ds) basis.end (or_lack (data_need k ds) basis.data_blocks None) (or_lack (data_need k ds) basis.data_blocks (or_lack need basis.room None)) x

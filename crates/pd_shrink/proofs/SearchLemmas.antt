@@ -22,9 +22,9 @@ use Rattle.pd_smap.proofs.MapLemmas.{few_bits, stored_data_is}
 use Rattle.pd_smap.proofs.OverflowLeftLemmas.{ahead_later, if_maps, if_then}
 use Rattle.pd_smap.proofs.RiseLemmas.{all_ahead}
 use Rattle.pd_smap.proofs.StepLemmas.{if_all}
-use Rattle.pd_moved.specs.Moving.{AreBelow, Ascend}
+use Rattle.pd_changed.specs.Moving.{AreBelow, Ascend}
 use Rattle.pd_shrink.specs.declared.free.FreeBlocks.{FreeBlocks}
-use Rattle.pd_shrink.specs.Gathered.{Finds, Gathers, Holds, Lie, Searched, Standing, chosen, is_free_by, with_reads}
+use Rattle.pd_shrink.specs.Gathered.{FindsFree, Gathers, HoldsFirstFree, AscendWithin, Searched, Standing, numbers_where, is_free_by, with_reads}
 use Rattle.pd_shrink.specs.Unused.{is_unused, is_zero, unused_below}
 use Rattle.pd_shrink.proofs.GatherLemmas.{chosen_all, chosen_none, chosen_one, chosen_same, chosen_split, gathers_full, gathers_none, gathers_then, length-lie, lie_first, lie_row, lie_then}
 
@@ -35,12 +35,12 @@ if_three (Some x) P Q R S f p q r = f x p q r
 
 -- a step, and then another one
 finds_then : (bits : List (List ℕ) → ℕ → ℕ) (image : List (List ℕ)) (low m n : ℕ) (ds es : List ℕ) (s t u : Standing)
-    → Finds bits image low m ds s t → Finds bits image (low + m) n es t u → Finds bits image low (m + n) (ds ++ es) s u
+    → FindsFree bits image low m ds s t → FindsFree bits image (low + m) n es t u → FindsFree bits image low (m + n) (ds ++ es) s u
 finds_then bits image low m n ds es s t u first next = record {
   reads = omega (arith, first.reads, next.reads);
   choice = λ over ahead.
       ap (λ (xs : List ℕ). xs ++ es) (first.choice over ahead)
-      ∙ ap (λ (xs : List ℕ). chosen (is_free_by (bits image) over) low m ++ xs) (next.choice over (first.ahead over ahead))
+      ∙ ap (λ (xs : List ℕ). numbers_where (is_free_by (bits image) over) low m ++ xs) (next.choice over (first.ahead over ahead))
       ∙ sym (chosen_split (is_free_by (bits image) over) low m n);
   ahead = λ over ahead. let sum : low + m + n ≡ low + (m + n) = omega arith in subst (λ k. IsAhead k over (u.items image)) sum (next.ahead over (first.ahead over ahead));
 }
@@ -54,7 +54,7 @@ searched_then wanted bits low m n s t u first next = record {
   free = first.free ++ next.free;
   lie =
       let sum : low + m + n ≡ low + (m + n) = omega arith in
-      subst (λ k. Lie low k (first.free ++ next.free)) sum (lie_then low (low + m) (low + m + n) first.free next.free (omega arith) (omega arith) first.lie next.lie);
+      subst (λ k. AscendWithin low k (first.free ++ next.free)) sum (lie_then low (low + m) (low + m + n) first.free next.free (omega arith) (omega arith) first.lie next.lie);
   gathered = gathers_then wanted first.free next.free s.free t.free u.free first.gathered next.gathered;
   told = if_then s.device.held t.device.held _ _ _ first.kept.held (λ image. finds_then bits image low m n first.free next.free s t u) first.told next.told;
 }
@@ -119,7 +119,7 @@ in_group bitmap base g number all image over d from below =
 -- one block, whose count was looked at
 pub searched_one : (wanted base e : ℕ) (bitmap : List ℕ) (unused : Bool) (more : List ℕ) (device after : DeviceState) (items later : List (List ℕ) → List (ℕ × Count))
     (left rest : List (List ℕ) → ℕ) (free new : FreeBlocks) → more ≡ cond unused ((base + e) ∷ []) []
-    → OnlyReads device after → after.faults ≡ device.faults → new.number ≤ free.number + 1 → Lie (base + e) (base + e + 1) more → Gathers wanted more free new
+    → OnlyReads device after → after.faults ≡ device.faults → new.number ≤ free.number + 1 → AscendWithin (base + e) (base + e + 1) more → Gathers wanted more free new
     → IfSome device.held (λ image. after.reads + rest image ≤ device.reads + left image)
     → IfSome device.held (λ image. (over : ℕ → Option ℕ) → IsAhead (base + e) over (items image) → unused ≡ is_zero (stored_by (two_bits_of bitmap e) (over (base + e))))
     → IfSome device.held (λ image. (over : ℕ → Option ℕ) → IsAhead (base + e) over (items image) → IsAhead (base + e) over (later image))
@@ -173,7 +173,7 @@ searched_reads wanted bits low len s t left rest room searched =
 pub searched_reading : (wanted : ℕ) (bits : List (List ℕ) → ℕ → ℕ) (low : ℕ) (device after : DeviceState) (free : FreeBlocks) (items : List (List ℕ) → List (ℕ × Count)) (left rest : List (List ℕ) → ℕ)
     → OnlyReads device after → after.faults ≡ device.faults → IfSome device.held (λ image. after.reads + rest image ≤ device.reads + left image)
     → Searched wanted bits low 0 (record { device = device; free = free; items = items; reads = left }) (record { device = after; free = free; items = items; reads = rest })
-unfolding chosen
+unfolding numbers_where
 searched_reading wanted bits low device after free items left rest kept faults reads = record {
   kept = kept;
   faults = faults;
@@ -227,7 +227,7 @@ reads_after wanted bits low len reads s t searched after =
 
 -- what is held after a search that began with nothing
 holds_all : (wanted : ℕ) (bits : List (List ℕ) → ℕ → ℕ) (end : ℕ) (s t : Standing) → s.free.number ≡ 0 → s.free.first.items ≡ []
-    → (searched : Searched wanted bits 0 end s t) → Holds wanted searched.free t.free
+    → (searched : Searched wanted bits 0 end s t) → HoldsFirstFree wanted searched.free t.free
 holds_all wanted bits end s t nothing none searched =
     searched.gathered [] (record { number = nothing; first = none ∙ sym (take_all wanted [] (omega arith)) })
 
@@ -242,7 +242,7 @@ pub first_found : (wanted : ℕ) (bits : List (List ℕ) → ℕ → ℕ) (end :
     → Searched wanted bits 0 end s t → AreFirst end wanted t.free.number t.free.first.items
 first_found wanted bits end s t nothing none searched =
     let held = holds_all wanted bits end s t nothing none searched in
-    let lie : Lie 0 end searched.free = let sum : 0 + end ≡ end = omega arith in subst (λ high. Lie 0 high searched.free) sum searched.lie in
+    let lie : AscendWithin 0 end searched.free = let sum : 0 + end ≡ end = omega arith in subst (λ high. AscendWithin 0 high searched.free) sum searched.lie in
     let first = lie_first wanted 0 end searched.free lie in
     record {
       below = subst (AreBelow end) (sym held.first) first.below;
@@ -255,8 +255,8 @@ first_found wanted bits end s t nothing none searched =
 unused_found : (place : List (List ℕ) → ℕ → ℕ) (image : List (List ℕ)) (map : SmRoot) (blocks end : ℕ) (free : List ℕ) (s t : Standing)
     → ((i : ℕ) → place image i ≡ data_place map.bitmap_root image i) → s.items image ≡ items_below 4 count_from image 63 map.overflow_root
     → IsIndex image map.bitmap_root blocks → IsOverflow image map.overflow_root → end ≤ blocks
-    → Finds (bits_by place) image 0 end free s t → free ≡ unused_below image map end
-unfolding unused_below chosen
+    → FindsFree (bits_by place) image 0 end free s t → free ≡ unused_below image map end
+unfolding unused_below numbers_where
 unused_found place image map blocks end free s t placed items index searchable within finds =
     let over = value_of_key (overflow_of image map.overflow_root) in
     finds.choice over (subst (IsAhead 0 over) (sym items) (all_ahead image map.overflow_root searchable))
@@ -268,8 +268,8 @@ pub all_found : (wanted : ℕ) (place : List (List ℕ) → ℕ → ℕ) (map : 
     → ((image : List (List ℕ)) (i : ℕ) → place image i ≡ data_place map.bitmap_root image i)
     → IfSome o (λ image. s.items image ≡ items_below 4 count_from image 63 map.overflow_root) → s.free.number ≡ 0 → s.free.first.items ≡ []
     → Searched wanted (bits_by place) 0 end s t
-    → IfSome o (λ image. (blocks : ℕ) → IsIndex image map.bitmap_root blocks → IsOverflow image map.overflow_root → end ≤ blocks → Holds wanted (unused_below image map end) t.free)
+    → IfSome o (λ image. (blocks : ℕ) → IsIndex image map.bitmap_root blocks → IsOverflow image map.overflow_root → end ≤ blocks → HoldsFirstFree wanted (unused_below image map end) t.free)
 all_found wanted place map end o s t same placed items nothing none searched =
     if_then o s.device.held _ _ _ same (λ image are finds blocks index searchable within.
-    subst (λ ds. Holds wanted ds t.free) (unused_found place image map blocks end searched.free s t (placed image) are index searchable within finds)
+    subst (λ ds. HoldsFirstFree wanted ds t.free) (unused_found place image map blocks end searched.free s t (placed image) are index searchable within finds)
     (holds_all wanted (bits_by place) end s t nothing none searched)) items searched.told

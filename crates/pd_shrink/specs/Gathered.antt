@@ -7,29 +7,29 @@ use Rattle.pd_value.specs.declared.space_map.Count.{Count}
 use Rattle.pd_smap.specs.declared.overflow.Overflow.{Overflow}
 use Rattle.pd_smap.specs.Overflow.{overflow_items, overflow_reads}
 use Rattle.pd_smap.specs.OverflowLeft.{IsAhead, stored_by}
-use Rattle.pd_moved.specs.Moving.{AreBelow, Ascend}
+use Rattle.pd_changed.specs.Moving.{AreBelow, Ascend}
 use Rattle.pd_shrink.specs.declared.free.FreeBlocks.{FreeBlocks}
 use Rattle.pd_shrink.specs.Unused.{is_zero}
 
 -- of so many blocks from one on, those of which this holds
-unfoldable pub chosen : (ℕ → Bool) → ℕ → ℕ → List ℕ
-chosen is low len = filter is (range_with_len low len)
+unfoldable pub numbers_where : (ℕ → Bool) → ℕ → ℕ → List ℕ
+numbers_where is low len = filter is (range_with_len low len)
 
 -- whether the stored count of a block is 0, by the two bits of each block and by what the overflow tree has
 abbrev pub is_free_by : (ℕ → ℕ) → (ℕ → Option ℕ) → ℕ → Bool
 is_free_by bits over d = is_zero (stored_by (bits d) (over d))
 
 -- what is held are the first ones of these, as many as are wanted, and how many they are
-pub record Holds (wanted : ℕ) (all : List ℕ) (free : FreeBlocks) : Type 0 where
+pub record HoldsFirstFree (wanted : ℕ) (all : List ℕ) (free : FreeBlocks) : Type 0 where
   pub number : free.number ≡ length all
   pub first : free.first.items ≡ take wanted all
 
 -- these were gathered
 abbrev pub Gathers : ℕ → List ℕ → FreeBlocks → FreeBlocks → Type 0
-Gathers wanted more old new = (all : List ℕ) → Holds wanted all old → Holds wanted (all ++ more) new
+Gathers wanted more old new = (all : List ℕ) → HoldsFirstFree wanted all old → HoldsFirstFree wanted (all ++ more) new
 
 -- blocks ascend from one on, and lie below another one
-pub record Lie (low high : ℕ) (ds : List ℕ) : Type 0 where
+pub record AscendWithin (low high : ℕ) (ds : List ℕ) : Type 0 where
   pub below : AreBelow high ds
   pub ascend : Ascend low ds
 
@@ -54,9 +54,9 @@ abbrev pub with_reads : (List (List ℕ) → ℕ) → Standing → Standing
 with_reads more s = record s { reads = λ image. s.reads image + more image }
 
 -- over an image these are the free ones of so many blocks from one on, where the entries ahead are enough
-pub record Finds (bits : List (List ℕ) → ℕ → ℕ) (image : List (List ℕ)) (low len : ℕ) (free : List ℕ) (old new : Standing) : Type 0 where
+pub record FindsFree (bits : List (List ℕ) → ℕ → ℕ) (image : List (List ℕ)) (low len : ℕ) (free : List ℕ) (old new : Standing) : Type 0 where
   pub reads : new.device.reads + new.reads image ≤ old.device.reads + old.reads image
-  pub choice : (over : ℕ → Option ℕ) → IsAhead low over (old.items image) → free ≡ chosen (is_free_by (bits image) over) low len
+  pub choice : (over : ℕ → Option ℕ) → IsAhead low over (old.items image) → free ≡ numbers_where (is_free_by (bits image) over) low len
   pub ahead : (over : ℕ → Option ℕ) → IsAhead low over (old.items image) → IsAhead (low + len) over (new.items image)
 
 -- so many blocks from one on were searched, over any device
@@ -65,6 +65,6 @@ pub record Searched (wanted : ℕ) (bits : List (List ℕ) → ℕ → ℕ) (low
   pub faults : new.device.faults ≡ old.device.faults
   pub most : new.free.number ≤ old.free.number + len
   pub free : List ℕ
-  pub lie : Lie low (low + len) free
+  pub lie : AscendWithin low (low + len) free
   pub gathered : Gathers wanted free old.free new.free
-  pub told : IfSome old.device.held (λ image. Finds bits image low len free old new)
+  pub told : IfSome old.device.held (λ image. FindsFree bits image low len free old new)

@@ -11,7 +11,7 @@ use Rattle.pd_kinds.specs.Stages.{faults}
 use Rattle.pd_kinds.specs.ThinSuper.{ThinFields, thin_fields}
 use Rattle.pd_spells.specs.ThinNeed.{thin_need}
 use Rattle.pd_answers.specs.MovedPool.{data_need, free_blocks, moves_to, sources}
-use Rattle.pd_answers.specs.Shrinks.{Lack, no_room, or_lack}
+use Rattle.pd_answers.specs.Shrinks.{ShrinkLack, no_room, or_lack}
 use Rattle.pd_salvage.specs.Saved.{pool_of}
 use Rattle.pd_shrink.specs.declared.fault.ShrinkFault.{ShrinkFault}
 use Rattle.pd_shrink.specs.declared.fault.ShrinkFault.TheVariants.{Memory, Meta, Output, BlockSize, NoRoom}
@@ -41,10 +41,10 @@ pub record IsSoundPool (map : SmRoot) (m : ThinPool) (image : List (List ℕ)) :
   pub means : m ≡ thin_meaning image
 
 -- what the moves of these sources lack, where so many data blocks below the new end are free
-abbrev pub lack_of_moves : ℕ → List ℕ → ℕ → ℕ → ℕ → Option Lack
+abbrev pub lack_of_moves : ℕ → List ℕ → ℕ → ℕ → ℕ → Option ShrinkLack
 lack_of_moves k ds number end pool = or_lack ((end - number) + length ds) end (or_lack (data_need k ds) pool None)
 
-abbrev pub LooksAtRoom : Option Lack → Result (Unit {0}) ShrinkFault → Type 0
+abbrev pub LooksAtRoom : Option ShrinkLack → Result (Unit {0}) ShrinkFault → Type 0
 LooksAtRoom lack (Ok done) = lack ≡ None
 LooksAtRoom lack (Err Memory) = ⊥
 LooksAtRoom lack (Err Meta) = ⊥
@@ -62,7 +62,7 @@ pub record HasMoves (held : Option (List (List ℕ))) (m : ThinPool) (end k pool
   pub once : AreOnce moves
 
 -- there is no room for them
-pub record LacksMoves (held : Option (List (List ℕ))) (m : ThinPool) (end k pool : ℕ) (lack : Lack) : Type 0 where
+pub record LacksMoves (held : Option (List (List ℕ))) (m : ThinPool) (end k pool : ℕ) (lack : ShrinkLack) : Type 0 where
   pub free : List ℕ
   pub told : IfSome held (λ image. free ≡ free_blocks image end)
   pub lacks : lack_of_moves k (sources m end) (length free) end pool ≡ Some lack

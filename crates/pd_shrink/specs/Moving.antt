@@ -3,7 +3,7 @@ use Rattle.std.specs.Prelude.{◌≡◌, ℕ, ◌+◌, ◌^◌, ◌≤◌, ◌<�
 use Rattle.std.specs.List.{AllByRecursion}
 use Rattle.pd_kinds.specs.Meaning.{ThinPool}
 use Rattle.pd_answers.specs.MovedPool.{Move, moved_device, moves_to, sources}
-use Rattle.pd_moved.specs.Moving.{IsMoving}
+use Rattle.pd_changed.specs.Moving.{IsMoving}
 use Rattle.pd_spells.specs.ThinText.{device_of_part}
 use Rattle.pd_thin_meaning.specs.declared.joined.Run.{Run}
 use Rattle.pd_salvage.specs.declared.saved.SavedDevice.{SavedDevice}

@@ -2,7 +2,7 @@
 use Rattle.std.specs.Prelude.{◌≡◌, ℕ, List, Option, Some, None, Result, Ok, Err, IfSome}
 use Rattle.pd_kinds.specs.Limits.{room_of}
 use Rattle.pd_answers.specs.CachedView.{blocks_each}
-use Rattle.pd_answers.specs.Shrinks.{Lack, ShrinkGround, IsGroundOf, bad_block_size, lack_of, moves_of, no_room, pool_after}
+use Rattle.pd_answers.specs.Shrinks.{ShrinkLack, ShrinkGround, IsGroundOf, bad_block_size, lack_of, moves_of, no_room, pool_after}
 use Rattle.pd_restore.specs.Made.{Ending, done, failed, lacking, unbegun}
 use Rattle.pd_salvage.specs.Saved.{pool_of}
 use Rattle.pd_shrink.specs.declared.fault.ShrinkFault.{ShrinkFault}
@@ -31,7 +31,7 @@ pub record IsPlanned (held : Option (List (List ℕ))) (output pool blocks : ℕ
   pub pool_blocks : shrink.pool_blocks ≡ pool
 
 -- this is why there is none
-pub record HasLack (held : Option (List (List ℕ))) (output pool blocks : ℕ) (lack : Lack) : Type 0 where
+pub record HasLack (held : Option (List (List ℕ))) (output pool blocks : ℕ) (lack : ShrinkLack) : Type 0 where
   pub basis : ShrinkGround
   pub goes_by : GoesBy held output pool blocks basis
   pub lacks : lack_of basis ≡ Some lack

@@ -9,7 +9,7 @@ ghost use Rattle.pd_kinds.specs.Stages.{faults};
 ghost use Rattle.pd_kinds.specs.ThinSuper.{thin_fields};
 ghost use Rattle.pd_image.specs.Device.{IsAttached, OnlyReads};
 ghost use Rattle.pd_answers.specs.MovedPool.{free_blocks};
-ghost use Rattle.pd_moved.specs.Moving.{AreBelow, Ascend};
+ghost use Rattle.pd_changed.specs.Moving.{AreBelow, Ascend};
 ghost use Rattle.pd_smap.specs.Entries.{IsIndex, IsOverflow, index_from, place_in};
 ghost use Rattle.pd_smap.specs.Overflow.{overflow_reads};
 ghost use Rattle.pd_smap.specs.Steps.{bits_by};

@@ -12,7 +12,7 @@ ghost use Rattle.pd_shrink.specs.Moving.{AddsMoved, AreMoved, AreMovesFrom, AreM
 
 use crate::moves::MovedBlock;
 use crate::places::place_of;
-use pd_moved::moved_pool_is_lawful;
+use pd_changed::moved_pool_is_lawful;
 use pd_salvage::{Joining, Salvage, SavedDevice, SavedHead};
 use pd_thin_meaning::Run;
 use std::alloc::{AllocError, Global};

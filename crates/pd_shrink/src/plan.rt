@@ -91,11 +91,11 @@ impl Shrink {
         };
         let output_blocks = output.blocks();
         let pool_blocks = pool.blocks();
-        Shrink::over(alloc, meta, &s, output_blocks, pool_blocks, blocks)
+        Shrink::with_super(alloc, meta, &s, output_blocks, pool_blocks, blocks)
     }
 
     /// Makes the plan over metadata with this superblock, with so many blocks of the output and of the data device.
-    fn over<A: Device>(
+    fn with_super<A: Device>(
         alloc: Global,
         meta: &mut A,
         s: &ThinSuper,

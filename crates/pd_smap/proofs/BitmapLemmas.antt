@@ -10,7 +10,7 @@ use Rattle.pd_kinds.specs.Report.{Reported}
 use Rattle.pd_image.specs.Device.{OnlyReads}
 use Rattle.pd_value.specs.declared.space_map.Count.{Count}
 use Rattle.pd_tree.proofs.NextLemmas.{none_outside}
-use Rattle.pd_smap.specs.Steps.{Stand, Went, Stopped, bits_from, bits_at, bits_by, with_reads}
+use Rattle.pd_smap.specs.Steps.{ComparisonState, ComparesRange, Stopped, bits_from, bits_at, bits_by, with_reads}
 use Rattle.pd_smap.proofs.OverflowLeftLemmas.{if_maps}
 use Rattle.pd_smap.proofs.StepLemmas.{went_next, stopped_next, went_bits, stopped_bits, went_reading, went_reads, stopped_reads, if_all}
 
@@ -36,18 +36,18 @@ before_many device after left n reads = if_all device.held _ (λ image. omega ar
 
 -- a block was read, which tells the bits of what is compared then
 pub read_then : (space : Space) (refs : ℕ → ℕ) (one other : List (List ℕ) → ℕ → ℕ) (low len found : ℕ) (device after : DeviceState) (report : Reported)
-    (items : List (List ℕ) → List (ℕ × Count)) (left : List (List ℕ) → ℕ) (t : Stand)
+    (items : List (List ℕ) → List (ℕ × Count)) (left : List (List ℕ) → ℕ) (t : ComparisonState)
     → OnlyReads device after → after.faults ≡ device.faults → after.reads ≤ device.reads + 1
     → IfSome device.held (λ image. (b : ℕ) → low ≤ b → b < low + found → one image b ≡ other image b) → len ≡ found
-    → Went (record { space = space; refs = refs; bits = one }) low found (record { device = after; report = report; items = items; reads = left }) t
-    → Went (record { space = space; refs = refs; bits = other }) low len (record { device = device; report = report; items = items; reads = λ image. left image + 1 }) t
+    → ComparesRange (record { space = space; refs = refs; bits = one }) low found (record { device = after; report = report; items = items; reads = left }) t
+    → ComparesRange (record { space = space; refs = refs; bits = other }) low len (record { device = device; report = report; items = items; reads = λ image. left image + 1 }) t
 read_then space refs one other low len found device after report items left t kept faults reads bits same went =
     went_next _ low 0 low found len _ (record { device = after; report = report; items = items; reads = left }) t (omega arith) (omega (arith, same))
     (went_reading _ low device after report items (λ image. left image + 1) left kept faults (one_read device after left reads))
     (went_bits space refs one other low found _ t (subst (λ o. IfSome o (λ image. (b : ℕ) → low ≤ b → b < low + found → one image b ≡ other image b)) (sym kept.held) bits) went)
 
 pub read_stopped : (space : Space) (refs : ℕ → ℕ) (one other : List (List ℕ) → ℕ → ℕ) (low len found : ℕ) (device after : DeviceState) (report : Reported)
-    (items : List (List ℕ) → List (ℕ × Count)) (left : List (List ℕ) → ℕ) (t : Stand)
+    (items : List (List ℕ) → List (ℕ × Count)) (left : List (List ℕ) → ℕ) (t : ComparisonState)
     → OnlyReads device after → after.faults ≡ device.faults → after.reads ≤ device.reads + 1
     → IfSome device.held (λ image. (b : ℕ) → low ≤ b → b < low + found → one image b ≡ other image b) → len ≡ found
     → Stopped (record { space = space; refs = refs; bits = one }) low found (record { device = after; report = report; items = items; reads = left }) t
@@ -72,12 +72,12 @@ map_bits place at i len o most placed = if_maps o _ _ (λ image is b from below.
     ap (two_bits_of (block_at image at)) entry ∙ ap (λ p. two_bits_of (block_at image p) (b % 16320)) (sym is ∙ ap (place image) which)) placed
 
 -- one bitmap more of a map
-pub map_went : (space : Space) (refs : ℕ → ℕ) (place : List (List ℕ) → ℕ → ℕ) (at i blocks : ℕ) (s t u : Stand) (left rest : List (List ℕ) → ℕ)
+pub map_went : (space : Space) (refs : ℕ → ℕ) (place : List (List ℕ) → ℕ → ℕ) (at i blocks : ℕ) (s t u : ComparisonState) (left rest : List (List ℕ) → ℕ)
     → 16320 * i < blocks → IfSome t.device.held (λ image. place image i ≡ at)
     → ((image : List (List ℕ)) → t.reads image + 1 + rest image ≤ left image + u.reads image)
-    → Went (record { space = space; refs = refs; bits = bits_by place }) 0 (min (16320 * i) blocks) s (record t { reads = left })
-    → Went (record { space = space; refs = refs; bits = bits_at at i }) (16320 * i) (min 16320 (blocks - 16320 * i)) (with_reads 1 t) u
-    → Went (record { space = space; refs = refs; bits = bits_by place }) 0 (min (16320 * (i + 1)) blocks) s (record u { reads = rest })
+    → ComparesRange (record { space = space; refs = refs; bits = bits_by place }) 0 (min (16320 * i) blocks) s (record t { reads = left })
+    → ComparesRange (record { space = space; refs = refs; bits = bits_at at i }) (16320 * i) (min 16320 (blocks - 16320 * i)) (with_reads 1 t) u
+    → ComparesRange (record { space = space; refs = refs; bits = bits_by place }) 0 (min (16320 * (i + 1)) blocks) s (record u { reads = rest })
 map_went space refs place at i blocks s t u left rest within placed room first next =
     let whole : min (16320 * i) blocks ≡ 16320 * i = omega arith in
     let sum : min (16320 * (i + 1)) blocks ≡ min (16320 * i) blocks + min 16320 (blocks - 16320 * i) = omega arith in
@@ -87,10 +87,10 @@ map_went space refs place at i blocks s t u left rest within placed room first n
     (went_bits space refs (bits_at at i) (bits_by place) (16320 * i) (min 16320 (blocks - 16320 * i)) (with_reads 1 t) u
     (map_bits place at i (min 16320 (blocks - 16320 * i)) t.device.held (omega arith) placed) next))
 
-pub map_stopped : (space : Space) (refs : ℕ → ℕ) (place : List (List ℕ) → ℕ → ℕ) (at i blocks : ℕ) (s t u : Stand) (left rest : List (List ℕ) → ℕ)
+pub map_stopped : (space : Space) (refs : ℕ → ℕ) (place : List (List ℕ) → ℕ → ℕ) (at i blocks : ℕ) (s t u : ComparisonState) (left rest : List (List ℕ) → ℕ)
     → 16320 * i < blocks → IfSome t.device.held (λ image. place image i ≡ at)
     → ((image : List (List ℕ)) → t.reads image + 1 ≤ left image)
-    → Went (record { space = space; refs = refs; bits = bits_by place }) 0 (min (16320 * i) blocks) s (record t { reads = left })
+    → ComparesRange (record { space = space; refs = refs; bits = bits_by place }) 0 (min (16320 * i) blocks) s (record t { reads = left })
     → Stopped (record { space = space; refs = refs; bits = bits_at at i }) (16320 * i) (min 16320 (blocks - 16320 * i)) (with_reads 1 t) u
     → Stopped (record { space = space; refs = refs; bits = bits_by place }) 0 blocks s (record u { reads = rest })
 map_stopped space refs place at i blocks s t u left rest within placed room first next =

@@ -11,7 +11,7 @@ use Rattle.pd_kinds.specs.Stages.{count_fault}
 use Rattle.pd_image.specs.Device.{OnlyReads}
 use Rattle.pd_smap.specs.Counted.{faults_from}
 use Rattle.pd_smap.specs.Reports.{Adds}
-use Rattle.pd_smap.specs.Steps.{Compared, Went, Stopped, bits_from}
+use Rattle.pd_smap.specs.Steps.{Compared, ComparesRange, Stopped, bits_from}
 use Rattle.pd_smap.proofs.OverflowLeftLemmas.{if_maps, ahead_later}
 use Rattle.pd_smap.proofs.StepLemmas.{faults_one}
 
@@ -49,7 +49,7 @@ pub block_went : (space seen : Space) (refs : ℕ → ℕ) (base e count : ℕ) 
     → IfSome device.held (λ image. (over : ℕ → Option ℕ) → IsAhead (base + e) over (items image) → stored ≡ stored_by (two_bits_of block e) (over (base + e)))
     → IfSome device.held (λ image. (over : ℕ → Option ℕ) → IsAhead (base + e) over (items image) → IsAhead (base + e) over (later image))
     → seen ≡ space → count ≡ refs (base + e) → Adds (count_fault seen (base + e) count stored) report added → added.total ≤ report.total + 1
-    → Went (record { space = space; refs = refs; bits = bits_from base block }) (base + e) 1
+    → ComparesRange (record { space = space; refs = refs; bits = bits_from base block }) (base + e) 1
     (record { device = device; report = report; items = items; reads = left }) (record { device = after; report = added; items = later; reads = rest })
 block_went space seen refs base e count block stored device after items later left rest report added kept faults reads is ahead same counted adds total = record {
   kept = kept;

@@ -16,7 +16,7 @@ use Rattle.pd_smap.specs.OverflowLeft.{IsAhead, stored_by}
 use Rattle.pd_smap.specs.Entries.{IsOverflow, IsIndex, bitmap_entry, count_from, data_place, index_from, index_of, meta_place, overflow_of, place_in}
 use Rattle.pd_smap.specs.Counted.{faults_from}
 use Rattle.pd_smap.specs.Reports.{Adds, AddsFront}
-use Rattle.pd_smap.specs.Steps.{Stand, Finds, FindsFront, bits_by}
+use Rattle.pd_smap.specs.Steps.{ComparisonState, ComparesImage, FindsFront, bits_by}
 use Rattle.pd_smap.proofs.OverflowLeftLemmas.{if_maps, if_then}
 use Rattle.pd_smap.proofs.RiseLemmas.{all_ahead}
 use Rattle.pd_smap.proofs.StepLemmas.{faults_same, if_all}
@@ -49,15 +49,15 @@ pub many_bits : (bits : ℕ) (over : Option ℕ) → 3 ≤ bits → stored_by bi
 many_bits bits over many = ap (λ t. cond t (Some bits) over) (le-ltb bits 3 many)
 
 -- what a comparison from the first block on adds, by the entries of a searchable overflow tree
-pub meta_added : (refs : ℕ → ℕ) (image : List (List ℕ)) (root over blocks : ℕ) (s t : Stand) → s.items image ≡ items_below 4 count_from image 63 over → IsOverflow image over
-    → Finds (record { space = Meta; refs = refs; bits = bits_by (meta_place root) }) image 0 blocks s t
+pub meta_added : (refs : ℕ → ℕ) (image : List (List ℕ)) (root over blocks : ℕ) (s t : ComparisonState) → s.items image ≡ items_below 4 count_from image 63 over → IsOverflow image over
+    → ComparesImage (record { space = Meta; refs = refs; bits = bits_by (meta_place root) }) image 0 blocks s t
     → Adds (faults_from Meta refs (stored_meta_in image root (overflow_of image over)) 0 blocks) s.report t.report
 meta_added refs image root over blocks s t items searchable finds =
     subst (λ fs. Adds fs s.report t.report)
     (faults_same Meta refs _ (stored_meta_in image root (overflow_of image over)) 0 blocks (λ b from below. sym (stored_meta_is image root b (overflow_of image over))))
     (finds.added (value_of_key (overflow_of image over)) (subst (IsAhead 0 (value_of_key (overflow_of image over))) (sym items) (all_ahead image over searchable)))
 
-pub meta_front : (refs : ℕ → ℕ) (image : List (List ℕ)) (root over blocks : ℕ) (s t : Stand) → s.items image ≡ items_below 4 count_from image 63 over → IsOverflow image over
+pub meta_front : (refs : ℕ → ℕ) (image : List (List ℕ)) (root over blocks : ℕ) (s t : ComparisonState) → s.items image ≡ items_below 4 count_from image 63 over → IsOverflow image over
     → FindsFront (record { space = Meta; refs = refs; bits = bits_by (meta_place root) }) image 0 blocks s t
     → AddsFront (faults_from Meta refs (stored_meta_in image root (overflow_of image over)) 0 blocks) s.report t.report
 meta_front refs image root over blocks s t items searchable finds =
@@ -103,8 +103,8 @@ stored_data_is image root blocks b overflow index within =
     (indexed (items_below 16 index_from image 63 root) 0 (bitmaps_for blocks) (b / 16320) (b / 16320) index (omega arith) (omega arith))
 
 -- what a comparison from the first block on adds, by the entries of the two trees
-pub data_added : (refs : ℕ → ℕ) (place : List (List ℕ) → ℕ → ℕ) (image : List (List ℕ)) (root over blocks : ℕ) (s t : Stand) → ((i : ℕ) → place image i ≡ data_place root image i) → s.items image ≡ items_below 4 count_from image 63 over → IsOverflow image over → IsIndex image root blocks
-    → Finds (record { space = DataBlock; refs = refs; bits = bits_by place }) image 0 blocks s t
+pub data_added : (refs : ℕ → ℕ) (place : List (List ℕ) → ℕ → ℕ) (image : List (List ℕ)) (root over blocks : ℕ) (s t : ComparisonState) → ((i : ℕ) → place image i ≡ data_place root image i) → s.items image ≡ items_below 4 count_from image 63 over → IsOverflow image over → IsIndex image root blocks
+    → ComparesImage (record { space = DataBlock; refs = refs; bits = bits_by place }) image 0 blocks s t
     → Adds (faults_from DataBlock refs (stored_data_in image (index_of image root) (overflow_of image over)) 0 blocks) s.report t.report
 data_added refs place image root over blocks s t placed items searchable index finds =
     subst (λ fs. Adds fs s.report t.report)
@@ -112,7 +112,7 @@ data_added refs place image root over blocks s t placed items searchable index f
     ap (λ p. stored_by (two_bits_of (block_at image p) (b % 16320)) (value_of_key (overflow_of image over) b)) (placed (b / 16320)) ∙ sym (stored_data_is image root blocks b (overflow_of image over) index (omega arith))))
     (finds.added (value_of_key (overflow_of image over)) (subst (IsAhead 0 (value_of_key (overflow_of image over))) (sym items) (all_ahead image over searchable)))
 
-pub data_front : (refs : ℕ → ℕ) (place : List (List ℕ) → ℕ → ℕ) (image : List (List ℕ)) (root over blocks : ℕ) (s t : Stand) → ((i : ℕ) → place image i ≡ data_place root image i) → s.items image ≡ items_below 4 count_from image 63 over → IsOverflow image over → IsIndex image root blocks
+pub data_front : (refs : ℕ → ℕ) (place : List (List ℕ) → ℕ → ℕ) (image : List (List ℕ)) (root over blocks : ℕ) (s t : ComparisonState) → ((i : ℕ) → place image i ≡ data_place root image i) → s.items image ≡ items_below 4 count_from image 63 over → IsOverflow image over → IsIndex image root blocks
     → FindsFront (record { space = DataBlock; refs = refs; bits = bits_by place }) image 0 blocks s t
     → AddsFront (faults_from DataBlock refs (stored_data_in image (index_of image root) (overflow_of image over)) 0 blocks) s.report t.report
 data_front refs place image root over blocks s t placed items searchable index finds =

@@ -16,7 +16,7 @@ use Rattle.pd_value.specs.declared.space_map.Count.{Count}
 use Rattle.pd_smap.specs.OverflowLeft.{IsAhead, stored_by}
 use Rattle.pd_smap.specs.Counted.{faults_from}
 use Rattle.pd_smap.specs.Reports.{Adds, AddsFront}
-use Rattle.pd_smap.specs.Steps.{Stand, Compared, Finds, FindsFront, Went, Stopped}
+use Rattle.pd_smap.specs.Steps.{ComparisonState, Compared, ComparesImage, FindsFront, ComparesRange, Stopped}
 use Rattle.pd_smap.proofs.OverflowLeftLemmas.{ahead_later, if_maps, if_then}
 
 -- numbers in a row, cut in two
@@ -82,7 +82,7 @@ only_then a b c first next = record {
   history = next.history ∙ first.history;
 }
 
-finds_then : (c : Compared) (image : List (List ℕ)) (low m n : ℕ) (s t u : Stand) → Finds c image low m s t → Finds c image (low + m) n t u → Finds c image low (m + n) s u
+finds_then : (c : Compared) (image : List (List ℕ)) (low m n : ℕ) (s t u : ComparisonState) → ComparesImage c image low m s t → ComparesImage c image (low + m) n t u → ComparesImage c image low (m + n) s u
 finds_then c image low m n s t u first next = record {
   reads = omega (arith, first.reads, next.reads);
   added = λ over ahead.
@@ -92,7 +92,7 @@ finds_then c image low m n s t u first next = record {
 }
 
 -- a comparison goes on
-pub went_then : (c : Compared) (low m n : ℕ) (s t u : Stand) → Went c low m s t → Went c (low + m) n t u → Went c low (m + n) s u
+pub went_then : (c : Compared) (low m n : ℕ) (s t u : ComparisonState) → ComparesRange c low m s t → ComparesRange c (low + m) n t u → ComparesRange c low (m + n) s u
 went_then c low m n s t u first next = record {
   kept = only_then s.device t.device u.device first.kept next.kept;
   faults = next.faults ∙ first.faults;
@@ -101,7 +101,7 @@ went_then c low m n s t u first next = record {
 }
 
 -- and stops
-front_then : (c : Compared) (image : List (List ℕ)) (low m n : ℕ) (s t u : Stand) → Finds c image low m s t → FindsFront c image (low + m) n t u → FindsFront c image low (m + n) s u
+front_then : (c : Compared) (image : List (List ℕ)) (low m n : ℕ) (s t u : ComparisonState) → ComparesImage c image low m s t → FindsFront c image (low + m) n t u → FindsFront c image low (m + n) s u
 front_then c image low m n s t u first next = record {
   reads = omega (arith, first.reads, next.reads);
   added = λ over ahead.
@@ -109,7 +109,7 @@ front_then c image low m n s t u first next = record {
       (adds_front_then _ _ s.report t.report u.report (first.added over ahead) (next.added over (first.ahead over ahead)));
 }
 
-pub went_stopped : (c : Compared) (low m n : ℕ) (s t u : Stand) → Went c low m s t → Stopped c (low + m) n t u → Stopped c low (m + n) s u
+pub went_stopped : (c : Compared) (low m n : ℕ) (s t u : ComparisonState) → ComparesRange c low m s t → Stopped c (low + m) n t u → Stopped c low (m + n) s u
 went_stopped c low m n s t u first next = record {
   kept = only_then s.device t.device u.device first.kept next.kept;
   rose = rw (← first.faults) next.rose;
@@ -118,7 +118,7 @@ went_stopped c low m n s t u first next = record {
 }
 
 -- what stopped before more blocks were looked at
-pub stopped_more : (c : Compared) (low m n : ℕ) (s t : Stand) → Stopped c low m s t → Stopped c low (m + n) s t
+pub stopped_more : (c : Compared) (low m n : ℕ) (s t : ComparisonState) → Stopped c low m s t → Stopped c low (m + n) s t
 stopped_more c low m n s t stopped = record {
   kept = stopped.kept;
   rose = stopped.rose;
@@ -136,7 +136,7 @@ if_all None P f = tt
 if_all (Some x) P f = f x
 
 -- nothing was done
-pub went_nowhere : (c : Compared) (low : ℕ) (s : Stand) → Went c low 0 s s
+pub went_nowhere : (c : Compared) (low : ℕ) (s : ComparisonState) → ComparesRange c low 0 s s
 unfolding faults_from
 went_nowhere c low s = record {
   kept = record { held = refl; access = refl; path = refl; blocks = refl; history = refl };
@@ -150,22 +150,22 @@ went_nowhere c low s = record {
 }
 
 -- a step from where another one ended
-pub went_next : (c : Compared) (low m b n k : ℕ) (s t u : Stand) → b ≡ low + m → k ≡ m + n → Went c low m s t → Went c b n t u → Went c low k s u
+pub went_next : (c : Compared) (low m b n k : ℕ) (s t u : ComparisonState) → b ≡ low + m → k ≡ m + n → ComparesRange c low m s t → ComparesRange c b n t u → ComparesRange c low k s u
 went_next c low m b n k s t u from sum first next =
-    subst (λ i. Went c low i s u) (sym sum) (went_then c low m n s t u first (subst (λ i. Went c i n t u) from next))
+    subst (λ i. ComparesRange c low i s u) (sym sum) (went_then c low m n s t u first (subst (λ i. ComparesRange c i n t u) from next))
 
-pub stopped_next : (c : Compared) (low m b n k : ℕ) (s t u : Stand) → b ≡ low + m → m + n ≤ k → Went c low m s t → Stopped c b n t u → Stopped c low k s u
+pub stopped_next : (c : Compared) (low m b n k : ℕ) (s t u : ComparisonState) → b ≡ low + m → m + n ≤ k → ComparesRange c low m s t → Stopped c b n t u → Stopped c low k s u
 stopped_next c low m b n k s t u from within first next =
     let sum : m + n + (k - (m + n)) ≡ k = omega arith in
     subst (λ i. Stopped c low i s u) sum
     (stopped_more c low (m + n) (k - (m + n)) s u (went_stopped c low m n s t u first (subst (λ i. Stopped c i n t u) from next)))
 
 -- as many blocks, from the same one on
-pub went_as : (c : Compared) (low other m n : ℕ) (s t : Stand) → low ≡ other → m ≡ n → Went c low m s t → Went c other n s t
-went_as c low other m n s t same many went = subst (λ i. Went c other i s t) many (subst (λ i. Went c i m s t) same went)
+pub went_as : (c : Compared) (low other m n : ℕ) (s t : ComparisonState) → low ≡ other → m ≡ n → ComparesRange c low m s t → ComparesRange c other n s t
+went_as c low other m n s t same many went = subst (λ i. ComparesRange c other i s t) many (subst (λ i. ComparesRange c i m s t) same went)
 
-pub went_many : (c : Compared) (low m n : ℕ) (s t : Stand) → m ≡ n → Went c low m s t → Went c low n s t
-went_many c low m n s t many went = subst (λ i. Went c low i s t) many went
+pub went_many : (c : Compared) (low m n : ℕ) (s t : ComparisonState) → m ≡ n → ComparesRange c low m s t → ComparesRange c low n s t
+went_many c low m n s t many went = subst (λ i. ComparesRange c low i s t) many went
 
 -- facts on both ends of a result
 pub ok_maps : {T E : Type 0} → (result : Result T E) (P Q : Type 0) → (P → Q) → OnOk result P → OnOk result Q
@@ -181,9 +181,9 @@ pub still_attached : (a b : DeviceState) → OnlyReads a b → IsAttached a → 
 still_attached a b kept attached = (omega (arith, kept.access, attached.0), omega (arith, kept.access, attached.1))
 
 -- the same over the same bits
-pub went_bits : (space : Space) (refs : ℕ → ℕ) (one other : List (List ℕ) → ℕ → ℕ) (low len : ℕ) (s t : Stand)
+pub went_bits : (space : Space) (refs : ℕ → ℕ) (one other : List (List ℕ) → ℕ → ℕ) (low len : ℕ) (s t : ComparisonState)
     → IfSome s.device.held (λ image. (b : ℕ) → low ≤ b → b < low + len → one image b ≡ other image b)
-    → Went (record { space = space; refs = refs; bits = one }) low len s t → Went (record { space = space; refs = refs; bits = other }) low len s t
+    → ComparesRange (record { space = space; refs = refs; bits = one }) low len s t → ComparesRange (record { space = space; refs = refs; bits = other }) low len s t
 went_bits space refs one other low len s t same went = record {
   kept = went.kept;
   faults = went.faults;
@@ -198,7 +198,7 @@ went_bits space refs one other low len s t same went = record {
   }) same went.told;
 }
 
-pub stopped_bits : (space : Space) (refs : ℕ → ℕ) (one other : List (List ℕ) → ℕ → ℕ) (low len : ℕ) (s t : Stand)
+pub stopped_bits : (space : Space) (refs : ℕ → ℕ) (one other : List (List ℕ) → ℕ → ℕ) (low len : ℕ) (s t : ComparisonState)
     → IfSome s.device.held (λ image. (b : ℕ) → low ≤ b → b < low + len → one image b ≡ other image b)
     → Stopped (record { space = space; refs = refs; bits = one }) low len s t → Stopped (record { space = space; refs = refs; bits = other }) low len s t
 stopped_bits space refs one other low len s t same stopped = record {
@@ -217,7 +217,7 @@ stopped_bits space refs one other low len s t same stopped = record {
 -- reads alone
 pub went_reading : (c : Compared) (low : ℕ) (device after : DeviceState) (report : Reported) (items : List (List ℕ) → List (ℕ × Count)) (left rest : List (List ℕ) → ℕ)
     → OnlyReads device after → after.faults ≡ device.faults → IfSome device.held (λ image. after.reads + rest image ≤ device.reads + left image)
-    → Went c low 0 (record { device = device; report = report; items = items; reads = left }) (record { device = after; report = report; items = items; reads = rest })
+    → ComparesRange c low 0 (record { device = device; report = report; items = items; reads = left }) (record { device = after; report = report; items = items; reads = rest })
 unfolding faults_from
 went_reading c low device after report items left rest kept faults reads = record {
   kept = kept;
@@ -248,9 +248,9 @@ no_faults space refs stored low (suc len) same =
     ∙ no_faults space refs stored (low + 1) len (λ b from below. same b (omega arith) (omega arith))
 
 -- what was seen to be equal needn't be looked at
-pub went_equal : (space : Space) (refs : ℕ → ℕ) (bits : List (List ℕ) → ℕ → ℕ) (low len : ℕ) (s : Stand)
+pub went_equal : (space : Space) (refs : ℕ → ℕ) (bits : List (List ℕ) → ℕ → ℕ) (low len : ℕ) (s : ComparisonState)
     → ((image : List (List ℕ)) (b : ℕ) → low ≤ b → b < low + len → (bits image b ≡ refs b) × (refs b < 3))
-    → Went (record { space = space; refs = refs; bits = bits }) low len s s
+    → ComparesRange (record { space = space; refs = refs; bits = bits }) low len s s
 went_equal space refs bits low len s same = record {
   kept = record { held = refl; access = refl; path = refl; blocks = refl; history = refl };
   faults = refl;
@@ -268,9 +268,9 @@ went_equal space refs bits low len s same = record {
 }
 
 -- the same with other numbers of reads that are left
-pub went_reads : (c : Compared) (low len : ℕ) (s t : Stand) (left rest : List (List ℕ) → ℕ)
+pub went_reads : (c : Compared) (low len : ℕ) (s t : ComparisonState) (left rest : List (List ℕ) → ℕ)
     → ((image : List (List ℕ)) → s.reads image + rest image ≤ left image + t.reads image)
-    → Went c low len s t → Went c low len (record s { reads = left }) (record t { reads = rest })
+    → ComparesRange c low len s t → ComparesRange c low len (record s { reads = left }) (record t { reads = rest })
 went_reads c low len s t left rest room went = record {
   kept = went.kept;
   faults = went.faults;
@@ -282,7 +282,7 @@ went_reads c low len s t left rest room went = record {
   }) went.told;
 }
 
-pub stopped_reads : (c : Compared) (low len : ℕ) (s t : Stand) (left rest : List (List ℕ) → ℕ)
+pub stopped_reads : (c : Compared) (low len : ℕ) (s t : ComparisonState) (left rest : List (List ℕ) → ℕ)
     → ((image : List (List ℕ)) → s.reads image ≤ left image)
     → Stopped c low len s t → Stopped c low len (record s { reads = left }) (record t { reads = rest })
 stopped_reads c low len s t left rest room stopped = record {

@@ -6,7 +6,7 @@ use Rattle.pd_value.specs.declared.space_map.Count.{Count}
 use Rattle.pd_tree.specs.Cursor.{cursor_items, cursor_nodes, cursor_number}
 use Rattle.pd_smap.specs.declared.overflow.Overflow.{Overflow}
 use Rattle.pd_smap.specs.Entries.{count_from}
-use Rattle.pd_smap.specs.Steps.{Stand}
+use Rattle.pd_smap.specs.Steps.{ComparisonState}
 
 -- the first entry and those of the cursor behind it; after the last one there are none
 abbrev pub entries_ahead : Option (ℕ × Count) → List (ℕ × Count) → List (ℕ × Count)
@@ -37,8 +37,8 @@ abbrev pub overflow_number : Overflow → ℕ
 overflow_number overflow = passing_number overflow.entry (cursor_number 4 overflow.rest)
 
 -- where a comparison stands that has these
-abbrev pub stand : DeviceState → Overflow → Reported → Stand
-stand device overflow report = record {
+abbrev pub comparison_state : DeviceState → Overflow → Reported → ComparisonState
+comparison_state device overflow report = record {
   device = device;
   report = report;
   items = overflow_items overflow;

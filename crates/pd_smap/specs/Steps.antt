@@ -14,7 +14,7 @@ use Rattle.pd_smap.specs.Reports.{Adds, AddsFront}
 
 -- where a comparison stands: the device, the report, and over an image the entries of the overflow tree that are
 -- ahead and how many reads are left
-pub record Stand : Type 0 where
+pub record ComparisonState : Type 0 where
   pub device : DeviceState
   pub report : Reported
   pub items : List (List ℕ) → List (ℕ × Count)
@@ -39,10 +39,10 @@ abbrev pub bits_by : (List (List ℕ) → ℕ → ℕ) → List (List ℕ) → �
 bits_by place image b = two_bits_of (block_at image (place image (b / 16320))) (b % 16320)
 
 -- where a comparison stands that may read so many blocks more
-abbrev pub with_reads : ℕ → Stand → Stand
+abbrev pub with_reads : ℕ → ComparisonState → ComparisonState
 with_reads more s = record s { reads = λ image. s.reads image + more }
 
-abbrev pub with_nodes : (List (List ℕ) → ℕ) → Stand → Stand
+abbrev pub with_nodes : (List (List ℕ) → ℕ) → ComparisonState → ComparisonState
 with_nodes more s = record s { reads = λ image. s.reads image + more image }
 
 -- what is found over an image, where the entries ahead are enough
@@ -51,25 +51,25 @@ faults_of compared image over low len =
     faults_from compared.space compared.refs (λ b. stored_by (compared.bits image b) (over b)) low len
 
 -- so many blocks from one on were compared over an image
-pub record Finds (compared : Compared) (image : List (List ℕ)) (low len : ℕ) (old new : Stand) : Type 0 where
+pub record ComparesImage (compared : Compared) (image : List (List ℕ)) (low len : ℕ) (old new : ComparisonState) : Type 0 where
   pub reads : new.device.reads + new.reads image ≤ old.device.reads + old.reads image
   pub added : (over : ℕ → Option ℕ) → IsAhead low over (old.items image) → Adds (faults_of compared image over low len) old.report new.report
   pub ahead : (over : ℕ → Option ℕ) → IsAhead low over (old.items image) → IsAhead (low + len) over (new.items image)
 
 -- and over any device
-pub record Went (compared : Compared) (low len : ℕ) (old new : Stand) : Type 0 where
+pub record ComparesRange (compared : Compared) (low len : ℕ) (old new : ComparisonState) : Type 0 where
   pub kept : OnlyReads old.device new.device
   pub faults : new.device.faults ≡ old.device.faults
   pub total : new.report.total ≤ old.report.total + len
-  pub told : IfSome old.device.held (λ image. Finds compared image low len old new)
+  pub told : IfSome old.device.held (λ image. ComparesImage compared image low len old new)
 
 -- the comparison of these blocks stopped over an image
-pub record FindsFront (compared : Compared) (image : List (List ℕ)) (low len : ℕ) (old new : Stand) : Type 0 where
+pub record FindsFront (compared : Compared) (image : List (List ℕ)) (low len : ℕ) (old new : ComparisonState) : Type 0 where
   pub reads : new.device.reads ≤ old.device.reads + old.reads image
   pub added : (over : ℕ → Option ℕ) → IsAhead low over (old.items image) → AddsFront (faults_of compared image over low len) old.report new.report
 
 -- and over any device
-pub record Stopped (compared : Compared) (low len : ℕ) (old new : Stand) : Type 0 where
+pub record Stopped (compared : Compared) (low len : ℕ) (old new : ComparisonState) : Type 0 where
   pub kept : OnlyReads old.device new.device
   pub rose : Rose old.device.faults new.device.faults × (old.device.faults ≤ new.device.faults)
   pub total : new.report.total ≤ old.report.total + len

@@ -5,8 +5,8 @@ ghost use Rattle.pd_kinds.specs.Objects.{CountsFault};
 ghost use Rattle.pd_kinds.specs.Bitmap.{two_bits_of};
 ghost use Rattle.pd_kinds.specs.Graph.{block_at};
 ghost use Rattle.pd_image.specs.Device.{IsAttached, OnlyReads};
-ghost use Rattle.pd_smap.specs.Overflow.{stand};
-ghost use Rattle.pd_smap.specs.Steps.{Went, Stopped, bits_from, bits_at, with_reads};
+ghost use Rattle.pd_smap.specs.Overflow.{comparison_state};
+ghost use Rattle.pd_smap.specs.Steps.{ComparesRange, Stopped, bits_from, bits_at, with_reads};
 
 use crate::counting::compare_block;
 use crate::groups::are_equal;
@@ -35,10 +35,10 @@ fn compare_each<R: References, D: Device>(
     requires within { base + (from + len) ≤ R.number refs.now }
     requires size { base + (from + len) < 2 ^ 64 }
     requires room { report.old.total + len < 2 ^ 64 }
-    ensures went { OnOk result (Went (record { space = R.space refs.now; refs = R.refs refs.now; bits = bits_from base bitmap.now.0 }) (base + from) len
-        (stand (D.state dev.old) overflow.old report.old) (stand (D.state dev.new) overflow.new report.new)) }
+    ensures went { OnOk result (ComparesRange (record { space = R.space refs.now; refs = R.refs refs.now; bits = bits_from base bitmap.now.0 }) (base + from) len
+        (comparison_state (D.state dev.old) overflow.old report.old) (comparison_state (D.state dev.new) overflow.new report.new)) }
     ensures stopped { OnErr result (Stopped (record { space = R.space refs.now; refs = R.refs refs.now; bits = bits_from base bitmap.now.0 }) (base + from) len
-        (stand (D.state dev.old) overflow.old report.old) (stand (D.state dev.new) overflow.new report.new)) }
+        (comparison_state (D.state dev.old) overflow.old report.old) (comparison_state (D.state dev.new) overflow.new report.new)) }
 {
     for e in from..from + len {
         compare_block(dev, bitmap, base, e, refs, overflow, report)?;
@@ -62,10 +62,10 @@ fn compare_group<R: References, D: Device>(
     requires within { base + (32 * g + 32) ≤ R.number refs.now }
     requires size { base + (32 * g + 32) < 2 ^ 64 }
     requires room { report.old.total + 32 < 2 ^ 64 }
-    ensures went { OnOk result (Went (record { space = R.space refs.now; refs = R.refs refs.now; bits = bits_from base bitmap.now.0 }) (base + 32 * g) 32
-        (stand (D.state dev.old) overflow.old report.old) (stand (D.state dev.new) overflow.new report.new)) }
+    ensures went { OnOk result (ComparesRange (record { space = R.space refs.now; refs = R.refs refs.now; bits = bits_from base bitmap.now.0 }) (base + 32 * g) 32
+        (comparison_state (D.state dev.old) overflow.old report.old) (comparison_state (D.state dev.new) overflow.new report.new)) }
     ensures stopped { OnErr result (Stopped (record { space = R.space refs.now; refs = R.refs refs.now; bits = bits_from base bitmap.now.0 }) (base + 32 * g) 32
-        (stand (D.state dev.old) overflow.old report.old) (stand (D.state dev.new) overflow.new report.new)) }
+        (comparison_state (D.state dev.old) overflow.old report.old) (comparison_state (D.state dev.new) overflow.new report.new)) }
 {
     let from = GROUP_COUNTS * g;
     if are_equal(bitmap, g, refs, base + from as u64) {
@@ -99,10 +99,10 @@ fn compare_groups<R: References, D: Device>(
     requires within { base + 32 * groups ≤ R.number refs.now }
     requires size { base + 32 * groups < 2 ^ 64 }
     requires room { report.old.total + 32 * groups < 2 ^ 64 }
-    ensures went { OnOk result (Went (record { space = R.space refs.now; refs = R.refs refs.now; bits = bits_from base bitmap.now.0 }) base (32 * groups)
-        (stand (D.state dev.old) overflow.old report.old) (stand (D.state dev.new) overflow.new report.new)) }
+    ensures went { OnOk result (ComparesRange (record { space = R.space refs.now; refs = R.refs refs.now; bits = bits_from base bitmap.now.0 }) base (32 * groups)
+        (comparison_state (D.state dev.old) overflow.old report.old) (comparison_state (D.state dev.new) overflow.new report.new)) }
     ensures stopped { OnErr result (Stopped (record { space = R.space refs.now; refs = R.refs refs.now; bits = bits_from base bitmap.now.0 }) base (32 * groups)
-        (stand (D.state dev.old) overflow.old report.old) (stand (D.state dev.new) overflow.new report.new)) }
+        (comparison_state (D.state dev.old) overflow.old report.old) (comparison_state (D.state dev.new) overflow.new report.new)) }
 {
     for g in 0..groups {
         compare_group(dev, bitmap, base, g, refs, overflow, report)?;
@@ -126,10 +126,10 @@ fn compare_bitmap<R: References, D: Device>(
     requires within { base + len ≤ R.number refs.now }
     requires size { base + len < 2 ^ 64 }
     requires room { report.old.total + len < 2 ^ 64 }
-    ensures went { OnOk result (Went (record { space = R.space refs.now; refs = R.refs refs.now; bits = bits_from base bitmap.now.0 }) base len
-        (stand (D.state dev.old) overflow.old report.old) (stand (D.state dev.new) overflow.new report.new)) }
+    ensures went { OnOk result (ComparesRange (record { space = R.space refs.now; refs = R.refs refs.now; bits = bits_from base bitmap.now.0 }) base len
+        (comparison_state (D.state dev.old) overflow.old report.old) (comparison_state (D.state dev.new) overflow.new report.new)) }
     ensures stopped { OnErr result (Stopped (record { space = R.space refs.now; refs = R.refs refs.now; bits = bits_from base bitmap.now.0 }) base len
-        (stand (D.state dev.old) overflow.old report.old) (stand (D.state dev.new) overflow.new report.new)) }
+        (comparison_state (D.state dev.old) overflow.old report.old) (comparison_state (D.state dev.new) overflow.new report.new)) }
 {
     let groups = len / GROUP_COUNTS;
     compare_groups(dev, bitmap, base, groups, refs, overflow, report)?;
@@ -167,10 +167,10 @@ pub(crate) fn compare_at<R: References, D: Device>(
     requires bitmap { 16320 * i < blocks }
     requires number { blocks ≤ R.number refs.now }
     requires room { report.old.total + min 16320 (blocks - 16320 * i) < 2 ^ 64 }
-    ensures went { OnOk result (Went (record { space = R.space refs.now; refs = R.refs refs.now; bits = bits_at place i }) (16320 * i) (min 16320 (blocks - 16320 * i))
-        (with_reads 1 (stand (D.state dev.old) overflow.old report.old)) (stand (D.state dev.new) overflow.new report.new)) }
+    ensures went { OnOk result (ComparesRange (record { space = R.space refs.now; refs = R.refs refs.now; bits = bits_at place i }) (16320 * i) (min 16320 (blocks - 16320 * i))
+        (with_reads 1 (comparison_state (D.state dev.old) overflow.old report.old)) (comparison_state (D.state dev.new) overflow.new report.new)) }
     ensures stopped { OnErr result (Stopped (record { space = R.space refs.now; refs = R.refs refs.now; bits = bits_at place i }) (16320 * i) (min 16320 (blocks - 16320 * i))
-        (with_reads 1 (stand (D.state dev.old) overflow.old report.old)) (stand (D.state dev.new) overflow.new report.new)) }
+        (with_reads 1 (comparison_state (D.state dev.old) overflow.old report.old)) (comparison_state (D.state dev.new) overflow.new report.new)) }
 {
     let mut bitmap = Block::zeros();
     read_bitmap(dev, place, &mut bitmap)?;

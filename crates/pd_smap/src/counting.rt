@@ -6,9 +6,9 @@ ghost use Rattle.pd_kinds.specs.Bitmap.{two_bits_of};
 ghost use Rattle.pd_kinds.specs.Stages.{count_fault};
 ghost use Rattle.pd_image.specs.Device.{IsAttached, OnlyReads};
 ghost use Rattle.pd_smap.specs.OverflowLeft.{IsAhead, stored_by};
-ghost use Rattle.pd_smap.specs.Overflow.{overflow_items, overflow_reads, stand};
+ghost use Rattle.pd_smap.specs.Overflow.{overflow_items, overflow_reads, comparison_state};
 ghost use Rattle.pd_smap.specs.Reports.{Adds};
-ghost use Rattle.pd_smap.specs.Steps.{Went, Stopped, bits_from};
+ghost use Rattle.pd_smap.specs.Steps.{ComparesRange, Stopped, bits_from};
 
 use crate::overflow::Overflow;
 use crate::references::References;
@@ -108,10 +108,10 @@ pub(crate) fn compare_block<R: References, D: Device>(
     requires within { base + e < R.number refs.now }
     requires size { base + e < 2 ^ 64 }
     requires room { report.old.total < 2 ^ 64 - 1 }
-    ensures went { OnOk result (Went (record { space = R.space refs.now; refs = R.refs refs.now; bits = bits_from base bitmap.now.0 }) (base + e) 1
-        (stand (D.state dev.old) overflow.old report.old) (stand (D.state dev.new) overflow.new report.new)) }
+    ensures went { OnOk result (ComparesRange (record { space = R.space refs.now; refs = R.refs refs.now; bits = bits_from base bitmap.now.0 }) (base + e) 1
+        (comparison_state (D.state dev.old) overflow.old report.old) (comparison_state (D.state dev.new) overflow.new report.new)) }
     ensures stopped { OnErr result (Stopped (record { space = R.space refs.now; refs = R.refs refs.now; bits = bits_from base bitmap.now.0 }) (base + e) 1
-        (stand (D.state dev.old) overflow.old report.old) (stand (D.state dev.new) overflow.new report.new)) }
+        (comparison_state (D.state dev.old) overflow.old report.old) (comparison_state (D.state dev.new) overflow.new report.new)) }
 {
     let b = base + e as u64;
     let stored = stored_count(dev, bitmap, e, b, overflow)?;

@@ -13,8 +13,8 @@ ghost use Rattle.pd_tree.specs.Cursor.{cursor_items, cursor_nodes, cursor_room};
 ghost use Rattle.pd_smap.specs.Entries.{IsIndex, IsOverflow, index_from, index_of, overflow_of, place_in};
 ghost use Rattle.pd_smap.specs.Counted.{faults_from};
 ghost use Rattle.pd_smap.specs.Reports.{Adds, AddsFront};
-ghost use Rattle.pd_smap.specs.Overflow.{stand};
-ghost use Rattle.pd_smap.specs.Steps.{Went, Stopped, bits_by, with_nodes};
+ghost use Rattle.pd_smap.specs.Overflow.{comparison_state};
+ghost use Rattle.pd_smap.specs.Steps.{ComparesRange, Stopped, bits_by, with_nodes};
 
 use crate::bitmaps::compare_at;
 use crate::overflow::Overflow;
@@ -81,10 +81,10 @@ fn compare_listed<D: Device>(
     requires number { blocks ≡ counts.now.size }
     requires room { report.old.total + blocks < 2 ^ 64 }
     requires within { cursor_room index.old ≤ (D.state dev.old).blocks }
-    ensures went { OnOk result (Went (record { space = DataBlock; refs = count_of counts.now; bits = bits_by (λ image. place_in (cursor_items 16 index_from image index.old)) }) 0 blocks
-        (with_nodes (λ image. length (cursor_nodes 16 image index.old) + bitmaps_for blocks) (stand (D.state dev.old) overflow.old report.old)) (stand (D.state dev.new) overflow.new report.new)) }
+    ensures went { OnOk result (ComparesRange (record { space = DataBlock; refs = count_of counts.now; bits = bits_by (λ image. place_in (cursor_items 16 index_from image index.old)) }) 0 blocks
+        (with_nodes (λ image. length (cursor_nodes 16 image index.old) + bitmaps_for blocks) (comparison_state (D.state dev.old) overflow.old report.old)) (comparison_state (D.state dev.new) overflow.new report.new)) }
     ensures stopped { OnErr result (Stopped (record { space = DataBlock; refs = count_of counts.now; bits = bits_by (λ image. place_in (cursor_items 16 index_from image index.old)) }) 0 blocks
-        (with_nodes (λ image. length (cursor_nodes 16 image index.old) + bitmaps_for blocks) (stand (D.state dev.old) overflow.old report.old)) (stand (D.state dev.new) overflow.new report.new)) }
+        (with_nodes (λ image. length (cursor_nodes 16 image index.old) + bitmaps_for blocks) (comparison_state (D.state dev.old) overflow.old report.old)) (comparison_state (D.state dev.new) overflow.new report.new)) }
 {
     let bitmaps = bitmaps_for(blocks);
     let refs = DataReferences(counts);

@@ -12,8 +12,8 @@ ghost use Rattle.pd_tree.specs.Below.{nodes_below};
 ghost use Rattle.pd_smap.specs.Entries.{IsOverflow, meta_place, overflow_of};
 ghost use Rattle.pd_smap.specs.Counted.{faults_from};
 ghost use Rattle.pd_smap.specs.Reports.{Adds, AddsFront};
-ghost use Rattle.pd_smap.specs.Overflow.{stand};
-ghost use Rattle.pd_smap.specs.Steps.{Went, Stopped, bits_by, with_reads};
+ghost use Rattle.pd_smap.specs.Overflow.{comparison_state};
+ghost use Rattle.pd_smap.specs.Steps.{ComparesRange, Stopped, bits_by, with_reads};
 
 use crate::bitmaps::compare_at;
 use crate::overflow::Overflow;
@@ -76,10 +76,10 @@ fn compare_index<D: Device>(
     requires few { root.now.blocks ≤ MAX_META_BLOCKS }
     requires room { report.old.total + root.now.blocks < 2 ^ 64 }
     requires index { root.now.bitmap_root < (D.state dev.old).blocks }
-    ensures went { OnOk result (Went (record { space = Meta; refs = count_at audit.now; bits = bits_by (meta_place root.now.bitmap_root) }) 0 root.now.blocks
-        (with_reads (1 + bitmaps_for root.now.blocks) (stand (D.state dev.old) overflow.old report.old)) (stand (D.state dev.new) overflow.new report.new)) }
+    ensures went { OnOk result (ComparesRange (record { space = Meta; refs = count_at audit.now; bits = bits_by (meta_place root.now.bitmap_root) }) 0 root.now.blocks
+        (with_reads (1 + bitmaps_for root.now.blocks) (comparison_state (D.state dev.old) overflow.old report.old)) (comparison_state (D.state dev.new) overflow.new report.new)) }
     ensures stopped { OnErr result (Stopped (record { space = Meta; refs = count_at audit.now; bits = bits_by (meta_place root.now.bitmap_root) }) 0 root.now.blocks
-        (with_reads (1 + bitmaps_for root.now.blocks) (stand (D.state dev.old) overflow.old report.old)) (stand (D.state dev.new) overflow.new report.new)) }
+        (with_reads (1 + bitmaps_for root.now.blocks) (comparison_state (D.state dev.old) overflow.old report.old)) (comparison_state (D.state dev.new) overflow.new report.new)) }
 {
     let mut index = Block::zeros();
     dev.read(root.bitmap_root, &mut index)?;
@@ -99,10 +99,10 @@ fn compare_indexed<D: Device>(
     requires number { blocks ≡ blocks_of audit.now }
     requires few { blocks ≤ MAX_META_BLOCKS }
     requires room { report.old.total + blocks < 2 ^ 64 }
-    ensures went { OnOk result (Went (record { space = Meta; refs = count_at audit.now; bits = bits_by (λ image. index_block_at index.now.0) }) 0 blocks
-        (with_reads (bitmaps_for blocks) (stand (D.state dev.old) overflow.old report.old)) (stand (D.state dev.new) overflow.new report.new)) }
+    ensures went { OnOk result (ComparesRange (record { space = Meta; refs = count_at audit.now; bits = bits_by (λ image. index_block_at index.now.0) }) 0 blocks
+        (with_reads (bitmaps_for blocks) (comparison_state (D.state dev.old) overflow.old report.old)) (comparison_state (D.state dev.new) overflow.new report.new)) }
     ensures stopped { OnErr result (Stopped (record { space = Meta; refs = count_at audit.now; bits = bits_by (λ image. index_block_at index.now.0) }) 0 blocks
-        (with_reads (bitmaps_for blocks) (stand (D.state dev.old) overflow.old report.old)) (stand (D.state dev.new) overflow.new report.new)) }
+        (with_reads (bitmaps_for blocks) (comparison_state (D.state dev.old) overflow.old report.old)) (comparison_state (D.state dev.new) overflow.new report.new)) }
 {
     let bitmaps = bitmaps_for(blocks) as usize;
     let refs = MetaReferences(audit);

@@ -6,7 +6,7 @@ use Rattle.std.proofs.lemmas.List.{drop_all, length-map, map-append}
 use Rattle.std.proofs.lemmas.List.FromFn.{length-map-range_with_len, get_or-map-range_with_len}
 use Rattle.pd_kinds.specs.Bitmap.{bitmaps_for}
 use Rattle.pd_kinds.specs.Node.{Entry, is_ascending}
-use Rattle.pd_draft.specs.Placed.{Stand}
+use Rattle.pd_draft.specs.Placed.{DraftState}
 use Rattle.pd_laid.specs.Map.{index_entry_of, index_items}
 use Rattle.pd_build.specs.Building.{IsBuilding}
 use Rattle.pd_build.specs.Tree.{TreeLeft}
@@ -35,7 +35,7 @@ pub index_ascends : (counts : ℕ → ℕ) (n first : ℕ) → is_ascending (map
 unfolding index_items
 index_ascends counts n first = ascends_from (index_entry_of counts n first) 0 (bitmaps_for n)
 
-module _ (counts : ℕ → ℕ) (n first i : ℕ) {t : TreeLeft} {from to : Stand} where
+module _ (counts : ℕ → ℕ) (n first i : ℕ) {t : TreeLeft} {from to : DraftState} where
   -- the next entry
   pub index_next : (code : ℕ) → IsBuilding 16 (index_items counts n first) (drop i (index_items counts n first)) t from to → i < bitmaps_for n
       → code ≡ index_entry_of counts n first i

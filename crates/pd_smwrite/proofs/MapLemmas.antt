@@ -7,7 +7,7 @@ use Rattle.pd_kinds.specs.declared.map_root.SmRoot.{SmRoot}
 use Rattle.pd_kinds.specs.Bitmap.{bitmaps_for}
 use Rattle.pd_kinds.specs.Layout.{plain_tree, tree_to}
 use Rattle.pd_kinds.specs.Node.{Entry}
-use Rattle.pd_draft.specs.Placed.{Stand, Wrote}
+use Rattle.pd_draft.specs.Placed.{DraftState, Wrote}
 use Rattle.pd_draft.proofs.PlacedLemmas.{wrote_then}
 use Rattle.pd_spells.specs.Need.{need_tree}
 use Rattle.pd_laid.specs.Laid.{LaidBlock, count_in, laid_tree, tree_of, written_from}
@@ -29,19 +29,19 @@ abbrev pub root_of : ℕ → ℕ → ℕ → ℕ → SmRoot
 root_of blocks allocated bitmap overflow = record { blocks = blocks; allocated = allocated; bitmap_root = bitmap; overflow_root = overflow }
 
 -- where the next part begins
-pub bitmaps_moved : (counts : ℕ → ℕ) (n : ℕ) {from to : Stand} → Wrote (bitmap_blocks counts n from.place) from to → to.place ≡ from.place + bitmaps_for n
+pub bitmaps_moved : (counts : ℕ → ℕ) (n : ℕ) {from to : DraftState} → Wrote (bitmap_blocks counts n from.place) from to → to.place ≡ from.place + bitmaps_for n
 unfolding bitmap_blocks
 bitmaps_moved counts n {from} {to} wrote =
     moved_by (written_bitmap counts) (range_with_len 0 (bitmaps_for n)) wrote ∙ ap (λ (k : ℕ). from.place + k) (length-range_with_len 0 (bitmaps_for n))
 
-pub index_moved : (counts : ℕ → ℕ) (n first : ℕ) {from to : Stand} → Wrote (tree_blocks 16 from.place (index_items counts n first)) from to
+pub index_moved : (counts : ℕ → ℕ) (n first : ℕ) {from to : DraftState} → Wrote (tree_blocks 16 from.place (index_items counts n first)) from to
     → to.place ≡ from.place + need_tree 16 (bitmaps_for n)
 index_moved counts n first {from} {to} wrote =
     wrote.moved ∙ ap (λ (k : ℕ). from.place + k)
     (length-tree_blocks 16 from.place (index_items counts n first) ∙ ap (need_tree 16) (length-index_items counts n first))
 
 -- the parts of a data map
-pub data_map_then : (counts : ℕ → ℕ) (n : ℕ) {a b c d : Stand} → Wrote (bitmap_blocks counts n a.place) a b
+pub data_map_then : (counts : ℕ → ℕ) (n : ℕ) {a b c d : DraftState} → Wrote (bitmap_blocks counts n a.place) a b
     → Wrote (tree_blocks 16 b.place (index_items counts n a.place)) b c → Wrote (tree_blocks 4 c.place (overflow_items counts n)) c d
     → Wrote (data_map_blocks counts n a.place) a d
 unfolding data_map_blocks
@@ -53,7 +53,7 @@ data_map_then counts n {a} {b} {c} {d} first second third =
     (wrote_then first (wrote_then second third))
 
 -- those of a metadata map
-pub meta_map_then : (counts : ℕ → ℕ) (n : ℕ) {a b c d : Stand} → Wrote (index_block counts n a.place ∷ []) a b
+pub meta_map_then : (counts : ℕ → ℕ) (n : ℕ) {a b c d : DraftState} → Wrote (index_block counts n a.place ∷ []) a b
     → Wrote (bitmap_blocks counts n b.place) b c → Wrote (tree_blocks 4 c.place (overflow_items counts n)) c d
     → Wrote (meta_map_blocks counts n a.place) a d
 unfolding meta_map_blocks

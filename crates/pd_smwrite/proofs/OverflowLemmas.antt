@@ -3,7 +3,7 @@ use Rattle.std.proofs.Common.{◌≡◌, ◌⊎◌, inl, inr, ⊎_elim, ℕ, zer
 use Rattle.std.specs.List.{range_with_len}
 use Rattle.std.proofs.lemmas.Bool.{cases_lt, lt-ltb, le-ltb, and_from}
 use Rattle.pd_kinds.specs.Node.{Entry, is_ascending}
-use Rattle.pd_draft.specs.Placed.{Stand}
+use Rattle.pd_draft.specs.Placed.{DraftState}
 use Rattle.pd_laid.specs.Map.{overflow_items}
 use Rattle.pd_build.specs.Building.{IsBuilding}
 use Rattle.pd_build.specs.Tree.{TreeLeft}
@@ -107,7 +107,7 @@ pub overflow_agrees : (f g : ℕ → ℕ) (n : ℕ) → ((b : ℕ) → b < n →
 overflow_agrees f g n same = sym (items_all f n) ∙ (agree f g 0 n (λ b from below. same b (omega arith)) ∙ items_all g n)
 
 -- a tree of them, one after another
-pub building_here : {all : List Entry} {t : TreeLeft} {from to : Stand} (counts : ℕ → ℕ) (n i v : ℕ) → IsBuilding 4 all (items_from counts i (n - i)) t from to
+pub building_here : {all : List Entry} {t : TreeLeft} {from to : DraftState} (counts : ℕ → ℕ) (n i v : ℕ) → IsBuilding 4 all (items_from counts i (n - i)) t from to
     → i < n → 3 ≤ counts i → v ≡ counts i → IsBuilding 4 all (record { key = i; value = v } ∷ items_from counts (i + 1) (n - (i + 1))) t from to
 building_here {all} {t} {from} {to} counts n i v b less high is =
     let size : n - i ≡ suc (n - (i + 1)) = omega arith in
@@ -115,12 +115,12 @@ building_here {all} {t} {from} {to} counts n i v b less high is =
     (ap (items_from counts i) size
     ∙ (items_high counts i (n - (i + 1)) high ∙ ap (λ (v : ℕ). record { key = i; value = v } ∷ items_from counts (i + 1) (n - (i + 1))) (sym is))) b
 
-pub building_pass : {all : List Entry} {t : TreeLeft} {from to : Stand} (counts : ℕ → ℕ) (n i j : ℕ) → IsBuilding 4 all (items_from counts i (n - i)) t from to
+pub building_pass : {all : List Entry} {t : TreeLeft} {from to : DraftState} (counts : ℕ → ℕ) (n i j : ℕ) → IsBuilding 4 all (items_from counts i (n - i)) t from to
     → i ≤ j → j ≤ n → ((b : ℕ) → i ≤ b → b < j → counts b < 3) → IsBuilding 4 all (items_from counts j (n - j)) t from to
 building_pass {all} {t} {from} {to} counts n i j b above within low =
     subst (λ (rest : List Entry). IsBuilding 4 all rest t from to) (items_pass counts n i j above within low) b
 
-pub building_done : {all : List Entry} {t : TreeLeft} {from to : Stand} (counts : ℕ → ℕ) (n i : ℕ) → IsBuilding 4 all (items_from counts i (n - i)) t from to
+pub building_done : {all : List Entry} {t : TreeLeft} {from to : DraftState} (counts : ℕ → ℕ) (n i : ℕ) → IsBuilding 4 all (items_from counts i (n - i)) t from to
     → n ≤ i → IsBuilding 4 all [] t from to
 building_done {all} {t} {from} {to} counts n i b past =
     subst (λ (rest : List Entry). IsBuilding 4 all rest t from to) (items_end counts n i past) b

@@ -5,7 +5,7 @@ ghost use Rattle.pd_image.specs.Device.{IsWritable};
 ghost use Rattle.pd_kinds.specs.Bitmap.{bitmaps_for};
 ghost use Rattle.pd_draft.specs.Closed.{IsClosed, StaysClosed};
 ghost use Rattle.pd_draft.specs.Placed.{Wrote};
-ghost use Rattle.pd_draft.specs.Stand.{stand};
+ghost use Rattle.pd_draft.specs.DraftState.{draft_state};
 ghost use Rattle.pd_count.specs.Counted.{count_of};
 ghost use Rattle.pd_build.specs.Causes.{CountsBuildFault};
 ghost use Rattle.pd_smwrite.specs.Map.{bitmap_blocks};
@@ -28,13 +28,13 @@ pub(crate) fn write_bitmaps<D: Device>(
     draft: &mut Draft<'_, D>,
     counts: &Counts,
 ) -> Result<(), BuildFault>
-    requires writable { IsWritable (stand draft.old).device }
-    requires room { draft.old.next + bitmaps_for counts.now.size ≤ (stand draft.old).device.blocks }
-    requires closed { IsClosed (stand draft.old).device }
+    requires writable { IsWritable (draft_state draft.old).device }
+    requires room { draft.old.next + bitmaps_for counts.now.size ≤ (draft_state draft.old).device.blocks }
+    requires closed { IsClosed (draft_state draft.old).device }
     ensures same_reference { draft.new.dev.ghost_name ≡ draft.old.dev.ghost_name }
-    ensures wrote { OnOk result (Wrote (bitmap_blocks (count_of counts.now) counts.now.size draft.old.next) (stand draft.old) (stand draft.new)) }
-    ensures closed { StaysClosed (stand draft.old).device (stand draft.new).device }
-    ensures faults { CountsBuildFault result (stand draft.old).device.faults (stand draft.new).device.faults }
+    ensures wrote { OnOk result (Wrote (bitmap_blocks (count_of counts.now) counts.now.size draft.old.next) (draft_state draft.old) (draft_state draft.new)) }
+    ensures closed { StaysClosed (draft_state draft.old).device (draft_state draft.new).device }
+    ensures faults { CountsBuildFault result (draft_state draft.old).device.faults (draft_state draft.new).device.faults }
 {
     for i in 0..bitmap_number(counts) {
         let block = bitmap(counts, i, draft.next());

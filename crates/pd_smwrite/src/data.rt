@@ -4,7 +4,7 @@ ghost use Rattle.std.specs.Prelude.{◌≡◌, ◌+◌, ◌≤◌, IfOk, OnOk};
 ghost use Rattle.pd_image.specs.Device.{IsWritable};
 ghost use Rattle.pd_draft.specs.Closed.{IsClosed, StaysClosed};
 ghost use Rattle.pd_draft.specs.Placed.{Wrote};
-ghost use Rattle.pd_draft.specs.Stand.{stand};
+ghost use Rattle.pd_draft.specs.DraftState.{draft_state};
 ghost use Rattle.pd_count.specs.Counted.{count_of};
 ghost use Rattle.pd_build.specs.Causes.{CountsBuildFault};
 ghost use Rattle.pd_smwrite.specs.Map.{data_map_blocks, data_map_need, data_map_root};
@@ -26,14 +26,14 @@ pub fn write_data_map<D: Device>(
     draft: &mut Draft<'_, D>,
     counts: &Counts,
 ) -> Result<SmRoot, BuildFault>
-    requires writable { IsWritable (stand draft.old).device }
-    requires room { draft.old.next + data_map_need (count_of counts.now) counts.now.size ≤ (stand draft.old).device.blocks }
-    requires closed { IsClosed (stand draft.old).device }
+    requires writable { IsWritable (draft_state draft.old).device }
+    requires room { draft.old.next + data_map_need (count_of counts.now) counts.now.size ≤ (draft_state draft.old).device.blocks }
+    requires closed { IsClosed (draft_state draft.old).device }
     ensures same_reference { draft.new.dev.ghost_name ≡ draft.old.dev.ghost_name }
-    ensures wrote { OnOk result (Wrote (data_map_blocks (count_of counts.now) counts.now.size draft.old.next) (stand draft.old) (stand draft.new)) }
+    ensures wrote { OnOk result (Wrote (data_map_blocks (count_of counts.now) counts.now.size draft.old.next) (draft_state draft.old) (draft_state draft.new)) }
     ensures root { IfOk result (λ root. root ≡ data_map_root (count_of counts.now) counts.now.size draft.old.next) }
-    ensures closed { StaysClosed (stand draft.old).device (stand draft.new).device }
-    ensures faults { CountsBuildFault result (stand draft.old).device.faults (stand draft.new).device.faults }
+    ensures closed { StaysClosed (draft_state draft.old).device (draft_state draft.new).device }
+    ensures faults { CountsBuildFault result (draft_state draft.old).device.faults (draft_state draft.new).device.faults }
 {
     let first = draft.next();
     write_bitmaps(draft, counts)?;

@@ -6,7 +6,7 @@ ghost use Rattle.pd_image.specs.Device.{IsWritable};
 ghost use Rattle.pd_kinds.specs.Bitmap.{bitmaps_for};
 ghost use Rattle.pd_draft.specs.Closed.{IsClosed, StaysClosed};
 ghost use Rattle.pd_draft.specs.Placed.{Wrote};
-ghost use Rattle.pd_draft.specs.Stand.{stand};
+ghost use Rattle.pd_draft.specs.DraftState.{draft_state};
 ghost use Rattle.pd_spells.specs.Need.{need_tree};
 ghost use Rattle.pd_laid.specs.Map.{index_entry_of, index_items};
 ghost use Rattle.pd_laid.specs.Tree.{tree_blocks, tree_root};
@@ -47,14 +47,14 @@ pub(crate) fn write_index_tree<D: Device>(
     first: u64,
 ) -> Result<u64, BuildFault>
     requires behind { first + bitmaps_for counts.now.size ≤ draft.old.next }
-    requires writable { IsWritable (stand draft.old).device }
-    requires room { draft.old.next + need_tree 16 (bitmaps_for counts.now.size) ≤ (stand draft.old).device.blocks }
-    requires closed { IsClosed (stand draft.old).device }
+    requires writable { IsWritable (draft_state draft.old).device }
+    requires room { draft.old.next + need_tree 16 (bitmaps_for counts.now.size) ≤ (draft_state draft.old).device.blocks }
+    requires closed { IsClosed (draft_state draft.old).device }
     ensures same_reference { draft.new.dev.ghost_name ≡ draft.old.dev.ghost_name }
-    ensures wrote { OnOk result (Wrote (tree_blocks 16 draft.old.next (index_items (count_of counts.now) counts.now.size first)) (stand draft.old) (stand draft.new)) }
+    ensures wrote { OnOk result (Wrote (tree_blocks 16 draft.old.next (index_items (count_of counts.now) counts.now.size first)) (draft_state draft.old) (draft_state draft.new)) }
     ensures root { IfOk result (λ root. root ≡ tree_root 16 draft.old.next (index_items (count_of counts.now) counts.now.size first)) }
-    ensures closed { StaysClosed (stand draft.old).device (stand draft.new).device }
-    ensures faults { CountsBuildFault result (stand draft.old).device.faults (stand draft.new).device.faults }
+    ensures closed { StaysClosed (draft_state draft.old).device (draft_state draft.new).device }
+    ensures faults { CountsBuildFault result (draft_state draft.old).device.faults (draft_state draft.new).device.faults }
 {
     // The places of the bitmaps stand before the next one, so they are numbers too.
     let _behind = draft.next();

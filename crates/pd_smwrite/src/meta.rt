@@ -4,7 +4,7 @@ ghost use Rattle.std.specs.Prelude.{◌≡◌, ◌+◌, ◌<◌, ◌≤◌, ◌^
 ghost use Rattle.pd_image.specs.Device.{IsWritable};
 ghost use Rattle.pd_draft.specs.Closed.{IsClosed, StaysClosed};
 ghost use Rattle.pd_draft.specs.Placed.{Wrote};
-ghost use Rattle.pd_draft.specs.Stand.{stand};
+ghost use Rattle.pd_draft.specs.DraftState.{draft_state};
 ghost use Rattle.pd_laid.specs.Laid.{written_from};
 ghost use Rattle.pd_laid.specs.Map.{laid_meta_map};
 ghost use Rattle.pd_count.specs.Counted.{HasCounted, count_of};
@@ -38,19 +38,19 @@ pub fn write_meta_map<D: Device>(
     requires small { counts.old.size ≤ 4161600 }
     requires within { draft.old.next + meta_map_need (count_of counts.old) counts.old.size ≤ counts.old.size }
     requires none { HasNone counts.old draft.old.next (meta_map_need (count_of counts.old) counts.old.size) }
-    requires writable { IsWritable (stand draft.old).device }
-    requires room { draft.old.next + meta_map_need (count_of counts.old) counts.old.size ≤ (stand draft.old).device.blocks }
-    requires closed { IsClosed (stand draft.old).device }
+    requires writable { IsWritable (draft_state draft.old).device }
+    requires room { draft.old.next + meta_map_need (count_of counts.old) counts.old.size ≤ (draft_state draft.old).device.blocks }
+    requires closed { IsClosed (draft_state draft.old).device }
     ensures same_reference { draft.new.dev.ghost_name ≡ draft.old.dev.ghost_name }
     ensures counted { OnOk result (CountsOwn draft.old.next (meta_map_need (count_of counts.old) counts.old.size) counts.old counts.new) }
-    ensures wrote { OnOk result (Wrote (meta_map_blocks (count_of counts.new) counts.old.size draft.old.next) (stand draft.old) (stand draft.new)) }
+    ensures wrote { OnOk result (Wrote (meta_map_blocks (count_of counts.new) counts.old.size draft.old.next) (draft_state draft.old) (draft_state draft.new)) }
     ensures root { IfOk result (λ root. root ≡ meta_map_root (count_of counts.new) counts.old.size draft.old.next) }
 
     // So what is written is the laid map, where these are the blocks that were named before.
     ensures laid { OnOk result ((role : ℕ) (named : List ℕ) → HasCounted counts.old named
-        → Wrote (written_from draft.old.next (laid_meta_map role counts.old.size draft.old.next named)) (stand draft.old) (stand draft.new)) }
-    ensures closed { StaysClosed (stand draft.old).device (stand draft.new).device }
-    ensures faults { CountsBuildFault result (stand draft.old).device.faults (stand draft.new).device.faults }
+        → Wrote (written_from draft.old.next (laid_meta_map role counts.old.size draft.old.next named)) (draft_state draft.old) (draft_state draft.new)) }
+    ensures closed { StaysClosed (draft_state draft.old).device (draft_state draft.new).device }
+    ensures faults { CountsBuildFault result (draft_state draft.old).device.faults (draft_state draft.new).device.faults }
 {
     let number = meta_map_number(counts);
     count_own(counts, draft.next(), number)?;
@@ -100,14 +100,14 @@ fn write_counted<D: Device>(
 ) -> Result<SmRoot, BuildFault>
     requires small { counts.now.size ≤ 4161600 }
     requires place { draft.old.next + 256 < 2 ^ 64 }
-    requires writable { IsWritable (stand draft.old).device }
-    requires room { draft.old.next + meta_map_need (count_of counts.now) counts.now.size ≤ (stand draft.old).device.blocks }
-    requires closed { IsClosed (stand draft.old).device }
+    requires writable { IsWritable (draft_state draft.old).device }
+    requires room { draft.old.next + meta_map_need (count_of counts.now) counts.now.size ≤ (draft_state draft.old).device.blocks }
+    requires closed { IsClosed (draft_state draft.old).device }
     ensures same_reference { draft.new.dev.ghost_name ≡ draft.old.dev.ghost_name }
-    ensures wrote { OnOk result (Wrote (meta_map_blocks (count_of counts.now) counts.now.size draft.old.next) (stand draft.old) (stand draft.new)) }
+    ensures wrote { OnOk result (Wrote (meta_map_blocks (count_of counts.now) counts.now.size draft.old.next) (draft_state draft.old) (draft_state draft.new)) }
     ensures root { IfOk result (λ root. root ≡ meta_map_root (count_of counts.now) counts.now.size draft.old.next) }
-    ensures closed { StaysClosed (stand draft.old).device (stand draft.new).device }
-    ensures faults { CountsBuildFault result (stand draft.old).device.faults (stand draft.new).device.faults }
+    ensures closed { StaysClosed (draft_state draft.old).device (draft_state draft.new).device }
+    ensures faults { CountsBuildFault result (draft_state draft.old).device.faults (draft_state draft.new).device.faults }
 {
     let place = draft.next();
     put_index(alloc, draft, counts)?;
@@ -129,13 +129,13 @@ fn put_index<D: Device>(
 ) -> Result<(), BuildFault>
     requires small { counts.now.size ≤ 4161600 }
     requires place { draft.old.next + 256 < 2 ^ 64 }
-    requires writable { IsWritable (stand draft.old).device }
-    requires room { draft.old.next < (stand draft.old).device.blocks }
-    requires closed { IsClosed (stand draft.old).device }
+    requires writable { IsWritable (draft_state draft.old).device }
+    requires room { draft.old.next < (draft_state draft.old).device.blocks }
+    requires closed { IsClosed (draft_state draft.old).device }
     ensures same_reference { draft.new.dev.ghost_name ≡ draft.old.dev.ghost_name }
-    ensures wrote { OnOk result (Wrote (index_block_of (count_of counts.now) counts.now.size draft.old.next ∷ []) (stand draft.old) (stand draft.new)) }
-    ensures closed { StaysClosed (stand draft.old).device (stand draft.new).device }
-    ensures faults { CountsBuildFault result (stand draft.old).device.faults (stand draft.new).device.faults }
+    ensures wrote { OnOk result (Wrote (index_block_of (count_of counts.now) counts.now.size draft.old.next ∷ []) (draft_state draft.old) (draft_state draft.new)) }
+    ensures closed { StaysClosed (draft_state draft.old).device (draft_state draft.new).device }
+    ensures faults { CountsBuildFault result (draft_state draft.old).device.faults (draft_state draft.new).device.faults }
 {
     let block = match index_block(alloc, counts, draft.next()) {
         Ok(block) => block,

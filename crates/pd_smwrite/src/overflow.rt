@@ -4,7 +4,7 @@ ghost use Rattle.std.specs.Prelude.{◌≡◌, ◌+◌, ◌*◌, ◌<◌, ◌≤
 ghost use Rattle.pd_image.specs.Device.{IsWritable};
 ghost use Rattle.pd_draft.specs.Closed.{IsClosed, StaysClosed};
 ghost use Rattle.pd_draft.specs.Placed.{Wrote};
-ghost use Rattle.pd_draft.specs.Stand.{stand};
+ghost use Rattle.pd_draft.specs.DraftState.{draft_state};
 ghost use Rattle.pd_laid.specs.Map.{overflow_items};
 ghost use Rattle.pd_laid.specs.Tree.{tree_blocks, tree_root};
 ghost use Rattle.pd_count.specs.Counted.{count_of};
@@ -25,14 +25,14 @@ pub(crate) fn write_overflow<D: Device>(
     draft: &mut Draft<'_, D>,
     counts: &Counts,
 ) -> Result<u64, BuildFault>
-    requires writable { IsWritable (stand draft.old).device }
-    requires room { draft.old.next + overflow_need (count_of counts.now) counts.now.size ≤ (stand draft.old).device.blocks }
-    requires closed { IsClosed (stand draft.old).device }
+    requires writable { IsWritable (draft_state draft.old).device }
+    requires room { draft.old.next + overflow_need (count_of counts.now) counts.now.size ≤ (draft_state draft.old).device.blocks }
+    requires closed { IsClosed (draft_state draft.old).device }
     ensures same_reference { draft.new.dev.ghost_name ≡ draft.old.dev.ghost_name }
-    ensures wrote { OnOk result (Wrote (tree_blocks 4 draft.old.next (overflow_items (count_of counts.now) counts.now.size)) (stand draft.old) (stand draft.new)) }
+    ensures wrote { OnOk result (Wrote (tree_blocks 4 draft.old.next (overflow_items (count_of counts.now) counts.now.size)) (draft_state draft.old) (draft_state draft.new)) }
     ensures root { IfOk result (λ root. root ≡ tree_root 4 draft.old.next (overflow_items (count_of counts.now) counts.now.size)) }
-    ensures closed { StaysClosed (stand draft.old).device (stand draft.new).device }
-    ensures faults { CountsBuildFault result (stand draft.old).device.faults (stand draft.new).device.faults }
+    ensures closed { StaysClosed (draft_state draft.old).device (draft_state draft.new).device }
+    ensures faults { CountsBuildFault result (draft_state draft.old).device.faults (draft_state draft.new).device.faults }
 {
     let number = overflow_number(counts);
     let mut builder = match Builder::<Count>::new(alloc, number) {

@@ -4,14 +4,14 @@ use Rattle.std.proofs.lemmas.Bool.Decides.{Decides-eqb, nat_tests}
 use Rattle.std.specs.List.{AllByRecursion, flat_map}
 use Rattle.pd_kinds.specs.Meaning.{ThinPool, Mapping}
 use Rattle.pd_grammar.specs.Texts.{text_of_lines}
-use Rattle.pd_spells.specs.ThinText.{Run, Part, Details, thin, mappings_from, mappings_of, with_mapping, joined_runs, joined_part, joins, AreApart, AreRunsApart, HasMappings, device_of_part, head_of, lines_of_parts, SpellsPool, text_of_pool}
+use Rattle.pd_spells.specs.ThinText.{Run, Part, Details, thin, mappings_from, mappings_of, with_mapping, joined_runs, joined_part, continues_run, AreApart, AreRunsApart, HasMappings, device_of_part, head_of, lines_of_parts, SpellsPool, text_of_pool}
 
 abbrev run : ℕ → ℕ → ℕ → ℕ → Run
 run v d n t = record { virtual_block = v; data_block = d; length = n; time = t }
 
 abbrev Apart : Run → List Run → Type 0
 Apart r [] = Unit {0}
-Apart r (s ∷ rs) = joins r s ≡ false
+Apart r (s ∷ rs) = continues_run r s ≡ false
 
 alone : (v d t : ℕ) (rs : List Run) → Apart (run v d 1 t) rs → with_mapping (record { virtual_block = v; data_block = d; time = t }) rs ≡ run v d 1 t ∷ rs
 alone v d t [] apart = refl

@@ -448,14 +448,14 @@ unfoldable pub text_of_pool : ThinPool → List ℕ
 text_of_pool m = text_of_lines thin (lines_of_parts (head_of m) (map joined_part m.devices))
 
 -- one run and the next are one
-abbrev pub joins : Run → Run → Bool
-joins r s = (r.virtual_block + r.length == s.virtual_block) && ((r.data_block + r.length == s.data_block) && (r.time == s.time))
+abbrev pub continues_run : Run → Run → Bool
+continues_run r s = (r.virtual_block + r.length == s.virtual_block) && ((r.data_block + r.length == s.data_block) && (r.time == s.time))
 
 -- no two neighbours join
 abbrev pub AreApart : List Run → Type 0
 AreApart [] = Unit {0}
 AreApart (r ∷ []) = Unit {0}
-AreApart (r ∷ s ∷ rs) = (joins r s ≡ false) × AreApart (s ∷ rs)
+AreApart (r ∷ s ∷ rs) = (continues_run r s ≡ false) × AreApart (s ∷ rs)
 
 -- in no device two neighbouring runs join
 abbrev pub AreRunsApart : List Part → Type 0

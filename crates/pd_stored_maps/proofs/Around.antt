@@ -9,10 +9,10 @@ use Rattle.pd_laid.specs.Tree.{blocks_from}
 use Rattle.pd_laid_graph.specs.LaidOut.{AllFrom, IsInPlace, IsNamed}
 use Rattle.pd_laid_graph.proofs.FromLemmas.{from_back, from_both}
 use Rattle.pd_laid_graph.proofs.PlaceLemmas.{all_in_place, stand_behind}
-use Rattle.pd_stored_maps.specs.Stored.{Holds}
+use Rattle.pd_stored_maps.specs.Stored.{HoldsBlocks}
 
 -- what is held stands in its places
-held_stands : {X : Type 0} (image : List (List ℕ)) (write : ℕ → X → List ℕ) (place : ℕ) (xs : List X) → Holds image place (blocks_from write place xs)
+held_stands : {X : Type 0} (image : List (List ℕ)) (write : ℕ → X → List ℕ) (place : ℕ) (xs : List X) → HoldsBlocks image place (blocks_from write place xs)
     → AllFrom (λ q x. block_at image q ≡ write q x) place xs
 unfolding blocks_from
 held_stands image write place [] holds = tt
@@ -42,7 +42,7 @@ module _ (image : List (List ℕ)) (edges : List Edge) where
   behind_before : (place : ℕ) → 0 + length (replicate place before) ≡ place
   behind_before place = omega (arith, length-replicate {A = LaidBlock} place before)
 
-  all_stand : (place : ℕ) (xs : List LaidBlock) → Holds image place (written_from place xs) → AllFrom (IsInPlace image (around place xs)) 0 (around place xs)
+  all_stand : (place : ℕ) (xs : List LaidBlock) → HoldsBlocks image place (written_from place xs) → AllFrom (IsInPlace image (around place xs)) 0 (around place xs)
   all_stand place xs holds =
       let behind = behind_before place in
       all_in_place image (around place xs)
@@ -50,12 +50,12 @@ module _ (image : List (List ℕ)) (edges : List Edge) where
       (rw behind (held_stands image (λ at (x : LaidBlock). x.written at) place xs holds)))
 
   -- the blocks that are held are in their places
-  pub held_in_place : (place : ℕ) (xs : List LaidBlock) → Holds image place (written_from place xs) → AllFrom (IsInPlace image (around place xs)) place xs
+  pub held_in_place : (place : ℕ) (xs : List LaidBlock) → HoldsBlocks image place (written_from place xs) → AllFrom (IsInPlace image (around place xs)) place xs
   held_in_place place xs holds =
       let behind = behind_before place in
       rw behind at (from_back (IsInPlace image (around place xs)) 0 (replicate place before) xs (all_stand place xs holds))
 
   -- and what is wanted is named
-  pub wanted_named : (place : ℕ) (xs : List LaidBlock) → 1 ≤ place → Holds image place (written_from place xs) → AllByRecursion (λ (e : Edge). IsNamed (around place xs) e.block) edges
+  pub wanted_named : (place : ℕ) (xs : List LaidBlock) → 1 ≤ place → HoldsBlocks image place (written_from place xs) → AllByRecursion (λ (e : Edge). IsNamed (around place xs) e.block) edges
   wanted_named zero xs from holds = absurd (omega arith)
   wanted_named (suc k) xs from holds = (all_stand (suc k) xs holds).0.names

@@ -14,13 +14,13 @@ use Rattle.pd_kinds.specs.ThinSuper.{ThinFields, thin_fields}
 use Rattle.pd_draft.specs.Placed.{placed}
 use Rattle.pd_draft.proofs.PlacedLemmas.{placed_between}
 use Rattle.pd_smwrite.specs.Map.{data_map_blocks, data_map_need, data_map_root, meta_map_blocks, meta_map_need, meta_map_root}
-use Rattle.pd_stored_maps.specs.Stored.{Holds, StoresCounts, data_stored, meta_root, meta_stored}
+use Rattle.pd_stored_maps.specs.Stored.{HoldsBlocks, StoresCounts, data_stored, meta_root, meta_stored}
 use Rattle.pd_stored_maps.proofs.DataMap.{data_map_stored}
 use Rattle.pd_stored_maps.proofs.MetaMap.{meta_map_stored}
 
 pub data_map_checked : (image : List (List ℕ)) (counts : ℕ → ℕ) (n place : ℕ) → (thin_fields (block_at image 0)).data_map ≡ data_map_root counts n place
     → (thin_fields (block_at image 0)).meta_map.blocks ≤ 4161600 → 1 ≤ place → place + data_map_need counts n ≤ (thin_fields (block_at image 0)).meta_map.blocks
-    → ((b : ℕ) → b < n → counts b < 2 ^ 32) → Holds image place (data_map_blocks counts n place)
+    → ((b : ℕ) → b < n → counts b < 2 ^ 32) → HoldsBlocks image place (data_map_blocks counts n place)
     → StoresCounts counts n (thin_fields (block_at image 0)).data_map (thin_checked image).stored_data
 unfolding thin_checked thin_graph thin_layout
 data_map_checked image counts n place is few from room small holds =
@@ -31,7 +31,7 @@ data_map_checked image counts n place is few from room small holds =
     refl refl (omega arith) (omega arith) (omega arith) few from room small holds)
 
 pub meta_map_checked : (kind : Kind) (image : List (List ℕ)) (counts : ℕ → ℕ) (n place : ℕ) → meta_root kind (block_at image 0) ≡ meta_map_root counts n place
-    → n ≤ 4161600 → 1 ≤ place → place + meta_map_need counts n ≤ n → ((b : ℕ) → b < n → counts b < 2 ^ 32) → Holds image place (meta_map_blocks counts n place)
+    → n ≤ 4161600 → 1 ≤ place → place + meta_map_need counts n ≤ n → ((b : ℕ) → b < n → counts b < 2 ^ 32) → HoldsBlocks image place (meta_map_blocks counts n place)
     → StoresCounts counts n (meta_root kind (block_at image 0)) (checked_of kind image).stored_meta
 unfolding thin_checked thin_graph thin_layout cache_checked cache_graph cache_layout era_checked era_graph era_layout
 meta_map_checked Thin image counts n place is few from room small holds =
@@ -55,7 +55,7 @@ meta_map_checked Era image counts n place is few from room small holds =
     (meta_map_stored 10 nr 0 (era_layout nr) image 9 counts n place refl (omega arith) (omega arith) (omega arith) few from (omega arith) small holds)
 
 -- what was put is held
-pub placed_held : (base blocks : List (List ℕ)) (place : ℕ) → place + length blocks ≤ length base → Holds (placed base place blocks) place blocks
+pub placed_held : (base blocks : List (List ℕ)) (place : ℕ) → place + length blocks ≤ length base → HoldsBlocks (placed base place blocks) place blocks
 placed_held base blocks place room =
     let front = take place base in
     let rest = drop (place + length blocks) base in

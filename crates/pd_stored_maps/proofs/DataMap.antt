@@ -15,19 +15,19 @@ use Rattle.pd_laid.proofs.NeedLemmas.{length-bitmaps, length-tree}
 use Rattle.pd_laid_graph.specs.LaidOut.{AllFrom, IsInPlace, IsNamed}
 use Rattle.pd_laid_graph.proofs.FromLemmas.{from_back, from_front}
 use Rattle.pd_laid_graph.proofs.Trees.{tree_seen}
-use Rattle.pd_laid_maps.proofs.Bitmaps.{bitmap_at}
-use Rattle.pd_laid_maps.proofs.MapItems.{index_are, overflow_are}
-use Rattle.pd_laid_maps.proofs.Stored.{stored_by_tree}
+use Rattle.pd_laid_graph.proofs.Bitmaps.{bitmap_at}
+use Rattle.pd_laid_graph.proofs.MapItems.{index_are, overflow_are}
+use Rattle.pd_laid_graph.proofs.Stored.{stored_by_tree}
 use Rattle.pd_smwrite.specs.Map.{allocated_of, data_map_blocks, data_map_need, data_map_root, index_at, overflow_at}
 use Rattle.pd_smwrite.proofs.IndexLemmas.{length-index_items}
 use Rattle.pd_smwrite.proofs.MapLemmas.{data_parts, data_parts_written}
-use Rattle.pd_stored_maps.specs.Stored.{Holds, StoresCounts, data_stored}
+use Rattle.pd_stored_maps.specs.Stored.{HoldsBlocks, StoresCounts, data_stored}
 use Rattle.pd_stored_maps.proofs.Around.{around, held_in_place, wanted_named}
 
 module _ (roles nr data_blocks : ℕ) (table : ℕ → Layout) (image : List (List ℕ)) (index bitmap over : ℕ) (counts : ℕ → ℕ) (n place : ℕ)
     (index_is : table index ≡ tree_to 16 bitmap (λ v. v % 2 ^ 64)) (over_is : table over ≡ plain_tree 4) (index_known : index < roles) (over_known : over < roles)
     (few_roles : roles ≤ 16) (few : nr ≤ 4161600) (from : 1 ≤ place) (room : place + data_map_need counts n ≤ nr) (small : (b : ℕ) → b < n → counts b < 2 ^ 32)
-    (holds : Holds image place (data_map_blocks counts n place)) where
+    (holds : HoldsBlocks image place (data_map_blocks counts n place)) where
   abbrev this : Graph
   this = graph_of roles nr data_blocks table
 
@@ -52,8 +52,8 @@ module _ (roles nr data_blocks : ℕ) (table : ℕ → Layout) (image : List (Li
   abbrev Stands : ℕ → LaidBlock → Type 0
   Stands = IsInPlace image blocks
 
-  held : Holds image place (written_from place (data_parts index bitmap over counts n place))
-  held = subst (Holds image place) (sym (data_parts_written index bitmap over counts n place)) holds
+  held : HoldsBlocks image place (written_from place (data_parts index bitmap over counts n place))
+  held = subst (HoldsBlocks image place) (sym (data_parts_written index bitmap over counts n place)) holds
 
   stand : AllFrom (IsInPlace image blocks) place (data_parts index bitmap over counts n place)
   stand = held_in_place image root_edges place (data_parts index bitmap over counts n place) held

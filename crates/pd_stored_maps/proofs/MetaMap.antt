@@ -12,18 +12,18 @@ use Rattle.pd_laid.proofs.NeedLemmas.{length-bitmaps, length-tree}
 use Rattle.pd_laid_graph.specs.LaidOut.{AllFrom, IsInPlace}
 use Rattle.pd_laid_graph.proofs.FromLemmas.{from_back, from_front}
 use Rattle.pd_laid_graph.proofs.Trees.{tree_seen}
-use Rattle.pd_laid_maps.proofs.Bitmaps.{bitmap_at}
-use Rattle.pd_laid_maps.proofs.MapItems.{overflow_are}
-use Rattle.pd_laid_maps.proofs.Stored.{stored_by_block}
+use Rattle.pd_laid_graph.proofs.Bitmaps.{bitmap_at}
+use Rattle.pd_laid_graph.proofs.MapItems.{overflow_are}
+use Rattle.pd_laid_graph.proofs.Stored.{stored_by_block}
 use Rattle.pd_smwrite.specs.Map.{allocated_of, meta_map_blocks, meta_map_need, meta_map_root}
 use Rattle.pd_smwrite.specs.Map.{meta_overflow_at as overflow_behind}
 use Rattle.pd_smwrite.proofs.MapLemmas.{meta_parts, meta_parts_written}
-use Rattle.pd_stored_maps.specs.Stored.{Holds, StoresCounts, meta_stored}
+use Rattle.pd_stored_maps.specs.Stored.{HoldsBlocks, StoresCounts, meta_stored}
 use Rattle.pd_stored_maps.proofs.Around.{around, held_in_place, wanted_named}
 
 module _ (roles nr data_blocks : ℕ) (table : ℕ → Layout) (image : List (List ℕ)) (over : ℕ) (counts : ℕ → ℕ) (n place : ℕ)
     (over_is : table over ≡ plain_tree 4) (over_known : over < roles) (few_roles : roles ≤ 16) (few : nr ≤ 4161600) (n_few : n ≤ 4161600) (from : 1 ≤ place)
-    (room : place + meta_map_need counts n ≤ nr) (small : (b : ℕ) → b < n → counts b < 2 ^ 32) (holds : Holds image place (meta_map_blocks counts n place)) where
+    (room : place + meta_map_need counts n ≤ nr) (small : (b : ℕ) → b < n → counts b < 2 ^ 32) (holds : HoldsBlocks image place (meta_map_blocks counts n place)) where
   abbrev this : Graph
   this = graph_of roles nr data_blocks table
 
@@ -48,8 +48,8 @@ module _ (roles nr data_blocks : ℕ) (table : ℕ → Layout) (image : List (Li
   abbrev Stands : ℕ → LaidBlock → Type 0
   Stands = IsInPlace image blocks
 
-  held : Holds image place (written_from place parts)
-  held = subst (Holds image place) (sym (meta_parts_written 0 over counts n place)) holds
+  held : HoldsBlocks image place (written_from place parts)
+  held = subst (HoldsBlocks image place) (sym (meta_parts_written 0 over counts n place)) holds
 
   stand : AllFrom (IsInPlace image blocks) place parts
   stand = held_in_place image root_edges place parts held

@@ -11,8 +11,8 @@ use Rattle.pd_kinds.specs.ThinSuper.{thin_fields}
 use Rattle.pd_kinds.specs.Trees.{entries_below, stored_data_in, stored_meta_in}
 
 -- an image has these blocks from a place on
-abbrev pub Holds : List (List ℕ) → ℕ → List (List ℕ) → Type 0
-Holds image place blocks = take (length blocks) (drop place image) ≡ blocks
+abbrev pub HoldsBlocks : List (List ℕ) → ℕ → List (List ℕ) → Type 0
+HoldsBlocks image place blocks = take (length blocks) (drop place image) ≡ blocks
 
 -- the stored count of a data block, by a map's root: the trees of its index and of the counts of 3 and more stand in these roles
 abbrev pub data_stored : Graph → List (List ℕ) → ℕ → ℕ → SmRoot → ℕ → Option ℕ

@@ -6,14 +6,14 @@ use Rattle.pd_kinds.specs.Layout.{Layout, copy, graph_of, is_bad, layout_bad}
 use Rattle.pd_kinds.specs.Rule.{all_rules}
 use Rattle.pd_kinds.specs.ThinSuper.{thin_fields, thin_super_edges}
 use Rattle.pd_kinds.specs.ThinFormat.{thin_graph, thin_layout, held_edges}
-use Rattle.pd_tree.proofs.RootLemmas.{copy_edges}
+use Rattle.pd_tree.proofs.RootLemmas.{super_copy_edges}
 use Rattle.pd_tree.proofs.TableLemmas.{none_passes}
 
 -- the edges of a superblock that breaks no rule
 pub super_edges : (block : List ℕ) → ((rule : Rule) → (thin_graph block).bad 0 0 block rule ≡ false) → (thin_graph block).edges 0 0 block ≡ thin_super_edges (thin_fields block)
 unfolding thin_graph thin_layout
 super_edges block clean =
-    copy_edges 11 (thin_fields block).meta_map.blocks (thin_fields block).data_map.blocks (thin_layout (thin_fields block).meta_map.blocks (thin_fields block).data_map.blocks) _
+    super_copy_edges 11 (thin_fields block).meta_map.blocks (thin_fields block).data_map.blocks (thin_layout (thin_fields block).meta_map.blocks (thin_fields block).data_map.blocks) _
     (λ b. thin_super_edges (thin_fields b)) block refl clean
 
 -- and of a held copy that breaks none

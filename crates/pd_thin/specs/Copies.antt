@@ -5,8 +5,8 @@ use Rattle.pd_kinds.specs.Edge.{Edge}
 use Rattle.pd_kinds.specs.ThinSuper.{thin_fields, thin_super_bad, thin_super_edges}
 use Rattle.pd_kinds.specs.ThinFormat.{thin_held_bad, held_edges}
 
-abbrev pub copy_rules : ℕ → ℕ → ℕ → List ℕ → Rule → Bool
-copy_rules nr role place block = if role == 0 then thin_super_bad nr block else thin_held_bad nr place block
+abbrev pub super_copy_rules : ℕ → ℕ → ℕ → List ℕ → Rule → Bool
+super_copy_rules nr role place block = if role == 0 then thin_super_bad nr block else thin_held_bad nr place block
 
-abbrev pub copy_edges : ℕ → List ℕ → List Edge
-copy_edges role block = if role == 0 then thin_super_edges (thin_fields block) else held_edges block
+abbrev pub super_copy_edges : ℕ → List ℕ → List Edge
+super_copy_edges role block = if role == 0 then thin_super_edges (thin_fields block) else held_edges block

@@ -24,7 +24,7 @@ impl Metadata for ThinTable {
 
     type Format = ThinFormat;
 
-    type Room = DeviceCursors;
+    type WholeMemory = DeviceCursors;
 
     ghost kind = { Thin };
 

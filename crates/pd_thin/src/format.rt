@@ -18,7 +18,7 @@ pub type ThinFormat = Tabled<ThinTable>;
 impl Table for ThinTable {
     ghost use Rattle.pd_kinds.specs.ThinFormat.{thin_layout};
     ghost use Rattle.pd_laws.proofs.ThinTable.{thin_table};
-    ghost use Rattle.pd_thin.specs.Copies.{copy_edges, copy_rules};
+    ghost use Rattle.pd_thin.specs.Copies.{super_copy_edges, super_copy_rules};
 
     const ROLES: u8 = thin_role::ROLES;
 
@@ -32,9 +32,9 @@ impl Table for ThinTable {
 
     ghost layout = { thin_layout };
 
-    ghost copy_bad = { copy_rules };
+    ghost super_copy_bad = { super_copy_rules };
 
-    ghost copy_edges = { copy_edges };
+    ghost super_copy_edges = { super_copy_edges };
 
     fn meta_blocks_of(s: &ThinSuper) -> u64 {
         s.meta_map.blocks
@@ -67,7 +67,7 @@ impl Table for ThinTable {
         }
     }
 
-    fn copy_rules(role: u8, place: u64, b: &Block, nr: u64) -> Rules {
+    fn super_copy_rules(role: u8, place: u64, b: &Block, nr: u64) -> Rules {
         if role == thin_role::SUPER {
             thin_super_rules(b, nr)
         } else {
@@ -75,7 +75,7 @@ impl Table for ThinTable {
         }
     }
 
-    fn copy_edges(role: u8, b: &Block) -> Edges {
+    fn super_copy_edges(role: u8, b: &Block) -> Edges {
         let fields = read_thin_super(b);
         if role == thin_role::SUPER {
             thin_super_edges(&fields)

@@ -4,7 +4,7 @@ use Rattle.std.proofs.lemmas.List.{append-nil}
 use Rattle.std.proofs.lemmas.Bool.{and_parts, eqb-true}
 use Rattle.pd_kinds.specs.Meaning.{Mapping}
 use Rattle.pd_value.specs.declared.thin.BlockTime.{BlockTime}
-use Rattle.pd_spells.specs.ThinText.{Run, mappings_from, with_mapping, joined_runs, joins, follows}
+use Rattle.pd_spells.specs.ThinText.{Run, mappings_from, with_mapping, joined_runs, continues_run, follows}
 use Rattle.pd_thin_meaning.specs.declared.joined.Begun.{Begun}
 use Rattle.pd_thin_meaning.specs.Joined.{run_of, given_run, given_runs, begun_mappings, is_followed_by, mapping_of}
 
@@ -28,7 +28,7 @@ longer_run v d t (suc n) rest =
 -- no run joins the first of these
 abbrev pub IsApart : Run → List Run → Type 0
 IsApart r [] = Unit {0}
-IsApart r (s ∷ rs) = joins r s ≡ false
+IsApart r (s ∷ rs) = continues_run r s ≡ false
 
 one_run : (v d t : ℕ) (rs : List Run) → IsApart (run v d 1 t) rs → with_mapping (mapping v d t) rs ≡ run v d 1 t ∷ rs
 one_run v d t [] apart = refl
@@ -57,12 +57,12 @@ run_before v d t (suc n) rest apart =
 
 -- the first run begins with the first mapping
 apart_if : (r : Run) (m : Mapping) (s : Run) (joined : Bool) (rs : List Run)
-    → ((n : ℕ) → joins r (run m.virtual_block m.data_block n m.time) ≡ false)
+    → ((n : ℕ) → continues_run r (run m.virtual_block m.data_block n m.time) ≡ false)
     → IsApart r (cond joined (run m.virtual_block m.data_block (suc s.length) m.time ∷ rs) (run m.virtual_block m.data_block 1 m.time ∷ s ∷ rs))
 apart_if r m s true rs apart = apart (suc s.length)
 apart_if r m s false rs apart = apart 1
 
-pub apart_first : (r : Run) (m : Mapping) (rs : List Run) → ((n : ℕ) → joins r (run m.virtual_block m.data_block n m.time) ≡ false) → IsApart r (with_mapping m rs)
+pub apart_first : (r : Run) (m : Mapping) (rs : List Run) → ((n : ℕ) → continues_run r (run m.virtual_block m.data_block n m.time) ≡ false) → IsApart r (with_mapping m rs)
 apart_first r m [] apart = apart 1
 apart_first r m (s ∷ rs) apart = apart_if r m s (follows m s) rs apart
 
@@ -84,7 +84,7 @@ pub taken_apart : (begun : Begun) (virt : ℕ) (value : BlockTime) (rest : List 
 taken_apart begun virt value rest apart =
     let first : begun.virt + suc begun.more ≡ begun.virt + begun.more + 1 = omega arith in
     let data_first : begun.target + suc begun.more ≡ begun.target + begun.more + 1 = omega arith in
-    let ends : (n : ℕ) → joins (run begun.virt begun.target (suc begun.more) begun.time) (run virt value.block n value.time) ≡ false = λ n. rw (first, data_first) apart in
+    let ends : (n : ℕ) → continues_run (run begun.virt begun.target (suc begun.more) begun.time) (run virt value.block n value.time) ≡ false = λ n. rw (first, data_first) apart in
     let runs = run_before begun.virt begun.target begun.time begun.more (mapping_of (virt, value) ∷ rest)
     (apart_first (run begun.virt begun.target (suc begun.more) begun.time) (mapping_of (virt, value)) (joined_runs rest) ends) in
     ap (map run_of) runs ∙ rw (add-one begun.more) refl

@@ -10,7 +10,7 @@ use Rattle.pd_kinds.specs.ThinSuper.{thin_fields}
 use Rattle.pd_kinds.proofs.FieldLemmas.{le-lt}
 use Rattle.pd_laws.proofs.AllLemmas.{all_append, all_flat_map, all_from_two, all_map, all_mapped, all_of}
 use Rattle.pd_kinds.specs.Image.{HasBytes}
-use Rattle.pd_laid.specs.Salvage.{given_device, salvage, salvage_from}
+use Rattle.pd_laid.specs.Salvage.{salvaged_device, salvage, salvage_from}
 use Rattle.pd_spells.specs.Lawful.{AreDevices, AreMappings, IsLawfulPool}
 use Rattle.pd_tree.specs.Below.{gather, items_below, items_from, kids_from}
 use Rattle.pd_tree.specs.Items.{root_of}
@@ -104,8 +104,8 @@ devices_lawful image blocks least (row ∷ rows) from are counted = (
 
 -- each device of a pool has as many mappings as its number says, since that number is counted where the pool is saved
 counted_saved : (image : List (List ℕ)) → AllByRecursion (λ (d : ThinDevice). d.mapped ≡ length d.mappings) (salvage image).devices
-unfolding salvage_from given_device
-counted_saved image = all_map (given_device (thin_fields (block_at image 0)) image) (λ (d : ThinDevice). d.mapped ≡ length d.mappings) (λ top. refl) _
+unfolding salvage_from salvaged_device
+counted_saved image = all_map (salvaged_device (thin_fields (block_at image 0)) image) (λ (d : ThinDevice). d.mapped ≡ length d.mappings) (λ top. refl) _
 
 -- details of a number of 24 bytes
 details_fit : (key value : ℕ) → key < 2 ^ 64 → value < 256 ^ 24 → DetailsFit (key, details_of value)

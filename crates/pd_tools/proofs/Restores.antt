@@ -6,7 +6,7 @@ use Rattle.std.proofs.lemmas.Option.{IfSome_then}
 use Rattle.pd_kinds.specs.declared.kind.Kind.{Kind}
 use Rattle.pd_kinds.specs.declared.kind.Kind.TheVariants.{Thin, Cache, Era}
 use Rattle.pd_kinds.specs.Objects.{DeviceState, SourceState, SinkState, Rose}
-use Rattle.pd_kinds.specs.Moments.{History, now}
+use Rattle.pd_kinds.specs.Moments.{History, present_moment}
 use Rattle.pd_kinds.specs.Crash.{IsSynced, LeavesNow, HoldsOldOrNone, HoldsSynced, HasNoSuper, IsOldNoneOrMade, IsUntouched}
 use Rattle.pd_kinds.proofs.CrashLemmas.{and_then, stays, still_tells, left_now, left_synced}
 use Rattle.pd_grammar.specs.Spelling.{Verdict, accepted, refused, no_room}
@@ -54,7 +54,7 @@ all_kinds thin cache era Era version = era
 -- what is there before the first call, where nothing is unsynced
 pub here : (image : Image) (Made : Image → Type 0) (device : DeviceState) → HoldsSynced image device → LeavesNow (IsOldNoneOrMade image Made) device
 here image Made device synced left firsts leaves chance =
-    inl (left_synced image left (now image device.history) refl synced.unsynced (left_now device image left firsts synced.held leaves).0)
+    inl (left_synced image left (present_moment image device.history) refl synced.unsynced (left_now device image left firsts synced.held leaves).0)
 
 -- a device that was left alone still holds its image, with nothing unsynced
 pub still_synced : (image : Image) (old new : DeviceState) → IsUntouched old new → HoldsSynced image old → HoldsSynced image new

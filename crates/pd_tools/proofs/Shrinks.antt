@@ -18,7 +18,7 @@ use Rattle.pd_answers.specs.CachedView.{blocks_each}
 use Rattle.pd_answers.specs.MovedPool.{copy_of_move, data_after, end_of_pool, free_blocks, moves_to, sources}
 use Rattle.pd_answers.specs.Outputs.{HoldsMade, IsWorkDone, LeavesMade}
 use Rattle.pd_answers.specs.Repairs.{LaysPool}
-use Rattle.pd_answers.specs.Shrinks.{IsGroundOf, Lack, LeavesShrunk, ShrinkFound, ShrinkGround, answer_to, bad_block_size, lack_of, moved_line, moves_of, no_room, pool_after, shrink, shrink_answer}
+use Rattle.pd_answers.specs.Shrinks.{IsGroundOf, ShrinkLack, LeavesShrunk, ShrinkFound, ShrinkGround, answer_to, bad_block_size, lack_of, moved_line, moves_of, no_room, pool_after, shrink, shrink_answer}
 use Rattle.pd_answers.specs.Terms.{is_possible}
 use Rattle.pd_answers.specs.Writebacks.{block_size_line}
 use Rattle.pd_restore.specs.Made.{Ending, IsDone, IsMadeOf, done, lacking}
@@ -132,8 +132,8 @@ shrink_rests from to pool blocks before after fresh alone =
 abbrev sound_finding : ShrinkGround → ShrinkFound
 sound_finding ground = record { report = report_of []; ground = ground }
 
-answer_sound : (ground : ShrinkGround) (lack : Option Lack) → lack_of ground ≡ lack → shrink_answer (sound_finding ground) ≡ answer_to lack ground
-answer_sound ground lack is = ap (λ (l : Option Lack). answer_to l ground) is
+answer_sound : (ground : ShrinkGround) (lack : Option ShrinkLack) → lack_of ground ≡ lack → shrink_answer (sound_finding ground) ≡ answer_to lack ground
+answer_sound ground lack is = ap (λ (l : Option ShrinkLack). answer_to l ground) is
 
 -- the report of no faults is right where there are none
 none_right : (held : Option Image) → IfSome held (λ image. faults Thin Counts image ≡ []) → IfSome held (λ image. report_of [] ≡ report_of (faults Thin Counts image))
@@ -185,7 +185,7 @@ module _ (from to pool : List ℕ) (blocks : ℕ) (before : Objects) (opened : D
     sound_here : IfSome before.input.held (λ image. faults Thin Counts image ≡ [])
     sound_here = rw was.input.untouched.held at sound
 
-    lacking_ground : (lack : Lack) (un : HasLack opened.input.held opened.output.blocks opened.third.blocks blocks lack) (status : ℕ) (line : List ℕ) → status ≢ 0
+    lacking_ground : (lack : ShrinkLack) (un : HasLack opened.input.held opened.output.blocks opened.third.blocks blocks lack) (status : ℕ) (line : List ℕ) → status ≢ 0
         → IsTrue (is_possible (shrink from to pool blocks) status) → answer_to (Some lack) un.basis ≡ record { status = status; out = []; notes = line }
         → IsEnded (shrink from to pool blocks) before read_after status line
     lacking_ground lack un status line some possible answer =

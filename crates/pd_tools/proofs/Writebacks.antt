@@ -10,7 +10,7 @@ use Rattle.pd_kinds.specs.declared.kind.Kind.TheVariants.{Cache}
 use Rattle.pd_kinds.specs.declared.kind.Stage.TheVariants.{Whole}
 use Rattle.pd_kinds.specs.Crash.{HoldsSynced, IsSynced, IsUntouched, LeavesNow, LeavesOnly}
 use Rattle.pd_kinds.specs.Meaning.{cache_meaning}
-use Rattle.pd_kinds.specs.Moments.{now}
+use Rattle.pd_kinds.specs.Moments.{present_moment}
 use Rattle.pd_kinds.specs.Objects.{DeviceState, SinkState, Rose}
 use Rattle.pd_kinds.specs.Report.{Reported, report_of}
 use Rattle.pd_kinds.specs.Stages.{faults}
@@ -76,7 +76,7 @@ if_any (Some x) all = all x
 -- what is there before the first call
 pub here_kept : (k : ℕ) (hot : List CachedBlock) (image : Image) (device : DeviceState) → HoldsSynced image device → LeavesNow (λ left firsts. KeepsOthers k hot image left) device
 here_kept k hot image device synced left firsts leaves =
-    let same : left ≡ image = left_synced image left (now image device.history) refl synced.unsynced (left_now device image left firsts synced.held leaves).0 in
+    let same : left ≡ image = left_synced image left (present_moment image device.history) refl synced.unsynced (left_now device image left firsts synced.held leaves).0 in
     record { number = ap length same; others = λ b none. ap (λ (i : Image). slice_get i b) same }
 
 -- metadata and an origin that were left alone, under each status but 0

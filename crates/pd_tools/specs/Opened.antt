@@ -5,8 +5,8 @@ use Rattle.pd_kinds.specs.Crash.{IsUntouched}
 use Rattle.pd_image.specs.Device.{KeepsPlace, OnlyReads}
 use Rattle.pd_answers.specs.Answer.{IsNamed, IsOpen, IsUsed, Objects, Use, unused, reading, writing}
 use Rattle.pd_answers.specs.Terms.{ComesAfter, Uses}
-use Rattle.pd_tools.specs.declared.opening.Place.{Place}
-use Rattle.pd_tools.specs.declared.opening.Place.TheVariants.{Unused, Reading, Writing}
+use Rattle.pd_tools.specs.declared.opening.DevicePath.{DevicePath}
+use Rattle.pd_tools.specs.declared.opening.DevicePath.TheVariants.{Unused, Reading, Writing}
 use Rattle.pd_tools.specs.declared.opening.Places.{Places}
 
 -- the states of the three devices
@@ -22,7 +22,7 @@ abbrev pub devices_of : Objects → Devices
 devices_of objects = devices objects.input objects.output objects.third
 
 -- how a place names its device
-abbrev pub use_of : Place → Use
+abbrev pub use_of : DevicePath → Use
 use_of Unused = unused
 use_of (Reading path) = reading path.now
 use_of (Writing path) = writing path.now

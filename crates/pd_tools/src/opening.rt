@@ -9,7 +9,7 @@ use pd_image::{Device, Failed};
 
 /// How a request names a device: not at all, or by its path, for reading, or for writing too.
 #[derive(Clone, Copy)]
-pub(crate) enum Place<'a> {
+pub(crate) enum DevicePath<'a> {
     Unused,
     Reading(&'a str),
     Writing(&'a str),
@@ -18,9 +18,9 @@ pub(crate) enum Place<'a> {
 /// How a request names its devices.
 #[derive(Clone, Copy)]
 pub(crate) struct Places<'a> {
-    pub(crate) input: Place<'a>,
-    pub(crate) output: Place<'a>,
-    pub(crate) third: Place<'a>,
+    pub(crate) input: DevicePath<'a>,
+    pub(crate) output: DevicePath<'a>,
+    pub(crate) third: DevicePath<'a>,
 }
 
 /// Attaches the devices that are named, in their order.
@@ -44,15 +44,15 @@ pub(crate) fn open_all<A: Device, B: Device, C: Device>(
 }
 
 /// Attaches a device where it is named.
-fn open<D: Device>(place: Place<'_>, device: &mut D) -> Result<(), Failed>
+fn open<D: Device>(place: DevicePath<'_>, device: &mut D) -> Result<(), Failed>
     requires { (D.state device.old).access ≡ 0 }
     ensures opened { OnOk result (OpensAs (use_of place.entry) (D.state device.old) (D.state device.new)) }
     ensures asked { AsksAs (use_of place.entry) (D.state device.old) (D.state device.new) }
     ensures faults { CountsFault result (D.state device.old).faults (D.state device.new).faults }
 {
     match place {
-        Place::Unused => Ok(()),
-        Place::Reading(path) => device.attach(path, false),
-        Place::Writing(path) => device.attach(path, true),
+        DevicePath::Unused => Ok(()),
+        DevicePath::Reading(path) => device.attach(path, false),
+        DevicePath::Writing(path) => device.attach(path, true),
     }
 }

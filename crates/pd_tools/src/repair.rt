@@ -7,7 +7,7 @@ ghost use Rattle.pd_kinds.specs.RuleSet.{has_rule};
 ghost use Rattle.pd_tools.specs.Ending.{repair_ended};
 
 use crate::ending::{Ending, Outcome, no_room};
-use crate::opening::{Place, Places};
+use crate::opening::{DevicePath, Places};
 use crate::stop::Stop;
 use crate::task::Task;
 use pd_image::Device;
@@ -30,9 +30,9 @@ impl Task for Repair<'_> {
 
     fn places(&self) -> Places<'_> {
         Places {
-            input: Place::Reading(self.from),
-            output: Place::Writing(self.to),
-            third: Place::Unused,
+            input: DevicePath::Reading(self.from),
+            output: DevicePath::Writing(self.to),
+            third: DevicePath::Unused,
         }
     }
 

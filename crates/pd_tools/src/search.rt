@@ -14,7 +14,7 @@ ghost use Rattle.pd_tools.specs.Search.{terms_of_search};
 ghost use Rattle.pd_tools.specs.Task.{Works};
 
 use crate::ending::{Ending, Outcome};
-use crate::opening::{Place, Places};
+use crate::opening::{DevicePath, Places};
 use crate::repair::ended_of;
 use crate::stop::Stop;
 use crate::task::Task;
@@ -53,9 +53,9 @@ impl Task for Search<'_> {
 
     fn places(&self) -> Places<'_> {
         Places {
-            input: Place::Reading(self.from),
-            output: Place::Writing(self.to),
-            third: Place::Unused,
+            input: DevicePath::Reading(self.from),
+            output: DevicePath::Writing(self.to),
+            third: DevicePath::Unused,
         }
     }
 

@@ -17,7 +17,7 @@ ghost use Rattle.pd_tools.specs.Task.{Works};
 
 use crate::check::check_attached;
 use crate::ending::{Ending, Outcome};
-use crate::opening::{Place, Places};
+use crate::opening::{DevicePath, Places};
 use crate::stop::Stop;
 use crate::task::Task;
 use pd_image::Device;
@@ -43,9 +43,9 @@ impl Task for Shrinking<'_> {
 
     fn places(&self) -> Places<'_> {
         Places {
-            input: Place::Reading(self.from),
-            output: Place::Writing(self.to),
-            third: Place::Writing(self.pool),
+            input: DevicePath::Reading(self.from),
+            output: DevicePath::Writing(self.to),
+            third: DevicePath::Writing(self.pool),
         }
     }
 

@@ -16,7 +16,7 @@ ghost use Rattle.pd_tools.specs.Writeback.{IsWritten};
 
 use crate::check::check_attached;
 use crate::ending::{Ending, Outcome};
-use crate::opening::{Place, Places};
+use crate::opening::{DevicePath, Places};
 use crate::stop::Stop;
 use crate::task::Task;
 use pd_image::{Device, Failed};
@@ -41,9 +41,9 @@ impl Task for Writeback<'_> {
 
     fn places(&self) -> Places<'_> {
         Places {
-            input: Place::Writing(self.metadata),
-            output: Place::Writing(self.origin),
-            third: Place::Reading(self.fast),
+            input: DevicePath::Writing(self.metadata),
+            output: DevicePath::Writing(self.origin),
+            third: DevicePath::Reading(self.fast),
         }
     }
 

@@ -5,7 +5,7 @@ use Rattle.pd_kinds.specs.Node.{entry_count}
 use Rattle.pd_kinds.specs.Graph.{block_at}
 use Rattle.pd_tree.specs.declared.stack.Stack.{Stack}
 use Rattle.pd_tree.specs.Below.{items_from, kids_from, items_below, nodes_below}
-use Rattle.pd_tree.specs.declared.place.Place.{Place}
+use Rattle.pd_tree.specs.declared.place.NodePlace.{NodePlace}
 use Rattle.pd_tree.specs.Cursor.{root_left}
 use Rattle.pd_tree.specs.Stack.{stacked, items_at, stack_items, stack_nodes}
 use Rattle.pd_tree.specs.Steps.{GoesDown}
@@ -67,7 +67,7 @@ module _ {X : Type 0} (size : ℕ) (decoded : ℕ → X) (image : List (List ℕ
       omega arith
 
 -- nothing is left where there is no node
-pub none_left : {X : Type 0} → (left : ℕ → Place → List X) (places : List Place) (depth : ℕ) → depth ≡ 0 → stacked left places depth ≡ []
+pub none_left : {X : Type 0} → (left : ℕ → NodePlace → List X) (places : List NodePlace) (depth : ℕ) → depth ≡ 0 → stacked left places depth ≡ []
 unfolding stacked
 none_left left places depth is = rw is refl
 

@@ -10,10 +10,10 @@ use Rattle.pd_tree.proofs.RangeLemmas.{all_first, all_last}
 use Rattle.pd_tree.proofs.TableLemmas.{none_passes}
 
 -- the edges of a superblock that breaks no rule
-pub copy_edges : (roles nr data_blocks : ℕ) (layout : ℕ → Layout) (bad : ℕ → List ℕ → Rule → Bool) (edges : List ℕ → List Edge) (block : List ℕ) → layout 0 ≡ copy bad edges
+pub super_copy_edges : (roles nr data_blocks : ℕ) (layout : ℕ → Layout) (bad : ℕ → List ℕ → Rule → Bool) (edges : List ℕ → List Edge) (block : List ℕ) → layout 0 ≡ copy bad edges
     → ((rule : Rule) → (graph_of roles nr data_blocks layout).bad 0 0 block rule ≡ false) → (graph_of roles nr data_blocks layout).edges 0 0 block ≡ edges block
 unfolding graph_of is_bad
-copy_edges roles nr data_blocks layout bad edges block is clean =
+super_copy_edges roles nr data_blocks layout bad edges block is clean =
     rw (none_passes (layout_bad nr 0 (layout 0) 0 block) all_rules clean, is) refl
 
 -- an edge that may be left out, and those behind it

@@ -2,29 +2,29 @@
 use Rattle.std.proofs.Common.{◌≡◌, ℕ, suc, ◌+◌, ◌-◌, ◌<◌, ◌≤◌, true, false, List, [], ◌∷◌, ◌++◌, length, set, refl, arith, map, append_assoc}
 use Rattle.std.proofs.lemmas.List.{get_or-set_same}
 use Rattle.pd_kinds.specs.Node.{entry_count, is_inner_node, child_at, key_at, value_at}
-use Rattle.pd_tree.specs.declared.place.Place.{Place}
+use Rattle.pd_tree.specs.declared.place.NodePlace.{NodePlace}
 use Rattle.pd_tree.specs.declared.stack.Stack.{Stack}
 use Rattle.pd_tree.specs.Below.{each_below, items_below, nodes_below}
 use Rattle.pd_tree.specs.Frontier.{entry, left_of_item, left_at}
-use Rattle.pd_tree.specs.Place.{after, no_place, place_items, place_kids, place_left}
-use Rattle.pd_tree.specs.Stack.{last_place, stacked, items_at, nodes_at, unit, weigh}
-use Rattle.pd_tree.specs.Steps.{TakesLast, ended, deep, Passes, GoesDown, Gives}
+use Rattle.pd_tree.specs.NodePlace.{after, no_place, place_items, place_kids, place_left}
+use Rattle.pd_tree.specs.Stack.{last_place, stacked, items_at, nodes_at, child_weight, weigh}
+use Rattle.pd_tree.specs.Steps.{TakesLast, ended, deep, Passes, GoesDown, GivesEntry}
 use Rattle.pd_tree.proofs.BelowLemmas.{each_first, each_none, each_deep}
 use Rattle.pd_tree.proofs.FrontierLemmas.{child_alone}
 use Rattle.pd_tree.proofs.PlaceLemmas.{one_less, first_kid, first_item}
 use Rattle.pd_tree.proofs.StackLemmas.{stacked_is, stacked_set, weigh_is, weigh_set, unit_some, kids_leaf, kids_none, items_inner, items_none}
 
 -- what is told of a place, and then what is told below its children
-abbrev told_at : {X : Type 0} → ℕ → (Place → List X) → (ℕ → ℕ → List X) → ℕ → Place → List X
+abbrev told_at : {X : Type 0} → ℕ → (NodePlace → List X) → (ℕ → ℕ → List X) → ℕ → NodePlace → List X
 told_at size here below d place = here place ++ each_below below (63 - d) (place_kids size place)
 
 -- a step at the last place
 module _ (size : ℕ) (old new : Stack) (some : 0 < old.depth) (room : old.depth ≤ length old.places.items) where
-  abbrev place : Place
+  abbrev place : NodePlace
   place = last_place old
 
   -- what is left where the last place takes something
-  pub took : {X : Type 0} → TakesLast size old new → (left : ℕ → Place → List X) (more : List X) → left (old.depth - 1) (last_place old) ≡ more ++ left (old.depth - 1) (after (last_place old))
+  pub took : {X : Type 0} → TakesLast size old new → (left : ℕ → NodePlace → List X) (more : List X) → left (old.depth - 1) (last_place old) ≡ more ++ left (old.depth - 1) (after (last_place old))
       → stacked left old.places.items old.depth ≡ more ++ stacked left new.places.items new.depth
   took takes left more is =
       let last : old.depth ≡ suc (old.depth - 1) = omega arith in
@@ -38,14 +38,14 @@ module _ (size : ℕ) (old new : Stack) (some : 0 < old.depth) (room : old.depth
       (append_assoc more (left (old.depth - 1) (after place)) (stacked left old.places.items (old.depth - 1)))
 
   -- what is left where nothing was left of the last place
-  pub left_out : {X : Type 0} → (left : ℕ → Place → List X) → new.depth + 1 ≡ old.depth → new.places.items ≡ old.places.items → left (old.depth - 1) (last_place old) ≡ []
+  pub left_out : {X : Type 0} → (left : ℕ → NodePlace → List X) → new.depth + 1 ≡ old.depth → new.places.items ≡ old.places.items → left (old.depth - 1) (last_place old) ≡ []
       → stacked left old.places.items old.depth ≡ stacked left new.places.items new.depth
   left_out left depth places none =
       let last : old.depth ≡ suc (old.depth - 1) = omega arith in
       let below : new.depth ≡ old.depth - 1 = omega arith in
       rw (places, below, stacked_is left old.places.items (old.depth - 1) old.depth last, none) refl
 
-  module _ {X : Type 0} (here : Place → List X) (below : ℕ → ℕ → List X) where
+  module _ {X : Type 0} (here : NodePlace → List X) (below : ℕ → ℕ → List X) where
     -- an entry was taken
     told_entry : (what : List X) → TakesLast size old new → is_inner_node place.block.0 ≡ false → here place ≡ what ++ here (after place)
         → stacked (told_at size here below) old.places.items old.depth ≡ what ++ stacked (told_at size here below) new.places.items new.depth
@@ -78,7 +78,7 @@ module _ (size : ℕ) (old new : Stack) (some : 0 < old.depth) (room : old.depth
         left_out (told_at size here below) depth places (rw (none, kids_none size place.block.0 place.next ends, each_none below (63 - (old.depth - 1))) refl)
 
   -- the weight of a step
-  number_took : TakesLast size old new → weigh size new.places.items new.depth + unit (64 - new.depth) ≤ weigh size old.places.items old.depth
+  number_took : TakesLast size old new → weigh size new.places.items new.depth + child_weight (64 - new.depth) ≤ weigh size old.places.items old.depth
   number_took takes =
       let last : old.depth ≡ suc (old.depth - 1) = omega arith in
       let same : 64 - old.depth ≡ 63 - (old.depth - 1) = omega arith in
@@ -101,7 +101,7 @@ module _ (size : ℕ) (old new : Stack) (some : 0 < old.depth) (room : old.depth
   -- what a step does
   module _ {X : Type 0} (decoded : ℕ → X) where
     pub gives : TakesLast size old new → is_inner_node place.block.0 ≡ false
-        → Gives size decoded (key_at place.block.0 place.next) (decoded (value_at size place.block.0 place.next)) old new
+        → GivesEntry size decoded (key_at place.block.0 place.next) (decoded (value_at size place.block.0 place.next)) old new
     unfolding items_at nodes_at left_at
     gives takes leaf =
         let first = first_item size decoded place takes.within leaf in
@@ -162,7 +162,7 @@ module _ (size : ℕ) (old new : Stack) (some : 0 < old.depth) (room : old.depth
         }
 
   -- the last place was written, as its next entry was taken
-  pub takes_last : (before after_it : Place) → before ≡ last_place old → before.next < entry_count size before.block.0 → after_it ≡ after before
+  pub takes_last : (before after_it : NodePlace) → before ≡ last_place old → before.next < entry_count size before.block.0 → after_it ≡ after before
       → new.depth ≡ old.depth → new.places.items ≡ set old.places.items (old.depth - 1) after_it → TakesLast size old new
   takes_last before after_it at within one depth places =
       let inside : old.depth - 1 < length old.places.items = omega arith in

@@ -9,7 +9,7 @@ use Rattle.pd_kinds.specs.declared.thin_super.ThinSuper.{ThinSuper}
 use Rattle.pd_kinds.specs.Graph.{block_at}
 use Rattle.pd_kinds.specs.Meaning.{Mapping, ThinPool, thin_meaning}
 use Rattle.pd_kinds.specs.ThinSuper.{thin_fields}
-use Rattle.pd_answers.specs.QueryLines.{device_of_list, exclusive_number, list_lines, mapping_line, mapping_lines, rmap_lines}
+use Rattle.pd_answers.specs.QueryLines.{device_of_list, exclusive_number, device_list_lines, mapping_line, mapping_lines, rmap_lines}
 use Rattle.pd_thin_meaning.specs.declared.devices.DeviceRow.{DeviceRow}
 use Rattle.pd_thin_meaning.specs.Given.{GivesPool, device_of, pool_rows, super_rows}
 use Rattle.pd_thin_meaning.specs.Runs.{mappings_below}
@@ -73,8 +73,8 @@ module _ (image : List (List ℕ)) (pool : ThinPool) (size : ℕ) (all : List De
 
 -- the lines of a pool's rows are the list of its devices
 pub list_is : (image : List (List ℕ)) (s : ThinSuper) (tallies : List ℕ) → s ≡ thin_fields (block_at image 0) → AreExclusive image s tallies → GivesPool image
-    → tallied_rows tallies (super_rows image s) ≡ list_lines (thin_meaning image)
-unfolding list_lines
+    → tallied_rows tallies (super_rows image s) ≡ device_list_lines (thin_meaning image)
+unfolding device_list_lines
 list_is image s tallies is are gives =
     let own = subst (λ (t : ThinSuper). AreExclusive image t tallies) is are in
     ap (λ (t : ThinSuper). tallied_rows tallies (super_rows image t)) is

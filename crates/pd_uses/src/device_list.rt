@@ -5,7 +5,7 @@ ghost use Rattle.pd_image.specs.Device.{IsAttached, OnlyReads};
 ghost use Rattle.pd_image.specs.Sink.{KeepsSink};
 ghost use Rattle.pd_lines.specs.Printer.{printing};
 ghost use Rattle.pd_lines.specs.Printing.{Prints};
-ghost use Rattle.pd_answers.specs.QueryLines.{list_lines};
+ghost use Rattle.pd_answers.specs.QueryLines.{device_list_lines};
 ghost use Rattle.pd_thin_meaning.specs.Devices.{rows_left, rows_room};
 ghost use Rattle.pd_thin_meaning.specs.Given.{super_rows};
 ghost use Rattle.pd_query.specs.Puts.{PrintsSome, PutsText};
@@ -37,7 +37,7 @@ pub fn list_devices<D: Device, K: Sink>(
 ) -> Result<(), QueryFault>
     requires dev { IsAttached (D.state dev.old) }
     requires out { (K.state out.old).access ≡ 1 }
-    ensures lines { PutsLines list_lines s.now result (D.state dev.old).held (K.state out.old).written (K.state out.new).written }
+    ensures lines { PutsLines device_list_lines s.now result (D.state dev.old).held (K.state out.old).written (K.state out.new).written }
     ensures kept { OnlyReads (D.state dev.old) (D.state dev.new) }
     ensures sink { KeepsSink (K.state out.old) (K.state out.new) }
     ensures faults { QueryEnds result (D.state dev.old).faults (D.state dev.new).faults (K.state out.old).faults (K.state out.new).faults }
@@ -62,7 +62,7 @@ fn put_devices<D: Device, K: Sink>(
     ensures sink { KeepsSink (K.state out.old) (K.state out.new) }
     ensures faults { QueryEnds result (D.state dev.old).faults (D.state dev.new).faults (K.state out.old).faults (K.state out.new).faults }
 {
-    let mut printer = Printer::over(out);
+    let mut printer = Printer::to_sink(out);
     add_devices(alloc, s, exclusive, dev, &mut printer)?;
     finish(printer)
 }
@@ -188,14 +188,14 @@ impl Query for DeviceList {
     ghost use Rattle.pd_kinds.specs.Graph.{block_at};
     ghost use Rattle.pd_kinds.specs.Meaning.{thin_meaning};
     ghost use Rattle.pd_kinds.specs.ThinSuper.{thin_fields};
-    ghost use Rattle.pd_answers.specs.QueryLines.{list_lines};
+    ghost use Rattle.pd_answers.specs.QueryLines.{device_list_lines};
     ghost use Rattle.pd_query.specs.Sound.{IfSound};
 
     type Started = ThinSuper;
 
     ghost kind = { Thin };
 
-    ghost answer = { λ query image. list_lines (thin_meaning image) };
+    ghost answer = { λ query image. device_list_lines (thin_meaning image) };
 
     ghost IsOver = { λ query s held blocks. IfSound Thin held (λ image. s ≡ thin_fields (block_at image 0)) };
 

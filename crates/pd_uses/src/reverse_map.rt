@@ -55,7 +55,7 @@ fn put_uses<K: Sink>(uses: &[DataUse], out: &mut K) -> Result<(), QueryFault>
     ensures sink { KeepsSink (K.state out.old) (K.state out.new) }
     ensures faults { SinkFails result (K.state out.old).faults (K.state out.new).faults }
 {
-    let mut printer = Printer::over(out);
+    let mut printer = Printer::to_sink(out);
     add_uses(uses, &mut printer)?;
     finish(printer)
 }

@@ -1,3 +1,6 @@
+pub mod RefsLemmas
+pub mod RoleLemmas
+pub mod CounterLemmas
 pub mod ChargeLemmas
 pub mod SharedLemmas
 pub mod UpLemmas

@@ -1,3 +1,5 @@
+pub mod Refs
+pub mod Counter
 pub mod Charges
 pub mod Ascending
 pub mod Counting

@@ -2,13 +2,16 @@
 //! more than one reference, keys of a tree that count from 0, and how many blocks are reached.
 #![tactic(auto)]
 
+mod adding;
 mod charging;
+mod counter;
 mod counting;
 mod laws;
 mod nodes;
 mod sharing;
 
 pub use charging::charge;
+pub use counter::RefCounter;
 pub use counting::is_counting;
 pub use laws::{
     keys_of_reached_trees_ascend, keys_of_sound_trees_ascend, settled_audits_are_known,

@@ -4,7 +4,7 @@ use Rattle.std.specs.List.{filter_map}
 use Rattle.std.specs.Option.{option_map}
 use Rattle.pd_answers.specs.Words as asked
 use Rattle.pd_words.specs.declared.items.Item.{Item}
-use Rattle.pd_words.specs.declared.items.Place.{Place}
+use Rattle.pd_words.specs.declared.items.WordPlace.{WordPlace}
 use Rattle.pd_words.specs.declared.items.Given.{Given}
 use Rattle.pd_words.specs.declared.items.Given.TheVariants.{Never, Once, Often}
 use Rattle.pd_words.specs.declared.items.Tool.{Tool}
@@ -33,7 +33,7 @@ unfoldable pub values_from : List (List ℕ) → List ℕ → ℕ → Option (Li
 values_from words purpose at = values_in purpose (asked.items_of (drop at words))
 
 -- the values begin with the one that was found; where none was found, there are none
-abbrev pub with_found : List (List ℕ) → List ℕ → Option (List (List ℕ)) → Option Place → Type 0
+abbrev pub with_found : List (List ℕ) → List ℕ → Option (List (List ℕ)) → Option WordPlace → Type 0
 with_found words purpose values None = IfSome values (λ vs. vs ≡ [])
 with_found words purpose values (Some place) =
     values ≡ option_map (λ (vs : List (List ℕ)). word_at words place.value ∷ vs) (values_from words purpose place.next)
@@ -55,7 +55,7 @@ tool_as (Dump kind) = asked.dump_tool kind
 tool_as (Restore kind) = asked.restore_tool kind
 tool_as Repair = asked.repair_tool
 tool_as ReverseMap = asked.rmap_tool
-tool_as DeviceList = asked.list_tool
+tool_as DeviceList = asked.device_list_tool
 tool_as Since = asked.since_tool
 tool_as Generate = asked.generate_tool
 tool_as Rehearse = asked.rehearse_tool

@@ -62,7 +62,7 @@ pub struct Item<'a> {
 
 /// Where a word stands that was given, and the index of the word after its item.
 #[derive(Clone, Copy)]
-struct Place {
+struct WordPlace {
     value: usize,
     next: usize,
 }
@@ -262,7 +262,7 @@ pub fn item_at(words: &[String], at: usize) -> Option<Item<'_>>
 }
 
 /// Whether the words from this one on are items that the tool can be given.
-pub fn are_items(tool: Tool, words: &[String], begin: usize) -> bool
+pub fn are_items_of_tool(tool: Tool, words: &[String], begin: usize) -> bool
     ensures { result ≡ is_some (known (tool_as tool) (items_of (drop begin (map string_bytes words.now)))) }
 {
     let mut at = begin;
@@ -281,7 +281,7 @@ pub fn are_items(tool: Tool, words: &[String], begin: usize) -> bool
 }
 
 /// The first word from this one on that is given for this.
-fn found_from(words: &[String], begin: usize, purpose: &str) -> Option<Place>
+fn found_from(words: &[String], begin: usize, purpose: &str) -> Option<WordPlace>
     ensures found { with_found (map string_bytes words.now) purpose.now (values_from (map string_bytes words.now) purpose.now begin) result }
     ensures within { IfSome result (λ place. place.value < length words.now) }
 {
@@ -291,7 +291,7 @@ fn found_from(words: &[String], begin: usize, purpose: &str) -> Option<Place>
             None => return None,
             Some(item) => {
                 if item.purpose == purpose {
-                    return Some(Place {
+                    return Some(WordPlace {
                         value: item.value,
                         next: item.next,
                     });

@@ -9,7 +9,7 @@ ghost use Rattle.pd_words.specs.Items.{tool_as};
 ghost use Rattle.pd_words.specs.Numbers.{region_as};
 ghost use Rattle.pd_words.specs.Words.{read_as, answer_as, repair_as, word_of, words_of, AreNames, IsGenerated, IsName, IsNameIfAny, IsVersion};
 
-use crate::items::{Given, IMAGE, Tool, are_items, given_for, tool_named};
+use crate::items::{Given, IMAGE, Tool, are_items_of_tool, given_for, tool_named};
 use crate::numbers::{Region, number, number_below, read_region};
 use crate::request::{Name, Request, WordFault};
 use pd_kinds::{Flagged, Kind, Passing, Stage};
@@ -30,7 +30,7 @@ pub fn read_words(words: &[String]) -> Result<Request, WordFault>
     match tool_named(words[0].as_str()) {
         None => Err(WordFault::Usage),
         Some(tool) => {
-            if are_items(tool, words, 1) {
+            if are_items_of_tool(tool, words, 1) {
                 read_request(tool, words).ok_or(WordFault::Usage)
             } else {
                 Err(WordFault::Usage)
@@ -50,7 +50,7 @@ fn read_request(tool: Tool, words: &[String]) -> Option<Request>
         Tool::Restore(kind) => read_restore(kind, words),
         Tool::Repair => read_repair(words),
         Tool::ReverseMap => read_rmap(words),
-        Tool::DeviceList => read_list(words),
+        Tool::DeviceList => read_device_list(words),
         Tool::Since => read_since(words),
         Tool::Generate => read_generate(words),
         Tool::Rehearse => read_rehearse(words),
@@ -255,8 +255,8 @@ fn read_rmap(words: &[String]) -> Option<Request>
 
 /// What the words ask of the list of devices.
 #[tactic(auto, unfolding(pd_answers::specs::Words::request_of))]
-fn read_list(words: &[String]) -> Option<Request>
-    ensures asked { IfSome (items_of (drop 1 (map string_bytes words.now))) (λ items. read_as (map string_bytes words.now) result ≡ words_spec.request_of words_spec.list_tool items) }
+fn read_device_list(words: &[String]) -> Option<Request>
+    ensures asked { IfSome (items_of (drop 1 (map string_bytes words.now))) (λ items. read_as (map string_bytes words.now) result ≡ words_spec.request_of words_spec.device_list_tool items) }
     ensures names { IfSome result (AreNames (length words.now)) }
 {
     let out = optional(words, "-o")?;

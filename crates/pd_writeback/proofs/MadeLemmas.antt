@@ -19,7 +19,7 @@ use Rattle.pd_answers.specs.CachedView.{CachedBlock, blocks_each, dirty_places, 
 use Rattle.pd_writeback.specs.declared.fault.WriteFault.{WriteFault}
 use Rattle.pd_writeback.specs.declared.fault.WriteFault.TheVariants.{Memory, Meta, Origin, Fast, BlockSize, NoRoom}
 use Rattle.pd_writeback.specs.declared.hot.HotBlock.{HotBlock}
-use Rattle.pd_writeback.specs.Hot.{cached, cached_all, hot_rows, is_clean}
+use Rattle.pd_writeback.specs.Hot.{cached_of_hot, cached_all, hot_rows, is_clean}
 use Rattle.pd_writeback.specs.Places.{dirty_root, places_named, tree_names}
 use Rattle.pd_writeback.specs.Plan.{HasBadSize, IsFound, IsUnplanned}
 use Rattle.pd_writeback.specs.Room.{AllFit, Fits, HasRoom, LacksRoom}
@@ -117,14 +117,14 @@ greatest a (x ∷ xs) (suc i) within = let within' : i < length xs = omega arith
 -- so each hot block fits
 pub all_fit : (k fast origin : ℕ) (hot : List HotBlock) → HasRoom k (cached_all hot) fast origin → AllFit k fast origin hot
 all_fit k fast origin hot room i d within =
-    let inside : i < length (cached_all hot) = rw (length-map hot cached) within in
+    let inside : i < length (cached_all hot) = rw (length-map hot cached_of_hot) within in
     let on_fast : List ℕ = map (λ (c : CachedBlock). (c.cache_block + 1) * k) (cached_all hot) in
     let on_origin : List ℕ = map (λ (c : CachedBlock). c.origin_block * k + 1) (cached_all hot) in
-    let one = get_or-map cached hot i d (cached d) within in
+    let one = get_or-map cached_of_hot hot i d (cached_of_hot d) within in
     let fast_at : get_or on_fast i 0 ≡ ((get_or hot i d).cache_block + 1) * k =
-    get_or-map (λ (c : CachedBlock). (c.cache_block + 1) * k) (cached_all hot) i (cached d) 0 inside ∙ ap (λ (c : CachedBlock). (c.cache_block + 1) * k) one in
+    get_or-map (λ (c : CachedBlock). (c.cache_block + 1) * k) (cached_all hot) i (cached_of_hot d) 0 inside ∙ ap (λ (c : CachedBlock). (c.cache_block + 1) * k) one in
     let origin_at : get_or on_origin i 0 ≡ (get_or hot i d).origin_block * k + 1 =
-    get_or-map (λ (c : CachedBlock). c.origin_block * k + 1) (cached_all hot) i (cached d) 0 inside ∙ ap (λ (c : CachedBlock). c.origin_block * k + 1) one in
+    get_or-map (λ (c : CachedBlock). c.origin_block * k + 1) (cached_all hot) i (cached_of_hot d) 0 inside ∙ ap (λ (c : CachedBlock). c.origin_block * k + 1) one in
     let most_fast = greatest 0 on_fast i (rw (length-map (cached_all hot) (λ (c : CachedBlock). (c.cache_block + 1) * k)) inside) in
     let most_origin = greatest 0 on_origin i (rw (length-map (cached_all hot) (λ (c : CachedBlock). c.origin_block * k + 1)) inside) in
     record { on_fast = at_most (sym fast_at) most_fast room.on_fast; on_origin = at_most (sym origin_at) most_origin room.on_origin }

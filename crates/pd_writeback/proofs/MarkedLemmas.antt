@@ -12,7 +12,7 @@ use Rattle.pd_kinds.specs.Graph.{block_at}
 use Rattle.pd_kinds.specs.Meaning.{cache_meaning}
 use Rattle.pd_kinds.specs.Crash.{HoldsSynced, IsNoneOrNew, IsOldOrNone, LeavesOnly}
 use Rattle.pd_kinds.specs.Objects.{DeviceState}
-use Rattle.pd_kinds.specs.Moments.{History, now}
+use Rattle.pd_kinds.specs.Moments.{History, present_moment}
 use Rattle.pd_kinds.proofs.CrashLemmas.{and_then, left_now, left_synced, stays, weaken}
 use Rattle.pd_image.proofs.CrashLemmas.{at_some}
 use Rattle.pd_draft.specs.Closed.{StaysClosed}
@@ -216,7 +216,7 @@ done_marking version places super (Some image) mid new closed done = at_some mid
 -- where nothing is written
 pub unwritten_marking : (image made : Image) {old new : DeviceState} → new.held ≡ old.held → new.history ≡ old.history → HoldsSynced image old → LeavesOnly (IsOldNoneOrMarked image made) old new
 unwritten_marking image made {old} {new} held history synced =
-    stays held history (λ left firsts leaves chance. inl (left_synced image left (now image old.history) refl synced.unsynced (left_now old image left firsts synced.held leaves).0))
+    stays held history (λ left firsts leaves chance. inl (left_synced image left (present_moment image old.history) refl synced.unsynced (left_now old image left firsts synced.held leaves).0))
 
 pub still_synced : (image : Image) {old new : DeviceState} → new.held ≡ old.held → new.history ≡ old.history → HoldsSynced image old → HoldsSynced image new
 still_synced image held history synced = record {

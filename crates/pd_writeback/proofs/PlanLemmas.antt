@@ -10,7 +10,7 @@ use Rattle.pd_kinds.specs.CacheFormat.{CacheFields, cache_fields}
 use Rattle.pd_kinds.specs.Graph.{block_at}
 use Rattle.pd_kinds.specs.Image.{HasBytes, HasWholeBlocks}
 use Rattle.pd_kinds.specs.Meaning.{cache_meaning}
-use Rattle.pd_kinds.specs.Moments.{after_sync, now}
+use Rattle.pd_kinds.specs.Moments.{after_sync, present_moment}
 use Rattle.pd_kinds.specs.Crash.{HoldsSynced, LeavesNow, LeavesOnly}
 use Rattle.pd_kinds.specs.Objects.{DeviceState}
 use Rattle.pd_kinds.proofs.CrashLemmas.{and_then, left_held, left_now, left_synced, weaken}
@@ -19,7 +19,7 @@ use Rattle.pd_cache_meaning.specs.Given.{GivesCache, entry_of}
 use Rattle.pd_cache_meaning.specs.Rows.{RootsBelow, rows_below}
 use Rattle.pd_answers.specs.CachedView.{CachedBlock, blocks_each, copied, fast_place, hot_blocks, overlaid, settled, stands_for}
 use Rattle.pd_writeback.specs.declared.hot.HotBlock.{HotBlock}
-use Rattle.pd_writeback.specs.Hot.{cached, cached_all, hot_rows, is_clean}
+use Rattle.pd_writeback.specs.Hot.{cached_of_hot, cached_all, hot_rows, is_clean}
 use Rattle.pd_writeback.specs.Overlaid.{IsEachOnce, IsLeftKept}
 use Rattle.pd_writeback.specs.declared.plan.Plan.{Plan}
 use Rattle.pd_writeback.specs.Marked.{are_settled, marked_image}
@@ -41,11 +41,11 @@ no_hot (x ∷ xs) none = absurd (omega arith)
 pub cold_blocks : (cs : List CachedBlock) (hot : List HotBlock) → IsPermutation cs (cached_all hot) → length hot ≡ 0 → cs ≡ []
 cold_blocks cs hot same none =
     let number = length_permutation cs (cached_all hot) same in
-    let count = length-map hot cached in
+    let count = length-map hot cached_of_hot in
     no_hot cs (omega arith)
 
 pub no_cached : (hot : List HotBlock) {n : ℕ} → n ≡ length hot → cached_all hot ≡ [] → n ≡ 0
-no_cached hot number none = let count = length-map hot cached in omega (arith, number, count, ap length none)
+no_cached hot number none = let count = length-map hot cached_of_hot in omega (arith, number, count, ap length none)
 
 pub cold_settled : (image : Image) → hot_blocks (cache_meaning image) ≡ [] → settled image ≡ image
 unfolding settled
@@ -54,7 +54,7 @@ cold_settled image none = rw none refl
 pub warm : (cs : List CachedBlock) (hot : List HotBlock) → IsPermutation cs (cached_all hot) → (length hot ≡ 0 → ⊥) → nat_eq (length cs) 0 ≡ false
 warm cs hot same some =
     let number = length_permutation cs (cached_all hot) same in
-    let count = length-map hot cached in
+    let count = length-map hot cached_of_hot in
     ne_eqb (length cs) 0 (λ none. some (omega arith))
 
 pub cold_copied : (image origin fast : Image) → hot_blocks (cache_meaning image) ≡ [] → copied image origin fast ≡ origin
@@ -100,7 +100,7 @@ kept_in_any_order k xs ys base moved leaves =
 -- an origin of which nothing is unsynced
 pub kept_here : (k : ℕ) (cs : List CachedBlock) (base : Image) (device : DeviceState) → HoldsSynced base device → LeavesNow (IsLeftKept k cs base) device
 kept_here k cs base device synced left firsts leaves =
-    let is : left ≡ base = left_synced base left (now base device.history) refl synced.unsynced (left_now device base left firsts synced.held leaves).0 in
+    let is : left ≡ base = left_synced base left (present_moment base device.history) refl synced.unsynced (left_now device base left firsts synced.held leaves).0 in
     record { number = ap (λ (i : Image). length i) is; others = λ b none. ap (λ (i : Image). slice_get i b) is }
 
 -- the sync after the copying, at Ok or not

@@ -23,7 +23,7 @@ use Rattle.pd_tree.proofs.ReachLemmas.{IsMet, met}
 use Rattle.pd_cache_meaning.proofs.SoundCache.{within}
 use Rattle.pd_writeback.specs.Places.{mark, marks, places_named, seen_places, tree_names}
 use Rattle.pd_writeback.proofs.PlacesLemmas.{length-marks}
-use Rattle.pd_settled.proofs.DirtyPlaces.{any_value, same_truth, kept_in}
+use Rattle.pd_changed.proofs.DirtyPlaces.{any_value, same_truth, kept_in}
 
 -- what a write of true leaves
 set_get : (seen : List Bool) (x b : ℕ) → get_or (set seen x true) b false ≡ true → (get_or seen b false ≡ true) ⊎ ((b < length seen) × (x ≡ b))

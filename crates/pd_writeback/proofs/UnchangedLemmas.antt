@@ -14,7 +14,7 @@ use Rattle.pd_kinds.specs.Image.{HasBytes, HasWholeBlocks}
 use Rattle.pd_kinds.specs.Meaning.{cache_meaning}
 use Rattle.pd_laid_graph.proofs.Bytes.{AreBytes}
 use Rattle.pd_answers.specs.CachedView.{dirty_places, hot_blocks, settled, settled_block, settled_word}
-use Rattle.pd_settled.proofs.SettledBlock.{settled_words}
+use Rattle.pd_changed.proofs.SettledBlock.{settled_words}
 use Rattle.pd_writeback.specs.Marked.{are_settled, is_block_settled}
 use Rattle.pd_writeback.specs.Places.{ArePlaces}
 use Rattle.pd_writeback.proofs.MarkedLemmas.{any_at}

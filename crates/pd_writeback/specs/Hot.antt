@@ -6,11 +6,11 @@ use Rattle.pd_cache_meaning.specs.declared.side_arrays.CacheRow.{CacheRow}
 use Rattle.pd_writeback.specs.declared.hot.HotBlock.{HotBlock}
 
 -- as a cached block of the definitions
-abbrev pub cached : HotBlock → CachedBlock
-cached hot = record { cache_block = hot.cache_block; origin_block = hot.origin_block }
+abbrev pub cached_of_hot : HotBlock → CachedBlock
+cached_of_hot hot = record { cache_block = hot.cache_block; origin_block = hot.origin_block }
 
 abbrev pub cached_all : List HotBlock → List CachedBlock
-cached_all hot = map cached hot
+cached_all hot = map cached_of_hot hot
 
 -- a block, where it is hot
 abbrev pub hot_one : Bool → ℕ → ℕ → List CachedBlock

@@ -13,8 +13,8 @@ ghost use Rattle.pd_answers.specs.CachedView.{dirty_places, hot_blocks};
 ghost use Rattle.pd_writeback.specs.Overlaid.{IsEachOnce};
 ghost use Rattle.pd_writeback.specs.Places.{dirty_root, places_named, tree_names};
 
+use pd_changed::origins_come_once;
 use pd_laws::{reached_by_paths, trees_are_in_order};
-use pd_settled::origins_come_once;
 use pd_tree::{
     cursors_give_entries, entries_lead_to_reached_pairs, formats_have_trees,
     reached_trees_are_sound, superblocks_lead_to_reached_roots,
@@ -35,7 +35,7 @@ pub fn places_are_those_of_one_tree()
     cursors_give_entries::<Root>();
     trees_are_in_order();
     reached_by_paths();
-    pd_settled::dirty_places_are_named();
+    pd_changed::dirty_places_are_named();
 }
 
 /// In a cache without faults up to the stage Whole, at most one hot block stands for each block of the origin.

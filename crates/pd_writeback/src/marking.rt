@@ -10,7 +10,7 @@ ghost use Rattle.pd_answers.specs.CachedView.{settled_block};
 ghost use Rattle.pd_writeback.specs.Marked.{IsOldNoneOrMarked, are_settled, marked, marked_image};
 ghost use Rattle.pd_writeback.specs.Places.{ArePlaces};
 
-use crate::settling::{is_settled, settle};
+use crate::settling::{clear_dirty, is_settled};
 use pd_draft::{Rewrite, clear};
 use pd_image::{Device, Failed};
 use pd_kinds::Block;
@@ -78,7 +78,7 @@ fn mark_closed<A: Device>(
     ensures kept { KeepsPlace (A.state meta.old) (A.state meta.new) }
     ensures faults { CountsFault result (A.state meta.old).faults (A.state meta.new).faults }
 {
-    let mut rewrite = Rewrite::over(meta);
+    let mut rewrite = Rewrite::on_closed(meta);
     mark_all(&mut rewrite, version, places)?;
     rewrite.commit(super_block)
 }
@@ -125,5 +125,5 @@ fn mark_one<A: Device>(
     if is_settled(version, block) {
         return Ok(());
     }
-    rewrite.replace(place, &settle(version, block))
+    rewrite.replace(place, &clear_dirty(version, block))
 }

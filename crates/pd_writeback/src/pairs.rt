@@ -7,7 +7,7 @@ ghost use Rattle.pd_answers.specs.CachedView.{overlaid, stands_for};
 ghost use Rattle.pd_answers.specs.Writebacks.{KeepsOthers};
 ghost use Rattle.pd_writeback.specs.Copied.{IsCopied, IsLeftAsBut};
 ghost use Rattle.pd_writeback.specs.Failing.{CountsCopies};
-ghost use Rattle.pd_writeback.specs.Hot.{cached, cached_all};
+ghost use Rattle.pd_writeback.specs.Hot.{cached_of_hot, cached_all};
 ghost use Rattle.pd_writeback.specs.Overlaid.{IsEachOnce, IsLeftKept};
 ghost use Rattle.pd_writeback.specs.Room.{AllFit, Fits};
 
@@ -53,7 +53,7 @@ fn copy_one<B: Device, C: Device>(
     requires fits { Fits each (C.state fast.old).blocks (B.state origin.old).blocks one.now }
     ensures copied { OnOk result (IfSome (C.state fast.old).held (λ held. IfSome (B.state origin.old).held (λ old. IfSome (B.state origin.new).held
         (IsCopied (one.now.cache_block * each) (one.now.origin_block * each) (min each ((B.state origin.old).blocks - one.now.origin_block * each)) held old)))) }
-    ensures crash { (may_differ : ℕ → Bool) (base : List (List ℕ)) → ((b : ℕ) → stands_for each (cached one.now) b ≡ true → may_differ b ≡ true)
+    ensures crash { (may_differ : ℕ → Bool) (base : List (List ℕ)) → ((b : ℕ) → stands_for each (cached_of_hot one.now) b ≡ true → may_differ b ≡ true)
         → LeavesNow (IsLeftAsBut may_differ base) (B.state origin.old)
         → LeavesOnly (IsLeftAsBut may_differ base) (B.state origin.old) (B.state origin.new) }
     ensures told { is_some (B.state origin.new).held ≡ is_some (B.state origin.old).held }

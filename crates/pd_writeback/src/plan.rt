@@ -79,11 +79,11 @@ impl Plan {
             return Err(WriteFault::BlockSize);
         }
         let super_block = read_super(alloc, meta)?;
-        Plan::over(alloc, super_block, meta, origin.blocks(), fast.blocks())
+        Plan::with_super(alloc, super_block, meta, origin.blocks(), fast.blocks())
     }
 
     /// Makes the plan over metadata with this superblock, and so many blocks of the origin and of the fast device.
-    fn over<A: Device>(
+    fn with_super<A: Device>(
         alloc: Global,
         super_block: Box<Block>,
         meta: &mut A,
@@ -186,12 +186,12 @@ impl Plan {
         if is_marked {
             Ok(())
         } else {
-            self.mark_dirty(meta)
+            self.write_marks(meta)
         }
     }
 
     /// The same, where something is hot, and whether or not anything is to change.
-    fn mark_dirty<A: Device>(&self, meta: &mut A) -> Result<(), WriteFault>
+    fn write_marks<A: Device>(&self, meta: &mut A) -> Result<(), WriteFault>
         requires writable { IsWritable (A.state meta.old) }
         requires blocks { (A.state meta.old).blocks ≡ self.now.meta_blocks }
         requires hot { length self.now.hot.items ≢ 0 }

@@ -45,7 +45,7 @@ pub(crate) fn is_settled(version: u32, block: &Block) -> bool
 }
 
 /// The block with words that say that nothing is dirty, sealed again.
-pub(crate) fn settle(version: u32, block: &Block) -> Block
+pub(crate) fn clear_dirty(version: u32, block: &Block) -> Block
     ensures { result.0 ≡ sealed (puts block.now.0 24 8 (map (settled_word version) (long_words block.now.0))) array_salt }
 {
     let mut made = *block;

@@ -1,6 +1,6 @@
 use Rattle.std.proofs.Common.{◌≡◌, ◌+◌, subst, arith}
 use Rattle.pd_graph.specs.Audit.{blocks_of}
-use Rattle.pd_refs.proofs.RefsLemmas.{if_maps}
+use Rattle.pd_whole.proofs.RefsLemmas.{if_maps}
 use Rattle.pd_arrays.specs.Arrays.{AreMarkedTo}
 use Rattle.pd_arrays.proofs.LevelLemmas.{all_marked}
 use Rattle.pd_arrays.proofs.ReadLemmas.{where_in}

@@ -1,6 +1,6 @@
 use Rattle.std.proofs.Common.{◌+◌, ◌≤◌, arith}
 use Rattle.pd_graph.specs.Audit.{blocks_of}
-use Rattle.pd_refs.proofs.RefsLemmas.{if_maps}
+use Rattle.pd_whole.proofs.RefsLemmas.{if_maps}
 use Rattle.pd_arrays.specs.Reads.{is_at}
 use Rattle.pd_arrays.proofs.LevelLemmas.{level_done}
 use Rattle.pd_arrays.proofs.ReadLemmas.{where_all, where_level}

@@ -2,7 +2,7 @@ use Rattle.std.proofs.Common.{nat_eq, sym, ◌∙◌, arith}
 use Rattle.std.proofs.lemmas.Bool.{and_parts, eqb-true}
 use Rattle.pd_graph.specs.Audit.{note_at, roles_at}
 use Rattle.pd_graph.specs.Roles.{has_bit}
-use Rattle.pd_refs.proofs.RefsLemmas.{if_all, if_maps}
+use Rattle.pd_whole.proofs.RefsLemmas.{if_all, if_maps}
 use Rattle.pd_arrays.specs.Reads.{is_at}
 use Rattle.pd_arrays.proofs.LevelLemmas.{blocks_kept, marked_more, marked_still, node_right, reached_if_met}
 use Rattle.pd_arrays.proofs.ReadLemmas.{read_none, read_one}

@@ -1,18 +1,18 @@
 use Rattle.std.proofs.Common.{◌≡◌, take, drop, length}
 use Rattle.pd_kinds.specs.Node.{inner_block}
 use Rattle.pd_draft.specs.Placed.{Wrote}
-use Rattle.pd_draft.specs.Stand.{stand}
-use Rattle.pd_laid.specs.Tree.{blocks_from, heads, spread}
-use Rattle.pd_build.specs.Rows.{links}
+use Rattle.pd_draft.specs.DraftState.{draft_state}
+use Rattle.pd_laid.specs.Tree.{blocks_from, heads, even_parts}
+use Rattle.pd_build.specs.Rows.{link_entries}
 use Rattle.pd_build.proofs.UpperLemmas.{IsHalf}
 use Rattle.pd_build.proofs.upper.write_level.Given as goal
 
 abbrev pub invariant-loop-i : goal.invariant-loop-i
 invariant-loop-i g l = record {
   same_reference : l.draft.dev.ghost_name ≡ l.initial.draft.dev.ghost_name;
-  half : IsHalf l.nodes (links l.initial.level) l.i l.used;
+  half : IsHalf l.nodes (link_entries l.initial.level) l.i l.used;
   below : drop l.used l.level ≡ drop l.used l.initial.level;
-  heads_are : links (take l.i l.level) ≡ heads l.initial.draft.next (take l.i (spread l.nodes (links l.initial.level)));
-  wrote : Wrote (blocks_from inner_block l.initial.draft.next (take l.i (spread l.nodes (links l.initial.level)))) (stand l.initial.draft) (stand l.draft);
+  heads_are : link_entries (take l.i l.level) ≡ heads l.initial.draft.next (take l.i (even_parts l.nodes (link_entries l.initial.level)));
+  wrote : Wrote (blocks_from inner_block l.initial.draft.next (take l.i (even_parts l.nodes (link_entries l.initial.level)))) (draft_state l.initial.draft) (draft_state l.draft);
   same_length : length l.level ≡ length l.initial.level;
 }

@@ -1,7 +1,7 @@
 use Rattle.std.proofs.Common.{ℕ, sym, ap, ◌∙◌, subst, arith}
 use Rattle.pd_kinds.specs.CacheFormat.{CacheFields, cache_fields, cache_graph, cache_layout}
 use Rattle.pd_kinds.specs.Graph.{Graph, is_reached}
-use Rattle.pd_refs.proofs.RefsLemmas.{if_maps, ok_maps}
+use Rattle.pd_whole.proofs.RefsLemmas.{if_maps, ok_maps}
 use Rattle.pd_arrays.specs.Arrays.{AreAllShown}
 use Rattle.pd_cache.specs.Room.{IsRoomFor}
 use Rattle.pd_cache.specs.Whole.{arrays, origin_reads}

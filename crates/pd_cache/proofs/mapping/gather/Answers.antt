@@ -4,7 +4,7 @@ use Rattle.pd_image.proofs.ReadLemmas.{only_reads_both}
 use Rattle.pd_tree.specs.Cursor.{cursor_items}
 use Rattle.pd_tree.specs.Items.{root_of}
 use Rattle.pd_cache.specs.Meeting.{AreMet, IsMapBlock, IsPartMet, blocks_left, blocks_named}
-use Rattle.pd_refs.proofs.RefsLemmas.{if_then}
+use Rattle.pd_whole.proofs.RefsLemmas.{if_then}
 use Rattle.pd_cache.proofs.MeetLemmas.{part_end, part_more, seen_few}
 use Rattle.pd_cache.proofs.mapping.gather.Goals as goal
 

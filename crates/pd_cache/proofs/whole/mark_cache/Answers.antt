@@ -1,7 +1,7 @@
 use Rattle.std.proofs.Common.{◌==◌, ℕ, [], ◌∷◌, ◌++◌, List, subst, arith, append_assoc}
 use Rattle.std.specs.List.{flat_map}
 use Rattle.pd_kinds.specs.Whole.{WholeTest, array_whole, bitmap_tests}
-use Rattle.pd_refs.proofs.RefsLemmas.{if_all, if_maps, ok_maps}
+use Rattle.pd_whole.proofs.RefsLemmas.{if_all, if_maps, ok_maps}
 use Rattle.pd_whole.specs.Charges.{Charges}
 use Rattle.pd_whole.proofs.ChargeLemmas.{keeps_both}
 use Rattle.pd_cache.specs.Whole.{IsReady, arrays_named, origin_test, tests_named}

@@ -1,7 +1,7 @@
 use Rattle.std.proofs.Common.{◌+◌, ◌/◌, [], ◌∷◌, eq-eqb}
 use Rattle.std.proofs.lemmas.Bool.{ne_eqb}
 use Rattle.pd_kinds.specs.Whole.{array_whole}
-use Rattle.pd_refs.proofs.RefsLemmas.{if_all, if_maps, ok_maps}
+use Rattle.pd_whole.proofs.RefsLemmas.{if_all, if_maps, ok_maps}
 use Rattle.pd_whole.proofs.ChargeLemmas.{charges_none}
 use Rattle.pd_arrays.specs.Arrays.{array_of}
 use Rattle.pd_cache.specs.Whole.{dirty_bits}

@@ -1,4 +1,4 @@
-use Rattle.pd_refs.proofs.RefsLemmas.{if_maps}
+use Rattle.pd_whole.proofs.RefsLemmas.{if_maps}
 use Rattle.pd_tree.specs.Below.{items_below}
 use Rattle.pd_tree.specs.Items.{root_of}
 use Rattle.pd_cache.proofs.WholeLemmas.{origin_charged}

@@ -1,6 +1,6 @@
 use Rattle.std.proofs.Common.{List, sym, subst, arith, rules}
 use Rattle.pd_kinds.specs.Node.{Entry}
-use Rattle.pd_draft.specs.Placed.{Stand}
+use Rattle.pd_draft.specs.Placed.{DraftState}
 use Rattle.pd_spells.specs.ThinText.{mappings_from}
 use Rattle.pd_laid.specs.LaidThin.{mapping_items}
 use Rattle.pd_devices.specs.Growth.{GrowsBy}
@@ -27,8 +27,8 @@ loop-i-preserved g c =
     let run = c.args.run in
     let i = c.loop-i.i in
     let items = mapping_items (mappings_from run.virtual_block run.data_block run.time i) in
-    let start : Stand = record { device = g.D.Device.state c.args.draft.now.dev.now; place = c.args.draft.now.next } in
-    let now : Stand = record { device = g.D.Device.state c.put.new.draft.dev.now; place = c.put.new.draft.next } in
+    let start : DraftState = record { device = g.D.Device.state c.args.draft.now.dev.now; place = c.args.draft.now.next } in
+    let now : DraftState = record { device = g.D.Device.state c.put.new.draft.dev.now; place = c.put.new.draft.next } in
     record {
       same_reference = search rules;
       grows = subst (λ (taken : List Entry). GrowsBy 8 taken c.args.builder.now c.put.new.self start now) (sym (items_more run.virtual_block run.data_block run.time i))

@@ -1,7 +1,7 @@
 use Rattle.std.proofs.Common.{sym, ap, subst, ◌∙◌, arith}
 use Rattle.pd_kinds.specs.EraFormat.{EraFields, era_fields, era_graph, era_layout}
 use Rattle.pd_kinds.specs.Graph.{Graph, is_reached}
-use Rattle.pd_refs.proofs.RefsLemmas.{if_all, ok_maps, if_maps}
+use Rattle.pd_whole.proofs.RefsLemmas.{if_all, ok_maps, if_maps}
 use Rattle.pd_arrays.specs.Arrays.{AreAllShown}
 use Rattle.pd_era.specs.Whole.{arrays, whole_reads}
 use Rattle.pd_era.proofs.ReadyLemmas.{blocks_are, graph_is, have_words, super_charged}

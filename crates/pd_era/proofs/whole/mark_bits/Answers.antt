@@ -2,8 +2,8 @@ use Rattle.std.proofs.Common.{ap, ◌∙◌, arith}
 use Rattle.std.specs.List.{flat_map}
 use Rattle.pd_kinds.specs.Whole.{array_whole, reached_writesets}
 use Rattle.pd_graph.specs.Audit.{blocks_of}
-use Rattle.pd_refs.specs.Refs.{number_in}
-use Rattle.pd_refs.proofs.RefsLemmas.{if_then, ok_maps}
+use Rattle.pd_whole.specs.Refs.{number_in}
+use Rattle.pd_whole.proofs.RefsLemmas.{if_then, ok_maps}
 use Rattle.pd_whole.proofs.ChargeLemmas.{charges_then}
 use Rattle.pd_arrays.specs.KindReads.{kind_reads}
 use Rattle.pd_arrays.proofs.JudgeLemmas.{arrays_stay}

@@ -2,8 +2,8 @@ use Rattle.std.proofs.Common.{◌==◌, ◌∷◌, [], ◌++◌, List, ap, ◌�
 use Rattle.std.specs.List.{flat_map}
 use Rattle.pd_kinds.specs.Whole.{WholeTest, array_whole, bitmap_tests, reached_writesets}
 use Rattle.pd_graph.specs.Audit.{blocks_of}
-use Rattle.pd_refs.specs.Refs.{number_in}
-use Rattle.pd_refs.proofs.RefsLemmas.{if_then, ok_maps}
+use Rattle.pd_whole.specs.Refs.{number_in}
+use Rattle.pd_whole.proofs.RefsLemmas.{if_then, ok_maps}
 use Rattle.pd_whole.specs.Charges.{Charges}
 use Rattle.pd_whole.proofs.ChargeLemmas.{charges_then, keeps_both}
 use Rattle.pd_arrays.specs.Arrays.{array_of}

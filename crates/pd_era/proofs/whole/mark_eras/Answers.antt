@@ -1,7 +1,7 @@
 use Rattle.std.proofs.Common.{ap, arith, [], ◌∷◌}
 use Rattle.std.specs.List.{flat_map}
 use Rattle.pd_kinds.specs.Whole.{array_whole}
-use Rattle.pd_refs.proofs.RefsLemmas.{if_then, ok_maps}
+use Rattle.pd_whole.proofs.RefsLemmas.{if_then, ok_maps}
 use Rattle.pd_whole.proofs.ChargeLemmas.{charges_then}
 use Rattle.pd_arrays.specs.Arrays.{array_of}
 use Rattle.pd_arrays.specs.KindReads.{kind_reads}

@@ -3,8 +3,8 @@ use Rattle.std.specs.Option.{unwrap_or}
 use Rattle.pd_kinds.specs.Graph.{block_at}
 use Rattle.pd_kinds.specs.Stages.{IsReached}
 use Rattle.pd_graph.specs.Roles.{has_bit}
-use Rattle.pd_refs.specs.Refs.{number_in}
-use Rattle.pd_refs.proofs.RefsLemmas.{if_all, if_maps, number_more}
+use Rattle.pd_whole.specs.Refs.{number_in}
+use Rattle.pd_whole.proofs.RefsLemmas.{if_all, if_maps, number_more}
 use Rattle.pd_era.proofs.SetLemmas.{sets_lead, sets_none}
 use Rattle.pd_era.proofs.writesets.mark_node.Goals as goal
 

@@ -1,8 +1,8 @@
 use Rattle.std.proofs.Common.{◌≡◌, ◌+◌, ◌-◌, ◌≤◌, List, ap, ◌∙◌, subst, arith, rules}
 use Rattle.pd_kinds.specs.Node.{Entry}
 use Rattle.pd_graph.specs.Audit.{blocks_of}
-use Rattle.pd_refs.specs.Refs.{number_in}
-use Rattle.pd_refs.proofs.RefsLemmas.{if_all, if_maps, if_then, number_grows}
+use Rattle.pd_whole.specs.Refs.{number_in}
+use Rattle.pd_whole.proofs.RefsLemmas.{if_all, if_maps, if_then, number_grows}
 use Rattle.pd_whole.specs.Charges.{Charges}
 use Rattle.pd_whole.proofs.ChargeLemmas.{keeps_both, keeps_none}
 use Rattle.pd_arrays.proofs.JudgeLemmas.{arrays_stay}

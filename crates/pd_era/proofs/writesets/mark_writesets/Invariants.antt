@@ -2,7 +2,7 @@ use Rattle.std.proofs.Common.{◌≡◌, ◌+◌, ◌≤◌, IfSome}
 use Rattle.pd_kinds.specs.Graph.{Graph}
 use Rattle.pd_image.specs.Device.{OnlyReads}
 use Rattle.pd_graph.specs.Audit.{KeepsButRules}
-use Rattle.pd_refs.specs.Refs.{number_in}
+use Rattle.pd_whole.specs.Refs.{number_in}
 use Rattle.pd_tree.specs.TreeRoles.{HasEraTrees}
 use Rattle.pd_whole.specs.Charges.{Charges}
 use Rattle.pd_arrays.specs.Arrays.{AreMarked, HasArrays}

@@ -2,7 +2,7 @@ use Rattle.pd_kinds.specs.declared.kind.Kind.TheVariants.{Thin}
 use Rattle.pd_kinds.specs.declared.kind.Stage.TheVariants.{Whole}
 use Rattle.pd_kinds.specs.Graph.{block_at}
 use Rattle.pd_kinds.specs.ThinFormat.{thin_graph}
-use Rattle.pd_alike.specs.Known.{IsKnown}
+use Rattle.pd_changed.specs.KnownPool.{IsKnown}
 use Rattle.pd_exact.proofs.LostPool.{keeps_roots}
 use Rattle.pd_exact.proofs.StageLemmas.{none_of_super}
 use Rattle.pd_exact.proofs.SalvageLawful.{sizes_are}

@@ -5,7 +5,7 @@ use Rattle.pd_value.specs.declared.thin.Details.{Details}
 use Rattle.pd_tree.specs.Cursor.{cursor_items}
 use Rattle.pd_tree.specs.Items.{item_of}
 use Rattle.pd_measures.specs.Counts.{counts_of_details}
-use Rattle.pd_measures.specs.Lists.{details_of, pair_of}
+use Rattle.pd_measures.specs.Lists.{details_of, key_and_told}
 use Rattle.pd_measures.proofs.PairLemmas.{details_listed, ok_some}
 use Rattle.pd_measures.proofs.SoundLemmas.{lost_details, lost_lawful, lost_roles, root_inside}
 use Rattle.pd_measures.proofs.listing.list_of_details.Goals as goal
@@ -22,4 +22,4 @@ returns-clause-list g c =
     let given : cursor_items 24 details_of image c.restart.new.self ≡ map (item_of details_of) entries =
     c.restart.ensures.items image
     ∙ c.cursors_give_entries.ensures.entries graph image details 4 (lost_details image data_blocks) (c.found_trees_are_sound.ensures graph image 4 details lawful (omega arith) sound) in
-    listed ∙ (ap (map (pair_of (λ (d : Details). d.mapped))) given ∙ details_listed entries)) c.gather.ensures.list
+    listed ∙ (ap (map (key_and_told (λ (d : Details). d.mapped))) given ∙ details_listed entries)) c.gather.ensures.list

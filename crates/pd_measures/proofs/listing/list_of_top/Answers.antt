@@ -6,7 +6,7 @@ use Rattle.pd_tree.specs.Cursor.{cursor_items}
 use Rattle.pd_tree.specs.Items.{item_of, root_of}
 use Rattle.pd_measures.specs.Counts.{counts_of_top, mappings_below}
 use Rattle.pd_measures.specs.Gauge.{below_root}
-use Rattle.pd_measures.specs.Lists.{pair_of}
+use Rattle.pd_measures.specs.Lists.{key_and_told}
 use Rattle.pd_measures.proofs.PairLemmas.{ok_some, tops_listed}
 use Rattle.pd_measures.proofs.SoundLemmas.{lost_lawful, lost_roles, lost_tops, root_inside}
 use Rattle.pd_measures.proofs.listing.list_of_top.Goals as goal
@@ -24,4 +24,4 @@ returns-clause-list g c =
     let given : cursor_items 8 root_of image c.restart.new.self ≡ map (item_of root_of) tops =
     c.restart.ensures.items image
     ∙ c.cursors_give_entries.ensures.entries graph image top 2 (lost_tops image data_blocks) (c.found_trees_are_sound.ensures graph image 2 top lawful (omega arith) sound) in
-    listed ∙ (ap (map (pair_of (λ (root : Root). below root.0))) given ∙ tops_listed below (mappings_below graph image) tops told)) c.gather.ensures.list
+    listed ∙ (ap (map (key_and_told (λ (root : Root). below root.0))) given ∙ tops_listed below (mappings_below graph image) tops told)) c.gather.ensures.list

@@ -5,7 +5,7 @@ use Rattle.pd_kinds.specs.declared.block.Block.{Block}
 use Rattle.pd_kinds.specs.Crash.{LeavesOnly, IsNoneOrNew}
 use Rattle.pd_image.proofs.CrashLemmas.{at_some}
 use Rattle.pd_draft.specs.Closed.{StaysClosed}
-use Rattle.pd_draft.specs.Placed.{placed, Stand, Wrote}
+use Rattle.pd_draft.specs.Placed.{placed, DraftState, Wrote}
 use Rattle.pd_draft.proofs.StaysLemmas.{closed_then}
 use Rattle.pd_draft.proofs.PlacedLemmas.{wrote_none, wrote_then}
 use Rattle.pd_part_tests.specs.Restored.{filled}
@@ -15,9 +15,9 @@ use Rattle.pd_part_tests.proofs.small_restore.fill.Goals as goal
 pub loop-block-preserved : goal.loop-block-preserved
 loop-block-preserved g c =
     let state = g.D.Device.state in
-    let start : Stand = record { device = state c.args.dev.now; place = 1 } in
-    let before : Stand = record { device = state c.loop-block.draft.dev.now; place = c.loop-block.draft.next } in
-    let after : Stand = record { device = state c.put.new.self.dev.now; place = c.put.new.self.next } in
+    let start : DraftState = record { device = state c.args.dev.now; place = 1 } in
+    let before : DraftState = record { device = state c.loop-block.draft.dev.now; place = c.loop-block.draft.next } in
+    let after : DraftState = record { device = state c.put.new.self.dev.now; place = c.put.new.self.next } in
     record {
       same_reference = search rules;
       wrote = subst (λ (blocks : List (List ℕ)). Wrote blocks start after) (sym (bytes_more c.args.blocks.now c.loop-block.block-index _ c.loop-block-test.true))
@@ -29,8 +29,8 @@ loop-block-init g c = record {
   same_reference = search rules;
   wrote =
       let none = wrote_none (record { device = g.D.Device.state c.args.dev.now; place = 1 }) c.requires.closed in
-      let same = c.over-draft.ensures.same in
-      let next = c.over-draft.ensures.next in
+      let same = c.on_closed-draft.ensures.same in
+      let next = c.on_closed-draft.ensures.next in
       search rules;
 }
 

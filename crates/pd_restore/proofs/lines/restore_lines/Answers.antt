@@ -1,5 +1,5 @@
 use Rattle.std.proofs.Common.{rules, [], ◌∷◌, ◌++◌, refl, true, false, ◌∙◌, arith}
-use Rattle.pd_draft.specs.Stand.{stand}
+use Rattle.pd_draft.specs.DraftState.{draft_state}
 use Rattle.pd_draft.proofs.StaysLemmas.{closed_start, closed_then}
 use Rattle.pd_spells.specs.ThinText.{end_line}
 use Rattle.pd_restore.proofs.ReadingLemmas.{steps_as}
@@ -22,7 +22,7 @@ lines-preserved g c =
     let left = (source c.step.new.source).left in
     let text = c.step.new.text in
     let devices = c.step.new.gathered in
-    let now = stand c.step.new.draft in
+    let now = draft_state c.step.new.draft in
     let more = c.in_ok-step.field-0 in
     let ends = c.in_ok-step.ensures in
     let mine = steps_as g.G.Gathering.HasGathered more true own.lines c.args.room c.lines.text text was left devices r.start now c.if-branch.true (ends.steps own.lines r.start own.so_far) in
@@ -45,7 +45,7 @@ lines-smaller g c =
     let own = c.lines.invariant.went r.before r.start r.so_far in
     let was = (g.S.Source.state c.lines.source).left in
     let left = (g.S.Source.state c.step.new.source).left in
-    let mine = steps_as g.G.Gathering.HasGathered c.in_ok-step.field-0 true own.lines c.args.room c.lines.text c.step.new.text was left c.step.new.gathered r.start (stand c.step.new.draft) c.if-branch.true (c.in_ok-step.ensures.steps own.lines r.start own.so_far) in
+    let mine = steps_as g.G.Gathering.HasGathered c.in_ok-step.field-0 true own.lines c.args.room c.lines.text c.step.new.text was left c.step.new.gathered r.start (draft_state c.step.new.draft) c.if-branch.true (c.in_ok-step.ensures.steps own.lines r.start own.so_far) in
     let grows = c.in_ok-step.ensures.grows c.if-branch.true in
     omega (arith, grows, mine.1.0.reads.so_far.count)
 
@@ -54,7 +54,7 @@ returns-clause-all g c before start h =
     let w = c.lines.invariant.went before start h in
     let was = (g.S.Source.state c.lines.source).left in
     let left = (g.S.Source.state c.step.new.source).left in
-    let s = steps_as g.G.Gathering.HasGathered c.in_ok-step.field-0 false w.lines c.args.room c.lines.text c.step.new.text was left c.step.new.gathered start (stand c.step.new.draft) c.if-branch.false (c.in_ok-step.ensures.steps w.lines start w.so_far) in
+    let s = steps_as g.G.Gathering.HasGathered c.in_ok-step.field-0 false w.lines c.args.room c.lines.text c.step.new.text was left c.step.new.gathered start (draft_state c.step.new.draft) c.if-branch.false (c.in_ok-step.ensures.steps w.lines start w.so_far) in
     record { lines = end_line ∷ w.lines; later = w.later ++ end_line ∷ []; front = w.front (end_line ∷ []); all = s.0; told = λ t leaves. s.1 t (w.told t leaves) }
 
 pub lines-init : goal.lines-init

@@ -1,5 +1,5 @@
 use Rattle.std.proofs.Common.{[], ◌∷◌, ◌++◌, ap, arith}
-use Rattle.pd_draft.specs.Stand.{stand}
+use Rattle.pd_draft.specs.DraftState.{draft_state}
 use Rattle.pd_grammar.specs.Texts.{Reading, lines_after}
 use Rattle.pd_grammar.specs.Words.{split}
 use Rattle.pd_lines.specs.Reader.{held_of}
@@ -36,9 +36,9 @@ returns-in-Ok-Some-clause-steps g c before start h =
     let left = (g.S.Source.state c.next.new.source).left in
     let first = first_of c.next.new.self.state in
     let reads = line_given pool_format ThinStands first thin_meant n.field-0 n.line before c.next.new.self n.field-0-is (omega (arith, h.later)) (n.ensures.lines before h.reads) in
-    let follows : Follows g.G.Gathering.HasGathered before c.args.room c.args.gathered.now (line_of n.line) start (stand c.args.draft.now) =
+    let follows : Follows g.G.Gathering.HasGathered before c.args.room c.args.gathered.now (line_of n.line) start (draft_state c.args.draft.now) =
     record { so_far = h.so_far; later = h.later; lines = reads.so_far.lines } in
-    stepped g.G.Gathering.HasGathered c.take.result before n.line c.args.room c.args.text.now c.next.new.self was left c.args.gathered.now c.take.new.gathered start (stand c.args.draft.now) (stand c.take.new.draft) h
+    stepped g.G.Gathering.HasGathered c.take.result before n.line c.args.room c.args.text.now c.next.new.self was left c.args.gathered.now c.take.new.gathered start (draft_state c.args.draft.now) (draft_state c.take.new.draft) h
     c.take.ensures.closed.kept.blocks reads
     (λ t leaves. line_told pool_format ThinStands first thin_meant n.field-0 n.line t before c.next.new.self left n.field-0-is (omega (arith, h.later)) (n.ensures.text t before h.reads leaves))
     c.take.ensures.more (c.take.ensures.gathered before start follows) (c.take.ensures.need before start follows)
@@ -70,9 +70,9 @@ returns-in-Ok-None-clause-steps g c before start h =
     let left = (g.S.Source.state c.next.new.source).left in
     let first = first_of c.next.new.self.state in
     let reads = end_given pool_format ThinStands first thin_meant n.field-0 before c.next.new.self n.field-0-is (omega (arith, h.later)) (n.ensures.lines before h.reads) in
-    let follows : Follows g.G.Gathering.HasGathered before c.args.room c.args.gathered.now end_line start (stand c.args.draft.now) =
+    let follows : Follows g.G.Gathering.HasGathered before c.args.room c.args.gathered.now end_line start (draft_state c.args.draft.now) =
     record { so_far = h.so_far; later = h.later; lines = reads } in
-    came_to_end g.G.Gathering.HasGathered c.end.result before c.args.room c.args.text.now c.next.new.self was left c.args.gathered.now c.end.new.gathered start (stand c.args.draft.now) (stand c.end.new.draft) h
+    came_to_end g.G.Gathering.HasGathered c.end.result before c.args.room c.args.text.now c.next.new.self was left c.args.gathered.now c.end.new.gathered start (draft_state c.args.draft.now) (draft_state c.end.new.draft) h
     c.end.ensures.closed.kept.blocks reads
     (λ t leaves. end_told pool_format ThinStands first thin_meant n.field-0 t before c.next.new.self left n.field-0-is (omega (arith, h.later)) (n.ensures.text t before h.reads leaves))
     c.end.ensures.more (c.end.ensures.gathered before start follows) (c.end.ensures.need before start follows)
@@ -88,7 +88,7 @@ returns-in-Ok-None-clause-room g c before start h t leaves =
 
 pub returns-in-Err-clause-room : goal.returns-in-Err-clause-room
 returns-in-Err-clause-room g c before start h t leaves =
-    c.fault_after.ensures.says before c.args.text.now start (stand c.args.draft.now) h (first_of c.next.new.self.state) t (c.in-Err.ensures.text t before h.reads leaves)
+    c.fault_after.ensures.says before c.args.text.now start (draft_state c.args.draft.now) h (first_of c.next.new.self.state) t (c.in-Err.ensures.text t before h.reads leaves)
 
 pub returns-in-Ok-Some-clause-later : goal.returns-in-Ok-Some-clause-later
 returns-in-Ok-Some-clause-later g c = later_take c.take.result _ _ c.take.ensures.faults

@@ -4,7 +4,7 @@ use Rattle.pd_shapes.specs.PoolText.{pool_need_so_far}
 use Rattle.pd_restoring.proofs.ReadingLemmas.{end_says, later_take}
 use Rattle.pd_texts.specs.Reader.{LeavesOf}
 use Rattle.pd_texts.specs.ThinState.{first_of}
-use Rattle.pd_draft.specs.Stand.{stand}
+use Rattle.pd_draft.specs.DraftState.{draft_state}
 use Rattle.pd_restore.specs.Whole.{begun_lines}
 use Rattle.pd_restore.proofs.PoolLemmas.{writes_of}
 use Rattle.pd_restore.proofs.pool.write_pool.Goals as goal
@@ -25,7 +25,7 @@ returns-clause-writes g c start h =
     let lines = begun_lines c.args.text.now c.args.pool.now in
     let left = (g.S.Source.state c.restore_lines.new.source).left in
     let e = c.in_ok-restore_lines.ensures.all lines start h in
-    writes_of e.lines c.args.room left start (stand c.write_rest.new.draft) (λ t. LeavesOf pool_format t lines c.args.text.now (g.S.Source.state c.args.source.now).left) e.told c.write_rest.result
+    writes_of e.lines c.args.room left start (draft_state c.write_rest.new.draft) (λ t. LeavesOf pool_format t lines c.args.text.now (g.S.Source.state c.args.source.now).left) e.told c.write_rest.result
     (c.write_rest.ensures.writes (first_of c.args.text.now.state) e.lines e.later left start e.front e.all)
 
 pub returns-clause-says : goal.returns-clause-says

@@ -1,5 +1,5 @@
 use Rattle.std.proofs.Common.{rules, refl, None}
-use Rattle.pd_draft.specs.Stand.{stand}
+use Rattle.pd_draft.specs.DraftState.{draft_state}
 use Rattle.pd_spells.specs.ThinText.{first_line, pool_format}
 use Rattle.pd_shapes.specs.PoolText.{pool_need_so_far}
 use Rattle.pd_restoring.proofs.ReadingLemmas.{end_says}
@@ -15,7 +15,7 @@ new-requires g c = pool_small first_line c.args.pool.now (made_pool c.args.pool.
 
 pub take_all-requires-clause-made : goal.take_all-requires-clause-made
 take_all-requires-clause-made g c =
-    let a = stand c.args.draft.now in
+    let a = draft_state c.args.draft.now in
     let p = c.args.pool.now in
     record {
       before = made_begun p;
@@ -25,7 +25,7 @@ take_all-requires-clause-made g c =
 
 pub returns-in_err-take_all-clause-says : goal.returns-in_err-take_all-clause-says
 returns-in_err-take_all-clause-says g c left t is =
-    let a = stand c.args.draft.now in
+    let a = draft_state c.args.draft.now in
     let p = c.args.pool.now in
     let coming = made_coming p c.args.room c.args.lines.now c.in-Ok.devices a c.requires.made (c.in-Ok.ensures (head_of_pool p) a refl c.requires.made.place c.requires.closed) in
     let says = c.in_err-take_all.ensures.says (made_begun p) a coming left t is in
@@ -33,7 +33,7 @@ returns-in_err-take_all-clause-says g c left t is =
 
 pub write_rest-requires-clause-whole : goal.write_rest-requires-clause-whole
 write_rest-requires-clause-whole g c =
-    let a = stand c.args.draft.now in
+    let a = draft_state c.args.draft.now in
     let p = c.args.pool.now in
     let coming = made_coming p c.args.room c.args.lines.now c.in-Ok.devices a c.requires.made (c.in-Ok.ensures (head_of_pool p) a refl c.requires.made.place c.requires.closed) in
     let e = c.in_ok-take_all.ensures.all (made_begun p) a coming None in
@@ -41,11 +41,11 @@ write_rest-requires-clause-whole g c =
 
 pub returns-clause-writes : goal.returns-clause-writes
 returns-clause-writes g c left =
-    let a = stand c.args.draft.now in
+    let a = draft_state c.args.draft.now in
     let p = c.args.pool.now in
     let coming = made_coming p c.args.room c.args.lines.now c.in-Ok.devices a c.requires.made (c.in-Ok.ensures (head_of_pool p) a refl c.requires.made.place c.requires.closed) in
     let e = c.in_ok-take_all.ensures.all (made_begun p) a coming left in
-    writes_of e.lines c.args.room left a (stand c.write_rest.new.draft) (IsTextOf (made_begun p) c.args.lines.now left) e.told c.write_rest.result
+    writes_of e.lines c.args.room left a (draft_state c.write_rest.new.draft) (IsTextOf (made_begun p) c.args.lines.now left) e.told c.write_rest.result
     (c.write_rest.ensures.writes first_line e.lines e.later left a e.front e.all)
 
 pub returns-clause-says : goal.returns-clause-says

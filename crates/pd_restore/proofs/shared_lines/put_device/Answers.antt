@@ -1,5 +1,5 @@
 use Rattle.std.proofs.Common.{◌∷◌, ◌-◌, ◌^◌, min}
-use Rattle.pd_draft.specs.Stand.{stand}
+use Rattle.pd_draft.specs.DraftState.{draft_state}
 use Rattle.pd_shapes.specs.SharedNeed.{shape_need_so_far}
 use Rattle.pd_spells.specs.ThinText.{device_line}
 use Rattle.pd_texts.specs.ThinLine.{details_of}
@@ -14,7 +14,7 @@ pub returns-in-Ok-clause-need : goal.returns-in-Ok-clause-need
 returns-in-Ok-clause-need g c before start f =
     let lines = device_line (details_of c.args.id c.args.details) ∷ before in
     over_if_short c.args.room (min (shape_need_so_far c.args.room lines) (2 ^ 64 - 1)) _ c.look.result (device_exact c.args.room before (details_of c.args.id c.args.details) f)
-    (c.look.ensures.need lines start (stand c.add_device.new.draft) (c.in-Ok.ensures.gathered c.args.room before start f.so_far.gathered (device_follows c.args.room before (details_of c.args.id c.args.details) f)))
+    (c.look.ensures.need lines start (draft_state c.add_device.new.draft) (c.in-Ok.ensures.gathered c.args.room before start f.so_far.gathered (device_follows c.args.room before (details_of c.args.id c.args.details) f)))
 
 pub returns-in-Err-clause-need : goal.returns-in-Err-clause-need
 returns-in-Err-clause-need g c before start f = rw c.of_build.ensures (no_room_asked c.in-Err.fault c.args.room _)

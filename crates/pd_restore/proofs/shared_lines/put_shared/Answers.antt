@@ -1,4 +1,4 @@
-use Rattle.pd_draft.specs.Stand.{stand}
+use Rattle.pd_draft.specs.DraftState.{draft_state}
 use Rattle.pd_texts.specs.ThinLine.{details_of}
 use Rattle.pd_restore.proofs.SharedLemmas.{as_gathered, device_follows, leaf_follows, use_follows}
 use Rattle.pd_restore.proofs.UnsharedLines.{pool_after}
@@ -20,7 +20,7 @@ put_use-requires-clause-gathered g c =
     record { so_far = as_gathered p.before c.args.room p.follows.so_far; follows = use_follows c.args.room p.before c.in-UseLeaf.number (rw c.in-UseLeaf.is at p.follows) }
 
 pub put_run-requires : goal.put_run-requires
-put_run-requires g c = record { follows = record { now = stand c.args.draft.now; can = rw c.in-Map.is at c.requires.follows } }
+put_run-requires g c = record { follows = record { now = draft_state c.args.draft.now; can = rw c.in-Map.is at c.requires.follows } }
 
 pub returns-in-Pool-clause-gathered : goal.returns-in-Pool-clause-gathered
 returns-in-Pool-clause-gathered g c before start f = absurd (pool_after before c.args.line _ _ _ _ _ c.in-Pool.is f.later f.lines.0)
@@ -47,7 +47,7 @@ pub returns-in-UseLeaf-clause-need : goal.returns-in-UseLeaf-clause-need
 returns-in-UseLeaf-clause-need g c before start f = rw c.in-UseLeaf.is (c.put_use.ensures.need before start (rw c.in-UseLeaf.is at f))
 
 pub returns-in-Map-clause-gathered : goal.returns-in-Map-clause-gathered
-returns-in-Map-clause-gathered g c before start f = rw c.in-Map.is (c.put_run.ensures.gathered before start (stand c.args.draft.now) (rw c.in-Map.is at f))
+returns-in-Map-clause-gathered g c before start f = rw c.in-Map.is (c.put_run.ensures.gathered before start (draft_state c.args.draft.now) (rw c.in-Map.is at f))
 
 pub returns-in-Map-clause-need : goal.returns-in-Map-clause-need
-returns-in-Map-clause-need g c before start f = rw c.in-Map.is (c.put_run.ensures.need before start (stand c.args.draft.now) (rw c.in-Map.is at f))
+returns-in-Map-clause-need g c before start f = rw c.in-Map.is (c.put_run.ensures.need before start (draft_state c.args.draft.now) (rw c.in-Map.is at f))

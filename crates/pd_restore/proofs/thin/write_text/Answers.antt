@@ -1,5 +1,5 @@
 use Rattle.std.proofs.Common.{refl}
-use Rattle.pd_draft.specs.Stand.{stand}
+use Rattle.pd_draft.specs.DraftState.{draft_state}
 use Rattle.pd_texts.specs.ThinState.{first_of}
 use Rattle.pd_restore.specs.Whole.{head_of_pool}
 use Rattle.pd_restore.proofs.BeginLemmas.{pool_small}
@@ -11,7 +11,7 @@ start-requires-clause-blocks g c = pool_small (first_of c.args.text.now.state) c
 
 pub write_pool-requires-clause-reading : goal.write_pool-requires-clause-reading
 write_pool-requires-clause-reading g c =
-    let a = stand c.args.draft.now in
+    let a = draft_state c.args.draft.now in
     let b = c.requires.begun in
     record {
       start = a;
@@ -21,12 +21,12 @@ write_pool-requires-clause-reading g c =
 pub returns-clause-writes : goal.returns-clause-writes
 returns-clause-writes g c =
     let p = c.requires.begun in
-    c.write_pool.ensures.writes (stand c.args.draft.now)
+    c.write_pool.ensures.writes (draft_state c.args.draft.now)
     (begun_text g.G.Gathering.HasGathered g.G.Gathering.shared c.args.pool.now c.args.room c.args.text.now c.in-Ok.gathered _ p (c.in-Ok.ensures (head_of_pool c.args.pool.now) _ refl p.place c.requires.closed))
 
 pub returns-clause-says : goal.returns-clause-says
 returns-clause-says g c t leaves =
     let p = c.requires.begun in
-    c.write_pool.ensures.says (stand c.args.draft.now)
+    c.write_pool.ensures.says (draft_state c.args.draft.now)
     (begun_text g.G.Gathering.HasGathered g.G.Gathering.shared c.args.pool.now c.args.room c.args.text.now c.in-Ok.gathered _ p (c.in-Ok.ensures (head_of_pool c.args.pool.now) _ refl p.place c.requires.closed))
     t leaves

@@ -1,5 +1,5 @@
 use Rattle.std.proofs.Common.{◌≡◌, ◌*◌, drop}
-use Rattle.pd_draft.specs.Stand.{stand}
+use Rattle.pd_draft.specs.DraftState.{draft_state}
 use Rattle.pd_build.specs.Building.{IsFilling}
 use Rattle.pd_restore_cache.specs.Rows.{StandsAt}
 use Rattle.pd_restore_cache.specs.Words.{bytes_of, span, words_of}
@@ -9,5 +9,5 @@ abbrev pub invariant-loop-i : goal.invariant-loop-i
 invariant-loop-i g l = record {
   same_reference : l.draft.dev.ghost_name ≡ l.initial.draft.dev.ghost_name;
   stands : StandsAt l.rows l.at (span l.words * l.i);
-  filling : IsFilling (bytes_of l.words) (words_of l.words l.rows l.count) (drop l.i (words_of l.words l.rows l.count)) l.builder (stand l.initial.draft) (stand l.draft);
+  filling : IsFilling (bytes_of l.words) (words_of l.words l.rows l.count) (drop l.i (words_of l.words l.rows l.count)) l.builder (draft_state l.initial.draft) (draft_state l.draft);
 }

@@ -1,6 +1,6 @@
 use Rattle.std.proofs.Common.{◌≡◌, List, length, sym, ◌∙◌, subst}
 use Rattle.std.proofs.lemmas.Result.{err_from_is_err_and}
-use Rattle.pd_draft.specs.Stand.{stand}
+use Rattle.pd_draft.specs.DraftState.{draft_state}
 use Rattle.pd_spells.specs.CacheText.{Line, cache_single}
 use Rattle.pd_texts.specs.Reader.{LeavesOf}
 use Rattle.pd_restoring.proofs.ReadingLemmas.{later_take}
@@ -23,7 +23,7 @@ returns-clause-writes g c =
     let left = (g.S.Source.state c.gather_lines.new.source).left in
     let same = e.cache_is ∙ c.new-gathered.ensures.cache in
     let lines = none_gathered c.new-gathered.result c.args.begun c.new-gathered.ensures.cache c.new-gathered.ensures.none in
-    writes_of (stand c.args.draft.now) (stand c.write_gathered.new.draft) c.write_gathered.result c.args.begun c.gather_lines.new.gathered c.args.version c.args.room was left
+    writes_of (draft_state c.args.draft.now) (draft_state c.write_gathered.new.draft) c.write_gathered.result c.args.begun c.gather_lines.new.gathered c.args.version c.args.room was left
     (subst (λ (cache : Cache). length cache.versions ≡ 3) (sym same) c.requires.stands.small.versions) e.all (gathered_need c.gather_lines.new.gathered c.args.begun c.args.version c.args.room same c.requires.need) c.requires.most
     (λ t leaves. e.told t (subst (λ (ls : List Line). LeavesOf cache_single t ls c.args.begun.text was) (sym lines) leaves))
     c.write_gathered.ensures.super_is c.write_gathered.ensures.wrote

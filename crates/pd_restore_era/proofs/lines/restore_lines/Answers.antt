@@ -1,5 +1,5 @@
 use Rattle.std.proofs.Common.{rules, [], ◌∷◌, ◌++◌, refl, true, false, ◌∙◌, arith}
-use Rattle.pd_draft.specs.Stand.{stand}
+use Rattle.pd_draft.specs.DraftState.{draft_state}
 use Rattle.pd_draft.proofs.StaysLemmas.{closed_start, closed_then}
 use Rattle.pd_spells.specs.EraText.{end_line}
 use Rattle.pd_restoring.proofs.ReadingLemmas.{one_later, keeps_source}
@@ -22,7 +22,7 @@ lines-preserved g c =
     let left = (source c.step.new.source).left in
     let text = c.step.new.text in
     let array = c.step.new.array in
-    let now = stand c.step.new.draft in
+    let now = draft_state c.step.new.draft in
     let more = c.in_ok-step.field-0 in
     let ends = c.in_ok-step.ensures in
     let mine = steps_as more true own.lines r.room c.lines.text text was left array r.start now c.if-branch.true (ends.steps own.lines r.room r.start own.so_far) in
@@ -47,7 +47,7 @@ returns-clause-all g c before room start h =
     let w = c.lines.invariant.went before room start h in
     let was = (g.S.Source.state c.lines.source).left in
     let left = (g.S.Source.state c.step.new.source).left in
-    let s = steps_as c.in_ok-step.field-0 false w.lines room c.lines.text c.step.new.text was left c.step.new.array start (stand c.step.new.draft) c.if-branch.false (c.in_ok-step.ensures.steps w.lines room start w.so_far) in
+    let s = steps_as c.in_ok-step.field-0 false w.lines room c.lines.text c.step.new.text was left c.step.new.array start (draft_state c.step.new.draft) c.if-branch.false (c.in_ok-step.ensures.steps w.lines room start w.so_far) in
     record { lines = end_line ∷ w.lines; later = w.later ++ end_line ∷ []; front = one_later before w.lines w.later end_line w.front; all = s.0; told = λ t leaves. s.1 t (w.told t leaves) }
 
 pub lines-init : goal.lines-init

@@ -1,22 +1,22 @@
 use Rattle.std.proofs.Common.{◌≡◌, ℕ, List}
 use Rattle.pd_draft.specs.Closed.{StaysClosed}
-use Rattle.pd_draft.specs.Placed.{Stand}
+use Rattle.pd_draft.specs.Placed.{DraftState}
 use Rattle.pd_image.specs.Source.{KeepsSource}
 use Rattle.pd_spells.specs.EraText.{Line}
-use Rattle.pd_restore_era.specs.Reading.{Reading, CanRead, Went}
+use Rattle.pd_restore_era.specs.Reading.{Reading, CanRead, ReadsErasOn}
 use Rattle.pd_restore_era.proofs.lines.restore_lines.Given as goal
 
 abbrev pub invariant-lines : goal.invariant-lines
 invariant-lines g l =
     let state = g.D.Device.state in
     let source = g.S.Source.state in
-    let first : Stand = record { device = state l.initial.draft.dev.now; place = l.initial.draft.next } in
-    let now : Stand = record { device = state l.draft.dev.now; place = l.draft.next } in
+    let first : DraftState = record { device = state l.initial.draft.dev.now; place = l.initial.draft.next } in
+    let now : DraftState = record { device = state l.draft.dev.now; place = l.draft.next } in
     record {
       same_reference : l.draft.dev.ghost_name ≡ l.initial.draft.dev.ghost_name;
       reading : CanRead l.text l.array now;
-      went : (before : List Line) (room : ℕ) (start : Stand) → Reading before room l.initial.text l.initial.array start first
-          → Went before room l.initial.text (source l.initial.source).left l.text (source l.source).left l.array start now;
+      went : (before : List Line) (room : ℕ) (start : DraftState) → Reading before room l.initial.text l.initial.array start first
+          → ReadsErasOn before room l.initial.text (source l.initial.source).left l.text (source l.source).left l.array start now;
       closed : StaysClosed first.device now.device;
       kept : KeepsSource (source l.initial.source) (source l.source);
       source_faults : (source l.source).faults ≡ (source l.initial.source).faults;

@@ -1,5 +1,5 @@
 use Rattle.std.proofs.Common.{arith}
-use Rattle.pd_draft.specs.Stand.{stand}
+use Rattle.pd_draft.specs.DraftState.{draft_state}
 use Rattle.pd_spells.specs.EraText.{first_line, end_line, era}
 use Rattle.pd_spells.specs.EraNeed.{era_need_so_far}
 use Rattle.pd_era_texts.specs.EraLine.{era_meant}
@@ -32,7 +32,7 @@ returns-in-Ok-Some-clause-steps g c before room start h =
     let was = (g.S.Source.state c.args.source.now).left in
     let left = (g.S.Source.state c.next.new.source).left in
     let reads = line_given era EraStands first_line era_meant n.field-0 n.line before c.next.new.self n.field-0-is (omega (arith, h.later)) (n.ensures.lines before h.reads) in
-    stepped c.take.result before n.line room c.args.text.now c.next.new.self was left c.args.array.now c.take.new.array start (stand c.args.draft.now) (stand c.take.new.draft) h
+    stepped c.take.result before n.line room c.args.text.now c.next.new.self was left c.args.array.now c.take.new.array start (draft_state c.args.draft.now) (draft_state c.take.new.draft) h
     c.take.ensures.closed.kept.blocks reads
     (λ t leaves. line_told era EraStands first_line era_meant n.field-0 n.line t before c.next.new.self left n.field-0-is (omega (arith, h.later)) (n.ensures.text t before h.reads leaves))
     c.take.ensures.more (c.take.ensures.gathered before start h.gathered h.later reads.so_far.lines.0)
@@ -46,7 +46,7 @@ returns-in-Ok-Some-clause-falls g c =
     let s = r.so_far in
     let n = c.in-Ok-Some in
     let reads = line_given era EraStands first_line era_meant n.field-0 n.line r.before c.next.new.self n.field-0-is (omega (arith, s.later)) (n.ensures.lines r.before s.reads) in
-    falls_where c.take.result r.before n.line c.args.array.now c.take.new.array r.start (stand c.args.draft.now) (stand c.take.new.draft) s.later reads.so_far.lines.0 s.gathered
+    falls_where c.take.result r.before n.line c.args.array.now c.take.new.array r.start (draft_state c.args.draft.now) (draft_state c.take.new.draft) s.later reads.so_far.lines.0 s.gathered
     (c.take.ensures.gathered r.before r.start s.gathered s.later reads.so_far.lines.0)
 
 pub returns-in-Ok-None-clause-steps : goal.returns-in-Ok-None-clause-steps
@@ -55,7 +55,7 @@ returns-in-Ok-None-clause-steps g c before room start h =
     let was = (g.S.Source.state c.args.source.now).left in
     let left = (g.S.Source.state c.next.new.source).left in
     let reads = end_given era EraStands first_line era_meant n.field-0 before c.next.new.self n.field-0-is (omega (arith, h.later)) (n.ensures.lines before h.reads) in
-    came_to_end before room c.args.text.now c.next.new.self was left c.args.array.now start (stand c.args.draft.now) h reads
+    came_to_end before room c.args.text.now c.next.new.self was left c.args.array.now start (draft_state c.args.draft.now) h reads
     (λ t leaves. end_told era EraStands first_line era_meant n.field-0 t before c.next.new.self left n.field-0-is (omega (arith, h.later)) (n.ensures.text t before h.reads leaves))
 
 pub returns-in-Err-clause-says : goal.returns-in-Err-clause-says

@@ -1,5 +1,5 @@
 use Rattle.std.proofs.Common.{◌≡◌, ◌++◌, refl, ◌∙◌, subst, ℕ, length-append, arith}
-use Rattle.pd_draft.specs.Stand.{stand}
+use Rattle.pd_draft.specs.DraftState.{draft_state}
 use Rattle.pd_draft.proofs.StaysLemmas.{closed_start, closed_then}
 use Rattle.pd_spells.specs.EraText.{eras_from}
 use Rattle.pd_restore_era.specs.Put.{HasPut}
@@ -55,4 +55,4 @@ loop-i-preserved g c =
 pub returns-clause-put : goal.returns-clause-put
 returns-clause-put g c eras blocks start h =
     let all : c.loop-i._i ≡ c.args.count = omega arith in
-    subst (λ (n : ℕ). HasPut (eras ++ eras_from c.args.era n) blocks c.loop-i.array start (stand c.loop-i.draft)) all (c.loop-i.invariant.put eras blocks start h)
+    subst (λ (n : ℕ). HasPut (eras ++ eras_from c.args.era n) blocks c.loop-i.array start (draft_state c.loop-i.draft)) all (c.loop-i.invariant.put eras blocks start h)

@@ -1,17 +1,17 @@
 use Rattle.std.proofs.Common.{◌≡◌, ℕ, ◌++◌, List}
 use Rattle.pd_draft.specs.Closed.{StaysClosed}
-use Rattle.pd_draft.specs.Placed.{Stand}
+use Rattle.pd_draft.specs.Placed.{DraftState}
 use Rattle.pd_spells.specs.EraText.{eras_from}
 use Rattle.pd_restore_era.specs.Put.{HasPut}
 use Rattle.pd_restore_era.proofs.runs.put_run.Given as goal
 
 abbrev pub invariant-loop-i : goal.invariant-loop-i
 invariant-loop-i g l =
-    let first : Stand = record { device = g.D.Device.state l.initial.draft.dev.now; place = l.initial.draft.next } in
-    let now : Stand = record { device = g.D.Device.state l.draft.dev.now; place = l.draft.next } in
+    let first : DraftState = record { device = g.D.Device.state l.initial.draft.dev.now; place = l.initial.draft.next } in
+    let now : DraftState = record { device = g.D.Device.state l.draft.dev.now; place = l.draft.next } in
     record {
       same_reference : l.draft.dev.ghost_name ≡ l.initial.draft.dev.ghost_name;
-      put : (eras : List ℕ) (blocks : ℕ) (start : Stand) → HasPut eras blocks l.initial.array start first → HasPut (eras ++ eras_from l.era l._i) blocks l.array start now;
+      put : (eras : List ℕ) (blocks : ℕ) (start : DraftState) → HasPut eras blocks l.initial.array start first → HasPut (eras ++ eras_from l.era l._i) blocks l.array start now;
       closed : StaysClosed first.device now.device;
       faults : now.device.faults ≡ first.device.faults;
     }

@@ -1,5 +1,5 @@
 use Rattle.std.proofs.Common.{◌≡◌, ap, ◌∙◌, arith}
-use Rattle.pd_draft.specs.Stand.{stand}
+use Rattle.pd_draft.specs.DraftState.{draft_state}
 use Rattle.pd_count.specs.Counted.{count_of}
 use Rattle.pd_spells.specs.Need.{need_meta_map}
 use Rattle.pd_smwrite.specs.Map.{meta_map_need}
@@ -22,8 +22,8 @@ write_meta_map-requires-clause-room g c = omega (arith, number g c)
 
 pub returns-clause-wrote : goal.returns-clause-wrote
 returns-clause-wrote g c =
-    let from = stand c.args.draft.now in
-    let to = stand c.write_meta_map.new.draft in
+    let from = draft_state c.args.draft.now in
+    let to = draft_state c.write_meta_map.new.draft in
     let place = c.args.draft.now.next in
     let ones = c.in-Ok.ensures.ones in
     let number = ones_need c.in-Ok.counts c.next.result c.in-Ok.counts.size ones ∙ ap need_meta_map c.in-Ok.ensures.size in

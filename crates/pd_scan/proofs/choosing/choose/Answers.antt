@@ -4,7 +4,7 @@ use Rattle.std.proofs.lemmas.Result.{IfOk-weaker}
 use Rattle.pd_graph.specs.Notes.{size_of}
 use Rattle.pd_graph.proofs.AnyLemmas.{if_any}
 use Rattle.pd_laid.specs.FoundRoots.{are_fitting, lost_graph}
-use Rattle.pd_scan.specs.Pairs.{AreTreesOf, IsBestOf, may_fit, pair_of}
+use Rattle.pd_scan.specs.Pairs.{AreTreesOf, IsBestOf, may_fit, pair_of_trees}
 use Rattle.pd_scan.specs.Roots.{found_of}
 use Rattle.pd_scan.proofs.PairLemmas.{none_of_fewer}
 use Rattle.pd_scan.proofs.FitLemmas.{is_found}
@@ -25,6 +25,6 @@ returns-in-Ok-None-clause-found g c =
     if_any (g.D.Device.state c.args.dev.now).held (λ image data_blocks number lost.
     let are : AreTreesOf image data_blocks trees = record { number = number; places = c.requires.places.details; told = lost } in
     is_found image data_blocks trees are (λ t d e. c.fitting_trees_match.ensures.roots image data_blocks trees t d are e) None
-    (none_of_fewer (may_fit trees) (are_fitting (lost_graph image data_blocks) image) (pair_of trees) (λ t d. t < size_of trees.tops)
+    (none_of_fewer (may_fit trees) (are_fitting (lost_graph image data_blocks) image) (pair_of_trees trees) (λ t d. t < size_of trees.tops)
     (λ t d e. c.fitting_trees_match.ensures.fits image data_blocks trees t d are e)
-    (subst (λ found. IsBestOf (may_fit trees) (pair_of trees) (λ t d. t < size_of trees.tops) (found_of found)) c.in-Ok-None.field-0-is c.in-Ok-None.ensures)))
+    (subst (λ found. IsBestOf (may_fit trees) (pair_of_trees trees) (λ t d. t < size_of trees.tops) (found_of found)) c.in-Ok-None.field-0-is c.in-Ok-None.ensures)))

@@ -2,7 +2,7 @@ use Rattle.std.proofs.Common.{◌≡◌, Some, None, sym, ◌∙◌, ap, subst}
 use Rattle.std.specs.BTreeMap.{get}
 use Rattle.pd_graph.specs.Notes.{size_of}
 use Rattle.pd_measures.specs.Measures.{measure_at}
-use Rattle.pd_scan.specs.Pairs.{IsBest, may_fit, pair_of}
+use Rattle.pd_scan.specs.Pairs.{IsBest, may_fit, pair_of_trees}
 use Rattle.pd_scan.specs.Partners.{ArePartnersBefore, best_partner, is_partner, partner_at, sum_cmp, sum_of, time_at, time_of}
 use Rattle.pd_scan.proofs.PairLemmas.{best_of_top, none_of_top}
 use Rattle.pd_scan.proofs.pairs.best_of_top.Goals as goal
@@ -29,7 +29,7 @@ returns-in-Some c =
     let key : c.sum.result ≡ asked = c.sum.ensures ∙ ap sum_of c.get-measure.ensures in
     let time : c.time.result ≡ time_at trees.top_measures c.args.top = c.time.ensures ∙ ap time_of c.get-measure.ensures in
     let root : c.best.result ≡ best_partner partners (time_at trees.top_measures c.args.top) = c.best.ensures ∙ ap (best_partner partners) time in
-    subst (IsBest (may_fit trees) (pair_of trees) (λ t d. t ≡ c.args.top)) (sym (c.pair.ensures ∙ ap (pair_of trees c.args.top) root))
+    subst (IsBest (may_fit trees) (pair_of_trees trees) (λ t d. t ≡ c.args.top)) (sym (c.pair.ensures ∙ ap (pair_of_trees trees c.args.top) root))
     (best_of_top trees c.args.top (sym c.is_good.ensures ∙ c.if-not-is_good.false) (Some partners)
     (subst (ArePartnersBefore (is_partner trees.details trees.details_measures asked) (partner_at trees.details_measures) (size_of trees.details))
     (sym (c.in-Some.ensures.value ∙ ap (get sum_cmp table) key)) (c.requires.partners asked)))

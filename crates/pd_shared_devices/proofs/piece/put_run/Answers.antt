@@ -1,6 +1,6 @@
 use Rattle.std.proofs.Common.{List, sym, subst, arith, rules}
 use Rattle.pd_kinds.specs.Node.{Entry, leaf_block}
-use Rattle.pd_draft.specs.Placed.{Stand}
+use Rattle.pd_draft.specs.Placed.{DraftState}
 use Rattle.pd_laid.proofs.LaidLemmas.{length-blocks_from}
 use Rattle.pd_spells.specs.ThinText.{mappings_from}
 use Rattle.pd_laid.specs.LaidThin.{mapping_items}
@@ -32,8 +32,8 @@ pub loop-i-preserved : goal.loop-i-preserved
 loop-i-preserved g c =
     let run = c.args.run in
     let i = c.loop-i.i in
-    let start : Stand = record { device = g.D.Device.state c.args.draft.now.dev.now; place = c.args.draft.now.next } in
-    let now : Stand = record { device = g.D.Device.state c.put_mapping.new.draft.dev.now; place = c.put_mapping.new.draft.next } in
+    let start : DraftState = record { device = g.D.Device.state c.args.draft.now.dev.now; place = c.args.draft.now.next } in
+    let now : DraftState = record { device = g.D.Device.state c.put_mapping.new.draft.dev.now; place = c.put_mapping.new.draft.next } in
     record {
       same_reference = search rules;
       takes = subst (λ (taken : List Entry). TakesAll 8 taken c.args.builder.now c.put_mapping.new.builder c.args.row.now c.put_mapping.new.row start now)

@@ -1,6 +1,6 @@
 use Rattle.std.proofs.Common.{List, get_or, subst, sym, arith, rules}
 use Rattle.pd_kinds.specs.Node.{Entry, leaf_block}
-use Rattle.pd_draft.specs.Placed.{Stand}
+use Rattle.pd_draft.specs.Placed.{DraftState}
 use Rattle.pd_laid.specs.LaidThin.{mapping_items}
 use Rattle.pd_laid.proofs.LaidLemmas.{length-blocks_from}
 use Rattle.pd_spells.specs.ThinText.{mappings_from}
@@ -52,8 +52,8 @@ pub loop-run-preserved : goal.loop-run-preserved
 loop-run-preserved g c =
     let runs = c.args.runs.now in
     let i = c.loop-run.run-index in
-    let start : Stand = record { device = g.D.Device.state c.args.draft.now.dev.now; place = c.args.draft.now.next } in
-    let now : Stand = record { device = g.D.Device.state c.put_run.new.draft.dev.now; place = c.put_run.new.draft.next } in
+    let start : DraftState = record { device = g.D.Device.state c.args.draft.now.dev.now; place = c.args.draft.now.next } in
+    let now : DraftState = record { device = g.D.Device.state c.put_run.new.draft.dev.now; place = c.put_run.new.draft.next } in
     let did = c.in_ok-put_run.ensures in
     let can = can_at runs i c.loop-run.builder.low nothing (omega arith) c.loop-run.invariant.can in
     let number = number_at runs i nothing (omega arith) in

@@ -2,7 +2,7 @@ use Rattle.std.proofs.Common.{◌≡◌, ℕ, refl, ◌∙◌, ap, arith}
 use Rattle.std.specs.List.{range_with_len}
 use Rattle.std.proofs.lemmas.List.FromFn.{length-range_with_len}
 use Rattle.pd_kinds.specs.Bitmap.{bitmaps_for}
-use Rattle.pd_draft.specs.Stand.{stand}
+use Rattle.pd_draft.specs.DraftState.{draft_state}
 use Rattle.pd_build.proofs.RowLemmas.{moved_by, row_next, wrote_nothing}
 use Rattle.pd_count.specs.Counted.{count_of}
 use Rattle.pd_smwrite.specs.Map.{bitmap_blocks, written_bitmap}
@@ -12,7 +12,7 @@ use Rattle.pd_smwrite.proofs.bitmaps.write_bitmaps.Goals as goal
 pub loop-i-init : goal.loop-i-init
 loop-i-init g c = record {
   same_reference = refl;
-  wrote = wrote_nothing (written_bitmap (count_of c.args.counts.now)) (stand c.args.draft.now) c.requires.closed;
+  wrote = wrote_nothing (written_bitmap (count_of c.args.counts.now)) (draft_state c.args.draft.now) c.requires.closed;
 }
 
 pub put_block-requires-clause-room : goal.put_block-requires-clause-room

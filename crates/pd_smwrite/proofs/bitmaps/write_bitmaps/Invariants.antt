@@ -1,7 +1,7 @@
 use Rattle.std.proofs.Common.{◌≡◌}
 use Rattle.std.specs.List.{range_with_len}
 use Rattle.pd_draft.specs.Placed.{Wrote}
-use Rattle.pd_draft.specs.Stand.{stand}
+use Rattle.pd_draft.specs.DraftState.{draft_state}
 use Rattle.pd_laid.specs.Tree.{blocks_from}
 use Rattle.pd_count.specs.Counted.{count_of}
 use Rattle.pd_smwrite.specs.Map.{written_bitmap}
@@ -10,5 +10,5 @@ use Rattle.pd_smwrite.proofs.bitmaps.write_bitmaps.Given as goal
 abbrev pub invariant-loop-i : goal.invariant-loop-i
 invariant-loop-i g l = record {
   same_reference : l.draft.dev.ghost_name ≡ l.initial.draft.dev.ghost_name;
-  wrote : Wrote (blocks_from (written_bitmap (count_of l.counts)) l.initial.draft.next (range_with_len 0 l.i)) (stand l.initial.draft) (stand l.draft);
+  wrote : Wrote (blocks_from (written_bitmap (count_of l.counts)) l.initial.draft.next (range_with_len 0 l.i)) (draft_state l.initial.draft) (draft_state l.draft);
 }

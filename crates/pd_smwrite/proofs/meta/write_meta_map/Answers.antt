@@ -1,6 +1,6 @@
 use Rattle.std.proofs.Common.{ℕ, List, sym, ◌∙◌, ap, subst, arith}
 use Rattle.pd_draft.specs.Placed.{Wrote}
-use Rattle.pd_draft.specs.Stand.{stand}
+use Rattle.pd_draft.specs.DraftState.{draft_state}
 use Rattle.pd_build.proofs.TreeLemmas.{on_ok}
 use Rattle.pd_count.specs.Counted.{count_of}
 use Rattle.pd_smwrite.specs.Map.{meta_map_blocks, meta_map_need}
@@ -24,6 +24,6 @@ returns-clause-laid g c =
     let own = own_at c.next.ensures c.meta_map_number-number.ensures c.in_ok-count_own.ensures.counted in
     on_ok c.write_counted.result
     (λ wrote role named counted.
-    subst (λ (blocks : List (List ℕ)). Wrote blocks (stand c.args.draft.now) (stand c.write_counted.new.draft))
+    subst (λ (blocks : List (List ℕ)). Wrote blocks (draft_state c.args.draft.now) (draft_state c.write_counted.new.draft))
     (ap (λ (n : ℕ). meta_map_blocks (count_of new) n place) own.size ∙ sym (meta_laid role old.size place named old new own c.requires.none counted)) wrote)
     c.write_counted.ensures.wrote

@@ -1,6 +1,6 @@
 use Rattle.std.proofs.Common.{◌≡◌, ◌+◌, List, length, refl, sym, ◌∙◌, ap, subst, arith}
 use Rattle.pd_kinds.specs.Node.{Entry}
-use Rattle.pd_draft.specs.Stand.{stand}
+use Rattle.pd_draft.specs.DraftState.{draft_state}
 use Rattle.pd_spells.specs.Need.{need_tree}
 use Rattle.pd_laid.specs.Map.{overflow_items}
 use Rattle.pd_build.specs.Building.{IsBuilding}
@@ -19,7 +19,7 @@ loop-high-init g c =
     let n = c.in-Ok.ensures in
     record {
       same_reference = refl;
-      building = subst (λ (rest : List Entry). IsBuilding 4 all rest c.in-Ok.builder (stand c.args.draft.now) (stand c.args.draft.now))
+      building = subst (λ (rest : List Entry). IsBuilding 4 all rest c.in-Ok.builder (draft_state c.args.draft.now) (draft_state c.args.draft.now))
           (items_start (count_of counts) counts.size c.next_high-high.result next.within next.between)
           (building_start all c.in-Ok.builder c.requires.closed (n.blocks c.args.draft.now.next all count) (n.root c.args.draft.now.next all count)
           (n.items ∙ sym count) (n.room ∙ ap (need_tree 4) (sym count)) n.low (overflow_ascends (count_of counts) counts.size));

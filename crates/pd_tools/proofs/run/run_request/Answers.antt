@@ -1,4 +1,4 @@
-use Rattle.std.proofs.Common.{◌≡◌, ℕ, List, Option, Some, map, string_bytes}
+use Rattle.std.proofs.Common.{◌≡◌, inl, inr, ℕ, List, [], Option, Some, map, string_bytes}
 use Rattle.pd_kinds.specs.declared.kind.Kind.{Kind}
 use Rattle.pd_kinds.specs.declared.kind.Passing.TheVariants.{Nothing, Leaks}
 use Rattle.pd_kinds.specs.declared.kind.Stage.TheVariants.{Counts}
@@ -157,3 +157,21 @@ returns-in-Shrink g c others =
     c.word_in-in-Shrink.result.now c.word_in-in-Shrink-2.result.now c.word_in-in-Shrink-3.result.now w.blocks _ _ _ _
     c.word_in-in-Shrink.ensures c.word_in-in-Shrink-2.ensures c.word_in-in-Shrink-3.ensures
     (c.run_task-in-Shrink.ensures (record others { source = g.S.Source.state c.args.source.now })))
+
+-- no query is left
+pub unreachable-requires : goal.unreachable-requires
+unreachable-requires g c =
+    let none = c.in_default.ensures.asked [] in
+    elim c.in-Dump.is [
+      | inl dump ↦ rw dump.3 at none
+      | inr other ↦ elim other [
+        | inl shared ↦ rw shared.2 at none
+        | inr later ↦ elim later [
+          | inl region ↦ rw region.4 at none
+          | inr last ↦ elim last [
+            | inl devices ↦ rw devices.2 at none
+            | inr since ↦ rw since.3 at none
+          ]
+        ]
+      ]
+    ]

@@ -9,7 +9,7 @@ use Rattle.pd_kinds.specs.ThinSuper.{thin_fields, thin_super_edges}
 use Rattle.pd_kinds.specs.ThinFormat.{thin_graph, thin_layout}
 use Rattle.pd_kinds.specs.CacheFormat.{CacheFields, cache_fields, cache_graph, cache_layout, cache_super_edges, dirty_edges, has_dirty_bits}
 use Rattle.pd_kinds.specs.EraFormat.{era_fields, era_graph, era_layout, era_super_edges}
-use Rattle.pd_tree.proofs.RootLemmas.{copy_edges, behind_optional, at_optional}
+use Rattle.pd_tree.proofs.RootLemmas.{super_copy_edges, behind_optional, at_optional}
 use Rattle.pd_tree.proofs.laws.superblocks_lead_to_reached_roots.Goals as goal
 
 -- a block is reached in the role of an edge
@@ -18,15 +18,15 @@ To graph image e = IsReached graph image e.block e.role
 
 thin_edges : (block : List ℕ) → ((rule : Rule) → (thin_graph block).bad 0 0 block rule ≡ false) → (thin_graph block).edges 0 0 block ≡ thin_super_edges (thin_fields block)
 unfolding thin_graph thin_layout
-thin_edges block clean = copy_edges 11 (thin_fields block).meta_map.blocks (thin_fields block).data_map.blocks (thin_layout (thin_fields block).meta_map.blocks (thin_fields block).data_map.blocks) _ (λ block. thin_super_edges (thin_fields block)) block refl clean
+thin_edges block clean = super_copy_edges 11 (thin_fields block).meta_map.blocks (thin_fields block).data_map.blocks (thin_layout (thin_fields block).meta_map.blocks (thin_fields block).data_map.blocks) _ (λ block. thin_super_edges (thin_fields block)) block refl clean
 
 cache_edges : (block : List ℕ) → ((rule : Rule) → (cache_graph block).bad 0 0 block rule ≡ false) → (cache_graph block).edges 0 0 block ≡ cache_super_edges (cache_fields block)
 unfolding cache_graph cache_layout
-cache_edges block clean = copy_edges 12 (cache_fields block).meta_map.blocks 0 (cache_layout (cache_fields block).meta_map.blocks) _ (λ block. cache_super_edges (cache_fields block)) block refl clean
+cache_edges block clean = super_copy_edges 12 (cache_fields block).meta_map.blocks 0 (cache_layout (cache_fields block).meta_map.blocks) _ (λ block. cache_super_edges (cache_fields block)) block refl clean
 
 era_edges : (block : List ℕ) → ((rule : Rule) → (era_graph block).bad 0 0 block rule ≡ false) → (era_graph block).edges 0 0 block ≡ era_super_edges (era_fields block)
 unfolding era_graph era_layout
-era_edges block clean = copy_edges 10 (era_fields block).meta_map.blocks 0 (era_layout (era_fields block).meta_map.blocks) _ (λ block. era_super_edges (era_fields block)) block refl clean
+era_edges block clean = super_copy_edges 10 (era_fields block).meta_map.blocks 0 (era_layout (era_fields block).meta_map.blocks) _ (λ block. era_super_edges (era_fields block)) block refl clean
 
 -- in version 2 the dirty bits are among the edges
 dirty_at : (P : Edge → Type 0) (fields : CacheFields) → fields.version ≡ 2 → AllByRecursion P (dirty_edges fields) → P (record { role = 10; block = fields.dirty_root })

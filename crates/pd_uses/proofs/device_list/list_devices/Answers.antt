@@ -1,7 +1,7 @@
 use Rattle.std.proofs.Common.{refl, ◌∙◌}
 use Rattle.std.proofs.lemmas.Result.{err_from_is_err_and}
 use Rattle.pd_kinds.specs.Meaning.{thin_meaning}
-use Rattle.pd_answers.specs.QueryLines.{list_lines}
+use Rattle.pd_answers.specs.QueryLines.{device_list_lines}
 use Rattle.pd_query.proofs.PutsLemmas.{one_told}
 use Rattle.pd_query.proofs.QueryLemmas.{puts_as, puts_none}
 use Rattle.pd_uses.proofs.SoundLemmas.{list_is}
@@ -10,7 +10,7 @@ use Rattle.pd_uses.proofs.device_list.list_devices.Goals as goal
 pub returns-in_err-exclusive-clause-lines : goal.returns-in_err-exclusive-clause-lines
 returns-in_err-exclusive-clause-lines g c =
     let p = err_from_is_err_and c.from_residual.result c.from_residual.ensures.1 in
-    rw (p.1, p.2) (puts_none (g.D.Device.state c.args.dev.now).held (λ image. list_lines (thin_meaning image)) c.in_err-exclusive.field-0.0 refl (λ image own none. refl))
+    rw (p.1, p.2) (puts_none (g.D.Device.state c.args.dev.now).held (λ image. device_list_lines (thin_meaning image)) c.in_err-exclusive.field-0.0 refl (λ image own none. refl))
 
 pub returns-clause-lines : goal.returns-clause-lines
 returns-clause-lines g c =

@@ -9,16 +9,16 @@ pub returns-clause-whole : goal.returns-clause-whole
 returns-clause-whole g c =
     let state = g.K.Sink.state in
     subst (λ out. OnOk c.finish.result (Appends (uses_text c.args.uses.now) (state c.args.out.now).written (state out).written)) (search rules)
-    (put_all c.finish.result {first = state c.args.out.now} {sink = state c.finish.new.printer.0} (rw (c.over-printer.ensures.none, c.over-printer.ensures.same) at c.in_ok-add_uses.ensures.prints) c.finish.ensures.finishes)
+    (put_all c.finish.result {first = state c.args.out.now} {sink = state c.finish.new.printer.0} (rw (c.to_sink-printer.ensures.none, c.to_sink-printer.ensures.same) at c.in_ok-add_uses.ensures.prints) c.finish.ensures.finishes)
 
 pub returns-clause-front : goal.returns-clause-front
 returns-clause-front g c =
     let state = g.K.Sink.state in
     subst (λ out. AppendsFront (uses_text c.args.uses.now) (state c.args.out.now).written (state out).written) (search rules)
-    (all_lost {first = state c.args.out.now} {sink = state c.finish.new.printer.0} (rw (c.over-printer.ensures.none, c.over-printer.ensures.same) at c.in_ok-add_uses.ensures.prints) c.finish.ensures.finishes)
+    (all_lost {first = state c.args.out.now} {sink = state c.finish.new.printer.0} (rw (c.to_sink-printer.ensures.none, c.to_sink-printer.ensures.same) at c.in_ok-add_uses.ensures.prints) c.finish.ensures.finishes)
 
 pub returns-in_err-add_uses-clause-front : goal.returns-in_err-add_uses-clause-front
 returns-in_err-add_uses-clause-front g c =
     let state = g.K.Sink.state in
     subst (λ out. AppendsFront (uses_text c.args.uses.now) (state c.args.out.now).written (state out).written) (search rules)
-    (all_begun {first = state c.args.out.now} (rw (c.over-printer.ensures.none, c.over-printer.ensures.same) at c.in_err-add_uses.ensures.prints))
+    (all_begun {first = state c.args.out.now} (rw (c.to_sink-printer.ensures.none, c.to_sink-printer.ensures.same) at c.in_err-add_uses.ensures.prints))

@@ -21,18 +21,18 @@ answered : (words : List (List ℕ)) (read : Option Request) (fault : WordFault)
 answered words None fault = refl
 answered words (Some request) fault = refl
 
-pub returns-then-are_items-clause-asked : goal.returns-then-are_items-clause-asked
-returns-then-are_items-clause-asked c =
+pub returns-then-are_items_of_tool-clause-asked : goal.returns-then-are_items_of_tool-clause-asked
+returns-then-are_items_of_tool-clause-asked c =
     let words = map string_bytes c.args.words.now in
     let first = asked_first string_bytes c.args.words.now c.index-words-0.result c.as_str.result.now (sym c.is_empty.ensures ∙ c.if-is_empty.false) c.index-words-0.is c.as_str.ensures.value in
     rw c.ok_or.ensures.value
     (answered words c.read_request.result _
-    ∙ (all_known (tool_of c.as_str.result.now) (tool_as c.in-Some.tool) (items_of (drop 1 words)) (read_as words c.read_request.result) (sym c.in-Some.ensures) (sym c.are_items.ensures ∙ c.if-are_items.true) c.read_request.ensures.asked
+    ∙ (all_known (tool_of c.as_str.result.now) (tool_as c.in-Some.tool) (items_of (drop 1 words)) (read_as words c.read_request.result) (sym c.in-Some.ensures) (sym c.are_items_of_tool.ensures ∙ c.if-are_items_of_tool.true) c.read_request.ensures.asked
     ∙ sym first))
 
-pub returns-else-are_items-clause-asked : goal.returns-else-are_items-clause-asked
-returns-else-are_items-clause-asked c =
+pub returns-else-are_items_of_tool-clause-asked : goal.returns-else-are_items_of_tool-clause-asked
+returns-else-are_items_of_tool-clause-asked c =
     let first = asked_first string_bytes c.args.words.now c.index-words-0.result c.as_str.result.now (sym c.is_empty.ensures ∙ c.if-is_empty.false) c.index-words-0.is c.as_str.ensures.value in
     let tool = sym c.in-Some.ensures in
-    not_known (tool_of c.as_str.result.now) (tool_as c.in-Some.tool) (items_of (drop 1 (map string_bytes c.args.words.now))) tool (sym c.are_items.ensures ∙ c.if-are_items.false)
+    not_known (tool_of c.as_str.result.now) (tool_as c.in-Some.tool) (items_of (drop 1 (map string_bytes c.args.words.now))) tool (sym c.are_items_of_tool.ensures ∙ c.if-are_items_of_tool.false)
     ∙ sym first

@@ -19,12 +19,12 @@ pub returns-clause-content : goal.returns-clause-content
 returns-clause-content g c =
     let block = c.read.new.into.0 in
     let place = c.args.place in
-    let made = c.settle.ensures ∙ settled_not c.args.version block (sym c.is_settled.ensures ∙ c.if-is_settled.false) in
+    let made = c.clear_dirty.ensures ∙ settled_not c.args.version block (sym c.is_settled.ensures ∙ c.if-is_settled.false) in
     on_ok_weaker c.replace.result
     (λ put.
     if_both (g.A.Device.state c.args.rewrite.now.dev.now).held
     (λ image held at written.
     written ∙ ap (λ (b : List ℕ). Some (set image place b)) (made ∙ ap (settled_block c.args.version) (sym (block_found image place block at))))
     c.in_ok-read.ensures.content
-    (subst (λ (o : Option (List (List ℕ))). IfSome o (λ image. (g.A.Device.state c.replace.new.self.dev.now).held ≡ Some (set image place c.settle.result.0))) c.read.ensures.kept.held put))
+    (subst (λ (o : Option (List (List ℕ))). IfSome o (λ image. (g.A.Device.state c.replace.new.self.dev.now).held ≡ Some (set image place c.clear_dirty.result.0))) c.read.ensures.kept.held put))
     c.replace.ensures.content

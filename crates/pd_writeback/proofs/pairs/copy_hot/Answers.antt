@@ -7,7 +7,7 @@ use Rattle.pd_draft.proofs.StaysLemmas.{keeps_place}
 use Rattle.pd_answers.specs.CachedView.{CachedBlock, stands_for}
 use Rattle.pd_writeback.specs.declared.hot.HotBlock.{HotBlock}
 use Rattle.pd_writeback.specs.Copied.{IsCopied}
-use Rattle.pd_writeback.specs.Hot.{cached, cached_all}
+use Rattle.pd_writeback.specs.Hot.{cached_of_hot, cached_all}
 use Rattle.pd_writeback.specs.Room.{Fits}
 use Rattle.pd_writeback.proofs.OverlaidLemmas.{kept_more, one_stands, overlaid_more, overlaid_start, stands_some}
 use Rattle.pd_writeback.proofs.pairs.copy_hot.Goals as goal
@@ -17,16 +17,16 @@ abbrev no_block : HotBlock
 no_block = record { cache_block = 0; origin_block = 0 }
 
 -- one among the cached blocks
-at_hot : (hot : List HotBlock) (i : ℕ) → i < length hot → get_or (cached_all hot) i (cached no_block) ≡ cached (get_or hot i no_block)
-at_hot hot i within = get_or-map cached hot i no_block (cached no_block) within
+at_hot : (hot : List HotBlock) (i : ℕ) → i < length hot → get_or (cached_all hot) i (cached_of_hot no_block) ≡ cached_of_hot (get_or hot i no_block)
+at_hot hot i within = get_or-map cached_of_hot hot i no_block (cached_of_hot no_block) within
 
 inside : (hot : List HotBlock) (i : ℕ) → i < length hot → i < length (cached_all hot)
-inside hot i within = rw (length-map hot cached) within
+inside hot i within = rw (length-map hot cached_of_hot) within
 
 -- what it stands for, a hot one stands for
-covers : (k : ℕ) (hot : List HotBlock) (i : ℕ) → i < length hot → (b : ℕ) → stands_for k (cached (get_or hot i no_block)) b ≡ true → stands_some k (cached_all hot) b ≡ true
+covers : (k : ℕ) (hot : List HotBlock) (i : ℕ) → i < length hot → (b : ℕ) → stands_for k (cached_of_hot (get_or hot i no_block)) b ≡ true → stands_some k (cached_all hot) b ≡ true
 covers k hot i within b stands =
-    one_stands k (cached_all hot) i (cached no_block) b (inside hot i within) (subst (λ (c : CachedBlock). stands_for k c b ≡ true) (sym (at_hot hot i within)) stands)
+    one_stands k (cached_all hot) i (cached_of_hot no_block) b (inside hot i within) (subst (λ (c : CachedBlock). stands_for k c b ≡ true) (sym (at_hot hot i within)) stands)
 
 pub loop-one-init : goal.loop-one-init
 loop-one-init g c = record {
@@ -70,7 +70,7 @@ loop-one-preserved g c =
     (subst (λ (o : Option (List (List ℕ))). IfSome o (λ held. IfSome mid.held (λ m. IfSome new.held (IsCopied (one.cache_block * k) (one.origin_block * k) (min k (mid.blocks - one.origin_block * k)) held m))))
     before.kept.held c.in_ok-copy_one.ensures.copied) in
     record {
-      overlaid = λ once. overlaid_more k (cached_all hot) i (cached no_block) (cached one) old.blocks fast.held old.held mid.held new.held (inside hot i within) (at_hot hot i within) once
+      overlaid = λ once. overlaid_more k (cached_all hot) i (cached_of_hot no_block) (cached_of_hot one) old.blocks fast.held old.held mid.held new.held (inside hot i within) (at_hot hot i within) once
           on_fast (g.met.B.Device.measured c.args.origin.now) before.told c.copy_one.ensures.told (before.overlaid once) next;
       crash = λ base here. kept_more k (cached_all hot) base (before.crash base here)
           (λ here'. c.copy_one.ensures.crash (stands_some k (cached_all hot)) base (covers k hot i within) here');

@@ -2,7 +2,7 @@ use Rattle.std.proofs.Common.{◌≡◌, ◌+◌, ◌-◌, ◌∷◌, ◌++◌, 
 use Rattle.pd_kinds.specs.Array.{array_block, max_words}
 use Rattle.pd_array.specs.Word.{size_of}
 use Rattle.pd_draft.specs.Placed.{Wrote}
-use Rattle.pd_draft.specs.Stand.{stand}
+use Rattle.pd_draft.specs.DraftState.{draft_state}
 use Rattle.pd_build.proofs.TreeLemmas.{on_ok}
 use Rattle.pd_build.proofs.ArrayLemmas.{push_none, push_end, array_some}
 use Rattle.pd_build.proofs.array.ArrayBuilder.push.Goals as goal
@@ -21,16 +21,16 @@ returns-clause-pushes g c =
     rw (← c.self.view_is)
     (on_ok c.put_block.result
     (λ wrote. push_end size c.args.value (record { begun = c.self.inside.begun.items; left = c.self.inside.left; made = c.self.inside.made })
-    (record { begun = c.clear.new.self.items; left = c.self.inside.left - 1; made = c.self.inside.made + 1 }) (stand c.args.draft.now) (stand c.put_block.new.draft)
+    (record { begun = c.clear.new.self.items; left = c.self.inside.left - 1; made = c.self.inside.made + 1 }) (draft_state c.args.draft.now) (draft_state c.put_block.new.draft)
     c.clear.ensures.items (omega arith) refl (omega (arith, c.self.invariant.0)) ends
-    (subst (λ (blocks : List (List ℕ)). Wrote blocks (stand c.args.draft.now) (stand c.put_block.new.draft)) block wrote))
+    (subst (λ (blocks : List (List ℕ)). Wrote blocks (draft_state c.args.draft.now) (draft_state c.put_block.new.draft)) block wrote))
     c.put_block.ensures.wrote)
 
 pub returns-then-not-is_full-clause-pushes : goal.returns-then-not-is_full-clause-pushes
 returns-then-not-is_full-clause-pushes g c =
     rw (← c.self.view_is)
     (push_none (size_of c.self.inside.word) c.args.value (record { begun = c.self.inside.begun.items; left = c.self.inside.left; made = c.self.inside.made })
-    (record { begun = c.push_word.new.words.items; left = c.self.inside.left - 1; made = c.self.inside.made }) (stand c.args.draft.now) c.requires.closed
+    (record { begun = c.push_word.new.words.items; left = c.self.inside.left - 1; made = c.self.inside.made }) (draft_state c.args.draft.now) c.requires.closed
     c.in_ok-push_word.ensures.items (let more = rw (← c.self.view_is) at c.requires.more in omega arith) refl)
 
 pub put_block-requires-clause-room : goal.put_block-requires-clause-room

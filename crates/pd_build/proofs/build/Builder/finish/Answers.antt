@@ -1,7 +1,7 @@
 use Rattle.std.proofs.Common.{◌≡◌, ◌∷◌, ℕ, List, [], length, refl, sym, ◌∙◌, ap, arith, subst}
 use Rattle.pd_kinds.specs.Node.{Entry, is_ascending, leaf_block}
 use Rattle.pd_draft.specs.Placed.{Wrote}
-use Rattle.pd_draft.specs.Stand.{stand}
+use Rattle.pd_draft.specs.DraftState.{draft_state}
 use Rattle.pd_build.proofs.OrderLemmas.{keys, asc_left}
 use Rattle.std.proofs.lemmas.List.{map-append}
 use Rattle.pd_build.specs.Tree.{TreeLeft, blocks_left, number_left}
@@ -28,7 +28,7 @@ returns-then-is_empty-clause-wrote g c =
     empty_blocks size place t (none_is (length c.self.inside.upper) (sym c.if-is_empty.ensures)) (c.is_done-done.ensures.sizes (rw (← c.self.view_is) at c.requires.done)) in
     let block : c.write_leaf-block.result.0 ∷ [] ≡ leaf_block size place [] ∷ [] =
     ap (λ (b : List ℕ). b ∷ []) (c.write_leaf-block.ensures.block ∙ ap (λ (p : ℕ). leaf_block size p []) c.next-place.ensures) in
-    rw (← c.self.view_is) (subst (λ (blocks : List (List ℕ)). Wrote blocks (stand c.args.draft.now) (stand c.put_block.new.draft)) (block ∙ sym is) c.in_ok-put_block.ensures.wrote)
+    rw (← c.self.view_is) (subst (λ (blocks : List (List ℕ)). Wrote blocks (draft_state c.args.draft.now) (draft_state c.put_block.new.draft)) (block ∙ sym is) c.in_ok-put_block.ensures.wrote)
 
 pub returns-then-is_empty-clause-root : goal.returns-then-is_empty-clause-root
 returns-then-is_empty-clause-root g c =
@@ -53,7 +53,7 @@ returns-clause-wrote g c =
     let t : TreeLeft = record { leaves = c.self.inside.leaves; heads = c.self.inside.upper } in
     let is = done_blocks g.V.Value.SIZE c.args.draft.now.next t (some_is (length c.self.inside.upper) (sym c.if-is_empty.ensures)) (c.is_done-done.ensures.sizes (rw (← c.self.view_is) at c.requires.done)) in
     rw (← c.self.view_is)
-    (on_ok c.finish.result (λ wrote. subst (λ (blocks : List (List ℕ)). Wrote blocks (stand c.args.draft.now) (stand c.finish.new.draft)) (sym is) wrote) c.finish.ensures.wrote)
+    (on_ok c.finish.result (λ wrote. subst (λ (blocks : List (List ℕ)). Wrote blocks (draft_state c.args.draft.now) (draft_state c.finish.new.draft)) (sym is) wrote) c.finish.ensures.wrote)
 
 pub returns-clause-root : goal.returns-clause-root
 returns-clause-root g c =

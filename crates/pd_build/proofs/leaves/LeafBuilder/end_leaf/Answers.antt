@@ -1,7 +1,7 @@
 use Rattle.std.proofs.Common.{◌≡◌, ◌<◌, ◌≤◌, ◌+◌, ◌-◌, ◌∷◌, [], ℕ, List, refl, sym, subst, ◌∙◌, ap, arith}
 use Rattle.pd_kinds.specs.Node.{Entry, max_entries}
 use Rattle.pd_draft.specs.Placed.{Wrote}
-use Rattle.pd_draft.specs.Stand.{stand}
+use Rattle.pd_draft.specs.DraftState.{draft_state}
 use Rattle.pd_spells.specs.Need.{nodes_for}
 use Rattle.pd_build.specs.OpenLeaf.{entries_in}
 use Rattle.pd_build.specs.Leaves.{LeavesLeft, AreCounts, low_of, low_after}
@@ -87,7 +87,7 @@ returns-clause-takes g c =
     (takes_one size e (c.least_of-least.result, c.next-place.result)
     (record { sizes = even_sizes c.self.inside.leaves c.self.inside.items; begun = before; low = low_after low before })
     (record { sizes = even_sizes (c.self.inside.leaves - 1) (c.self.inside.items - c.self.inside.size); begun = []; low = c.args.key + 1 })
-    (stand c.args.draft.now) (stand c.put_block-written.new.draft)
+    (draft_state c.args.draft.now) (draft_state c.put_block-written.new.draft)
     c.self.invariant.0 (some_leaf g b) refl (length-entries_in size c.self.inside.block.value.0 c.self.inside.count) (is_last g b) refl refl refl
-    (subst (λ (block : List ℕ). Wrote (block ∷ []) (stand c.args.draft.now) (stand c.put_block-written.new.draft)) leaf (rw shown at c.in_ok-written.ensures.wrote))
+    (subst (λ (block : List ℕ). Wrote (block ∷ []) (draft_state c.args.draft.now) (draft_state c.put_block-written.new.draft)) leaf (rw shown at c.in_ok-written.ensures.wrote))
     ((rw given at c.least_of-least.ensures) ∙ more_least m) c.next-place.ensures)

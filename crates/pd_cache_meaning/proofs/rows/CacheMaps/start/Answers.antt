@@ -4,5 +4,5 @@ use Rattle.pd_cache_meaning.proofs.rows.CacheMaps.start.Goals as goal
 pub returns-clause-room : goal.returns-clause-room
 returns-clause-room c = λ blocks roots.
     let words = c.in_ok-words.ensures.room in
-    let beside = c.in_ok-beside.ensures.room blocks roots in
-    omega (arith, words, beside, roots.mappings)
+    let hints_and_dirty = c.in_ok-hints_and_dirty.ensures.room blocks roots in
+    omega (arith, words, hints_and_dirty, roots.mappings)

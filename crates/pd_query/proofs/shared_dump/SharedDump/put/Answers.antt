@@ -10,11 +10,11 @@ returns-clause-text g c =
     let state = g.K.Sink.state in
     subst (λ out. PutsText (g.D.Device.state c.args.dev.now).held (λ image. shared_text_left image c.args.self.now) c.finish.result (state c.args.out.now).written (state out).written) (search rules)
     (text_finished (g.D.Device.state c.args.dev.now).held c.finish.result {first = state c.args.out.now} {sink = state c.finish.new.printer.0}
-    (rw (c.over-printer.ensures.none, c.over-printer.ensures.same) at c.in_ok-add_shared_pool.ensures.prints) c.finish.ensures.finishes)
+    (rw (c.to_sink-printer.ensures.none, c.to_sink-printer.ensures.same) at c.in_ok-add_shared_pool.ensures.prints) c.finish.ensures.finishes)
 
 pub returns-in_err-add_shared_pool-clause-text : goal.returns-in_err-add_shared_pool-clause-text
 returns-in_err-add_shared_pool-clause-text g c =
     let state = g.K.Sink.state in
     subst (λ out. PutsText (g.D.Device.state c.args.dev.now).held (λ image. shared_text_left image c.args.self.now) c.from_residual.result (state c.args.out.now).written (state out).written) (search rules)
     (text_stopped (g.D.Device.state c.args.dev.now).held c.from_residual.result {first = state c.args.out.now} {mid = printing state c.add_shared_pool.new.printer} c.from_residual.ensures.0
-    (rw (c.over-printer.ensures.none, c.over-printer.ensures.same) at c.in_err-add_shared_pool.ensures.prints))
+    (rw (c.to_sink-printer.ensures.none, c.to_sink-printer.ensures.same) at c.in_err-add_shared_pool.ensures.prints))

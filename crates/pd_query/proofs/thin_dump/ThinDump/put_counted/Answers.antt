@@ -14,21 +14,21 @@ returns-in-Ok-clause-text g c =
     let state = g.K.Sink.state in
     subst (λ out. PutsText {T = DumpCounts} {E = QueryFault} (g.D.Device.state c.args.dev.now).held (λ image. text_left image c.args.self.now) (Ok c.add_pool.new.counts) (state c.args.out.now).written (state out).written) (search rules)
     (text_put (g.D.Device.state c.args.dev.now).held c.add_pool.new.counts {first = state c.args.out.now} {sink = state c.finish.new.self.0}
-    (rw (c.over-printer.ensures.none, c.over-printer.ensures.same) at c.in_ok-add_pool.ensures.prints) c.in-Ok.ensures.finishes)
+    (rw (c.to_sink-printer.ensures.none, c.to_sink-printer.ensures.same) at c.in_ok-add_pool.ensures.prints) c.in-Ok.ensures.finishes)
 
 pub returns-in-Err-clause-text : goal.returns-in-Err-clause-text
 returns-in-Err-clause-text g c =
     let state = g.K.Sink.state in
     subst (λ out. PutsText {T = DumpCounts} {E = QueryFault} (g.D.Device.state c.args.dev.now).held (λ image. text_left image c.args.self.now) (Err Sink) (state c.args.out.now).written (state out).written) (search rules)
     (text_lost (g.D.Device.state c.args.dev.now).held Sink {first = state c.args.out.now} {sink = state c.finish.new.self.0}
-    (rw (c.over-printer.ensures.none, c.over-printer.ensures.same) at c.in_ok-add_pool.ensures.prints) c.in-Err.ensures.finishes)
+    (rw (c.to_sink-printer.ensures.none, c.to_sink-printer.ensures.same) at c.in_ok-add_pool.ensures.prints) c.in-Err.ensures.finishes)
 
 pub returns-in_err-add_pool-clause-text : goal.returns-in_err-add_pool-clause-text
 returns-in_err-add_pool-clause-text g c =
     let state = g.K.Sink.state in
     subst (λ out. PutsText (g.D.Device.state c.args.dev.now).held (λ image. text_left image c.args.self.now) c.from_residual.result (state c.args.out.now).written (state out).written) (search rules)
     (text_stopped (g.D.Device.state c.args.dev.now).held c.from_residual.result {first = state c.args.out.now} {mid = printing state c.add_pool.new.printer} c.from_residual.ensures.0
-    (rw (c.over-printer.ensures.none, c.over-printer.ensures.same) at c.in_err-add_pool.ensures.prints))
+    (rw (c.to_sink-printer.ensures.none, c.to_sink-printer.ensures.same) at c.in_err-add_pool.ensures.prints))
 
 pub returns-in-Ok-clause-counted : goal.returns-in-Ok-clause-counted
 returns-in-Ok-clause-counted g c =

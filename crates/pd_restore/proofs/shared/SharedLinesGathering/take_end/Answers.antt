@@ -1,5 +1,5 @@
 use Rattle.std.proofs.Common.{arith, rules}
-use Rattle.pd_draft.specs.Stand.{stand}
+use Rattle.pd_draft.specs.DraftState.{draft_state}
 use Rattle.pd_restore.proofs.ReadingLemmas.{no_room_asked, over_if_short}
 use Rattle.pd_restore.proofs.SharedLemmas.{as_gathered, bare_follows, end_follows, few_after, taken_lines}
 use Rattle.pd_spells.specs.ThinText.{end_line}
@@ -7,7 +7,7 @@ use Rattle.pd_restore.proofs.shared.SharedLinesGathering.take_end.Goals as goal
 
 pub returns-in_err-within-clause-need : goal.returns-in_err-within-clause-need
 returns-in_err-within-clause-need g c before start f =
-    let is = c.need_at_end-needed.ensures before start (stand c.args.draft.now) f.so_far.gathered f.lines.0.going f.so_far.need f.so_far.most in
+    let is = c.need_at_end-needed.ensures before start (draft_state c.args.draft.now) f.so_far.gathered f.lines.0.going f.so_far.need f.so_far.most in
     let over = over_if_short {T = Unit {0}} c.args.room _ _ c.within.result is c.within.ensures.need in search rules
 
 pub end-requires-clause-gathered : goal.end-requires-clause-gathered
@@ -27,7 +27,7 @@ returns-in-Ok-clause-gathered g c before start f =
 
 pub returns-in-Ok-clause-need : goal.returns-in-Ok-clause-need
 returns-in-Ok-clause-need g c before start f =
-    let is = c.need_at_end-needed.ensures before start (stand c.args.draft.now) f.so_far.gathered f.lines.0.going f.so_far.need f.so_far.most in
+    let is = c.need_at_end-needed.ensures before start (draft_state c.args.draft.now) f.so_far.gathered f.lines.0.going f.so_far.need f.so_far.most in
     omega (arith, is, c.in_ok-within.ensures.need)
 
 pub returns-in-Err-clause-need : goal.returns-in-Err-clause-need

@@ -1,5 +1,5 @@
 use Rattle.std.proofs.Common.{arith}
-use Rattle.pd_draft.specs.Stand.{stand}
+use Rattle.pd_draft.specs.DraftState.{draft_state}
 use Rattle.pd_restore.specs.declared.begin.Rest.TheVariants.{Text, Saved}
 use Rattle.pd_restore.specs.Whole.{begun_lines, head_of_pool}
 use Rattle.pd_restore.proofs.BeginLemmas.{first_version, second_version}
@@ -46,15 +46,15 @@ write_saved-requires-clause-made g c = record {
 pub returns-then-version-eq2-clause-writes : goal.returns-then-version-eq2-clause-writes
 returns-then-version-eq2-clause-writes g c =
     rest_writes c.args.begun.pool c.args.begun.rest (Text c.in-Text.text) c.args.room (g.S.Source.state c.args.source.now).left (g.S.Source.state c.write_text.new.source).left
-    (stand c.args.draft.now) (stand c.write_text.new.draft) c.write_text.result c.in-Text.is c.write_text.ensures.writes
+    (draft_state c.args.draft.now) (draft_state c.write_text.new.draft) c.write_text.result c.in-Text.is c.write_text.ensures.writes
 
 pub returns-in-Text-clause-writes : goal.returns-in-Text-clause-writes
 returns-in-Text-clause-writes g c =
     rest_writes c.args.begun.pool c.args.begun.rest (Text c.in-Text.text) c.args.room (g.S.Source.state c.args.source.now).left (g.S.Source.state c.write_text-else-version-eq2.new.source).left
-    (stand c.args.draft.now) (stand c.write_text-else-version-eq2.new.draft) c.write_text-else-version-eq2.result c.in-Text.is c.write_text-else-version-eq2.ensures.writes
+    (draft_state c.args.draft.now) (draft_state c.write_text-else-version-eq2.new.draft) c.write_text-else-version-eq2.result c.in-Text.is c.write_text-else-version-eq2.ensures.writes
 
 pub returns-clause-writes : goal.returns-clause-writes
 returns-clause-writes g c =
     let left = (g.S.Source.state c.args.source.now).left in
     rest_writes c.args.begun.pool c.args.begun.rest (Saved c.in-Saved.lines) c.args.room left left
-    (stand c.args.draft.now) (stand c.write_saved.new.draft) c.write_saved.result c.in-Saved.is (c.write_saved.ensures.writes left)
+    (draft_state c.args.draft.now) (draft_state c.write_saved.new.draft) c.write_saved.result c.in-Saved.is (c.write_saved.ensures.writes left)

@@ -1,6 +1,6 @@
 use Rattle.std.proofs.Common.{◌≡◌, ◌<◌, ◌∙◌, refl, arith, ap, get_or, length, subst, List, [], ◌∷◌, ℕ}
 use Rattle.std.proofs.lemmas.List.{get_or_read, length-map}
-use Rattle.pd_draft.specs.Stand.{stand}
+use Rattle.pd_draft.specs.DraftState.{draft_state}
 use Rattle.pd_spells.specs.ThinText.{Run, data_blocks_of, end_of, least_of, piece_end, runs_of_leaf}
 use Rattle.pd_spells.specs.ThinText as text
 use Rattle.pd_shared_devices.specs.Told.{ended_leaf, leaf_items, open_runs, own_piece, whole_leaves, with_pieces}
@@ -74,4 +74,4 @@ returns-clause-gathered g c room before start h next =
     (omega (arith, next.above, least)) (omega (arith, leaf.below, least)) (least ∙ leaf.first) in
     on_ok_three c.count_use.result c.count_use.ensures.size c.count_use.ensures.total (c.count_use.ensures.listed (text.uses_of before) h.counts.uses_counted)
     (λ size total counted. gathered_use before c.args.self.now _ n o _ h next found small refl size total counted refl refl refl refl refl did.none refl
-    (subst (λ (rs : List Run). Grown items (with_pieces (shared n ∷ []) (with_pieces (own_piece rs) found.device)) (end_of (runs_of_leaf before n)) c.use_leaf.new.growing h.behind (stand c.use_leaf.new.draft)) runs_are grown))
+    (subst (λ (rs : List Run). Grown items (with_pieces (shared n ∷ []) (with_pieces (own_piece rs) found.device)) (end_of (runs_of_leaf before n)) c.use_leaf.new.growing h.behind (draft_state c.use_leaf.new.draft)) runs_are grown))

@@ -4,7 +4,7 @@ use Rattle.pd_tree.proofs.NextLemmas.{if_both}
 use Rattle.pd_shared_leaves.specs.Leaves.{shared_blocks}
 use Rattle.pd_shared_leaves.specs.declared.parts.Found.TheVariants.{Mapping}
 use Rattle.pd_shared_leaves.specs.declared.pieces.PieceRuns.{PieceRuns}
-use Rattle.pd_shared_leaves.specs.Parts.{IsNextPart, parts_left, parts_reads}
+use Rattle.pd_shared_leaves.specs.TreeParts.{IsNextPart, parts_left, parts_reads}
 use Rattle.pd_shared_leaves.proofs.PieceLemmas.{few_begun, if_three, mapping_taken, no_leaf}
 use Rattle.pd_shared_leaves.proofs.pieces.PieceRuns.next.Goals as goal
 

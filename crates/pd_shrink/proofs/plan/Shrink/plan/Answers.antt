@@ -14,14 +14,14 @@ returns-in-None-clause-plans g c =
     lacks_super (g.B.Device.state c.args.output.now).blocks (g.C.Device.state c.args.pool.now).blocks c.args.blocks (g.A.Device.state c.args.meta.now).held (g.A.Device.state c.args.meta.now).blocks
     c.in_ok-first.first.value.0 (g.met.A.Device.measured c.args.meta.now) c.in_ok-first.ensures.bytes c.requires.sound (rw (c.deref.ensures, c.blocks-meta_blocks.ensures.count) at c.in-None.ensures.broken)
 
-pub over-requires-clause-fits : goal.over-requires-clause-fits
-over-requires-clause-fits g c =
+pub with_super-requires-clause-fits : goal.with_super-requires-clause-fits
+with_super-requires-clause-fits g c =
     subst (λ (n : ℕ). FitsDevice n c.in-Some.s) (c.blocks-meta_blocks.ensures.count ∙ sym c.read_first.ensures.kept.blocks) c.in-Some.ensures.fits
 
-pub over-requires-clause-sound : goal.over-requires-clause-sound
-over-requires-clause-sound g c =
+pub with_super-requires-clause-sound : goal.with_super-requires-clause-sound
+with_super-requires-clause-sound g c =
     subst (λ (o : Option (List (List ℕ))). IfSome o (IsSoundWith c.in-Some.s)) (sym c.read_first.ensures.kept.held)
     (sound_with (g.A.Device.state c.args.meta.now).held c.in_ok-first.first.value.0 c.in-Some.s c.in_ok-first.ensures.bytes c.requires.sound (rw c.deref.ensures at c.in-Some.ensures.fields))
 
 pub returns-clause-plans : goal.returns-clause-plans
-returns-clause-plans g c = rw (c.read_first.ensures.kept.held, c.blocks-output_blocks.ensures.count, c.blocks-pool_blocks.ensures.count) at c.over.ensures.plans
+returns-clause-plans g c = rw (c.read_first.ensures.kept.held, c.blocks-output_blocks.ensures.count, c.blocks-pool_blocks.ensures.count) at c.with_super.ensures.plans

@@ -35,22 +35,22 @@ returns-then-is_marked-clause-done g c image of synced =
 pub returns-then-is_marked-clause-crash : goal.returns-then-is_marked-clause-crash
 returns-then-is_marked-clause-crash g c image of synced = unwritten_marking image (settled image) c.in-Ok.ensures.kept.held c.in-Ok.ensures.kept.history synced
 
-pub mark_dirty-requires-clause-hot : goal.mark_dirty-requires-clause-hot
-mark_dirty-requires-clause-hot g c none = eqb-false _ 0 (sym c.is_empty.ensures ∙ c.if-is_empty.false) (omega (arith, none, c.args.self.now.hot.ok.0))
+pub write_marks-requires-clause-hot : goal.write_marks-requires-clause-hot
+write_marks-requires-clause-hot g c none = eqb-false _ 0 (sym c.is_empty.ensures ∙ c.if-is_empty.false) (omega (arith, none, c.args.self.now.hot.ok.0))
 
 pub returns-else-is_marked-clause-done : goal.returns-else-is_marked-clause-done
 returns-else-is_marked-clause-done g c =
     let kept = c.in-Ok.ensures.kept in
-    on_ok_weaker c.mark_dirty.result (λ done image of synced. done image of (still_synced image kept.held kept.history synced)) c.mark_dirty.ensures.done
+    on_ok_weaker c.write_marks.result (λ done image of synced. done image of (still_synced image kept.held kept.history synced)) c.write_marks.ensures.done
 
 pub returns-else-is_marked-clause-crash : goal.returns-else-is_marked-clause-crash
 returns-else-is_marked-clause-crash g c image of synced =
     let kept = c.in-Ok.ensures.kept in
-    and_then (unwritten_marking image (settled image) kept.held kept.history synced) (c.mark_dirty.ensures.crash image of (still_synced image kept.held kept.history synced))
+    and_then (unwritten_marking image (settled image) kept.held kept.history synced) (c.write_marks.ensures.crash image of (still_synced image kept.held kept.history synced))
 
 pub returns-else-is_marked-clause-told : goal.returns-else-is_marked-clause-told
 returns-else-is_marked-clause-told g c =
-    still_tells (g.A.Device.state c.args.meta.now) (g.A.Device.state c.mark_dirty.new.meta) (c.mark_dirty.ensures.told ∙ ap is_some c.in-Ok.ensures.kept.held)
+    still_tells (g.A.Device.state c.args.meta.now) (g.A.Device.state c.write_marks.new.meta) (c.write_marks.ensures.told ∙ ap is_some c.in-Ok.ensures.kept.held)
 
 pub returns-else-is_marked-clause-cold : goal.returns-else-is_marked-clause-cold
 returns-else-is_marked-clause-cold g c none =

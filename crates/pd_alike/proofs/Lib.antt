@@ -1,9 +1,0 @@
-pub mod Seen
-pub mod Frozen
-pub mod Below
-pub mod Super
-pub mod Pools
-pub mod Roots
-pub mod Counts
-pub mod Whole
-pub mod Verdict

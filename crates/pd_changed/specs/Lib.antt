@@ -1,0 +1,5 @@
+pub mod Alike
+pub mod KnownPool
+pub mod Premises
+pub mod Known
+pub mod Moving

@@ -1,4 +1,0 @@
-pub mod Arrays
-pub mod EraNamed
-pub mod CacheNamed
-pub mod NeedLemmas

@@ -1,5 +1,0 @@
-pub mod Places
-pub mod Sources
-pub mod Reading
-pub mod LawfulPool
-pub mod FreeBlocks

@@ -1,3 +1,0 @@
-pub mod RefsLemmas
-pub mod RoleLemmas
-pub mod CounterLemmas

@@ -1,2 +1,0 @@
-pub mod Refs
-pub mod Counter

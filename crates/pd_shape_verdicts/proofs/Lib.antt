@@ -1,4 +1,0 @@
-pub mod NeedGrows
-pub mod ToldLeaves
-pub mod WholeNeed
-pub mod Unshared
