@@ -51,7 +51,7 @@ holds_here t rest none = elim (and_cases t.fails (nat_eq t.block t.block && same
       absurd (both_ways _ other (rw (eq-eqb t.block t.block refl, same) refl))
 ]
 
-tests_hold : (nr : ℕ) (tests : List WholeTest) → ((b : ℕ) (broken : Rule) → b < nr → whole_bad tests b broken ≡ false)
+pub tests_hold : (nr : ℕ) (tests : List WholeTest) → ((b : ℕ) (broken : Rule) → b < nr → whole_bad tests b broken ≡ false)
     → AllByRecursion (λ (t : WholeTest). t.block < nr → t.fails ≡ false) tests
 unfolding whole_bad
 tests_hold nr [] none = tt
@@ -175,7 +175,7 @@ all_unmapped f P [] all = tt
 all_unmapped f P (x ∷ xs) all = (all.0, all_unmapped f P xs all.1)
 
 -- a number from 1 to nr - 1 isn't outside
-inside_is : (nr b : ℕ) → 1 ≤ b → b < nr → is_outside nr b ≡ false
+pub inside_is : (nr b : ℕ) → 1 ≤ b → b < nr → is_outside nr b ≡ false
 inside_is nr b some below = or_from (nat_eq b 0) (not (nat_lt b nr)) (ne_eqb b 0 (λ e. omega arith)) (not_from_true (nat_lt b nr) (lt-ltb b nr below))
 
 module _ (image : List (List ℕ))

@@ -11,3 +11,4 @@ pub mod LaidEra
 pub mod Salvage
 pub mod Saved
 pub mod FoundRoots
+pub mod SavedCache
