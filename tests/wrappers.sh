@@ -955,15 +955,11 @@ try 0 sh -c 'thin_check thin-pool.img <&-'
 out clean
 # what ends the command ends the program, too
 if command -v mkfifo >/dev/null; then
-    what='a stopped command'
-    tries=$((tries + 1))
     mkfifo stopped
-    thin_dump -o stopped thin-pool.img &
-    sleep 1
-    kill $!
-    wait $! 2>/dev/null && bad 'status 0'
     # and says what a restore has left
     for image in thin-pool.img spare.img; do
+        what='a stopped command'
+        tries=$((tries + 1))
         dd if=$image of=new.img bs=4096 2>/dev/null
         [ $image != spare.img ] || dd if=/dev/zero of=new.img bs=4096 count=1 conv=notrunc 2>/dev/null
         thin_restore -i stopped -o new.img 2>notes &
@@ -971,16 +967,87 @@ if command -v mkfifo >/dev/null; then
         kill $!
         wait $! 2>/dev/null && bad 'status 0'
         if [ $image = thin-pool.img ]; then
-            notes 'thin_restore: stopped: new.img holds what it held, or all that was to be written'
+            notes 'thin_restore: stopped is a pipe: the text is what is written to it' \
+                'thin_restore: stopped: new.img holds what it held, or all that was to be written'
         else
-            notes 'thin_restore: stopped: block 0 of new.img is zeros, which a kernel takes for a new device.' \
+            notes 'thin_restore: stopped is a pipe: the text is what is written to it' \
+                'thin_restore: stopped: block 0 of new.img is zeros, which a kernel takes for a new device.' \
                 'thin_restore: Activate nothing that names it, and run this again to its end.'
         fi
     done
-    # a reader that comes too late would be waited for, if the program were there
+    # a writer that comes too late would be waited for, if the program were there
     if command -v pgrep >/dev/null; then
-        ! pgrep -f "$prefix/bin/pdata_tools thin_dump -o stopped" >/dev/null || bad 'the program goes on'
+        ! pgrep -f "$prefix/bin/pdata_tools thin_restore -i stopped" >/dev/null || bad 'the program goes on'
     fi
+
+    # A pipe is no device, and one that nobody reads takes no text
+    kinds=': metadata and data are on block devices, or in files'
+    for name in stopped /dev/null; do
+        case $name in
+        stopped) is="$name is a pipe$kinds" ;;
+        *) is="$name is a character device$kinds" ;;
+        esac
+        for tool in thin_check cache_check era_check thin_dump cache_dump era_dump thin_ls; do
+            try 5 $tool $name
+            out
+            notes "$tool: $is"
+        done
+        try 5 thin_check --clear-needs-check-flag $name
+        try 5 era_invalidate --written-since 5 $name
+        try 5 thin_rmap --region 0..1 $name
+        for tool in thin_restore cache_restore era_restore; do
+            try 5 $tool -i thin-pool.txt -o $name
+            notes "$tool: $is"
+        done
+        try 5 thin_rehearse --number 1 -o $name
+        try 5 thin_repair -i $name -o new.img
+        try 5 thin_repair -i thin-pool.img -o $name
+        for missing in metadata fast origin; do
+            metadata=dirty.img fast=fast.img origin=origin.img
+            eval "$missing=$name"
+            try 5 cache_writeback --metadata-device $metadata --fast-device $fast --origin-device $origin
+            notes "cache_writeback: $is"
+        done
+        for missing in input output third; do
+            input=thin-pool.img output=new.img third=data.img
+            eval "$missing=$name"
+            try 5 thin_shrink -i $input -o $output --data $third --nr-blocks 2
+            notes "thin_shrink: $is"
+        done
+        for tool in thin_check cache_check thin_dump; do
+            try 1 "$lvm/$tool" $name
+            notes "$tool: $is"
+        done
+        try 1 "$lvm/thin_check" -q --clear-needs-check-flag $name
+        try 1 "$lvm/thin_repair" -i $name -o new.img
+        notes "thin_repair: $is" 'thin_repair: nothing is repaired; see pdata_tools-lvm(8)'
+        try 1 "$lvm/thin_repair" -i thin-pool.img -o $name
+    done
+    try 0 thin_dump -o /dev/null thin-pool.img
+    try 6 thin_dump -o stopped thin-pool.img
+    out
+    notes 'thin_dump: stopped is a pipe that nobody reads'
+    try 6 thin_generate --number 1 -o stopped
+    for kind in thin cache era; do
+        name=$kind
+        [ $kind != thin ] || name=thin-pool
+        cat stopped >read.txt &
+        try 0 ${kind}_dump -o stopped $name.img
+        wait $!
+        same read.txt $name.txt
+        notes
+        zeros new.img 1024
+        cat $name.txt >stopped &
+        try 0 ${kind}_restore -i stopped -o new.img
+        notes "${kind}_restore: stopped is a pipe: the text is what is written to it"
+        try 0 ${kind}_dump new.img
+        same out $name.txt
+        # shellcheck disable=SC2002 # a pipe is wanted
+        try 0 sh -c "cat $name.txt | ${kind}_restore -i /dev/stdin -o new.img"
+        notes
+    done
+else
+    skip 'pipes with a name, as there is no mkfifo'
 fi
 if [ "$(id -u)" -ne 0 ]; then
     cp thin-pool.img closed.img
