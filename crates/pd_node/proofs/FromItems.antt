@@ -8,6 +8,7 @@ use Rattle.pd_kinds.specs.Node.{max_entries, node_block, node_rows, node_salt, p
 use Rattle.pd_node.specs.Items.{entries_of, keys_of, values_of}
 use Rattle.pd_node.specs.Read.{node_values}
 use Rattle.pd_node.proofs.Written.{CanWrite, entry_keys, entry_values, value_written}
+use Rattle.pd_node.proofs.Begun.{begun_is_node}
 use Rattle.pd_node.proofs.Sound.{read_back}
 
 -- the numbers of the items' values
@@ -27,14 +28,13 @@ count_kept {X} code items = length-map items (λ (item : ℕ × X). record { key
 
 -- the block that the code writes is the node of the entries
 pub node_is : {X : Type 0} → (code : X → ℕ) (items : List (ℕ × X)) (flags size place : ℕ)
-    → sealed (puts (puts (written zeros (node_rows flags size place (length items))) 32 8 (keys_of items)) (32 + 8 * max_entries size) size (codes_of code items)) node_salt
+    → sealed (written (puts (puts zeros 32 8 (keys_of items)) (32 + 8 * max_entries size) size (codes_of code items)) (node_rows flags size place (length items))) node_salt
     ≡ node_block flags size place (entries_of code items)
-unfolding node_block
 node_is {X} code items flags size place =
     let keys = keys_kept code items in
     let codes = codes_kept code items in
     let count = count_kept code items in
-    rw (keys, codes, count) refl
+    rw (keys, codes, count) at (begun_is_node flags size place (entries_of code items))
 
 -- each item's number fits if each item's value does
 pub can_write : {X : Type 0} → (code : X → ℕ) (items : List (ℕ × X)) (flags size place : ℕ) → flags < 2 ^ 32 → size ≤ 24 → place < 2 ^ 64 → length items ≤ max_entries size

@@ -3,8 +3,9 @@
 ghost use Rattle.std.specs.Prelude.{◌≡◌, ℕ, ◌+◌, ◌*◌, ◌<◌, ◌≤◌, ◌^◌, false, true, length, map, slice_index};
 ghost use Rattle.std.specs.List.{All};
 ghost use Rattle.pd_kinds.specs.declared.rule.Rule.{Rule as BrokenRule};
-ghost use Rattle.pd_kinds.specs.Field.{written, zeros};
-ghost use Rattle.pd_kinds.specs.Node.{entry_count, inner_block, is_ascending, is_inner_node, leaf_block, max_entries, node_bad, node_keys, node_rows, puts};
+ghost use Rattle.pd_kinds.specs.Checksum.{has_checksum, sealed};
+ghost use Rattle.pd_kinds.specs.Field.{written};
+ghost use Rattle.pd_kinds.specs.Node.{entry_count, inner_block, is_ascending, is_inner_node, leaf_block, max_entries, node_bad, node_keys, node_rows, node_salt, puts};
 ghost use Rattle.pd_node.specs.Items.{entries_of, keys_of, values_of};
 ghost use Rattle.pd_node.specs.Read.{node_children, node_values};
 
@@ -41,11 +42,11 @@ pub fn write_leaf<V: Value>(place: u64, items: &[(u64, V)]) -> Block
     ensures keys { node_keys V.SIZE result.0 ≡ keys_of items.now }
     ensures values { node_values V.SIZE V.decoded result.0 ≡ values_of items.now }
 {
-    let mut block = header_of(LEAF_FLAGS, V::SIZE, place, items.len());
+    let mut block = Block::zeros();
     put_keys(&mut block, items);
     let values_at = HEADER_SIZE + KEY_SIZE * max_entries_of(V::SIZE);
     put_values(&mut block, values_at, items);
-    seal(&mut block, NODE_SALT);
+    seal_node(&mut block, LEAF_FLAGS, V::SIZE, place, items.len());
     block
 }
 
@@ -63,31 +64,31 @@ pub fn write_inner(place: u64, items: &[(u64, u64)]) -> Block
     ensures keys { (size : ℕ) → node_keys size result.0 ≡ keys_of items.now }
     ensures children { (size : ℕ) → node_children size result.0 ≡ values_of items.now }
 {
-    let mut block = header_of(INNER_FLAGS, KEY_SIZE, place, items.len());
+    let mut block = Block::zeros();
     put_keys(&mut block, items);
     put_children(
         &mut block,
         HEADER_SIZE + KEY_SIZE * max_entries_of(KEY_SIZE),
         items,
     );
-    seal(&mut block, NODE_SALT);
+    seal_node(&mut block, INNER_FLAGS, KEY_SIZE, place, items.len());
     block
 }
 
-/// A node of zeros but for the header: the flags, the size of a value, the place, the number of entries.
-#[tactic(auto, unfolding(pd_kinds::specs::Field::written, pd_kinds::specs::Field::zeros))]
-fn header_of(flags: u32, size: usize, place: u64, count: usize) -> Block
+/// Writes the header of a node and its checksum: the flags, the size of a value, the place, the number of entries.
+#[tactic(auto, unfolding(pd_kinds::specs::Field::written))]
+pub(crate) fn seal_node(block: &mut Block, flags: u32, size: usize, place: u64, count: usize)
     requires size { size ≤ 24 }
     requires count { count ≤ max_entries size }
-    ensures { result.0 ≡ written zeros (node_rows flags size place count) }
+    ensures sealed { block.new.0 ≡ sealed (written block.old.0 (node_rows flags size place count)) node_salt }
+    ensures valid { has_checksum block.new.0 node_salt ≡ true }
 {
-    let mut block = Block([0; 4096]);
     put_u32(&mut block.0, FLAGS_AT, flags);
     put_u64(&mut block.0, PLACE_AT, place);
     put_u32(&mut block.0, ENTRIES_AT, count as u32);
     put_u32(&mut block.0, MAX_AT, max_entries_of(size) as u32);
     put_u32(&mut block.0, VALUE_SIZE_AT, size as u32);
-    block
+    seal(block, NODE_SALT);
 }
 
 /// Writes the keys in a row behind the header.

@@ -11,12 +11,12 @@ child number = number
 
 pub returns-clause-block : goal.returns-clause-block
 returns-clause-block c =
-    rw (c.seal.ensures.sealed, c.put_children.ensures.row, c.max_entries_of.ensures, c.put_keys.ensures.row, c.header_of-block.ensures) (node_is child c.args.items.now 1 8 c.args.place)
+    rw (c.seal_node.ensures.sealed, c.put_children.ensures.row, c.max_entries_of.ensures, c.put_keys.ensures.row, c.zeros-block.ensures) (node_is child c.args.items.now 1 8 c.args.place)
 
-can : (c : goal.After-seal) → CanWrite 1 8 c.args.place (entries_of child c.args.items.now)
+can : (c : goal.After-seal_node) → CanWrite 1 8 c.args.place (entries_of child c.args.items.now)
 can c = can_write child c.args.items.now 1 8 c.args.place (lit< tt) (lit≤ tt) (omega arith) c.requires.room c.put_keys.ensures.below c.put_children.ensures.below
 
-kind : (c : goal.After-seal) (size : ℕ) → IsKind 1 8 size (length (entries_of child c.args.items.now))
+kind : (c : goal.After-seal_node) (size : ℕ) → IsKind 1 8 size (length (entries_of child c.args.items.now))
 kind c size = record {
   flags_known = inl refl;
   size_known = refl;
@@ -26,7 +26,7 @@ kind c size = record {
 pub returns-clause-sound : goal.returns-clause-sound
 returns-clause-sound c = λ size rule.
     let is = returns-clause-block c in
-    let valid = rw is at c.seal.ensures.valid in
+    let valid = rw is at c.seal_node.ensures.valid in
     let ascend = rw (sym (keys_kept child c.args.items.now)) at c.requires.ascend in
     rw is (sound_written 1 8 c.args.place size (entries_of child c.args.items.now) (can c) (kind c size) ascend valid rule)
 

@@ -10,31 +10,31 @@ use Rattle.pd_node.proofs.write.write_leaf.Given as given
 
 pub returns-clause-block : goal.returns-clause-block
 returns-clause-block g c =
-    rw (c.seal.ensures.sealed, c.put_values.ensures, c.max_entries_of.ensures, c.SIZE-2.ensures, c.put_keys.ensures.row, c.header_of-block.ensures, c.SIZE.ensures)
+    rw (c.seal_node.ensures.sealed, c.put_values.ensures, c.max_entries_of.ensures, c.SIZE.ensures, c.SIZE-2.ensures, c.put_keys.ensures.row, c.zeros-block.ensures)
     (node_is g.V.Value.code c.args.items.now 2 g.V.Value.SIZE c.args.place)
 
-can : (g : given.Over) (c : goal.After-seal g) → CanWrite 2 g.V.Value.SIZE c.args.place (entries_of g.V.Value.code c.args.items.now)
+can : (g : given.Over) (c : goal.After-seal_node g) → CanWrite 2 g.V.Value.SIZE c.args.place (entries_of g.V.Value.code c.args.items.now)
 can g c =
     let items = c.args.items.now in
     let below : All (λ item. g.V.Value.code item.1 < 256 ^ g.V.Value.SIZE) items = λ k d h. g.met.V.Value.code_below (slice_index_or items k d).1 (c.requires.fit k d h) in
     can_write g.V.Value.code items 2 g.V.Value.SIZE c.args.place (lit< tt) g.met.V.Value.size_most (omega arith) c.requires.room c.put_keys.ensures.below
     (codes_below g.V.Value.code items (256 ^ g.V.Value.SIZE) (g.V.Value.decoded 0) below)
 
-kind : (g : given.Over) (c : goal.After-seal g) → IsKind 2 g.V.Value.SIZE g.V.Value.SIZE (length (entries_of g.V.Value.code c.args.items.now))
+kind : (g : given.Over) (c : goal.After-seal_node g) → IsKind 2 g.V.Value.SIZE g.V.Value.SIZE (length (entries_of g.V.Value.code c.args.items.now))
 kind g c = record {
   flags_known = inr refl;
   size_known = refl;
   some = λ inner. absurd (omega arith);
 }
 
-counted : (g : given.Over) (c : goal.After-seal g) → entry_count g.V.Value.SIZE (leaf_block g.V.Value.SIZE c.args.place (entries_of g.V.Value.code c.args.items.now)) ≡ length c.args.items.now
+counted : (g : given.Over) (c : goal.After-seal_node g) → entry_count g.V.Value.SIZE (leaf_block g.V.Value.SIZE c.args.place (entries_of g.V.Value.code c.args.items.now)) ≡ length c.args.items.now
 counted g c =
     count_written 2 g.V.Value.SIZE c.args.place g.V.Value.SIZE (entries_of g.V.Value.code c.args.items.now) (can g c) (kind g c) ∙ count_kept g.V.Value.code c.args.items.now
 
 pub returns-clause-sound : goal.returns-clause-sound
 returns-clause-sound g c = λ rule.
     let is = returns-clause-block g c in
-    let valid = rw is at c.seal.ensures.valid in
+    let valid = rw is at c.seal_node.ensures.valid in
     let ascend = rw (sym (keys_kept g.V.Value.code c.args.items.now)) at c.requires.ascend in
     rw is (sound_written 2 g.V.Value.SIZE c.args.place g.V.Value.SIZE (entries_of g.V.Value.code c.args.items.now) (can g c) (kind g c) ascend valid rule)
 
