@@ -1,19 +1,23 @@
 //! A bitmap: 16320 reference counts of two bits each.
 
-ghost use Rattle.std.specs.Prelude.{◌≡◌, ◌≢◌, ℕ, ◌+◌, ◌/◌, ◌<◌, ◌≤◌, false, slice_index};
+ghost use Rattle.std.specs.Prelude.{◌≡◌, ◌≢◌, ℕ, ◌+◌, ◌/◌, ◌<◌, ◌≤◌, false, length, slice_index};
 ghost use Rattle.pd_kinds.specs.declared.rule.Rule.{Rule as BrokenRule};
 ghost use Rattle.pd_kinds.specs.Bitmap.{bitmap_bad, bitmap_salt, placed_block, two_bits_of};
 ghost use Rattle.pd_kinds.specs.Field.{zeros};
 ghost use Rattle.pd_kinds.specs.RuleSet.{has_rule};
+ghost use Rattle.pd_bitmap.specs.Counts.{stored_all};
 
 use crate::HEADER_SIZE;
-use crate::counts::{count_of, with_count};
+use crate::counts::{byte_of, count_of, with_count};
 use pd_crc::{is_sealed, seal};
 use pd_kinds::{Block, Rule, Rules, put_u64, u64_at};
 
 /// What the checksum of a bitmap is XORed with, as BITMAP_CSUM_XOR of
 /// "drivers/md/persistent-data/dm-space-map-common.c".
 const BITMAP_SALT: u32 = 240779;
+
+/// How many bytes the counts take: four are in a byte.
+const COUNT_BYTES: usize = 4080;
 
 /// The rules that the block breaks as the bitmap in this place.
 ///
@@ -58,6 +62,24 @@ pub fn new_bitmap() -> Block
     ensures counts { (i : ℕ) → two_bits_of result.0 i ≡ 0 }
 {
     Block::zeros()
+}
+
+/// The bitmap of these numbers, which isn't sealed yet, where 3 stands for 3 and all above.
+pub fn filled_bitmap(numbers: &[u32]) -> Block
+    requires { length numbers.now ≡ 16320 }
+    ensures { result.0 ≡ stored_all (slice_index numbers.now) }
+{
+    let mut block = new_bitmap();
+    for i in 0..COUNT_BYTES {
+        let at = 4 * i;
+        block.0[HEADER_SIZE + i] = byte_of(
+            numbers[at],
+            numbers[at + 1],
+            numbers[at + 2],
+            numbers[at + 3],
+        );
+    }
+    block
 }
 
 /// Writes the place and the checksum of a bitmap, and changes nothing else.

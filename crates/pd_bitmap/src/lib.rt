@@ -4,9 +4,11 @@
 
 mod bitmap;
 mod counts;
+mod groups;
 mod index;
 
-pub use bitmap::{bitmap_rules, new_bitmap, seal_bitmap, set_two_bits, two_bits};
+pub use bitmap::{bitmap_rules, filled_bitmap, new_bitmap, seal_bitmap, set_two_bits, two_bits};
+pub use groups::one_number;
 pub use index::{index_entry, index_rules, new_index, seal_index};
 
 /// The size of the header of a bitmap and of an index block in bytes: the counts, and the entries,
