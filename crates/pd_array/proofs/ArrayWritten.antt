@@ -1,6 +1,7 @@
 -- What stands in the block that is written for an array's words.
-use Rattle.std.proofs.Common.{◌≡◌, inl, ℕ, suc, ◌+◌, ◌*◌, ◌%◌, ◌^◌, ◌<◌, ◌≤◌, true, false, List, length, get_or, refl, ◌∙◌, arith, eq-eqb}
+use Rattle.std.proofs.Common.{◌≡◌, inl, inr, ℕ, suc, ◌+◌, ◌-◌, ◌*◌, ◌%◌, ◌^◌, ◌<◌, ◌≤◌, true, false, List, length, get_or, refl, ◌∙◌, arith, eq-eqb}
 use Rattle.std.proofs.Math.Nat.{mul-le-mul_left, mul-suc}
+use Rattle.std.proofs.lemmas.Bool.{cases_lt}
 use Rattle.std.proofs.lemmas.Bool.Decides.{nat_tests}
 use Rattle.pd_kinds.specs.declared.rule.Rule.{Rule}
 use Rattle.pd_kinds.specs.Field.{le, written, zeros}
@@ -75,6 +76,12 @@ word_room size i n max within most room =
 pub counted_below : (size : ℕ) (b : List ℕ) (i : ℕ) → i < word_count size b → (array_max b ≡ max_words size) × (i < array_max b)
 unfolding word_count is_array_shape_bad
 counted_below size b i within = (grind (arith, nat_tests), grind (arith, nat_tests))
+
+pub few_words : (size : ℕ) (b : List ℕ) → word_count size b ≤ max_words size
+few_words size b = elim (cases_lt 0 (word_count size b)) [
+  | inl some ↦ let last = counted_below size b (word_count size b - 1) (omega arith) in omega (arith, last.0, last.1)
+  | inr none ↦ omega arith
+]
 
 -- each size of a word leaves room in the block
 pub word_within : (word : Word) (b : List ℕ) (i : ℕ) → i < word_count (size_of word) b → 24 + size_of word * i + size_of word ≤ 4096

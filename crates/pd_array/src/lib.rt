@@ -10,4 +10,4 @@ mod write;
 pub use read::{array_len, array_word};
 pub use rules::array_rules;
 pub use word::Word;
-pub use write::write_array;
+pub use write::{seal_array, set_array_word, write_array};

@@ -1,8 +1,9 @@
-//! An array block, written.
+//! An array block, written whole or word by word.
 
 ghost use Rattle.std.specs.Prelude.{◌≡◌, ◌+◌, ◌*◌, ◌^◌, ◌<◌, ◌≤◌, EachIndex, false, length, slice_index};
 ghost use Rattle.pd_kinds.specs.declared.rule.Rule.{Rule as BrokenRule};
-ghost use Rattle.pd_kinds.specs.Array.{array_bad, array_block, array_rows, max_words, word_at, word_count};
+ghost use Rattle.pd_kinds.specs.Array.{array_bad, array_block, array_rows, array_salt, max_words, word_at, word_count};
+ghost use Rattle.pd_kinds.specs.Checksum.{sealed};
 ghost use Rattle.pd_kinds.specs.Field.{put, written, zeros};
 ghost use Rattle.pd_kinds.specs.Node.{puts};
 ghost use Rattle.pd_array.specs.Word.{size_of};
@@ -49,18 +50,26 @@ fn put_words(block: &mut Block, word: Word, words: &[u64])
     ensures { block.new.0 ≡ puts block.old.0 24 (size_of word) words.now }
 {
     for (i, value) in words.iter().enumerate() {
-        put_word(block, HEADER_SIZE + word.size() * i, word, *value);
+        set_array_word(block, word, i, *value);
     }
 }
 
-/// Writes one word, and changes no other byte.
-fn put_word(block: &mut Block, at: usize, word: Word, value: u64)
-    requires room { at + size_of word ≤ 4096 }
+/// Sets word `i`, from 0, and changes no other byte: the checksum isn't that of the block then.
+#[inline]
+pub fn set_array_word(block: &mut Block, word: Word, i: usize, value: u64)
+    requires within { i < max_words (size_of word) }
     requires fits { value < 256 ^ size_of word }
-    ensures { block.new.0 ≡ put block.old.0 at (size_of word) value }
+    ensures { block.new.0 ≡ put block.old.0 (24 + size_of word * i) (size_of word) value }
 {
     match word {
-        Word::Four => put_u32(&mut block.0, at, value as u32),
-        Word::Eight => put_u64(&mut block.0, at, value),
+        Word::Four => put_u32(&mut block.0, HEADER_SIZE + 4 * i, value as u32),
+        Word::Eight => put_u64(&mut block.0, HEADER_SIZE + 8 * i, value),
     }
+}
+
+/// Writes the checksum of an array block, and changes nothing else.
+pub fn seal_array(block: &mut Block)
+    ensures { block.new.0 ≡ sealed block.old.0 array_salt }
+{
+    seal(block, ARRAY_SALT);
 }

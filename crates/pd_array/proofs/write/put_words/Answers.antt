@@ -10,5 +10,5 @@ loop-i-init c = refl
 
 pub loop-i-preserved : goal.loop-i-preserved
 loop-i-preserved c =
-    rw (c.put_word.ensures, c.size.ensures, c.loop-i.invariant)
+    rw (c.set_array_word.ensures, c.loop-i.invariant)
     (sym (puts_step c.args.block.now.0 24 (size_of c.args.word) c.args.words.now c.loop-i.i c.loop-i-test.true))
