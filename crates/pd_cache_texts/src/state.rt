@@ -3,8 +3,8 @@
 ghost use Rattle.std.specs.Prelude.{◌≡◌, ◌≤◌, List, ◌∷◌, length, IfOk, true, false};
 ghost use Rattle.pd_grammar.specs.Texts.{tested};
 ghost use Rattle.pd_grammar.specs.Tables.{may_stand};
-ghost use Rattle.pd_spells.specs.CacheText.{Line, cache_kind, map_kind, single_tests, has_number_out_of_range, is_out_of_order, flag_number};
-ghost use Rattle.pd_texts.specs.Seen.{in_range, seen_by};
+ghost use Rattle.pd_spells.specs.CacheText.{Line, cache_kind, map_kind, end_kind, single_tests, flag_number};
+ghost use Rattle.pd_texts.specs.Seen.{seen_by};
 ghost use Rattle.pd_texts.specs.Words.{made_of};
 ghost use Rattle.pd_cache_texts.specs.CacheKind.{kind_meant};
 ghost use Rattle.pd_cache_texts.specs.CacheLine.{cache_meant};
@@ -126,39 +126,24 @@ impl CacheState {
         ensures after { (before : List Line) → CacheStands self.old before → 1 ≤ length before
             → IfOk result (λ taken. CacheStands self.new (cache_meant taken ∷ before)) }
     {
-        let line = self.line(kind, names, numbers)?;
-        if self.is_out_of_order(&line) {
-            return Err(TextCause::Order);
-        }
-        self.pass(&line);
-        Ok(line)
-    }
-
-    /// The line of these values, none where it is the last one, or `OutOfRange`.
-    fn line(
-        &self,
-        kind: CacheKind,
-        names: &[[u8; 16]; 9],
-        numbers: &[u64; 9],
-    ) -> Result<Option<CacheLine>, TextCause>
-        ensures { (before : List Line) → CacheStands self.now before
-            → seen_by cache_meant result ≡ in_range has_number_out_of_range before (made_of (kind_meant kind) names.now numbers.now) }
-    {
         match kind {
-            CacheKind::Cache => cache_of(names, numbers),
-            CacheKind::Map => self.map_of(names, numbers),
-            CacheKind::End => Ok(None),
+            CacheKind::Map => self.take_map(names, numbers),
+            CacheKind::Cache => self.take_cache(names, numbers),
+            CacheKind::End => self.take_end(names, numbers),
         }
     }
 
-    /// The map line of these values, or `OutOfRange`.
-    fn map_of(
-        &self,
+    /// Takes a map line of these values.
+    #[tactic(auto, unfolding(pd_grammar::specs::Texts::tested))]
+    fn take_map(
+        &mut self,
         names: &[[u8; 16]; 9],
         numbers: &[u64; 9],
     ) -> Result<Option<CacheLine>, TextCause>
-        ensures { (before : List Line) → CacheStands self.now before
-            → seen_by cache_meant result ≡ in_range has_number_out_of_range before (made_of map_kind names.now numbers.now) }
+        ensures line { (before : List Line) → CacheStands self.old before → 1 ≤ length before
+            → seen_by cache_meant result ≡ tested single_tests before (made_of map_kind names.now numbers.now) }
+        ensures after { (before : List Line) → CacheStands self.old before → 1 ≤ length before
+            → IfOk result (λ taken. CacheStands self.new (cache_meant taken ∷ before)) }
     {
         let block = numbers[0];
         let origin = numbers[1];
@@ -170,6 +155,11 @@ impl CacheState {
         if !fits {
             return Err(TextCause::OutOfRange);
         }
+        if block < self.least_block {
+            return Err(TextCause::Order);
+        }
+        self.stage = Stage::Body;
+        self.least_block = block + 1;
         Ok(Some(CacheLine::Map {
             block: block as u32,
             origin,
@@ -178,68 +168,66 @@ impl CacheState {
         }))
     }
 
-    /// Whether the line's cache block isn't above those before.
-    fn is_out_of_order(&self, line: &Option<CacheLine>) -> bool
-        ensures { (before : List Line) → CacheStands self.now before → result ≡ is_out_of_order before (cache_meant line.now) }
+    /// Takes a cache line of these values.
+    #[tactic(auto, unfolding(pd_grammar::specs::Texts::tested))]
+    fn take_cache(
+        &mut self,
+        names: &[[u8; 16]; 9],
+        numbers: &[u64; 9],
+    ) -> Result<Option<CacheLine>, TextCause>
+        ensures line { (before : List Line) → CacheStands self.old before → 1 ≤ length before
+            → seen_by cache_meant result ≡ tested single_tests before (made_of cache_kind names.now numbers.now) }
+        ensures after { (before : List Line) → CacheStands self.old before → 1 ≤ length before
+            → IfOk result (λ taken. CacheStands self.new (cache_meant taken ∷ before)) }
     {
-        match line {
-            Some(CacheLine::Map { block, .. }) => (*block as u64) < self.least_block,
-            _ => false,
+        let block_size = numbers[1];
+        let blocks = numbers[2];
+        let clean = numbers[3];
+        let major = numbers[5];
+        let minor = numbers[6];
+        let patch = numbers[7];
+        let hint_size = numbers[8];
+        let fits = (block_size < 4294967296)
+            & ((blocks < 4294967296)
+                & ((major < 4294967296)
+                    & ((minor < 4294967296)
+                        & ((patch < 4294967296)
+                            & (!(1 < clean) & ((hint_size == 0) | (hint_size == 4)))))));
+        if !fits {
+            return Err(TextCause::OutOfRange);
         }
+        *self = CacheState {
+            stage: Stage::Body,
+            blocks: blocks as u32,
+            hint_size: hint_size as u32,
+            least_block: 0,
+        };
+        Ok(Some(CacheLine::Cache {
+            uuid: names[0],
+            block_size: block_size as u32,
+            blocks: blocks as u32,
+            clean: is_set(clean),
+            policy: names[4],
+            versions: [major as u32, minor as u32, patch as u32],
+            hint_size: hint_size as u32,
+        }))
     }
 
-    /// Goes past a line.
-    fn pass(&mut self, line: &Option<CacheLine>)
-        ensures { (before : List Line) → CacheStands self.old before → 1 ≤ length before → CacheStands self.new (cache_meant line.now ∷ before) }
+    /// Takes the last line.
+    #[tactic(auto, unfolding(pd_grammar::specs::Texts::tested))]
+    fn take_end(
+        &mut self,
+        names: &[[u8; 16]; 9],
+        numbers: &[u64; 9],
+    ) -> Result<Option<CacheLine>, TextCause>
+        ensures line { (before : List Line) → CacheStands self.old before → 1 ≤ length before
+            → seen_by cache_meant result ≡ tested single_tests before (made_of end_kind names.now numbers.now) }
+        ensures after { (before : List Line) → CacheStands self.old before → 1 ≤ length before
+            → IfOk result (λ taken. CacheStands self.new (cache_meant taken ∷ before)) }
     {
         self.stage = Stage::Body;
-        match line {
-            Some(
-                CacheLine::Cache {
-                    blocks,
-                    hint_size,
-                    ..
-                },
-            ) => {
-                self.blocks = *blocks;
-                self.hint_size = *hint_size;
-                self.least_block = 0;
-            }
-            Some(CacheLine::Map { block, .. }) => self.least_block = *block as u64 + 1,
-            None => {}
-        }
+        Ok(None)
     }
-}
-
-/// The cache line of these values, or `OutOfRange`.
-fn cache_of(names: &[[u8; 16]; 9], numbers: &[u64; 9]) -> Result<Option<CacheLine>, TextCause>
-    ensures { (before : List Line) → seen_by cache_meant result ≡ in_range has_number_out_of_range before (made_of cache_kind names.now numbers.now) }
-{
-    let block_size = numbers[1];
-    let blocks = numbers[2];
-    let clean = numbers[3];
-    let major = numbers[5];
-    let minor = numbers[6];
-    let patch = numbers[7];
-    let hint_size = numbers[8];
-    let fits = (block_size < 4294967296)
-        & ((blocks < 4294967296)
-            & ((major < 4294967296)
-                & ((minor < 4294967296)
-                    & ((patch < 4294967296)
-                        & (!(1 < clean) & ((hint_size == 0) | (hint_size == 4)))))));
-    if !fits {
-        return Err(TextCause::OutOfRange);
-    }
-    Ok(Some(CacheLine::Cache {
-        uuid: names[0],
-        block_size: block_size as u32,
-        blocks: blocks as u32,
-        clean: is_set(clean),
-        policy: names[4],
-        versions: [major as u32, minor as u32, patch as u32],
-        hint_size: hint_size as u32,
-    }))
 }
 
 /// The flag of a number.
