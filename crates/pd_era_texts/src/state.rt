@@ -3,8 +3,8 @@
 ghost use Rattle.std.specs.Prelude.{◌≡◌, ◌≤◌, List, ◌∷◌, length, IfOk, true, false};
 ghost use Rattle.pd_grammar.specs.Texts.{tested};
 ghost use Rattle.pd_grammar.specs.Tables.{may_stand};
-ghost use Rattle.pd_spells.specs.EraText.{Line, era_kind, run_kind, era_tests, has_number_out_of_range, is_out_of_order, is_mapped_otherwise};
-ghost use Rattle.pd_texts.specs.Seen.{in_range, seen_by};
+ghost use Rattle.pd_spells.specs.EraText.{Line, era_kind, run_kind, end_kind, era_tests};
+ghost use Rattle.pd_texts.specs.Seen.{seen_by};
 ghost use Rattle.pd_texts.specs.Words.{made_of};
 ghost use Rattle.pd_era_texts.specs.EraKind.{kind_meant};
 ghost use Rattle.pd_era_texts.specs.EraLine.{era_meant};
@@ -123,37 +123,24 @@ impl EraState {
         ensures after { (before : List Line) → EraStands self.old before → 1 ≤ length before
             → IfOk result (λ taken. EraStands self.new (era_meant taken ∷ before)) }
     {
-        let line = self.line(kind, names, numbers)?;
-        self.check(&line)?;
-        self.pass(&line);
-        Ok(line)
-    }
-
-    /// The line of these values, none where it is the last one, or `OutOfRange`.
-    fn line(
-        &self,
-        kind: EraKind,
-        names: &[[u8; 16]; 4],
-        numbers: &[u64; 4],
-    ) -> Result<Option<EraLine>, TextCause>
-        ensures { (before : List Line) → EraStands self.now before
-            → seen_by era_meant result ≡ in_range has_number_out_of_range before (made_of (kind_meant kind) names.now numbers.now) }
-    {
         match kind {
-            EraKind::Era => era_of(names, numbers),
-            EraKind::Run => self.run_of(names, numbers),
-            EraKind::End => Ok(None),
+            EraKind::Run => self.take_run(names, numbers),
+            EraKind::Era => self.take_era(names, numbers),
+            EraKind::End => self.take_end(names, numbers),
         }
     }
 
-    /// The run line of these values, or `OutOfRange`.
-    fn run_of(
-        &self,
+    /// Takes a run line of these values.
+    #[tactic(auto, unfolding(pd_grammar::specs::Texts::tested))]
+    fn take_run(
+        &mut self,
         names: &[[u8; 16]; 4],
         numbers: &[u64; 4],
     ) -> Result<Option<EraLine>, TextCause>
-        ensures { (before : List Line) → EraStands self.now before
-            → seen_by era_meant result ≡ in_range has_number_out_of_range before (made_of run_kind names.now numbers.now) }
+        ensures line { (before : List Line) → EraStands self.old before → 1 ≤ length before
+            → seen_by era_meant result ≡ tested era_tests before (made_of run_kind names.now numbers.now) }
+        ensures after { (before : List Line) → EraStands self.old before → 1 ≤ length before
+            → IfOk result (λ taken. EraStands self.new (era_meant taken ∷ before)) }
     {
         let first = numbers[0];
         let length = numbers[1];
@@ -165,6 +152,11 @@ impl EraState {
         if !fits {
             return Err(TextCause::OutOfRange);
         }
+        if first != self.run_end {
+            return Err(TextCause::Order);
+        }
+        self.stage = Stage::Body;
+        self.run_end = first + length;
         Ok(Some(EraLine::Run {
             first: first as u32,
             length: length as u32,
@@ -172,74 +164,54 @@ impl EraState {
         }))
     }
 
-    /// Looks at the order of a line whose numbers are in their ranges, and whether all blocks are covered at the end.
+    /// Takes an era line of these values.
     #[tactic(auto, unfolding(pd_grammar::specs::Texts::tested))]
-    fn check(&self, line: &Option<EraLine>) -> Result<(), TextCause>
-        ensures { (before : List Line) → EraStands self.now before → has_number_out_of_range before (era_meant line.now) ≡ false
-            → seen_by (λ _. era_meant line.now) result ≡ tested era_tests before (era_meant line.now) }
+    fn take_era(
+        &mut self,
+        names: &[[u8; 16]; 4],
+        numbers: &[u64; 4],
+    ) -> Result<Option<EraLine>, TextCause>
+        ensures line { (before : List Line) → EraStands self.old before → 1 ≤ length before
+            → seen_by era_meant result ≡ tested era_tests before (made_of era_kind names.now numbers.now) }
+        ensures after { (before : List Line) → EraStands self.old before → 1 ≤ length before
+            → IfOk result (λ taken. EraStands self.new (era_meant taken ∷ before)) }
     {
-        if self.is_out_of_order(line) {
-            Err(TextCause::Order)
-        } else if self.is_mapped_otherwise(line) {
-            Err(TextCause::MappedDiffers)
-        } else {
-            Ok(())
+        let block_size = numbers[1];
+        let blocks = numbers[2];
+        let era = numbers[3];
+        let fits = (block_size < 4294967296) & ((blocks < 4294967296) & (era < 4294967296));
+        if !fits {
+            return Err(TextCause::OutOfRange);
         }
+        *self = EraState {
+            stage: Stage::Body,
+            blocks: blocks as u32,
+            run_end: 0,
+        };
+        Ok(Some(EraLine::Era {
+            uuid: names[0],
+            block_size: block_size as u32,
+            blocks: blocks as u32,
+            era: era as u32,
+        }))
     }
 
-    /// Whether the line's first block isn't the one after the last run.
-    fn is_out_of_order(&self, line: &Option<EraLine>) -> bool
-        ensures { (before : List Line) → EraStands self.now before → result ≡ is_out_of_order before (era_meant line.now) }
+    /// Takes the last line, before which all blocks are covered.
+    #[tactic(auto, unfolding(pd_grammar::specs::Texts::tested))]
+    fn take_end(
+        &mut self,
+        names: &[[u8; 16]; 4],
+        numbers: &[u64; 4],
+    ) -> Result<Option<EraLine>, TextCause>
+        ensures line { (before : List Line) → EraStands self.old before → 1 ≤ length before
+            → seen_by era_meant result ≡ tested era_tests before (made_of end_kind names.now numbers.now) }
+        ensures after { (before : List Line) → EraStands self.old before → 1 ≤ length before
+            → IfOk result (λ taken. EraStands self.new (era_meant taken ∷ before)) }
     {
-        match line {
-            Some(EraLine::Run { first, .. }) => !(*first as u64 == self.run_end),
-            _ => false,
+        if self.run_end < self.blocks as u64 {
+            return Err(TextCause::MappedDiffers);
         }
-    }
-
-    /// Whether the end comes before all blocks are covered.
-    fn is_mapped_otherwise(&self, line: &Option<EraLine>) -> bool
-        ensures { (before : List Line) → EraStands self.now before → result ≡ is_mapped_otherwise before (era_meant line.now) }
-    {
-        match line {
-            None => self.run_end < self.blocks as u64,
-            Some(_) => false,
-        }
-    }
-
-    /// Goes past a line.
-    fn pass(&mut self, line: &Option<EraLine>)
-        ensures { (before : List Line) → EraStands self.old before → 1 ≤ length before → EraStands self.new (era_meant line.now ∷ before) }
-    {
         self.stage = Stage::Body;
-        match line {
-            Some(EraLine::Era { blocks, .. }) => {
-                self.blocks = *blocks;
-                self.run_end = 0;
-            }
-            Some(EraLine::Run { first, length, .. }) => {
-                self.run_end = *first as u64 + *length as u64;
-            }
-            None => {}
-        }
+        Ok(None)
     }
-}
-
-/// The era line of these values, or `OutOfRange`.
-fn era_of(names: &[[u8; 16]; 4], numbers: &[u64; 4]) -> Result<Option<EraLine>, TextCause>
-    ensures { (before : List Line) → seen_by era_meant result ≡ in_range has_number_out_of_range before (made_of era_kind names.now numbers.now) }
-{
-    let block_size = numbers[1];
-    let blocks = numbers[2];
-    let era = numbers[3];
-    let fits = (block_size < 4294967296) & ((blocks < 4294967296) & (era < 4294967296));
-    if !fits {
-        return Err(TextCause::OutOfRange);
-    }
-    Ok(Some(EraLine::Era {
-        uuid: names[0],
-        block_size: block_size as u32,
-        blocks: blocks as u32,
-        era: era as u32,
-    }))
 }
