@@ -1,7 +1,7 @@
 -- What is left of the words and of the bits of an array.
 use Rattle.std.specs.Prelude.{◌≡◌, ℕ, zero, suc, ◌+◌, ◌/◌, ◌%◌, List, [], ◌∷◌, ◌++◌, drop, length, slice_index}
 use Rattle.std.specs.List.{flat_map}
-use Rattle.pd_tree.specs.ArrayCursor.{array_reads, array_room, array_words}
+use Rattle.pd_tree.specs.ArrayCursor.{array_reads, array_words}
 use Rattle.pd_tree.specs.Below.{items_below, nodes_below}
 use Rattle.pd_tree.specs.Items.{root_of}
 use Rattle.pd_tree.specs.Words.{words_of_items}
@@ -34,15 +34,12 @@ bits_of words = flat_map (low_bits 64) words
 abbrev pub bits_below : List (List ℕ) → ℕ → List ℕ
 bits_below image root = bits_of (words_below 8 image root)
 
--- the bits that are left, how many reads they take at most, and how many blocks the device must have
+-- the bits that are left, and how many reads they take at most
 abbrev pub bits_left : List (List ℕ) → Bits → List ℕ
 bits_left image bits = low_bits bits.left bits.word ++ bits_of (array_words image bits.words)
 
 abbrev pub bits_reads : List (List ℕ) → Bits → ℕ
 bits_reads image bits = array_reads image bits.words
-
-abbrev pub bits_room : Bits → ℕ
-bits_room bits = array_room bits.words
 
 -- the same of the hints
 abbrev pub hints_left : List (List ℕ) → Hints → List ℕ
@@ -50,6 +47,3 @@ hints_left image hints = array_words image hints.words
 
 abbrev pub hints_reads : List (List ℕ) → Hints → ℕ
 hints_reads image hints = array_reads image hints.words
-
-abbrev pub hints_room : Hints → ℕ
-hints_room hints = array_room hints.words

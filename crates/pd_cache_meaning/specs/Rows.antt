@@ -1,11 +1,11 @@
 -- What is left of the valid mappings of a cache.
-use Rattle.std.specs.Prelude.{◌≡◌, ℕ, ◌+◌, ◌<◌, max, Bool, ◌==◌, ◌&&◌, not, true, if◌then◌else◌, List, [], Option, Some, None}
+use Rattle.std.specs.Prelude.{◌≡◌, ℕ, ◌+◌, ◌<◌, Bool, ◌==◌, ◌&&◌, not, true, if◌then◌else◌, List, [], Option, Some, None}
 use Rattle.pd_kinds.specs.CacheFormat.{CacheFields, has_dirty_bits}
-use Rattle.pd_tree.specs.ArrayCursor.{array_number, array_reads, array_room, array_words}
+use Rattle.pd_tree.specs.ArrayCursor.{array_number, array_reads, array_words}
 use Rattle.pd_cache_meaning.specs.declared.side_arrays.CacheRow.{CacheRow}
 use Rattle.pd_cache_meaning.specs.declared.rows.CacheMaps.{CacheMaps}
 use Rattle.pd_cache_meaning.specs.Left.{bits_below, reads_of_root, words_below}
-use Rattle.pd_cache_meaning.specs.SideArrays.{side_reads, side_room, rows_beside, rows_of}
+use Rattle.pd_cache_meaning.specs.SideArrays.{side_reads, rows_beside, rows_of}
 
 -- whether a cache has hints that are to be looked at
 abbrev pub has_hints : CacheFields → Bool
@@ -38,10 +38,6 @@ rows_reads image maps = array_reads image maps.words + side_reads image maps.hin
 
 abbrev pub rows_number : CacheMaps → ℕ
 rows_number maps = array_number maps.words
-
--- how many blocks the device must have for the roots that are still to be read
-abbrev pub rows_room : CacheMaps → ℕ
-rows_room maps = max (array_room maps.words) (side_room maps.hints_and_dirty)
 
 -- the roots of a superblock that are read are below a number of blocks
 pub record RootsBelow (blocks : ℕ) (fields : CacheFields) : Type 0 where

@@ -1,11 +1,11 @@
 -- What stands beside the words of a mapping array: the number of the cache block, hints and dirty bits.
-use Rattle.std.specs.Prelude.{ℕ, ◌+◌, ◌-◌, ◌^◌, max, min, Bool, ◌==◌, if◌then◌else◌, List, [], ◌∷◌, ◌++◌, drop, slice_index, Option, Some, None}
+use Rattle.std.specs.Prelude.{ℕ, ◌+◌, ◌-◌, ◌^◌, min, Bool, ◌==◌, if◌then◌else◌, List, [], ◌∷◌, ◌++◌, drop, slice_index, Option, Some, None}
 use Rattle.pd_kinds.specs.Whole.{is_dirty_word, is_valid_word, origin_of_word}
 use Rattle.pd_cache_meaning.specs.declared.side_arrays.SideArrays.{SideArrays}
 use Rattle.pd_cache_meaning.specs.declared.side_arrays.CacheRow.{CacheRow}
 use Rattle.pd_cache_meaning.specs.declared.bits.Bits.{Bits}
 use Rattle.pd_cache_meaning.specs.declared.hints.Hints.{Hints}
-use Rattle.pd_cache_meaning.specs.Left.{bits_left, bits_reads, bits_room, hints_left, hints_reads, hints_room}
+use Rattle.pd_cache_meaning.specs.Left.{bits_left, bits_reads, hints_left, hints_reads}
 
 -- whether a block is dirty: by the first of the bits where there are bits, else by its word
 abbrev pub is_dirty_by : Option (List ℕ) → ℕ → Bool
@@ -55,24 +55,12 @@ abbrev pub bits_in_reads : List (List ℕ) → Option Bits → ℕ
 bits_in_reads image None = 0
 bits_in_reads image (Some bits) = bits_reads image bits
 
--- and how many blocks the device must have
-abbrev pub hints_in_room : Option Hints → ℕ
-hints_in_room None = 0
-hints_in_room (Some hints) = hints_room hints
-
-abbrev pub bits_in_room : Option Bits → ℕ
-bits_in_room None = 0
-bits_in_room (Some bits) = bits_room bits
-
 -- the rows of these words, by what stands beside them
 abbrev pub rows_beside : List (List ℕ) → SideArrays → List ℕ → List CacheRow
 rows_beside image hints_and_dirty words = rows_of hints_and_dirty.block words (hints_in image hints_and_dirty.hints) (bits_in image hints_and_dirty.bits)
 
 abbrev pub side_reads : List (List ℕ) → SideArrays → ℕ
 side_reads image hints_and_dirty = hints_in_reads image hints_and_dirty.hints + bits_in_reads image hints_and_dirty.bits
-
-abbrev pub side_room : SideArrays → ℕ
-side_room hints_and_dirty = max (hints_in_room hints_and_dirty.hints) (bits_in_room hints_and_dirty.bits)
 
 -- the row of a word was given, where the word is valid
 abbrev pub given_of : ℕ → CacheRow → List CacheRow

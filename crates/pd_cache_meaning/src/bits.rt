@@ -19,13 +19,12 @@ impl Bits {
     ghost use Rattle.std.specs.Prelude.{◌≡◌, ℕ, ◌+◌, ◌≤◌, List, IfOk, IfSome, OnOk};
     ghost use Rattle.pd_kinds.specs.Objects.{CountsFault};
     ghost use Rattle.pd_image.specs.Device.{IsAttached, OnlyReads};
-    ghost use Rattle.pd_cache_meaning.specs.Left.{TakesWords, bits_below, bits_left, bits_reads, bits_room, reads_of_root};
+    ghost use Rattle.pd_cache_meaning.specs.Left.{TakesWords, bits_below, bits_left, bits_reads, reads_of_root};
 
     /// The bits of the array with this root. It takes all memory that they need.
     pub(crate) fn start(alloc: Global, root: u64) -> Result<Bits, AllocError>
         ensures bits { (image : List (List ℕ)) → IfOk result (λ bits. bits_left image bits ≡ bits_below image root) }
         ensures reads { (image : List (List ℕ)) → IfOk result (λ bits. bits_reads image bits ≡ reads_of_root image root) }
-        ensures room { IfOk result (λ bits. bits_room bits ≡ root + 1) }
     {
         let words = ArrayCursor::start(alloc, root, Word::Eight)?;
         Ok(Bits {
@@ -39,13 +38,11 @@ impl Bits {
     #[tactic(auto, using(crate::proofs::TakeLemmas::take_low))]
     pub(crate) fn take<D: Device>(&mut self, dev: &mut D) -> Result<u64, Failed>
         requires attached { IsAttached (D.state dev.old) }
-        requires within { bits_room self.old ≤ (D.state dev.old).blocks }
         ensures taken { IfOk result (λ bit. IfSome (D.state dev.old).held (λ image. TakesWords bit (bits_left image self.old) (bits_left image self.new))) }
         ensures reads { IfSome (D.state dev.old).held (λ image. OnOk result (
             (D.state dev.new).reads + bits_reads image self.new ≤ (D.state dev.old).reads + bits_reads image self.old)) }
         ensures reads_failed { IfSome (D.state dev.old).held (λ image.
             (D.state dev.new).reads ≤ (D.state dev.old).reads + bits_reads image self.old) }
-        ensures room { bits_room self.new ≤ bits_room self.old }
         ensures kept { OnlyReads (D.state dev.old) (D.state dev.new) }
         ensures faults { CountsFault result (D.state dev.old).faults (D.state dev.new).faults }
     {

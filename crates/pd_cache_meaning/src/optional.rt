@@ -5,7 +5,7 @@ ghost use Rattle.pd_kinds.specs.Objects.{CountsFault};
 ghost use Rattle.pd_kinds.specs.CacheFormat.{has_dirty_bits};
 ghost use Rattle.pd_image.specs.Device.{IsAttached, OnlyReads};
 ghost use Rattle.pd_cache_meaning.specs.Left.{TakesWords};
-ghost use Rattle.pd_cache_meaning.specs.SideArrays.{behind_first, bits_in, bits_in_reads, bits_in_room, hints_in, hints_in_reads, hints_in_room, is_dirty_by};
+ghost use Rattle.pd_cache_meaning.specs.SideArrays.{behind_first, bits_in, bits_in_reads, hints_in, hints_in_reads, is_dirty_by};
 ghost use Rattle.pd_cache_meaning.specs.Rows.{dirty_below, dirty_reads_below, has_hints, hints_below, hints_reads_below};
 
 use crate::bits::Bits;
@@ -18,7 +18,6 @@ use std::alloc::{AllocError, Global};
 pub(crate) fn hints_of(alloc: Global, s: &CacheSuper) -> Result<Option<Hints>, AllocError>
     ensures hints { (image : List (List ℕ)) → IfOk result (λ hints. hints_in image hints ≡ hints_below image s.now) }
     ensures reads { (image : List (List ℕ)) → IfOk result (λ hints. hints_in_reads image hints ≡ hints_reads_below image s.now) }
-    ensures room { (blocks : ℕ) → (has_hints s.now ≡ true → s.now.hint_root < blocks) → IfOk result (λ hints. hints_in_room hints ≤ blocks) }
 {
     if s.hint_size == 4 && s.hint_root != 0 {
         Ok(Some(Hints::start(alloc, s.hint_root)?))
@@ -31,7 +30,6 @@ pub(crate) fn hints_of(alloc: Global, s: &CacheSuper) -> Result<Option<Hints>, A
 pub(crate) fn bits_of(alloc: Global, s: &CacheSuper) -> Result<Option<Bits>, AllocError>
     ensures bits { (image : List (List ℕ)) → IfOk result (λ bits. bits_in image bits ≡ dirty_below image s.now) }
     ensures reads { (image : List (List ℕ)) → IfOk result (λ bits. bits_in_reads image bits ≡ dirty_reads_below image s.now) }
-    ensures room { (blocks : ℕ) → (has_dirty_bits s.now.version ≡ true → s.now.dirty_root < blocks) → IfOk result (λ bits. bits_in_room bits ≤ blocks) }
 {
     if s.version == 2 {
         Ok(Some(Bits::start(alloc, s.dirty_root)?))
@@ -43,13 +41,11 @@ pub(crate) fn bits_of(alloc: Global, s: &CacheSuper) -> Result<Option<Bits>, All
 /// The next hint; 0 where there is none.
 pub(crate) fn take_hint<D: Device>(hints: &mut Option<Hints>, dev: &mut D) -> Result<u32, Failed>
     requires attached { IsAttached (D.state dev.old) }
-    requires within { hints_in_room hints.old ≤ (D.state dev.old).blocks }
     ensures taken { IfOk result (λ hint. IfSome (D.state dev.old).held (λ image. TakesWords hint (hints_in image hints.old) (hints_in image hints.new))) }
     ensures reads { IfSome (D.state dev.old).held (λ image. OnOk result (
         (D.state dev.new).reads + hints_in_reads image hints.new ≤ (D.state dev.old).reads + hints_in_reads image hints.old)) }
     ensures reads_failed { IfSome (D.state dev.old).held (λ image.
         (D.state dev.new).reads ≤ (D.state dev.old).reads + hints_in_reads image hints.old) }
-    ensures room { hints_in_room hints.new ≤ hints_in_room hints.old }
     ensures kept { OnlyReads (D.state dev.old) (D.state dev.new) }
     ensures faults { CountsFault result (D.state dev.old).faults (D.state dev.new).faults }
 {
@@ -66,14 +62,12 @@ pub(crate) fn take_dirty<D: Device>(
     word: u64,
 ) -> Result<bool, Failed>
     requires attached { IsAttached (D.state dev.old) }
-    requires within { bits_in_room bits.old ≤ (D.state dev.old).blocks }
     ensures dirty { IfOk result (λ dirty. IfSome (D.state dev.old).held (λ image. dirty ≡ is_dirty_by (bits_in image bits.old) word)) }
     ensures rest { OnOk result (IfSome (D.state dev.old).held (λ image. bits_in image bits.new ≡ behind_first (bits_in image bits.old))) }
     ensures reads { IfSome (D.state dev.old).held (λ image. OnOk result (
         (D.state dev.new).reads + bits_in_reads image bits.new ≤ (D.state dev.old).reads + bits_in_reads image bits.old)) }
     ensures reads_failed { IfSome (D.state dev.old).held (λ image.
         (D.state dev.new).reads ≤ (D.state dev.old).reads + bits_in_reads image bits.old) }
-    ensures room { bits_in_room bits.new ≤ bits_in_room bits.old }
     ensures kept { OnlyReads (D.state dev.old) (D.state dev.new) }
     ensures faults { CountsFault result (D.state dev.old).faults (D.state dev.new).faults }
 {

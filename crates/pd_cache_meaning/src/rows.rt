@@ -5,7 +5,7 @@ ghost use Rattle.pd_kinds.specs.Objects.{CountsFault};
 ghost use Rattle.pd_image.specs.Device.{IsAttached, OnlyReads};
 ghost use Rattle.pd_tree.specs.Next.{IsNext};
 ghost use Rattle.pd_cache_meaning.specs.Left.{reads_of_root};
-ghost use Rattle.pd_cache_meaning.specs.Rows.{rows_below, rows_left, rows_number, rows_reads, rows_room, RootsBelow, dirty_reads_below, hints_reads_below};
+ghost use Rattle.pd_cache_meaning.specs.Rows.{rows_below, rows_left, rows_number, rows_reads, dirty_reads_below, hints_reads_below};
 
 use crate::side_arrays::{CacheRow, SideArrays};
 use pd_array::Word;
@@ -33,7 +33,6 @@ impl CacheMaps {
         ensures rows { (image : List (List ℕ)) → IfOk result (λ maps. rows_left image maps ≡ rows_below image s.now) }
         ensures reads { (image : List (List ℕ)) → IfOk result (λ maps. rows_reads image maps
             ≡ reads_of_root image s.now.mapping_root + (hints_reads_below image s.now + dirty_reads_below image s.now)) }
-        ensures room { (blocks : ℕ) → RootsBelow blocks s.now → IfOk result (λ maps. rows_room maps ≤ blocks) }
     {
         let words = ArrayCursor::start(alloc, s.mapping_root, Word::Eight)?;
         let hints_and_dirty = SideArrays::start(alloc, s)?;
@@ -51,14 +50,12 @@ impl CacheMaps {
     /// Fails with `Failed` where a read failed; then nothing is said of what is left.
     pub fn next<D: Device>(&mut self, dev: &mut D) -> Result<Option<CacheRow>, Failed>
         requires attached { IsAttached (D.state dev.old) }
-        requires within { rows_room self.old ≤ (D.state dev.old).blocks }
         ensures next { IfOk result (λ row. IfSome (D.state dev.old).held (λ image. IsNext row (rows_left image self.old) (rows_left image self.new))) }
         ensures reads { IfSome (D.state dev.old).held (λ image. OnOk result (
             (D.state dev.new).reads + rows_reads image self.new ≤ (D.state dev.old).reads + rows_reads image self.old)) }
         ensures reads_failed { IfSome (D.state dev.old).held (λ image.
             (D.state dev.new).reads ≤ (D.state dev.old).reads + rows_reads image self.old) }
         ensures number { IfOk result (λ row. IfSome row (λ _. rows_number self.new < rows_number self.old)) }
-        ensures room { rows_room self.new ≤ rows_room self.old }
         ensures kept { OnlyReads (D.state dev.old) (D.state dev.new) }
         ensures faults { CountsFault result (D.state dev.old).faults (D.state dev.new).faults }
     {

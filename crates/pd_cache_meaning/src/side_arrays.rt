@@ -33,14 +33,13 @@ impl SideArrays {
     ghost use Rattle.std.specs.Prelude.{◌≡◌, ℕ, ◌+◌, ◌≤◌, ◌∷◌, ◌++◌, List, IfOk, IfSome, OnOk};
     ghost use Rattle.pd_kinds.specs.Objects.{CountsFault};
     ghost use Rattle.pd_image.specs.Device.{IsAttached, OnlyReads};
-    ghost use Rattle.pd_cache_meaning.specs.SideArrays.{side_reads, side_room, given_of, rows_beside, rows_of};
-    ghost use Rattle.pd_cache_meaning.specs.Rows.{RootsBelow, dirty_below, dirty_reads_below, hints_below, hints_reads_below};
+    ghost use Rattle.pd_cache_meaning.specs.SideArrays.{side_reads, given_of, rows_beside, rows_of};
+    ghost use Rattle.pd_cache_meaning.specs.Rows.{dirty_below, dirty_reads_below, hints_below, hints_reads_below};
 
     /// What stands beside the first word of the cache with this superblock. It takes all memory that is needed.
     pub(crate) fn start(alloc: Global, s: &CacheSuper) -> Result<SideArrays, AllocError>
         ensures rows { (image : List (List ℕ)) (words : List ℕ) → IfOk result (λ hints_and_dirty. rows_beside image hints_and_dirty words ≡ rows_of 0 words (hints_below image s.now) (dirty_below image s.now)) }
         ensures reads { (image : List (List ℕ)) → IfOk result (λ hints_and_dirty. side_reads image hints_and_dirty ≡ hints_reads_below image s.now + dirty_reads_below image s.now) }
-        ensures room { (blocks : ℕ) → RootsBelow blocks s.now → IfOk result (λ hints_and_dirty. side_room hints_and_dirty ≤ blocks) }
     {
         let hints = hints_of(alloc, s)?;
         let bits = bits_of(alloc, s)?;
@@ -55,14 +54,12 @@ impl SideArrays {
     #[tactic(auto, using(crate::proofs::TakeLemmas::rows_more))]
     pub(crate) fn take<D: Device>(&mut self, dev: &mut D, word: u64) -> Result<CacheRow, Failed>
         requires attached { IsAttached (D.state dev.old) }
-        requires within { side_room self.old ≤ (D.state dev.old).blocks }
         ensures rows { IfOk result (λ row. IfSome (D.state dev.old).held (λ image. (words : List ℕ) →
             rows_beside image self.old (word ∷ words) ≡ given_of word row ++ rows_beside image self.new words)) }
         ensures reads { IfSome (D.state dev.old).held (λ image. OnOk result (
             (D.state dev.new).reads + side_reads image self.new ≤ (D.state dev.old).reads + side_reads image self.old)) }
         ensures reads_failed { IfSome (D.state dev.old).held (λ image.
             (D.state dev.new).reads ≤ (D.state dev.old).reads + side_reads image self.old) }
-        ensures room { side_room self.new ≤ side_room self.old }
         ensures kept { OnlyReads (D.state dev.old) (D.state dev.new) }
         ensures faults { CountsFault result (D.state dev.old).faults (D.state dev.new).faults }
     {

@@ -1,6 +1,6 @@
 use Rattle.std.proofs.Common.{◌≡◌, ◌≤◌, IfSome}
 use Rattle.pd_image.specs.Device.{OnlyReads}
-use Rattle.pd_cache_meaning.specs.Rows.{rows_number, rows_room}
+use Rattle.pd_cache_meaning.specs.Rows.{rows_number}
 use Rattle.pd_cache_meaning.proofs.TakeLemmas.{RowsTold}
 use Rattle.pd_cache_meaning.proofs.rows.CacheMaps.next.Given as goal
 
@@ -8,7 +8,6 @@ abbrev pub invariant-loop-word : goal.invariant-loop-word
 invariant-loop-word g l = record {
   told : IfSome (g.D.Device.state l.initial.dev).held (λ image. RowsTold image (g.D.Device.state l.initial.dev).reads l.initial.self (g.D.Device.state l.dev).reads l.self);
   number : rows_number l.self ≤ rows_number l.initial.self;
-  room : rows_room l.self ≤ rows_room l.initial.self;
   kept : OnlyReads (g.D.Device.state l.initial.dev) (g.D.Device.state l.dev);
   faults : (g.D.Device.state l.dev).faults ≡ (g.D.Device.state l.initial.dev).faults;
 }
