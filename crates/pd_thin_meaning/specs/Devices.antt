@@ -1,10 +1,10 @@
 -- What is left of the devices of a pool.
-use Rattle.std.specs.Prelude.{ℕ, ◌+◌, List, length, map, max}
+use Rattle.std.specs.Prelude.{ℕ, ◌+◌, List, length, map}
 use Rattle.std.specs.List.{zip}
 use Rattle.pd_value.specs.declared.thin.Details.{Details}
 use Rattle.pd_value.specs.declared.thin.Root.{Root}
 use Rattle.pd_tree.specs.Below.{items_below}
-use Rattle.pd_tree.specs.Cursor.{cursor_items, cursor_nodes, cursor_number, cursor_room}
+use Rattle.pd_tree.specs.Cursor.{cursor_items, cursor_nodes, cursor_number}
 use Rattle.pd_tree.specs.Items.{root_of}
 use Rattle.pd_thin_meaning.specs.declared.devices.DeviceRow.{DeviceRow}
 use Rattle.pd_thin_meaning.specs.declared.devices.ThinDevices.{ThinDevices}
@@ -32,7 +32,3 @@ rows_reads image devices = length (cursor_nodes 8 image devices.tops) + length (
 
 abbrev pub rows_number : ThinDevices → ℕ
 rows_number devices = cursor_number 8 devices.tops
-
--- how many blocks the device must have for the roots that are still to be read
-abbrev pub rows_room : ThinDevices → ℕ
-rows_room devices = max (cursor_room devices.tops) (cursor_room devices.details)

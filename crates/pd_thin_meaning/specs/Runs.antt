@@ -2,7 +2,7 @@
 use Rattle.std.specs.Prelude.{ℕ, ◌+◌, ◌*◌, if◌then◌else◌, List, [], ◌++◌, length, map}
 use Rattle.pd_kinds.specs.Meaning.{Mapping}
 use Rattle.pd_tree.specs.Below.{items_below}
-use Rattle.pd_tree.specs.Cursor.{cursor_items, cursor_nodes, cursor_number, cursor_room}
+use Rattle.pd_tree.specs.Cursor.{cursor_items, cursor_nodes, cursor_number}
 use Rattle.pd_thin_meaning.specs.declared.joined.Run.{Run}
 use Rattle.pd_thin_meaning.specs.declared.runs.MapRuns.{MapRuns}
 use Rattle.pd_thin_meaning.specs.Items.{block_time_of}
@@ -32,7 +32,3 @@ runs_reads image runs = if runs.ended then 0 else length (cursor_nodes 8 image r
 -- a number that falls with each run
 abbrev pub runs_number : MapRuns → ℕ
 runs_number runs = (if runs.ended then 0 else 2 * cursor_number 8 runs.mappings + 2) + begun_number runs.joined.begun
-
--- how many blocks the device must have for the root that is still to be read
-abbrev pub runs_room : MapRuns → ℕ
-runs_room runs = if runs.ended then 0 else cursor_room runs.mappings

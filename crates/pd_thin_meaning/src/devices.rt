@@ -5,7 +5,7 @@ ghost use Rattle.pd_kinds.specs.Objects.{CountsFault};
 ghost use Rattle.pd_image.specs.Device.{IsAttached, OnlyReads};
 ghost use Rattle.pd_tree.specs.Below.{nodes_below};
 ghost use Rattle.pd_tree.specs.Next.{IsNext};
-ghost use Rattle.pd_thin_meaning.specs.Devices.{rows_below, rows_left, rows_number, rows_reads, rows_room};
+ghost use Rattle.pd_thin_meaning.specs.Devices.{rows_below, rows_left, rows_number, rows_reads};
 
 use pd_image::{Device, Failed};
 use pd_kinds::ThinSuper;
@@ -43,7 +43,6 @@ impl ThinDevices {
         ensures rows { (image : List (List ℕ)) → IfOk result (λ devices. rows_left image devices ≡ rows_below image s.now.mapping_root s.now.details_root) }
         ensures reads { (image : List (List ℕ)) → IfOk result (λ devices. rows_reads image devices
             ≡ length (nodes_below 8 image 63 s.now.mapping_root) + length (nodes_below 24 image 63 s.now.details_root)) }
-        ensures room { (blocks : ℕ) → s.now.mapping_root < blocks → s.now.details_root < blocks → IfOk result (λ devices. rows_room devices ≤ blocks) }
     {
         let tops = Cursor::start(alloc, s.mapping_root)?;
         let details = Cursor::start(alloc, s.details_root)?;
@@ -58,14 +57,12 @@ impl ThinDevices {
     /// Fails with `Failed` where a read failed; then nothing is said of what is left.
     pub fn next<D: Device>(&mut self, dev: &mut D) -> Result<Option<DeviceRow>, Failed>
         requires attached { IsAttached (D.state dev.old) }
-        requires within { rows_room self.old ≤ (D.state dev.old).blocks }
         ensures next { IfOk result (λ row. IfSome (D.state dev.old).held (λ image. IsNext row (rows_left image self.old) (rows_left image self.new))) }
         ensures reads { IfSome (D.state dev.old).held (λ image. OnOk result (
             (D.state dev.new).reads + rows_reads image self.new ≤ (D.state dev.old).reads + rows_reads image self.old)) }
         ensures reads_failed { IfSome (D.state dev.old).held (λ image.
             (D.state dev.new).reads ≤ (D.state dev.old).reads + rows_reads image self.old) }
         ensures number { IfOk result (λ row. IfSome row (λ _. rows_number self.new < rows_number self.old)) }
-        ensures room { rows_room self.new ≤ rows_room self.old }
         ensures kept { OnlyReads (D.state dev.old) (D.state dev.new) }
         ensures faults { CountsFault result (D.state dev.old).faults (D.state dev.new).faults }
     {

@@ -5,7 +5,7 @@ ghost use Rattle.pd_kinds.specs.Objects.{CountsFault};
 ghost use Rattle.pd_image.specs.Device.{IsAttached, OnlyReads};
 ghost use Rattle.pd_tree.specs.Below.{nodes_below};
 ghost use Rattle.pd_tree.specs.Next.{IsNext};
-ghost use Rattle.pd_thin_meaning.specs.Runs.{runs_below, runs_left, runs_number, runs_reads, runs_room};
+ghost use Rattle.pd_thin_meaning.specs.Runs.{runs_below, runs_left, runs_number, runs_reads};
 
 use crate::joined::{Joined, Run};
 use pd_image::{Device, Failed};
@@ -30,7 +30,6 @@ impl MapRuns {
     pub fn start(alloc: Global, root: u64) -> Result<MapRuns, AllocError>
         ensures runs { (image : List (List ℕ)) → IfOk result (λ runs. runs_left image runs ≡ runs_below image root) }
         ensures reads { (image : List (List ℕ)) → IfOk result (λ runs. runs_reads image runs ≡ length (nodes_below 8 image 63 root)) }
-        ensures room { IfOk result (λ runs. runs_room runs ≡ root + 1) }
     {
         let mappings = Cursor::start(alloc, root)?;
         Ok(MapRuns {
@@ -44,7 +43,6 @@ impl MapRuns {
     pub fn restart(&mut self, root: u64)
         ensures runs { (image : List (List ℕ)) → runs_left image self.new ≡ runs_below image root }
         ensures reads { (image : List (List ℕ)) → runs_reads image self.new ≡ length (nodes_below 8 image 63 root) }
-        ensures room { runs_room self.new ≡ root + 1 }
     {
         self.mappings.restart(root);
         self.joined = Joined::new();
@@ -58,14 +56,12 @@ impl MapRuns {
     /// Fails with `Failed` where a read failed; then nothing is said of what is left.
     pub fn next<D: Device>(&mut self, dev: &mut D) -> Result<Option<Run>, Failed>
         requires attached { IsAttached (D.state dev.old) }
-        requires within { runs_room self.old ≤ (D.state dev.old).blocks }
         ensures next { IfOk result (λ run. IfSome (D.state dev.old).held (λ image. IsNext run (runs_left image self.old) (runs_left image self.new))) }
         ensures reads { IfSome (D.state dev.old).held (λ image. OnOk result (
             (D.state dev.new).reads + runs_reads image self.new ≤ (D.state dev.old).reads + runs_reads image self.old)) }
         ensures reads_failed { IfSome (D.state dev.old).held (λ image.
             (D.state dev.new).reads ≤ (D.state dev.old).reads + runs_reads image self.old) }
         ensures number { IfOk result (λ run. IfSome run (λ _. runs_number self.new < runs_number self.old)) }
-        ensures room { runs_room self.new ≤ runs_room self.old }
         ensures kept { OnlyReads (D.state dev.old) (D.state dev.new) }
         ensures faults { CountsFault result (D.state dev.old).faults (D.state dev.new).faults }
     {

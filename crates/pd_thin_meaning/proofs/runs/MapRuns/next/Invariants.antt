@@ -1,6 +1,6 @@
 use Rattle.std.proofs.Common.{◌≡◌, ◌≤◌, IfSome}
 use Rattle.pd_image.specs.Device.{OnlyReads}
-use Rattle.pd_thin_meaning.specs.Runs.{runs_number, runs_room}
+use Rattle.pd_thin_meaning.specs.Runs.{runs_number}
 use Rattle.pd_thin_meaning.proofs.LeftLemmas.{RunsTold}
 use Rattle.pd_thin_meaning.proofs.runs.MapRuns.next.Given as goal
 
@@ -9,7 +9,6 @@ abbrev pub invariant-loop-self : goal.invariant-loop-self
 invariant-loop-self g l = record {
   told : IfSome (g.D.Device.state l.initial.dev).held (λ image. RunsTold image (g.D.Device.state l.initial.dev).reads l.initial.self (g.D.Device.state l.dev).reads l.self);
   number : runs_number l.self ≤ runs_number l.initial.self;
-  room : runs_room l.self ≤ runs_room l.initial.self;
   kept : OnlyReads (g.D.Device.state l.initial.dev) (g.D.Device.state l.dev);
   faults : (g.D.Device.state l.dev).faults ≡ (g.D.Device.state l.initial.dev).faults;
 }
