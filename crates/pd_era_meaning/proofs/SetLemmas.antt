@@ -6,7 +6,7 @@ use Rattle.std.proofs.lemmas.List.FromFn.{fill_by_all, get_or-map-range_with_len
 use Rattle.pd_kinds.specs.EraFormat.{EraFields}
 use Rattle.pd_value.specs.declared.era.Writeset.{Writeset}
 use Rattle.pd_era_meaning.specs.Raising.{Raises, holds}
-use Rattle.pd_era_meaning.specs.Eras.{HasSets, era_below, era_of_key, eras_below, is_current, set_words, sets_below, with_sets, words_below}
+use Rattle.pd_era_meaning.specs.Eras.{HasSets, era_below, era_of_key, eras_below, is_current, sets_below, with_sets, words_below}
 
 -- these writesets are still to raise the eras, so that all have then raised those at the start
 pub record WillHave (image : List (List ℕ)) (all : List (ℕ × Writeset)) (start : List ℕ) (left : List (ℕ × Writeset)) (now : List ℕ) : Type 0 where
@@ -14,12 +14,12 @@ pub record WillHave (image : List (List ℕ)) (all : List (ℕ × Writeset)) (st
 
 -- one writeset did
 pub one_set : (image : List (List ℕ)) (all left rest : List (ℕ × Writeset)) (start now new : List ℕ) (key : ℕ) (set : Writeset) (era : ℕ) → left ≡ (key, set) ∷ rest → era ≡ era_of_key key
-    → length now ≡ length start → WillHave image all start left now → Raises era (holds set.bits (set_words image set.root)) now new → WillHave image all start rest new
+    → length now ≡ length start → WillHave image all start left now → Raises era (holds set.bits (words_below 8 image set.root)) now new → WillHave image all start rest new
 one_set image all left rest start now new key set era is era_is same will raised = record {
   each = λ b within.
       let there : b < length now = omega arith in
       ap (with_sets image rest b) (raised.each b there)
-      ∙ (ap (λ (e : ℕ). with_sets image rest b (max (get_or now b 0) (cond (holds set.bits (set_words image set.root) b) e 0))) era_is
+      ∙ (ap (λ (e : ℕ). with_sets image rest b (max (get_or now b 0) (cond (holds set.bits (words_below 8 image set.root) b) e 0))) era_is
       ∙ (sym (ap (λ (items : List (ℕ × Writeset)). with_sets image items b (get_or now b 0)) is) ∙ will.each b within));
 }
 

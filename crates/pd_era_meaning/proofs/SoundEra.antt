@@ -1,7 +1,7 @@
 -- What is known of an era target without faults: its words, its writesets and their keys, and where its roots are.
 use Rattle.std.proofs.Common.{◌≡◌, ℕ, zero, suc, ◌-◌, ◌^◌, ◌<◌, ◌≤◌, Bool, true, false, cond, not, nat_eq, nat_lt, min, List, [], ◌∷◌, length, map, refl, ap₂, sym, arith, inl, inr}
 use Rattle.std.specs.List.{AllByRecursion, flat_map, range_with_len}
-use Rattle.std.proofs.lemmas.Bool.{cases_Bool, eqb-false, lt-ltb, ltb-true, not-false}
+use Rattle.std.proofs.lemmas.Bool.{cases_Bool, eqb-false, ltb-true, not-false}
 use Rattle.std.proofs.lemmas.Simd.{map-map}
 use Rattle.pd_kinds.specs.declared.kind.Kind.TheVariants.{Era}
 use Rattle.pd_kinds.specs.declared.kind.Stage.TheVariants as stages
@@ -27,7 +27,7 @@ use Rattle.pd_tree.specs.TreeRoles.{HasEraTrees, IsTreeRole}
 use Rattle.pd_tree.proofs.TableLemmas.{IsTreeAt, block_pair, role_pair, tree_at}
 use Rattle.pd_tree.proofs.TreeLemmas.{IsClean, each_kid}
 use Rattle.pd_era_meaning.specs.Raising.{holds}
-use Rattle.pd_era_meaning.specs.Eras.{GivesEras, RootsBelow, era_below, eras_below, is_current, set_era, set_of, set_words, sets_below, words_below}
+use Rattle.pd_era_meaning.specs.Eras.{GivesEras, RootsBelow, era_below, eras_below, is_current, set_era, set_of, sets_below, words_below}
 
 -- what holds of the entries of each node that breaks no rule holds of all entries of a sound tree
 module _ {X : Type 0} (P : ℕ × X → Type 0) (graph : Graph) (image : List (List ℕ)) (role size : ℕ) (at : IsTreeAt graph image role size) (decoded : ℕ → X)
@@ -139,10 +139,9 @@ module _ (image : List (List ℕ)) (none : faults Era stages.Whole image ≡ [])
   }
 
   -- a writeset whose root is reached holds the blocks that the definition says
-  held_is : (bits root b : ℕ) → IsReached graph image root 3 → is_held graph image bits root b ≡ holds bits (set_words image root) b
+  held_is : (bits root b : ℕ) → IsReached graph image root 3 → is_held graph image bits root b ≡ holds bits (words_below 8 image root) b
   unfolding is_held
-  held_is bits root b reached =
-      rw (lt-ltb root (length image) (inside root 3 reached), words_are root 3 8 reached trees.bits.is_role) refl
+  held_is bits root b reached = rw (words_are root 3 8 reached trees.bits.is_role) refl
 
   -- the eras that archived writesets give a block
   archived_are : (b : ℕ) (entries : List Entry) → AllByRecursion (λ (e : Entry). IsReached graph image (writeset_root e.value) 3) entries → AllByRecursion HasEra (map (item_of set_of) entries)

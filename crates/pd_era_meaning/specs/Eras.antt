@@ -1,5 +1,5 @@
 -- The era of each block, by what cursors give of the bytes of an image.
-use Rattle.std.specs.Prelude.{◌≡◌, ℕ, ◌-◌, ◌^◌, ◌<◌, ◌==◌, ◌&&◌, not, nat_lt, max, min, Bool, if◌then◌else◌, List, [], length, map, fold, drop, slice_index}
+use Rattle.std.specs.Prelude.{◌≡◌, ℕ, ◌-◌, ◌^◌, ◌<◌, ◌==◌, ◌&&◌, not, max, min, Bool, if◌then◌else◌, List, [], length, map, fold, drop, slice_index}
 use Rattle.std.specs.List.{range_with_len}
 use Rattle.pd_kinds.specs.EraFormat.{EraFields, era_fields, writeset_bits, writeset_root}
 use Rattle.pd_kinds.specs.Graph.{block_at}
@@ -19,10 +19,6 @@ pub record TakesWords (taken : ℕ) (old new : List ℕ) : Type 0 where
 abbrev pub words_below : ℕ → List (List ℕ) → ℕ → List ℕ
 words_below size image root = words_of_items size image (items_below 8 root_of image 63 root)
 
--- the words of a writeset's bits: a root outside of the device has none
-abbrev pub set_words : List (List ℕ) → ℕ → List ℕ
-set_words image root = if nat_lt root (length image) then words_below 8 image root else []
-
 -- a number as a writeset, and the archived writesets, each beside its key
 abbrev pub set_of : ℕ → Writeset
 set_of number = record { bits = writeset_bits number; root = writeset_root number }
@@ -36,7 +32,7 @@ era_of_key key = min key (2 ^ 32 - 1)
 
 -- the era that an archived writeset gives a block
 abbrev pub set_era : List (List ℕ) → ℕ → ℕ × Writeset → ℕ
-set_era image b item = if holds item.1.bits (set_words image item.1.root) b then era_of_key item.0 else 0
+set_era image b item = if holds item.1.bits (words_below 8 image item.1.root) b then era_of_key item.0 else 0
 
 -- the eras that archived writesets raise
 abbrev pub with_sets : List (List ℕ) → List (ℕ × Writeset) → ℕ → ℕ → ℕ
@@ -49,7 +45,7 @@ pub record HasSets (image : List (List ℕ)) (items : List (ℕ × Writeset)) (o
 
 -- whether the current writeset holds a block, where there is one
 abbrev pub is_current : List (List ℕ) → EraFields → ℕ → Bool
-is_current image fields b = not (fields.current_root == 0) && holds fields.current_bits (set_words image fields.current_root) b
+is_current image fields b = not (fields.current_root == 0) && holds fields.current_bits (words_below 8 image fields.current_root) b
 
 -- the era of a block, and of all blocks
 abbrev pub era_below : List (List ℕ) → EraFields → ℕ → ℕ

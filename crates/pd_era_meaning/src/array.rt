@@ -6,7 +6,7 @@ ghost use Rattle.pd_kinds.specs.declared.check_fault.CheckFault.TheVariants.{Mem
 ghost use Rattle.pd_kinds.specs.CheckFault.{CountsCheckFault};
 ghost use Rattle.pd_image.specs.Device.{IsAttached, OnlyReads};
 ghost use Rattle.pd_array.specs.Word.{size_of};
-ghost use Rattle.pd_tree.specs.ArrayCursor.{array_room, array_words};
+ghost use Rattle.pd_tree.specs.ArrayCursor.{array_words};
 ghost use Rattle.pd_era_meaning.specs.Eras.{TakesWords, words_below};
 
 use pd_array::Word;
@@ -18,11 +18,9 @@ use std::alloc::Global;
 /// The next word; after the last one it is 0.
 pub(crate) fn take_word<D: Device>(words: &mut ArrayCursor, dev: &mut D) -> Result<u64, CheckFault>
     requires attached { IsAttached (D.state dev.old) }
-    requires within { array_room words.old ≤ (D.state dev.old).blocks }
     ensures taken { IfOk result (λ word. IfSome (D.state dev.old).held (λ image. TakesWords word (array_words image words.old) (array_words image words.new))) }
     ensures fits { IfOk result (λ word. word < 256 ^ size_of words.old.word) }
     ensures same_size { words.new.word ≡ words.old.word }
-    ensures room { array_room words.new ≤ array_room words.old }
     ensures kept { OnlyReads (D.state dev.old) (D.state dev.new) }
     ensures faults { CountsCheckFault result (D.state dev.old).faults (D.state dev.new).faults }
 {
@@ -37,7 +35,6 @@ pub(crate) fn take_word<D: Device>(words: &mut ArrayCursor, dev: &mut D) -> Resu
 /// error.
 pub(crate) fn start_array(alloc: Global, root: u64, word: Word) -> Result<ArrayCursor, CheckFault>
     ensures words { (image : List (List ℕ)) → IfOk result (λ words. array_words image words ≡ words_below (size_of word) image root) }
-    ensures room { IfOk result (λ words. array_room words ≡ root + 1) }
     ensures size { IfOk result (λ words. words.word ≡ word) }
     ensures memory { IfErr result (λ fault. fault ≡ Memory) }
 {
@@ -77,7 +74,6 @@ pub(crate) fn first_words<D: Device>(
     count: u32,
 ) -> Result<Vec<u32>, CheckFault>
     requires attached { IsAttached (D.state dev.old) }
-    requires root { root < (D.state dev.old).blocks }
     ensures words { IfOk result (λ eras. IfSome (D.state dev.old).held (λ image. eras.items ≡ map (slice_index (words_below 4 image root)) (range_with_len 0 count))) }
     ensures number { IfOk result (λ eras. length eras.items ≡ count) }
     ensures kept { OnlyReads (D.state dev.old) (D.state dev.new) }

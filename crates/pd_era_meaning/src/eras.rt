@@ -9,7 +9,7 @@ ghost use Rattle.pd_kinds.specs.Graph.{block_at};
 ghost use Rattle.pd_kinds.specs.Meaning.{era_meaning};
 ghost use Rattle.pd_kinds.specs.Stages.{faults};
 ghost use Rattle.pd_image.specs.Device.{IsAttached, OnlyReads};
-ghost use Rattle.pd_era_meaning.specs.Eras.{RootsBelow, eras_below};
+ghost use Rattle.pd_era_meaning.specs.Eras.{eras_below};
 
 use crate::array::first_words;
 use crate::laws::lists_are_the_eras;
@@ -22,13 +22,12 @@ use std::alloc::Global;
 ///
 /// It takes four bytes a block, and the memory of two cursors at a time. What it gives is said over the bytes of any
 /// image that the device tells: in an image without faults up to the stage Whole, whose superblock this is, these are the
-/// eras of its meaning. Over any device and superblock whose roots are below its blocks it is safe: a writeset whose
-/// root isn't holds no block, and a key past the end of an era's type counts as the last era.
+/// eras of its meaning. Over any device and superblock it is safe: a root outside of the device is that of an empty tree
+/// or array, and a key past the end of an era's type counts as the last era.
 ///
 /// Fails with `CheckFault::Memory` where memory wasn't found, and with `CheckFault::Device` where a read failed.
 pub fn era_list<D: Device>(alloc: Global, dev: &mut D, s: &EraSuper) -> Result<Vec<u32>, CheckFault>
     requires attached { IsAttached (D.state dev.old) }
-    requires roots { RootsBelow (D.state dev.old).blocks s.now }
     ensures eras { IfOk result (λ eras. IfSome (D.state dev.old).held (λ image. eras.items ≡ eras_below image s.now)) }
     ensures meaning { IfOk result (λ eras. IfSome (D.state dev.old).held (λ image. faults Era Whole image ≡ [] → s.now ≡ era_fields (block_at image 0)
         → eras.items ≡ (era_meaning image).eras)) }

@@ -4,11 +4,11 @@ ghost use Rattle.std.specs.Prelude.{◌≡◌, ℕ, ◌<◌, ◌≤◌, length, 
 ghost use Rattle.std.specs.List.{range_with_len};
 ghost use Rattle.pd_kinds.specs.CheckFault.{CountsCheckFault};
 ghost use Rattle.pd_image.specs.Device.{IsAttached, OnlyReads};
-ghost use Rattle.pd_tree.specs.ArrayCursor.{array_room, array_words};
-ghost use Rattle.pd_tree.specs.Cursor.{cursor_items, cursor_number, cursor_room};
+ghost use Rattle.pd_tree.specs.ArrayCursor.{array_words};
+ghost use Rattle.pd_tree.specs.Cursor.{cursor_items, cursor_number};
 ghost use Rattle.pd_tree.specs.Next.{IsNext};
 ghost use Rattle.pd_era_meaning.specs.Raising.{Raises, holds};
-ghost use Rattle.pd_era_meaning.specs.Eras.{HasSets, era_of_key as era_of_key_of, eras_below, is_current, set_of, set_words, sets_below, words_below};
+ghost use Rattle.pd_era_meaning.specs.Eras.{HasSets, era_of_key as era_of_key_of, eras_below, is_current, set_of, sets_below, words_below};
 
 use crate::array::{start_array, take_word};
 use crate::raising::raise_word;
@@ -31,7 +31,6 @@ fn raise_words<D: Device>(
     era: u32,
 ) -> Result<(), CheckFault>
     requires attached { IsAttached (D.state dev.old) }
-    requires room { array_room words.old ≤ (D.state dev.old).blocks }
     requires within { end ≤ length eras.old }
     ensures raised { OnOk result (IfSome (D.state dev.old).held (λ image. Raises era (holds end (array_words image words.old)) eras.old eras.new)) }
     ensures number { length eras.new ≡ length eras.old }
@@ -68,14 +67,11 @@ fn raise_set<D: Device>(
     era: u32,
 ) -> Result<(), CheckFault>
     requires attached { IsAttached (D.state dev.old) }
-    ensures raised { OnOk result (IfSome (D.state dev.old).held (λ image. Raises era (holds set.bits (set_words image set.root)) eras.old eras.new)) }
+    ensures raised { OnOk result (IfSome (D.state dev.old).held (λ image. Raises era (holds set.bits (words_below 8 image set.root)) eras.old eras.new)) }
     ensures number { length eras.new ≡ length eras.old }
     ensures kept { OnlyReads (D.state dev.old) (D.state dev.new) }
     ensures faults { CountsCheckFault result (D.state dev.old).faults (D.state dev.new).faults }
 {
-    if dev.blocks() <= set.root {
-        return Ok(());
-    }
     let mut words = start_array(alloc, set.root, Word::Eight)?;
     let end = end_of(set.bits, eras);
     raise_words(&mut words, dev, eras, end, era)
@@ -87,10 +83,8 @@ fn next_set<D: Device>(
     dev: &mut D,
 ) -> Result<Option<(u64, Writeset)>, CheckFault>
     requires attached { IsAttached (D.state dev.old) }
-    requires within { cursor_room sets.old ≤ (D.state dev.old).blocks }
     ensures next { IfOk result (λ item. IfSome (D.state dev.old).held (λ image. IsNext item (cursor_items 12 set_of image sets.old) (cursor_items 12 set_of image sets.new))) }
     ensures falls { IfOk result (λ item. IfSome item (λ _. cursor_number 12 sets.new < cursor_number 12 sets.old)) }
-    ensures room { cursor_room sets.new ≡ 0 }
     ensures kept { OnlyReads (D.state dev.old) (D.state dev.new) }
     ensures faults { CountsCheckFault result (D.state dev.old).faults (D.state dev.new).faults }
 {
@@ -115,7 +109,6 @@ fn raise_left<D: Device>(
     sets: &mut Cursor<Writeset>,
 ) -> Result<(), CheckFault>
     requires attached { IsAttached (D.state dev.old) }
-    requires within { cursor_room sets.old ≤ (D.state dev.old).blocks }
     ensures raised { OnOk result (IfSome (D.state dev.old).held (λ image. HasSets image (cursor_items 12 set_of image sets.old) eras.old eras.new)) }
     ensures number { length eras.new ≡ length eras.old }
     ensures kept { OnlyReads (D.state dev.old) (D.state dev.new) }
@@ -135,7 +128,6 @@ fn raise_archived<D: Device>(
     root: u64,
 ) -> Result<(), CheckFault>
     requires attached { IsAttached (D.state dev.old) }
-    requires root { root < (D.state dev.old).blocks }
     ensures raised { OnOk result (IfSome (D.state dev.old).held (λ image. HasSets image (sets_below image root) eras.old eras.new)) }
     ensures number { length eras.new ≡ length eras.old }
     ensures kept { OnlyReads (D.state dev.old) (D.state dev.new) }
@@ -180,7 +172,6 @@ pub(crate) fn raise_all<D: Device>(
     s: &EraSuper,
 ) -> Result<(), CheckFault>
     requires attached { IsAttached (D.state dev.old) }
-    requires root { s.now.writesets_root < (D.state dev.old).blocks }
     ensures raised { OnOk result (IfSome (D.state dev.old).held (λ image. eras.old ≡ map (slice_index (words_below 4 image s.now.array_root)) (range_with_len 0 s.now.blocks)
         → eras.new ≡ eras_below image s.now)) }
     ensures number { length eras.new ≡ length eras.old }

@@ -13,7 +13,7 @@ use Rattle.pd_tree.specs.Below.{items_below}
 use Rattle.pd_tree.specs.Items.{root_of}
 use Rattle.pd_value.specs.declared.era.Writeset.{Writeset}
 use Rattle.pd_era_meaning.specs.Raising.{holds}
-use Rattle.pd_era_meaning.specs.Eras.{GivesEras, era_below, era_of_key, eras_below, is_current, set_era, set_words, sets_below, words_below}
+use Rattle.pd_era_meaning.specs.Eras.{GivesEras, era_below, era_of_key, eras_below, is_current, set_era, sets_below, words_below}
 use Rattle.pd_exact.proofs.WordLemmas.{field_fits, first_whole, given_words_fit, word_fits}
 
 -- the greatest of numbers below a limit
@@ -34,7 +34,7 @@ module _ (image : List (List ℕ)) (bytes : HasBytes image) (gives : GivesEras i
   fields = era_fields block
 
   set_fits : (b : ℕ) (item : ℕ × Writeset) → set_era image b item < 2 ^ 32
-  set_fits b item = or_zero (2 ^ 32) (era_of_key item.0) (holds item.1.bits (set_words image item.1.root) b) (omega arith)
+  set_fits b item = or_zero (2 ^ 32) (era_of_key item.0) (holds item.1.bits (words_below 8 image item.1.root) b) (omega arith)
 
   era_fits : (b : ℕ) → era_below image fields b < 2 ^ 32
   era_fits b =

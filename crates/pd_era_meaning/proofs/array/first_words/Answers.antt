@@ -13,7 +13,6 @@ loop-i-init g c = record {
   left = if_any (g.D.Device.state c.args.dev.now).held (λ image. c.in_ok-words.ensures.words image);
   number = ap (length {A = ℕ}) c.in_ok-eras.ensures.empty;
   size = c.in_ok-words.ensures.size;
-  room = omega arith;
   kept = search rules;
   faults = search rules;
 }
@@ -42,7 +41,6 @@ loop-i-preserved g c =
           c.loop-i.invariant.left c.in_ok-word.ensures.taken;
       number = omega (arith, ap (length {A = ℕ}) c.in_ok-add_era.ensures.added, length-append c.loop-i.eras.items (c.in_ok-word.word ∷ []), c.loop-i.invariant.number);
       size = c.take_word.ensures.same_size ∙ c.loop-i.invariant.size;
-      room = omega (arith, c.in_ok-word.ensures.room, c.loop-i.invariant.room);
       kept = search rules;
       faults = c.in_ok-word.ensures.faults ∙ c.loop-i.invariant.faults;
     }

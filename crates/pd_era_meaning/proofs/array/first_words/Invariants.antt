@@ -1,8 +1,8 @@
-use Rattle.std.proofs.Common.{◌≡◌, ◌≤◌, IfSome, drop, get_or, length, map}
+use Rattle.std.proofs.Common.{◌≡◌, IfSome, drop, get_or, length, map}
 use Rattle.std.specs.List.{range_with_len}
 use Rattle.pd_image.specs.Device.{OnlyReads}
 use Rattle.pd_array.specs.declared.word.Word.TheVariants.{Four}
-use Rattle.pd_tree.specs.ArrayCursor.{array_room, array_words}
+use Rattle.pd_tree.specs.ArrayCursor.{array_words}
 use Rattle.pd_era_meaning.specs.Eras.{words_below}
 use Rattle.pd_era_meaning.proofs.array.first_words.Given as goal
 
@@ -13,7 +13,6 @@ invariant-loop-i g l = record {
   left : IfSome (g.D.Device.state l.initial.dev).held (λ image. array_words image l.words ≡ drop l.i (words_below 4 image l.root));
   number : length l.eras.items ≡ l.i;
   size : l.words.word ≡ Four;
-  room : array_room l.words ≤ array_room l.initial.words;
   kept : OnlyReads (g.D.Device.state l.initial.dev) (g.D.Device.state l.dev);
   faults : (g.D.Device.state l.dev).faults ≡ (g.D.Device.state l.initial.dev).faults;
 }

@@ -10,7 +10,6 @@ pub loop-key-init : goal.loop-key-init
 loop-key-init g c = record {
   told = if_any (g.D.Device.state c.args.dev.now).held (λ image. record { each = λ b within. refl });
   number = refl;
-  room = omega arith;
   kept = search rules;
   faults = search rules;
 }
@@ -39,7 +38,6 @@ loop-key-preserved g c =
           c.in-Some.key c.in-Some.set c.era_of_key.result parts.1 c.era_of_key.ensures c.loop-key.invariant.number parts.0 raised)
           both c.in_ok-raise_set.ensures.raised;
       number = c.raise_set.ensures.number ∙ c.loop-key.invariant.number;
-      room = omega (arith, c.in_ok-key.ensures.room);
       kept = search rules;
       faults = c.in_ok-raise_set.ensures.faults ∙ (c.in_ok-key.ensures.faults ∙ c.loop-key.invariant.faults);
     }

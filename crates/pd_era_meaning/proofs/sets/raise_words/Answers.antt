@@ -12,7 +12,6 @@ loop-i-init g c = record {
   raised = if_any (g.D.Device.state c.args.dev.now).held (λ image. raises_none c.args.era _ c.args.eras.now (λ b within. no_words c.args.end (array_words image c.args.words.now) b));
   left = if_any (g.D.Device.state c.args.dev.now).held (λ image. refl);
   number = refl;
-  room = omega arith;
   kept = search rules;
   faults = search rules;
 }
@@ -42,7 +41,6 @@ loop-i-preserved g c =
           (λ image left taken. taken_next i c.in_ok-word.word (array_words image c.args.words.now) (array_words image c.loop-i.words) (array_words image c.take_word.new.words) left taken)
           c.loop-i.invariant.left c.in_ok-word.ensures.taken;
       number = c.raise_word.ensures.number ∙ c.loop-i.invariant.number;
-      room = omega (arith, c.in_ok-word.ensures.room, c.loop-i.invariant.room);
       kept = search rules;
       faults = c.in_ok-word.ensures.faults ∙ c.loop-i.invariant.faults;
     }
