@@ -6,7 +6,7 @@ use Rattle.pd_thin_meaning.specs.Joined.{begun_mappings, begun_number, given_run
 use Rattle.pd_shared_leaves.specs.declared.pieces.Piece.{Piece}
 use Rattle.pd_shared_leaves.specs.declared.pieces.PieceRuns.{PieceRuns}
 use Rattle.pd_shared_leaves.specs.declared.pieces.Piece.TheVariants.{Run, SharedLeaf}
-use Rattle.pd_shared_leaves.specs.TreeParts.{Part, mapped, leaf, met_leaf, parts_below, parts_left, parts_number, parts_reads, parts_room}
+use Rattle.pd_shared_leaves.specs.TreeParts.{Part, mapped, leaf, met_leaf, parts_below, parts_left, parts_number, parts_reads}
 
 -- the pieces of some mappings, and then of these parts
 abbrev pub joined_pieces : List Mapping → List Part → List Piece
@@ -39,7 +39,3 @@ waiting_number (Some number) = 1
 
 abbrev pub pieces_number : PieceRuns → ℕ
 pieces_number pieces = 2 * parts_number pieces.parts + (begun_number pieces.joined.begun + waiting_number pieces.waiting)
-
--- how many blocks the device must have for the root that is still to be read
-abbrev pub pieces_room : PieceRuns → ℕ
-pieces_room pieces = parts_room pieces.parts

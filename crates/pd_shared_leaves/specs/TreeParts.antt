@@ -5,7 +5,7 @@ use Rattle.pd_kinds.specs.Graph.{block_at}
 use Rattle.pd_kinds.specs.Meaning.{Mapping}
 use Rattle.pd_value.specs.declared.thin.BlockTime.{BlockTime}
 use Rattle.pd_tree.specs.Below.{gather, items_from, kids_from}
-use Rattle.pd_tree.specs.Cursor.{root_left, root_number, root_room}
+use Rattle.pd_tree.specs.Cursor.{root_left, root_number}
 use Rattle.pd_tree.specs.Frontier.{FrontierItem, entry, node, frontier}
 use Rattle.pd_tree.specs.Stack.{stack_number}
 use Rattle.pd_tree.specs.declared.stack.Stack.{Stack}
@@ -63,8 +63,7 @@ stack_parts shared image stack = flat_map (parts_of_left shared image) (frontier
 abbrev pub stack_reads : List ℕ → List (List ℕ) → Stack → ℕ
 stack_reads shared image stack = length (flat_map (read_of_left shared image) (frontier 8 block_time_of stack))
 
--- the parts that are left, how many blocks are read for them at most, a number that falls with each of them, and how many
--- blocks the device must have for the root that is still to be read
+-- the parts that are left, how many blocks are read for them at most, and a number that falls with each of them
 abbrev pub parts_left : List ℕ → List (List ℕ) → TreeParts → List Part
 parts_left shared image parts = root_left (parts_below shared image 63) parts.root ++ stack_parts shared image parts.stack
 
@@ -73,9 +72,6 @@ parts_reads shared image parts = length (root_left (read_below shared image 63) 
 
 abbrev pub parts_number : TreeParts → ℕ
 parts_number parts = root_number parts.root + stack_number 8 parts.stack
-
-abbrev pub parts_room : TreeParts → ℕ
-parts_room parts = root_room parts.root
 
 -- what was found as a part
 abbrev pub part_of : Found → Part

@@ -6,7 +6,7 @@ ghost use Rattle.pd_kinds.specs.declared.limits.TheConstants.{MAX_META_BLOCKS};
 ghost use Rattle.pd_kinds.specs.CheckFault.{CountsCheckFault};
 ghost use Rattle.pd_image.specs.Device.{IsAttached, OnlyReads};
 ghost use Rattle.pd_tree.specs.Below.{items_below, nodes_below};
-ghost use Rattle.pd_tree.specs.Cursor.{cursor_items, cursor_nodes, cursor_room};
+ghost use Rattle.pd_tree.specs.Cursor.{cursor_items, cursor_nodes};
 ghost use Rattle.pd_tree.specs.Items.{root_of};
 ghost use Rattle.pd_shared_leaves.specs.declared.marks.Mark.TheVariants.{Unseen};
 ghost use Rattle.pd_shared_leaves.specs.Leaves.{roots_below};
@@ -37,7 +37,6 @@ fn no_marks(alloc: Global, blocks: u64) -> Result<Vec<Mark>, CheckFault>
 fn start_devices(alloc: Global, root: u64) -> Result<Cursor<Root>, CheckFault>
     ensures roots { (image : List (List ℕ)) → IfOk result (λ devices. cursor_items 8 root_of image devices ≡ items_below 8 root_of image 63 root) }
     ensures nodes { (image : List (List ℕ)) → IfOk result (λ devices. cursor_nodes 8 image devices ≡ nodes_below 8 image 63 root) }
-    ensures room { IfOk result (λ devices. cursor_room devices ≡ root + 1) }
     ensures memory { IfErr result (λ fault. fault ≡ Memory) }
 {
     match Cursor::start(alloc, root) {
@@ -54,7 +53,6 @@ fn walk_pool<D: Device>(
     marks: &mut [Mark],
 ) -> Result<(), CheckFault>
     requires attached { IsAttached (D.state dev.old) }
-    requires root { s.now.mapping_root < (D.state dev.old).blocks }
     requires within { length marks.old ≤ (D.state dev.old).blocks }
     requires unseen { marks.old ≡ replicate (length marks.old) Unseen }
     ensures marked { OnOk result (IfSome (D.state dev.old).held (λ image. AreProper image marks.new (roots_below image s.now.mapping_root)
@@ -76,7 +74,6 @@ pub(crate) fn find_marks<D: Device>(
     s: &ThinSuper,
 ) -> Result<Vec<Mark>, CheckFault>
     requires attached { IsAttached (D.state dev.old) }
-    requires root { s.now.mapping_root < (D.state dev.old).blocks }
     ensures marked { IfOk result (λ marks. IfSome (D.state dev.old).held (λ image. AreProper image marks.items (roots_below image s.now.mapping_root)
         → AreMarked image (roots_below image s.now.mapping_root) marks.items)) }
     ensures number { IfOk result (λ marks. IfSome (D.state dev.old).held (λ image. length marks.items ≡ min (min (length image) s.now.meta_map.blocks) MAX_META_BLOCKS)) }

@@ -49,7 +49,6 @@ impl SharedLeaves {
         s: &ThinSuper,
     ) -> Result<SharedLeaves, CheckFault>
         requires attached { IsAttached (D.state dev.old) }
-        requires root { s.now.mapping_root < (D.state dev.old).blocks }
         ensures shared { IfOk result (λ shared. IfSome (D.state dev.old).held (λ image. faults Thin Whole image ≡ [] → s.now ≡ thin_fields (block_at image 0)
             → shared_blocks shared ≡ shared_leaves (thin_graph (block_at image 0)) image)) }
         ensures reads { IfSome (D.state dev.old).held (λ image. (D.state dev.new).reads ≤ (D.state dev.old).reads

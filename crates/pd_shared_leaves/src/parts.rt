@@ -33,13 +33,12 @@ impl TreeParts {
     ghost use Rattle.pd_kinds.specs.Objects.{CountsFault};
     ghost use Rattle.pd_image.specs.Device.{IsAttached, OnlyReads};
     ghost use Rattle.pd_shared_leaves.specs.Leaves.{shared_blocks};
-    ghost use Rattle.pd_shared_leaves.specs.TreeParts.{IsNextPart, parts_below, parts_left, parts_number, parts_reads, parts_room, read_below};
+    ghost use Rattle.pd_shared_leaves.specs.TreeParts.{IsNextPart, parts_below, parts_left, parts_number, parts_reads, read_below};
 
     /// A cursor before the first part of the tree with this root.
     pub(crate) fn start(alloc: Global, root: u64) -> Result<TreeParts, AllocError>
         ensures parts { (shared : List ℕ) (image : List (List ℕ)) → IfOk result (λ parts. parts_left shared image parts ≡ parts_below shared image 63 root) }
         ensures reads { (shared : List ℕ) (image : List (List ℕ)) → IfOk result (λ parts. parts_reads shared image parts ≡ length (read_below shared image 63 root)) }
-        ensures room { IfOk result (λ parts. parts_room parts ≡ root + 1) }
     {
         let stack = Stack::new(alloc)?;
         Ok(TreeParts {
@@ -52,7 +51,6 @@ impl TreeParts {
     pub(crate) fn restart(&mut self, root: u64)
         ensures parts { (shared : List ℕ) (image : List (List ℕ)) → parts_left shared image self.new ≡ parts_below shared image 63 root }
         ensures reads { (shared : List ℕ) (image : List (List ℕ)) → parts_reads shared image self.new ≡ length (read_below shared image 63 root) }
-        ensures room { parts_room self.new ≡ root + 1 }
     {
         self.stack.clear();
         self.root = Some(root);
@@ -75,7 +73,6 @@ impl TreeParts {
             (D.state dev.new).reads ≤ (D.state dev.old).reads + parts_reads (shared_blocks shared.now) image self.old) }
         ensures number { IfOk result (λ part. IfSome part (λ _. parts_number self.new < parts_number self.old)) }
         ensures number_kept { OnOk result (parts_number self.new ≤ parts_number self.old) }
-        ensures room { parts_room self.new ≡ 0 }
         ensures kept { OnlyReads (D.state dev.old) (D.state dev.new) }
         ensures faults { CountsFault result (D.state dev.old).faults (D.state dev.new).faults }
     {

@@ -7,7 +7,7 @@ ghost use Rattle.pd_tree.specs.Next.{IsNext};
 ghost use Rattle.pd_thin_meaning.specs.Joined.{begun_mappings};
 ghost use Rattle.pd_shared_leaves.specs.Leaves.{shared_blocks};
 ghost use Rattle.pd_shared_leaves.specs.TreeParts.{Part, met_leaf, read_below};
-ghost use Rattle.pd_shared_leaves.specs.Pieces.{joined_pieces, pieces_below, pieces_left, pieces_number, pieces_reads, pieces_room};
+ghost use Rattle.pd_shared_leaves.specs.Pieces.{joined_pieces, pieces_below, pieces_left, pieces_number, pieces_reads};
 
 use crate::find::SharedLeaves;
 use crate::parts::{Found, TreeParts};
@@ -42,7 +42,6 @@ impl PieceRuns {
     pub fn start(alloc: Global, root: u64) -> Result<PieceRuns, AllocError>
         ensures pieces { (shared : List ℕ) (image : List (List ℕ)) → IfOk result (λ pieces. pieces_left shared image pieces ≡ pieces_below shared image root) }
         ensures reads { (shared : List ℕ) (image : List (List ℕ)) → IfOk result (λ pieces. pieces_reads shared image pieces ≡ length (read_below shared image 63 root)) }
-        ensures room { IfOk result (λ pieces. pieces_room pieces ≡ root + 1) }
     {
         let parts = TreeParts::start(alloc, root)?;
         Ok(PieceRuns {
@@ -56,7 +55,6 @@ impl PieceRuns {
     pub fn restart(&mut self, root: u64)
         ensures pieces { (shared : List ℕ) (image : List (List ℕ)) → pieces_left shared image self.new ≡ pieces_below shared image root }
         ensures reads { (shared : List ℕ) (image : List (List ℕ)) → pieces_reads shared image self.new ≡ length (read_below shared image 63 root) }
-        ensures room { pieces_room self.new ≡ root + 1 }
     {
         self.parts.restart(root);
         self.joined = Joined::new();
@@ -75,7 +73,6 @@ impl PieceRuns {
         dev: &mut D,
     ) -> Result<Option<Piece>, Failed>
         requires attached { IsAttached (D.state dev.old) }
-        requires within { pieces_room self.old ≤ (D.state dev.old).blocks }
         ensures next { IfOk result (λ piece. IfSome (D.state dev.old).held (λ image.
             IsNext piece (pieces_left (shared_blocks shared.now) image self.old) (pieces_left (shared_blocks shared.now) image self.new))) }
         ensures reads { IfSome (D.state dev.old).held (λ image. OnOk result (
@@ -83,7 +80,6 @@ impl PieceRuns {
         ensures reads_failed { IfSome (D.state dev.old).held (λ image.
             (D.state dev.new).reads ≤ (D.state dev.old).reads + pieces_reads (shared_blocks shared.now) image self.old) }
         ensures number { IfOk result (λ piece. IfSome piece (λ _. pieces_number self.new < pieces_number self.old)) }
-        ensures room { pieces_room self.new ≤ pieces_room self.old }
         ensures kept { OnlyReads (D.state dev.old) (D.state dev.new) }
         ensures faults { CountsFault result (D.state dev.old).faults (D.state dev.new).faults }
     {

@@ -5,7 +5,7 @@ ghost use Rattle.pd_kinds.specs.declared.check_fault.CheckFault.TheVariants.{Mem
 ghost use Rattle.pd_kinds.specs.CheckFault.{CountsCheckFault};
 ghost use Rattle.pd_image.specs.Device.{IsAttached, OnlyReads};
 ghost use Rattle.pd_tree.specs.Below.{kids_from};
-ghost use Rattle.pd_tree.specs.Cursor.{cursor_items, cursor_nodes, cursor_number, cursor_room};
+ghost use Rattle.pd_tree.specs.Cursor.{cursor_items, cursor_nodes, cursor_number};
 ghost use Rattle.pd_tree.specs.Items.{root_of};
 ghost use Rattle.pd_tree.specs.Next.{IsNext};
 ghost use Rattle.pd_shared_leaves.specs.Leaves.{roots_of};
@@ -139,14 +139,12 @@ fn next_root<D: Device>(
     dev: &mut D,
 ) -> Result<Option<(u64, Root)>, CheckFault>
     requires attached { IsAttached (D.state dev.old) }
-    requires within { cursor_room devices.old ≤ (D.state dev.old).blocks }
     ensures next { IfOk result (λ item. IfSome (D.state dev.old).held (λ image. IsNext item (cursor_items 8 root_of image devices.old) (cursor_items 8 root_of image devices.new))) }
     ensures falls { IfOk result (λ item. IfSome item (λ _. cursor_number 8 devices.new < cursor_number 8 devices.old)) }
     ensures reads { IfSome (D.state dev.old).held (λ image. OnOk result (
         (D.state dev.new).reads + length (cursor_nodes 8 image devices.new) ≤ (D.state dev.old).reads + length (cursor_nodes 8 image devices.old))) }
     ensures reads_failed { IfSome (D.state dev.old).held (λ image.
         (D.state dev.new).reads ≤ (D.state dev.old).reads + length (cursor_nodes 8 image devices.old)) }
-    ensures room { cursor_room devices.new ≡ 0 }
     ensures kept { OnlyReads (D.state dev.old) (D.state dev.new) }
     ensures faults { CountsCheckFault result (D.state dev.old).faults (D.state dev.new).faults }
 {
@@ -168,7 +166,6 @@ pub(crate) fn walk_devices<D: Device>(
 ) -> Result<(), CheckFault>
     requires attached { IsAttached (D.state dev.old) }
     requires within { length marks.old ≤ (D.state dev.old).blocks }
-    requires room { cursor_room devices.old ≤ (D.state dev.old).blocks }
     ensures walked { OnOk result (IfSome (D.state dev.old).held (λ image. AreWalked image (roots_of (cursor_items 8 root_of image devices.old)) marks.old marks.new)) }
     ensures same_number { length marks.new ≡ length marks.old }
     ensures reads { IfSome (D.state dev.old).held (λ image.

@@ -17,7 +17,6 @@ loop-waiting-preserved g c =
     so_far.kept.held (rw c.in-Some.is at c.in_ok-root.ensures.next) in
     let walk = subst (λ o. IfSome o (λ image. AreWalked image (c.in-Some.root.0 ∷ []) c.loop-waiting.marks c.walk_tree.new.marks))
     (c.in_ok-root.ensures.kept.held ∙ so_far.kept.held) c.in_ok-walk_tree.ensures.walked in
-    let room = c.in_ok-root.ensures.room in
     let walk_reads = c.in_ok-walk_tree.ensures.reads in
     record {
       walked = if_both held
@@ -29,7 +28,6 @@ loop-waiting-preserved g c =
           (λ image. AreWalked image (c.in-Some.root.0 ∷ []) c.loop-waiting.marks c.walk_tree.new.marks) held next walk);
       none = c.in_ok-walk_tree.ensures.none;
       same_number = c.in_ok-walk_tree.ensures.same_number ∙ so_far.same_number;
-      room = omega arith;
       reads = if_both held (λ image is before after. omega arith) so_far.reads
           (subst (λ o. IfSome o (λ image. (g.D.Device.state c.next_root.new.dev).reads + length (cursor_nodes 8 image c.next_root.new.devices)
           ≤ (g.D.Device.state c.loop-waiting.dev).reads + length (cursor_nodes 8 image c.loop-waiting.devices))) so_far.kept.held c.in_ok-root.ensures.reads);

@@ -1,6 +1,6 @@
 use Rattle.std.proofs.Common.{◌≡◌, ◌+◌, ◌≤◌, [], length, IfSome}
 use Rattle.pd_image.specs.Device.{OnlyReads}
-use Rattle.pd_tree.specs.Cursor.{cursor_items, cursor_nodes, cursor_number, cursor_room}
+use Rattle.pd_tree.specs.Cursor.{cursor_items, cursor_nodes, cursor_number}
 use Rattle.pd_tree.specs.Items.{root_of}
 use Rattle.pd_shared_leaves.specs.Leaves.{roots_of}
 use Rattle.pd_shared_leaves.specs.Marks.{reads_left}
@@ -13,7 +13,6 @@ invariant-loop-waiting g l = record {
   walked : IfSome (g.D.Device.state l.initial.dev).held (λ image. AreWalkedTo image (roots_of (cursor_items 8 root_of image l.initial.devices)) (roots_of (cursor_items 8 root_of image l.devices)) l.initial.marks l.marks);
   none : l.waiting.items ≡ [];
   same_number : length l.marks ≡ length l.initial.marks;
-  room : cursor_room l.devices ≤ cursor_room l.initial.devices;
   reads : IfSome (g.D.Device.state l.initial.dev).held (λ image. (g.D.Device.state l.dev).reads + length (cursor_nodes 8 image l.devices) + reads_left l.marks
       ≤ (g.D.Device.state l.initial.dev).reads + length (cursor_nodes 8 image l.initial.devices) + reads_left l.initial.marks);
   kept : OnlyReads (g.D.Device.state l.initial.dev) (g.D.Device.state l.dev);

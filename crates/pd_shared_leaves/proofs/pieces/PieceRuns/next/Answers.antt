@@ -28,7 +28,6 @@ loop-self-preserved-in_default g c =
     let less = rw c.in-Some-Mapping.is at c.in_ok-virt.ensures.number in
     let few = few_begun c.take.new.self.begun in
     let before = c.loop-self.invariant.number in
-    let room = c.in_ok-virt.ensures.room in
     record {
       told = if_three (g.D.Device.state c.args.dev.now).held
           (λ image told next reads. record {
@@ -41,7 +40,6 @@ loop-self-preserved-in_default g c =
           (subst (λ o. IfSome o (λ image. (g.D.Device.state c.next.new.dev).reads + parts_reads blocks image c.next.new.self ≤ (g.D.Device.state c.loop-self.dev).reads + parts_reads blocks image c.loop-self.self.parts)) c.loop-self.invariant.kept.held
           c.in_ok-virt.ensures.reads);
       number = omega arith;
-      room = omega arith;
       kept = only_reads_both c.loop-self.invariant.kept c.in_ok-virt.ensures.kept;
       faults = c.in_ok-virt.ensures.faults ∙ c.loop-self.invariant.faults;
     }

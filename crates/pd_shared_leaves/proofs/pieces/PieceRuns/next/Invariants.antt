@@ -1,7 +1,7 @@
 use Rattle.std.proofs.Common.{◌≡◌, ◌≤◌, IfSome}
 use Rattle.pd_image.specs.Device.{OnlyReads}
 use Rattle.pd_shared_leaves.specs.Leaves.{shared_blocks}
-use Rattle.pd_shared_leaves.specs.Pieces.{pieces_number, pieces_room}
+use Rattle.pd_shared_leaves.specs.Pieces.{pieces_number}
 use Rattle.pd_shared_leaves.proofs.PieceLemmas.{PiecesTold}
 use Rattle.pd_shared_leaves.proofs.pieces.PieceRuns.next.Given as goal
 
@@ -9,7 +9,6 @@ abbrev pub invariant-loop-self : goal.invariant-loop-self
 invariant-loop-self g l = record {
   told : IfSome (g.D.Device.state l.initial.dev).held (λ image. PiecesTold (shared_blocks l.shared) image (g.D.Device.state l.initial.dev).reads l.initial.self (g.D.Device.state l.dev).reads l.self);
   number : pieces_number l.self ≤ pieces_number l.initial.self;
-  room : pieces_room l.self ≤ pieces_room l.initial.self;
   kept : OnlyReads (g.D.Device.state l.initial.dev) (g.D.Device.state l.dev);
   faults : (g.D.Device.state l.dev).faults ≡ (g.D.Device.state l.initial.dev).faults;
 }
