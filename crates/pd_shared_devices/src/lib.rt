@@ -12,3 +12,4 @@ mod piece;
 pub use devices::SharedDevices;
 pub use laws::gathered_lines_are_a_shape;
 pub use map::write_leaves_map;
+pub use need::{NeedCounts, leaves_for, need_of, tree_ended};

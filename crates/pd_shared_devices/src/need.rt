@@ -10,7 +10,7 @@ use pd_kinds::bitmaps_for;
 use pd_node::max_entries_of;
 
 /// How many leaves so many mappings take.
-pub(crate) fn leaves_for(number: u64) -> u64
+pub fn leaves_for(number: u64) -> u64
     ensures { result ≡ nodes_for 252 number }
 {
     if number == 0 {
@@ -33,7 +33,7 @@ pub(crate) fn tree_begun(own: u64, uses: u64) -> u64
 }
 
 /// The same of a device that is over: one without leaves has an empty one.
-pub(crate) fn tree_ended(own: u64, uses: u64) -> u64
+pub fn tree_ended(own: u64, uses: u64) -> u64
     requires { own + uses ≤ 2 ^ 63 }
     ensures { result ≡ need_ended own uses }
 {
@@ -45,21 +45,25 @@ pub(crate) fn tree_ended(own: u64, uses: u64) -> u64
 
 /// What a pool's need goes by.
 #[derive(Clone, Copy)]
-pub(crate) struct NeedCounts {
-    /// How many shared leaves there are, and how many of them are used three times or more.
+pub struct NeedCounts {
+    /// How many shared leaves there are.
     pub leaves: u64,
+    /// How many of them are used three times or more.
     pub often: u64,
-    /// The blocks of the trees of the devices that are over, and those of the open one so far.
+    /// The blocks of the trees of the devices that are over, without the shared leaves.
     pub trees: u64,
+    /// Those of the open device so far.
     pub begun: u64,
+    /// How many devices there are.
     pub devices: u64,
-    /// How many data blocks there are, and how many of them stand three times or more in the leaves.
+    /// How many data blocks there are.
     pub blocks: u64,
+    /// How many of them stand three times or more in the leaves.
     pub over: u64,
 }
 
 /// How many blocks it needs, where there are so many for metadata. It stays at 2^64 - 1 where it would pass that.
-pub(crate) fn need_of(parts: NeedCounts, room: u64) -> u64
+pub fn need_of(parts: NeedCounts, room: u64) -> u64
     ensures { result ≡ min (need_of_parts parts room) (2 ^ 64 - 1) }
 {
     let bitmaps = bitmaps_for(parts.blocks);
