@@ -1,5 +1,4 @@
 pub mod ArrayLemmas
-pub mod OpenLeafLemmas
 pub mod BuildingLemmas
 pub mod CountLemmas
 pub mod NeedLemmas

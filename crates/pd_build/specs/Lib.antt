@@ -1,5 +1,4 @@
 pub mod Array
-pub mod OpenLeaf
 pub mod Building
 pub mod Causes
 pub mod Leaves

@@ -8,18 +8,17 @@ ghost use Rattle.pd_draft.specs.Placed.{DraftState};
 ghost use Rattle.pd_draft.specs.DraftState.{draft_state};
 ghost use Rattle.pd_spells.specs.Need.{nodes_for};
 ghost use Rattle.pd_laid.specs.Tree.{tree_leaves};
+ghost use Rattle.pd_node.specs.OpenLeaf.{IsBegun, entries_in};
 ghost use Rattle.pd_build.specs.Parts.{even_sizes};
-ghost use Rattle.pd_build.specs.OpenLeaf.{entries_in, begun_block};
 ghost use Rattle.pd_build.specs.Leaves.{LeavesLeft, items_to_come, leaves_to_come, size_of_first, TakesItem, AreCounts, low_of, low_after, LosesLeaf};
 ghost use Rattle.pd_build.specs.Causes.{CountsBuildFault};
 
 use crate::BuildFault;
-use crate::open_leaf::{end_block, least_of, put_item};
 use crate::steps::{parts, put_block};
 use pd_draft::Draft;
 use pd_image::Device;
 use pd_kinds::Block;
-use pd_node::max_entries_of;
+use pd_node::{first_key, max_entries_of, new_leaf, put_entry, seal_leaf};
 use pd_value::Value;
 use std::alloc::{AllocError, Global};
 use std::marker::{Model, PhantomData};
@@ -49,7 +48,7 @@ impl<V: Value> Model for LeafBuilder<V> {
     ghost view = { λ b. record { sizes = even_sizes b.leaves b.items; begun = entries_in V.SIZE b.block.value.0 b.count; low = low_after (low_of b.last) (entries_in V.SIZE b.block.value.0 b.count) } };
 
     ghost invariant = { λ b. AreCounts (max_entries V.SIZE) b.leaves b.items b.size b.count
-        × (b.block.value.0 ≡ begun_block V.SIZE (entries_in V.SIZE b.block.value.0 b.count)) };
+        × IsBegun V.SIZE b.block.value.0 b.count };
 }
 
 impl<V: Value> LeafBuilder<V> {
@@ -63,7 +62,7 @@ impl<V: Value> LeafBuilder<V> {
     {
         let most = max_entries_of(V::SIZE) as u64;
         let leaves = parts(n, most);
-        let block = Box::new(alloc, Block::zeros())?;
+        let block = Box::new(alloc, new_leaf())?;
         Ok(LeafBuilder {
             leaves,
             items: n,
@@ -120,7 +119,7 @@ impl<V: Value> LeafBuilder<V> {
     {
         let count = self.count + 1;
         if count < self.size {
-            put_item(&mut self.block, self.count as usize, key, value);
+            put_entry(&mut self.block, self.count as usize, key, value);
             self.count = count;
             return true;
         }
@@ -147,12 +146,12 @@ impl<V: Value> LeafBuilder<V> {
         ensures closed { StaysClosed (draft_state draft.old).device (draft_state draft.new).device }
         ensures faults { CountsBuildFault result (draft_state draft.old).device.faults (draft_state draft.new).device.faults }
     {
-        put_item(&mut self.block, self.count as usize, key, value);
+        put_entry(&mut self.block, self.count as usize, key, value);
         let place = draft.next();
-        let least = least_of(&self.block);
-        end_block(&mut self.block, V::SIZE, place, self.size);
+        let least = first_key(&self.block);
+        seal_leaf::<V>(&mut self.block, place, self.size as usize);
         let written = put_block(draft, &self.block);
-        *self.block = Block::zeros();
+        *self.block = new_leaf();
         self.count = 0;
         self.last = Some(key);
         self.leaves -= 1;

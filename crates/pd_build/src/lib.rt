@@ -11,7 +11,6 @@ mod build;
 mod fault;
 mod leaves;
 mod need;
-mod open_leaf;
 mod steps;
 mod upper;
 mod write;

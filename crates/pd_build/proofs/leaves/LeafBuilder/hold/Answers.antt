@@ -1,13 +1,13 @@
 use Rattle.std.proofs.Common.{◌<◌, ◌≤◌, ◌+◌, refl, sym, ◌∙◌, ap, arith}
 use Rattle.pd_kinds.specs.Node.{Entry, max_entries}
-use Rattle.pd_build.specs.OpenLeaf.{entries_in}
+use Rattle.pd_node.specs.OpenLeaf.{HasMore, entries_in}
 use Rattle.pd_build.specs.Leaves.{LeavesLeft, low_of, low_after}
 use Rattle.pd_build.specs.Parts.{even_sizes}
-use Rattle.pd_build.proofs.OpenLeafLemmas.{IsMore, more_of, length-entries_in}
+use Rattle.pd_node.proofs.Begun.{length-entries_in}
 use Rattle.pd_build.proofs.CountLemmas.{counts_next, end_of}
 use Rattle.pd_build.proofs.OrderLemmas.{low_after-last}
 use Rattle.pd_build.proofs.TakesLemmas.{takes_none, some_left, first_is}
-use Rattle.pd_build.proofs.leaves.LeafBuilder.hold.Goals.{After-self, After-put_item}
+use Rattle.pd_build.proofs.leaves.LeafBuilder.hold.Goals.{After-self, After-put_entry}
 use Rattle.pd_build.proofs.leaves.LeafBuilder.hold.Goals as goal
 use Rattle.pd_build.proofs.leaves.LeafBuilder.hold.Given as given
 
@@ -17,38 +17,35 @@ some_leaf g c = some_left c.self.inside.leaves c.self.inside.items c.args.self.n
 room : (g : given.Over) (c : After-self g) → c.self.inside.size ≤ max_entries g.V.Value.SIZE
 room g c = (end_of c.self.invariant.0 (some_leaf g c)).room
 
-pub put_item-requires-clause-within : goal.put_item-requires-clause-within
-put_item-requires-clause-within g c =
-    let most = room g (goal.at.put_item-requires-clause-within g c).After-self in
+pub put_entry-requires-clause-within : goal.put_entry-requires-clause-within
+put_entry-requires-clause-within g c =
+    let most = room g (goal.at.put_entry-requires-clause-within g c).After-self in
     omega arith
 
-more : (g : given.Over) (c : After-put_item g) → c.self.inside.count < max_entries g.V.Value.SIZE
-    → IsMore g.V.Value.SIZE c.self.inside.block.value.0 c.self.inside.count (record { key = c.args.key; value = g.V.Value.code c.args.value }) c.put_item.new.block.0
-more g c within =
-    let lent = c.deref_mut.ensures.value in
-    more_of g.V.Value.SIZE c.self.inside.block.value.0 c.self.inside.count (record { key = c.args.key; value = g.V.Value.code c.args.value }) c.put_item.new.block.0
-    c.self.invariant.1 within c.ranges.key.fits (g.met.V.Value.code_below c.args.value c.requires.fits) (rw lent at c.put_item.ensures)
+pub put_entry-requires-clause-begun : goal.put_entry-requires-clause-begun
+put_entry-requires-clause-begun g c = let lent = c.deref_mut.ensures.value in rw lent c.self.invariant.1
+
+more : (g : given.Over) (c : After-put_entry g)
+    → HasMore g.V.Value.SIZE c.self.inside.block.value.0 c.self.inside.count (record { key = c.args.key; value = g.V.Value.code c.args.value }) c.put_entry.new.block.0
+more g c = let lent = c.deref_mut.ensures.value in rw lent at c.put_entry.ensures
 
 pub invariant_of-self : goal.invariant_of-self
 invariant_of-self g c =
     let b = (goal.at.invariant_of-self g c).After-self in
-    let most = room g b in
-    let m = more g (goal.at.invariant_of-self g c).After-put_item (omega arith) in
-    let entries = m.entries in (
+    let most = room g b in (
       counts_next c.self.invariant.0 (some_leaf g b) (omega arith),
-      rw entries m.is,
+      (more g (goal.at.invariant_of-self g c).After-put_entry).begun,
     )
 
 pub returns-then-count-self-clause-held : goal.returns-then-count-self-clause-held
 returns-then-count-self-clause-held g c _ now closed =
     let one = some_leaf g (goal.at.returns-then-count-self-clause-held g c).After-self in
-    let most = room g (goal.at.returns-then-count-self-clause-held g c).After-self in
     let size = g.V.Value.SIZE in
     let e : Entry = record { key = c.args.key; value = g.V.Value.code c.args.value } in
     let before = entries_in size c.self.inside.block.value.0 c.self.inside.count in
-    let after = entries_in size c.put_item.new.block.0 (c.self.inside.count + 1) in
+    let after = entries_in size c.put_entry.new.block.0 (c.self.inside.count + 1) in
     let low = low_of c.self.inside.last in
-    let m = more g (goal.at.returns-then-count-self-clause-held g c).After-put_item (omega arith) in
+    let m = more g (goal.at.returns-then-count-self-clause-held g c).After-put_entry in
     let raised = ap (low_after low) m.entries ∙ low_after-last low before e in
     let count = length-entries_in size c.self.inside.block.value.0 c.self.inside.count in
     let sized = first_is c.self.invariant.0 one in

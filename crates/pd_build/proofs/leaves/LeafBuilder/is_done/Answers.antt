@@ -1,4 +1,4 @@
-use Rattle.pd_build.proofs.OpenLeafLemmas.{length-entries_in}
+use Rattle.pd_node.proofs.Begun.{length-entries_in}
 use Rattle.pd_build.proofs.TakesLemmas.{done_test, sizes_done}
 use Rattle.pd_build.proofs.leaves.LeafBuilder.is_done.Goals as goal
 

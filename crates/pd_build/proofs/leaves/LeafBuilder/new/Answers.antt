@@ -2,7 +2,6 @@ use Rattle.std.proofs.Common.{◌≡◌, ◌≤◌, ℕ, [], refl, ◌∙◌, ap
 use Rattle.pd_kinds.specs.Node.{max_entries}
 use Rattle.pd_spells.specs.Need.{nodes_for}
 use Rattle.pd_build.specs.Parts.{even_sizes}
-use Rattle.pd_build.proofs.OpenLeafLemmas.{begun_none}
 use Rattle.pd_build.proofs.CountLemmas.{room_some, parts_some}
 use Rattle.pd_build.proofs.TakesLemmas.{start_items, start_leaves, started, none_then}
 use Rattle.pd_build.proofs.PartLemmas.{length-even}
@@ -20,7 +19,7 @@ pub invariant_of-result : goal.invariant_of-result
 invariant_of-result g c =
     let block = c.in_ok-block.ensures.ok in (
       started (max_entries g.V.Value.SIZE) c.args.n (room g) (most_is g c) c.first_of.ensures refl,
-      rw block (c.zeros.ensures ∙ begun_none g.V.Value.SIZE),
+      rw block (c.new_leaf.ensures.begun g.V.Value.SIZE),
     )
 
 pub returns-clause-leaves : goal.returns-clause-leaves
