@@ -1,9 +1,7 @@
 -- The words of a block, and a row of them written.
-use Rattle.std.proofs.Common.{◌≡◌, inl, inr, ℕ, zero, suc, ◌+◌, ◌*◌, ◌<◌, ◌≤◌, Bool, true, false, ◌&&◌, nat_eq, ◌-◌, List, map, take, refl, sym, ap, ◌∙◌, arith}
+use Rattle.std.proofs.Common.{◌≡◌, ℕ, zero, suc, ◌+◌, ◌*◌, ◌<◌, Bool, true, false, ◌&&◌, nat_eq, List, map, take, refl, sym, ap, ◌∙◌, arith}
 use Rattle.std.specs.List.{list_all, range_with_len}
-use Rattle.std.proofs.lemmas.Bool.{cases_lt}
 use Rattle.std.proofs.lemmas.List.FromFn.{length-map-range_with_len, get_or-map-range_with_len}
-use Rattle.pd_array.proofs.ArrayWritten.{counted_below}
 use Rattle.pd_kinds.specs.Array.{array_salt, word_at, word_count}
 use Rattle.pd_kinds.specs.Checksum.{sealed}
 use Rattle.pd_kinds.specs.Field.{put}
@@ -30,15 +28,6 @@ one_fails p f a (suc n) (suc k) within fails =
     by_first : (t : Bool) → list_all p (map f (range_with_len (a + 1) n)) ≡ false → (t && list_all p (map f (range_with_len (a + 1) n))) ≡ false
     by_first true rest = rest
     by_first false rest = refl
-
--- a block has at most 509 words
-pub few_words : (block : List ℕ) → word_count 8 block ≤ 509
-few_words block =
-    let number = word_count 8 block in
-    elim (cases_lt 0 number) [
-      | inl some ↦ let last = counted_below 8 block (number - 1) (omega arith) in omega (arith, last.0, last.1)
-      | inr none ↦ omega arith
-    ]
 
 -- a row of settled words goes on by one
 pub settled_more : (version : ℕ) (block made : List ℕ) (i : ℕ) → i < word_count 8 block

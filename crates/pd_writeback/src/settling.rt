@@ -1,23 +1,14 @@
 //! The blocks that say what is dirty, once nothing is.
 
-ghost use Rattle.std.specs.Prelude.{◌≡◌, ◌+◌, ◌*◌, ◌<◌, ◌==◌, map};
+ghost use Rattle.std.specs.Prelude.{◌≡◌, ◌==◌, map};
 ghost use Rattle.std.specs.List.{list_all};
 ghost use Rattle.pd_kinds.specs.Array.{array_salt};
 ghost use Rattle.pd_kinds.specs.Checksum.{sealed};
-ghost use Rattle.pd_kinds.specs.Field.{put};
 ghost use Rattle.pd_kinds.specs.Node.{puts};
 ghost use Rattle.pd_answers.specs.CachedView.{long_words, settled_word};
 
-use pd_array::{Word, array_len, array_word};
-use pd_crc::seal;
-use pd_kinds::{Block, put_u64};
-
-/// The size of the header of an array's block in bytes, as struct array_block of
-/// "drivers/md/persistent-data/dm-array.c" has it.
-const HEADER_SIZE: usize = 24;
-
-/// What the checksum of an array's block is XORed with, as CSUM_XOR there.
-const ARRAY_SALT: u32 = 595846735;
+use pd_array::{Word, array_len, array_word, seal_array, set_array_word};
+use pd_kinds::Block;
 
 /// A word once nothing is dirty: in version 2 no bit is set, in version 1 a valid mapping has lost its flag "dirty".
 pub(crate) fn settled_word(version: u32, word: u64) -> u64
@@ -50,7 +41,7 @@ pub(crate) fn clear_dirty(version: u32, block: &Block) -> Block
 {
     let mut made = *block;
     put_settled(version, block, &mut made);
-    seal(&mut made, ARRAY_SALT);
+    seal_array(&mut made);
     made
 }
 
@@ -60,14 +51,6 @@ fn put_settled(version: u32, block: &Block, made: &mut Block)
 {
     for i in 0..array_len(block, Word::Eight) {
         let word = array_word(block, Word::Eight, i);
-        put_word(made, i, settled_word(version, word));
+        set_array_word(made, Word::Eight, i, settled_word(version, word));
     }
-}
-
-/// Writes word `i` of a block of an array.
-fn put_word(made: &mut Block, i: usize, word: u64)
-    requires { i < 509 }
-    ensures { made.new.0 ≡ put made.old.0 (24 + 8 * i) 8 word }
-{
-    put_u64(&mut made.0, HEADER_SIZE + 8 * i, word);
 }

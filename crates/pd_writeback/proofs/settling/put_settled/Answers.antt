@@ -5,15 +5,16 @@ use Rattle.pd_kinds.specs.Array.{word_at, word_count}
 use Rattle.pd_kinds.specs.Field.{put}
 use Rattle.pd_kinds.specs.Node.{puts}
 use Rattle.pd_answers.specs.CachedView.{long_words, settled_word}
-use Rattle.pd_writeback.proofs.SettleLemmas.{few_words, settled_more}
+use Rattle.pd_array.proofs.ArrayWritten.{few_words}
+use Rattle.pd_writeback.proofs.SettleLemmas.{settled_more}
 use Rattle.pd_writeback.proofs.settling.put_settled.Goals as goal
 
 pub loop-i-init : goal.loop-i-init
 unfolding puts
 loop-i-init c = refl
 
-pub put_word-requires : goal.put_word-requires
-put_word-requires c = let few = few_words c.args.block.now.0 in let n = c.array_len-i-end.ensures in let below = c.loop-i-test.true in omega arith
+pub set_array_word-requires-clause-within : goal.set_array_word-requires-clause-within
+set_array_word-requires-clause-within c = let few = few_words 8 c.args.block.now.0 in let n = c.array_len-i-end.ensures in let below = c.loop-i-test.true in omega arith
 
 pub loop-i-preserved : goal.loop-i-preserved
 loop-i-preserved c =
@@ -22,7 +23,7 @@ loop-i-preserved c =
     let i = c.loop-i.i in
     let n = c.array_len-i-end.ensures in
     let below = c.loop-i-test.true in
-    c.put_word.ensures
+    c.set_array_word.ensures
     ∙ (ap (λ (w : ℕ). put c.loop-i.made.0 (24 + 8 * i) 8 w) (c.settled_word.ensures ∙ ap (settled_word v) c.array_word-word.ensures.value)
     ∙ (ap (λ (m : List ℕ). put m (24 + 8 * i) 8 (settled_word v (word_at 8 block i))) c.loop-i.invariant
     ∙ settled_more v block c.args.made.now.0 i (omega arith)))
