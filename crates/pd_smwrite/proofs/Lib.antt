@@ -1,4 +1,3 @@
-pub mod BitmapLemmas
 pub mod FreeLemmas
 pub mod IndexLemmas
 pub mod MapLemmas

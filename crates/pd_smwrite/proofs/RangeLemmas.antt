@@ -8,12 +8,6 @@ use Rattle.pd_laid.proofs.Rows.{range_on}
 pub range_more : (n : ℕ) → range_with_len 0 (n + 1) ≡ range_with_len 0 n ++ n ∷ []
 range_more n = let e : 0 + n ≡ n = omega arith in range_on 0 n 1 ∙ ap (λ (m : ℕ). range_with_len 0 n ++ m ∷ []) e
 
--- functions that agree on a row
-pub map_same : {Y : Type 0} (f g : ℕ → Y) (a n : ℕ) → ((k : ℕ) → a ≤ k → k < a + n → f k ≡ g k) → map f (range_with_len a n) ≡ map g (range_with_len a n)
-map_same f g a zero same = refl
-map_same {Y} f g a (suc n) same =
-    ap₂ (λ (y : Y) (ys : List Y). y ∷ ys) (same a (omega arith) (omega arith)) (map_same f g (a + 1) n (λ k low high. same k (omega arith) (omega arith)))
-
 -- the first number of a row
 pub count_first : (p : ℕ → Bool) (a n : ℕ) → count_by p (range_with_len a (suc n)) ≡ cond (p a) 1 0 + count_by p (range_with_len (a + 1) n)
 count_first p a n = sum_by-cons (λ x. cond (p x) 1 0) a (range_with_len (a + 1) n)
