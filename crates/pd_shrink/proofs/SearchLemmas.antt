@@ -14,7 +14,7 @@ use Rattle.pd_image.proofs.ReadLemmas.{only_reads_both}
 use Rattle.pd_value.specs.declared.space_map.Count.{Count}
 use Rattle.pd_tree.specs.Below.{items_below}
 use Rattle.pd_smap.specs.Entries.{IsIndex, IsOverflow, count_from, data_place, overflow_of}
-use Rattle.pd_smap.specs.Groups.{AreAll}
+use Rattle.pd_bitmap.specs.Groups.{AreAll}
 use Rattle.pd_smap.specs.OverflowLeft.{IsAhead, stored_by}
 use Rattle.pd_smap.specs.Steps.{bits_at, bits_by, bits_from}
 use Rattle.pd_smap.proofs.BitmapLemmas.{map_bits}

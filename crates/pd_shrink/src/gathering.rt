@@ -13,10 +13,10 @@ ghost use Rattle.pd_shrink.specs.Unused.{is_zero};
 
 use crate::fault::ShrinkFault;
 use crate::free::FreeBlocks;
-use pd_bitmap::two_bits;
+use pd_bitmap::{one_number, two_bits};
 use pd_image::{Device, Failed};
 use pd_kinds::{BITMAP_COUNTS, Block};
-use pd_smap::{Overflow, one_number, read_bitmap};
+use pd_smap::{Overflow, read_bitmap};
 use std::alloc::AllocError;
 
 /// How many counts are looked at together where they are equal.

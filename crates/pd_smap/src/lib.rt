@@ -14,7 +14,6 @@ mod stored;
 
 pub use bitmaps::read_bitmap;
 pub use data::{compare_data, next_place};
-pub use groups::one_number;
 pub use laws::{index_trees_name_bitmaps, overflow_trees_hold_counts};
 pub use meta::compare_meta;
 pub use overflow::Overflow;
