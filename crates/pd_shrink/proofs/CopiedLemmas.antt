@@ -12,9 +12,10 @@ use Rattle.pd_answers.specs.CachedView.{blocks_each}
 use Rattle.pd_answers.specs.MovedPool.{Move, copy_of_move, data_after, sources}
 use Rattle.pd_answers.specs.Shrinks.{ShrinkGround, lack_of, moves_of}
 use Rattle.pd_restore.specs.Made.{IsMadeOf, short}
+use Rattle.pd_salvage.specs.Saved.{pool_of}
 use Rattle.pd_writeback.proofs.OverlaidLemmas.{overlaid_none}
 use Rattle.pd_shrink.specs.declared.plan.Shrink.{Shrink}
-use Rattle.pd_shrink.specs.Moves.{IsLeftKept, move_in, moves_in}
+use Rattle.pd_shrink.specs.Moves.{AreApart, IsLeftKept, move_in, moves_in}
 use Rattle.pd_shrink.specs.Planned.{IsPlanOf}
 use Rattle.pd_shrink.proofs.RoomLemmas.{all_moved}
 
@@ -58,3 +59,7 @@ has_room m output need blocks {old} {new} fits same made =
     let less = made.answer.1.1 in
     let fits' : thin_need m (room_of old.blocks) ≤ room_of old.blocks = subst (λ (n : ℕ). thin_need m (room_of n) ≤ room_of n) (sym same) fits in
     omega (arith, need_is, less, fits')
+
+-- what a plan moves can be moved on a device with as many blocks as it has
+pub moves_apart : (shrink : Shrink) {blocks : ℕ} → blocks ≡ shrink.pool_blocks → AreApart shrink.each blocks shrink.moves.items
+moves_apart shrink same = rw same (record { end = (pool_of shrink.moved).data_blocks; across = shrink.across; once = shrink.once })

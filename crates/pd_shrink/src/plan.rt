@@ -188,6 +188,7 @@ impl Shrink {
 
     /// Copies the data blocks to their new places, and syncs the data device: how many were moved. Where there are none,
     /// nothing is written or synced. It takes no memory.
+    #[tactic(auto, using(crate::proofs::CopiedLemmas::moves_apart))]
     pub fn copy<C: Device>(&self, pool: &mut C) -> Result<u64, Failed>
         requires writable { IsWritable (C.state pool.old) }
         requires blocks { (C.state pool.old).blocks ≡ self.now.pool_blocks }

@@ -3,11 +3,15 @@ use Rattle.std.specs.Option.{is_some}
 use Rattle.std.proofs.lemmas.Bool.{eqb-true}
 use Rattle.pd_kinds.proofs.CrashLemmas.{still_tells}
 use Rattle.pd_answers.specs.MovedPool.{copy_of_move}
-use Rattle.pd_salvage.specs.Saved.{pool_of}
 use Rattle.pd_writeback.proofs.PlanLemmas.{kept_here, kept_synced}
-use Rattle.pd_shrink.specs.Moves.{AreApart, moves_in}
+use Rattle.pd_shrink.specs.Moves.{moves_in}
 use Rattle.pd_shrink.proofs.CopiedLemmas.{copied_synced, left_of_ground, none_moved, number_moved}
 use Rattle.pd_shrink.proofs.plan.Shrink.copy.Goals as goal
+
+pub returns-clause-copied : goal.returns-clause-copied
+returns-clause-copied g c basis held of synced =
+    copied_synced basis c.args.self.now of held (g.C.Device.state c.args.pool.now) (g.C.Device.state c.copy_moved.new.pool) (g.C.Device.state c.sync.new.self)
+    (rw c.as_slice.ensures.value at c.in_ok-copy_moved.ensures.copied) c.in_ok-sync.ensures.synced.crash c.sync.ensures.synced.held synced
 
 pub returns-then-is_empty-clause-count : goal.returns-then-is_empty-clause-count
 returns-then-is_empty-clause-count g c basis of none =
@@ -20,12 +24,6 @@ returns-then-is_empty-clause-copied g c basis held of synced =
     let empty = eqb-true _ 0 (sym c.is_empty.ensures ∙ c.if-is_empty.true) in
     none_moved basis c.args.self.now of held (g.C.Device.state c.args.pool.now) (omega (arith, empty, c.args.self.now.moves.ok.0)) synced
 
-pub copy_moved-requires-clause-apart : goal.copy_moved-requires-clause-apart
-copy_moved-requires-clause-apart g c =
-    let plan = c.args.self.now in
-    let apart : AreApart plan.each plan.pool_blocks plan.moves.items = record { end = (pool_of plan.moved).data_blocks; across = plan.across; once = plan.once } in
-    rw (c.as_slice.ensures.value, c.requires.blocks) apart
-
 pub returns-in_err-copy_moved-clause-crash : goal.returns-in_err-copy_moved-clause-crash
 returns-in_err-copy_moved-clause-crash g c basis held of synced =
     let plan = c.args.self.now in
@@ -36,11 +34,6 @@ pub returns-clause-count : goal.returns-clause-count
 returns-clause-count g c basis of none =
     let number = number_moved basis c.args.self.now of none in
     omega (arith, number, c.len.ensures, c.args.self.now.moves.ok.0)
-
-pub returns-clause-copied : goal.returns-clause-copied
-returns-clause-copied g c basis held of synced =
-    copied_synced basis c.args.self.now of held (g.C.Device.state c.args.pool.now) (g.C.Device.state c.copy_moved.new.pool) (g.C.Device.state c.sync.new.self)
-    (rw c.as_slice.ensures.value at c.in_ok-copy_moved.ensures.copied) c.in_ok-sync.ensures.synced.crash c.sync.ensures.synced.held synced
 
 pub returns-clause-crash : goal.returns-clause-crash
 returns-clause-crash g c basis held of synced =
