@@ -8,18 +8,23 @@ use Rattle.pd_grammar.specs.Texts.{has_ended}
 use Rattle.pd_grammar.specs.Tables.{format_of}
 use Rattle.pd_grammar.proofs.TableLemmas.{PlacedBy}
 use Rattle.pd_grammar.proofs.GrammarLemmas.{IsGrammar, Passes, is_read}
-use Rattle.pd_spells.specs.ThinText.{Line, first_line, shared_first_line, pool_line, leaf_line, device_line, use_line, map_line, end_line, Head, LeafHead, Details, Run, table_from, thin, thin_tests, data_blocks_of, is_shared, leaf_number, runs_of_leaf, least_of, number_in, least_id, has_device, piece_end, unmapped, MeansPool}
+use Rattle.pd_spells.specs.ThinText.{Line, first_line, shared_first_line, pool_line, leaf_line, device_line, use_line, map_line, end_line, Head, LeafHead, Details, Run, table_from, thin, thin_tests, has_number_out_of_range, is_out_of_order, is_mapped_otherwise, data_blocks_of, is_shared, leaf_number, runs_of_leaf, least_of, number_in, least_id, has_device, piece_end, unmapped, MeansPool}
 use Rattle.pd_spells.proofs.ThinRead.{FitsLine, Placed, thin_grammar}
 use Rattle.pd_spells.proofs.ThinLaws.{thin_language}
 use Rattle.pd_spells.proofs.ThinMeaning.{IsUnshared}
 use Rattle.pd_texts.specs.Reader.{IsReadAfter, AreReadSoFar, in_order}
 use Rattle.pd_texts.specs.ThinNext.{IsPoolLine, IsLeafLine, IsDeviceLine, IsUseLine, IsRunLine, IsMapLine, IsEndLine}
-use Rattle.pd_texts.proofs.StateLemmas.{HasPassed}
 use Rattle.pd_texts.proofs.LawLemmas as any
 
 -- lines that were read up to the last one mean a pool
 pub read_lines_mean : (lines : List Line) → AreReadSoFar thin lines → has_ended thin lines ≡ true → (m : ThinPool) × MeansPool (in_order lines []) m
 read_lines_mean = any.read_lines_mean thin MeansPool FitsLine Placed thin_language
+
+-- the tests that a line has passed
+record HasPassed (before : List Line) (line : Line) : Type 0 where
+  range : has_number_out_of_range before line ≡ false
+  order : is_out_of_order before line ≡ false
+  mapped : is_mapped_otherwise before line ≡ false
 
 passed : (before : List Line) (line : Line) → 1 ≤ length before → Passes thin_tests before line → HasPassed before line
 passed [] line some passes = absurd (omega arith)

@@ -1,7 +1,7 @@
 -- What the lines so far of a pool's text say of the next one.
 use Rattle.std.proofs.Common.{refl}
 use Rattle.std.specs.Prelude.{◌≡◌, ℕ, nat_lt, length, ◌+◌, ◌-◌, ◌≤◌, Bool, true, false, not, ◌&&◌, if◌then◌else◌, List}
-use Rattle.pd_spells.specs.ThinText.{Line, LeafHead, first_line, shared_first_line, leaf_line, is_shared, data_blocks_of, leaf_number, runs_of_leaf, number_in, least_id, has_device, piece_end, unmapped, pool_format}
+use Rattle.pd_spells.specs.ThinText.{Line, first_line, shared_first_line, is_shared, data_blocks_of, leaf_number, runs_of_leaf, number_in, least_id, has_device, piece_end, unmapped, pool_format}
 use Rattle.pd_texts.specs.Stage.{stage_of}
 use Rattle.pd_texts.specs.Leaves.{AreLeaves, HasRoom}
 use Rattle.pd_texts.specs.declared.thin_state.ThinState.{ThinState}
@@ -34,12 +34,9 @@ version_after before = if nat_lt 1 (length before) then (if is_shared before the
 abbrev pub CanWant : ThinState → Type 0
 CanWant state = (state.is_shared && not state.has_device) ≡ true
 
--- there is the memory that the next line may want, and that this one wants
+-- there is the memory that the next line may want
 abbrev pub HasRoomNext : ThinState → Type 0
 HasRoomNext state = CanWant state → HasRoom state.leaves
-
-abbrev pub HasRoomFor : Line → ThinState → Type 0
-HasRoomFor line state = (leaf : LeafHead) → line ≡ leaf_line leaf → HasRoom state.leaves
 
 -- the first line isn't the last one
 pub pool_begins : (state : ThinState) → pool_format.is_end (first_of state) ≡ false

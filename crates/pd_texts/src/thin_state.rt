@@ -1,10 +1,10 @@
 //! What the lines so far of a pool's text say of the next one.
 
-ghost use Rattle.std.specs.Prelude.{◌≡◌, ◌==◌, ◌≤◌, ◌<◌, List, ◌∷◌, length, IfOk, Ok, true, false};
+ghost use Rattle.std.specs.Prelude.{◌≡◌, ◌==◌, ◌≤◌, ◌<◌, List, ◌∷◌, length, IfOk, true, false};
 ghost use Rattle.pd_grammar.specs.Texts.{read, tested};
 ghost use Rattle.pd_grammar.specs.Tables.{may_stand};
-ghost use Rattle.pd_spells.specs.ThinText.{Line, pool_kind, leaf_kind, device_kind, use_kind, map_kind, use_line, leaf_number, thin_tests, has_number_out_of_range, is_out_of_order, is_mapped_otherwise, leaves_one_unused};
-ghost use Rattle.pd_texts.specs.Seen.{in_range, seen_by};
+ghost use Rattle.pd_spells.specs.ThinText.{Line, pool_kind, leaf_kind, device_kind, use_kind, map_kind, end_kind, use_line, leaf_number, thin_tests, is_out_of_order, is_mapped_otherwise};
+ghost use Rattle.pd_texts.specs.Seen.{seen_by};
 ghost use Rattle.pd_texts.specs.ThinKind.{kind_meant};
 ghost use Rattle.pd_texts.specs.Words.{made_of};
 ghost use Rattle.pd_texts.specs.ThinLine.{thin_meant};
@@ -129,7 +129,8 @@ impl TextState for ThinState {
 }
 
 impl ThinState {
-    ghost use Rattle.pd_texts.specs.ThinState.{ThinStands, HasRoomNext, HasRoomFor, version_after};
+    ghost use Rattle.pd_texts.specs.Leaves.{HasRoom};
+    ghost use Rattle.pd_texts.specs.ThinState.{ThinStands, HasRoomNext, version_after};
 
     /// The text's version, 1 or 2, once two lines were read, and 0 before.
     #[tactic(auto, using(crate::proofs::StageLemmas::body_stage))]
@@ -176,64 +177,28 @@ impl ThinState {
             → IfOk result (λ taken. ThinStands self.new (thin_meant taken ∷ before)) }
         ensures version { self.new.is_shared ≡ self.old.is_shared }
     {
-        let line = match self.line(kind, names, numbers) {
-            Ok(line) => line,
-            Err(cause) => return Err(cause),
-        };
-        match self.check(&line) {
-            Ok(()) => {
-                self.pass(&line);
-                Ok(line)
-            }
-            Err(cause) => Err(cause),
-        }
-    }
-
-    /// The line of these values, none where it is the last one, or `OutOfRange`.
-    fn line(
-        &self,
-        kind: ThinKind,
-        names: &[[u8; 16]; 5],
-        numbers: &[u64; 5],
-    ) -> Result<Option<ThinLine>, TextCause>
-        ensures { (before : List Line) → ThinStands self.now before
-            → seen_by thin_meant result ≡ in_range has_number_out_of_range before (made_of (kind_meant kind) names.now numbers.now) }
-    {
         match kind {
-            ThinKind::Pool => pool_of(names, numbers),
-            ThinKind::Leaf => leaf_of(names, numbers),
-            ThinKind::Device => device_of(names, numbers),
-            ThinKind::Use => self.use_of(names, numbers),
-            ThinKind::Map => self.map_of(names, numbers),
-            ThinKind::End => Ok(None),
+            ThinKind::Map => self.take_map(names, numbers),
+            ThinKind::Use => self.take_use(names, numbers),
+            ThinKind::Leaf => self.take_leaf(names, numbers),
+            ThinKind::Device => self.take_device(names, numbers),
+            ThinKind::Pool => self.take_pool(names, numbers),
+            ThinKind::End => self.take_end(names, numbers),
         }
     }
 
-    /// The use line of these values, or `OutOfRange`.
-    fn use_of(
-        &self,
+    /// Takes a map line of these values: the run is above the last piece, and within what was said to be mapped.
+    #[tactic(auto, unfolding(pd_grammar::specs::Texts::tested))]
+    fn take_map(
+        &mut self,
         names: &[[u8; 16]; 5],
         numbers: &[u64; 5],
     ) -> Result<Option<ThinLine>, TextCause>
-        ensures { (before : List Line) → ThinStands self.now before
-            → seen_by thin_meant result ≡ in_range has_number_out_of_range before (made_of use_kind names.now numbers.now) }
-    {
-        let number = numbers[0];
-        if number < self.leaves.number() {
-            Ok(Some(ThinLine::UseLeaf { number }))
-        } else {
-            Err(TextCause::OutOfRange)
-        }
-    }
-
-    /// The map line of these values, or `OutOfRange`.
-    fn map_of(
-        &self,
-        names: &[[u8; 16]; 5],
-        numbers: &[u64; 5],
-    ) -> Result<Option<ThinLine>, TextCause>
-        ensures { (before : List Line) → ThinStands self.now before
-            → seen_by thin_meant result ≡ in_range has_number_out_of_range before (made_of map_kind names.now numbers.now) }
+        ensures line { (before : List Line) → ThinStands self.old before → 1 ≤ length before
+            → seen_by thin_meant result ≡ tested thin_tests before (made_of map_kind names.now numbers.now) }
+        ensures after { (before : List Line) → ThinStands self.old before → 1 ≤ length before
+            → IfOk result (λ taken. ThinStands self.new (thin_meant taken ∷ before)) }
+        ensures version { self.new.is_shared ≡ self.old.is_shared }
     {
         let virt = numbers[0];
         let target = numbers[1];
@@ -247,44 +212,54 @@ impl ThinState {
         if !fits {
             return Err(TextCause::OutOfRange);
         }
-        Ok(Some(ThinLine::Map(Run2 {
+        if (virt as u128) < self.piece_end {
+            return Err(TextCause::Order);
+        }
+        if self.unmapped < length {
+            return Err(TextCause::MappedDiffers);
+        }
+        let run = Run2 {
             virt,
             target,
             length,
             time: time as u32,
-        })))
+        };
+        self.stage = Stage::Body;
+        self.piece_end = end;
+        self.unmapped -= length;
+        self.leaves.pass_run(&run, self.has_device);
+        Ok(Some(ThinLine::Map(run)))
     }
 
-    /// Looks at the order of a line whose numbers are in their ranges, at the mapped number, and at the end whether each
-    /// leaf is used.
+    /// Takes a use line of these values: the leaf is above the last piece, and within what was said to be mapped.
     #[tactic(auto, unfolding(pd_grammar::specs::Texts::tested))]
-    fn check(&self, line: &Option<ThinLine>) -> Result<(), TextCause>
-        ensures { (before : List Line) → ThinStands self.now before → has_number_out_of_range before (thin_meant line.now) ≡ false
-            → seen_by (λ _. thin_meant line.now) result ≡ tested thin_tests before (thin_meant line.now) }
+    fn take_use(
+        &mut self,
+        names: &[[u8; 16]; 5],
+        numbers: &[u64; 5],
+    ) -> Result<Option<ThinLine>, TextCause>
+        ensures line { (before : List Line) → ThinStands self.old before → 1 ≤ length before
+            → seen_by thin_meant result ≡ tested thin_tests before (made_of use_kind names.now numbers.now) }
+        ensures after { (before : List Line) → ThinStands self.old before → 1 ≤ length before
+            → IfOk result (λ taken. ThinStands self.new (thin_meant taken ∷ before)) }
+        ensures version { self.new.is_shared ≡ self.old.is_shared }
     {
-        if self.is_out_of_order(line) {
-            Err(TextCause::Order)
-        } else if self.is_mapped_otherwise(line) {
-            Err(TextCause::MappedDiffers)
-        } else if self.leaves_one_unused(line) {
-            Err(TextCause::Unused)
-        } else {
-            Ok(())
+        let number = numbers[0];
+        if number >= self.leaves.number() {
+            return Err(TextCause::OutOfRange);
         }
-    }
-
-    /// Whether the line's number isn't the next one, or isn't above those before.
-    fn is_out_of_order(&self, line: &Option<ThinLine>) -> bool
-        ensures { (before : List Line) → ThinStands self.now before → has_number_out_of_range before (thin_meant line.now) ≡ false
-            → result ≡ is_out_of_order before (thin_meant line.now) }
-    {
-        match line {
-            Some(ThinLine::Map(run)) => (run.virt as u128) < self.piece_end,
-            Some(ThinLine::UseLeaf { number }) => self.begins_below(*number),
-            Some(ThinLine::Leaf { number, .. }) => *number != self.leaves.number(),
-            Some(ThinLine::Device { id, .. }) => (*id as u128) < self.least_id,
-            _ => false,
+        if self.begins_below(number) {
+            return Err(TextCause::Order);
         }
+        if self.has_more(number) {
+            return Err(TextCause::MappedDiffers);
+        }
+        let leaf = self.leaves.leaf(number);
+        self.stage = Stage::Body;
+        self.piece_end = leaf.end();
+        self.unmapped = self.unmapped.saturating_sub(leaf.entries());
+        self.leaves.mark(number);
+        Ok(Some(ThinLine::UseLeaf { number }))
     }
 
     /// Whether a leaf begins below the end of the last piece.
@@ -295,19 +270,6 @@ impl ThinState {
         (self.leaves.leaf(number).least() as u128) < self.piece_end
     }
 
-    /// Whether the lines don't give the mapped number of the last leaf or device.
-    fn is_mapped_otherwise(&self, line: &Option<ThinLine>) -> bool
-        ensures { (before : List Line) → ThinStands self.now before → has_number_out_of_range before (thin_meant line.now) ≡ false
-            → result ≡ is_mapped_otherwise before (thin_meant line.now) }
-    {
-        match line {
-            Some(ThinLine::Map(run)) => self.unmapped < run.length,
-            Some(ThinLine::UseLeaf { number }) => self.has_more(*number),
-            Some(ThinLine::Leaf { .. } | ThinLine::Device { .. }) | None => 0 < self.unmapped,
-            Some(ThinLine::Pool { .. }) => false,
-        }
-    }
-
     /// Whether a leaf is of more mappings than the last device lacks.
     fn has_more(&self, number: u64) -> bool
         ensures { (before : List Line) → ThinStands self.now before → number < leaf_number before
@@ -316,111 +278,134 @@ impl ThinState {
         self.unmapped < self.leaves.leaf(number).entries()
     }
 
-    /// Whether the text ends, and some leaf isn't used.
-    fn leaves_one_unused(&self, line: &Option<ThinLine>) -> bool
-        ensures { (before : List Line) → ThinStands self.now before → result ≡ leaves_one_unused before (thin_meant line.now) }
-    {
-        match line {
-            None => self.leaves.has_unused(),
-            Some(_) => false,
-        }
-    }
-
-    /// Goes past a line that passes the tests.
-    fn pass(&mut self, line: &Option<ThinLine>)
-        ensures stands { (before : List Line) → ThinStands self.old before → 1 ≤ length before → HasRoomFor (thin_meant line.now) self.old
-            → Ok (thin_meant line.now) ≡ tested thin_tests before (thin_meant line.now) → ThinStands self.new (thin_meant line.now ∷ before) }
+    /// Takes a leaf line of these values, in the memory that was taken for it.
+    #[tactic(auto, unfolding(pd_grammar::specs::Texts::tested))]
+    fn take_leaf(
+        &mut self,
+        names: &[[u8; 16]; 5],
+        numbers: &[u64; 5],
+    ) -> Result<Option<ThinLine>, TextCause>
+        ensures line { (before : List Line) → ThinStands self.old before → 1 ≤ length before
+            → seen_by thin_meant result ≡ tested thin_tests before (made_of leaf_kind names.now numbers.now) }
+        ensures after { (before : List Line) → ThinStands self.old before → 1 ≤ length before
+            → HasRoom self.old.leaves → IfOk result (λ taken. ThinStands self.new (thin_meant taken ∷ before)) }
         ensures version { self.new.is_shared ≡ self.old.is_shared }
     {
-        self.stage = Stage::Body;
-        match line {
-            Some(ThinLine::Map(run)) => {
-                self.piece_end = run.virt as u128 + run.length as u128;
-                self.unmapped = self.unmapped.saturating_sub(run.length);
-                self.leaves.pass_run(run, self.has_device);
-            }
-            Some(ThinLine::UseLeaf { number }) => {
-                let leaf = self.leaves.leaf(*number);
-                self.piece_end = leaf.end();
-                self.unmapped = self.unmapped.saturating_sub(leaf.entries());
-                self.leaves.mark(*number);
-            }
-            Some(ThinLine::Leaf { entries, .. }) => {
-                self.piece_end = 0;
-                self.unmapped = *entries;
-                self.leaves.begin();
-            }
-            Some(ThinLine::Device { id, details }) => {
-                self.least_id = *id as u128 + 1;
-                self.has_device = true;
-                self.piece_end = 0;
-                self.unmapped = details.mapped;
-            }
-            Some(ThinLine::Pool { blocks, .. }) => {
-                self.blocks = *blocks;
-                self.piece_end = 0;
-                self.unmapped = 0;
-            }
-            None => {
-                self.piece_end = 0;
-                self.unmapped = 0;
-            }
+        let number = numbers[0];
+        let entries = numbers[1];
+        let fits = (1 <= entries) & (entries <= 252);
+        if !fits {
+            return Err(TextCause::OutOfRange);
         }
+        if number != self.leaves.number() {
+            return Err(TextCause::Order);
+        }
+        if 0 < self.unmapped {
+            return Err(TextCause::MappedDiffers);
+        }
+        self.stage = Stage::Body;
+        self.piece_end = 0;
+        self.unmapped = entries;
+        self.leaves.begin();
+        Ok(Some(ThinLine::Leaf { number, entries }))
     }
-}
 
-/// The pool line of these values, or `OutOfRange`.
-fn pool_of(names: &[[u8; 16]; 5], numbers: &[u64; 5]) -> Result<Option<ThinLine>, TextCause>
-    ensures { (before : List Line) → seen_by thin_meant result ≡ in_range has_number_out_of_range before (made_of pool_kind names.now numbers.now) }
-{
-    let time = numbers[1];
-    let block_size = numbers[3];
-    let blocks = numbers[4];
-    let fits = (time < 4294967296) & ((block_size < 4294967296) & (blocks <= 1099511627776));
-    if !fits {
-        return Err(TextCause::OutOfRange);
-    }
-    Ok(Some(ThinLine::Pool {
-        uuid: names[0],
-        time: time as u32,
-        transaction: numbers[2],
-        block_size: block_size as u32,
-        blocks,
-    }))
-}
-
-/// The leaf line of these values, or `OutOfRange`.
-fn leaf_of(names: &[[u8; 16]; 5], numbers: &[u64; 5]) -> Result<Option<ThinLine>, TextCause>
-    ensures { (before : List Line) → seen_by thin_meant result ≡ in_range has_number_out_of_range before (made_of leaf_kind names.now numbers.now) }
-{
-    let entries = numbers[1];
-    let fits = (1 <= entries) & (entries <= 252);
-    if !fits {
-        return Err(TextCause::OutOfRange);
-    }
-    Ok(Some(ThinLine::Leaf {
-        number: numbers[0],
-        entries,
-    }))
-}
-
-/// The device line of these values, or `OutOfRange`.
-fn device_of(names: &[[u8; 16]; 5], numbers: &[u64; 5]) -> Result<Option<ThinLine>, TextCause>
-    ensures { (before : List Line) → seen_by thin_meant result ≡ in_range has_number_out_of_range before (made_of device_kind names.now numbers.now) }
-{
-    let created = numbers[3];
-    let snapped = numbers[4];
-    let fits = (created < 4294967296) & (snapped < 4294967296);
-    if !fits {
-        return Err(TextCause::OutOfRange);
-    }
-    Ok(Some(ThinLine::Device {
-        id: numbers[0],
-        details: Details {
-            mapped: numbers[1],
+    /// Takes a device line of these values.
+    #[tactic(auto, unfolding(pd_grammar::specs::Texts::tested))]
+    fn take_device(
+        &mut self,
+        names: &[[u8; 16]; 5],
+        numbers: &[u64; 5],
+    ) -> Result<Option<ThinLine>, TextCause>
+        ensures line { (before : List Line) → ThinStands self.old before → 1 ≤ length before
+            → seen_by thin_meant result ≡ tested thin_tests before (made_of device_kind names.now numbers.now) }
+        ensures after { (before : List Line) → ThinStands self.old before → 1 ≤ length before
+            → IfOk result (λ taken. ThinStands self.new (thin_meant taken ∷ before)) }
+        ensures version { self.new.is_shared ≡ self.old.is_shared }
+    {
+        let id = numbers[0];
+        let mapped = numbers[1];
+        let created = numbers[3];
+        let snapped = numbers[4];
+        let fits = (created < 4294967296) & (snapped < 4294967296);
+        if !fits {
+            return Err(TextCause::OutOfRange);
+        }
+        if (id as u128) < self.least_id {
+            return Err(TextCause::Order);
+        }
+        if 0 < self.unmapped {
+            return Err(TextCause::MappedDiffers);
+        }
+        self.stage = Stage::Body;
+        self.least_id = id as u128 + 1;
+        self.has_device = true;
+        self.piece_end = 0;
+        self.unmapped = mapped;
+        let details = Details {
+            mapped,
             transaction: numbers[2],
             created: created as u32,
             snapped: snapped as u32,
-        },
-    }))
+        };
+        Ok(Some(ThinLine::Device { id, details }))
+    }
+
+    /// Takes a pool line of these values.
+    #[tactic(auto, unfolding(pd_grammar::specs::Texts::tested))]
+    fn take_pool(
+        &mut self,
+        names: &[[u8; 16]; 5],
+        numbers: &[u64; 5],
+    ) -> Result<Option<ThinLine>, TextCause>
+        ensures line { (before : List Line) → ThinStands self.old before → 1 ≤ length before
+            → seen_by thin_meant result ≡ tested thin_tests before (made_of pool_kind names.now numbers.now) }
+        ensures after { (before : List Line) → ThinStands self.old before → 1 ≤ length before
+            → IfOk result (λ taken. ThinStands self.new (thin_meant taken ∷ before)) }
+        ensures version { self.new.is_shared ≡ self.old.is_shared }
+    {
+        let time = numbers[1];
+        let block_size = numbers[3];
+        let blocks = numbers[4];
+        let fits = (time < 4294967296) & ((block_size < 4294967296) & (blocks <= 1099511627776));
+        if !fits {
+            return Err(TextCause::OutOfRange);
+        }
+        self.stage = Stage::Body;
+        self.blocks = blocks;
+        self.piece_end = 0;
+        self.unmapped = 0;
+        Ok(Some(ThinLine::Pool {
+            uuid: names[0],
+            time: time as u32,
+            transaction: numbers[2],
+            block_size: block_size as u32,
+            blocks,
+        }))
+    }
+
+    /// Takes the last line, before which each mapping was given and each leaf is used.
+    #[tactic(auto, unfolding(pd_grammar::specs::Texts::tested))]
+    fn take_end(
+        &mut self,
+        names: &[[u8; 16]; 5],
+        numbers: &[u64; 5],
+    ) -> Result<Option<ThinLine>, TextCause>
+        ensures line { (before : List Line) → ThinStands self.old before → 1 ≤ length before
+            → seen_by thin_meant result ≡ tested thin_tests before (made_of end_kind names.now numbers.now) }
+        ensures after { (before : List Line) → ThinStands self.old before → 1 ≤ length before
+            → IfOk result (λ taken. ThinStands self.new (thin_meant taken ∷ before)) }
+        ensures version { self.new.is_shared ≡ self.old.is_shared }
+    {
+        if 0 < self.unmapped {
+            return Err(TextCause::MappedDiffers);
+        }
+        if self.leaves.has_unused() {
+            return Err(TextCause::Unused);
+        }
+        self.stage = Stage::Body;
+        self.piece_end = 0;
+        self.unmapped = 0;
+        Ok(None)
+    }
 }

@@ -1,28 +1,6 @@
-use Rattle.std.proofs.Common.{Ok, Err}
-use Rattle.pd_spells.specs.ThinText.{has_number_out_of_range}
-use Rattle.pd_texts.specs.ThinKind.{kind_meant}
-use Rattle.pd_texts.specs.Words.{made_of}
-use Rattle.pd_texts.specs.ThinLine.{thin_meant}
-use Rattle.pd_texts.proofs.ValueLemmas.{out_of_range, within_range}
-use Rattle.pd_texts.proofs.StateLemmas.{taken, room_for}
+use Rattle.pd_texts.proofs.StateLemmas.{room_for_leaf}
 use Rattle.pd_texts.proofs.thin_state.ThinState.take.Goals as goal
 
-pub returns-in-Err-clause-line : goal.returns-in-Err-clause-line
-returns-in-Err-clause-line c = λ before stands some.
-    out_of_range has_number_out_of_range _ before (made_of (kind_meant c.args.kind) c.args.names.now c.args.numbers.now) c.in-Err.cause (c.in-Err.ensures before stands)
-
-pub returns-in-Ok-check-clause-line : goal.returns-in-Ok-check-clause-line
-returns-in-Ok-check-clause-line c = λ before stands some.
-    within_range has_number_out_of_range _ before (made_of (kind_meant c.args.kind) c.args.names.now c.args.numbers.now) (thin_meant c.in-Ok.line) (Ok (thin_meant c.in-Ok.line)) (c.in-Ok.ensures before stands)
-    (λ within. c.in-Ok-check.ensures before stands within)
-
-pub returns-in-Err-check-clause-line : goal.returns-in-Err-check-clause-line
-returns-in-Err-check-clause-line c = λ before stands some.
-    within_range has_number_out_of_range _ before (made_of (kind_meant c.args.kind) c.args.names.now c.args.numbers.now) (thin_meant c.in-Ok.line) (Err c.in-Err-check.cause) (c.in-Ok.ensures before stands)
-    (λ within. c.in-Err-check.ensures before stands within)
-
-pub returns-in-Ok-check-clause-after : goal.returns-in-Ok-check-clause-after
-returns-in-Ok-check-clause-after c = λ before stands some room may.
-    let made = made_of (kind_meant c.args.kind) c.args.names.now c.args.numbers.now in
-    let is = taken before made (thin_meant c.in-Ok.line) (c.in-Ok.ensures before stands) (λ within. c.in-Ok-check.ensures before stands within) in
-    c.pass.ensures.stands before stands some (room_for c.args.kind c.args.names.now c.args.numbers.now c.args.self.now before (thin_meant c.in-Ok.line) stands room may is.0) is.1
+pub returns-in-Leaf-clause-after : goal.returns-in-Leaf-clause-after
+returns-in-Leaf-clause-after c = λ before stands some room may.
+    c.take_leaf.ensures.after before stands some (room_for_leaf c.args.self.now before stands room (rw c.in-Leaf.is at may))
